@@ -1,0 +1,48 @@
+-- The least box round a pattern, and a pattern moved to the corner (0, 0).
+use Rattle.std.specs.Prelude.{◌≡◌, ℤ, ◌≤ℤ◌, List, [], ◌∷◌, Option, None, Some, All, Any, map}
+use Rattle.std.specs.Int.{int_min, int_max}
+use Rattle.std.specs.Option.{option_map_or}
+use Rattle.plane_core.specs.declared.cell.Cell.{Cell}
+use Rattle.plane_core.specs.declared.bounds.Bounds.{Bounds}
+use Rattle.plane_core.specs.Cells.{moved_by}
+use lib.IntN.{neg_ℤ}
+
+-- the box of one cell
+abbrev pub box_at : Cell → Bounds
+box_at c = record { left = c.x; top = c.y; right = c.x; bottom = c.y }
+
+-- the least box that has the box and the cell in it
+abbrev pub widened : Cell → Bounds → Bounds
+widened c b = record { left = int_min c.x b.left; top = int_min c.y b.top; right = int_max c.x b.right; bottom = int_max c.y b.bottom }
+
+-- the least box round the cells
+abbrev pub box_of : List Cell → Option Bounds
+box_of [] = None
+box_of (c ∷ cs) = Some (option_map_or (widened c) (box_of cs) (box_at c))
+
+-- the cell lies in the box
+pub record IsWithin (b : Bounds) (c : Cell) : Type 0 where
+  pub left : b.left ≤ℤ c.x
+  pub top : b.top ≤ℤ c.y
+  pub right : c.x ≤ℤ b.right
+  pub bottom : c.y ≤ℤ b.bottom
+
+-- the box has every cell in it, and each of its four sides has a cell on it
+pub record IsLeastBox (cells : List Cell) (b : Bounds) : Type 0 where
+  pub within : All (IsWithin b) cells
+  pub left : Any (λ c. c.x ≡ b.left) cells
+  pub top : Any (λ c. c.y ≡ b.top) cells
+  pub right : Any (λ c. c.x ≡ b.right) cells
+  pub bottom : Any (λ c. c.y ≡ b.bottom) cells
+
+-- S + v: every cell moved by (dx, dy)
+abbrev pub shifted : ℤ → ℤ → List Cell → List Cell
+shifted dx dy cells = map (moved_by dx dy) cells
+
+-- the pattern moved so that its least x and its least y are 0
+abbrev pub cornered : Option Bounds → List Cell → List Cell
+cornered None cells = []
+cornered (Some b) cells = shifted (neg_ℤ b.left) (neg_ℤ b.top) cells
+
+abbrev pub at_corner : List Cell → List Cell
+at_corner cells = cornered (box_of cells) cells

@@ -1,0 +1,4 @@
+pub mod Bounds
+pub mod Cells
+pub mod Generations
+pub mod Rules

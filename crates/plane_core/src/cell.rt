@@ -1,0 +1,31 @@
+ghost use Rattle.std.specs.Prelude.{◌≡◌};
+ghost use Rattle.plane_core.specs.Cells.{on_plane, on_edge};
+
+/// How large the coordinates of a pattern's cells may be in size: from -1,000,000 to 1,000,000.
+pub const BOUND: u32 = 1_000_000;
+
+/// A cell of the plane: x grows to the right, y grows downwards.
+///
+/// Cells are ordered row by row from the top, and in a row from the left: the derived order goes by `y`, the
+/// field that stands first, and then by `x`.
+#[derive(Clone, Copy, Debug, PartialEq, Eq, PartialOrd, Ord, Hash)]
+pub struct Cell {
+    pub y: i32,
+    pub x: i32,
+}
+
+impl Cell {
+    /// Whether a pattern may have this cell: both coordinates are at most [`BOUND`] in size.
+    pub fn is_on_plane(self) -> bool
+        ensures { result ≡ on_plane self }
+    {
+        self.x.unsigned_abs() <= BOUND && self.y.unsigned_abs() <= BOUND
+    }
+
+    /// Whether a coordinate is [`BOUND`] in size, so that a neighbour may lie off the plane.
+    pub fn is_on_edge(self) -> bool
+        ensures { result ≡ on_edge self }
+    {
+        self.x.unsigned_abs() == BOUND || self.y.unsigned_abs() == BOUND
+    }
+}

@@ -1,0 +1,14 @@
+//! Finite patterns of a Life-like cellular automaton on the unbounded plane.
+//!
+//! Contracts see a [`Pattern`](pattern::Pattern) as the list of its cells in order, each once. That list stands
+//! for the finite set.
+#![tactic(auto)]
+
+/// The least box round a pattern.
+pub mod bounds;
+/// Cells of the plane, and their order.
+pub mod cell;
+/// Patterns: finite sets of cells.
+pub mod pattern;
+/// Rules by birth and survival numbers.
+pub mod rule;
