@@ -52,14 +52,14 @@ set_of [] = []
 set_of (c ∷ cs) = put c (set_of cs)
 
 -- neither coordinate is larger than the bound in size
-abbrev pub on_plane : Cell → Bool
+unfoldable pub on_plane : Cell → Bool
 on_plane c = nat_le (unsigned_abs c.x) BOUND && nat_le (unsigned_abs c.y) BOUND
 
 abbrev pub off_plane : Cell → Bool
 off_plane c = not (on_plane c)
 
 -- a coordinate is as large as the bound in size
-abbrev pub on_edge : Cell → Bool
+unfoldable pub on_edge : Cell → Bool
 on_edge c = unsigned_abs c.x == BOUND || unsigned_abs c.y == BOUND
 
 -- a list that stands for a finite set of cells of the plane

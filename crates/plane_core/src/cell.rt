@@ -16,6 +16,7 @@ pub struct Cell {
 
 impl Cell {
     /// Whether a pattern may have this cell: both coordinates are at most [`BOUND`] in size.
+    #[tactic(auto, unfolding(crate::specs::Cells::on_plane))]
     pub fn is_on_plane(self) -> bool
         ensures { result ≡ on_plane self }
     {
@@ -23,6 +24,7 @@ impl Cell {
     }
 
     /// Whether a coordinate is [`BOUND`] in size, so that a neighbour may lie off the plane.
+    #[tactic(auto, unfolding(crate::specs::Cells::on_edge))]
     pub fn is_on_edge(self) -> bool
         ensures { result ≡ on_edge self }
     {
