@@ -1,3 +1,5 @@
 pub mod CellLemmas
+pub mod MergeLemmas
 pub mod SearchLemmas
 pub mod SetLemmas
+pub mod TallyLemmas

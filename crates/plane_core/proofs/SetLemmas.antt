@@ -121,7 +121,7 @@ has-put c (d ∷ ds) x = go (cell_cmp c d) refl (has-put c ds x)
     go Equal is ih = rw (cell_cmp-same c d is) (or_again (same_cell x d) (has ds x))
     go Greater is ih = ap (λ b. same_cell x d || b) ih ∙ or_swap (same_cell x d) (same_cell x c) (has ds x)
 
-greater_turned : (c d : Cell) → cell_cmp c d ≡ Greater → cell_cmp d c ≡ Less
+pub greater_turned : (c d : Cell) → cell_cmp c d ≡ Greater → cell_cmp d c ≡ Less
 greater_turned c d e = turned (cell_cmp d c) (sym e ∙ cell_cmp_total.antisymm c d)
   where
     turned : (o : Ordering) → Greater ≡ ordering_reverse o → o ≡ Less

@@ -3,3 +3,4 @@ pub mod Cells
 pub mod Generations
 pub mod Refusals
 pub mod Rules
+pub mod Tallies

@@ -12,3 +12,4 @@ pub mod cell;
 pub mod pattern;
 /// Rules by birth and survival numbers.
 pub mod rule;
+mod tally;
