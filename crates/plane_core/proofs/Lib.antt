@@ -1,3 +1,4 @@
+pub mod BlockLemmas
 pub mod CellLemmas
 pub mod MergeLemmas
 pub mod SearchLemmas
