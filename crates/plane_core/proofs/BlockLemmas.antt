@@ -25,7 +25,7 @@ IsNear before here behind far =
     ⊎ (((before ≡ false) × (here ≡ false) × (behind ≡ true) × (far ≡ 1))
     ⊎ ((before ≡ false) × (here ≡ false) × (behind ≡ false) × (2 ≤ far))))
 
-int_eq-true : (a b : ℤ) → int_eq a b ≡ true → a ≡ b
+pub int_eq-true : (a b : ℤ) → int_eq a b ≡ true → a ≡ b
 int_eq-true a b e = (signed_Decides a b).0 e
 
 int_eq-false : (a b : ℤ) → int_eq a b ≡ false → (a <ℤ b) ⊎ (b <ℤ a)
@@ -98,7 +98,7 @@ row_total ts c = total ts (moved_by (pos 1) (pos 0) c) + (total ts c + total ts 
 abbrev pub block_total : List Tally → Cell → ℕ
 block_total ts c = row_total ts (moved_by (pos 0) (pos 1) c) + (row_total ts c + row_total ts (moved_by (pos 0) (negsuc 0) c))
 
-still : (a : ℤ) → a +ℤ pos 0 ≡ a
+pub still : (a : ℤ) → a +ℤ pos 0 ≡ a
 still a = omega (arith, ints)
 
 -- whether one live cell is counted at the cell in column x of row y
@@ -144,7 +144,7 @@ regroup a1 a2 a3 a4 a5 a6 a7 a8 a9 b1 b2 b3 b4 b5 b6 b7 b8 b9 = omega arith
 block_total-cons : (t : Tally) (ts : List Tally) (c : Cell) → block_total (t ∷ ts) c ≡ block_total (t ∷ []) c + block_total ts c
 block_total-cons t ts c = regroup _ _ _ _ _ _ _ _ _ _ _ _ _ _ _ _ _ _
 
-around-cons : (d : Cell) (ds : List Cell) (c : Cell) → around (d ∷ ds) c ≡ cond (king_distance c d == 1) 1 0 + around ds c
+pub around-cons : (d : Cell) (ds : List Cell) (c : Cell) → around (d ∷ ds) c ≡ cond (king_distance c d == 1) 1 0 + around ds c
 around-cons d ds c = sum_by-cons (λ d. cond (king_distance c d == 1) 1 0) d ds
 
 -- the live cells of the block are the neighbours and, where it is alive, the cell itself

@@ -1,5 +1,6 @@
 pub mod BlockLemmas
 pub mod CellLemmas
+pub mod GenerationLemmas
 pub mod MergeLemmas
 pub mod SearchLemmas
 pub mod SetLemmas

@@ -52,7 +52,7 @@ has-all P [] c all e = absurd (false≢true e)
 has-all P (d ∷ ds) c all e =
     elim (has-cases d ds c e) [ inl s ↦ subst P (sym s) all.0 | inr s ↦ has-all P ds c all.1 s ]
 
-or_right : (a b : Bool) → b ≡ true → (a || b) ≡ true
+pub or_right : (a b : Bool) → b ≡ true → (a || b) ≡ true
 or_right true b e = refl
 or_right false b e = e
 

@@ -29,9 +29,12 @@ one_of c = record { cell = c; count = 1; alive = true }
 abbrev pub moved_tally : ℤ → ℤ → Tally → Tally
 moved_tally dx dy t = record { cell = moved_by dx dy t.cell; count = t.count; alive = t.alive }
 
--- the cell is alive next, where the tally counts the live cells of its block: a live cell itself among them
+-- a cell is alive next, where count is the number of live cells of its block, itself among them where it is alive
+abbrev pub lives_by : Numbers → ℕ → Bool → Bool
+lives_by rule count alive = if alive then is_survival rule (count - 1) else is_birth rule count
+
 abbrev pub tally_lives : Numbers → Tally → Bool
-tally_lives rule t = if t.alive then is_survival rule (t.count - 1) else is_birth rule t.count
+tally_lives rule t = lives_by rule t.count t.alive
 
 -- what the first tally has at c, and the list without it: nothing is taken where it is at another cell
 abbrev pub count_first : Cell → List Tally → ℕ
