@@ -1,8 +1,8 @@
 -- The next generation, cell by cell.
-use Rattle.std.proofs.Common.{◌≡◌, ◌==◌, ℕ, ℤ, pos, negsuc, ◌+ℤ◌, ◌+◌, ◌-◌, ◌<◌, ◌≤◌, max, zero, suc, Bool, true, false, ◌||◌, ◌&&◌, List, [], ◌∷◌, ◌++◌, arith, cond, refl, ap, ◌∙◌, sym, subst, inl, inr, ◌⊎◌, map, filter, add-zero}
+use Rattle.std.proofs.Common.{◌≡◌, ◌==◌, ℕ, ℤ, pos, negsuc, ◌+ℤ◌, ◌+◌, ◌-◌, ◌<◌, ◌≤◌, max, zero, suc, Bool, true, false, ◌||◌, ◌&&◌, List, [], ◌∷◌, ◌++◌, arith, cond, refl, ap, ◌∙◌, sym, subst, inl, inr, ◌⊎◌, map, filter, add-zero, zero-add, unsigned_abs, leb, eqb}
 use Rattle.std.specs.List.{list_any, list_all, flat_map, AllByRecursion}
 use Rattle.std.proofs.lemmas.Int.{ints}
-use Rattle.std.proofs.lemmas.Bool.{false≢true, cases_Bool, eqb-true, and_parts, and_from}
+use Rattle.std.proofs.lemmas.Bool.{false≢true, eqb-true, eqb-false, leb-true, le-leb, and_parts, and_from}
 use Rattle.std.proofs.lemmas.Bool.Decides.{nat_tests}
 use Rattle.plane_core.specs.declared.cell.Cell.{Cell}
 use Rattle.plane_core.specs.declared.cell.TheConstants.{BOUND}
@@ -122,3 +122,156 @@ has-next rule S c = has-filter (lives rule S) (set_of (flat_map block S)) c ∙ 
 pub in_order-next : (rule : Numbers) (S : List Cell) → InOrder (next rule S)
 unfolding next
 in_order-next rule S = in_order-filter (lives rule S) (set_of (flat_map block S)) (in_order-set_of (flat_map block S))
+
+-- ---- counting
+
+-- each live cell counts once at itself
+pub total-ones : (S : List Cell) (c : Cell) → InOrder S → total (map one_of S) c ≡ cond (has S c) 1 0
+total-ones [] c o = refl
+total-ones (d ∷ ds) c o = go (same_cell c d) refl (total-ones ds c (in_order-tail d ds o))
+  where
+    go : (b : Bool) → same_cell c d ≡ b → total (map one_of ds) c ≡ cond (has ds c) 1 0 → cond b 1 0 + total (map one_of ds) c ≡ cond (b || has ds c) 1 0
+    go true is ih =
+        let absent : has ds c ≡ false = subst (λ (e : Cell). has ds e ≡ false) (sym (same_cell-same c d is)) (has-before d ds (in_order-head d ds o)) in
+        let none : cond {A = ℕ} (has ds c) 1 0 ≡ 0 = ap (λ (b : Bool). cond {A = ℕ} b 1 0) absent in
+        omega arith
+    go false is ih = omega arith
+
+pub alive_at-ones : (S : List Cell) (c : Cell) → alive_at (map one_of S) c ≡ has S c
+alive_at-ones [] c = refl
+alive_at-ones (d ∷ ds) c = one (same_cell c d) (alive_at-ones ds c)
+  where
+    one : (b : Bool) → alive_at (map one_of ds) c ≡ has ds c → ((b && true) || alive_at (map one_of ds) c) ≡ (b || has ds c)
+    one true ih = refl
+    one false ih = ih
+
+pub cells_of-ones : (S : List Cell) → cells_of (map one_of S) ≡ S
+cells_of-ones [] = refl
+cells_of-ones (c ∷ cs) = ap (λ (ds : List Cell). c ∷ ds) (cells_of-ones cs)
+
+-- nothing is counted at a cell that no tally has
+total-absent : (ts : List Tally) (c : Cell) → has (cells_of ts) c ≡ false → total ts c ≡ 0
+total-absent [] c h = refl
+total-absent (t ∷ ts) c h = go (same_cell c t.cell) h (total-absent ts c)
+  where
+    go : (b : Bool) → (b || has (cells_of ts) c) ≡ false → (has (cells_of ts) c ≡ false → total ts c ≡ 0) → cond b t.count 0 + total ts c ≡ 0
+    go true h ih = absurd (false≢true (sym h))
+    go false h ih = omega (arith, ih h)
+
+alive_at-absent : (ts : List Tally) (c : Cell) → has (cells_of ts) c ≡ false → alive_at ts c ≡ false
+alive_at-absent [] c h = refl
+alive_at-absent (t ∷ ts) c h = go (same_cell c t.cell) h (alive_at-absent ts c)
+  where
+    go : (b : Bool) → (b || has (cells_of ts) c) ≡ false → (has (cells_of ts) c ≡ false → alive_at ts c ≡ false) → ((b && t.alive) || alive_at ts c) ≡ false
+    go true h ih = absurd (false≢true (sym h))
+    go false h ih = ih h
+
+before-filter : (p : Tally → Bool) (c : Cell) (ts : List Tally) → IsBefore c (cells_of ts) → IsBefore c (cells_of (filter p ts))
+before-filter p c [] h = tt
+before-filter p c (t ∷ ts) h = elim (p t) as (λ b. IsBefore c (cells_of (cond b (t ∷ filter p ts) (filter p ts)))) [ true ↦ (h.0, before-filter p c ts h.1) | false ↦ before-filter p c ts h.1 ]
+
+pub in_order-filter_tallies : (p : Tally → Bool) (ts : List Tally) → InOrder (cells_of ts) → InOrder (cells_of (filter p ts))
+in_order-filter_tallies p [] o = in_order-nil
+in_order-filter_tallies p (t ∷ ts) o = go (p t) (in_order-filter_tallies p ts (in_order-tail t.cell (cells_of ts) o))
+  where
+    go : (b : Bool) → InOrder (cells_of (filter p ts)) → InOrder (cells_of (cond b (t ∷ filter p ts) (filter p ts)))
+    go true ih = in_order-cons t.cell (cells_of (filter p ts)) (before-filter p t.cell ts (in_order-head t.cell (cells_of ts) o)) ih
+    go false ih = ih
+
+-- which cells are selected, where each cell has one tally
+pub has-selected : (rule : Numbers) (ts : List Tally) (c : Cell) → InOrder (cells_of ts)
+    → has (cells_of (filter (tally_lives rule) ts)) c ≡ (has (cells_of ts) c && lives_by rule (total ts c) (alive_at ts c))
+has-selected rule [] c o = refl
+has-selected rule (t ∷ ts) c o = go (same_cell c t.cell) refl (has-selected rule ts c (in_order-tail t.cell (cells_of ts) o))
+  where
+    before : IsBefore t.cell (cells_of ts)
+    before = in_order-head t.cell (cells_of ts) o
+    absent : c ≡ t.cell → has (cells_of ts) c ≡ false
+    absent same = subst (λ (e : Cell). has (cells_of ts) e ≡ false) (sym same) (has-before t.cell (cells_of ts) before)
+    unselected : c ≡ t.cell → has (cells_of (filter (tally_lives rule) ts)) c ≡ false
+    unselected same = subst (λ (e : Cell). has (cells_of (filter (tally_lives rule) ts)) e ≡ false) (sym same) (has-before t.cell (cells_of (filter (tally_lives rule) ts)) (before-filter (tally_lives rule) t.cell ts before))
+    one : (r : Bool) → tally_lives rule t ≡ r → same_cell c t.cell ≡ true → c ≡ t.cell → has (cells_of (cond r (t ∷ filter (tally_lives rule) ts) (filter (tally_lives rule) ts))) c ≡ lives_by rule (t.count + total ts c) ((true && t.alive) || alive_at ts c)
+    one r is here same =
+        let count : t.count + total ts c ≡ t.count = omega (arith, total-absent ts c (absent same)) in
+        let alive : ((true && t.alive) || alive_at ts c) ≡ t.alive = ap (λ (b : Bool). t.alive || b) (alive_at-absent ts c (absent same)) ∙ or-false t.alive in
+        chosen r ∙ sym is ∙ (λ i. lives_by rule (sym count i) (sym alive i))
+      where
+        or-false : (a : Bool) → (a || false) ≡ a
+        or-false true = refl
+        or-false false = refl
+        chosen : (q : Bool) → has (cells_of (cond q (t ∷ filter (tally_lives rule) ts) (filter (tally_lives rule) ts))) c ≡ q
+        chosen true = or_left (same_cell c t.cell) (has (cells_of (filter (tally_lives rule) ts)) c) here
+        chosen false = unselected same
+    go : (b : Bool) → same_cell c t.cell ≡ b → has (cells_of (filter (tally_lives rule) ts)) c ≡ (has (cells_of ts) c && lives_by rule (total ts c) (alive_at ts c))
+        → has (cells_of (cond (tally_lives rule t) (t ∷ filter (tally_lives rule) ts) (filter (tally_lives rule) ts))) c ≡ ((b || has (cells_of ts) c) && lives_by rule (cond b t.count 0 + total ts c) ((b && t.alive) || alive_at ts c))
+    go true is ih = one (tally_lives rule t) refl is (same_cell-same c t.cell is)
+    go false is ih = skipped (tally_lives rule t) ∙ ih ∙ (λ i. has (cells_of ts) c && lives_by rule (sym (zero-add (total ts c)) i) (alive_at ts c))
+      where
+        skipped : (q : Bool) → has (cells_of (cond q (t ∷ filter (tally_lives rule) ts) (filter (tally_lives rule) ts))) c ≡ has (cells_of (filter (tally_lives rule) ts)) c
+        skipped true = ap (λ (b : Bool). b || has (cells_of (filter (tally_lives rule) ts)) c) is
+        skipped false = refl
+
+-- tallies of the live cells of every block
+pub record CountsBlocks (S : List Cell) (ts : List Tally) : Type 0 where
+  pub totals : (c : Cell) → total ts c ≡ around S c + cond (has S c) 1 0
+  pub alive : (c : Cell) → alive_at ts c ≡ has S c
+  pub in_order : InOrder (cells_of ts)
+
+-- what is selected by the counts is the next generation
+pub selected-next : (rule : Numbers) (S : List Cell) (ts : List Tally) → CountsBlocks S ts → cells_of (filter (tally_lives rule) ts) ≡ next rule S
+selected-next rule S ts counts =
+    same_lists (cells_of (filter (tally_lives rule) ts)) (next rule S) (in_order-filter_tallies (tally_lives rule) ts counts.in_order) (in_order-next rule S) (λ c. has-selected rule ts c counts.in_order ∙ by_count c (has (cells_of ts) c) refl ∙ sym (has-next rule S c))
+  where
+    by_alive : (c : Cell) (b : Bool) → has S c ≡ b → lives_by rule (around S c + cond b 1 0) b ≡ cond b (is_survival rule (around S c)) (is_birth rule (around S c))
+    by_alive c true is = ap (λ (n : ℕ). is_survival rule n) (omega arith)
+    by_alive c false is = ap (λ (n : ℕ). is_birth rule n) (add-zero (around S c))
+    by_total : (c : Cell) → lives_by rule (total ts c) (alive_at ts c) ≡ lives rule S c
+    by_total c = (λ i. lives_by rule (counts.totals c i) (counts.alive c i)) ∙ by_alive c (has S c) refl
+    dead : (c : Cell) (b : Bool) → lives rule S c ≡ b → has (cells_of ts) c ≡ false → false ≡ b
+    dead c false is h = refl
+    dead c true is h =
+        let empty = total-absent ts c h in
+        let sum = counts.totals c in
+        elim (lives_cases rule S c is) [
+          | inl alive ↦ absurd (let one : cond {A = ℕ} (has S c) 1 0 ≡ 1 = ap (λ (b : Bool). cond {A = ℕ} b 1 0) alive in omega arith)
+          | inr beside ↦ absurd (omega arith)
+        ]
+    by_count : (c : Cell) (b : Bool) → has (cells_of ts) c ≡ b → (b && lives_by rule (total ts c) (alive_at ts c)) ≡ lives rule S c
+    by_count c true is = by_total c
+    by_count c false is = dead c (lives rule S c) refl is
+
+-- ---- on the plane
+
+-- a neighbour of a cell that isn't on the edge lies on the plane
+on_plane-beside : (c d : Cell) → king_distance c d ≡ 1 → on_plane d ≡ true → on_edge d ≡ false → on_plane c ≡ true
+unfolding on_plane on_edge
+on_plane-beside c d near on off =
+    let inside = and_parts (leb (unsigned_abs d.x) BOUND) (leb (unsigned_abs d.y) BOUND) on in
+    let inner = or_parts (eqb (unsigned_abs d.x) BOUND) (eqb (unsigned_abs d.y) BOUND) off in
+    and_from (leb (unsigned_abs c.x) BOUND) (leb (unsigned_abs c.y) BOUND)
+        (le-leb (unsigned_abs c.x) BOUND (within c.x d.x (omega arith) (leb-true (unsigned_abs d.x) BOUND inside.0) (eqb-false (unsigned_abs d.x) BOUND inner.0)))
+        (le-leb (unsigned_abs c.y) BOUND (within c.y d.y (omega arith) (leb-true (unsigned_abs d.y) BOUND inside.1) (eqb-false (unsigned_abs d.y) BOUND inner.1)))
+  where
+    or_parts : (a b : Bool) → (a || b) ≡ false → (a ≡ false) × (b ≡ false)
+    or_parts true b e = absurd (false≢true (sym e))
+    or_parts false b e = (refl, e)
+    within : (a b : ℤ) → distance a b ≤ 1 → unsigned_abs b ≤ BOUND → (unsigned_abs b ≡ BOUND → ⊥) → unsigned_abs a ≤ BOUND
+    within a b h k apart = let less : unsigned_abs b < BOUND = omega arith in omega (arith, ints)
+
+not_touching : (S : List Cell) (d : Cell) → touches_edge S ≡ false → has S d ≡ true → on_edge d ≡ false
+not_touching [] d none h = absurd (false≢true h)
+not_touching (e ∷ es) d none h = parts (on_edge e) refl none (not_touching es d)
+  where
+    parts : (b : Bool) → on_edge e ≡ b → (b || touches_edge es) ≡ false → (touches_edge es ≡ false → has es d ≡ true → on_edge d ≡ false) → on_edge d ≡ false
+    parts true is none ih = absurd (false≢true (sym none))
+    parts false is none ih = elim (has-cases e es d h) [ inl same ↦ subst (λ (x : Cell). on_edge x ≡ false) (sym same) is | inr more ↦ ih none more ]
+
+pub is_pattern-next : (rule : Numbers) (S : List Cell) → IsPattern S → touches_edge S ≡ false → IsPattern (next rule S)
+is_pattern-next rule S p off = record {
+  in_order = in_order-next rule S;
+  on_plane = has-list_all on_plane (next rule S) (λ c h. inside c (lives_cases rule S c (sym (has-next rule S c) ∙ h)));
+}
+  where
+    inside : (c : Cell) → (has S c ≡ true) ⊎ (0 < around S c) → on_plane c ≡ true
+    inside c (inl alive) = list_all-has on_plane S p.on_plane c alive
+    inside c (inr beside) = let d = a_neighbour S c beside in on_plane-beside c d.0 d.2 (list_all-has on_plane S p.on_plane d.0 d.1) (not_touching S d.0 off d.1)
