@@ -1,16 +1,16 @@
 -- The block of a cell: the nine cells at king distance at most 1 from it, counted along rows and columns.
-use Rattle.std.proofs.Common.{◌≡◌, ◌==◌, ℕ, ℤ, pos, negsuc, ◌+ℤ◌, ◌<ℤ◌, ◌+◌, ◌<◌, ◌≤◌, max, Bool, true, false, ◌||◌, ◌&&◌, List, [], ◌∷◌, ◌++◌, arith, cond, refl, ap, ◌∙◌, sym, subst, inl, inr, ◌⊎◌, map, count_by, add-zero}
+use Rattle.std.proofs.Common.{◌≡◌, ◌==◌, ℕ, ℤ, pos, negsuc, ◌+ℤ◌, ◌<ℤ◌, ◌+◌, ◌≤◌, max, Bool, true, false, ◌&&◌, List, [], ◌∷◌, arith, cond, refl, ap, ◌∙◌, sym, inl, inr, ◌⊎◌, map, add-zero}
 use Rattle.std.specs.Cmp.{signed_Decides}
 use Rattle.std.proofs.lemmas.Cmp.{int_ranked}
 use Rattle.std.specs.declared.cmp.Ordering.{Ordering}
 use Rattle.std.specs.declared.cmp.Ordering.TheVariants.{Less, Equal, Greater}
-use Rattle.std.specs.Ordering.{int_eq, int_cmp, is_eq, ordering_then}
+use Rattle.std.specs.Ordering.{int_eq, int_cmp, is_eq}
 use Rattle.std.proofs.lemmas.Int.{ints}
 use Rattle.std.proofs.lemmas.Bool.{false≢true, ne_eqb}
 use Rattle.std.proofs.lemmas.List.Sums.{sum_by-cons}
 use Rattle.plane_core.specs.declared.cell.Cell.{Cell}
 use Rattle.plane_core.specs.declared.tally.Tally.{Tally}
-use Rattle.plane_core.specs.Cells.{cell_at, same_cell, king_distance, distance, moved_by, has}
+use Rattle.plane_core.specs.Cells.{same_cell, king_distance, distance, moved_by}
 use Rattle.plane_core.specs.Generations.{around}
 use Rattle.plane_core.specs.Tallies.{total, one_of}
 use Rattle.plane_core.proofs.CellLemmas.{same_cell-eq}
@@ -76,6 +76,7 @@ one_cell x0 x1 x2 y0 y1 y2 dx dy (inr (inr (inr (a, b, c, e)))) v = rw (a, b, c,
     none : (y : Bool) → (y && false) ≡ false
     none true = refl
     none false = refl
+
     no_hits : (p q r : Bool) → 0 + cond (q && false) 1 0 ≡ hits r false false false + (hits q false false false + hits p false false false)
     no_hits p q r = rw (none p, none q, none r) refl
 one_cell x0 x1 x2 y0 y1 y2 dx dy u (inr (inr (inr (a, b, c, e)))) = rw (a, b, c, far_off dx dy (omega arith)) refl
@@ -117,6 +118,7 @@ hits_of c d = sum_of_hits ∙ sym (one_cell _ _ _ _ _ _ _ _ (near c.x d.x) (near
   where
     at : (e : Cell) (x y : ℤ) → e.x ≡ x → e.y ≡ y → total (one_of d ∷ []) e ≡ cond (int_eq y d.y && int_eq x d.x) 1 0
     at e x y p q = hit e d x y p q
+
     sum_of_hits : block_total (one_of d ∷ []) c
         ≡ hits (int_eq (c.y +ℤ pos 1) d.y) (int_eq (c.x +ℤ negsuc 0) d.x) (int_eq c.x d.x) (int_eq (c.x +ℤ pos 1) d.x)
         + (hits (int_eq c.y d.y) (int_eq (c.x +ℤ negsuc 0) d.x) (int_eq c.x d.x) (int_eq (c.x +ℤ pos 1) d.x)

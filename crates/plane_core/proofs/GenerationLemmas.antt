@@ -1,20 +1,19 @@
 -- The next generation, cell by cell.
-use Rattle.std.proofs.Common.{◌≡◌, ◌==◌, ℕ, ℤ, pos, negsuc, ◌+ℤ◌, ◌+◌, ◌-◌, ◌<◌, ◌≤◌, max, zero, suc, Bool, true, false, ◌||◌, ◌&&◌, List, [], ◌∷◌, ◌++◌, arith, cond, refl, ap, ◌∙◌, sym, subst, inl, inr, ◌⊎◌, map, filter, add-zero, zero-add, unsigned_abs, leb, eqb}
-use Rattle.std.specs.List.{list_any, list_all, flat_map, AllByRecursion}
+use Rattle.std.proofs.Common.{◌≡◌, ◌==◌, ℕ, ℤ, pos, negsuc, ◌+ℤ◌, ◌+◌, ◌<◌, ◌≤◌, zero, suc, Bool, true, false, ◌||◌, ◌&&◌, List, [], ◌∷◌, ◌++◌, arith, cond, refl, ap, ◌∙◌, sym, subst, inl, inr, ◌⊎◌, map, filter, add-zero, add-one, zero-add, unsigned_abs, leb, eqb}
+use Rattle.std.specs.List.{flat_map}
 use Rattle.std.proofs.lemmas.Int.{ints}
 use Rattle.std.proofs.lemmas.Bool.{false≢true, eqb-true, eqb-false, leb-true, le-leb, and_parts, and_from}
-use Rattle.std.proofs.lemmas.Bool.Decides.{nat_tests}
 use Rattle.plane_core.specs.declared.cell.Cell.{Cell}
 use Rattle.plane_core.specs.declared.cell.TheConstants.{BOUND}
 use Rattle.plane_core.specs.declared.tally.Tally.{Tally}
-use Rattle.plane_core.specs.Cells.{cell_at, cell_cmp, same_cell, king_distance, distance, moved_by, has, set_of, InOrder, on_plane, on_edge, IsPattern}
+use Rattle.plane_core.specs.Cells.{cell_at, same_cell, king_distance, distance, moved_by, has, set_of, InOrder, on_plane, on_edge, IsPattern}
 use Rattle.plane_core.specs.Generations.{around, lives, triple, block, next, after, touches_edge}
 use Rattle.plane_core.specs.Rules.{Numbers, is_birth, is_survival}
-use Rattle.plane_core.specs.Tallies.{cells_of, total, alive_at, one_of, lives_by, tally_lives}
-use Rattle.plane_core.proofs.CellLemmas.{same_cell-same, same_cell-itself}
+use Rattle.plane_core.specs.Tallies.{cells_of, total, alive_at, one_of, lives_by, tally_lives, CountsBlocks}
+use Rattle.plane_core.proofs.CellLemmas.{same_cell-same}
 use Rattle.plane_core.proofs.SetLemmas.{IsBefore, has-head, has-append, has-filter, has-set_of, has-before, has-cases, in_order-head, in_order-tail, in_order-cons, in_order-nil, in_order-filter, in_order-set_of, same_lists, or_right}
 use Rattle.plane_core.proofs.SearchLemmas.{list_all-has, has-list_all}
-use Rattle.plane_core.proofs.BlockLemmas.{IsNear, near, int_eq-true, still, around-cons}
+use Rattle.plane_core.proofs.BlockLemmas.{near, int_eq-true, still, around-cons}
 
 -- ---- cells beside the pattern
 
@@ -25,11 +24,11 @@ or_left false b e = absurd (false≢true e)
 -- a number at most a step off is one of three
 one_step : (a b : ℤ) → distance a b ≤ 1 → ((a +ℤ negsuc 0) ≡ b) ⊎ ((a ≡ b) ⊎ ((a +ℤ pos 1) ≡ b))
 one_step a b h = elim (near a b) [
-    | inl (p, q, r, s) ↦ inl (int_eq-true (a +ℤ negsuc 0) b p)
-    | inr (inl (p, q, r, s)) ↦ inr (inl (int_eq-true a b q))
-    | inr (inr (inl (p, q, r, s))) ↦ inr (inr (int_eq-true (a +ℤ pos 1) b r))
-    | inr (inr (inr (p, q, r, s))) ↦ absurd (omega arith)
-  ]
+  | inl (p, q, r, s) ↦ inl (int_eq-true (a +ℤ negsuc 0) b p)
+  | inr (inl (p, q, r, s)) ↦ inr (inl (int_eq-true a b q))
+  | inr (inr (inl (p, q, r, s))) ↦ inr (inr (int_eq-true (a +ℤ pos 1) b r))
+  | inr (inr (inr (p, q, r, s))) ↦ absurd (omega arith)
+]
 
 same_place : (c e : Cell) → e.x ≡ c.x → e.y ≡ c.y → c ≡ e
 same_place c e p q i = cell_at (sym p i) (sym q i)
@@ -70,9 +69,9 @@ in_block d c h =
 pub has-flat_map : (S : List Cell) (d c : Cell) → has S d ≡ true → has (block d) c ≡ true → has (flat_map block S) c ≡ true
 has-flat_map [] d c h k = absurd (false≢true h)
 has-flat_map (e ∷ es) d c h k = has-append (block e) (flat_map block es) c ∙ elim (has-cases e es d h) [
-    | inl same ↦ or_left (has (block e) c) (has (flat_map block es) c) (subst (λ (b : Cell). has (block b) c ≡ true) same k)
-    | inr more ↦ or_right (has (block e) c) (has (flat_map block es) c) (has-flat_map es d c more k)
-  ]
+  | inl same ↦ or_left (has (block e) c) (has (flat_map block es) c) (subst (λ (b : Cell). has (block b) c ≡ true) same k)
+  | inr more ↦ or_right (has (block e) c) (has (flat_map block es) c) (has-flat_map es d c more k)
+]
 
 -- a cell with a live neighbour has one
 pub a_neighbour : (S : List Cell) (c : Cell) → 0 < around S c → (d : Cell) × (has S d ≡ true) × (king_distance c d ≡ 1)
@@ -103,9 +102,9 @@ distance_itself a = omega (arith, ints)
 
 lives_near : (rule : Numbers) (S : List Cell) (c : Cell) → lives rule S c ≡ true → has (flat_map block S) c ≡ true
 lives_near rule S c e = elim (lives_cases rule S c e) [
-    | inl alive ↦ has-flat_map S c c alive (in_block c c (omega (arith, distance_itself c.x, distance_itself c.y)))
-    | inr beside ↦ let d = a_neighbour S c beside in has-flat_map S d.0 c d.1 (in_block d.0 c (omega (arith, d.2)))
-  ]
+  | inl alive ↦ has-flat_map S c c alive (in_block c c (omega (arith, distance_itself c.x, distance_itself c.y)))
+  | inr beside ↦ let d = a_neighbour S c beside in has-flat_map S d.0 c d.1 (in_block d.0 c (omega (arith, d.2)))
+]
 
 -- for every cell of the plane: it is in the next generation just where the rule's numbers say so
 pub has-next : (rule : Numbers) (S : List Cell) (c : Cell) → has (next rule S) c ≡ lives rule S c
@@ -115,6 +114,7 @@ has-next rule S c = has-filter (lives rule S) (set_of (flat_map block S)) c ∙ 
     and-false : (a : Bool) → (a && false) ≡ false
     and-false true = refl
     and-false false = refl
+
     go : (b : Bool) → lives rule S c ≡ b → (has (flat_map block S) c && b) ≡ b
     go true is = and_from _ true (lives_near rule S c is) refl
     go false is = and-false _
@@ -186,10 +186,13 @@ has-selected rule (t ∷ ts) c o = go (same_cell c t.cell) refl (has-selected ru
   where
     before : IsBefore t.cell (cells_of ts)
     before = in_order-head t.cell (cells_of ts) o
+
     absent : c ≡ t.cell → has (cells_of ts) c ≡ false
     absent same = subst (λ (e : Cell). has (cells_of ts) e ≡ false) (sym same) (has-before t.cell (cells_of ts) before)
+
     unselected : c ≡ t.cell → has (cells_of (filter (tally_lives rule) ts)) c ≡ false
     unselected same = subst (λ (e : Cell). has (cells_of (filter (tally_lives rule) ts)) e ≡ false) (sym same) (has-before t.cell (cells_of (filter (tally_lives rule) ts)) (before-filter (tally_lives rule) t.cell ts before))
+
     one : (r : Bool) → tally_lives rule t ≡ r → same_cell c t.cell ≡ true → c ≡ t.cell → has (cells_of (cond r (t ∷ filter (tally_lives rule) ts) (filter (tally_lives rule) ts))) c ≡ lives_by rule (t.count + total ts c) ((true && t.alive) || alive_at ts c)
     one r is here same =
         let count : t.count + total ts c ≡ t.count = omega (arith, total-absent ts c (absent same)) in
@@ -199,9 +202,11 @@ has-selected rule (t ∷ ts) c o = go (same_cell c t.cell) refl (has-selected ru
         or-false : (a : Bool) → (a || false) ≡ a
         or-false true = refl
         or-false false = refl
+
         chosen : (q : Bool) → has (cells_of (cond q (t ∷ filter (tally_lives rule) ts) (filter (tally_lives rule) ts))) c ≡ q
         chosen true = or_left (same_cell c t.cell) (has (cells_of (filter (tally_lives rule) ts)) c) here
         chosen false = unselected same
+
     go : (b : Bool) → same_cell c t.cell ≡ b → has (cells_of (filter (tally_lives rule) ts)) c ≡ (has (cells_of ts) c && lives_by rule (total ts c) (alive_at ts c))
         → has (cells_of (cond (tally_lives rule t) (t ∷ filter (tally_lives rule) ts) (filter (tally_lives rule) ts))) c ≡ ((b || has (cells_of ts) c) && lives_by rule (cond b t.count 0 + total ts c) ((b && t.alive) || alive_at ts c))
     go true is ih = one (tally_lives rule t) refl is (same_cell-same c t.cell is)
@@ -211,12 +216,6 @@ has-selected rule (t ∷ ts) c o = go (same_cell c t.cell) refl (has-selected ru
         skipped true = ap (λ (b : Bool). b || has (cells_of (filter (tally_lives rule) ts)) c) is
         skipped false = refl
 
--- tallies of the live cells of every block
-pub record CountsBlocks (S : List Cell) (ts : List Tally) : Type 0 where
-  pub totals : (c : Cell) → total ts c ≡ around S c + cond (has S c) 1 0
-  pub alive : (c : Cell) → alive_at ts c ≡ has S c
-  pub in_order : InOrder (cells_of ts)
-
 -- what is selected by the counts is the next generation
 pub selected-next : (rule : Numbers) (S : List Cell) (ts : List Tally) → CountsBlocks S ts → cells_of (filter (tally_lives rule) ts) ≡ next rule S
 selected-next rule S ts counts =
@@ -225,8 +224,10 @@ selected-next rule S ts counts =
     by_alive : (c : Cell) (b : Bool) → has S c ≡ b → lives_by rule (around S c + cond b 1 0) b ≡ cond b (is_survival rule (around S c)) (is_birth rule (around S c))
     by_alive c true is = ap (λ (n : ℕ). is_survival rule n) (omega arith)
     by_alive c false is = ap (λ (n : ℕ). is_birth rule n) (add-zero (around S c))
+
     by_total : (c : Cell) → lives_by rule (total ts c) (alive_at ts c) ≡ lives rule S c
     by_total c = (λ i. lives_by rule (counts.totals c i) (counts.alive c i)) ∙ by_alive c (has S c) refl
+
     dead : (c : Cell) (b : Bool) → lives rule S c ≡ b → has (cells_of ts) c ≡ false → false ≡ b
     dead c false is h = refl
     dead c true is h =
@@ -236,6 +237,7 @@ selected-next rule S ts counts =
           | inl alive ↦ absurd (let one : cond {A = ℕ} (has S c) 1 0 ≡ 1 = ap (λ (b : Bool). cond {A = ℕ} b 1 0) alive in omega arith)
           | inr beside ↦ absurd (omega arith)
         ]
+
     by_count : (c : Cell) (b : Bool) → has (cells_of ts) c ≡ b → (b && lives_by rule (total ts c) (alive_at ts c)) ≡ lives rule S c
     by_count c true is = by_total c
     by_count c false is = dead c (lives rule S c) refl is
@@ -249,12 +251,13 @@ on_plane-beside c d near on off =
     let inside = and_parts (leb (unsigned_abs d.x) BOUND) (leb (unsigned_abs d.y) BOUND) on in
     let inner = or_parts (eqb (unsigned_abs d.x) BOUND) (eqb (unsigned_abs d.y) BOUND) off in
     and_from (leb (unsigned_abs c.x) BOUND) (leb (unsigned_abs c.y) BOUND)
-        (le-leb (unsigned_abs c.x) BOUND (within c.x d.x (omega arith) (leb-true (unsigned_abs d.x) BOUND inside.0) (eqb-false (unsigned_abs d.x) BOUND inner.0)))
-        (le-leb (unsigned_abs c.y) BOUND (within c.y d.y (omega arith) (leb-true (unsigned_abs d.y) BOUND inside.1) (eqb-false (unsigned_abs d.y) BOUND inner.1)))
+    (le-leb (unsigned_abs c.x) BOUND (within c.x d.x (omega arith) (leb-true (unsigned_abs d.x) BOUND inside.0) (eqb-false (unsigned_abs d.x) BOUND inner.0)))
+    (le-leb (unsigned_abs c.y) BOUND (within c.y d.y (omega arith) (leb-true (unsigned_abs d.y) BOUND inside.1) (eqb-false (unsigned_abs d.y) BOUND inner.1)))
   where
     or_parts : (a b : Bool) → (a || b) ≡ false → (a ≡ false) × (b ≡ false)
     or_parts true b e = absurd (false≢true (sym e))
     or_parts false b e = (refl, e)
+
     within : (a b : ℤ) → distance a b ≤ 1 → unsigned_abs b ≤ BOUND → (unsigned_abs b ≡ BOUND → ⊥) → unsigned_abs a ≤ BOUND
     within a b h k apart = let less : unsigned_abs b < BOUND = omega arith in omega (arith, ints)
 
@@ -275,3 +278,13 @@ is_pattern-next rule S p off = record {
     inside : (c : Cell) → (has S c ≡ true) ⊎ (0 < around S c) → on_plane c ≡ true
     inside c (inl alive) = list_all-has on_plane S p.on_plane c alive
     inside c (inr beside) = let d = a_neighbour S c beside in on_plane-beside c d.0 d.2 (list_all-has on_plane S p.on_plane d.0 d.1) (not_touching S d.0 off d.1)
+
+-- ---- many generations
+
+pub after-none : (rule : Numbers) (S : List Cell) → after rule S 0 ≡ S
+unfolding after
+after-none rule S = refl
+
+pub after-more : (rule : Numbers) (S : List Cell) (g : ℕ) → after rule S (g + 1) ≡ next rule (after rule S g)
+unfolding after
+after-more rule S g = rw add-one refl

@@ -8,6 +8,8 @@
 pub mod bounds;
 /// Cells of the plane, and their order.
 pub mod cell;
+/// The next generation, and many.
+pub mod generation;
 /// Patterns: finite sets of cells.
 pub mod pattern;
 /// Rules by birth and survival numbers.
