@@ -1,5 +1,5 @@
 -- The least box round a list of cells.
-use Rattle.std.proofs.Common.{◌≡◌, ℕ, ℤ, pos, ◌+ℤ◌, ◌≤ℤ◌, Bool, true, false, List, [], ◌∷◌, ◌++◌, arith, refl, ap, ◌∙◌, sym, subst, inl, inr, ◌⊎◌, Option, Some, None, All, Any, IsNone, IfSome, ◌↔◌, ◌+◌, ◌<◌, cond, length, take, get_or, suc, int_lt}
+use Rattle.std.proofs.Common.{◌≡◌, ℕ, ℤ, true, false, List, [], ◌∷◌, ◌++◌, arith, refl, ap, ◌∙◌, sym, inl, inr, ◌⊎◌, Option, Some, None, Any, IsNone, IfSome, ◌↔◌, ◌+◌, ◌<◌, cond, length, take, get_or, suc, int_lt}
 use Rattle.std.specs.Int.{int_min, int_max}
 use Rattle.std.proofs.lemmas.Bool.{false≢true}
 use Rattle.std.proofs.lemmas.List.{take_more}

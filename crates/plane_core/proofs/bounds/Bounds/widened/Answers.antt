@@ -1,4 +1,4 @@
-use Rattle.std.proofs.Common.{◌≡◌, ℤ, w32, FitsSigned, rules}
+use Rattle.std.proofs.Common.{◌≡◌, w32, FitsSigned, rules}
 use Rattle.std.specs.Int.{int_min, int_max}
 use Rattle.std.proofs.lemmas.Int.{to_z-of_z}
 use Rattle.plane_core.proofs.bounds.Bounds.widened.Goals as goal

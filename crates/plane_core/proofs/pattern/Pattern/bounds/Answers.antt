@@ -1,4 +1,3 @@
-use Rattle.std.proofs.Common.{◌∙◌}
 use Rattle.plane_core.proofs.BoundsLemmas.{box_of-none, box_of-least}
 use Rattle.plane_core.proofs.pattern.Pattern.bounds.Goals as goal
 
