@@ -1,3 +1,4 @@
 pub mod CellLemmas
 pub mod OutLemmas
 pub mod RuleLemmas
+pub mod ReadingLemmas
