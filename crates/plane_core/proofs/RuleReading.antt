@@ -1,5 +1,5 @@
 -- What a text says as a rule: it is spelled so, what is spelled so is read, and a fault is the first.
-use Rattle.std.proofs.Common.{◌≡◌, ◌≢◌, ◌<◌, ◌≤◌, ◌+◌, ◌-◌, ◌==◌, ℕ, zero, suc, Bool, true, false, not, List, [], ◌∷◌, ◌++◌, length, take, drop, refl, sym, ◌∙◌, ap, subst, arith, append_assoc, append-nil, length-append, length-drop, codes, Result, Ok, Err}
+use Rattle.std.proofs.Common.{◌≡◌, ◌≢◌, ◌<◌, ◌≤◌, ◌+◌, ◌-◌, ◌==◌, ℕ, zero, suc, Bool, true, false, not, List, [], ◌∷◌, ◌++◌, length, take, drop, refl, sym, ◌∙◌, ap, subst, arith, append_assoc, append-nil, length-append, length-drop, codes, Result, Ok, Err, IfOk}
 use Rattle.std.proofs.lemmas.List.{take_at}
 use Rattle.std.proofs.Math.Seq.{take-length}
 use Rattle.std.proofs.lemmas.Slice.Eq.{starts_is}
@@ -232,3 +232,127 @@ survivals-shared text c cs more rule whole rest same =
     ap (λ (r : Reading). r.rest)
     (sym (numbers_at-digits 9 0 rule.survivals [] whole.survivals (omega arith) IsPastDigits-nil)
     ∙ ap (numbers_at 9 0) (append-nil (digits 0 rule.survivals) ∙ same) ∙ numbers_at-other_rest 9 0 (drop 1 (births_in text).rest) c cs more rest)
+
+-- a text that doesn't begin with b doesn't begin with b0
+pub no_b : (text : List ℕ) → begins text (codes "b") ≡ false → begins text (codes "b0") ≡ false
+no_b [] h = refl
+no_b (c ∷ cs) h = grind (arith, nat_tests)
+
+pub Says_no_b : (text : List ℕ) → begins text (codes "b") ≡ false → Says text (Err (BadRule 0))
+unfolding rule_text
+Says_no_b text h =
+    (record {
+      within = omega arith;
+      before = BeginsRule-nil;
+      there = λ less further. go text h less further.rule further.rest further.spelled },
+    no_b text h)
+  where
+    go : (text : List ℕ) → begins text (codes "b") ≡ false → 0 < length text → (rule : Numbers) (more : List ℕ) → rule_text rule ≡ take 1 text ++ more → ⊥
+    go [] h less rule more e = omega arith
+    go (c ∷ cs) h less rule more e =
+      let same : begins (rule_text rule) (codes "b") ≡ begins (c ∷ cs) (codes "b") = ap (λ (xs : List ℕ). begins xs (codes "b")) e ∙ begins-same_front [] c 98 more cs in
+      let yes : begins (rule_text rule) (codes "b") ≡ true = begins-same 98 (digits 1 rule.births ++ (115 ∷ digits 0 rule.survivals)) in
+      let wrong : true ≡ false = sym yes ∙ same ∙ h in
+      cc
+
+pub Says_no_s : (text : List ℕ) → begins text (codes "b") ≡ true → begins text (codes "b0") ≡ false → begins (births_in text).rest (codes "s") ≡ false
+  → Says text (fault_at text (births_in text).rest)
+unfolding rule_text
+Says_no_s text b no_zero no_s =
+    let births = births_in text in
+    let front = 98 ∷ digits 1 births.answers in
+    let whole : front ++ births.rest ≡ text = ap (λ (xs : List ℕ). 98 ∷ xs) (digits-numbers_at 8 1 (drop 1 text)) ∙ sym (begins-true text 98 b) in
+    let P : List ℕ → Type 0 = λ xs. IsFirstFault xs (length xs - length births.rest) in
+    (subst P whole
+      (IsFirstFault-behind front births.rest (BeginsRule-births births.answers (length-numbers_at 8 1 (drop 1 text)))
+      (λ c cs rest further.
+        let more = further.rest in
+        let spelled : rule_text further.rule ≡ 98 ∷ (digits 1 births.answers ++ c ∷ more) = further.spelled ∙ append_assoc front (c ∷ []) more in
+        let shared = births-shared text c cs more further.rule further.is_rule rest spelled in
+        let yes : begins (c ∷ more) (codes "s") ≡ true = ap (λ (xs : List ℕ). begins xs (codes "s")) (sym shared) ∙ begins-same 115 (digits 0 further.rule.survivals) in
+        let no : begins (c ∷ more) (codes "s") ≡ false = begins-same_front [] c 115 more cs ∙ ap (λ (xs : List ℕ). begins xs (codes "s")) (sym rest) ∙ no_s in
+        let wrong : true ≡ false = sym yes ∙ no in
+        cc)),
+    no_zero)
+
+-- the text up to the end of the survivals' digits is a rule's
+abbrev pub rule_in : List ℕ → Numbers
+rule_in text = record { births = (births_in text).answers; survivals = (survivals_in text).answers }
+
+pub rule_text-rule_in : (text : List ℕ) → begins text (codes "b") ≡ true → begins (births_in text).rest (codes "s") ≡ true → rule_text (rule_in text) ++ (survivals_in text).rest ≡ text
+unfolding rule_text
+rule_text-rule_in text b s =
+    let births = births_in text in
+    let survivals = survivals_in text in
+    let d = digits 1 births.answers in
+    let tail : 115 ∷ (digits 0 survivals.answers ++ survivals.rest) ≡ births.rest =
+      ap (λ (xs : List ℕ). 115 ∷ xs) (digits-numbers_at 9 0 (drop 1 births.rest)) ∙ sym (begins-true births.rest 115 s) in
+    ap (λ (xs : List ℕ). 98 ∷ xs) (append_assoc d (115 ∷ digits 0 survivals.answers) survivals.rest ∙ ap (λ (xs : List ℕ). d ++ xs) tail ∙ digits-numbers_at 8 1 (drop 1 text))
+    ∙ sym (begins-true text 98 b)
+
+pub IsRule-rule_in : (text : List ℕ) → IsRule (rule_in text)
+IsRule-rule_in text = record { births = length-numbers_at 8 1 (drop 1 text); survivals = length-numbers_at 9 0 (drop 1 (births_in text).rest) }
+
+pub Says_more : (text : List ℕ) → begins text (codes "b") ≡ true → begins text (codes "b0") ≡ false → begins (births_in text).rest (codes "s") ≡ true
+  → Says text (fault_at text (survivals_in text).rest)
+unfolding rule_text
+Says_more text b no_zero s =
+    let births = births_in text in
+    let survivals = survivals_in text in
+    let rule = rule_in text in
+    let P : List ℕ → Type 0 = λ xs. IsFirstFault xs (length xs - length survivals.rest) in
+    (subst P (rule_text-rule_in text b s)
+      (IsFirstFault-behind (rule_text rule) survivals.rest (BeginsRule-rule_text rule (IsRule-rule_in text))
+      (λ c cs rest further.
+        let more = further.rest in
+        let d = digits 1 births.answers in
+        let t = digits 0 survivals.answers in
+        let spelled : rule_text further.rule ≡ 98 ∷ (d ++ 115 ∷ (t ++ c ∷ more)) =
+          further.spelled ∙ append_assoc (rule_text rule) (c ∷ []) more ∙ ap (λ (xs : List ℕ). 98 ∷ xs) (append_assoc d (115 ∷ t) (c ∷ more)) in
+        let behind : births.rest ≡ 115 ∷ drop 1 births.rest = begins-true births.rest 115 s in
+        let shared : 115 ∷ digits 0 further.rule.survivals ≡ 115 ∷ (t ++ c ∷ more) =
+          births-shared text 115 (drop 1 births.rest) (t ++ c ∷ more) further.rule further.is_rule behind spelled in
+        let none = survivals-shared text c cs more further.rule further.is_rule rest (ap (drop 1) shared) in
+        cc)),
+    no_zero)
+
+pub Says_all : (text : List ℕ) → begins text (codes "b") ≡ true → begins (births_in text).rest (codes "s") ≡ true → (length (survivals_in text).rest == 0) ≡ true → Says text (Ok (rule_in text))
+Says_all text b s end =
+    let none : (survivals_in text).rest ≡ [] = empty (survivals_in text).rest end in
+    (IsRule-rule_in text, sym (append-nil (rule_text (rule_in text))) ∙ ap (λ (xs : List ℕ). rule_text (rule_in text) ++ xs) (sym none) ∙ rule_text-rule_in text b s)
+  where
+    empty : (xs : List ℕ) → (length xs == 0) ≡ true → xs ≡ []
+    empty [] h = refl
+    empty (x ∷ xs) h = grind (arith, nat_tests)
+
+-- every outcome says what it should
+pub Says_rule_read : (text : List ℕ) → Says text (rule_read text)
+Says_rule_read text =
+    go (begins text (codes "b")) (begins text (codes "b0")) (begins (births_in text).rest (codes "s")) (length (survivals_in text).rest == 0) refl refl refl refl
+  where
+    go : (b zero_first s end : Bool) → begins text (codes "b") ≡ b → begins text (codes "b0") ≡ zero_first → begins (births_in text).rest (codes "s") ≡ s
+      → (length (survivals_in text).rest == 0) ≡ end → Says text (rule_read text)
+    go false _ _ _ h1 h2 h3 h4 = subst (Says text) (sym (rule_read-no_b text h1)) (Says_no_b text h1)
+    go true true _ _ h1 h2 h3 h4 = subst (Says text) (sym (rule_read-zero text h1 h2)) h2
+    go true false false _ h1 h2 h3 h4 = subst (Says text) (sym (rule_read-no_s text h1 h2 h3)) (Says_no_s text h1 h2 h3)
+    go true false true false h1 h2 h3 h4 = subst (Says text) (sym (rule_read-more text h1 h2 h3 h4)) (Says_more text h1 h2 h3)
+    go true false true true h1 h2 h3 h4 = subst (Says text) (sym (rule_read-all text h1 h2 h3 h4)) (Says_all text h1 h3 h4)
+
+pub rule_text-rule_read : (text : List ℕ) → IfOk (rule_read text) (λ rule. rule_text rule ≡ text)
+rule_text-rule_read text = spelled (rule_read text) (Says_rule_read text) where
+  spelled : (r : Result Numbers RuleError) → Says text r → IfOk r (λ rule. rule_text rule ≡ text)
+  spelled (Ok rule) h = h.1
+  spelled (Err e) h = tt
+
+pub IsFirstFault-rule_read : (text : List ℕ) (place : ℕ) → rule_read text ≡ Err (BadRule place) → IsFirstFault text place
+IsFirstFault-rule_read text place e = let says = subst (Says text) e (Says_rule_read text) in says.0
+
+-- the birth on zero neighbours is told exactly where the text begins with it
+pub begins-rule_read : (text : List ℕ) → rule_read text ≡ Err BirthZero → begins text (codes "b0") ≡ true
+begins-rule_read text e = subst (Says text) e (Says_rule_read text)
+
+pub rule_read-begins : (text : List ℕ) → begins text (codes "b0") ≡ true → rule_read text ≡ Err BirthZero
+rule_read-begins text h = go (begins text (codes "b")) refl where
+  go : (b : Bool) → begins text (codes "b") ≡ b → rule_read text ≡ Err BirthZero
+  go true e = rule_read-zero text e h
+  go false e = let wrong : true ≡ false = sym h ∙ no_b text e in cc
