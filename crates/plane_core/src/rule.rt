@@ -40,9 +40,11 @@ impl Model for Rule {
 
 impl Rule {
     /// Conway's Game of Life, `b3s23`.
+    #[tactic(auto, unfolding(crate::specs::Rules::rule_text, crate::specs::Rules::digits))]
     pub fn life() -> Rule
         ensures births { result.births ≡ false ∷ false ∷ true ∷ false ∷ false ∷ false ∷ false ∷ false ∷ [] }
         ensures survivals { result.survivals ≡ false ∷ false ∷ true ∷ true ∷ false ∷ false ∷ false ∷ false ∷ false ∷ [] }
+        ensures text { rule_text result ≡ codes "b3s23" }
     {
         Rule {
             births: [false, false, true, false, false, false, false, false],
@@ -94,15 +96,21 @@ impl Rule {
         }
     }
 
-    /// Writes the one text of the rule.
+    /// Writes the one text of the rule, which [`Rule::read`] reads as this rule.
+    ///
+    /// # Errors
+    ///
+    /// [`WriteError`] where a write failed. A front of the text may have been written.
     pub fn write_text<V: Write>(&self, out: &mut Out<V>) -> Result<(), WriteError>
         requires { out.old.failed ≡ false }
-        ensures { Writes V.contents out.old out.new result (rule_text self.now) }
+        ensures text { Writes V.contents out.old out.new result (rule_text self.now) }
+        ensures rule { IsRule self.now }
     {
+        let Rule { births, survivals } = self;
         out.put(b"b")?;
-        write_digits(out, 1, &self.births)?;
+        write_digits(out, 1, births)?;
         out.put(b"s")?;
-        write_digits(out, 0, &self.survivals)
+        write_digits(out, 0, survivals)
     }
 }
 
