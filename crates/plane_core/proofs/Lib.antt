@@ -4,6 +4,10 @@ pub mod CellLemmas
 pub mod GenerationLemmas
 pub mod MergeLemmas
 pub mod NeighbourLemmas
+pub mod OutLemmas
+pub mod ReadingLemmas
+pub mod RuleLemmas
+pub mod RuleReading
 pub mod SearchLemmas
 pub mod SetLemmas
 pub mod TallyLemmas
