@@ -10,6 +10,8 @@ pub mod bounds;
 pub mod cell;
 /// The next generation, and many.
 pub mod generation;
+/// The eight orientations.
+pub mod orientation;
 /// A writer that remembers that it failed.
 pub mod output;
 /// Patterns: finite sets of cells.
