@@ -1,5 +1,5 @@
 -- Numbers read off the front of a text, digit by digit.
-use Rattle.std.proofs.Common.{◌≡◌, ◌<◌, ◌≤◌, ◌+◌, ◌-◌, ℕ, zero, suc, Bool, true, false, List, [], ◌∷◌, ◌++◌, length, take, drop, get_or, set, refl, sym, ◌∙◌, ap, arith, append_assoc, append-nil, get_or-set_other, length-set}
+use Rattle.std.proofs.Common.{◌≡◌, ◌<◌, ◌≤◌, ◌+◌, ◌-◌, ℕ, suc, Bool, true, false, List, [], ◌∷◌, ◌++◌, length, take, drop, get_or, set, refl, sym, ◌∙◌, ap, arith, append_assoc, append-nil, get_or-set_other, length-set}
 use Rattle.std.proofs.lemmas.List.{take_more_set}
 use Rattle.std.proofs.lemmas.Grind.{take_at_read}
 use Rattle.std.proofs.Math.Seq.{take-length}
@@ -34,7 +34,7 @@ pub record ReadUpTo (count n : ℕ) (text : List ℕ) (i : ℕ) (answers : List 
   pub sized : length answers ≡ count
 
 pub ReadUpTo_hit : (count n : ℕ) (text : List ℕ) (i : ℕ) (answers : List Bool) (rest : List ℕ) → i < count → begins rest ((48 + n + i) ∷ []) ≡ true
-  → ReadUpTo count n text i answers rest → ReadUpTo count n text (i + 1) (set answers i true) (drop 1 rest)
+    → ReadUpTo count n text i answers rest → ReadUpTo count n text (i + 1) (set answers i true) (drop 1 rest)
 ReadUpTo_hit count n text i answers rest h e up =
     let len : length answers ≡ count = up.sized in
     let left : count - i ≡ suc (count - (i + 1)) = omega arith in
@@ -43,16 +43,17 @@ ReadUpTo_hit count n text i answers rest h e up =
     let room : i < length answers = omega arith in
     let read = numbers_at (count - (i + 1)) (n + (i + 1)) (drop 1 rest) in
     let hit : numbers_at (count - i) (n + i) rest ≡ with_answer true read =
-        ap (λ (k : ℕ). numbers_at k (n + i) rest) left ∙ numbers_at-hit (count - (i + 1)) (n + i) rest (ap (λ (d : ℕ). begins rest (d ∷ [])) (sym here) ∙ e)
-        ∙ ap (λ (k : ℕ). with_answer true (numbers_at (count - (i + 1)) k (drop 1 rest))) next in
+    ap (λ (k : ℕ). numbers_at k (n + i) rest) left ∙ numbers_at-hit (count - (i + 1)) (n + i) rest (ap (λ (d : ℕ). begins rest (d ∷ [])) (sym here) ∙ e)
+    ∙ ap (λ (k : ℕ). with_answer true (numbers_at (count - (i + 1)) k (drop 1 rest))) next in
     record {
       whole = ap (λ (xs : List Bool). in_front xs read) (take_more_set answers i true room) ∙ sym (in_front-with_answer (take i answers) true read)
-        ∙ ap (λ (r : Reading). in_front (take i answers) r) (sym hit) ∙ up.whole;
+          ∙ ap (λ (r : Reading). in_front (take i answers) r) (sym hit) ∙ up.whole;
       clear = λ k from below. get_or-set_other answers i k true false (omega arith) ∙ up.clear k (omega arith) below;
-      sized = length-set answers i true ∙ len }
+      sized = length-set answers i true ∙ len;
+    }
 
 pub ReadUpTo_miss : (count n : ℕ) (text : List ℕ) (i : ℕ) (answers : List Bool) (rest : List ℕ) → i < count → begins rest ((48 + n + i) ∷ []) ≡ false
-  → ReadUpTo count n text i answers rest → ReadUpTo count n text (i + 1) answers rest
+    → ReadUpTo count n text i answers rest → ReadUpTo count n text (i + 1) answers rest
 ReadUpTo_miss count n text i answers rest h e up =
     let len : length answers ≡ count = up.sized in
     let left : count - i ≡ suc (count - (i + 1)) = omega arith in
@@ -61,19 +62,20 @@ ReadUpTo_miss count n text i answers rest h e up =
     let room : i < length answers = omega arith in
     let read = numbers_at (count - (i + 1)) (n + (i + 1)) rest in
     let miss : numbers_at (count - i) (n + i) rest ≡ with_answer false read =
-        ap (λ (k : ℕ). numbers_at k (n + i) rest) left ∙ numbers_at-miss (count - (i + 1)) (n + i) rest (ap (λ (d : ℕ). begins rest (d ∷ [])) (sym here) ∙ e)
-        ∙ ap (λ (k : ℕ). with_answer false (numbers_at (count - (i + 1)) k rest)) next in
+    ap (λ (k : ℕ). numbers_at k (n + i) rest) left ∙ numbers_at-miss (count - (i + 1)) (n + i) rest (ap (λ (d : ℕ). begins rest (d ∷ [])) (sym here) ∙ e)
+    ∙ ap (λ (k : ℕ). with_answer false (numbers_at (count - (i + 1)) k rest)) next in
     let more : take (i + 1) answers ≡ take i answers ++ false ∷ [] =
-        (take_at_read answers i false room).1 ∙ ap (λ (b : Bool). take i answers ++ b ∷ []) (up.clear i (omega arith) h) in
+    (take_at_read answers i false room).1 ∙ ap (λ (b : Bool). take i answers ++ b ∷ []) (up.clear i (omega arith) h) in
     record {
       whole = ap (λ (xs : List Bool). in_front xs read) more ∙ sym (in_front-with_answer (take i answers) false read)
-        ∙ ap (λ (r : Reading). in_front (take i answers) r) (sym miss) ∙ up.whole;
+          ∙ ap (λ (r : Reading). in_front (take i answers) r) (sym miss) ∙ up.whole;
       clear = λ k from below. up.clear k (omega arith) below;
-      sized = len }
+      sized = len;
+    }
 
 -- past the last place all is read
 pub ReadUpTo_done : (count n : ℕ) (text : List ℕ) (i : ℕ) (answers : List Bool) (rest : List ℕ) → count ≤ i → i ≤ count → ReadUpTo count n text i answers rest
-  → numbers_at count n text ≡ record { answers = answers; rest = rest }
+    → numbers_at count n text ≡ record { answers = answers; rest = rest }
 ReadUpTo_done count n text i answers rest h k up =
     let len : length answers ≡ count = up.sized in
     let all : i ≡ length answers = omega arith in

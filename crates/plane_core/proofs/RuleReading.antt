@@ -1,5 +1,5 @@
 -- What a text says as a rule: it is spelled so, what is spelled so is read, and a fault is the first.
-use Rattle.std.proofs.Common.{◌≡◌, ◌≢◌, ◌<◌, ◌≤◌, ◌+◌, ◌-◌, ◌==◌, ℕ, zero, suc, Bool, true, false, not, List, [], ◌∷◌, ◌++◌, length, take, drop, refl, sym, ◌∙◌, ap, subst, arith, append_assoc, append-nil, length-append, length-drop, codes, Result, Ok, Err, IfOk}
+use Rattle.std.proofs.Common.{◌≡◌, ◌≢◌, ◌<◌, ◌≤◌, ◌+◌, ◌-◌, ◌==◌, ℕ, zero, suc, Bool, true, false, List, [], ◌∷◌, ◌++◌, length, take, drop, refl, sym, ◌∙◌, ap, subst, arith, append_assoc, append-nil, length-append, length-drop, codes, Result, Ok, Err, IfOk}
 use Rattle.std.proofs.lemmas.List.{take_at}
 use Rattle.std.proofs.Math.Seq.{take-length}
 use Rattle.std.proofs.lemmas.Slice.Eq.{starts_is}
@@ -27,9 +27,9 @@ begins-same_front (b ∷ front) c d x y = refl
 
 -- the next digit stands there or it doesn't
 pub numbers_at-cases : (P : Reading → Type 0) (k n : ℕ) (text : List ℕ)
-  → (begins text ((48 + n) ∷ []) ≡ true → P (with_answer true (numbers_at k (n + 1) (drop 1 text))))
-  → (begins text ((48 + n) ∷ []) ≡ false → P (with_answer false (numbers_at k (n + 1) text)))
-  → P (numbers_at (suc k) n text)
+    → (begins text ((48 + n) ∷ []) ≡ true → P (with_answer true (numbers_at k (n + 1) (drop 1 text))))
+    → (begins text ((48 + n) ∷ []) ≡ false → P (with_answer false (numbers_at k (n + 1) text)))
+    → P (numbers_at (suc k) n text)
 numbers_at-cases P k n text hit miss = go (begins text ((48 + n) ∷ [])) refl where
   go : (b : Bool) → begins text ((48 + n) ∷ []) ≡ b → P (numbers_at (suc k) n text)
   go true h = subst P (sym (numbers_at-hit k n text h)) (hit h)
@@ -53,22 +53,22 @@ length-numbers_at (suc k) n text =
 
 -- How far numbers are read depends on nothing past the first byte behind them.
 pub numbers_at-other_rest : (k n : ℕ) (text : List ℕ) (c : ℕ) (cs more : List ℕ) → (numbers_at k n text).rest ≡ c ∷ cs
-  → numbers_at k n (digits n (numbers_at k n text).answers ++ c ∷ more) ≡ record { answers = (numbers_at k n text).answers; rest = c ∷ more }
+    → numbers_at k n (digits n (numbers_at k n text).answers ++ c ∷ more) ≡ record { answers = (numbers_at k n text).answers; rest = c ∷ more }
 unfolding digits numbers_at
 numbers_at-other_rest zero n text c cs more = λ e. refl
 numbers_at-other_rest (suc k) n text c cs more =
     numbers_at-cases (λ read. read.rest ≡ c ∷ cs → numbers_at (suc k) n (digits n read.answers ++ c ∷ more) ≡ record { answers = read.answers; rest = c ∷ more }) k n text
     (λ h rest.
-      let front = digits (n + 1) (numbers_at k (n + 1) (drop 1 text)).answers in
-      numbers_at-hit k n ((48 + n) ∷ (front ++ c ∷ more)) (begins-same (48 + n) (front ++ c ∷ more))
-      ∙ ap (λ (r : Reading). with_answer true r) (numbers_at-other_rest k (n + 1) (drop 1 text) c cs more rest))
+    let front = digits (n + 1) (numbers_at k (n + 1) (drop 1 text)).answers in
+    numbers_at-hit k n ((48 + n) ∷ (front ++ c ∷ more)) (begins-same (48 + n) (front ++ c ∷ more))
+    ∙ ap (λ (r : Reading). with_answer true r) (numbers_at-other_rest k (n + 1) (drop 1 text) c cs more rest))
     (λ h rest.
-      let read = numbers_at k (n + 1) text in
-      let front = digits (n + 1) read.answers in
-      let whole : front ++ c ∷ cs ≡ text = ap (λ (xs : List ℕ). front ++ xs) (sym rest) ∙ digits-numbers_at k (n + 1) text in
-      let miss : begins (front ++ c ∷ more) ((48 + n) ∷ []) ≡ false =
-        begins-same_front front c (48 + n) more cs ∙ ap (λ (xs : List ℕ). begins xs ((48 + n) ∷ [])) whole ∙ h in
-      numbers_at-miss k n (front ++ c ∷ more) miss ∙ ap (λ (r : Reading). with_answer false r) (numbers_at-other_rest k (n + 1) text c cs more rest))
+    let read = numbers_at k (n + 1) text in
+    let front = digits (n + 1) read.answers in
+    let whole : front ++ c ∷ cs ≡ text = ap (λ (xs : List ℕ). front ++ xs) (sym rest) ∙ digits-numbers_at k (n + 1) text in
+    let miss : begins (front ++ c ∷ more) ((48 + n) ∷ []) ≡ false =
+    begins-same_front front c (48 + n) more cs ∙ ap (λ (xs : List ℕ). begins xs ((48 + n) ∷ [])) whole ∙ h in
+    numbers_at-miss k n (front ++ c ∷ more) miss ∙ ap (λ (r : Reading). with_answer false r) (numbers_at-other_rest k (n + 1) text c cs more rest))
 
 -- no digit stands at the front of the text
 pub record IsPastDigits (rest : List ℕ) : Type 0 where
@@ -122,17 +122,17 @@ unfolding rule_read
 rule_read-zero text b no_zero = rw (b, no_zero) refl
 
 pub rule_read-no_s : (text : List ℕ) → begins text (codes "b") ≡ true → begins text (codes "b0") ≡ false → begins (births_in text).rest (codes "s") ≡ false
-  → rule_read text ≡ fault_at text (births_in text).rest
+    → rule_read text ≡ fault_at text (births_in text).rest
 unfolding rule_read
 rule_read-no_s text b no_zero s = rw (b, no_zero, s) refl
 
 pub rule_read-more : (text : List ℕ) → begins text (codes "b") ≡ true → begins text (codes "b0") ≡ false → begins (births_in text).rest (codes "s") ≡ true
-  → (length (survivals_in text).rest == 0) ≡ false → rule_read text ≡ fault_at text (survivals_in text).rest
+    → (length (survivals_in text).rest == 0) ≡ false → rule_read text ≡ fault_at text (survivals_in text).rest
 unfolding rule_read
 rule_read-more text b no_zero s end = rw (b, no_zero, s, end) refl
 
 pub rule_read-all : (text : List ℕ) → begins text (codes "b") ≡ true → begins text (codes "b0") ≡ false → begins (births_in text).rest (codes "s") ≡ true
-  → (length (survivals_in text).rest == 0) ≡ true → rule_read text ≡ Ok (record { births = (births_in text).answers; survivals = (survivals_in text).answers })
+    → (length (survivals_in text).rest == 0) ≡ true → rule_read text ≡ Ok (record { births = (births_in text).answers; survivals = (survivals_in text).answers })
 unfolding rule_read
 rule_read-all text b no_zero s end = rw (b, no_zero, s, end) refl
 
@@ -166,10 +166,10 @@ rule_read-rule_text rule whole =
     let text = rule_text rule in
     let behind = digits 0 rule.survivals in
     let births : births_in text ≡ record { answers = rule.births; rest = 115 ∷ behind } =
-      numbers_at-digits 8 1 rule.births (115 ∷ behind) whole.births (omega arith) (IsPastDigits-s behind) in
+    numbers_at-digits 8 1 rule.births (115 ∷ behind) whole.births (omega arith) (IsPastDigits-s behind) in
     let survivals : survivals_in text ≡ record { answers = rule.survivals; rest = [] } =
-      ap (λ (r : Reading). numbers_at 9 0 (drop 1 r.rest)) births ∙ ap (numbers_at 9 0) (sym (append-nil behind))
-      ∙ numbers_at-digits 9 0 rule.survivals [] whole.survivals (omega arith) IsPastDigits-nil in
+    ap (λ (r : Reading). numbers_at 9 0 (drop 1 r.rest)) births ∙ ap (numbers_at 9 0) (sym (append-nil behind))
+    ∙ numbers_at-digits 9 0 rule.survivals [] whole.survivals (omega arith) IsPastDigits-nil in
     let no_zero : begins text (codes "b0") ≡ false = begins-digits 0 1 rule.births (115 ∷ behind) (omega arith) (omega arith) (IsPastDigits-s behind) in
     let s : begins (births_in text).rest (codes "s") ≡ true = ap (λ (r : Reading). begins r.rest (codes "s")) births ∙ begins-same 115 behind in
     let end : (length (survivals_in text).rest == 0) ≡ true = ap (λ (r : Reading). length r.rest == 0) survivals in
@@ -177,14 +177,15 @@ rule_read-rule_text rule whole =
 
 -- Where the front begins a rule's text and no longer front does, the first fault is behind it.
 pub IsFirstFault-behind : (front rest : List ℕ) → BeginsRule front → ((c : ℕ) (cs : List ℕ) → rest ≡ c ∷ cs → BeginsRule (front ++ c ∷ []) → ⊥)
-  → IsFirstFault (front ++ rest) (length (front ++ rest) - length rest)
+    → IsFirstFault (front ++ rest) (length (front ++ rest) - length rest)
 IsFirstFault-behind front [] begun stops =
     let here : length (front ++ []) - 0 ≡ length (front ++ []) = omega arith in
     let all : take (length (front ++ [])) (front ++ []) ≡ front = take-length (front ++ []) ∙ append-nil front in
     rw here (record {
       within = omega arith;
       before = let P : List ℕ → Type 0 = λ xs. BeginsRule xs in subst P (sym all) begun;
-      there = λ less. absurd (omega arith) })
+      there = λ less. absurd (omega arith);
+    })
 IsFirstFault-behind front (c ∷ cs) begun stops =
     let place = length (front ++ c ∷ cs) - length (c ∷ cs) in
     let P : List ℕ → Type 0 = λ xs. BeginsRule xs in
@@ -195,7 +196,8 @@ IsFirstFault-behind front (c ∷ cs) begun stops =
     record {
       within = omega arith;
       before = subst P (sym (take_at front (c ∷ cs) place at)) begun;
-      there = λ less further. stops c cs refl (subst P longer further) }
+      there = λ less further. stops c cs refl (subst P longer further);
+    }
 
 -- no more numbers than none
 abbrev pub no_survivals : List Bool
@@ -216,7 +218,7 @@ BeginsRule-rule_text rule whole = record { rule = rule; rest = []; is_rule = who
 
 -- what stands behind the births' digits in a rule's text that has a front in common with the text
 pub births-shared : (text : List ℕ) (c : ℕ) (cs more : List ℕ) (rule : Numbers) → IsRule rule → (births_in text).rest ≡ c ∷ cs
-  → rule_text rule ≡ 98 ∷ (digits 1 (births_in text).answers ++ c ∷ more) → 115 ∷ digits 0 rule.survivals ≡ c ∷ more
+    → rule_text rule ≡ 98 ∷ (digits 1 (births_in text).answers ++ c ∷ more) → 115 ∷ digits 0 rule.survivals ≡ c ∷ more
 unfolding rule_text
 births-shared text c cs more rule whole rest spelled =
     let behind = 115 ∷ digits 0 rule.survivals in
@@ -227,7 +229,7 @@ births-shared text c cs more rule whole rest spelled =
 
 -- the same behind the survivals' digits, where a rule's text has nothing
 pub survivals-shared : (text : List ℕ) (c : ℕ) (cs more : List ℕ) (rule : Numbers) → IsRule rule → (survivals_in text).rest ≡ c ∷ cs
-  → digits 0 rule.survivals ≡ digits 0 (survivals_in text).answers ++ c ∷ more → [] ≡ c ∷ more
+    → digits 0 rule.survivals ≡ digits 0 (survivals_in text).answers ++ c ∷ more → [] ≡ c ∷ more
 survivals-shared text c cs more rule whole rest same =
     ap (λ (r : Reading). r.rest)
     (sym (numbers_at-digits 9 0 rule.survivals [] whole.survivals (omega arith) IsPastDigits-nil)
@@ -240,40 +242,43 @@ no_b (c ∷ cs) h = grind (arith, nat_tests)
 
 pub Says_no_b : (text : List ℕ) → begins text (codes "b") ≡ false → Says text (Err (BadRule 0))
 unfolding rule_text
-Says_no_b text h =
-    (record {
-      within = omega arith;
-      before = BeginsRule-nil;
-      there = λ less further. go text h less further.rule further.rest further.spelled },
-    no_b text h)
+Says_no_b text h = (
+  record {
+    within = omega arith;
+    before = BeginsRule-nil;
+    there = λ less further. go text h less further.rule further.rest further.spelled;
+  },
+  no_b text h,
+)
   where
     go : (text : List ℕ) → begins text (codes "b") ≡ false → 0 < length text → (rule : Numbers) (more : List ℕ) → rule_text rule ≡ take 1 text ++ more → ⊥
     go [] h less rule more e = omega arith
     go (c ∷ cs) h less rule more e =
-      let same : begins (rule_text rule) (codes "b") ≡ begins (c ∷ cs) (codes "b") = ap (λ (xs : List ℕ). begins xs (codes "b")) e ∙ begins-same_front [] c 98 more cs in
-      let yes : begins (rule_text rule) (codes "b") ≡ true = begins-same 98 (digits 1 rule.births ++ (115 ∷ digits 0 rule.survivals)) in
-      let wrong : true ≡ false = sym yes ∙ same ∙ h in
-      cc
+        let same : begins (rule_text rule) (codes "b") ≡ begins (c ∷ cs) (codes "b") = ap (λ (xs : List ℕ). begins xs (codes "b")) e ∙ begins-same_front [] c 98 more cs in
+        let yes : begins (rule_text rule) (codes "b") ≡ true = begins-same 98 (digits 1 rule.births ++ (115 ∷ digits 0 rule.survivals)) in
+        let wrong : true ≡ false = sym yes ∙ same ∙ h in
+        cc
 
 pub Says_no_s : (text : List ℕ) → begins text (codes "b") ≡ true → begins text (codes "b0") ≡ false → begins (births_in text).rest (codes "s") ≡ false
-  → Says text (fault_at text (births_in text).rest)
+    → Says text (fault_at text (births_in text).rest)
 unfolding rule_text
 Says_no_s text b no_zero no_s =
     let births = births_in text in
     let front = 98 ∷ digits 1 births.answers in
     let whole : front ++ births.rest ≡ text = ap (λ (xs : List ℕ). 98 ∷ xs) (digits-numbers_at 8 1 (drop 1 text)) ∙ sym (begins-true text 98 b) in
-    let P : List ℕ → Type 0 = λ xs. IsFirstFault xs (length xs - length births.rest) in
-    (subst P whole
-      (IsFirstFault-behind front births.rest (BeginsRule-births births.answers (length-numbers_at 8 1 (drop 1 text)))
-      (λ c cs rest further.
-        let more = further.rest in
-        let spelled : rule_text further.rule ≡ 98 ∷ (digits 1 births.answers ++ c ∷ more) = further.spelled ∙ append_assoc front (c ∷ []) more in
-        let shared = births-shared text c cs more further.rule further.is_rule rest spelled in
-        let yes : begins (c ∷ more) (codes "s") ≡ true = ap (λ (xs : List ℕ). begins xs (codes "s")) (sym shared) ∙ begins-same 115 (digits 0 further.rule.survivals) in
-        let no : begins (c ∷ more) (codes "s") ≡ false = begins-same_front [] c 115 more cs ∙ ap (λ (xs : List ℕ). begins xs (codes "s")) (sym rest) ∙ no_s in
-        let wrong : true ≡ false = sym yes ∙ no in
-        cc)),
-    no_zero)
+    let P : List ℕ → Type 0 = λ xs. IsFirstFault xs (length xs - length births.rest) in (
+      subst P whole
+          (IsFirstFault-behind front births.rest (BeginsRule-births births.answers (length-numbers_at 8 1 (drop 1 text)))
+          (λ c cs rest further.
+          let more = further.rest in
+          let spelled : rule_text further.rule ≡ 98 ∷ (digits 1 births.answers ++ c ∷ more) = further.spelled ∙ append_assoc front (c ∷ []) more in
+          let shared = births-shared text c cs more further.rule further.is_rule rest spelled in
+          let yes : begins (c ∷ more) (codes "s") ≡ true = ap (λ (xs : List ℕ). begins xs (codes "s")) (sym shared) ∙ begins-same 115 (digits 0 further.rule.survivals) in
+          let no : begins (c ∷ more) (codes "s") ≡ false = begins-same_front [] c 115 more cs ∙ ap (λ (xs : List ℕ). begins xs (codes "s")) (sym rest) ∙ no_s in
+          let wrong : true ≡ false = sym yes ∙ no in
+          cc)),
+      no_zero,
+    )
 
 -- the text up to the end of the survivals' digits is a rule's
 abbrev pub rule_in : List ℕ → Numbers
@@ -286,7 +291,7 @@ rule_text-rule_in text b s =
     let survivals = survivals_in text in
     let d = digits 1 births.answers in
     let tail : 115 ∷ (digits 0 survivals.answers ++ survivals.rest) ≡ births.rest =
-      ap (λ (xs : List ℕ). 115 ∷ xs) (digits-numbers_at 9 0 (drop 1 births.rest)) ∙ sym (begins-true births.rest 115 s) in
+    ap (λ (xs : List ℕ). 115 ∷ xs) (digits-numbers_at 9 0 (drop 1 births.rest)) ∙ sym (begins-true births.rest 115 s) in
     ap (λ (xs : List ℕ). 98 ∷ xs) (append_assoc d (115 ∷ digits 0 survivals.answers) survivals.rest ∙ ap (λ (xs : List ℕ). d ++ xs) tail ∙ digits-numbers_at 8 1 (drop 1 text))
     ∙ sym (begins-true text 98 b)
 
@@ -294,27 +299,28 @@ pub IsRule-rule_in : (text : List ℕ) → IsRule (rule_in text)
 IsRule-rule_in text = record { births = length-numbers_at 8 1 (drop 1 text); survivals = length-numbers_at 9 0 (drop 1 (births_in text).rest) }
 
 pub Says_more : (text : List ℕ) → begins text (codes "b") ≡ true → begins text (codes "b0") ≡ false → begins (births_in text).rest (codes "s") ≡ true
-  → Says text (fault_at text (survivals_in text).rest)
+    → Says text (fault_at text (survivals_in text).rest)
 unfolding rule_text
 Says_more text b no_zero s =
     let births = births_in text in
     let survivals = survivals_in text in
     let rule = rule_in text in
-    let P : List ℕ → Type 0 = λ xs. IsFirstFault xs (length xs - length survivals.rest) in
-    (subst P (rule_text-rule_in text b s)
-      (IsFirstFault-behind (rule_text rule) survivals.rest (BeginsRule-rule_text rule (IsRule-rule_in text))
-      (λ c cs rest further.
-        let more = further.rest in
-        let d = digits 1 births.answers in
-        let t = digits 0 survivals.answers in
-        let spelled : rule_text further.rule ≡ 98 ∷ (d ++ 115 ∷ (t ++ c ∷ more)) =
+    let P : List ℕ → Type 0 = λ xs. IsFirstFault xs (length xs - length survivals.rest) in (
+      subst P (rule_text-rule_in text b s)
+          (IsFirstFault-behind (rule_text rule) survivals.rest (BeginsRule-rule_text rule (IsRule-rule_in text))
+          (λ c cs rest further.
+          let more = further.rest in
+          let d = digits 1 births.answers in
+          let t = digits 0 survivals.answers in
+          let spelled : rule_text further.rule ≡ 98 ∷ (d ++ 115 ∷ (t ++ c ∷ more)) =
           further.spelled ∙ append_assoc (rule_text rule) (c ∷ []) more ∙ ap (λ (xs : List ℕ). 98 ∷ xs) (append_assoc d (115 ∷ t) (c ∷ more)) in
-        let behind : births.rest ≡ 115 ∷ drop 1 births.rest = begins-true births.rest 115 s in
-        let shared : 115 ∷ digits 0 further.rule.survivals ≡ 115 ∷ (t ++ c ∷ more) =
+          let behind : births.rest ≡ 115 ∷ drop 1 births.rest = begins-true births.rest 115 s in
+          let shared : 115 ∷ digits 0 further.rule.survivals ≡ 115 ∷ (t ++ c ∷ more) =
           births-shared text 115 (drop 1 births.rest) (t ++ c ∷ more) further.rule further.is_rule behind spelled in
-        let none = survivals-shared text c cs more further.rule further.is_rule rest (ap (drop 1) shared) in
-        cc)),
-    no_zero)
+          let none = survivals-shared text c cs more further.rule further.is_rule rest (ap (drop 1) shared) in
+          cc)),
+      no_zero,
+    )
 
 pub Says_all : (text : List ℕ) → begins text (codes "b") ≡ true → begins (births_in text).rest (codes "s") ≡ true → (length (survivals_in text).rest == 0) ≡ true → Says text (Ok (rule_in text))
 Says_all text b s end =
@@ -331,7 +337,7 @@ Says_rule_read text =
     go (begins text (codes "b")) (begins text (codes "b0")) (begins (births_in text).rest (codes "s")) (length (survivals_in text).rest == 0) refl refl refl refl
   where
     go : (b zero_first s end : Bool) → begins text (codes "b") ≡ b → begins text (codes "b0") ≡ zero_first → begins (births_in text).rest (codes "s") ≡ s
-      → (length (survivals_in text).rest == 0) ≡ end → Says text (rule_read text)
+        → (length (survivals_in text).rest == 0) ≡ end → Says text (rule_read text)
     go false _ _ _ h1 h2 h3 h4 = subst (Says text) (sym (rule_read-no_b text h1)) (Says_no_b text h1)
     go true true _ _ h1 h2 h3 h4 = subst (Says text) (sym (rule_read-zero text h1 h2)) h2
     go true false false _ h1 h2 h3 h4 = subst (Says text) (sym (rule_read-no_s text h1 h2 h3)) (Says_no_s text h1 h2 h3)

@@ -1,5 +1,5 @@
 use Rattle.std.proofs.Common.{◌++◌, codes}
-use Rattle.plane_core.proofs.OutLemmas.{Writes_then, Writes_stops, Writes_fails}
+use Rattle.plane_core.proofs.OutLemmas.{Writes_then, Writes_stops}
 use Rattle.plane_core.specs.Rules.{digits, rule_text}
 use Rattle.plane_core.proofs.rule.Rule.write_text.Goals as goal
 
