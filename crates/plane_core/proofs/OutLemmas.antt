@@ -1,5 +1,5 @@
 -- How calls that write in a row make one call that writes.
-use Rattle.std.proofs.Common.{◌≡◌, ℕ, ◌-◌, ◌≤◌, false, List, [], ◌++◌, length, take, drop, Option, None, Some, Result, Ok, Err, IsErr, sym, ◌∙◌, ap, append_assoc, append-nil, length-drop}
+use Rattle.std.proofs.Common.{◌≡◌, ℕ, ◌-◌, ◌≤◌, false, List, [], ◌++◌, length, take, drop, Option, None, Some, Result, Ok, Err, IsErr, sym, subst, ◌∙◌, ap, append_assoc, append-nil, length-drop}
 use Rattle.std.proofs.lemmas.List.{take-append-drop}
 use Rattle.std.proofs.Math.Seq.{take-length}
 use Rattle.std.specs.Io.KnownBytes.{Appends}
@@ -60,3 +60,7 @@ module _ {V : Type 0} {contents : V → Option (List ℕ)} where
   pub Writes_longer : {E : Type 0} {x y : Output V} {r : Result (Unit {0}) E} {a : List ℕ} (b : List ℕ) → IsErr r → Writes contents x y r a → Writes contents x y r (a ++ b)
   Writes_longer {r = Ok _} b h p = cc
   Writes_longer {r = Err _} b h p = Writes_stops b h p
+
+  -- what is written is known by an equation
+  pub Writes_same : {E : Type 0} {x y : Output V} {r : Result (Unit {0}) E} {a b : List ℕ} → a ≡ b → Writes contents x y r a → Writes contents x y r b
+  Writes_same {x} {y} {r} e p = let P : List ℕ → Type 0 = λ text. Writes contents x y r text in subst P e p

@@ -40,7 +40,7 @@ pub record BeginsRule (text : List ℕ) : Type 0 where
   pub is_rule : IsRule rule
   pub spelled : rule_text rule ≡ text ++ rest
 
--- Up to the place the text may begin a rule's, and the byte there can't stand there. At the text's end there is none.
+-- The bytes before the place begin some rule's text, and with the byte there they don't. At the text's end there is none.
 pub record IsFirstFault (text : List ℕ) (place : ℕ) : Type 0 where
   pub within : place ≤ length text
   pub before : BeginsRule (take place text)
