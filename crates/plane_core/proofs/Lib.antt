@@ -5,6 +5,7 @@ pub mod GenerationLemmas
 pub mod MergeLemmas
 pub mod NeighbourLemmas
 pub mod OutLemmas
+pub mod PlacementLemmas
 pub mod ReadingLemmas
 pub mod RuleLemmas
 pub mod RuleReading

@@ -3,9 +3,12 @@ use Rattle.std.specs.Prelude.{◌≡◌, true, false, List, position, Some, None
 use Rattle.plane_core.specs.declared.cell.Cell.{Cell}
 use Rattle.plane_core.specs.declared.pattern.FromCellsError.{FromCellsError}
 use Rattle.plane_core.specs.declared.pattern.FromCellsError.TheVariants.{OutOfPlane, Memory}
+use Rattle.std.specs.List.{list_all}
+use Rattle.plane_core.specs.declared.placement.PlaceError.{PlaceError}
+use Rattle.plane_core.specs.declared.placement.PlaceError.TheVariants as place
 use Rattle.plane_core.specs.declared.generation.StepError.{StepError}
 use Rattle.plane_core.specs.declared.generation.StepError.TheVariants as step
-use Rattle.plane_core.specs.Cells.{off_plane}
+use Rattle.plane_core.specs.Cells.{off_plane, on_plane}
 use Rattle.plane_core.specs.Generations.{touches_edge}
 
 -- the first cell past the bound is named, and memory is wanting only where there is none
@@ -17,3 +20,8 @@ RefusesCells cells Memory = position off_plane cells ≡ None
 abbrev pub RefusesStep : List Cell → StepError → Type 0
 RefusesStep cells step.Edge = touches_edge cells ≡ true
 RefusesStep cells step.Memory = touches_edge cells ≡ false
+
+-- a cell past the bound is told, and memory is wanting only where there is none
+abbrev pub RefusesPlace : List Cell → PlaceError → Type 0
+RefusesPlace cells place.OutOfPlane = list_all on_plane cells ≡ false
+RefusesPlace cells place.Memory = list_all on_plane cells ≡ true

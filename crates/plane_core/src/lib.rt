@@ -16,6 +16,8 @@ pub mod orientation;
 pub mod output;
 /// Patterns: finite sets of cells.
 pub mod pattern;
+/// Patterns moved on the plane.
+pub mod placement;
 /// Rules by birth and survival numbers.
 pub mod rule;
 mod tally;

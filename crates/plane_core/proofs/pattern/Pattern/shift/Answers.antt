@@ -1,0 +1,15 @@
+use Rattle.std.proofs.Common.{◌≡◌, ◌∙◌, true, w32, FitsSigned, rules}
+use Rattle.std.proofs.lemmas.Int.{to_z-of_z}
+use Rattle.std.specs.List.{list_all}
+use Rattle.plane_core.specs.Bounds.{shifted}
+use Rattle.plane_core.specs.Cells.{on_plane}
+use Rattle.plane_core.proofs.PlacementLemmas.{is_pattern-shifted}
+use Rattle.plane_core.proofs.pattern.Pattern.shift.Goals as goal
+
+pub from_ordered-requires : goal.from_ordered-requires
+from_ordered-requires c =
+    let fits_x : FitsSigned w32 c.args.dx = search rules in
+    let fits_y : FitsSigned w32 c.args.dy = search rules in
+    let on : list_all on_plane (shifted c.args.dx c.args.dy c.args.self.now) ≡ true = search rules in
+    let moved : c.in_ok-cells.cells.items ≡ shifted c.args.dx c.args.dy c.args.self.now = rw c.cells-2.ensures.cells at (simp to_z-of_z at c.in_ok-cells.ensures) in
+    rw moved (is_pattern-shifted c.args.dx c.args.dy c.args.self.now c.cells.ensures.pattern.in_order on)
