@@ -1,10 +1,15 @@
 -- Patterns moved on the plane.
-use Rattle.std.proofs.Common.{◌≡◌, ℕ, ℤ, zero, suc, ◌<◌, ◌+ℤ◌, Bool, true, false, ◌||◌, ◌&&◌, List, [], ◌∷◌, arith, refl, ap, ◌∙◌, sym, subst, length, map, get_or}
+use Rattle.std.proofs.Common.{◌≡◌, ℕ, ℤ, zero, suc, ◌<◌, ◌+ℤ◌, Bool, true, false, ◌&&◌, List, [], ◌∷◌, arith, refl, ap, ◌∙◌, sym, subst, length, map, get_or, take, ◌-ℤ◌, ◌+◌, ◌≤◌, ◌++◌, ◌↔◌, not, IsTrue, Some}
+use Rattle.std.specs.Bool.{then_some}
 use Rattle.std.specs.List.{list_all}
-use Rattle.std.proofs.lemmas.Bool.{false≢true, and_parts, cases_Bool}
+use Rattle.std.specs.Ordering.{int_eq}
+use Rattle.std.proofs.lemmas.Int.{ints}
+use Rattle.std.proofs.lemmas.List.{take_more, map-append}
+use Rattle.std.proofs.lemmas.Bool.{false≢true, and_parts, not-false}
 use Rattle.plane_core.specs.declared.cell.Cell.{Cell}
-use Rattle.plane_core.specs.Bounds.{shifted}
-use Rattle.plane_core.specs.Cells.{cell_cmp, moved_by, InOrder, on_plane, IsPattern}
+use Rattle.plane_core.specs.Bounds.{shifted, TellsShift}
+use Rattle.plane_core.specs.Cells.{cell_at, moved_by, InOrder, on_plane, IsPattern}
+use Rattle.plane_core.proofs.BlockLemmas.{int_eq-true}
 use Rattle.plane_core.proofs.CellLemmas.{cell_cmp-moved}
 use Rattle.plane_core.proofs.SetLemmas.{IsBefore, in_order-head, in_order-tail, in_order-cons, in_order-nil}
 
@@ -33,3 +38,56 @@ in_order-shifted dx dy (c ∷ cs) o = in_order-cons (moved_by dx dy c) (shifted 
 
 pub is_pattern-shifted : (dx dy : ℤ) (cs : List Cell) → InOrder cs → list_all on_plane (shifted dx dy cs) ≡ true → IsPattern (shifted dx dy cs)
 is_pattern-shifted dx dy cs o on = record { in_order = in_order-shifted dx dy cs o; on_plane = on }
+
+-- ---- the shift from one list to another
+
+-- the step that leads from one coordinate to another
+step_on : (a b d : ℤ) → (b -ℤ a) ≡ d → a +ℤ d ≡ b
+step_on a b d e = omega (arith, ints)
+
+step_of : (a b d : ℤ) → a +ℤ d ≡ b → (b -ℤ a) ≡ d
+step_of a b d e = omega (arith, ints)
+
+-- a loop's step: the next cell is as far from the next other
+pub stepped_more : (dx dy : ℤ) (cs ds : List Cell) (i : ℕ) (z : Cell) (s : ℤ × ℤ) → i < length cs → length cs ≡ length ds → shifted dx dy (take i cs) ≡ take i ds
+    → s ≡ ((get_or ds i z).x -ℤ (get_or cs i z).x, (get_or ds i z).y -ℤ (get_or cs i z).y) → not (int_eq s.0 dx && int_eq s.1 dy) ≡ false
+    → shifted dx dy (take (i + 1) cs) ≡ take (i + 1) ds
+stepped_more dx dy cs ds i z s low same so_far is ne =
+    let both = and_parts (int_eq s.0 dx) (int_eq s.1 dy) (not-false (int_eq s.0 dx && int_eq s.1 dy) ne) in
+    let x : (get_or ds i z).x -ℤ (get_or cs i z).x ≡ dx = sym (ap (λ (t : ℤ × ℤ). t.0) is) ∙ int_eq-true s.0 dx both.0 in
+    let y : (get_or ds i z).y -ℤ (get_or cs i z).y ≡ dy = sym (ap (λ (t : ℤ × ℤ). t.1) is) ∙ int_eq-true s.1 dy both.1 in
+    let there : moved_by dx dy (get_or cs i z) ≡ get_or ds i z = λ k. cell_at (step_on (get_or cs i z).x (get_or ds i z).x dx x k) (step_on (get_or cs i z).y (get_or ds i z).y dy y k) in
+    let low_too : i < length ds = omega arith in
+    ap (shifted dx dy) (take_more cs i z low) ∙ map-append (moved_by dx dy) (take i cs) (get_or cs i z ∷ [])
+    ∙ (λ k. so_far k ++ there k ∷ []) ∙ sym (take_more ds i z low_too)
+
+-- a shift of a list with a first cell is the step between the first cells
+shift_is_step : (dx dy : ℤ) (c : Cell) (cs : List Cell) (d : Cell) (ds : List Cell) → shifted dx dy (c ∷ cs) ≡ d ∷ ds → ◌≡◌ {A = ℤ × ℤ} (d.x -ℤ c.x, d.y -ℤ c.y) (dx, dy)
+shift_is_step dx dy c cs d ds e =
+    let first : moved_by dx dy c ≡ d = cc in
+    λ k. (step_of c.x d.x dx (ap (λ (a : Cell). a.x) first) k, step_of c.y d.y dy (ap (λ (a : Cell). a.y) first) k)
+
+-- the step between the first cells is told just where it is that between all
+pub tells_shift : (S T : List Cell) (z : Cell) (s : ℤ × ℤ) (b : Bool) → 1 ≤ length S → length S ≡ length T
+    → s ≡ ((get_or T 0 z).x -ℤ (get_or S 0 z).x, (get_or T 0 z).y -ℤ (get_or S 0 z).y)
+    → (IsTrue b ↔ (shifted s.0 s.1 S ≡ T)) → TellsShift S T (then_some b s)
+tells_shift [] T z s b some same is iff = absurd (omega arith)
+tells_shift (c ∷ cs) [] z s b some same is iff = absurd (omega arith)
+tells_shift (c ∷ cs) (d ∷ ds) z s true some same is iff = record {
+  some = iff.0 refl;
+  none = tt;
+  only = λ dx dy ne e. ap Some (is ∙ shift_is_step dx dy c cs d ds e);
+  empty = λ e f. absurd cc;
+}
+tells_shift (c ∷ cs) (d ∷ ds) z s false some same is iff = record {
+  some = tt;
+  none = λ dx dy e. no_shift dx dy e;
+  only = λ dx dy ne e. absurd (no_shift dx dy e);
+  empty = λ e f. absurd cc;
+}
+  where
+    no_shift : (dx dy : ℤ) → shifted dx dy (c ∷ cs) ≡ d ∷ ds → ⊥
+    no_shift dx dy e =
+        let step : ◌≡◌ {A = ℤ × ℤ} s (dx, dy) = is ∙ shift_is_step dx dy c cs d ds e in
+        let whole : shifted s.0 s.1 (c ∷ cs) ≡ d ∷ ds = subst (λ (t : ℤ × ℤ). shifted t.0 t.1 (c ∷ cs) ≡ d ∷ ds) (sym step) e in
+        false≢true (iff.1 whole)

@@ -1,5 +1,5 @@
 -- The least box round a pattern, and a pattern moved to the corner (0, 0).
-use Rattle.std.specs.Prelude.{◌≡◌, ℤ, ◌≤ℤ◌, List, [], ◌∷◌, Option, None, Some, All, Any, map}
+use Rattle.std.specs.Prelude.{◌≡◌, ℤ, ◌≤ℤ◌, List, [], ◌∷◌, Option, None, Some, All, Any, map, ◌≢◌, pos, IfSome, IfNone}
 use Rattle.std.specs.Int.{int_min, int_max}
 use Rattle.plane_core.specs.declared.cell.Cell.{Cell}
 use Rattle.plane_core.specs.declared.bounds.Bounds.{Bounds}
@@ -50,3 +50,10 @@ cornered (Some b) cells = shifted (neg_ℤ b.left) (neg_ℤ b.top) cells
 
 abbrev pub at_corner : List Cell → List Cell
 at_corner cells = cornered (box_of cells) cells
+
+-- A shift is told just where one makes S into T. Of a pattern with a cell it is the only one; of two empty ones it is (0, 0).
+pub record TellsShift (S T : List Cell) (told : Option (ℤ × ℤ)) : Type 0 where
+  pub some : IfSome told (λ v. shifted v.0 v.1 S ≡ T)
+  pub none : IfNone told ((dx dy : ℤ) → shifted dx dy S ≢ T)
+  pub only : (dx dy : ℤ) → S ≢ [] → shifted dx dy S ≡ T → told ≡ Some (dx, dy)
+  pub empty : S ≡ [] → T ≡ [] → told ≡ Some (pos 0, pos 0)

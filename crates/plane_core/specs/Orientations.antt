@@ -1,5 +1,5 @@
 -- The eight orientations of a pattern: the symmetries of the square.
-use Rattle.std.specs.Prelude.{◌≡◌, List, map, neg_ℤ}
+use Rattle.std.specs.Prelude.{List, map, neg_ℤ}
 use Rattle.plane_core.specs.declared.cell.Cell.{Cell}
 use Rattle.plane_core.specs.declared.orientation.Orientation.{Orientation}
 use Rattle.plane_core.specs.declared.orientation.Orientation.TheVariants.{Same, Quarter, Half, ThreeQuarter, Mirror, Flip, Diagonal, AntiDiagonal}

@@ -1,7 +1,6 @@
-use Rattle.std.proofs.Common.{◌≡◌, ◌∙◌, sym, w32, FitsSigned, rules, false, get_or}
+use Rattle.std.proofs.Common.{sym, w32, FitsSigned, rules}
 use Rattle.std.proofs.lemmas.Int.{to_z-of_z}
-use Rattle.plane_core.specs.declared.cell.Cell.{Cell}
-use Rattle.plane_core.specs.Cells.{moved_by, on_plane, cell_at}
+use Rattle.plane_core.specs.Cells.{moved_by, on_plane}
 use Rattle.plane_core.proofs.PlacementLemmas.{one_image_fails}
 use Rattle.plane_core.proofs.placement.all_stay.Goals as goal
 

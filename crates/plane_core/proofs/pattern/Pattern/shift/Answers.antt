@@ -1,4 +1,4 @@
-use Rattle.std.proofs.Common.{◌≡◌, ◌∙◌, true, w32, FitsSigned, rules}
+use Rattle.std.proofs.Common.{◌≡◌, true, w32, FitsSigned, rules}
 use Rattle.std.proofs.lemmas.Int.{to_z-of_z}
 use Rattle.std.specs.List.{list_all}
 use Rattle.plane_core.specs.Bounds.{shifted}
