@@ -1,8 +1,8 @@
 -- The least box round a list of cells.
-use Rattle.std.proofs.Common.{◌≡◌, ℕ, ℤ, true, false, List, [], ◌∷◌, ◌++◌, arith, refl, ap, ◌∙◌, sym, inl, inr, ◌⊎◌, Option, Some, None, Any, IsNone, IfSome, ◌↔◌, ◌+◌, ◌<◌, cond, length, take, get_or, suc, int_lt}
+use Rattle.std.proofs.Common.{◌≡◌, ℕ, ℤ, true, false, List, [], ◌∷◌, ◌++◌, arith, refl, ap, ◌∙◌, sym, inl, inr, ◌⊎◌, Option, Some, None, Any, IsNone, IfSome, ◌↔◌, ◌+◌, ◌<◌, cond, length, map, take, get_or, suc, int_lt}
 use Rattle.std.specs.Int.{int_min, int_max}
 use Rattle.std.proofs.lemmas.Bool.{false≢true}
-use Rattle.std.proofs.lemmas.List.{take_more}
+use Rattle.std.proofs.lemmas.List.{take_more, map-append}
 use Rattle.std.proofs.lemmas.Int.{ints, clamps}
 use Rattle.std.proofs.lemmas.List.Elements.{All-cons, All-nil, All-weaker}
 use Rattle.plane_core.specs.declared.cell.Cell.{Cell}
@@ -21,11 +21,23 @@ min_comm a b = omega (arith, ints, clamps)
 max_comm : (a b : ℤ) → int_max a b ≡ int_max b a
 max_comm a b = omega (arith, ints, clamps)
 
+pub min_same : (a : ℤ) → int_min a a ≡ a
+min_same a = omega (arith, ints, clamps)
+
+pub max_same : (a : ℤ) → int_max a a ≡ a
+max_same a = omega (arith, ints, clamps)
+
+pub min_again : (a b : ℤ) → int_min a (int_min a b) ≡ int_min a b
+min_again a b = omega (arith, ints, clamps)
+
+pub max_again : (a b : ℤ) → int_max a (int_max a b) ≡ int_max a b
+max_again a b = omega (arith, ints, clamps)
+
 -- a box is widened by two cells in either order
-widened-swap : (c d : Cell) (b : Bounds) → widened c (widened d b) ≡ widened d (widened c b)
+pub widened-swap : (c d : Cell) (b : Bounds) → widened c (widened d b) ≡ widened d (widened c b)
 widened-swap c d b i = record { left = min_swap c.x d.x b.left i; top = min_swap c.y d.y b.top i; right = max_swap c.x d.x b.right i; bottom = max_swap c.y d.y b.bottom i }
 
-widened-pair : (c d : Cell) → widened c (box_at d) ≡ widened d (box_at c)
+pub widened-pair : (c d : Cell) → widened c (box_at d) ≡ widened d (box_at c)
 widened-pair c d i = record { left = min_comm c.x d.x i; top = min_comm c.y d.y i; right = max_comm c.x d.x i; bottom = max_comm c.y d.y i }
 
 -- the box of a list with one cell more at its end
@@ -97,3 +109,10 @@ box_of-least (c ∷ d ∷ ds) = least-widened c (d ∷ ds) (grown d (box_of ds))
 pub box_of-none : (cs : List Cell) → IsNone (box_of cs) ↔ (cs ≡ [])
 box_of-none [] = (λ _. refl, λ _. refl)
 box_of-none (c ∷ cs) = (λ e. absurd (false≢true (sym e)), λ e. absurd cc)
+
+-- a loop's step over the images of cells
+pub image_box_more : (f : Cell → Cell) (cs : List Cell) (i : ℕ) (d : Cell) → i < length cs → box_of (map f (take (i + 1) cs)) ≡ Some (grown (f (get_or cs i d)) (box_of (map f (take i cs))))
+image_box_more f cs i d low =
+    ap (λ (xs : List Cell). box_of (map f xs)) (take_more cs i d low)
+    ∙ ap box_of (map-append f (take i cs) (get_or cs i d ∷ []))
+    ∙ box_of-push (map f (take i cs)) (f (get_or cs i d))

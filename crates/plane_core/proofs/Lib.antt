@@ -12,3 +12,4 @@ pub mod RuleReading
 pub mod SearchLemmas
 pub mod SetLemmas
 pub mod TallyLemmas
+pub mod TurnLemmas

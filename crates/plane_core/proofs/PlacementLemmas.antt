@@ -13,6 +13,12 @@ use Rattle.plane_core.proofs.BlockLemmas.{int_eq-true}
 use Rattle.plane_core.proofs.CellLemmas.{cell_cmp-moved}
 use Rattle.plane_core.proofs.SetLemmas.{IsBefore, in_order-head, in_order-tail, in_order-cons, in_order-nil}
 
+-- a test that all cells pass, at one of them
+pub all_at : (p : Cell → Bool) (cs : List Cell) (i : ℕ) (d : Cell) → i < length cs → list_all p cs ≡ true → p (get_or cs i d) ≡ true
+all_at p [] i d low h = absurd (omega arith)
+all_at p (c ∷ cs) zero d low h = (and_parts (p c) (list_all p cs) h).0
+all_at p (c ∷ cs) (suc i) d low h = all_at p cs i d (omega arith) (and_parts (p c) (list_all p cs) h).1
+
 -- a test that all images pass, at one of them
 pub all_images_at : (p : Cell → Bool) (f : Cell → Cell) (cs : List Cell) (i : ℕ) (d : Cell) → i < length cs → list_all p (map f cs) ≡ true → p (f (get_or cs i d)) ≡ true
 all_images_at p f [] i d low h = absurd (omega arith)

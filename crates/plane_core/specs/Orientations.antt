@@ -3,8 +3,10 @@ use Rattle.std.specs.Prelude.{List, map, neg_ℤ}
 use Rattle.plane_core.specs.declared.cell.Cell.{Cell}
 use Rattle.plane_core.specs.declared.orientation.Orientation.{Orientation}
 use Rattle.plane_core.specs.declared.orientation.Orientation.TheVariants.{Same, Quarter, Half, ThreeQuarter, Mirror, Flip, Diagonal, AntiDiagonal}
+use Rattle.plane_core.specs.declared.placement.Placement.{Placement}
+use Rattle.plane_core.specs.declared.bounds.Bounds.{Bounds}
 use Rattle.plane_core.specs.Bounds.{at_corner}
-use Rattle.plane_core.specs.Cells.{cell_at, set_of}
+use Rattle.plane_core.specs.Cells.{cell_at, moved_by, set_of}
 
 -- where an orientation takes a cell
 abbrev pub turned_cell : Orientation → Cell → Cell
@@ -16,6 +18,14 @@ turned_cell Mirror c = cell_at (neg_ℤ c.x) c.y
 turned_cell Flip c = cell_at c.x (neg_ℤ c.y)
 turned_cell Diagonal c = cell_at c.y c.x
 turned_cell AntiDiagonal c = cell_at (neg_ℤ c.y) (neg_ℤ c.x)
+
+-- where a cell lands that is turned, and then moved
+abbrev pub landed : Placement → Cell → Cell
+landed p c = moved_by p.dx p.dy (turned_cell p.orientation c)
+
+-- the placement that moves an image with this box to the corner
+abbrev pub corner_placement : Orientation → Bounds → Placement
+corner_placement o b = record { orientation = o; dx = neg_ℤ b.left; dy = neg_ℤ b.top }
 
 -- the image of a pattern, as it comes and at the corner
 unfoldable pub image : Orientation → List Cell → List Cell

@@ -52,7 +52,7 @@ impl Pattern {
 }
 
 /// A box, if there is one, with one cell more.
-fn grown(bounds: Option<Bounds>, cell: Cell) -> Bounds
+pub(crate) fn grown(bounds: Option<Bounds>, cell: Cell) -> Bounds
     ensures { result ≡ grown cell bounds }
 {
     match bounds {

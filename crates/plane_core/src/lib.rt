@@ -20,4 +20,6 @@ pub mod pattern;
 pub mod placement;
 /// Rules by birth and survival numbers.
 pub mod rule;
+/// The shift from one pattern to another.
+pub mod shift_to;
 mod tally;

@@ -1,3 +1,10 @@
+ghost use Rattle.std.specs.Prelude.{◌≡◌, ◌≤◌, true, neg_ℤ, unsigned_abs};
+ghost use Rattle.plane_core.specs.Cells.{cell_at, on_plane};
+ghost use Rattle.plane_core.specs.Orientations.{turned_cell};
+ghost use Rattle.plane_core.specs.declared.cell.TheConstants.{BOUND};
+
+use crate::cell::Cell;
+
 /// The eight ways in which a pattern can lie on the square grid.
 ///
 /// Each takes the cell (x, y) to the cell given here, and the image is then moved so that its least x and its least y
@@ -20,4 +27,40 @@ pub enum Orientation {
     Diagonal,
     /// (-y, -x)
     AntiDiagonal,
+}
+
+impl Orientation {
+    /// Where the orientation takes a cell of the plane.
+    #[tactic(auto, unfolding(crate::specs::Cells::on_plane))]
+    pub(crate) fn image_of(self, cell: Cell) -> Cell
+        requires { on_plane cell ≡ true }
+        ensures { result ≡ turned_cell self cell }
+    {
+        let Cell { x, y } = cell;
+        match self {
+            Orientation::Same => cell,
+            Orientation::Quarter => at(negated(y), x),
+            Orientation::Half => at(negated(x), negated(y)),
+            Orientation::ThreeQuarter => at(y, negated(x)),
+            Orientation::Mirror => at(negated(x), y),
+            Orientation::Flip => at(x, negated(y)),
+            Orientation::Diagonal => at(y, x),
+            Orientation::AntiDiagonal => at(negated(y), negated(x)),
+        }
+    }
+}
+
+/// The cell in column x of row y.
+fn at(x: i32, y: i32) -> Cell
+    ensures { result ≡ cell_at x y }
+{
+    Cell { y, x }
+}
+
+/// The coordinate on the other side of 0.
+pub(crate) fn negated(at: i32) -> i32
+    requires { unsigned_abs at ≤ BOUND }
+    ensures { result ≡ neg_ℤ at }
+{
+    -at
 }

@@ -58,8 +58,10 @@ impl Pattern {
         if let Some(index) = first_off_plane(cells) {
             return Err(FromCellsError::OutOfPlane { index });
         }
-        let cells = sorted(alloc, cells)?;
-        Ok(Pattern { cells })
+        let cells = Vec::from_slice(alloc, cells)?;
+        Ok(Pattern {
+            cells: in_order(cells),
+        })
     }
 
     /// The pattern of cells that stand in order already.
@@ -121,11 +123,11 @@ fn is_member(cells: &[Cell], cell: &Cell) -> bool
 }
 
 /// The cells in order, each once.
-fn sorted(alloc: Global, cells: &[Cell]) -> Result<Vec<Cell>, AllocError>
-    ensures { IfOk result (λ set. set.items ≡ set_of cells.now) }
+pub(crate) fn in_order(cells: Vec<Cell>) -> Vec<Cell>
+    ensures { result.items ≡ set_of cells.items }
 {
-    let mut set = Vec::from_slice(alloc, cells)?;
+    let mut set = cells;
     set.sort_unstable();
     set.dedup();
-    Ok(set)
+    set
 }

@@ -1,13 +1,17 @@
-ghost use Rattle.std.specs.Prelude.{◌≡◌, ◌≢◌, nat_le, unsigned_abs, ◌+ℤ◌, ◌-ℤ◌, ◌≤◌, ℤ, true, false, length, IsTrue, ◌↔◌, Some, None, IfOk, IfErr, IfSome, IfNone, OnOk, if◌then◌else◌};
+ghost use Rattle.std.specs.Prelude.{◌≡◌, map, ◌≢◌, nat_le, unsigned_abs, ◌+ℤ◌, ◌-ℤ◌, ◌≤◌, ℤ, true, false, length, IsTrue, ◌↔◌, Some, None, IfOk, IfErr, IfSome, IfNone, OnOk, if◌then◌else◌};
 ghost use Rattle.std.specs.List.{list_all};
-ghost use Rattle.plane_core.specs.Bounds.{shifted, TellsShift};
+ghost use Rattle.std.specs.Option.{option_map};
+ghost use Rattle.plane_core.specs.Bounds.{box_of, shifted};
+ghost use Rattle.plane_core.specs.Orientations.{corner_placement, landed, turned, turned_cell};
 ghost use Rattle.plane_core.specs.Cells.{moved_by, on_plane, IsPattern};
 ghost use Rattle.plane_core.specs.Refusals.{RefusesPlace};
 ghost use Rattle.plane_core.specs.declared.cell.TheConstants.{BOUND};
 ghost use Rattle.plane_core.specs.declared.placement.PlaceError.TheVariants.{Memory};
 
+use crate::bounds::{Bounds, grown};
 use crate::cell::{BOUND, Cell};
-use crate::pattern::Pattern;
+use crate::orientation::{Orientation, negated};
+use crate::pattern::{Pattern, in_order};
 use std::alloc::{AllocError, Global};
 use thiserror::Error;
 
@@ -51,6 +55,67 @@ fn displaced(cell: Cell, dx: i32, dy: i32) -> Option<Cell>
     }
 }
 
+/// How a cell is to lie: turned first, and then moved by (dx, dy).
+#[derive(Clone, Copy)]
+pub(crate) struct Placement {
+    orientation: Orientation,
+    dx: i32,
+    dy: i32,
+}
+
+impl Placement {
+    /// Where the cell lands, if that is on the plane.
+    fn landing(self, cell: Cell) -> Option<Cell>
+        requires { on_plane cell ≡ true }
+        ensures { result ≡ (if on_plane (landed self cell) then Some (landed self cell) else None) }
+    {
+        displaced(self.orientation.image_of(cell), self.dx, self.dy)
+    }
+
+    /// Whether the cell lands on the plane.
+    fn keeps(self, cell: Cell) -> bool
+        requires { on_plane cell ≡ true }
+        ensures { result ≡ on_plane (landed self cell) }
+    {
+        self.landing(cell).is_some()
+    }
+
+    /// Where a cell lands that lands on the plane.
+    fn place(self, cell: Cell) -> Cell
+        requires cell { on_plane cell ≡ true }
+        requires landed { on_plane (landed self cell) ≡ true }
+        ensures { result ≡ landed self cell }
+    {
+        self.landing(cell).unwrap()
+    }
+
+    /// Whether all cells land on the plane.
+    fn keeps_all(self, cells: &[Cell]) -> bool
+        requires { list_all on_plane cells.now ≡ true }
+        ensures { result ≡ list_all on_plane (map (landed self) cells.now) }
+    {
+        for cell in cells {
+            if !self.keeps(*cell) {
+                return false;
+            }
+        }
+        true
+    }
+
+    /// Where the cells land.
+    fn place_all(self, alloc: Global, cells: &[Cell]) -> Result<Vec<Cell>, AllocError>
+        requires cells { list_all on_plane cells.now ≡ true }
+        requires landed { list_all on_plane (map (landed self) cells.now) ≡ true }
+        ensures { IfOk result (λ placed. placed.items ≡ map (landed self) cells.now) }
+    {
+        let mut placed = Vec::with_capacity(alloc, cells.len())?;
+        for cell in cells {
+            placed.push(self.place(*cell))?;
+        }
+        Ok(placed)
+    }
+}
+
 impl Pattern {
     /// The pattern moved by (dx, dy).
     ///
@@ -62,109 +127,63 @@ impl Pattern {
         ensures plane { OnOk result (list_all on_plane (shifted dx dy self.now) ≡ true) }
         ensures refused { IfErr result (RefusesPlace (shifted dx dy self.now)) }
     {
-        if !all_stay(self.cells(), dx, dy) {
+        let placement = Placement {
+            orientation: Orientation::Same,
+            dx,
+            dy,
+        };
+        if !placement.keeps_all(self.cells()) {
             return Err(PlaceError::OutOfPlane);
         }
-        let cells = all_displaced(alloc, self.cells(), dx, dy)?;
+        let cells = placement.place_all(alloc, self.cells())?;
         Ok(Pattern::from_ordered(cells))
     }
 
-    /// The shift (dx, dy) that makes this pattern into the other. It is `None` where there is none, and (0, 0) where
-    /// both are empty.
-    pub fn shift_to(&self, other: &Pattern) -> Option<(i32, i32)>
-        ensures { TellsShift self.now other.now result }
+    /// The image of the pattern in an orientation, moved so that its least x and its least y are 0. The empty pattern
+    /// stays empty.
+    ///
+    /// # Errors
+    ///
+    /// `OutOfPlane` where a side of the image's box has over 1,000,001 cells, so that a cell would lie past the bound;
+    /// else `Memory` where memory is wanting.
+    pub fn turn(&self, alloc: Global, orientation: Orientation) -> Result<Pattern, PlaceError>
+        ensures turned { IfOk result (λ pattern. pattern ≡ turned orientation self.now) }
+        ensures plane { OnOk result (list_all on_plane (turned orientation self.now) ≡ true) }
+        ensures refused { IfErr result (RefusesPlace (turned orientation self.now)) }
     {
-        shift_between(self.cells(), other.cells())
-    }
-}
-
-/// The shift that makes the cells into the others: that of the first cells, where it is that of all.
-fn shift_between(cells: &[Cell], others: &[Cell]) -> Option<(i32, i32)>
-    requires cells { IsPattern cells.now }
-    requires others { IsPattern others.now }
-    ensures { TellsShift cells.now others.now result }
-{
-    if cells.len() != others.len() {
-        return None;
-    }
-    match cells {
-        [] => Some((0, 0)),
-        [first, ..] => {
-            let (dx, dy) = step_between(*first, others[0]);
-            all_stepped(cells, others, dx, dy).then_some((dx, dy))
+        let Some(placement) = to_corner(self.cells(), orientation) else {
+            return Ok(Pattern::from_ordered(Vec::new(alloc)));
+        };
+        if !placement.keeps_all(self.cells()) {
+            return Err(PlaceError::OutOfPlane);
         }
+        let cells = placement.place_all(alloc, self.cells())?;
+        Ok(Pattern::from_ordered(in_order(cells)))
     }
 }
 
-/// Whether each cell is a step (dx, dy) from the other in its place.
-fn all_stepped(cells: &[Cell], others: &[Cell], dx: i32, dy: i32) -> bool
-    requires lengths { length cells.now ≡ length others.now }
-    requires cells { list_all on_plane cells.now ≡ true }
-    requires others { list_all on_plane others.now ≡ true }
-    ensures { IsTrue result ↔ (shifted dx dy cells.now ≡ others.now) }
+/// The least box round the image of the cells.
+#[tactic(auto, using(crate::proofs::BoundsLemmas::image_box_more))]
+fn image_box(cells: &[Cell], orientation: Orientation) -> Option<Bounds>
+    requires { list_all on_plane cells.now ≡ true }
+    ensures { result ≡ box_of (map (turned_cell orientation) cells.now) }
 {
-    for (i, cell) in cells.iter().enumerate() {
-        if step_between(*cell, others[i]) != (dx, dy) {
-            return false;
-        }
-    }
-    true
-}
-
-/// How far it is from one coordinate of the plane to another.
-fn distance(from: i32, to: i32) -> i32
-    requires from { unsigned_abs from ≤ BOUND }
-    requires to { unsigned_abs to ≤ BOUND }
-    ensures { result ≡ to -ℤ from }
-{
-    to - from
-}
-
-/// The step from one cell of the plane to another.
-#[tactic(auto, unfolding(crate::specs::Cells::on_plane))]
-fn step_between(from: Cell, to: Cell) -> (i32, i32)
-    requires from { on_plane from ≡ true }
-    requires to { on_plane to ≡ true }
-    ensures { result ≡ (to.x -ℤ from.x, to.y -ℤ from.y) }
-{
-    (distance(from.x, to.x), distance(from.y, to.y))
-}
-
-/// Whether the cell, moved by (dx, dy), lies on the plane.
-fn stays(cell: Cell, dx: i32, dy: i32) -> bool
-    ensures { result ≡ on_plane (moved_by dx dy cell) }
-{
-    displaced(cell, dx, dy).is_some()
-}
-
-/// The cell moved by (dx, dy), which lies on the plane.
-fn placed(cell: Cell, dx: i32, dy: i32) -> Cell
-    requires { on_plane (moved_by dx dy cell) ≡ true }
-    ensures { result ≡ moved_by dx dy cell }
-{
-    displaced(cell, dx, dy).unwrap()
-}
-
-/// Whether all cells, moved by (dx, dy), lie on the plane.
-fn all_stay(cells: &[Cell], dx: i32, dy: i32) -> bool
-    ensures { result ≡ list_all on_plane (shifted dx dy cells.now) }
-{
+    let mut bounds = None;
     for cell in cells {
-        if !stays(*cell, dx, dy) {
-            return false;
-        }
+        bounds = Some(grown(bounds, orientation.image_of(*cell)));
     }
-    true
+    bounds
 }
 
-/// The cells moved by (dx, dy).
-fn all_displaced(alloc: Global, cells: &[Cell], dx: i32, dy: i32) -> Result<Vec<Cell>, AllocError>
-    requires { list_all on_plane (shifted dx dy cells.now) ≡ true }
-    ensures { IfOk result (λ moved. moved.items ≡ shifted dx dy cells.now) }
+/// How cells are to lie so that their image is at the corner. It is `None` where there is no cell.
+fn to_corner(cells: &[Cell], orientation: Orientation) -> Option<Placement>
+    requires { list_all on_plane cells.now ≡ true }
+    ensures { result ≡ option_map (corner_placement orientation) (box_of (map (turned_cell orientation) cells.now)) }
 {
-    let mut moved = Vec::with_capacity(alloc, cells.len())?;
-    for cell in cells {
-        moved.push(placed(*cell, dx, dy))?;
-    }
-    Ok(moved)
+    let bounds = image_box(cells, orientation)?;
+    Some(Placement {
+        orientation,
+        dx: negated(bounds.left),
+        dy: negated(bounds.top),
+    })
 }

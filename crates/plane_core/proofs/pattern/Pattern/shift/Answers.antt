@@ -1,5 +1,6 @@
 use Rattle.std.proofs.Common.{◌≡◌, true, w32, FitsSigned, rules}
 use Rattle.std.proofs.lemmas.Int.{to_z-of_z}
+use Rattle.std.proofs.lemmas.Result.{err_from_is_err_and}
 use Rattle.std.specs.List.{list_all}
 use Rattle.plane_core.specs.Bounds.{shifted}
 use Rattle.plane_core.specs.Cells.{on_plane}
@@ -13,3 +14,9 @@ from_ordered-requires c =
     let on : list_all on_plane (shifted c.args.dx c.args.dy c.args.self.now) ≡ true = search rules in
     let moved : c.in_ok-cells.cells.items ≡ shifted c.args.dx c.args.dy c.args.self.now = rw c.cells-2.ensures.cells at (simp to_z-of_z at c.in_ok-cells.ensures) in
     rw moved (is_pattern-shifted c.args.dx c.args.dy c.args.self.now c.cells.ensures.pattern.in_order on)
+
+pub returns-in_err-cells-clause-refused : goal.returns-in_err-cells-clause-refused
+returns-in_err-cells-clause-refused c =
+    let on : list_all on_plane (shifted c.args.dx c.args.dy c.args.self.now) ≡ true = search rules in
+    let told = err_from_is_err_and c.from_residual.result c.from_residual.ensures.1 in
+    rw (told.1, told.2) on

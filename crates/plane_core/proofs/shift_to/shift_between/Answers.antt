@@ -1,7 +1,7 @@
 use Rattle.std.proofs.Common.{arith, w32, FitsSigned, rules}
 use Rattle.std.proofs.lemmas.Int.{to_z-of_z}
 use Rattle.plane_core.proofs.PlacementLemmas.{tells_shift}
-use Rattle.plane_core.proofs.placement.shift_between.Goals as goal
+use Rattle.plane_core.proofs.shift_to.shift_between.Goals as goal
 
 pub returns-in-len1-up : goal.returns-in-len1-up
 returns-in-len1-up c =

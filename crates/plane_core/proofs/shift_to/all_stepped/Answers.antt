@@ -1,7 +1,7 @@
 use Rattle.std.proofs.Common.{sym, w32, FitsSigned, rules}
 use Rattle.std.proofs.lemmas.Int.{to_z-of_z}
 use Rattle.plane_core.proofs.PlacementLemmas.{stepped_more}
-use Rattle.plane_core.proofs.placement.all_stepped.Goals as goal
+use Rattle.plane_core.proofs.shift_to.all_stepped.Goals as goal
 
 pub loop-i-preserved : goal.loop-i-preserved
 loop-i-preserved c =

@@ -1,0 +1,70 @@
+ghost use Rattle.std.specs.Prelude.{◌≡◌, ◌-ℤ◌, ◌≤◌, ◌↔◌, true, length, unsigned_abs, IsTrue};
+ghost use Rattle.std.specs.List.{list_all};
+ghost use Rattle.plane_core.specs.Bounds.{shifted, TellsShift};
+ghost use Rattle.plane_core.specs.Cells.{on_plane, IsPattern};
+ghost use Rattle.plane_core.specs.declared.cell.TheConstants.{BOUND};
+
+use crate::cell::Cell;
+use crate::pattern::Pattern;
+
+impl Pattern {
+    /// The shift (dx, dy) that makes this pattern into the other. It is `None` where there is none, and (0, 0) where
+    /// both are empty.
+    pub fn shift_to(&self, other: &Pattern) -> Option<(i32, i32)>
+        ensures { TellsShift self.now other.now result }
+    {
+        shift_between(self.cells(), other.cells())
+    }
+}
+
+/// The shift that makes the cells into the others: that of the first cells, where it is that of all.
+fn shift_between(cells: &[Cell], others: &[Cell]) -> Option<(i32, i32)>
+    requires cells { IsPattern cells.now }
+    requires others { IsPattern others.now }
+    ensures { TellsShift cells.now others.now result }
+{
+    if cells.len() != others.len() {
+        return None;
+    }
+    match cells {
+        [] => Some((0, 0)),
+        [first, ..] => {
+            let (dx, dy) = step_between(*first, others[0]);
+            all_stepped(cells, others, dx, dy).then_some((dx, dy))
+        }
+    }
+}
+
+/// Whether each cell is a step (dx, dy) from the other in its place.
+fn all_stepped(cells: &[Cell], others: &[Cell], dx: i32, dy: i32) -> bool
+    requires lengths { length cells.now ≡ length others.now }
+    requires cells { list_all on_plane cells.now ≡ true }
+    requires others { list_all on_plane others.now ≡ true }
+    ensures { IsTrue result ↔ (shifted dx dy cells.now ≡ others.now) }
+{
+    for (i, cell) in cells.iter().enumerate() {
+        if step_between(*cell, others[i]) != (dx, dy) {
+            return false;
+        }
+    }
+    true
+}
+
+/// How far it is from one coordinate of the plane to another.
+fn distance(from: i32, to: i32) -> i32
+    requires from { unsigned_abs from ≤ BOUND }
+    requires to { unsigned_abs to ≤ BOUND }
+    ensures { result ≡ to -ℤ from }
+{
+    to - from
+}
+
+/// The step from one cell of the plane to another.
+#[tactic(auto, unfolding(crate::specs::Cells::on_plane))]
+fn step_between(from: Cell, to: Cell) -> (i32, i32)
+    requires from { on_plane from ≡ true }
+    requires to { on_plane to ≡ true }
+    ensures { result ≡ (to.x -ℤ from.x, to.y -ℤ from.y) }
+{
+    (distance(from.x, to.x), distance(from.y, to.y))
+}
