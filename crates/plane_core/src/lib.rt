@@ -10,5 +10,7 @@ pub mod bounds;
 pub mod cell;
 /// Patterns: finite sets of cells.
 pub mod pattern;
+/// Plaintext pattern files.
+pub mod plaintext;
 /// Rules by birth and survival numbers.
 pub mod rule;

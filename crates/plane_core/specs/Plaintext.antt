@@ -1,0 +1,88 @@
+-- Plaintext pattern files (LifeWiki, "Plaintext").
+use Rattle.std.specs.Prelude.{◌≡◌, ◌==◌, ℕ, zero, suc, ℤ, pos, ◌+◌, ◌+ℤ◌, ◌<◌, Bool, true, false, not, ◌&&◌, ◌||◌, List, [], ◌∷◌, ◌++◌, Option, None, Some, Result, Ok, Err, map, filter, nat_lt, if◌then◌else◌}
+use Rattle.std.specs.List.{slice_split, slice_get, filter_map, flat_map, enumerate_from, range_with_len}
+use Rattle.std.specs.Str.Lines.{strip_carriage_return}
+use Rattle.plane_core.specs.declared.cell.Cell.{Cell}
+use Rattle.plane_core.specs.declared.bounds.Bounds.{Bounds}
+use Rattle.plane_core.specs.declared.plaintext.PlaintextFault.{PlaintextFault}
+use Rattle.plane_core.specs.declared.plaintext.PlaintextFault.TheVariants.{BadByte, TooLarge}
+use Rattle.plane_core.specs.declared.plaintext.TheConstants.{DEAD, LIVE, STAR, COMMENT, LINE_FEED, SIDE_LIMIT}
+use Rattle.plane_core.specs.Cells.{cell_at, distance, has}
+use Rattle.plane_core.specs.Bounds.{box_of}
+
+-- the lines of a text, each without a carriage return at its end; one of no byte follows the last line feed
+unfoldable pub lines_of : List ℕ → List (List ℕ)
+lines_of text = map strip_carriage_return (slice_split (λ b. b == LINE_FEED) text)
+
+-- a line that begins with `!`
+abbrev pub is_comment : List ℕ → Bool
+is_comment [] = false
+is_comment (b ∷ bs) = b == COMMENT
+
+-- each line with its number, counted from 1, and of those the rows: the lines that are no comments
+unfoldable pub rows_of : List ℕ → List (ℕ × List ℕ)
+rows_of text = filter (λ line. not (is_comment line.1)) (enumerate_from 1 (lines_of text))
+
+-- a byte of a row: the number of its line, and its cell's y and x
+pub record Place : Type 0 where
+  pub line : ℕ
+  pub y : ℕ
+  pub x : ℕ
+  pub byte : ℕ
+
+-- the places of row y from the left
+abbrev pub places_of_row : ℕ × (ℕ × List ℕ) → List Place
+places_of_row (y, row) = map (λ at. record { line = row.0; y = y; x = at.0; byte = at.1 }) (enumerate_from 0 row.1)
+
+-- the places of a text: each byte of each row, in order
+unfoldable pub places : List ℕ → List Place
+places text = flat_map places_of_row (enumerate_from 0 (rows_of text))
+
+abbrev pub is_live : ℕ → Bool
+is_live b = b == LIVE || b == STAR
+
+abbrev pub is_cell : ℕ → Bool
+is_cell b = b == DEAD || is_live b
+
+-- what is wrong at a place: a byte that is no cell, or else a row or a column past the last
+abbrev pub fault_at : Place → Option PlaintextFault
+fault_at p = if not (is_cell p.byte) then Some (BadByte p.line (p.x + 1))
+    else (if nat_lt p.x SIDE_LIMIT && nat_lt p.y SIDE_LIMIT then None else Some TooLarge)
+
+-- the first fault of a text
+unfoldable pub first_fault : List ℕ → Option PlaintextFault
+first_fault text = slice_get (filter_map fault_at (places text)) 0
+
+-- the cells of the live places
+unfoldable pub live_cells : List ℕ → List Cell
+live_cells text = map (λ p. cell_at (pos p.x) (pos p.y)) (filter (λ p. is_live p.byte) (places text))
+
+-- what is said of a text: its first fault, or else its cells
+abbrev pub cells_unless : Option PlaintextFault → List Cell → Result (List Cell) PlaintextFault
+cells_unless None cells = Ok cells
+cells_unless (Some fault) cells = Err fault
+
+abbrev pub pattern : List ℕ → Result (List Cell) PlaintextFault
+pattern text = cells_unless (first_fault text) (live_cells text)
+
+-- the numbers from one to another, both included
+abbrev pub span : ℤ → ℤ → List ℤ
+span a b = map (λ k. a +ℤ pos k) (range_with_len 0 (suc (distance a b)))
+
+-- row y of the cells' box from the left, and a line feed
+unfoldable pub row_text : List Cell → Bounds → ℤ → List ℕ
+row_text cells b y = map (λ x. if has cells (cell_at x y) then LIVE else DEAD) (span b.left b.right) ++ LINE_FEED ∷ []
+
+-- the rows of the box from the top
+abbrev pub box_text : Option Bounds → List Cell → List ℕ
+box_text None cells = []
+box_text (Some b) cells = flat_map (row_text cells b) (span b.top b.bottom)
+
+-- a pattern's plaintext
+unfoldable pub plain : List Cell → List ℕ
+plain cells = box_text (box_of cells) cells
+
+-- the box is at most 1,000 wide and 1,000 high
+pub record IsSmall (b : Bounds) : Type 0 where
+  pub width : distance b.left b.right < SIDE_LIMIT
+  pub height : distance b.top b.bottom < SIDE_LIMIT
