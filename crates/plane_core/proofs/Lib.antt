@@ -1,1 +1,3 @@
 pub mod CellLemmas
+pub mod PlaintextLines
+pub mod PlaintextRows

@@ -45,25 +45,26 @@ abbrev pub is_cell : ℕ → Bool
 is_cell b = b == DEAD || is_live b
 
 -- what is wrong at a place: a byte that is no cell, or else a row or a column past the last
-abbrev pub fault_at : Place → Option PlaintextFault
+unfoldable pub fault_at : Place → Option PlaintextFault
 fault_at p = if not (is_cell p.byte) then Some (BadByte p.line (p.x + 1))
     else (if nat_lt p.x SIDE_LIMIT && nat_lt p.y SIDE_LIMIT then None else Some TooLarge)
 
--- the first fault of a text
-unfoldable pub first_fault : List ℕ → Option PlaintextFault
-first_fault text = slice_get (filter_map fault_at (places text)) 0
+-- the first fault at some places
+unfoldable pub first_fault : List Place → Option PlaintextFault
+first_fault ps = slice_get (filter_map fault_at ps) 0
 
--- the cells of the live places
-unfoldable pub live_cells : List ℕ → List Cell
-live_cells text = map (λ p. cell_at (pos p.x) (pos p.y)) (filter (λ p. is_live p.byte) (places text))
+-- the cells of those of the places that are live
+unfoldable pub live_cells : List Place → List Cell
+live_cells ps = map (λ p. cell_at (pos p.x) (pos p.y)) (filter (λ p. is_live p.byte) ps)
 
--- what is said of a text: its first fault, or else its cells
+-- a fault, or else the cells
 abbrev pub cells_unless : Option PlaintextFault → List Cell → Result (List Cell) PlaintextFault
 cells_unless None cells = Ok cells
 cells_unless (Some fault) cells = Err fault
 
+-- the pattern of a text: its live cells, or its first fault
 abbrev pub pattern : List ℕ → Result (List Cell) PlaintextFault
-pattern text = cells_unless (first_fault text) (live_cells text)
+pattern text = cells_unless (first_fault (places text)) (live_cells (places text))
 
 -- the numbers from one to another, both included
 abbrev pub span : ℤ → ℤ → List ℤ

@@ -22,6 +22,14 @@ impl Model for Pattern {
 }
 
 impl Pattern {
+    /// The set of cells that stand in order already.
+    pub(crate) fn from_ordered(cells: Vec<Cell>) -> Pattern
+        requires { IsPattern cells.items }
+        ensures { result ≡ cells.items }
+    {
+        Pattern { cells }
+    }
+
     /// All cells in order, each once.
     pub fn cells(&self) -> &[Cell]
         ensures cells { result.now ≡ self.now }

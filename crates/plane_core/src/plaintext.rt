@@ -1,6 +1,11 @@
-ghost use Rattle.std.specs.Prelude.{◌≡◌, ◌↔◌, ◌<◌, ◌≤◌, ◌++◌, IfOk, IsErrOf, Ok, Err, OnOk, length};
-ghost use Rattle.plane_core.specs.Plaintext.{pattern, first_fault, live_cells};
+ghost use Rattle.std.specs.Prelude.{◌≡◌, ◌↔◌, ◌<◌, ◌≤◌, ◌++◌, Option, None, List, [], ◌∷◌, IfOk, IsErrOf, OnOk, length, ℕ, pos};
+ghost use Rattle.std.specs.Str.Lines.{strip_carriage_return};
+ghost use Rattle.plane_core.specs.Cells.{cell_at};
+ghost use Rattle.plane_core.specs.Plaintext.{Place, is_comment, is_live, fault_at, places_of_row, places, first_fault, live_cells, pattern};
 
+use crate::cell::Cell;
+use crate::pattern::Pattern;
+use std::alloc::{AllocError, Global};
 use thiserror::Error;
 
 /// The most columns, and the most rows, of a plaintext pattern that is read.
@@ -36,4 +41,103 @@ pub enum PlaintextError {
     /// Memory ran out.
     #[error("out of memory")]
     Memory,
+}
+
+/// The line without a carriage return at its end.
+fn without_return(line: &[u8]) -> &[u8]
+    ensures { result.now ≡ strip_carriage_return line.now }
+{
+    match line {
+        [front @ .., b'\r'] => front,
+        _ => line,
+    }
+}
+
+fn is_comment(line: &[u8]) -> bool
+    ensures { result ≡ is_comment line.now }
+{
+    line.first() == Some(&COMMENT)
+}
+
+fn is_live(byte: u8) -> bool
+    ensures { result ≡ is_live byte }
+{
+    byte == LIVE || byte == STAR
+}
+
+/// What is wrong with the byte of a row, if anything. Lines count from 1, and x and y from 0.
+#[tactic(auto, unfolding(crate::specs::Plaintext::fault_at))]
+fn fault_at(line: usize, y: usize, x: usize, byte: u8) -> Option<PlaintextFault>
+    requires { x < usize.MAX }
+    ensures { result ≡ fault_at (record { line = line; y = y; x = x; byte = byte }) }
+{
+    if byte != DEAD && !is_live(byte) {
+        return Some(PlaintextFault::BadByte {
+            line,
+            column: x + 1,
+        });
+    }
+    if x < SIDE_LIMIT && y < SIDE_LIMIT {
+        None
+    } else {
+        Some(PlaintextFault::TooLarge)
+    }
+}
+
+/// The first fault of a row.
+#[tactic(auto, using(crate::proofs::PlaintextRows::fault_here, crate::proofs::PlaintextRows::no_fault_here, crate::proofs::PlaintextRows::no_fault_past))]
+fn fault_in_row(line: usize, y: usize, row: &[u8]) -> Option<PlaintextFault>
+    ensures { result ≡ first_fault (places_of_row (y, (line, row.now))) }
+{
+    for (x, byte) in row.iter().enumerate() {
+        if let Some(fault) = fault_at(line, y, x, *byte) {
+            return Some(fault);
+        }
+    }
+    None
+}
+
+/// The first fault of a text.
+fn fault_in(text: &[u8]) -> Option<PlaintextFault>
+    ensures { result ≡ first_fault (places text.now) }
+{
+    let mut number = 0;
+    let mut y = 0;
+    for line in text.split(|byte| *byte == LINE_FEED) {
+        let line = without_return(line);
+        number += 1;
+        if !is_comment(line) {
+            if let Some(fault) = fault_in_row(number, y, line) {
+                return Some(fault);
+            }
+            y += 1;
+        }
+    }
+    None
+}
+
+fn small_cell(x: usize, y: usize) -> Cell
+    requires column { x < SIDE_LIMIT }
+    requires row { y < SIDE_LIMIT }
+    ensures { result ≡ cell_at (pos x) (pos y) }
+{
+    Cell {
+        y: y as i32,
+        x: x as i32,
+    }
+}
+
+/// Adds the cells of row y, each byte of which is in the first 1,000 columns and rows.
+#[tactic(auto, using(crate::proofs::PlaintextRows::live_here, crate::proofs::PlaintextRows::dead_here, crate::proofs::PlaintextRows::no_cell_past))]
+fn push_row(cells: &mut Vec<Cell>, y: usize, row: &[u8]) -> Result<(), AllocError>
+    requires { (x : ℕ) → x < length row.now → (x < SIDE_LIMIT) × (y < SIDE_LIMIT) }
+    ensures { OnOk result
+        (cells.new.items ≡ cells.old.items ++ live_cells (places_of_row (y, (0, row.now)))) }
+{
+    for (x, byte) in row.iter().enumerate() {
+        if is_live(*byte) {
+            cells.push(small_cell(x, y))?;
+        }
+    }
+    Ok(())
 }
