@@ -1,3 +1,4 @@
 pub mod CellLemmas
 pub mod PlaintextLines
+pub mod PlaintextOrder
 pub mod PlaintextRows

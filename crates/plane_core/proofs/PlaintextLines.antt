@@ -7,9 +7,10 @@ use Rattle.std.proofs.lemmas.List.Elements.{filter-append, filter_map-append}
 use Rattle.std.proofs.lemmas.List.{drop_more, drop_all, append_assoc, append-nil, map-append}
 use Rattle.plane_core.specs.declared.cell.Cell.{Cell}
 use Rattle.plane_core.specs.declared.plaintext.PlaintextFault.{PlaintextFault}
-use Rattle.plane_core.specs.declared.plaintext.TheConstants.{LINE_FEED}
+use Rattle.plane_core.specs.declared.plaintext.TheConstants.{LINE_FEED, SIDE_LIMIT}
 use Rattle.plane_core.specs.Cells.{cell_at}
 use Rattle.plane_core.specs.Plaintext.{Place, is_live, is_comment, fault_at, lines_of, rows_of, places_of_row, places, first_fault, live_cells}
+use Rattle.plane_core.proofs.PlaintextRows.{row_in_limits, live_cells-line}
 
 -- the text between line feeds
 abbrev pub parts_of : List ℕ → List (List ℕ)
@@ -76,3 +77,35 @@ no_fault_in_row_here n y parts line t e h = fault_of_rows n y parts line t e ∙
 pub no_fault_past_lines : (n y : ℕ) (parts : List (List ℕ)) → n ≡ length parts → first_fault (places_after (n + 1) y (drop n parts)) ≡ None
 unfolding first_fault
 no_fault_past_lines n y parts h = rw (no_place_past n y parts h) refl
+
+neither : {X : Type 0} (a b : Option X) → option_or a b ≡ None → (a ≡ None) × (b ≡ None)
+neither None b h = (refl, h)
+neither (Some x) b h = absurd (cc)
+
+-- where the lines from line n + 1 on have no fault: no row has, and each byte of a row is in the limits
+no_fault_both : (n y : ℕ) (parts : List (List ℕ)) (line : List ℕ) → IsNext parts n line → is_comment (strip_carriage_return line) ≡ false → first_fault (places_after (n + 1) y (drop n parts)) ≡ None → (first_fault (places_of_row (y, (n + 1, strip_carriage_return line))) ≡ None) × (first_fault (places_after (n + 1 + 1) (y + 1) (drop (n + 1) parts)) ≡ None)
+no_fault_both n y parts line t e h = neither _ _ (sym (fault_of_rows n y parts line t e) ∙ h)
+
+pub no_fault_later : (n y : ℕ) (parts : List (List ℕ)) (line : List ℕ) → IsNext parts n line → is_comment (strip_carriage_return line) ≡ false → first_fault (places_after (n + 1) y (drop n parts)) ≡ None → first_fault (places_after (n + 1 + 1) (y + 1) (drop (n + 1) parts)) ≡ None
+no_fault_later n y parts line t e h = (no_fault_both n y parts line t e h).1
+
+pub row_is_small : (n y : ℕ) (parts : List (List ℕ)) (line : List ℕ) → IsNext parts n line → is_comment (strip_carriage_return line) ≡ false → first_fault (places_after (n + 1) y (drop n parts)) ≡ None → (k : ℕ) → k < length (strip_carriage_return line) → (k < SIDE_LIMIT) × (y < SIDE_LIMIT)
+row_is_small n y parts line t e h k l =
+    let s = row_in_limits (n + 1) y 0 (strip_carriage_return line) (no_fault_both n y parts line t e h).0 k l in
+    (omega arith, s.1)
+
+-- the cells of the lines from line n + 1 on
+pub cells_of_row : (n y : ℕ) (parts : List (List ℕ)) (line : List ℕ) → IsNext parts n line → is_comment (strip_carriage_return line) ≡ false → live_cells (places_after (n + 1) y (drop n parts)) ≡ live_cells (places_of_row (y, (0, strip_carriage_return line))) ++ live_cells (places_after (n + 1 + 1) (y + 1) (drop (n + 1) parts))
+cells_of_row n y parts line t e =
+    ap live_cells (row_here n y parts line t e) ∙ live_cells-append (places_of_row (y, (n + 1, strip_carriage_return line))) (places_after (n + 1 + 1) (y + 1) (drop (n + 1) parts)) ∙ ap (λ cs. cs ++ live_cells (places_after (n + 1 + 1) (y + 1) (drop (n + 1) parts))) (live_cells-line (n + 1) y 0 (strip_carriage_return line))
+
+pub no_cell_in_comment : (n y : ℕ) (parts : List (List ℕ)) (line : List ℕ) → IsNext parts n line → is_comment (strip_carriage_return line) ≡ true → live_cells (places_after (n + 1) y (drop n parts)) ≡ live_cells (places_after (n + 1 + 1) y (drop (n + 1) parts))
+no_cell_in_comment n y parts line t e = ap live_cells (comment_here n y parts line t e)
+
+pub no_cell_past_lines : (n y : ℕ) (parts : List (List ℕ)) (cells : List Cell) → n ≡ length parts → cells ++ live_cells (places_after (n + 1) y (drop n parts)) ≡ cells
+unfolding live_cells
+no_cell_past_lines n y parts cells h = rw (no_place_past n y parts h) (append-nil cells)
+
+-- a loop's step: what is done grows by what the rest loses
+pub moved_over : (done more new rest later all : List Cell) → new ≡ done ++ more → rest ≡ more ++ later → done ++ rest ≡ all → new ++ later ≡ all
+moved_over done more new rest later all g e h = ap (λ cs. cs ++ later) g ∙ append_assoc done more later ∙ ap (λ cs. done ++ cs) (sym e) ∙ h

@@ -1,6 +1,7 @@
-ghost use Rattle.std.specs.Prelude.{◌≡◌, ◌↔◌, ◌<◌, ◌≤◌, ◌++◌, Option, None, List, [], ◌∷◌, IfOk, IsErrOf, OnOk, length, ℕ, pos};
+ghost use Rattle.std.specs.Prelude.{◌≡◌, ◌↔◌, ◌<◌, ◌≤◌, ◌++◌, Option, None, List, [], ◌∷◌, IfOk, IsErrOf, OnOk, length, ℕ, pos, Ok, Err};
 ghost use Rattle.std.specs.Str.Lines.{strip_carriage_return};
 ghost use Rattle.plane_core.specs.Cells.{cell_at};
+ghost use Rattle.plane_core.specs.declared.plaintext.PlaintextFault.{PlaintextFault};
 ghost use Rattle.plane_core.specs.Plaintext.{Place, is_comment, is_live, fault_at, places_of_row, places, first_fault, live_cells, pattern};
 
 use crate::cell::Cell;
@@ -140,4 +141,44 @@ fn push_row(cells: &mut Vec<Cell>, y: usize, row: &[u8]) -> Result<(), AllocErro
         }
     }
     Ok(())
+}
+
+/// The pattern of a text that has no fault.
+fn pattern_in(alloc: Global, text: &[u8]) -> Result<Pattern, AllocError>
+    requires { first_fault (places text.now) ≡ None }
+    ensures { IfOk result (λ read. read ≡ live_cells (places text.now)) }
+{
+    let mut cells = Vec::new(alloc);
+    let mut y = 0;
+    for line in text.split(|byte| *byte == LINE_FEED) {
+        let row = without_return(line);
+        if !is_comment(row) {
+            push_row(&mut cells, y, row)?;
+            y += 1;
+        }
+    }
+    Ok(Pattern::from_ordered(cells))
+}
+
+impl Pattern {
+    /// Reads a plaintext pattern file (LifeWiki, "Plaintext").
+    ///
+    /// Lines end with a line feed, which the last may lack; a carriage return at a line's end is dropped. A line
+    /// that begins with `!` is a comment. Each other line is the next row, from y = 0 on, and its bytes are the
+    /// cells from x = 0 on: `.` is dead, `O` and `*` are live.
+    ///
+    /// # Errors
+    ///
+    /// [`PlaintextError::Fault`] with the fault that stands first in the text, whether there is memory or not, and
+    /// [`PlaintextError::Memory`] where memory runs out.
+    pub fn read_plaintext(alloc: Global, input: &[u8]) -> Result<Pattern, PlaintextError>
+        ensures pattern { IfOk result (λ read. pattern input.now ≡ Ok read) }
+        ensures fault { (fault : PlaintextFault) →
+            IsErrOf result (PlaintextError.Fault fault) ↔ (pattern input.now ≡ Err fault) }
+    {
+        if let Some(fault) = fault_in(input) {
+            return Err(PlaintextError::Fault(fault));
+        }
+        pattern_in(alloc, input).map_err(|_| PlaintextError::Memory)
+    }
 }
