@@ -1,4 +1,6 @@
 pub mod CellLemmas
+pub mod OutLemmas
 pub mod PlaintextLines
 pub mod PlaintextOrder
 pub mod PlaintextRows
+pub mod RuleLemmas

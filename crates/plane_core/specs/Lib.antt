@@ -1,5 +1,6 @@
 pub mod Bounds
 pub mod Cells
 pub mod Generations
+pub mod Out
 pub mod Plaintext
 pub mod Rules
