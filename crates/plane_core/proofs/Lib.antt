@@ -1,6 +1,10 @@
 pub mod CellLemmas
+pub mod MergeLemmas
 pub mod OutLemmas
 pub mod PlaintextLines
 pub mod PlaintextOrder
 pub mod PlaintextRows
 pub mod RuleLemmas
+pub mod SearchLemmas
+pub mod SetLemmas
+pub mod TallyLemmas

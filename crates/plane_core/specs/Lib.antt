@@ -3,4 +3,6 @@ pub mod Cells
 pub mod Generations
 pub mod Out
 pub mod Plaintext
+pub mod Refusals
 pub mod Rules
+pub mod Tallies

@@ -16,3 +16,4 @@ pub mod pattern;
 pub mod plaintext;
 /// Rules by birth and survival numbers.
 pub mod rule;
+mod tally;
