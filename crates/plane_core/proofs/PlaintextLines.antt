@@ -9,7 +9,8 @@ use Rattle.plane_core.specs.declared.cell.Cell.{Cell}
 use Rattle.plane_core.specs.declared.plaintext.PlaintextFault.{PlaintextFault}
 use Rattle.plane_core.specs.declared.plaintext.TheConstants.{LINE_FEED, SIDE_LIMIT}
 use Rattle.plane_core.specs.Cells.{cell_at}
-use Rattle.plane_core.specs.Plaintext.{Place, is_live, is_comment, fault_at, lines_of, rows_of, places_of_row, places, first_fault, live_cells}
+use Rattle.plane_core.specs.Plaintext.{is_live, fault_at, first_fault, live_cells}
+use Rattle.plane_core.specs.PlaintextPlaces.{Place, is_comment, lines_of, rows_of, places_of_row, places}
 use Rattle.plane_core.proofs.PlaintextRows.{row_in_limits, live_cells-line}
 
 -- the text between line feeds

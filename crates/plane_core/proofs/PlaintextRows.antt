@@ -7,7 +7,8 @@ use Rattle.plane_core.specs.declared.cell.Cell.{Cell}
 use Rattle.plane_core.specs.declared.plaintext.TheConstants.{SIDE_LIMIT}
 use Rattle.plane_core.specs.declared.plaintext.PlaintextFault.{PlaintextFault}
 use Rattle.plane_core.specs.Cells.{cell_at}
-use Rattle.plane_core.specs.Plaintext.{Place, is_live, fault_at, places_of_row, first_fault, live_cells}
+use Rattle.plane_core.specs.Plaintext.{is_live, fault_at, first_fault, live_cells}
+use Rattle.plane_core.specs.PlaintextPlaces.{Place, places_of_row}
 
 -- the places of row y from column x on
 abbrev pub places_from : ℕ → ℕ → ℕ → List ℕ → List Place

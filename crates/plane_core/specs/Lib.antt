@@ -3,6 +3,8 @@ pub mod Cells
 pub mod Generations
 pub mod Out
 pub mod Plaintext
+pub mod PlaintextPlaces
+pub mod PlaintextWalk
 pub mod Refusals
 pub mod Rules
 pub mod Tallies

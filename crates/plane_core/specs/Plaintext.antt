@@ -1,42 +1,14 @@
--- Plaintext pattern files (LifeWiki, "Plaintext").
-use Rattle.std.specs.Prelude.{◌≡◌, ◌==◌, ℕ, zero, suc, ℤ, pos, ◌+◌, ◌+ℤ◌, ◌<◌, Bool, true, false, not, ◌&&◌, ◌||◌, List, [], ◌∷◌, ◌++◌, Option, None, Some, Result, Ok, Err, map, filter, nat_lt, if◌then◌else◌}
-use Rattle.std.specs.List.{slice_split, slice_get, filter_map, flat_map, enumerate_from, range_with_len}
-use Rattle.std.specs.Str.Lines.{strip_carriage_return}
+-- What a plaintext pattern file says, and the one that is written for a pattern (LifeWiki, "Plaintext").
+use Rattle.std.specs.Prelude.{◌==◌, ℕ, zero, suc, ℤ, pos, ◌+◌, ◌+ℤ◌, ◌<◌, Bool, not, ◌&&◌, ◌||◌, List, [], ◌∷◌, ◌++◌, Option, None, Some, Result, Ok, Err, map, filter, nat_lt, if◌then◌else◌}
+use Rattle.std.specs.List.{slice_get, filter_map, flat_map}
 use Rattle.plane_core.specs.declared.cell.Cell.{Cell}
 use Rattle.plane_core.specs.declared.bounds.Bounds.{Bounds}
 use Rattle.plane_core.specs.declared.plaintext.PlaintextFault.{PlaintextFault}
 use Rattle.plane_core.specs.declared.plaintext.PlaintextFault.TheVariants.{BadByte, TooLarge}
-use Rattle.plane_core.specs.declared.plaintext.TheConstants.{DEAD, LIVE, STAR, COMMENT, LINE_FEED, SIDE_LIMIT}
+use Rattle.plane_core.specs.declared.plaintext.TheConstants.{DEAD, LIVE, STAR, LINE_FEED, SIDE_LIMIT}
 use Rattle.plane_core.specs.Cells.{cell_at, distance, has}
 use Rattle.plane_core.specs.Bounds.{box_of}
-
--- the lines of a text, each without a carriage return at its end; one of no byte follows the last line feed
-unfoldable pub lines_of : List ℕ → List (List ℕ)
-lines_of text = map strip_carriage_return (slice_split (λ b. b == LINE_FEED) text)
-
--- a line that begins with `!`
-abbrev pub is_comment : List ℕ → Bool
-is_comment [] = false
-is_comment (b ∷ bs) = b == COMMENT
-
--- each line with its number, counted from 1, and of those the rows: the lines that are no comments
-unfoldable pub rows_of : List ℕ → List (ℕ × List ℕ)
-rows_of text = filter (λ line. not (is_comment line.1)) (enumerate_from 1 (lines_of text))
-
--- a byte of a row: the number of its line, and its cell's y and x
-pub record Place : Type 0 where
-  pub line : ℕ
-  pub y : ℕ
-  pub x : ℕ
-  pub byte : ℕ
-
--- the places of row y from the left
-abbrev pub places_of_row : ℕ × (ℕ × List ℕ) → List Place
-places_of_row (y, row) = map (λ at. record { line = row.0; y = y; x = at.0; byte = at.1 }) (enumerate_from 0 row.1)
-
--- the places of a text: each byte of each row, in order
-unfoldable pub places : List ℕ → List Place
-places text = flat_map places_of_row (enumerate_from 0 (rows_of text))
+use Rattle.plane_core.specs.PlaintextPlaces.{Place, places}
 
 abbrev pub is_live : ℕ → Bool
 is_live b = b == LIVE || b == STAR
@@ -66,13 +38,21 @@ cells_unless (Some fault) cells = Err fault
 abbrev pub pattern : List ℕ → Result (List Cell) PlaintextFault
 pattern text = cells_unless (first_fault (places text)) (live_cells (places text))
 
+-- n numbers in a row, from a on
+abbrev pub run : ℤ → ℕ → List ℤ
+run a zero = []
+run a (suc n) = a ∷ run (a +ℤ pos 1) n
+
 -- the numbers from one to another, both included
 abbrev pub span : ℤ → ℤ → List ℤ
-span a b = map (λ k. a +ℤ pos k) (range_with_len 0 (suc (distance a b)))
+span a b = run a (suc (distance a b))
+
+abbrev pub byte_of : Bool → ℕ
+byte_of live = if live then LIVE else DEAD
 
 -- row y of the cells' box from the left, and a line feed
 unfoldable pub row_text : List Cell → Bounds → ℤ → List ℕ
-row_text cells b y = map (λ x. if has cells (cell_at x y) then LIVE else DEAD) (span b.left b.right) ++ LINE_FEED ∷ []
+row_text cells b y = map (λ x. byte_of (has cells (cell_at x y))) (span b.left b.right) ++ LINE_FEED ∷ []
 
 -- the rows of the box from the top
 abbrev pub box_text : Option Bounds → List Cell → List ℕ

@@ -1,12 +1,23 @@
 ghost use Rattle.std.specs.Prelude.{◌≡◌, ◌↔◌, ◌<◌, ◌≤◌, ◌++◌, Option, None, List, [], ◌∷◌, IfOk, IsErrOf, OnOk, length, ℕ, pos, Ok, Err};
+ghost use Rattle.std.specs.Prelude.{Some, replicate, false};
+ghost use Rattle.std.specs.List.{prefix_len};
+ghost use Rattle.std.specs.Option.{option_map_or};
+ghost use Rattle.std.specs.Ordering.{int_eq};
+ghost use Rattle.plane_core.specs.Out.{Writes};
+ghost use Rattle.plane_core.specs.Bounds.{box_of, box_at, widened};
+ghost use Rattle.plane_core.specs.PlaintextWalk.{IsBox, IsAhead};
 ghost use Rattle.std.specs.Str.Lines.{strip_carriage_return};
 ghost use Rattle.plane_core.specs.Cells.{cell_at};
 ghost use Rattle.plane_core.specs.declared.plaintext.PlaintextFault.{PlaintextFault};
-ghost use Rattle.plane_core.specs.Plaintext.{Place, is_comment, is_live, fault_at, places_of_row, places, first_fault, live_cells, pattern};
+ghost use Rattle.plane_core.specs.Plaintext.{is_live, fault_at, first_fault, live_cells, pattern, row_text, box_text, plain};
+ghost use Rattle.plane_core.specs.PlaintextPlaces.{Place, is_comment, places_of_row, places};
 
+use crate::bounds::Bounds;
 use crate::cell::Cell;
+use crate::out::{Out, WriteError};
 use crate::pattern::Pattern;
 use std::alloc::{AllocError, Global};
+use std::io::Write;
 use thiserror::Error;
 
 /// The most columns, and the most rows, of a plaintext pattern that is read.
@@ -21,6 +32,9 @@ const STAR: u8 = b'*';
 const COMMENT: u8 = b'!';
 
 const LINE_FEED: u8 = b'\n';
+
+/// Dead cells that are written at once.
+const DEAD_CELLS: [u8; 64] = [DEAD; 64];
 
 /// What is wrong with a text that is no plaintext pattern.
 #[derive(Clone, Copy, Debug, PartialEq, Eq, Error)]
@@ -160,6 +174,94 @@ fn pattern_in(alloc: Global, text: &[u8]) -> Result<Pattern, AllocError>
     Ok(Pattern::from_ordered(cells))
 }
 
+/// The least box round the cells.
+fn box_of(cells: &[Cell]) -> Option<Bounds>
+    ensures { result ≡ box_of cells.now }
+{
+    let mut bounds: Option<Bounds> = None;
+    for i in (0..cells.len()).rev() {
+        bounds = Some(widened(cells[i], bounds));
+    }
+    bounds
+}
+
+/// The least box round a cell and the box.
+fn widened(cell: Cell, bounds: Option<Bounds>) -> Bounds
+    ensures { result ≡ option_map_or (widened cell) bounds (box_at cell) }
+{
+    let Cell { y, x } = cell;
+    match bounds {
+        None => Bounds {
+            left: x,
+            top: y,
+            right: x,
+            bottom: y,
+        },
+        Some(bounds) => Bounds {
+            left: x.min(bounds.left),
+            top: y.min(bounds.top),
+            right: x.max(bounds.right),
+            bottom: y.max(bounds.bottom),
+        },
+    }
+}
+
+/// Writes as many dead cells as the gap is wide, and then a byte.
+fn put_after_gap<V: Write>(out: &mut Out<V>, gap: u32, byte: u8) -> Result<(), WriteError>
+    requires { out.old.failed ≡ false }
+    ensures { Writes V.contents out.old out.new result (replicate gap DEAD ++ byte ∷ []) }
+{
+    let mut left = gap as usize;
+    while left > 0 {
+        let some = left.min(DEAD_CELLS.len());
+        out.put(&DEAD_CELLS[..some])?;
+        left -= some;
+    }
+    out.put(&[byte])
+}
+
+/// How many of the cells, from the first on, are in row y.
+fn row_len(cells: &[Cell], y: i32) -> usize
+    ensures { result ≡ prefix_len (λ c. int_eq c.y y) cells.now }
+{
+    cells.iter().take_while(|cell| cell.y == y).count()
+}
+
+/// Writes row y of a box. No cell of an earlier row is left.
+fn write_row<V: Write>(
+    out: &mut Out<V>,
+    cells: &[Cell],
+    bounds: Bounds,
+    y: i32,
+) -> Result<(), WriteError>
+    requires fresh { out.old.failed ≡ false }
+    requires bounds { IsBox bounds }
+    requires cells { IsAhead y bounds cells.now }
+    ensures { Writes V.contents out.old out.new result (row_text cells.now bounds y) }
+{
+    let mut x = bounds.left;
+    for cell in &cells[..row_len(cells, y)] {
+        put_after_gap(out, x.abs_diff(cell.x), LIVE)?;
+        x = cell.x + 1;
+    }
+    put_after_gap(out, x.abs_diff(bounds.right + 1), LINE_FEED)
+}
+
+/// Writes the rows of the cells' box.
+fn write_rows<V: Write>(out: &mut Out<V>, cells: &[Cell], bounds: Bounds) -> Result<(), WriteError>
+    requires fresh { out.old.failed ≡ false }
+    requires bounds { IsBox bounds }
+    requires cells { IsAhead bounds.top bounds cells.now }
+    ensures { Writes V.contents out.old out.new result (box_text (Some bounds) cells.now) }
+{
+    let mut rest = cells;
+    for y in bounds.top..bounds.bottom + 1 {
+        write_row(out, rest, bounds, y)?;
+        rest = &rest[row_len(rest, y)..];
+    }
+    Ok(())
+}
+
 impl Pattern {
     /// Reads a plaintext pattern file (LifeWiki, "Plaintext").
     ///
@@ -180,5 +282,21 @@ impl Pattern {
             return Err(PlaintextError::Fault(fault));
         }
         pattern_in(alloc, input).map_err(|_| PlaintextError::Memory)
+    }
+    /// Writes the pattern as plaintext (LifeWiki, "Plaintext"): the rows of its least box from the top, each from the
+    /// box's left column to its right column with `.` and `O`, and each ended by a line feed. The empty pattern is
+    /// no byte. It takes no memory.
+    ///
+    /// # Errors
+    ///
+    /// [`WriteError`] where a write fails or takes no byte.
+    pub fn write_plaintext<V: Write>(&self, out: &mut Out<V>) -> Result<(), WriteError>
+        requires { out.old.failed ≡ false }
+        ensures { Writes V.contents out.old out.new result (plain self.now) }
+    {
+        match box_of(self.cells()) {
+            None => Ok(()),
+            Some(bounds) => write_rows(out, self.cells(), bounds),
+        }
     }
 }

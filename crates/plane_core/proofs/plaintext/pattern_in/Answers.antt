@@ -5,7 +5,8 @@ use Rattle.std.proofs.lemmas.Iterator.Splits.{YieldsList-from_slice_split}
 use Rattle.std.proofs.lemmas.List.{length_push}
 use Rattle.plane_core.specs.Cells.{IsPattern}
 use Rattle.plane_core.proofs.PlaintextOrder.{IsPattern-live_cells}
-use Rattle.plane_core.specs.Plaintext.{is_comment, places_of_row, live_cells}
+use Rattle.plane_core.specs.Plaintext.{live_cells}
+use Rattle.plane_core.specs.PlaintextPlaces.{is_comment, places_of_row}
 use Rattle.plane_core.proofs.PlaintextLines.{places_are, places_after, parts_of, no_fault_in_comment, no_fault_later, row_is_small, cells_of_row, no_cell_in_comment, no_cell_past_lines, moved_over}
 use Rattle.plane_core.specs.declared.plaintext.TheConstants.{LINE_FEED}
 use Rattle.plane_core.proofs.plaintext.pattern_in.Goals as goal

@@ -1,5 +1,6 @@
 use Rattle.std.proofs.Common.{◌≡◌, ◌++◌, drop}
-use Rattle.plane_core.specs.Plaintext.{places_of_row, live_cells}
+use Rattle.plane_core.specs.Plaintext.{live_cells}
+use Rattle.plane_core.specs.PlaintextPlaces.{places_of_row}
 use Rattle.plane_core.proofs.PlaintextRows.{places_from}
 use Rattle.plane_core.proofs.plaintext.push_row.Given as goal
 
