@@ -206,6 +206,13 @@ fn widened(cell: Cell, bounds: Option<Bounds>) -> Bounds
     }
 }
 
+fn dead_cells(count: usize) -> &'static [u8]
+    requires { count ≤ 64 }
+    ensures { result.now ≡ replicate count DEAD }
+{
+    &DEAD_CELLS[..count]
+}
+
 /// Writes as many dead cells as the gap is wide, and then a byte.
 fn put_after_gap<V: Write>(out: &mut Out<V>, gap: u32, byte: u8) -> Result<(), WriteError>
     requires { out.old.failed ≡ false }
@@ -214,7 +221,7 @@ fn put_after_gap<V: Write>(out: &mut Out<V>, gap: u32, byte: u8) -> Result<(), W
     let mut left = gap as usize;
     while left > 0 {
         let some = left.min(DEAD_CELLS.len());
-        out.put(&DEAD_CELLS[..some])?;
+        out.put(dead_cells(some))?;
         left -= some;
     }
     out.put(&[byte])
