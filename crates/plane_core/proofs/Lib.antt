@@ -4,6 +4,7 @@ pub mod OutLemmas
 pub mod PlaintextLines
 pub mod PlaintextOrder
 pub mod PlaintextRows
+pub mod PlaintextWalks
 pub mod PlaintextWriting
 pub mod RuleLemmas
 pub mod SearchLemmas
