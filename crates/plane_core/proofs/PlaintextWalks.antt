@@ -1,5 +1,5 @@
 -- How a walk along cells in order meets the cells of a row.
-use Rattle.std.proofs.Common.{◌≡◌, ◌==◌, ℕ, zero, suc, ℤ, pos, ◌+ℤ◌, ◌≤ℤ◌, ◌<ℤ◌, ◌+◌, ◌-◌, ◌<◌, ◌≤◌, Bool, true, false, ◌||◌, cond, List, [], ◌∷◌, ◌++◌, length, map, take, drop, replicate, refl, sym, ap, subst, ◌∙◌, arith, ⊎_elim, add-one, one-add}
+use Rattle.std.proofs.Common.{◌≡◌, ◌==◌, ℕ, zero, suc, ℤ, pos, ◌+ℤ◌, ◌≤ℤ◌, ◌<ℤ◌, ◌+◌, ◌-◌, ◌<◌, ◌≤◌, Bool, true, false, ◌||◌, cond, List, [], ◌∷◌, ◌++◌, length, map, take, drop, get_or, refl, sym, ap, subst, ◌∙◌, arith, ⊎_elim, add-one, one-add}
 use Rattle.std.specs.List.{AllByRecursion, prefix_len}
 use Rattle.std.specs.List.Sorted.{IsStrictlySortedBy}
 use Rattle.std.specs.declared.cmp.Ordering.{Ordering}
@@ -7,7 +7,7 @@ use Rattle.std.specs.declared.cmp.Ordering.TheVariants.{Less, Equal, Greater}
 use Rattle.std.specs.Ordering.{int_eq, int_cmp, ordering_then, is_eq}
 use Rattle.std.proofs.lemmas.Int.{ints}
 use Rattle.std.proofs.lemmas.Bool.{cases_Bool, false≢true}
-use Rattle.std.proofs.lemmas.List.{take-append-drop, append-nil}
+use Rattle.std.proofs.lemmas.List.{take-append-drop, drop_more}
 use Rattle.plane_core.specs.declared.cell.Cell.{Cell}
 use Rattle.plane_core.specs.declared.bounds.Bounds.{Bounds}
 use Rattle.plane_core.specs.Cells.{cell_at, cell_cmp, same_cell, has, InOrder}
@@ -150,3 +150,7 @@ has-left y cs x z l =
     let none : has (take n cs) (cell_at x z) ≡ false =
         has-none (cell_at x z) (take n cs) (AllByRecursion-weaker (λ d. d.y ≡ y) (λ d. same_cell (cell_at x z) d ≡ false) (take n cs) (λ d e. apart_rows_down (cell_at x z) d (omega (arith, ints))) (taken_in_row y cs)) in
     ap (λ ds. has ds (cell_at x z)) (sym (take-append-drop n cs)) ∙ has-append (take n cs) (drop n cs) (cell_at x z) ∙ ap (λ v. v || has (drop n cs) (cell_at x z)) none
+
+-- the part of a row that a walk has before it, with its first cell
+pub IsRowAhead-at : (y x e : ℤ) (row : List Cell) (i : ℕ) (d : Cell) → i < length row → IsRowAhead y x e (drop i row) → IsRowAhead y x e (get_or row i d ∷ drop (i + 1) row)
+IsRowAhead-at y x e row i d l h = subst (IsRowAhead y x e) (drop_more row i d l) h

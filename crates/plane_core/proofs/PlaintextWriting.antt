@@ -1,7 +1,7 @@
 -- The text of the rows of a pattern, as a walk along its cells writes it.
-use Rattle.std.proofs.Common.{◌≡◌, ◌==◌, ℕ, zero, suc, ℤ, pos, ◌+ℤ◌, ◌≤ℤ◌, ◌<ℤ◌, ◌+◌, ◌-◌, ◌<◌, ◌≤◌, Bool, true, false, cond, List, [], ◌∷◌, ◌++◌, Option, Some, None, Result, length, map, take, drop, replicate, refl, sym, ap, subst, ◌∙◌, arith}
+use Rattle.std.proofs.Common.{◌≡◌, ◌==◌, ℕ, zero, suc, ℤ, pos, ◌+ℤ◌, ◌≤ℤ◌, ◌<ℤ◌, ◌+◌, ◌-◌, ◌<◌, ◌≤◌, Bool, true, false, cond, List, [], ◌∷◌, ◌++◌, Option, Some, None, Result, length, map, take, drop, get_or, replicate, refl, sym, ap, subst, ◌∙◌, arith}
 use Rattle.std.proofs.lemmas.Int.{ints}
-use Rattle.std.proofs.lemmas.List.{append_assoc, replicate-append-replicate}
+use Rattle.std.proofs.lemmas.List.{append_assoc, drop_more, drop_all, replicate-append-replicate}
 use Rattle.std.proofs.lemmas.List.{map-append}
 use Rattle.std.specs.List.{flat_map}
 use Rattle.plane_core.specs.declared.cell.Cell.{Cell}
@@ -12,7 +12,7 @@ use Rattle.plane_core.specs.Out.{Output, Writes}
 use Rattle.plane_core.specs.Plaintext.{run, byte_of, row_text, box_text}
 use Rattle.plane_core.specs.PlaintextWalk.{IsAhead}
 use Rattle.plane_core.proofs.SetLemmas.{has-head}
-use Rattle.plane_core.proofs.PlaintextWalks.{IsRowAhead, has-gap, has-past, has-taken, len_in_row}
+use Rattle.plane_core.proofs.PlaintextWalks.{IsRowAhead, IsRowAhead-at, has-gap, has-past, has-taken, len_in_row}
 
 -- what was written, as another form of its text
 pub Writes_as : {V E : Type 0} {contents : V → Option (List ℕ)} {x y : Output V} {r : Result (Unit {0}) E} {a b : List ℕ} → a ≡ b → Writes contents x y r a → Writes contents x y r b
@@ -84,6 +84,18 @@ row_rest-cons y x e c cs h =
         ap (λ zs. bytes_at (c ∷ cs) y zs) split ∙ map-append (λ z. byte_of (has (c ∷ cs) (cell_at z y))) (run x gap) (c.x ∷ run (c.x +ℤ pos 1) rest) ∙ cc in
     ap (λ bs. bs ++ LINE_FEED ∷ []) columns ∙ append_assoc (replicate gap DEAD) (LIVE ∷ bytes_at cs y (run (c.x +ℤ pos 1) rest)) (LINE_FEED ∷ [])
         ∙ sym (append_assoc (replicate gap DEAD) (LIVE ∷ []) (bytes_at cs y (run (c.x +ℤ pos 1) rest) ++ LINE_FEED ∷ []))
+
+-- the same, in a loop over the cells of the row
+pub row_rest-at : (y x e : ℤ) (row : List Cell) (i : ℕ) (d : Cell) (front whole : List ℕ) → i < length row → IsRowAhead y x e (drop i row) → whole ≡ front ++ row_rest (drop i row) y x e
+    → whole ≡ (front ++ (replicate (distance x (get_or row i d).x) DEAD ++ LIVE ∷ [])) ++ row_rest (drop (i + 1) row) y ((get_or row i d).x +ℤ pos 1) e
+row_rest-at y x e row i d front whole l h w =
+    let c = get_or row i d in
+    let cs = drop (i + 1) row in
+    w ∙ ap (λ ds. front ++ row_rest ds y x e) (drop_more row i d l) ∙ ap (λ t. front ++ t) (row_rest-cons y x e c cs (IsRowAhead-at y x e row i d l h))
+        ∙ sym (append_assoc front (replicate (distance x c.x) DEAD ++ LIVE ∷ []) (row_rest cs y (c.x +ℤ pos 1) e))
+
+pub row_rest-end : (y x e : ℤ) (row : List Cell) (i : ℕ) (front whole : List ℕ) → length row ≤ i → whole ≡ front ++ row_rest (drop i row) y x e → whole ≡ front ++ (replicate (distance x e) DEAD ++ LINE_FEED ∷ [])
+row_rest-end y x e row i front whole l w = w ∙ ap (λ ds. front ++ row_rest ds y x e) (drop_all i row l) ∙ ap (λ t. front ++ t) (row_rest-nil y x e)
 
 -- lists that have the same cells of row y have the same text of it
 pub row_text-same : (cs ds : List Cell) (b : Bounds) (y : ℤ) → ((x : ℤ) → has cs (cell_at x y) ≡ has ds (cell_at x y)) → row_text cs b y ≡ row_text ds b y

@@ -11,5 +11,5 @@ abbrev pub invariant-loop-cell : goal.invariant-loop-cell
 invariant-loop-cell g l =
     let left = drop l.cell-index l.cell-items in
     let end = l.bounds.right +ℤ pos 1 in
-    (l.bounds.left ≤ℤ l.x) × (l.x ≤ℤ end) × IsRowAhead l.y l.x end left
-    × ((front : List ℕ) × (row_text l.cells l.bounds l.y ≡ front ++ row_rest left l.y l.x end) × Writes {E = WriteError} g.V.Write.contents l.fn.out l.out (Ok tt) front)
+    (l.bounds.left ≤ℤ l.x) × (l.x ≤ℤ end) × IsRowAhead l.fn.y l.x end left
+    × ((front : List ℕ) × (row_text l.cells l.bounds l.fn.y ≡ front ++ row_rest left l.fn.y l.x end) × Writes {E = WriteError} g.V.Write.contents l.fn.out l.out (Ok tt) front)
