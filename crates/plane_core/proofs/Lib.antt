@@ -1,6 +1,7 @@
 pub mod CellLemmas
 pub mod MergeLemmas
 pub mod OutLemmas
+pub mod PlaintextBox
 pub mod PlaintextLines
 pub mod PlaintextOrder
 pub mod PlaintextRows

@@ -8,6 +8,7 @@ use Rattle.std.specs.Ordering.{int_eq, int_cmp, ordering_then, is_eq}
 use Rattle.std.proofs.lemmas.Int.{ints}
 use Rattle.std.proofs.lemmas.Bool.{cases_Bool, false≢true}
 use Rattle.std.proofs.lemmas.List.{take-append-drop, drop_more}
+use lib.Signed.{lt_z}
 use Rattle.plane_core.specs.declared.cell.Cell.{Cell}
 use Rattle.plane_core.specs.declared.bounds.Bounds.{Bounds}
 use Rattle.plane_core.specs.Cells.{cell_at, cell_cmp, same_cell, has, InOrder}
@@ -154,3 +155,10 @@ has-left y cs x z l =
 -- the part of a row that a walk has before it, with its first cell
 pub IsRowAhead-at : (y x e : ℤ) (row : List Cell) (i : ℕ) (d : Cell) → i < length row → IsRowAhead y x e (drop i row) → IsRowAhead y x e (get_or row i d ∷ drop (i + 1) row)
 IsRowAhead-at y x e row i d l h = subst (IsRowAhead y x e) (drop_more row i d l) h
+
+-- what a loop's test says
+pub lt_z-true : (a b : ℤ) → lt_z a b ≡ true → a <ℤ b
+lt_z-true a b h = grind (arith, ints)
+
+pub lt_z-false : (a b : ℤ) → lt_z a b ≡ false → b ≤ℤ a
+lt_z-false a b h = grind (arith, ints)

@@ -1,7 +1,7 @@
 -- The text of the rows of a pattern, as a walk along its cells writes it.
 use Rattle.std.proofs.Common.{◌≡◌, ◌==◌, ℕ, zero, suc, ℤ, pos, ◌+ℤ◌, ◌≤ℤ◌, ◌<ℤ◌, ◌+◌, ◌-◌, ◌<◌, ◌≤◌, Bool, true, false, cond, List, [], ◌∷◌, ◌++◌, Option, Some, None, Result, length, map, take, drop, get_or, replicate, refl, sym, ap, subst, ◌∙◌, arith}
 use Rattle.std.proofs.lemmas.Int.{ints}
-use Rattle.std.proofs.lemmas.List.{append_assoc, drop_more, drop_all, replicate-append-replicate}
+use Rattle.std.proofs.lemmas.List.{append_assoc, append-nil, drop_more, drop_all, replicate-append-replicate}
 use Rattle.std.proofs.lemmas.List.{map-append}
 use Rattle.std.specs.List.{flat_map}
 use Rattle.plane_core.specs.declared.cell.Cell.{Cell}
@@ -12,7 +12,7 @@ use Rattle.plane_core.specs.Out.{Output, Writes}
 use Rattle.plane_core.specs.Plaintext.{run, byte_of, row_text, box_text}
 use Rattle.plane_core.specs.PlaintextWalk.{IsAhead}
 use Rattle.plane_core.proofs.SetLemmas.{has-head}
-use Rattle.plane_core.proofs.PlaintextWalks.{IsRowAhead, IsRowAhead-at, has-gap, has-past, has-taken, len_in_row}
+use Rattle.plane_core.proofs.PlaintextWalks.{IsRowAhead, IsRowAhead-at, has-gap, has-past, has-taken, has-left, len_in_row}
 
 -- what was written, as another form of its text
 pub Writes_as : {V E : Type 0} {contents : V → Option (List ℕ)} {x y : Output V} {r : Result (Unit {0}) E} {a b : List ℕ} → a ≡ b → Writes contents x y r a → Writes contents x y r b
@@ -104,3 +104,34 @@ row_text-same cs ds b y h = ap (λ bs. bs ++ LINE_FEED ∷ []) (map-run (λ x. b
 
 pub row_text-taken : (y : ℤ) (b : Bounds) (cs : List Cell) → IsAhead y b cs → row_text cs b y ≡ row_text (take (len_in_row y cs) cs) b y
 row_text-taken y b cs h = row_text-same cs (take (len_in_row y cs) cs) b y (has-taken y b cs h)
+
+-- what is to be written of the rows of a box from row y on
+unfoldable pub rows_rest : List Cell → Bounds → ℤ → List ℕ
+rows_rest cells b y = flat_map (row_text cells b) (run y (distance y (b.bottom +ℤ pos 1)))
+
+pub box_text_is : (cells : List Cell) (b : Bounds) → b.top ≤ℤ b.bottom → box_text (Some b) cells ≡ rows_rest cells b b.top
+unfolding rows_rest box_text
+box_text_is cells b l =
+    let n : suc (distance b.top b.bottom) ≡ distance b.top (b.bottom +ℤ pos 1) = omega (arith, ints) in
+    ap (λ k. flat_map (row_text cells b) (run b.top k)) n
+
+-- the rest has the cells of row y and of those below it
+abbrev pub SameFrom : ℤ → List Cell → List Cell → Type 0
+SameFrom y cells rest = (x z : ℤ) → y ≤ℤ z → has cells (cell_at x z) ≡ has rest (cell_at x z)
+
+pub SameFrom-next : (y : ℤ) (cells rest : List Cell) → SameFrom y cells rest → SameFrom (y +ℤ pos 1) cells (drop (len_in_row y rest) rest)
+SameFrom-next y cells rest h x z l = h x z (omega (arith, ints)) ∙ has-left y rest x z (omega (arith, ints))
+
+pub rows_rest-at : (cells rest : List Cell) (b : Bounds) (y : ℤ) (front whole : List ℕ) → y <ℤ (b.bottom +ℤ pos 1) → SameFrom y cells rest → whole ≡ front ++ rows_rest cells b y → whole ≡ (front ++ row_text rest b y) ++ rows_rest cells b (y +ℤ pos 1)
+unfolding rows_rest
+rows_rest-at cells rest b y front whole l h w =
+    let later = flat_map (row_text cells b) (run (y +ℤ pos 1) (distance (y +ℤ pos 1) (b.bottom +ℤ pos 1))) in
+    let n : distance y (b.bottom +ℤ pos 1) ≡ suc (distance (y +ℤ pos 1) (b.bottom +ℤ pos 1)) = omega (arith, ints) in
+    let same : row_text cells b y ≡ row_text rest b y = row_text-same cells rest b y (λ x. h x y (omega (arith, ints))) in
+    w ∙ ap (λ k. front ++ flat_map (row_text cells b) (run y k)) n ∙ ap (λ t. front ++ (t ++ later)) same ∙ sym (append_assoc front (row_text rest b y) later)
+
+pub rows_rest-end : (cells : List Cell) (b : Bounds) (y : ℤ) (front whole : List ℕ) → (b.bottom +ℤ pos 1) ≤ℤ y → y ≤ℤ (b.bottom +ℤ pos 1) → whole ≡ front ++ rows_rest cells b y → whole ≡ front
+unfolding rows_rest
+rows_rest-end cells b y front whole l m w =
+    let n : distance y (b.bottom +ℤ pos 1) ≡ 0 = omega (arith, ints) in
+    w ∙ ap (λ k. front ++ flat_map (row_text cells b) (run y k)) n ∙ append-nil front

@@ -55,7 +55,7 @@ unfoldable pub row_text : List Cell → Bounds → ℤ → List ℕ
 row_text cells b y = map (λ x. byte_of (has cells (cell_at x y))) (span b.left b.right) ++ LINE_FEED ∷ []
 
 -- the rows of the box from the top
-abbrev pub box_text : Option Bounds → List Cell → List ℕ
+unfoldable pub box_text : Option Bounds → List Cell → List ℕ
 box_text None cells = []
 box_text (Some b) cells = flat_map (row_text cells b) (span b.top b.bottom)
 

@@ -1,5 +1,5 @@
 ghost use Rattle.std.specs.Prelude.{◌≡◌, ◌↔◌, ◌<◌, ◌≤◌, ◌++◌, Option, None, List, [], ◌∷◌, IfOk, IsErrOf, OnOk, length, ℕ, pos, Ok, Err};
-ghost use Rattle.std.specs.Prelude.{Some, replicate, false};
+ghost use Rattle.std.specs.Prelude.{Some, replicate, false, drop};
 ghost use Rattle.std.specs.List.{prefix_len};
 ghost use Rattle.std.specs.Option.{option_map_or};
 ghost use Rattle.std.specs.Ordering.{int_eq};
@@ -229,9 +229,17 @@ fn put_after_gap<V: Write>(out: &mut Out<V>, gap: u32, byte: u8) -> Result<(), W
 
 /// How many of the cells, from the first on, are in row y.
 fn row_len(cells: &[Cell], y: i32) -> usize
-    ensures { result ≡ prefix_len (λ c. int_eq c.y y) cells.now }
+    ensures value { result ≡ prefix_len (λ c. int_eq c.y y) cells.now }
+    ensures bound { result ≤ length cells.now }
 {
     cells.iter().take_while(|cell| cell.y == y).count()
+}
+
+/// The cells after those of row y.
+fn below(cells: &[Cell], y: i32) -> &[Cell]
+    ensures { result.now ≡ drop (prefix_len (λ c. int_eq c.y y) cells.now) cells.now }
+{
+    &cells[row_len(cells, y)..]
 }
 
 /// Writes row y of a box. No cell of an earlier row is left.
@@ -264,7 +272,7 @@ fn write_rows<V: Write>(out: &mut Out<V>, cells: &[Cell], bounds: Bounds) -> Res
     let mut rest = cells;
     for y in bounds.top..bounds.bottom + 1 {
         write_row(out, rest, bounds, y)?;
-        rest = &rest[row_len(rest, y)..];
+        rest = below(rest, y);
     }
     Ok(())
 }

@@ -18,7 +18,7 @@ loop-cell-init g c =
     let left_fits : FitsSigned w32 b.left = search rules in
     let left : to_z w32 (of_z w32 b.left) ≡ b.left = to_z-of_z w32 b.left left_fits in
     let row : to_z w32 (of_z w32 y) ≡ y = to_z-of_z w32 y c.ranges.y in
-    let call : c.row_len.result ≡ len_in_row (to_z w32 (of_z w32 y)) cells = c.row_len.ensures in
+    let call : c.row_len.result ≡ len_in_row (to_z w32 (of_z w32 y)) cells = c.row_len.ensures.value in
     let len : c.row_len.result ≡ len_in_row y cells = call ∙ ap (λ z. len_in_row z cells) row in
     let wide = c.requires.bounds.wide in
     rw (left, row, len) (omega (arith, ints), omega (arith, ints), IsRowAhead-taken y b cells c.requires.cells, ([], row_text-taken y b cells c.requires.cells ∙ row_text_is (take (len_in_row y cells) cells) b y wide, Writes_nothing c.args.out.now c.requires.fresh))
