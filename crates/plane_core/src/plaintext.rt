@@ -7,7 +7,7 @@ ghost use Rattle.plane_core.specs.Out.{Writes};
 ghost use Rattle.plane_core.specs.Bounds.{box_of, box_at, widened};
 ghost use Rattle.plane_core.specs.PlaintextWalk.{IsBox, IsAhead};
 ghost use Rattle.std.specs.Str.Lines.{strip_carriage_return};
-ghost use Rattle.plane_core.specs.Cells.{cell_at};
+ghost use Rattle.plane_core.specs.Cells.{IsPattern, cell_at};
 ghost use Rattle.plane_core.specs.declared.plaintext.PlaintextFault.{PlaintextFault};
 ghost use Rattle.plane_core.specs.Plaintext.{is_live, fault_at, first_fault, live_cells, pattern, row_text, box_text, plain};
 ghost use Rattle.plane_core.specs.PlaintextPlaces.{Place, is_comment, places_of_row, places};
@@ -277,6 +277,18 @@ fn write_rows<V: Write>(out: &mut Out<V>, cells: &[Cell], bounds: Bounds) -> Res
     Ok(())
 }
 
+/// Writes the cells of a pattern.
+fn write_cells<V: Write>(out: &mut Out<V>, cells: &[Cell]) -> Result<(), WriteError>
+    requires fresh { out.old.failed ≡ false }
+    requires pattern { IsPattern cells.now }
+    ensures { Writes V.contents out.old out.new result (plain cells.now) }
+{
+    match box_of(cells) {
+        None => Ok(()),
+        Some(bounds) => write_rows(out, cells, bounds),
+    }
+}
+
 impl Pattern {
     /// Reads a plaintext pattern file (LifeWiki, "Plaintext").
     ///
@@ -309,9 +321,6 @@ impl Pattern {
         requires { out.old.failed ≡ false }
         ensures { Writes V.contents out.old out.new result (plain self.now) }
     {
-        match box_of(self.cells()) {
-            None => Ok(()),
-            Some(bounds) => write_rows(out, self.cells(), bounds),
-        }
+        write_cells(out, self.cells())
     }
 }
