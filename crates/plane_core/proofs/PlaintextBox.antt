@@ -48,7 +48,7 @@ wider_box c b h k = record {
   right = omega (arith, ints, clamps, h.right, k.right);
   bottom = omega (arith, ints, clamps, h.bottom, k.bottom);
   wide = omega (arith, ints, clamps, h.wide, k.wide);
-  high = omega (arith, ints, clamps, h.high, k.high)
+  high = omega (arith, ints, clamps, h.high, k.high);
 }
 
 least_box : (c : Cell) (cs : List Cell) → list_all on_plane (c ∷ cs) ≡ true → IsBox (least c cs)
@@ -75,5 +75,5 @@ IsAhead-box_of cells b p e =
     record {
       in_order = p.in_order;
       rows = AllByRecursion-weaker (IsWithin b) (λ c. b.top ≤ℤ c.y) cells (λ c h. h.top) within;
-      columns = AllByRecursion-weaker (IsWithin b) (λ c. (b.left ≤ℤ c.x) × (c.x ≤ℤ b.right)) cells (λ c h. (h.left, h.right)) within
+      columns = AllByRecursion-weaker (IsWithin b) (λ c. (b.left ≤ℤ c.x) × (c.x ≤ℤ b.right)) cells (λ c h. (h.left, h.right)) within;
     }

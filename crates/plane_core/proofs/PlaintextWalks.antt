@@ -57,8 +57,8 @@ pub IsRowAhead-next : (y x e : ℤ) (c : Cell) (cs : List Cell) → IsRowAhead y
 IsRowAhead-next y x e c cs h = record {
   in_order = in_order-tail c cs h.in_order;
   here = AllByRecursion-both (λ d. cell_cmp c d ≡ Less) (λ d. (d.y ≡ y) × (x ≤ℤ d.x) × (d.x <ℤ e)) (λ d. (d.y ≡ y) × ((c.x +ℤ pos 1) ≤ℤ d.x) × (d.x <ℤ e)) cs
-    (λ d less here. let l = same_row c d less (h.here.0.0 ∙ sym here.0) in (here.0, omega (arith, ints), here.2))
-    (in_order-head c cs h.in_order) h.here.1
+      (λ d less here. let l = same_row c d less (h.here.0.0 ∙ sym here.0) in (here.0, omega (arith, ints), here.2))
+      (in_order-head c cs h.in_order) h.here.1;
 }
 
 AllByRecursion-take : {X : Type 0} (P : X → Type 0) (n : ℕ) (xs : List X) → AllByRecursion P xs → AllByRecursion P (take n xs)
@@ -109,7 +109,7 @@ left_below_row y (c ∷ cs) o h =
     let P : ℕ → Type 0 = λ n. AllByRecursion (λ d. (y +ℤ pos 1) ≤ℤ d.y) (drop n (c ∷ cs)) in
     ⊎_elim (λ e. subst P (sym (len_in_row-here y c cs e)) (left_below_row y cs (in_order-tail c cs o) h.1))
     (λ e. subst P (sym (len_in_row-below y c cs e)) (let l = int_eq-above c.y y e h.0 in
-        (omega (arith, ints), AllByRecursion-weaker (λ d. cell_cmp c d ≡ Less) (λ d. (y +ℤ pos 1) ≤ℤ d.y) cs (λ d less. let m = no_row_above c d less in omega (arith, ints)) (in_order-head c cs o))))
+    (omega (arith, ints), AllByRecursion-weaker (λ d. cell_cmp c d ≡ Less) (λ d. (y +ℤ pos 1) ≤ℤ d.y) cs (λ d less. let m = no_row_above c d less in omega (arith, ints)) (in_order-head c cs o))))
     (cases_Bool (int_eq c.y y))
 
 -- the cells of row y, and those below it, of what is ahead at row y
@@ -117,15 +117,15 @@ pub IsRowAhead-taken : (y : ℤ) (b : Bounds) (cs : List Cell) → IsAhead y b c
 IsRowAhead-taken y b cs h = record {
   in_order = in_order-take (len_in_row y cs) cs h.in_order;
   here = AllByRecursion-both (λ c. c.y ≡ y) (λ c. (b.left ≤ℤ c.x) × (c.x ≤ℤ b.right)) (λ c. (c.y ≡ y) × (b.left ≤ℤ c.x) × (c.x <ℤ (b.right +ℤ pos 1))) (take (len_in_row y cs) cs)
-    (λ c e w. (e, w.0, omega (arith, ints)))
-    (taken_in_row y cs) (AllByRecursion-take (λ c. (b.left ≤ℤ c.x) × (c.x ≤ℤ b.right)) (len_in_row y cs) cs h.columns)
+      (λ c e w. (e, w.0, omega (arith, ints)))
+      (taken_in_row y cs) (AllByRecursion-take (λ c. (b.left ≤ℤ c.x) × (c.x ≤ℤ b.right)) (len_in_row y cs) cs h.columns);
 }
 
 pub IsAhead-next : (y : ℤ) (b : Bounds) (cs : List Cell) → IsAhead y b cs → IsAhead (y +ℤ pos 1) b (drop (len_in_row y cs) cs)
 IsAhead-next y b cs h = record {
   in_order = in_order-drop (len_in_row y cs) cs h.in_order;
   rows = left_below_row y cs h.in_order h.rows;
-  columns = AllByRecursion-drop (λ c. (b.left ≤ℤ c.x) × (c.x ≤ℤ b.right)) (len_in_row y cs) cs h.columns
+  columns = AllByRecursion-drop (λ c. (b.left ≤ℤ c.x) × (c.x ≤ℤ b.right)) (len_in_row y cs) cs h.columns;
 }
 
 has-none : (c : Cell) (ds : List Cell) → AllByRecursion (λ d. same_cell c d ≡ false) ds → has ds c ≡ false
@@ -141,7 +141,7 @@ pub has-taken : (y : ℤ) (b : Bounds) (cs : List Cell) → IsAhead y b cs → (
 has-taken y b cs h x =
     let n = len_in_row y cs in
     let none : has (drop n cs) (cell_at x y) ≡ false =
-        has-none (cell_at x y) (drop n cs) (AllByRecursion-weaker (λ d. (y +ℤ pos 1) ≤ℤ d.y) (λ d. same_cell (cell_at x y) d ≡ false) (drop n cs) (λ d l. apart_rows (cell_at x y) d (omega (arith, ints))) (left_below_row y cs h.in_order h.rows)) in
+    has-none (cell_at x y) (drop n cs) (AllByRecursion-weaker (λ d. (y +ℤ pos 1) ≤ℤ d.y) (λ d. same_cell (cell_at x y) d ≡ false) (drop n cs) (λ d l. apart_rows (cell_at x y) d (omega (arith, ints))) (left_below_row y cs h.in_order h.rows)) in
     ap (λ ds. has ds (cell_at x y)) (sym (take-append-drop n cs)) ∙ has-append (take n cs) (drop n cs) (cell_at x y) ∙ ap (λ v. has (take n cs) (cell_at x y) || v) none ∙ or-false (has (take n cs) (cell_at x y))
 
 -- and a cell of a row below is among the others
@@ -149,7 +149,7 @@ pub has-left : (y : ℤ) (cs : List Cell) (x z : ℤ) → y <ℤ z → has cs (c
 has-left y cs x z l =
     let n = len_in_row y cs in
     let none : has (take n cs) (cell_at x z) ≡ false =
-        has-none (cell_at x z) (take n cs) (AllByRecursion-weaker (λ d. d.y ≡ y) (λ d. same_cell (cell_at x z) d ≡ false) (take n cs) (λ d e. apart_rows_down (cell_at x z) d (omega (arith, ints))) (taken_in_row y cs)) in
+    has-none (cell_at x z) (take n cs) (AllByRecursion-weaker (λ d. d.y ≡ y) (λ d. same_cell (cell_at x z) d ≡ false) (take n cs) (λ d e. apart_rows_down (cell_at x z) d (omega (arith, ints))) (taken_in_row y cs)) in
     ap (λ ds. has ds (cell_at x z)) (sym (take-append-drop n cs)) ∙ has-append (take n cs) (drop n cs) (cell_at x z) ∙ ap (λ v. v || has (drop n cs) (cell_at x z)) none
 
 -- the part of a row that a walk has before it, with its first cell

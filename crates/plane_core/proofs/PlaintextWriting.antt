@@ -75,15 +75,15 @@ row_rest-cons y x e c cs h =
     let at_cell : x +ℤ pos gap ≡ c.x = omega (arith, ints) in
     let split : run x (distance x e) ≡ run x gap ++ (c.x ∷ run (c.x +ℤ pos 1) rest) = run-append x gap (suc rest) (distance x e) all ∙ ap (λ b. run x gap ++ run b (suc rest)) at_cell in
     let dead : bytes_at (c ∷ cs) y (run x gap) ≡ replicate gap DEAD =
-        map-run (λ z. byte_of (has (c ∷ cs) (cell_at z y))) (λ _. DEAD) x gap (λ z l m. ap byte_of (has-gap y x e z c cs h (omega (arith, ints)))) ∙ map-run-same DEAD x gap in
+    map-run (λ z. byte_of (has (c ∷ cs) (cell_at z y))) (λ _. DEAD) x gap (λ z l m. ap byte_of (has-gap y x e z c cs h (omega (arith, ints)))) ∙ map-run-same DEAD x gap in
     let live : byte_of (has (c ∷ cs) (cell_at c.x y)) ≡ LIVE =
-        ap byte_of (subst (λ w. has (c ∷ cs) (cell_at c.x w) ≡ true) here.0 (has-head c cs)) in
+    ap byte_of (subst (λ w. has (c ∷ cs) (cell_at c.x w) ≡ true) here.0 (has-head c cs)) in
     let past : bytes_at (c ∷ cs) y (run (c.x +ℤ pos 1) rest) ≡ bytes_at cs y (run (c.x +ℤ pos 1) rest) =
-        map-run (λ z. byte_of (has (c ∷ cs) (cell_at z y))) (λ z. byte_of (has cs (cell_at z y))) (c.x +ℤ pos 1) rest (λ z l m. ap byte_of (has-past y z c cs here.0 (omega (arith, ints)))) in
+    map-run (λ z. byte_of (has (c ∷ cs) (cell_at z y))) (λ z. byte_of (has cs (cell_at z y))) (c.x +ℤ pos 1) rest (λ z l m. ap byte_of (has-past y z c cs here.0 (omega (arith, ints)))) in
     let columns : bytes_at (c ∷ cs) y (run x (distance x e)) ≡ replicate gap DEAD ++ (LIVE ∷ bytes_at cs y (run (c.x +ℤ pos 1) rest)) =
-        ap (λ zs. bytes_at (c ∷ cs) y zs) split ∙ map-append (λ z. byte_of (has (c ∷ cs) (cell_at z y))) (run x gap) (c.x ∷ run (c.x +ℤ pos 1) rest) ∙ cc in
+    ap (λ zs. bytes_at (c ∷ cs) y zs) split ∙ map-append (λ z. byte_of (has (c ∷ cs) (cell_at z y))) (run x gap) (c.x ∷ run (c.x +ℤ pos 1) rest) ∙ cc in
     ap (λ bs. bs ++ LINE_FEED ∷ []) columns ∙ append_assoc (replicate gap DEAD) (LIVE ∷ bytes_at cs y (run (c.x +ℤ pos 1) rest)) (LINE_FEED ∷ [])
-        ∙ sym (append_assoc (replicate gap DEAD) (LIVE ∷ []) (bytes_at cs y (run (c.x +ℤ pos 1) rest) ++ LINE_FEED ∷ []))
+    ∙ sym (append_assoc (replicate gap DEAD) (LIVE ∷ []) (bytes_at cs y (run (c.x +ℤ pos 1) rest) ++ LINE_FEED ∷ []))
 
 -- the same, in a loop over the cells of the row
 pub row_rest-at : (y x e : ℤ) (row : List Cell) (i : ℕ) (d : Cell) (front whole : List ℕ) → i < length row → IsRowAhead y x e (drop i row) → whole ≡ front ++ row_rest (drop i row) y x e
@@ -92,7 +92,7 @@ row_rest-at y x e row i d front whole l h w =
     let c = get_or row i d in
     let cs = drop (i + 1) row in
     w ∙ ap (λ ds. front ++ row_rest ds y x e) (drop_more row i d l) ∙ ap (λ t. front ++ t) (row_rest-cons y x e c cs (IsRowAhead-at y x e row i d l h))
-        ∙ sym (append_assoc front (replicate (distance x c.x) DEAD ++ LIVE ∷ []) (row_rest cs y (c.x +ℤ pos 1) e))
+    ∙ sym (append_assoc front (replicate (distance x c.x) DEAD ++ LIVE ∷ []) (row_rest cs y (c.x +ℤ pos 1) e))
 
 pub row_rest-end : (y x e : ℤ) (row : List Cell) (i : ℕ) (front whole : List ℕ) → length row ≤ i → whole ≡ front ++ row_rest (drop i row) y x e → whole ≡ front ++ (replicate (distance x e) DEAD ++ LINE_FEED ∷ [])
 row_rest-end y x e row i front whole l w = w ∙ ap (λ ds. front ++ row_rest ds y x e) (drop_all i row l) ∙ ap (λ t. front ++ t) (row_rest-nil y x e)

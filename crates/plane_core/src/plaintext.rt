@@ -324,3 +324,6 @@ impl Pattern {
         write_cells(out, self.cells())
     }
 }
+
+#[cfg(test)]
+mod tests;

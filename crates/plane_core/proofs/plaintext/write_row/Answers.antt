@@ -61,11 +61,16 @@ loop-cell-preserved g c =
     let call : c.abs_diff.result ≡ distance x (to_z w32 (of_z w32 cell.x)) = c.abs_diff.ensures in
     let gap : c.abs_diff.result ≡ distance x cell.x = call ∙ ap (λ z. distance x z) at_cell in
     let front = inv.3 in
-    rw (at_cell, at_next, in_row)
-        (omega (arith, ints), omega (arith, ints), IsRowAhead-next y x end cell later ahead,
-        (front.0 ++ (replicate (distance x cell.x) DEAD ++ LIVE ∷ []),
+    rw (at_cell, at_next, in_row) (
+      omega (arith, ints),
+      omega (arith, ints),
+      IsRowAhead-next y x end cell later ahead,
+      (
+        front.0 ++ (replicate (distance x cell.x) DEAD ++ LIVE ∷ []),
         row_rest-at y x end row i (record { y = pos 0; x = pos 0 }) front.0 (row_text c.args.cells.now c.args.bounds y) c.loop-cell-test.true inv.2 front.1,
-        Writes_then front.2 (Writes_as (ap (λ n. replicate n DEAD ++ LIVE ∷ []) gap) c.in_ok-put_after_gap.ensures)))
+        Writes_then front.2 (Writes_as (ap (λ n. replicate n DEAD ++ LIVE ∷ []) gap) c.in_ok-put_after_gap.ensures),
+      ),
+    )
 
 pub returns-in_err-put_after_gap : goal.returns-in_err-put_after_gap
 returns-in_err-put_after_gap g c =

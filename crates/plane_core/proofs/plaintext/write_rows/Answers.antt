@@ -13,7 +13,7 @@ loop-y-init g c =
     let top_fits : FitsSigned w32 b.top = search rules in
     let high = c.requires.bounds.high in
     rw (to_z-of_z w32 b.top top_fits)
-        (omega (arith, ints), omega (arith, ints), c.requires.cells, (λ x z l. refl), ([], box_text_is cells b high, Writes_nothing c.args.out.now c.requires.fresh))
+    (omega (arith, ints), omega (arith, ints), c.requires.cells, (λ x z l. refl), ([], box_text_is cells b high, Writes_nothing c.args.out.now c.requires.fresh))
 
 pub loop-y-preserved : goal.loop-y-preserved
 loop-y-preserved g c =
@@ -36,9 +36,13 @@ loop-y-preserved g c =
     let next_fits : FitsSigned w32 (y +ℤ pos 1) = omega (arith, ints) in
     let below : c.below-rest.result.now ≡ drop (len_in_row y rest) rest = c.below-rest.ensures in
     let front = inv.4 in
-    rw (to_z-of_z w32 (y +ℤ pos 1) next_fits, below)
-        (omega (arith, ints), omega (arith, ints), IsAhead-next y b rest inv.2, SameFrom-next y cells rest inv.3,
-        (front.0 ++ row_text rest b y, rows_rest-at cells rest b y front.0 (box_text (Some b) cells) l inv.3 front.1, Writes_then front.2 c.in_ok-write_row.ensures))
+    rw (to_z-of_z w32 (y +ℤ pos 1) next_fits, below) (
+      omega (arith, ints),
+      omega (arith, ints),
+      IsAhead-next y b rest inv.2,
+      SameFrom-next y cells rest inv.3,
+      (front.0 ++ row_text rest b y, rows_rest-at cells rest b y front.0 (box_text (Some b) cells) l inv.3 front.1, Writes_then front.2 c.in_ok-write_row.ensures),
+    )
 
 pub returns-in_err-write_row : goal.returns-in_err-write_row
 returns-in_err-write_row g c =
