@@ -4,6 +4,7 @@ pub mod OutLemmas
 pub mod PlaintextBox
 pub mod PlaintextLines
 pub mod PlaintextOrder
+pub mod PlaintextRoundTrip
 pub mod PlaintextRows
 pub mod PlaintextWalks
 pub mod PlaintextWriting

@@ -162,3 +162,6 @@ lt_z-true a b h = grind (arith, ints)
 
 pub lt_z-false : (a b : ℤ) → lt_z a b ≡ false → b ≤ℤ a
 lt_z-false a b h = grind (arith, ints)
+
+pub above : (a b : Cell) → a.y <ℤ b.y → cell_cmp a b ≡ Less
+above a b h = grind (arith, ints)

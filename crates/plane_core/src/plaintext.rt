@@ -1,15 +1,16 @@
 ghost use Rattle.std.specs.Prelude.{◌≡◌, ◌↔◌, ◌<◌, ◌≤◌, ◌++◌, Option, None, List, [], ◌∷◌, IfOk, IsErrOf, OnOk, length, ℕ, pos, Ok, Err};
-ghost use Rattle.std.specs.Prelude.{Some, replicate, false, drop};
+ghost use Rattle.std.specs.Prelude.{Some, IfSome, replicate, false, drop};
 ghost use Rattle.std.specs.List.{prefix_len};
 ghost use Rattle.std.specs.Option.{option_map_or};
 ghost use Rattle.std.specs.Ordering.{int_eq};
 ghost use Rattle.plane_core.specs.Out.{Writes};
-ghost use Rattle.plane_core.specs.Bounds.{box_of, box_at, widened};
+ghost use Rattle.plane_core.specs.Bounds.{box_of, box_at, widened, at_corner};
 ghost use Rattle.plane_core.specs.PlaintextWalk.{IsBox, IsAhead};
 ghost use Rattle.std.specs.Str.Lines.{strip_carriage_return};
 ghost use Rattle.plane_core.specs.Cells.{IsPattern, cell_at};
+ghost use Rattle.plane_core.specs.declared.cell.Cell.{Cell};
 ghost use Rattle.plane_core.specs.declared.plaintext.PlaintextFault.{PlaintextFault};
-ghost use Rattle.plane_core.specs.Plaintext.{is_live, fault_at, first_fault, live_cells, pattern, row_text, box_text, plain};
+ghost use Rattle.plane_core.specs.Plaintext.{is_live, fault_at, first_fault, live_cells, pattern, row_text, box_text, plain, IsSmall};
 ghost use Rattle.plane_core.specs.PlaintextPlaces.{Place, is_comment, places_of_row, places};
 
 use crate::bounds::Bounds;
@@ -323,6 +324,13 @@ impl Pattern {
     {
         write_cells(out, self.cells())
     }
+}
+
+/// What is written of a pattern whose box is at most 1,000 by 1,000 is read again, as the pattern moved to the corner.
+pub fn round_trip()
+    ensures { (cells : List Cell) → IsPattern cells → IfSome (box_of cells) IsSmall
+        → pattern (plain cells) ≡ Ok (at_corner cells) }
+{
 }
 
 #[cfg(test)]
