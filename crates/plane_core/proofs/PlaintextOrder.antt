@@ -1,6 +1,6 @@
 -- The live cells of a text without a fault are a pattern.
-use Rattle.std.proofs.Common.{◌≡◌, ◌==◌, ℕ, zero, suc, pos, ◌+◌, ◌<◌, ◌≤◌, Bool, true, false, not, cond, List, [], ◌∷◌, ◌++◌, Option, Some, None, map, filter, refl, sym, ap, subst, ◌∙◌, arith, ⊎_elim}
-use Rattle.std.specs.List.{list_all, flat_map, enumerate_from, AllByRecursion}
+use Rattle.std.proofs.Common.{◌≡◌, ℕ, pos, ◌+◌, ◌<◌, ◌≤◌, true, false, cond, List, [], ◌∷◌, ◌++◌, None, map, filter, refl, sym, subst, arith, ⊎_elim}
+use Rattle.std.specs.List.{list_all, AllByRecursion}
 use Rattle.std.specs.List.Sorted.{IsStrictlySortedBy}
 use Rattle.std.specs.declared.cmp.Ordering.{Ordering}
 use Rattle.std.specs.declared.cmp.Ordering.TheVariants.{Less}
@@ -13,7 +13,7 @@ use Rattle.plane_core.specs.declared.cell.Cell.{Cell}
 use Rattle.plane_core.specs.declared.plaintext.TheConstants.{SIDE_LIMIT}
 use Rattle.plane_core.specs.Cells.{cell_at, cell_cmp, on_plane, IsPattern}
 use Rattle.plane_core.specs.Plaintext.{is_live, first_fault, live_cells}
-use Rattle.plane_core.specs.PlaintextPlaces.{Place, is_comment, places_of_row, places}
+use Rattle.plane_core.specs.PlaintextPlaces.{Place, is_comment, places}
 use Rattle.plane_core.proofs.PlaintextRows.{places_from, first_fault-cons, in_limits}
 use Rattle.plane_core.proofs.PlaintextLines.{parts_of, places_after, places_are, places_after-cons_comment, places_after-cons_row}
 

@@ -1,25 +1,22 @@
 -- What is written of a pattern is read again.
-use Rattle.std.proofs.Common.{◌≡◌, ◌==◌, ℕ, zero, suc, ℤ, pos, neg_ℤ, ◌+ℤ◌, ◌≤ℤ◌, ◌<ℤ◌, ◌+◌, ◌-◌, ◌<◌, ◌≤◌, eqb, Bool, true, false, ◌&&◌, ◌||◌, cond, List, [], ◌∷◌, ◌++◌, Option, Some, None, Result, Ok, IfSome, length, map, filter, get_or, refl, sym, ap, subst, ◌∙◌, arith, ⊎_elim}
+use Rattle.std.proofs.Common.{◌≡◌, ◌==◌, ℕ, zero, suc, ℤ, pos, neg_ℤ, ◌+ℤ◌, ◌≤ℤ◌, ◌<ℤ◌, ◌+◌, ◌-◌, ◌<◌, ◌≤◌, eqb, Bool, true, false, ◌&&◌, ◌||◌, cond, List, [], ◌∷◌, ◌++◌, Some, None, Ok, IfSome, length, map, filter, get_or, refl, sym, ap, subst, ◌∙◌, arith, ⊎_elim}
 use Rattle.std.specs.Option.{option_or, option_map_or}
 use Rattle.std.specs.List.{All, AllByRecursion, flat_map}
-use Rattle.std.specs.List.Sorted.{IsStrictlySortedBy}
 use Rattle.std.specs.Str.Lines.{strip_carriage_return}
 use Rattle.std.specs.declared.cmp.Ordering.TheVariants.{Less}
 use Rattle.std.proofs.lemmas.Int.{ints}
-use Rattle.std.proofs.lemmas.Bool.{cases_Bool, lt-ltb, cases_eq}
+use Rattle.std.proofs.lemmas.Bool.{cases_Bool, lt-ltb}
 use Rattle.std.proofs.lemmas.List.{append_assoc, map-append}
 use Rattle.std.proofs.lemmas.List.Elements.{filter-append}
 use Rattle.std.proofs.lemmas.List.Splits.{slice_split_at}
 use lib.Signed.{lt_z}
 use Rattle.plane_core.specs.declared.cell.Cell.{Cell}
 use Rattle.plane_core.specs.declared.bounds.Bounds.{Bounds}
-use Rattle.plane_core.specs.declared.plaintext.PlaintextFault.{PlaintextFault}
 use Rattle.plane_core.specs.declared.plaintext.TheConstants.{LINE_FEED, SIDE_LIMIT}
 use Rattle.plane_core.specs.Bounds.{box_of, box_at, widened, IsWithin, at_corner}
 use Rattle.plane_core.specs.Cells.{cell_at, cell_cmp, same_cell, moved_by, distance, has, InOrder, IsPattern}
-use Rattle.plane_core.specs.PlaintextPlaces.{Place, is_comment, lines_of, rows_of, places_of_row, places}
+use Rattle.plane_core.specs.PlaintextPlaces.{Place, is_comment, lines_of, rows_of, places}
 use Rattle.plane_core.specs.Plaintext.{byte_of, is_live, fault_at, first_fault, live_cells, cells_unless, pattern, run, span, row_text, box_text, plain, IsSmall}
-use Rattle.plane_core.specs.PlaintextWalk.{IsBox}
 use Rattle.plane_core.proofs.SetLemmas.{same_lists, has-append, has-filter, has-head, has-all, in_order-filter, in_order-nil, in_order-cons}
 use Rattle.plane_core.proofs.PlaintextBox.{IsBox-box_of, within-box_of}
 use Rattle.plane_core.proofs.PlaintextLines.{parts_of, places_after, places_are, places_after-cons_row, first_fault-append, live_cells-append}

@@ -1,6 +1,6 @@
 -- One row of a plaintext text, from a column on: its first fault, and its cells.
-use Rattle.std.proofs.Common.{◌≡◌, ℕ, zero, suc, pos, ◌+◌, ◌<◌, ◌≤◌, Bool, true, false, cond, List, [], ◌∷◌, ◌++◌, Option, Some, None, length, get_or, drop, map, filter, refl, sym, ap, ◌∙◌, arith}
-use Rattle.std.specs.List.{slice_get, filter_map, cons_option, flat_map, enumerate_from}
+use Rattle.std.proofs.Common.{◌≡◌, ℕ, zero, suc, pos, ◌+◌, ◌<◌, ◌≤◌, true, false, List, [], ◌∷◌, ◌++◌, Option, Some, None, length, get_or, drop, map, refl, sym, ap, ◌∙◌, arith}
+use Rattle.std.specs.List.{slice_get, filter_map, cons_option, enumerate_from}
 use Rattle.std.proofs.lemmas.List.{drop_more, drop_all, append_assoc, append-nil}
 use Rattle.std.proofs.lemmas.Bool.Decides.{nat_tests}
 use Rattle.plane_core.specs.declared.cell.Cell.{Cell}
@@ -8,7 +8,7 @@ use Rattle.plane_core.specs.declared.plaintext.TheConstants.{SIDE_LIMIT}
 use Rattle.plane_core.specs.declared.plaintext.PlaintextFault.{PlaintextFault}
 use Rattle.plane_core.specs.Cells.{cell_at}
 use Rattle.plane_core.specs.Plaintext.{is_live, fault_at, first_fault, live_cells}
-use Rattle.plane_core.specs.PlaintextPlaces.{Place, places_of_row}
+use Rattle.plane_core.specs.PlaintextPlaces.{Place}
 
 -- the places of row y from column x on
 abbrev pub places_from : ℕ → ℕ → ℕ → List ℕ → List Place

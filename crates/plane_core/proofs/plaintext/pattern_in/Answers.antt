@@ -1,5 +1,5 @@
 use Rattle.std.specs.Str.Lines.{strip_carriage_return}
-use Rattle.std.proofs.Common.{◌≡◌, ◌==◌, ◌+◌, ◌++◌, false, length, drop, sym, subst, arith, rules, tests, ap, ◌∙◌}
+use Rattle.std.proofs.Common.{◌≡◌, ◌==◌, ◌++◌, false, length, sym, subst, arith, rules, tests, ◌∙◌}
 use Rattle.std.proofs.lemmas.Iterator.Consumers.{YieldsList-turn, YieldsList-end}
 use Rattle.std.proofs.lemmas.Iterator.Splits.{YieldsList-from_slice_split}
 use Rattle.std.proofs.lemmas.List.{length_push}
@@ -7,7 +7,7 @@ use Rattle.plane_core.specs.Cells.{IsPattern}
 use Rattle.plane_core.proofs.PlaintextOrder.{IsPattern-live_cells}
 use Rattle.plane_core.specs.Plaintext.{live_cells}
 use Rattle.plane_core.specs.PlaintextPlaces.{is_comment, places_of_row}
-use Rattle.plane_core.proofs.PlaintextLines.{places_are, places_after, parts_of, no_fault_in_comment, no_fault_later, row_is_small, cells_of_row, no_cell_in_comment, no_cell_past_lines, moved_over}
+use Rattle.plane_core.proofs.PlaintextLines.{places_are, parts_of, no_fault_in_comment, no_fault_later, row_is_small, cells_of_row, no_cell_in_comment, no_cell_past_lines, moved_over}
 use Rattle.plane_core.specs.declared.plaintext.TheConstants.{LINE_FEED}
 use Rattle.plane_core.proofs.plaintext.pattern_in.Goals as goal
 

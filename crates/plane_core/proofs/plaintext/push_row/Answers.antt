@@ -1,4 +1,4 @@
-use Rattle.std.proofs.Common.{arith, rules}
+use Rattle.std.proofs.Common.{arith}
 use Rattle.plane_core.proofs.PlaintextRows.{live_here, dead_here}
 use Rattle.plane_core.proofs.plaintext.push_row.Goals as goal
 use Rattle.plane_core.proofs.plaintext.push_row.Goals.{then-is_live+in_ok-push, else-is_live}

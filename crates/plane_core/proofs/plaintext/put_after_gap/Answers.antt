@@ -1,4 +1,4 @@
-use Rattle.std.proofs.Common.{◌∷◌, [], ◌++◌, ◌-◌, replicate, arith, refl, ap}
+use Rattle.std.proofs.Common.{◌∷◌, [], ◌++◌, ◌-◌, replicate, arith, ap}
 use Rattle.plane_core.specs.declared.plaintext.TheConstants.{DEAD}
 use Rattle.plane_core.proofs.OutLemmas.{Writes_then, Writes_stops}
 use Rattle.plane_core.proofs.PlaintextWriting.{Writes_as, replicate_more, replicate_more_rest}

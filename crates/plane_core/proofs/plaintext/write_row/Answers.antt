@@ -1,7 +1,5 @@
-use Rattle.std.proofs.Common.{◌≡◌, ◌++◌, ◌+◌, ◌+ℤ◌, ◌≤ℤ◌, ◌<ℤ◌, pos, List, [], ◌∷◌, take, drop, get_or, replicate, arith, refl, ap, sym, subst, ◌∙◌, rules, w32, FitsSigned, to_z, of_z}
+use Rattle.std.proofs.Common.{◌≡◌, ◌++◌, ◌+◌, ◌+ℤ◌, pos, [], ◌∷◌, take, drop, get_or, replicate, arith, ap, sym, ◌∙◌, rules, w32, FitsSigned, to_z, of_z}
 use Rattle.std.proofs.lemmas.Int.{ints, to_z-of_z}
-use Rattle.std.proofs.lemmas.List.{drop_more}
-use Rattle.plane_core.specs.declared.cell.Cell.{Cell}
 use Rattle.plane_core.specs.declared.plaintext.TheConstants.{DEAD, LIVE, LINE_FEED}
 use Rattle.plane_core.specs.Cells.{distance}
 use Rattle.plane_core.specs.Plaintext.{row_text}

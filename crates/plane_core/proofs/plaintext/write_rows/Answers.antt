@@ -1,4 +1,4 @@
-use Rattle.std.proofs.Common.{◌≡◌, ◌++◌, ◌+◌, ◌+ℤ◌, ◌≤ℤ◌, ◌<ℤ◌, pos, List, [], ◌∷◌, Some, drop, arith, refl, ap, sym, subst, ◌∙◌, rules, w32, FitsSigned, to_z, of_z}
+use Rattle.std.proofs.Common.{◌≡◌, ◌++◌, ◌+ℤ◌, ◌<ℤ◌, pos, [], Some, drop, arith, refl, ap, sym, ◌∙◌, rules, w32, FitsSigned, to_z, of_z}
 use Rattle.std.proofs.lemmas.Int.{ints, to_z-of_z}
 use Rattle.plane_core.specs.Plaintext.{box_text, row_text}
 use Rattle.plane_core.proofs.OutLemmas.{Writes_nothing, Writes_then, Writes_stops}
