@@ -1,5 +1,9 @@
+pub mod BlockLemmas
+pub mod BoundsLemmas
 pub mod CellLemmas
+pub mod GenerationLemmas
 pub mod MergeLemmas
+pub mod NeighbourLemmas
 pub mod OutLemmas
 pub mod PlaintextBox
 pub mod PlaintextLines
@@ -8,7 +12,9 @@ pub mod PlaintextRoundTrip
 pub mod PlaintextRows
 pub mod PlaintextWalks
 pub mod PlaintextWriting
+pub mod ReadingLemmas
 pub mod RuleLemmas
+pub mod RuleReading
 pub mod SearchLemmas
 pub mod SetLemmas
 pub mod TallyLemmas

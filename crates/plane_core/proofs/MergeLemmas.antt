@@ -1,12 +1,12 @@
 -- The merge of three lists of tallies, one cell at a time.
-use Rattle.std.proofs.Common.{◌≡◌, ◌==◌, ℕ, ◌+◌, ◌<◌, ◌≤◌, Bool, true, false, ◌||◌, ◌&&◌, List, [], ◌∷◌, ◌++◌, arith, cond, refl, ap, ◌∙◌, sym, subst, inl, inr, ◌⊎◌, length, Option, Some, None, map, append_assoc}
+use Rattle.std.proofs.Common.{◌≡◌, ◌+◌, ◌<◌, ◌≤◌, Bool, true, false, ◌||◌, ◌&&◌, List, [], ◌∷◌, ◌++◌, arith, cond, refl, ap, ◌∙◌, sym, inl, inr, ◌⊎◌, length, Some, append_assoc}
 use Rattle.std.specs.List.{list_all}
 use Rattle.std.proofs.lemmas.Bool.{and_parts, and_from}
 use Rattle.plane_core.specs.declared.cell.Cell.{Cell}
 use Rattle.plane_core.specs.declared.tally.Tally.{Tally}
 use Rattle.plane_core.specs.Cells.{same_cell, InOrder}
-use Rattle.plane_core.specs.Tallies.{IsMerged, cells_of, total, alive_at, count_first, alive_first, rest_at, first_of, earlier_of}
-use Rattle.plane_core.proofs.TallyLemmas.{total-append, alive_at-append, cells_of-append, total-rest_at, alive_at-rest_at, NotEarlier, NoneEarlier, later_than_both, one_of_both, itself, none_earlier, begins, push_order, in_order-back, length-rest_at, length-begins, neither, none_left}
+use Rattle.plane_core.specs.Tallies.{cells_of, total, alive_at, count_first, alive_first, rest_at, first_of, earlier_of}
+use Rattle.plane_core.proofs.TallyLemmas.{total-append, alive_at-append, cells_of-append, total-rest_at, alive_at-rest_at, NoneEarlier, later_than_both, one_of_both, itself, none_earlier, begins, push_order, length-rest_at, length-begins}
 
 -- what a merge has done, and what is left of its three lists
 pub record Merging (before here behind sums left middle right : List Tally) : Type 0 where

@@ -1,14 +1,13 @@
 -- The least box of a pattern, as a walk of the writer needs it.
 use Rattle.std.proofs.Common.{◌≡◌, ◌≤ℤ◌, true, nat_le, List, [], ◌∷◌, Some, refl, sym, ap, subst, ◌∙◌, arith}
 use Rattle.std.specs.List.{AllByRecursion, list_all}
-use Rattle.std.specs.Option.{option_map_or}
 use Rattle.std.specs.Prelude.{unsigned_abs}
 use Rattle.std.proofs.lemmas.Int.{ints, clamps}
 use Rattle.std.proofs.lemmas.Bool.{and_parts, leb-true}
 use Rattle.plane_core.specs.declared.cell.Cell.{Cell}
 use Rattle.plane_core.specs.declared.cell.TheConstants.{BOUND}
 use Rattle.plane_core.specs.declared.bounds.Bounds.{Bounds}
-use Rattle.plane_core.specs.Bounds.{box_of, box_at, widened, IsWithin}
+use Rattle.plane_core.specs.Bounds.{box_of, box_at, grown, widened, IsWithin}
 use Rattle.plane_core.specs.Cells.{IsPattern, on_plane}
 use Rattle.plane_core.specs.PlaintextWalk.{IsBox, IsAhead}
 use Rattle.plane_core.proofs.PlaintextOrder.{AllByRecursion-weaker}
@@ -20,7 +19,7 @@ least c (d ∷ ds) = widened c (least d ds)
 
 pub box_of-cons : (c : Cell) (cs : List Cell) → box_of (c ∷ cs) ≡ Some (least c cs)
 box_of-cons c [] = refl
-box_of-cons c (d ∷ ds) = ap (λ o. Some (option_map_or (widened c) o (box_at c))) (box_of-cons d ds)
+box_of-cons c (d ∷ ds) = ap (λ o. Some (grown c o)) (box_of-cons d ds)
 
 widened-first : (c : Cell) (b : Bounds) → IsWithin (widened c b) c
 widened-first c b = record { left = omega (arith, ints, clamps); top = omega (arith, ints, clamps); right = omega (arith, ints, clamps); bottom = omega (arith, ints, clamps) }

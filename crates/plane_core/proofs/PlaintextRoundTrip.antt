@@ -1,6 +1,6 @@
 -- What is written of a pattern is read again.
 use Rattle.std.proofs.Common.{◌≡◌, ◌==◌, ℕ, zero, suc, ℤ, pos, neg_ℤ, ◌+ℤ◌, ◌≤ℤ◌, ◌<ℤ◌, ◌+◌, ◌-◌, ◌<◌, ◌≤◌, eqb, Bool, true, false, ◌&&◌, ◌||◌, cond, List, [], ◌∷◌, ◌++◌, Some, None, Ok, IfSome, length, map, filter, get_or, refl, sym, ap, subst, ◌∙◌, arith, ⊎_elim}
-use Rattle.std.specs.Option.{option_or, option_map_or}
+use Rattle.std.specs.Option.{option_or}
 use Rattle.std.specs.List.{All, AllByRecursion, flat_map}
 use Rattle.std.specs.Str.Lines.{strip_carriage_return}
 use Rattle.std.specs.declared.cmp.Ordering.TheVariants.{Less}
@@ -13,7 +13,7 @@ use lib.Signed.{lt_z}
 use Rattle.plane_core.specs.declared.cell.Cell.{Cell}
 use Rattle.plane_core.specs.declared.bounds.Bounds.{Bounds}
 use Rattle.plane_core.specs.declared.plaintext.TheConstants.{LINE_FEED, SIDE_LIMIT}
-use Rattle.plane_core.specs.Bounds.{box_of, box_at, widened, IsWithin, at_corner}
+use Rattle.plane_core.specs.Bounds.{box_of, grown, IsWithin, at_corner}
 use Rattle.plane_core.specs.Cells.{cell_at, cell_cmp, same_cell, moved_by, distance, has, InOrder, IsPattern}
 use Rattle.plane_core.specs.PlaintextPlaces.{Place, is_comment, lines_of, rows_of, places}
 use Rattle.plane_core.specs.Plaintext.{byte_of, is_live, fault_at, first_fault, live_cells, cells_unless, pattern, run, span, row_text, box_text, plain, IsSmall}
@@ -158,8 +158,8 @@ grid_in_order b z (suc h) =
     let rest = grid b (run (z +ℤ pos 1) h) in
     IsStrictlySortedBy-append cell_cmp row rest (row_in_order z b.left (suc (distance b.left b.right))) (grid_in_order b (z +ℤ pos 1) h)
     (AllByRecursion-weaker (λ c. (c.y ≡ z) × (b.left ≤ℤ c.x)) (λ c. AllByRecursion (λ d. cell_cmp c d ≡ Less) rest) row
-        (λ c k. let e = k.0 in AllByRecursion-weaker (λ d. (z +ℤ pos 1) ≤ℤ d.y) (λ d. cell_cmp c d ≡ Less) rest (λ d l. above c d (omega (arith, ints))) (grid_below b (z +ℤ pos 1) h))
-        (row_in_row z b.left (suc (distance b.left b.right))))
+    (λ c k. let e = k.0 in AllByRecursion-weaker (λ d. (z +ℤ pos 1) ≤ℤ d.y) (λ d. cell_cmp c d ≡ Less) rest (λ d l. above c d (omega (arith, ints))) (grid_below b (z +ℤ pos 1) h))
+    (row_in_row z b.left (suc (distance b.left b.right))))
 
 or_right : (a b : Bool) → b ≡ true → (a || b) ≡ true
 or_right true b e = refl
@@ -172,9 +172,9 @@ has_row d z a (suc m) e l u =
     ⊎_elim
     (λ t. let past : a <ℤ d.x = lt_z-true a d.x t in or_right (same_cell d (cell_at a z)) (has rest d) (has_row d z (a +ℤ pos 1) m e (omega (arith, ints)) (omega (arith, ints))))
     (λ t. let not_past : d.x ≤ℤ a = lt_z-false a d.x t in
-        let ex : d.x ≡ a = omega (arith, ints) in
-        let here : d ≡ cell_at a z = ap (λ w. cell_at d.x w) e ∙ ap (λ w. cell_at w z) ex in
-        subst (λ k. has (k ∷ rest) d ≡ true) here (has-head d rest))
+    let ex : d.x ≡ a = omega (arith, ints) in
+    let here : d ≡ cell_at a z = ap (λ w. cell_at d.x w) e ∙ ap (λ w. cell_at w z) ex in
+    subst (λ k. has (k ∷ rest) d ≡ true) here (has-head d rest))
     (cases_Bool (lt_z a d.x))
 
 has_grid : (d : Cell) (b : Bounds) (z : ℤ) (h : ℕ) → IsWithin b d → b.left ≤ℤ b.right → z ≤ℤ d.y → d.y <ℤ (z +ℤ pos h) → has (grid b (run z h)) d ≡ true
@@ -188,8 +188,8 @@ has_grid d b z (suc h) w wide l u =
     ⊎_elim
     (λ t. let past : z <ℤ d.y = lt_z-true z d.y t in or_right (has row d) (has rest d) (has_grid d b (z +ℤ pos 1) h w wide (omega (arith, ints)) (omega (arith, ints))))
     (λ t. let not_past : d.y ≤ℤ z = lt_z-false z d.y t in
-        let ey : d.y ≡ z = omega (arith, ints) in
-        ap (λ v. v || has rest d) (has_row d z b.left (suc (distance b.left b.right)) ey left (omega (arith, ints))))
+    let ey : d.y ≡ z = omega (arith, ints) in
+    ap (λ v. v || has rest d) (has_row d z b.left (suc (distance b.left b.right)) ey left (omega (arith, ints))))
     (cases_Bool (lt_z z d.y))
 
 absorb : (g k : Bool) → (k ≡ true → g ≡ true) → (g && k) ≡ k
@@ -204,11 +204,11 @@ kept cells b p e =
     let all = grid b (span b.top b.bottom) in
     same_lists (filter (has cells) all) cells (in_order-filter (has cells) all (grid_in_order b b.top (suc (distance b.top b.bottom)))) p.in_order
     (λ d. has-filter (has cells) all d ∙ absorb (has all d) (has cells d) (λ h.
-        let w : IsWithin b d = has-all (IsWithin b) cells d (within-box_of cells b e) h in
-        let top = w.top in
-        let bottom = w.bottom in
-        let high = box.high in
-        has_grid d b b.top (suc (distance b.top b.bottom)) w box.wide top (omega (arith, ints))))
+    let w : IsWithin b d = has-all (IsWithin b) cells d (within-box_of cells b e) h in
+    let top = w.top in
+    let bottom = w.bottom in
+    let high = box.high in
+    has_grid d b b.top (suc (distance b.top b.bottom)) w box.wide top (omega (arith, ints))))
 
 -- the text of the rows of a small box is the pattern at the corner
 box_text_read : (cells : List Cell) (b : Bounds) → IsPattern cells → box_of cells ≡ Some b → IsSmall b → pattern (box_text (Some b) cells) ≡ Ok (map (moved_by (neg_ℤ b.left) (neg_ℤ b.top)) cells)
@@ -221,7 +221,7 @@ box_text_read cells b p e small =
     let same : places text ≡ grid_places cells b 1 0 zs = places_are text ∙ ap (places_after 1 0) (split_rows cells b zs) ∙ places_of_rows cells b 1 0 zs in
     let none : first_fault (places text) ≡ None = ap first_fault same ∙ rows_no_fault cells b 1 0 zs width height in
     let live : live_cells (places text) ≡ map (moved_by (neg_ℤ b.left) (neg_ℤ b.top)) cells =
-        ap live_cells same ∙ rows_live cells b (neg_ℤ b.left) (neg_ℤ b.top) 1 0 b.top (suc (distance b.top b.bottom)) (omega (arith, ints)) (omega (arith, ints)) ∙ ap (map (moved_by (neg_ℤ b.left) (neg_ℤ b.top))) (kept cells b p e) in
+    ap live_cells same ∙ rows_live cells b (neg_ℤ b.left) (neg_ℤ b.top) 1 0 b.top (suc (distance b.top b.bottom)) (omega (arith, ints)) (omega (arith, ints)) ∙ ap (map (moved_by (neg_ℤ b.left) (neg_ℤ b.top))) (kept cells b p e) in
     ap (λ o. cells_unless o (live_cells (places text))) none ∙ ap Ok live
 
 nothing_read : pattern [] ≡ Ok []
@@ -235,4 +235,4 @@ no_text = refl
 pub round_trip : (cells : List Cell) → IsPattern cells → IfSome (box_of cells) IsSmall → pattern (plain cells) ≡ Ok (at_corner cells)
 unfolding plain
 round_trip [] p small = ap pattern no_text ∙ nothing_read
-round_trip (c ∷ cs) p small = box_text_read (c ∷ cs) (option_map_or (widened c) (box_of cs) (box_at c)) p refl small
+round_trip (c ∷ cs) p small = box_text_read (c ∷ cs) (grown c (box_of cs)) p refl small

@@ -1,6 +1,6 @@
 -- Looking for a cell in a list in order, and cells of the plane.
-use Rattle.std.proofs.Common.{◌≡◌, ◌==◌, ℕ, ◌+◌, ◌<◌, ◌≤◌, Bool, true, false, not, List, [], ◌∷◌, arith, cond, refl, ap, ◌∙◌, sym, subst, inl, inr, ◌⊎◌, length, position, Option, Some, None, Result, Ok, Err, is_ok, get_or, nat_lt, ◌||◌, ◌&&◌}
-use Rattle.std.specs.List.{dedup, list_all, Contains, HoldsAt, prefix_len, AllByRecursion}
+use Rattle.std.proofs.Common.{◌≡◌, ℕ, ◌+◌, ◌≤◌, Bool, true, false, not, List, [], ◌∷◌, arith, cond, refl, ap, ◌∙◌, sym, subst, inl, inr, length, position, Some, None, Result, Ok, Err, is_ok, get_or, nat_lt, ◌||◌, ◌&&◌}
+use Rattle.std.specs.List.{dedup, list_all, Contains, prefix_len}
 use Rattle.std.specs.List.Sorted.{IsSorted, IsSortedBy, IsBinarySearchResult, IsSearchInRange, IsPermutation}
 use Rattle.std.specs.Cmp.{IsEquivalence, eq_by_cmp_equiv, tied_itself}
 use Rattle.std.specs.Ordering.{is_lt, is_eq, ordering_reverse}

@@ -1,6 +1,8 @@
 pub mod Bounds
 pub mod Cells
+pub mod Clusters
 pub mod Generations
+pub mod Orientations
 pub mod Out
 pub mod Plaintext
 pub mod PlaintextPlaces

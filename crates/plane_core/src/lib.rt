@@ -8,8 +8,12 @@
 pub mod bounds;
 /// Cells of the plane, and their order.
 pub mod cell;
+/// The next generation, and many.
+pub mod generation;
+/// The eight orientations.
+pub mod orientation;
 /// A writer that remembers that it failed.
-pub mod out;
+pub mod output;
 /// Patterns: finite sets of cells.
 pub mod pattern;
 /// Plaintext pattern files.

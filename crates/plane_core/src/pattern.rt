@@ -43,14 +43,6 @@ impl Model for Pattern {
 }
 
 impl Pattern {
-    /// The set of cells that stand in order already.
-    pub(crate) fn from_ordered(cells: Vec<Cell>) -> Pattern
-        requires { IsPattern cells.items }
-        ensures { result ≡ cells.items }
-    {
-        Pattern { cells }
-    }
-
     /// The set of the cells of a list, which may stand in any order and more than once.
     ///
     /// # Errors
@@ -68,6 +60,26 @@ impl Pattern {
         }
         let cells = sorted(alloc, cells)?;
         Ok(Pattern { cells })
+    }
+
+    /// The pattern of cells that stand in order already.
+    pub(crate) fn from_ordered(cells: Vec<Cell>) -> Pattern
+        requires { IsPattern cells.items }
+        ensures { result ≡ cells.items }
+    {
+        Pattern { cells }
+    }
+
+    /// An equal pattern.
+    ///
+    /// # Errors
+    ///
+    /// `AllocError` where memory is wanting.
+    pub fn copy(&self, alloc: Global) -> Result<Pattern, AllocError>
+        ensures { IfOk result (λ pattern. pattern ≡ self.now) }
+    {
+        let cells = Vec::from_slice(alloc, self.cells())?;
+        Ok(Pattern::from_ordered(cells))
     }
 
     /// All cells in order, each once.

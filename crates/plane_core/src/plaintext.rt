@@ -1,10 +1,9 @@
 ghost use Rattle.std.specs.Prelude.{◌≡◌, ◌↔◌, ◌<◌, ◌≤◌, ◌++◌, Option, None, List, [], ◌∷◌, IfOk, IsErrOf, OnOk, length, ℕ, pos, Ok, Err};
 ghost use Rattle.std.specs.Prelude.{Some, IfSome, replicate, false, drop};
 ghost use Rattle.std.specs.List.{prefix_len};
-ghost use Rattle.std.specs.Option.{option_map_or};
 ghost use Rattle.std.specs.Ordering.{int_eq};
 ghost use Rattle.plane_core.specs.Out.{Writes};
-ghost use Rattle.plane_core.specs.Bounds.{box_of, box_at, widened, at_corner};
+ghost use Rattle.plane_core.specs.Bounds.{box_of, at_corner};
 ghost use Rattle.plane_core.specs.PlaintextWalk.{IsBox, IsAhead};
 ghost use Rattle.std.specs.Str.Lines.{strip_carriage_return};
 ghost use Rattle.plane_core.specs.Cells.{IsPattern, cell_at};
@@ -15,7 +14,7 @@ ghost use Rattle.plane_core.specs.PlaintextPlaces.{Place, is_comment, places_of_
 
 use crate::bounds::Bounds;
 use crate::cell::Cell;
-use crate::out::{Out, WriteError};
+use crate::output::{Out, WriteError};
 use crate::pattern::Pattern;
 use std::alloc::{AllocError, Global};
 use std::io::Write;
@@ -175,38 +174,6 @@ fn pattern_in(alloc: Global, text: &[u8]) -> Result<Pattern, AllocError>
     Ok(Pattern::from_ordered(cells))
 }
 
-/// The least box round the cells.
-fn box_of(cells: &[Cell]) -> Option<Bounds>
-    ensures { result ≡ box_of cells.now }
-{
-    let mut bounds: Option<Bounds> = None;
-    for i in (0..cells.len()).rev() {
-        bounds = Some(widened(cells[i], bounds));
-    }
-    bounds
-}
-
-/// The least box round a cell and the box.
-fn widened(cell: Cell, bounds: Option<Bounds>) -> Bounds
-    ensures { result ≡ option_map_or (widened cell) bounds (box_at cell) }
-{
-    let Cell { y, x } = cell;
-    match bounds {
-        None => Bounds {
-            left: x,
-            top: y,
-            right: x,
-            bottom: y,
-        },
-        Some(bounds) => Bounds {
-            left: x.min(bounds.left),
-            top: y.min(bounds.top),
-            right: x.max(bounds.right),
-            bottom: y.max(bounds.bottom),
-        },
-    }
-}
-
 fn dead_cells(count: usize) -> &'static [u8]
     requires { count ≤ 64 }
     ensures { result.now ≡ replicate count DEAD }
@@ -278,15 +245,13 @@ fn write_rows<V: Write>(out: &mut Out<V>, cells: &[Cell], bounds: Bounds) -> Res
     Ok(())
 }
 
-/// Writes the cells of a pattern.
-fn write_cells<V: Write>(out: &mut Out<V>, cells: &[Cell]) -> Result<(), WriteError>
-    requires fresh { out.old.failed ≡ false }
-    requires pattern { IsPattern cells.now }
-    ensures { Writes V.contents out.old out.new result (plain cells.now) }
+fn write_pattern<V: Write>(out: &mut Out<V>, pattern: &Pattern) -> Result<(), WriteError>
+    requires { out.old.failed ≡ false }
+    ensures { Writes V.contents out.old out.new result (plain pattern.now) }
 {
-    match box_of(cells) {
+    match pattern.bounds() {
         None => Ok(()),
-        Some(bounds) => write_rows(out, cells, bounds),
+        Some(bounds) => write_rows(out, pattern.cells(), bounds),
     }
 }
 
@@ -322,7 +287,7 @@ impl Pattern {
         requires { out.old.failed ≡ false }
         ensures { Writes V.contents out.old out.new result (plain self.now) }
     {
-        write_cells(out, self.cells())
+        write_pattern(out, self)
     }
 }
 
@@ -330,8 +295,7 @@ impl Pattern {
 pub fn round_trip()
     ensures { (cells : List Cell) → IsPattern cells → IfSome (box_of cells) IsSmall
         → pattern (plain cells) ≡ Ok (at_corner cells) }
-{
-}
+{}
 
 #[cfg(test)]
 mod tests;

@@ -1,7 +1,7 @@
-ghost use Rattle.std.specs.Prelude.{◌≡◌, true, ℕ, ◌+◌, ◌<◌, ◌^◌, List, [], ◌∷◌, ◌||◌, ◌≤◌, map, filter, IfOk, MatchOption, unsigned_abs};
+ghost use Rattle.std.specs.Prelude.{◌≡◌, true, ℕ, ◌+◌, ◌<◌, ◌^◌, List, [], ◌∷◌, ◌||◌, ◌≤◌, map, filter, IfOk, MatchOption, unsigned_abs, neg_ℤ};
 ghost use Rattle.std.specs.List.{list_all};
-ghost use Rattle.plane_core.specs.Cells.{InOrder, near_plane};
-ghost use Rattle.plane_core.specs.Tallies.{IsMerged, cells_of, total, alive_at, one_of, moved_tally, tally_lives, count_first, alive_first, rest_at, first_of, earlier_of};
+ghost use Rattle.plane_core.specs.Cells.{InOrder, IsPattern, moved_by, near_plane};
+ghost use Rattle.plane_core.specs.Tallies.{AddsNeighbours, CountsBlocks, IsMerged, cells_of, total, alive_at, one_of, moved_tally, tally_lives, count_first, alive_first, rest_at, first_of, earlier_of};
 ghost use Rattle.plane_core.specs.declared.cell.Cell.{Cell};
 ghost use Rattle.plane_core.specs.declared.tally.Tally.{Tally};
 
@@ -28,6 +28,17 @@ impl Tally {
     {
         let cell = self.cell.moved(dx, dy);
         Tally { cell, ..self }
+    }
+
+    /// Whether the cell is alive next, where the count is that of its block. A live cell is counted there itself.
+    fn lives(self, rule: &Rule) -> bool
+        ensures { result ≡ tally_lives rule.now self }
+    {
+        if self.alive {
+            rule.survives(self.count.saturating_sub(1))
+        } else {
+            rule.births(self.count)
+        }
     }
 }
 
@@ -125,7 +136,7 @@ fn merged(
 ) -> Result<Vec<Tally>, AllocError>
     requires orders { InOrder (cells_of before.now) × InOrder (cells_of here.now) × InOrder (cells_of behind.now) }
     requires small { (c : Cell) → total before.now c + (total here.now c + total behind.now c) < 256 }
-    ensures merged { IfOk result (λ sums. IsMerged before.now here.now behind.now sums.items) }
+    ensures { IfOk result (λ sums. IsMerged before.now here.now behind.now sums.items) }
 {
     let (mut left, mut middle, mut right) = (before, here, behind);
     let mut sums = Vec::new(alloc);
@@ -143,4 +154,73 @@ fn merged(
         right = from_right.rest;
     }
     Ok(sums)
+}
+
+/// The same step the other way.
+fn opposite(step: i32) -> i32
+    requires { unsigned_abs step ≤ 1 }
+    ensures { result ≡ neg_ℤ step }
+{
+    -step
+}
+
+/// Each cell's count together with those of the two cells a step (dx, dy) from it, before and behind.
+fn with_neighbours(
+    alloc: Global,
+    tallies: &[Tally],
+    dx: i32,
+    dy: i32,
+) -> Result<Vec<Tally>, AllocError>
+    requires near { list_all near_plane (cells_of tallies.now) ≡ true }
+    requires in_order { InOrder (cells_of tallies.now) }
+    requires step { unsigned_abs dx ≤ 1 }
+    requires leap { unsigned_abs dy ≤ 1 }
+    requires small { (c : Cell) → total tallies.now (moved_by dx dy c) + (total tallies.now c + total tallies.now (moved_by (neg_ℤ dx) (neg_ℤ dy) c)) < 256 }
+    ensures { IfOk result (λ sums. AddsNeighbours dx dy tallies.now sums.items) }
+{
+    let before = moved(alloc, tallies, opposite(dx), opposite(dy))?;
+    let behind = moved(alloc, tallies, dx, dy)?;
+    merged(alloc, before.as_slice(), tallies, behind.as_slice())
+}
+
+/// Each cell of the pattern, counted once at itself.
+fn counted(alloc: Global, cells: &[Cell]) -> Result<Vec<Tally>, AllocError>
+    ensures { IfOk result (λ tallies. tallies.items ≡ map one_of cells.now) }
+{
+    cells
+        .iter()
+        .map(|cell| Tally {
+            cell: *cell,
+            count: 1,
+            alive: true,
+        })
+        .collect(alloc)
+}
+
+/// For each cell in the pattern or beside it, how many live cells its block has: the cell itself and the eight round
+/// it. Rows of three are added up first, and then three such rows.
+pub(crate) fn blocks(alloc: Global, cells: &[Cell]) -> Result<Vec<Tally>, AllocError>
+    requires { IsPattern cells.now }
+    ensures { IfOk result (λ tallies. CountsBlocks cells.now tallies.items) }
+{
+    let ones = counted(alloc, cells)?;
+    let rows = with_neighbours(alloc, ones.as_slice(), 1, 0)?;
+    with_neighbours(alloc, rows.as_slice(), 0, 1)
+}
+
+/// The cells that are alive next, by the counts of their blocks.
+pub(crate) fn selected(
+    alloc: Global,
+    rule: &Rule,
+    tallies: &[Tally],
+) -> Result<Vec<Cell>, AllocError>
+    ensures { IfOk result (λ cells. cells.items ≡ cells_of (filter (tally_lives rule.now) tallies.now)) }
+{
+    let mut cells = Vec::new(alloc);
+    for tally in tallies {
+        if tally.lives(rule) {
+            cells.push(tally.cell)?;
+        }
+    }
+    Ok(cells)
 }

@@ -1,6 +1,5 @@
-use Rattle.std.proofs.Common.{◌∙◌, sym, ap, ◌≡◌, List, refl, rules}
+use Rattle.std.proofs.Common.{◌∙◌, ap, List}
 use Rattle.std.proofs.lemmas.List.Filters.{dedup_is}
-use Rattle.std.specs.Cmp.{eq_by_cmp_equiv}
 use Rattle.plane_core.specs.declared.cell.Cell.{Cell}
 use Rattle.plane_core.specs.Cells.{set_of}
 use Rattle.plane_core.proofs.CellLemmas.{same_cell-eq}

@@ -1,5 +1,5 @@
 use Rattle.std.proofs.Common.{◌-◌, ◌≤◌, Ok, replicate}
-use Rattle.plane_core.specs.declared.out.WriteError.{WriteError}
+use Rattle.plane_core.specs.declared.output.WriteError.{WriteError}
 use Rattle.plane_core.specs.declared.plaintext.TheConstants.{DEAD}
 use Rattle.plane_core.specs.Out.{Writes}
 use Rattle.plane_core.proofs.plaintext.put_after_gap.Given as goal

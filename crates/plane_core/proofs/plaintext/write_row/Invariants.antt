@@ -1,5 +1,5 @@
 use Rattle.std.proofs.Common.{◌≡◌, ◌++◌, ◌≤ℤ◌, ◌+ℤ◌, pos, List, ℕ, Ok, drop}
-use Rattle.plane_core.specs.declared.out.WriteError.{WriteError}
+use Rattle.plane_core.specs.declared.output.WriteError.{WriteError}
 use Rattle.plane_core.specs.Out.{Writes}
 use Rattle.plane_core.specs.Plaintext.{row_text}
 use Rattle.plane_core.proofs.PlaintextWalks.{IsRowAhead}

@@ -1,5 +1,5 @@
 use Rattle.std.proofs.Common.{◌+◌, sym, subst, List, ℕ, Ok, drop}
-use Rattle.plane_core.specs.declared.out.WriteError.{WriteError}
+use Rattle.plane_core.specs.declared.output.WriteError.{WriteError}
 use Rattle.plane_core.specs.Out.{Writes}
 use Rattle.plane_core.specs.Rules.{digits}
 use Rattle.plane_core.proofs.OutLemmas.{Writes_then, Writes_stops}
@@ -14,7 +14,7 @@ loop-i-preserved g c =
       | then-answer+in_ok-put w ↦ (
         _,
         digits-front-true _ _ _ written.0 c.loop-i-test.true w.if-answer.true written.1,
-        rw w.out-is (Writes_then written.2 w.in_ok-put.ensures),
+        rw w.out-is (Writes_then {r = Ok tt} written.2 w.in_ok-put.ensures),
       )
       | else-answer w ↦
           (written.0, digits-front-false _ _ _ written.0 c.loop-i-test.true w.if-answer.false written.1, rw w.out-is written.2)

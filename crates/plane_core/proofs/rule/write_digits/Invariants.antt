@@ -1,5 +1,5 @@
 use Rattle.std.proofs.Common.{◌≡◌, ℕ, ◌+◌, List, ◌++◌, drop, Ok}
-use Rattle.plane_core.specs.declared.out.WriteError.{WriteError}
+use Rattle.plane_core.specs.declared.output.WriteError.{WriteError}
 use Rattle.plane_core.specs.Out.{Writes}
 use Rattle.plane_core.specs.Rules.{digits}
 use Rattle.plane_core.proofs.rule.write_digits.Given as goal
