@@ -6,6 +6,7 @@ pub mod MergeLemmas
 pub mod NeighbourLemmas
 pub mod OutLemmas
 pub mod PlaintextBox
+pub mod PlaintextCells
 pub mod PlaintextLines
 pub mod PlaintextOrder
 pub mod PlaintextRoundTrip

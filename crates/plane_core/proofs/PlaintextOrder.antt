@@ -53,10 +53,10 @@ IsStrictlySortedBy-map c f [] h = tt
 IsStrictlySortedBy-map c f (x ∷ xs) h = (AllByRecursion-map (λ y. c (f x) y ≡ Less) f xs h.0, IsStrictlySortedBy-map c f xs h.1)
 
 -- in row y, from column x on
-abbrev IsInRow : ℕ → ℕ → Place → Type 0
+abbrev pub IsInRow : ℕ → ℕ → Place → Type 0
 IsInRow y x q = (q.y ≡ y) × (x ≤ q.x)
 
-row_in_row : (line y x : ℕ) (row : List ℕ) → AllByRecursion (IsInRow y x) (places_from line y x row)
+pub row_in_row : (line y x : ℕ) (row : List ℕ) → AllByRecursion (IsInRow y x) (places_from line y x row)
 row_in_row line y x [] = tt
 row_in_row line y x (b ∷ row) = ((refl, omega arith), AllByRecursion-weaker (IsInRow y (x + 1)) (IsInRow y x) _ (λ q h. (h.0, omega arith)) (row_in_row line y (x + 1) row))
 

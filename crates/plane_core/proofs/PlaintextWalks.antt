@@ -163,3 +163,6 @@ lt_z-false a b h = grind (arith, ints)
 
 pub above : (a b : Cell) → a.y <ℤ b.y → cell_cmp a b ≡ Less
 above a b h = grind (arith, ints)
+
+pub apart_columns_left : (a b : Cell) → a.y ≡ b.y → a.x <ℤ b.x → same_cell a b ≡ false
+apart_columns_left a b e h = grind (arith, ints)

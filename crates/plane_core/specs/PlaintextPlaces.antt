@@ -1,6 +1,6 @@
 -- The places of a plaintext pattern file: the bytes of its rows (LifeWiki, "Plaintext").
 use Rattle.std.specs.Prelude.{◌==◌, ℕ, Bool, false, not, List, [], ◌∷◌, map, filter}
-use Rattle.std.specs.List.{slice_split, flat_map, enumerate_from}
+use Rattle.std.specs.List.{slice_index, slice_index_or, slice_split, flat_map, enumerate_from}
 use Rattle.std.specs.Str.Lines.{strip_carriage_return}
 use Rattle.plane_core.specs.declared.plaintext.TheConstants.{COMMENT, LINE_FEED}
 
@@ -31,3 +31,7 @@ places_of_row (y, row) = map (λ at. record { line = row.0; y = y; x = at.0; byt
 -- the places of a text: each byte of each row, in order
 unfoldable pub places : List ℕ → List Place
 places text = flat_map places_of_row (enumerate_from 0 (rows_of text))
+
+-- the byte at offset x of row y, and 0 where there is none
+abbrev pub byte_at : List ℕ → ℕ → ℕ → ℕ
+byte_at text x y = slice_index (slice_index_or (map (λ row. row.1) (rows_of text)) y []) x

@@ -6,11 +6,11 @@ ghost use Rattle.plane_core.specs.Out.{Writes};
 ghost use Rattle.plane_core.specs.Bounds.{box_of, at_corner};
 ghost use Rattle.plane_core.specs.PlaintextWalk.{IsBox, IsAhead};
 ghost use Rattle.std.specs.Str.Lines.{strip_carriage_return};
-ghost use Rattle.plane_core.specs.Cells.{IsPattern, cell_at};
+ghost use Rattle.plane_core.specs.Cells.{IsPattern, cell_at, has};
 ghost use Rattle.plane_core.specs.declared.cell.Cell.{Cell};
 ghost use Rattle.plane_core.specs.declared.plaintext.PlaintextFault.{PlaintextFault};
 ghost use Rattle.plane_core.specs.Plaintext.{is_live, fault_at, first_fault, live_cells, pattern, row_text, box_text, plain, IsSmall};
-ghost use Rattle.plane_core.specs.PlaintextPlaces.{Place, is_comment, places_of_row, places};
+ghost use Rattle.plane_core.specs.PlaintextPlaces.{Place, byte_at, is_comment, places_of_row, places};
 
 use crate::bounds::Bounds;
 use crate::cell::Cell;
@@ -160,7 +160,9 @@ fn push_row(cells: &mut Vec<Cell>, y: usize, row: &[u8]) -> Result<(), AllocErro
 /// The pattern of a text that has no fault.
 fn pattern_in(alloc: Global, text: &[u8]) -> Result<Pattern, AllocError>
     requires { first_fault (places text.now) ≡ None }
-    ensures { IfOk result (λ read. read ≡ live_cells (places text.now)) }
+    ensures pattern { IfOk result (λ read. read ≡ live_cells (places text.now)) }
+    ensures cells { IfOk result (λ read. (x y : ℕ) →
+        has read (cell_at (pos x) (pos y)) ≡ is_live (byte_at text.now x y)) }
 {
     let mut cells = Vec::new(alloc);
     let mut y = 0;
@@ -268,6 +270,8 @@ impl Pattern {
     /// [`PlaintextError::Memory`] where memory runs out.
     pub fn read_plaintext(alloc: Global, input: &[u8]) -> Result<Pattern, PlaintextError>
         ensures pattern { IfOk result (λ read. pattern input.now ≡ Ok read) }
+        ensures cells { IfOk result (λ read. (x y : ℕ) →
+            has read (cell_at (pos x) (pos y)) ≡ is_live (byte_at input.now x y)) }
         ensures fault { (fault : PlaintextFault) →
             IsErrOf result (PlaintextError.Fault fault) ↔ (pattern input.now ≡ Err fault) }
     {

@@ -1,9 +1,10 @@
 use Rattle.std.specs.Str.Lines.{strip_carriage_return}
-use Rattle.std.proofs.Common.{◌≡◌, ◌==◌, ◌++◌, false, length, sym, subst, arith, rules, tests, ◌∙◌}
+use Rattle.std.proofs.Common.{◌≡◌, pos, ap, ◌==◌, ◌++◌, false, length, sym, subst, arith, rules, tests, ◌∙◌}
 use Rattle.std.proofs.lemmas.Iterator.Consumers.{YieldsList-turn, YieldsList-end}
 use Rattle.std.proofs.lemmas.Iterator.Splits.{YieldsList-from_slice_split}
 use Rattle.std.proofs.lemmas.List.{length_push}
-use Rattle.plane_core.specs.Cells.{IsPattern}
+use Rattle.plane_core.proofs.PlaintextCells.{has-live_cells}
+use Rattle.plane_core.specs.Cells.{cell_at, has, IsPattern}
 use Rattle.plane_core.proofs.PlaintextOrder.{IsPattern-live_cells}
 use Rattle.plane_core.specs.Plaintext.{live_cells}
 use Rattle.plane_core.specs.PlaintextPlaces.{is_comment, places_of_row}
@@ -42,8 +43,14 @@ from_ordered-requires c =
     let all = sym (no_cell_past_lines (length c.loop-line.yielded) c.loop-line.y (parts_of c.args.text.now) c.loop-line.cells.items t.1) ∙ c.loop-line.invariant.2 in
     subst IsPattern (sym all) (IsPattern-live_cells c.args.text.now c.requires)
 
-pub returns : goal.returns
-returns c =
+pub returns-clause-pattern : goal.returns-clause-pattern
+returns-clause-pattern c =
     let t = YieldsList-end (YieldsList-from_slice_split _ (λ b. b == LINE_FEED) c.args.text.now (cc) (cc) (cc) (λ x b q k. search (rules, tests))) c.loop-line.yielded _ c.loop-line.yielded_by _ _ c.in-None.is c.next.ensures.steps in
     let all = sym (no_cell_past_lines (length c.loop-line.yielded) c.loop-line.y (parts_of c.args.text.now) c.loop-line.cells.items t.1) ∙ c.loop-line.invariant.2 in
     c.from_ordered.ensures ∙ all
+
+pub returns-clause-cells : goal.returns-clause-cells
+returns-clause-cells c =
+    let t = YieldsList-end (YieldsList-from_slice_split _ (λ b. b == LINE_FEED) c.args.text.now (cc) (cc) (cc) (λ x b q k. search (rules, tests))) c.loop-line.yielded _ c.loop-line.yielded_by _ _ c.in-None.is c.next.ensures.steps in
+    let all = sym (no_cell_past_lines (length c.loop-line.yielded) c.loop-line.y (parts_of c.args.text.now) c.loop-line.cells.items t.1) ∙ c.loop-line.invariant.2 in
+    λ x y. ap (λ cells. has cells (cell_at (pos x) (pos y))) (c.from_ordered.ensures ∙ all) ∙ has-live_cells c.args.text.now x y
