@@ -10,9 +10,11 @@ use Rattle.plane_core.specs.Cells.{cell_at, distance, has}
 use Rattle.plane_core.specs.Bounds.{box_of}
 use Rattle.plane_core.specs.PlaintextPlaces.{Place, places}
 
+-- `O` and `*` are live
 abbrev pub is_live : ℕ → Bool
 is_live b = b == LIVE || b == STAR
 
+-- and `.` is dead; no other byte is a cell
 abbrev pub is_cell : ℕ → Bool
 is_cell b = b == DEAD || is_live b
 
@@ -47,6 +49,7 @@ run a (suc n) = a ∷ run (a +ℤ pos 1) n
 abbrev pub span : ℤ → ℤ → List ℤ
 span a b = run a (suc (distance a b))
 
+-- the byte that is written for a cell
 abbrev pub byte_of : Bool → ℕ
 byte_of live = if live then LIVE else DEAD
 

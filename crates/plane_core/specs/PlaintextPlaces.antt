@@ -8,7 +8,7 @@ use Rattle.plane_core.specs.declared.plaintext.TheConstants.{COMMENT, LINE_FEED}
 unfoldable pub lines_of : List ℕ → List (List ℕ)
 lines_of text = map strip_carriage_return (slice_split (λ b. b == LINE_FEED) text)
 
--- a line that begins with `!`
+-- whether a line is a comment: it begins with `!`
 abbrev pub is_comment : List ℕ → Bool
 is_comment [] = false
 is_comment (b ∷ bs) = b == COMMENT

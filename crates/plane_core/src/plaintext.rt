@@ -20,15 +20,18 @@ use std::alloc::{AllocError, Global};
 use std::io::Write;
 use thiserror::Error;
 
-/// The most columns, and the most rows, of a plaintext pattern that is read.
+/// In how many columns, and in how many rows, the cells of a plaintext pattern that is read may stand, dead ones
+/// included. Empty rows may follow.
 pub const SIDE_LIMIT: usize = 1_000;
 
 const DEAD: u8 = b'.';
 
 const LIVE: u8 = b'O';
 
+/// A second byte for a live cell, which is read and never written.
 const STAR: u8 = b'*';
 
+/// The first byte of a comment.
 const COMMENT: u8 = b'!';
 
 const LINE_FEED: u8 = b'\n';
@@ -42,7 +45,7 @@ pub enum PlaintextFault {
     /// A byte of a row that is none of `.`, `O` and `*`. Lines and columns count from 1.
     #[error("bad byte at line {line} column {column}")]
     BadByte { line: usize, column: usize },
-    /// A cell past the 1,000th column or the 1,000th row.
+    /// A `.`, `O` or `*` past the 1,000th column or the 1,000th row.
     #[error("pattern larger than 1000 by 1000")]
     TooLarge,
 }
@@ -131,6 +134,7 @@ fn fault_in(text: &[u8]) -> Option<PlaintextFault>
     None
 }
 
+/// The cell of a place in the first 1,000 columns and rows.
 fn small_cell(x: usize, y: usize) -> Cell
     requires column { x < SIDE_LIMIT }
     requires row { y < SIDE_LIMIT }
@@ -280,6 +284,7 @@ impl Pattern {
         }
         pattern_in(alloc, input).map_err(|_| PlaintextError::Memory)
     }
+
     /// Writes the pattern as plaintext (LifeWiki, "Plaintext"): the rows of its least box from the top, each from the
     /// box's left column to its right column with `.` and `O`, and each ended by a line feed. The empty pattern is
     /// no byte. It takes no memory.
