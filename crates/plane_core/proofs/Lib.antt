@@ -6,6 +6,14 @@ pub mod MergeLemmas
 pub mod NeighbourLemmas
 pub mod OutLemmas
 pub mod PlacementLemmas
+pub mod PlaintextBox
+pub mod PlaintextCells
+pub mod PlaintextLines
+pub mod PlaintextOrder
+pub mod PlaintextRoundTrip
+pub mod PlaintextRows
+pub mod PlaintextWalks
+pub mod PlaintextWriting
 pub mod ReadingLemmas
 pub mod RuleLemmas
 pub mod RuleReading

@@ -4,6 +4,9 @@ pub mod Clusters
 pub mod Generations
 pub mod Orientations
 pub mod Out
+pub mod Plaintext
+pub mod PlaintextPlaces
+pub mod PlaintextWalk
 pub mod Refusals
 pub mod Rules
 pub mod Tallies

@@ -18,6 +18,8 @@ pub mod output;
 pub mod pattern;
 /// Patterns moved on the plane.
 pub mod placement;
+/// Plaintext pattern files.
+pub mod plaintext;
 /// Rules by birth and survival numbers.
 pub mod rule;
 /// The shift from one pattern to another.
