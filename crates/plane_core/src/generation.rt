@@ -87,3 +87,6 @@ fn touches(cells: &[Cell]) -> bool
 {
     cells.iter().any(|cell| cell.is_on_edge())
 }
+
+#[cfg(test)]
+mod tests;

@@ -187,3 +187,6 @@ fn to_corner(cells: &[Cell], orientation: Orientation) -> Option<Placement>
         dy: negated(bounds.top),
     })
 }
+
+#[cfg(test)]
+mod tests;
