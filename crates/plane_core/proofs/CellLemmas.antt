@@ -18,4 +18,3 @@ int_cmp-moved a b v = grind (arith, ints)
 
 pub distance-moved : (a b v : ℤ) → distance (a +ℤ v) (b +ℤ v) ≡ distance a b
 distance-moved a b v = omega (arith, ints)
-

@@ -1,4 +1,5 @@
 pub mod Bounds
 pub mod Cells
 pub mod Generations
+pub mod Out
 pub mod Rules

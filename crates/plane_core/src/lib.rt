@@ -8,6 +8,8 @@
 pub mod bounds;
 /// Cells of the plane, and their order.
 pub mod cell;
+/// A writer that remembers that it failed.
+pub mod out;
 /// Patterns: finite sets of cells.
 pub mod pattern;
 /// Rules by birth and survival numbers.

@@ -1,0 +1,48 @@
+-- How calls that write in a row make one call that writes.
+use Rattle.std.proofs.Common.{◌≡◌, ℕ, ◌-◌, ◌≤◌, false, List, [], ◌++◌, length, take, drop, Option, None, Some, Result, Ok, Err, OnOk, OnErr, sym, ◌∙◌, ap, append_assoc, append-nil, length-drop}
+use Rattle.std.proofs.lemmas.List.{take-append-drop}
+use Rattle.std.proofs.Math.Seq.{take-length}
+use Rattle.std.specs.Io.KnownBytes.{Appends, Keeps}
+use Rattle.plane_core.specs.Out.{Output, Writes, AppendsFront}
+
+-- known bytes that stay grow by nothing
+pub Appends-nil : (known : Option (List ℕ)) → Appends known known []
+Appends-nil None = tt
+Appends-nil (Some xs) = sym (append-nil xs)
+
+-- bytes that grow by one text and then by another grow by the two in a row
+pub Appends-append : (x y z : Option (List ℕ)) (a b : List ℕ) → Appends x y a → Appends y z b → Appends x z (a ++ b)
+Appends-append None y z a b p q = tt
+Appends-append (Some xs) None z a b p q = absurd p
+Appends-append (Some xs) (Some ys) None a b p q = absurd q
+Appends-append (Some xs) (Some ys) (Some zs) a b p q = q ∙ ap (λ (w : List ℕ). w ++ b) p ∙ append_assoc xs a b
+
+-- a rest is the part of it that a write took and the part that is left
+pub cut : (piece front rest : List ℕ) (n : ℕ) → piece ≡ front ++ rest → n ≤ length rest → piece ≡ (front ++ take n rest) ++ take (length rest - n) (drop n rest)
+cut piece front rest n e h =
+    let whole : take (length rest - n) (drop n rest) ≡ drop n rest = ap (λ (k : ℕ). take k (drop n rest)) (sym (length-drop n rest)) ∙ take-length (drop n rest) in
+    e ∙ ap (λ (xs : List ℕ). front ++ xs) (sym (take-append-drop n rest)) ∙ sym (append_assoc front (take n rest) (drop n rest))
+    ∙ ap (λ (xs : List ℕ). (front ++ take n rest) ++ xs) (sym whole)
+
+-- a text and then a front of another is a front of the two in a row
+pub AppendsFront-append : (x y z : Option (List ℕ)) (a b : List ℕ) → Appends x y a → AppendsFront y z b → AppendsFront x z (a ++ b)
+AppendsFront-append x y z a b p q =
+    (a ++ q.0, q.1, ap (λ (w : List ℕ). a ++ w) q.2 ∙ sym (append_assoc a q.0 q.1), Appends-append x y z a q.0 p q.3)
+
+-- a front of a text is a front of a longer one
+pub AppendsFront-longer : (x y : Option (List ℕ)) (a b : List ℕ) → AppendsFront x y a → AppendsFront x y (a ++ b)
+AppendsFront-longer x y a b p = (p.0, p.1 ++ b, ap (λ (w : List ℕ). w ++ b) p.2 ∙ append_assoc p.0 p.1 b, p.3)
+
+module _ {V : Type 0} (contents : V → Option (List ℕ)) where
+  -- nothing is written
+  pub Writes_nothing : {E : Type 0} (x : Output V) → x.failed ≡ false → Writes {E = E} contents x x (Ok tt) []
+  Writes_nothing x e = record { told = e; whole = Appends-nil (contents x.writer); front = tt }
+
+  -- the rest of a text is written after its front
+  pub Writes_then : {E F : Type 0} (x y z : Output V) (r : Result (Unit {0}) F) (a b : List ℕ) → Writes {E = E} contents x y (Ok tt) a → Writes contents y z r b → Writes contents x z r (a ++ b)
+  Writes_then x y z (Ok _) a b p q = record { told = q.told; whole = Appends-append _ _ _ a b p.whole q.whole; front = tt }
+  Writes_then x y z (Err _) a b p q = record { told = q.told; whole = tt; front = AppendsFront-append _ _ _ a b p.whole q.front }
+
+  -- a fault in a text's front is a fault in the text
+  pub Writes_stops : {E F : Type 0} (x y : Output V) (e : E) (f : F) (a b : List ℕ) → Writes contents x y (Err e) a → Writes contents x y (Err f) (a ++ b)
+  Writes_stops x y e f a b p = record { told = p.told; whole = tt; front = AppendsFront-longer _ _ a b p.front }

@@ -1,0 +1,78 @@
+ghost use Rattle.std.specs.Prelude.{◌≡◌, false};
+ghost use Rattle.plane_core.specs.Out.{Writes};
+
+use std::io::Write;
+use std::marker::Model;
+use thiserror::Error;
+
+/// A write failed, or took no byte.
+#[derive(Clone, Copy, Debug, PartialEq, Eq, Error)]
+#[error("write failed")]
+pub struct WriteError;
+
+/// A writer that remembers that it failed.
+///
+/// Contracts see it as its writer and whether it has failed.
+#[derive(Debug, Drop)]
+pub struct Out<V: Write> {
+    writer: V,
+    failed: bool,
+}
+
+impl<V: Write> Model for Out<V> {
+    ghost use Rattle.plane_core.specs.Out.{Output};
+
+    ghost Value = { Output V };
+
+    ghost view = { λ o. record { writer = o.writer; failed = o.failed } };
+}
+
+impl<V: Write> Out<V> {
+    /// An `Out` over the writer that hasn't failed.
+    pub fn new(writer: V) -> Self
+        ensures writer { result.writer ≡ writer }
+        ensures failed { result.failed ≡ false }
+    {
+        Out {
+            writer,
+            failed: false,
+        }
+    }
+
+    /// Whether a write has failed.
+    pub fn failed(&self) -> bool
+        ensures { result ≡ self.now.failed }
+    {
+        self.failed
+    }
+
+    /// Gives the writer back, failed or not.
+    pub fn into_inner(self) -> V
+        ensures { result ≡ self.writer }
+    {
+        self.writer
+    }
+
+    /// Writes the whole piece.
+    ///
+    /// # Errors
+    ///
+    /// [`WriteError`] where a write fails, for whatever reason, or takes no byte of what is left. The `Out` is failed
+    /// from then on.
+    pub fn put(&mut self, piece: &[u8]) -> Result<(), WriteError>
+        requires { self.old.failed ≡ false }
+        ensures { Writes V.contents self.old self.new result piece.now }
+    {
+        let mut rest = piece;
+        while !rest.is_empty() {
+            match self.writer.write(rest) {
+                Ok(0) | Err(_) => {
+                    self.failed = true;
+                    return Err(WriteError);
+                }
+                Ok(taken) => rest = &rest[taken..],
+            }
+        }
+        Ok(())
+    }
+}
