@@ -1,7 +1,9 @@
 //! A census of random soups of Conway's Game of Life and its kin: the program.
 #![tactic(auto)]
 
+mod complaint;
 mod input;
+mod status;
 
 use std::process::ExitCode;
 

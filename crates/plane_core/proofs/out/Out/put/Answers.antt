@@ -1,0 +1,14 @@
+use Rattle.std.proofs.Common.{◌++◌, take}
+use Rattle.plane_core.proofs.OutLemmas.{Appends-append, cut}
+use Rattle.plane_core.proofs.out.Out.put.Goals as goal
+
+pub loop-rest-preserved : goal.loop-rest-preserved
+loop-rest-preserved g c =
+    let written = c.loop-rest.invariant.1 in (
+      c.loop-rest.invariant.0,
+      (
+        written.0 ++ take c.in-Ok.taken c.loop-rest.rest.now,
+        cut _ _ _ _ written.1 c.in-Ok.ensures.bound,
+        Appends-append _ _ _ _ _ written.2 c.in-Ok.ensures.bytes,
+      ),
+    )
