@@ -1,6 +1,9 @@
-ghost use Rattle.std.specs.Prelude.{◌≡◌, true, false, ◌∷◌, []};
-ghost use Rattle.plane_core.specs.Rules.{Numbers, is_birth, is_survival};
+ghost use Rattle.std.specs.Prelude.{◌≡◌, ◌+◌, ◌≤◌, true, false, ◌∷◌, [], length};
+ghost use Rattle.plane_core.specs.Out.{Writes};
+ghost use Rattle.plane_core.specs.Rules.{Numbers, is_birth, is_survival, digits, rule_text};
 
+use crate::out::{Out, WriteError};
+use std::io::Write;
 use std::marker::Model;
 
 /// A Life-like rule without birth on zero neighbours, as Conway's Life, `b3s23`.
@@ -54,4 +57,29 @@ impl Rule {
             _ => false,
         }
     }
+
+    /// Writes the one text of the rule.
+    pub fn write_text<V: Write>(&self, out: &mut Out<V>) -> Result<(), WriteError>
+        requires { out.old.failed ≡ false }
+        ensures { Writes V.contents out.old out.new result (rule_text self.now) }
+    {
+        out.put(b"b")?;
+        write_digits(out, 1, &self.births)?;
+        out.put(b"s")?;
+        write_digits(out, 0, &self.survivals)
+    }
+}
+
+// Writes the digits of the numbers from `least` on that the table answers true.
+fn write_digits<V: Write>(out: &mut Out<V>, least: u8, answers: &[bool]) -> Result<(), WriteError>
+    requires fresh { out.old.failed ≡ false }
+    requires digits { least + length answers.now ≤ 10 }
+    ensures { Writes V.contents out.old out.new result (digits least answers.now) }
+{
+    for (i, answer) in answers.iter().enumerate() {
+        if *answer {
+            out.put(&[b'0' + least + i as u8])?;
+        }
+    }
+    Ok(())
 }
