@@ -75,7 +75,6 @@ impl Complaint {
     }
 }
 
-#[tactic(auto, using(plane_core::proofs::OutLemmas::Writes_then, plane_core::proofs::OutLemmas::Writes_stops))]
 fn put_bad_byte<E: Write>(errors: &mut Out<E>, line: usize, column: usize) -> Result<(), WriteError>
     requires { errors.old.failed ≡ false }
     ensures { Writes E.contents errors.old errors.new result (line_of (Complaint.BadByte line column)) }
@@ -87,7 +86,6 @@ fn put_bad_byte<E: Write>(errors: &mut Out<E>, line: usize, column: usize) -> Re
     errors.put(b"\n")
 }
 
-#[tactic(auto, using(plane_core::proofs::OutLemmas::Writes_then, plane_core::proofs::OutLemmas::Writes_stops))]
 fn put_bad_rule<E: Write>(errors: &mut Out<E>, place: usize) -> Result<(), WriteError>
     requires { errors.old.failed ≡ false }
     ensures { Writes E.contents errors.old errors.new result (line_of (Complaint.BadRule place)) }
