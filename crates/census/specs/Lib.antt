@@ -1,3 +1,6 @@
+pub mod Answers
 pub mod Complaints
+pub mod Inputs
+pub mod Run
 pub mod Status
 pub mod Streams

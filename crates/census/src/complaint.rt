@@ -3,9 +3,12 @@ ghost use Rattle.plane_core.specs.Out.{Writes};
 ghost use Rattle.census.specs.Complaints.{line_of, status_of};
 ghost use Rattle.census.specs.Streams.{stream, HasLine};
 
+use crate::input::InputFault;
 use crate::status::Status;
 use itoa::Buffer;
 use plane_core::out::{Out, WriteError};
+use plane_core::plaintext::{PlaintextError, PlaintextFault};
+use plane_core::rule::RuleError;
 use std::io::Write;
 
 /// Why a command did not do all that was asked: the one line that it leaves on standard error, and its status.
@@ -93,6 +96,58 @@ fn put_bad_rule<E: Write>(errors: &mut Out<E>, place: usize) -> Result<(), Write
     errors.put(b"census: bad rule at ")?;
     put_decimal(errors, place)?;
     errors.put(b"\n")
+}
+
+impl From<RuleError> for Complaint {
+    ghost use Rattle.census.specs.Inputs.{rule_complaint};
+
+    ghost from_gives = { λ error complaint. complaint ≡ rule_complaint error };
+
+    fn from(error: RuleError) -> Complaint {
+        match error {
+            RuleError::BadRule { place } => Complaint::BadRule { place },
+            RuleError::BirthZero => Complaint::BirthZero,
+        }
+    }
+}
+
+impl From<PlaintextError> for Complaint {
+    ghost use Rattle.census.specs.Inputs.{plaintext_complaint};
+
+    ghost from_gives = { λ error complaint. complaint ≡ plaintext_complaint error };
+
+    fn from(error: PlaintextError) -> Complaint {
+        match error {
+            PlaintextError::Fault(PlaintextFault::BadByte { line, column }) => {
+                Complaint::BadByte { line, column }
+            }
+            PlaintextError::Fault(PlaintextFault::TooLarge) => Complaint::PatternTooLarge,
+            PlaintextError::Memory => Complaint::OutOfMemory,
+        }
+    }
+}
+
+impl From<InputFault> for Complaint {
+    ghost use Rattle.census.specs.Inputs.{input_complaint};
+
+    ghost from_gives = { λ fault complaint. complaint ≡ input_complaint fault };
+
+    fn from(fault: InputFault) -> Complaint {
+        match fault {
+            InputFault::Unreadable => Complaint::ReadFailed,
+            InputFault::OutOfMemory => Complaint::OutOfMemory,
+        }
+    }
+}
+
+impl From<WriteError> for Complaint {
+    ghost use Rattle.census.specs.declared.complaint.Complaint.TheVariants.{WriteFailed};
+
+    ghost from_gives = { λ _ complaint. complaint ≡ WriteFailed };
+
+    fn from(_error: WriteError) -> Complaint {
+        Complaint::WriteFailed
+    }
 }
 
 /// Writes a number in decimal.

@@ -1,6 +1,10 @@
-ghost use Rattle.std.specs.Prelude.{◌≡◌, ◌+◌, ◌<◌, ◌≤◌, ◌++◌, length, take, IfOk, IfSome, OnOk, vec_len};
+ghost use Rattle.std.specs.Prelude.{◌≡◌, ℕ, List, ◌+◌, ◌<◌, ◌≤◌, ◌++◌, length, take, IfOk, IfSome, OnOk, vec_len};
 ghost use Rattle.std.specs.Io.KnownBytes.{Consumes, IsAtEnd};
+ghost use Rattle.census.specs.Answers.{IsInput};
+ghost use Rattle.census.specs.Inputs.{Reads, pattern_of};
 
+use crate::complaint::Complaint;
+use plane_core::pattern::Pattern;
 use std::alloc::{AllocError, Global};
 use std::io::Read;
 
@@ -47,6 +51,19 @@ pub fn read_input<R: Read>(alloc: Global, input: &mut R) -> Result<Vec<u8>, Inpu
         }
     }
     Err(InputFault::Unreadable)
+}
+
+/// The pattern that the reader's bytes stand for, as plaintext. The input is read whole before it is looked at.
+///
+/// # Errors
+///
+/// `ReadFailed` where a read fails and where there are more than [`INPUT_LIMIT`] bytes, else `BadByte` or
+/// `PatternTooLarge` where the bytes are no pattern, and `OutOfMemory`.
+pub fn read_pattern<R: Read>(alloc: Global, input: &mut R) -> Result<Pattern, Complaint>
+    ensures { (bytes : List ℕ) × IsInput (R.remaining input.old) bytes × Reads (pattern_of bytes) result }
+{
+    let bytes = read_input(alloc, input)?;
+    Ok(Pattern::read_plaintext(alloc, bytes.as_slice())?)
 }
 
 /// Room for what one read gives.
