@@ -1,3 +1,5 @@
 pub mod CellLemmas
 pub mod OutLemmas
 pub mod RuleLemmas
+pub mod ReadingLemmas
+pub mod RuleReading

@@ -17,12 +17,15 @@ Appends-append (Some xs) None z a b p q = absurd p
 Appends-append (Some xs) (Some ys) None a b p q = absurd q
 Appends-append (Some xs) (Some ys) (Some zs) a b p q = q ∙ ap (λ (w : List ℕ). w ++ b) p ∙ append_assoc xs a b
 
+-- what a slice from place n on has
+pub take-drop-rest : {A : Type 0} (n : ℕ) (xs : List A) → take (length xs - n) (drop n xs) ≡ drop n xs
+take-drop-rest {A} n xs = ap (λ (k : ℕ). take k (drop n xs)) (sym (length-drop n xs)) ∙ take-length (drop n xs)
+
 -- a rest is the part of it that a write took and the part that is left
 pub cut : (piece front rest : List ℕ) (n : ℕ) → piece ≡ front ++ rest → n ≤ length rest → piece ≡ (front ++ take n rest) ++ take (length rest - n) (drop n rest)
 cut piece front rest n e h =
-    let whole : take (length rest - n) (drop n rest) ≡ drop n rest = ap (λ (k : ℕ). take k (drop n rest)) (sym (length-drop n rest)) ∙ take-length (drop n rest) in
     e ∙ ap (λ (xs : List ℕ). front ++ xs) (sym (take-append-drop n rest)) ∙ sym (append_assoc front (take n rest) (drop n rest))
-    ∙ ap (λ (xs : List ℕ). (front ++ take n rest) ++ xs) (sym whole)
+    ∙ ap (λ (xs : List ℕ). (front ++ take n rest) ++ xs) (sym (take-drop-rest n rest))
 
 -- a text and then a front of another is a front of the two in a row
 pub AppendsFront-append : (x y z : Option (List ℕ)) (a b : List ℕ) → Appends x y a → AppendsFront y z b → AppendsFront x z (a ++ b)

@@ -1,5 +1,8 @@
 -- Rules by birth and survival numbers (LifeWiki, "Life-like cellular automaton" and "Rulestring").
-use Rattle.std.specs.Prelude.{◌≡◌, ◌+◌, ◌++◌, ℕ, zero, suc, Bool, true, false, List, [], ◌∷◌, length, codes, unwrap_or, slice_get}
+use Rattle.std.specs.Prelude.{◌≡◌, ◌+◌, ◌-◌, ◌<◌, ◌≤◌, ◌++◌, ◌==◌, ℕ, zero, suc, Bool, true, false, not, if◌then◌else◌, List, [], ◌∷◌, length, take, drop, codes, unwrap_or, slice_get, nat_eq, Result, Ok, Err}
+use Rattle.std.specs.List.{starts_with}
+use Rattle.plane_core.specs.declared.rule.RuleError.{RuleError}
+use Rattle.plane_core.specs.declared.rule.RuleError.TheVariants.{BadRule, BirthZero}
 
 -- A rule as two tables of answers: births has those for 1 to 8 live neighbours, survivals those for 0 to 8.
 pub record Numbers : Type 0 where
@@ -29,3 +32,50 @@ digits n (false ∷ more) = digits (n + 1) more
 -- the one text of a rule, as b3s23: each letter with the digits of its numbers
 unfoldable pub rule_text : Numbers → List ℕ
 rule_text rule = codes "b" ++ (digits 1 rule.births ++ (codes "s" ++ digits 0 rule.survivals))
+
+-- the text begins some rule's text
+pub record BeginsRule (text : List ℕ) : Type 0 where
+  pub rule : Numbers
+  pub rest : List ℕ
+  pub is_rule : IsRule rule
+  pub spelled : rule_text rule ≡ text ++ rest
+
+-- Up to the place the text may begin a rule's, and the byte there can't stand there. At the text's end there is none.
+pub record IsFirstFault (text : List ℕ) (place : ℕ) : Type 0 where
+  pub within : place ≤ length text
+  pub before : BeginsRule (take place text)
+  pub there : place < length text → ¬ BeginsRule (take (place + 1) text)
+
+-- numbers read off the front of a text, as a table of answers, and the text behind them
+pub record Reading : Type 0 where
+  pub answers : List Bool
+  pub rest : List ℕ
+
+abbrev pub with_answer : Bool → Reading → Reading
+with_answer answer read = record { answers = answer ∷ read.answers; rest = read.rest }
+
+abbrev pub begins : List ℕ → List ℕ → Bool
+begins text front = starts_with nat_eq text front
+
+-- so many numbers from n on: each is one whose digit stands next in the text
+unfoldable pub numbers_at : ℕ → ℕ → List ℕ → Reading
+numbers_at zero n text = record { answers = []; rest = text }
+numbers_at (suc more) n text =
+    if begins text ((48 + n) ∷ [])
+    then with_answer true (numbers_at more (n + 1) (drop 1 text))
+    else with_answer false (numbers_at more (n + 1) text)
+
+-- the fault where this rest of the text begins
+abbrev pub fault_at : List ℕ → List ℕ → Result Numbers RuleError
+fault_at text rest = Err (BadRule (length text - length rest))
+
+-- the rule that a text says, or its first fault from the left
+unfoldable pub rule_read : List ℕ → Result Numbers RuleError
+rule_read text =
+    let births = numbers_at 8 1 (drop 1 text) in
+    let survivals = numbers_at 9 0 (drop 1 births.rest) in
+    if not (begins text (codes "b")) then Err (BadRule 0)
+    else if begins text (codes "b0") then Err BirthZero
+    else if not (begins births.rest (codes "s")) then fault_at text births.rest
+    else if not (length survivals.rest == 0) then fault_at text survivals.rest
+    else Ok (record { births = births.answers; survivals = survivals.answers })

@@ -1,10 +1,22 @@
-ghost use Rattle.std.specs.Prelude.{◌≡◌, ◌+◌, ◌≤◌, true, false, ◌∷◌, [], length};
+ghost use Rattle.std.specs.Prelude.{◌≡◌, ◌↔◌, ◌+◌, ◌≤◌, ℕ, true, false, IsTrue, ◌∷◌, [], length, codes, IfOk};
 ghost use Rattle.plane_core.specs.Out.{Writes};
-ghost use Rattle.plane_core.specs.Rules.{Numbers, is_birth, is_survival, digits, rule_text};
+ghost use Rattle.plane_core.specs.Rules.{Numbers, IsRule, IsFirstFault, is_birth, is_survival, digits, rule_text, begins, numbers_at, rule_read};
 
 use crate::out::{Out, WriteError};
 use std::io::Write;
 use std::marker::Model;
+use thiserror::Error;
+
+/// Why a text is no rule's.
+#[derive(Clone, Copy, Debug, PartialEq, Eq, Error)]
+pub enum RuleError {
+    /// The byte at `place` can't stand there, or the text ends there too early. Places count from 0.
+    #[error("bad rule at {place}")]
+    BadRule { place: usize },
+    /// A `0` stands directly behind the `b`.
+    #[error("birth on zero neighbours")]
+    BirthZero,
+}
 
 /// A Life-like rule without birth on zero neighbours, as Conway's Life, `b3s23`.
 ///
@@ -28,14 +40,40 @@ impl Model for Rule {
 
 impl Rule {
     /// Conway's Game of Life, `b3s23`.
+    #[tactic(auto, unfolding(crate::specs::Rules::rule_text, crate::specs::Rules::digits))]
     pub fn life() -> Rule
         ensures births { result.births ≡ false ∷ false ∷ true ∷ false ∷ false ∷ false ∷ false ∷ false ∷ [] }
         ensures survivals { result.survivals ≡ false ∷ false ∷ true ∷ true ∷ false ∷ false ∷ false ∷ false ∷ false ∷ [] }
+        ensures text { rule_text result ≡ codes "b3s23" }
     {
         Rule {
             births: [false, false, true, false, false, false, false, false],
             survivals: [false, false, true, true, false, false, false, false, false],
         }
+    }
+
+    /// Reads a rule as in "b3s23" (LifeWiki, "Rulestring"): a `b`, the digits of the birth numbers, an `s`, the digits
+    /// of the survival numbers, each kind ascending. Letters are lower case.
+    ///
+    /// # Errors
+    ///
+    /// Whichever stands first from the left:
+    ///
+    /// - [`RuleError::BadRule`]: a byte can't stand where it does, or the text ends too early.
+    /// - [`RuleError::BirthZero`]: a `0` stands directly behind the `b`.
+    pub fn read(text: &str) -> Result<Rule, RuleError>
+        // What is read has the text as its one text, and each rule's text is read as that rule.
+        ensures rule { IfOk result IsRule }
+        ensures text { IfOk result (λ rule. rule_text rule ≡ text.now) }
+        ensures complete { (rule : Numbers) → IsRule rule → rule_text rule ≡ text.now → result ≡ Ok rule }
+
+        // Which fault it is.
+        ensures bad_rule { (place : ℕ) → result ≡ Err (RuleError.BadRule place) → IsFirstFault text.now place }
+        ensures birth_zero { (result ≡ Err RuleError.BirthZero) ↔ IsTrue (begins text.now (codes "b0")) }
+
+        ensures exact { result ≡ rule_read text.now }
+    {
+        rule_of(text.as_bytes())
     }
 
     /// Whether n is a birth number. It is false for 0 and for every n over 8.
@@ -58,15 +96,21 @@ impl Rule {
         }
     }
 
-    /// Writes the one text of the rule.
+    /// Writes the one text of the rule, which [`Rule::read`] reads as this rule.
+    ///
+    /// # Errors
+    ///
+    /// [`WriteError`] where a write failed. A front of the text may have been written.
     pub fn write_text<V: Write>(&self, out: &mut Out<V>) -> Result<(), WriteError>
         requires { out.old.failed ≡ false }
-        ensures { Writes V.contents out.old out.new result (rule_text self.now) }
+        ensures text { Writes V.contents out.old out.new result (rule_text self.now) }
+        ensures rule { IsRule self.now }
     {
+        let Rule { births, survivals } = self;
         out.put(b"b")?;
-        write_digits(out, 1, &self.births)?;
+        write_digits(out, 1, births)?;
         out.put(b"s")?;
-        write_digits(out, 0, &self.survivals)
+        write_digits(out, 0, survivals)
     }
 }
 
@@ -82,4 +126,43 @@ fn write_digits<V: Write>(out: &mut Out<V>, least: u8, answers: &[bool]) -> Resu
         }
     }
     Ok(())
+}
+
+fn rule_of(text: &[u8]) -> Result<Rule, RuleError>
+    ensures { result ≡ rule_read text.now }
+{
+    if !text.starts_with(b"b") {
+        return Err(RuleError::BadRule { place: 0 });
+    }
+    if text.starts_with(b"b0") {
+        return Err(RuleError::BirthZero);
+    }
+    let (births, rest) = read_numbers(&text[1..], 1);
+    if !rest.starts_with(b"s") {
+        let place = text.len() - rest.len();
+        return Err(RuleError::BadRule { place });
+    }
+    let (survivals, rest) = read_numbers(&rest[1..], 0);
+    if !rest.is_empty() {
+        let place = text.len() - rest.len();
+        return Err(RuleError::BadRule { place });
+    }
+    Ok(Rule { births, survivals })
+}
+
+// Reads the numbers from `least` on whose digits stand in order at the front of the text, and gives the text behind them.
+fn read_numbers<const N: usize>(text: &[u8], least: u8) -> ([bool; N], &[u8])
+    requires { least + N ≤ 10 }
+    ensures answers { result.0 ≡ (numbers_at N least text.now).answers }
+    ensures rest { result.1.now ≡ (numbers_at N least text.now).rest }
+{
+    let mut answers = [false; N];
+    let mut rest = text;
+    for i in 0..N {
+        if rest.starts_with(&[b'0' + least + i as u8]) {
+            answers[i] = true;
+            rest = &rest[1..];
+        }
+    }
+    (answers, rest)
 }

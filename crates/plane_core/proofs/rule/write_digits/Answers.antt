@@ -11,11 +11,14 @@ pub loop-i-preserved : goal.loop-i-preserved
 loop-i-preserved g c =
     let written = c.loop-i.invariant in
     elim c.if-answer.branch [
-      then-answer+in_ok-put w ↦
-        (_, digits-front-true _ _ _ written.0 c.loop-i-test.true w.if-answer.true written.1,
-        rw w.out-is (Writes_then written.2 w.in_ok-put.ensures))
-    | else-answer w ↦
-        (written.0, digits-front-false _ _ _ written.0 c.loop-i-test.true w.if-answer.false written.1, rw w.out-is written.2) ]
+      | then-answer+in_ok-put w ↦ (
+        _,
+        digits-front-true _ _ _ written.0 c.loop-i-test.true w.if-answer.true written.1,
+        rw w.out-is (Writes_then {r = Ok tt} written.2 w.in_ok-put.ensures),
+      )
+      | else-answer w ↦
+          (written.0, digits-front-false _ _ _ written.0 c.loop-i-test.true w.if-answer.false written.1, rw w.out-is written.2)
+    ]
 
 pub returns-in_err-put : goal.returns-in_err-put
 returns-in_err-put g c =

@@ -1,0 +1,24 @@
+use Rattle.std.proofs.Common.{ap, sym, ◌∙◌, subst, List, ℕ, ◌+◌, set, true}
+use Rattle.plane_core.specs.Rules.{Reading}
+use Rattle.plane_core.proofs.OutLemmas.{take-drop-rest}
+use Rattle.plane_core.proofs.ReadingLemmas.{ReadUpTo, ReadUpTo_hit, ReadUpTo_miss, ReadUpTo_done}
+use Rattle.plane_core.proofs.rule.read_numbers.Goals as goal
+use Rattle.plane_core.proofs.rule.read_numbers.Goals.{then-starts_with, else-starts_with}
+
+pub loop-i-preserved : goal.loop-i-preserved
+loop-i-preserved g c =
+    elim c.if-starts_with.branch [
+      then-starts_with w ↦
+        let P : List ℕ → Type 0 = λ rest. ReadUpTo g.row.N c.args.least c.args.text.now (c.loop-i.i + 1) (set c.loop-i.answers c.loop-i.i true) rest in
+        rw (w.answers-is, w.rest-is)
+        (subst P (sym (take-drop-rest 1 c.loop-i.rest.now))
+        (ReadUpTo_hit _ _ _ _ _ _ c.loop-i-test.true (sym c.starts_with.ensures.value ∙ w.if-starts_with.true) c.loop-i.invariant))
+    | else-starts_with w ↦
+        rw (w.answers-is, w.rest-is)
+        (ReadUpTo_miss _ _ _ _ _ _ c.loop-i-test.true (sym c.starts_with.ensures.value ∙ w.if-starts_with.false) c.loop-i.invariant) ]
+
+pub returns-clause-answers : goal.returns-clause-answers
+returns-clause-answers g c = sym (ap (λ (r : Reading). r.answers) (ReadUpTo_done _ _ _ _ _ _ c.loop-i-test.false c.loop-i.auto.i-end c.loop-i.invariant))
+
+pub returns-clause-rest : goal.returns-clause-rest
+returns-clause-rest g c = sym (ap (λ (r : Reading). r.rest) (ReadUpTo_done _ _ _ _ _ _ c.loop-i-test.false c.loop-i.auto.i-end c.loop-i.invariant))
