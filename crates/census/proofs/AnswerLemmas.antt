@@ -1,5 +1,5 @@
 -- Lemmas on what commands read and answer.
-use Rattle.std.proofs.Common.{◌≡◌, ◌≤◌, ◌↔◌, ℕ, List, [], length, true, Option, None, Some, Result, Ok, Err, nat_le, refl, sym, ap, ◌∙◌, arith, rules}
+use Rattle.std.proofs.Common.{◌≡◌, ◌≤◌, ◌^◌, ◌↔◌, ℕ, List, [], length, true, Option, None, Some, Result, Ok, Err, nat_le, refl, sym, ap, ◌∙◌, arith, rules}
 use Rattle.std.specs.Result.{IsErrAnd, IsErrOf, result_map_both}
 use Rattle.plane_core.specs.declared.cell.Cell.{Cell}
 use Rattle.plane_core.specs.declared.rule.RuleError.{RuleError}
@@ -11,13 +11,17 @@ use Rattle.plane_core.specs.declared.plaintext.PlaintextFault.TheVariants as pla
 use Rattle.plane_core.specs.Rules.{rule_read}
 use Rattle.plane_core.specs.Plaintext.{pattern}
 use Rattle.census.specs.declared.complaint.Complaint.{Complaint}
+use Rattle.census.specs.declared.complaint.Complaint.TheVariants as complaint
+use Rattle.census.specs.declared.status.Status.{Status}
+use Rattle.census.specs.declared.status.Status.TheVariants.{OutOfMemory}
 use Rattle.census.specs.declared.input.InputFault.{InputFault}
 use Rattle.census.specs.declared.input.InputFault.TheVariants as input_fault
-use Rattle.census.specs.declared.input.TheConstants.{INPUT_LIMIT}
 use Rattle.census.specs.Answers.{Answer, IsInput, Reaches, given}
 use Rattle.census.specs.Inputs.{Reads, input_complaint, plaintext_complaint, pattern_complaint, pattern_of, rule_complaint, rule_of}
 use Rattle.census.specs.Run.{run_answer}
-use Rattle.census.specs.Streams.{Stream, Has}
+use Rattle.census.specs.Complaints.{line_of}
+use Rattle.census.specs.Streams.{Stream, Has, HasLine}
+use Rattle.census.specs.Words.{DoesCommand}
 
 -- an error that is known is the result
 pub err_of : {A E : Type 0} (r : Result A E) (e : E) → IsErrAnd r (λ x. x ≡ e) → r ≡ Err e
@@ -35,19 +39,19 @@ Reads_unread answer input_fault.Unreadable = tt
 Reads_unread answer input_fault.OutOfMemory = tt
 
 -- an input up to the limit is looked at
-pub pattern_of-short : (bytes : List ℕ) (answer : Result (List Cell) PlaintextFault) → length bytes ≤ INPUT_LIMIT → pattern bytes ≡ answer
+pub pattern_of-short : (bytes : List ℕ) (answer : Result (List Cell) PlaintextFault) → length bytes ≤ 2 ^ 24 → pattern bytes ≡ answer
     → pattern_of bytes ≡ result_map_both (λ (cells : List Cell). cells) pattern_complaint answer
 pattern_of-short bytes answer short is =
-    let looked : nat_le (length bytes) INPUT_LIMIT ≡ true = search rules in
+    let looked : nat_le (length bytes) (2 ^ 24) ≡ true = search rules in
     rw (looked, is)
 
 -- a refused pattern is the answer
-pub Reads_refused : (bytes : List ℕ) (fault : PlaintextFault) → length bytes ≤ INPUT_LIMIT → pattern bytes ≡ Err fault
+pub Reads_refused : (bytes : List ℕ) (fault : PlaintextFault) → length bytes ≤ 2 ^ 24 → pattern bytes ≡ Err fault
     → Reads (pattern_of bytes) (Err (pattern_complaint fault))
 Reads_refused bytes (plaintext_fault.BadByte line column) short is = pattern_of-short bytes _ short is
 Reads_refused bytes plaintext_fault.TooLarge short is = pattern_of-short bytes _ short is
 
-pub Reads_error : (bytes : List ℕ) (error : PlaintextError) → length bytes ≤ INPUT_LIMIT
+pub Reads_error : (bytes : List ℕ) (error : PlaintextError) → length bytes ≤ 2 ^ 24
     → ((fault : PlaintextFault) → IsErrOf {T = List Cell} (Err error) (plaintext_error.Fault fault) ↔ (pattern bytes ≡ Err fault))
     → Reads (pattern_of bytes) (Err (plaintext_complaint error))
 Reads_error bytes (plaintext_error.Fault fault) short faults = Reads_refused bytes fault short ((faults fault).0 refl)
@@ -58,3 +62,14 @@ pub Reaches_rule : (text : List ℕ) (n : ℕ) (bytes : List ℕ) (error : RuleE
     → Reaches (run_answer text n bytes) (Err (rule_complaint error)) output
 Reaches_rule text n bytes (rule_error.BadRule place) output is nothing = (rw is refl, nothing)
 Reaches_rule text n bytes rule_error.BirthZero output is nothing = (rw is refl, nothing)
+
+-- a command that finds no memory for its words ends well
+pub without_memory : (known : Option (List ℕ)) (status : Status) (output errors : Stream) → status ≡ OutOfMemory → Has output []
+    → HasLine errors (line_of complaint.OutOfMemory) → DoesCommand known status output errors
+without_memory known status output errors is nothing line =
+    let some = some_input known in
+    record {
+      answer = run_answer [] 0 some.0;
+      asked = record { rule_text = []; generations = 0; bytes = some.0; within = omega arith; input = some.1; answers = refl };
+      ends = record { outcome = Err complaint.OutOfMemory; reached = ([], _, refl, nothing); told = (is, line) };
+    }

@@ -1,5 +1,5 @@
 -- What the rule texts and the inputs of commands stand for.
-use Rattle.std.specs.Prelude.{◌≡◌, ℕ, List, length, nat_le, Result, Ok, Err, if◌then◌else◌}
+use Rattle.std.specs.Prelude.{◌≡◌, ℕ, ◌^◌, List, length, nat_le, Result, Ok, Err, if◌then◌else◌}
 use Rattle.std.specs.Result.{result_map_both}
 use Rattle.plane_core.specs.declared.cell.Cell.{Cell}
 use Rattle.plane_core.specs.declared.rule.RuleError.{RuleError}
@@ -15,7 +15,6 @@ use Rattle.census.specs.declared.complaint.Complaint.{Complaint}
 use Rattle.census.specs.declared.complaint.Complaint.TheVariants.{BadByte, PatternTooLarge, BadRule, BirthZero, OutOfMemory, ReadFailed}
 use Rattle.census.specs.declared.input.InputFault.{InputFault}
 use Rattle.census.specs.declared.input.InputFault.TheVariants as input_fault
-use Rattle.census.specs.declared.input.TheConstants.{INPUT_LIMIT}
 
 -- the complaint about a rule text
 abbrev pub rule_complaint : RuleError → Complaint
@@ -41,9 +40,9 @@ input_complaint input_fault.OutOfMemory = OutOfMemory
 abbrev pub rule_of : List ℕ → Result Numbers Complaint
 rule_of text = result_map_both (λ rule. rule) rule_complaint (rule_read text)
 
--- the pattern of an input, which is not looked at where it is longer than the limit
+-- the pattern of an input, which is not looked at where it is longer than 2^24 bytes
 abbrev pub pattern_of : List ℕ → Result (List Cell) Complaint
-pattern_of bytes = if nat_le (length bytes) INPUT_LIMIT
+pattern_of bytes = if nat_le (length bytes) (2 ^ 24)
     then result_map_both (λ cells. cells) pattern_complaint (pattern bytes)
     else Err ReadFailed
 

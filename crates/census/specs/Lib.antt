@@ -4,3 +4,4 @@ pub mod Inputs
 pub mod Run
 pub mod Status
 pub mod Streams
+pub mod Words

@@ -1,4 +1,4 @@
-ghost use Rattle.std.specs.Prelude.{◌≡◌, ℕ, List, ◌+◌, ◌<◌, ◌≤◌, ◌++◌, length, take, IfOk, IfSome, OnOk, vec_len};
+ghost use Rattle.std.specs.Prelude.{◌≡◌, ℕ, List, ◌+◌, ◌<◌, ◌≤◌, ◌^◌, ◌++◌, length, take, IfOk, IfSome, OnOk, vec_len};
 ghost use Rattle.std.specs.Io.KnownBytes.{Consumes, IsAtEnd};
 ghost use Rattle.census.specs.Answers.{IsInput};
 ghost use Rattle.census.specs.Inputs.{Reads, pattern_of};
@@ -41,7 +41,7 @@ impl From<AllocError> for InputFault {
 /// of the input was read by then is left open.
 pub fn read_input<R: Read>(alloc: Global, input: &mut R) -> Result<Vec<u8>, InputFault>
     ensures whole { IfOk result (λ bytes. IfSome (R.remaining input.old) (λ known. bytes.items ≡ known)) }
-    ensures short { IfOk result (λ bytes. vec_len bytes ≤ INPUT_LIMIT) }
+    ensures short { IfOk result (λ bytes. vec_len bytes ≤ 2 ^ 24) }
 {
     let mut piece = room_for_read(alloc)?;
     let mut bytes = Vec::new(alloc);

@@ -11,6 +11,8 @@ mod input;
 mod output;
 mod run;
 mod status;
+#[cfg(test)]
+mod tests;
 mod words;
 
 use complaint::Complaint;

@@ -1,4 +1,7 @@
-ghost use Rattle.std.specs.Prelude.{◌≡◌, false};
+ghost use Rattle.std.specs.Prelude.{◌≡◌, ◌≢◌, false};
+ghost use Rattle.census.specs.Complaints.{line_of};
+ghost use Rattle.census.specs.Streams.{stream, HasLine};
+ghost use Rattle.census.specs.Words.{DoesCommand};
 
 use crate::complaint::Complaint;
 use crate::run::{GENERATION_LIMIT, do_run};
@@ -15,8 +18,8 @@ const LIFE: &str = "b3s23";
 
 /// Does what the words ask for, of which the first is the program's name.
 ///
-/// Words that are not understood, and words that ask for help, end with `Usage` and their text on `errors`. All else
-/// is as the command says that is named, as [`do_run`].
+/// Words that are not understood, and words that ask for help, end with `Usage` and their text on `errors`, and
+/// nothing is read or printed. All else is as the command says that is named, as [`do_run`].
 pub fn do_words<S: AsStr, R: Read, W: Write, E: Write>(
     rt: &impl AllocGlobal,
     words: &[S],
@@ -27,6 +30,8 @@ pub fn do_words<S: AsStr, R: Read, W: Write, E: Write>(
     requires output { output.old.failed ≡ false }
     requires errors { errors.old.failed ≡ false }
     ensures usage { result ≡ Status.Usage → (output.new ≡ output.old) × (input.new ≡ input.old) }
+    ensures command { result ≢ Status.Usage → DoesCommand (R.remaining input.old) result
+        (stream W.contents output.old output.new) (stream E.contents errors.old errors.new) }
 {
     let alloc = rt.alloc();
     let Ok(command) = census_command(alloc) else {
@@ -49,27 +54,23 @@ fn do_command<R: Read, W: Write, E: Write>(
     requires output { output.old.failed ≡ false }
     requires errors { errors.old.failed ≡ false }
     ensures usage { result ≡ Status.Usage → (output.new ≡ output.old) × (input.new ≡ input.old) }
+    ensures command { result ≢ Status.Usage → DoesCommand (R.remaining input.old) result
+        (stream W.contents output.old output.new) (stream E.contents errors.old errors.new) }
 {
-    match matches.subcommand() {
-        Some(("run", found)) => {
-            let generations = found.get_one::<u32>("N").unwrap_or(0);
-            let rule = found.get_str("rule").unwrap_or(LIFE);
-            do_run(
-                alloc,
-                generations.min(GENERATION_LIMIT),
-                rule,
-                input,
-                output,
-                errors,
-            )
-        }
-        _ => Status::Usage,
-    }
+    let Some(("run", found)) = matches.subcommand() else {
+        return Status::Usage;
+    };
+    // `clap` has seen to it that N is there and in its range.
+    let generations = found.get_one::<u32>("N").unwrap_or(0).min(GENERATION_LIMIT);
+    let rule = found.get_str("rule").unwrap_or(LIFE);
+    do_run(alloc, generations, rule, input, output, errors)
 }
 
 /// Writes what `clap` says of words that name no command, or that ask for help.
 fn tell_usage<E: Write>(alloc: Global, error: &clap::Error, errors: &mut Out<E>) -> Status
     requires { errors.old.failed ≡ false }
+    ensures { result ≢ Status.Usage → (result ≡ Status.OutOfMemory)
+        × HasLine (stream E.contents errors.old errors.new) (line_of Complaint.OutOfMemory) }
 {
     if error.kind() == ErrorKind::OutOfMemory {
         return Complaint::OutOfMemory.tell(errors);

@@ -1,5 +1,4 @@
-use Rattle.std.proofs.Common.{◌≤◌, length}
-use Rattle.census.specs.declared.input.TheConstants.{INPUT_LIMIT}
+use Rattle.std.proofs.Common.{◌≤◌, ◌^◌, length}
 use Rattle.census.specs.Inputs.{pattern_of}
 use Rattle.census.proofs.AnswerLemmas.{err_of, some_input, Reads_unread, Reads_error}
 use Rattle.census.proofs.input.read_pattern.Goals as goal
@@ -13,7 +12,7 @@ pub returns-in_err-read_plaintext : goal.returns-in_err-read_plaintext
 returns-in_err-read_plaintext g c =
     let bytes = c.in_ok-bytes.bytes.items in
     let read = c.as_slice.ensures in
-    let short : length bytes ≤ INPUT_LIMIT = rw (← read.value, read.len) c.in_ok-bytes.ensures.short in
+    let short : length bytes ≤ 2 ^ 24 = rw (← read.value, read.len) c.in_ok-bytes.ensures.short in
     let faults = rw read.value at c.in_err-read_plaintext.ensures.fault in (
       bytes,
       c.in_ok-bytes.ensures.whole,
