@@ -1,20 +1,63 @@
-use Rattle.std.proofs.Common.{◌≡◌, ◌==◌, ℕ, ℤ, pos, ◌+ℤ◌, ◌+◌, Bool, true, false, arith, cond, refl}
-use Rattle.std.proofs.lemmas.Int.{ints, clamps}
-use Rattle.std.proofs.lemmas.Bool.Decides.{nat_tests}
+-- The order of cells is total, only equal cells tie, and moving two cells keeps their order and their distance.
+use Rattle.std.proofs.Common.{◌≡◌, ◌&&◌, ℤ, ◌+ℤ◌, true, arith, refl, ap, ◌∙◌}
+use Rattle.std.proofs.lemmas.Bool.{false≢true}
+use Rattle.std.proofs.lemmas.Int.{ints}
 use Rattle.std.proofs.lemmas.Cmp.{on_total, then_total, int_cmp_total}
-use Rattle.std.specs.Cmp.{IsTotalOrder}
+use Rattle.std.specs.Cmp.{IsTotalOrder, tied_itself}
+use Rattle.std.specs.FinMap.{int_cmp-IsAntisymmetric}
+use Rattle.std.specs.Ordering.{ordering_then, int_cmp, int_eq, is_eq}
 use Rattle.std.specs.declared.cmp.Ordering.{Ordering}
 use Rattle.std.specs.declared.cmp.Ordering.TheVariants.{Less, Equal, Greater}
-use Rattle.std.specs.Ordering.{ordering_then, int_cmp}
 use Rattle.plane_core.specs.declared.cell.Cell.{Cell}
-use Rattle.plane_core.specs.Cells.{cell_cmp, king_distance, distance}
+use Rattle.plane_core.specs.Cells.{cell_at, cell_cmp, same_cell, king_distance, distance, moved_by}
 
 pub cell_cmp_total : IsTotalOrder cell_cmp
 cell_cmp_total = then_total (on_total (λ c. c.y) int_cmp_total) (on_total (λ c. c.x) int_cmp_total)
 
--- moving both leaves the order
-pub int_cmp-moved : (a b v : ℤ) → int_cmp (a +ℤ v) (b +ℤ v) ≡ int_cmp a b
+-- an order of pairs that ties has two ties
+both_tie : (p q : Ordering) → ordering_then p q ≡ Equal → (p ≡ Equal) × (q ≡ Equal)
+both_tie Less q e = (e, cc)
+both_tie Equal q e = (refl, e)
+both_tie Greater q e = (e, cc)
+
+-- cells that tie are one cell
+pub cell_cmp-same : (a b : Cell) → cell_cmp a b ≡ Equal → a ≡ b
+cell_cmp-same a b e =
+    let ties = both_tie (int_cmp a.y b.y) (int_cmp a.x b.x) e in
+    let y : a.y ≡ b.y = int_cmp-IsAntisymmetric a.y b.y ties.0 in
+    let x : a.x ≡ b.x = int_cmp-IsAntisymmetric a.x b.x ties.1 in
+    ap (λ (v : ℤ). cell_at v a.y) x ∙ ap (λ (w : ℤ). cell_at b.x w) y
+
+pub same_cell-itself : (c : Cell) → same_cell c c ≡ true
+same_cell-itself c = ap is_eq (tied_itself cell_cmp_total c)
+
+int_cmp-moved : (a b v : ℤ) → int_cmp (a +ℤ v) (b +ℤ v) ≡ int_cmp a b
 int_cmp-moved a b v = grind (arith, ints)
 
-pub distance-moved : (a b v : ℤ) → distance (a +ℤ v) (b +ℤ v) ≡ distance a b
+-- moving two cells keeps their order
+pub cell_cmp-moved : (dx dy : ℤ) (a b : Cell) → cell_cmp (moved_by dx dy a) (moved_by dx dy b) ≡ cell_cmp a b
+cell_cmp-moved dx dy a b = rw (int_cmp-moved a.y b.y dy, int_cmp-moved a.x b.x dx) refl
+
+distance-moved : (a b v : ℤ) → distance (a +ℤ v) (b +ℤ v) ≡ distance a b
 distance-moved a b v = omega (arith, ints)
+
+-- moving two cells keeps their distance
+pub king_distance-moved : (dx dy : ℤ) (a b : Cell) → king_distance (moved_by dx dy a) (moved_by dx dy b) ≡ king_distance a b
+king_distance-moved dx dy a b = rw (distance-moved a.x b.x dx, distance-moved a.y b.y dy) refl
+
+is_equal : (o : Ordering) → is_eq o ≡ true → o ≡ Equal
+is_equal Less e = absurd (false≢true e)
+is_equal Equal e = refl
+is_equal Greater e = absurd (false≢true e)
+
+pub same_cell-same : (c d : Cell) → same_cell c d ≡ true → c ≡ d
+same_cell-same c d e = cell_cmp-same c d (is_equal (cell_cmp c d) e)
+
+both_equal : (p q : Ordering) → (is_eq p && is_eq q) ≡ is_eq (ordering_then p q)
+both_equal Less q = refl
+both_equal Equal q = refl
+both_equal Greater q = refl
+
+-- the derived `==` of cells
+pub same_cell-eq : (a b : Cell) → (int_eq a.y b.y && int_eq a.x b.x) ≡ same_cell a b
+same_cell-eq a b = both_equal (int_cmp a.y b.y) (int_cmp a.x b.x)

@@ -1,5 +1,12 @@
+pub mod BlockLemmas
 pub mod CellLemmas
+pub mod GenerationLemmas
+pub mod MergeLemmas
+pub mod NeighbourLemmas
 pub mod OutLemmas
-pub mod RuleLemmas
 pub mod ReadingLemmas
+pub mod RuleLemmas
 pub mod RuleReading
+pub mod SearchLemmas
+pub mod SetLemmas
+pub mod TallyLemmas

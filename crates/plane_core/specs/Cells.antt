@@ -1,9 +1,8 @@
 -- Cells, their order, and finite sets of them as lists in order (LifeWiki, "Conway's Game of Life").
-use Rattle.std.specs.Prelude.{◌≡◌, ◌==◌, ℕ, ℤ, pos, ◌+ℤ◌, Bool, true, false, not, ◌&&◌, ◌||◌, List, [], ◌∷◌, max, count_by, IsTrue, nat_le, unsigned_abs}
+use Rattle.std.specs.Prelude.{◌≡◌, ◌==◌, ◌+◌, ℕ, ℤ, ◌+ℤ◌, Bool, true, not, ◌&&◌, ◌||◌, List, [], ◌∷◌, max, nat_le, unsigned_abs}
 use Rattle.std.specs.List.{list_any, list_all}
 use Rattle.std.specs.List.Sorted.{IsStrictlySortedBy}
 use Rattle.std.specs.declared.cmp.Ordering.{Ordering}
-use Rattle.std.specs.declared.cmp.Ordering.TheVariants.{Less, Equal, Greater}
 use Rattle.std.specs.Ordering.{ordering_then, int_cmp, is_eq, match_ordering}
 use Rattle.plane_core.specs.declared.cell.Cell.{Cell}
 use Rattle.plane_core.specs.declared.cell.TheConstants.{BOUND}
@@ -52,14 +51,18 @@ set_of [] = []
 set_of (c ∷ cs) = put c (set_of cs)
 
 -- neither coordinate is larger than the bound in size
-abbrev pub on_plane : Cell → Bool
+unfoldable pub on_plane : Cell → Bool
 on_plane c = nat_le (unsigned_abs c.x) BOUND && nat_le (unsigned_abs c.y) BOUND
 
 abbrev pub off_plane : Cell → Bool
 off_plane c = not (on_plane c)
 
+-- the cell is at most a step off the plane
+unfoldable pub near_plane : Cell → Bool
+near_plane c = nat_le (unsigned_abs c.x) (BOUND + 1) && nat_le (unsigned_abs c.y) (BOUND + 1)
+
 -- a coordinate is as large as the bound in size
-abbrev pub on_edge : Cell → Bool
+unfoldable pub on_edge : Cell → Bool
 on_edge c = unsigned_abs c.x == BOUND || unsigned_abs c.y == BOUND
 
 -- a list that stands for a finite set of cells of the plane

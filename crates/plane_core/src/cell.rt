@@ -1,5 +1,6 @@
-ghost use Rattle.std.specs.Prelude.{◌≡◌};
-ghost use Rattle.plane_core.specs.Cells.{on_plane, on_edge};
+ghost use Rattle.std.specs.Prelude.{◌≡◌, ◌≤◌, ◌+◌, ◌+ℤ◌, true, unsigned_abs};
+ghost use Rattle.plane_core.specs.Cells.{moved_by, near_plane, on_plane, on_edge};
+ghost use Rattle.plane_core.specs.declared.cell.TheConstants.{BOUND};
 
 /// How large the coordinates of a pattern's cells may be in size: from -1,000,000 to 1,000,000.
 pub const BOUND: u32 = 1_000_000;
@@ -16,6 +17,7 @@ pub struct Cell {
 
 impl Cell {
     /// Whether a pattern may have this cell: both coordinates are at most [`BOUND`] in size.
+    #[tactic(auto, unfolding(crate::specs::Cells::on_plane))]
     pub fn is_on_plane(self) -> bool
         ensures { result ≡ on_plane self }
     {
@@ -23,9 +25,32 @@ impl Cell {
     }
 
     /// Whether a coordinate is [`BOUND`] in size, so that a neighbour may lie off the plane.
+    #[tactic(auto, unfolding(crate::specs::Cells::on_edge))]
     pub fn is_on_edge(self) -> bool
         ensures { result ≡ on_edge self }
     {
         self.x.unsigned_abs() == BOUND || self.y.unsigned_abs() == BOUND
     }
+
+    /// The cell (x + dx, y + dy), at most a step away.
+    #[tactic(auto, unfolding(crate::specs::Cells::near_plane))]
+    pub(crate) fn moved(self, dx: i32, dy: i32) -> Cell
+        requires near { near_plane self ≡ true }
+        requires step { unsigned_abs dx ≤ 1 }
+        requires leap { unsigned_abs dy ≤ 1 }
+        ensures { result ≡ moved_by dx dy self }
+    {
+        let x = sum(self.x, dx);
+        let y = sum(self.y, dy);
+        Cell { y, x }
+    }
+}
+
+/// The sum of two numbers, of which neither is large.
+fn sum(a: i32, b: i32) -> i32
+    requires first { unsigned_abs a ≤ BOUND + 1 }
+    requires second { unsigned_abs b ≤ 1 }
+    ensures { result ≡ a +ℤ b }
+{
+    a + b
 }

@@ -10,7 +10,10 @@ pub mod bounds;
 pub mod cell;
 /// A writer that remembers that it failed.
 pub mod out;
+/// The next generation, and many.
+pub mod generation;
 /// Patterns: finite sets of cells.
 pub mod pattern;
 /// Rules by birth and survival numbers.
 pub mod rule;
+mod tally;

@@ -1,11 +1,32 @@
-ghost use Rattle.std.specs.Prelude.{◌≡◌, List, length, IfOk, IfErr, OnOk, MatchOption, [], None};
-ghost use Rattle.std.specs.List.{position};
-ghost use Rattle.plane_core.specs.Cells.{IsPattern, InOrder, has, set_of, off_plane};
+ghost use Rattle.std.specs.Prelude.{◌≡◌, List, length, IfOk, IfErr, OnOk, position, None};
+ghost use Rattle.plane_core.specs.Cells.{InOrder, IsPattern, cell_at, has, set_of, off_plane};
+ghost use Rattle.plane_core.specs.Refusals.{RefusesCells};
 ghost use Rattle.plane_core.specs.declared.cell.Cell.{Cell};
+ghost use Rattle.plane_core.specs.declared.pattern.FromCellsError.TheVariants.{Memory};
 
 use crate::cell::Cell;
 use std::alloc::{AllocError, Global};
 use std::marker::Model;
+use thiserror::Error;
+
+/// Why a list of cells was refused as a pattern.
+#[derive(Clone, Copy, Debug, PartialEq, Eq, Error)]
+pub enum FromCellsError {
+    /// The cell at this index, counted from 0, is the first that lies past the bound.
+    #[error("cell {index} lies past the bound of the plane")]
+    OutOfPlane { index: usize },
+    /// There was no memory for the cells.
+    #[error("out of memory")]
+    Memory,
+}
+
+impl From<AllocError> for FromCellsError {
+    ghost from_gives = { λ _ e. e ≡ Memory };
+
+    fn from(_e: AllocError) -> FromCellsError {
+        FromCellsError::Memory
+    }
+}
 
 /// A finite set of cells, each with coordinates at most [`BOUND`](crate::cell::BOUND) in size.
 #[derive(Debug, Drop)]
@@ -22,6 +43,45 @@ impl Model for Pattern {
 }
 
 impl Pattern {
+    /// The set of the cells of a list, which may stand in any order and more than once.
+    ///
+    /// # Errors
+    ///
+    /// `OutOfPlane` where a cell lies past the bound, with the index of the first such cell; else `Memory` where
+    /// memory is wanting.
+    pub fn from_cells(alloc: Global, cells: &[Cell]) -> Result<Pattern, FromCellsError>
+        ensures set { IfOk result (λ pattern. pattern ≡ set_of cells.now) }
+        ensures members { IfOk result (λ pattern. (c : Cell) → has pattern c ≡ has cells.now c) }
+        ensures plane { OnOk result (position off_plane cells.now ≡ None) }
+        ensures refused { IfErr result (RefusesCells cells.now) }
+    {
+        if let Some(index) = first_off_plane(cells) {
+            return Err(FromCellsError::OutOfPlane { index });
+        }
+        let cells = sorted(alloc, cells)?;
+        Ok(Pattern { cells })
+    }
+
+    /// The pattern of cells that stand in order already.
+    pub(crate) fn from_ordered(cells: Vec<Cell>) -> Pattern
+        requires { IsPattern cells.items }
+        ensures { result ≡ cells.items }
+    {
+        Pattern { cells }
+    }
+
+    /// An equal pattern.
+    ///
+    /// # Errors
+    ///
+    /// `AllocError` where memory is wanting.
+    pub fn copy(&self, alloc: Global) -> Result<Pattern, AllocError>
+        ensures { IfOk result (λ pattern. pattern ≡ self.now) }
+    {
+        let cells = Vec::from_slice(alloc, self.cells())?;
+        Ok(Pattern::from_ordered(cells))
+    }
+
     /// All cells in order, each once.
     pub fn cells(&self) -> &[Cell]
         ensures cells { result.now ≡ self.now }
@@ -39,8 +99,33 @@ impl Pattern {
 
     /// Whether the cell (x, y) is in the set.
     pub fn has(&self, x: i32, y: i32) -> bool
-        ensures { result ≡ has self.now (record { y = y; x = x }) }
+        ensures { result ≡ has self.now (cell_at x y) }
     {
-        self.cells.binary_search(&Cell { y, x }).is_ok()
+        is_member(self.cells.as_slice(), &Cell { y, x })
     }
+}
+
+/// The place of the first cell that lies past the bound.
+fn first_off_plane(cells: &[Cell]) -> Option<usize>
+    ensures { result ≡ position off_plane cells.now }
+{
+    cells.iter().position(|cell| !cell.is_on_plane())
+}
+
+/// Whether a list in order has the cell.
+fn is_member(cells: &[Cell], cell: &Cell) -> bool
+    requires { InOrder cells.now }
+    ensures { result ≡ has cells.now cell.now }
+{
+    cells.binary_search(cell).is_ok()
+}
+
+/// The cells in order, each once.
+fn sorted(alloc: Global, cells: &[Cell]) -> Result<Vec<Cell>, AllocError>
+    ensures { IfOk result (λ set. set.items ≡ set_of cells.now) }
+{
+    let mut set = Vec::from_slice(alloc, cells)?;
+    set.sort_unstable();
+    set.dedup();
+    Ok(set)
 }
