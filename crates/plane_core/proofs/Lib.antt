@@ -1,4 +1,5 @@
 pub mod BlockLemmas
+pub mod BoundsLemmas
 pub mod CellLemmas
 pub mod GenerationLemmas
 pub mod MergeLemmas

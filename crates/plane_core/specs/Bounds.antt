@@ -1,7 +1,6 @@
 -- The least box round a pattern, and a pattern moved to the corner (0, 0).
 use Rattle.std.specs.Prelude.{◌≡◌, ℤ, ◌≤ℤ◌, List, [], ◌∷◌, Option, None, Some, All, Any, map}
 use Rattle.std.specs.Int.{int_min, int_max}
-use Rattle.std.specs.Option.{option_map_or}
 use Rattle.plane_core.specs.declared.cell.Cell.{Cell}
 use Rattle.plane_core.specs.declared.bounds.Bounds.{Bounds}
 use Rattle.plane_core.specs.Cells.{moved_by}
@@ -15,10 +14,15 @@ box_at c = record { left = c.x; top = c.y; right = c.x; bottom = c.y }
 abbrev pub widened : Cell → Bounds → Bounds
 widened c b = record { left = int_min c.x b.left; top = int_min c.y b.top; right = int_max c.x b.right; bottom = int_max c.y b.bottom }
 
+-- a box, if there is one, with one cell more
+abbrev pub grown : Cell → Option Bounds → Bounds
+grown c None = box_at c
+grown c (Some b) = widened c b
+
 -- the least box round the cells
 abbrev pub box_of : List Cell → Option Bounds
 box_of [] = None
-box_of (c ∷ cs) = Some (option_map_or (widened c) (box_of cs) (box_at c))
+box_of (c ∷ cs) = Some (grown c (box_of cs))
 
 -- the cell lies in the box
 pub record IsWithin (b : Bounds) (c : Cell) : Type 0 where

@@ -50,16 +50,20 @@ abbrev pub set_of : List Cell → List Cell
 set_of [] = []
 set_of (c ∷ cs) = put c (set_of cs)
 
--- neither coordinate is larger than the bound in size
+-- both coordinates are at most reach in size
+abbrev pub is_within : ℕ → Cell → Bool
+is_within reach c = nat_le (unsigned_abs c.x) reach && nat_le (unsigned_abs c.y) reach
+
+-- the cell lies within the bound
 unfoldable pub on_plane : Cell → Bool
-on_plane c = nat_le (unsigned_abs c.x) BOUND && nat_le (unsigned_abs c.y) BOUND
+on_plane c = is_within BOUND c
 
 abbrev pub off_plane : Cell → Bool
 off_plane c = not (on_plane c)
 
 -- the cell is at most a step off the plane
 unfoldable pub near_plane : Cell → Bool
-near_plane c = nat_le (unsigned_abs c.x) (BOUND + 1) && nat_le (unsigned_abs c.y) (BOUND + 1)
+near_plane c = is_within (BOUND + 1) c
 
 -- a coordinate is as large as the bound in size
 unfoldable pub on_edge : Cell → Bool

@@ -1,8 +1,8 @@
 -- Generations under a rule (LifeWiki, "Life-like cellular automaton").
-use Rattle.std.specs.Prelude.{◌==◌, ℕ, zero, suc, pos, negsuc, Bool, List, [], ◌∷◌, count_by, filter, flat_map, if◌then◌else◌}
-use Rattle.std.specs.List.{list_any}
+use Rattle.std.specs.Prelude.{◌≡◌, ◌+◌, true, ◌==◌, ℕ, zero, suc, pos, negsuc, Bool, List, [], ◌∷◌, count_by, filter, flat_map, if◌then◌else◌}
+use Rattle.std.specs.List.{list_any, list_all}
 use Rattle.plane_core.specs.declared.cell.Cell.{Cell}
-use Rattle.plane_core.specs.Cells.{king_distance, moved_by, has, set_of, on_edge}
+use Rattle.plane_core.specs.Cells.{king_distance, moved_by, has, set_of, on_edge, is_within}
 use Rattle.plane_core.specs.Rules.{Numbers, is_birth, is_survival}
 
 -- how many cells of the pattern are at king distance 1 from c
@@ -32,3 +32,11 @@ after rule cells (suc g) = next rule (after rule cells g)
 -- a cell lies so far out that a neighbour would lie past the bound
 abbrev pub touches_edge : List Cell → Bool
 touches_edge cells = list_any on_edge cells
+
+-- every cell lies within reach of the origin
+abbrev pub lies_within : ℕ → List Cell → Bool
+lies_within reach cells = list_all (is_within reach) cells
+
+-- no pattern grows by more than a cell a side in a generation: the field's speed of light
+abbrev pub SpeedOfLight : Type 0
+SpeedOfLight = (rule : Numbers) (cells : List Cell) (reach g : ℕ) → lies_within reach cells ≡ true → lies_within (reach + g) (after rule cells g) ≡ true

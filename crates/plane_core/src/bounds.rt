@@ -1,8 +1,74 @@
-/// The least box round a pattern: the columns `left` to `right` and the rows `top` to `bottom`, the ends included.
+ghost use Rattle.std.specs.Prelude.{◌≡◌, ◌↔◌, [], IsNone, IfSome};
+ghost use Rattle.plane_core.specs.Bounds.{box_of, grown, widened, box_at, IsLeastBox};
+ghost use Rattle.plane_core.specs.Cells.{IsPattern};
+
+use crate::cell::Cell;
+use crate::pattern::Pattern;
+
+/// A box of cells: the columns `left` to `right` and the rows `top` to `bottom`, the ends included.
 #[derive(Clone, Copy, Debug, PartialEq, Eq)]
 pub struct Bounds {
     pub left: i32,
     pub top: i32,
     pub right: i32,
     pub bottom: i32,
+}
+
+impl Bounds {
+    /// The box of one cell.
+    fn at(cell: Cell) -> Bounds
+        ensures { result ≡ box_at cell }
+    {
+        Bounds {
+            left: cell.x,
+            top: cell.y,
+            right: cell.x,
+            bottom: cell.y,
+        }
+    }
+
+    /// The least box that has this box and the cell in it.
+    fn widened(self, cell: Cell) -> Bounds
+        ensures { result ≡ widened cell self }
+    {
+        Bounds {
+            left: cell.x.min(self.left),
+            top: cell.y.min(self.top),
+            right: cell.x.max(self.right),
+            bottom: cell.y.max(self.bottom),
+        }
+    }
+}
+
+impl Pattern {
+    /// The least box round the pattern. It is `None` for the empty pattern.
+    pub fn bounds(&self) -> Option<Bounds>
+        ensures bounds { result ≡ box_of self.now }
+        ensures none { IsNone result ↔ (self.now ≡ []) }
+        ensures least { IfSome result (IsLeastBox self.now) }
+    {
+        least_box(self.cells())
+    }
+}
+
+/// A box, if there is one, with one cell more.
+fn grown(bounds: Option<Bounds>, cell: Cell) -> Bounds
+    ensures { result ≡ grown cell bounds }
+{
+    match bounds {
+        None => Bounds::at(cell),
+        Some(bounds) => bounds.widened(cell),
+    }
+}
+
+/// The least box round the cells.
+#[tactic(auto, using(crate::proofs::BoundsLemmas::box_more))]
+fn least_box(cells: &[Cell]) -> Option<Bounds>
+    ensures { result ≡ box_of cells.now }
+{
+    let mut bounds = None;
+    for cell in cells {
+        bounds = Some(grown(bounds, *cell));
+    }
+    bounds
 }

@@ -1,8 +1,9 @@
-ghost use Rattle.std.specs.Prelude.{◌≡◌, ℕ, ◌<◌, true, false, IfOk, IfErr, OnOk, IsErrOf};
+ghost use Rattle.std.specs.Prelude.{◌≡◌, ◌≢◌, ℕ, ◌+◌, ◌<◌, ◌≤◌, true, false, IfOk, IfErr, OnOk, IsErrOf};
 ghost use Rattle.plane_core.specs.Cells.{has};
-ghost use Rattle.plane_core.specs.Generations.{next, after, lives, touches_edge};
+ghost use Rattle.plane_core.specs.Generations.{next, after, lives, touches_edge, lies_within, SpeedOfLight};
 ghost use Rattle.plane_core.specs.Refusals.{RefusesStep};
 ghost use Rattle.plane_core.specs.declared.cell.Cell.{Cell};
+ghost use Rattle.plane_core.specs.declared.cell.TheConstants.{BOUND};
 ghost use Rattle.plane_core.specs.declared.generation.StepError.TheVariants.{Memory};
 
 use crate::cell::Cell;
@@ -63,6 +64,8 @@ impl Pattern {
     pub fn run(&self, alloc: Global, rule: &Rule, generations: u32) -> Result<Pattern, StepError>
         ensures after { IfOk result (λ pattern. pattern ≡ after rule.now self.now generations) }
         ensures inside { OnOk result ((g : ℕ) → g < generations → touches_edge (after rule.now self.now g) ≡ false) }
+        // No pattern gets to the edge faster than a cell a generation.
+        ensures never_edge { (reach : ℕ) → lies_within reach self.now ≡ true → reach + generations ≤ BOUND → result ≢ Err StepError.Edge }
         ensures edge { IsErrOf result StepError.Edge → (g : ℕ) × (g < generations) × (touches_edge (after rule.now self.now g) ≡ true) }
     {
         let mut pattern = self.copy(alloc)?;
@@ -72,6 +75,11 @@ impl Pattern {
         Ok(pattern)
     }
 }
+
+/// A law of all rules: in g generations no pattern comes further than g cells from where it lay.
+pub fn speed_of_light()
+    ensures { SpeedOfLight }
+{}
 
 /// Whether a cell lies on the edge of the plane.
 fn touches(cells: &[Cell]) -> bool
