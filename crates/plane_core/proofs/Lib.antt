@@ -5,6 +5,12 @@ pub mod GenerationLemmas
 pub mod MergeLemmas
 pub mod NeighbourLemmas
 pub mod OutLemmas
+pub mod PlaintextBox
+pub mod PlaintextLines
+pub mod PlaintextOrder
+pub mod PlaintextRows
+pub mod PlaintextWalks
+pub mod PlaintextWriting
 pub mod ReadingLemmas
 pub mod RuleLemmas
 pub mod RuleReading

@@ -2,6 +2,9 @@ pub mod Bounds
 pub mod Cells
 pub mod Generations
 pub mod Out
+pub mod Plaintext
+pub mod PlaintextPlaces
+pub mod PlaintextWalk
 pub mod Refusals
 pub mod Rules
 pub mod Tallies

@@ -14,6 +14,8 @@ pub mod out;
 pub mod generation;
 /// Patterns: finite sets of cells.
 pub mod pattern;
+/// Plaintext pattern files.
+pub mod plaintext;
 /// Rules by birth and survival numbers.
 pub mod rule;
 mod tally;

@@ -1,0 +1,115 @@
+use Rattle.std.proofs.Common.{◌≡◌, ◌++◌, ◌+◌, ◌+ℤ◌, ◌≤ℤ◌, ◌<ℤ◌, pos, List, [], ◌∷◌, take, drop, get_or, replicate, arith, refl, ap, sym, subst, ◌∙◌, rules, w32, FitsSigned, to_z, of_z}
+use Rattle.std.proofs.lemmas.Int.{ints, to_z-of_z}
+use Rattle.std.proofs.lemmas.List.{drop_more}
+use Rattle.plane_core.specs.declared.cell.Cell.{Cell}
+use Rattle.plane_core.specs.declared.plaintext.TheConstants.{DEAD, LIVE, LINE_FEED}
+use Rattle.plane_core.specs.Cells.{distance}
+use Rattle.plane_core.specs.Plaintext.{row_text}
+use Rattle.plane_core.proofs.OutLemmas.{Writes_nothing, Writes_then, Writes_stops}
+use Rattle.plane_core.proofs.PlaintextWalks.{IsRowAhead, IsRowAhead-taken, IsRowAhead-next, IsRowAhead-at, len_in_row}
+use Rattle.plane_core.proofs.PlaintextWriting.{Writes_as, row_rest, row_rest-at, row_rest-end, row_text_is, row_text-taken}
+use Rattle.plane_core.proofs.plaintext.write_row.Goals as goal
+
+pub loop-cell-init : goal.loop-cell-init
+loop-cell-init g c =
+    let b = c.args.bounds in
+    let y = c.args.y in
+    let cells = c.args.cells.now in
+    let left_fits : FitsSigned w32 b.left = search rules in
+    let left : to_z w32 (of_z w32 b.left) ≡ b.left = to_z-of_z w32 b.left left_fits in
+    let row : to_z w32 (of_z w32 y) ≡ y = to_z-of_z w32 y c.ranges.y in
+    let call : c.row_len.result ≡ len_in_row (to_z w32 (of_z w32 y)) cells = c.row_len.ensures.value in
+    let len : c.row_len.result ≡ len_in_row y cells = call ∙ ap (λ z. len_in_row z cells) row in
+    let wide = c.requires.bounds.wide in
+    rw (left, row, len) (omega (arith, ints), omega (arith, ints), IsRowAhead-taken y b cells c.requires.cells, ([], row_text-taken y b cells c.requires.cells ∙ row_text_is (take (len_in_row y cells) cells) b y wide, Writes_nothing c.args.out.now c.requires.fresh))
+
+pub overflow_add-x : goal.overflow_add-x
+overflow_add-x g c =
+    let cell = get_or (take c.row_len.result c.args.cells.now) c.loop-cell.cell-index (record { y = pos 0; x = pos 0 }) in
+    let ahead = IsRowAhead-at _ _ _ _ c.loop-cell.cell-index (record { y = pos 0; x = pos 0 }) c.loop-cell-test.true c.loop-cell.invariant.2 in
+    let here = ahead.here.0 in
+    let l1 = here.1 in
+    let l2 = here.2 in
+    let i0 = c.loop-cell.invariant.0 in
+    let r1 = c.requires.bounds.left in
+    let r2 = c.requires.bounds.right in
+    let fits : FitsSigned w32 cell.x = omega (arith, ints) in
+    rw (to_z-of_z w32 cell.x fits) (omega (arith, ints))
+
+pub loop-cell-preserved : goal.loop-cell-preserved
+loop-cell-preserved g c =
+    let y = c.args.y in
+    let end = c.args.bounds.right +ℤ pos 1 in
+    let row = take c.row_len.result c.args.cells.now in
+    let i = c.loop-cell.cell-index in
+    let x = to_z w32 c.loop-cell.x-bits in
+    let cell = get_or row i (record { y = pos 0; x = pos 0 }) in
+    let later = drop (i + 1) row in
+    let in_row : to_z w32 (of_z w32 y) ≡ y = to_z-of_z w32 y c.ranges.y in
+    let inv = rw in_row at c.loop-cell.invariant in
+    let ahead : IsRowAhead y x end (cell ∷ later) = IsRowAhead-at y x end row i (record { y = pos 0; x = pos 0 }) c.loop-cell-test.true inv.2 in
+    let here = ahead.here.0 in
+    let l1 = here.1 in
+    let l2 = here.2 in
+    let i0 = inv.0 in
+    let r1 = c.requires.bounds.left in
+    let r2 = c.requires.bounds.right in
+    let fits : FitsSigned w32 cell.x = omega (arith, ints) in
+    let next_fits : FitsSigned w32 (cell.x +ℤ pos 1) = omega (arith, ints) in
+    let at_cell : to_z w32 (of_z w32 cell.x) ≡ cell.x = to_z-of_z w32 cell.x fits in
+    let at_next : to_z w32 (of_z w32 (cell.x +ℤ pos 1)) ≡ cell.x +ℤ pos 1 = to_z-of_z w32 (cell.x +ℤ pos 1) next_fits in
+    let call : c.abs_diff.result ≡ distance x (to_z w32 (of_z w32 cell.x)) = c.abs_diff.ensures in
+    let gap : c.abs_diff.result ≡ distance x cell.x = call ∙ ap (λ z. distance x z) at_cell in
+    let front = inv.3 in
+    rw (at_cell, at_next, in_row)
+        (omega (arith, ints), omega (arith, ints), IsRowAhead-next y x end cell later ahead,
+        (front.0 ++ (replicate (distance x cell.x) DEAD ++ LIVE ∷ []),
+        row_rest-at y x end row i (record { y = pos 0; x = pos 0 }) front.0 (row_text c.args.cells.now c.args.bounds y) c.loop-cell-test.true inv.2 front.1,
+        Writes_then front.2 (Writes_as (ap (λ n. replicate n DEAD ++ LIVE ∷ []) gap) c.in_ok-put_after_gap.ensures)))
+
+pub returns-in_err-put_after_gap : goal.returns-in_err-put_after_gap
+returns-in_err-put_after_gap g c =
+    let y = c.args.y in
+    let end = c.args.bounds.right +ℤ pos 1 in
+    let row = take c.row_len.result c.args.cells.now in
+    let i = c.loop-cell.cell-index in
+    let x = to_z w32 c.loop-cell.x-bits in
+    let cell = get_or row i (record { y = pos 0; x = pos 0 }) in
+    let later = drop (i + 1) row in
+    let in_row : to_z w32 (of_z w32 y) ≡ y = to_z-of_z w32 y c.ranges.y in
+    let inv = rw in_row at c.loop-cell.invariant in
+    let ahead : IsRowAhead y x end (cell ∷ later) = IsRowAhead-at y x end row i (record { y = pos 0; x = pos 0 }) c.loop-cell-test.true inv.2 in
+    let here = ahead.here.0 in
+    let l1 = here.1 in
+    let l2 = here.2 in
+    let i0 = inv.0 in
+    let r1 = c.requires.bounds.left in
+    let r2 = c.requires.bounds.right in
+    let fits : FitsSigned w32 cell.x = omega (arith, ints) in
+    let at_cell : to_z w32 (of_z w32 cell.x) ≡ cell.x = to_z-of_z w32 cell.x fits in
+    let call : c.abs_diff.result ≡ distance x (to_z w32 (of_z w32 cell.x)) = c.abs_diff.ensures in
+    let gap : c.abs_diff.result ≡ distance x cell.x = call ∙ ap (λ z. distance x z) at_cell in
+    let front = inv.3 in
+    Writes_as (sym (row_rest-at y x end row i (record { y = pos 0; x = pos 0 }) front.0 (row_text c.args.cells.now c.args.bounds y) c.loop-cell-test.true inv.2 front.1))
+    (Writes_stops (row_rest later y (cell.x +ℤ pos 1) end) c.from_residual.ensures.0
+    (Writes_then front.2 (Writes_as (ap (λ n. replicate n DEAD ++ LIVE ∷ []) gap) c.in_err-put_after_gap.ensures)))
+
+pub returns : goal.returns
+returns g c =
+    let y = c.args.y in
+    let end = c.args.bounds.right +ℤ pos 1 in
+    let row = take c.row_len.result c.args.cells.now in
+    let x = to_z w32 c.loop-cell.x-bits in
+    let in_row : to_z w32 (of_z w32 y) ≡ y = to_z-of_z w32 y c.ranges.y in
+    let inv = rw in_row at c.loop-cell.invariant in
+    let front = inv.3 in
+    let r1 = c.requires.bounds.left in
+    let r2 = c.requires.bounds.right in
+    let r3 = c.requires.bounds.wide in
+    let right_fits : FitsSigned w32 c.args.bounds.right = search rules in
+    let right : to_z w32 (of_z w32 c.args.bounds.right) ≡ c.args.bounds.right = to_z-of_z w32 c.args.bounds.right right_fits in
+    let fits : FitsSigned w32 end = omega (arith, ints) in
+    let call : c.abs_diff-2.result ≡ distance x (to_z w32 (of_z w32 (to_z w32 (of_z w32 c.args.bounds.right) +ℤ pos 1))) = c.abs_diff-2.ensures in
+    let gap : c.abs_diff-2.result ≡ distance x end = call ∙ ap (λ z. distance x (to_z w32 (of_z w32 (z +ℤ pos 1)))) right ∙ ap (λ z. distance x z) (to_z-of_z w32 end fits) in
+    Writes_as (sym (row_rest-end y x end row c.loop-cell.cell-index front.0 (row_text c.args.cells.now c.args.bounds y) c.loop-cell-test.false front.1))
+    (Writes_then front.2 (Writes_as (ap (λ n. replicate n DEAD ++ LINE_FEED ∷ []) gap) c.put_after_gap-2.ensures))

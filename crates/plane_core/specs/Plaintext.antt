@@ -1,0 +1,69 @@
+-- What a plaintext pattern file says, and the one that is written for a pattern (LifeWiki, "Plaintext").
+use Rattle.std.specs.Prelude.{◌==◌, ℕ, zero, suc, ℤ, pos, ◌+◌, ◌+ℤ◌, ◌<◌, Bool, not, ◌&&◌, ◌||◌, List, [], ◌∷◌, ◌++◌, Option, None, Some, Result, Ok, Err, map, filter, nat_lt, if◌then◌else◌}
+use Rattle.std.specs.List.{slice_get, filter_map, flat_map}
+use Rattle.plane_core.specs.declared.cell.Cell.{Cell}
+use Rattle.plane_core.specs.declared.bounds.Bounds.{Bounds}
+use Rattle.plane_core.specs.declared.plaintext.PlaintextFault.{PlaintextFault}
+use Rattle.plane_core.specs.declared.plaintext.PlaintextFault.TheVariants.{BadByte, TooLarge}
+use Rattle.plane_core.specs.declared.plaintext.TheConstants.{DEAD, LIVE, STAR, LINE_FEED, SIDE_LIMIT}
+use Rattle.plane_core.specs.Cells.{cell_at, distance, has}
+use Rattle.plane_core.specs.Bounds.{box_of}
+use Rattle.plane_core.specs.PlaintextPlaces.{Place, places}
+
+abbrev pub is_live : ℕ → Bool
+is_live b = b == LIVE || b == STAR
+
+abbrev pub is_cell : ℕ → Bool
+is_cell b = b == DEAD || is_live b
+
+-- what is wrong at a place: a byte that is no cell, or else a row or a column past the last
+unfoldable pub fault_at : Place → Option PlaintextFault
+fault_at p = if not (is_cell p.byte) then Some (BadByte p.line (p.x + 1))
+    else (if nat_lt p.x SIDE_LIMIT && nat_lt p.y SIDE_LIMIT then None else Some TooLarge)
+
+-- the first fault at some places
+unfoldable pub first_fault : List Place → Option PlaintextFault
+first_fault ps = slice_get (filter_map fault_at ps) 0
+
+-- the cells of those of the places that are live
+unfoldable pub live_cells : List Place → List Cell
+live_cells ps = map (λ p. cell_at (pos p.x) (pos p.y)) (filter (λ p. is_live p.byte) ps)
+
+-- a fault, or else the cells
+abbrev pub cells_unless : Option PlaintextFault → List Cell → Result (List Cell) PlaintextFault
+cells_unless None cells = Ok cells
+cells_unless (Some fault) cells = Err fault
+
+-- the pattern of a text: its live cells, or its first fault
+abbrev pub pattern : List ℕ → Result (List Cell) PlaintextFault
+pattern text = cells_unless (first_fault (places text)) (live_cells (places text))
+
+-- n numbers in a row, from a on
+abbrev pub run : ℤ → ℕ → List ℤ
+run a zero = []
+run a (suc n) = a ∷ run (a +ℤ pos 1) n
+
+-- the numbers from one to another, both included
+abbrev pub span : ℤ → ℤ → List ℤ
+span a b = run a (suc (distance a b))
+
+abbrev pub byte_of : Bool → ℕ
+byte_of live = if live then LIVE else DEAD
+
+-- row y of the cells' box from the left, and a line feed
+unfoldable pub row_text : List Cell → Bounds → ℤ → List ℕ
+row_text cells b y = map (λ x. byte_of (has cells (cell_at x y))) (span b.left b.right) ++ LINE_FEED ∷ []
+
+-- the rows of the box from the top
+unfoldable pub box_text : Option Bounds → List Cell → List ℕ
+box_text None cells = []
+box_text (Some b) cells = flat_map (row_text cells b) (span b.top b.bottom)
+
+-- a pattern's plaintext
+unfoldable pub plain : List Cell → List ℕ
+plain cells = box_text (box_of cells) cells
+
+-- the box is at most 1,000 wide and 1,000 high
+pub record IsSmall (b : Bounds) : Type 0 where
+  pub width : distance b.left b.right < SIDE_LIMIT
+  pub height : distance b.top b.bottom < SIDE_LIMIT

@@ -1,0 +1,23 @@
+-- How a writer of plaintext walks along the cells of a box.
+use Rattle.std.specs.Prelude.{ℤ, pos, ◌≤ℤ◌, List}
+use Rattle.std.specs.List.{AllByRecursion}
+use Rattle.plane_core.specs.declared.cell.Cell.{Cell}
+use Rattle.plane_core.specs.declared.cell.TheConstants.{BOUND}
+use Rattle.plane_core.specs.declared.bounds.Bounds.{Bounds}
+use Rattle.plane_core.specs.Cells.{InOrder}
+use lib.IntN.{neg_ℤ}
+
+-- the box has a cell of the plane at least, and no cell off the plane
+pub record IsBox (b : Bounds) : Type 0 where
+  pub left : neg_ℤ (pos BOUND) ≤ℤ b.left
+  pub top : neg_ℤ (pos BOUND) ≤ℤ b.top
+  pub right : b.right ≤ℤ pos BOUND
+  pub bottom : b.bottom ≤ℤ pos BOUND
+  pub wide : b.left ≤ℤ b.right
+  pub high : b.top ≤ℤ b.bottom
+
+-- what a walk has before it at row y: cells in order, none above that row, and none beside the box
+pub record IsAhead (y : ℤ) (b : Bounds) (cells : List Cell) : Type 0 where
+  pub in_order : InOrder cells
+  pub rows : AllByRecursion (λ c. y ≤ℤ c.y) cells
+  pub columns : AllByRecursion (λ c. (b.left ≤ℤ c.x) × (c.x ≤ℤ b.right)) cells

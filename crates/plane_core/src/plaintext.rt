@@ -1,0 +1,326 @@
+ghost use Rattle.std.specs.Prelude.{◌≡◌, ◌↔◌, ◌<◌, ◌≤◌, ◌++◌, Option, None, List, [], ◌∷◌, IfOk, IsErrOf, OnOk, length, ℕ, pos, Ok, Err};
+ghost use Rattle.std.specs.Prelude.{Some, replicate, false, drop};
+ghost use Rattle.std.specs.List.{prefix_len};
+ghost use Rattle.std.specs.Option.{option_map_or};
+ghost use Rattle.std.specs.Ordering.{int_eq};
+ghost use Rattle.plane_core.specs.Out.{Writes};
+ghost use Rattle.plane_core.specs.Bounds.{box_of, box_at, widened};
+ghost use Rattle.plane_core.specs.PlaintextWalk.{IsBox, IsAhead};
+ghost use Rattle.std.specs.Str.Lines.{strip_carriage_return};
+ghost use Rattle.plane_core.specs.Cells.{IsPattern, cell_at};
+ghost use Rattle.plane_core.specs.declared.plaintext.PlaintextFault.{PlaintextFault};
+ghost use Rattle.plane_core.specs.Plaintext.{is_live, fault_at, first_fault, live_cells, pattern, row_text, box_text, plain};
+ghost use Rattle.plane_core.specs.PlaintextPlaces.{Place, is_comment, places_of_row, places};
+
+use crate::bounds::Bounds;
+use crate::cell::Cell;
+use crate::out::{Out, WriteError};
+use crate::pattern::Pattern;
+use std::alloc::{AllocError, Global};
+use std::io::Write;
+use thiserror::Error;
+
+/// The most columns, and the most rows, of a plaintext pattern that is read.
+pub const SIDE_LIMIT: usize = 1_000;
+
+const DEAD: u8 = b'.';
+
+const LIVE: u8 = b'O';
+
+const STAR: u8 = b'*';
+
+const COMMENT: u8 = b'!';
+
+const LINE_FEED: u8 = b'\n';
+
+/// Dead cells that are written at once.
+const DEAD_CELLS: [u8; 64] = [DEAD; 64];
+
+/// What is wrong with a text that is no plaintext pattern.
+#[derive(Clone, Copy, Debug, PartialEq, Eq, Error)]
+pub enum PlaintextFault {
+    /// A byte of a row that is none of `.`, `O` and `*`. Lines and columns count from 1.
+    #[error("bad byte at line {line} column {column}")]
+    BadByte { line: usize, column: usize },
+    /// A cell past the 1,000th column or the 1,000th row.
+    #[error("pattern larger than 1000 by 1000")]
+    TooLarge,
+}
+
+/// Why no pattern was read.
+#[derive(Clone, Copy, Debug, PartialEq, Eq, Error)]
+pub enum PlaintextError {
+    /// The text is no plaintext pattern.
+    #[error(transparent)]
+    Fault(PlaintextFault),
+    /// Memory ran out.
+    #[error("out of memory")]
+    Memory,
+}
+
+/// The line without a carriage return at its end.
+fn without_return(line: &[u8]) -> &[u8]
+    ensures { result.now ≡ strip_carriage_return line.now }
+{
+    match line {
+        [front @ .., b'\r'] => front,
+        _ => line,
+    }
+}
+
+fn is_comment(line: &[u8]) -> bool
+    ensures { result ≡ is_comment line.now }
+{
+    line.first() == Some(&COMMENT)
+}
+
+fn is_live(byte: u8) -> bool
+    ensures { result ≡ is_live byte }
+{
+    byte == LIVE || byte == STAR
+}
+
+/// What is wrong with the byte of a row, if anything. Lines count from 1, and x and y from 0.
+#[tactic(auto, unfolding(crate::specs::Plaintext::fault_at))]
+fn fault_at(line: usize, y: usize, x: usize, byte: u8) -> Option<PlaintextFault>
+    requires { x < usize.MAX }
+    ensures { result ≡ fault_at (record { line = line; y = y; x = x; byte = byte }) }
+{
+    if byte != DEAD && !is_live(byte) {
+        return Some(PlaintextFault::BadByte {
+            line,
+            column: x + 1,
+        });
+    }
+    if x < SIDE_LIMIT && y < SIDE_LIMIT {
+        None
+    } else {
+        Some(PlaintextFault::TooLarge)
+    }
+}
+
+/// The first fault of a row.
+#[tactic(auto, using(crate::proofs::PlaintextRows::fault_here, crate::proofs::PlaintextRows::no_fault_here, crate::proofs::PlaintextRows::no_fault_past))]
+fn fault_in_row(line: usize, y: usize, row: &[u8]) -> Option<PlaintextFault>
+    ensures { result ≡ first_fault (places_of_row (y, (line, row.now))) }
+{
+    for (x, byte) in row.iter().enumerate() {
+        if let Some(fault) = fault_at(line, y, x, *byte) {
+            return Some(fault);
+        }
+    }
+    None
+}
+
+/// The first fault of a text.
+fn fault_in(text: &[u8]) -> Option<PlaintextFault>
+    ensures { result ≡ first_fault (places text.now) }
+{
+    let mut number = 0;
+    let mut y = 0;
+    for line in text.split(|byte| *byte == LINE_FEED) {
+        let line = without_return(line);
+        number += 1;
+        if !is_comment(line) {
+            if let Some(fault) = fault_in_row(number, y, line) {
+                return Some(fault);
+            }
+            y += 1;
+        }
+    }
+    None
+}
+
+fn small_cell(x: usize, y: usize) -> Cell
+    requires column { x < SIDE_LIMIT }
+    requires row { y < SIDE_LIMIT }
+    ensures { result ≡ cell_at (pos x) (pos y) }
+{
+    Cell {
+        y: y as i32,
+        x: x as i32,
+    }
+}
+
+/// Adds the cells of row y, each byte of which is in the first 1,000 columns and rows.
+#[tactic(auto, using(crate::proofs::PlaintextRows::live_here, crate::proofs::PlaintextRows::dead_here, crate::proofs::PlaintextRows::no_cell_past))]
+fn push_row(cells: &mut Vec<Cell>, y: usize, row: &[u8]) -> Result<(), AllocError>
+    requires { (x : ℕ) → x < length row.now → (x < SIDE_LIMIT) × (y < SIDE_LIMIT) }
+    ensures { OnOk result
+        (cells.new.items ≡ cells.old.items ++ live_cells (places_of_row (y, (0, row.now)))) }
+{
+    for (x, byte) in row.iter().enumerate() {
+        if is_live(*byte) {
+            cells.push(small_cell(x, y))?;
+        }
+    }
+    Ok(())
+}
+
+/// The pattern of a text that has no fault.
+fn pattern_in(alloc: Global, text: &[u8]) -> Result<Pattern, AllocError>
+    requires { first_fault (places text.now) ≡ None }
+    ensures { IfOk result (λ read. read ≡ live_cells (places text.now)) }
+{
+    let mut cells = Vec::new(alloc);
+    let mut y = 0;
+    for line in text.split(|byte| *byte == LINE_FEED) {
+        let row = without_return(line);
+        if !is_comment(row) {
+            push_row(&mut cells, y, row)?;
+            y += 1;
+        }
+    }
+    Ok(Pattern::from_ordered(cells))
+}
+
+/// The least box round the cells.
+fn box_of(cells: &[Cell]) -> Option<Bounds>
+    ensures { result ≡ box_of cells.now }
+{
+    let mut bounds: Option<Bounds> = None;
+    for i in (0..cells.len()).rev() {
+        bounds = Some(widened(cells[i], bounds));
+    }
+    bounds
+}
+
+/// The least box round a cell and the box.
+fn widened(cell: Cell, bounds: Option<Bounds>) -> Bounds
+    ensures { result ≡ option_map_or (widened cell) bounds (box_at cell) }
+{
+    let Cell { y, x } = cell;
+    match bounds {
+        None => Bounds {
+            left: x,
+            top: y,
+            right: x,
+            bottom: y,
+        },
+        Some(bounds) => Bounds {
+            left: x.min(bounds.left),
+            top: y.min(bounds.top),
+            right: x.max(bounds.right),
+            bottom: y.max(bounds.bottom),
+        },
+    }
+}
+
+fn dead_cells(count: usize) -> &'static [u8]
+    requires { count ≤ 64 }
+    ensures { result.now ≡ replicate count DEAD }
+{
+    &DEAD_CELLS[..count]
+}
+
+/// Writes as many dead cells as the gap is wide, and then a byte.
+fn put_after_gap<V: Write>(out: &mut Out<V>, gap: u32, byte: u8) -> Result<(), WriteError>
+    requires { out.old.failed ≡ false }
+    ensures { Writes V.contents out.old out.new result (replicate gap DEAD ++ byte ∷ []) }
+{
+    let mut left = gap as usize;
+    while left > 0 {
+        let some = left.min(DEAD_CELLS.len());
+        out.put(dead_cells(some))?;
+        left -= some;
+    }
+    out.put(&[byte])
+}
+
+/// How many of the cells, from the first on, are in row y.
+fn row_len(cells: &[Cell], y: i32) -> usize
+    ensures value { result ≡ prefix_len (λ c. int_eq c.y y) cells.now }
+    ensures bound { result ≤ length cells.now }
+{
+    cells.iter().take_while(|cell| cell.y == y).count()
+}
+
+/// The cells after those of row y.
+fn below(cells: &[Cell], y: i32) -> &[Cell]
+    ensures { result.now ≡ drop (prefix_len (λ c. int_eq c.y y) cells.now) cells.now }
+{
+    &cells[row_len(cells, y)..]
+}
+
+/// Writes row y of a box. No cell of an earlier row is left.
+fn write_row<V: Write>(
+    out: &mut Out<V>,
+    cells: &[Cell],
+    bounds: Bounds,
+    y: i32,
+) -> Result<(), WriteError>
+    requires fresh { out.old.failed ≡ false }
+    requires bounds { IsBox bounds }
+    requires cells { IsAhead y bounds cells.now }
+    ensures { Writes V.contents out.old out.new result (row_text cells.now bounds y) }
+{
+    let mut x = bounds.left;
+    for cell in &cells[..row_len(cells, y)] {
+        put_after_gap(out, x.abs_diff(cell.x), LIVE)?;
+        x = cell.x + 1;
+    }
+    put_after_gap(out, x.abs_diff(bounds.right + 1), LINE_FEED)
+}
+
+/// Writes the rows of the cells' box.
+fn write_rows<V: Write>(out: &mut Out<V>, cells: &[Cell], bounds: Bounds) -> Result<(), WriteError>
+    requires fresh { out.old.failed ≡ false }
+    requires bounds { IsBox bounds }
+    requires cells { IsAhead bounds.top bounds cells.now }
+    ensures { Writes V.contents out.old out.new result (box_text (Some bounds) cells.now) }
+{
+    let mut rest = cells;
+    for y in bounds.top..bounds.bottom + 1 {
+        write_row(out, rest, bounds, y)?;
+        rest = below(rest, y);
+    }
+    Ok(())
+}
+
+/// Writes the cells of a pattern.
+fn write_cells<V: Write>(out: &mut Out<V>, cells: &[Cell]) -> Result<(), WriteError>
+    requires fresh { out.old.failed ≡ false }
+    requires pattern { IsPattern cells.now }
+    ensures { Writes V.contents out.old out.new result (plain cells.now) }
+{
+    match box_of(cells) {
+        None => Ok(()),
+        Some(bounds) => write_rows(out, cells, bounds),
+    }
+}
+
+impl Pattern {
+    /// Reads a plaintext pattern file (LifeWiki, "Plaintext").
+    ///
+    /// Lines end with a line feed, which the last may lack; a carriage return at a line's end is dropped. A line
+    /// that begins with `!` is a comment. Each other line is the next row, from y = 0 on, and its bytes are the
+    /// cells from x = 0 on: `.` is dead, `O` and `*` are live.
+    ///
+    /// # Errors
+    ///
+    /// [`PlaintextError::Fault`] with the fault that stands first in the text, whether there is memory or not, and
+    /// [`PlaintextError::Memory`] where memory runs out.
+    pub fn read_plaintext(alloc: Global, input: &[u8]) -> Result<Pattern, PlaintextError>
+        ensures pattern { IfOk result (λ read. pattern input.now ≡ Ok read) }
+        ensures fault { (fault : PlaintextFault) →
+            IsErrOf result (PlaintextError.Fault fault) ↔ (pattern input.now ≡ Err fault) }
+    {
+        if let Some(fault) = fault_in(input) {
+            return Err(PlaintextError::Fault(fault));
+        }
+        pattern_in(alloc, input).map_err(|_| PlaintextError::Memory)
+    }
+    /// Writes the pattern as plaintext (LifeWiki, "Plaintext"): the rows of its least box from the top, each from the
+    /// box's left column to its right column with `.` and `O`, and each ended by a line feed. The empty pattern is
+    /// no byte. It takes no memory.
+    ///
+    /// # Errors
+    ///
+    /// [`WriteError`] where a write fails or takes no byte.
+    pub fn write_plaintext<V: Write>(&self, out: &mut Out<V>) -> Result<(), WriteError>
+        requires { out.old.failed ≡ false }
+        ensures { Writes V.contents out.old out.new result (plain self.now) }
+    {
+        write_cells(out, self.cells())
+    }
+}
