@@ -1,5 +1,5 @@
 -- What the rule texts and the inputs of commands stand for.
-use Rattle.std.specs.Prelude.{◌≡◌, ℕ, ◌^◌, List, length, nat_le, Result, Ok, Err, if◌then◌else◌}
+use Rattle.std.specs.Prelude.{◌≡◌, ℕ, ◌^◌, true, List, length, nat_le, Result, Ok, Err, if◌then◌else◌}
 use Rattle.std.specs.Result.{result_map_both}
 use Rattle.plane_core.specs.declared.cell.Cell.{Cell}
 use Rattle.plane_core.specs.declared.rule.RuleError.{RuleError}
@@ -10,6 +10,7 @@ use Rattle.plane_core.specs.declared.plaintext.PlaintextError.{PlaintextError}
 use Rattle.plane_core.specs.declared.plaintext.PlaintextError.TheVariants as error
 use Rattle.plane_core.specs.Rules.{Numbers}
 use Rattle.plane_core.specs.Rules.{rule_read}
+use Rattle.plane_core.specs.Generations.{lies_within}
 use Rattle.plane_core.specs.Plaintext.{pattern}
 use Rattle.census.specs.declared.complaint.Complaint.{Complaint}
 use Rattle.census.specs.declared.complaint.Complaint.TheVariants.{BadByte, PatternTooLarge, BadRule, BirthZero, OutOfMemory, ReadFailed}
@@ -45,6 +46,10 @@ abbrev pub pattern_of : List ℕ → Result (List Cell) Complaint
 pattern_of bytes = if nat_le (length bytes) (2 ^ 24)
     then result_map_both (λ cells. cells) pattern_complaint (pattern bytes)
     else Err ReadFailed
+
+-- the cells lie in the 999 columns and rows on each side of the origin, as do all that are read
+abbrev pub IsSmall : List Cell → Type 0
+IsSmall cells = lies_within 999 cells ≡ true
 
 -- a call that reads a value gives it, or its complaint, or finds that memory ran out or that a read failed
 abbrev pub Reads : {A : Type 0} → Result A Complaint → Result A Complaint → Type 0

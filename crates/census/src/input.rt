@@ -1,7 +1,7 @@
 ghost use Rattle.std.specs.Prelude.{◌≡◌, ℕ, List, ◌+◌, ◌<◌, ◌≤◌, ◌^◌, ◌++◌, length, take, IfOk, IfSome, OnOk, vec_len};
 ghost use Rattle.std.specs.Io.KnownBytes.{Consumes, IsAtEnd};
 ghost use Rattle.census.specs.Answers.{IsInput};
-ghost use Rattle.census.specs.Inputs.{Reads, pattern_of};
+ghost use Rattle.census.specs.Inputs.{IsSmall, Reads, pattern_of};
 
 use crate::complaint::Complaint;
 use plane_core::pattern::Pattern;
@@ -59,8 +59,10 @@ pub fn read_input<R: Read>(alloc: Global, input: &mut R) -> Result<Vec<u8>, Inpu
 ///
 /// `ReadFailed` where a read fails and where there are more than [`INPUT_LIMIT`] bytes, else `BadByte` or
 /// `PatternTooLarge` where the bytes are no pattern, and `OutOfMemory`.
+#[tactic(auto, using(crate::proofs::SmallPatterns::read_is_small))]
 pub fn read_pattern<R: Read>(alloc: Global, input: &mut R) -> Result<Pattern, Complaint>
-    ensures { (bytes : List ℕ) × IsInput (R.remaining input.old) bytes × Reads (pattern_of bytes) result }
+    ensures read { (bytes : List ℕ) × IsInput (R.remaining input.old) bytes × Reads (pattern_of bytes) result }
+    ensures small { IfOk result IsSmall }
 {
     let bytes = read_input(alloc, input)?;
     Ok(Pattern::read_plaintext(alloc, bytes.as_slice())?)

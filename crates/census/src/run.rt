@@ -1,7 +1,7 @@
 ghost use Rattle.std.specs.Prelude.{◌≡◌, ◌≤◌, ℕ, List, false, IsErr, IfOk, IfErr};
 ghost use Rattle.plane_core.specs.Generations.{after};
 ghost use Rattle.census.specs.Answers.{Ends, IsInput, Reaches};
-ghost use Rattle.census.specs.Inputs.{rule_of};
+ghost use Rattle.census.specs.Inputs.{IsSmall, rule_of};
 ghost use Rattle.census.specs.Run.{run_answer};
 ghost use Rattle.census.specs.Streams.{stream};
 
@@ -73,14 +73,16 @@ fn run<R: Read, W: Write>(
     Ok(())
 }
 
-/// The pattern some generations later. Only memory can be wanting.
+/// The pattern some generations later. Only memory can be wanting: a pattern that was read lies too near the origin
+/// for any of these generations to reach the edge of the plane.
 fn generation_after(
     alloc: Global,
     pattern: &Pattern,
     rule: &Rule,
     generations: u32,
 ) -> Result<Pattern, Complaint>
-    requires { generations ≤ GENERATION_LIMIT }
+    requires generations { generations ≤ GENERATION_LIMIT }
+    requires small { IsSmall pattern.now }
     ensures ok { IfOk result (λ later. later ≡ after rule.now pattern.now generations) }
     ensures err { IfErr result (λ complaint. complaint ≡ Complaint.OutOfMemory) }
 {

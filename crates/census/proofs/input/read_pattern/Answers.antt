@@ -3,13 +3,13 @@ use Rattle.census.specs.Inputs.{pattern_of}
 use Rattle.census.proofs.AnswerLemmas.{err_of, some_input, Reads_unread, Reads_error}
 use Rattle.census.proofs.input.read_pattern.Goals as goal
 
-pub returns-in_err-bytes : goal.returns-in_err-bytes
-returns-in_err-bytes g c =
+pub returns-in_err-bytes-clause-read : goal.returns-in_err-bytes-clause-read
+returns-in_err-bytes-clause-read g c =
     let some = some_input (g.R.Read.remaining c.args.input.now) in
     (some.0, some.1, rw (err_of _ _ c.from_residual.ensures.1) (Reads_unread (pattern_of some.0) c.in_err-bytes.field-0.0))
 
-pub returns-in_err-read_plaintext : goal.returns-in_err-read_plaintext
-returns-in_err-read_plaintext g c =
+pub returns-in_err-read_plaintext-clause-read : goal.returns-in_err-read_plaintext-clause-read
+returns-in_err-read_plaintext-clause-read g c =
     let bytes = c.in_ok-bytes.bytes.items in
     let read = c.as_slice.ensures in
     let short : length bytes ≤ 2 ^ 24 = rw (← read.value, read.len) c.in_ok-bytes.ensures.short in
