@@ -1,5 +1,5 @@
 -- Lemmas on what commands read and answer.
-use Rattle.std.proofs.Common.{◌≡◌, ◌≤◌, ◌^◌, ◌↔◌, ℕ, List, [], length, true, Option, None, Some, Result, Ok, Err, nat_le, refl, sym, ap, ◌∙◌, arith, rules}
+use Rattle.std.proofs.Common.{◌≡◌, ◌≤◌, ◌^◌, ◌↔◌, ℕ, List, [], length, true, Option, None, Some, Result, Ok, Err, nat_le, refl, ap, arith, rules}
 use Rattle.std.specs.Result.{IsErrAnd, IsErrOf, result_map_both}
 use Rattle.plane_core.specs.declared.cell.Cell.{Cell}
 use Rattle.plane_core.specs.declared.rule.RuleError.{RuleError}
@@ -16,8 +16,8 @@ use Rattle.census.specs.declared.status.Status.{Status}
 use Rattle.census.specs.declared.status.Status.TheVariants.{OutOfMemory}
 use Rattle.census.specs.declared.input.InputFault.{InputFault}
 use Rattle.census.specs.declared.input.InputFault.TheVariants as input_fault
-use Rattle.census.specs.Answers.{Answer, IsInput, Reaches, given}
-use Rattle.census.specs.Inputs.{Reads, input_complaint, plaintext_complaint, pattern_complaint, pattern_of, rule_complaint, rule_of}
+use Rattle.census.specs.Answers.{IsInput, Reaches}
+use Rattle.census.specs.Inputs.{Reads, input_complaint, plaintext_complaint, pattern_complaint, pattern_of, rule_complaint}
 use Rattle.census.specs.Run.{run_answer}
 use Rattle.census.specs.Complaints.{line_of}
 use Rattle.census.specs.Streams.{Stream, Has, HasLine}

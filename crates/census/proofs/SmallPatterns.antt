@@ -1,6 +1,5 @@
 -- The patterns that are read lie near the origin, so that no run of at most 100,000 generations meets the edge.
-use Rattle.std.proofs.Common.{◌≡◌, ℕ, pos, ◌<◌, true, false, cond, List, [], ◌∷◌, Option, None, Some, Ok, map, filter, refl, subst, arith}
-use Rattle.std.specs.List.{list_all}
+use Rattle.std.proofs.Common.{◌≡◌, ℕ, ◌<◌, true, false, cond, List, [], ◌∷◌, Option, None, Some, Ok, map, filter, refl, subst, arith}
 use Rattle.std.proofs.lemmas.Bool.{and_from}
 use Rattle.std.proofs.lemmas.Bool.Decides.{nat_tests}
 use Rattle.plane_core.specs.declared.cell.Cell.{Cell}

@@ -60,7 +60,8 @@ fn do_command<R: Read, W: Write, E: Write>(
     let Some(("run", found)) = matches.subcommand() else {
         return Status::Usage;
     };
-    // `clap` has seen to it that N is there and in its range.
+    // `clap` has seen to it that N is there and in its range: no contract says so of a subcommand's values, so that the
+    // number is bounded once more.
     let generations = found.get_one::<u32>("N").unwrap_or(0).min(GENERATION_LIMIT);
     let rule = found.get_str("rule").unwrap_or(LIFE);
     do_run(alloc, generations, rule, input, output, errors)
@@ -113,6 +114,6 @@ fn rule_option<'a>(alloc: Global) -> Arg<'a> {
         .value_name("TEXT")
         .default_value(LIFE)
         .help(
-            "The rule: `b`, the numbers of neighbours that give birth, `s`, those that a cell survives on",
+            "The rule, as b3s23: `b`, the numbers of live neighbours that give birth, `s`, the numbers on which a live cell survives",
         )
 }

@@ -1,4 +1,4 @@
-use Rattle.std.proofs.Common.{◌≡◌, ◌++◌, [], rules, arith}
+use Rattle.std.proofs.Common.{[], rules, arith}
 use Rattle.std.proofs.KnownBytes.{Consumes-trans, Consumes-all}
 use Rattle.census.proofs.input.read_input.Goals as goal
 

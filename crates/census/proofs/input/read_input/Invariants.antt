@@ -1,4 +1,4 @@
-use Rattle.std.proofs.Common.{◌≡◌, ◌+◌, ◌-◌, ◌<◌, length, vec_len}
+use Rattle.std.proofs.Common.{◌+◌, ◌-◌, ◌<◌, vec_len}
 use Rattle.std.specs.Io.KnownBytes.{Consumes}
 use Rattle.census.specs.declared.input.TheConstants.{INPUT_LIMIT}
 use Rattle.census.proofs.input.read_input.Given as goal

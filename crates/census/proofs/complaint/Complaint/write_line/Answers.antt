@@ -1,4 +1,3 @@
-use Rattle.census.specs.Complaints.{line_of}
 use Rattle.census.proofs.complaint.Complaint.write_line.Goals as goal
 
 pub returns-in-BadByte : goal.returns-in-BadByte
