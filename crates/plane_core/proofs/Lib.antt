@@ -4,6 +4,7 @@ pub mod CellLemmas
 pub mod GenerationLemmas
 pub mod MergeLemmas
 pub mod NeighbourLemmas
+pub mod OrientationLemmas
 pub mod OutLemmas
 pub mod PlacementLemmas
 pub mod PlaintextBox

@@ -1,11 +1,11 @@
 -- The eight orientations of a pattern: the symmetries of the square.
-use Rattle.std.specs.Prelude.{List, map, neg_ℤ}
+use Rattle.std.specs.Prelude.{◌≡◌, ℤ, List, map, neg_ℤ}
 use Rattle.plane_core.specs.declared.cell.Cell.{Cell}
 use Rattle.plane_core.specs.declared.orientation.Orientation.{Orientation}
 use Rattle.plane_core.specs.declared.orientation.Orientation.TheVariants.{Same, Quarter, Half, ThreeQuarter, Mirror, Flip, Diagonal, AntiDiagonal}
 use Rattle.plane_core.specs.declared.placement.Placement.{Placement}
 use Rattle.plane_core.specs.declared.bounds.Bounds.{Bounds}
-use Rattle.plane_core.specs.Bounds.{at_corner}
+use Rattle.plane_core.specs.Bounds.{at_corner, shifted}
 use Rattle.plane_core.specs.Cells.{cell_at, moved_by, set_of}
 
 -- where an orientation takes a cell
@@ -65,3 +65,15 @@ product a Mirror = mirror_after a
 product a AntiDiagonal = quarter_after (mirror_after a)
 product a Flip = quarter_after (quarter_after (mirror_after a))
 product a Diagonal = quarter_after (quarter_after (quarter_after (mirror_after a)))
+
+-- turning by one orientation and then by another is turning by their product
+abbrev pub TurningTwice : Type 0
+TurningTwice = (a b : Orientation) (cells : List Cell) → turned b (turned a cells) ≡ turned (product a b) cells
+
+-- each orientation can be turned back
+abbrev pub TurningBack : Type 0
+TurningBack = (a : Orientation) → (b : Orientation) × (product a b ≡ Same) × (product b a ≡ Same)
+
+-- turning doesn't mind where a pattern lies
+abbrev pub TurningMoved : Type 0
+TurningMoved = (a : Orientation) (dx dy : ℤ) (cells : List Cell) → turned a (shifted dx dy cells) ≡ turned a cells

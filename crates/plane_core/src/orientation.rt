@@ -1,6 +1,6 @@
 ghost use Rattle.std.specs.Prelude.{◌≡◌, ◌≤◌, true, neg_ℤ, unsigned_abs};
 ghost use Rattle.plane_core.specs.Cells.{cell_at, on_plane};
-ghost use Rattle.plane_core.specs.Orientations.{turned_cell};
+ghost use Rattle.plane_core.specs.Orientations.{turned_cell, TurningTwice, TurningBack, TurningMoved};
 ghost use Rattle.plane_core.specs.declared.cell.TheConstants.{BOUND};
 
 use crate::cell::Cell;
@@ -49,6 +49,13 @@ impl Orientation {
         }
     }
 }
+
+/// The laws of the eight orientations: they are the group of the square, up to moving to the corner.
+pub fn square_group()
+    ensures twice { TurningTwice }
+    ensures back { TurningBack }
+    ensures moved { TurningMoved }
+{}
 
 /// The cell in column x of row y.
 fn at(x: i32, y: i32) -> Cell

@@ -1,0 +1,7 @@
+pub mod Answers
+pub mod Complaints
+pub mod Inputs
+pub mod Run
+pub mod Status
+pub mod Streams
+pub mod Words

@@ -1,0 +1,26 @@
+-- What a command leaves on a stream.
+use Rattle.std.specs.Prelude.{ℕ, Bool, List, Option, MatchBool}
+use Rattle.std.specs.Io.KnownBytes.{Appends}
+use Rattle.plane_core.specs.Out.{Output, AppendsFront}
+
+-- A stream over a call: the bytes that stand there before and after, where they are known, and whether a write failed.
+pub record Stream : Type 0 where
+  pub before : Option (List ℕ)
+  pub after : Option (List ℕ)
+  pub failed : Bool
+
+-- the stream of a writer that was lent to a call; `contents` are the bytes that a writer holds, where they are known
+abbrev pub stream : {V : Type 0} → (V → Option (List ℕ)) → Output V → Output V → Stream
+stream contents old new = record { before = contents old.writer; after = contents new.writer; failed = new.failed }
+
+-- the text was added, and nothing else
+abbrev pub Has : Stream → List ℕ → Type 0
+Has s text = Appends s.before s.after text
+
+-- a front of the text was added, and nothing else
+abbrev pub HasFront : Stream → List ℕ → Type 0
+HasFront s text = AppendsFront s.before s.after text
+
+-- the line was added, or a front of it where a write failed
+abbrev pub HasLine : Stream → List ℕ → Type 0
+HasLine s line = MatchBool s.failed (HasFront s line) (Has s line)

@@ -1,0 +1,300 @@
+use crate::run::do_run;
+use crate::status::Status;
+use crate::words::do_words;
+use plane_core::output::Out;
+use std::io::{self, BufWriter, ErrorKind, Read, Write};
+use std::process::Abort;
+use std::test::Fail;
+
+const BLINKER: &[u8] = b"OOO\n";
+
+const UPRIGHT: &[u8] = b"O\nO\nO\n";
+
+/// What a command left: its status, and what stands on its two streams.
+#[derive(Drop)]
+struct Left {
+    status: Status,
+    output: Vec<u8>,
+    errors: Vec<u8>,
+}
+
+/// Does what the words ask for, with this input.
+fn left_by(rt: &impl AllocGlobal, words: &[&str], input: &[u8]) -> Left {
+    let mut input = input;
+    let mut output = Out::new(Vec::new(rt.alloc()));
+    let mut errors = Out::new(Vec::new(rt.alloc()));
+    let status = do_words(rt, words, &mut input, &mut output, &mut errors);
+    Left {
+        status,
+        output: output.into_inner(),
+        errors: errors.into_inner(),
+    }
+}
+
+/// Asserts that the words, with this input, end as done with this output and no line.
+fn assert_prints<R: Abort + AllocGlobal>(rt: &R, words: &[&str], input: &[u8], output: &[u8]) {
+    let left = left_by(rt, words, input);
+    assert_eq!(rt; left.status, Status::Done);
+    assert_eq!(rt; left.output.as_slice(), output);
+    assert!(rt; left.errors.is_empty());
+}
+
+/// Asserts that the words, with this input, end with this status and this line, and print nothing.
+fn assert_complains<R: Abort + AllocGlobal>(
+    rt: &R,
+    words: &[&str],
+    input: &[u8],
+    status: Status,
+    line: &[u8],
+) {
+    let left = left_by(rt, words, input);
+    assert_eq!(rt; left.status, status);
+    assert_eq!(rt; left.errors.as_slice(), line);
+    assert!(rt; left.output.is_empty());
+}
+
+fn live_count(text: &[u8]) -> usize {
+    text.iter().filter(|byte| **byte == b'O').count()
+}
+
+#[test]
+fn runs_patterns(rt: HostRuntime) {
+    let run = ["census", "run", "1"];
+    assert_prints(&rt, &run, BLINKER, UPRIGHT);
+    assert_prints(&rt, &run, b"", b"");
+    assert_prints(&rt, &run, b"!a comment\r\n*O*\r\n", UPRIGHT);
+    assert_prints(&rt, &run, b"OOO\n...\nOOO\n", b"O\nO\n.\nO\nO\n");
+    let rule = ["census", "run", "1", "--rule", "b36s23"];
+    assert_prints(&rt, &rule, b"OOO\n...\nOOO\n", b"O\nO\nO\nO\nO\n");
+    assert_prints(&rt, &["census", "run", "0"], b"...\n.O.\n", b"O\n");
+    assert_prints(&rt, &["census", "run", "100000"], BLINKER, BLINKER);
+}
+
+#[test]
+fn refuses_patterns_and_rules(rt: HostRuntime) {
+    let run = ["census", "run", "1"];
+    let line = b"census: bad byte at line 2 column 2\n";
+    assert_complains(&rt, &run, b"..\n.x", Status::Refused, line);
+    let bad = ["census", "run", "1", "--rule", "b33s2"];
+    assert_complains(
+        &rt,
+        &bad,
+        b"..\n.x",
+        Status::Refused,
+        b"census: bad rule at 2\n",
+    );
+    let zero = ["census", "run", "1", "--rule", "b03s23"];
+    let line = b"census: birth on zero neighbours\n";
+    assert_complains(&rt, &zero, BLINKER, Status::Refused, line);
+}
+
+#[test]
+fn refuses_a_wide_pattern(rt: HostRuntime) -> Result<(), Fail> {
+    let wide = vec![in rt.alloc(); b'.'; 1001]?;
+    let line = b"census: pattern larger than 1000 by 1000\n";
+    assert_complains(
+        &rt,
+        &["census", "run", "1"],
+        wide.as_slice(),
+        Status::Refused,
+        line,
+    );
+    Ok(())
+}
+
+#[test]
+fn shows_usage(rt: HostRuntime) {
+    let words: [&[&str]; 6] = [
+        &["census", "run", "100001"],
+        &["census", "run", "-1"],
+        &["census", "run"],
+        &["census"],
+        &["census", "--help"],
+        &["census", "run", "--help"],
+    ];
+    for words in words {
+        let left = left_by(&rt, words, BLINKER);
+        assert_eq!(rt; left.status, Status::Usage);
+        assert!(rt; left.output.is_empty());
+        assert!(rt; !left.errors.is_empty());
+    }
+}
+
+// The count stands in the public records of the pattern.
+#[test]
+fn settles_the_r_pentomino(rt: HostRuntime) {
+    let left = left_by(&rt, &["census", "run", "1103"], b".OO\nOO.\n.O.\n");
+    assert_eq!(rt; left.status, Status::Done);
+    assert_eq!(rt; live_count(left.output.as_slice()), 116);
+}
+
+// Of a full square only the corners live on, and beside each side three neighbours give birth to all but its ends.
+#[test]
+fn runs_the_largest_pattern(rt: HostRuntime) -> Result<(), Fail> {
+    let mut square = Vec::new(rt.alloc());
+    for _ in 0..1000 {
+        square.extend_from_slice(vec![in rt.alloc(); b'O'; 1000]?.as_slice())?;
+        square.push(b'\n')?;
+    }
+    let left = left_by(&rt, &["census", "run", "1"], square.as_slice());
+    assert_eq!(rt; left.status, Status::Done);
+    assert_eq!(rt; left.output.len(), 1002 * 1003);
+    assert_eq!(rt; live_count(left.output.as_slice()), 4 + 4 * 998);
+    Ok(())
+}
+
+#[test]
+fn reads_up_to_the_limit(rt: HostRuntime) -> Result<(), Fail> {
+    let mut comment = vec![in rt.alloc(); b'a'; 16_777_216]?;
+    if let Some(first) = comment.first_mut() {
+        *first = b'!';
+    }
+    let run = ["census", "run", "0"];
+    assert_prints(&rt, &run, comment.as_slice(), b"");
+    comment.push(b'a')?;
+    let line = b"census: read failed\n";
+    assert_complains(&rt, &run, comment.as_slice(), Status::Failed, line);
+    Ok(())
+}
+
+/// A reader that gives a text byte by byte and fails at one of its reads.
+#[derive(Drop)]
+struct FailingReader<'a> {
+    text: &'a [u8],
+    reads: usize,
+}
+
+impl Read for FailingReader<'_> {
+    fn read(&mut self, buf: &mut [u8]) -> io::Result<usize> {
+        if self.reads == 0 {
+            return Err(io::Error::from(ErrorKind::Other));
+        }
+        self.reads -= 1;
+        let Some((first, rest)) = self.text.split_first() else {
+            return Ok(0);
+        };
+        let Some(place) = buf.first_mut() else {
+            return Ok(0);
+        };
+        *place = *first;
+        self.text = rest;
+        Ok(1)
+    }
+}
+
+#[test]
+fn tells_each_failed_read(rt: HostRuntime) {
+    for reads in 0..6 {
+        let mut input = FailingReader {
+            text: BLINKER,
+            reads,
+        };
+        let mut output = Out::new(Vec::new(rt.alloc()));
+        let mut errors = Out::new(Vec::new(rt.alloc()));
+        let status = do_run(rt.alloc(), 1, "b3s23", &mut input, &mut output, &mut errors);
+        // Four bytes, and the read that finds the end.
+        if reads < 5 {
+            assert_eq!(rt; status, Status::Failed);
+            assert!(rt; output.into_inner().is_empty());
+            assert_eq!(rt;
+                errors.into_inner().as_slice(),
+                b"census: read failed\n".as_slice()
+            );
+        } else {
+            assert_eq!(rt; status, Status::Done);
+            assert_eq!(rt; output.into_inner().as_slice(), UPRIGHT);
+        }
+    }
+}
+
+/// A writer that takes a byte at each write, up to one at which it fails or takes none.
+#[derive(Drop)]
+struct FailingWriter {
+    taken: Vec<u8>,
+    writes: usize,
+    takes_none: bool,
+}
+
+impl Write for FailingWriter {
+    fn write(&mut self, buf: &[u8]) -> io::Result<usize> {
+        if self.writes == 0 && self.takes_none {
+            return Ok(0);
+        }
+        if self.writes == 0 {
+            return Err(io::Error::from(ErrorKind::Other));
+        }
+        self.writes -= 1;
+        let Some(first) = buf.first() else {
+            return Ok(0);
+        };
+        self.taken.push(*first)?;
+        Ok(1)
+    }
+
+    fn flush(&mut self) -> io::Result<()> {
+        Ok(())
+    }
+}
+
+/// Runs a blinker for one generation with a writer that fails at this write, and says what the writer took.
+fn taken_by<R: Abort + AllocGlobal>(
+    rt: &R,
+    writes: usize,
+    takes_none: bool,
+    status: Status,
+) -> Vec<u8> {
+    let mut input = BLINKER;
+    let mut output = Out::new(FailingWriter {
+        taken: Vec::new(rt.alloc()),
+        writes,
+        takes_none,
+    });
+    let mut errors = Out::new(Vec::new(rt.alloc()));
+    let found = do_run(rt.alloc(), 1, "b3s23", &mut input, &mut output, &mut errors);
+    assert_eq!(rt; found, status);
+    if status == Status::Failed {
+        assert_eq!(rt;
+            errors.into_inner().as_slice(),
+            b"census: write failed\n".as_slice()
+        );
+    }
+    output.into_inner().taken
+}
+
+#[test]
+fn tells_each_failed_write(rt: HostRuntime) {
+    for takes_none in [false, true] {
+        for writes in 0..6 {
+            let taken = taken_by(&rt, writes, takes_none, Status::Failed);
+            assert_eq!(rt; taken.len(), writes);
+            assert!(rt; UPRIGHT.starts_with(taken.as_slice()));
+        }
+        assert_eq!(rt;
+            taken_by(&rt, 6, takes_none, Status::Done).as_slice(),
+            UPRIGHT
+        );
+    }
+}
+
+#[test]
+fn tells_a_failed_write_of_what_was_buffered(rt: HostRuntime) -> Result<(), Fail> {
+    let mut input = BLINKER;
+    let writer = FailingWriter {
+        taken: Vec::new(rt.alloc()),
+        writes: 2,
+        takes_none: false,
+    };
+    let mut output = Out::new(BufWriter::new(rt.alloc(), writer)?);
+    let mut errors = Out::new(Vec::new(rt.alloc()));
+    let status = do_run(rt.alloc(), 1, "b3s23", &mut input, &mut output, &mut errors);
+    assert_eq!(rt; status, Status::Failed);
+    assert_eq!(rt;
+        errors.into_inner().as_slice(),
+        b"census: write failed\n".as_slice()
+    );
+    assert_eq!(rt;
+        output.into_inner().get_ref().taken.as_slice(),
+        b"O\n".as_slice()
+    );
+    Ok(())
+}
