@@ -1,6 +1,7 @@
 pub mod BlockLemmas
 pub mod BoundsLemmas
 pub mod CellLemmas
+pub mod CommuteLemmas
 pub mod GenerationLemmas
 pub mod MergeLemmas
 pub mod NeighbourLemmas

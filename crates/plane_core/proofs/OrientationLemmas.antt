@@ -21,7 +21,7 @@ or_left : (a b : Bool) → a ≡ true → (a || b) ≡ true
 or_left true b e = refl
 or_left false b e = absurd (false≢true e)
 
-has-map : (f : Cell → Cell) (cs : List Cell) (c : Cell) → has cs c ≡ true → has (map f cs) (f c) ≡ true
+pub has-map : (f : Cell → Cell) (cs : List Cell) (c : Cell) → has cs c ≡ true → has (map f cs) (f c) ≡ true
 has-map f [] c h = absurd (false≢true h)
 has-map f (d ∷ ds) c h = elim (has-cases d ds c h) [
   | inl same ↦ subst (λ (x : Cell). has (f d ∷ map f ds) (f x) ≡ true) (sym same) (has-head (f d) (map f ds))
@@ -29,7 +29,7 @@ has-map f (d ∷ ds) c h = elim (has-cases d ds c h) [
 ]
 
 -- a member of an image is the image of a member
-has-map_from : (f : Cell → Cell) (cs : List Cell) (c : Cell) → has (map f cs) c ≡ true → (d : Cell) × (has cs d ≡ true) × (c ≡ f d)
+pub has-map_from : (f : Cell → Cell) (cs : List Cell) (c : Cell) → has (map f cs) c ≡ true → (d : Cell) × (has cs d ≡ true) × (c ≡ f d)
 has-map_from f [] c h = absurd (false≢true h)
 has-map_from f (d ∷ ds) c h = go (has-cases (f d) (map f ds) c h) (has-map_from f ds c)
   where

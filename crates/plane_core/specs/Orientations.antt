@@ -6,7 +6,9 @@ use Rattle.plane_core.specs.declared.orientation.Orientation.TheVariants.{Same, 
 use Rattle.plane_core.specs.declared.placement.Placement.{Placement}
 use Rattle.plane_core.specs.declared.bounds.Bounds.{Bounds}
 use Rattle.plane_core.specs.Bounds.{at_corner, shifted}
-use Rattle.plane_core.specs.Cells.{cell_at, moved_by, set_of}
+use Rattle.plane_core.specs.Cells.{cell_at, moved_by, set_of, InOrder}
+use Rattle.plane_core.specs.Generations.{next}
+use Rattle.plane_core.specs.Rules.{Numbers}
 
 -- where an orientation takes a cell
 abbrev pub turned_cell : Orientation → Cell → Cell
@@ -77,3 +79,10 @@ TurningBack = (a : Orientation) → (b : Orientation) × (product a b ≡ Same) 
 -- turning doesn't mind where a pattern lies
 abbrev pub TurningMoved : Type 0
 TurningMoved = (a : Orientation) (dx dy : ℤ) (cells : List Cell) → turned a (shifted dx dy cells) ≡ turned a cells
+
+-- a generation doesn't mind where a pattern lies, nor how
+abbrev pub NextMoved : Type 0
+NextMoved = (dx dy : ℤ) (rule : Numbers) (cells : List Cell) → InOrder cells → next rule (shifted dx dy cells) ≡ shifted dx dy (next rule cells)
+
+abbrev pub NextTurned : Type 0
+NextTurned = (a : Orientation) (rule : Numbers) (cells : List Cell) → InOrder cells → next rule (image a cells) ≡ image a (next rule cells)

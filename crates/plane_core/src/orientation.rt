@@ -1,6 +1,6 @@
 ghost use Rattle.std.specs.Prelude.{◌≡◌, ◌≤◌, true, neg_ℤ, unsigned_abs};
 ghost use Rattle.plane_core.specs.Cells.{cell_at, on_plane};
-ghost use Rattle.plane_core.specs.Orientations.{turned_cell, TurningTwice, TurningBack, TurningMoved};
+ghost use Rattle.plane_core.specs.Orientations.{turned_cell, TurningTwice, TurningBack, TurningMoved, NextMoved, NextTurned};
 ghost use Rattle.plane_core.specs.declared.cell.TheConstants.{BOUND};
 
 use crate::cell::Cell;
@@ -55,6 +55,13 @@ pub fn square_group()
     ensures twice { TurningTwice }
     ensures back { TurningBack }
     ensures moved { TurningMoved }
+{}
+
+/// The laws of generations on the grid: the next generation of a pattern moved or turned is its next generation, moved
+/// or turned.
+pub fn isotropy()
+    ensures moved { NextMoved }
+    ensures turned { NextTurned }
 {}
 
 /// The cell in column x of row y.
