@@ -1,6 +1,8 @@
 pub mod BlockLemmas
 pub mod BoundsLemmas
 pub mod CellLemmas
+pub mod FloodLemmas
+pub mod FloodSteps
 pub mod GenerationLemmas
 pub mod MergeLemmas
 pub mod NeighbourLemmas

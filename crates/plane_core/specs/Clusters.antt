@@ -2,7 +2,7 @@
 use Rattle.std.specs.Prelude.{◌≡◌, ◌≤◌, true, ℕ, ◌↔◌, List, [], ◌∷◌, All, Any, AllPairs}
 use Rattle.plane_core.specs.declared.cell.Cell.{Cell}
 use Rattle.std.specs.declared.cmp.Ordering.TheVariants.{Less}
-use Rattle.plane_core.specs.Cells.{cell_cmp, king_distance, has}
+use Rattle.plane_core.specs.Cells.{InOrder, cell_cmp, king_distance, has}
 
 -- A list of cells of the pattern leads from c to d: each next one is at king distance at most 2 from the one before.
 abbrev pub Leads : List Cell → Cell → List Cell → Cell → Type 0
@@ -15,8 +15,9 @@ pub record Linked (cells : List Cell) (c d : Cell) : Type 0 where
   pub path : List Cell
   pub leads : Leads cells c path d
 
--- all cells that are linked to one cell
+-- all cells that are linked to one cell, in order
 pub record IsCluster (cells cluster : List Cell) : Type 0 where
+  pub in_order : InOrder cluster
   pub start : Cell
   pub has_start : has cells start ≡ true
   pub members : (d : Cell) → (has cluster d ≡ true) ↔ Linked cells start d
