@@ -1,7 +1,9 @@
 pub mod BlockLemmas
 pub mod BoundsLemmas
 pub mod CellLemmas
+pub mod ClusterLemmas
 pub mod FloodLemmas
+pub mod FloodLoops
 pub mod FloodSteps
 pub mod GenerationLemmas
 pub mod MergeLemmas

@@ -1,4 +1,4 @@
-ghost use Rattle.std.specs.Prelude.{◌≡◌, ◌<◌, ◌≤◌, ◌||◌, true, false, length, All, IfOk, IfSome, OnOk, ◌+ℤ◌, unsigned_abs, slice_get, Some};
+ghost use Rattle.std.specs.Prelude.{◌≡◌, ◌≤◌, ◌||◌, true, false, length, All, IfOk, OnOk, ◌+ℤ◌, unsigned_abs};
 ghost use Rattle.std.specs.List.{list_any};
 ghost use Rattle.plane_core.specs.Cells.{InOrder, IsPattern, has, moved_by, on_plane, same_cell, set_of};
 ghost use Rattle.plane_core.specs.Clusters.{AreClusters, IsCluster};
@@ -26,9 +26,9 @@ impl Pattern {
         let cells = self.cells();
         let mut marks = vec![in alloc; false; cells.len()]?;
         let mut clusters = Vec::new(alloc);
-        for place in 0..cells.len() {
+        for (place, cell) in cells.iter().enumerate() {
             if !marks[place] {
-                let cluster = flood(alloc, cells, place, &mut marks)?;
+                let cluster = flood(alloc, cells, *cell, &mut marks)?;
                 clusters.push(Pattern::from_ordered(cluster))?;
             }
         }
@@ -36,25 +36,27 @@ impl Pattern {
     }
 }
 
-/// The cluster of the cell at this place, and its cells are marked.
+/// The cluster of this cell, whose cells are marked from now on.
 fn flood(
     alloc: Global,
     cells: &[Cell],
-    place: usize,
+    start: Cell,
     marks: &mut [bool],
 ) -> Result<Vec<Cell>, AllocError>
     requires pattern { IsPattern cells.now }
     requires size { length marks.old ≡ length cells.now }
-    requires fresh { slice_get marks.old place ≡ Some false }
+    requires start { has cells.now start ≡ true }
+    requires fresh { marked cells.now marks.old start ≡ false }
     requires closed { IsClosed cells.now marks.old }
-    ensures size { length marks.new ≡ length cells.now }
+    ensures size { length marks.new ≡ length marks.old }
     ensures cluster { IfOk result (λ cluster. IsCluster cells.now cluster.items) }
     ensures pattern { IfOk result (λ cluster. IsPattern cluster.items) }
-    ensures start { IfOk result (λ cluster. IfSome (slice_get cells.now place) (λ c. has cluster.items c ≡ true)) }
+    ensures start { IfOk result (λ cluster. has cluster.items start ≡ true) }
+    ensures fresh { IfOk result (λ cluster. (c : Cell) → has cluster.items c ≡ true → marked cells.now marks.old c ≡ false) }
     ensures marks { IfOk result (λ cluster. (c : Cell) → marked cells.now marks.new c ≡ (marked cells.now marks.old c || has cluster.items c)) }
 {
     let mut reached = Vec::new(alloc);
-    take(cells, cells[place], marks, &mut reached)?;
+    take(cells, start, marks, &mut reached)?;
     let mut next = 0;
     while next < reached.len() {
         take_near(cells, reached[next], marks, &mut reached)?;
