@@ -1,5 +1,5 @@
 -- Being linked is an equivalence on the cells of a pattern.
-use Rattle.std.proofs.Common.{◌≡◌, ℕ, ℤ, ◌≤◌, true, List, [], ◌∷◌, ◌++◌, arith, refl, sym, subst}
+use Rattle.std.proofs.Common.{◌≡◌, ℤ, ◌≤◌, true, List, [], ◌∷◌, ◌++◌, arith, refl, sym, subst}
 use Rattle.std.proofs.lemmas.Int.{ints}
 use Rattle.plane_core.specs.declared.cell.Cell.{Cell}
 use Rattle.plane_core.specs.Cells.{has, distance, king_distance}

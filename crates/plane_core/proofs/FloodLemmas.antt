@@ -1,17 +1,16 @@
 -- Cells that are marked by their places, and cells that are taken.
-use Rattle.std.proofs.Common.{◌≡◌, ℕ, ◌+◌, ◌<◌, ◌≤◌, zero, suc, Bool, true, false, not, ◌||◌, ◌&&◌, List, [], ◌∷◌, ◌++◌, arith, cond, refl, ap, ◌∙◌, sym, subst, inl, inr, length, get_or, set, take, replicate, ℤ, Result, Ok, Err, is_ok, append_assoc}
+use Rattle.std.proofs.Common.{◌≡◌, ℕ, ◌+◌, ◌<◌, ◌≤◌, zero, suc, Bool, true, false, not, ◌||◌, ◌&&◌, List, [], ◌∷◌, ◌++◌, arith, refl, ap, ◌∙◌, sym, subst, inl, inr, length, get_or, set, take, replicate, ℤ, Err, append_assoc}
 use Rattle.std.specs.List.{list_any}
 use Rattle.std.proofs.lemmas.List.Folds.{list_any_more}
 use Rattle.std.specs.List.Sorted.{IsBinarySearchResult, IsSearchInRange}
-use Rattle.std.specs.declared.cmp.Ordering.TheVariants.{Equal}
-use Rattle.std.proofs.lemmas.Bool.{false≢true, cases_Bool, or_cases}
+use Rattle.std.proofs.lemmas.Bool.{false≢true, cases_Bool}
 use Rattle.std.proofs.lemmas.List.{append-nil, length_push, take_all}
 use Rattle.std.proofs.lemmas.List.Elements.{Contains-get_or}
 use Rattle.plane_core.specs.declared.cell.Cell.{Cell}
 use Rattle.plane_core.specs.Cells.{cell_cmp, same_cell, has, InOrder}
 use Rattle.plane_core.specs.Flood.{marked, unmarked, Takes}
-use Rattle.plane_core.proofs.CellLemmas.{cell_cmp-same, same_cell-same, same_cell-itself}
-use Rattle.plane_core.proofs.SetLemmas.{Contains-has, has-append, has-before, in_order-head, in_order-tail, or_right}
+use Rattle.plane_core.proofs.CellLemmas.{same_cell-same, same_cell-itself}
+use Rattle.plane_core.proofs.SetLemmas.{Contains-has, has-append, has-before, in_order-head, in_order-tail}
 use Rattle.plane_core.proofs.SearchLemmas.{searched-has}
 
 -- ---- marks

@@ -1,23 +1,23 @@
 -- The two loops of the search for clusters: one that floods a cluster, and one over all cells.
-use Rattle.std.proofs.Common.{◌≡◌, ℕ, ◌+◌, ◌<◌, ◌≤◌, zero, suc, Bool, true, false, not, ◌||◌, ◌&&◌, List, [], ◌∷◌, ◌++◌, arith, refl, ap, ◌∙◌, sym, subst, inl, inr, ◌⊎◌, length, get_or, take, Any, All}
-use Rattle.std.specs.List.{list_any, list_all, AllPairs}
+use Rattle.std.proofs.Common.{◌≡◌, ℕ, ◌+◌, ◌<◌, ◌≤◌, zero, suc, Bool, true, false, not, ◌||◌, ◌&&◌, List, [], ◌∷◌, ◌++◌, arith, refl, ap, ◌∙◌, sym, subst, inl, inr, ◌⊎◌, length, get_or, take, All}
+use Rattle.std.specs.List.{list_any, AllPairs}
 use Rattle.std.specs.Cmp.{tied_itself}
 use Rattle.std.specs.Ordering.{is_eq}
 use Rattle.std.specs.declared.cmp.Ordering.{Ordering}
 use Rattle.std.specs.declared.cmp.Ordering.TheVariants.{Less, Equal, Greater}
-use Rattle.std.proofs.lemmas.Bool.{false≢true, cases_Bool, or_cases, or_left, or_parts, and_parts, and_from, leb-true, le-leb, false_from_ne_true}
+use Rattle.std.proofs.lemmas.Bool.{false≢true, or_cases, or_left, and_parts, and_from, leb-true, le-leb, false_from_ne_true}
 use Rattle.std.proofs.lemmas.List.{take_more, take-append-le, take_all, length-append}
-use Rattle.std.proofs.lemmas.List.Elements.{All-push, All-weaker, All-nil}
+use Rattle.std.proofs.lemmas.List.Elements.{All-push, All-weaker}
 use Rattle.std.proofs.lemmas.List.Folds.{list_any-append, Any-from_list_any}
 use Rattle.std.proofs.lemmas.List.Quantifiers.{all_pairs_push}
 use Rattle.plane_core.specs.declared.cell.Cell.{Cell}
 use Rattle.plane_core.specs.Cells.{cell_cmp, same_cell, king_distance, has, set_of, on_plane, InOrder, IsPattern}
 use Rattle.plane_core.specs.Clusters.{Leads, Linked, IsCluster, AreClusters, FirstBefore}
-use Rattle.plane_core.specs.Flood.{is_near, marked, unmarked, IsClosed, Takes}
+use Rattle.plane_core.specs.Flood.{is_near, marked, IsClosed, Takes}
 use Rattle.plane_core.proofs.CellLemmas.{cell_cmp_total, cell_cmp-same, same_cell-same, same_cell-itself}
 use Rattle.plane_core.proofs.SetLemmas.{has-append, has-cases, has-head, has-all, has-set_of, has-before, before-trans, in_order-head, in_order-tail, in_order-set_of, or_right, greater_turned}
 use Rattle.plane_core.proofs.SearchLemmas.{list_all-has, has-list_all}
-use Rattle.plane_core.proofs.FloodLemmas.{has-get_or, marked-has}
+use Rattle.plane_core.proofs.FloodLemmas.{has-get_or}
 use Rattle.plane_core.proofs.ClusterLemmas.{king_distance-sym, linked-itself, linked-near, linked-trans, linked-has}
 
 -- ---- one cluster

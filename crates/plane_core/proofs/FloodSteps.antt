@@ -1,18 +1,17 @@
 -- The cells at king distance at most 2 are those at most two steps away in x and in y.
 use Rattle.std.proofs.Common.{◌≡◌, ℕ, ℤ, pos, negsuc, ◌+ℤ◌, ◌≤ℤ◌, ◌<ℤ◌, ◌≤◌, Bool, true, false, ◌||◌, ◌&&◌, List, [], ◌∷◌, arith, refl, ap, ◌∙◌, sym, inl, inr, ◌⊎◌, max, leb}
 use Rattle.std.specs.List.{list_any}
-use Rattle.std.specs.Cmp.{both_ways as both_true, signed_Decides}
+use Rattle.std.specs.Cmp.{both_ways as both_true}
 use Rattle.std.specs.Ordering.{int_eq, int_cmp, is_eq}
 use Rattle.std.specs.declared.cmp.Ordering.{Ordering}
 use Rattle.std.specs.declared.cmp.Ordering.TheVariants.{Less, Equal, Greater}
 use Rattle.std.proofs.lemmas.Cmp.{int_ranked}
-use Rattle.std.proofs.lemmas.Bool.{false≢true, cases_Bool, or_cases, and_parts, and_from, leb-true, le-leb, or_left}
+use Rattle.std.proofs.lemmas.Bool.{false≢true, or_cases, and_parts, and_from, leb-true, le-leb}
 use Rattle.std.proofs.lemmas.Int.{ints}
 use Rattle.plane_core.specs.declared.cell.Cell.{Cell}
-use Rattle.plane_core.specs.Cells.{same_cell, distance, king_distance, moved_by}
+use Rattle.plane_core.specs.Cells.{same_cell, distance, moved_by}
 use Rattle.plane_core.specs.Flood.{is_near, steps}
 use Rattle.plane_core.proofs.CellLemmas.{same_cell-eq}
-use Rattle.plane_core.proofs.SetLemmas.{or_right}
 use Rattle.plane_core.proofs.BlockLemmas.{int_eq-true}
 
 apart : (a b : ℤ) → int_eq a b ≡ false → (a <ℤ b) ⊎ (b <ℤ a)

@@ -1,5 +1,5 @@
 -- Clusters: the objects that a pattern falls into.
-use Rattle.std.specs.Prelude.{◌≡◌, ◌≤◌, true, ℕ, ◌↔◌, List, [], ◌∷◌, All, Any, AllPairs}
+use Rattle.std.specs.Prelude.{◌≡◌, ◌≤◌, true, ◌↔◌, List, [], ◌∷◌, All, Any, AllPairs}
 use Rattle.plane_core.specs.declared.cell.Cell.{Cell}
 use Rattle.std.specs.declared.cmp.Ordering.TheVariants.{Less}
 use Rattle.plane_core.specs.Cells.{InOrder, cell_cmp, king_distance, has}

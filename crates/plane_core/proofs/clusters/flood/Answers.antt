@@ -1,8 +1,8 @@
-use Rattle.std.proofs.Common.{◌≡◌, ◌≤◌, ◌<◌, ◌∙◌, List, length, arith, rules, subst, sym, ap, true}
+use Rattle.std.proofs.Common.{◌≡◌, ◌≤◌, ◌<◌, ◌∙◌, List, length, rules, subst, sym, ap, true}
 use Rattle.plane_core.specs.declared.cell.Cell.{Cell}
-use Rattle.plane_core.specs.Cells.{same_cell, has, on_plane, IsPattern, set_of}
+use Rattle.plane_core.specs.Cells.{same_cell, has, on_plane, IsPattern}
 use Rattle.plane_core.specs.Clusters.{IsCluster}
-use Rattle.plane_core.specs.Flood.{Takes, is_near, marked}
+use Rattle.plane_core.specs.Flood.{Takes, is_near}
 use Rattle.plane_core.proofs.SetLemmas.{has-set_of}
 use Rattle.plane_core.proofs.FloodLoops.{flooding-none, flooding-more, flooded, flooded-pattern, flooded-fresh, flooded-marks, flooding-on_plane}
 use Rattle.plane_core.proofs.clusters.flood.Goals as goal

@@ -1,4 +1,4 @@
-use Rattle.std.proofs.Common.{sym, ◌∙◌, ap, ◌≡◌, get_or, Bool, false, not}
+use Rattle.std.proofs.Common.{sym, ◌∙◌, ap, ◌≡◌, get_or}
 use Rattle.plane_core.specs.declared.cell.Cell.{Cell}
 use Rattle.plane_core.specs.Flood.{marked}
 use Rattle.plane_core.proofs.CellLemmas.{cell_cmp-same}

@@ -1,7 +1,6 @@
-use Rattle.std.proofs.Common.{◌≡◌, ◌+◌, ℤ, refl, arith, rules, get_or, subst, sym, pos, w32, FitsSigned, to_z, of_z, take}
+use Rattle.std.proofs.Common.{◌≡◌, ℤ, refl, rules, get_or, subst, pos, w32, FitsSigned, to_z, of_z}
 use Rattle.std.specs.List.{list_any}
 use Rattle.std.proofs.lemmas.Int.{to_z-of_z}
-use Rattle.plane_core.specs.declared.cell.Cell.{Cell}
 use Rattle.plane_core.specs.Cells.{moved_by, same_cell}
 use Rattle.plane_core.specs.Flood.{Takes, is_near, steps}
 use Rattle.plane_core.proofs.FloodLemmas.{takes_step, takes_all, takes_same}

@@ -1,4 +1,4 @@
-use Rattle.std.proofs.Common.{length, take}
+use Rattle.std.proofs.Common.{take}
 use Rattle.std.specs.List.{list_any}
 use Rattle.plane_core.specs.Cells.{moved_by, same_cell}
 use Rattle.plane_core.specs.Flood.{Takes, steps}

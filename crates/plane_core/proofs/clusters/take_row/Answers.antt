@@ -1,4 +1,4 @@
-use Rattle.std.proofs.Common.{◌≡◌, ◌+◌, ℤ, refl, arith, rules, get_or, subst, sym, pos, w32, FitsSigned, to_z, of_z, take}
+use Rattle.std.proofs.Common.{◌≡◌, ◌+◌, ℤ, refl, rules, get_or, subst, sym, pos, w32, FitsSigned, to_z, of_z, take}
 use Rattle.std.specs.List.{list_any}
 use Rattle.std.proofs.lemmas.Int.{to_z-of_z}
 use Rattle.plane_core.specs.declared.cell.Cell.{Cell}
