@@ -156,3 +156,6 @@ fn in_order(mut cells: Vec<Cell>) -> Vec<Cell>
     cells.dedup();
     cells
 }
+
+#[cfg(test)]
+mod tests;
