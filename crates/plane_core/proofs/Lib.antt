@@ -1,6 +1,7 @@
 pub mod BlockLemmas
 pub mod BoundsLemmas
 pub mod CellLemmas
+pub mod ClusterLaws
 pub mod ClusterLemmas
 pub mod FloodLemmas
 pub mod FloodLoops

@@ -1,7 +1,7 @@
 ghost use Rattle.std.specs.Prelude.{◌≡◌, ◌≤◌, ◌||◌, true, false, length, All, IfOk, OnOk, ◌+ℤ◌, unsigned_abs};
 ghost use Rattle.std.specs.List.{list_any};
 ghost use Rattle.plane_core.specs.Cells.{InOrder, IsPattern, has, moved_by, on_plane, same_cell, set_of};
-ghost use Rattle.plane_core.specs.Clusters.{AreClusters, IsCluster};
+ghost use Rattle.plane_core.specs.Clusters.{AreClusters, ClustersAreDetermined, ClustersLieApart, ClustersMoveAlong, ClustersPartition, IsCluster, LinkedIsAnEquivalence};
 ghost use Rattle.plane_core.specs.Flood.{IsClosed, Takes, is_near, marked, steps};
 ghost use Rattle.plane_core.specs.declared.cell.Cell.{Cell};
 ghost use Rattle.plane_core.specs.declared.cell.TheConstants.{BOUND};
@@ -35,6 +35,31 @@ impl Pattern {
         Ok(clusters)
     }
 }
+
+/// A law of all patterns: being linked parts their cells into classes.
+pub fn linked_is_an_equivalence()
+    ensures { LinkedIsAnEquivalence }
+{}
+
+/// A law of all patterns: no two clusters share a cell, and together they are the pattern.
+pub fn clusters_partition()
+    ensures { ClustersPartition }
+{}
+
+/// A law of all patterns: cells of two clusters are at king distance 3 or more.
+pub fn clusters_lie_apart()
+    ensures { ClustersLieApart }
+{}
+
+/// A law of all patterns: they have one list of clusters.
+pub fn clusters_are_determined()
+    ensures { ClustersAreDetermined }
+{}
+
+/// A law of all patterns: where the pattern is moved, its clusters move along.
+pub fn clusters_move_along()
+    ensures { ClustersMoveAlong }
+{}
 
 /// The cluster of this cell, whose cells are marked from now on.
 fn flood(
