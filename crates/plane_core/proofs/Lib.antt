@@ -1,7 +1,12 @@
 pub mod BlockLemmas
 pub mod BoundsLemmas
 pub mod CellLemmas
+pub mod ClusterLaws
+pub mod ClusterLemmas
 pub mod CommuteLemmas
+pub mod FloodLemmas
+pub mod FloodLoops
+pub mod FloodSteps
 pub mod GenerationLemmas
 pub mod MergeLemmas
 pub mod NeighbourLemmas

@@ -1,6 +1,7 @@
 pub mod Bounds
 pub mod Cells
 pub mod Clusters
+pub mod Flood
 pub mod Generations
 pub mod Orientations
 pub mod Out

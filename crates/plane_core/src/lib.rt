@@ -8,6 +8,8 @@
 pub mod bounds;
 /// Cells of the plane, and their order.
 pub mod cell;
+/// The objects that a pattern falls into.
+pub mod clusters;
 /// The next generation, and many.
 pub mod generation;
 /// The eight orientations.

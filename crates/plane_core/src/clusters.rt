@@ -1,0 +1,186 @@
+ghost use Rattle.std.specs.Prelude.{◌≡◌, ◌≤◌, ◌||◌, true, false, length, All, IfOk, OnOk, ◌+ℤ◌, unsigned_abs};
+ghost use Rattle.std.specs.List.{list_any};
+ghost use Rattle.plane_core.specs.Cells.{InOrder, IsPattern, has, moved_by, on_plane, same_cell, set_of};
+ghost use Rattle.plane_core.specs.Clusters.{AreClusters, ClustersAreDetermined, ClustersLieApart, ClustersMoveAlong, ClustersPartition, IsCluster, LinkedIsAnEquivalence};
+ghost use Rattle.plane_core.specs.Flood.{IsClosed, Takes, is_near, marked, steps};
+ghost use Rattle.plane_core.specs.declared.cell.Cell.{Cell};
+ghost use Rattle.plane_core.specs.declared.cell.TheConstants.{BOUND};
+
+use crate::cell::Cell;
+use crate::pattern::Pattern;
+use std::alloc::{AllocError, Global};
+
+impl Pattern {
+    /// The clusters, ordered by their first cells.
+    ///
+    /// Two cells at king distance at most 2 belong together, and so do cells that are joined by a chain of such
+    /// pairs.
+    ///
+    /// # Errors
+    ///
+    /// `AllocError` where memory is wanting.
+    pub fn clusters(&self, alloc: Global) -> Result<Vec<Pattern>, AllocError>
+        ensures clusters { IfOk result (λ clusters. AreClusters self.now clusters.items) }
+        ensures patterns { IfOk result (λ clusters. All IsPattern clusters.items) }
+    {
+        let cells = self.cells();
+        let mut marks = vec![in alloc; false; cells.len()]?;
+        let mut clusters = Vec::new(alloc);
+        for (place, cell) in cells.iter().enumerate() {
+            if !marks[place] {
+                let cluster = flood(alloc, cells, *cell, &mut marks)?;
+                clusters.push(Pattern::from_ordered(cluster))?;
+            }
+        }
+        Ok(clusters)
+    }
+}
+
+/// A law of all patterns: being linked parts their cells into classes.
+pub fn linked_is_an_equivalence()
+    ensures { LinkedIsAnEquivalence }
+{}
+
+/// A law of all patterns: no two clusters share a cell, and together they are the pattern.
+pub fn clusters_partition()
+    ensures { ClustersPartition }
+{}
+
+/// A law of all patterns: cells of two clusters are at king distance 3 or more.
+pub fn clusters_lie_apart()
+    ensures { ClustersLieApart }
+{}
+
+/// A law of all patterns: they have one list of clusters.
+pub fn clusters_are_determined()
+    ensures { ClustersAreDetermined }
+{}
+
+/// A law of all patterns: where the pattern is moved, its clusters move along.
+pub fn clusters_move_along()
+    ensures { ClustersMoveAlong }
+{}
+
+/// The cluster of this cell, whose cells are marked from now on.
+fn flood(
+    alloc: Global,
+    cells: &[Cell],
+    start: Cell,
+    marks: &mut [bool],
+) -> Result<Vec<Cell>, AllocError>
+    requires pattern { IsPattern cells.now }
+    requires size { length marks.old ≡ length cells.now }
+    requires start { has cells.now start ≡ true }
+    requires fresh { marked cells.now marks.old start ≡ false }
+    requires closed { IsClosed cells.now marks.old }
+    ensures size { length marks.new ≡ length marks.old }
+    ensures cluster { IfOk result (λ cluster. IsCluster cells.now cluster.items) }
+    ensures pattern { IfOk result (λ cluster. IsPattern cluster.items) }
+    ensures start { IfOk result (λ cluster. has cluster.items start ≡ true) }
+    ensures fresh { IfOk result (λ cluster. (c : Cell) → has cluster.items c ≡ true → marked cells.now marks.old c ≡ false) }
+    ensures marks { IfOk result (λ cluster. (c : Cell) → marked cells.now marks.new c ≡ (marked cells.now marks.old c || has cluster.items c)) }
+{
+    let mut reached = Vec::new(alloc);
+    take(cells, start, marks, &mut reached)?;
+    let mut next = 0;
+    while next < reached.len() {
+        take_near(cells, reached[next], marks, &mut reached)?;
+        next += 1;
+    }
+    Ok(in_order(reached))
+}
+
+/// Takes the cells at king distance at most 2 from this one.
+fn take_near(
+    cells: &[Cell],
+    cell: Cell,
+    marks: &mut [bool],
+    reached: &mut Vec<Cell>,
+) -> Result<(), AllocError>
+    requires in_order { InOrder cells.now }
+    requires on_plane { on_plane cell ≡ true }
+    requires size { length marks.old ≡ length cells.now }
+    ensures size { length marks.new ≡ length marks.old }
+    ensures takes { OnOk result (Takes cells.now (is_near cell) marks.old reached.old.items marks.new reached.new.items) }
+{
+    for dy in [-2, -1, 0, 1, 2] {
+        take_row(cells, cell, dy, marks, reached)?;
+    }
+    Ok(())
+}
+
+/// Takes the cells of one row dy further down, at most two columns away.
+fn take_row(
+    cells: &[Cell],
+    cell: Cell,
+    dy: i32,
+    marks: &mut [bool],
+    reached: &mut Vec<Cell>,
+) -> Result<(), AllocError>
+    requires in_order { InOrder cells.now }
+    requires on_plane { on_plane cell ≡ true }
+    requires leap { unsigned_abs dy ≤ 2 }
+    requires size { length marks.old ≡ length cells.now }
+    ensures size { length marks.new ≡ length marks.old }
+    ensures takes { OnOk result (Takes cells.now (λ c. list_any (λ dx. same_cell c (moved_by dx dy cell)) steps) marks.old reached.old.items marks.new reached.new.items) }
+{
+    for dx in [-2, -1, 0, 1, 2] {
+        take(cells, near(cell, dx, dy), marks, reached)?;
+    }
+    Ok(())
+}
+
+/// The cell (x + dx, y + dy), at most two steps away.
+#[tactic(auto, unfolding(crate::specs::Cells::on_plane))]
+fn near(cell: Cell, dx: i32, dy: i32) -> Cell
+    requires on_plane { on_plane cell ≡ true }
+    requires step { unsigned_abs dx ≤ 2 }
+    requires leap { unsigned_abs dy ≤ 2 }
+    ensures { result ≡ moved_by dx dy cell }
+{
+    let x = sum(cell.x, dx);
+    let y = sum(cell.y, dy);
+    Cell { y, x }
+}
+
+/// The sum of two numbers, of which neither is large.
+fn sum(a: i32, b: i32) -> i32
+    requires first { unsigned_abs a ≤ BOUND }
+    requires second { unsigned_abs b ≤ 2 }
+    ensures { result ≡ a +ℤ b }
+{
+    a + b
+}
+
+/// Marks the cell and puts it with those reached, where it is in the pattern and wasn't marked.
+fn take(
+    cells: &[Cell],
+    cell: Cell,
+    marks: &mut [bool],
+    reached: &mut Vec<Cell>,
+) -> Result<(), AllocError>
+    requires in_order { InOrder cells.now }
+    requires size { length marks.old ≡ length cells.now }
+    ensures size { length marks.new ≡ length marks.old }
+    ensures takes { OnOk result (Takes cells.now (λ c. same_cell c cell) marks.old reached.old.items marks.new reached.new.items) }
+{
+    if let Ok(place) = cells.binary_search(&cell) {
+        if !marks[place] {
+            reached.push(cell)?;
+            marks[place] = true;
+        }
+    }
+    Ok(())
+}
+
+/// The cells in order.
+fn in_order(mut cells: Vec<Cell>) -> Vec<Cell>
+    ensures { result.items ≡ set_of cells.items }
+{
+    cells.sort_unstable();
+    cells.dedup();
+    cells
+}
+
+#[cfg(test)]
+mod tests;
