@@ -1,5 +1,5 @@
 -- Moving and turning commute with the next generation.
-use Rattle.std.proofs.Common.{◌≡◌, ℕ, ℤ, pos, ◌+ℤ◌, neg_ℤ, ◌+◌, ◌==◌, max, Bool, true, false, ◌||◌, ◌&&◌, List, [], ◌∷◌, arith, cond, refl, ap, ◌∙◌, sym, subst, map, count_by, inl, inr, ◌⊎◌}
+use Rattle.std.proofs.Common.{◌≡◌, ℕ, ℤ, ◌+ℤ◌, neg_ℤ, ◌+◌, ◌==◌, max, true, false, ◌||◌, List, [], ◌∷◌, arith, cond, refl, ap, ◌∙◌, sym, subst, map}
 use Rattle.std.specs.Cmp.{both_ways as both_true}
 use Rattle.std.specs.Ordering.{is_eq, match_ordering}
 use Rattle.std.specs.declared.cmp.Ordering.{Ordering}
@@ -10,12 +10,12 @@ use Rattle.plane_core.specs.declared.cell.Cell.{Cell}
 use Rattle.plane_core.specs.declared.orientation.Orientation.{Orientation}
 use Rattle.plane_core.specs.declared.orientation.Orientation.TheVariants.{Same, Quarter, Half, ThreeQuarter, Mirror, Flip, Diagonal, AntiDiagonal}
 use Rattle.plane_core.specs.Bounds.{shifted}
-use Rattle.plane_core.specs.Cells.{cell_at, cell_cmp, same_cell, king_distance, distance, moved_by, has, put, set_of, InOrder}
+use Rattle.plane_core.specs.Cells.{cell_at, cell_cmp, king_distance, distance, moved_by, has, put, set_of, InOrder}
 use Rattle.plane_core.specs.Generations.{around, lives, next}
-use Rattle.plane_core.specs.Orientations.{turned_cell, image, product}
+use Rattle.plane_core.specs.Orientations.{turned_cell, image}
 use Rattle.plane_core.specs.Rules.{Numbers, is_birth, is_survival}
 use Rattle.plane_core.proofs.BlockLemmas.{around-cons}
-use Rattle.plane_core.proofs.CellLemmas.{cell_cmp-same, king_distance-moved, same_cell-same}
+use Rattle.plane_core.proofs.CellLemmas.{king_distance-moved}
 use Rattle.plane_core.proofs.GenerationLemmas.{has-next, in_order-next}
 use Rattle.plane_core.proofs.OrientationLemmas.{has-map, has-map_from, product-cell, turning_back}
 use Rattle.plane_core.proofs.PlacementLemmas.{in_order-shifted}

@@ -1,17 +1,16 @@
 -- The orientations are the group of the square, and they commute with moving and with the next generation.
-use Rattle.std.proofs.Common.{◌≡◌, ℕ, ℤ, pos, negsuc, ◌+ℤ◌, neg_ℤ, ◌+◌, ◌==◌, Bool, true, false, ◌||◌, ◌&&◌, List, [], ◌∷◌, arith, cond, refl, ap, ◌∙◌, sym, subst, inl, inr, ◌⊎◌, map, Option, Some, None}
+use Rattle.std.proofs.Common.{◌≡◌, ℤ, ◌+ℤ◌, neg_ℤ, Bool, true, false, ◌||◌, List, [], ◌∷◌, arith, refl, ap, ◌∙◌, sym, subst, inl, inr, ◌⊎◌, map, Option, Some, None}
 use Rattle.std.specs.Int.{int_min, int_max}
 use Rattle.std.specs.Cmp.{both_ways as both_true}
 use Rattle.std.proofs.lemmas.Int.{ints, clamps}
-use Rattle.std.proofs.lemmas.Bool.{false≢true, or_cases}
+use Rattle.std.proofs.lemmas.Bool.{false≢true}
 use Rattle.plane_core.specs.declared.bounds.Bounds.{Bounds}
 use Rattle.plane_core.specs.declared.cell.Cell.{Cell}
 use Rattle.plane_core.specs.declared.orientation.Orientation.{Orientation}
 use Rattle.plane_core.specs.declared.orientation.Orientation.TheVariants.{Same, Quarter, Half, ThreeQuarter, Mirror, Flip, Diagonal, AntiDiagonal}
-use Rattle.plane_core.specs.Bounds.{box_of, box_at, grown, widened, shifted, at_corner, cornered}
-use Rattle.plane_core.specs.Cells.{cell_at, same_cell, moved_by, has, set_of, InOrder}
+use Rattle.plane_core.specs.Bounds.{box_of, grown, shifted, at_corner, cornered}
+use Rattle.plane_core.specs.Cells.{cell_at, same_cell, moved_by, has, set_of}
 use Rattle.plane_core.specs.Orientations.{turned_cell, image, turned, quarter_after, mirror_after, product, TurningTwice, TurningBack, TurningMoved}
-use Rattle.plane_core.proofs.CellLemmas.{same_cell-same, same_cell-itself}
 use Rattle.plane_core.proofs.SetLemmas.{same_lists, in_order-set_of, has-set_of, has-head, has-cases, or_right}
 use Rattle.plane_core.proofs.TurnLemmas.{set_of-moved}
 
