@@ -1,8 +1,8 @@
 ghost use Rattle.std.specs.Prelude.{◌≡◌, ◌≤◌, ◌||◌, true, false, length, All, IfOk, OnOk, ◌+ℤ◌, unsigned_abs};
-ghost use Rattle.std.specs.List.{list_any};
 ghost use Rattle.plane_core.specs.Cells.{InOrder, IsPattern, has, moved_by, on_plane, same_cell, set_of};
-ghost use Rattle.plane_core.specs.Clusters.{AreClusters, ClustersAreDetermined, ClustersLieApart, ClustersMoveAlong, ClustersPartition, IsCluster, LinkedIsAnEquivalence};
-ghost use Rattle.plane_core.specs.Flood.{IsClosed, Takes, is_near, marked, steps};
+ghost use Rattle.plane_core.specs.Clusters.{AreClusters, IsCluster};
+ghost use Rattle.plane_core.specs.Clusters.{ClustersAreDetermined, ClustersLieApart, ClustersMoveAlong, ClustersPartition, LinkedIsAnEquivalence};
+ghost use Rattle.plane_core.specs.Flood.{IsClosed, MarksCluster, Takes, is_in_row, is_near, marked};
 ghost use Rattle.plane_core.specs.declared.cell.Cell.{Cell};
 ghost use Rattle.plane_core.specs.declared.cell.TheConstants.{BOUND};
 
@@ -77,8 +77,7 @@ fn flood(
     ensures cluster { IfOk result (λ cluster. IsCluster cells.now cluster.items) }
     ensures pattern { IfOk result (λ cluster. IsPattern cluster.items) }
     ensures start { IfOk result (λ cluster. has cluster.items start ≡ true) }
-    ensures fresh { IfOk result (λ cluster. (c : Cell) → has cluster.items c ≡ true → marked cells.now marks.old c ≡ false) }
-    ensures marks { IfOk result (λ cluster. (c : Cell) → marked cells.now marks.new c ≡ (marked cells.now marks.old c || has cluster.items c)) }
+    ensures marks { IfOk result (λ cluster. MarksCluster cells.now cluster.items marks.old marks.new) }
 {
     let mut reached = Vec::new(alloc);
     take(cells, start, marks, &mut reached)?;
@@ -101,7 +100,8 @@ fn take_near(
     requires on_plane { on_plane cell ≡ true }
     requires size { length marks.old ≡ length cells.now }
     ensures size { length marks.new ≡ length marks.old }
-    ensures takes { OnOk result (Takes cells.now (is_near cell) marks.old reached.old.items marks.new reached.new.items) }
+    ensures takes { OnOk result
+        (Takes cells.now (is_near cell) marks.old reached.old.items marks.new reached.new.items) }
 {
     for dy in [-2, -1, 0, 1, 2] {
         take_row(cells, cell, dy, marks, reached)?;
@@ -122,7 +122,8 @@ fn take_row(
     requires leap { unsigned_abs dy ≤ 2 }
     requires size { length marks.old ≡ length cells.now }
     ensures size { length marks.new ≡ length marks.old }
-    ensures takes { OnOk result (Takes cells.now (λ c. list_any (λ dx. same_cell c (moved_by dx dy cell)) steps) marks.old reached.old.items marks.new reached.new.items) }
+    ensures takes { OnOk result
+        (Takes cells.now (is_in_row cell dy) marks.old reached.old.items marks.new reached.new.items) }
 {
     for dx in [-2, -1, 0, 1, 2] {
         take(cells, near(cell, dx, dy), marks, reached)?;
@@ -162,7 +163,8 @@ fn take(
     requires in_order { InOrder cells.now }
     requires size { length marks.old ≡ length cells.now }
     ensures size { length marks.new ≡ length marks.old }
-    ensures takes { OnOk result (Takes cells.now (λ c. same_cell c cell) marks.old reached.old.items marks.new reached.new.items) }
+    ensures takes { OnOk result
+        (Takes cells.now (λ c. same_cell c cell) marks.old reached.old.items marks.new reached.new.items) }
 {
     if let Ok(place) = cells.binary_search(&cell) {
         if !marks[place] {

@@ -36,8 +36,8 @@ returns-clause-pattern c = subst (λ (cs : List Cell). IsPattern cs) (sym c.in_o
 pub returns-clause-start : goal.returns-clause-start
 returns-clause-start c = ap (λ (cs : List Cell). has cs c.args.start) c.in_order.ensures ∙ has-set_of c.loop-next.reached.items c.args.start ∙ c.loop-next.invariant.has_start
 
-pub returns-clause-fresh : goal.returns-clause-fresh
-returns-clause-fresh c = λ d h. flooded-fresh _ _ _ _ _ _ c.requires.closed c.requires.start c.requires.fresh c.loop-next.invariant d (ap (λ (cs : List Cell). has cs d) (sym c.in_order.ensures) ∙ h)
-
 pub returns-clause-marks : goal.returns-clause-marks
-returns-clause-marks c = λ d. rw c.in_order.ensures (flooded-marks _ _ _ _ _ _ c.loop-next.invariant d)
+returns-clause-marks c = record {
+  fresh = λ d h. flooded-fresh _ _ _ _ _ _ c.requires.closed c.requires.start c.requires.fresh c.loop-next.invariant d (ap (λ (cs : List Cell). has cs d) (sym c.in_order.ensures) ∙ h);
+  marks = λ d. rw c.in_order.ensures (flooded-marks _ _ _ _ _ _ c.loop-next.invariant d);
+}

@@ -41,8 +41,8 @@ loop-place-preserved c =
           let more = found-more c.cells-cells.result.now c.loop-place.marks.items w.flood.new.marks c.loop-place.clusters.items c.loop-place.place start w.in_ok-cluster.cluster.items pattern.in_order c.loop-place-test.true
           (get_or_default c.cells-cells.result.now c.loop-place.place start (cell_at (pos 0) (pos 0)) c.loop-place-test.true)
           size w.in_ok-cluster.ensures.cluster w.in_ok-cluster.ensures.pattern w.in_ok-cluster.ensures.start
-          (λ e h. ap (λ (marks : List Bool). marked c.cells-cells.result.now marks e) (sym same) ∙ w.in_ok-cluster.ensures.fresh e h)
-          (λ e. w.in_ok-cluster.ensures.marks e ∙ ap (λ (marks : List Bool). marked c.cells-cells.result.now marks e || has w.in_ok-cluster.cluster.items e) same)
+          (λ e h. ap (λ (marks : List Bool). marked c.cells-cells.result.now marks e) (sym same) ∙ w.in_ok-cluster.ensures.marks.fresh e h)
+          (λ e. w.in_ok-cluster.ensures.marks.marks e ∙ ap (λ (marks : List Bool). marked c.cells-cells.result.now marks e || has w.in_ok-cluster.cluster.items e) same)
           c.loop-place.invariant in
           rw (marks, clusters, w.from_ordered.ensures) more
       | else-not-index w ↦
