@@ -1,0 +1,5 @@
+pub mod Codes
+pub mod Columns
+pub mod Recurrences
+pub mod Texts
+pub mod Tokens

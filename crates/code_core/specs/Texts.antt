@@ -1,0 +1,54 @@
+-- The text of a pattern in extended Wechsler format (LifeWiki, "Apgcode").
+use Rattle.std.specs.Prelude.{◌+◌, ◌/◌, ℕ, zero, suc, Bool, ◌&&◌, List, [], ◌∷◌, ◌++◌, Option, None, Some, map, flat_map, nat_lt, if◌then◌else◌, option_map}
+use Rattle.std.specs.List.{range_with_len}
+use Rattle.plane_core.specs.declared.cell.Cell.{Cell}
+use Rattle.plane_core.specs.declared.bounds.Bounds.{Bounds}
+use Rattle.plane_core.specs.Bounds.{at_corner, box_of}
+use Rattle.plane_core.specs.Cells.{distance}
+use Rattle.code_core.specs.declared.token.Token.{Token}
+use Rattle.code_core.specs.declared.token.Token.TheVariants.{Column, Gap, NextStrip}
+use Rattle.code_core.specs.declared.wechsler.TheConstants.{SIDE_LIMIT}
+use Rattle.code_core.specs.Columns.{column}
+use Rattle.code_core.specs.Tokens.{spelling}
+
+-- a column before the tokens of a strip: an empty one is left out at the strip's end, and else it lengthens the gap that follows or makes one
+abbrev pub before : ℕ → List Token → List Token
+before zero [] = []
+before zero (Gap n ∷ tokens) = Gap (n + 1) ∷ tokens
+before zero (token ∷ tokens) = Gap 1 ∷ token ∷ tokens
+before (suc value) tokens = Column (suc value) ∷ tokens
+
+-- the tokens of a strip with these columns
+unfoldable pub strip_tokens : List ℕ → List Token
+strip_tokens [] = []
+strip_tokens (value ∷ values) = before value (strip_tokens values)
+
+-- the columns of strip k from the left, as many as the box is wide
+abbrev pub strip : List Cell → ℕ → ℕ → List ℕ
+strip cells width k = map (column cells k) (range_with_len 0 width)
+
+-- strips one below another
+abbrev pub joined : List (List Token) → List Token
+joined [] = []
+joined (tokens ∷ []) = tokens
+joined (tokens ∷ more ∷ strips) = tokens ++ NextStrip ∷ joined (more ∷ strips)
+
+-- the tokens of a pattern that lies at the corner and whose cells have columns up to right and rows up to bottom: a strip for each five rows
+unfoldable pub tokens_of : List Cell → ℕ → ℕ → List Token
+tokens_of cells right bottom = joined (map (λ k. strip_tokens (strip cells (right + 1) k)) (range_with_len 0 (bottom / 5 + 1)))
+
+-- the box is at most 40 by 40
+abbrev pub is_small : Bounds → Bool
+is_small b = nat_lt (distance b.left b.right) SIDE_LIMIT && nat_lt (distance b.top b.bottom) SIDE_LIMIT
+
+-- the text of a pattern with this box
+abbrev pub boxed_text : List Cell → Option Bounds → Option (List ℕ)
+boxed_text cells None = None
+boxed_text cells (Some b) =
+    if is_small b
+    then Some (flat_map spelling (tokens_of (at_corner cells) (distance b.left b.right) (distance b.top b.bottom)))
+    else None
+
+-- the text of a pattern moved to the corner; there is none where it is empty or its box is over 40 by 40
+unfoldable pub text : List Cell → Option (List ℕ)
+text cells = boxed_text cells (box_of cells)

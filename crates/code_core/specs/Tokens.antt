@@ -1,0 +1,33 @@
+-- The pieces of a text in extended Wechsler format (LifeWiki, "Apgcode").
+use Rattle.std.specs.Prelude.{◌≡◌, ◌==◌, ◌+◌, ◌-◌, ◌≤◌, ℕ, List, [], ◌∷◌, ◌++◌, All, codes, flat_map, nat_lt, if◌then◌else◌}
+use Rattle.code_core.specs.declared.token.Token.{Token}
+use Rattle.code_core.specs.declared.token.Token.TheVariants.{Column, Gap, NextStrip}
+
+-- the character of a value: `0` to `9` for 0 to 9, then `a` to `z` for 10 to 35
+unfoldable pub character : ℕ → ℕ
+character value = if nat_lt value 10 then 48 + value else 87 + value
+
+-- a run of empty columns by its length: `0`, `w` and `x` for 1 to 3, then `y` and the character of what is over 4
+unfoldable pub gap_text : ℕ → List ℕ
+gap_text n =
+    if n == 1 then codes "0"
+    else if n == 2 then codes "w"
+    else if n == 3 then codes "x"
+    else codes "y" ++ character (n - 4) ∷ []
+
+-- the text of a token; `z` begins the next strip
+abbrev pub spelling : Token → List ℕ
+spelling (Column value) = character value ∷ []
+spelling (Gap n) = gap_text n
+spelling NextStrip = codes "z"
+
+-- a column with a live cell, a run of 1 to 39 columns without one, or the next strip
+abbrev pub IsToken : Token → Type 0
+IsToken (Column value) = (1 ≤ value) × (value ≤ 31)
+IsToken (Gap n) = (1 ≤ n) × (n ≤ 39)
+IsToken NextStrip = Unit {0}
+
+-- the text is that of the tokens, one after another
+pub record Spells (tokens : List Token) (text : List ℕ) : Type 0 where
+  pub each : All IsToken tokens
+  pub spelled : flat_map spelling tokens ≡ text

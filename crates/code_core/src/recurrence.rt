@@ -1,0 +1,40 @@
+ghost use Rattle.std.specs.Prelude.{◌≡◌, ◌≢◌, ◌+◌, ◌<◌, ◌≤◌, ℕ, [], true, false, IfOk, IfSome, IfNone, OnOk, IsErrOf};
+ghost use Rattle.plane_core.specs.Generations.{after, touches_edge};
+ghost use Rattle.code_core.specs.Recurrences.{IsNew, Recurs};
+
+use crate::cycle::Recurrence;
+use plane_core::generation::StepError;
+use plane_core::pattern::Pattern;
+use plane_core::rule::Rule;
+use std::alloc::Global;
+
+/// When the pattern comes back, if it does so within the limit.
+///
+/// # Errors
+///
+/// `Edge` where a generation that is stepped on has a cell with a coordinate of 1,000,000 in size; `Memory` where memory
+/// is wanting. Generations are made in order until one is the pattern, moved or not, so the first of these that is met
+/// is answered.
+pub fn recurrence(
+    alloc: Global,
+    pattern: &Pattern,
+    rule: &Rule,
+    limit: u32,
+) -> Result<Option<Recurrence>, StepError>
+    requires pattern { pattern.now ≢ [] }
+    requires limit { (1 ≤ limit) × (limit ≤ 64) }
+    ensures recurs { IfOk result (λ found. IfSome found (Recurs rule.now pattern.now limit)) }
+    ensures never { IfOk result (λ found. IfNone found (IsNew rule.now pattern.now limit)) }
+    ensures inside { OnOk result ((g : ℕ) → g < limit → IsNew rule.now pattern.now g → touches_edge (after rule.now pattern.now g) ≡ false) }
+    ensures edge { IsErrOf result StepError.Edge → (g : ℕ) × (g < limit) × IsNew rule.now pattern.now g
+        × (touches_edge (after rule.now pattern.now g) ≡ true) }
+{
+    let mut later = pattern.copy(alloc)?;
+    for period in 1..=limit {
+        later = later.step(alloc, rule)?;
+        if let Some((dx, dy)) = pattern.shift_to(&later) {
+            return Ok(Some(Recurrence { period, dx, dy }));
+        }
+    }
+    Ok(None)
+}

@@ -1,0 +1,10 @@
+/// A piece of a text in extended Wechsler format.
+#[derive(Clone, Copy, Debug, PartialEq, Eq)]
+pub(crate) enum Token {
+    /// A column with a live cell, by its value from 1 to 31.
+    Column(u8),
+    /// So many columns without a live cell, 1 to 39.
+    Gap(u8),
+    /// The end of a strip, and the beginning of the next.
+    NextStrip,
+}
