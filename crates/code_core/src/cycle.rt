@@ -1,7 +1,72 @@
+ghost use Rattle.std.specs.Prelude.{◌≡◌, ◌≢◌, ◌++◌, ◌<◌, ◌≤◌, ℕ, suc, [], ◌∷◌, true, false, IfOk, IfSome, IfNone, OnOk, IsErrOf};
+ghost use Rattle.plane_core.specs.Generations.{after, touches_edge};
+ghost use Rattle.code_core.specs.Recurrences.{IsNew, Recurs, phases};
+
+use plane_core::generation::StepError;
+use plane_core::pattern::Pattern;
+use plane_core::rule::Rule;
+use std::alloc::{AllocError, Global};
+
 /// How a pattern comes back: it is itself, moved by (dx, dy), after `period` generations, and not earlier.
 #[derive(Clone, Copy, Debug, PartialEq, Eq)]
 pub struct Recurrence {
     pub period: u32,
     pub dx: i32,
     pub dy: i32,
+}
+
+/// A pattern that recurs: its phases, from the pattern itself on, and how it comes back.
+#[derive(Debug, Drop)]
+pub(crate) struct Cycle {
+    pub(crate) phases: Vec<Pattern>,
+    pub(crate) recurrence: Recurrence,
+}
+
+/// Follows the pattern until it comes back, if it does so within the limit. Each phase is made once.
+pub(crate) fn follow(
+    alloc: Global,
+    pattern: &Pattern,
+    rule: &Rule,
+    limit: u32,
+) -> Result<Option<Cycle>, StepError>
+    requires pattern { pattern.now ≢ [] }
+    ensures recurs { IfOk result (λ found. IfSome found (λ cycle. Recurs rule.now pattern.now limit cycle.recurrence)) }
+    ensures phases { IfOk result (λ found. IfSome found (λ cycle. cycle.phases.items ≡ phases rule.now pattern.now cycle.recurrence.period)) }
+    ensures never { IfOk result (λ found. IfNone found (IsNew rule.now pattern.now limit)) }
+    ensures inside { OnOk result ((g : ℕ) → g < limit → IsNew rule.now pattern.now g → touches_edge (after rule.now pattern.now g) ≡ false) }
+    ensures edge { IsErrOf result StepError.Edge → (g : ℕ) × (g < limit) × IsNew rule.now pattern.now g
+        × (touches_edge (after rule.now pattern.now g) ≡ true) }
+{
+    let mut phases = Vec::new(alloc);
+    let mut latest = pattern.copy(alloc)?;
+    for age in 0..limit {
+        let next = latest.step(alloc, rule)?;
+        keep(&mut phases, latest)?;
+        if let Some((dx, dy)) = pattern.shift_to(&next) {
+            let recurrence = recurrence_at(age, dx, dy);
+            return Ok(Some(Cycle { phases, recurrence }));
+        }
+        latest = next;
+    }
+    Ok(None)
+}
+
+/// Puts a phase behind the others.
+fn keep(phases: &mut Vec<Pattern>, phase: Pattern) -> Result<(), AllocError>
+    ensures { OnOk result (phases.new.items ≡ phases.old.items ++ phase ∷ []) }
+{
+    phases.push(phase)?;
+    Ok(())
+}
+
+/// The recurrence whose period is one more than this number of generations.
+fn recurrence_at(age: u32, dx: i32, dy: i32) -> Recurrence
+    requires { age < u32.MAX }
+    ensures { result ≡ record { period = suc age; dx = dx; dy = dy } }
+{
+    Recurrence {
+        period: age + 1,
+        dx,
+        dy,
+    }
 }

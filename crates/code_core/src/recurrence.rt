@@ -1,8 +1,8 @@
-ghost use Rattle.std.specs.Prelude.{◌≡◌, ◌≢◌, ◌+◌, ◌<◌, ◌≤◌, ℕ, [], true, false, IfOk, IfSome, IfNone, OnOk, IsErrOf};
+ghost use Rattle.std.specs.Prelude.{◌≡◌, ◌≢◌, ◌<◌, ◌≤◌, ℕ, [], true, false, IfOk, IfSome, IfNone, OnOk, IsErrOf};
 ghost use Rattle.plane_core.specs.Generations.{after, touches_edge};
 ghost use Rattle.code_core.specs.Recurrences.{IsNew, Recurs};
 
-use crate::cycle::Recurrence;
+use crate::cycle::{Recurrence, follow};
 use plane_core::generation::StepError;
 use plane_core::pattern::Pattern;
 use plane_core::rule::Rule;
@@ -29,12 +29,6 @@ pub fn recurrence(
     ensures edge { IsErrOf result StepError.Edge → (g : ℕ) × (g < limit) × IsNew rule.now pattern.now g
         × (touches_edge (after rule.now pattern.now g) ≡ true) }
 {
-    let mut later = pattern.copy(alloc)?;
-    for period in 1..=limit {
-        later = later.step(alloc, rule)?;
-        if let Some((dx, dy)) = pattern.shift_to(&later) {
-            return Ok(Some(Recurrence { period, dx, dy }));
-        }
-    }
-    Ok(None)
+    let found = follow(alloc, pattern, rule, limit)?;
+    Ok(found.map(|cycle| cycle.recurrence))
 }

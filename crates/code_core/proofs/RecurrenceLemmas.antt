@@ -1,0 +1,81 @@
+-- Following a pattern until it comes back.
+use Rattle.std.proofs.Common.{◌≡◌, ◌≢◌, ◌∙◌, sym, ap, refl, subst, ℕ, suc, ℤ, ◌+◌, ◌<◌, ◌≤◌, List, [], ◌∷◌, ◌++◌, Option, None, Some, map, false, arith, below_more, eq-or-lt_of_le, inl, inr, ◌⊎◌}
+use Rattle.std.proofs.lemmas.Bool.Decides.{leb_tells}
+use Rattle.std.proofs.lemmas.List.FromFn.{map-range_with_len_more}
+use Rattle.plane_core.specs.declared.cell.Cell.{Cell}
+use Rattle.plane_core.specs.Bounds.{shifted, TellsShift}
+use Rattle.plane_core.specs.Generations.{after, next, touches_edge}
+use Rattle.plane_core.specs.Rules.{Numbers}
+use Rattle.plane_core.proofs.GenerationLemmas.{after-none, after-more}
+use Rattle.code_core.specs.declared.cycle.Recurrence.{Recurrence}
+use Rattle.code_core.specs.Recurrences.{Follows, IsNew, Recurs, phases}
+
+-- one phase more
+pub phases-more : (rule : Numbers) (cells : List Cell) (n : ℕ) → phases rule cells (n + 1) ≡ phases rule cells n ++ after rule cells n ∷ []
+unfolding phases
+phases-more rule cells n = map-range_with_len_more (after rule cells) 0 n n (omega arith)
+
+le_or_lt : (a b : ℕ) → (a ≤ b) ⊎ (b < a)
+le_or_lt a b = elim (leb_tells a b) [ | inl h ↦ inl h.1 | inr h ↦ inr h.1 ]
+
+-- at the start there is the pattern itself
+pub follows-none : (rule : Numbers) (cells latest : List Cell) → latest ≡ cells → Follows rule cells 0 [] latest
+unfolding phases
+follows-none rule cells latest is = record {
+  earlier = refl;
+  latest = is ∙ sym (after-none rule cells);
+  new = λ p dx dy some none. absurd (omega arith);
+  inside = λ g low. absurd (omega arith);
+}
+
+-- the generation after the latest
+next_of : (rule : Numbers) (cells latest later : List Cell) (n : ℕ) → latest ≡ after rule cells n → later ≡ next rule latest → later ≡ after rule cells (n + 1)
+next_of rule cells latest later n is next_is = next_is ∙ ap (next rule) is ∙ sym (after-more rule cells n)
+
+-- no generation up to the latest touches the edge
+pub inside-more : (rule : Numbers) (cells : List Cell) (n : ℕ) (before : List (List Cell)) (latest : List Cell) → Follows rule cells n before latest → touches_edge latest ≡ false
+    → (g : ℕ) → g < n + 1 → touches_edge (after rule cells g) ≡ false
+inside-more rule cells n before latest h off = below_more _ _ h.inside (ap touches_edge (sym h.latest) ∙ off)
+
+-- one generation more, which isn't the pattern again
+pub follows-more : (rule : Numbers) (cells : List Cell) (n : ℕ) (before : List (List Cell)) (latest later : List Cell) → Follows rule cells n before latest
+    → touches_edge latest ≡ false → later ≡ next rule latest → ((dx dy : ℤ) → shifted dx dy cells ≢ later) → Follows rule cells (n + 1) (before ++ latest ∷ []) later
+follows-more rule cells n before latest later h off next_is other = record {
+  earlier = (λ k. h.earlier k ++ h.latest k ∷ []) ∙ sym (phases-more rule cells n);
+  latest = is;
+  new = λ p dx dy some low back. new p dx dy some low back;
+  inside = inside-more rule cells n before latest h off;
+}
+  where
+    is : later ≡ after rule cells (n + 1)
+    is = next_of rule cells latest later n h.latest next_is
+    new : IsNew rule cells (n + 1)
+    new p dx dy some low back = elim (eq-or-lt_of_le low) [
+        | inl e ↦ other dx dy (sym (subst (λ (q : ℕ). after rule cells q ≡ shifted dx dy cells) e back) ∙ sym is)
+        | inr less ↦ h.new p dx dy some (omega arith) back
+      ]
+
+-- the search ends where a generation is the pattern again
+pub recurs_then : (rule : Numbers) (cells : List Cell) (n limit : ℕ) (before : List (List Cell)) (latest later : List Cell) (dx dy : ℤ) → Follows rule cells n before latest
+    → n < limit → later ≡ next rule latest → shifted dx dy cells ≡ later → Recurs rule cells limit (record { period = suc n; dx = dx; dy = dy })
+recurs_then rule cells n limit before latest later dx dy h low next_is is = record {
+  some = omega arith;
+  within = omega arith;
+  back = ap (λ (g : ℕ). after rule cells g) (omega arith) ∙ sym (next_of rule cells latest later n h.latest next_is) ∙ sym is;
+  least = λ p ex ey some less back. h.new p ex ey some (omega arith) back;
+}
+
+-- no generation that was stepped on touches the edge
+pub inside_then : (rule : Numbers) (cells : List Cell) (n : ℕ) (before : List (List Cell)) (latest later : List Cell) (dx dy : ℤ) → Follows rule cells n before latest
+    → touches_edge latest ≡ false → later ≡ next rule latest → shifted dx dy cells ≡ later → (g : ℕ) → IsNew rule cells g → touches_edge (after rule cells g) ≡ false
+inside_then rule cells n before latest later dx dy h off next_is is g new =
+    elim (le_or_lt (n + 1) g) [
+      | inl far ↦ absurd (new (n + 1) dx dy (omega arith) far (sym (next_of rule cells latest later n h.latest next_is) ∙ sym is))
+      | inr near ↦ inside-more rule cells n before latest h off g near
+    ]
+
+-- the phases that were kept, with the latest one
+pub phases_then : (rule : Numbers) (cells : List Cell) (n : ℕ) (before : List (List Cell)) (latest : List Cell) → Follows rule cells n before latest
+    → before ++ latest ∷ [] ≡ phases rule cells (suc n)
+phases_then rule cells n before latest h =
+    (λ k. h.earlier k ++ h.latest k ∷ []) ∙ sym (phases-more rule cells n) ∙ ap (phases rule cells) (omega arith)
