@@ -1,1 +1,2 @@
 pub mod RecurrenceLemmas
+pub mod NameLemmas

@@ -50,10 +50,19 @@ number_of Still cells r = length cells
 number_of Oscillator cells r = r.period
 number_of Ship cells r = r.period
 
--- the name with a text, and that of an object too large for one
+-- how a name begins, with a text and for an object too large for one
+abbrev pub opening : Option (List ℕ) → List ℕ
+opening None = codes "ov_"
+opening (Some t) = codes "x"
+
+-- and how it ends
+abbrev pub ending : Option (List ℕ) → List ℕ
+ending None = []
+ending (Some t) = codes "_" ++ t
+
+-- the name of an object of this kind, with this number and text
 unfoldable pub code_text : Kind → ℕ → Option (List ℕ) → List ℕ
-code_text kind number (Some t) = codes "x" ++ (letter kind ++ (decimal number ++ (codes "_" ++ t)))
-code_text kind number None = codes "ov_" ++ (letter kind ++ decimal number)
+code_text kind number text = opening text ++ (letter kind ++ (decimal number ++ ending text))
 
 -- the name of a pattern that recurs within the limit: its kind, its number and the least text of its phases in all orientations
 pub record IsCode (rule : Numbers) (cells : List Cell) (limit : ℕ) (code : List ℕ) : Type 0 where

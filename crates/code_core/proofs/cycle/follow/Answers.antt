@@ -1,4 +1,4 @@
-use Rattle.std.proofs.Common.{◌≡◌, ◌∙◌, sym, ap, suc, arith, rules, FitsSigned, to_z-of_z, w32}
+use Rattle.std.proofs.Common.{◌≡◌, ap, suc, arith, rules, FitsSigned, to_z-of_z, w32}
 use Rattle.plane_core.specs.Bounds.{shifted}
 use Rattle.code_core.specs.declared.cycle.Recurrence.{Recurrence}
 use Rattle.code_core.proofs.RecurrenceLemmas.{follows-none, follows-more, recurs_then, inside_then, phases_then}
