@@ -1,2 +1,4 @@
 pub mod RecurrenceLemmas
 pub mod NameLemmas
+pub mod ImageLemmas
+pub mod LeastLemmas

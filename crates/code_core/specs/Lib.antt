@@ -1,5 +1,6 @@
 pub mod Codes
 pub mod Columns
+pub mod Least
 pub mod Names
 pub mod Recurrences
 pub mod Texts

@@ -7,6 +7,8 @@ pub mod apgcode;
 pub mod cycle;
 /// When a pattern comes back.
 pub mod recurrence;
+/// The names of patterns that recur.
+pub mod name;
 mod token;
 /// The text of a pattern.
 pub mod wechsler;

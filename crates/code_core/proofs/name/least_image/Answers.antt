@@ -1,0 +1,14 @@
+use Rattle.std.proofs.Common.{◌≡◌, List, ℕ, option_map, string_bytes, rules, length}
+use Rattle.code_core.specs.Least.{IsImageAt}
+use Rattle.code_core.proofs.LeastLemmas.{tells_more, tells_none, tells_one}
+use Rattle.code_core.proofs.name.least_image.Goals as goal
+
+-- one orientation more
+pub loop-orientation-preserved : goal.loop-orientation-preserved
+loop-orientation-preserved c =
+    rw (c.earlier-least.ensures, c.in_ok-found.ensures) (tells_more (IsImageAt c.args.orientations.now c.args.pattern.now) c.loop-orientation.orientation-index _ _ c.loop-orientation.invariant (tells_one _))
+
+pub returns : goal.returns
+returns c = 
+    let all : c.loop-orientation.orientation-index ≡ length c.args.orientations.now = search rules in
+    rw (← all) c.loop-orientation.invariant

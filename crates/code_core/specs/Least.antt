@@ -1,0 +1,35 @@
+-- How the least text of a pattern's images is looked for.
+use Rattle.std.specs.Prelude.{◌≡◌, ◌<◌, ℕ, List, [], ◌∷◌, get_or, Option, None, Some}
+use Rattle.std.specs.Ordering.{match_ordering}
+use Rattle.plane_core.specs.declared.cell.Cell.{Cell}
+use Rattle.plane_core.specs.declared.orientation.Orientation.{Orientation}
+use Rattle.plane_core.specs.declared.orientation.Orientation.TheVariants.{Same, Quarter, Half, ThreeQuarter, Mirror, Flip, Diagonal, AntiDiagonal}
+use Rattle.plane_core.specs.Orientations.{turned}
+use Rattle.code_core.specs.Codes.{text_cmp}
+use Rattle.code_core.specs.Texts.{text}
+
+-- the earlier of two texts, where there are two
+abbrev pub earlier_of : Option (List ℕ) → Option (List ℕ) → Option (List ℕ)
+earlier_of None b = b
+earlier_of (Some a) None = Some a
+earlier_of (Some a) (Some b) = match_ordering (text_cmp a b) (Some a) (Some a) (Some b)
+
+-- a text of one of the first n groups
+abbrev pub Among : (ℕ → List ℕ → Type 0) → ℕ → List ℕ → Type 0
+Among IsIn n t = (k : ℕ) × (k < n) × IsIn k t
+
+-- all orientations, each once
+abbrev pub orientations : List Orientation
+orientations = Same ∷ Quarter ∷ Half ∷ ThreeQuarter ∷ Mirror ∷ Flip ∷ Diagonal ∷ AntiDiagonal ∷ []
+
+-- the text of a pattern in the orientation at place k
+abbrev pub IsImageAt : List Orientation → List Cell → ℕ → List ℕ → Type 0
+IsImageAt orientations cells k t = text (turned (get_or orientations k Same) cells) ≡ Some t
+
+-- the text of a pattern in some orientation
+abbrev pub IsImage : List Cell → List ℕ → Type 0
+IsImage cells t = (o : Orientation) × (text (turned o cells) ≡ Some t)
+
+-- the text of the phase at place k in some orientation
+abbrev pub IsImageOf : List (List Cell) → ℕ → List ℕ → Type 0
+IsImageOf phases k t = IsImage (get_or phases k []) t
