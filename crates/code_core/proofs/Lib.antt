@@ -1,0 +1,3 @@
+pub mod CornerLemmas
+pub mod StripLemmas
+pub mod StripsLemmas
