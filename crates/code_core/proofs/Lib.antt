@@ -1,3 +1,4 @@
 pub mod CornerLemmas
 pub mod StripLemmas
 pub mod StripsLemmas
+pub mod TextLemmas
