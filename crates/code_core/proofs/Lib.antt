@@ -2,3 +2,4 @@ pub mod CornerLemmas
 pub mod StripLemmas
 pub mod StripsLemmas
 pub mod TextLemmas
+pub mod TokenCells
