@@ -66,7 +66,7 @@ tells_same P Q (Some a) there back h = (there a h.0, λ t q. h.1 t (back t q))
 
 among_cases : (IsIn : ℕ → List ℕ → Type 0) (n : ℕ) (t : List ℕ) → Among IsIn (n + 1) t → Among IsIn n t ⊎ IsIn n t
 among_cases IsIn n t (k, low, is) =
-    elim (eq-or-lt_of_le (below k n low)) [ | inl e ↦ inr (subst (λ (j : ℕ). IsIn j t) e is) | inr less ↦ inl (k, less, is) ]
+    elim (eq-or-lt_of_le (below k n low)) [ inl e ↦ inr (subst (λ (j : ℕ). IsIn j t) e is) | inr less ↦ inl (k, less, is) ]
   where
     below : (k n : ℕ) → k < n + 1 → k ≤ n
     below k n low = omega arith
@@ -74,20 +74,23 @@ among_cases IsIn n t (k, low, is) =
 -- the first of two firsts
 first_of_two : (P Q R : List ℕ → Type 0) (a b : Option (List ℕ)) → ((t : List ℕ) → P t → R t) → ((t : List ℕ) → Q t → R t) → ((t : List ℕ) → R t → P t ⊎ Q t)
     → TellsLeast P a → TellsLeast Q b → TellsLeast R (earlier_of a b)
-first_of_two P Q R None None left right split p q = λ t r. elim (split t r) [ | inl is ↦ p t is | inr is ↦ q t is ]
-first_of_two P Q R None (Some b) left right split p q = (right b q.0, λ t r. elim (split t r) [ | inl is ↦ absurd (p t is) | inr is ↦ q.1 t is ])
-first_of_two P Q R (Some a) None left right split p q = (left a p.0, λ t r. elim (split t r) [ | inl is ↦ p.1 t is | inr is ↦ absurd (q t is) ])
+first_of_two P Q R None None left right split p q = λ t r. elim (split t r) [ inl is ↦ p t is | inr is ↦ q t is ]
+first_of_two P Q R None (Some b) left right split p q = (right b q.0, λ t r. elim (split t r) [ inl is ↦ absurd (p t is) | inr is ↦ q.1 t is ])
+first_of_two P Q R (Some a) None left right split p q = (left a p.0, λ t r. elim (split t r) [ inl is ↦ p.1 t is | inr is ↦ absurd (q t is) ])
 first_of_two P Q R (Some a) (Some b) left right split p q = go (text_cmp a b) refl
   where
     stays : text_cmp a b ≢ Greater → TellsLeast R (Some a)
-    stays low = (left a p.0, λ t r. elim (split t r) [ | inl is ↦ p.1 t is | inr is ↦ text_cmp-onward a b t low (q.1 t is) ])
+    stays low = (left a p.0, λ t r. elim (split t r) [ inl is ↦ p.1 t is | inr is ↦ text_cmp-onward a b t low (q.1 t is) ])
+
     turned : text_cmp a b ≡ Greater → text_cmp b a ≢ Greater
     turned is e =
         let back : text_cmp a b ≡ ordering_reverse (text_cmp b a) = text_cmp_total.antisymm a b in
         let less : text_cmp a b ≡ Less = back ∙ ap ordering_reverse e in
         cc
+
     changes : text_cmp a b ≡ Greater → TellsLeast R (Some b)
-    changes is = (right b q.0, λ t r. elim (split t r) [ | inl one ↦ text_cmp-onward b a t (turned is) (p.1 t one) | inr other ↦ q.1 t other ])
+    changes is = (right b q.0, λ t r. elim (split t r) [ inl one ↦ text_cmp-onward b a t (turned is) (p.1 t one) | inr other ↦ q.1 t other ])
+
     go : (o : Ordering) → text_cmp a b ≡ o → TellsLeast R (match_ordering o (Some a) (Some a) (Some b))
     go Less is = stays (λ e. cc)
     go Equal is = stays (λ e. cc)
@@ -134,4 +137,4 @@ phase_count rule cells n = length-map-range_with_len (after rule cells) 0 n
 pub least_of_phases : (rule : Numbers) (cells : List Cell) (n : ℕ) (o : Option (List ℕ)) → TellsLeast (Among (IsImageOf (phases rule cells n)) (length (phases rule cells n))) o → TellsLeast (IsImageText rule cells n) o
 least_of_phases rule cells n o h =
     tells_same (Among (IsImageOf (phases rule cells n)) n) (IsImageText rule cells n) o (phase_images rule cells n) (image_phases rule cells n)
-        (subst (λ (m : ℕ). TellsLeast (Among (IsImageOf (phases rule cells n)) m) o) (phase_count rule cells n) h)
+    (subst (λ (m : ℕ). TellsLeast (Among (IsImageOf (phases rule cells n)) m) o) (phase_count rule cells n) h)

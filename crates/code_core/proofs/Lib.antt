@@ -1,4 +1,9 @@
-pub mod RecurrenceLemmas
-pub mod NameLemmas
+pub mod CornerLemmas
 pub mod ImageLemmas
 pub mod LeastLemmas
+pub mod NameLemmas
+pub mod RecurrenceLemmas
+pub mod StripLemmas
+pub mod StripsLemmas
+pub mod TextLemmas
+pub mod TokenCells

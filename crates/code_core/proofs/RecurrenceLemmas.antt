@@ -16,7 +16,7 @@ unfolding phases
 phases-more rule cells n = map-range_with_len_more (after rule cells) 0 n n (omega arith)
 
 le_or_lt : (a b : ℕ) → (a ≤ b) ⊎ (b < a)
-le_or_lt a b = elim (leb_tells a b) [ | inl h ↦ inl h.1 | inr h ↦ inr h.1 ]
+le_or_lt a b = elim (leb_tells a b) [ inl h ↦ inl h.1 | inr h ↦ inr h.1 ]
 
 -- at the start there is the pattern itself
 pub follows-none : (rule : Numbers) (cells latest : List Cell) → latest ≡ cells → Follows rule cells 0 [] latest
@@ -49,11 +49,12 @@ follows-more rule cells n before latest later h off next_is other = record {
   where
     is : later ≡ after rule cells (n + 1)
     is = next_of rule cells latest later n h.latest next_is
+
     new : IsNew rule cells (n + 1)
     new p dx dy some low back = elim (eq-or-lt_of_le low) [
-        | inl e ↦ other dx dy (sym (subst (λ (q : ℕ). after rule cells q ≡ shifted dx dy cells) e back) ∙ sym is)
-        | inr less ↦ h.new p dx dy some (omega arith) back
-      ]
+      | inl e ↦ other dx dy (sym (subst (λ (q : ℕ). after rule cells q ≡ shifted dx dy cells) e back) ∙ sym is)
+      | inr less ↦ h.new p dx dy some (omega arith) back
+    ]
 
 -- the search ends where a generation is the pattern again
 pub recurs_then : (rule : Numbers) (cells : List Cell) (n limit : ℕ) (before : List (List Cell)) (latest later : List Cell) (dx dy : ℤ) → Follows rule cells n before latest

@@ -1,2 +1,202 @@
+ghost use Rattle.std.specs.Prelude.{◌≡◌, ◌+◌, ◌<◌, ◌≤◌, ◌++◌, ◌∷◌, [], ◌+ℤ◌, pos, Some, IfOk, OnOk, flat_map, option_map, replicate, unsigned_abs, if◌then◌else◌, ◌==◌};
+ghost use Rattle.std.specs.String.{string_bytes};
+ghost use Rattle.plane_core.specs.Bounds.{at_corner, box_of};
+ghost use Rattle.plane_core.specs.Cells.{cell_at, distance, has};
+ghost use Rattle.plane_core.specs.declared.cell.TheConstants.{BOUND};
+ghost use Rattle.code_core.specs.Columns.{column};
+ghost use Rattle.code_core.specs.Texts.{is_small, strip, strip_tokens, text, tokens_of};
+ghost use Rattle.code_core.specs.Tokens.{character, gap_text, spelling};
+
+use plane_core::bounds::Bounds;
+use plane_core::pattern::Pattern;
+use std::alloc::{AllocError, Global};
+
 /// How wide, and how high, the box of a pattern with a text may be at most.
 pub const SIDE_LIMIT: u32 = 40;
+
+/// How many rows a strip has.
+const STRIP: u32 = 5;
+
+/// The text of a pattern in extended Wechsler format (LifeWiki, "Apgcode"). It is `None` where the pattern is empty or
+/// its least box is over 40 wide or high.
+///
+/// The box is cut from the top into strips of five rows, and `z` stands between the texts of two strips. A strip is
+/// read column by column from the left. A column with a live cell is one of `0` to `9` and `a` to `v` by its value, to
+/// which the top cell adds 1 and those below it 2, 4, 8 and 16. A run of columns without one is `0`, `w` or `x` where
+/// it is 1, 2 or 3 long, and else `y` with one of `0` to `9` and `a` to `z` for what its length is over 4; at a
+/// strip's end it is left out.
+///
+/// # Errors
+///
+/// `AllocError` where memory is wanting.
+#[tactic(auto, unfolding(crate::specs::Texts::text))]
+pub fn wechsler(alloc: Global, pattern: &Pattern) -> Result<Option<String>, AllocError>
+    ensures { IfOk result (λ found. option_map string_bytes found ≡ text pattern.now) }
+{
+    let Some(bounds) = pattern.bounds() else {
+        return Ok(None);
+    };
+    if !is_small(bounds) {
+        return Ok(None);
+    }
+    Ok(Some(text_in(alloc, pattern, bounds)?))
+}
+
+/// The number of the box's last column, counted from 0.
+fn last_column(bounds: Bounds) -> u32
+    ensures { result ≡ distance bounds.left bounds.right }
+{
+    bounds.left.abs_diff(bounds.right)
+}
+
+/// The number of the box's last row, counted from 0.
+fn last_row(bounds: Bounds) -> u32
+    ensures { result ≡ distance bounds.top bounds.bottom }
+{
+    bounds.top.abs_diff(bounds.bottom)
+}
+
+fn is_small(bounds: Bounds) -> bool
+    ensures { result ≡ is_small bounds }
+{
+    last_column(bounds) < SIDE_LIMIT && last_row(bounds) < SIDE_LIMIT
+}
+
+/// The text of a pattern with this box.
+#[tactic(auto, using(crate::proofs::StripsLemmas::strips_begin, crate::proofs::StripsLemmas::strips_more, crate::proofs::StripsLemmas::strips_are))]
+fn text_in(alloc: Global, pattern: &Pattern, bounds: Bounds) -> Result<String, AllocError>
+    requires bounds { box_of pattern.now ≡ Some bounds }
+    requires width { distance bounds.left bounds.right < SIDE_LIMIT }
+    requires height { distance bounds.top bounds.bottom < SIDE_LIMIT }
+    ensures { IfOk result (λ found. string_bytes found ≡ flat_map spelling (
+        tokens_of (at_corner pattern.now) (distance bounds.left bounds.right) (distance bounds.top bounds.bottom))) }
+{
+    let mut text = String::new(alloc);
+    push_strip(&mut text, pattern, bounds, 0)?;
+    for k in 1..last_row(bounds) / STRIP + 1 {
+        text.push('z')?;
+        push_strip(&mut text, pattern, bounds, k)?;
+    }
+    Ok(text)
+}
+
+/// Adds the text of strip k of a pattern with this box.
+fn push_strip(
+    text: &mut String,
+    pattern: &Pattern,
+    bounds: Bounds,
+    k: u32,
+) -> Result<(), AllocError>
+    requires bounds { box_of pattern.now ≡ Some bounds }
+    requires width { distance bounds.left bounds.right < SIDE_LIMIT }
+    requires strip { k < 8 }
+    ensures { OnOk result (string_bytes text.new ≡ string_bytes text.old ++ flat_map spelling (
+        strip_tokens (strip (at_corner pattern.now) (distance bounds.left bounds.right + 1) k))) }
+{
+    let mut gap = 0;
+    for x in 0..last_column(bounds) + 1 {
+        let value = column(pattern, bounds, k, x);
+        if value == 0 {
+            gap += 1;
+        } else {
+            push_column(text, gap, value)?;
+            gap = 0;
+        }
+    }
+    Ok(())
+}
+
+/// Adds a column with a live cell, and before it so many without one.
+fn push_column(text: &mut String, gap: u8, value: u8) -> Result<(), AllocError>
+    requires gap { gap ≤ 39 }
+    requires least { 1 ≤ value }
+    requires most { value ≤ 31 }
+    ensures { OnOk result (string_bytes text.new ≡ string_bytes text.old ++ flat_map spelling (
+        strip_tokens (replicate gap 0 ++ value ∷ []))) }
+{
+    push_gap(text, gap)?;
+    push_character(text, value)
+}
+
+/// Adds a run of columns without a live cell, if there is one.
+#[tactic(auto, unfolding(crate::specs::Tokens::gap_text))]
+fn push_gap(text: &mut String, gap: u8) -> Result<(), AllocError>
+    requires { gap ≤ 39 }
+    ensures { OnOk result (string_bytes text.new ≡ string_bytes text.old ++ (if gap == 0 then [] else gap_text gap)) }
+{
+    match gap {
+        0 => (),
+        1 => text.push('0')?,
+        2 => text.push('w')?,
+        3 => text.push('x')?,
+        _ => {
+            text.push('y')?;
+            push_character(text, gap - 4)?;
+        }
+    }
+    Ok(())
+}
+
+/// Adds the character of a value.
+fn push_character(text: &mut String, value: u8) -> Result<(), AllocError>
+    requires { value ≤ 35 }
+    ensures { OnOk result (string_bytes text.new ≡ string_bytes text.old ++ character value ∷ []) }
+{
+    text.push(char::from(character(value)))
+}
+
+/// `0` to `9` for 0 to 9, and `a` to `z` for 10 to 35.
+#[tactic(auto, unfolding(crate::specs::Tokens::character))]
+fn character(value: u8) -> u8
+    requires { value ≤ 35 }
+    ensures value { result ≡ character value }
+    ensures ascii { result < 128 }
+{
+    if value < 10 {
+        b'0' + value
+    } else {
+        b'a' + (value - 10)
+    }
+}
+
+/// The value of column x of strip k, at the corner, of a pattern with this box.
+#[tactic(auto, unfolding(crate::specs::Columns::column))]
+fn column(pattern: &Pattern, bounds: Bounds, k: u32, x: u32) -> u8
+    requires bounds { box_of pattern.now ≡ Some bounds }
+    requires width { x < SIDE_LIMIT }
+    requires strip { k < 8 }
+    ensures value { result ≡ column (at_corner pattern.now) k x }
+    ensures bound { result ≤ 31 }
+{
+    let y = STRIP * k;
+    one_at(pattern, bounds, x, y)
+        + 2 * one_at(pattern, bounds, x, y + 1)
+        + 4 * one_at(pattern, bounds, x, y + 2)
+        + 8 * one_at(pattern, bounds, x, y + 3)
+        + 16 * one_at(pattern, bounds, x, y + 4)
+}
+
+/// 1 where the cell (x, y) from the box's corner is alive, and else 0.
+fn one_at(pattern: &Pattern, bounds: Bounds, x: u32, y: u32) -> u8
+    requires bounds { box_of pattern.now ≡ Some bounds }
+    requires column { x < 40 }
+    requires row { y < 40 }
+    ensures value { result ≡ (if has (at_corner pattern.now) (cell_at (pos x) (pos y)) then 1 else 0) }
+    ensures bound { result ≤ 1 }
+{
+    // Its contract has it that the pattern, and so the box, lies on the plane.
+    let _cells = pattern.cells();
+    u8::from(pattern.has(along(bounds.left, x), along(bounds.top, y)))
+}
+
+/// The coordinate so many cells on.
+fn along(from: i32, cells: u32) -> i32
+    requires from { unsigned_abs from ≤ BOUND }
+    requires cells { cells < 40 }
+    ensures { result ≡ from +ℤ pos cells }
+{
+    from + cells as i32
+}
+
+#[cfg(test)]
+mod tests;

@@ -15,13 +15,13 @@ returns-in-Some-clause-recurs c =
     let found : c.recurrence_at-recurrence.result ≡ record { period = suc c.loop-age.age; dx = c.in-Some.dx; dy = c.in-Some.dy } = simp to_z-of_z at c.recurrence_at-recurrence.ensures in
     let back : shifted c.in-Some.dx c.in-Some.dy c.args.pattern.now ≡ c.in_ok-next.next = c.in-Some.ensures.some in
     rw found (recurs_then c.args.rule.now c.args.pattern.now c.loop-age.age c.args.limit c.loop-age.phases.items c.loop-age.latest c.in_ok-next.next c.in-Some.dx c.in-Some.dy
-        c.loop-age.invariant c.loop-age-test.true c.in_ok-next.ensures.next back)
+    c.loop-age.invariant c.loop-age-test.true c.in_ok-next.ensures.next back)
 
 pub returns-in-Some-clause-inside : goal.returns-in-Some-clause-inside
 returns-in-Some-clause-inside c =
     let back : shifted c.in-Some.dx c.in-Some.dy c.args.pattern.now ≡ c.in_ok-next.next = c.in-Some.ensures.some in
     λ g low. inside_then c.args.rule.now c.args.pattern.now c.loop-age.age c.loop-age.phases.items c.loop-age.latest c.in_ok-next.next c.in-Some.dx c.in-Some.dy
-        c.loop-age.invariant c.in_ok-next.ensures.inside c.in_ok-next.ensures.next back g
+    c.loop-age.invariant c.in_ok-next.ensures.inside c.in_ok-next.ensures.next back g
 
 pub loop-age-preserved : goal.loop-age-preserved
 loop-age-preserved c = rw c.in_ok-keep.ensures (follows-more c.args.rule.now c.args.pattern.now c.loop-age.age c.loop-age.phases.items c.loop-age.latest c.in_ok-next.next

@@ -9,6 +9,6 @@ loop-orientation-preserved c =
     rw (c.earlier-least.ensures, c.in_ok-found.ensures) (tells_more (IsImageAt c.args.orientations.now c.args.pattern.now) c.loop-orientation.orientation-index _ _ c.loop-orientation.invariant (tells_one _))
 
 pub returns : goal.returns
-returns c = 
+returns c =
     let all : c.loop-orientation.orientation-index ≡ length c.args.orientations.now = search rules in
     rw (← all) c.loop-orientation.invariant

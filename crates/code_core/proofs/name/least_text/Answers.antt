@@ -13,7 +13,7 @@ loop-phase-preserved c =
     let phase : c.phase-item.result ≡ get_or c.args.phases.now c.loop-phase.phase-index [] = c.phase-item.is ∙ get_or_default c.args.phases.now c.loop-phase.phase-index c.phase-item.result [] low in
     let found : TellsLeast (Among (IsImageAt orientations c.phase-item.result) 8) (option_map string_bytes c.in_ok-found.found) = rw c.orientations.ensures at c.in_ok-found.ensures in
     let here : TellsLeast (IsImageOf c.args.phases.now c.loop-phase.phase-index) (option_map string_bytes c.in_ok-found.found) =
-        subst (λ (cells : List Cell). TellsLeast (IsImage cells) (option_map string_bytes c.in_ok-found.found)) phase (least_of_all c.phase-item.result _ found) in
+    subst (λ (cells : List Cell). TellsLeast (IsImage cells) (option_map string_bytes c.in_ok-found.found)) phase (least_of_all c.phase-item.result _ found) in
     rw (c.earlier-least.ensures) (tells_more (IsImageOf c.args.phases.now) c.loop-phase.phase-index _ _ c.loop-phase.invariant here)
 
 pub returns : goal.returns

@@ -1,0 +1,47 @@
+-- The text of a pattern, strip by strip.
+use Rattle.std.proofs.Common.{◌≡◌, ℕ, zero, suc, ◌+◌, ◌≤◌, ◌/◌, List, [], ◌∷◌, ◌++◌, map, arith, refl, ap, sym, ◌∙◌, add-one, true, false, Option, Some, None}
+use Rattle.std.specs.List.{flat_map, range_with_len}
+use Rattle.std.proofs.lemmas.Grind.{flat_map-append}
+use Rattle.std.proofs.lemmas.List.{append_assoc}
+use Rattle.std.proofs.lemmas.List.FromFn.{map-range_with_len_more}
+use Rattle.plane_core.specs.declared.bounds.Bounds.{Bounds}
+use Rattle.plane_core.specs.declared.cell.Cell.{Cell}
+use Rattle.plane_core.specs.Bounds.{at_corner, box_of}
+use Rattle.plane_core.specs.Cells.{distance}
+use Rattle.code_core.specs.declared.token.Token.{Token}
+use Rattle.code_core.specs.declared.token.Token.TheVariants.{Column, Gap, NextStrip}
+use Rattle.code_core.specs.Texts.{boxed_text, is_small, joined, strip, strip_tokens, text, tokens_of}
+use Rattle.code_core.specs.Tokens.{spelling}
+use Rattle.code_core.proofs.StripLemmas.{spelled}
+
+-- one strip more below others
+pub joined-push : (s : List Token) (strips : List (List Token)) (t : List Token) → joined (s ∷ (strips ++ t ∷ [])) ≡ joined (s ∷ strips) ++ NextStrip ∷ t
+joined-push s [] t = refl
+joined-push s (r ∷ strips) t = ap (λ ts. s ++ NextStrip ∷ ts) (joined-push r strips t) ∙ sym (append_assoc s (NextStrip ∷ joined (r ∷ strips)) (NextStrip ∷ t))
+
+abbrev pub strip_of : List Cell → ℕ → ℕ → List Token
+strip_of cells width k = strip_tokens (strip cells width k)
+
+-- the text of the first strips
+unfoldable pub strips_text : List Cell → ℕ → ℕ → List ℕ
+strips_text cells width n = spelled (joined (map (strip_of cells width) (range_with_len 0 n)))
+
+pub strips_begin : (cells : List Cell) (width : ℕ) → strips_text cells width 1 ≡ flat_map spelling (strip_tokens (strip cells width 0))
+unfolding strips_text
+strips_begin cells width = refl
+
+pub strips_more : (cells : List Cell) (width n : ℕ) → 1 ≤ n → strips_text cells width (n + 1) ≡ (strips_text cells width n ++ 122 ∷ []) ++ flat_map spelling (strip_tokens (strip cells width n))
+unfolding strips_text
+strips_more cells width zero h = absurd (omega arith)
+strips_more cells width (suc n) h =
+    let f = strip_of cells width in
+    let last = f (suc n) in
+    let before = range_with_len 0 (suc n) in
+    ap (λ strips. spelled (joined strips)) (map-range_with_len_more f 0 (suc n) (suc n) (omega arith))
+    ∙ ap spelled (joined-push (f 0) (map f (range_with_len 1 n)) last)
+    ∙ flat_map-append spelling (joined (map f before)) (NextStrip ∷ last)
+    ∙ sym (append_assoc (spelled (joined (map f before))) (122 ∷ []) (spelled last))
+
+pub strips_are : (cells : List Cell) (right bottom : ℕ) → flat_map spelling (tokens_of cells right bottom) ≡ strips_text cells (right + 1) (bottom / 5 + 1)
+unfolding strips_text tokens_of
+strips_are cells right bottom = refl

@@ -1,0 +1,125 @@
+-- The tokens of a pattern's text: each is lawful, and the text is short.
+use Rattle.std.proofs.Common.{◌≡◌, ℕ, zero, suc, ◌+◌, ◌*◌, ◌-◌, ◌==◌, ◌/◌, ◌≤◌, ◌<◌, Bool, true, false, cond, List, [], ◌∷◌, ◌++◌, length, map, get_or, arith, refl, ap, subst, sym, ◌∙◌}
+use Rattle.std.specs.List.{All, flat_map, range_with_len}
+use Rattle.std.proofs.lemmas.List.{length-append}
+use Rattle.std.proofs.lemmas.List.Elements.{All-nil, All-cons, All-tail, All-append, All-map}
+use Rattle.std.proofs.lemmas.List.FromFn.{length-map-range_with_len}
+use Rattle.std.proofs.lemmas.Grind.{flat_map-append}
+use Rattle.plane_core.specs.declared.cell.Cell.{Cell}
+use Rattle.code_core.specs.declared.token.Token.{Token}
+use Rattle.code_core.specs.declared.token.Token.TheVariants.{Column, Gap, NextStrip}
+use Rattle.code_core.specs.Columns.{column, value_of}
+use Rattle.code_core.specs.Texts.{before, joined, strip, strip_tokens, tokens_of}
+use Rattle.code_core.specs.Tokens.{IsToken, character, gap_text, spelling}
+use Rattle.code_core.proofs.StripLemmas.{spelled}
+
+-- ---- each token is lawful
+
+one_at_most : (live : Bool) → cond live 1 0 ≤ 1
+one_at_most true = omega arith
+one_at_most false = omega arith
+
+five_at_most : (a b c d e : Bool) → value_of (a ∷ b ∷ c ∷ d ∷ e ∷ []) ≤ 31
+five_at_most a b c d e = omega (arith, one_at_most a, one_at_most b, one_at_most c, one_at_most d, one_at_most e)
+
+pub column_at_most : (cells : List Cell) (k x : ℕ) → column cells k x ≤ 31
+unfolding column
+column_at_most cells k x = five_at_most _ _ _ _ _
+
+-- how many columns the first column with a live cell takes, and the gap before it
+abbrev reach : List Token → ℕ
+reach [] = 0
+reach (Gap n ∷ tokens) = n + 1
+reach (Column value ∷ tokens) = 1
+reach (NextStrip ∷ tokens) = 1
+
+reach-before : (value : ℕ) (tokens : List Token) (m : ℕ) → reach tokens ≤ m → reach (before value tokens) ≤ suc m
+reach-before zero [] m h = omega arith
+reach-before zero (Gap n ∷ tokens) m h = omega arith
+reach-before zero (Column value ∷ tokens) m h = omega arith
+reach-before zero (NextStrip ∷ tokens) m h = omega arith
+reach-before (suc value) tokens m h = omega arith
+
+reach-strip : (values : List ℕ) → reach (strip_tokens values) ≤ length values
+unfolding strip_tokens
+reach-strip [] = omega arith
+reach-strip (value ∷ values) = reach-before value (strip_tokens values) (length values) (reach-strip values)
+
+lawful-before : (value : ℕ) (tokens : List Token) → value ≤ 31 → reach (before value tokens) ≤ 40 → All IsToken tokens → All IsToken (before value tokens)
+lawful-before zero [] h r all = All-nil IsToken
+lawful-before zero (Gap n ∷ tokens) h r all = All-cons IsToken (Gap (n + 1)) tokens (omega arith, omega arith) (All-tail IsToken (Gap n) tokens all)
+lawful-before zero (Column value ∷ tokens) h r all = All-cons IsToken (Gap 1) (Column value ∷ tokens) (omega arith, omega arith) all
+lawful-before zero (NextStrip ∷ tokens) h r all = All-cons IsToken (Gap 1) (NextStrip ∷ tokens) (omega arith, omega arith) all
+lawful-before (suc value) tokens h r all = All-cons IsToken (Column (suc value)) tokens (omega arith, omega arith) all
+
+lawful-strip : (values : List ℕ) → All (λ value. value ≤ 31) values → length values ≤ 40 → All IsToken (strip_tokens values)
+unfolding strip_tokens
+lawful-strip [] most few = All-nil IsToken
+lawful-strip (value ∷ values) most few =
+    lawful-before value (strip_tokens values) (most 0 0 (omega arith)) (omega (arith, reach-strip (value ∷ values)))
+    (lawful-strip values (All-tail (λ value. value ≤ 31) value values most) (omega arith))
+
+lawful-joined : (strips : List (List Token)) → All (All IsToken) strips → All IsToken (joined strips)
+lawful-joined [] all = All-nil IsToken
+lawful-joined (tokens ∷ []) all = all 0 [] (omega arith)
+lawful-joined (tokens ∷ more ∷ strips) all =
+    All-append IsToken tokens (NextStrip ∷ joined (more ∷ strips)) (all 0 [] (omega arith))
+    (All-cons IsToken NextStrip (joined (more ∷ strips)) tt (lawful-joined (more ∷ strips) (All-tail (All IsToken) tokens (more ∷ strips) all)))
+
+-- a strip of a box that is at most 40 wide
+lawful-strip_of : (cells : List Cell) (right k : ℕ) → right < 40 → All IsToken (strip_tokens (strip cells (right + 1) k))
+lawful-strip_of cells right k h =
+    lawful-strip (strip cells (right + 1) k)
+    (All-map (λ value. value ≤ 31) (column cells k) (range_with_len 0 (right + 1)) (λ i d l. column_at_most cells k _))
+    (omega (arith, length-map-range_with_len (column cells k) 0 (right + 1)))
+
+pub tokens_of-lawful : (cells : List Cell) (right bottom : ℕ) → right < 40 → All IsToken (tokens_of cells right bottom)
+unfolding tokens_of
+tokens_of-lawful cells right bottom h =
+    let f : ℕ → List Token = λ k. strip_tokens (strip cells (right + 1) k) in
+    let strips = range_with_len 0 (bottom / 5 + 1) in
+    lawful-joined (map f strips) (All-map (All IsToken) f strips (λ i d l. lawful-strip_of cells right (get_or strips i d) h))
+
+-- ---- the text is short
+
+one_of_four : (p q r : Bool) (a b c d e : ℕ) → length (cond {A = List ℕ} p (a ∷ []) (cond {A = List ℕ} q (b ∷ []) (cond {A = List ℕ} r (c ∷ []) (d ∷ e ∷ [])))) ≤ 2
+one_of_four true q r a b c d e = omega arith
+one_of_four false true r a b c d e = omega arith
+one_of_four false false true a b c d e = omega arith
+one_of_four false false false a b c d e = omega arith
+
+gap_text_at_most : (n : ℕ) → length (gap_text n) ≤ 2
+unfolding gap_text
+gap_text_at_most n = one_of_four (n == 1) (n == 2) (n == 3) 48 119 120 121 (character (n - 4))
+
+length-before : (value : ℕ) (tokens : List Token) → length (spelled (before value tokens)) ≤ length (spelled tokens) + 2
+length-before zero [] = omega arith
+length-before zero (Gap n ∷ tokens) = simp length-append (omega (arith, gap_text_at_most (n + 1)))
+length-before zero (Column value ∷ tokens) = simp length-append (omega (arith, gap_text_at_most 1))
+length-before zero (NextStrip ∷ tokens) = simp length-append (omega (arith, gap_text_at_most 1))
+length-before (suc value) tokens = omega arith
+
+length-strip : (values : List ℕ) → length (spelled (strip_tokens values)) ≤ 2 * length values
+unfolding strip_tokens
+length-strip [] = omega arith
+length-strip (value ∷ values) = omega (arith, length-before value (strip_tokens values), length-strip values)
+
+-- each strip adds at most 80 bytes, and one to begin the next
+length-joined : (strips : List (List Token)) → All (λ tokens. length (spelled tokens) ≤ 80) strips → length (spelled (joined strips)) ≤ 81 * length strips
+length-joined [] all = omega arith
+length-joined (tokens ∷ []) all = let h = all 0 [] (omega arith) in omega arith
+length-joined (tokens ∷ more ∷ strips) all =
+    let h = all 0 [] (omega arith) in
+    let rest = length-joined (more ∷ strips) (All-tail (λ tokens. length (spelled tokens) ≤ 80) tokens (more ∷ strips) all) in
+    rw (flat_map-append spelling tokens (NextStrip ∷ joined (more ∷ strips)), length-append) (omega arith)
+
+length-strip_of : (cells : List Cell) (right k : ℕ) → right < 40 → length (spelled (strip_tokens (strip cells (right + 1) k))) ≤ 80
+length-strip_of cells right k h = omega (arith, length-strip (strip cells (right + 1) k), length-map-range_with_len (column cells k) 0 (right + 1))
+
+pub tokens_of-short : (cells : List Cell) (right bottom : ℕ) → right < 40 → bottom < 40 → length (spelled (tokens_of cells right bottom)) ≤ 10000
+unfolding tokens_of
+tokens_of-short cells right bottom h k =
+    let f : ℕ → List Token = λ k. strip_tokens (strip cells (right + 1) k) in
+    let strips = range_with_len 0 (bottom / 5 + 1) in
+    let each = All-map (λ tokens. length (spelled tokens) ≤ 80) f strips (λ i d l. length-strip_of cells right (get_or strips i d) h) in
+    omega (arith, length-joined (map f strips) each, length-map-range_with_len f 0 (bottom / 5 + 1))

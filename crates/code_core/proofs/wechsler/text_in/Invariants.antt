@@ -1,0 +1,10 @@
+use Rattle.std.proofs.Common.{◌≡◌, ◌+◌}
+use Rattle.std.specs.String.{string_bytes}
+use Rattle.plane_core.specs.Bounds.{at_corner}
+use Rattle.plane_core.specs.Cells.{distance}
+use Rattle.code_core.proofs.StripsLemmas.{strips_text}
+use Rattle.code_core.proofs.wechsler.text_in.Given as goal
+
+-- the strips above strip k have been written
+abbrev pub invariant-loop-k : goal.invariant-loop-k
+invariant-loop-k l = string_bytes l.text ≡ strips_text (at_corner l.pattern) (distance l.bounds.left l.bounds.right + 1) l.k
