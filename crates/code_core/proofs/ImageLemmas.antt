@@ -1,5 +1,5 @@
 -- An image with a text lies on the plane.
-use Rattle.std.proofs.Common.{◌≡◌, ◌∙◌, sym, ap, refl, subst, ℕ, ℤ, pos, ◌+ℤ◌, ◌≤ℤ◌, neg_ℤ, ◌<◌, Bool, true, false, List, [], ◌∷◌, Option, None, Some, arith, cond, unsigned_abs, ltb-true}
+use Rattle.std.proofs.Common.{◌≡◌, ◌∙◌, sym, ap, refl, ℕ, ℤ, pos, ◌+ℤ◌, neg_ℤ, ◌<◌, Bool, true, false, List, [], ◌∷◌, Option, None, Some, arith, cond, unsigned_abs, ltb-true}
 use Rattle.std.proofs.lemmas.Bool.{and_from, and_parts, le-leb, false≢true}
 use Rattle.std.proofs.lemmas.Int.{ints}
 use Rattle.std.specs.List.{list_all, AllByRecursion}
@@ -7,7 +7,7 @@ use Rattle.plane_core.specs.declared.cell.Cell.{Cell}
 use Rattle.plane_core.specs.declared.cell.TheConstants.{BOUND}
 use Rattle.plane_core.specs.declared.bounds.Bounds.{Bounds}
 use Rattle.plane_core.specs.Bounds.{IsWithin, at_corner, box_of, cornered, shifted}
-use Rattle.plane_core.specs.Cells.{cell_at, distance, moved_by, on_plane}
+use Rattle.plane_core.specs.Cells.{distance, moved_by, on_plane}
 use Rattle.plane_core.specs.declared.orientation.Orientation.{Orientation}
 use Rattle.plane_core.specs.Orientations.{image, turned}
 use Rattle.plane_core.proofs.OrientationLemmas.{at_corner-shifted}

@@ -1,9 +1,13 @@
+pub mod CodeLaws
 pub mod CornerLemmas
 pub mod ImageLemmas
+pub mod LaterCodes
 pub mod LeastLemmas
+pub mod MovedCodes
 pub mod NameLemmas
 pub mod RecurrenceLemmas
 pub mod StripLemmas
 pub mod StripsLemmas
 pub mod TextLemmas
 pub mod TokenCells
+pub mod TurnedCodes

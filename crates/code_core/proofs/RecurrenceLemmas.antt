@@ -1,13 +1,12 @@
 -- Following a pattern until it comes back.
-use Rattle.std.proofs.Common.{◌≡◌, ◌≢◌, ◌∙◌, sym, ap, refl, subst, ℕ, suc, ℤ, ◌+◌, ◌<◌, ◌≤◌, List, [], ◌∷◌, ◌++◌, Option, None, Some, map, false, arith, below_more, eq-or-lt_of_le, inl, inr, ◌⊎◌}
+use Rattle.std.proofs.Common.{◌≡◌, ◌≢◌, ◌∙◌, sym, ap, refl, subst, ℕ, suc, ℤ, ◌+◌, ◌<◌, ◌≤◌, List, [], ◌∷◌, ◌++◌, false, arith, below_more, eq-or-lt_of_le, inl, inr, ◌⊎◌}
 use Rattle.std.proofs.lemmas.Bool.Decides.{leb_tells}
 use Rattle.std.proofs.lemmas.List.FromFn.{map-range_with_len_more}
 use Rattle.plane_core.specs.declared.cell.Cell.{Cell}
-use Rattle.plane_core.specs.Bounds.{shifted, TellsShift}
+use Rattle.plane_core.specs.Bounds.{shifted}
 use Rattle.plane_core.specs.Generations.{after, next, touches_edge}
 use Rattle.plane_core.specs.Rules.{Numbers}
 use Rattle.plane_core.proofs.GenerationLemmas.{after-none, after-more}
-use Rattle.code_core.specs.declared.cycle.Recurrence.{Recurrence}
 use Rattle.code_core.specs.Recurrences.{Follows, IsNew, Recurs, phases}
 
 -- one phase more
@@ -15,7 +14,7 @@ pub phases-more : (rule : Numbers) (cells : List Cell) (n : ℕ) → phases rule
 unfolding phases
 phases-more rule cells n = map-range_with_len_more (after rule cells) 0 n n (omega arith)
 
-le_or_lt : (a b : ℕ) → (a ≤ b) ⊎ (b < a)
+pub le_or_lt : (a b : ℕ) → (a ≤ b) ⊎ (b < a)
 le_or_lt a b = elim (leb_tells a b) [ inl h ↦ inl h.1 | inr h ↦ inr h.1 ]
 
 -- at the start there is the pattern itself

@@ -1,11 +1,13 @@
 -- The names of patterns that recur (LifeWiki, "Apgcode").
-use Rattle.std.specs.Prelude.{◌≡◌, ◌≢◌, ◌==◌, ◌<◌, ◌&&◌, ℕ, ℤ, pos, List, [], ◌∷◌, ◌++◌, Option, None, Some, codes, decimal, length, if◌then◌else◌}
+use Rattle.std.specs.Prelude.{◌≡◌, ◌≢◌, ◌==◌, ◌<◌, ◌&&◌, ℕ, ℤ, pos, List, [], ◌++◌, Option, None, Some, codes, decimal, length, if◌then◌else◌}
 use Rattle.std.specs.declared.cmp.Ordering.{Ordering}
 use Rattle.std.specs.declared.cmp.Ordering.TheVariants.{Greater}
 use Rattle.std.specs.Ordering.{ordering_then, nat_cmp, int_eq}
 use Rattle.std.specs.Cmp.Lexicographic.{slice_cmp}
 use Rattle.plane_core.specs.declared.cell.Cell.{Cell}
 use Rattle.plane_core.specs.declared.orientation.Orientation.{Orientation}
+use Rattle.plane_core.specs.Bounds.{shifted}
+use Rattle.plane_core.specs.Cells.{InOrder}
 use Rattle.plane_core.specs.Generations.{after}
 use Rattle.plane_core.specs.Orientations.{turned}
 use Rattle.plane_core.specs.Rules.{Numbers}
@@ -71,3 +73,18 @@ pub record IsCode (rule : Numbers) (cells : List Cell) (limit : ℕ) (code : Lis
   pub least : Option (List ℕ)
   pub tells : TellsLeast (IsImageText rule cells recurrence.period) least
   pub spelled : code ≡ code_text (kind_of recurrence) (number_of (kind_of recurrence) cells recurrence) least
+
+-- a pattern with a cell has one name
+abbrev pub CodesAreDetermined : Type 0
+CodesAreDetermined = (rule : Numbers) (cells : List Cell) (limit : ℕ) (one other : List ℕ) → cells ≢ [] → IsCode rule cells limit one → IsCode rule cells limit other → one ≡ other
+
+-- a name is that of an object, wherever it lies, and however
+abbrev pub CodesMoved : Type 0
+CodesMoved = (dx dy : ℤ) (rule : Numbers) (cells : List Cell) (limit : ℕ) (code : List ℕ) → InOrder cells → IsCode rule cells limit code → IsCode rule (shifted dx dy cells) limit code
+
+abbrev pub CodesTurned : Type 0
+CodesTurned = (o : Orientation) (rule : Numbers) (cells : List Cell) (limit : ℕ) (code : List ℕ) → InOrder cells → IsCode rule cells limit code → IsCode rule (turned o cells) limit code
+
+-- and that of all its phases
+abbrev pub CodesLater : Type 0
+CodesLater = (g : ℕ) (rule : Numbers) (cells : List Cell) (limit : ℕ) (code : List ℕ) → InOrder cells → IsCode rule cells limit code → IsCode rule (after rule cells g) limit code

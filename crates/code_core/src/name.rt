@@ -3,7 +3,7 @@ ghost use Rattle.std.specs.Ordering.{is_gt};
 ghost use Rattle.std.specs.Cmp.{IsTotalOrder};
 ghost use Rattle.plane_core.specs.Generations.{after, touches_edge};
 ghost use Rattle.plane_core.specs.Orientations.{turned};
-ghost use Rattle.code_core.specs.Codes.{IsCode, TellsLeast, code_text, kind_of, number_of, text_cmp};
+ghost use Rattle.code_core.specs.Codes.{CodesAreDetermined, CodesLater, CodesMoved, CodesTurned, IsCode, TellsLeast, code_text, kind_of, number_of, text_cmp};
 ghost use Rattle.code_core.specs.Least.{Among, IsImage, IsImageAt, IsImageOf, earlier_of, orientations};
 ghost use Rattle.code_core.specs.Recurrences.{IsNew};
 ghost use Rattle.code_core.specs.Texts.{text};
@@ -66,6 +66,25 @@ pub fn name(
         None => Ok(None),
     }
 }
+
+/// A law of all texts: their order is total.
+#[tactic(auto, using(crate::proofs::LeastLemmas::text_cmp_total))]
+pub fn text_order_is_total()
+    ensures { IsTotalOrder text_cmp }
+{}
+
+/// A law of all patterns: one with a cell has one name.
+pub fn codes_are_determined()
+    ensures { CodesAreDetermined }
+{}
+
+/// The laws of names: a name is that of an object, wherever it lies, however, and in each of its phases.
+#[tactic(auto, using(crate::proofs::MovedCodes::codes_moved, crate::proofs::TurnedCodes::codes_turned, crate::proofs::LaterCodes::codes_later))]
+pub fn codes_are_of_objects()
+    ensures moved { CodesMoved }
+    ensures turned { CodesTurned }
+    ensures later { CodesLater }
+{}
 
 /// The name of a pattern whose phases are known.
 fn name_of(alloc: Global, pattern: &Pattern, cycle: &Cycle) -> Result<Apgcode, AllocError>

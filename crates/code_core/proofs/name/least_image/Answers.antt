@@ -1,6 +1,6 @@
-use Rattle.std.proofs.Common.{◌≡◌, List, ℕ, option_map, string_bytes, rules, length}
+use Rattle.std.proofs.Common.{◌≡◌, rules, length}
 use Rattle.code_core.specs.Least.{IsImageAt}
-use Rattle.code_core.proofs.LeastLemmas.{tells_more, tells_none, tells_one}
+use Rattle.code_core.proofs.LeastLemmas.{tells_more, tells_one}
 use Rattle.code_core.proofs.name.least_image.Goals as goal
 
 -- one orientation more

@@ -1,4 +1,4 @@
-use Rattle.std.proofs.Common.{◌≡◌, ◌∙◌, subst, List, ℕ, ◌<◌, [], get_or, option_map, string_bytes, rules, length}
+use Rattle.std.proofs.Common.{◌≡◌, ◌∙◌, subst, List, ◌<◌, [], get_or, option_map, string_bytes, rules, length}
 use Rattle.std.proofs.lemmas.List.{get_or_default}
 use Rattle.plane_core.specs.declared.cell.Cell.{Cell}
 use Rattle.code_core.specs.Codes.{TellsLeast}

@@ -1,0 +1,71 @@
+-- A pattern has one name, and its phases have the same.
+use Rattle.std.proofs.Common.{◌≡◌, ◌≢◌, ◌∙◌, sym, ap, refl, subst, ℕ, ℤ, ◌+ℤ◌, ◌<◌, ◌≤◌, List, [], ◌∷◌, length, Option, None, Some, arith, inl, inr, Ordering, Less, Equal, Greater, nat_cmp}
+use Rattle.std.proofs.lemmas.Int.{ints}
+use Rattle.std.specs.Cmp.Lexicographic.{slice_cmp}
+use Rattle.std.specs.FinMap.{nat_cmp-IsAntisymmetric, slice_cmp-IsAntisymmetric}
+use Rattle.std.specs.Ordering.{ordering_reverse, ordering_then}
+use Rattle.plane_core.specs.declared.cell.Cell.{Cell}
+use Rattle.plane_core.specs.Bounds.{shifted}
+use Rattle.plane_core.specs.Cells.{moved_by}
+use Rattle.plane_core.specs.Generations.{after}
+use Rattle.plane_core.specs.Rules.{Numbers}
+use Rattle.code_core.specs.declared.cycle.Recurrence.{Recurrence}
+use Rattle.code_core.specs.Codes.{CodesAreDetermined, IsImageText, TellsLeast, code_text, kind_of, number_of, text_cmp}
+use Rattle.code_core.specs.Recurrences.{Recurs}
+use Rattle.code_core.proofs.LeastLemmas.{text_cmp_total}
+use Rattle.code_core.proofs.RecurrenceLemmas.{le_or_lt}
+
+-- texts that tie are one text
+text_cmp-same : (a b : List ℕ) → text_cmp a b ≡ Equal → a ≡ b
+text_cmp-same a b e = slice_cmp-IsAntisymmetric nat_cmp-IsAntisymmetric a b (behind (nat_cmp (length a) (length b)) (slice_cmp nat_cmp a b) e)
+  where
+    behind : (p q : Ordering) → ordering_then p q ≡ Equal → q ≡ Equal
+    behind Less q e = cc
+    behind Equal q e = e
+    behind Greater q e = cc
+
+-- neither comes after the other, so they tie
+text_cmp-tie : (a b : List ℕ) → text_cmp a b ≢ Greater → text_cmp b a ≢ Greater → text_cmp a b ≡ Equal
+text_cmp-tie a b one other = go (text_cmp a b) refl
+  where
+    go : (o : Ordering) → text_cmp a b ≡ o → text_cmp a b ≡ Equal
+    go Less is = absurd (other (text_cmp_total.antisymm b a ∙ ap ordering_reverse is))
+    go Equal is = is
+    go Greater is = absurd (one is)
+
+-- there is one least text
+least_is_one : (P : List ℕ → Type 0) (a b : Option (List ℕ)) → TellsLeast P a → TellsLeast P b → a ≡ b
+least_is_one P None None one other = refl
+least_is_one P None (Some b) one other = absurd (one b other.0)
+least_is_one P (Some a) None one other = absurd (other a one.0)
+least_is_one P (Some a) (Some b) one other = ap Some (text_cmp-same a b (text_cmp-tie a b (one.1 b other.0) (other.1 a one.0)))
+
+same_step : (a v w : ℤ) → a +ℤ v ≡ a +ℤ w → v ≡ w
+same_step a v w e = omega (arith, ints)
+
+-- a pattern with a cell is moved to a place in one way
+one_move : (cells : List Cell) (dx dy ex ey : ℤ) → cells ≢ [] → shifted dx dy cells ≡ shifted ex ey cells → (dx ≡ ex) × (dy ≡ ey)
+one_move [] dx dy ex ey some is = absurd (some refl)
+one_move (c ∷ cs) dx dy ex ey some is =
+    let first : moved_by dx dy c ≡ moved_by ex ey c = cc in
+    (same_step c.x dx ex (ap (λ (d : Cell). d.x) first), same_step c.y dy ey (ap (λ (d : Cell). d.y) first))
+
+-- a pattern comes back in one way
+recurs_once : (rule : Numbers) (cells : List Cell) (limit : ℕ) (q r : Recurrence) → cells ≢ [] → Recurs rule cells limit q → Recurs rule cells limit r → q ≡ r
+recurs_once rule cells limit q r some one other =
+    let low : q.period ≤ r.period = not_less r.period q.period (λ less. one.least r.period r.dx r.dy other.some less other.back) in
+    let high : r.period ≤ q.period = not_less q.period r.period (λ less. other.least q.period q.dx q.dy one.some less one.back) in
+    let same : q.period ≡ r.period = omega arith in
+    let move = one_move cells q.dx q.dy r.dx r.dy some (sym one.back ∙ ap (λ (p : ℕ). after rule cells p) same ∙ other.back) in
+    λ i. record { period = same i; dx = move.0 i; dy = move.1 i }
+  where
+    not_less : (a b : ℕ) → (a < b → ⊥) → b ≤ a
+    not_less a b never = elim (le_or_lt b a) [ inl low ↦ low | inr less ↦ absurd (never less) ]
+
+-- so it has one name
+pub codes_are_determined : CodesAreDetermined
+codes_are_determined rule cells limit one other some h k =
+    let recurrence : h.recurrence ≡ k.recurrence = recurs_once rule cells limit h.recurrence k.recurrence some h.recurs k.recurs in
+    let tells : TellsLeast (IsImageText rule cells h.recurrence.period) k.least = subst (λ (r : Recurrence). TellsLeast (IsImageText rule cells r.period) k.least) (sym recurrence) k.tells in
+    let least : h.least ≡ k.least = least_is_one (IsImageText rule cells h.recurrence.period) h.least k.least h.tells tells in
+    h.spelled ∙ (λ i. code_text (kind_of (recurrence i)) (number_of (kind_of (recurrence i)) cells (recurrence i)) (least i)) ∙ sym k.spelled
