@@ -3,3 +3,4 @@ pub mod StripLemmas
 pub mod StripsLemmas
 pub mod TextLemmas
 pub mod TokenCells
+pub mod TextLaw

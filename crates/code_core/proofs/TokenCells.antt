@@ -145,7 +145,7 @@ unfolding cells_from
 strip_next k tokens a b = refl
 
 -- the cells of the tokens of some strips, from strip k on
-cells_from-joined : (cells : List Cell) (width k n : ℕ) → cells_from k 0 (joined (map (λ k. strip_tokens (strip cells width k)) (range_with_len k n))) ≡ filter (has cells) (box_cells width k n)
+pub cells_from-joined : (cells : List Cell) (width k n : ℕ) → cells_from k 0 (joined (map (λ k. strip_tokens (strip cells width k)) (range_with_len k n))) ≡ filter (has cells) (box_cells width k n)
 unfolding cells_from
 cells_from-joined cells width k zero = refl
 cells_from-joined cells width k (suc zero) =
