@@ -8,6 +8,7 @@ pub mod NameLemmas
 pub mod RecurrenceLemmas
 pub mod StripLemmas
 pub mod StripsLemmas
+pub mod TextLaw
 pub mod TextLemmas
 pub mod TokenCells
 pub mod TurnedCodes

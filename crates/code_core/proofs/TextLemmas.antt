@@ -15,7 +15,7 @@ use Rattle.code_core.proofs.StripLemmas.{spelled}
 
 -- ---- each token is lawful
 
-one_at_most : (live : Bool) → cond live 1 0 ≤ 1
+pub one_at_most : (live : Bool) → cond live 1 0 ≤ 1
 one_at_most true = omega arith
 one_at_most false = omega arith
 

@@ -9,6 +9,7 @@ use Rattle.code_core.specs.declared.token.Token.{Token}
 use Rattle.code_core.specs.declared.token.Token.TheVariants.{Column, Gap, NextStrip}
 use Rattle.code_core.specs.Columns.{cells_from, column, is_lit, lit_cells, value_of}
 use Rattle.code_core.specs.Texts.{before, joined, strip, strip_tokens}
+use Rattle.code_core.proofs.TextLemmas.{one_at_most}
 
 -- ---- a column's value has each of its cells in it
 
@@ -18,10 +19,6 @@ one live = cond live 1 0
 is_one : (live : Bool) → eqb (one live) 1 ≡ live
 is_one true = refl
 is_one false = refl
-
-one_at_most : (live : Bool) → one live ≤ 1
-one_at_most true = omega arith
-one_at_most false = omega arith
 
 abbrev five : Bool → Bool → Bool → Bool → Bool → ℕ
 five a b c d e = value_of (a ∷ b ∷ c ∷ d ∷ e ∷ [])
@@ -144,7 +141,7 @@ unfolding cells_from
 strip_next k tokens a b = refl
 
 -- the cells of the tokens of some strips, from strip k on
-cells_from-joined : (cells : List Cell) (width k n : ℕ) → cells_from k 0 (joined (map (λ k. strip_tokens (strip cells width k)) (range_with_len k n))) ≡ filter (has cells) (box_cells width k n)
+pub cells_from-joined : (cells : List Cell) (width k n : ℕ) → cells_from k 0 (joined (map (λ k. strip_tokens (strip cells width k)) (range_with_len k n))) ≡ filter (has cells) (box_cells width k n)
 unfolding cells_from
 cells_from-joined cells width k zero = refl
 cells_from-joined cells width k (suc zero) =

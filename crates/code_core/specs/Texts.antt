@@ -1,15 +1,15 @@
 -- The text of a pattern in extended Wechsler format (LifeWiki, "Apgcode").
-use Rattle.std.specs.Prelude.{◌+◌, ◌/◌, ℕ, zero, suc, Bool, ◌&&◌, List, [], ◌∷◌, ◌++◌, Option, None, Some, map, flat_map, nat_lt, if◌then◌else◌}
+use Rattle.std.specs.Prelude.{◌≡◌, ◌≤◌, length, ◌+◌, ◌/◌, ℕ, zero, suc, Bool, ◌&&◌, List, [], ◌∷◌, ◌++◌, Option, None, Some, map, flat_map, nat_lt, if◌then◌else◌}
 use Rattle.std.specs.List.{range_with_len}
 use Rattle.plane_core.specs.declared.cell.Cell.{Cell}
 use Rattle.plane_core.specs.declared.bounds.Bounds.{Bounds}
 use Rattle.plane_core.specs.Bounds.{at_corner, box_of}
-use Rattle.plane_core.specs.Cells.{distance}
+use Rattle.plane_core.specs.Cells.{InOrder, distance}
 use Rattle.code_core.specs.declared.token.Token.{Token}
 use Rattle.code_core.specs.declared.token.Token.TheVariants.{Column, Gap, NextStrip}
 use Rattle.code_core.specs.declared.wechsler.TheConstants.{SIDE_LIMIT}
-use Rattle.code_core.specs.Columns.{column}
-use Rattle.code_core.specs.Tokens.{spelling}
+use Rattle.code_core.specs.Columns.{cells_of, column}
+use Rattle.code_core.specs.Tokens.{Spells, spelling}
 
 -- a column before the tokens of a strip: an empty one is left out at the strip's end, and else it lengthens the gap that follows or makes one
 abbrev pub before : ℕ → List Token → List Token
@@ -52,3 +52,11 @@ boxed_text cells (Some b) =
 -- the text of a pattern moved to the corner; there is none where it is empty or its box is over 40 by 40
 unfoldable pub text : List Cell → Option (List ℕ)
 text cells = boxed_text cells (box_of cells)
+
+-- each text is that of tokens whose cells are the pattern, moved to the corner
+abbrev pub TextsSpellPatterns : Type 0
+TextsSpellPatterns = (cells : List Cell) (t : List ℕ) → InOrder cells → text cells ≡ Some t → (tokens : List Token) × Spells tokens t × (cells_of tokens ≡ at_corner cells)
+
+-- no text has over 10,000 bytes
+abbrev pub TextsAreShort : Type 0
+TextsAreShort = (cells : List Cell) (t : List ℕ) → text cells ≡ Some t → length t ≤ 10000

@@ -4,7 +4,7 @@ ghost use Rattle.plane_core.specs.Bounds.{at_corner, box_of};
 ghost use Rattle.plane_core.specs.Cells.{cell_at, distance, has};
 ghost use Rattle.plane_core.specs.declared.cell.TheConstants.{BOUND};
 ghost use Rattle.code_core.specs.Columns.{column};
-ghost use Rattle.code_core.specs.Texts.{is_small, strip, strip_tokens, text, tokens_of};
+ghost use Rattle.code_core.specs.Texts.{TextsAreShort, TextsSpellPatterns, is_small, strip, strip_tokens, text, tokens_of};
 ghost use Rattle.code_core.specs.Tokens.{character, gap_text, spelling};
 
 use plane_core::bounds::Bounds;
@@ -41,6 +41,14 @@ pub fn wechsler(alloc: Global, pattern: &Pattern) -> Result<Option<String>, Allo
     }
     Ok(Some(text_in(alloc, pattern, bounds)?))
 }
+
+/// The laws of the texts of all patterns: each is that of tokens whose cells are the pattern, moved to the corner, and
+/// none has over 10,000 bytes.
+#[tactic(auto, using(crate::proofs::TextLaw::texts_spell_patterns, crate::proofs::TextLaw::texts_are_short))]
+pub fn texts_spell_patterns()
+    ensures spell { TextsSpellPatterns }
+    ensures short { TextsAreShort }
+{}
 
 /// The number of the box's last column, counted from 0.
 fn last_column(bounds: Bounds) -> u32
@@ -179,12 +187,12 @@ fn column(pattern: &Pattern, bounds: Bounds, k: u32, x: u32) -> u8
 /// 1 where the cell (x, y) from the box's corner is alive, and else 0.
 fn one_at(pattern: &Pattern, bounds: Bounds, x: u32, y: u32) -> u8
     requires bounds { box_of pattern.now ≡ Some bounds }
-    requires column { x < 40 }
-    requires row { y < 40 }
+    requires column { x < SIDE_LIMIT }
+    requires row { y < SIDE_LIMIT }
     ensures value { result ≡ (if has (at_corner pattern.now) (cell_at (pos x) (pos y)) then 1 else 0) }
     ensures bound { result ≤ 1 }
 {
-    // Its contract has it that the pattern, and so the box, lies on the plane.
+    // What it ensures: the pattern, and so its box, lies on the plane.
     let _cells = pattern.cells();
     u8::from(pattern.has(along(bounds.left, x), along(bounds.top, y)))
 }
@@ -192,7 +200,7 @@ fn one_at(pattern: &Pattern, bounds: Bounds, x: u32, y: u32) -> u8
 /// The coordinate so many cells on.
 fn along(from: i32, cells: u32) -> i32
     requires from { unsigned_abs from ≤ BOUND }
-    requires cells { cells < 40 }
+    requires cells { cells < SIDE_LIMIT }
     ensures { result ≡ from +ℤ pos cells }
 {
     from + cells as i32

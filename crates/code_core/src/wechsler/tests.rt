@@ -7,40 +7,28 @@ fn text_of(alloc: Global, cells: &[Cell]) -> Result<Option<String>, Fail> {
     Ok(wechsler(alloc, &pattern)?)
 }
 
-/// A text is that of the rows of a picture, in which `O` is a live cell.
-fn is_text(alloc: Global, rows: &[&str], text: &str) -> Result<bool, Fail> {
-    let mut cells = Vec::new(alloc);
-    for (y, row) in rows.iter().enumerate() {
-        for (x, byte) in row.bytes().enumerate() {
-            if byte == b'O' {
-                cells.push(Cell {
-                    y: y as i32,
-                    x: x as i32,
-                })?;
-            }
-        }
-    }
-    has_text(alloc, &cells, text)
-}
-
 fn has_text(alloc: Global, cells: &[Cell], text: &str) -> Result<bool, Fail> {
     let found = text_of(alloc, cells)?;
     Ok(found.as_ref().map(|found| found.as_str()) == Some(text))
 }
 
-// Texts of the objects are those of their names (LifeWiki, "Block", "Beehive" and "Eater 1").
+/// Whether a plaintext picture has the text.
+fn is_text(alloc: Global, picture: &str, text: &str) -> Result<bool, Fail> {
+    let pattern = Pattern::read_plaintext(alloc, picture.as_bytes())?;
+    has_text(alloc, pattern.cells(), text)
+}
+
+// The block's and the beehive's texts are those of their names, `xs4_33` and `xs6_696` (LifeWiki, "Apgcode").
 #[test]
 fn spells_columns(rt: HostRuntime) -> Result<(), Fail> {
-    assert!(rt; is_text(rt.alloc(), &["OO", "OO"], "33")?);
-    assert!(rt; is_text(rt.alloc(), &[".O.", "O.O", "O.O", ".O."], "696")?);
-    assert!(rt; is_text(rt.alloc(), &["..OO", "..O.", "O.O.", "OO.."], "c871")?);
-    assert!(rt;
-        is_text(
-            rt.alloc(),
-            &["OOOOO", ".OOOO", "..OOO", "...OO", "....O"],
-            "137fv"
-        )?
-    );
+    for (picture, text) in [
+        ("OO\nOO", "33"),
+        (".O.\nO.O\nO.O\n.O.", "696"),
+        ("..OO\n..O.\nO.O.\nOO..", "c871"),
+        ("OOOOO\n.OOOO\n..OOO\n...OO\n....O", "137fv"),
+    ] {
+        assert!(rt; is_text(rt.alloc(), picture, text)?, "{text}");
+    }
     Ok(())
 }
 
@@ -68,14 +56,12 @@ fn spells_strips(rt: HostRuntime) -> Result<(), Fail> {
         let cells = [Cell { y: 0, x: 0 }, Cell { y, x: 0 }];
         assert!(rt; has_text(rt.alloc(), &cells, text)?, "{text}");
     }
-    assert!(rt;
-        is_text(
-            rt.alloc(),
-            &["O...", "", "", "", "", "..O", "", "...O"],
-            "1zw14"
-        )?
-    );
-    assert!(rt; is_text(rt.alloc(), &["..OO", "", "", "", "", "O"], "w11z1")?);
+    for (picture, text) in [
+        ("O...\n\n\n\n\n..O\n\n...O", "1zw14"),
+        ("..OO\n\n\n\n\nO", "w11z1"),
+    ] {
+        assert!(rt; is_text(rt.alloc(), picture, text)?, "{text}");
+    }
     Ok(())
 }
 
