@@ -1,5 +1,6 @@
 pub mod Codes
 pub mod Columns
+pub mod Reading
 pub mod Recurrences
 pub mod Texts
 pub mod Tokens

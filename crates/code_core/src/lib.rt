@@ -7,6 +7,8 @@ pub mod apgcode;
 pub mod cycle;
 /// When a pattern comes back.
 pub mod recurrence;
+/// How the text of a pattern is read.
+pub mod reader;
 mod token;
 /// The text of a pattern.
 pub mod wechsler;
