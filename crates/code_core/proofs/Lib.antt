@@ -1,1 +1,3 @@
 pub mod ReadingLemmas
+pub mod TokenCells
+pub mod ReaderLoops

@@ -1,5 +1,6 @@
 -- Texts as tokens: what tokens spell is read as these tokens, and what is read is spelled so.
-use Rattle.std.proofs.Common.{◌≡◌, ◌≢◌, ◌==◌, ◌<◌, ◌≤◌, ◌+◌, ◌-◌, ℕ, zero, suc, Bool, true, false, not, List, [], ◌∷◌, ◌++◌, length, refl, sym, ◌∙◌, ap, subst, arith, ◌⊎◌, inl, inr, length-append, append_assoc, append-nil, codes, Result, Ok, Err, rules, tests}
+use Rattle.std.proofs.Common.{◌≡◌, ◌≢◌, ◌==◌, ◌<◌, ◌≤◌, ◌+◌, ◌-◌, ℕ, zero, suc, Bool, true, false, not, List, [], ◌∷◌, ◌++◌, length, refl, sym, ◌∙◌, ap, subst, arith, ◌⊎◌, inl, inr, length-append, append_assoc, append-nil, codes, Result, Ok, Err}
+use Rattle.std.specs.Prelude.{if◌then◌else◌}
 use Rattle.std.proofs.lemmas.Bool.Decides.{nat_tests, Decides-eqb}
 use Rattle.std.specs.List.{All, flat_map}
 use Rattle.std.proofs.lemmas.List.Elements.{All-nil, All-cons, All-tail}
@@ -9,19 +10,19 @@ use Rattle.code_core.specs.declared.reader.WechslerFault.{WechslerFault}
 use Rattle.code_core.specs.declared.reader.WechslerFault.TheVariants.{TooLong, BadByte, ShortRun, Empty}
 use Rattle.code_core.specs.declared.reader.TheConstants.{ONE_EMPTY, TWO_EMPTY, THREE_EMPTY, MANY_EMPTY, STRIP_END}
 use Rattle.code_core.specs.Tokens.{character, gap_text, spelling, IsToken, Spells}
-use Rattle.code_core.specs.Reading.{is_character, character_value, single, long_gap, with_token, tokens_at}
+use Rattle.code_core.specs.Reading.{is_character, character_value, single, long_gap, with_token, tokens_at, Begins, has_character}
 
 -- characters and their values
 pub character_value-small : (b : ℕ) → is_character b ≡ true → character_value b ≤ 35
-unfolding character_value
+unfolding is_character character_value
 character_value-small b h = grind (arith, nat_tests)
 
 pub character-character_value : (b : ℕ) → is_character b ≡ true → character (character_value b) ≡ b
-unfolding character character_value
+unfolding is_character character character_value
 character-character_value b h = grind (arith, nat_tests)
 
 pub is_character-character : (v : ℕ) → v ≤ 35 → is_character (character v) ≡ true
-unfolding character
+unfolding is_character character
 is_character-character v h = grind (arith, nat_tests)
 
 pub character_value-character : (v : ℕ) → v ≤ 35 → character_value (character v) ≡ v
@@ -41,7 +42,7 @@ spelling-single b h many = go (b == ONE_EMPTY) refl (b == TWO_EMPTY) refl (b == 
     go false e1 false e2 false e3 false e4 = rw (e1, e2, e3, e4) (ap (λ (c : ℕ). c ∷ []) (character-character_value b h))
 
 pub IsToken-single : (b : ℕ) → is_character b ≡ true → (b == MANY_EMPTY) ≡ false → IsToken (single b)
-unfolding single character_value
+unfolding is_character single character_value
 IsToken-single b h many = go (b == ONE_EMPTY) refl (b == TWO_EMPTY) refl (b == THREE_EMPTY) refl (b == STRIP_END) refl
   where
     go : (one : Bool) → (b == ONE_EMPTY) ≡ one → (two : Bool) → (b == TWO_EMPTY) ≡ two → (three : Bool) → (b == THREE_EMPTY) ≡ three → (end : Bool) → (b == STRIP_END) ≡ end → IsToken (single b)
@@ -72,15 +73,15 @@ tokens_at-single place b [] h many = rw (h, many) refl
 tokens_at-single place b (c ∷ rest) h many = rw (h, many) refl
 
 pub tokens_at-long : (place c : ℕ) (rest : List ℕ) → is_character c ≡ true → tokens_at place (MANY_EMPTY ∷ c ∷ rest) ≡ with_token (long_gap c) (tokens_at (place + 2) rest)
-unfolding tokens_at
+unfolding is_character tokens_at
 tokens_at-long place c rest h = rw h refl
 
 pub tokens_at-short : (place c : ℕ) (rest : List ℕ) → is_character c ≡ false → tokens_at place (MANY_EMPTY ∷ c ∷ rest) ≡ Err (ShortRun place)
-unfolding tokens_at
+unfolding is_character tokens_at
 tokens_at-short place c rest h = rw h refl
 
 pub tokens_at-end : (place : ℕ) → tokens_at place (MANY_EMPTY ∷ []) ≡ Err (ShortRun place)
-unfolding tokens_at
+unfolding is_character tokens_at
 tokens_at-end place = refl
 
 -- a column's character is none of those with a meaning of their own
@@ -103,7 +104,7 @@ abbrev pub IsRead : Token → Type 0
 IsRead token = (place : ℕ) (rest : List ℕ) → tokens_at place (spelling token ++ rest) ≡ with_token token (tokens_at (place + length (spelling token)) rest)
 
 pub tokens_at-token : (token : Token) → IsToken token → IsRead token
-unfolding gap_text single
+unfolding is_character gap_text single
 tokens_at-token (Column v) h = λ place rest.
     tokens_at-single place (character v) rest (is_character-character v (omega arith)) (column-character v h.0 h.1 MANY_EMPTY (inr (omega arith)))
     ∙ ap (λ (t : Token). with_token t (tokens_at (place + 1) rest)) (single-character v h.0 h.1)
@@ -116,6 +117,25 @@ tokens_at-token (Gap (suc (suc (suc (suc n))))) h =
     let c : is_character (character n) ≡ true = is_character-character n (omega arith) in
     subst (λ (m : ℕ). IsRead (Gap m)) e (λ place rest. rw (spelling-long_gap (character n) c) (tokens_at-long place (character n) rest c))
 tokens_at-token NextStrip h = λ place rest. tokens_at-single place STRIP_END rest refl refl
+
+-- a token is a byte or two, so what is behind it is shorter
+length-gap_text : (n : ℕ) → 1 ≤ length (gap_text n)
+unfolding gap_text
+length-gap_text n = go (n == 1) (n == 2) (n == 3)
+  where
+    go : (one two three : Bool) → 1 ≤ length (if one then codes "0" else if two then codes "w" else if three then codes "x" else codes "y" ++ character (n - 4) ∷ [])
+    go true two three = omega arith
+    go false true three = omega arith
+    go false false true = omega arith
+    go false false false = omega arith
+
+length-spelling : (token : Token) → 1 ≤ length (spelling token)
+length-spelling (Column value) = omega arith
+length-spelling (Gap n) = length-gap_text n
+length-spelling NextStrip = omega arith
+
+pub length-Begins : (text : List ℕ) (token : Token) (rest : List ℕ) → Begins text token rest → length rest < length text
+length-Begins text token rest b = omega (arith, ap length b.spelled, length-append (spelling token) rest, length-spelling token)
 
 -- tokens before those of a result, or its fault
 abbrev pub with_tokens : List Token → Result (List Token) WechslerFault → Result (List Token) WechslerFault
@@ -147,10 +167,14 @@ unfolding tokens_at
 tokens_at-spelled tokens each place =
     ap (λ (text : List ℕ). tokens_at place text) (sym (append-nil (flat_map spelling tokens))) ∙ tokens_at-tokens tokens each place [] ∙ with_tokens-none tokens
 
--- no character stands at the front of a text
-abbrev pub has_character : List ℕ → Bool
-has_character [] = false
-has_character (c ∷ rest) = is_character c
+-- the token at the front of a text
+pub Begins_single : (text : List ℕ) (token : Token) (b : ℕ) (rest : List ℕ) → text ≡ b ∷ rest → token ≡ single b → is_character b ≡ true → b ≢ MANY_EMPTY → Begins text token rest
+Begins_single text token b rest whole is h other =
+    let many : (b == MANY_EMPTY) ≡ false = grind (arith, nat_tests) in
+    record { is_token = rw is (IsToken-single b h many); spelled = rw (whole, is, spelling-single b h many) refl }
+
+pub Begins_long_gap : (c : ℕ) (rest : List ℕ) → is_character c ≡ true → Begins (MANY_EMPTY ∷ c ∷ rest) (long_gap c) rest
+Begins_long_gap c rest h = record { is_token = IsToken-long_gap c h; spelled = ap (λ (text : List ℕ). text ++ rest) (sym (spelling-long_gap c h)) }
 
 -- a text begins with a byte that is no character, with a token of one byte, or with `y`
 front_cases : (P : List ℕ → Type 0)
@@ -262,7 +286,7 @@ tokens_at-IsShort : (start : ℕ) (rest : List ℕ) → IsShort rest → tokens_
 tokens_at-IsShort start [] so = absurd so
 tokens_at-IsShort start (b ∷ rest) so = rw so.0 (tokens_at-short_run start rest so.1)
 
-tokens_at-stops : (tokens : List Token) (rest text : List ℕ) (start place : ℕ) (fault : WechslerFault) → All IsToken tokens → text ≡ flat_map spelling tokens ++ rest → place ≡ start + length (flat_map spelling tokens) → tokens_at place rest ≡ Err fault → tokens_at start text ≡ Err fault
+pub tokens_at-stops : (tokens : List Token) (rest text : List ℕ) (start place : ℕ) (fault : WechslerFault) → All IsToken tokens → text ≡ flat_map spelling tokens ++ rest → place ≡ start + length (flat_map spelling tokens) → tokens_at place rest ≡ Err fault → tokens_at start text ≡ Err fault
 tokens_at-stops tokens rest text start place fault each whole at_place e =
     ap (λ (t : List ℕ). tokens_at start t) whole ∙ tokens_at-tokens tokens each start rest
     ∙ ap (λ (k : ℕ). with_tokens tokens (tokens_at k rest)) (sym at_place) ∙ ap (λ (r : Result (List Token) WechslerFault). with_tokens tokens r) e ∙ with_tokens-err tokens fault
@@ -272,3 +296,5 @@ tokens_at-Stops_bad text start place s = tokens_at-stops s.tokens s.rest text st
 
 pub tokens_at-Stops_short : (text : List ℕ) (start place : ℕ) → Stops IsShort start text place → tokens_at start text ≡ Err (ShortRun place)
 tokens_at-Stops_short text start place s = tokens_at-stops s.tokens s.rest text start place (ShortRun place) s.each s.whole s.at_place (tokens_at-IsShort place s.rest s.so)
+
+pub ruleset shorter = length-Begins

@@ -1,6 +1,8 @@
-ghost use Rattle.std.specs.Prelude.{◌≡◌, ◌≢◌, ◌↔◌, ◌<◌, ◌≤◌, ◌+◌, ◌++◌, ◌∷◌, [], ℕ, List, Option, Some, None, Result, Ok, Err, true, false, length, IfOk, OnOk, IsErrOf, drop, MatchOption, MatchResult};
-ghost use Rattle.code_core.specs.Columns.{lit_cells, cells_from, cells_of};
-ghost use Rattle.code_core.specs.Reading.{is_character, character_value, single, tokens_at, wechsler_read, Says, IsBadByte, IsShortRun};
+ghost use Rattle.std.specs.Prelude.{◌≡◌, ◌≢◌, ◌↔◌, ◌<◌, ◌≤◌, ◌+◌, ◌++◌, ◌∷◌, [], ℕ, List, Option, Some, None, Result, Ok, Err, true, false, length, IfOk, OnOk, IsErrOf, drop, MatchOption, MatchResult, IfSome, IfNone, ◌*◌, pos};
+ghost use Rattle.std.specs.Result.{result_err};
+ghost use Rattle.plane_core.specs.Cells.{cell_at};
+ghost use Rattle.code_core.specs.Columns.{is_lit, lit_cells, cells_from, cells_of};
+ghost use Rattle.code_core.specs.Reading.{Begins, IsStuck, fault_at, is_column, wechsler_pattern, is_character, character_value, single, tokens_at, wechsler_read, Says, IsBadByte, IsShortRun};
 ghost use Rattle.code_core.specs.declared.token.Token.{Token};
 ghost use Rattle.code_core.specs.declared.reader.WechslerFault.{WechslerFault};
 
@@ -56,13 +58,14 @@ pub enum WechslerError {
     Memory,
 }
 
+#[tactic(auto, unfolding(crate::specs::Reading::is_character))]
 fn is_character(byte: u8) -> bool
     ensures { result ≡ is_character byte }
 {
     byte.is_ascii_digit() || byte.is_ascii_lowercase()
 }
 
-#[tactic(auto, unfolding(crate::specs::Reading::character_value))]
+#[tactic(auto, unfolding(crate::specs::Reading::is_character, crate::specs::Reading::character_value))]
 fn character_value(byte: u8) -> u8
     requires { is_character byte ≡ true }
     ensures value { result ≡ character_value byte }
@@ -83,4 +86,106 @@ fn single(byte: u8) -> Token
         STRIP_END => Token::NextStrip,
         _ => Token::Column(character_value(byte)),
     }
+}
+
+/// The first token of a text, and what is behind it. There is none where the text is empty or begins with a fault.
+#[tactic(auto, using(crate::proofs::ReadingLemmas::Begins_single, crate::proofs::ReadingLemmas::Begins_long_gap))]
+fn first_token(text: &[u8]) -> Option<(Token, &[u8])>
+    ensures token { IfSome result (λ first. Begins text.now first.0 first.1.now) }
+    ensures none { IfNone result (IsStuck text.now) }
+{
+    let (byte, rest) = text.split_first()?;
+    if !is_character(*byte) {
+        return None;
+    }
+    if *byte != MANY_EMPTY {
+        return Some((single(*byte), rest));
+    }
+    let (length, rest) = rest.split_first()?;
+    if !is_character(*length) {
+        return None;
+    }
+    Some((Token::Gap(character_value(*length) + 4), rest))
+}
+
+/// What is wrong at this place of a text, from which on it begins with no token.
+fn fault_at(place: usize, rest: &[u8]) -> Option<WechslerFault>
+    ensures { result ≡ fault_at place rest.now }
+{
+    let byte = rest.first()?;
+    if is_character(*byte) {
+        Some(WechslerFault::ShortRun { place })
+    } else {
+        Some(WechslerFault::BadByte { place })
+    }
+}
+
+fn is_column(token: Token) -> bool
+    ensures { result ≡ is_column token }
+{
+    matches!(token, Token::Column(_))
+}
+
+/// What is wrong with a text that isn't too long.
+#[tactic(auto, using(crate::proofs::ReadingLemmas::shorter, crate::proofs::ReaderLoops::Passed_none, crate::proofs::ReaderLoops::Passed_more, crate::proofs::ReaderLoops::Passed_fault, crate::proofs::ReaderLoops::Passed_empty, crate::proofs::ReaderLoops::Passed_cells))]
+fn fault_in(text: &[u8]) -> Option<WechslerFault>
+    ensures { result ≡ result_err (wechsler_pattern text.now) }
+{
+    let mut rest = text;
+    let mut has_cell = false;
+    while let Some((token, behind)) = first_token(rest) {
+        has_cell |= is_column(token);
+        rest = behind;
+    }
+    if let Some(fault) = fault_at(text.len() - rest.len(), rest) {
+        return Some(fault);
+    }
+    if has_cell {
+        None
+    } else {
+        Some(WechslerFault::Empty)
+    }
+}
+
+/// Where the next column of a text stands.
+#[derive(Clone, Copy)]
+struct Head {
+    strip: u32,
+    x: u32,
+}
+
+/// Whether the cell of a column that counts 2 to the power i is alive.
+fn is_lit(value: u8, i: u32) -> bool
+    requires { i < 5 }
+    ensures { result ≡ is_lit value i }
+{
+    (value >> i) % 2 == 1
+}
+
+/// The cell in row i of the strip.
+fn cell_of(head: Head, i: u32) -> Cell
+    requires strip { head.strip ≤ 10000 }
+    requires column { head.x ≤ 400000 }
+    requires row { i < 5 }
+    ensures { result ≡ cell_at (pos head.x) (pos (5 * head.strip + i)) }
+{
+    Cell {
+        y: (5 * head.strip + i) as i32,
+        x: head.x as i32,
+    }
+}
+
+/// Adds the cells of a column.
+#[tactic(auto, using(crate::proofs::TokenCells::lit))]
+fn push_column(cells: &mut Vec<Cell>, head: Head, value: u8) -> Result<(), AllocError>
+    requires strip { head.strip ≤ 10000 }
+    requires column { head.x ≤ 400000 }
+    ensures { OnOk result (cells.new.items ≡ cells.old.items ++ lit_cells head.strip head.x value) }
+{
+    for i in 0..5 {
+        if is_lit(value, i) {
+            cells.push(cell_of(head, i))?;
+        }
+    }
+    Ok(())
 }

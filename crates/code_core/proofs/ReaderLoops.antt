@@ -1,0 +1,76 @@
+-- What the reader's loops have done when they have come to the rest of a text.
+use Rattle.std.proofs.Common.{◌≡◌, ◌<◌, ◌≤◌, ◌+◌, ◌-◌, ℕ, zero, suc, Bool, true, false, not, ◌||◌, List, [], ◌∷◌, ◌++◌, length, refl, sym, ◌∙◌, ap, subst, arith, append_assoc, append-nil, length-append, Option, Some, None, Result, Ok, Err}
+use Rattle.std.specs.List.{All, list_any, flat_map}
+use Rattle.std.specs.Result.{result_err}
+use Rattle.std.proofs.lemmas.Grind.{flat_map-append}
+use Rattle.std.proofs.lemmas.List.Elements.{All-nil, All-push}
+use Rattle.std.proofs.lemmas.List.Folds.{list_any-append}
+use Rattle.plane_core.specs.declared.cell.Cell.{Cell}
+use Rattle.code_core.specs.declared.token.Token.{Token}
+use Rattle.code_core.specs.declared.reader.WechslerFault.{WechslerFault}
+use Rattle.code_core.specs.declared.reader.WechslerFault.TheVariants.{BadByte, ShortRun, Empty}
+use Rattle.code_core.specs.declared.reader.TheConstants.{MANY_EMPTY}
+use Rattle.code_core.specs.Columns.{cells_from, cells_of}
+use Rattle.code_core.specs.Tokens.{spelling, IsToken, Spells}
+use Rattle.code_core.specs.Reading.{is_character, has_character, Begins, IsStuck, fault_at, is_column, tokens_at, pattern_of, wechsler_pattern}
+use Rattle.code_core.proofs.ReadingLemmas.{tokens_at-bad, tokens_at-short_run, tokens_at-tokens, tokens_at-stops, tokens_at-spelled}
+use Rattle.code_core.proofs.TokenCells.{unless_empty-some, unless_empty-none}
+
+-- tokens spell the text up to the rest, and it is known whether one of them is a column
+pub record Passed (text rest : List ℕ) (has_cell : Bool) : Type 0 where
+  pub tokens : List Token
+  pub each : All IsToken tokens
+  pub whole : text ≡ flat_map spelling tokens ++ rest
+  pub columns : has_cell ≡ list_any is_column tokens
+
+pub Passed_none : (text : List ℕ) → Passed text text false
+Passed_none text = record { tokens = []; each = All-nil IsToken; whole = refl; columns = refl }
+
+or-false : (a b : Bool) → (a || (b || false)) ≡ (a || b)
+or-false true b = refl
+or-false false true = refl
+or-false false false = refl
+
+pub Passed_more : (text rest behind : List ℕ) (token : Token) (has_cell : Bool) → Passed text rest has_cell → Begins rest token behind → Passed text behind (has_cell || is_column token)
+Passed_more text rest behind token has_cell p b = record {
+  tokens = p.tokens ++ token ∷ [];
+  each = All-push IsToken p.tokens token p.each b.is_token;
+  whole = p.whole ∙ ap (λ (more : List ℕ). flat_map spelling p.tokens ++ more) b.spelled ∙ sym (append_assoc (flat_map spelling p.tokens) (spelling token) behind)
+      ∙ ap (λ (front : List ℕ). front ++ behind) (sym (flat_map-append spelling p.tokens (token ∷ []) ∙ ap (λ (more : List ℕ). flat_map spelling p.tokens ++ more) (append-nil (spelling token))));
+  columns = sym (list_any-append is_column p.tokens (token ∷ []) ∙ ap (λ (any : Bool). any || (is_column token || false)) (sym p.columns) ∙ or-false has_cell (is_column token));
+}
+
+pub length-Passed : (text rest : List ℕ) (has_cell : Bool) → Passed text rest has_cell → length rest ≤ length text
+length-Passed text rest has_cell p = omega (arith, ap length p.whole, length-append (flat_map spelling p.tokens) rest)
+
+-- where no token begins, the fault is told
+tokens_at-stuck : (place : ℕ) (rest : List ℕ) (fault : WechslerFault) → IsStuck rest → fault_at place rest ≡ Some fault → tokens_at place rest ≡ Err fault
+tokens_at-stuck place [] fault stuck e = absurd (cc)
+tokens_at-stuck place (b ∷ rest) fault stuck e = go (is_character b) refl
+  where
+    go : (c : Bool) → is_character b ≡ c → tokens_at place (b ∷ rest) ≡ Err fault
+    go false h = tokens_at-bad place b rest h ∙ (let f : BadByte place ≡ fault = (let k = rw h at e in cc) in ap (λ (f : WechslerFault). Err f) f)
+    go true h =
+        let s = stuck h in
+        let f : ShortRun place ≡ fault = (let k = rw h at e in cc) in
+        rw s.0 (tokens_at-short_run place rest s.1 ∙ ap (λ (f : WechslerFault). Err f) f)
+
+pub Passed_fault : (text rest : List ℕ) (has_cell : Bool) (fault : WechslerFault) → Passed text rest has_cell → IsStuck rest → fault_at (length text - length rest) rest ≡ Some fault → result_err (wechsler_pattern text) ≡ Some fault
+Passed_fault text rest has_cell fault p stuck e =
+    let at : length text - length rest ≡ 0 + length (flat_map spelling p.tokens) = omega (arith, ap length p.whole, length-append (flat_map spelling p.tokens) rest) in
+    rw (tokens_at-stops p.tokens rest text 0 (length text - length rest) fault p.each p.whole at (tokens_at-stuck (length text - length rest) rest fault stuck e)) refl
+
+-- and at the end it is known whether there is a cell
+fault_at-none : (place : ℕ) (rest : List ℕ) → fault_at place rest ≡ None → rest ≡ []
+fault_at-none place [] e = refl
+fault_at-none place (b ∷ rest) e = absurd (cc)
+
+Passed_spells : (text rest : List ℕ) (has_cell : Bool) (place : ℕ) (p : Passed text rest has_cell) → fault_at place rest ≡ None → tokens_at 0 text ≡ Ok p.tokens
+Passed_spells text rest has_cell place p e =
+    ap (λ (t : List ℕ). tokens_at 0 t) (p.whole ∙ ap (λ (more : List ℕ). flat_map spelling p.tokens ++ more) (fault_at-none place rest e) ∙ append-nil (flat_map spelling p.tokens)) ∙ tokens_at-spelled p.tokens p.each 0
+
+pub Passed_empty : (text rest : List ℕ) (has_cell : Bool) (place : ℕ) → Passed text rest has_cell → fault_at place rest ≡ None → has_cell ≡ false → result_err (wechsler_pattern text) ≡ Some Empty
+Passed_empty text rest has_cell place p e none = rw (Passed_spells text rest has_cell place p e, unless_empty-none p.tokens (sym p.columns ∙ none)) refl
+
+pub Passed_cells : (text rest : List ℕ) (has_cell : Bool) (place : ℕ) → Passed text rest has_cell → fault_at place rest ≡ None → has_cell ≡ true → result_err (wechsler_pattern text) ≡ None
+Passed_cells text rest has_cell place p e some = rw (Passed_spells text rest has_cell place p e, unless_empty-some p.tokens p.each (sym p.columns ∙ some)) refl
