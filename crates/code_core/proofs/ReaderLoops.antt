@@ -1,6 +1,7 @@
 -- What the reader's loops have done when they have come to the rest of a text.
-use Rattle.std.proofs.Common.{◌≡◌, ◌<◌, ◌≤◌, ◌+◌, ◌-◌, ℕ, zero, suc, Bool, true, false, not, ◌||◌, List, [], ◌∷◌, ◌++◌, length, refl, sym, ◌∙◌, ap, subst, arith, append_assoc, append-nil, length-append, Option, Some, None, Result, Ok, Err}
+use Rattle.std.proofs.Common.{◌≡◌, ◌<◌, ◌≤◌, ◌+◌, ◌-◌, ◌*◌, ℕ, zero, suc, Bool, true, false, not, ◌||◌, List, [], ◌∷◌, ◌++◌, length, refl, sym, ◌∙◌, ap, subst, arith, append_assoc, append-nil, length-append, Option, Some, None, Result, Ok, Err}
 use Rattle.std.specs.List.{All, list_any, flat_map}
+use Rattle.std.specs.Prelude.{if◌then◌else◌}
 use Rattle.std.specs.Result.{result_err}
 use Rattle.std.proofs.lemmas.Grind.{flat_map-append}
 use Rattle.std.proofs.lemmas.List.Elements.{All-nil, All-push}
@@ -12,8 +13,8 @@ use Rattle.code_core.specs.declared.reader.WechslerFault.TheVariants.{BadByte, S
 use Rattle.code_core.specs.declared.reader.TheConstants.{MANY_EMPTY}
 use Rattle.code_core.specs.Columns.{cells_from, cells_of}
 use Rattle.code_core.specs.Tokens.{spelling, IsToken, Spells}
-use Rattle.code_core.specs.Reading.{is_character, has_character, Begins, IsStuck, fault_at, is_column, tokens_at, pattern_of, wechsler_pattern}
-use Rattle.code_core.proofs.ReadingLemmas.{tokens_at-bad, tokens_at-short_run, tokens_at-tokens, tokens_at-stops, tokens_at-spelled}
+use Rattle.code_core.specs.Reading.{is_character, has_character, with_token, Begins, IsStuck, fault_at, is_column, tokens_at, pattern_of, wechsler_pattern}
+use Rattle.code_core.proofs.ReadingLemmas.{tokens_at-bad, tokens_at-short_run, tokens_at-tokens, tokens_at-stops, tokens_at-spelled, tokens_at-token, tokens_at-Spells, Spells-tokens_at, length-Begins}
 use Rattle.code_core.proofs.TokenCells.{unless_empty-some, unless_empty-none}
 
 -- tokens spell the text up to the rest, and it is known whether one of them is a column
@@ -74,3 +75,66 @@ Passed_empty text rest has_cell place p e none = rw (Passed_spells text rest has
 
 pub Passed_cells : (text rest : List ℕ) (has_cell : Bool) (place : ℕ) → Passed text rest has_cell → fault_at place rest ≡ None → has_cell ≡ true → result_err (wechsler_pattern text) ≡ None
 Passed_cells text rest has_cell place p e some = rw (Passed_spells text rest has_cell place p e, unless_empty-some p.tokens p.each (sym p.columns ∙ some)) refl
+
+-- where a token begins a text that tokens spell, it is the first of them
+pub record Behind (token : Token) (behind : List ℕ) (tokens : List Token) : Type 0 where
+  pub more : List Token
+  pub spells : Spells more behind
+  pub is : tokens ≡ token ∷ more
+
+Spells_behind : (tokens : List Token) (rest behind : List ℕ) (token : Token) → Spells tokens rest → Begins rest token behind → Behind token behind tokens
+Spells_behind tokens rest behind token s b = go (tokens_at (0 + length (spelling token)) behind) refl
+  where
+    go : (r : Result (List Token) WechslerFault) → tokens_at (0 + length (spelling token)) behind ≡ r → Behind token behind tokens
+    go (Ok more) e =
+        let same : with_token token (Ok more) ≡ Ok tokens =
+        ap (with_token token) (sym e) ∙ sym (tokens_at-token token b.is_token 0 behind) ∙ ap (λ (t : List ℕ). tokens_at 0 t) (sym b.spelled) ∙ tokens_at-Spells tokens rest 0 s in
+        record { more = more; spells = Spells-tokens_at more behind (0 + length (spelling token)) e; is = cc }
+    go (Err fault) e =
+        let same : with_token token (Err fault) ≡ Ok tokens =
+        ap (with_token token) (sym e) ∙ sym (tokens_at-token token b.is_token 0 behind) ∙ ap (λ (t : List ℕ). tokens_at 0 t) (sym b.spelled) ∙ tokens_at-Spells tokens rest 0 s in
+        absurd (cc)
+
+-- and where none begins it, there is none
+Spells_stuck : (tokens : List Token) (rest : List ℕ) → Spells tokens rest → IsStuck rest → tokens ≡ []
+unfolding tokens_at
+Spells_stuck tokens [] s stuck = let e : tokens_at 0 [] ≡ Ok tokens = tokens_at-Spells tokens [] 0 s in cc
+Spells_stuck tokens (b ∷ rest) s stuck =
+    let told = tokens_at-stuck 0 (b ∷ rest) (if is_character b then ShortRun 0 else BadByte 0) stuck refl in
+    let e : Err (if is_character b then ShortRun 0 else BadByte 0) ≡ Ok tokens = sym told ∙ tokens_at-Spells tokens (b ∷ rest) 0 s in
+    absurd (cc)
+
+-- the cells up to the rest stand in the list, and those of the tokens that spell the rest are to come
+pub record ToCome (rest : List ℕ) (cells : List Cell) (strip x : ℕ) (all : List Cell) : Type 0 where
+  pub tokens : List Token
+  pub spells : Spells tokens rest
+  pub cells_are : cells ++ cells_from strip x tokens ≡ all
+
+-- the loop over the tokens has come to the rest, and to this strip and column
+pub record Gathered (text rest : List ℕ) (cells : List Cell) (strip x : ℕ) : Type 0 where
+  pub strips : strip + length rest ≤ length text
+  pub columns : x + 39 * length rest ≤ 39 * length text
+  pub to_come : (tokens : List Token) → Spells tokens text → ToCome rest cells strip x (cells_from 0 0 tokens)
+
+pub Gathered_none : (text : List ℕ) → Gathered text text [] 0 0
+Gathered_none text = record { strips = omega arith; columns = omega arith; to_come = λ tokens s. record { tokens = tokens; spells = s; cells_are = refl } }
+
+pub Gathered_more : (text rest behind : List ℕ) (token : Token) (cells more : List Cell) (strip x next_strip next_x : ℕ) → Gathered text rest cells strip x → Begins rest token behind
+    → ((tokens : List Token) → more ++ cells_from next_strip next_x tokens ≡ cells ++ cells_from strip x (token ∷ tokens)) → next_strip ≤ strip + 1 → next_x ≤ x + 39
+    → Gathered text behind more next_strip next_x
+Gathered_more text rest behind token cells more strip x next_strip next_x g b added strips columns =
+    let shorter : length behind < length rest = length-Begins rest token behind b in
+    record {
+      strips = omega (arith, g.strips);
+      columns = omega (arith, g.columns);
+      to_come = λ all s.
+        let t = g.to_come all s in
+        let f = Spells_behind t.tokens rest behind token t.spells b in
+        record { tokens = f.more; spells = f.spells; cells_are = added f.more ∙ ap (λ (tokens : List Token). cells ++ cells_from strip x tokens) (sym f.is) ∙ t.cells_are };
+    }
+
+pub Gathered_all : (text rest : List ℕ) (cells : List Cell) (strip x : ℕ) → Gathered text rest cells strip x → IsStuck rest → (tokens : List Token) → Spells tokens text → cells ≡ cells_from 0 0 tokens
+unfolding cells_from
+Gathered_all text rest cells strip x g stuck tokens s =
+    let t = g.to_come tokens s in
+    sym (append-nil cells) ∙ ap (λ (left : List Token). cells ++ cells_from strip x left) (sym (Spells_stuck t.tokens rest t.spells stuck)) ∙ t.cells_are

@@ -108,6 +108,19 @@ unless_empty-some tokens each h = unless_empty-set_of (cells_from 0 0 tokens) (l
 pub unless_empty-none : (tokens : List Token) → list_any is_column tokens ≡ false → unless_empty (cells_of tokens) ≡ Err Empty
 unless_empty-none tokens h = ap (λ (cells : List Cell). unless_empty (set_of cells)) (cells_from-none tokens 0 0 h)
 
+-- the cells of a token come before those of the next
+pub cells_from-column : (cells more : List Cell) (k x value : ℕ) (token : Token) (tokens : List Token) → token ≡ Column value → more ≡ cells ++ lit_cells k x value → more ++ cells_from k (x + 1) tokens ≡ cells ++ cells_from k x (token ∷ tokens)
+unfolding cells_from
+cells_from-column cells more k x value token tokens e m = rw (e, m) (append_assoc cells (lit_cells k x value) (cells_from k (x + 1) tokens))
+
+pub cells_from-gap : (k x n : ℕ) (token : Token) (tokens : List Token) → token ≡ Gap n → cells_from k x (token ∷ tokens) ≡ cells_from k (x + n) tokens
+unfolding cells_from
+cells_from-gap k x n token tokens e = rw e refl
+
+pub cells_from-next_strip : (k x : ℕ) (token : Token) (tokens : List Token) → token ≡ NextStrip → cells_from k x (token ∷ tokens) ≡ cells_from (k + 1) 0 tokens
+unfolding cells_from
+cells_from-next_strip k x token tokens e = rw e refl
+
 -- those of a column's cells that stand in its first rows
 unfoldable pub lit_above : ℕ → ℕ → ℕ → ℕ → List Cell
 lit_above n k x value = map (λ i. cell_at (pos x) (pos (5 * k + i))) (filter (is_lit value) (range_with_len 0 n))

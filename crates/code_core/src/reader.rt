@@ -2,6 +2,7 @@ ghost use Rattle.std.specs.Prelude.{◌≡◌, ◌≢◌, ◌↔◌, ◌<◌, �
 ghost use Rattle.std.specs.Result.{result_err};
 ghost use Rattle.plane_core.specs.Cells.{cell_at};
 ghost use Rattle.code_core.specs.Columns.{is_lit, lit_cells, cells_from, cells_of};
+ghost use Rattle.code_core.specs.Tokens.{IsToken, Spells};
 ghost use Rattle.code_core.specs.Reading.{Begins, IsStuck, fault_at, is_column, wechsler_pattern, is_character, character_value, single, tokens_at, wechsler_read, Says, IsBadByte, IsShortRun};
 ghost use Rattle.code_core.specs.declared.token.Token.{Token};
 ghost use Rattle.code_core.specs.declared.reader.WechslerFault.{WechslerFault};
@@ -188,4 +189,51 @@ fn push_column(cells: &mut Vec<Cell>, head: Head, value: u8) -> Result<(), Alloc
         }
     }
     Ok(())
+}
+
+/// Adds the cells of a token, and says where the column behind it stands.
+fn push_token(cells: &mut Vec<Cell>, head: Head, token: Token) -> Result<Head, AllocError>
+    requires strip { head.strip ≤ 10000 }
+    requires column { head.x ≤ 400000 }
+    requires token { IsToken token }
+    ensures cells { IfOk result (λ next. (tokens : List Token) →
+        cells.new.items ++ cells_from next.strip next.x tokens
+            ≡ cells.old.items ++ cells_from head.strip head.x (token ∷ tokens)) }
+    ensures strip { IfOk result (λ next. next.strip ≤ head.strip + 1) }
+    ensures column { IfOk result (λ next. next.x ≤ head.x + 39) }
+{
+    match token {
+        Token::Column(value) => {
+            push_column(cells, head, value)?;
+            Ok(Head {
+                x: head.x + 1,
+                ..head
+            })
+        }
+        Token::Gap(count) => Ok(Head {
+            x: head.x + u32::from(count),
+            ..head
+        }),
+        Token::NextStrip => Ok(Head {
+            strip: head.strip + 1,
+            x: 0,
+        }),
+    }
+}
+
+/// The cells of a text, column by column.
+#[tactic(auto, using(crate::proofs::ReadingLemmas::shorter))]
+fn cells_in(alloc: Global, text: &[u8]) -> Result<Vec<Cell>, AllocError>
+    requires { length text.now ≤ TEXT_LIMIT }
+    ensures { (tokens : List Token) → Spells tokens text.now
+        → IfOk result (λ cells. cells.items ≡ cells_from 0 0 tokens) }
+{
+    let mut cells = Vec::new(alloc);
+    let mut head = Head { strip: 0, x: 0 };
+    let mut rest = text;
+    while let Some((token, behind)) = first_token(rest) {
+        head = push_token(&mut cells, head, token)?;
+        rest = behind;
+    }
+    Ok(cells)
 }
