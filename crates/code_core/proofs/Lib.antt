@@ -1,3 +1,4 @@
 pub mod ReadingLemmas
 pub mod TokenCells
 pub mod ReaderLoops
+pub mod ReadingLaws

@@ -1,21 +1,22 @@
 -- What the reader's loops have done when they have come to the rest of a text.
 use Rattle.std.proofs.Common.{◌≡◌, ◌<◌, ◌≤◌, ◌+◌, ◌-◌, ◌*◌, ℕ, zero, suc, Bool, true, false, not, ◌||◌, List, [], ◌∷◌, ◌++◌, length, refl, sym, ◌∙◌, ap, subst, arith, append_assoc, append-nil, length-append, Option, Some, None, Result, Ok, Err}
-use Rattle.std.specs.List.{All, list_any, flat_map}
+use Rattle.std.specs.List.{All, list_all, list_any, flat_map}
 use Rattle.std.specs.Prelude.{if◌then◌else◌}
 use Rattle.std.specs.Result.{result_err}
 use Rattle.std.proofs.lemmas.Grind.{flat_map-append}
 use Rattle.std.proofs.lemmas.List.Elements.{All-nil, All-push}
 use Rattle.std.proofs.lemmas.List.Folds.{list_any-append}
 use Rattle.plane_core.specs.declared.cell.Cell.{Cell}
+use Rattle.plane_core.specs.Cells.{on_plane}
 use Rattle.code_core.specs.declared.token.Token.{Token}
 use Rattle.code_core.specs.declared.reader.WechslerFault.{WechslerFault}
 use Rattle.code_core.specs.declared.reader.WechslerFault.TheVariants.{BadByte, ShortRun, Empty}
-use Rattle.code_core.specs.declared.reader.TheConstants.{MANY_EMPTY}
+use Rattle.code_core.specs.declared.reader.TheConstants.{MANY_EMPTY, TEXT_LIMIT}
 use Rattle.code_core.specs.Columns.{cells_from, cells_of}
 use Rattle.code_core.specs.Tokens.{spelling, IsToken, Spells}
-use Rattle.code_core.specs.Reading.{is_character, has_character, with_token, Begins, IsStuck, fault_at, is_column, tokens_at, pattern_of, wechsler_pattern}
-use Rattle.code_core.proofs.ReadingLemmas.{tokens_at-bad, tokens_at-short_run, tokens_at-tokens, tokens_at-stops, tokens_at-spelled, tokens_at-token, tokens_at-Spells, Spells-tokens_at, length-Begins}
-use Rattle.code_core.proofs.TokenCells.{unless_empty-some, unless_empty-none}
+use Rattle.code_core.specs.Reading.{is_character, has_character, with_token, Begins, IsStuck, fault_at, is_column, tokens_at, unless_empty, wechsler_pattern}
+use Rattle.code_core.proofs.ReadingLemmas.{tokens_at-bad, tokens_at-short_run, tokens_at-tokens, tokens_at-stops, tokens_at-spelled, tokens_at-token, tokens_at-Spells, Spells-tokens_at, length-Begins, length-spelled}
+use Rattle.code_core.proofs.TokenCells.{unless_empty-some, unless_empty-none, cells_from-on_plane}
 
 -- tokens spell the text up to the rest, and it is known whether one of them is a column
 pub record Passed (text rest : List ℕ) (has_cell : Bool) : Type 0 where
@@ -128,9 +129,9 @@ Gathered_more text rest behind token cells more strip x next_strip next_x g b ad
       strips = omega (arith, g.strips);
       columns = omega (arith, g.columns);
       to_come = λ all s.
-        let t = g.to_come all s in
-        let f = Spells_behind t.tokens rest behind token t.spells b in
-        record { tokens = f.more; spells = f.spells; cells_are = added f.more ∙ ap (λ (tokens : List Token). cells ++ cells_from strip x tokens) (sym f.is) ∙ t.cells_are };
+          let t = g.to_come all s in
+          let f = Spells_behind t.tokens rest behind token t.spells b in
+          record { tokens = f.more; spells = f.spells; cells_are = added f.more ∙ ap (λ (tokens : List Token). cells ++ cells_from strip x tokens) (sym f.is) ∙ t.cells_are };
     }
 
 pub Gathered_all : (text rest : List ℕ) (cells : List Cell) (strip x : ℕ) → Gathered text rest cells strip x → IsStuck rest → (tokens : List Token) → Spells tokens text → cells ≡ cells_from 0 0 tokens
@@ -138,3 +139,26 @@ unfolding cells_from
 Gathered_all text rest cells strip x g stuck tokens s =
     let t = g.to_come tokens s in
     sym (append-nil cells) ∙ ap (λ (left : List Token). cells ++ cells_from strip x left) (sym (Spells_stuck t.tokens rest t.spells stuck)) ∙ t.cells_are
+
+-- a text without a fault: its tokens, and the pattern that is theirs
+pub record IsSound (text : List ℕ) : Type 0 where
+  pub tokens : List Token
+  pub spells : Spells tokens text
+  pub pattern : wechsler_pattern text ≡ Ok (cells_of tokens)
+
+pub sound : (text : List ℕ) → result_err (wechsler_pattern text) ≡ None → IsSound text
+sound text h = go (tokens_at 0 text) refl
+  where
+    some : (tokens : List Token) (cells : List Cell) → cells ≡ cells_of tokens → tokens_at 0 text ≡ Ok tokens → result_err (unless_empty cells) ≡ None → wechsler_pattern text ≡ Ok (cells_of tokens)
+    some tokens [] is e none = absurd (cc)
+    some tokens (c ∷ cells) is e none = rw (e, ← is) refl
+
+    go : (r : Result (List Token) WechslerFault) → tokens_at 0 text ≡ r → IsSound text
+    go (Ok tokens) e = record { tokens = tokens; spells = Spells-tokens_at tokens text 0 e; pattern = some tokens (cells_of tokens) refl e (rw e at h) }
+    go (Err fault) e = absurd (let k = rw e at h in cc)
+
+-- the cells of a short text lie on the plane
+pub Spells-on_plane : (tokens : List Token) (text : List ℕ) → Spells tokens text → length text ≤ TEXT_LIMIT → list_all on_plane (cells_from 0 0 tokens) ≡ true
+Spells-on_plane tokens text s short =
+    let few : length tokens ≤ 10000 = omega (arith, length-spelled tokens, ap length s.spelled) in
+    cells_from-on_plane tokens s.each 0 0 (omega arith) (omega arith)

@@ -137,6 +137,10 @@ length-spelling NextStrip = omega arith
 pub length-Begins : (text : List ℕ) (token : Token) (rest : List ℕ) → Begins text token rest → length rest < length text
 length-Begins text token rest b = omega (arith, ap length b.spelled, length-append (spelling token) rest, length-spelling token)
 
+pub length-spelled : (tokens : List Token) → length tokens ≤ length (flat_map spelling tokens)
+length-spelled [] = omega arith
+length-spelled (token ∷ tokens) = omega (arith, length-spelled tokens, length-spelling token, length-append (spelling token) (flat_map spelling tokens))
+
 -- tokens before those of a result, or its fault
 abbrev pub with_tokens : List Token → Result (List Token) WechslerFault → Result (List Token) WechslerFault
 with_tokens [] r = r

@@ -1,17 +1,17 @@
 -- The cells of tokens: there are some exactly where there is a column, and those of a short text lie on the plane.
-use Rattle.std.proofs.Common.{◌≡◌, ◌<◌, ◌≤◌, ◌+◌, ◌-◌, ◌*◌, ℕ, zero, suc, pos, Bool, true, false, ◌||◌, ◌&&◌, cond, List, [], ◌∷◌, ◌++◌, length, map, filter, get_or, refl, sym, ◌∙◌, ap, subst, arith, length-append, append-nil, append_assoc, Result, Ok, Err, nat_lt, true≢false}
+use Rattle.std.proofs.Common.{◌≡◌, ◌<◌, ◌≤◌, ◌+◌, ◌-◌, ◌*◌, ℕ, zero, suc, pos, Bool, true, false, ◌||◌, ◌&&◌, cond, List, [], ◌∷◌, ◌++◌, length, map, filter, get_or, refl, sym, ◌∙◌, ap, subst, arith, length-append, append-nil, append_assoc, Option, None, Some, Result, Ok, Err, nat_lt, true≢false}
 use Rattle.std.proofs.lemmas.Bool.Decides.{nat_tests}
 use Rattle.std.proofs.lemmas.List.{length-map, map-id, map-append}
 use Rattle.std.specs.Ordering.{match_ordering}
 use Rattle.std.specs.declared.cmp.Ordering.{Ordering}
 use Rattle.std.specs.declared.cmp.Ordering.TheVariants.{Less, Equal, Greater}
-use Rattle.std.specs.List.{All, list_all, list_any, range_with_len}
+use Rattle.std.specs.List.{All, list_all, list_any, range_with_len, position, position_or_len}
 use Rattle.std.proofs.lemmas.List.Elements.{All-tail}
 use Rattle.std.proofs.lemmas.List.Folds.{list_all-append}
 use Rattle.std.proofs.lemmas.List.FromFn.{get_or-range_with_len, filter_of_map_range_with_len_more}
 use Rattle.std.proofs.lemmas.List.Sums.{AllPass-from_list_all}
 use Rattle.plane_core.specs.declared.cell.Cell.{Cell}
-use Rattle.plane_core.specs.Cells.{cell_at, cell_cmp, on_plane, put, set_of}
+use Rattle.plane_core.specs.Cells.{cell_at, cell_cmp, on_plane, off_plane, put, set_of}
 use Rattle.code_core.specs.declared.token.Token.{Token}
 use Rattle.code_core.specs.declared.token.Token.TheVariants.{Column, Gap, NextStrip}
 use Rattle.code_core.specs.declared.reader.WechslerFault.{WechslerFault}
@@ -147,3 +147,17 @@ unfolding lit_above lit_cells
 lit_above-all n k x value e = rw e refl
 
 pub ruleset lit = (lit_above-none, lit_above-lit, lit_above-dark, lit_above-all, append-nil, append_assoc)
+
+-- cells of the plane aren't refused
+position_or_len-all : (cells : List Cell) → list_all on_plane cells ≡ true → position_or_len off_plane cells ≡ length cells
+position_or_len-all [] h = refl
+position_or_len-all (c ∷ cells) h = go (on_plane c) refl h (position_or_len-all cells)
+  where
+    go : (b : Bool) → on_plane c ≡ b → (b && list_all on_plane cells) ≡ true → (list_all on_plane cells ≡ true → position_or_len off_plane cells ≡ length cells) → position_or_len off_plane (c ∷ cells) ≡ length (c ∷ cells)
+    go false e k ih = absurd (true≢false (sym k))
+    go true e k ih = rw (e, ih k) (omega arith)
+
+pub position-on_plane : (cells : List Cell) → list_all on_plane cells ≡ true → position off_plane cells ≡ None
+position-on_plane cells h =
+    let e : nat_lt (position_or_len off_plane cells) (length cells) ≡ false = (let n = position_or_len-all cells h in grind (arith, nat_tests)) in
+    rw e refl

@@ -1,11 +1,15 @@
-ghost use Rattle.std.specs.Prelude.{◌≡◌, ◌≢◌, ◌↔◌, ◌<◌, ◌≤◌, ◌+◌, ◌++◌, ◌∷◌, [], ℕ, List, Option, Some, None, Result, Ok, Err, true, false, length, IfOk, OnOk, IsErrOf, drop, MatchOption, MatchResult, IfSome, IfNone, ◌*◌, pos};
+ghost use Rattle.std.specs.Prelude.{◌≡◌, ◌≢◌, ◌↔◌, ◌<◌, ◌≤◌, ◌+◌, ◌++◌, ◌∷◌, [], ℕ, List, Option, Some, None, Result, Ok, Err, true, false, length, IfOk, IfErr, OnOk, IsErrOf, drop, MatchOption, MatchResult, IfSome, IfNone, ◌*◌, pos};
 ghost use Rattle.std.specs.Result.{result_err};
+ghost use Rattle.plane_core.specs.declared.cell.Cell.{Cell};
 ghost use Rattle.plane_core.specs.Cells.{cell_at};
 ghost use Rattle.code_core.specs.Columns.{is_lit, lit_cells, cells_from, cells_of};
 ghost use Rattle.code_core.specs.Tokens.{IsToken, Spells};
-ghost use Rattle.code_core.specs.Reading.{Begins, IsStuck, fault_at, is_column, wechsler_pattern, is_character, character_value, single, tokens_at, wechsler_read, Says, IsBadByte, IsShortRun};
+ghost use Rattle.code_core.specs.Reading.{Begins, IsStuck, fault_at, is_column, wechsler_pattern, wechsler_read, is_character, character_value, single, Says, IsBadByte, IsShortRun};
 ghost use Rattle.code_core.specs.declared.token.Token.{Token};
 ghost use Rattle.code_core.specs.declared.reader.WechslerFault.{WechslerFault};
+ghost use Rattle.code_core.specs.declared.reader.WechslerFault.TheVariants.{TooLong, BadByte, ShortRun, Empty};
+ghost use Rattle.code_core.specs.declared.reader.WechslerError.{WechslerError};
+ghost use Rattle.code_core.specs.declared.reader.WechslerError.TheVariants.{Memory};
 
 use crate::token::Token;
 use plane_core::cell::Cell;
@@ -57,6 +61,14 @@ pub enum WechslerError {
     /// Memory ran out.
     #[error("out of memory")]
     Memory,
+}
+
+impl From<AllocError> for WechslerError {
+    ghost from_gives = { λ _ e. e ≡ Memory };
+
+    fn from(_e: AllocError) -> WechslerError {
+        WechslerError::Memory
+    }
 }
 
 #[tactic(auto, unfolding(crate::specs::Reading::is_character))]
@@ -198,7 +210,7 @@ fn push_token(cells: &mut Vec<Cell>, head: Head, token: Token) -> Result<Head, A
     requires token { IsToken token }
     ensures cells { IfOk result (λ next. (tokens : List Token) →
         cells.new.items ++ cells_from next.strip next.x tokens
-            ≡ cells.old.items ++ cells_from head.strip head.x (token ∷ tokens)) }
+        ≡ cells.old.items ++ cells_from head.strip head.x (token ∷ tokens)) }
     ensures strip { IfOk result (λ next. next.strip ≤ head.strip + 1) }
     ensures column { IfOk result (λ next. next.x ≤ head.x + 39) }
 {
@@ -236,4 +248,71 @@ fn cells_in(alloc: Global, text: &[u8]) -> Result<Vec<Cell>, AllocError>
         rest = behind;
     }
     Ok(cells)
+}
+
+/// The pattern of a text that has no fault.
+///
+/// # Errors
+///
+/// `Memory` alone.
+fn pattern_in(alloc: Global, text: &[u8]) -> Result<Pattern, WechslerError>
+    requires short { length text.now ≤ TEXT_LIMIT }
+    requires sound { result_err (wechsler_pattern text.now) ≡ None }
+    ensures pattern { IfOk result (λ read. wechsler_pattern text.now ≡ Ok read) }
+    ensures memory { IfErr result (λ error. error ≡ Memory) }
+{
+    let cells = cells_in(alloc, text)?;
+    match Pattern::from_cells(alloc, &cells) {
+        Ok(pattern) => Ok(pattern),
+        Err(FromCellsError::Memory) => Err(WechslerError::Memory),
+        Err(FromCellsError::OutOfPlane { .. }) => unreachable!(),
+    }
+}
+
+/// The pattern of a text.
+fn read(alloc: Global, text: &[u8]) -> Result<Pattern, WechslerError>
+    ensures pattern { IfOk result (λ read. wechsler_read text.now ≡ Ok read) }
+    ensures fault { (fault : WechslerFault) →
+        IsErrOf result (WechslerError.Fault fault) ↔ (wechsler_read text.now ≡ Err fault) }
+{
+    if text.len() > TEXT_LIMIT {
+        return Err(WechslerError::Fault(WechslerFault::TooLong));
+    }
+    if let Some(fault) = fault_in(text) {
+        return Err(WechslerError::Fault(fault));
+    }
+    pattern_in(alloc, text)
+}
+
+/// Reads a pattern in extended Wechsler format (LifeWiki, "Apgcode").
+///
+/// The text is cut at each `z` into strips of five rows, from the top. The characters `0` to `9` and `a` to `v` are
+/// the next column of a strip, from the left, whose cells count 1, 2, 4, 8 and 16 from the top; `w`, `x` and `y`
+/// stand for two empty columns, for three, and for four and the value of the character behind the `y`. Texts that
+/// are never written are read too: with zeros at a strip's end, several runs of empty columns in a row, and empty
+/// strips. The cells keep their place, of which the top left of the first strip is (0, 0).
+///
+/// # Errors
+///
+/// [`WechslerError::Fault`], whether there is memory or not: `TooLong` first, then of `BadByte` and `ShortRun` the first
+/// from the left, and `Empty` where there is neither. [`WechslerError::Memory`] where memory runs out.
+pub fn read_wechsler(alloc: Global, text: &str) -> Result<Pattern, WechslerError>
+    ensures pattern { IfOk result (λ read. wechsler_read text.now ≡ Ok read) }
+    ensures fault { (fault : WechslerFault) →
+        IsErrOf result (WechslerError.Fault fault) ↔ (wechsler_read text.now ≡ Err fault) }
+
+    // A text says one pattern at most, which is read.
+    ensures says { IfOk result (Says text.now) }
+    ensures only { IfOk result (λ read. (cells : List Cell) → Says text.now cells → read ≡ cells) }
+
+    // Which fault it is.
+    ensures too_long { IsErrOf result (WechslerError.Fault TooLong) ↔ (TEXT_LIMIT < length text.now) }
+    ensures bad_byte { (place : ℕ) → length text.now ≤ TEXT_LIMIT →
+        (IsErrOf result (WechslerError.Fault (BadByte place)) ↔ IsBadByte text.now place) }
+    ensures short_run { (place : ℕ) → length text.now ≤ TEXT_LIMIT →
+        (IsErrOf result (WechslerError.Fault (ShortRun place)) ↔ IsShortRun text.now place) }
+    ensures empty { length text.now ≤ TEXT_LIMIT →
+        (IsErrOf result (WechslerError.Fault Empty) ↔ Says text.now []) }
+{
+    read(alloc, text.as_bytes())
 }

@@ -1,5 +1,4 @@
-use Rattle.std.proofs.Common.{◌++◌, List, rules, sym, ap, ◌∙◌, arith}
-use Rattle.plane_core.specs.declared.cell.Cell.{Cell}
+use Rattle.std.proofs.Common.{rules}
 use Rattle.code_core.proofs.TokenCells.{cells_from-column, cells_from-gap, cells_from-next_strip}
 use Rattle.code_core.proofs.reader.push_token.Goals as goal
 
