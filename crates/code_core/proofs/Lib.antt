@@ -5,6 +5,10 @@ pub mod LaterCodes
 pub mod LeastLemmas
 pub mod MovedCodes
 pub mod NameLemmas
+pub mod ReaderCells
+pub mod ReaderLoops
+pub mod ReadingLaws
+pub mod ReadingLemmas
 pub mod RecurrenceLemmas
 pub mod StripLemmas
 pub mod StripsLemmas

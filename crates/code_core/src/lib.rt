@@ -9,6 +9,8 @@ pub mod cycle;
 pub mod name;
 /// When a pattern comes back.
 pub mod recurrence;
+/// How the text of a pattern is read.
+pub mod reader;
 mod token;
 /// The text of a pattern.
 pub mod wechsler;

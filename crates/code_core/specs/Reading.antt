@@ -1,0 +1,115 @@
+-- What a text says in extended Wechsler format (LifeWiki, "Apgcode").
+use Rattle.std.specs.Prelude.{◌≡◌, ◌==◌, ◌+◌, ◌-◌, ◌<◌, ◌≤◌, ℕ, Bool, false, true, not, ◌||◌, List, [], ◌∷◌, ◌++◌, length, take, Option, None, Some, Result, Ok, Err, nat_lt, slice_index, if◌then◌else◌}
+use Rattle.std.specs.Char.{is_ascii_digit, is_ascii_lowercase}
+use Rattle.plane_core.specs.declared.cell.Cell.{Cell}
+use Rattle.code_core.specs.declared.token.Token.{Token}
+use Rattle.code_core.specs.declared.token.Token.TheVariants.{Column, Gap, NextStrip}
+use Rattle.code_core.specs.declared.reader.WechslerFault.{WechslerFault}
+use Rattle.code_core.specs.declared.reader.WechslerFault.TheVariants.{TooLong, BadByte, ShortRun, Empty}
+use Rattle.code_core.specs.declared.reader.TheConstants.{TEXT_LIMIT, ONE_EMPTY, TWO_EMPTY, THREE_EMPTY, MANY_EMPTY, STRIP_END}
+use Rattle.code_core.specs.Columns.{cells_of}
+use Rattle.code_core.specs.Tokens.{spelling, IsToken, Spells}
+
+-- `0` to `9` and `a` to `z`
+unfoldable pub is_character : ℕ → Bool
+is_character b = is_ascii_digit b || is_ascii_lowercase b
+
+-- the value of a character: 0 to 9 for `0` to `9`, then 10 to 35 for `a` to `z`
+unfoldable pub character_value : ℕ → ℕ
+character_value b = if nat_lt b 58 then b - 48 else b - 87
+
+-- the token of a character other than `y`: runs of one, two and three empty columns, the next strip, or else a column
+unfoldable pub single : ℕ → Token
+single b =
+    if b == ONE_EMPTY then Gap 1
+    else if b == TWO_EMPTY then Gap 2
+    else if b == THREE_EMPTY then Gap 3
+    else if b == STRIP_END then NextStrip
+    else Column (character_value b)
+
+-- the token of `y` and the character behind it
+abbrev pub long_gap : ℕ → Token
+long_gap c = Gap (character_value c + 4)
+
+-- a token before those of the rest, or the fault of the rest
+abbrev pub with_token : Token → Result (List Token) WechslerFault → Result (List Token) WechslerFault
+with_token token (Ok tokens) = Ok (token ∷ tokens)
+with_token token (Err fault) = Err fault
+
+-- the tokens of a text whose first byte stands at this place, or the first fault: a byte that is no character, or a `y` with no character behind it
+unfoldable pub tokens_at : ℕ → List ℕ → Result (List Token) WechslerFault
+tokens_at place [] = Ok []
+tokens_at place (b ∷ []) =
+    if not (is_character b) then Err (BadByte place)
+    else if b == MANY_EMPTY then Err (ShortRun place)
+    else Ok (single b ∷ [])
+tokens_at place (b ∷ c ∷ rest) =
+    if not (is_character b) then Err (BadByte place)
+    else if not (b == MANY_EMPTY) then with_token (single b) (tokens_at (place + 1) (c ∷ rest))
+    else if is_character c then with_token (long_gap c) (tokens_at (place + 2) rest)
+    else Err (ShortRun place)
+
+-- the text begins with a token, and behind it is the rest
+pub record Begins (text : List ℕ) (token : Token) (rest : List ℕ) : Type 0 where
+  pub is_token : IsToken token
+  pub spelled : text ≡ spelling token ++ rest
+
+-- a character stands at the front of a text
+abbrev pub has_character : List ℕ → Bool
+has_character [] = false
+has_character (c ∷ rest) = is_character c
+
+-- no token begins the text: a character at its front is a `y` with none behind it
+abbrev pub IsStuck : List ℕ → Type 0
+IsStuck [] = Unit {0}
+IsStuck (b ∷ rest) = is_character b ≡ true → (b ≡ MANY_EMPTY) × (has_character rest ≡ false)
+
+-- what is wrong where no token begins, at this place
+abbrev pub fault_at : ℕ → List ℕ → Option WechslerFault
+fault_at place [] = None
+fault_at place (b ∷ rest) = Some (if is_character b then ShortRun place else BadByte place)
+
+-- the token is a column, which has a live cell
+abbrev pub is_column : Token → Bool
+is_column (Column value) = true
+is_column (Gap n) = false
+is_column NextStrip = false
+
+-- a pattern has a cell
+abbrev pub unless_empty : List Cell → Result (List Cell) WechslerFault
+unless_empty [] = Err Empty
+unless_empty (c ∷ cs) = Ok (c ∷ cs)
+
+-- the pattern of the tokens, or the fault
+abbrev pub pattern_of : Result (List Token) WechslerFault → Result (List Cell) WechslerFault
+pattern_of (Ok tokens) = unless_empty (cells_of tokens)
+pattern_of (Err fault) = Err fault
+
+-- the pattern of a text
+abbrev pub wechsler_pattern : List ℕ → Result (List Cell) WechslerFault
+wechsler_pattern text = pattern_of (tokens_at 0 text)
+
+-- the pattern of a text that isn't too long
+abbrev pub wechsler_read : List ℕ → Result (List Cell) WechslerFault
+wechsler_read text = if nat_lt TEXT_LIMIT (length text) then Err TooLong else wechsler_pattern text
+
+-- the text says the pattern: some tokens spell it, and the pattern is theirs
+pub record Says (text : List ℕ) (cells : List Cell) : Type 0 where
+  pub tokens : List Token
+  pub spells : Spells tokens text
+  pub pattern : cells ≡ cells_of tokens
+
+-- tokens spell the bytes before the place, and the byte there is no character
+pub record IsBadByte (text : List ℕ) (place : ℕ) : Type 0 where
+  pub tokens : List Token
+  pub before : Spells tokens (take place text)
+  pub within : place < length text
+  pub bad : is_character (slice_index text place) ≡ false
+
+-- tokens spell the bytes before the place, and there is a `y` with no character behind it
+pub record IsShortRun (text : List ℕ) (place : ℕ) : Type 0 where
+  pub tokens : List Token
+  pub before : Spells tokens (take place text)
+  pub within : place < length text
+  pub run : slice_index text place ≡ MANY_EMPTY
+  pub short : place + 1 < length text → is_character (slice_index text (place + 1)) ≡ false
