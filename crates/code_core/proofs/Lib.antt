@@ -10,6 +10,7 @@ pub mod ReaderLoops
 pub mod ReadingLaws
 pub mod ReadingLemmas
 pub mod RecurrenceLemmas
+pub mod RoundTrip
 pub mod StripLemmas
 pub mod StripsLemmas
 pub mod TextLaw

@@ -1,5 +1,5 @@
 -- The cells of a pattern's tokens: those of its box that the pattern has.
-use Rattle.std.proofs.Common.{◌≡◌, ℕ, zero, suc, pos, ◌+◌, ◌*◌, ◌/◌, ◌%◌, ◌≤◌, eqb, Bool, true, false, cond, List, [], ◌∷◌, ◌++◌, filter, map, arith, refl, ap, sym, ◌∙◌}
+use Rattle.std.proofs.Common.{◌≡◌, ℕ, zero, suc, pos, ◌+◌, ◌*◌, ◌/◌, ◌%◌, eqb, Bool, true, false, cond, List, [], ◌∷◌, ◌++◌, filter, map, arith, refl, ap, sym, ◌∙◌}
 use Rattle.std.specs.List.{flat_map, range_with_len}
 use Rattle.std.proofs.lemmas.List.{append_assoc, append-nil}
 use Rattle.std.proofs.lemmas.List.Elements.{filter-append}

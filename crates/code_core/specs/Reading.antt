@@ -1,13 +1,16 @@
 -- What a text says in extended Wechsler format (LifeWiki, "Apgcode").
-use Rattle.std.specs.Prelude.{◌≡◌, ◌==◌, ◌+◌, ◌-◌, ◌<◌, ◌≤◌, ℕ, Bool, false, true, not, ◌||◌, List, [], ◌∷◌, ◌++◌, length, take, Option, None, Some, Result, Ok, Err, nat_lt, slice_index, if◌then◌else◌}
+use Rattle.std.specs.Prelude.{◌≡◌, ◌==◌, ◌+◌, ◌-◌, ◌<◌, ℕ, Bool, false, true, not, ◌||◌, List, [], ◌∷◌, ◌++◌, length, take, Option, None, Some, Result, Ok, Err, nat_lt, slice_index, if◌then◌else◌}
 use Rattle.std.specs.Char.{is_ascii_digit, is_ascii_lowercase}
 use Rattle.plane_core.specs.declared.cell.Cell.{Cell}
+use Rattle.plane_core.specs.Bounds.{at_corner}
+use Rattle.plane_core.specs.Cells.{InOrder}
 use Rattle.code_core.specs.declared.token.Token.{Token}
 use Rattle.code_core.specs.declared.token.Token.TheVariants.{Column, Gap, NextStrip}
 use Rattle.code_core.specs.declared.reader.WechslerFault.{WechslerFault}
 use Rattle.code_core.specs.declared.reader.WechslerFault.TheVariants.{TooLong, BadByte, ShortRun, Empty}
 use Rattle.code_core.specs.declared.reader.TheConstants.{TEXT_LIMIT, ONE_EMPTY, TWO_EMPTY, THREE_EMPTY, MANY_EMPTY, STRIP_END}
 use Rattle.code_core.specs.Columns.{cells_of}
+use Rattle.code_core.specs.Texts.{text}
 use Rattle.code_core.specs.Tokens.{spelling, IsToken, Spells}
 
 -- `0` to `9` and `a` to `z`
@@ -113,3 +116,7 @@ pub record IsShortRun (text : List ℕ) (place : ℕ) : Type 0 where
   pub within : place < length text
   pub run : slice_index text place ≡ MANY_EMPTY
   pub short : place + 1 < length text → is_character (slice_index text (place + 1)) ≡ false
+
+-- each text of a pattern is read again, as the pattern moved to the corner
+abbrev pub TextsAreRead : Type 0
+TextsAreRead = (cells : List Cell) (t : List ℕ) → InOrder cells → text cells ≡ Some t → wechsler_read t ≡ Ok (at_corner cells)

@@ -4,7 +4,7 @@ ghost use Rattle.plane_core.specs.declared.cell.Cell.{Cell};
 ghost use Rattle.plane_core.specs.Cells.{cell_at};
 ghost use Rattle.code_core.specs.Columns.{is_lit, lit_cells, cells_from, cells_of};
 ghost use Rattle.code_core.specs.Tokens.{IsToken, Spells};
-ghost use Rattle.code_core.specs.Reading.{Begins, IsStuck, fault_at, is_column, wechsler_pattern, wechsler_read, is_character, character_value, single, Says, IsBadByte, IsShortRun};
+ghost use Rattle.code_core.specs.Reading.{Begins, IsStuck, fault_at, is_column, wechsler_pattern, wechsler_read, is_character, character_value, single, Says, IsBadByte, IsShortRun, TextsAreRead};
 ghost use Rattle.code_core.specs.declared.token.Token.{Token};
 ghost use Rattle.code_core.specs.declared.reader.WechslerFault.{WechslerFault};
 ghost use Rattle.code_core.specs.declared.reader.WechslerFault.TheVariants.{TooLong, BadByte, ShortRun, Empty};
@@ -316,3 +316,9 @@ pub fn read_wechsler(alloc: Global, text: &str) -> Result<Pattern, WechslerError
 {
     read(alloc, text.as_bytes())
 }
+
+/// A law of all patterns: the text of a pattern is read again, as the pattern moved to the corner.
+#[tactic(auto, using(crate::proofs::RoundTrip::texts_are_read))]
+pub fn texts_are_read()
+    ensures { TextsAreRead }
+{}
