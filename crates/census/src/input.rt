@@ -59,7 +59,6 @@ pub fn read_input<R: Read>(alloc: Global, input: &mut R) -> Result<Vec<u8>, Inpu
 ///
 /// `ReadFailed` where a read fails and where there are more than [`INPUT_LIMIT`] bytes, else `BadByte` or
 /// `PatternTooLarge` where the bytes are no pattern, and `OutOfMemory`.
-#[tactic(auto, using(crate::proofs::SmallPatterns::read_is_small))]
 pub fn read_pattern<R: Read>(alloc: Global, input: &mut R) -> Result<Pattern, Complaint>
     ensures read { (bytes : List ℕ) × IsInput (R.remaining input.old) bytes × Reads (pattern_of bytes) result }
     ensures small { IfOk result IsSmall }

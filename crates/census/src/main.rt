@@ -16,6 +16,7 @@ mod tests;
 mod words;
 
 use complaint::Complaint;
+use output::send_buffered;
 use plane_core::output::Out;
 use status::Status;
 use std::io::{self, BufWriter, ErrorKind, Write};
@@ -38,13 +39,14 @@ fn do_process(rt: &HostRuntime) -> Status {
         return Complaint::OutOfMemory.tell(&mut errors);
     };
     let mut output = Out::new(buffered);
-    do_words(
+    let status = do_words(
         rt,
         words.as_slice(),
         &mut rt.stdin(),
         &mut output,
         &mut errors,
-    )
+    );
+    send_buffered(status, &mut output.into_inner(), &mut errors)
 }
 
 /// The words that the process was started with.

@@ -7,7 +7,6 @@ ghost use Rattle.census.specs.Streams.{stream};
 
 use crate::complaint::Complaint;
 use crate::input::read_pattern;
-use crate::output::write_pattern;
 use crate::status::Status;
 use plane_core::generation::StepError;
 use plane_core::output::Out;
@@ -69,7 +68,7 @@ fn run<R: Read, W: Write>(
     let rule = Rule::read(rule_text)?;
     let pattern = read_pattern(alloc, input)?;
     let pattern = generation_after(alloc, &pattern, &rule, generations)?;
-    write_pattern(&pattern, output)?;
+    pattern.write_plaintext(output)?;
     Ok(())
 }
 

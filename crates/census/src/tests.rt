@@ -1,3 +1,4 @@
+use crate::output::send_buffered;
 use crate::run::do_run;
 use crate::status::Status;
 use crate::words::do_words;
@@ -276,25 +277,81 @@ fn tells_each_failed_write(rt: HostRuntime) {
     }
 }
 
-#[test]
-fn tells_a_failed_write_of_what_was_buffered(rt: HostRuntime) -> Result<(), Fail> {
+/// Runs a blinker for one generation through a buffer, over a writer that fails at this write. Asserts the status and
+/// the line, and says what the writer took.
+fn sent_by<R: Abort + AllocGlobal>(
+    rt: &R,
+    writes: usize,
+    status: Status,
+    line: &[u8],
+) -> Result<Vec<u8>, Fail> {
     let mut input = BLINKER;
     let writer = FailingWriter {
         taken: Vec::new(rt.alloc()),
-        writes: 2,
+        writes,
         takes_none: false,
     };
     let mut output = Out::new(BufWriter::new(rt.alloc(), writer)?);
     let mut errors = Out::new(Vec::new(rt.alloc()));
-    let status = do_run(rt.alloc(), 1, "b3s23", &mut input, &mut output, &mut errors);
-    assert_eq!(rt; status, Status::Failed);
-    assert_eq!(rt;
-        errors.into_inner().as_slice(),
-        b"census: write failed\n".as_slice()
-    );
-    assert_eq!(rt;
-        output.into_inner().get_ref().taken.as_slice(),
-        b"O\n".as_slice()
-    );
+    let found = do_run(rt.alloc(), 1, "b3s23", &mut input, &mut output, &mut errors);
+    let mut buffered = output.into_inner();
+    let found = send_buffered(found, &mut buffered, &mut errors);
+    assert_eq!(rt; found, status);
+    assert_eq!(rt; errors.into_inner().as_slice(), line);
+    let (writer, _) = buffered.into_parts();
+    Ok(writer.taken)
+}
+
+#[test]
+fn tells_a_failed_write_of_what_was_buffered(rt: HostRuntime) -> Result<(), Fail> {
+    for writes in 0..6 {
+        let taken = sent_by(&rt, writes, Status::Failed, b"census: write failed\n")?;
+        assert_eq!(rt; taken.as_slice(), &UPRIGHT[..writes]);
+    }
+    let taken = sent_by(&rt, 6, Status::Done, b"")?;
+    assert_eq!(rt; taken.as_slice(), UPRIGHT);
+    Ok(())
+}
+
+/// A writer whose writes go well and whose flush fails.
+#[derive(Drop)]
+struct Unflushed;
+
+impl Write for Unflushed {
+    fn write(&mut self, buf: &[u8]) -> io::Result<usize> {
+        Ok(buf.len())
+    }
+
+    fn flush(&mut self) -> io::Result<()> {
+        Err(io::Error::from(ErrorKind::Other))
+    }
+}
+
+#[test]
+fn tells_a_failed_flush(rt: HostRuntime) -> Result<(), Fail> {
+    let cases: [(Status, Status, &[u8]); 3] = [
+        (Status::Done, Status::Failed, b"census: write failed\n"),
+        (Status::OutOfMemory, Status::OutOfMemory, b""),
+        (Status::Usage, Status::Usage, b""),
+    ];
+    for (before, after, line) in cases {
+        let mut buffered = BufWriter::new(rt.alloc(), Unflushed)?;
+        let mut errors = Out::new(Vec::new(rt.alloc()));
+        let found = send_buffered(before, &mut buffered, &mut errors);
+        assert_eq!(rt; found, after);
+        assert_eq!(rt; errors.into_inner().as_slice(), line);
+    }
+    // Where the line can't be written either, that isn't told.
+    let mut buffered = BufWriter::new(rt.alloc(), Unflushed)?;
+    let mut errors = Out::new(FailingWriter {
+        taken: Vec::new(rt.alloc()),
+        writes: 0,
+        takes_none: false,
+    });
+    let found = send_buffered(Status::Done, &mut buffered, &mut errors);
+    assert_eq!(rt; found, Status::Failed);
+    assert!(rt; errors.failed());
+    let found = send_buffered(Status::Done, &mut buffered, &mut errors);
+    assert_eq!(rt; found, Status::Failed);
     Ok(())
 }

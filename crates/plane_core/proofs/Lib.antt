@@ -19,6 +19,7 @@ pub mod PlaintextLines
 pub mod PlaintextOrder
 pub mod PlaintextRoundTrip
 pub mod PlaintextRows
+pub mod PlaintextSmall
 pub mod PlaintextWalks
 pub mod PlaintextWriting
 pub mod ReadingLemmas

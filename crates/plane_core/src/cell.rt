@@ -47,9 +47,9 @@ impl Cell {
 }
 
 /// The sum of two numbers, of which neither is large.
-fn sum(a: i32, b: i32) -> i32
+pub(crate) fn sum(a: i32, b: i32) -> i32
     requires first { unsigned_abs a ≤ BOUND + 1 }
-    requires second { unsigned_abs b ≤ 1 }
+    requires second { unsigned_abs b ≤ 2 }
     ensures { result ≡ a +ℤ b }
 {
     a + b

