@@ -1,0 +1,188 @@
+use super::*;
+use crate::recurrence::recurrence;
+use plane_core::cell::Cell;
+use std::test::Fail;
+
+const PULSAR: &str =
+    "..OOO...OOO..\n.............\nO....O.O....O\nO....O.O....O\nO....O.O....O\n..OOO...OOO..\n\
+    .............\n..OOO...OOO..\nO....O.O....O\nO....O.O....O\nO....O.O....O\n.............\n..OOO...OOO..";
+
+const PENTADECATHLON: &str = "..O....O..\nOO.OOOO.OO\n..O....O..";
+
+const LIGHTWEIGHT_SPACESHIP: &str = ".O..O\nO....\nO...O\nOOOO.";
+
+const EATER: &str = "..OO\n..O.\nO.O.\nOO..";
+
+/// The name of a picture under a rule as text, `none` where it has none.
+fn named(alloc: Global, picture: &str, rule: &str, limit: u32) -> Result<String, Fail> {
+    let pattern = Pattern::read_plaintext(alloc, picture.as_bytes())?;
+    name_text(alloc, &pattern, &Rule::read(rule)?, limit)
+}
+
+fn name_text(alloc: Global, pattern: &Pattern, rule: &Rule, limit: u32) -> Result<String, Fail> {
+    if pattern.cells().is_empty() || limit < 1 || limit > 64 {
+        return Ok(String::from_str(alloc, "not asked")?);
+    }
+    let text = match name(alloc, pattern, rule, limit)? {
+        Some(code) => String::from_str(alloc, code.text())?,
+        None => String::from_str(alloc, "none")?,
+    };
+    Ok(text)
+}
+
+// The codes are those of LifeWiki's pages on these objects.
+#[test]
+fn names_still_lifes(rt: HostRuntime) -> Result<(), Fail> {
+    for (picture, code) in [
+        ("OO\nOO", "xs4_33"),
+        (".OO.\nO..O\n.OO.", "xs6_696"),
+        (".OO.\nO..O\n.O.O\n..O.", "xs7_2596"),
+        ("OO.\nO.O\n.O.", "xs5_253"),
+        ("OO.\nO.O\n.OO", "xs6_356"),
+        (".O.\nO.O\n.O.", "xs4_252"),
+        (".OO.\nO..O\nO..O\n.OO.", "xs8_6996"),
+        (EATER, "xs7_178c"),
+        ("OO.OO\nOO.OO", "xs8_rr"),
+    ] {
+        assert_eq!(rt; named(rt.alloc(), picture, "b3s23", 64)?.as_str(), code);
+    }
+    Ok(())
+}
+
+#[test]
+fn names_oscillators_and_spaceships(rt: HostRuntime) -> Result<(), Fail> {
+    for (picture, code) in [
+        ("OOO", "xp2_7"),
+        ("O\nO\nO", "xp2_7"),
+        (".OOO\nOOO.", "xp2_7e"),
+        ("OO..\nOO..\n..OO\n..OO", "xp2_318c"),
+        ("OO..\nO...\n...O\n..OO", "xp2_318c"),
+        (PULSAR, "xp3_co9nas0san9oczgoldlo0oldlogz1047210127401"),
+        (PENTADECATHLON, "xp15_4r4z4r4"),
+        (".O.\n..O\nOOO", "xq4_153"),
+        (LIGHTWEIGHT_SPACESHIP, "xq4_6frc"),
+        ("...O..\n.O...O\nO.....\nO....O\nOOOOO.", "xq4_27dee6"),
+        ("...OO..\n.O....O\nO......\nO.....O\nOOOOOO.", "xq4_27deee6"),
+    ] {
+        assert_eq!(rt; named(rt.alloc(), picture, "b3s23", 64)?.as_str(), code);
+    }
+    Ok(())
+}
+
+// Two cells side by side have one neighbour each, and live on where 1 is a survival number. HighLife's replicator makes
+// copies of itself and doesn't come back. In b34s34 a plus sign has a cycle of three.
+#[test]
+fn names_under_other_rules(rt: HostRuntime) -> Result<(), Fail> {
+    for (picture, rule, code) in [
+        ("OOO", "b36s23", "xp2_7"),
+        (LIGHTWEIGHT_SPACESHIP, "b36s23", "xq4_6frc"),
+        (PULSAR, "b36s23", "none"),
+        (PENTADECATHLON, "b36s23", "none"),
+        ("..OOO\n.O..O\nO...O\nO..O.\nOOO..", "b36s23", "none"),
+        ("OO", "b36s125", "xs2_3"),
+        ("OO", "bs012345678", "xs2_3"),
+        (".O.\nOOO\n.O.", "b34s34", "xp3_272"),
+        ("O.\n.O", "b2s", "xp2_12"),
+    ] {
+        assert_eq!(rt;
+            named(rt.alloc(), picture, rule, 64)?.as_str(),
+            code,
+            "{rule}"
+        );
+    }
+    Ok(())
+}
+
+// Fourteen blocks with a column between each two are 41 columns wide.
+#[test]
+fn names_what_is_too_large_for_a_text(rt: HostRuntime) -> Result<(), Fail> {
+    let mut cells = Vec::new(rt.alloc());
+    for i in 0..14 {
+        for (dx, y) in [(0, 0), (1, 0), (0, 1), (1, 1)] {
+            let x: i32 = 3i32.saturating_mul(i).saturating_add(dx);
+            cells.push(Cell { y, x })?;
+        }
+    }
+    let blocks = Pattern::from_cells(rt.alloc(), cells.as_slice())?;
+    assert_eq!(rt;
+        name_text(rt.alloc(), &blocks, &Rule::life(), 64)?.as_str(),
+        "ov_s56"
+    );
+    let far = Pattern::from_cells(
+        rt.alloc(),
+        &[Cell { y: 0, x: -900_000 }, Cell { y: 0, x: 900_000 }],
+    )?;
+    let rule = Rule::read("bs0")?;
+    assert_eq!(rt; name_text(rt.alloc(), &far, &rule, 1)?.as_str(), "ov_s2");
+    Ok(())
+}
+
+#[test]
+fn finds_no_period_past_the_limit(rt: HostRuntime) -> Result<(), Fail> {
+    let glider = ".O.\n..O\nOOO";
+    assert_eq!(rt; named(rt.alloc(), glider, "b3s23", 4)?.as_str(), "xq4_153");
+    assert_eq!(rt; named(rt.alloc(), glider, "b3s23", 3)?.as_str(), "none");
+    assert_eq!(rt; named(rt.alloc(), "OOO", "b3s23", 1)?.as_str(), "none");
+    assert_eq!(rt; named(rt.alloc(), "O", "b3s23", 64)?.as_str(), "none");
+    Ok(())
+}
+
+#[test]
+fn tells_when_a_pattern_comes_back(rt: HostRuntime) -> Result<(), Fail> {
+    let life = Rule::life();
+    for (picture, limit, found) in [
+        (".O.\n..O\nOOO", 4, Some((4, 1, 1))),
+        (".O.\n..O\nOOO", 3, None),
+        ("OO\nOO", 1, Some((1, 0, 0))),
+        ("OOO", 1, None),
+        ("OOO", 2, Some((2, 0, 0))),
+        (LIGHTWEIGHT_SPACESHIP, 64, Some((4, -2, 0))),
+    ] {
+        let pattern = Pattern::read_plaintext(rt.alloc(), picture.as_bytes())?;
+        assert!(rt; !pattern.cells().is_empty());
+        let Some(_) = pattern.cells().first() else {
+            continue;
+        };
+        let told = recurrence(rt.alloc(), &pattern, &life, limit)?;
+        assert_eq!(rt; told.map(|r| (r.period, r.dx, r.dy)), found);
+    }
+    Ok(())
+}
+
+// A block with a corner on the bound is never stepped on.
+#[test]
+fn stops_at_the_edge(rt: HostRuntime) -> Result<(), Fail> {
+    let cells = [Cell { y: 0, x: 999_999 }, Cell { y: 0, x: 1_000_000 }];
+    let pattern = Pattern::from_cells(rt.alloc(), &cells)?;
+    if !pattern.cells().is_empty() {
+        let told = recurrence(rt.alloc(), &pattern, &Rule::life(), 1);
+        assert_eq!(rt; told, Err(StepError::Edge));
+        assert!(rt; name(rt.alloc(), &pattern, &Rule::life(), 64).err() == Some(StepError::Edge));
+    }
+    Ok(())
+}
+
+#[test]
+fn reads_a_name(rt: HostRuntime) -> Result<(), Fail> {
+    for (picture, kind, number) in [
+        ("OO\nOO", Kind::Still, 4),
+        ("OOO", Kind::Oscillator, 2),
+        (PENTADECATHLON, Kind::Oscillator, 15),
+        (".O.\n..O\nOOO", Kind::Ship, 4),
+    ] {
+        let pattern = Pattern::read_plaintext(rt.alloc(), picture.as_bytes())?;
+        if !pattern.cells().is_empty() {
+            let code = name(rt.alloc(), &pattern, &Rule::life(), 64)?;
+            assert!(rt; code.is_some());
+            let Some(code) = code else {
+                continue;
+            };
+            let same = code.copy(rt.alloc())?;
+            assert!(rt; same == code && same.cmp(&code) == Ordering::Equal);
+            assert_eq!(rt; same.text(), code.text());
+            assert_eq!(rt; same.kind(), kind);
+            assert_eq!(rt; same.number(), number);
+        }
+    }
+    Ok(())
+}
