@@ -1,10 +1,11 @@
-ghost use Rattle.std.specs.Prelude.{◌≡◌, false, decimal};
+ghost use Rattle.std.specs.Prelude.{◌≡◌, ◌++◌, false, codes, decimal};
 ghost use Rattle.plane_core.specs.Out.{Writes};
 ghost use Rattle.census.specs.Complaints.{line_of, status_of};
 ghost use Rattle.census.specs.Streams.{stream, HasLine};
 
 use crate::input::InputFault;
 use crate::status::Status;
+use code_core::reader::{WechslerError, WechslerFault};
 use itoa::Buffer;
 use plane_core::output::{Out, WriteError};
 use plane_core::plaintext::{PlaintextError, PlaintextFault};
@@ -22,6 +23,16 @@ pub enum Complaint {
     BadRule { place: usize },
     /// A rule text in which cells are born on zero neighbours.
     BirthZero,
+    /// A code with a `_` that has no right prefix before it.
+    NotACode,
+    /// A text of a code that has over 10,000 bytes.
+    CodeTooLong,
+    /// A byte of a code's text that can't stand there. Places count from 0, from the text's first byte on.
+    CodeBadByte { place: usize },
+    /// A `y` of a code's text without the length of its run.
+    CodeShortRun { place: usize },
+    /// A text of a code without a live cell.
+    CodeEmpty,
     /// Memory ran out.
     OutOfMemory,
     /// A read failed, or the input is longer than a command reads.
@@ -39,7 +50,12 @@ impl Complaint {
             Complaint::BadByte { .. }
             | Complaint::PatternTooLarge
             | Complaint::BadRule { .. }
-            | Complaint::BirthZero => Status::Refused,
+            | Complaint::BirthZero
+            | Complaint::NotACode
+            | Complaint::CodeTooLong
+            | Complaint::CodeBadByte { .. }
+            | Complaint::CodeShortRun { .. }
+            | Complaint::CodeEmpty => Status::Refused,
             Complaint::OutOfMemory => Status::OutOfMemory,
             Complaint::ReadFailed | Complaint::WriteFailed => Status::Failed,
         }
@@ -59,8 +75,17 @@ impl Complaint {
             Complaint::PatternTooLarge => {
                 errors.put(b"census: pattern larger than 1000 by 1000\n")
             }
-            Complaint::BadRule { place } => put_bad_rule(errors, place),
+            Complaint::BadRule { place } => put_numbered(errors, b"census: bad rule at ", place),
             Complaint::BirthZero => errors.put(b"census: birth on zero neighbours\n"),
+            Complaint::NotACode => errors.put(b"census: not a code\n"),
+            Complaint::CodeTooLong => errors.put(b"census: code too long\n"),
+            Complaint::CodeBadByte { place } => {
+                put_numbered(errors, b"census: bad byte in code at ", place)
+            }
+            Complaint::CodeShortRun { place } => {
+                put_numbered(errors, b"census: short run in code at ", place)
+            }
+            Complaint::CodeEmpty => errors.put(b"census: code without a live cell\n"),
             Complaint::OutOfMemory => errors.put(b"census: out of memory\n"),
             Complaint::ReadFailed => errors.put(b"census: read failed\n"),
             Complaint::WriteFailed => errors.put(b"census: write failed\n"),
@@ -89,12 +114,17 @@ fn put_bad_byte<E: Write>(errors: &mut Out<E>, line: usize, column: usize) -> Re
     errors.put(b"\n")
 }
 
-fn put_bad_rule<E: Write>(errors: &mut Out<E>, place: usize) -> Result<(), WriteError>
+/// Writes a line that ends with a number.
+fn put_numbered<E: Write>(
+    errors: &mut Out<E>,
+    front: &[u8],
+    number: usize,
+) -> Result<(), WriteError>
     requires { errors.old.failed ≡ false }
-    ensures { Writes E.contents errors.old errors.new result (line_of (Complaint.BadRule place)) }
+    ensures { Writes E.contents errors.old errors.new result (front.now ++ (decimal number ++ codes "\n")) }
 {
-    errors.put(b"census: bad rule at ")?;
-    put_decimal(errors, place)?;
+    errors.put(front)?;
+    put_decimal(errors, number)?;
     errors.put(b"\n")
 }
 
@@ -123,6 +153,26 @@ impl From<PlaintextError> for Complaint {
             }
             PlaintextError::Fault(PlaintextFault::TooLarge) => Complaint::PatternTooLarge,
             PlaintextError::Memory => Complaint::OutOfMemory,
+        }
+    }
+}
+
+impl From<WechslerError> for Complaint {
+    ghost use Rattle.census.specs.Show.{reader_complaint};
+
+    ghost from_gives = { λ error complaint. complaint ≡ reader_complaint error };
+
+    fn from(error: WechslerError) -> Complaint {
+        match error {
+            WechslerError::Fault(WechslerFault::TooLong) => Complaint::CodeTooLong,
+            WechslerError::Fault(WechslerFault::BadByte { place }) => {
+                Complaint::CodeBadByte { place }
+            }
+            WechslerError::Fault(WechslerFault::ShortRun { place }) => {
+                Complaint::CodeShortRun { place }
+            }
+            WechslerError::Fault(WechslerFault::Empty) => Complaint::CodeEmpty,
+            WechslerError::Memory => Complaint::OutOfMemory,
         }
     }
 }

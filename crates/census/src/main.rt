@@ -10,6 +10,7 @@ mod complaint;
 mod input;
 mod output;
 mod run;
+mod show;
 mod status;
 #[cfg(test)]
 mod tests;
