@@ -1,5 +1,5 @@
 -- Lemmas on what commands read and answer.
-use Rattle.std.proofs.Common.{◌≡◌, ◌≤◌, ◌^◌, ◌↔◌, ℕ, List, [], length, true, Option, None, Some, Result, Ok, Err, nat_le, refl, ap, arith, rules}
+use Rattle.std.proofs.Common.{◌≡◌, ◌≤◌, ◌^◌, ◌↔◌, ℕ, List, [], length, true, Option, None, Some, Result, Ok, Err, nat_le, refl, ap, rules}
 use Rattle.std.specs.Result.{IsErrAnd, IsErrOf, result_map_both}
 use Rattle.plane_core.specs.declared.cell.Cell.{Cell}
 use Rattle.plane_core.specs.declared.rule.RuleError.{RuleError}
@@ -11,17 +11,12 @@ use Rattle.plane_core.specs.declared.plaintext.PlaintextFault.TheVariants as pla
 use Rattle.plane_core.specs.Rules.{rule_read}
 use Rattle.plane_core.specs.Plaintext.{pattern}
 use Rattle.census.specs.declared.complaint.Complaint.{Complaint}
-use Rattle.census.specs.declared.complaint.Complaint.TheVariants as complaint
-use Rattle.census.specs.declared.status.Status.{Status}
-use Rattle.census.specs.declared.status.Status.TheVariants.{OutOfMemory}
 use Rattle.census.specs.declared.input.InputFault.{InputFault}
 use Rattle.census.specs.declared.input.InputFault.TheVariants as input_fault
 use Rattle.census.specs.Answers.{IsInput, Reaches}
 use Rattle.census.specs.Inputs.{Reads, input_complaint, plaintext_complaint, pattern_complaint, pattern_of, rule_complaint}
 use Rattle.census.specs.Run.{run_answer}
-use Rattle.census.specs.Complaints.{line_of}
-use Rattle.census.specs.Streams.{Stream, Has, HasLine}
-use Rattle.census.specs.Words.{DoesCommand}
+use Rattle.census.specs.Streams.{Stream, Has}
 
 -- an error that is known is the result
 pub err_of : {A E : Type 0} (r : Result A E) (e : E) → IsErrAnd r (λ x. x ≡ e) → r ≡ Err e
@@ -62,14 +57,3 @@ pub Reaches_rule : (text : List ℕ) (n : ℕ) (bytes : List ℕ) (error : RuleE
     → Reaches (run_answer text n bytes) (Err (rule_complaint error)) output
 Reaches_rule text n bytes (rule_error.BadRule place) output is nothing = (rw is refl, nothing)
 Reaches_rule text n bytes rule_error.BirthZero output is nothing = (rw is refl, nothing)
-
--- a command that finds no memory for its words ends well
-pub without_memory : (known : Option (List ℕ)) (status : Status) (output errors : Stream) → status ≡ OutOfMemory → Has output []
-    → HasLine errors (line_of complaint.OutOfMemory) → DoesCommand known status output errors
-without_memory known status output errors is nothing line =
-    let some = some_input known in
-    record {
-      answer = run_answer [] 0 some.0;
-      asked = record { rule_text = []; generations = 0; bytes = some.0; within = omega arith; input = some.1; answers = refl };
-      ends = record { outcome = Err complaint.OutOfMemory; reached = ([], _, refl, nothing); told = (is, line) };
-    }

@@ -1,2 +1,4 @@
 pub mod AnswerLemmas
+pub mod CallLemmas
 pub mod ShowLemmas
+pub mod WordLemmas

@@ -1,4 +1,6 @@
 pub mod Answers
+pub mod Application
+pub mod Calls
 pub mod Complaints
 pub mod Inputs
 pub mod Run

@@ -1,7 +1,11 @@
-ghost use Rattle.std.specs.Prelude.{◌≡◌, ◌≢◌, false};
+ghost use Rattle.std.specs.Prelude.{◌≡◌, ◌≢◌, false, true, map, is_some, IfOk, IsSomeAnd, option_and_then};
+ghost use Rattle.clap.specs.Words.{app_of, found_of, kind_of, rows_of, rule_of, shape_of, subcommand_rows_of};
+ghost use Rattle.clap.specs.declared.builder.command.Command.TheViews.{out-Command as fields_of};
+ghost use Rattle.census.specs.Application.{census_app, generations_argument, rule_argument, run_shape};
+ghost use Rattle.census.specs.Calls.{AsksToRun};
 ghost use Rattle.census.specs.Complaints.{line_of};
 ghost use Rattle.census.specs.Streams.{stream, HasLine};
-ghost use Rattle.census.specs.Words.{DoesCommand};
+ghost use Rattle.census.specs.Words.{DoesRequest, DoesWords, asked_by, generations_in, request_in, run_in};
 
 use crate::complaint::Complaint;
 use crate::run::{GENERATION_LIMIT, do_run};
@@ -18,8 +22,9 @@ const LIFE: &str = "b3s23";
 
 /// Does what the words ask for, of which the first is the program's name.
 ///
-/// Words that are not understood, and words that ask for help, end with `Usage` and their text on `errors`, and
-/// nothing is read or printed. All else is as the command says that is named, as [`do_run`].
+/// `asked_by` says what that is. Words that ask for nothing, which are not understood or ask for help, end with `Usage`
+/// and their text on `errors`, and nothing is read or printed. All others are as the command says that is named, as
+/// [`do_run`].
 pub fn do_words<S: AsStr, R: Read, W: Write, E: Write>(
     rt: &impl AllocGlobal,
     words: &[S],
@@ -30,7 +35,8 @@ pub fn do_words<S: AsStr, R: Read, W: Write, E: Write>(
     requires output { output.old.failed ≡ false }
     requires errors { errors.old.failed ≡ false }
     ensures usage { result ≡ Status.Usage → (output.new ≡ output.old) × (input.new ≡ input.old) }
-    ensures command { result ≢ Status.Usage → DoesCommand (R.remaining input.old) result
+    ensures understood { is_some (asked_by (map S.text words.now)) ≡ true → result ≢ Status.Usage }
+    ensures command { result ≢ Status.Usage → DoesWords (map S.text words.now) (R.remaining input.old) result
         (stream W.contents output.old output.new) (stream E.contents errors.old errors.new) }
 {
     let alloc = rt.alloc();
@@ -43,6 +49,11 @@ pub fn do_words<S: AsStr, R: Read, W: Write, E: Write>(
     }
 }
 
+/// A law of all words: what the calls of `run` ask for.
+pub fn asks_to_run()
+    ensures { AsksToRun }
+{}
+
 /// Does the command that the words name.
 fn do_command<R: Read, W: Write, E: Write>(
     alloc: Global,
@@ -54,23 +65,62 @@ fn do_command<R: Read, W: Write, E: Write>(
     requires output { output.old.failed ≡ false }
     requires errors { errors.old.failed ≡ false }
     ensures usage { result ≡ Status.Usage → (output.new ≡ output.old) × (input.new ≡ input.old) }
-    ensures command { result ≢ Status.Usage → DoesCommand (R.remaining input.old) result
-        (stream W.contents output.old output.new) (stream E.contents errors.old errors.new) }
+    ensures understood { is_some (option_and_then request_in (subcommand_rows_of matches.now)) ≡ true
+        → result ≢ Status.Usage }
+    ensures command { result ≢ Status.Usage → IsSomeAnd
+        (option_and_then request_in (subcommand_rows_of matches.now))
+        (DoesRequest (R.remaining input.old) result
+        (stream W.contents output.old output.new) (stream E.contents errors.old errors.new)) }
 {
-    let Some(("run", found)) = matches.subcommand() else {
+    match matches.subcommand() {
+        Some(("run", found)) => do_run_words(alloc, found, input, output, errors),
+        _ => Status::Usage,
+    }
+}
+
+/// Does `run` with the values of its arguments.
+fn do_run_words<R: Read, W: Write, E: Write>(
+    alloc: Global,
+    found: &ArgMatches<'_>,
+    input: &mut R,
+    output: &mut Out<W>,
+    errors: &mut Out<E>,
+) -> Status
+    requires output { output.old.failed ≡ false }
+    requires errors { errors.old.failed ≡ false }
+    ensures usage { result ≡ Status.Usage → (output.new ≡ output.old) × (input.new ≡ input.old) }
+    ensures understood { is_some (run_in (rows_of (found_of found.now))) ≡ true → result ≢ Status.Usage }
+    ensures command { result ≢ Status.Usage → IsSomeAnd (run_in (rows_of (found_of found.now)))
+        (DoesRequest (R.remaining input.old) result
+        (stream W.contents output.old output.new) (stream E.contents errors.old errors.new)) }
+{
+    // `clap` has seen to it that both are there, and N in its range. No clause says so of a subcommand's values, so
+    // that words of which it isn't so ask for nothing.
+    let Some(generations) = generations_in(found) else {
         return Status::Usage;
     };
-    // `clap` has seen to it that N is there and in its range: no contract says so of a subcommand's values, so that the
-    // number is bounded once more.
-    let generations = found.get_one::<u32>("N").unwrap_or(0).min(GENERATION_LIMIT);
-    let rule = found.get_str("rule").unwrap_or(LIFE);
+    let Some(rule) = found.get_str("rule") else {
+        return Status::Usage;
+    };
     do_run(alloc, generations, rule, input, output, errors)
+}
+
+/// The value of N.
+fn generations_in(found: &ArgMatches<'_>) -> Option<u32>
+    ensures { result ≡ generations_in (rows_of (found_of found.now)) }
+{
+    let generations = found.get_one::<u32>("N")?;
+    if generations > GENERATION_LIMIT {
+        return None;
+    }
+    Some(generations)
 }
 
 /// Writes what `clap` says of words that name no command, or that ask for help.
 fn tell_usage<E: Write>(alloc: Global, error: &clap::Error, errors: &mut Out<E>) -> Status
     requires { errors.old.failed ≡ false }
-    ensures { result ≢ Status.Usage → (result ≡ Status.OutOfMemory)
+    ensures memory { kind_of error.now ≡ ErrorKind.OutOfMemory → result ≢ Status.Usage }
+    ensures told { result ≢ Status.Usage → (result ≡ Status.OutOfMemory)
         × HasLine (stream E.contents errors.old errors.new) (line_of Complaint.OutOfMemory) }
 {
     if error.kind() == ErrorKind::OutOfMemory {
@@ -83,7 +133,9 @@ fn tell_usage<E: Write>(alloc: Global, error: &clap::Error, errors: &mut Out<E>)
     Status::Usage
 }
 
-fn census_command<'a>(alloc: Global) -> Result<Command<'a>, AllocError> {
+fn census_command<'a>(alloc: Global) -> Result<Command<'a>, AllocError>
+    ensures { IfOk result (λ command. app_of command ≡ census_app) }
+{
     Command::new(alloc, "census")
         .about(
             "Runs patterns of Conway's Game of Life and its kin, and takes a census of random ones",
@@ -92,11 +144,10 @@ fn census_command<'a>(alloc: Global) -> Result<Command<'a>, AllocError> {
         .subcommand(run_command(alloc)?)
 }
 
-fn run_command<'a>(alloc: Global) -> Result<Command<'a>, AllocError> {
-    let generations = Arg::new(alloc, "N")
-        .required(true)
-        .value_parser(value_parser!(u32).range(0..=100_000))
-        .help("How many generations to run, from 0 to 100000");
+fn run_command<'a>(alloc: Global) -> Result<Command<'a>, AllocError>
+    ensures shape { IfOk result (λ command. shape_of command ≡ run_shape) }
+    ensures local { IfOk result (λ command. (fields_of command).has_globals ≡ false) }
+{
     Command::new(alloc, "run")
         .about("Reads a pattern, runs it for N generations and prints it")
         .long_about(
@@ -104,11 +155,24 @@ fn run_command<'a>(alloc: Global) -> Result<Command<'a>, AllocError> {
              Both are plaintext: a line for each row, with `.` for a dead cell and `O` or `*` for a live one. \
              Lines that begin with `!` are comments.",
         )
-        .arg(generations)?
-        .arg(rule_option(alloc))
+        .arg(generations_argument(alloc))?
+        .arg(rule_argument(alloc))
 }
 
-fn rule_option<'a>(alloc: Global) -> Arg<'a> {
+fn generations_argument<'a>(alloc: Global) -> Arg<'a>
+    ensures rule { rule_of result ≡ generations_argument }
+    ensures local { result.global ≡ false }
+{
+    Arg::new(alloc, "N")
+        .required(true)
+        .value_parser(value_parser!(u32).range(0..=100_000))
+        .help("How many generations to run, from 0 to 100000")
+}
+
+fn rule_argument<'a>(alloc: Global) -> Arg<'a>
+    ensures rule { rule_of result ≡ rule_argument }
+    ensures local { result.global ≡ false }
+{
     Arg::new(alloc, "rule")
         .long("rule")
         .value_name("TEXT")

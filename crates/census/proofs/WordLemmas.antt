@@ -1,0 +1,102 @@
+-- What `clap` found for the words, and what they ask for.
+use Rattle.std.proofs.Common.{◌≡◌, ◌<◌, ◌^◌, ◌&&◌, ◌⊎◌, ℕ, Bool, true, false, cond, Option, None, Some, Result, Ok, Err, List, [], ◌∷◌, length, codes, nat_le, nat_lt, option_and_then, option_map, is_some, inl, inr, refl, sym, ap, subst, ◌∙◌, arith, lt-ltb, ltb-true}
+use Rattle.std.proofs.lemmas.Bool.{leb-true}
+use Rattle.std.specs.List.{list_all}
+use Rattle.std.specs.Char.{digit_value}
+use Rattle.std.specs.Str.Parse.{AllDigits, IsNumeral, ParsesUnsigned, digits_value, without_leading_plus}
+use Rattle.clap.specs.Words.{App, IsAmong, Kinds, Row, Text, ReadsOne, fault_of, first_of, is_simple, is_simple_and_free, one_of, one_text, rows_of, subcommand_of}
+use Rattle.clap.specs.ValueTests.{is_numeral}
+use Rattle.clap.specs.declared.error.kind.ErrorKind.{ErrorKind}
+use Rattle.clap.specs.declared.error.kind.ErrorKind.TheVariants as kinds
+use Rattle.clap.specs.declared.parser.matches.Found.{Found}
+use Rattle.clap.proofs.OnLiterals.{clap_on_literals}
+use Rattle.clap.proofs.WalkLemmas.{both, one_text-rows}
+use Rattle.census.specs.declared.run.TheConstants.{GENERATION_LIMIT}
+use Rattle.census.specs.Application.{census_app}
+use Rattle.census.specs.Words.{asked_by, request_in, generations_in, generations_of, run, run_in}
+
+digits_pass : (ds : List ℕ) → AllDigits 10 ds → list_all (λ d. nat_lt (digit_value d) 10) ds ≡ true
+digits_pass [] h = refl
+digits_pass (d ∷ ds) h = rw (lt-ltb (digit_value d) 10 h.0) (digits_pass ds h.1)
+
+digits_from : (ds : List ℕ) → list_all (λ d. nat_lt (digit_value d) 10) ds ≡ true → AllDigits 10 ds
+digits_from [] e = tt
+digits_from (d ∷ ds) e =
+    let parts = both _ _ e in
+    (ltb-true _ _ parts.0, digits_from ds parts.1)
+
+pub is_numeral-passes : (ds : List ℕ) → IsNumeral 10 ds → is_numeral ds ≡ true
+is_numeral-passes ds h = rw (lt-ltb 0 (length ds) h.0) (digits_pass ds h.1)
+
+is_numeral-from : (ds : List ℕ) → is_numeral ds ≡ true → IsNumeral 10 ds
+is_numeral-from ds e =
+    let parts = both _ _ e in
+    (ltb-true _ _ parts.0, digits_from ds parts.1)
+
+-- a number, where it is within the limit
+abbrev pub within_limit : ℕ → Option ℕ
+within_limit n = cond (nat_le n GENERATION_LIMIT) (Some n) None
+
+-- a text that is read as a number of 32 bits
+ok_within : (text : Text) (n : ℕ) → IsNumeral 10 (without_leading_plus text) → n ≡ digits_value 10 (without_leading_plus text) → within_limit n ≡ generations_of text
+ok_within text n numeral is = rw (is, is_numeral-passes _ numeral) refl
+
+none_within : (text : Text) → ((IsNumeral 10 (without_leading_plus text) × (digits_value 10 (without_leading_plus text) < 2 ^ 32)) → ⊥) → None ≡ generations_of text
+none_within text never = go (is_numeral (without_leading_plus text) && nat_le (digits_value 10 (without_leading_plus text)) GENERATION_LIMIT) refl
+  where
+    go : (b : Bool) → (is_numeral (without_leading_plus text) && nat_le (digits_value 10 (without_leading_plus text)) GENERATION_LIMIT) ≡ b → None ≡ generations_of text
+    go false t = rw t refl
+    go true t =
+        let parts = both _ _ t in
+        let small = leb-true _ _ parts.1 in
+        absurd (never (is_numeral-from _ parts.0, omega arith))
+
+-- the number that is read of a text
+text_within : {E : Type 0} (G : Text → Result ℕ E → Type 0) → ((t : Text) (r : Result ℕ E) → G t r → ParsesUnsigned 32 10 t r) → (text : Text) (found : Option ℕ) → ReadsOne G text found
+    → option_and_then within_limit found ≡ generations_of text
+text_within G only text (Some n) read = let h = only text (Ok n) read in ok_within text n h.0.0 h.1
+text_within G only text None read = none_within text (only text (Err read.0) read.1)
+
+-- the value of N: the number that is read, where it is within the limit
+pub found_within : {E : Type 0} (G : Text → Result ℕ E → Type 0) → ((t : Text) (r : Result ℕ E) → G t r → ParsesUnsigned 32 10 t r) → (f : Found) (found : Option ℕ)
+    → (one_text f (codes "N") ≡ None → found ≡ None) → ((t : Text) → one_text f (codes "N") ≡ Some t → ReadsOne G t found)
+    → option_and_then within_limit found ≡ option_and_then generations_of (one_of (codes "N") (rows_of f))
+found_within G only f found none some = go (one_text f (codes "N")) refl
+  where
+    go : (o : Option Text) → one_text f (codes "N") ≡ o → option_and_then within_limit found ≡ option_and_then generations_of (one_of (codes "N") (rows_of f))
+    go None e = rw (← one_text-rows f (codes "N"), e, none e) refl
+    go (Some t) e = rw (← one_text-rows f (codes "N"), e) (text_within G only t found (some t e))
+
+-- what `run` is asked for, from its two values
+pub run_in-is : (rows : List Row) (n : Option ℕ) (rule : Option Text) → n ≡ generations_in rows → rule ≡ first_of (codes "rule") rows → run_in rows ≡ option_and_then (λ k. option_map (run k) rule) n
+run_in-is rows n rule is_n is_rule = rw (is_n, is_rule) refl
+
+-- `clap` says of the program which matches words have, and which faults
+census_is_simple : is_simple census_app ≡ true
+unfolding clap_on_literals
+census_is_simple = refl
+
+census_is_free : is_simple_and_free census_app ≡ true
+unfolding clap_on_literals
+census_is_free = refl
+
+-- what a parse finds is what the words ask for
+pub asked_by-found : (app : App) (words : List Text) (found : Option (Text × List Row)) → app ≡ census_app → (is_simple_and_free app ≡ true → fault_of app words ≡ [])
+    → (is_simple app ≡ true → found ≡ subcommand_of app words) → asked_by words ≡ option_and_then request_in found
+asked_by-found app words found is faultless finds =
+    let none : fault_of census_app words ≡ [] = ap (λ (a : App). fault_of a words) (sym is) ∙ faultless (ap is_simple_and_free is ∙ census_is_free) in
+    let same : found ≡ subcommand_of census_app words = finds (ap is_simple is ∙ census_is_simple) ∙ ap (λ (a : App). subcommand_of a words) is in
+    rw (none, same) refl
+
+-- where the words ask for something, a parse fails for want of memory alone
+pub asked_by-fails : (app : App) (words : List Text) (kind : ErrorKind) → app ≡ census_app → (is_simple_and_free app ≡ true → (kind ≡ kinds.OutOfMemory) ⊎ IsAmong kind (fault_of app words))
+    → is_some (asked_by words) ≡ true → kind ≡ kinds.OutOfMemory
+asked_by-fails app words kind is fails asked =
+    go (fault_of census_app words) refl (subst (λ (a : App). (kind ≡ kinds.OutOfMemory) ⊎ IsAmong kind (fault_of a words)) is (fails (ap is_simple_and_free is ∙ census_is_free)))
+  where
+    go : (faults : Kinds) → fault_of census_app words ≡ faults → (kind ≡ kinds.OutOfMemory) ⊎ IsAmong kind faults → kind ≡ kinds.OutOfMemory
+    go [] e (inl memory) = memory
+    go [] e (inr never) = absurd never
+    go (k ∷ ks) e h =
+        let bad : false ≡ true = rw e at asked in
+        cc
