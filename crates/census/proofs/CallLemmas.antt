@@ -18,8 +18,8 @@ use Rattle.clap.specs.declared.error.kind.ErrorKind.TheVariants.{ValueValidation
 use Rattle.clap.proofs.OnLiterals.{clap_on_literals}
 use Rattle.clap.proofs.ValueTestLemmas.{Accepts-accepts, accepts-Accepts}
 use Rattle.census.specs.declared.run.TheConstants.{GENERATION_LIMIT}
-use Rattle.census.specs.Application.{census_app, run_shape}
-use Rattle.census.specs.Calls.{IsCount}
+use Rattle.census.specs.Application.{census_app, run_shape, show_shape}
+use Rattle.census.specs.Calls.{AsksToShow, IsCount}
 use Rattle.census.specs.Words.{asked_by, generations_of, request_in, run, unless_faulty}
 use Rattle.census.proofs.WordLemmas.{is_numeral-passes}
 
@@ -221,6 +221,60 @@ asks-rule program n text h no_minus =
     let found : subcommand_of census_app words ≡ Some (codes "run", finished run_built.rules (at_text n text).held) =
     ap (λ (w : Walk). Some (codes "run", finished run_built.rules w.held)) (walked_all n text p q) in
     ap₂ (λ k s. unless_faulty k (option_and_then request_in s)) none found ∙ ap (option_and_then (λ k. Some (run k text))) (count_read n h)
+
+-- ---- `show`, as `clap` builds it
+
+abbrev show_built : Shape
+show_built = built_leaf (inherited (with_leaf_noted (marked_built census_app.top)) show_shape)
+
+-- after CODE
+abbrev at_code : Text → Walk
+at_code code = record { held = record { rows = []; pending = Some (codes "CODE", code ∷ []); skip = 0 }; waiting = idle; position = 2; is_trailing = false; stopped = None }
+
+code_met : (word : Text) → IsPlainWord word → subcommand_or_other show_built.rules None idle 1 word nothing_held ≡ plain_word show_built.rules idle word nothing_held
+code_met word p =
+    ap (λ b. cond {A = Held × Step} b (nothing_held, trailing 1) (long_or_other show_built.rules idle word (long_of word) nothing_held)) p.dashes
+    ∙ ap (λ o. long_or_other show_built.rules idle word o nothing_held) p.long
+    ∙ ap (λ o. short_or_plain show_built.rules idle word o nothing_held) p.short
+
+walked_code : (code : Text) → IsPlainWord code → walked show_built.rules [] (walk_from nothing_held) code ≡ at_code code
+unfolding walked
+walked_code code p = ap (λ met. after_step show_built.rules code (walk_from nothing_held) met.0 met.1) (code_met code p)
+
+no_code_fault : (word : Text) → IsPlainWord word → other_fault show_built None word nothing_held ≡ []
+no_code_fault word p =
+    ap (λ b. cond {A = Kinds} b [] (flag_word_fault show_built.rules show_built.args_override_self (long_of word) word nothing_held)) p.dashes
+    ∙ ap (λ o. flag_word_fault show_built.rules show_built.args_override_self o word nothing_held) p.long
+    ∙ ap (λ o. option_map_or (λ flags. bundle_fault show_built.rules show_built.args_override_self flags nothing_held) o []) p.short
+
+turn_code : (code : Text) → IsPlainWord code → turn_fault show_built [] (walk_from nothing_held) code ≡ []
+turn_code code p = ap₂ or_else (no_code_fault code p) (ap (λ met. step_fault show_built 1 met.0 met.1) (code_met code p))
+
+walk_code : (code : Text) → IsPlainWord code → walk_fault show_built [] (walk_from nothing_held) (code ∷ []) ≡ []
+unfolding walk_fault
+walk_code code p = ap (λ k. or_else k []) (turn_code code p)
+
+code_fault : (code : Text) → or_else (settle_fault show_built.rules show_built.args_override_self (at_code code).held)
+    (or_else (defaults_fault (settled show_built.rules (at_code code).held).rows show_built.rules) (check_fault show_built (finished show_built.rules (at_code code).held) false)) ≡ []
+unfolding clap_on_literals
+code_fault code = refl
+
+level_code : (code : Text) → IsPlainWord code → level_fault show_built [] nothing_held (code ∷ []) false [] ≡ []
+level_code code p =
+    ap₂ (λ k (end : Held). or_else k (or_else (settle_fault show_built.rules show_built.args_override_self end)
+    (or_else (defaults_fault (settled show_built.rules end).rows show_built.rules) (check_fault show_built (finished show_built.rules end) false))))
+    (walk_code code p) (ap (λ (w : Walk). w.held) (walked_code code p)) ∙ code_fault code
+
+-- `show CODE`
+pub asks-show : AsksToShow
+unfolding clap_on_literals
+asks-show program code no_minus =
+    let p = plain_word-is code no_minus in
+    let words = program ∷ codes "show" ∷ code ∷ [] in
+    let none : fault_of census_app words ≡ [] = ap (λ k. or_else k []) (level_code code p) in
+    let found : subcommand_of census_app words ≡ Some (codes "show", finished show_built.rules (at_code code).held) =
+    ap (λ (w : Walk). Some (codes "show", finished show_built.rules w.held)) (walked_code code p) in
+    ap₂ (λ k s. unless_faulty k (option_and_then request_in s)) none found
 
 -- `--help`
 pub asks-help : (program : Text) → asked_by (program ∷ codes "--help" ∷ []) ≡ None

@@ -13,7 +13,7 @@ use Rattle.clap.proofs.OnLiterals.{clap_on_literals}
 use Rattle.clap.proofs.WalkLemmas.{both, one_text-rows}
 use Rattle.census.specs.declared.run.TheConstants.{GENERATION_LIMIT}
 use Rattle.census.specs.Application.{census_app}
-use Rattle.census.specs.Words.{asked_by, request_in, generations_in, generations_of, run, run_in}
+use Rattle.census.specs.Words.{asked_by, request_in, generations_in, generations_of, run, run_in, show, show_in}
 
 digits_pass : (ds : List ℕ) → AllDigits 10 ds → list_all (λ d. nat_lt (digit_value d) 10) ds ≡ true
 digits_pass [] h = refl
@@ -70,6 +70,10 @@ found_within G only f found none some = go (one_text f (codes "N")) refl
 -- what `run` is asked for, from its two values
 pub run_in-is : (rows : List Row) (n : Option ℕ) (rule : Option Text) → n ≡ generations_in rows → rule ≡ first_of (codes "rule") rows → run_in rows ≡ option_and_then (λ k. option_map (run k) rule) n
 run_in-is rows n rule is_n is_rule = rw (is_n, is_rule) refl
+
+-- what `show` is asked for, from its value
+pub show_in-is : (rows : List Row) (code : Option Text) → code ≡ first_of (codes "CODE") rows → show_in rows ≡ option_map show code
+show_in-is rows code is = rw is refl
 
 -- `clap` says of the program which matches words have, and which faults
 census_is_simple : is_simple census_app ≡ true

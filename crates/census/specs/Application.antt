@@ -19,10 +19,18 @@ rule_argument = record (new_rule (codes "rule")) {
 abbrev pub run_shape : Shape
 run_shape = (with_rule (with_rule (new_app (codes "run")) generations_argument) rule_argument).top
 
+-- the argument CODE, which must be there
+abbrev pub code_argument : Rule
+code_argument = record (new_rule (codes "CODE")) { required = true }
+
+-- `show`
+abbrev pub show_shape : Shape
+show_shape = (with_rule (new_app (codes "show")) code_argument).top
+
 -- a command must be named
 abbrev pub census_shape : Shape
 census_shape = record ((new_app (codes "census")).top) { subcommand_required = true }
 
 -- the program
 abbrev pub census_app : App
-census_app = with_subcommand (record { top = census_shape; subs = [] }) run_shape
+census_app = with_subcommand (with_subcommand (record { top = census_shape; subs = [] }) run_shape) show_shape

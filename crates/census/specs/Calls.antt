@@ -3,7 +3,7 @@ use Rattle.std.specs.Prelude.{◌≡◌, ◌<◌, ◌≤◌, [], ◌∷◌, None
 use Rattle.std.specs.Str.Parse.{IsNumeral, digits_value, starts_with_minus}
 use Rattle.clap.specs.Words.{Text}
 use Rattle.census.specs.declared.run.TheConstants.{GENERATION_LIMIT}
-use Rattle.census.specs.Words.{asked_by, run}
+use Rattle.census.specs.Words.{asked_by, run, show}
 
 -- digits, of a number of at most 100,000
 abbrev pub IsCount : Text → Type 0
@@ -16,3 +16,7 @@ pub record AsksToRun : Type 0 where
       → asked_by (program ∷ codes "run" ∷ n ∷ codes "--rule" ∷ text ∷ []) ≡ Some (run (digits_value 10 n) text)
   pub too_many : (program n : Text) → IsNumeral 10 n → GENERATION_LIMIT < digits_value 10 n → asked_by (program ∷ codes "run" ∷ n ∷ []) ≡ None
   pub help : (program : Text) → asked_by (program ∷ codes "--help" ∷ []) ≡ None
+
+-- `show CODE`, with a code that doesn't begin with a hyphen
+abbrev pub AsksToShow : Type 0
+AsksToShow = (program code : Text) → starts_with_minus code ≡ false → asked_by (program ∷ codes "show" ∷ code ∷ []) ≡ Some (show code)

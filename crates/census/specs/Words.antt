@@ -12,11 +12,13 @@ use Rattle.census.specs.Answers.{Answer, IsInput, Ends}
 use Rattle.census.specs.Application.{census_app}
 use Rattle.census.specs.Complaints.{line_of}
 use Rattle.census.specs.Run.{run_answer}
+use Rattle.census.specs.Show.{show_answer}
 use Rattle.census.specs.Streams.{Stream, Has, HasLine}
 
 -- what words may ask for: a command with its values
 pub data Request : Type 0 where
   run : ℕ → Text → Request
+  show : Text → Request
 
 -- the number of generations that a text names: a numeral of at most 100,000, before which a plus may stand
 abbrev pub generations_of : Text → Option ℕ
@@ -32,9 +34,16 @@ generations_in rows = option_and_then generations_of (one_of (codes "N") rows)
 abbrev pub run_in : List Row → Option Request
 run_in rows = option_and_then (λ n. option_map (run n) (first_of (codes "rule") rows)) (generations_in rows)
 
+-- the value of CODE, of what was found for the argument of `show`
+abbrev pub show_in : List Row → Option Request
+show_in rows = option_map show (first_of (codes "CODE") rows)
+
 -- the command of this name, with its values
 abbrev pub request_in : Text × List Row → Option Request
-request_in found = if bytes_eq found.0 (codes "run") then run_in found.1 else None
+request_in found =
+    if bytes_eq found.0 (codes "run") then run_in found.1
+    else if bytes_eq found.0 (codes "show") then show_in found.1
+    else None
 
 -- a request, if nothing is wrong with the words
 abbrev pub unless_faulty : Kinds → Option Request → Option Request
@@ -48,6 +57,7 @@ asked_by words = unless_faulty (fault_of census_app words) (option_and_then requ
 -- the answer to a request, on an input
 abbrev pub answer_to : Request → List ℕ → Answer
 answer_to (run n rule_text) bytes = run_answer rule_text n bytes
+answer_to (show code) bytes = show_answer code
 
 -- a command was done on an input, and ended well
 pub record DoesRequest (known : Option (List ℕ)) (status : Status) (output errors : Stream) (request : Request) : Type 0 where

@@ -1,7 +1,7 @@
 //! A census of random soups of Conway's Game of Life and its kin: the program.
 //!
 //! `main` calls [`do_words`](words::do_words) over the standard streams, which calls the command that the words name,
-//! as [`do_run`](run::do_run).
+//! as [`do_run`](run::do_run) and [`do_show`](show::do_show).
 #![tactic(auto)]
 
 ghost use Rattle.std.specs.Prelude.{◌≡◌, false};

@@ -1,14 +1,15 @@
-ghost use Rattle.std.specs.Prelude.{◌≡◌, ◌≢◌, false, true, map, is_some, IfOk, IsSomeAnd, option_and_then};
+ghost use Rattle.std.specs.Prelude.{ℕ, List, Option, ◌≡◌, ◌≢◌, false, true, map, is_some, IfOk, IsSomeAnd, option_and_then};
 ghost use Rattle.clap.specs.Words.{app_of, found_of, kind_of, rows_of, rule_of, shape_of, subcommand_rows_of};
 ghost use Rattle.clap.specs.declared.builder.command.Command.TheViews.{out-Command as fields_of};
-ghost use Rattle.census.specs.Application.{census_app, generations_argument, rule_argument, run_shape};
-ghost use Rattle.census.specs.Calls.{AsksToRun};
+ghost use Rattle.census.specs.Application.{census_app, code_argument, generations_argument, rule_argument, run_shape, show_shape};
+ghost use Rattle.census.specs.Calls.{AsksToRun, AsksToShow};
 ghost use Rattle.census.specs.Complaints.{line_of};
 ghost use Rattle.census.specs.Streams.{stream, HasLine};
-ghost use Rattle.census.specs.Words.{DoesRequest, DoesWords, asked_by, generations_in, request_in, run_in};
+ghost use Rattle.census.specs.Words.{DoesRequest, DoesWords, asked_by, generations_in, request_in, run_in, show_in};
 
 use crate::complaint::Complaint;
 use crate::run::{GENERATION_LIMIT, do_run};
+use crate::show::do_show;
 use crate::status::Status;
 use clap::error::ErrorKind;
 use clap::{Arg, ArgMatches, Command, value_parser};
@@ -24,7 +25,7 @@ const LIFE: &str = "b3s23";
 ///
 /// `asked_by` says what that is. Words that ask for nothing, which are not understood or ask for help, end with `Usage`
 /// and their text on `errors`, and nothing is read or printed. All others are as the command says that is named, as
-/// [`do_run`].
+/// [`do_run`] and [`do_show`].
 pub fn do_words<S: AsStr, R: Read, W: Write, E: Write>(
     rt: &impl AllocGlobal,
     words: &[S],
@@ -54,6 +55,11 @@ pub fn asks_to_run()
     ensures { AsksToRun }
 {}
 
+/// A law of all words: what the calls of `show` ask for.
+pub fn asks_to_show()
+    ensures { AsksToShow }
+{}
+
 /// Does the command that the words name.
 fn do_command<R: Read, W: Write, E: Write>(
     alloc: Global,
@@ -74,6 +80,7 @@ fn do_command<R: Read, W: Write, E: Write>(
 {
     match matches.subcommand() {
         Some(("run", found)) => do_run_words(alloc, found, input, output, errors),
+        Some(("show", found)) => do_show_words(alloc, found, output, errors),
         _ => Status::Usage,
     }
 }
@@ -103,6 +110,28 @@ fn do_run_words<R: Read, W: Write, E: Write>(
         return Status::Usage;
     };
     do_run(alloc, generations, rule, input, output, errors)
+}
+
+/// Does `show` with the value of its argument.
+fn do_show_words<W: Write, E: Write>(
+    alloc: Global,
+    found: &ArgMatches<'_>,
+    output: &mut Out<W>,
+    errors: &mut Out<E>,
+) -> Status
+    requires output { output.old.failed ≡ false }
+    requires errors { errors.old.failed ≡ false }
+    ensures usage { result ≡ Status.Usage → output.new ≡ output.old }
+    ensures understood { is_some (show_in (rows_of (found_of found.now))) ≡ true → result ≢ Status.Usage }
+    ensures command { (known : Option (List ℕ)) → result ≢ Status.Usage → IsSomeAnd (show_in (rows_of (found_of found.now)))
+        (DoesRequest known result
+        (stream W.contents output.old output.new) (stream E.contents errors.old errors.new)) }
+{
+    // `clap` has seen to it that CODE is there.
+    let Some(code) = found.get_str("CODE") else {
+        return Status::Usage;
+    };
+    do_show(alloc, code, output, errors)
 }
 
 /// The value of N.
@@ -141,7 +170,8 @@ fn census_command<'a>(alloc: Global) -> Result<Command<'a>, AllocError>
             "Runs patterns of Conway's Game of Life and its kin, and takes a census of random ones",
         )
         .subcommand_required(true)
-        .subcommand(run_command(alloc)?)
+        .subcommand(run_command(alloc)?)?
+        .subcommand(show_command(alloc)?)
 }
 
 fn run_command<'a>(alloc: Global) -> Result<Command<'a>, AllocError>
@@ -157,6 +187,28 @@ fn run_command<'a>(alloc: Global) -> Result<Command<'a>, AllocError>
         )
         .arg(generations_argument(alloc))?
         .arg(rule_argument(alloc))
+}
+
+fn show_command<'a>(alloc: Global) -> Result<Command<'a>, AllocError>
+    ensures shape { IfOk result (λ command. shape_of command ≡ show_shape) }
+    ensures local { IfOk result (λ command. (fields_of command).has_globals ≡ false) }
+{
+    Command::new(alloc, "show")
+        .about("Prints the object that a code names")
+        .long_about(
+            "Prints the object that a code names on standard output, in plaintext: a line for each row, with `.` for a \
+             dead cell and `O` for a live one.",
+        )
+        .arg(code_argument(alloc))
+}
+
+fn code_argument<'a>(alloc: Global) -> Arg<'a>
+    ensures rule { rule_of result ≡ code_argument }
+    ensures local { result.global ≡ false }
+{
+    Arg::new(alloc, "CODE").required(true).help(
+        "An apgcode, as xs7_178c or xp2_7, or the text behind its `_`; the number isn't looked at",
+    )
 }
 
 fn generations_argument<'a>(alloc: Global) -> Arg<'a>
