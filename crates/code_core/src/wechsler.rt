@@ -133,16 +133,15 @@ fn push_gap(text: &mut String, gap: u8) -> Result<(), AllocError>
     ensures { OnOk result (string_bytes text.new ≡ string_bytes text.old ++ (if gap == 0 then [] else gap_text gap)) }
 {
     match gap {
-        0 => (),
-        1 => text.push('0')?,
-        2 => text.push('w')?,
-        3 => text.push('x')?,
+        0 => Ok(()),
+        1 => text.push('0'),
+        2 => text.push('w'),
+        3 => text.push('x'),
         _ => {
             text.push('y')?;
-            push_character(text, gap - 4)?;
+            push_character(text, gap - 4)
         }
     }
-    Ok(())
 }
 
 /// Adds the character of a value.
