@@ -1,6 +1,6 @@
 pub mod CornerLemmas
+pub mod JoinedStrips
 pub mod StripLemmas
-pub mod StripsLemmas
+pub mod TextLaw
 pub mod TextLemmas
 pub mod TokenCells
-pub mod TextLaw

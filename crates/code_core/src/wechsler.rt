@@ -71,7 +71,7 @@ fn is_small(bounds: Bounds) -> bool
 }
 
 /// The text of a pattern with this box.
-#[tactic(auto, using(crate::proofs::StripsLemmas::strips_begin, crate::proofs::StripsLemmas::strips_more, crate::proofs::StripsLemmas::strips_are))]
+#[tactic(auto, using(crate::proofs::JoinedStrips::strips_begin, crate::proofs::JoinedStrips::strips_more, crate::proofs::JoinedStrips::strips_are))]
 fn text_in(alloc: Global, pattern: &Pattern, bounds: Bounds) -> Result<String, AllocError>
     requires bounds { box_of pattern.now ≡ Some bounds }
     requires width { distance bounds.left bounds.right < SIDE_LIMIT }
@@ -88,7 +88,7 @@ fn text_in(alloc: Global, pattern: &Pattern, bounds: Bounds) -> Result<String, A
     Ok(text)
 }
 
-/// Adds the text of strip k of a pattern with this box.
+/// Adds the text of strip k, of which there are at most eight, of a pattern with this box.
 fn push_strip(
     text: &mut String,
     pattern: &Pattern,
