@@ -1,13 +1,12 @@
 -- A pattern moved to the corner, cell by cell.
-use Rattle.std.proofs.Common.{◌≡◌, ℕ, ℤ, pos, neg_ℤ, ◌+ℤ◌, ◌≤◌, ◌||◌, List, [], ◌∷◌, Some, arith, refl, ap, subst, sym, ◌∙◌}
+use Rattle.std.proofs.Common.{◌≡◌, ℕ, ℤ, pos, neg_ℤ, ◌+ℤ◌, ◌≤◌, ◌||◌, List, [], ◌∷◌, Some, arith, refl, ap, sym, ◌∙◌}
 use Rattle.std.specs.Prelude.{unsigned_abs}
 use Rattle.std.proofs.lemmas.Int.{ints}
 use Rattle.plane_core.specs.declared.bounds.Bounds.{Bounds}
 use Rattle.plane_core.specs.declared.cell.Cell.{Cell}
 use Rattle.plane_core.specs.declared.cell.TheConstants.{BOUND}
 use Rattle.plane_core.specs.Bounds.{at_corner, box_of, cornered, shifted}
-use Rattle.plane_core.specs.Cells.{IsPattern, cell_at, has, moved_by, same_cell}
-use Rattle.plane_core.specs.PlaintextWalk.{IsBox}
+use Rattle.plane_core.specs.Cells.{IsPattern, cell_at, has, moved_by}
 use Rattle.plane_core.proofs.CellLemmas.{cell_cmp-moved}
 use Rattle.plane_core.proofs.PlaintextBox.{IsBox-box_of}
 use Rattle.std.specs.Ordering.{is_eq}

@@ -1,16 +1,13 @@
 -- The text of a pattern, strip by strip.
-use Rattle.std.proofs.Common.{◌≡◌, ℕ, zero, suc, ◌+◌, ◌≤◌, ◌/◌, List, [], ◌∷◌, ◌++◌, map, arith, refl, ap, sym, ◌∙◌, add-one, true, false, Option, Some, None}
+use Rattle.std.proofs.Common.{◌≡◌, ℕ, zero, suc, ◌+◌, ◌≤◌, ◌/◌, List, [], ◌∷◌, ◌++◌, map, arith, refl, ap, sym, ◌∙◌}
 use Rattle.std.specs.List.{flat_map, range_with_len}
 use Rattle.std.proofs.lemmas.Grind.{flat_map-append}
 use Rattle.std.proofs.lemmas.List.{append_assoc}
 use Rattle.std.proofs.lemmas.List.FromFn.{map-range_with_len_more}
-use Rattle.plane_core.specs.declared.bounds.Bounds.{Bounds}
 use Rattle.plane_core.specs.declared.cell.Cell.{Cell}
-use Rattle.plane_core.specs.Bounds.{at_corner, box_of}
-use Rattle.plane_core.specs.Cells.{distance}
 use Rattle.code_core.specs.declared.token.Token.{Token}
-use Rattle.code_core.specs.declared.token.Token.TheVariants.{Column, Gap, NextStrip}
-use Rattle.code_core.specs.Texts.{boxed_text, is_small, joined, strip, strip_tokens, text, tokens_of}
+use Rattle.code_core.specs.declared.token.Token.TheVariants.{NextStrip}
+use Rattle.code_core.specs.Texts.{joined, strip, strip_tokens, tokens_of}
 use Rattle.code_core.specs.Tokens.{spelling}
 use Rattle.code_core.proofs.StripLemmas.{spelled}
 

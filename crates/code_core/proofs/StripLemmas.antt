@@ -5,7 +5,7 @@ use Rattle.std.specs.List.{flat_map, range_with_len}
 use Rattle.std.proofs.lemmas.List.{append_assoc, append-nil}
 use Rattle.plane_core.specs.declared.cell.Cell.{Cell}
 use Rattle.code_core.specs.declared.token.Token.{Token}
-use Rattle.code_core.specs.declared.token.Token.TheVariants.{Column, Gap, NextStrip}
+use Rattle.code_core.specs.declared.token.Token.TheVariants.{Column, Gap}
 use Rattle.code_core.specs.Columns.{column}
 use Rattle.code_core.specs.Texts.{before, strip, strip_tokens}
 use Rattle.code_core.specs.Tokens.{character, gap_text, spelling}

@@ -1,7 +1,7 @@
 -- Each text is that of tokens whose cells are the pattern at the corner.
-use Rattle.std.proofs.Common.{◌≡◌, ℕ, ℤ, zero, suc, pos, neg_ℤ, ◌+ℤ◌, ◌≤ℤ◌, ◌+◌, ◌*◌, ◌/◌, ◌%◌, ◌≤◌, ◌<◌, Bool, true, false, ◌&&◌, ◌||◌, ◌⊎◌, inl, inr, cond, List, [], ◌∷◌, ◌++◌, length, nat_lt, Option, Some, None, filter, map, arith, refl, ap, subst, sym, ◌∙◌}
+use Rattle.std.proofs.Common.{◌≡◌, ℕ, ℤ, zero, suc, pos, neg_ℤ, ◌+ℤ◌, ◌≤ℤ◌, ◌+◌, ◌*◌, ◌/◌, ◌%◌, ◌≤◌, ◌<◌, Bool, true, false, ◌&&◌, ◌||◌, ◌⊎◌, inl, inr, cond, List, ◌∷◌, length, nat_lt, Option, Some, None, filter, map, arith, refl, ap, subst, sym, ◌∙◌}
 use Rattle.std.specs.Prelude.{unsigned_abs}
-use Rattle.std.specs.List.{All, flat_map, range_with_len}
+use Rattle.std.specs.List.{flat_map, range_with_len}
 use Rattle.std.proofs.lemmas.Int.{ints}
 use Rattle.std.proofs.lemmas.Bool.{and_parts, cases_lt, ltb-true}
 use Rattle.plane_core.specs.declared.bounds.Bounds.{Bounds}
@@ -16,10 +16,9 @@ use Rattle.code_core.specs.declared.token.Token.{Token}
 use Rattle.code_core.specs.declared.wechsler.TheConstants.{SIDE_LIMIT}
 use Rattle.code_core.specs.Columns.{cells_of}
 use Rattle.code_core.specs.Texts.{TextsAreShort, TextsSpellPatterns, boxed_text, is_small, text, tokens_of}
-use Rattle.code_core.specs.Tokens.{Spells, spelling}
 use Rattle.code_core.proofs.StripLemmas.{spelled}
 use Rattle.code_core.proofs.TextLemmas.{tokens_of-lawful, tokens_of-short}
-use Rattle.code_core.proofs.TokenCells.{box_cells, cells_from-joined, column_cells, columns, strip_cells}
+use Rattle.code_core.proofs.TokenCells.{box_cells, cells_from-joined, column_cells, strip_cells}
 
 -- ---- the box has each cell in its columns and rows
 
