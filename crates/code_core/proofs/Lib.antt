@@ -1,6 +1,7 @@
 pub mod CodeLaws
 pub mod CornerLemmas
 pub mod ImageLemmas
+pub mod JoinedStrips
 pub mod LaterCodes
 pub mod LeastLemmas
 pub mod MovedCodes
@@ -12,7 +13,6 @@ pub mod ReadingLemmas
 pub mod RecurrenceLemmas
 pub mod RoundTrip
 pub mod StripLemmas
-pub mod StripsLemmas
 pub mod TextLaw
 pub mod TextLemmas
 pub mod TokenCells

@@ -95,11 +95,11 @@ lit_cells-column cells k x =
 -- ---- the tokens of a strip
 
 -- what follows a strip: its cells don't know in which column they begin
-abbrev pub IsNextStrip : ℕ → List Token → Type 0
-IsNextStrip k more = (a b : ℕ) → cells_from k a more ≡ cells_from k b more
+abbrev pub FollowsStrip : ℕ → List Token → Type 0
+FollowsStrip k more = (a b : ℕ) → cells_from k a more ≡ cells_from k b more
 
 -- a column that comes before a strip's tokens adds its cells
-cells_from-before : (k x value : ℕ) (tokens more : List Token) → IsNextStrip k more
+cells_from-before : (k x value : ℕ) (tokens more : List Token) → FollowsStrip k more
     → cells_from k x (before value tokens ++ more) ≡ lit_cells k x value ++ cells_from k (x + 1) (tokens ++ more)
 unfolding cells_from lit_cells
 cells_from-before k x zero [] more end = end x (x + 1)
@@ -112,7 +112,7 @@ abbrev pub columns : ℕ → ℕ → ℕ → List Cell
 columns k x n = flat_map (column_cells k) (range_with_len x n)
 
 -- the cells of a strip's tokens are those of its columns that the pattern has
-cells_from-strip : (cells : List Cell) (k x n : ℕ) (more : List Token) → IsNextStrip k more
+cells_from-strip : (cells : List Cell) (k x n : ℕ) (more : List Token) → FollowsStrip k more
     → cells_from k x (strip_tokens (map (column cells k) (range_with_len x n)) ++ more) ≡ filter (has cells) (columns k x n) ++ cells_from k 0 more
 unfolding strip_tokens
 cells_from-strip cells k x zero more end = end x 0
@@ -132,11 +132,11 @@ strip_cells width k = columns k 0 width
 abbrev pub box_cells : ℕ → ℕ → ℕ → List Cell
 box_cells width k n = flat_map (strip_cells width) (range_with_len k n)
 
-nothing_next : (k : ℕ) → IsNextStrip k []
+nothing_next : (k : ℕ) → FollowsStrip k []
 unfolding cells_from
 nothing_next k a b = refl
 
-strip_next : (k : ℕ) (tokens : List Token) → IsNextStrip k (NextStrip ∷ tokens)
+strip_next : (k : ℕ) (tokens : List Token) → FollowsStrip k (NextStrip ∷ tokens)
 unfolding cells_from
 strip_next k tokens a b = refl
 

@@ -55,7 +55,8 @@ text cells = boxed_text cells (box_of cells)
 
 -- each text is that of tokens whose cells are the pattern, moved to the corner
 abbrev pub TextsSpellPatterns : Type 0
-TextsSpellPatterns = (cells : List Cell) (t : List ℕ) → InOrder cells → text cells ≡ Some t → (tokens : List Token) × Spells tokens t × (cells_of tokens ≡ at_corner cells)
+TextsSpellPatterns = (cells : List Cell) (t : List ℕ) → InOrder cells → text cells ≡ Some t
+    → (tokens : List Token) × Spells tokens t × (cells_of tokens ≡ at_corner cells)
 
 -- no text has over 10,000 bytes
 abbrev pub TextsAreShort : Type 0

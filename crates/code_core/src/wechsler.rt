@@ -71,7 +71,7 @@ fn is_small(bounds: Bounds) -> bool
 }
 
 /// The text of a pattern with this box.
-#[tactic(auto, using(crate::proofs::StripsLemmas::strips_begin, crate::proofs::StripsLemmas::strips_more, crate::proofs::StripsLemmas::strips_are))]
+#[tactic(auto, using(crate::proofs::JoinedStrips::strips_begin, crate::proofs::JoinedStrips::strips_more))]
 fn text_in(alloc: Global, pattern: &Pattern, bounds: Bounds) -> Result<String, AllocError>
     requires bounds { box_of pattern.now ≡ Some bounds }
     requires width { distance bounds.left bounds.right < SIDE_LIMIT }
@@ -88,7 +88,7 @@ fn text_in(alloc: Global, pattern: &Pattern, bounds: Bounds) -> Result<String, A
     Ok(text)
 }
 
-/// Adds the text of strip k of a pattern with this box.
+/// Adds the text of strip k, of which there are at most eight, of a pattern with this box.
 fn push_strip(
     text: &mut String,
     pattern: &Pattern,
@@ -133,16 +133,15 @@ fn push_gap(text: &mut String, gap: u8) -> Result<(), AllocError>
     ensures { OnOk result (string_bytes text.new ≡ string_bytes text.old ++ (if gap == 0 then [] else gap_text gap)) }
 {
     match gap {
-        0 => (),
-        1 => text.push('0')?,
-        2 => text.push('w')?,
-        3 => text.push('x')?,
+        0 => Ok(()),
+        1 => text.push('0'),
+        2 => text.push('w'),
+        3 => text.push('x'),
         _ => {
             text.push('y')?;
-            push_character(text, gap - 4)?;
+            push_character(text, gap - 4)
         }
     }
-    Ok(())
 }
 
 /// Adds the character of a value.
