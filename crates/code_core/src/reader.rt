@@ -84,7 +84,11 @@ fn character_value(byte: u8) -> u8
     ensures value { result ≡ character_value byte }
     ensures bound { result ≤ 35 }
 {
-    if byte < 58 { byte - b'0' } else { byte - 87 }
+    if byte.is_ascii_digit() {
+        byte - b'0'
+    } else {
+        byte - b'a' + 10
+    }
 }
 
 #[tactic(auto, unfolding(crate::specs::Reading::single))]
@@ -177,8 +181,8 @@ fn is_lit(value: u8, i: u32) -> bool
 
 /// The cell in row i of the strip.
 fn cell_of(head: Head, i: u32) -> Cell
-    requires strip { head.strip ≤ 10000 }
-    requires column { head.x ≤ 400000 }
+    requires strip { head.strip ≤ TEXT_LIMIT }
+    requires column { head.x ≤ 39 * TEXT_LIMIT }
     requires row { i < 5 }
     ensures { result ≡ cell_at (pos head.x) (pos (5 * head.strip + i)) }
 {
@@ -191,8 +195,8 @@ fn cell_of(head: Head, i: u32) -> Cell
 /// Adds the cells of a column.
 #[tactic(auto, using(crate::proofs::TokenCells::lit))]
 fn push_column(cells: &mut Vec<Cell>, head: Head, value: u8) -> Result<(), AllocError>
-    requires strip { head.strip ≤ 10000 }
-    requires column { head.x ≤ 400000 }
+    requires strip { head.strip ≤ TEXT_LIMIT }
+    requires column { head.x ≤ 39 * TEXT_LIMIT }
     ensures { OnOk result (cells.new.items ≡ cells.old.items ++ lit_cells head.strip head.x value) }
 {
     for i in 0..5 {
@@ -205,8 +209,8 @@ fn push_column(cells: &mut Vec<Cell>, head: Head, value: u8) -> Result<(), Alloc
 
 /// Adds the cells of a token, and says where the column behind it stands.
 fn push_token(cells: &mut Vec<Cell>, head: Head, token: Token) -> Result<Head, AllocError>
-    requires strip { head.strip ≤ 10000 }
-    requires column { head.x ≤ 400000 }
+    requires strip { head.strip ≤ TEXT_LIMIT }
+    requires column { head.x ≤ 39 * TEXT_LIMIT }
     requires token { IsToken token }
     ensures cells { IfOk result (λ next. (tokens : List Token) →
         cells.new.items ++ cells_from next.strip next.x tokens
@@ -316,3 +320,6 @@ pub fn read_wechsler(alloc: Global, text: &str) -> Result<Pattern, WechslerError
 {
     read(alloc, text.as_bytes())
 }
+
+#[cfg(test)]
+mod tests;
