@@ -1,5 +1,5 @@
 -- What the reader's loops have done when they have come to the rest of a text.
-use Rattle.std.proofs.Common.{◌≡◌, ◌<◌, ◌≤◌, ◌+◌, ◌-◌, ◌*◌, ℕ, zero, suc, Bool, true, false, not, ◌||◌, List, [], ◌∷◌, ◌++◌, length, refl, sym, ◌∙◌, ap, subst, arith, append_assoc, append-nil, length-append, Option, Some, None, Result, Ok, Err}
+use Rattle.std.proofs.Common.{◌≡◌, ◌<◌, ◌≤◌, ◌+◌, ◌-◌, ◌*◌, ℕ, Bool, true, false, ◌||◌, List, [], ◌∷◌, ◌++◌, length, refl, sym, ◌∙◌, ap, arith, append_assoc, append-nil, length-append, Some, None, Result, Ok, Err}
 use Rattle.std.specs.List.{All, list_all, list_any, flat_map}
 use Rattle.std.specs.Prelude.{if◌then◌else◌}
 use Rattle.std.specs.Result.{result_err}
@@ -11,11 +11,11 @@ use Rattle.plane_core.specs.Cells.{on_plane}
 use Rattle.code_core.specs.declared.token.Token.{Token}
 use Rattle.code_core.specs.declared.reader.WechslerFault.{WechslerFault}
 use Rattle.code_core.specs.declared.reader.WechslerFault.TheVariants.{BadByte, ShortRun, Empty}
-use Rattle.code_core.specs.declared.reader.TheConstants.{MANY_EMPTY, TEXT_LIMIT}
+use Rattle.code_core.specs.declared.reader.TheConstants.{TEXT_LIMIT}
 use Rattle.code_core.specs.Columns.{cells_from, cells_of}
 use Rattle.code_core.specs.Tokens.{spelling, IsToken, Spells}
-use Rattle.code_core.specs.Reading.{is_character, has_character, with_token, Begins, IsStuck, fault_at, is_column, tokens_at, unless_empty, wechsler_pattern}
-use Rattle.code_core.proofs.ReadingLemmas.{tokens_at-bad, tokens_at-short_run, tokens_at-tokens, tokens_at-stops, tokens_at-spelled, tokens_at-token, tokens_at-Spells, Spells-tokens_at, length-Begins, length-spelled}
+use Rattle.code_core.specs.Reading.{is_character, with_token, Begins, IsStuck, fault_at, is_column, tokens_at, unless_empty, wechsler_pattern}
+use Rattle.code_core.proofs.ReadingLemmas.{tokens_at-bad, tokens_at-short_run, tokens_at-stops, tokens_at-spelled, tokens_at-token, tokens_at-Spells, Spells-tokens_at, length-Begins, length-spelled}
 use Rattle.code_core.proofs.TokenCells.{unless_empty-some, unless_empty-none, cells_from-on_plane}
 
 -- tokens spell the text up to the rest, and it is known whether one of them is a column

@@ -14,7 +14,6 @@ use Rattle.plane_core.specs.declared.cell.Cell.{Cell}
 use Rattle.plane_core.specs.Cells.{cell_at, cell_cmp, on_plane, off_plane, put, set_of}
 use Rattle.code_core.specs.declared.token.Token.{Token}
 use Rattle.code_core.specs.declared.token.Token.TheVariants.{Column, Gap, NextStrip}
-use Rattle.code_core.specs.declared.reader.WechslerFault.{WechslerFault}
 use Rattle.code_core.specs.declared.reader.WechslerFault.TheVariants.{Empty}
 use Rattle.code_core.specs.Columns.{is_lit, lit_cells, cells_from, cells_of}
 use Rattle.code_core.specs.Tokens.{IsToken}
