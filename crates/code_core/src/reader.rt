@@ -4,7 +4,8 @@ ghost use Rattle.plane_core.specs.declared.cell.Cell.{Cell};
 ghost use Rattle.plane_core.specs.Cells.{cell_at};
 ghost use Rattle.code_core.specs.Columns.{is_lit, lit_cells, cells_from, cells_of};
 ghost use Rattle.code_core.specs.Tokens.{IsToken, Spells};
-ghost use Rattle.code_core.specs.Reading.{Begins, IsStuck, fault_at, is_column, wechsler_pattern, wechsler_read, is_character, character_value, single, Says, IsBadByte, IsShortRun};
+ghost use Rattle.code_core.specs.Reading.{wechsler_pattern, wechsler_read, is_character, character_value, single, Says, IsBadByte, IsShortRun};
+ghost use Rattle.code_core.specs.ReadingSteps.{Begins, IsStuck, fault_at, is_column};
 ghost use Rattle.code_core.specs.declared.token.Token.{Token};
 ghost use Rattle.code_core.specs.declared.reader.WechslerFault.{WechslerFault};
 ghost use Rattle.code_core.specs.declared.reader.WechslerFault.TheVariants.{TooLong, BadByte, ShortRun, Empty};
@@ -17,7 +18,7 @@ use plane_core::pattern::{FromCellsError, Pattern};
 use std::alloc::{AllocError, Global};
 use thiserror::Error;
 
-/// How many bytes a text that is read may have.
+/// How many bytes a text that is read may have. A text of so many stays within the bound of the plane.
 pub const TEXT_LIMIT: usize = 10_000;
 
 /// A run of one empty column.
@@ -71,6 +72,7 @@ impl From<AllocError> for WechslerError {
     }
 }
 
+/// Whether a byte is one of `0` to `9` and `a` to `z`.
 #[tactic(auto, unfolding(crate::specs::Reading::is_character))]
 fn is_character(byte: u8) -> bool
     ensures { result ≡ is_character byte }
@@ -78,6 +80,7 @@ fn is_character(byte: u8) -> bool
     byte.is_ascii_digit() || byte.is_ascii_lowercase()
 }
 
+/// The value of a character, 0 to 35.
 #[tactic(auto, unfolding(crate::specs::Reading::is_character, crate::specs::Reading::character_value))]
 fn character_value(byte: u8) -> u8
     requires { is_character byte ≡ true }
@@ -91,6 +94,7 @@ fn character_value(byte: u8) -> u8
     }
 }
 
+/// The token of a character other than `y`.
 #[tactic(auto, unfolding(crate::specs::Reading::single))]
 fn single(byte: u8) -> Token
     requires { is_character byte ≡ true }
@@ -137,6 +141,7 @@ fn fault_at(place: usize, rest: &[u8]) -> Option<WechslerFault>
     }
 }
 
+/// Whether a token is a column with a live cell.
 fn is_column(token: Token) -> bool
     ensures { result ≡ is_column token }
 {
@@ -305,9 +310,10 @@ pub fn read_wechsler(alloc: Global, text: &str) -> Result<Pattern, WechslerError
     ensures fault { (fault : WechslerFault) →
         IsErrOf result (WechslerError.Fault fault) ↔ (wechsler_read text.now ≡ Err fault) }
 
-    // A text says one pattern at most, which is read.
+    // What is read is what the text says, and each pattern that a text says is read.
     ensures says { IfOk result (Says text.now) }
-    ensures only { IfOk result (λ read. (cells : List Cell) → Says text.now cells → read ≡ cells) }
+    ensures complete { (cells : List Cell) → Says text.now cells → cells ≢ [] → length text.now ≤ TEXT_LIMIT
+        → MatchResult result (λ read. read ≡ cells) (λ error. error ≡ Memory) }
 
     // Which fault it is.
     ensures too_long { IsErrOf result (WechslerError.Fault TooLong) ↔ (TEXT_LIMIT < length text.now) }
