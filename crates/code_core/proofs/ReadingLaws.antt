@@ -13,7 +13,7 @@ use Rattle.code_core.specs.declared.reader.WechslerFault.{WechslerFault}
 use Rattle.code_core.specs.declared.reader.WechslerFault.TheVariants.{TooLong, BadByte, ShortRun, Empty}
 use Rattle.code_core.specs.declared.reader.TheConstants.{MANY_EMPTY, TEXT_LIMIT}
 use Rattle.code_core.specs.Columns.{cells_of}
-use Rattle.code_core.specs.Tokens.{spelling, IsToken, Spells}
+use Rattle.code_core.specs.Tokens.{spelling, IsToken}
 use Rattle.code_core.specs.Reading.{is_character, tokens_at, unless_empty, pattern_of, wechsler_pattern, wechsler_read, Says, IsBadByte, IsShortRun}
 use Rattle.code_core.specs.ReadingSteps.{has_character}
 use Rattle.code_core.proofs.ReadingLemmas.{Outcome, tokens_at-outcome, Stops, IsBad, IsShort, Stops-bad, Stops-short, tokens_at-Stops_bad, tokens_at-Stops_short, tokens_at-Spells, Spells-tokens_at}

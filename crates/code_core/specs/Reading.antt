@@ -1,5 +1,5 @@
 -- What a text says in extended Wechsler format (LifeWiki, "Apgcode").
-use Rattle.std.specs.Prelude.{◌≡◌, ◌==◌, ◌+◌, ◌-◌, ◌<◌, ℕ, Bool, false, true, not, ◌||◌, List, [], ◌∷◌, length, take, Result, Ok, Err, nat_lt, slice_index, if◌then◌else◌}
+use Rattle.std.specs.Prelude.{◌≡◌, ◌==◌, ◌+◌, ◌-◌, ◌<◌, ℕ, Bool, false, not, ◌||◌, List, [], ◌∷◌, length, take, Result, Ok, Err, nat_lt, slice_index, if◌then◌else◌}
 use Rattle.std.specs.Char.{is_ascii_digit, is_ascii_lowercase}
 use Rattle.plane_core.specs.declared.cell.Cell.{Cell}
 use Rattle.code_core.specs.declared.token.Token.{Token}

@@ -5,10 +5,10 @@
 pub mod apgcode;
 /// How a pattern comes back.
 pub mod cycle;
-/// When a pattern comes back.
-pub mod recurrence;
 /// How the text of a pattern is read.
 pub mod reader;
+/// When a pattern comes back.
+pub mod recurrence;
 mod token;
 /// The text of a pattern.
 pub mod wechsler;

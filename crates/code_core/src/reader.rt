@@ -110,7 +110,7 @@ fn single(byte: u8) -> Token
 }
 
 /// The first token of a text, and what is behind it. There is none where the text is empty or begins with a fault.
-#[tactic(auto, using(crate::proofs::ReadingLemmas::Begins_single, crate::proofs::ReadingLemmas::Begins_long_gap))]
+#[tactic(auto, using(crate::proofs::ReadingLemmas::Begins_long_gap))]
 fn first_token(text: &[u8]) -> Option<(Token, &[u8])>
     ensures token { IfSome result (λ first. Begins text.now first.0 first.1.now) }
     ensures none { IfNone result (IsStuck text.now) }
@@ -149,7 +149,7 @@ fn is_column(token: Token) -> bool
 }
 
 /// What is wrong with a text that isn't too long.
-#[tactic(auto, using(crate::proofs::ReadingLemmas::shorter, crate::proofs::ReaderLoops::Passed_none, crate::proofs::ReaderLoops::Passed_more, crate::proofs::ReaderLoops::Passed_fault, crate::proofs::ReaderLoops::Passed_empty, crate::proofs::ReaderLoops::Passed_cells))]
+#[tactic(auto, using(crate::proofs::ReadingLemmas::shorter, crate::proofs::ReaderLoops::Passed_none, crate::proofs::ReaderLoops::Passed_more))]
 fn fault_in(text: &[u8]) -> Option<WechslerFault>
     ensures { result ≡ result_err (wechsler_pattern text.now) }
 {
