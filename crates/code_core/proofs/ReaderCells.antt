@@ -17,7 +17,8 @@ use Rattle.code_core.specs.declared.token.Token.TheVariants.{Column, Gap, NextSt
 use Rattle.code_core.specs.declared.reader.WechslerFault.TheVariants.{Empty}
 use Rattle.code_core.specs.Columns.{is_lit, lit_cells, cells_from, cells_of}
 use Rattle.code_core.specs.Tokens.{IsToken}
-use Rattle.code_core.specs.Reading.{is_column, unless_empty}
+use Rattle.code_core.specs.Reading.{unless_empty}
+use Rattle.code_core.specs.ReadingSteps.{is_column}
 
 -- cells in the first million of columns and rows are on the plane
 on_plane-small : (x y : ℕ) → x ≤ 1000000 → y ≤ 1000000 → on_plane (cell_at (pos x) (pos y)) ≡ true

@@ -14,7 +14,8 @@ use Rattle.code_core.specs.declared.reader.WechslerFault.TheVariants.{BadByte, S
 use Rattle.code_core.specs.declared.reader.TheConstants.{TEXT_LIMIT}
 use Rattle.code_core.specs.Columns.{cells_from, cells_of}
 use Rattle.code_core.specs.Tokens.{spelling, IsToken, Spells}
-use Rattle.code_core.specs.Reading.{is_character, with_token, Begins, IsStuck, fault_at, is_column, tokens_at, unless_empty, wechsler_pattern}
+use Rattle.code_core.specs.Reading.{is_character, with_token, tokens_at, unless_empty, wechsler_pattern}
+use Rattle.code_core.specs.ReadingSteps.{Begins, IsStuck, fault_at, is_column}
 use Rattle.code_core.proofs.ReadingLemmas.{tokens_at-bad, tokens_at-short_run, tokens_at-stops, tokens_at-spelled, tokens_at-token, tokens_at-Spells, Spells-tokens_at, length-Begins, length-spelled}
 use Rattle.code_core.proofs.ReaderCells.{unless_empty-some, unless_empty-none, cells_from-on_plane}
 

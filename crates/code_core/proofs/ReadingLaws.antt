@@ -1,20 +1,21 @@
 -- What is read, and each fault, in the words of tokens that spell the text.
 use Rattle.std.proofs.Common.{◌≡◌, ◌≢◌, ◌<◌, ◌≤◌, ◌+◌, ◌↔◌, ℕ, Bool, true, false, List, [], ◌∷◌, ◌++◌, length, take, drop, get_or, refl, sym, ◌∙◌, ap, subst, arith, length-append, length-take-le, Result, Ok, Err, nat_lt}
-use Rattle.std.specs.List.{flat_map}
-use Rattle.std.specs.Prelude.{IsErrOf, slice_index}
+use Rattle.std.specs.List.{All, flat_map}
+use Rattle.std.specs.Prelude.{IfOk, IsErrOf, MatchResult, slice_index}
 use Rattle.std.proofs.Math.Seq.{take-append_seam, get_or-append_seam}
 use Rattle.std.proofs.lemmas.Bool.Decides.{nat_tests}
 use Rattle.std.proofs.lemmas.List.{take-append-drop, drop_more, drop_all, get_or-append-add}
 use Rattle.plane_core.specs.declared.cell.Cell.{Cell}
 use Rattle.code_core.specs.declared.token.Token.{Token}
 use Rattle.code_core.specs.declared.reader.WechslerError.{WechslerError}
-use Rattle.code_core.specs.declared.reader.WechslerError.TheVariants.{Fault}
+use Rattle.code_core.specs.declared.reader.WechslerError.TheVariants.{Fault, Memory}
 use Rattle.code_core.specs.declared.reader.WechslerFault.{WechslerFault}
 use Rattle.code_core.specs.declared.reader.WechslerFault.TheVariants.{TooLong, BadByte, ShortRun, Empty}
 use Rattle.code_core.specs.declared.reader.TheConstants.{MANY_EMPTY, TEXT_LIMIT}
 use Rattle.code_core.specs.Columns.{cells_of}
-use Rattle.code_core.specs.Tokens.{spelling, Spells}
-use Rattle.code_core.specs.Reading.{is_character, has_character, tokens_at, unless_empty, pattern_of, wechsler_pattern, wechsler_read, Says, IsBadByte, IsShortRun}
+use Rattle.code_core.specs.Tokens.{spelling, IsToken}
+use Rattle.code_core.specs.Reading.{is_character, tokens_at, unless_empty, pattern_of, wechsler_pattern, wechsler_read, Says, IsBadByte, IsShortRun}
+use Rattle.code_core.specs.ReadingSteps.{has_character}
 use Rattle.code_core.proofs.ReadingLemmas.{Outcome, tokens_at-outcome, Stops, IsBad, IsShort, Stops-bad, Stops-short, tokens_at-Stops_bad, tokens_at-Stops_short, tokens_at-Spells, Spells-tokens_at}
 
 -- a text within the limit is its pattern's
@@ -44,12 +45,18 @@ Says-pattern_of text (Err fault) cells t e = absurd (cc)
 pub Says-read : (text : List ℕ) (cells : List Cell) → wechsler_read text ≡ Ok cells → Says text cells
 Says-read text cells e = Says-pattern_of text (tokens_at 0 text) cells refl (sym (read-short text (short-read text cells e)) ∙ e)
 
--- tokens that spell the text are those that are read
-same_tokens : (text : List ℕ) (some others : List Token) → Spells some text → Spells others text → some ≡ others
-same_tokens text some others s o = let e : Ok some ≡ tokens_at 0 text = sym (tokens_at-Spells some text 0 s) in let f : tokens_at 0 text ≡ Ok others = tokens_at-Spells others text 0 o in cc
+-- and each pattern that a text says is read
+unless_empty-some : (cells : List Cell) → cells ≢ [] → unless_empty cells ≡ Ok cells
+unless_empty-some [] some = absurd (some refl)
+unless_empty-some (c ∷ cells) some = refl
 
-pub Says-only : (text : List ℕ) (some others : List Cell) → Says text some → Says text others → some ≡ others
-Says-only text some others s o = s.pattern ∙ ap cells_of (same_tokens text s.tokens o.tokens s.spells o.spells) ∙ sym o.pattern
+pub wechsler_read-Says : (text : List ℕ) (cells : List Cell) → Says text cells → cells ≢ [] → length text ≤ TEXT_LIMIT → wechsler_read text ≡ Ok cells
+wechsler_read-Says text cells s some short =
+    read-short text short ∙ rw (tokens_at-Spells s.tokens text 0 s.spells, ← s.pattern) (unless_empty-some cells some)
+
+pub wechsler_read-spelled : (tokens : List Token) → All IsToken tokens → cells_of tokens ≢ [] → length (flat_map spelling tokens) ≤ TEXT_LIMIT → wechsler_read (flat_map spelling tokens) ≡ Ok (cells_of tokens)
+wechsler_read-spelled tokens each some short =
+    wechsler_read-Says (flat_map spelling tokens) (cells_of tokens) (record { tokens = tokens; spells = record { each = each; spelled = refl }; pattern = refl }) some short
 
 -- a fault other than that of no cell is one of the tokens
 pattern_of-err : (r : Result (List Token) WechslerFault) (fault : WechslerFault) → fault ≢ Empty → pattern_of r ≡ Err fault → r ≡ Err fault
@@ -163,3 +170,10 @@ short_run text place short =
 -- a law of what is read is one of a result that tells the same
 pub told : (P : Type 0) (text : List ℕ) (r : Result (List Cell) WechslerError) (fault : WechslerFault) → (IsErrOf r (Fault fault) ↔ (wechsler_read text ≡ Err fault)) → (wechsler_read text ≡ Err fault) ↔ P → IsErrOf r (Fault fault) ↔ P
 told P text r fault f law = (λ e. law.0 (f.0 e), λ p. f.1 (law.1 p))
+
+-- a result that tells what is read has the pattern that is read, unless memory is wanting
+pub read_as : (text : List ℕ) (r : Result (List Cell) WechslerError) (cells : List Cell) → IfOk r (λ read. wechsler_read text ≡ Ok read) → ((fault : WechslerFault) → IsErrOf r (Fault fault) ↔ (wechsler_read text ≡ Err fault))
+    → wechsler_read text ≡ Ok cells → MatchResult r (λ read. read ≡ cells) (λ error. error ≡ Memory)
+read_as text (Ok read) cells ok faults e = let k : wechsler_read text ≡ Ok read = ok in cc
+read_as text (Err (Fault fault)) cells ok faults e = let k : wechsler_read text ≡ Err fault = (faults fault).0 refl in absurd (cc)
+read_as text (Err Memory) cells ok faults e = refl

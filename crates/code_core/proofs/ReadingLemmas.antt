@@ -10,7 +10,8 @@ use Rattle.code_core.specs.declared.reader.WechslerFault.{WechslerFault}
 use Rattle.code_core.specs.declared.reader.WechslerFault.TheVariants.{TooLong, BadByte, ShortRun, Empty}
 use Rattle.code_core.specs.declared.reader.TheConstants.{ONE_EMPTY, TWO_EMPTY, THREE_EMPTY, MANY_EMPTY, STRIP_END}
 use Rattle.code_core.specs.Tokens.{character, gap_text, spelling, IsToken, Spells}
-use Rattle.code_core.specs.Reading.{is_character, character_value, single, long_gap, with_token, tokens_at, Begins, has_character}
+use Rattle.code_core.specs.Reading.{is_character, character_value, single, long_gap, with_token, tokens_at}
+use Rattle.code_core.specs.ReadingSteps.{Begins, has_character}
 
 -- characters and their values
 pub character_value-small : (b : ℕ) → is_character b ≡ true → character_value b ≤ 35

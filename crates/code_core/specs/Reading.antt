@@ -1,5 +1,5 @@
 -- What a text says in extended Wechsler format (LifeWiki, "Apgcode").
-use Rattle.std.specs.Prelude.{◌≡◌, ◌==◌, ◌+◌, ◌-◌, ◌<◌, ℕ, Bool, false, true, not, ◌||◌, List, [], ◌∷◌, ◌++◌, length, take, Option, None, Some, Result, Ok, Err, nat_lt, slice_index, if◌then◌else◌}
+use Rattle.std.specs.Prelude.{◌≡◌, ◌==◌, ◌+◌, ◌-◌, ◌<◌, ℕ, Bool, false, not, ◌||◌, List, [], ◌∷◌, length, take, Some, Result, Ok, Err, nat_lt, slice_index, if◌then◌else◌}
 use Rattle.std.specs.Char.{is_ascii_digit, is_ascii_lowercase}
 use Rattle.plane_core.specs.declared.cell.Cell.{Cell}
 use Rattle.plane_core.specs.Bounds.{at_corner}
@@ -11,7 +11,7 @@ use Rattle.code_core.specs.declared.reader.WechslerFault.TheVariants.{TooLong, B
 use Rattle.code_core.specs.declared.reader.TheConstants.{TEXT_LIMIT, ONE_EMPTY, TWO_EMPTY, THREE_EMPTY, MANY_EMPTY, STRIP_END}
 use Rattle.code_core.specs.Columns.{cells_of}
 use Rattle.code_core.specs.Texts.{text}
-use Rattle.code_core.specs.Tokens.{spelling, IsToken, Spells}
+use Rattle.code_core.specs.Tokens.{Spells}
 
 -- `0` to `9` and `a` to `z`
 unfoldable pub is_character : ℕ → Bool
@@ -51,32 +51,6 @@ tokens_at place (b ∷ c ∷ rest) =
     else if not (b == MANY_EMPTY) then with_token (single b) (tokens_at (place + 1) (c ∷ rest))
     else if is_character c then with_token (long_gap c) (tokens_at (place + 2) rest)
     else Err (ShortRun place)
-
--- the text begins with a token, and behind it is the rest
-pub record Begins (text : List ℕ) (token : Token) (rest : List ℕ) : Type 0 where
-  pub is_token : IsToken token
-  pub spelled : text ≡ spelling token ++ rest
-
--- a character stands at the front of a text
-abbrev pub has_character : List ℕ → Bool
-has_character [] = false
-has_character (c ∷ rest) = is_character c
-
--- no token begins the text: a character at its front is a `y` with none behind it
-abbrev pub IsStuck : List ℕ → Type 0
-IsStuck [] = Unit {0}
-IsStuck (b ∷ rest) = is_character b ≡ true → (b ≡ MANY_EMPTY) × (has_character rest ≡ false)
-
--- what is wrong where no token begins, at this place
-abbrev pub fault_at : ℕ → List ℕ → Option WechslerFault
-fault_at place [] = None
-fault_at place (b ∷ rest) = Some (if is_character b then ShortRun place else BadByte place)
-
--- the token is a column, which has a live cell
-abbrev pub is_column : Token → Bool
-is_column (Column value) = true
-is_column (Gap n) = false
-is_column NextStrip = false
 
 -- a pattern has a cell
 abbrev pub unless_empty : List Cell → Result (List Cell) WechslerFault

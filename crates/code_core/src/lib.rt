@@ -7,10 +7,10 @@ pub mod apgcode;
 pub mod cycle;
 /// The names of patterns that recur.
 pub mod name;
-/// When a pattern comes back.
-pub mod recurrence;
 /// How the text of a pattern is read.
 pub mod reader;
+/// When a pattern comes back.
+pub mod recurrence;
 mod token;
 /// The text of a pattern.
 pub mod wechsler;

@@ -4,7 +4,8 @@ ghost use Rattle.plane_core.specs.declared.cell.Cell.{Cell};
 ghost use Rattle.plane_core.specs.Cells.{cell_at};
 ghost use Rattle.code_core.specs.Columns.{is_lit, lit_cells, cells_from, cells_of};
 ghost use Rattle.code_core.specs.Tokens.{IsToken, Spells};
-ghost use Rattle.code_core.specs.Reading.{Begins, IsStuck, fault_at, is_column, wechsler_pattern, wechsler_read, is_character, character_value, single, Says, IsBadByte, IsShortRun, TextsAreRead};
+ghost use Rattle.code_core.specs.Reading.{wechsler_pattern, wechsler_read, is_character, character_value, single, Says, IsBadByte, IsShortRun, TextsAreRead};
+ghost use Rattle.code_core.specs.ReadingSteps.{Begins, IsStuck, fault_at, is_column};
 ghost use Rattle.code_core.specs.declared.token.Token.{Token};
 ghost use Rattle.code_core.specs.declared.reader.WechslerFault.{WechslerFault};
 ghost use Rattle.code_core.specs.declared.reader.WechslerFault.TheVariants.{TooLong, BadByte, ShortRun, Empty};
@@ -17,7 +18,7 @@ use plane_core::pattern::{FromCellsError, Pattern};
 use std::alloc::{AllocError, Global};
 use thiserror::Error;
 
-/// How many bytes a text that is read may have.
+/// How many bytes a text that is read may have. A text of so many stays within the bound of the plane.
 pub const TEXT_LIMIT: usize = 10_000;
 
 /// A run of one empty column.
@@ -71,6 +72,7 @@ impl From<AllocError> for WechslerError {
     }
 }
 
+/// Whether a byte is one of `0` to `9` and `a` to `z`.
 #[tactic(auto, unfolding(crate::specs::Reading::is_character))]
 fn is_character(byte: u8) -> bool
     ensures { result ≡ is_character byte }
@@ -78,15 +80,21 @@ fn is_character(byte: u8) -> bool
     byte.is_ascii_digit() || byte.is_ascii_lowercase()
 }
 
+/// The value of a character, 0 to 35.
 #[tactic(auto, unfolding(crate::specs::Reading::is_character, crate::specs::Reading::character_value))]
 fn character_value(byte: u8) -> u8
     requires { is_character byte ≡ true }
     ensures value { result ≡ character_value byte }
     ensures bound { result ≤ 35 }
 {
-    if byte < 58 { byte - b'0' } else { byte - 87 }
+    if byte.is_ascii_digit() {
+        byte - b'0'
+    } else {
+        byte - b'a' + 10
+    }
 }
 
+/// The token of a character other than `y`.
 #[tactic(auto, unfolding(crate::specs::Reading::single))]
 fn single(byte: u8) -> Token
     requires { is_character byte ≡ true }
@@ -102,7 +110,7 @@ fn single(byte: u8) -> Token
 }
 
 /// The first token of a text, and what is behind it. There is none where the text is empty or begins with a fault.
-#[tactic(auto, using(crate::proofs::ReadingLemmas::Begins_single, crate::proofs::ReadingLemmas::Begins_long_gap))]
+#[tactic(auto, using(crate::proofs::ReadingLemmas::Begins_long_gap))]
 fn first_token(text: &[u8]) -> Option<(Token, &[u8])>
     ensures token { IfSome result (λ first. Begins text.now first.0 first.1.now) }
     ensures none { IfNone result (IsStuck text.now) }
@@ -133,6 +141,7 @@ fn fault_at(place: usize, rest: &[u8]) -> Option<WechslerFault>
     }
 }
 
+/// Whether a token is a column with a live cell.
 fn is_column(token: Token) -> bool
     ensures { result ≡ is_column token }
 {
@@ -140,7 +149,7 @@ fn is_column(token: Token) -> bool
 }
 
 /// What is wrong with a text that isn't too long.
-#[tactic(auto, using(crate::proofs::ReadingLemmas::shorter, crate::proofs::ReaderLoops::Passed_none, crate::proofs::ReaderLoops::Passed_more, crate::proofs::ReaderLoops::Passed_fault, crate::proofs::ReaderLoops::Passed_empty, crate::proofs::ReaderLoops::Passed_cells))]
+#[tactic(auto, using(crate::proofs::ReadingLemmas::shorter, crate::proofs::ReaderLoops::Passed_none, crate::proofs::ReaderLoops::Passed_more))]
 fn fault_in(text: &[u8]) -> Option<WechslerFault>
     ensures { result ≡ result_err (wechsler_pattern text.now) }
 {
@@ -177,8 +186,8 @@ fn is_lit(value: u8, i: u32) -> bool
 
 /// The cell in row i of the strip.
 fn cell_of(head: Head, i: u32) -> Cell
-    requires strip { head.strip ≤ 10000 }
-    requires column { head.x ≤ 400000 }
+    requires strip { head.strip ≤ TEXT_LIMIT }
+    requires column { head.x ≤ 39 * TEXT_LIMIT }
     requires row { i < 5 }
     ensures { result ≡ cell_at (pos head.x) (pos (5 * head.strip + i)) }
 {
@@ -191,8 +200,8 @@ fn cell_of(head: Head, i: u32) -> Cell
 /// Adds the cells of a column.
 #[tactic(auto, using(crate::proofs::ReaderCells::lit))]
 fn push_column(cells: &mut Vec<Cell>, head: Head, value: u8) -> Result<(), AllocError>
-    requires strip { head.strip ≤ 10000 }
-    requires column { head.x ≤ 400000 }
+    requires strip { head.strip ≤ TEXT_LIMIT }
+    requires column { head.x ≤ 39 * TEXT_LIMIT }
     ensures { OnOk result (cells.new.items ≡ cells.old.items ++ lit_cells head.strip head.x value) }
 {
     for i in 0..5 {
@@ -205,8 +214,8 @@ fn push_column(cells: &mut Vec<Cell>, head: Head, value: u8) -> Result<(), Alloc
 
 /// Adds the cells of a token, and says where the column behind it stands.
 fn push_token(cells: &mut Vec<Cell>, head: Head, token: Token) -> Result<Head, AllocError>
-    requires strip { head.strip ≤ 10000 }
-    requires column { head.x ≤ 400000 }
+    requires strip { head.strip ≤ TEXT_LIMIT }
+    requires column { head.x ≤ 39 * TEXT_LIMIT }
     requires token { IsToken token }
     ensures cells { IfOk result (λ next. (tokens : List Token) →
         cells.new.items ++ cells_from next.strip next.x tokens
@@ -301,9 +310,10 @@ pub fn read_wechsler(alloc: Global, text: &str) -> Result<Pattern, WechslerError
     ensures fault { (fault : WechslerFault) →
         IsErrOf result (WechslerError.Fault fault) ↔ (wechsler_read text.now ≡ Err fault) }
 
-    // A text says one pattern at most, which is read.
+    // What is read is what the text says, and each pattern that a text says is read.
     ensures says { IfOk result (Says text.now) }
-    ensures only { IfOk result (λ read. (cells : List Cell) → Says text.now cells → read ≡ cells) }
+    ensures complete { (cells : List Cell) → Says text.now cells → cells ≢ [] → length text.now ≤ TEXT_LIMIT
+        → MatchResult result (λ read. read ≡ cells) (λ error. error ≡ Memory) }
 
     // Which fault it is.
     ensures too_long { IsErrOf result (WechslerError.Fault TooLong) ↔ (TEXT_LIMIT < length text.now) }
@@ -322,3 +332,6 @@ pub fn read_wechsler(alloc: Global, text: &str) -> Result<Pattern, WechslerError
 pub fn texts_are_read()
     ensures { TextsAreRead }
 {}
+
+#[cfg(test)]
+mod tests;

@@ -1,5 +1,5 @@
 use Rattle.std.proofs.Common.{length, ◌-◌, rules, sym}
-use Rattle.code_core.specs.Reading.{IsStuck}
+use Rattle.code_core.specs.ReadingSteps.{IsStuck}
 use Rattle.code_core.proofs.ReaderLoops.{Passed_fault, Passed_empty, Passed_cells}
 use Rattle.code_core.proofs.reader.fault_in.Goals as goal
 

@@ -5,7 +5,7 @@ use Rattle.code_core.specs.declared.reader.WechslerError.TheVariants.{Fault}
 use Rattle.code_core.specs.declared.reader.WechslerFault.TheVariants.{TooLong, BadByte, ShortRun, Empty}
 use Rattle.code_core.specs.declared.reader.TheConstants.{TEXT_LIMIT}
 use Rattle.code_core.specs.Reading.{wechsler_read, Says, IsBadByte, IsShortRun}
-use Rattle.code_core.proofs.ReadingLaws.{Says-read, Says-only, too_long, no_cell, bad_byte, short_run, told}
+use Rattle.code_core.proofs.ReadingLaws.{Says-read, wechsler_read-Says, read_as, too_long, no_cell, bad_byte, short_run, told}
 use Rattle.code_core.proofs.reader.read_wechsler.Goals as goal
 
 pub returns-clause-fault : goal.returns-clause-fault
@@ -16,10 +16,10 @@ returns-clause-says c =
     let ok = subst (λ (t : List ℕ). IfOk c.read.result (λ read. wechsler_read t ≡ Ok read)) c.as_bytes.ensures.value c.read.ensures.pattern in
     IfOk-weaker c.read.result _ _ (λ read e. Says-read c.args.text.now read e) ok
 
-pub returns-clause-only : goal.returns-clause-only
-returns-clause-only c =
+pub returns-clause-complete : goal.returns-clause-complete
+returns-clause-complete c = λ cells s some short.
     let ok = subst (λ (t : List ℕ). IfOk c.read.result (λ read. wechsler_read t ≡ Ok read)) c.as_bytes.ensures.value c.read.ensures.pattern in
-    IfOk-weaker c.read.result _ _ (λ read e cells s. Says-only c.args.text.now read cells (Says-read c.args.text.now read e) s) ok
+    read_as c.args.text.now c.read.result cells ok (returns-clause-fault c) (wechsler_read-Says c.args.text.now cells s some short)
 
 pub returns-clause-too_long : goal.returns-clause-too_long
 returns-clause-too_long c = told (TEXT_LIMIT < length c.args.text.now) c.args.text.now c.read.result TooLong (returns-clause-fault c TooLong) (too_long c.args.text.now)

@@ -1,0 +1,35 @@
+-- How a reader goes along a text, token by token (LifeWiki, "Apgcode").
+use Rattle.std.specs.Prelude.{◌≡◌, ℕ, Bool, false, true, List, [], ◌∷◌, ◌++◌, Option, None, Some, if◌then◌else◌}
+use Rattle.code_core.specs.declared.token.Token.{Token}
+use Rattle.code_core.specs.declared.token.Token.TheVariants.{Column, Gap, NextStrip}
+use Rattle.code_core.specs.declared.reader.WechslerFault.{WechslerFault}
+use Rattle.code_core.specs.declared.reader.WechslerFault.TheVariants.{BadByte, ShortRun}
+use Rattle.code_core.specs.declared.reader.TheConstants.{MANY_EMPTY}
+use Rattle.code_core.specs.Tokens.{spelling, IsToken}
+use Rattle.code_core.specs.Reading.{is_character}
+
+-- the text begins with a token, and behind it is the rest
+pub record Begins (text : List ℕ) (token : Token) (rest : List ℕ) : Type 0 where
+  pub is_token : IsToken token
+  pub spelled : text ≡ spelling token ++ rest
+
+-- a character stands at the front of a text
+abbrev pub has_character : List ℕ → Bool
+has_character [] = false
+has_character (c ∷ rest) = is_character c
+
+-- no token begins the text: a character at its front is a `y` with none behind it
+abbrev pub IsStuck : List ℕ → Type 0
+IsStuck [] = Unit {0}
+IsStuck (b ∷ rest) = is_character b ≡ true → (b ≡ MANY_EMPTY) × (has_character rest ≡ false)
+
+-- what is wrong where no token begins, at this place
+abbrev pub fault_at : ℕ → List ℕ → Option WechslerFault
+fault_at place [] = None
+fault_at place (b ∷ rest) = Some (if is_character b then ShortRun place else BadByte place)
+
+-- the token is a column, which has a live cell
+abbrev pub is_column : Token → Bool
+is_column (Column value) = true
+is_column (Gap n) = false
+is_column NextStrip = false
