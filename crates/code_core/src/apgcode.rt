@@ -107,11 +107,12 @@ impl Apgcode {
     pub fn copy(&self, alloc: Global) -> Result<Apgcode, AllocError>
         ensures { IfOk result (λ code. code ≡ self.now) }
     {
-        let text = String::from_str(alloc, self.text.as_str())?;
+        let Apgcode { text, kind, number } = self;
+        let text = String::from_str(alloc, text.as_str())?;
         Ok(Apgcode {
             text,
-            kind: self.kind,
-            number: self.number,
+            kind: *kind,
+            number: *number,
         })
     }
 }
