@@ -10,5 +10,5 @@ returns c =
     let b = c.args.bounds in
     let right = distance b.left b.right in
     let bottom = distance b.top b.bottom in
-    let all : c.loop-k.k ≡ bottom / 5 + 1 = omega (arith, c.last_row.ensures) in
+    let all : c.loop-k.k ≡ bottom / 5 + 1 = omega arith in
     c.loop-k.invariant ∙ ap (strips_text cells (right + 1)) all ∙ sym (strips_are cells right bottom)
