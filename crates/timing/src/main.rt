@@ -1,13 +1,17 @@
-//! Finds the clusters of a plaintext pattern from standard input as often as its one word says, and prints how many
-//! there are: a program for `bench/run` to time.
+//! Names a plaintext pattern from standard input, or finds its clusters, as often as its words say: a program for
+//! `bench/run` to time. `timing clusters N` prints how many clusters there are, and `timing names N` the name.
 #![tactic(auto)]
 
 ghost use Rattle.std.specs.Prelude.{◌≡◌, IfOk, List, length};
 ghost use Rattle.plane_core.specs.Clusters.{AreClusters};
 ghost use Rattle.plane_core.specs.declared.cell.Cell.{Cell};
 
+use code_core::apgcode::Apgcode;
+use code_core::name::name;
 use plane_core::clusters::clusters_are_determined;
+use plane_core::generation::StepError;
 use plane_core::pattern::Pattern;
+use plane_core::rule::Rule;
 use std::alloc::{AllocError, Global};
 use std::env;
 use std::io::{self, Read};
@@ -21,23 +25,48 @@ fn cluster_count(alloc: Global, pattern: &Pattern) -> Result<usize, AllocError>
     Ok(clusters.len())
 }
 
-/// The first word behind the program's name, as a number: 1 where there is none.
-fn times(rt: &HostRuntime) -> io::Result<u32> {
-    let words: Vec<String> = env::args(rt)?.collect(rt.alloc())?;
-    let times = words.get(1).and_then(|word| word.as_str().parse().ok());
-    Ok(times.unwrap_or(1))
+/// The name of the pattern in Life, if it has a cell and comes back within 64 generations.
+fn name_in_life(alloc: Global, pattern: &Pattern) -> Result<Option<Apgcode>, StepError> {
+    if pattern.population() == 0 {
+        return Ok(None);
+    }
+    name(alloc, pattern, &Rule::life(), 64)
+}
+
+/// Finds the clusters so many times, and prints their number.
+fn find_clusters(rt: &HostRuntime, pattern: &Pattern, times: u32) -> io::Result<()> {
+    let mut count = 0;
+    for _ in 0..times {
+        count = cluster_count(rt.alloc(), pattern)?;
+    }
+    println!(rt; "{count}")
+}
+
+/// Names the pattern so many times, and prints the name.
+fn find_names(rt: &HostRuntime, pattern: &Pattern, times: u32) -> io::Result<()> {
+    let mut found = Ok(None);
+    for _ in 0..times {
+        found = name_in_life(rt.alloc(), pattern);
+    }
+    match found {
+        Ok(Some(code)) => println!(rt; "{}", code.text()),
+        Ok(None) => println!(rt; "no name"),
+        Err(error) => println!(rt; "{error}"),
+    }
 }
 
 fn main(rt: HostRuntime) -> io::Result<()> {
     let alloc = rt.alloc();
+    let words: Vec<String> = env::args(&rt)?.collect(alloc)?;
     let mut input = Vec::new(alloc);
     rt.stdin().read_to_end(&mut input)?;
     let Ok(pattern) = Pattern::read_plaintext(alloc, input.as_slice()) else {
         return println!(rt; "no pattern");
     };
-    let mut count = 0;
-    for _ in 0..times(&rt)? {
-        count = cluster_count(alloc, &pattern)?;
+    let times = words.get(2).and_then(|word| word.as_str().parse().ok());
+    let times = times.unwrap_or(1);
+    match words.get(1).map(|word| word.as_str()) {
+        Some("names") => find_names(&rt, &pattern, times),
+        _ => find_clusters(&rt, &pattern, times),
     }
-    println!(rt; "{count}")
 }
