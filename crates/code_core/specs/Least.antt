@@ -1,11 +1,12 @@
 -- How the least text of a pattern's images is looked for.
-use Rattle.std.specs.Prelude.{◌≡◌, ◌<◌, ℕ, List, [], ◌∷◌, get_or, Option, None, Some}
+use Rattle.std.specs.Prelude.{◌≡◌, ◌<◌, ℕ, List, [], ◌∷◌, get_or, length, Option, None, Some}
 use Rattle.std.specs.Ordering.{match_ordering}
 use Rattle.plane_core.specs.declared.cell.Cell.{Cell}
 use Rattle.plane_core.specs.declared.orientation.Orientation.{Orientation}
 use Rattle.plane_core.specs.declared.orientation.Orientation.TheVariants.{Same, Quarter, Half, ThreeQuarter, Mirror, Flip, Diagonal, AntiDiagonal}
 use Rattle.plane_core.specs.Orientations.{turned}
-use Rattle.code_core.specs.Codes.{text_cmp}
+use Rattle.code_core.specs.declared.cycle.Recurrence.{Recurrence}
+use Rattle.code_core.specs.Codes.{TellsLeast, code_text, kind_of, number_of, text_cmp}
 use Rattle.code_core.specs.Texts.{text}
 
 -- the earlier of two texts, where there are two
@@ -33,3 +34,9 @@ IsImage cells t = (o : Orientation) × (text (turned o cells) ≡ Some t)
 -- the text of the phase at place k in some orientation
 abbrev pub IsImageOf : List (List Cell) → ℕ → List ℕ → Type 0
 IsImageOf phases k t = IsImage (get_or phases k []) t
+
+-- the name of a pattern with these phases, which comes back so
+pub record IsNameBy (cells : List Cell) (phases : List (List Cell)) (r : Recurrence) (code : List ℕ) : Type 0 where
+  pub least : Option (List ℕ)
+  pub tells : TellsLeast (Among (IsImageOf phases) (length phases)) least
+  pub spelled : code ≡ code_text (kind_of r) (number_of (kind_of r) cells r) least

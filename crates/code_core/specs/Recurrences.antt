@@ -1,5 +1,5 @@
 -- When a pattern comes back, where it was or elsewhere (LifeWiki, "Oscillator" and "Spaceship").
-use Rattle.std.specs.Prelude.{◌≡◌, ◌≢◌, ◌<◌, ◌≤◌, ℕ, ℤ, false, List, map}
+use Rattle.std.specs.Prelude.{◌≡◌, ◌≢◌, ◌<◌, ◌≤◌, ℕ, ℤ, true, false, List, map}
 use Rattle.std.specs.List.{range_with_len}
 use Rattle.plane_core.specs.declared.cell.Cell.{Cell}
 use Rattle.plane_core.specs.Bounds.{shifted}
@@ -17,6 +17,14 @@ pub record Recurs (rule : Numbers) (cells : List Cell) (limit : ℕ) (r : Recurr
   pub within : r.period ≤ limit
   pub back : after rule cells r.period ≡ shifted r.dx r.dy cells
   pub least : (p : ℕ) (dx dy : ℤ) → 1 ≤ p → p < r.period → after rule cells p ≢ shifted dx dy cells
+
+-- a generation below the limit, up to which the pattern isn't itself again, touches the edge of the plane
+abbrev pub MeetsEdge : Numbers → List Cell → ℕ → Type 0
+MeetsEdge rule cells limit = (g : ℕ) × (g < limit) × IsNew rule cells g × (touches_edge (after rule cells g) ≡ true)
+
+-- no such generation does
+abbrev pub StaysInside : Numbers → List Cell → ℕ → Type 0
+StaysInside rule cells limit = (g : ℕ) → g < limit → IsNew rule cells g → touches_edge (after rule cells g) ≡ false
 
 -- the first n generations, from the pattern itself on
 unfoldable pub phases : Numbers → List Cell → ℕ → List (List Cell)

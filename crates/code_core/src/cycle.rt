@@ -1,6 +1,5 @@
 ghost use Rattle.std.specs.Prelude.{◌≡◌, ◌≢◌, ◌++◌, ◌<◌, ◌≤◌, ℕ, suc, [], ◌∷◌, true, false, IfOk, IfSome, IfNone, OnOk, IsErrOf};
-ghost use Rattle.plane_core.specs.Generations.{after, touches_edge};
-ghost use Rattle.code_core.specs.Recurrences.{IsNew, Recurs, phases};
+ghost use Rattle.code_core.specs.Recurrences.{IsNew, MeetsEdge, Recurs, StaysInside, phases};
 
 use plane_core::generation::StepError;
 use plane_core::pattern::Pattern;
@@ -33,9 +32,8 @@ pub(crate) fn follow(
     ensures recurs { IfOk result (λ found. IfSome found (λ cycle. Recurs rule.now pattern.now limit cycle.recurrence)) }
     ensures phases { IfOk result (λ found. IfSome found (λ cycle. cycle.phases.items ≡ phases rule.now pattern.now cycle.recurrence.period)) }
     ensures never { IfOk result (λ found. IfNone found (IsNew rule.now pattern.now limit)) }
-    ensures inside { OnOk result ((g : ℕ) → g < limit → IsNew rule.now pattern.now g → touches_edge (after rule.now pattern.now g) ≡ false) }
-    ensures edge { IsErrOf result StepError.Edge → (g : ℕ) × (g < limit) × IsNew rule.now pattern.now g
-        × (touches_edge (after rule.now pattern.now g) ≡ true) }
+    ensures inside { OnOk result (StaysInside rule.now pattern.now limit) }
+    ensures edge { IsErrOf result StepError.Edge → MeetsEdge rule.now pattern.now limit }
 {
     let mut phases = Vec::new(alloc);
     let mut latest = pattern.copy(alloc)?;

@@ -1,11 +1,10 @@
 ghost use Rattle.std.specs.Prelude.{List, Option, ◌≡◌, ◌≢◌, ◌<◌, ◌≤◌, ℕ, [], Some, true, false, length, IfOk, IfSome, IfNone, OnOk, IsErrOf, IsTrue, ◌↔◌, option_map, string_bytes};
 ghost use Rattle.std.specs.Ordering.{is_gt};
 ghost use Rattle.std.specs.Cmp.{IsTotalOrder};
-ghost use Rattle.plane_core.specs.Generations.{after, touches_edge};
 ghost use Rattle.plane_core.specs.Orientations.{turned};
 ghost use Rattle.code_core.specs.Codes.{CodesAreDetermined, CodesLater, CodesMoved, CodesTurned, IsCode, TellsLeast, code_text, kind_of, number_of, text_cmp};
-ghost use Rattle.code_core.specs.Least.{Among, IsImage, IsImageAt, IsImageOf, earlier_of, orientations};
-ghost use Rattle.code_core.specs.Recurrences.{IsNew};
+ghost use Rattle.code_core.specs.Least.{Among, IsImage, IsImageAt, IsImageOf, IsNameBy, earlier_of, orientations};
+ghost use Rattle.code_core.specs.Recurrences.{IsNew, MeetsEdge, StaysInside};
 ghost use Rattle.code_core.specs.Texts.{text};
 
 use crate::apgcode::{Apgcode, Kind};
@@ -54,12 +53,12 @@ pub fn name(
     limit: u32,
 ) -> Result<Option<Apgcode>, StepError>
     requires pattern { pattern.now ≢ [] }
-    requires limit { (1 ≤ limit) × (limit ≤ 64) }
+    requires least { 1 ≤ limit }
+    requires most { limit ≤ 64 }
     ensures code { IfOk result (λ found. IfSome found (IsCode rule.now pattern.now limit)) }
     ensures never { IfOk result (λ found. IfNone found (IsNew rule.now pattern.now limit)) }
-    ensures inside { OnOk result ((g : ℕ) → g < limit → IsNew rule.now pattern.now g → touches_edge (after rule.now pattern.now g) ≡ false) }
-    ensures edge { IsErrOf result StepError.Edge → (g : ℕ) × (g < limit) × IsNew rule.now pattern.now g
-        × (touches_edge (after rule.now pattern.now g) ≡ true) }
+    ensures inside { OnOk result (StaysInside rule.now pattern.now limit) }
+    ensures edge { IsErrOf result StepError.Edge → MeetsEdge rule.now pattern.now limit }
 {
     match follow(alloc, pattern, rule, limit)? {
         Some(cycle) => Ok(Some(name_of(alloc, pattern, &cycle)?)),
@@ -88,8 +87,7 @@ pub fn codes_are_of_objects()
 
 /// The name of a pattern whose phases are known.
 fn name_of(alloc: Global, pattern: &Pattern, cycle: &Cycle) -> Result<Apgcode, AllocError>
-    ensures { IfOk result (λ code. (least : Option (List ℕ)) × TellsLeast (Among (IsImageOf cycle.now.phases.items) (length cycle.now.phases.items)) least
-        × (code ≡ code_text (kind_of cycle.now.recurrence) (number_of (kind_of cycle.now.recurrence) pattern.now cycle.now.recurrence) least)) }
+    ensures { IfOk result (IsNameBy pattern.now cycle.now.phases.items cycle.now.recurrence) }
 {
     let least = least_text(alloc, cycle.phases.as_slice())?;
     let kind = kind_of(cycle.recurrence);

@@ -1,6 +1,5 @@
 ghost use Rattle.std.specs.Prelude.{◌≡◌, ◌≢◌, ◌<◌, ◌≤◌, ℕ, [], true, false, IfOk, IfSome, IfNone, OnOk, IsErrOf};
-ghost use Rattle.plane_core.specs.Generations.{after, touches_edge};
-ghost use Rattle.code_core.specs.Recurrences.{IsNew, Recurs};
+ghost use Rattle.code_core.specs.Recurrences.{IsNew, MeetsEdge, Recurs, StaysInside};
 
 use crate::cycle::{Recurrence, follow};
 use plane_core::generation::StepError;
@@ -22,12 +21,12 @@ pub fn recurrence(
     limit: u32,
 ) -> Result<Option<Recurrence>, StepError>
     requires pattern { pattern.now ≢ [] }
-    requires limit { (1 ≤ limit) × (limit ≤ 64) }
+    requires least { 1 ≤ limit }
+    requires most { limit ≤ 64 }
     ensures recurs { IfOk result (λ found. IfSome found (Recurs rule.now pattern.now limit)) }
     ensures never { IfOk result (λ found. IfNone found (IsNew rule.now pattern.now limit)) }
-    ensures inside { OnOk result ((g : ℕ) → g < limit → IsNew rule.now pattern.now g → touches_edge (after rule.now pattern.now g) ≡ false) }
-    ensures edge { IsErrOf result StepError.Edge → (g : ℕ) × (g < limit) × IsNew rule.now pattern.now g
-        × (touches_edge (after rule.now pattern.now g) ≡ true) }
+    ensures inside { OnOk result (StaysInside rule.now pattern.now limit) }
+    ensures edge { IsErrOf result StepError.Edge → MeetsEdge rule.now pattern.now limit }
 {
     let found = follow(alloc, pattern, rule, limit)?;
     Ok(found.map(|cycle| cycle.recurrence))

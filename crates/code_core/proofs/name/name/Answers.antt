@@ -15,8 +15,8 @@ returns-in_ok-name_of-in-Some-clause-code c =
     record {
       recurrence = c.in-Some.cycle.recurrence;
       recurs = recurs;
-      least = told.0;
-      tells = least_of_phases c.args.rule.now c.args.pattern.now c.in-Some.cycle.recurrence.period told.0
-          (subst (λ (each : List (List Cell)). TellsLeast (Among (IsImageOf each) (length each)) told.0) made told.1);
-      spelled = told.2;
+      least = told.least;
+      tells = least_of_phases c.args.rule.now c.args.pattern.now c.in-Some.cycle.recurrence.period told.least
+          (subst (λ (each : List (List Cell)). TellsLeast (Among (IsImageOf each) (length each)) told.least) made told.tells);
+      spelled = told.spelled;
     }
