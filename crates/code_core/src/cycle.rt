@@ -1,4 +1,4 @@
-ghost use Rattle.std.specs.Prelude.{◌≡◌, ◌≢◌, ◌++◌, ◌<◌, ◌≤◌, ℕ, suc, [], ◌∷◌, true, false, IfOk, IfSome, IfNone, OnOk, IsErrOf};
+ghost use Rattle.std.specs.Prelude.{◌≡◌, ◌≢◌, ◌++◌, ◌<◌, suc, [], ◌∷◌, IfOk, IfSome, IfNone, OnOk, IsErrOf};
 ghost use Rattle.code_core.specs.Recurrences.{IsNew, MeetsEdge, Recurs, StaysInside, phases};
 
 use plane_core::generation::StepError;

@@ -1,9 +1,8 @@
-ghost use Rattle.std.specs.Prelude.{List, Option, ◌≡◌, ◌≢◌, ◌<◌, ◌≤◌, ℕ, [], Some, true, false, length, IfOk, IfSome, IfNone, OnOk, IsErrOf, IsTrue, ◌↔◌, option_map, string_bytes};
-ghost use Rattle.std.specs.Ordering.{is_gt};
+ghost use Rattle.std.specs.Prelude.{Option, ◌≡◌, ◌≢◌, ◌<◌, ◌≤◌, [], Some, length, IfOk, IfSome, IfNone, OnOk, IsErrOf, option_map, string_bytes};
 ghost use Rattle.std.specs.Cmp.{IsTotalOrder};
 ghost use Rattle.plane_core.specs.Orientations.{turned};
-ghost use Rattle.code_core.specs.Codes.{CodesAreDetermined, CodesLater, CodesMoved, CodesTurned, IsCode, TellsLeast, code_text, kind_of, number_of, text_cmp};
-ghost use Rattle.code_core.specs.Least.{Among, IsImage, IsImageAt, IsImageOf, IsNameBy, earlier_of, orientations};
+ghost use Rattle.code_core.specs.Codes.{CodesAreDetermined, CodesLater, CodesMoved, CodesTurned, IsCode, TellsLeast, kind_of, number_of, text_cmp};
+ghost use Rattle.code_core.specs.Least.{Among, IsImageAt, IsImageOf, IsNameBy, earlier_of, orientations};
 ghost use Rattle.code_core.specs.Recurrences.{IsNew, MeetsEdge, StaysInside};
 ghost use Rattle.code_core.specs.Texts.{text};
 

@@ -1,8 +1,8 @@
-ghost use Rattle.std.specs.Prelude.{◌≡◌, ◌≢◌, ◌↔◌, ◌<◌, ◌≤◌, ◌+◌, ◌++◌, ◌∷◌, [], ℕ, List, Option, Some, None, Result, Ok, Err, true, false, length, IfOk, IfErr, OnOk, IsErrOf, drop, MatchOption, MatchResult, IfSome, IfNone, ◌*◌, pos};
+ghost use Rattle.std.specs.Prelude.{◌≡◌, ◌≢◌, ◌↔◌, ◌<◌, ◌≤◌, ◌+◌, ◌++◌, ◌∷◌, [], ℕ, List, Option, Some, None, Result, Ok, Err, true, false, length, IfOk, IfErr, OnOk, IsErrOf, MatchResult, IfSome, IfNone, ◌*◌, pos};
 ghost use Rattle.std.specs.Result.{result_err};
 ghost use Rattle.plane_core.specs.declared.cell.Cell.{Cell};
 ghost use Rattle.plane_core.specs.Cells.{cell_at};
-ghost use Rattle.code_core.specs.Columns.{is_lit, lit_cells, cells_from, cells_of};
+ghost use Rattle.code_core.specs.Columns.{is_lit, lit_cells, cells_from};
 ghost use Rattle.code_core.specs.Tokens.{IsToken, Spells};
 ghost use Rattle.code_core.specs.Reading.{wechsler_pattern, wechsler_read, is_character, character_value, single, Says, IsBadByte, IsShortRun, TextsAreRead};
 ghost use Rattle.code_core.specs.ReadingSteps.{Begins, IsStuck, fault_at, is_column};

@@ -1,4 +1,4 @@
-ghost use Rattle.std.specs.Prelude.{◌≡◌, ◌≢◌, ◌<◌, ◌≤◌, ℕ, [], true, false, IfOk, IfSome, IfNone, OnOk, IsErrOf};
+ghost use Rattle.std.specs.Prelude.{◌≢◌, ◌<◌, ◌≤◌, [], IfOk, IfSome, IfNone, OnOk, IsErrOf};
 ghost use Rattle.code_core.specs.Recurrences.{IsNew, MeetsEdge, Recurs, StaysInside};
 
 use crate::cycle::{Recurrence, follow};
