@@ -17,3 +17,4 @@ pub mod TextLaw
 pub mod TextLemmas
 pub mod TokenCells
 pub mod TurnedCodes
+pub mod WholeGaps

@@ -23,5 +23,5 @@ texts_are_read cells t order is =
     let spelled = texts_spell_patterns cells t order is in
     looked_at t (texts_are_short cells t is)
     ∙ ap pattern_of (tokens_at-Spells spelled.0 t 0 spelled.1)
-    ∙ ap unless_empty spelled.2
+    ∙ ap unless_empty spelled.3
     ∙ not_empty cells t is

@@ -18,6 +18,7 @@ use Rattle.code_core.specs.Columns.{cells_of}
 use Rattle.code_core.specs.Texts.{TextsAreShort, TextsSpellPatterns, boxed_text, is_small, text, tokens_of}
 use Rattle.code_core.proofs.StripLemmas.{spelled}
 use Rattle.code_core.proofs.TextLemmas.{tokens_of-lawful, tokens_of-short}
+use Rattle.code_core.proofs.WholeGaps.{tokens_of-whole}
 use Rattle.code_core.proofs.TokenCells.{box_cells, cells_from-joined, column_cells, strip_cells}
 
 -- ---- the box has each cell in its columns and rows
@@ -125,6 +126,7 @@ texts_spell_patterns cells t o e =
     let bottom = distance b.top b.bottom in (
       corner_tokens cells b,
       record { each = tokens_of-lawful (at_corner cells) right bottom (small_sides b f.2).0; spelled = f.3 },
+      tokens_of-whole (at_corner cells) right bottom,
       cells_of-tokens (at_corner cells) right bottom (in_order-corner cells b f.1 o) (inside-corner cells b f.1),
     )
 

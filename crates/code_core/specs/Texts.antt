@@ -53,10 +53,24 @@ boxed_text cells (Some b) =
 unfoldable pub text : List Cell → Option (List ℕ)
 text cells = boxed_text cells (box_of cells)
 
--- each text is that of tokens whose cells are the pattern, moved to the corner
+-- a column with a live cell stands first
+abbrev pub BeginsWithColumn : List Token → Type 0
+BeginsWithColumn [] = ⊥
+BeginsWithColumn (Gap n ∷ tokens) = ⊥
+BeginsWithColumn (Column value ∷ tokens) = Unit {0}
+BeginsWithColumn (NextStrip ∷ tokens) = ⊥
+
+-- such a column stands behind each gap: no run of empty columns is in pieces, and none ends a strip
+abbrev pub GapsAreWhole : List Token → Type 0
+GapsAreWhole [] = Unit {0}
+GapsAreWhole (Gap n ∷ tokens) = BeginsWithColumn tokens × GapsAreWhole tokens
+GapsAreWhole (Column value ∷ tokens) = GapsAreWhole tokens
+GapsAreWhole (NextStrip ∷ tokens) = GapsAreWhole tokens
+
+-- each text is that of tokens whose gaps are whole, and whose cells are the pattern, moved to the corner
 abbrev pub TextsSpellPatterns : Type 0
 TextsSpellPatterns = (cells : List Cell) (t : List ℕ) → InOrder cells → text cells ≡ Some t
-    → (tokens : List Token) × Spells tokens t × (cells_of tokens ≡ at_corner cells)
+    → (tokens : List Token) × Spells tokens t × GapsAreWhole tokens × (cells_of tokens ≡ at_corner cells)
 
 -- no text has over 10,000 bytes
 abbrev pub TextsAreShort : Type 0

@@ -42,8 +42,8 @@ pub fn wechsler(alloc: Global, pattern: &Pattern) -> Result<Option<String>, Allo
     Ok(Some(text_in(alloc, pattern, bounds)?))
 }
 
-/// The laws of the texts of all patterns: each is that of tokens whose cells are the pattern, moved to the corner, and
-/// none has over 10,000 bytes.
+/// The laws of the texts of all patterns: each is that of tokens whose cells are the pattern, moved to the corner, with
+/// each run of empty columns in one piece and none at a strip's end; and none has over 10,000 bytes.
 #[tactic(auto, using(crate::proofs::TextLaw::texts_spell_patterns, crate::proofs::TextLaw::texts_are_short))]
 pub fn texts_spell_patterns()
     ensures spell { TextsSpellPatterns }
