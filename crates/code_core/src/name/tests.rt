@@ -1,6 +1,10 @@
+ghost use Rattle.std.specs.Prelude.{◌≢◌, ◌≤◌, [], IfOk};
+
 use super::*;
 use crate::recurrence::recurrence;
 use plane_core::cell::Cell;
+use plane_core::pattern::FromCellsError;
+use plane_core::plaintext::PlaintextError;
 use std::test::Fail;
 
 const PULSAR: &str =
@@ -13,16 +17,42 @@ const LIGHTWEIGHT_SPACESHIP: &str = ".O..O\nO....\nO...O\nOOOO.";
 
 const EATER: &str = "..OO\n..O.\nO.O.\nOO..";
 
-/// The name of a picture under a rule as text, `none` where it has none.
-fn named(alloc: Global, picture: &str, rule: &str, limit: u32) -> Result<String, Fail> {
+/// The pattern of a picture that has a cell.
+fn drawn(alloc: Global, picture: &str) -> Result<Pattern, PlaintextError>
+    ensures { IfOk result (λ pattern. pattern ≢ []) }
+{
     let pattern = Pattern::read_plaintext(alloc, picture.as_bytes())?;
+    if pattern.cells().is_empty() {
+        return Err(PlaintextError::Memory);
+    }
+    Ok(pattern)
+}
+
+/// The pattern of some cells, one at least.
+fn placed(alloc: Global, cells: &[Cell]) -> Result<Pattern, FromCellsError>
+    ensures { IfOk result (λ pattern. pattern ≢ []) }
+{
+    let pattern = Pattern::from_cells(alloc, cells)?;
+    if pattern.cells().is_empty() {
+        return Err(FromCellsError::Memory);
+    }
+    Ok(pattern)
+}
+
+/// The name of a picture under a rule as text, `none` where it has none.
+fn named(alloc: Global, picture: &str, rule: &str, limit: u32) -> Result<String, Fail>
+    requires least { 1 ≤ limit }
+    requires most { limit ≤ 64 }
+{
+    let pattern = drawn(alloc, picture)?;
     name_text(alloc, &pattern, &Rule::read(rule)?, limit)
 }
 
-fn name_text(alloc: Global, pattern: &Pattern, rule: &Rule, limit: u32) -> Result<String, Fail> {
-    if pattern.cells().is_empty() || limit < 1 || limit > 64 {
-        return Ok(String::from_str(alloc, "not asked")?);
-    }
+fn name_text(alloc: Global, pattern: &Pattern, rule: &Rule, limit: u32) -> Result<String, Fail>
+    requires pattern { pattern.now ≢ [] }
+    requires least { 1 ≤ limit }
+    requires most { limit ≤ 64 }
+{
     let text = match name(alloc, pattern, rule, limit)? {
         Some(code) => String::from_str(alloc, code.text())?,
         None => String::from_str(alloc, "none")?,
@@ -103,12 +133,12 @@ fn names_what_is_too_large_for_a_text(rt: HostRuntime) -> Result<(), Fail> {
             cells.push(Cell { y, x })?;
         }
     }
-    let blocks = Pattern::from_cells(rt.alloc(), cells.as_slice())?;
+    let blocks = placed(rt.alloc(), cells.as_slice())?;
     assert_eq!(rt;
         name_text(rt.alloc(), &blocks, &Rule::life(), 64)?.as_str(),
         "ov_s56"
     );
-    let far = Pattern::from_cells(
+    let far = placed(
         rt.alloc(),
         &[Cell { y: 0, x: -900_000 }, Cell { y: 0, x: 900_000 }],
     )?;
@@ -138,27 +168,21 @@ fn tells_when_a_pattern_comes_back(rt: HostRuntime) -> Result<(), Fail> {
         ("OOO", 2, Some((2, 0, 0))),
         (LIGHTWEIGHT_SPACESHIP, 64, Some((4, -2, 0))),
     ] {
-        let pattern = Pattern::read_plaintext(rt.alloc(), picture.as_bytes())?;
-        assert!(rt; !pattern.cells().is_empty());
-        let Some(_) = pattern.cells().first() else {
-            continue;
-        };
+        let pattern = drawn(rt.alloc(), picture)?;
         let told = recurrence(rt.alloc(), &pattern, &life, limit)?;
         assert_eq!(rt; told.map(|r| (r.period, r.dx, r.dy)), found);
     }
     Ok(())
 }
 
-// A block with a corner on the bound is never stepped on.
+// Two cells side by side, of which one lies on the bound, are never stepped on.
 #[test]
 fn stops_at_the_edge(rt: HostRuntime) -> Result<(), Fail> {
     let cells = [Cell { y: 0, x: 999_999 }, Cell { y: 0, x: 1_000_000 }];
-    let pattern = Pattern::from_cells(rt.alloc(), &cells)?;
-    if !pattern.cells().is_empty() {
-        let told = recurrence(rt.alloc(), &pattern, &Rule::life(), 1);
-        assert_eq!(rt; told, Err(StepError::Edge));
-        assert!(rt; name(rt.alloc(), &pattern, &Rule::life(), 64).err() == Some(StepError::Edge));
-    }
+    let pattern = placed(rt.alloc(), &cells)?;
+    let told = recurrence(rt.alloc(), &pattern, &Rule::life(), 1);
+    assert_eq!(rt; told, Err(StepError::Edge));
+    assert!(rt; name(rt.alloc(), &pattern, &Rule::life(), 64).err() == Some(StepError::Edge));
     Ok(())
 }
 
@@ -170,19 +194,14 @@ fn reads_a_name(rt: HostRuntime) -> Result<(), Fail> {
         (PENTADECATHLON, Kind::Oscillator, 15),
         (".O.\n..O\nOOO", Kind::Ship, 4),
     ] {
-        let pattern = Pattern::read_plaintext(rt.alloc(), picture.as_bytes())?;
-        if !pattern.cells().is_empty() {
-            let code = name(rt.alloc(), &pattern, &Rule::life(), 64)?;
-            assert!(rt; code.is_some());
-            let Some(code) = code else {
-                continue;
-            };
-            let same = code.copy(rt.alloc())?;
-            assert!(rt; same == code && same.cmp(&code) == Ordering::Equal);
-            assert_eq!(rt; same.text(), code.text());
-            assert_eq!(rt; same.kind(), kind);
-            assert_eq!(rt; same.number(), number);
-        }
+        let pattern = drawn(rt.alloc(), picture)?;
+        let code = name(rt.alloc(), &pattern, &Rule::life(), 64)?;
+        let code = code.expect(&rt, "a name");
+        let same = code.copy(rt.alloc())?;
+        assert!(rt; same == code && same.cmp(&code) == Ordering::Equal);
+        assert_eq!(rt; same.text(), code.text());
+        assert_eq!(rt; same.kind(), kind);
+        assert_eq!(rt; same.number(), number);
     }
     Ok(())
 }
