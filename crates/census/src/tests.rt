@@ -7,6 +7,8 @@ use std::io::{self, BufWriter, ErrorKind, Read, Write};
 use std::process::Abort;
 use std::test::Fail;
 
+mod show;
+
 const BLINKER: &[u8] = b"OOO\n";
 
 const UPRIGHT: &[u8] = b"O\nO\nO\n";
