@@ -88,9 +88,8 @@ fn refuses_texts(rt: HostRuntime) {
 #[test]
 fn refuses_long_texts(rt: HostRuntime) -> Result<(), Fail> {
     let long = "0".repeat(rt.alloc(), 9_999)?;
-    for (front, end) in [("", "1"), ("xs4_", "1")] {
+    for front in ["1", "xs4_1"] {
         let mut code = String::from_str(rt.alloc(), front)?;
-        code.push_str(end)?;
         code.push_str(long.as_str())?;
         assert_shows(&rt, code.as_str(), b"O\n");
         code.push_str("0")?;
