@@ -69,6 +69,8 @@ fn runs_patterns(rt: HostRuntime) {
     assert_prints(&rt, &run, b"OOO\n...\nOOO\n", b"O\nO\n.\nO\nO\n");
     let rule = ["census", "run", "1", "--rule", "b36s23"];
     assert_prints(&rt, &rule, b"OOO\n...\nOOO\n", b"O\nO\nO\nO\nO\n");
+    let attached = ["census", "run", "--rule=b36s23", "1"];
+    assert_prints(&rt, &attached, b"OOO\n...\nOOO\n", b"O\nO\nO\nO\nO\n");
     assert_prints(&rt, &["census", "run", "0"], b"...\n.O.\n", b"O\n");
     assert_prints(&rt, &["census", "run", "100000"], BLINKER, BLINKER);
 }
@@ -107,13 +109,15 @@ fn refuses_a_wide_pattern(rt: HostRuntime) -> Result<(), Fail> {
 
 #[test]
 fn shows_usage(rt: HostRuntime) {
-    let words: [&[&str]; 6] = [
+    let words: [&[&str]; 8] = [
         &["census", "run", "100001"],
         &["census", "run", "-1"],
         &["census", "run"],
         &["census"],
         &["census", "--help"],
         &["census", "run", "--help"],
+        &["census", "help", "run"],
+        &["census", "run", "1", "--rule"],
     ];
     for words in words {
         let left = left_by(&rt, words, BLINKER);
