@@ -10,14 +10,14 @@ use Rattle.plane_core.specs.Cells.{moved_by}
 use Rattle.plane_core.specs.Generations.{after}
 use Rattle.plane_core.specs.Rules.{Numbers}
 use Rattle.code_core.specs.declared.cycle.Recurrence.{Recurrence}
-use Rattle.code_core.specs.Codes.{CodesAreDetermined, IsImageText, TellsLeast, code_text, kind_of, number_of, text_cmp}
+use Rattle.code_core.specs.Codes.{CodesAreDetermined, IsImageText, OnlyEqualTextsTie, TellsLeast, code_text, kind_of, number_of, text_cmp}
 use Rattle.code_core.specs.Recurrences.{Recurs}
 use Rattle.code_core.proofs.LeastLemmas.{text_cmp_total}
 use Rattle.code_core.proofs.RecurrenceLemmas.{le_or_lt}
 
 -- texts that tie are one text
-text_cmp-same : (a b : List ℕ) → text_cmp a b ≡ Equal → a ≡ b
-text_cmp-same a b e = slice_cmp-IsAntisymmetric nat_cmp-IsAntisymmetric a b (behind (nat_cmp (length a) (length b)) (slice_cmp nat_cmp a b) e)
+pub texts_tie : OnlyEqualTextsTie
+texts_tie a b e = slice_cmp-IsAntisymmetric nat_cmp-IsAntisymmetric a b (behind (nat_cmp (length a) (length b)) (slice_cmp nat_cmp a b) e)
   where
     behind : (p q : Ordering) → ordering_then p q ≡ Equal → q ≡ Equal
     behind Less q e = cc
@@ -38,7 +38,7 @@ least_is_one : (P : List ℕ → Type 0) (a b : Option (List ℕ)) → TellsLeas
 least_is_one P None None one other = refl
 least_is_one P None (Some b) one other = absurd (one b other.0)
 least_is_one P (Some a) None one other = absurd (other a one.0)
-least_is_one P (Some a) (Some b) one other = ap Some (text_cmp-same a b (text_cmp-tie a b (one.1 b other.0) (other.1 a one.0)))
+least_is_one P (Some a) (Some b) one other = ap Some (texts_tie a b (text_cmp-tie a b (one.1 b other.0) (other.1 a one.0)))
 
 same_step : (a v w : ℤ) → a +ℤ v ≡ a +ℤ w → v ≡ w
 same_step a v w e = omega (arith, ints)

@@ -1,7 +1,7 @@
 -- The names of patterns that recur (LifeWiki, "Apgcode").
 use Rattle.std.specs.Prelude.{◌≡◌, ◌≢◌, ◌==◌, ◌<◌, ◌&&◌, ℕ, ℤ, pos, List, [], ◌++◌, Option, None, Some, codes, decimal, length, if◌then◌else◌}
 use Rattle.std.specs.declared.cmp.Ordering.{Ordering}
-use Rattle.std.specs.declared.cmp.Ordering.TheVariants.{Greater}
+use Rattle.std.specs.declared.cmp.Ordering.TheVariants.{Equal, Greater}
 use Rattle.std.specs.Ordering.{ordering_then, nat_cmp, int_eq}
 use Rattle.std.specs.Cmp.Lexicographic.{slice_cmp}
 use Rattle.plane_core.specs.declared.cell.Cell.{Cell}
@@ -20,6 +20,10 @@ use Rattle.code_core.specs.Texts.{text}
 -- shorter texts come first, and of two that are equally long the first in ASCII order
 abbrev pub text_cmp : List ℕ → List ℕ → Ordering
 text_cmp a b = ordering_then (nat_cmp (length a) (length b)) (slice_cmp nat_cmp a b)
+
+-- only equal texts tie
+abbrev pub OnlyEqualTextsTie : Type 0
+OnlyEqualTextsTie = (a b : List ℕ) → text_cmp a b ≡ Equal → a ≡ b
 
 -- t is the text of a phase of the pattern, the period's number of generations counted from 0, in some orientation
 pub record IsImageText (rule : Numbers) (cells : List Cell) (period : ℕ) (t : List ℕ) : Type 0 where

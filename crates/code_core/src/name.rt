@@ -1,7 +1,7 @@
 ghost use Rattle.std.specs.Prelude.{Option, ◌≡◌, ◌≢◌, ◌<◌, ◌≤◌, [], Some, length, IfOk, IfSome, IfNone, OnOk, IsErrOf, option_map, string_bytes};
 ghost use Rattle.std.specs.Cmp.{IsTotalOrder};
 ghost use Rattle.plane_core.specs.Orientations.{turned};
-ghost use Rattle.code_core.specs.Codes.{CodesAreDetermined, CodesLater, CodesMoved, CodesTurned, IsCode, TellsLeast, kind_of, number_of, text_cmp};
+ghost use Rattle.code_core.specs.Codes.{CodesAreDetermined, CodesLater, CodesMoved, CodesTurned, IsCode, OnlyEqualTextsTie, TellsLeast, kind_of, number_of, text_cmp};
 ghost use Rattle.code_core.specs.Least.{Among, IsImageAt, IsImageOf, IsNameBy, earlier_of, orientations};
 ghost use Rattle.code_core.specs.Recurrences.{IsNew, MeetsEdge, StaysInside};
 ghost use Rattle.code_core.specs.Texts.{text};
@@ -65,10 +65,11 @@ pub fn name(
     }
 }
 
-/// A law of all texts: their order is total.
-#[tactic(auto, using(crate::proofs::LeastLemmas::text_cmp_total))]
+/// The laws of the order of texts: it is total, and only equal texts tie.
+#[tactic(auto, using(crate::proofs::LeastLemmas::text_cmp_total, crate::proofs::CodeLaws::texts_tie))]
 pub fn text_order_is_total()
-    ensures { IsTotalOrder text_cmp }
+    ensures total { IsTotalOrder text_cmp }
+    ensures ties { OnlyEqualTextsTie }
 {}
 
 /// A law of all patterns: one with a cell has one name.

@@ -73,3 +73,7 @@ on_edge c = unsigned_abs c.x == BOUND || unsigned_abs c.y == BOUND
 pub record IsPattern (cells : List Cell) : Type 0 where
   pub in_order : InOrder cells
   pub on_plane : list_all on_plane cells ≡ true
+
+-- two lists in order with the same members are one list, so that a set of cells has one
+abbrev pub SetsHaveOneList : Type 0
+SetsHaveOneList = (S T : List Cell) → InOrder S → InOrder T → ((c : Cell) → has S c ≡ has T c) → S ≡ T

@@ -1,5 +1,5 @@
 ghost use Rattle.std.specs.Prelude.{◌≡◌, List, length, IfOk, IfErr, OnOk, position, None};
-ghost use Rattle.plane_core.specs.Cells.{InOrder, IsPattern, cell_at, has, set_of, off_plane};
+ghost use Rattle.plane_core.specs.Cells.{InOrder, IsPattern, SetsHaveOneList, cell_at, has, set_of, off_plane};
 ghost use Rattle.plane_core.specs.Refusals.{RefusesCells};
 ghost use Rattle.plane_core.specs.declared.cell.Cell.{Cell};
 ghost use Rattle.plane_core.specs.declared.pattern.FromCellsError.TheVariants.{Memory};
@@ -106,6 +106,11 @@ impl Pattern {
         is_member(self.cells.as_slice(), &Cell { y, x })
     }
 }
+
+/// A law of all sets of cells: each has one list in order. So two patterns with the same cells are seen as the same list.
+pub fn sets_have_one_list()
+    ensures { SetsHaveOneList }
+{}
 
 /// The place of the first cell that lies past the bound.
 fn first_off_plane(cells: &[Cell]) -> Option<usize>
