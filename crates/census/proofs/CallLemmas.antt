@@ -17,10 +17,10 @@ use Rattle.clap.specs.declared.builder.value_parser.ValueParser.TheVariants.{Sig
 use Rattle.clap.specs.declared.error.kind.ErrorKind.TheVariants.{ValueValidation}
 use Rattle.clap.proofs.OnLiterals.{clap_on_literals}
 use Rattle.clap.proofs.ValueTestLemmas.{Accepts-accepts, accepts-Accepts}
-use Rattle.census.specs.declared.run.TheConstants.{GENERATION_LIMIT}
+use Rattle.commands.specs.declared.request.Request.TheVariants.{Run}
 use Rattle.census.specs.Application.{census_app, run_shape, show_shape}
 use Rattle.census.specs.Calls.{AsksToShow, IsCount}
-use Rattle.census.specs.Words.{asked_by, generations_of, request_in, run, unless_faulty}
+use Rattle.census.specs.Words.{asked_by, generations_of, request_in, unless_faulty}
 use Rattle.census.proofs.WordLemmas.{is_numeral-passes}
 
 -- ---- a word that is no flag
@@ -61,7 +61,7 @@ count_accepted n h =
     let is : signed_digits_value 10 n ≡ pos (digits_value 10 n) = rw (signs.0, signs.1) refl in
     Accepts-accepts false (Signed (pos 0) (pos 100000)) n (rw bare h.0, rw is (search rules), rw is (omega (arith, ints)), rw is (omega (arith, ints)))
 
-count_refused : (n : Text) → IsNumeral 10 n → GENERATION_LIMIT < digits_value 10 n → accepts false (Signed (pos 0) (pos 100000)) n ≡ false
+count_refused : (n : Text) → IsNumeral 10 n → 100000 < digits_value 10 n → accepts false (Signed (pos 0) (pos 100000)) n ≡ false
 count_refused n numeral over = go (accepts false (Signed (pos 0) (pos 100000)) n) refl
   where
     go : (b : Bool) → accepts false (Signed (pos 0) (pos 100000)) n ≡ b → b ≡ false
@@ -79,7 +79,7 @@ count_read n h =
     let bare : without_minus n ≡ n = ap (λ o. unwrap_or o n) (no_hyphen n signs.0) in
     let numeral = is_numeral-passes n h.0 in
     let within = le-leb _ _ h.1 in
-    ap generations_of bare ∙ ap (λ ds. cond {A = Option ℕ} (is_numeral ds && nat_le (digits_value 10 ds) GENERATION_LIMIT) (Some (digits_value 10 ds)) None) signs.1
+    ap generations_of bare ∙ ap (λ ds. cond {A = Option ℕ} (is_numeral ds && nat_le (digits_value 10 ds) 100000) (Some (digits_value 10 ds)) None) signs.1
     ∙ ap₂ (λ a b. cond {A = Option ℕ} (a && b) (Some (digits_value 10 n)) None) numeral within
 
 -- ---- `run`, as `clap` builds it
@@ -133,17 +133,17 @@ level_count n accepted p is =
     (walk_count n p) (ap (λ (w : Walk). w.held) (walked_count n p)) ∙ count_fault n accepted is
 
 -- `run N`
-pub asks-life : (program n : Text) → IsCount n → asked_by (program ∷ codes "run" ∷ n ∷ []) ≡ Some (run (digits_value 10 n) (codes "b3s23"))
+pub asks-life : (program n : Text) → IsCount n → asked_by (program ∷ codes "run" ∷ n ∷ []) ≡ Some (Run (digits_value 10 n) (codes "b3s23"))
 unfolding clap_on_literals
 asks-life program n h =
     let p = plain_word-is n (no_sign n h.0).0 in
     let none : fault_of census_app (program ∷ codes "run" ∷ n ∷ []) ≡ [] = ap (λ k. or_else k []) (level_count n true p (count_accepted n h)) in
     let found : subcommand_of census_app (program ∷ codes "run" ∷ n ∷ []) ≡ Some (codes "run", finished run_built.rules (at_count n).held) =
     ap (λ (w : Walk). Some (codes "run", finished run_built.rules w.held)) (walked_count n p) in
-    ap₂ (λ k s. unless_faulty k (option_and_then request_in s)) none found ∙ ap (option_and_then (λ k. Some (run k (codes "b3s23")))) (count_read n h)
+    ap₂ (λ k s. unless_faulty k (option_and_then request_in s)) none found ∙ ap (option_and_then (λ k. Some (Run k (codes "b3s23")))) (count_read n h)
 
 -- `run N` with too large a number
-pub asks-too_many : (program n : Text) → IsNumeral 10 n → GENERATION_LIMIT < digits_value 10 n → asked_by (program ∷ codes "run" ∷ n ∷ []) ≡ None
+pub asks-too_many : (program n : Text) → IsNumeral 10 n → 100000 < digits_value 10 n → asked_by (program ∷ codes "run" ∷ n ∷ []) ≡ None
 unfolding clap_on_literals
 asks-too_many program n numeral over =
     let p = plain_word-is n (no_sign n numeral).0 in
@@ -211,7 +211,7 @@ level_text n text h p q =
 
 -- `run N --rule TEXT`
 pub asks-rule : (program n text : Text) → IsCount n → starts_with_minus text ≡ false
-    → asked_by (program ∷ codes "run" ∷ n ∷ codes "--rule" ∷ text ∷ []) ≡ Some (run (digits_value 10 n) text)
+    → asked_by (program ∷ codes "run" ∷ n ∷ codes "--rule" ∷ text ∷ []) ≡ Some (Run (digits_value 10 n) text)
 unfolding clap_on_literals
 asks-rule program n text h no_minus =
     let p = plain_word-is n (no_sign n h.0).0 in
@@ -220,7 +220,7 @@ asks-rule program n text h no_minus =
     let none : fault_of census_app words ≡ [] = ap (λ k. or_else k []) (level_text n text h p q) in
     let found : subcommand_of census_app words ≡ Some (codes "run", finished run_built.rules (at_text n text).held) =
     ap (λ (w : Walk). Some (codes "run", finished run_built.rules w.held)) (walked_all n text p q) in
-    ap₂ (λ k s. unless_faulty k (option_and_then request_in s)) none found ∙ ap (option_and_then (λ k. Some (run k text))) (count_read n h)
+    ap₂ (λ k s. unless_faulty k (option_and_then request_in s)) none found ∙ ap (option_and_then (λ k. Some (Run k text))) (count_read n h)
 
 -- ---- `show`, as `clap` builds it
 

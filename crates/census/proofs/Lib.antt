@@ -1,4 +1,3 @@
-pub mod AnswerLemmas
 pub mod CallLemmas
-pub mod ShowLemmas
+pub mod ProgramLemmas
 pub mod WordLemmas

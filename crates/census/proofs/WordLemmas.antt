@@ -11,9 +11,10 @@ use Rattle.clap.specs.declared.error.kind.ErrorKind.TheVariants as kinds
 use Rattle.clap.specs.declared.parser.matches.Found.{Found}
 use Rattle.clap.proofs.OnLiterals.{clap_on_literals}
 use Rattle.clap.proofs.WalkLemmas.{both, one_text-rows}
-use Rattle.census.specs.declared.run.TheConstants.{GENERATION_LIMIT}
+use Rattle.commands.specs.declared.request.Request.{Request}
+use Rattle.commands.specs.declared.request.Request.TheVariants.{Run, Show}
 use Rattle.census.specs.Application.{census_app}
-use Rattle.census.specs.Words.{asked_by, request_in, generations_in, generations_of, run, run_in, show, show_in}
+use Rattle.census.specs.Words.{asked_by, asks_version, command_of, request_in, generations_in, generations_of, run_in, show_in}
 
 digits_pass : (ds : List ℕ) → AllDigits 10 ds → list_all (λ d. nat_lt (digit_value d) 10) ds ≡ true
 digits_pass [] h = refl
@@ -35,16 +36,16 @@ is_numeral-from ds e =
 
 -- a number, where it is within the limit
 abbrev pub within_limit : ℕ → Option ℕ
-within_limit n = cond (nat_le n GENERATION_LIMIT) (Some n) None
+within_limit n = cond (nat_le n 100000) (Some n) None
 
 -- a text that is read as a number of 32 bits
 ok_within : (text : Text) (n : ℕ) → IsNumeral 10 (without_leading_plus text) → n ≡ digits_value 10 (without_leading_plus text) → within_limit n ≡ generations_of text
 ok_within text n numeral is = rw (is, is_numeral-passes _ numeral) refl
 
 none_within : (text : Text) → ((IsNumeral 10 (without_leading_plus text) × (digits_value 10 (without_leading_plus text) < 2 ^ 32)) → ⊥) → None ≡ generations_of text
-none_within text never = go (is_numeral (without_leading_plus text) && nat_le (digits_value 10 (without_leading_plus text)) GENERATION_LIMIT) refl
+none_within text never = go (is_numeral (without_leading_plus text) && nat_le (digits_value 10 (without_leading_plus text)) 100000) refl
   where
-    go : (b : Bool) → (is_numeral (without_leading_plus text) && nat_le (digits_value 10 (without_leading_plus text)) GENERATION_LIMIT) ≡ b → None ≡ generations_of text
+    go : (b : Bool) → (is_numeral (without_leading_plus text) && nat_le (digits_value 10 (without_leading_plus text)) 100000) ≡ b → None ≡ generations_of text
     go false t = rw t refl
     go true t =
         let parts = both _ _ t in
@@ -68,11 +69,11 @@ found_within G only f found none some = go (one_text f (codes "N")) refl
     go (Some t) e = rw (← one_text-rows f (codes "N"), e) (text_within G only t found (some t e))
 
 -- what `run` is asked for, from its two values
-pub run_in-is : (rows : List Row) (n : Option ℕ) (rule : Option Text) → n ≡ generations_in rows → rule ≡ first_of (codes "rule") rows → run_in rows ≡ option_and_then (λ k. option_map (run k) rule) n
+pub run_in-is : (rows : List Row) (n : Option ℕ) (rule : Option Text) → n ≡ generations_in rows → rule ≡ first_of (codes "rule") rows → run_in rows ≡ option_and_then (λ k. option_map (Run k) rule) n
 run_in-is rows n rule is_n is_rule = rw (is_n, is_rule) refl
 
 -- what `show` is asked for, from its value
-pub show_in-is : (rows : List Row) (code : Option Text) → code ≡ first_of (codes "CODE") rows → show_in rows ≡ option_map show code
+pub show_in-is : (rows : List Row) (code : Option Text) → code ≡ first_of (codes "CODE") rows → show_in rows ≡ option_map Show code
 show_in-is rows code is = rw is refl
 
 -- `clap` says of the program which matches words have, and which faults
@@ -85,17 +86,17 @@ unfolding clap_on_literals
 census_is_free = refl
 
 -- what a parse finds is what the words ask for
-pub asked_by-found : (app : App) (words : List Text) (found : Option (Text × List Row)) → app ≡ census_app → (is_simple_and_free app ≡ true → fault_of app words ≡ [])
-    → (is_simple app ≡ true → found ≡ subcommand_of app words) → asked_by words ≡ option_and_then request_in found
-asked_by-found app words found is faultless finds =
+pub command_of-found : (app : App) (words : List Text) (found : Option (Text × List Row)) → app ≡ census_app → (is_simple_and_free app ≡ true → fault_of app words ≡ [])
+    → (is_simple app ≡ true → found ≡ subcommand_of app words) → command_of words ≡ option_and_then request_in found
+command_of-found app words found is faultless finds =
     let none : fault_of census_app words ≡ [] = ap (λ (a : App). fault_of a words) (sym is) ∙ faultless (ap is_simple_and_free is ∙ census_is_free) in
     let same : found ≡ subcommand_of census_app words = finds (ap is_simple is ∙ census_is_simple) ∙ ap (λ (a : App). subcommand_of a words) is in
     rw (none, same) refl
 
 -- where the words ask for something, a parse fails for want of memory alone
-pub asked_by-fails : (app : App) (words : List Text) (kind : ErrorKind) → app ≡ census_app → (is_simple_and_free app ≡ true → (kind ≡ kinds.OutOfMemory) ⊎ IsAmong kind (fault_of app words))
-    → is_some (asked_by words) ≡ true → kind ≡ kinds.OutOfMemory
-asked_by-fails app words kind is fails asked =
+pub command_of-fails : (app : App) (words : List Text) (kind : ErrorKind) → app ≡ census_app → (is_simple_and_free app ≡ true → (kind ≡ kinds.OutOfMemory) ⊎ IsAmong kind (fault_of app words))
+    → is_some (command_of words) ≡ true → kind ≡ kinds.OutOfMemory
+command_of-fails app words kind is fails asked =
     go (fault_of census_app words) refl (subst (λ (a : App). (kind ≡ kinds.OutOfMemory) ⊎ IsAmong kind (fault_of a words)) is (fails (ap is_simple_and_free is ∙ census_is_free)))
   where
     go : (faults : Kinds) → fault_of census_app words ≡ faults → (kind ≡ kinds.OutOfMemory) ⊎ IsAmong kind faults → kind ≡ kinds.OutOfMemory
@@ -104,3 +105,16 @@ asked_by-fails app words kind is fails asked =
     go (k ∷ ks) e h =
         let bad : false ≡ true = rw e at asked in
         cc
+
+-- any other failure comes of words that ask for nothing
+pub command_of-none : (app : App) (words : List Text) (kind : ErrorKind) → app ≡ census_app
+    → (is_simple_and_free app ≡ true → (kind ≡ kinds.OutOfMemory) ⊎ IsAmong kind (fault_of app words)) → (kind ≡ kinds.OutOfMemory → ⊥) → command_of words ≡ None
+command_of-none app words kind is fails other = go (command_of words) refl
+  where
+    go : (o : Option Request) → command_of words ≡ o → o ≡ None
+    go None e = refl
+    go (Some request) e = absurd (other (command_of-fails app words kind is fails (ap is_some e)))
+
+-- words other than `--version` are read by `clap`
+pub asked_by-command : (words : List Text) → asks_version words ≡ false → asked_by words ≡ command_of words
+asked_by-command words other = rw other refl

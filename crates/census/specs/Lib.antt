@@ -1,10 +1,4 @@
-pub mod Answers
 pub mod Application
 pub mod Calls
-pub mod Complaints
-pub mod Inputs
-pub mod Run
-pub mod Show
-pub mod Status
-pub mod Streams
+pub mod Program
 pub mod Words

@@ -1,19 +1,18 @@
-use crate::output::send_buffered;
-use crate::run::do_run;
-use crate::status::Status;
+use crate::program::{Ended, run_program};
 use crate::words::do_words;
+use commands::status::Status;
 use plane_core::output::Out;
-use std::io::{self, BufWriter, ErrorKind, Read, Write};
+use std::io::{self, ErrorKind, Read, Write};
 use std::process::Abort;
 use std::test::Fail;
-
-mod show;
 
 const BLINKER: &[u8] = b"OOO\n";
 
 const UPRIGHT: &[u8] = b"O\nO\nO\n";
 
-/// What a command left: its status, and what stands on its two streams.
+const EATER: &[u8] = b"OO..\n.O..\n.O.O\n..OO\n";
+
+/// What words left: the status, and what stands on the two streams.
 #[derive(Drop)]
 struct Left {
     status: Status,
@@ -26,7 +25,7 @@ fn left_by(rt: &impl AllocGlobal, words: &[&str], input: &[u8]) -> Left {
     let mut input = input;
     let mut output = Out::new(Vec::new(rt.alloc()));
     let mut errors = Out::new(Vec::new(rt.alloc()));
-    let status = do_words(rt, words, &mut input, &mut output, &mut errors);
+    let status = do_words(rt.alloc(), words, &mut input, &mut output, &mut errors);
     Left {
         status,
         output: output.into_inner(),
@@ -37,9 +36,9 @@ fn left_by(rt: &impl AllocGlobal, words: &[&str], input: &[u8]) -> Left {
 /// Asserts that the words, with this input, end as done with this output and no line.
 fn assert_prints<R: Abort + AllocGlobal>(rt: &R, words: &[&str], input: &[u8], output: &[u8]) {
     let left = left_by(rt, words, input);
-    assert_eq!(rt; left.status, Status::Done);
-    assert_eq!(rt; left.output.as_slice(), output);
-    assert!(rt; left.errors.is_empty());
+    assert_eq!(rt; left.status, Status::Done, "{words:?}");
+    assert_eq!(rt; left.output.as_slice(), output, "{words:?}");
+    assert!(rt; left.errors.is_empty(), "{words:?}");
 }
 
 /// Asserts that the words, with this input, end with this status and this line, and print nothing.
@@ -51,191 +50,90 @@ fn assert_complains<R: Abort + AllocGlobal>(
     line: &[u8],
 ) {
     let left = left_by(rt, words, input);
-    assert_eq!(rt; left.status, status);
-    assert_eq!(rt; left.errors.as_slice(), line);
-    assert!(rt; left.output.is_empty());
-}
-
-fn live_count(text: &[u8]) -> usize {
-    text.iter().filter(|byte| **byte == b'O').count()
+    assert_eq!(rt; left.status, status, "{words:?}");
+    assert_eq!(rt; left.errors.as_slice(), line, "{words:?}");
+    assert!(rt; left.output.is_empty(), "{words:?}");
 }
 
 #[test]
-fn runs_patterns(rt: HostRuntime) {
-    let run = ["census", "run", "1"];
-    assert_prints(&rt, &run, BLINKER, UPRIGHT);
-    assert_prints(&rt, &run, b"", b"");
-    assert_prints(&rt, &run, b"!a comment\r\n*O*\r\n", UPRIGHT);
-    assert_prints(&rt, &run, b"OOO\n...\nOOO\n", b"O\nO\n.\nO\nO\n");
-    let rule = ["census", "run", "1", "--rule", "b36s23"];
-    assert_prints(&rt, &rule, b"OOO\n...\nOOO\n", b"O\nO\nO\nO\nO\n");
+fn does_what_words_ask_for(rt: HostRuntime) {
+    assert_prints(&rt, &["census", "run", "1"], BLINKER, UPRIGHT);
+    let three = b"OOO\n...\nOOO\n";
+    let upright = b"O\nO\nO\nO\nO\n";
+    let after = ["census", "run", "1", "--rule", "b36s23"];
+    assert_prints(&rt, &after, three, upright);
     let attached = ["census", "run", "--rule=b36s23", "1"];
-    assert_prints(&rt, &attached, b"OOO\n...\nOOO\n", b"O\nO\nO\nO\nO\n");
-    assert_prints(&rt, &["census", "run", "0"], b"...\n.O.\n", b"O\n");
-    assert_prints(&rt, &["census", "run", "100000"], BLINKER, BLINKER);
+    assert_prints(&rt, &attached, three, upright);
+    let hyphens = ["census", "run", "--rule", "b36s23", "--", "1"];
+    assert_prints(&rt, &hyphens, three, upright);
+    assert_prints(&rt, &["census", "show", "xs7_178c"], b"", EATER);
+    assert_prints(&rt, &["census", "show", "178c"], b"OOO", EATER);
+    assert_prints(&rt, &["census", "--version"], b"", b"census 0.1.0\n");
 }
 
 #[test]
-fn refuses_patterns_and_rules(rt: HostRuntime) {
-    let run = ["census", "run", "1"];
-    let line = b"census: bad byte at line 2 column 2\n";
-    assert_complains(&rt, &run, b"..\n.x", Status::Refused, line);
+fn tells_what_is_wrong(rt: HostRuntime) {
+    let line = b"census: bad rule at 2\n";
     let bad = ["census", "run", "1", "--rule", "b33s2"];
-    assert_complains(
-        &rt,
-        &bad,
-        b"..\n.x",
-        Status::Refused,
-        b"census: bad rule at 2\n",
-    );
-    let zero = ["census", "run", "1", "--rule", "b03s23"];
-    let line = b"census: birth on zero neighbours\n";
-    assert_complains(&rt, &zero, BLINKER, Status::Refused, line);
-}
-
-#[test]
-fn refuses_a_wide_pattern(rt: HostRuntime) -> Result<(), Fail> {
-    let wide = vec![in rt.alloc(); b'.'; 1001]?;
-    let line = b"census: pattern larger than 1000 by 1000\n";
-    assert_complains(
-        &rt,
-        &["census", "run", "1"],
-        wide.as_slice(),
-        Status::Refused,
-        line,
-    );
-    Ok(())
+    assert_complains(&rt, &bad, BLINKER, Status::Refused, line);
+    let line = b"census: not a code\n";
+    let bad = ["census", "show", "xs_33"];
+    assert_complains(&rt, &bad, b"", Status::Refused, line);
 }
 
 #[test]
 fn shows_usage(rt: HostRuntime) {
-    let words: [&[&str]; 8] = [
+    let words: [&[&str]; 16] = [
         &["census", "run", "100001"],
         &["census", "run", "-1"],
+        &["census", "run", "1", "2"],
+        &["census", "run", "1", "--rule", "b3s23", "--rule", "b3s23"],
         &["census", "run"],
         &["census"],
+        &[],
+        &["census", "walk"],
         &["census", "--help"],
         &["census", "run", "--help"],
         &["census", "help", "run"],
         &["census", "run", "1", "--rule"],
+        &["census", "show"],
+        &["census", "show", "a", "b"],
+        &["census", "show", "--rule", "b3s23", "33"],
+        &["census", "--version", "run"],
     ];
     for words in words {
         let left = left_by(&rt, words, BLINKER);
-        assert_eq!(rt; left.status, Status::Usage);
-        assert!(rt; left.output.is_empty());
-        assert!(rt; !left.errors.is_empty());
+        assert_eq!(rt; left.status, Status::Usage, "{words:?}");
+        assert!(rt; left.output.is_empty(), "{words:?}");
+        assert!(rt; !left.errors.is_empty(), "{words:?}");
     }
 }
 
-// The count stands in the public records of the pattern.
-#[test]
-fn settles_the_r_pentomino(rt: HostRuntime) {
-    let left = left_by(&rt, &["census", "run", "1103"], b".OO\nOO.\n.O.\n");
-    assert_eq!(rt; left.status, Status::Done);
-    assert_eq!(rt; live_count(left.output.as_slice()), 116);
-}
-
-// Of a full square only the corners live on, and beside each side three neighbours give birth to all but its ends.
-#[test]
-fn runs_the_largest_pattern(rt: HostRuntime) -> Result<(), Fail> {
-    let mut square = Vec::new(rt.alloc());
-    for _ in 0..1000 {
-        square.extend_from_slice(vec![in rt.alloc(); b'O'; 1000]?.as_slice())?;
-        square.push(b'\n')?;
+/// The words, as a process gets them.
+fn list_of(rt: &impl AllocGlobal, words: &[&str]) -> Result<Vec<String>, Fail> {
+    let mut list = Vec::new(rt.alloc());
+    for word in words {
+        list.push(String::from_str(rt.alloc(), word)?)?;
     }
-    let left = left_by(&rt, &["census", "run", "1"], square.as_slice());
-    assert_eq!(rt; left.status, Status::Done);
-    assert_eq!(rt; left.output.len(), 1002 * 1003);
-    assert_eq!(rt; live_count(left.output.as_slice()), 4 + 4 * 998);
-    Ok(())
+    Ok(list)
 }
 
-#[test]
-fn reads_up_to_the_limit(rt: HostRuntime) -> Result<(), Fail> {
-    let mut comment = vec![in rt.alloc(); b'a'; 16_777_216]?;
-    if let Some(first) = comment.first_mut() {
-        *first = b'!';
-    }
-    let run = ["census", "run", "0"];
-    assert_prints(&rt, &run, comment.as_slice(), b"");
-    comment.push(b'a')?;
-    let line = b"census: read failed\n";
-    assert_complains(&rt, &run, comment.as_slice(), Status::Failed, line);
-    Ok(())
-}
-
-/// A reader that gives a text byte by byte and fails at one of its reads.
+/// A writer that takes so many bytes and then fails.
 #[derive(Drop)]
-struct FailingReader<'a> {
-    text: &'a [u8],
-    reads: usize,
-}
-
-impl Read for FailingReader<'_> {
-    fn read(&mut self, buf: &mut [u8]) -> io::Result<usize> {
-        if self.reads == 0 {
-            return Err(io::Error::from(ErrorKind::Other));
-        }
-        self.reads -= 1;
-        let Some((first, rest)) = self.text.split_first() else {
-            return Ok(0);
-        };
-        let Some(place) = buf.first_mut() else {
-            return Ok(0);
-        };
-        *place = *first;
-        self.text = rest;
-        Ok(1)
-    }
-}
-
-#[test]
-fn tells_each_failed_read(rt: HostRuntime) {
-    for reads in 0..6 {
-        let mut input = FailingReader {
-            text: BLINKER,
-            reads,
-        };
-        let mut output = Out::new(Vec::new(rt.alloc()));
-        let mut errors = Out::new(Vec::new(rt.alloc()));
-        let status = do_run(rt.alloc(), 1, "b3s23", &mut input, &mut output, &mut errors);
-        // Four bytes, and the read that finds the end.
-        if reads < 5 {
-            assert_eq!(rt; status, Status::Failed);
-            assert!(rt; output.into_inner().is_empty());
-            assert_eq!(rt;
-                errors.into_inner().as_slice(),
-                b"census: read failed\n".as_slice()
-            );
-        } else {
-            assert_eq!(rt; status, Status::Done);
-            assert_eq!(rt; output.into_inner().as_slice(), UPRIGHT);
-        }
-    }
-}
-
-/// A writer that takes a byte at each write, up to one at which it fails or takes none.
-#[derive(Drop)]
-struct FailingWriter {
+struct FillingWriter {
     taken: Vec<u8>,
-    writes: usize,
-    takes_none: bool,
+    room: usize,
 }
 
-impl Write for FailingWriter {
+impl Write for FillingWriter {
     fn write(&mut self, buf: &[u8]) -> io::Result<usize> {
-        if self.writes == 0 && self.takes_none {
-            return Ok(0);
+        let count = buf.len().min(self.room);
+        if count == 0 {
+            return Err(io::Error::from(ErrorKind::StorageFull));
         }
-        if self.writes == 0 {
-            return Err(io::Error::from(ErrorKind::Other));
-        }
-        self.writes -= 1;
-        let Some(first) = buf.first() else {
-            return Ok(0);
-        };
-        self.taken.push(*first)?;
-        Ok(1)
+        self.taken.extend_from_slice(&buf[..count])?;
+        self.room -= count;
+        Ok(count)
     }
 
     fn flush(&mut self) -> io::Result<()> {
@@ -243,121 +141,97 @@ impl Write for FailingWriter {
     }
 }
 
-/// Runs a blinker for one generation with a writer that fails at this write, and says what the writer took.
+/// Runs the program on these words and this input, over a writer with so much room. Asserts the code and the line, and
+/// returns what the writer took.
 fn taken_by<R: Abort + AllocGlobal>(
     rt: &R,
-    writes: usize,
-    takes_none: bool,
-    status: Status,
-) -> Vec<u8> {
-    let mut input = BLINKER;
-    let mut output = Out::new(FailingWriter {
-        taken: Vec::new(rt.alloc()),
-        writes,
-        takes_none,
-    });
-    let mut errors = Out::new(Vec::new(rt.alloc()));
-    let found = do_run(rt.alloc(), 1, "b3s23", &mut input, &mut output, &mut errors);
-    assert_eq!(rt; found, status);
-    if status == Status::Failed {
-        assert_eq!(rt;
-            errors.into_inner().as_slice(),
-            b"census: write failed\n".as_slice()
-        );
-    }
-    output.into_inner().taken
-}
-
-#[test]
-fn tells_each_failed_write(rt: HostRuntime) {
-    for takes_none in [false, true] {
-        for writes in 0..6 {
-            let taken = taken_by(&rt, writes, takes_none, Status::Failed);
-            assert_eq!(rt; taken.len(), writes);
-            assert!(rt; UPRIGHT.starts_with(taken.as_slice()));
-        }
-        assert_eq!(rt;
-            taken_by(&rt, 6, takes_none, Status::Done).as_slice(),
-            UPRIGHT
-        );
-    }
-}
-
-/// Runs a blinker for one generation through a buffer, over a writer that fails at this write. Asserts the status and
-/// the line, and says what the writer took.
-fn sent_by<R: Abort + AllocGlobal>(
-    rt: &R,
-    writes: usize,
-    status: Status,
+    words: &[&str],
+    input: &[u8],
+    room: usize,
+    code: u8,
     line: &[u8],
 ) -> Result<Vec<u8>, Fail> {
-    let mut input = BLINKER;
-    let writer = FailingWriter {
+    let mut input = input;
+    let writer = FillingWriter {
         taken: Vec::new(rt.alloc()),
-        writes,
-        takes_none: false,
+        room,
     };
-    let mut output = Out::new(BufWriter::new(rt.alloc(), writer)?);
-    let mut errors = Out::new(Vec::new(rt.alloc()));
-    let found = do_run(rt.alloc(), 1, "b3s23", &mut input, &mut output, &mut errors);
-    let mut buffered = output.into_inner();
-    let found = send_buffered(found, &mut buffered, &mut errors);
-    assert_eq!(rt; found, status);
-    assert_eq!(rt; errors.into_inner().as_slice(), line);
-    let (writer, _) = buffered.into_parts();
-    Ok(writer.taken)
+    let ended = run_program(
+        rt.alloc(),
+        Ok(list_of(rt, words)?),
+        &mut input,
+        writer,
+        Vec::new(rt.alloc()),
+    );
+    assert_eq!(rt; ended.code, code, "{words:?}");
+    assert_eq!(rt; ended.errors.into_inner().as_slice(), line, "{words:?}");
+    match ended.output {
+        Some(writer) => Ok(writer.taken),
+        None => Ok(Vec::new(rt.alloc())),
+    }
 }
 
 #[test]
-fn tells_a_failed_write_of_what_was_buffered(rt: HostRuntime) -> Result<(), Fail> {
-    for writes in 0..6 {
-        let taken = sent_by(&rt, writes, Status::Failed, b"census: write failed\n")?;
-        assert_eq!(rt; taken.as_slice(), &UPRIGHT[..writes]);
+fn ends_with_each_code(rt: HostRuntime) -> Result<(), Fail> {
+    let run = ["census", "run", "1"];
+    assert_eq!(rt;
+        taken_by(&rt, &run, BLINKER, 6, 0, b"")?.as_slice(),
+        UPRIGHT
+    );
+    for room in 0..6 {
+        let taken = taken_by(&rt, &run, BLINKER, room, 5, b"census: write failed\n")?;
+        assert_eq!(rt; taken.as_slice(), &UPRIGHT[..room]);
     }
-    let taken = sent_by(&rt, 6, Status::Done, b"")?;
-    assert_eq!(rt; taken.as_slice(), UPRIGHT);
+    let line = b"census: bad byte at line 1 column 2\n";
+    assert!(rt; taken_by(&rt, &run, b"Ox", 6, 3, line)?.is_empty());
     Ok(())
 }
 
-/// A writer whose writes go well and whose flush fails.
+/// A reader that fails.
 #[derive(Drop)]
-struct Unflushed;
+struct NoReader;
 
-impl Write for Unflushed {
-    fn write(&mut self, buf: &[u8]) -> io::Result<usize> {
-        Ok(buf.len())
-    }
-
-    fn flush(&mut self) -> io::Result<()> {
+impl Read for NoReader {
+    fn read(&mut self, _buf: &mut [u8]) -> io::Result<usize> {
         Err(io::Error::from(ErrorKind::Other))
     }
 }
 
+/// What the program leaves with these words, over a reader that fails.
+fn ended_by(rt: &impl AllocGlobal, words: io::Result<Vec<String>>) -> Ended<Vec<u8>, Vec<u8>> {
+    run_program(
+        rt.alloc(),
+        words,
+        &mut NoReader,
+        Vec::new(rt.alloc()),
+        Vec::new(rt.alloc()),
+    )
+}
+
 #[test]
-fn tells_a_failed_flush(rt: HostRuntime) -> Result<(), Fail> {
-    let cases: [(Status, Status, &[u8]); 3] = [
-        (Status::Done, Status::Failed, b"census: write failed\n"),
-        (Status::OutOfMemory, Status::OutOfMemory, b""),
-        (Status::Usage, Status::Usage, b""),
+fn ends_without_reading(rt: HostRuntime) -> Result<(), Fail> {
+    let cases: [(io::Result<Vec<String>>, u8, &[u8]); 4] = [
+        (
+            Ok(list_of(&rt, &["census", "run", "1"])?),
+            5,
+            b"census: read failed\n",
+        ),
+        (Ok(list_of(&rt, &["census", "show", "33"])?), 0, b""),
+        (
+            Err(io::Error::from(ErrorKind::InvalidData)),
+            2,
+            b"census: the words are not UTF-8\n",
+        ),
+        (
+            Err(io::Error::from(ErrorKind::OutOfMemory)),
+            4,
+            b"census: out of memory\n",
+        ),
     ];
-    for (before, after, line) in cases {
-        let mut buffered = BufWriter::new(rt.alloc(), Unflushed)?;
-        let mut errors = Out::new(Vec::new(rt.alloc()));
-        let found = send_buffered(before, &mut buffered, &mut errors);
-        assert_eq!(rt; found, after);
-        assert_eq!(rt; errors.into_inner().as_slice(), line);
+    for (words, code, line) in cases {
+        let ended = ended_by(&rt, words);
+        assert_eq!(rt; ended.code, code);
+        assert_eq!(rt; ended.errors.into_inner().as_slice(), line);
     }
-    // Where the line can't be written either, that isn't told.
-    let mut buffered = BufWriter::new(rt.alloc(), Unflushed)?;
-    let mut errors = Out::new(FailingWriter {
-        taken: Vec::new(rt.alloc()),
-        writes: 0,
-        takes_none: false,
-    });
-    let found = send_buffered(Status::Done, &mut buffered, &mut errors);
-    assert_eq!(rt; found, Status::Failed);
-    assert!(rt; errors.failed());
-    let found = send_buffered(Status::Done, &mut buffered, &mut errors);
-    assert_eq!(rt; found, Status::Failed);
     Ok(())
 }

@@ -1,0 +1,64 @@
+-- How the program ends, from its words to the bytes that it leaves.
+use Rattle.std.specs.Prelude.{◌≡◌, ◌++◌, ◌⊎◌, ℕ, true, List, [], Option, None, Some, Ok, Err, IsSomeAnd, ⊤, codes}
+use Rattle.std.specs.Io.KnownBytes.{Appends}
+use Rattle.plane_core.specs.Out.{Output}
+use Rattle.commands.specs.declared.complaint.Complaint.{Complaint}
+use Rattle.commands.specs.declared.complaint.Complaint.TheVariants.{Refused, OutOfMemory, ReadFailed, WriteFailed}
+use Rattle.commands.specs.declared.request.Request.{Request}
+use Rattle.commands.specs.Answers.{IsInput, text_of}
+use Rattle.commands.specs.Complaints.{line_of, status_of}
+use Rattle.commands.specs.Requests.{answer_to, reads_input}
+use Rattle.commands.specs.Status.{exit_code}
+use Rattle.commands.specs.Streams.{Stream, HasLine}
+use Rattle.clap.specs.Words.{Text}
+use Rattle.census.specs.Words.{asked_by}
+
+-- the stream of a writer that was handed over, and is given back with whether a write failed
+abbrev pub returned : {V : Type 0} → (V → Option (List ℕ)) → V → Output V → Stream
+returned contents old new = record { before = contents old; after = contents new.writer; failed = new.failed }
+
+-- the line where the words are not text
+abbrev pub not_text_line : List ℕ
+not_text_line = codes "census: the words are not UTF-8\n"
+
+-- the bytes of a writer that was handed over, and is given back unless there was no memory for its buffer
+abbrev pub left_by : {V : Type 0} → (V → Option (List ℕ)) → V → Option V → Option (List ℕ)
+left_by contents old None = contents old
+left_by contents old (Some new) = contents new
+
+-- the words ask for something; on this input its answer is a text, and the whole text was added to what the writer held
+pub record IsDone (words : List Text) (known before after : Option (List ℕ)) : Type 0 where
+  pub request : Request
+  pub asked : asked_by words ≡ Some request
+  pub bytes : List ℕ
+  pub input : IsInput known bytes
+  pub text : List ℕ
+  pub answer : answer_to request bytes ≡ Ok text
+  pub written : Appends before after text
+
+-- the bytes now are a front of the bytes before and the text
+abbrev pub IsFront : Option (List ℕ) → Option (List ℕ) → List ℕ → Type 0
+IsFront None after text = ⊤
+IsFront (Some xs) None text = ⊥
+IsFront (Some xs) (Some ys) text = (rest : List ℕ) × (ys ++ rest ≡ xs ++ text)
+
+-- what may end a request: a refusal if that is its answer, memory that runs out, or a stream that fails
+abbrev pub MayComplain : Request → List ℕ → Complaint → Type 0
+MayComplain request bytes (Refused refusal) = answer_to request bytes ≡ Err (Refused refusal)
+MayComplain request bytes OutOfMemory = ⊤
+MayComplain request bytes ReadFailed = reads_input request ≡ true
+MayComplain request bytes WriteFailed = ⊤
+
+-- a request was ended by a complaint on an input, and the writer holds a front of its text
+pub record IsEndedBy (complaint : Complaint) (known before after : Option (List ℕ)) (request : Request) : Type 0 where
+  pub bytes : List ℕ
+  pub input : IsInput known bytes
+  pub may : MayComplain request bytes complaint
+  pub front : IsFront before after (text_of (answer_to request bytes))
+
+-- the code and the line are those of a complaint: of memory for the words, or of what they ask for
+pub record Complains (words : List Text) (known : Option (List ℕ)) (number : ℕ) (before after : Option (List ℕ)) (errors : Stream) : Type 0 where
+  pub complaint : Complaint
+  pub code : number ≡ exit_code (status_of complaint)
+  pub line : HasLine errors (line_of complaint)
+  pub why : ((complaint ≡ OutOfMemory) × IsFront before after []) ⊎ IsSomeAnd (asked_by words) (IsEndedBy complaint known before after)

@@ -1,0 +1,87 @@
+ghost use Rattle.std.specs.Prelude.{◌≡◌, false, IfOk};
+ghost use Rattle.clap.specs.Words.{app_of, rule_of, shape_of};
+ghost use Rattle.clap.specs.declared.builder.command.Command.TheViews.{out-Command as fields_of};
+ghost use Rattle.census.specs.Application.{census_app, code_argument, generations_argument, rule_argument, run_shape, show_shape};
+
+use clap::{Arg, Command, value_parser};
+use std::alloc::{AllocError, Global};
+
+/// The rule that is meant if none is given: Conway's Game of Life.
+const LIFE: &str = "b3s23";
+
+/// The program as `clap` reads its words.
+///
+/// # Errors
+///
+/// `AllocError` if memory runs out.
+pub fn census_command<'a>(alloc: Global) -> Result<Command<'a>, AllocError>
+    ensures { IfOk result (λ command. app_of command ≡ census_app) }
+{
+    Command::new(alloc, "census")
+        .about(
+            "Runs patterns of Conway's Game of Life and its kin, and takes a census of random ones",
+        )
+        .subcommand_required(true)
+        .subcommand(run_command(alloc)?)?
+        .subcommand(show_command(alloc)?)
+}
+
+fn run_command<'a>(alloc: Global) -> Result<Command<'a>, AllocError>
+    ensures shape { IfOk result (λ command. shape_of command ≡ run_shape) }
+    ensures local { IfOk result (λ command. (fields_of command).has_globals ≡ false) }
+{
+    Command::new(alloc, "run")
+        .about("Reads a pattern, runs it for N generations and prints it")
+        .long_about(
+            "Reads a pattern from standard input, runs it for N generations and prints it on standard output.\n\n\
+             Both are plaintext: a line for each row, with `.` for a dead cell and `O` or `*` for a live one. \
+             Lines that begin with `!` are comments.",
+        )
+        .arg(generations_argument(alloc))?
+        .arg(rule_argument(alloc))
+}
+
+fn show_command<'a>(alloc: Global) -> Result<Command<'a>, AllocError>
+    ensures shape { IfOk result (λ command. shape_of command ≡ show_shape) }
+    ensures local { IfOk result (λ command. (fields_of command).has_globals ≡ false) }
+{
+    Command::new(alloc, "show")
+        .about("Prints the object that a code names")
+        .long_about(
+            "Prints the object that a code names on standard output, in plaintext: a line for each row, with `.` for a \
+             dead cell and `O` for a live one.",
+        )
+        .arg(code_argument(alloc))
+}
+
+fn code_argument<'a>(alloc: Global) -> Arg<'a>
+    ensures rule { rule_of result ≡ code_argument }
+    ensures local { result.global ≡ false }
+{
+    Arg::new(alloc, "CODE").required(true).help(
+        "An apgcode, as xs7_178c or xp2_7, or the text behind its `_`; the number isn't looked at",
+    )
+}
+
+fn generations_argument<'a>(alloc: Global) -> Arg<'a>
+    ensures rule { rule_of result ≡ generations_argument }
+    ensures local { result.global ≡ false }
+{
+    Arg::new(alloc, "N")
+        .required(true)
+        .value_parser(value_parser!(u32).range(0..=100_000))
+        .help("How many generations to run, from 0 to 100000")
+}
+
+fn rule_argument<'a>(alloc: Global) -> Arg<'a>
+    ensures rule { rule_of result ≡ rule_argument }
+    ensures local { result.global ≡ false }
+{
+    Arg::new(alloc, "rule")
+        .long("rule")
+        .value_name("TEXT")
+        .default_value(LIFE)
+        .help(
+            "The rule, as b3s23: `b`, the numbers of live neighbours that give birth, `s`, the numbers on which a live cell survives",
+        )
+}

@@ -1,0 +1,86 @@
+-- Lemmas on what commands read and answer.
+use Rattle.std.proofs.Common.{◌≡◌, ◌≤◌, ◌^◌, ◌↔◌, ℕ, List, [], length, Bool, true, Option, None, Some, Result, Ok, Err, nat_le, is_ok, refl, sym, ap, ◌∙◌, rules}
+use Rattle.std.specs.Result.{IsErrAnd, IsErrOf, result_map_both}
+use Rattle.plane_core.specs.declared.cell.Cell.{Cell}
+use Rattle.plane_core.specs.declared.rule.RuleError.{RuleError}
+use Rattle.plane_core.specs.declared.rule.RuleError.TheVariants as rule_error
+use Rattle.plane_core.specs.declared.plaintext.PlaintextError.{PlaintextError}
+use Rattle.plane_core.specs.declared.plaintext.PlaintextError.TheVariants as plaintext_error
+use Rattle.plane_core.specs.declared.plaintext.PlaintextFault.{PlaintextFault}
+use Rattle.plane_core.specs.declared.plaintext.PlaintextFault.TheVariants as plaintext_fault
+use Rattle.plane_core.specs.Rules.{Numbers, rule_read}
+use Rattle.plane_core.specs.Plaintext.{pattern}
+use Rattle.commands.specs.declared.complaint.Complaint.{Complaint}
+use Rattle.commands.specs.declared.complaint.Complaint.TheVariants.{Refused, OutOfMemory, ReadFailed, WriteFailed}
+use Rattle.commands.specs.declared.status.Status.{Status}
+use Rattle.commands.specs.declared.status.Status.TheVariants as statuses
+use Rattle.commands.specs.declared.input.InputFault.{InputFault}
+use Rattle.commands.specs.declared.input.InputFault.TheVariants as input_fault
+use Rattle.commands.specs.Answers.{Answer, Ends, IsInput, Outcome, Reaches, Tells}
+use Rattle.commands.specs.Inputs.{Reads, rule_named, input_complaint, plaintext_complaint, pattern_complaint, pattern_of, rule_complaint}
+use Rattle.commands.specs.Complaints.{status_of}
+use Rattle.commands.specs.Run.{run_answer}
+use Rattle.commands.specs.Streams.{Stream, Has}
+
+-- an error that is known is the result
+pub err_of : {A E : Type 0} (r : Result A E) (e : E) → IsErrAnd r (λ x. x ≡ e) → r ≡ Err e
+err_of (Ok a) e h = absurd h
+err_of (Err x) e h = ap Err h
+
+-- a reader's input is some bytes
+pub some_input : (known : Option (List ℕ)) → (bytes : List ℕ) × IsInput known bytes
+some_input None = ([], tt)
+some_input (Some left) = (left, refl)
+
+-- an input that was not read to its end says nothing of the answer
+pub Reads_unread : {A : Type 0} (answer : Result A Complaint) (fault : InputFault) → Reads answer (Err (input_complaint fault))
+Reads_unread answer input_fault.Unreadable = tt
+Reads_unread answer input_fault.OutOfMemory = tt
+
+-- an input up to the limit is looked at
+pub pattern_of-short : (bytes : List ℕ) (answer : Result (List Cell) PlaintextFault) → length bytes ≤ 2 ^ 24 → pattern bytes ≡ answer
+    → pattern_of bytes ≡ result_map_both (λ (cells : List Cell). cells) pattern_complaint answer
+pattern_of-short bytes answer short is =
+    let looked : nat_le (length bytes) (2 ^ 24) ≡ true = search rules in
+    rw (looked, is)
+
+-- a refused pattern is the answer
+pub Reads_refused : (bytes : List ℕ) (fault : PlaintextFault) → length bytes ≤ 2 ^ 24 → pattern bytes ≡ Err fault
+    → Reads (pattern_of bytes) (Err (pattern_complaint fault))
+Reads_refused bytes (plaintext_fault.BadByte line column) short is = pattern_of-short bytes _ short is
+Reads_refused bytes plaintext_fault.TooLarge short is = pattern_of-short bytes _ short is
+
+pub Reads_error : (bytes : List ℕ) (error : PlaintextError) → length bytes ≤ 2 ^ 24
+    → ((fault : PlaintextFault) → IsErrOf {T = List Cell} (Err error) (plaintext_error.Fault fault) ↔ (pattern bytes ≡ Err fault))
+    → Reads (pattern_of bytes) (Err (plaintext_complaint error))
+Reads_error bytes (plaintext_error.Fault fault) short faults = Reads_refused bytes fault short ((faults fault).0 refl)
+Reads_error bytes plaintext_error.Memory short faults = tt
+
+-- a refused rule is the answer, with nothing on the output
+pub Reaches_rule : (reads : Bool) (text : List ℕ) (n : ℕ) (bytes : List ℕ) (error : RuleError) (output : Stream) → rule_read text ≡ Err error → Has output []
+    → Reaches reads (run_answer text n bytes) (Err (rule_complaint error)) output
+Reaches_rule reads text n bytes (rule_error.BadRule place) output is nothing = (rw is refl, nothing)
+Reaches_rule reads text n bytes rule_error.BirthZero output is nothing = (rw is refl, nothing)
+
+-- no complaint has the status of a usage fault
+pub status_of-command : (complaint : Complaint) → status_of complaint ≡ statuses.Usage → ⊥
+status_of-command (Refused refusal) is = cc
+status_of-command OutOfMemory is = cc
+status_of-command ReadFailed is = cc
+status_of-command WriteFailed is = cc
+
+-- a command that ended well has no usage fault
+pub Ends-command : {reads : Bool} {answer : Answer} {status : Status} {output errors : Stream} → Ends reads answer status output errors → status ≡ statuses.Usage → ⊥
+Ends-command {status = status} {errors = errors} ends is = go ends.outcome ends.told
+  where
+    go : (outcome : Outcome) → Tells outcome status errors → ⊥
+    go (Ok done) told = let bad : statuses.Done ≡ statuses.Usage = sym told.0 ∙ is in cc
+    go (Err complaint) told = status_of-command complaint (sym told.0 ∙ is)
+
+-- an input that was refused or not read is what the command ends with, with nothing on the output
+pub Reaches_pattern : (text : List ℕ) (n : ℕ) (bytes : List ℕ) (rule : Numbers) (complaint : Complaint) (output : Stream) → rule_read text ≡ Ok rule
+    → Reads (pattern_of bytes) (Err complaint) → Has output [] → Reaches (is_ok (rule_named text)) (run_answer text n bytes) (Err complaint) output
+Reaches_pattern text n bytes rule (Refused refusal) output ruled refused nothing = (rw (ruled, refused) refl, nothing)
+Reaches_pattern text n bytes rule OutOfMemory output ruled refused nothing = ([], _, refl, nothing)
+Reaches_pattern text n bytes rule ReadFailed output ruled refused nothing = (rw ruled refl, nothing)
+Reaches_pattern text n bytes rule WriteFailed output ruled refused nothing = absurd refused

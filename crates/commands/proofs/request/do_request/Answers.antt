@@ -1,0 +1,21 @@
+use Rattle.commands.proofs.AnswerLemmas.{some_input, Ends-command}
+use Rattle.commands.proofs.request.do_request.Goals as goal
+
+pub returns-in-Show-clause-ends : goal.returns-in-Show-clause-ends
+returns-in-Show-clause-ends g c =
+    let some = some_input (g.R.Read.remaining c.args.input.now) in
+    rw (c.in-Show.is, ← c.as_str-in-Show.ensures) (record { bytes = some.0; input = some.1; ends = c.do_show.ensures.ends })
+
+pub returns-in-Version-clause-ends : goal.returns-in-Version-clause-ends
+returns-in-Version-clause-ends g c =
+    let some = some_input (g.R.Read.remaining c.args.input.now) in
+    rw c.in-Version.is (record { bytes = some.0; input = some.1; ends = c.do_version.ensures.ends })
+
+pub returns-in-Run-clause-command : goal.returns-in-Run-clause-command
+returns-in-Run-clause-command g c = Ends-command c.do_run.ensures.ends.2
+
+pub returns-in-Show-clause-command : goal.returns-in-Show-clause-command
+returns-in-Show-clause-command g c = Ends-command c.do_show.ensures.ends
+
+pub returns-in-Version-clause-command : goal.returns-in-Version-clause-command
+returns-in-Version-clause-command g c = Ends-command c.do_version.ensures.ends

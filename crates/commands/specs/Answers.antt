@@ -1,0 +1,50 @@
+-- What a command is asked for, and how it may end.
+use Rattle.std.specs.Prelude.{◌≡◌, ℕ, Bool, true, false, List, [], Option, Result, Ok, Err, IfSome, IsOkAnd}
+use Rattle.std.specs.Result.{result_unwrap_or}
+use Rattle.commands.specs.declared.complaint.Complaint.{Complaint}
+use Rattle.commands.specs.declared.complaint.Complaint.TheVariants.{Refused, OutOfMemory, ReadFailed, WriteFailed}
+use Rattle.commands.specs.declared.status.Status.{Status}
+use Rattle.commands.specs.declared.status.Status.TheVariants.{Done}
+use Rattle.commands.specs.Complaints.{line_of, status_of}
+use Rattle.commands.specs.Streams.{Stream, Has, HasFront, HasLine}
+
+-- what a command writes to standard output if memory lasts and no stream fails, or what it complains of
+abbrev pub Answer : Type 0
+Answer = Result (List ℕ) Complaint
+
+-- the text for standard output: none where there is a complaint
+abbrev pub text_of : Answer → List ℕ
+text_of answer = result_unwrap_or answer []
+
+-- the next step takes what the step before gave, and a complaint stops them
+abbrev pub given : {A B : Type 0} → Result A Complaint → (A → Result B Complaint) → Result B Complaint
+given (Ok x) next = next x
+given (Err complaint) next = Err complaint
+
+-- the bytes may be the input of a reader with these bytes left: they are, where those are known
+abbrev pub IsInput : Option (List ℕ) → List ℕ → Type 0
+IsInput known bytes = IfSome known (λ left. bytes ≡ left)
+
+-- how a command ended: all was done, or there is a complaint
+abbrev pub Outcome : Type 0
+Outcome = Result (Unit {0}) Complaint
+
+-- What stands on standard output after an outcome: the answer's text if all was done, the front of it if memory ran out
+-- or a write failed, and else nothing. Only a command that reads its input meets a failed read. A refusal is the answer.
+abbrev pub Reaches : Bool → Answer → Outcome → Stream → Type 0
+Reaches reads answer (Ok _) output = IsOkAnd answer (Has output) × (output.failed ≡ false)
+Reaches reads answer (Err OutOfMemory) output = HasFront output (text_of answer)
+Reaches reads answer (Err ReadFailed) output = (reads ≡ true) × Has output []
+Reaches reads answer (Err WriteFailed) output = HasFront output (text_of answer) × (output.failed ≡ true)
+Reaches reads answer (Err (Refused refusal)) output = (answer ≡ Err (Refused refusal)) × Has output []
+
+-- the status of an outcome, and its line on standard error
+abbrev pub Tells : Outcome → Status → Stream → Type 0
+Tells (Ok _) status errors = (status ≡ Done) × Has errors [] × (errors.failed ≡ false)
+Tells (Err complaint) status errors = (status ≡ status_of complaint) × HasLine errors (line_of complaint)
+
+-- a command with this answer ends well: it gives the answer, or it gives up because memory runs out or a stream fails
+pub record Ends (reads : Bool) (answer : Answer) (status : Status) (output errors : Stream) : Type 0 where
+  pub outcome : Outcome
+  pub reached : Reaches reads answer outcome output
+  pub told : Tells outcome status errors

@@ -1,0 +1,34 @@
+-- The lines on standard error, and the status that goes with each.
+use Rattle.std.specs.Prelude.{ℕ, ◌++◌, List, codes, decimal}
+use Rattle.commands.specs.declared.complaint.Complaint.{Complaint}
+use Rattle.commands.specs.declared.complaint.Complaint.TheVariants.{Refused, OutOfMemory, ReadFailed, WriteFailed}
+use Rattle.commands.specs.declared.refusal.Refusal.{Refusal}
+use Rattle.commands.specs.declared.refusal.Refusal.TheVariants.{BadByte, PatternTooLarge, BadRule, BirthZero, NotACode, CodeTooLong, CodeBadByte, CodeShortRun, CodeEmpty}
+use Rattle.commands.specs.declared.status.Status.{Status}
+use Rattle.commands.specs.declared.status.Status.TheVariants as status
+
+-- the line of a refusal
+abbrev pub refusal_line : Refusal → List ℕ
+refusal_line (BadByte line column) = codes "census: bad byte at line " ++ decimal line ++ codes " column " ++ decimal column ++ codes "\n"
+refusal_line PatternTooLarge = codes "census: pattern larger than 1000 by 1000\n"
+refusal_line (BadRule place) = codes "census: bad rule at " ++ decimal place ++ codes "\n"
+refusal_line BirthZero = codes "census: birth on zero neighbours\n"
+refusal_line NotACode = codes "census: not a code\n"
+refusal_line CodeTooLong = codes "census: code too long\n"
+refusal_line (CodeBadByte place) = codes "census: bad byte in code at " ++ decimal place ++ codes "\n"
+refusal_line (CodeShortRun place) = codes "census: short run in code at " ++ decimal place ++ codes "\n"
+refusal_line CodeEmpty = codes "census: code without a live cell\n"
+
+-- the line of a complaint
+abbrev pub line_of : Complaint → List ℕ
+line_of (Refused refusal) = refusal_line refusal
+line_of OutOfMemory = codes "census: out of memory\n"
+line_of ReadFailed = codes "census: read failed\n"
+line_of WriteFailed = codes "census: write failed\n"
+
+-- the status of a command that ends with a complaint
+abbrev pub status_of : Complaint → Status
+status_of (Refused refusal) = status.Refused
+status_of OutOfMemory = status.OutOfMemory
+status_of ReadFailed = status.Failed
+status_of WriteFailed = status.Failed

@@ -1,0 +1,9 @@
+pub mod Answers
+pub mod Complaints
+pub mod Inputs
+pub mod Requests
+pub mod Run
+pub mod Show
+pub mod Status
+pub mod Streams
+pub mod Version

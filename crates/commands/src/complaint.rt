@@ -1,0 +1,142 @@
+ghost use Rattle.std.specs.Prelude.{◌≡◌, false};
+ghost use Rattle.plane_core.specs.Out.{Writes};
+ghost use Rattle.commands.specs.Complaints.{line_of, status_of};
+ghost use Rattle.commands.specs.Streams.{stream, HasLine};
+
+use crate::input::InputFault;
+use crate::refusal::Refusal;
+use crate::status::Status;
+use code_core::reader::{WechslerError, WechslerFault};
+use plane_core::output::{Out, WriteError};
+use plane_core::plaintext::{PlaintextError, PlaintextFault};
+use plane_core::rule::RuleError;
+use std::io::Write;
+
+/// Why a command did not do all that was asked: the one line that it leaves on standard error, and its status.
+#[derive(Clone, Copy, Debug, PartialEq, Eq)]
+pub enum Complaint {
+    /// A text was refused.
+    Refused(Refusal),
+    /// Memory ran out.
+    OutOfMemory,
+    /// A read failed, or the input is longer than a command reads.
+    ReadFailed,
+    /// A write to standard output failed.
+    WriteFailed,
+}
+
+impl Complaint {
+    /// The status of a command that ends with this complaint.
+    pub fn status(self) -> Status
+        ensures { result ≡ status_of self }
+    {
+        match self {
+            Complaint::Refused(_) => Status::Refused,
+            Complaint::OutOfMemory => Status::OutOfMemory,
+            Complaint::ReadFailed | Complaint::WriteFailed => Status::Failed,
+        }
+    }
+
+    /// Writes the line, to a writer that hasn't failed. It takes no memory.
+    ///
+    /// # Errors
+    ///
+    /// [`WriteError`] if a write fails.
+    pub fn write_line<E: Write>(self, errors: &mut Out<E>) -> Result<(), WriteError>
+        requires { errors.old.failed ≡ false }
+        ensures { Writes E.contents errors.old errors.new result (line_of self) }
+    {
+        match self {
+            Complaint::Refused(refusal) => refusal.write_line(errors),
+            Complaint::OutOfMemory => errors.put(b"census: out of memory\n"),
+            Complaint::ReadFailed => errors.put(b"census: read failed\n"),
+            Complaint::WriteFailed => errors.put(b"census: write failed\n"),
+        }
+    }
+
+    /// Writes the line and returns the status. A failure to write the line is not reported.
+    pub fn tell<E: Write>(self, errors: &mut Out<E>) -> Status
+        requires { errors.old.failed ≡ false }
+        ensures status { result ≡ status_of self }
+        ensures line { HasLine (stream E.contents errors.old errors.new) (line_of self) }
+    {
+        let _ = self.write_line(errors);
+        self.status()
+    }
+}
+
+impl From<RuleError> for Complaint {
+    ghost use Rattle.commands.specs.Inputs.{rule_complaint};
+
+    ghost from_gives = { λ error complaint. complaint ≡ rule_complaint error };
+
+    fn from(error: RuleError) -> Complaint {
+        Complaint::Refused(match error {
+            RuleError::BadRule { place } => Refusal::BadRule { place },
+            RuleError::BirthZero => Refusal::BirthZero,
+        })
+    }
+}
+
+impl From<PlaintextError> for Complaint {
+    ghost use Rattle.commands.specs.Inputs.{plaintext_complaint};
+
+    ghost from_gives = { λ error complaint. complaint ≡ plaintext_complaint error };
+
+    fn from(error: PlaintextError) -> Complaint {
+        match error {
+            PlaintextError::Fault(PlaintextFault::BadByte { line, column }) => {
+                Complaint::Refused(Refusal::BadByte { line, column })
+            }
+            PlaintextError::Fault(PlaintextFault::TooLarge) => {
+                Complaint::Refused(Refusal::PatternTooLarge)
+            }
+            PlaintextError::Memory => Complaint::OutOfMemory,
+        }
+    }
+}
+
+impl From<WechslerError> for Complaint {
+    ghost use Rattle.commands.specs.Show.{reader_complaint};
+
+    ghost from_gives = { λ error complaint. complaint ≡ reader_complaint error };
+
+    fn from(error: WechslerError) -> Complaint {
+        match error {
+            WechslerError::Fault(WechslerFault::TooLong) => {
+                Complaint::Refused(Refusal::CodeTooLong)
+            }
+            WechslerError::Fault(WechslerFault::BadByte { place }) => {
+                Complaint::Refused(Refusal::CodeBadByte { place })
+            }
+            WechslerError::Fault(WechslerFault::ShortRun { place }) => {
+                Complaint::Refused(Refusal::CodeShortRun { place })
+            }
+            WechslerError::Fault(WechslerFault::Empty) => Complaint::Refused(Refusal::CodeEmpty),
+            WechslerError::Memory => Complaint::OutOfMemory,
+        }
+    }
+}
+
+impl From<InputFault> for Complaint {
+    ghost use Rattle.commands.specs.Inputs.{input_complaint};
+
+    ghost from_gives = { λ fault complaint. complaint ≡ input_complaint fault };
+
+    fn from(fault: InputFault) -> Complaint {
+        match fault {
+            InputFault::Unreadable => Complaint::ReadFailed,
+            InputFault::OutOfMemory => Complaint::OutOfMemory,
+        }
+    }
+}
+
+impl From<WriteError> for Complaint {
+    ghost use Rattle.commands.specs.declared.complaint.Complaint.TheVariants.{WriteFailed};
+
+    ghost from_gives = { λ _ complaint. complaint ≡ WriteFailed };
+
+    fn from(_error: WriteError) -> Complaint {
+        Complaint::WriteFailed
+    }
+}

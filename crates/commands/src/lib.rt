@@ -1,0 +1,28 @@
+//! What each command of the census program does, over values, readers and writers.
+//!
+//! [`do_request`](request::do_request) does what a [`Request`](request::Request) asks for, by the function of that
+//! command, as [`do_run`](run::do_run). The program reads words into a request, and lends the process's streams.
+#![tactic(auto)]
+
+/// Why a command did not do all that was asked, and the line on standard error that says so.
+pub mod complaint;
+/// Inputs, read whole.
+mod input;
+/// Output that is buffered until a command has ended.
+pub mod output;
+/// Why a text was refused, and its line.
+pub mod refusal;
+/// Commands with their values.
+pub mod request;
+/// `run`: a pattern some generations later.
+pub mod run;
+/// `show`: the object that a code names.
+pub mod show;
+/// How a command ended, as a shell sees it.
+pub mod status;
+/// `--version`: the program's name and version.
+pub mod version;
+/// Words of the command line.
+#[cfg(test)]
+mod tests;
+pub mod word;

@@ -1,0 +1,56 @@
+ghost use Rattle.std.specs.Prelude.{◌≡◌, ◌≢◌, false};
+ghost use Rattle.commands.specs.Requests.{DoesRequest, IsWithinLimits, reads_input};
+ghost use Rattle.commands.specs.Streams.{stream};
+
+use crate::run::do_run;
+use crate::show::do_show;
+use crate::status::Status;
+use crate::version::do_version;
+use crate::word::Word;
+use plane_core::output::Out;
+use std::alloc::Global;
+use std::io::{Read, Write};
+
+/// A command with its values.
+#[derive(Drop)]
+pub enum Request<'a> {
+    /// The pattern of the input so many generations later, at most 100,000, under the rule of a text.
+    Run { generations: u32, rule: Word<'a> },
+    /// The object that a code names.
+    Show { code: Word<'a> },
+    /// The program's name and version.
+    Version,
+}
+
+/// Does what a request asks for, and returns how that ended.
+///
+/// The request must be within its limits, and neither writer may have failed. Nothing of the input is read for a
+/// request that doesn't look at it, nor for one whose rule is refused.
+///
+/// # Errors
+///
+/// As of the request's own function: [`do_run`], [`do_show`] or [`do_version`].
+pub fn do_request<R: Read, W: Write, E: Write>(
+    alloc: Global,
+    request: &Request<'_>,
+    input: &mut R,
+    output: &mut Out<W>,
+    errors: &mut Out<E>,
+) -> Status
+    requires request { IsWithinLimits request.now }
+    requires output { output.old.failed ≡ false }
+    requires errors { errors.old.failed ≡ false }
+    ensures ends { DoesRequest (R.remaining input.old) result
+        (stream W.contents output.old output.new) (stream E.contents errors.old errors.new) request.now }
+    ensures unread { reads_input request.now ≡ false → input.new ≡ input.old }
+    ensures untouched { result ≡ Status.Refused → output.new ≡ output.old }
+    ensures command { result ≢ Status.Usage }
+{
+    match request {
+        Request::Run { generations, rule } => {
+            do_run(alloc, *generations, rule.as_str(), input, output, errors)
+        }
+        Request::Show { code } => do_show(alloc, code.as_str(), output, errors),
+        Request::Version => do_version(output, errors),
+    }
+}

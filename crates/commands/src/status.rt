@@ -1,0 +1,39 @@
+ghost use Rattle.std.specs.Prelude.{◌≡◌};
+ghost use Rattle.commands.specs.Status.{exit_code, prints_nothing};
+
+/// How a command ended, as a shell sees it.
+#[derive(Clone, Copy, Debug, PartialEq, Eq)]
+pub enum Status {
+    /// All was done.
+    Done,
+    /// The words after the program's name were not understood, or asked for help.
+    Usage,
+    /// A text was refused: a pattern, a rule or a code that is not of its form.
+    Refused,
+    /// Memory ran out.
+    OutOfMemory,
+    /// Reading or writing failed.
+    Failed,
+}
+
+impl Status {
+    /// The number that the process ends with.
+    pub fn exit_code(self) -> u8
+        ensures { result ≡ exit_code self }
+    {
+        match self {
+            Status::Done => 0,
+            Status::Usage => 2,
+            Status::Refused => 3,
+            Status::OutOfMemory => 4,
+            Status::Failed => 5,
+        }
+    }
+
+    /// Whether a command that ends so has written nothing to standard output.
+    pub fn prints_nothing(self) -> bool
+        ensures { result ≡ prints_nothing self }
+    {
+        matches!(self, Status::Usage | Status::Refused)
+    }
+}

@@ -1,0 +1,38 @@
+ghost use Rattle.std.specs.Prelude.{◌≡◌, ◌≢◌, false};
+ghost use Rattle.commands.specs.Answers.{Ends, Reaches};
+ghost use Rattle.commands.specs.Streams.{stream};
+ghost use Rattle.commands.specs.Version.{version_answer};
+
+use crate::complaint::Complaint;
+use crate::status::Status;
+use plane_core::output::Out;
+use std::io::Write;
+
+/// Writes the program's name and version, as a line.
+///
+/// Both writers must not have failed. It takes no memory.
+///
+/// # Errors
+///
+/// The status is `Failed` if the output can't be written. Then a line stands on `errors`; a failure to write that
+/// line is not reported.
+pub fn do_version<W: Write, E: Write>(output: &mut Out<W>, errors: &mut Out<E>) -> Status
+    requires output { output.old.failed ≡ false }
+    requires errors { errors.old.failed ≡ false }
+    ensures ends { Ends false version_answer result
+        (stream W.contents output.old output.new) (stream E.contents errors.old errors.new) }
+    ensures status { result ≢ Status.Refused }
+{
+    match put_version(output) {
+        Ok(()) => Status::Done,
+        Err(complaint) => complaint.tell(errors),
+    }
+}
+
+fn put_version<W: Write>(output: &mut Out<W>) -> Result<(), Complaint>
+    requires { output.old.failed ≡ false }
+    ensures { Reaches false version_answer result (stream W.contents output.old output.new) }
+{
+    output.put(b"census 0.1.0\n")?;
+    Ok(())
+}
