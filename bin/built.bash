@@ -2,7 +2,7 @@
 # Functions for the scripts that load this file by its full path: what the program was built from, and whether that is
 # what is there now.
 #
-# The stamp beside the program has the toolchain's version and then a line of `sha256sum` for each source and for the
+# The stamp beside the program has the toolchain's version and then a line of `b2sum` for each source and for the
 # program. So contents and names count, and times don't: no matter when a file was changed, copied or touched.
 #
 # Each call of the program waits for `is_fresh`, so what runs there starts few processes.
@@ -26,7 +26,7 @@ digests() (
     set -o pipefail
     cd -- "$top" && find crates.txt crates "$@" -name out -prune -o \
         -type f \( -name '*.rt' -o -name '*.antt' -o -path crates.txt -o -path "$program" \) \
-        -exec sha256sum -- {} + 2>/dev/null | LC_ALL=C sort
+        -exec b2sum -l 256 -- {} + 2>/dev/null | LC_ALL=C sort
 )
 
 # Whether the program is the one that was built from these sources by this toolchain. Where there is no toolchain, the
