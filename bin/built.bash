@@ -18,7 +18,7 @@ get_version() {
     kit=$(readlink -f -- "${BASH_CMDS[rt]}")
     # `rt version` prints this file, but takes 0.3 seconds.
     version=${kit%/*/*}/KIT-ID
-    if [[ -r $version ]]; then read -r version <"$version"; else version=$(rt version </dev/null 2>/dev/null); fi
+    if [[ -r $version ]]; then version=$(<"$version"); else version=$(rt version </dev/null 2>/dev/null); fi
 }
 
 # Prints the digests of the sources, and of the files that are named. Wrong bodies and tests' inputs aren't built.
