@@ -21,13 +21,19 @@ get_version() {
     if [[ -r $version ]]; then version=$(<"$version"); else version=$(rt version </dev/null 2>/dev/null); fi
 }
 
-# Prints the digests of the sources, and of the files that are named. Wrong bodies and tests' inputs aren't built.
+# Prints the digests of the sources, and of the program if it is named. Wrong bodies and tests' inputs aren't built.
 digests() (
     set -o pipefail
     cd -- "$top" && find crates.txt crates "$@" -name out -prune -o \
         -type f \( -name '*.rt' -o -name '*.antt' -o -path crates.txt -o -path "$program" \) \
         -exec b2sum -l 256 -- {} + 2>/dev/null | LC_ALL=C sort
 )
+
+# Prints what a build starts from: the toolchain's version and the digests of the sources.
+basis() {
+    local version
+    get_version && echo "$version" && digests
+}
 
 # Whether the program is the one that was built from these sources by this toolchain. Where there is no toolchain, the
 # sources alone are compared: nothing else could be built, and a program that was built from them is right.
@@ -39,10 +45,9 @@ is_fresh() {
     ! get_version || [[ $built_by == "$version" ]]
 }
 
-# Writes the stamp, unless the sources are no longer those of these digests, which were taken before the build.
+# Writes the stamp, unless something else is there now than the basis that is given, which was there before the build.
 write_stamp() {
-    [[ -x $top/$program && $(digests) == "$1" ]] || return
-    local version
+    [[ -x $top/$program && $(basis) == "$1" ]] || return
     # A stamp that is written by halves must not be read, so it gets its name last.
-    get_version && { echo "$version" && digests "$program"; } >"$stamp.next" && mv -fT -- "$stamp.next" "$stamp"
+    { echo "${1%%$'\n'*}" && digests "$program"; } >"$stamp.next" && mv -fT -- "$stamp.next" "$stamp"
 }
