@@ -1,3 +1,5 @@
 pub mod CallLemmas
+pub mod NumberLemmas
 pub mod ProgramLemmas
+pub mod UseLemmas
 pub mod WordLemmas

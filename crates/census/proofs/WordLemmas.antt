@@ -14,7 +14,7 @@ use Rattle.clap.proofs.WalkLemmas.{both, one_text-rows}
 use Rattle.commands.specs.declared.request.Request.{Request}
 use Rattle.commands.specs.declared.request.Request.TheVariants.{Run, Show}
 use Rattle.census.specs.Application.{census_app}
-use Rattle.census.specs.Words.{asked_by, asks_version, command_of, request_in, generations_in, generations_of, run_in, show_in}
+use Rattle.census.specs.Words.{asked_by, asks_version, command_of, request_in, number_in, number_of, run_in, show_in}
 
 digits_pass : (ds : List ℕ) → AllDigits 10 ds → list_all (λ d. nat_lt (digit_value d) 10) ds ≡ true
 digits_pass [] h = refl
@@ -35,17 +35,17 @@ is_numeral-from ds e =
     (ltb-true _ _ parts.0, digits_from ds parts.1)
 
 -- a number, where it is within the limit
-abbrev pub within_limit : ℕ → Option ℕ
-within_limit n = cond (nat_le n 100000) (Some n) None
+abbrev pub within : ℕ → ℕ → Option ℕ
+within most n = cond (nat_le n most) (Some n) None
 
 -- a text that is read as a number of 32 bits
-ok_within : (text : Text) (n : ℕ) → IsNumeral 10 (without_leading_plus text) → n ≡ digits_value 10 (without_leading_plus text) → within_limit n ≡ generations_of text
-ok_within text n numeral is = rw (is, is_numeral-passes _ numeral) refl
+ok_within : (most : ℕ) (text : Text) (n : ℕ) → IsNumeral 10 (without_leading_plus text) → n ≡ digits_value 10 (without_leading_plus text) → within most n ≡ number_of most text
+ok_within most text n numeral is = rw (is, is_numeral-passes _ numeral) refl
 
-none_within : (text : Text) → ((IsNumeral 10 (without_leading_plus text) × (digits_value 10 (without_leading_plus text) < 2 ^ 32)) → ⊥) → None ≡ generations_of text
-none_within text never = go (is_numeral (without_leading_plus text) && nat_le (digits_value 10 (without_leading_plus text)) 100000) refl
+none_within : (most : ℕ) (text : Text) → most < 2 ^ 32 → ((IsNumeral 10 (without_leading_plus text) × (digits_value 10 (without_leading_plus text) < 2 ^ 32)) → ⊥) → None ≡ number_of most text
+none_within most text fits never = go (is_numeral (without_leading_plus text) && nat_le (digits_value 10 (without_leading_plus text)) most) refl
   where
-    go : (b : Bool) → (is_numeral (without_leading_plus text) && nat_le (digits_value 10 (without_leading_plus text)) 100000) ≡ b → None ≡ generations_of text
+    go : (b : Bool) → (is_numeral (without_leading_plus text) && nat_le (digits_value 10 (without_leading_plus text)) most) ≡ b → None ≡ number_of most text
     go false t = rw t refl
     go true t =
         let parts = both _ _ t in
@@ -53,23 +53,23 @@ none_within text never = go (is_numeral (without_leading_plus text) && nat_le (d
         absurd (never (is_numeral-from _ parts.0, omega arith))
 
 -- the number that is read of a text
-text_within : {E : Type 0} (G : Text → Result ℕ E → Type 0) → ((t : Text) (r : Result ℕ E) → G t r → ParsesUnsigned 32 10 t r) → (text : Text) (found : Option ℕ) → ReadsOne G text found
-    → option_and_then within_limit found ≡ generations_of text
-text_within G only text (Some n) read = let h = only text (Ok n) read in ok_within text n h.0.0 h.1
-text_within G only text None read = none_within text (only text (Err read.0) read.1)
+text_within : {E : Type 0} (most : ℕ) → most < 2 ^ 32 → (G : Text → Result ℕ E → Type 0) → ((t : Text) (r : Result ℕ E) → G t r → ParsesUnsigned 32 10 t r) → (text : Text) (found : Option ℕ) → ReadsOne G text found
+    → option_and_then (within most) found ≡ number_of most text
+text_within most fits G only text (Some n) read = let h = only text (Ok n) read in ok_within most text n h.0.0 h.1
+text_within most fits G only text None read = none_within most text fits (only text (Err read.0) read.1)
 
--- the value of N: the number that is read, where it is within the limit
-pub found_within : {E : Type 0} (G : Text → Result ℕ E → Type 0) → ((t : Text) (r : Result ℕ E) → G t r → ParsesUnsigned 32 10 t r) → (f : Found) (found : Option ℕ)
-    → (one_text f (codes "N") ≡ None → found ≡ None) → ((t : Text) → one_text f (codes "N") ≡ Some t → ReadsOne G t found)
-    → option_and_then within_limit found ≡ option_and_then generations_of (one_of (codes "N") (rows_of f))
-found_within G only f found none some = go (one_text f (codes "N")) refl
+-- the number of an argument: the number that is read, where it is within the limit
+pub found_within : {E : Type 0} (most : ℕ) (id : Text) → most < 2 ^ 32 → (G : Text → Result ℕ E → Type 0) → ((t : Text) (r : Result ℕ E) → G t r → ParsesUnsigned 32 10 t r) → (f : Found) (found : Option ℕ)
+    → (one_text f id ≡ None → found ≡ None) → ((t : Text) → one_text f id ≡ Some t → ReadsOne G t found)
+    → option_and_then (within most) found ≡ number_in most id (rows_of f)
+found_within most id fits G only f found none some = go (one_text f id) refl
   where
-    go : (o : Option Text) → one_text f (codes "N") ≡ o → option_and_then within_limit found ≡ option_and_then generations_of (one_of (codes "N") (rows_of f))
-    go None e = rw (← one_text-rows f (codes "N"), e, none e) refl
-    go (Some t) e = rw (← one_text-rows f (codes "N"), e) (text_within G only t found (some t e))
+    go : (o : Option Text) → one_text f id ≡ o → option_and_then (within most) found ≡ number_in most id (rows_of f)
+    go None e = rw (← one_text-rows f id, e, none e) refl
+    go (Some t) e = rw (← one_text-rows f id, e) (text_within most fits G only t found (some t e))
 
 -- what `run` is asked for, from its two values
-pub run_in-is : (rows : List Row) (n : Option ℕ) (rule : Option Text) → n ≡ generations_in rows → rule ≡ first_of (codes "rule") rows → run_in rows ≡ option_and_then (λ k. option_map (Run k) rule) n
+pub run_in-is : (rows : List Row) (n : Option ℕ) (rule : Option Text) → n ≡ number_in 100000 (codes "N") rows → rule ≡ first_of (codes "rule") rows → run_in rows ≡ option_and_then (λ k. option_map (Run k) rule) n
 run_in-is rows n rule is_n is_rule = rw (is_n, is_rule) refl
 
 -- what `show` is asked for, from its value

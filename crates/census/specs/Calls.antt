@@ -1,22 +1,50 @@
 -- Calls of the program, and what they ask for.
-use Rattle.std.specs.Prelude.{◌≡◌, ◌<◌, ◌≤◌, [], ◌∷◌, None, Some, false, codes}
+use Rattle.std.specs.Prelude.{◌≡◌, ◌≢◌, ◌<◌, ◌≤◌, ◌++◌, ℕ, List, [], ◌∷◌, None, Some, false, codes}
 use Rattle.std.specs.Str.Parse.{IsNumeral, digits_value, starts_with_minus}
 use Rattle.clap.specs.Words.{Text}
-use Rattle.commands.specs.declared.request.Request.TheVariants.{Run, Show}
+use Rattle.commands.specs.declared.request.Request.TheVariants.{Run, Show, Version}
 use Rattle.census.specs.Words.{asked_by}
 
--- digits, of a number of at most 100,000
-abbrev pub IsCount : Text → Type 0
-IsCount n = IsNumeral 10 n × (digits_value 10 n ≤ 100000)
+-- digits of a number up to a limit
+abbrev pub IsNumberUpTo : ℕ → Text → Type 0
+IsNumberUpTo most n = IsNumeral 10 n × (digits_value 10 n ≤ most)
 
--- `run N`, alone and with a rule whose text doesn't begin with a hyphen; `run N` with too large a number; and help
+-- a word that is not an option
+abbrev pub IsValue : Text → Type 0
+IsValue word = starts_with_minus word ≡ false
+
+-- `run N` alone, and with `--rule` after it or before it, in the next word or after `=`; N is at most 100,000, and
+-- `--rule` stands once
 pub record AsksToRun : Type 0 where
-  pub life : (program n : Text) → IsCount n → asked_by (program ∷ codes "run" ∷ n ∷ []) ≡ Some (Run (digits_value 10 n) (codes "b3s23"))
-  pub rule : (program n text : Text) → IsCount n → starts_with_minus text ≡ false
+  pub alone : (program n : Text) → IsNumberUpTo 100000 n
+      → asked_by (program ∷ codes "run" ∷ n ∷ []) ≡ Some (Run (digits_value 10 n) (codes "b3s23"))
+  pub rule : (program n text : Text) → IsNumberUpTo 100000 n → IsValue text
       → asked_by (program ∷ codes "run" ∷ n ∷ codes "--rule" ∷ text ∷ []) ≡ Some (Run (digits_value 10 n) text)
+  pub rule_first : (program n text : Text) → IsNumberUpTo 100000 n → IsValue text
+      → asked_by (program ∷ codes "run" ∷ codes "--rule" ∷ text ∷ n ∷ []) ≡ Some (Run (digits_value 10 n) text)
+  pub attached : (program n text : Text) → IsNumberUpTo 100000 n
+      → asked_by (program ∷ codes "run" ∷ n ∷ (codes "--rule=" ++ text) ∷ []) ≡ Some (Run (digits_value 10 n) text)
+  pub attached_first : (program n text : Text) → IsNumberUpTo 100000 n
+      → asked_by (program ∷ codes "run" ∷ (codes "--rule=" ++ text) ∷ n ∷ []) ≡ Some (Run (digits_value 10 n) text)
   pub too_many : (program n : Text) → IsNumeral 10 n → 100000 < digits_value 10 n → asked_by (program ∷ codes "run" ∷ n ∷ []) ≡ None
-  pub help : (program : Text) → asked_by (program ∷ codes "--help" ∷ []) ≡ None
+  pub rule_twice : (program n one other : Text) → IsNumberUpTo 100000 n → IsValue one → IsValue other
+      → asked_by (program ∷ codes "run" ∷ n ∷ codes "--rule" ∷ one ∷ codes "--rule" ∷ other ∷ []) ≡ None
+  pub number_missing : (program : Text) → asked_by (program ∷ codes "run" ∷ []) ≡ None
 
--- `show CODE`, with a code that doesn't begin with a hyphen
-abbrev pub AsksToShow : Type 0
-AsksToShow = (program code : Text) → starts_with_minus code ≡ false → asked_by (program ∷ codes "show" ∷ code ∷ []) ≡ Some (Show code)
+-- `show CODE`
+pub record AsksToShow : Type 0 where
+  pub alone : (program code : Text) → IsValue code → asked_by (program ∷ codes "show" ∷ code ∷ []) ≡ Some (Show code)
+  pub code_missing : (program : Text) → asked_by (program ∷ codes "show" ∷ []) ≡ None
+
+-- `--version` alone
+abbrev pub AsksForVersion : Type 0
+AsksForVersion = (program : Text) → asked_by (program ∷ codes "--version" ∷ []) ≡ Some Version
+
+-- no command, another word in its place, whatever comes after it, and calls for help
+pub record AsksForNothing : Type 0 where
+  pub no_command : (program : Text) → asked_by (program ∷ []) ≡ None
+  pub unknown : (program word : Text) (words : List Text) → IsValue word → word ≢ codes "run" → word ≢ codes "show" → word ≢ codes "help"
+      → asked_by (program ∷ word ∷ words) ≡ None
+  pub help : (program : Text) → asked_by (program ∷ codes "--help" ∷ []) ≡ None
+  pub run_help : (program : Text) → asked_by (program ∷ codes "run" ∷ codes "--help" ∷ []) ≡ None
+  pub show_help : (program : Text) → asked_by (program ∷ codes "show" ∷ codes "--help" ∷ []) ≡ None

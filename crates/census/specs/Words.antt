@@ -14,21 +14,21 @@ use Rattle.commands.specs.Requests.{DoesRequest}
 use Rattle.commands.specs.Streams.{Stream, Has, HasLine}
 use Rattle.census.specs.Application.{census_app}
 
--- the number of generations that a text names: a numeral of at most 100,000, before which a plus may stand
-abbrev pub generations_of : Text → Option ℕ
-generations_of text =
+-- the number up to a limit that a text names: a numeral, before which a plus may stand
+abbrev pub number_of : ℕ → Text → Option ℕ
+number_of most text =
     let digits = without_leading_plus text in
-    if is_numeral digits && nat_le (digits_value 10 digits) 100000 then Some (digits_value 10 digits) else None
+    if is_numeral digits && nat_le (digits_value 10 digits) most then Some (digits_value 10 digits) else None
 
--- the value of N, of what was found for the arguments of `run`
-abbrev pub generations_in : List Row → Option ℕ
-generations_in rows = option_and_then generations_of (one_of (codes "N") rows)
+-- the number that was found for an argument
+abbrev pub number_in : ℕ → Text → List Row → Option ℕ
+number_in most id rows = option_and_then (number_of most) (one_of id rows)
 
--- and the values of both
+-- `run`, with what was found for its arguments
 abbrev pub run_in : List Row → Option Request
-run_in rows = option_and_then (λ n. option_map (Run n) (first_of (codes "rule") rows)) (generations_in rows)
+run_in rows = option_and_then (λ n. option_map (Run n) (first_of (codes "rule") rows)) (number_in 100000 (codes "N") rows)
 
--- the value of CODE, of what was found for the argument of `show`
+-- `show`, with what was found for its argument
 abbrev pub show_in : List Row → Option Request
 show_in rows = option_map Show (first_of (codes "CODE") rows)
 

@@ -19,8 +19,9 @@ pub fn census_command<'a>(alloc: Global) -> Result<Command<'a>, AllocError>
 {
     Command::new(alloc, "census")
         .about(
-            "Runs patterns of Conway's Game of Life and its kin, and takes a census of random ones",
+            "Runs patterns of Conway's Game of Life and its kin, and draws the objects that codes name",
         )
+        .after_help("`census --version` prints the name and version.")
         .subcommand_required(true)
         .subcommand(run_command(alloc)?)?
         .subcommand(show_command(alloc)?)
@@ -34,9 +35,11 @@ fn run_command<'a>(alloc: Global) -> Result<Command<'a>, AllocError>
         .about("Reads a pattern, runs it for N generations and prints it")
         .long_about(
             "Reads a pattern from standard input, runs it for N generations and prints it on standard output.\n\n\
-             Both are plaintext: a line for each row, with `.` for a dead cell and `O` or `*` for a live one. \
-             Lines that begin with `!` are comments.",
+             Both are plaintext (`.cells`): a line for each row, with `.` for a dead cell and `O` or `*` for a live \
+             one. Lines that begin with `!` are comments. Other formats, as RLE, are not read. What is printed is cut \
+             to its box: empty rows and columns at the edges are left out.",
         )
+        .after_help("Example: census run 4 < glider.cells")
         .arg(generations_argument(alloc))?
         .arg(rule_argument(alloc))
 }
@@ -51,6 +54,7 @@ fn show_command<'a>(alloc: Global) -> Result<Command<'a>, AllocError>
             "Prints the object that a code names on standard output, in plaintext: a line for each row, with `.` for a \
              dead cell and `O` for a live one.",
         )
+        .after_help("Example: census show xs7_178c")
         .arg(code_argument(alloc))
 }
 
@@ -59,7 +63,7 @@ fn code_argument<'a>(alloc: Global) -> Arg<'a>
     ensures local { result.global ≡ false }
 {
     Arg::new(alloc, "CODE").required(true).help(
-        "An apgcode, as xs7_178c or xp2_7, or the text behind its `_`; the number isn't looked at",
+        "An apgcode, as xs7_178c or xp2_7, or the text after its `_`; the number isn't checked",
     )
 }
 
@@ -82,6 +86,7 @@ fn rule_argument<'a>(alloc: Global) -> Arg<'a>
         .value_name("TEXT")
         .default_value(LIFE)
         .help(
-            "The rule, as b3s23: `b`, the numbers of live neighbours that give birth, `s`, the numbers on which a live cell survives",
+            "The rule: `b`, the numbers of live neighbours that give birth, `s`, the numbers on which a live cell \
+             survives. Life is b3s23, which others write B3/S23",
         )
 }

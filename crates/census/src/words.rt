@@ -2,8 +2,8 @@ ghost use Rattle.std.specs.Prelude.{◌≡◌, ◌≢◌, None, Some, IfOk, IfEr
 ghost use Rattle.clap.specs.Words.{found_of, kind_of, rows_of, subcommand_rows_of};
 ghost use Rattle.commands.specs.Requests.{IsWithinLimits, reads_input};
 ghost use Rattle.commands.specs.Streams.{stream};
-ghost use Rattle.census.specs.Calls.{AsksToRun, AsksToShow};
-ghost use Rattle.census.specs.Words.{DoesWords, asked_by, asks_version, generations_in, request_in, run_in, show_in};
+ghost use Rattle.census.specs.Calls.{AsksForNothing, AsksForVersion, AsksToRun, AsksToShow};
+ghost use Rattle.census.specs.Words.{DoesWords, asked_by, asks_version, number_in, request_in, run_in, show_in};
 
 use crate::application::census_command;
 use clap::ArgMatches;
@@ -98,13 +98,27 @@ pub fn request_of<'a, S: AsStr>(alloc: Global, words: &'a [S]) -> Result<Request
 }
 
 /// A law of all words: what the calls of `run` ask for.
+#[tactic(auto, using(crate::proofs::CallLemmas::asks_to_run))]
 pub fn asks_to_run()
     ensures { AsksToRun }
 {}
 
 /// A law of all words: what the calls of `show` ask for.
+#[tactic(auto, using(crate::proofs::CallLemmas::asks_to_show))]
 pub fn asks_to_show()
     ensures { AsksToShow }
+{}
+
+/// A law of all words: what `--version` asks for.
+#[tactic(auto, using(crate::proofs::CallLemmas::asks_for_version))]
+pub fn asks_for_version()
+    ensures { AsksForVersion }
+{}
+
+/// A law of all words: no command, an unknown one and `--help` ask for nothing.
+#[tactic(auto, using(crate::proofs::CallLemmas::asks_for_nothing))]
+pub fn asks_for_nothing()
+    ensures { AsksForNothing }
 {}
 
 /// Whether the words are the program's name and `--version` alone.
@@ -136,7 +150,7 @@ fn run_in<'a>(found: &ArgMatches<'a>) -> Option<Request<'a>>
 {
     // `clap` has seen to it that both are there, and N in its range. No clause says so of a subcommand's values, so a
     // missing value is a usage error.
-    let generations = generations_in(found)?;
+    let generations = number_in(found, "N", GENERATION_LIMIT)?;
     let rule = found.get_str("rule")?;
     Some(Request::Run {
         generations,
@@ -155,15 +169,15 @@ fn show_in<'a>(found: &ArgMatches<'a>) -> Option<Request<'a>>
     })
 }
 
-/// The value of N.
-fn generations_in(found: &ArgMatches<'_>) -> Option<u32>
-    ensures { result ≡ generations_in (rows_of (found_of found.now)) }
+/// The number up to a limit that was found for an argument.
+fn number_in(found: &ArgMatches<'_>, id: &str, most: u32) -> Option<u32>
+    ensures { result ≡ number_in most id.now (rows_of (found_of found.now)) }
 {
-    let generations = found.get_one::<u32>("N")?;
-    if generations > GENERATION_LIMIT {
+    let number = found.get_one::<u32>(id)?;
+    if number > most {
         return None;
     }
-    Some(generations)
+    Some(number)
 }
 
 /// What `clap`'s error says of words that name no command, or ask for help.
