@@ -9,8 +9,9 @@ use Rattle.plane_core.specs.Bounds.{shifted}
 use Rattle.plane_core.specs.Cells.{moved_by}
 use Rattle.plane_core.specs.Generations.{after}
 use Rattle.plane_core.specs.Rules.{Numbers}
-use Rattle.code_core.specs.declared.cycle.Recurrence.{Recurrence}
-use Rattle.code_core.specs.Codes.{CodesAreDetermined, IsImageText, OnlyEqualTextsTie, TellsLeast, code_text, kind_of, number_of, text_cmp}
+use Rattle.code_core.specs.declared.recurrence.Recurrence.{Recurrence}
+use Rattle.code_core.specs.Apgcodes.{code_text}
+use Rattle.code_core.specs.Names.{CodesAreDetermined, IsImageText, OnlyEqualTextsTie, TellsLeast, kind_of, number_of, text_cmp}
 use Rattle.code_core.specs.Recurrences.{Recurs}
 use Rattle.code_core.proofs.LeastLemmas.{text_cmp_total}
 use Rattle.code_core.proofs.RecurrenceLemmas.{le_or_lt}

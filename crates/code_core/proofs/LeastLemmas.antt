@@ -3,18 +3,21 @@ use Rattle.std.proofs.Common.{◌≡◌, ◌≢◌, ◌∙◌, sym, ap, refl, su
 use Rattle.std.proofs.lemmas.Cmp.{nat_cmp_total, nat_list_cmp_total, on_total, then_total}
 use Rattle.std.specs.BTreeMap.Comparable.{le_lt_trans}
 use Rattle.std.specs.Cmp.{IsTotalOrder}
+use Rattle.std.specs.Prelude.{IfSome}
 use Rattle.std.specs.Ordering.{match_ordering, ordering_reverse}
-use Rattle.code_core.specs.Codes.{IsImageText, TellsLeast, text_cmp}
+use Rattle.code_core.specs.Names.{IsImageText, TellsLeast, text_cmp}
 use Rattle.code_core.specs.Recurrences.{phases}
-use Rattle.code_core.specs.Texts.{text}
+use Rattle.code_core.specs.Texts.{HasTextShape, text}
 use Rattle.std.proofs.lemmas.List.FromFn.{get_or-map-range_with_len, length-map-range_with_len}
 use Rattle.plane_core.specs.declared.cell.Cell.{Cell}
 use Rattle.plane_core.specs.Generations.{after}
-use Rattle.plane_core.specs.Orientations.{turned}
+use Rattle.plane_core.specs.Orientations.{orientations, turned}
 use Rattle.plane_core.specs.Rules.{Numbers}
 use Rattle.plane_core.specs.declared.orientation.Orientation.TheVariants.{Same, Quarter, Half, ThreeQuarter, Mirror, Flip, Diagonal, AntiDiagonal}
-use Rattle.code_core.specs.Least.{Among, IsImage, IsImageAt, IsImageOf, earlier_of, orientations}
+use Rattle.code_core.specs.Least.{Among, IsImage, IsImageAt, IsImageOf, earlier_of}
+use Rattle.code_core.proofs.TextLaw.{texts_have_their_shape}
 
+-- the order is total
 pub text_cmp_total : IsTotalOrder text_cmp
 text_cmp_total = then_total (on_total length nat_cmp_total) nat_list_cmp_total
 
@@ -46,10 +49,6 @@ text_cmp-onward a b c first second = go (text_cmp b c) refl
         let same : text_cmp a b ≡ text_cmp a c = text_cmp_total.antisymm a b ∙ ap ordering_reverse (text_cmp_total.congr b c a is) ∙ sym (text_cmp_total.antisymm a c) in
         first (same ∙ e)
     go Greater is e = second is
-
--- nothing comes first among no texts
-pub tells_none : (IsIn : ℕ → List ℕ → Type 0) → TellsLeast (Among IsIn 0) None
-tells_none IsIn = λ t one. absurd (omega (arith, one.1))
 
 -- a text alone is the first
 pub tells_one : (o : Option (List ℕ)) → TellsLeast (λ (t : List ℕ). o ≡ Some t) o
@@ -138,3 +137,8 @@ pub least_of_phases : (rule : Numbers) (cells : List Cell) (n : ℕ) (o : Option
 least_of_phases rule cells n o h =
     tells_same (Among (IsImageOf (phases rule cells n)) n) (IsImageText rule cells n) o (phase_images rule cells n) (image_phases rule cells n)
     (subst (λ (m : ℕ). TellsLeast (Among (IsImageOf (phases rule cells n)) m) o) (phase_count rule cells n) h)
+
+-- the least text of the phases has the shape of a text
+pub shape_of_least : (phases : List (List Cell)) (o : Option (List ℕ)) → TellsLeast (Among (IsImageOf phases) (length phases)) o → IfSome o HasTextShape
+shape_of_least phases None h = tt
+shape_of_least phases (Some t) ((k, low, (o, is)), first) = texts_have_their_shape (turned o (get_or phases k [])) t is

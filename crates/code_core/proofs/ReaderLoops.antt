@@ -11,12 +11,11 @@ use Rattle.plane_core.specs.Cells.{on_plane}
 use Rattle.code_core.specs.declared.token.Token.{Token}
 use Rattle.code_core.specs.declared.reader.WechslerFault.{WechslerFault}
 use Rattle.code_core.specs.declared.reader.WechslerFault.TheVariants.{BadByte, ShortRun, Empty}
-use Rattle.code_core.specs.declared.reader.TheConstants.{TEXT_LIMIT}
 use Rattle.code_core.specs.Columns.{cells_from, cells_of}
-use Rattle.code_core.specs.Tokens.{spelling, IsToken, Spells}
-use Rattle.code_core.specs.Reading.{is_character, with_token, tokens_at, unless_empty, wechsler_pattern}
+use Rattle.code_core.specs.Tokens.{spelling, IsToken, Spells, is_character}
+use Rattle.code_core.specs.Reading.{with_token, tokens_at, unless_empty, wechsler_pattern}
 use Rattle.code_core.specs.ReadingSteps.{Begins, IsStuck, fault_at, is_column}
-use Rattle.code_core.proofs.ReadingLemmas.{tokens_at-bad, tokens_at-short_run, tokens_at-stops, tokens_at-spelled, tokens_at-token, tokens_at-Spells, Spells-tokens_at, length-Begins, length-spelled}
+use Rattle.code_core.proofs.TokenReading.{tokens_at-bad, tokens_at-short_run, tokens_at-stops, tokens_at-spelled, tokens_at-token, tokens_at-Spells, Spells-tokens_at, length-Begins, length-spelled}
 use Rattle.code_core.proofs.ReaderCells.{unless_empty-some, unless_empty-none, cells_from-on_plane}
 
 -- tokens spell the text up to the rest, and it is known whether one of them is a column
@@ -159,7 +158,7 @@ sound text h = go (tokens_at 0 text) refl
     go (Err fault) e = absurd (let k = rw e at h in cc)
 
 -- the cells of a short text lie on the plane
-pub Spells-on_plane : (tokens : List Token) (text : List ℕ) → Spells tokens text → length text ≤ TEXT_LIMIT → list_all on_plane (cells_from 0 0 tokens) ≡ true
+pub Spells-on_plane : (tokens : List Token) (text : List ℕ) → Spells tokens text → length text ≤ 10000 → list_all on_plane (cells_from 0 0 tokens) ≡ true
 Spells-on_plane tokens text s short =
     let few : length tokens ≤ 10000 = omega (arith, length-spelled tokens, ap length s.spelled) in
     cells_from-on_plane tokens s.each 0 0 (omega arith) (omega arith)

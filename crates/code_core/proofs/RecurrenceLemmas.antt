@@ -1,13 +1,15 @@
 -- Following a pattern until it comes back.
-use Rattle.std.proofs.Common.{◌≡◌, ◌≢◌, ◌∙◌, sym, ap, refl, subst, ℕ, suc, ℤ, ◌+◌, ◌<◌, ◌≤◌, List, [], ◌∷◌, ◌++◌, false, arith, below_more, eq-or-lt_of_le, inl, inr, ◌⊎◌}
+use Rattle.std.proofs.Common.{◌≡◌, ◌≢◌, ◌∙◌, sym, ap, refl, subst, ℕ, suc, ℤ, ◌+◌, ◌<◌, ◌≤◌, List, [], ◌∷◌, ◌++◌, false, arith, below_more, eq-or-lt_of_le, inl, inr, ◌⊎◌, true}
+use Rattle.std.proofs.lemmas.Bool.{false≢true}
 use Rattle.std.proofs.lemmas.Bool.Decides.{leb_tells}
 use Rattle.std.proofs.lemmas.List.FromFn.{map-range_with_len_more}
 use Rattle.plane_core.specs.declared.cell.Cell.{Cell}
 use Rattle.plane_core.specs.Bounds.{shifted}
-use Rattle.plane_core.specs.Generations.{after, next, touches_edge}
+use Rattle.plane_core.specs.Cells.{plane_bound}
+use Rattle.plane_core.specs.Generations.{after, lies_within, next, touches_edge}
 use Rattle.plane_core.specs.Rules.{Numbers}
-use Rattle.plane_core.proofs.GenerationLemmas.{after-none, after-more}
-use Rattle.code_core.specs.Recurrences.{Follows, IsNew, Recurs, phases}
+use Rattle.plane_core.proofs.GenerationLemmas.{after-none, after-more, run_inside}
+use Rattle.code_core.specs.Recurrences.{Follows, IsNew, MeetsEdge, Recurs, phases}
 
 -- one phase more
 pub phases-more : (rule : Numbers) (cells : List Cell) (n : ℕ) → phases rule cells (n + 1) ≡ phases rule cells n ++ after rule cells n ∷ []
@@ -79,3 +81,14 @@ pub phases_then : (rule : Numbers) (cells : List Cell) (n : ℕ) (before : List 
     → before ++ latest ∷ [] ≡ phases rule cells (suc n)
 phases_then rule cells n before latest h =
     (λ k. h.earlier k ++ h.latest k ∷ []) ∙ sym (phases-more rule cells n) ∙ ap (phases rule cells) (omega arith)
+
+-- ---- at the edge
+
+-- a pattern that touches the edge meets it at once
+pub meets_at_once : (rule : Numbers) (cells : List Cell) (limit : ℕ) → 1 ≤ limit → touches_edge cells ≡ true → MeetsEdge rule cells limit
+meets_at_once rule cells limit some on =
+    (0, omega arith, λ p dx dy least most back. absurd (omega arith), ap touches_edge (after-none rule cells) ∙ on)
+
+-- a pattern that lies too far in never meets it
+pub never_meets : (rule : Numbers) (cells : List Cell) (limit reach : ℕ) → lies_within reach cells ≡ true → reach + limit ≤ plane_bound → MeetsEdge rule cells limit → ⊥
+never_meets rule cells limit reach inside far (g, low, new, on) = false≢true (sym (run_inside rule cells reach g limit inside far low) ∙ on)

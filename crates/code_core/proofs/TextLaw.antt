@@ -13,11 +13,10 @@ use Rattle.plane_core.proofs.PlacementLemmas.{in_order-shifted}
 use Rattle.plane_core.proofs.PlaintextBox.{within-box_of}
 use Rattle.plane_core.proofs.SetLemmas.{has-all, has-append, has-filter, has-head, is_set_of, or_right}
 use Rattle.code_core.specs.declared.token.Token.{Token}
-use Rattle.code_core.specs.declared.wechsler.TheConstants.{SIDE_LIMIT}
 use Rattle.code_core.specs.Columns.{cells_of}
-use Rattle.code_core.specs.Texts.{TextsAreShort, TextsSpellPatterns, boxed_text, is_small, text, tokens_of}
+use Rattle.code_core.specs.Texts.{HasTextShape, TextsHaveTheirShape, TextsSpellPatterns, boxed_text, is_small, text, tokens_of}
 use Rattle.code_core.proofs.StripLemmas.{spelled}
-use Rattle.code_core.proofs.TextLemmas.{tokens_of-lawful, tokens_of-short}
+use Rattle.code_core.proofs.TextLemmas.{tokens_of-lawful, tokens_of-shape}
 use Rattle.code_core.proofs.WholeGaps.{tokens_of-whole}
 use Rattle.code_core.proofs.TokenCells.{box_cells, cells_from-joined, column_cells, strip_cells}
 
@@ -97,8 +96,8 @@ in_order-corner cells b e o = subst (λ f. InOrder (cornered f cells)) (sym e) (
 
 small_sides : (b : Bounds) → is_small b ≡ true → (distance b.left b.right < 40) × (distance b.top b.bottom < 40)
 small_sides b small =
-    let sides = and_parts (nat_lt (distance b.left b.right) SIDE_LIMIT) (nat_lt (distance b.top b.bottom) SIDE_LIMIT) small in
-    (ltb-true (distance b.left b.right) SIDE_LIMIT sides.0, ltb-true (distance b.top b.bottom) SIDE_LIMIT sides.1)
+    let sides = and_parts (nat_lt (distance b.left b.right) 40) (nat_lt (distance b.top b.bottom) 40) small in
+    (ltb-true (distance b.left b.right) 40 sides.0, ltb-true (distance b.top b.bottom) 40 sides.1)
 
 -- ---- the laws
 
@@ -130,9 +129,9 @@ texts_spell_patterns cells t o e =
       cells_of-tokens (at_corner cells) right bottom (in_order-corner cells b f.1 o) (inside-corner cells b f.1),
     )
 
-pub texts_are_short : TextsAreShort
-texts_are_short cells t e =
+pub texts_have_their_shape : TextsHaveTheirShape
+texts_have_their_shape cells t e =
     let f = boxed cells t e in
     let b = f.0 in
     let sides = small_sides b f.2 in
-    subst (λ s. length s ≤ 10000) f.3 (tokens_of-short (at_corner cells) (distance b.left b.right) (distance b.top b.bottom) sides.0 sides.1)
+    subst HasTextShape f.3 (tokens_of-shape (at_corner cells) (distance b.left b.right) (distance b.top b.bottom) sides.0 sides.1)

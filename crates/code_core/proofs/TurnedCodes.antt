@@ -18,8 +18,9 @@ use Rattle.plane_core.proofs.OrientationLemmas.{image-image, image-shifted, turn
 use Rattle.plane_core.proofs.SetLemmas.{in_order-set_of}
 use Rattle.code_core.specs.declared.apgcode.Kind.{Kind}
 use Rattle.code_core.specs.declared.apgcode.Kind.TheVariants.{Still, Oscillator, Ship}
-use Rattle.code_core.specs.declared.cycle.Recurrence.{Recurrence}
-use Rattle.code_core.specs.Codes.{CodesTurned, IsCode, IsImageText, code_text, kind_of, number_of}
+use Rattle.code_core.specs.declared.recurrence.Recurrence.{Recurrence}
+use Rattle.code_core.specs.Apgcodes.{code_text}
+use Rattle.code_core.specs.Names.{CodesTurned, IsCode, IsImageText, kind_of, number_of}
 use Rattle.code_core.specs.Recurrences.{Recurs}
 use Rattle.code_core.specs.Texts.{text}
 use Rattle.code_core.proofs.LeastLemmas.{tells_same}

@@ -5,7 +5,7 @@ use Rattle.plane_core.specs.declared.cell.Cell.{Cell}
 use Rattle.plane_core.specs.Bounds.{shifted}
 use Rattle.plane_core.specs.Generations.{after, touches_edge}
 use Rattle.plane_core.specs.Rules.{Numbers}
-use Rattle.code_core.specs.declared.cycle.Recurrence.{Recurrence}
+use Rattle.code_core.specs.declared.recurrence.Recurrence.{Recurrence}
 
 -- in none of the generations from 1 to g is the pattern itself again, moved or not
 abbrev pub IsNew : Numbers → List Cell → ℕ → Type 0

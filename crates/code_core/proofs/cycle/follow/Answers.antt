@@ -1,7 +1,8 @@
-use Rattle.std.proofs.Common.{◌≡◌, ap, suc, arith, rules, FitsSigned, to_z-of_z, w32}
+use Rattle.std.proofs.Common.{◌≡◌, ◌∙◌, sym, true, ap, suc, arith, rules, FitsSigned, to_z-of_z, w32}
 use Rattle.plane_core.specs.Bounds.{shifted}
-use Rattle.code_core.specs.declared.cycle.Recurrence.{Recurrence}
-use Rattle.code_core.proofs.RecurrenceLemmas.{follows-none, follows-more, recurs_then, inside_then, phases_then}
+use Rattle.plane_core.specs.Generations.{touches_edge}
+use Rattle.code_core.specs.declared.recurrence.Recurrence.{Recurrence}
+use Rattle.code_core.proofs.RecurrenceLemmas.{follows-none, follows-more, inside_then, meets_at_once, never_meets, phases_then, recurs_then}
 use Rattle.code_core.proofs.cycle.follow.Goals as goal
 
 pub loop-age-init : goal.loop-age-init
@@ -36,3 +37,17 @@ pub returns-clause-never : goal.returns-clause-never
 returns-clause-never c =
     let all : c.loop-age.age ≡ c.args.limit = search rules in
     λ p dx dy some low. c.loop-age.invariant.new p dx dy some (omega arith)
+
+-- where the pattern lies too far in, the edge isn't met
+pub returns-then-touches_edge-clause-never_edge : goal.returns-then-touches_edge-clause-never_edge
+returns-then-touches_edge-clause-never_edge c =
+    let on : touches_edge c.args.pattern.now ≡ true = sym c.touches_edge.ensures ∙ c.if-touches_edge.true in
+    λ reach inside far e. never_meets c.args.rule.now c.args.pattern.now c.args.limit reach inside far
+        (meets_at_once c.args.rule.now c.args.pattern.now c.args.limit c.requires.least on)
+
+pub returns-in_err-next-clause-edge : goal.returns-in_err-next-clause-edge
+returns-in_err-next-clause-edge c = search rules
+
+pub returns-in_err-next-clause-never_edge : goal.returns-in_err-next-clause-never_edge
+returns-in_err-next-clause-never_edge c = λ reach inside far e.
+    never_meets c.args.rule.now c.args.pattern.now c.args.limit reach inside far (returns-in_err-next-clause-edge c e)

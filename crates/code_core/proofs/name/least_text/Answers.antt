@@ -1,8 +1,9 @@
 use Rattle.std.proofs.Common.{◌≡◌, ◌∙◌, subst, List, ◌<◌, [], get_or, option_map, string_bytes, rules, length}
 use Rattle.std.proofs.lemmas.List.{get_or_default}
 use Rattle.plane_core.specs.declared.cell.Cell.{Cell}
-use Rattle.code_core.specs.Codes.{TellsLeast}
-use Rattle.code_core.specs.Least.{Among, IsImage, IsImageAt, IsImageOf, orientations}
+use Rattle.plane_core.specs.Orientations.{orientations}
+use Rattle.code_core.specs.Names.{TellsLeast}
+use Rattle.code_core.specs.Least.{Among, IsImage, IsImageAt, IsImageOf}
 use Rattle.code_core.proofs.LeastLemmas.{least_of_all, tells_more}
 use Rattle.code_core.proofs.name.least_text.Goals as goal
 

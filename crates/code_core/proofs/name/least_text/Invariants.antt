@@ -1,5 +1,5 @@
 use Rattle.std.proofs.Common.{option_map, string_bytes}
-use Rattle.code_core.specs.Codes.{TellsLeast}
+use Rattle.code_core.specs.Names.{TellsLeast}
 use Rattle.code_core.specs.Least.{Among, IsImageOf}
 use Rattle.code_core.proofs.name.least_text.Given as goal
 

@@ -1,6 +1,6 @@
 use Rattle.std.proofs.Common.{◌≡◌, List, length, subst}
 use Rattle.plane_core.specs.declared.cell.Cell.{Cell}
-use Rattle.code_core.specs.Codes.{TellsLeast}
+use Rattle.code_core.specs.Names.{TellsLeast}
 use Rattle.code_core.specs.Least.{Among, IsImageOf}
 use Rattle.code_core.specs.Recurrences.{Recurs, phases}
 use Rattle.code_core.proofs.LeastLemmas.{least_of_phases}

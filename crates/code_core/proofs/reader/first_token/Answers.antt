@@ -1,5 +1,5 @@
 use Rattle.std.proofs.Common.{rules}
-use Rattle.code_core.proofs.ReadingLemmas.{Begins_single}
+use Rattle.code_core.proofs.TokenReading.{Begins_single}
 use Rattle.code_core.proofs.reader.first_token.Goals as goal
 
 pub returns-then-byte-ne-MANY_EMPTY-clause-token : goal.returns-then-byte-ne-MANY_EMPTY-clause-token
