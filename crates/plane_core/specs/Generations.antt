@@ -1,8 +1,11 @@
 -- Generations under a rule (LifeWiki, "Life-like cellular automaton").
-use Rattle.std.specs.Prelude.{◌≡◌, ◌+◌, true, ◌==◌, ℕ, zero, suc, pos, negsuc, Bool, List, [], ◌∷◌, count_by, filter, flat_map, if◌then◌else◌}
+use Rattle.std.specs.Prelude.{◌≡◌, ◌+◌, true, ◌==◌, ℕ, ℤ, zero, suc, pos, negsuc, Bool, List, [], ◌∷◌, count_by, filter, flat_map, if◌then◌else◌}
 use Rattle.std.specs.List.{list_any, list_all}
 use Rattle.plane_core.specs.declared.cell.Cell.{Cell}
-use Rattle.plane_core.specs.Cells.{king_distance, moved_by, has, set_of, on_edge, is_within}
+use Rattle.plane_core.specs.Cells.{InOrder, king_distance, moved_by, has, set_of, on_edge, is_within}
+use Rattle.plane_core.specs.declared.orientation.Orientation.{Orientation}
+use Rattle.plane_core.specs.Bounds.{shifted}
+use Rattle.plane_core.specs.Orientations.{image}
 use Rattle.plane_core.specs.Rules.{Numbers, is_birth, is_survival}
 
 -- how many cells of the pattern are at king distance 1 from c
@@ -36,6 +39,13 @@ touches_edge cells = list_any on_edge cells
 -- every cell lies within reach of the origin
 abbrev pub lies_within : ℕ → List Cell → Bool
 lies_within reach cells = list_all (is_within reach) cells
+
+-- a generation doesn't mind where a pattern lies, nor how
+abbrev pub NextMoved : Type 0
+NextMoved = (dx dy : ℤ) (rule : Numbers) (cells : List Cell) → InOrder cells → next rule (shifted dx dy cells) ≡ shifted dx dy (next rule cells)
+
+abbrev pub NextTurned : Type 0
+NextTurned = (o : Orientation) (rule : Numbers) (cells : List Cell) → InOrder cells → next rule (image o cells) ≡ image o (next rule cells)
 
 -- no pattern grows by more than a cell a side in a generation: the field's speed of light
 abbrev pub SpeedOfLight : Type 0

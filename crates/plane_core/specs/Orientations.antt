@@ -1,14 +1,16 @@
 -- The eight orientations of a pattern: the symmetries of the square.
-use Rattle.std.specs.Prelude.{◌≡◌, ℤ, List, map, neg_ℤ}
+use Rattle.std.specs.Prelude.{◌≡◌, ℤ, List, [], ◌∷◌, map, neg_ℤ}
 use Rattle.plane_core.specs.declared.cell.Cell.{Cell}
 use Rattle.plane_core.specs.declared.orientation.Orientation.{Orientation}
 use Rattle.plane_core.specs.declared.orientation.Orientation.TheVariants.{Same, Quarter, Half, ThreeQuarter, Mirror, Flip, Diagonal, AntiDiagonal}
 use Rattle.plane_core.specs.declared.placement.Placement.{Placement}
 use Rattle.plane_core.specs.declared.bounds.Bounds.{Bounds}
 use Rattle.plane_core.specs.Bounds.{at_corner, shifted}
-use Rattle.plane_core.specs.Cells.{cell_at, moved_by, set_of, InOrder}
-use Rattle.plane_core.specs.Generations.{next}
-use Rattle.plane_core.specs.Rules.{Numbers}
+use Rattle.plane_core.specs.Cells.{cell_at, moved_by, set_of}
+
+-- all orientations, each once
+abbrev pub orientations : List Orientation
+orientations = Same ∷ Quarter ∷ Half ∷ ThreeQuarter ∷ Mirror ∷ Flip ∷ Diagonal ∷ AntiDiagonal ∷ []
 
 -- where an orientation takes a cell
 abbrev pub turned_cell : Orientation → Cell → Cell
@@ -79,10 +81,3 @@ TurningBack = (a : Orientation) → (b : Orientation) × (product a b ≡ Same) 
 -- turning doesn't mind where a pattern lies
 abbrev pub TurningMoved : Type 0
 TurningMoved = (a : Orientation) (dx dy : ℤ) (cells : List Cell) → turned a (shifted dx dy cells) ≡ turned a cells
-
--- a generation doesn't mind where a pattern lies, nor how
-abbrev pub NextMoved : Type 0
-NextMoved = (dx dy : ℤ) (rule : Numbers) (cells : List Cell) → InOrder cells → next rule (shifted dx dy cells) ≡ shifted dx dy (next rule cells)
-
-abbrev pub NextTurned : Type 0
-NextTurned = (a : Orientation) (rule : Numbers) (cells : List Cell) → InOrder cells → next rule (image a cells) ≡ image a (next rule cells)

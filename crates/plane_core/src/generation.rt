@@ -1,6 +1,6 @@
 ghost use Rattle.std.specs.Prelude.{◌≡◌, ◌≢◌, ℕ, ◌+◌, ◌<◌, ◌≤◌, true, false, IfOk, IfErr, OnOk, IsErrOf};
 ghost use Rattle.plane_core.specs.Cells.{has};
-ghost use Rattle.plane_core.specs.Generations.{next, after, lives, touches_edge, lies_within, SpeedOfLight};
+ghost use Rattle.plane_core.specs.Generations.{next, after, lives, touches_edge, lies_within, NextMoved, NextTurned, SpeedOfLight};
 ghost use Rattle.plane_core.specs.Refusals.{RefusesStep};
 ghost use Rattle.plane_core.specs.declared.cell.Cell.{Cell};
 ghost use Rattle.plane_core.specs.declared.cell.TheConstants.{BOUND};
@@ -79,6 +79,13 @@ impl Pattern {
 /// A law of all rules: in g generations no pattern comes further than g cells from where it lay.
 pub fn speed_of_light()
     ensures { SpeedOfLight }
+{}
+
+/// The laws of generations on the grid: the next generation of a pattern moved or turned is its next generation, moved
+/// or turned.
+pub fn isotropy()
+    ensures moved { NextMoved }
+    ensures turned { NextTurned }
 {}
 
 /// Whether a cell lies on the edge of the plane.

@@ -1,9 +1,9 @@
-ghost use Rattle.std.specs.Prelude.{◌≡◌, ◌≤◌, true, neg_ℤ, unsigned_abs};
+ghost use Rattle.std.specs.Prelude.{◌≡◌, true};
 ghost use Rattle.plane_core.specs.Cells.{cell_at, on_plane};
-ghost use Rattle.plane_core.specs.Orientations.{turned_cell, TurningTwice, TurningBack, TurningMoved, NextMoved, NextTurned};
-ghost use Rattle.plane_core.specs.declared.cell.TheConstants.{BOUND};
+ghost use Rattle.plane_core.specs.Orientations.{orientations, turned_cell, TurningTwice, TurningBack, TurningMoved};
 
 use crate::cell::Cell;
+use crate::coordinate::negated;
 
 /// The eight ways in which a pattern can lie on the square grid.
 ///
@@ -27,6 +27,24 @@ pub enum Orientation {
     Diagonal,
     /// (-y, -x)
     AntiDiagonal,
+}
+
+const ORIENTATIONS: [Orientation; 8] = [
+    Orientation::Same,
+    Orientation::Quarter,
+    Orientation::Half,
+    Orientation::ThreeQuarter,
+    Orientation::Mirror,
+    Orientation::Flip,
+    Orientation::Diagonal,
+    Orientation::AntiDiagonal,
+];
+
+/// All eight orientations, each once.
+pub fn orientations() -> &'static [Orientation]
+    ensures { result.now ≡ orientations }
+{
+    &ORIENTATIONS
 }
 
 impl Orientation {
@@ -57,24 +75,9 @@ pub fn square_group()
     ensures moved { TurningMoved }
 {}
 
-/// The laws of generations on the grid: the next generation of a pattern moved or turned is its next generation, moved
-/// or turned.
-pub fn isotropy()
-    ensures moved { NextMoved }
-    ensures turned { NextTurned }
-{}
-
 /// The cell in column x of row y.
 fn at(x: i32, y: i32) -> Cell
     ensures { result ≡ cell_at x y }
 {
     Cell { y, x }
-}
-
-/// The coordinate on the other side of 0.
-pub(crate) fn negated(at: i32) -> i32
-    requires { unsigned_abs at ≤ BOUND }
-    ensures { result ≡ neg_ℤ at }
-{
-    -at
 }
