@@ -1,10 +1,11 @@
 -- Generations under a rule (LifeWiki, "Life-like cellular automaton").
-use Rattle.std.specs.Prelude.{◌≡◌, ◌+◌, true, ◌==◌, ℕ, ℤ, zero, suc, pos, negsuc, Bool, List, [], ◌∷◌, count_by, filter, flat_map, if◌then◌else◌}
+use Rattle.std.specs.Prelude.{◌≡◌, ◌+◌, true, ◌==◌, ℕ, ℤ, zero, suc, pos, negsuc, Bool, List, [], ◌∷◌, All, count_by, filter, flat_map, if◌then◌else◌}
 use Rattle.std.specs.List.{list_any, list_all}
 use Rattle.plane_core.specs.declared.cell.Cell.{Cell}
 use Rattle.plane_core.specs.Cells.{InOrder, king_distance, moved_by, has, set_of, on_edge, is_within}
 use Rattle.plane_core.specs.declared.orientation.Orientation.{Orientation}
-use Rattle.plane_core.specs.Bounds.{shifted}
+use Rattle.plane_core.specs.declared.bounds.Bounds.{Bounds}
+use Rattle.plane_core.specs.Bounds.{IsWithin, enlarged, shifted}
 use Rattle.plane_core.specs.Orientations.{image}
 use Rattle.plane_core.specs.Rules.{Numbers, is_birth, is_survival}
 
@@ -47,6 +48,11 @@ NextMoved = (dx dy : ℤ) (rule : Numbers) (cells : List Cell) → InOrder cells
 abbrev pub NextTurned : Type 0
 NextTurned = (o : Orientation) (rule : Numbers) (cells : List Cell) → InOrder cells → next rule (image o cells) ≡ image o (next rule cells)
 
--- no pattern grows by more than a cell a side in a generation: the field's speed of light
+-- The field's speed of light: in a generation no pattern grows by more than a cell a side. So after g generations it lies
+-- in each box that it lay in, with g more columns and rows on each side.
 abbrev pub SpeedOfLight : Type 0
-SpeedOfLight = (rule : Numbers) (cells : List Cell) (reach g : ℕ) → lies_within reach cells ≡ true → lies_within (reach + g) (after rule cells g) ≡ true
+SpeedOfLight = (rule : Numbers) (cells : List Cell) (b : Bounds) (g : ℕ) → All (IsWithin b) cells → All (IsWithin (enlarged g b)) (after rule cells g)
+
+-- and as far from the origin as it lay, and g more
+abbrev pub SpeedFromOrigin : Type 0
+SpeedFromOrigin = (rule : Numbers) (cells : List Cell) (reach g : ℕ) → lies_within reach cells ≡ true → lies_within (reach + g) (after rule cells g) ≡ true

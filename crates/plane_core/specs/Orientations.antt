@@ -70,6 +70,18 @@ product a AntiDiagonal = quarter_after (mirror_after a)
 product a Flip = quarter_after (quarter_after (mirror_after a))
 product a Diagonal = quarter_after (quarter_after (quarter_after (mirror_after a)))
 
+-- three orientations one after another: it doesn't matter which two are put together first
+abbrev pub ProductAssociates : Type 0
+ProductAssociates = (a b c : Orientation) → product (product a b) c ≡ product a (product b c)
+
+-- `Same` changes nothing, before and after
+abbrev pub SameIsIdentity : Type 0
+SameIsIdentity = (a : Orientation) → (product Same a ≡ a) × (product a Same ≡ a)
+
+-- orientations that take each cell to the same place are one
+abbrev pub OrientationsDiffer : Type 0
+OrientationsDiffer = (a b : Orientation) → ((c : Cell) → turned_cell a c ≡ turned_cell b c) → a ≡ b
+
 -- turning by one orientation and then by another is turning by their product
 abbrev pub TurningTwice : Type 0
 TurningTwice = (a b : Orientation) (cells : List Cell) → turned b (turned a cells) ≡ turned (product a b) cells

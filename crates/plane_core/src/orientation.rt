@@ -1,6 +1,6 @@
 ghost use Rattle.std.specs.Prelude.{◌≡◌, true};
 ghost use Rattle.plane_core.specs.Cells.{cell_at, on_plane};
-ghost use Rattle.plane_core.specs.Orientations.{orientations, turned_cell, TurningTwice, TurningBack, TurningMoved};
+ghost use Rattle.plane_core.specs.Orientations.{orientations, turned_cell, OrientationsDiffer, ProductAssociates, SameIsIdentity, TurningBack, TurningMoved, TurningTwice};
 
 use crate::cell::Cell;
 use crate::coordinate::negated;
@@ -68,10 +68,16 @@ impl Orientation {
     }
 }
 
-/// The laws of the eight orientations: they are the group of the square, up to moving to the corner.
+/// The laws of the eight orientations: they are the group of the square.
+///
+/// Their product is a group, in which no two of them are one. Turning by one orientation and then by another is turning
+/// by their product, and doesn't mind where a pattern lies.
 pub fn square_group()
-    ensures twice { TurningTwice }
+    ensures associative { ProductAssociates }
+    ensures identity { SameIsIdentity }
     ensures back { TurningBack }
+    ensures different { OrientationsDiffer }
+    ensures twice { TurningTwice }
     ensures moved { TurningMoved }
 {}
 
