@@ -1,5 +1,6 @@
 -- What is read off a name, and how long it is.
-use Rattle.std.proofs.Common.{◌≡◌, ◌∙◌, ap, refl, ℕ, ◌+◌, ◌<◌, ◌≤◌, ◌^◌, Bool, true, List, [], ◌∷◌, ◌++◌, length, Option, None, Some, take_while, decimal, arith}
+use Rattle.std.proofs.Common.{◌≡◌, ◌∙◌, ap, refl, ℕ, ◌+◌, ◌<◌, ◌≤◌, ◌^◌, Bool, true, List, [], ◌∷◌, ◌++◌, length, Option, None, Some, take_while}
+use Rattle.std.proofs.Common.{decimal, arith}
 use Rattle.std.specs.Prelude.{IfSome}
 use Rattle.std.specs.List.{list_all}
 use Rattle.std.proofs.lemmas.Fmt.{decimal_is_IsNumeral, length-decimal-le}
@@ -114,7 +115,8 @@ unfolding code_text
 shape_of_name kind number text low shape =
     let digits = decimal number in
     let few : length digits ≤ 20 = length-decimal-le 20 number (omega arith) (omega arith) low in
-    let whole : length (opening text ++ (letter kind ++ (digits ++ ending text))) ≡ length (opening text) + (length (letter kind) + (length digits + length (ending text))) =
+    let whole : length (opening text ++ (letter kind ++ (digits ++ ending text))) ≡ length (opening text) +
+        (length (letter kind) + (length digits + length (ending text))) =
         simp length-append in
     let first = opening_length text in
     record {

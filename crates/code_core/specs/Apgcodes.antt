@@ -1,5 +1,6 @@
 -- Apgcodes as texts: how one is written, and what is read off it (LifeWiki, "Apgcode").
-use Rattle.std.specs.Prelude.{◌≡◌, ◌==◌, ◌≤◌, ◌&&◌, ◌||◌, ℕ, Bool, true, List, [], ◌++◌, Option, None, Some, codes, decimal, drop, length, nat_eq, nat_le, slice_index, take_while, if◌then◌else◌}
+use Rattle.std.specs.Prelude.{◌≡◌, ◌==◌, ◌≤◌, ◌&&◌, ◌||◌, ℕ, Bool, true, List, [], ◌++◌, Option, None, Some, codes, decimal, drop, length, nat_eq}
+use Rattle.std.specs.Prelude.{nat_le, slice_index, take_while, if◌then◌else◌}
 use Rattle.std.specs.List.{list_all, starts_with}
 use Rattle.std.specs.Str.Parse.{digits_value}
 use Rattle.code_core.specs.declared.apgcode.Kind.{Kind}

@@ -7,7 +7,7 @@ use Rattle.plane_core.specs.declared.orientation.Orientation.TheVariants.{Same}
 use Rattle.plane_core.specs.Orientations.{turned}
 use Rattle.code_core.specs.declared.recurrence.Recurrence.{Recurrence}
 use Rattle.code_core.specs.Apgcodes.{code_text}
-use Rattle.code_core.specs.Names.{TellsLeast, kind_of, number_of, text_cmp}
+use Rattle.code_core.specs.Names.{IsLeastOf, kind_of, number_of, text_cmp}
 use Rattle.code_core.specs.Texts.{text}
 
 -- the earlier of two texts, where there are two
@@ -35,5 +35,5 @@ IsImageOf phases k t = IsImage (get_or phases k []) t
 -- the name of a pattern with these phases, which comes back so
 pub record IsNameBy (cells : List Cell) (phases : List (List Cell)) (r : Recurrence) (code : List ℕ) : Type 0 where
   pub least : Option (List ℕ)
-  pub tells : TellsLeast (Among (IsImageOf phases) (length phases)) least
+  pub is_least : IsLeastOf (Among (IsImageOf phases) (length phases)) least
   pub spelled : code ≡ code_text (kind_of r) (number_of (kind_of r) cells r) least

@@ -1,5 +1,5 @@
 -- The names of patterns that recur (LifeWiki, "Apgcode").
-use Rattle.std.specs.Prelude.{◌≡◌, ◌≢◌, ◌==◌, ◌<◌, ◌&&◌, ℕ, ℤ, pos, List, [], Option, None, Some, length, if◌then◌else◌}
+use Rattle.std.specs.Prelude.{◌≡◌, ◌≢◌, ◌==◌, ◌<◌, ◌^◌, ◌&&◌, ℕ, ℤ, pos, List, [], Option, None, Some, length, if◌then◌else◌}
 use Rattle.std.specs.declared.cmp.Ordering.{Ordering}
 use Rattle.std.specs.declared.cmp.Ordering.TheVariants.{Equal, Greater}
 use Rattle.std.specs.Ordering.{ordering_then, nat_cmp, int_eq}
@@ -14,7 +14,7 @@ use Rattle.plane_core.specs.Rules.{Numbers}
 use Rattle.code_core.specs.declared.recurrence.Recurrence.{Recurrence}
 use Rattle.code_core.specs.declared.apgcode.Kind.{Kind}
 use Rattle.code_core.specs.declared.apgcode.Kind.TheVariants.{Still, Oscillator, Ship}
-use Rattle.code_core.specs.Apgcodes.{code_text}
+use Rattle.code_core.specs.Apgcodes.{HasCodeShape, code_text}
 use Rattle.code_core.specs.Recurrences.{Recurs}
 use Rattle.code_core.specs.Texts.{text}
 
@@ -33,10 +33,10 @@ pub record IsImageText (rule : Numbers) (cells : List Cell) (period : ℕ) (t : 
   pub within : phase < period
   pub is : text (turned orientation (after rule cells phase)) ≡ Some t
 
--- the answer is one of the texts, and none of them comes before it; there is no answer only if there is no text
-abbrev pub TellsLeast : (List ℕ → Type 0) → Option (List ℕ) → Type 0
-TellsLeast IsOne None = (t : List ℕ) → ¬ IsOne t
-TellsLeast IsOne (Some least) = IsOne least × ((t : List ℕ) → IsOne t → text_cmp least t ≢ Greater)
+-- the least of some texts: one of them, which none of them comes before, or `None` where there are none
+abbrev pub IsLeastOf : (List ℕ → Type 0) → Option (List ℕ) → Type 0
+IsLeastOf IsOne None = (t : List ℕ) → ¬ IsOne t
+IsLeastOf IsOne (Some least) = IsOne least × ((t : List ℕ) → IsOne t → text_cmp least t ≢ Greater)
 
 -- a still life stays as it is, an oscillator comes back to its place, a spaceship elsewhere
 abbrev pub kind_of : Recurrence → Kind
@@ -56,7 +56,7 @@ pub record IsCode (rule : Numbers) (cells : List Cell) (limit : ℕ) (code : Lis
   pub recurrence : Recurrence
   pub recurs : Recurs rule cells limit recurrence
   pub least : Option (List ℕ)
-  pub tells : TellsLeast (IsImageText rule cells recurrence.period) least
+  pub is_least : IsLeastOf (IsImageText rule cells recurrence.period) least
   pub spelled : code ≡ code_text (kind_of recurrence) (number_of (kind_of recurrence) cells recurrence) least
 
 -- a pattern with a cell has one name
@@ -78,3 +78,8 @@ CodesTurned = (o : Orientation) (rule : Numbers) (cells : List Cell) (limit : �
 abbrev pub CodesLater : Type 0
 CodesLater = (g : ℕ) (rule : Numbers) (cells : List Cell) (limit : ℕ) (code : List ℕ)
     → InOrder cells → IsCode rule cells limit code → IsCode rule (after rule cells g) limit code
+
+-- a name has 1 to 400 bytes, each one of `a` to `z`, `0` to `9` and `_`, where the numbers fit 64 bits
+abbrev pub CodesHaveTheirShape : Type 0
+CodesHaveTheirShape = (rule : Numbers) (cells : List Cell) (limit : ℕ) (code : List ℕ)
+    → length cells < 2 ^ 64 → limit < 2 ^ 64 → IsCode rule cells limit code → HasCodeShape code

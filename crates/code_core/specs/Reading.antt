@@ -1,5 +1,6 @@
 -- What a text says in extended Wechsler format (LifeWiki, "Apgcode").
-use Rattle.std.specs.Prelude.{◌≡◌, ◌==◌, ◌+◌, ◌-◌, ◌<◌, ℕ, Bool, false, not, ◌||◌, List, [], ◌∷◌, length, take, Some, Result, Ok, Err, nat_lt, slice_index, if◌then◌else◌}
+use Rattle.std.specs.Prelude.{◌≡◌, ◌==◌, ◌+◌, ◌-◌, ◌<◌, ℕ, Bool, false, not, ◌||◌, List, [], ◌∷◌, length, take, Some, Result, Ok, Err, nat_lt}
+use Rattle.std.specs.Prelude.{slice_index, if◌then◌else◌}
 use Rattle.plane_core.specs.declared.cell.Cell.{Cell}
 use Rattle.plane_core.specs.Bounds.{at_corner}
 use Rattle.plane_core.specs.Cells.{InOrder}

@@ -11,7 +11,7 @@ pub record Begins (text : List ℕ) (token : Token) (rest : List ℕ) : Type 0 w
   pub is_token : IsToken token
   pub spelled : text ≡ spelling token ++ rest
 
--- a character stands at the front of a text
+-- the text begins with a character
 abbrev pub has_character : List ℕ → Bool
 has_character [] = false
 has_character (c ∷ rest) = is_character c
@@ -21,7 +21,7 @@ abbrev pub IsStuck : List ℕ → Type 0
 IsStuck [] = Unit {0}
 IsStuck (b ∷ rest) = is_character b ≡ true → (b ≡ 121) × (has_character rest ≡ false)
 
--- what is wrong where no token begins, at this place
+-- the fault at this place, where no token begins
 abbrev pub fault_at : ℕ → List ℕ → Option WechslerFault
 fault_at place [] = None
 fault_at place (b ∷ rest) = Some (if is_character b then ShortRun place else BadByte place)

@@ -1,5 +1,6 @@
 -- The text of a pattern in extended Wechsler format (LifeWiki, "Apgcode").
-use Rattle.std.specs.Prelude.{◌≡◌, ◌≤◌, length, ◌+◌, ◌/◌, ℕ, zero, suc, Bool, true, ◌&&◌, List, [], ◌∷◌, ◌++◌, Option, None, Some, map, flat_map, nat_lt, if◌then◌else◌}
+use Rattle.std.specs.Prelude.{◌≡◌, ◌≤◌, length, ◌+◌, ◌/◌, ℕ, zero, suc, Bool, true, ◌&&◌, List, [], ◌∷◌, ◌++◌, Option, None, Some, map, flat_map}
+use Rattle.std.specs.Prelude.{nat_lt, if◌then◌else◌}
 use Rattle.std.specs.List.{list_all, range_with_len}
 use Rattle.plane_core.specs.declared.cell.Cell.{Cell}
 use Rattle.plane_core.specs.declared.bounds.Bounds.{Bounds}
@@ -36,7 +37,7 @@ joined (tokens ∷ more ∷ strips) = tokens ++ NextStrip ∷ joined (more ∷ s
 unfoldable pub tokens_of : List Cell → ℕ → ℕ → List Token
 tokens_of cells right bottom = joined (map (λ k. strip_tokens (strip cells (right + 1) k)) (range_with_len 0 (bottom / 5 + 1)))
 
--- the box is at most 40 columns by 40 rows
+-- the box is at most 40 columns by 40 rows: a larger object has no text (LifeWiki, "Apgcode")
 abbrev pub is_small : Bounds → Bool
 is_small b = nat_lt (distance b.left b.right) 40 && nat_lt (distance b.top b.bottom) 40
 

@@ -8,7 +8,7 @@ use Rattle.code_core.specs.declared.token.Token.TheVariants.{Column, Gap, NextSt
 unfoldable pub is_character : ℕ → Bool
 is_character b = is_ascii_digit b || is_ascii_lowercase b
 
--- the character of a value: `0` to `9` for 0 to 9, then `a` to `z` for 10 to 35
+-- the character of a value: `0` to `9` (48 to 57) for 0 to 9, then `a` to `z` (97 to 122) for 10 to 35
 unfoldable pub character : ℕ → ℕ
 character value = if nat_lt value 10 then 48 + value else 87 + value
 

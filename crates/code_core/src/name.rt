@@ -18,8 +18,8 @@ ghost use Rattle.std.specs.Cmp.{IsTotalOrder};
 ghost use Rattle.plane_core.specs.Cells.{plane_bound};
 ghost use Rattle.plane_core.specs.Generations.{lies_within, touches_edge};
 ghost use Rattle.plane_core.specs.Orientations.{turned};
-ghost use Rattle.code_core.specs.Names.{CodesAreDetermined, CodesLater, CodesMoved, CodesTurned, IsCode, OnlyEqualTextsTie};
-ghost use Rattle.code_core.specs.Names.{TellsLeast, kind_of, number_of, text_cmp};
+ghost use Rattle.code_core.specs.Names.{CodesAreDetermined, CodesHaveTheirShape, CodesLater, CodesMoved, CodesTurned, IsCode, OnlyEqualTextsTie};
+ghost use Rattle.code_core.specs.Names.{IsLeastOf, kind_of, number_of, text_cmp};
 ghost use Rattle.code_core.specs.Least.{Among, IsImageAt, IsImageOf, IsNameBy, earlier_of};
 ghost use Rattle.code_core.specs.Recurrences.{IsNew, MeetsEdge, StaysInside};
 ghost use Rattle.code_core.specs.Texts.{text};
@@ -87,6 +87,11 @@ pub fn codes_are_determined()
     ensures { CodesAreDetermined }
 {}
 
+/// The law that a name has 1 to 400 bytes, each one of `a` to `z`, `0` to `9` and `_`.
+pub fn codes_have_their_shape()
+    ensures { CodesHaveTheirShape }
+{}
+
 /// The laws that a pattern keeps its name when it is moved, when it is turned or mirrored, and in each later generation.
 #[tactic(auto, using(crate::proofs::MovedCodes::codes_moved, crate::proofs::TurnedCodes::codes_turned, crate::proofs::LaterCodes::codes_later))]
 pub fn codes_are_of_objects()
@@ -128,7 +133,7 @@ fn kind_of(recurrence: Recurrence) -> Kind
 
 /// The least text of the phases in all orientations.
 fn least_text(alloc: Global, phases: &[Pattern]) -> Result<Option<String>, AllocError>
-    ensures { IfOk result (λ found. TellsLeast (Among (IsImageOf phases.now) (length phases.now)) (option_map string_bytes found)) }
+    ensures { IfOk result (λ found. IsLeastOf (Among (IsImageOf phases.now) (length phases.now)) (option_map string_bytes found)) }
 {
     let mut least = None;
     for phase in phases {
@@ -144,7 +149,7 @@ fn least_image(
     pattern: &Pattern,
     orientations: &[Orientation],
 ) -> Result<Option<String>, AllocError>
-    ensures { IfOk result (λ found. TellsLeast (Among (IsImageAt orientations.now pattern.now) (length orientations.now)) (option_map string_bytes found)) }
+    ensures { IfOk result (λ found. IsLeastOf (Among (IsImageAt orientations.now pattern.now) (length orientations.now)) (option_map string_bytes found)) }
 {
     let mut least = None;
     for orientation in orientations {

@@ -230,7 +230,7 @@ fn finds_no_period_past_the_limit(rt: HostRuntime) -> Result<(), Fail> {
 }
 
 #[test]
-fn tells_when_a_pattern_comes_back(rt: HostRuntime) -> Result<(), Fail> {
+fn finds_when_a_pattern_comes_back(rt: HostRuntime) -> Result<(), Fail> {
     let life = Rule::life();
     for (picture, limit, found) in [
         (".O.\n..O\nOOO", 4, Some((4, 1, 1))),
@@ -241,8 +241,8 @@ fn tells_when_a_pattern_comes_back(rt: HostRuntime) -> Result<(), Fail> {
         (LIGHTWEIGHT_SPACESHIP, 64, Some((4, -2, 0))),
     ] {
         let pattern = drawn(rt.alloc(), picture)?;
-        let told = Recurrence::find(rt.alloc(), &pattern, &life, limit)?;
-        assert_eq!(rt; told.map(|r| (r.period, r.dx, r.dy)), found);
+        let recurrence = Recurrence::find(rt.alloc(), &pattern, &life, limit)?;
+        assert_eq!(rt; recurrence.map(|r| (r.period, r.dx, r.dy)), found);
     }
     Ok(())
 }
@@ -252,8 +252,8 @@ fn tells_when_a_pattern_comes_back(rt: HostRuntime) -> Result<(), Fail> {
 fn stops_at_the_edge(rt: HostRuntime) -> Result<(), Fail> {
     let cells = [Cell { y: 0, x: 999_999 }, Cell { y: 0, x: 1_000_000 }];
     let pattern = placed(rt.alloc(), &cells)?;
-    let told = Recurrence::find(rt.alloc(), &pattern, &Rule::life(), 1);
-    assert_eq!(rt; told, Err(StepError::Edge));
+    let found = Recurrence::find(rt.alloc(), &pattern, &Rule::life(), 1);
+    assert_eq!(rt; found, Err(StepError::Edge));
     assert!(rt; name(rt.alloc(), &pattern, &Rule::life(), 64).err() == Some(StepError::Edge));
     Ok(())
 }

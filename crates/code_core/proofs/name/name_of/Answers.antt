@@ -1,7 +1,7 @@
 use Rattle.std.proofs.Common.{◌≡◌, ◌∙◌, sym, subst, option_map, string_bytes, List, ℕ, Bor, rules, length}
 use Rattle.std.specs.Prelude.{IfSome}
 use Rattle.code_core.specs.Least.{Among, IsImageOf}
-use Rattle.code_core.specs.Names.{TellsLeast}
+use Rattle.code_core.specs.Names.{IsLeastOf}
 use Rattle.code_core.specs.Texts.{HasTextShape}
 use Rattle.code_core.proofs.LeastLemmas.{shape_of_least}
 use Rattle.code_core.proofs.name.name_of.Goals as goal
