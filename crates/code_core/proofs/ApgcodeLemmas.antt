@@ -116,8 +116,8 @@ shape_of_name kind number text low shape =
     let digits = decimal number in
     let few : length digits ≤ 20 = length-decimal-le 20 number (omega arith) (omega arith) low in
     let whole : length (opening text ++ (letter kind ++ (digits ++ ending text))) ≡ length (opening text) +
-        (length (letter kind) + (length digits + length (ending text))) =
-        simp length-append in
+    (length (letter kind) + (length digits + length (ending text))) =
+    simp length-append in
     let first = opening_length text in
     record {
       some = omega (arith, whole, first.0);

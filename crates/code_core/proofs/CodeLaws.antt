@@ -76,7 +76,7 @@ pub codes_are_determined : CodesAreDetermined
 codes_are_determined rule cells limit one other some h k =
     let recurrence : h.recurrence ≡ k.recurrence = recurs_once rule cells limit h.recurrence k.recurrence some h.recurs k.recurs in
     let is_least : IsLeastOf (IsImageText rule cells h.recurrence.period) k.least =
-        subst (λ (r : Recurrence). IsLeastOf (IsImageText rule cells r.period) k.least) (sym recurrence) k.is_least in
+    subst (λ (r : Recurrence). IsLeastOf (IsImageText rule cells r.period) k.least) (sym recurrence) k.is_least in
     let least : h.least ≡ k.least = least_is_one (IsImageText rule cells h.recurrence.period) h.least k.least h.is_least is_least in
     h.spelled ∙ (λ i. code_text (kind_of (recurrence i)) (number_of (kind_of (recurrence i)) cells (recurrence i)) (least i)) ∙ sym k.spelled
 

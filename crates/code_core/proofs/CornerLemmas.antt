@@ -20,9 +20,9 @@ pub has-at_corner : (cells : List Cell) (b : Bounds) (x y : ℕ) → box_of cell
     → has cells (cell_at (b.left +ℤ pos x) (b.top +ℤ pos y)) ≡ has (at_corner cells) (cell_at (pos x) (pos y))
 has-at_corner cells b x y e =
     let there : cell_at (pos x) (pos y) ≡ moved_by (neg_ℤ b.left) (neg_ℤ b.top) (cell_at (b.left +ℤ pos x) (b.top +ℤ pos y)) =
-        λ i. cell_at (back b.left x i) (back b.top y i) in
+    λ i. cell_at (back b.left x i) (back b.top y i) in
     sym (ap (λ o. has (cornered o cells) (cell_at (pos x) (pos y))) e ∙ ap (has (shifted (neg_ℤ b.left) (neg_ℤ b.top) cells)) there
-        ∙ has-shifted (neg_ℤ b.left) (neg_ℤ b.top) cells (cell_at (b.left +ℤ pos x) (b.top +ℤ pos y)))
+    ∙ has-shifted (neg_ℤ b.left) (neg_ℤ b.top) cells (cell_at (b.left +ℤ pos x) (b.top +ℤ pos y)))
   where
     back : (a : ℤ) (n : ℕ) → pos n ≡ (a +ℤ pos n) +ℤ neg_ℤ a
     back a n = omega (arith, ints)

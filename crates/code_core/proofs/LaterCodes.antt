@@ -44,13 +44,13 @@ module _ (rule : Numbers) (cells : List Cell) (limit : ℕ) (r : Recurrence) (or
       sooner p ex ey is =
           let rest : 1 + (r.period - 1) ≡ r.period = omega (arith, h.some) in
           let whole : after rule (after rule cells 1) (r.period - 1) ≡ shifted r.dx r.dy cells = after-after rule cells 1 (r.period - 1)
-              ∙ ap (after rule cells) rest ∙ h.back in
+          ∙ ap (after rule cells) rest ∙ h.back in
           let early : after rule (after rule (after rule cells 1) p) (r.period - 1) ≡ shifted r.dx r.dy (after rule cells p) =
           after-after rule (after rule cells 1) p (r.period - 1) ∙ after-after rule cells 1 (p + (r.period - 1))
-              ∙ ap (after rule cells) (omega (arith, h.some)) ∙ a_period_later p in
+          ∙ ap (after rule cells) (omega (arith, h.some)) ∙ a_period_later p in
           let late : after rule (shifted ex ey (after rule cells 1)) (r.period - 1) ≡ shifted r.dx r.dy (shifted ex ey cells) =
           after-shifted ex ey rule (after rule cells 1) (r.period - 1) (in_order-after rule cells 1 order) ∙ ap (shifted ex ey) whole
-              ∙ shifted-swap ex ey r.dx r.dy cells in
+          ∙ shifted-swap ex ey r.dx r.dy cells in
           shifted-same r.dx r.dy (after rule cells p) (shifted ex ey cells) (sym early ∙ ap (λ (S : List Cell). after rule S (r.period - 1)) is ∙ late)
 
   -- the images of a generation a period later are the same

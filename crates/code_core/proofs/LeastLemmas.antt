@@ -48,7 +48,7 @@ text_cmp-onward a b c first second = go (text_cmp b c) refl
         cc
     go Equal is e =
         let same : text_cmp a b ≡ text_cmp a c = text_cmp_total.antisymm a b ∙ ap ordering_reverse (text_cmp_total.congr b c a is)
-            ∙ sym (text_cmp_total.antisymm a c) in
+        ∙ sym (text_cmp_total.antisymm a c) in
         first (same ∙ e)
     go Greater is e = second is
 
@@ -125,14 +125,25 @@ least_of_all cells o h = least_of_same (Among (IsImageAt orientations cells) 8) 
 phase_images : (rule : Numbers) (cells : List Cell) (n : ℕ) (t : List ℕ) → Among (IsImageOf (phases rule cells n)) n t → IsImageText rule cells n t
 unfolding phases
 phase_images rule cells n t (k, low, (o, is)) =
-    record { phase = k; orientation = o; within = low; is = subst (λ (S : List Cell). text (turned o S) ≡ Some t)
-        (get_or-map-range_with_len (after rule cells) 0 n k k [] low (omega arith)) is }
+    record {
+      phase = k;
+      orientation = o;
+      within = low;
+      is = subst (λ (S : List Cell). text (turned o S) ≡ Some t)
+          (get_or-map-range_with_len (after rule cells) 0 n k k [] low (omega arith)) is;
+    }
 
 image_phases : (rule : Numbers) (cells : List Cell) (n : ℕ) (t : List ℕ) → IsImageText rule cells n t → Among (IsImageOf (phases rule cells n)) n t
 unfolding phases
-image_phases rule cells n t one =
-    (one.phase, one.within, (one.orientation, subst (λ (S : List Cell). text (turned one.orientation S) ≡ Some t)
-        (sym (get_or-map-range_with_len (after rule cells) 0 n one.phase one.phase [] one.within (omega arith))) one.is))
+image_phases rule cells n t one = (
+  one.phase,
+  one.within,
+  (
+    one.orientation,
+    subst (λ (S : List Cell). text (turned one.orientation S) ≡ Some t)
+        (sym (get_or-map-range_with_len (after rule cells) 0 n one.phase one.phase [] one.within (omega arith))) one.is,
+  ),
+)
 
 phase_count : (rule : Numbers) (cells : List Cell) (n : ℕ) → length (phases rule cells n) ≡ n
 unfolding phases

@@ -34,7 +34,7 @@ pub after-shifted : (dx dy : ℤ) (rule : Numbers) (cells : List Cell) (g : ℕ)
 after-shifted dx dy rule cells zero order = after-none rule (shifted dx dy cells) ∙ ap (shifted dx dy) (sym (after-none rule cells))
 after-shifted dx dy rule cells (suc g) order =
     after-suc rule (shifted dx dy cells) g ∙ ap (next rule) (after-shifted dx dy rule cells g order)
-        ∙ next-shifted dx dy rule (after rule cells g) (in_order-after rule cells g order)
+    ∙ next-shifted dx dy rule (after rule cells g) (in_order-after rule cells g order)
     ∙ ap (shifted dx dy) (sym (after-suc rule cells g))
 
 either_way : (a v w : ℤ) → (a +ℤ v) +ℤ w ≡ (a +ℤ w) +ℤ v
@@ -86,7 +86,7 @@ text-unshifted : (dx dy : ℤ) (rule : Numbers) (cells : List Cell) (period : �
     → IsImageText rule (shifted dx dy cells) period t → IsImageText rule cells period t
 text-unshifted dx dy rule cells period t order h =
     subst (λ (S : List Cell). IsImageText rule S period t) (shifted-back dx dy cells)
-        (text-shifted (neg_ℤ dx) (neg_ℤ dy) rule (shifted dx dy cells) period t (in_order-shifted dx dy cells order) h)
+    (text-shifted (neg_ℤ dx) (neg_ℤ dy) rule (shifted dx dy cells) period t (in_order-shifted dx dy cells order) h)
 
 -- the number of a name looks at the population alone
 pub number-same : (kind : Kind) (S T : List Cell) (r : Recurrence) → length S ≡ length T → number_of kind S r ≡ number_of kind T r

@@ -42,7 +42,7 @@ lit_cells-on_plane : (k x value : ℕ) → x ≤ 1000000 → 5 * k + 4 ≤ 10000
 unfolding lit_cells
 lit_cells-on_plane k x value hx hk =
     list_all-map-filter on_plane (λ i. cell_at (pos x) (pos (5 * k + i))) (is_lit value) (range_with_len 0 5)
-        (rw (at 0 (omega arith), at 1 (omega arith), at 2 (omega arith), at 3 (omega arith), at 4 (omega arith)) refl)
+    (rw (at 0 (omega arith), at 1 (omega arith), at 2 (omega arith), at 3 (omega arith), at 4 (omega arith)) refl)
   where
     at : (i : ℕ) → i ≤ 4 → on_plane (cell_at (pos x) (pos (5 * k + i))) ≡ true
     at i h = on_plane-small x (5 * k + i) hx (omega arith)
@@ -55,7 +55,7 @@ cells_from-on_plane [] each k x hx hk = refl
 cells_from-on_plane (Column value ∷ tokens) each k x hx hk =
     list_all-append on_plane (lit_cells k x value) (cells_from k (x + 1) tokens)
     ∙ rw (lit_cells-on_plane k x value (omega arith) (omega arith))
-        (cells_from-on_plane tokens (All-tail IsToken (Column value) tokens each) k (x + 1) (omega arith) (omega arith))
+    (cells_from-on_plane tokens (All-tail IsToken (Column value) tokens each) k (x + 1) (omega arith) (omega arith))
 cells_from-on_plane (Gap n ∷ tokens) each k x hx hk =
     let small = each zero (Gap n) (omega arith) in
     cells_from-on_plane tokens (All-tail IsToken (Gap n) tokens each) k (x + n) (omega arith) (omega arith)
@@ -75,8 +75,11 @@ lit_rows value low high =
 
 pub length-lit_cells : (k x value : ℕ) → 1 ≤ value → value ≤ 31 → 0 < length (lit_cells k x value)
 unfolding lit_cells
-length-lit_cells k x value low high = omega (arith, lit_rows value low high,
-    length-map (filter (is_lit value) (range_with_len 0 5)) (λ i. cell_at (pos x) (pos (5 * k + i))))
+length-lit_cells k x value low high = omega (
+  arith,
+  lit_rows value low high,
+  length-map (filter (is_lit value) (range_with_len 0 5)) (λ i. cell_at (pos x) (pos (5 * k + i))),
+)
 
 -- without a column there is no cell, and with one there is
 pub cells_from-none : (tokens : List Token) (k x : ℕ) → list_any is_column tokens ≡ false → cells_from k x tokens ≡ []

@@ -43,7 +43,7 @@ Passed_more text rest after token has_cell p b = record {
   whole = p.whole ∙ ap (λ (more : List ℕ). flat_map spelling p.tokens ++ more) b.spelled
       ∙ sym (append_assoc (flat_map spelling p.tokens) (spelling token) after)
       ∙ ap (λ (front : List ℕ). front ++ after) (sym (flat_map-append spelling p.tokens (token ∷ [])
-          ∙ ap (λ (more : List ℕ). flat_map spelling p.tokens ++ more) (append-nil (spelling token))));
+      ∙ ap (λ (more : List ℕ). flat_map spelling p.tokens ++ more) (append-nil (spelling token))));
   columns = sym (list_any-append is_column p.tokens (token ∷ []) ∙ ap (λ (any : Bool). any || (is_column token || false)) (sym p.columns)
       ∙ or-false has_cell (is_column token));
 }
@@ -64,9 +64,9 @@ pub Passed_fault : (text rest : List ℕ) (has_cell : Bool) (fault : WechslerFau
     → fault_at (length text - length rest) rest ≡ Some fault → result_err (wechsler_pattern text) ≡ Some fault
 Passed_fault text rest has_cell fault p stuck e =
     let at : length text - length rest ≡ 0 + length (flat_map spelling p.tokens) =
-        omega (arith, ap length p.whole, length-append (flat_map spelling p.tokens) rest) in
+    omega (arith, ap length p.whole, length-append (flat_map spelling p.tokens) rest) in
     rw (tokens_at-stops p.tokens rest text 0 (length text - length rest) fault p.each p.whole at
-        (tokens_at-stuck (length text - length rest) rest fault stuck e)) refl
+    (tokens_at-stuck (length text - length rest) rest fault stuck e)) refl
 
 -- and at the end it is known whether there is a cell
 fault_at-none : (place : ℕ) (rest : List ℕ) → fault_at place rest ≡ None → rest ≡ []
@@ -76,7 +76,7 @@ fault_at-none place (b ∷ rest) e = absurd (cc)
 Passed_spells : (text rest : List ℕ) (has_cell : Bool) (place : ℕ) (p : Passed text rest has_cell) → fault_at place rest ≡ None → tokens_at 0 text ≡ Ok p.tokens
 Passed_spells text rest has_cell place p e =
     ap (λ (t : List ℕ). tokens_at 0 t) (p.whole ∙ ap (λ (more : List ℕ). flat_map spelling p.tokens ++ more) (fault_at-none place rest e)
-        ∙ append-nil (flat_map spelling p.tokens)) ∙ tokens_at-spelled p.tokens p.each 0
+    ∙ append-nil (flat_map spelling p.tokens)) ∙ tokens_at-spelled p.tokens p.each 0
 
 pub Passed_empty : (text rest : List ℕ) (has_cell : Bool) (place : ℕ) → Passed text rest has_cell → fault_at place rest ≡ None → has_cell ≡ false
     → result_err (wechsler_pattern text) ≡ Some Empty
@@ -99,12 +99,12 @@ Spells_after tokens rest after token s b = go (tokens_at (0 + length (spelling t
     go (Ok more) e =
         let same : with_token token (Ok more) ≡ Ok tokens =
         ap (with_token token) (sym e) ∙ sym (tokens_at-token token b.is_token 0 after) ∙ ap (λ (t : List ℕ). tokens_at 0 t) (sym b.spelled)
-            ∙ tokens_at-Spells tokens rest 0 s in
+        ∙ tokens_at-Spells tokens rest 0 s in
         record { more = more; spells = Spells-tokens_at more after (0 + length (spelling token)) e; is = cc }
     go (Err fault) e =
         let same : with_token token (Err fault) ≡ Ok tokens =
         ap (with_token token) (sym e) ∙ sym (tokens_at-token token b.is_token 0 after) ∙ ap (λ (t : List ℕ). tokens_at 0 t) (sym b.spelled)
-            ∙ tokens_at-Spells tokens rest 0 s in
+        ∙ tokens_at-Spells tokens rest 0 s in
         absurd (cc)
 
 -- and where none begins it, there is none
@@ -131,7 +131,7 @@ pub record Gathered (text rest : List ℕ) (cells : List Cell) (strip x : ℕ) :
 pub Gathered_more : (text rest after : List ℕ) (token : Token) (cells more : List Cell) (strip x next_strip next_x : ℕ)
     → Gathered text rest cells strip x → Begins rest token after
     → ((tokens : List Token) → more ++ cells_from next_strip next_x tokens ≡ cells ++ cells_from strip x (token ∷ tokens)) → next_strip ≤ strip + 1
-        → next_x ≤ x + 39
+    → next_x ≤ x + 39
     → Gathered text after more next_strip next_x
 Gathered_more text rest after token cells more strip x next_strip next_x g b added strips columns =
     let shorter : length after < length rest = length-Begins rest token after b in
@@ -141,8 +141,12 @@ Gathered_more text rest after token cells more strip x next_strip next_x g b add
       to_come = λ all s.
           let t = g.to_come all s in
           let f = Spells_after t.tokens rest after token t.spells b in
-          record { tokens = f.more; spells = f.spells; cells_are = added f.more
-              ∙ ap (λ (tokens : List Token). cells ++ cells_from strip x tokens) (sym f.is) ∙ t.cells_are };
+          record {
+            tokens = f.more;
+            spells = f.spells;
+            cells_are = added f.more
+                ∙ ap (λ (tokens : List Token). cells ++ cells_from strip x tokens) (sym f.is) ∙ t.cells_are;
+          };
     }
 
 pub Gathered_all : (text rest : List ℕ) (cells : List Cell) (strip x : ℕ) → Gathered text rest cells strip x → IsStuck rest → (tokens : List Token)

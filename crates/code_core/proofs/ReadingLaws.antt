@@ -1,7 +1,7 @@
 -- What is read, and each fault, in the words of tokens that spell the text.
 use Rattle.std.proofs.Common.{◌≡◌, ◌≢◌, ◌<◌, ◌≤◌, ◌+◌, ◌↔◌, ℕ, Bool, true, false, List, [], ◌∷◌, ◌++◌, length, take, drop, get_or, refl, sym, ◌∙◌, ap}
 use Rattle.std.proofs.Common.{subst, arith, length-append, length-take-le, Result, Ok, Err, nat_lt}
-use Rattle.std.specs.List.{All, flat_map}
+use Rattle.std.specs.List.{flat_map}
 use Rattle.std.specs.Prelude.{IfOk, IsErrOf, MatchResult, slice_index}
 use Rattle.std.proofs.Math.Seq.{take-append_seam, get_or-append_seam}
 use Rattle.std.proofs.lemmas.Bool.Decides.{nat_tests}
@@ -13,7 +13,7 @@ use Rattle.code_core.specs.declared.reader.WechslerError.TheVariants.{Fault, Mem
 use Rattle.code_core.specs.declared.reader.WechslerFault.{WechslerFault}
 use Rattle.code_core.specs.declared.reader.WechslerFault.TheVariants.{TooLong, BadByte, ShortRun, Empty}
 use Rattle.code_core.specs.Columns.{cells_of}
-use Rattle.code_core.specs.Tokens.{spelling, IsToken, is_character}
+use Rattle.code_core.specs.Tokens.{spelling, is_character}
 use Rattle.code_core.specs.Reading.{tokens_at, unless_empty, pattern_of, wechsler_pattern, wechsler_read, Says, IsBadByte, IsShortRun}
 use Rattle.code_core.specs.ReadingSteps.{has_character}
 use Rattle.code_core.proofs.TokenReading.{Outcome, tokens_at-outcome, Stops, IsBad, IsShort, Stops-bad, Stops-short, tokens_at-Stops_bad}
@@ -78,8 +78,11 @@ too_long text = (λ e. go (nat_lt 10000 (length text)) refl e, λ h. read-long t
 
 -- a text that says the empty pattern
 pub no_cell : (text : List ℕ) → length text ≤ 10000 → (wechsler_read text ≡ Err Empty) ↔ Says text []
-no_cell text short = (λ e. there (tokens_at 0 text) refl (sym (read-short text short) ∙ e), λ s. read-short text short
-    ∙ rw (tokens_at-Spells s.tokens text 0 s.spells, ← s.pattern) refl)
+no_cell text short = (
+  λ e. there (tokens_at 0 text) refl (sym (read-short text short) ∙ e),
+  λ s. read-short text short
+      ∙ rw (tokens_at-Spells s.tokens text 0 s.spells, ← s.pattern) refl,
+)
   where
     there : (r : Result (List Token) WechslerFault) → tokens_at 0 text ≡ r → pattern_of r ≡ Err Empty → Says text []
     there (Ok tokens) t e = record { tokens = tokens; spells = Spells-tokens_at tokens text 0 t; pattern = go (cells_of tokens) e }
@@ -144,7 +147,7 @@ IsShortRun-Stops text place s = go s.rest s.whole s.so
       short = λ k.
           let m : 1 < length (121 ∷ rest) = omega (arith, ap length whole, length-append (flat_map spelling s.tokens) (b ∷ rest)) in
           let e : slice_index text (place + 1) ≡ get_or (121 ∷ rest) 1 0 =
-              rw (whole, at) (get_or-append-add (flat_map spelling s.tokens) (b ∷ rest) 1 0 ∙ ap (λ (c : ℕ). get_or (c ∷ rest) 1 0) so.0) in
+          rw (whole, at) (get_or-append-add (flat_map spelling s.tokens) (b ∷ rest) 1 0 ∙ ap (λ (c : ℕ). get_or (c ∷ rest) 1 0) so.0) in
           ap is_character e ∙ none rest so.1 m;
     }
 

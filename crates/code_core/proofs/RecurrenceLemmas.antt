@@ -43,7 +43,7 @@ inside-more rule cells n before latest h off = below_more _ _ h.inside (ap touch
 -- one generation more, which isn't the pattern again
 pub follows-more : (rule : Numbers) (cells : List Cell) (n : ℕ) (before : List (List Cell)) (latest later : List Cell) → Follows rule cells n before latest
     → touches_edge latest ≡ false → later ≡ next rule latest → ((dx dy : ℤ) → shifted dx dy cells ≢ later)
-        → Follows rule cells (n + 1) (before ++ latest ∷ []) later
+    → Follows rule cells (n + 1) (before ++ latest ∷ []) later
 follows-more rule cells n before latest later h off next_is other = record {
   earlier = (λ k. h.earlier k ++ h.latest k ∷ []) ∙ sym (phases-more rule cells n);
   latest = is;
@@ -75,7 +75,7 @@ recurs_then rule cells n limit before latest later dx dy h low next_is is = reco
 pub inside_then : (rule : Numbers) (cells : List Cell) (n : ℕ) (before : List (List Cell)) (latest later : List Cell) (dx dy : ℤ)
     → Follows rule cells n before latest
     → touches_edge latest ≡ false → later ≡ next rule latest → shifted dx dy cells ≡ later → (g : ℕ) → IsNew rule cells g
-        → touches_edge (after rule cells g) ≡ false
+    → touches_edge (after rule cells g) ≡ false
 inside_then rule cells n before latest later dx dy h off next_is is g new =
     elim (le_or_lt (n + 1) g) [
       | inl far ↦ absurd (new (n + 1) dx dy (omega arith) far (sym (next_of rule cells latest later n h.latest next_is) ∙ sym is))

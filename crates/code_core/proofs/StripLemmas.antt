@@ -40,7 +40,7 @@ unfolding strip_tokens
 gap_and_column zero value h = ap spelled (strip_tokens-live value [] h)
 gap_and_column (suc n) value h =
     ap spelled (strip_tokens-gap n value [] h) ∙ ap (λ none. cond {A = List ℕ} none [] (gap_text (suc n)) ++ character value ∷ [])
-        (sym (ne_eqb (suc n) 0 (λ e. absurd (omega arith))))
+    (sym (ne_eqb (suc n) 0 (λ e. absurd (omega arith))))
 
 -- a column with a live cell parts a strip's text in two
 pub spelled-parted : (n value : ℕ) (values : List ℕ) → 1 ≤ value
@@ -81,7 +81,7 @@ unfolding rest_text
 rest_text-live cells width k gap x value h some is =
     let rest = map (column cells k) (range_with_len (x + 1) (width - (x + 1))) in
     ap (λ vs. spelled (strip_tokens (replicate gap 0 ++ vs))) (columns_from cells width k x h ∙ ap (λ v. v ∷ rest) (sym is))
-        ∙ spelled-parted gap value rest some
+    ∙ spelled-parted gap value rest some
 
 pub rest_text-empty : (cells : List Cell) (width k gap x value : ℕ) → x < width → value ≡ 0 → value ≡ column cells k x
     → rest_text cells width k gap x ≡ rest_text cells width k (gap + 1) (x + 1)
@@ -89,23 +89,23 @@ unfolding rest_text
 rest_text-empty cells width k gap x value h none is =
     let rest = map (column cells k) (range_with_len (x + 1) (width - (x + 1))) in
     ap (λ vs. spelled (strip_tokens (replicate gap 0 ++ vs))) (columns_from cells width k x h ∙ ap (λ v. v ∷ rest) (sym is ∙ none))
-        ∙ ap (λ vs. spelled (strip_tokens vs)) (one_more_empty gap rest ∙ ap (λ n. replicate n 0 ++ rest) (sym (add-one gap)))
+    ∙ ap (λ vs. spelled (strip_tokens vs)) (one_more_empty gap rest ∙ ap (λ n. replicate n 0 ++ rest) (sym (add-one gap)))
 
 pub rest_text-end : (cells : List Cell) (width k gap x : ℕ) → width ≤ x → rest_text cells width k gap x ≡ []
 unfolding rest_text
 rest_text-end cells width k gap x h =
     let e : width - x ≡ 0 = omega arith in
     ap (λ n. spelled (strip_tokens (replicate gap 0 ++ map (column cells k) (range_with_len x n)))) e
-        ∙ ap (λ vs. spelled (strip_tokens vs)) (append-nil (replicate gap 0)) ∙ ap spelled (strip_tokens-empty gap)
+    ∙ ap (λ vs. spelled (strip_tokens vs)) (append-nil (replicate gap 0)) ∙ ap spelled (strip_tokens-empty gap)
 
 -- a loop's step at a column with a live cell
 pub strip_more-live : (cells : List Cell) (width k gap x value : ℕ) (whole text new : List ℕ) → x < width → 1 ≤ value → value ≡ column cells k x
     → text ++ rest_text cells width k gap x ≡ whole → new ≡ text ++ spelled (strip_tokens (replicate gap 0 ++ value ∷ []))
-        → new ++ rest_text cells width k 0 (x + 1) ≡ whole
+    → new ++ rest_text cells width k 0 (x + 1) ≡ whole
 strip_more-live cells width k gap x value whole text new h some is so_far e =
     let rest = rest_text cells width k 0 (x + 1) in
     ap (λ t. t ++ rest) e ∙ append_assoc text (spelled (strip_tokens (replicate gap 0 ++ value ∷ []))) rest
-        ∙ ap (λ t. text ++ t) (sym (rest_text-live cells width k gap x value h some is)) ∙ so_far
+    ∙ ap (λ t. text ++ t) (sym (rest_text-live cells width k gap x value h some is)) ∙ so_far
 
 -- and at an empty one
 pub strip_more-empty : (cells : List Cell) (width k gap x value : ℕ) (whole text : List ℕ) → x < width → value ≡ 0 → value ≡ column cells k x

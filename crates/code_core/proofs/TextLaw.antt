@@ -1,6 +1,6 @@
 -- Each text is that of tokens whose cells are the pattern at the corner.
 use Rattle.std.proofs.Common.{◌≡◌, ℕ, ℤ, zero, suc, pos, neg_ℤ, ◌+ℤ◌, ◌≤ℤ◌, ◌+◌, ◌*◌, ◌/◌, ◌%◌, ◌≤◌, ◌<◌, Bool, true, false, ◌&&◌, ◌||◌, ◌⊎◌, inl}
-use Rattle.std.proofs.Common.{inr, cond, List, ◌∷◌, length, nat_lt, Option, Some, None, filter, map, arith, refl, ap, subst, sym, ◌∙◌}
+use Rattle.std.proofs.Common.{inr, cond, List, ◌∷◌, nat_lt, Option, Some, None, filter, map, arith, refl, ap, subst, sym, ◌∙◌}
 use Rattle.std.specs.Prelude.{unsigned_abs}
 use Rattle.std.specs.List.{flat_map, range_with_len}
 use Rattle.std.proofs.lemmas.Int.{ints}
@@ -48,7 +48,7 @@ has-box_cells width n x y h k =
     let c = cell_at (pos x) (pos y) in
     let row : 5 * (y / 5) + y % 5 ≡ y = omega arith in
     let in_column : has (column_cells (y / 5) x) c ≡ true = subst (λ (r : ℕ). has (column_cells (y / 5) x) (cell_at (pos x) (pos r)) ≡ true) row
-        (has-map (λ i. cell_at (pos x) (pos (5 * (y / 5) + i))) 0 5 (y % 5) (omega arith) (omega arith)) in
+    (has-map (λ i. cell_at (pos x) (pos (5 * (y / 5) + i))) 0 5 (y % 5) (omega arith) (omega arith)) in
     let in_strip : has (strip_cells width (y / 5)) c ≡ true = has-flat_map (column_cells (y / 5)) 0 width x c (omega arith) (omega arith) in_column in
     has-flat_map (strip_cells width) 0 n (y / 5) c (omega arith) (omega arith) in_strip
 
@@ -86,9 +86,14 @@ counted : (b : Bounds) (c d : Cell) → IsWithin b d → c ≡ moved_by (neg_ℤ
     → (x : ℕ) × (y : ℕ) × (c ≡ cell_at (pos x) (pos y)) × (x ≤ distance b.left b.right) × (y ≤ distance b.top b.bottom)
 counted b c d w is =
     let x : d.x +ℤ neg_ℤ b.left ≡ pos (unsigned_abs (d.x +ℤ neg_ℤ b.left)) = size_of _ (omega (arith, ints, w.left)) in
-    let y : d.y +ℤ neg_ℤ b.top ≡ pos (unsigned_abs (d.y +ℤ neg_ℤ b.top)) = size_of _ (omega (arith, ints, w.top)) in
-    (unsigned_abs (d.x +ℤ neg_ℤ b.left), unsigned_abs (d.y +ℤ neg_ℤ b.top), is
-        ∙ (λ i. cell_at (x i) (y i)), omega (arith, ints, w.left, w.right), omega (arith, ints, w.top, w.bottom))
+    let y : d.y +ℤ neg_ℤ b.top ≡ pos (unsigned_abs (d.y +ℤ neg_ℤ b.top)) = size_of _ (omega (arith, ints, w.top)) in (
+      unsigned_abs (d.x +ℤ neg_ℤ b.left),
+      unsigned_abs (d.y +ℤ neg_ℤ b.top),
+      is
+          ∙ (λ i. cell_at (x i) (y i)),
+      omega (arith, ints, w.left, w.right),
+      omega (arith, ints, w.top, w.bottom),
+    )
 
 -- a pattern at the corner lies in its box
 inside-corner : (cells : List Cell) (b : Bounds) → box_of cells ≡ Some b → LiesInside (at_corner cells) (distance b.left b.right) (distance b.top b.bottom)

@@ -1,5 +1,5 @@
 -- The tokens of a pattern's text: each is lawful, and the text is short.
-use Rattle.std.proofs.Common.{ℕ, zero, suc, ◌+◌, ◌*◌, ◌-◌, ◌==◌, ◌/◌, ◌≤◌, ◌<◌, Bool, true, false, List, [], ◌∷◌, ◌∙◌, ◌≡◌, cond, length, map, get_or}
+use Rattle.std.proofs.Common.{ℕ, zero, suc, ◌+◌, ◌*◌, ◌-◌, ◌/◌, ◌≤◌, ◌<◌, Bool, true, false, List, [], ◌∷◌, ◌∙◌, ◌≡◌, cond, length, map, get_or}
 use Rattle.std.proofs.Common.{refl, arith}
 use Rattle.std.specs.List.{All, list_all, range_with_len}
 use Rattle.std.proofs.lemmas.Bool.{and_from, ne_eqb}
@@ -153,8 +153,13 @@ value_character v h = rw (is_character-character v h) refl
 long_characters : (n : ℕ) → 4 ≤ n → n ≤ 39 → list_all is_character (gap_text n) ≡ true
 unfolding gap_text
 long_characters n low high =
-    rw (ne_eqb n 1 (λ e. absurd (omega arith)), ne_eqb n 2 (λ e. absurd (omega arith)), ne_eqb n 3 (λ e. absurd (omega arith)), is_y,
-        is_character-character (n - 4) (omega arith)) refl
+    rw (
+      ne_eqb n 1 (λ e. absurd (omega arith)),
+      ne_eqb n 2 (λ e. absurd (omega arith)),
+      ne_eqb n 3 (λ e. absurd (omega arith)),
+      is_y,
+      is_character-character (n - 4) (omega arith),
+    ) refl
 
 characters_of : (token : Token) → IsToken token → list_all is_character (spelling token) ≡ true
 unfolding gap_text is_character
@@ -174,5 +179,8 @@ characters_of_all (token ∷ tokens) all =
 
 pub tokens_of-shape : (cells : List Cell) (right bottom : ℕ) → right < 40 → bottom < 40 → HasTextShape (spelled (tokens_of cells right bottom))
 tokens_of-shape cells right bottom h k =
-    record { short = tokens_of-short cells right bottom h k; characters =
-        characters_of_all (tokens_of cells right bottom) (tokens_of-lawful cells right bottom h) }
+    record {
+      short = tokens_of-short cells right bottom h k;
+      characters =
+          characters_of_all (tokens_of cells right bottom) (tokens_of-lawful cells right bottom h);
+    }

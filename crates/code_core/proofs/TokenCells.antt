@@ -93,7 +93,7 @@ lit_cells-column cells k x =
     let d = alive (n + 1 + 1 + 1) in
     let e = alive (n + 1 + 1 + 1 + 1) in
     ap (map (place k x)) (kept_alike (is_lit (five a b c d e)) (λ i. has cells (place k x i)) (lit_0 a b c d e ∙ ap alive (row_0 n))
-        (lit_1 a b c d e) (lit_2 a b c d e ∙ ap alive (row_2 n)) (lit_3 a b c d e ∙ ap alive (row_3 n)) (lit_4 a b c d e ∙ ap alive (row_4 n)))
+    (lit_1 a b c d e) (lit_2 a b c d e ∙ ap alive (row_2 n)) (lit_3 a b c d e ∙ ap alive (row_3 n)) (lit_4 a b c d e ∙ ap alive (row_4 n)))
     ∙ filter-map (has cells) (place k x) (range_with_len 0 5)
 
 -- ---- the tokens of a strip

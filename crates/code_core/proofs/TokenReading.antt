@@ -98,8 +98,12 @@ column-character v low high k (inr letter) = grind (arith, nat_tests)
 pub single-character : (v : ℕ) → 1 ≤ v → v ≤ 31 → single (character v) ≡ Column v
 unfolding single
 single-character v low high =
-    rw (column-character v low high 48 (inl refl), column-character v low high 119 (inr (omega arith)),
-        column-character v low high 120 (inr (omega arith)), column-character v low high 122 (inr (omega arith)))
+    rw (
+      column-character v low high 48 (inl refl),
+      column-character v low high 119 (inr (omega arith)),
+      column-character v low high 120 (inr (omega arith)),
+      column-character v low high 122 (inr (omega arith)),
+    )
     (ap (λ (k : ℕ). Column k) (character_value-character v (omega arith)))
 
 -- a token is read from its spelling, whatever follows
@@ -156,11 +160,11 @@ pub tokens_at-tokens : (tokens : List Token) → All IsToken tokens → (place :
 tokens_at-tokens [] each place rest = ap (λ (k : ℕ). tokens_at k rest) (omega arith)
 tokens_at-tokens (token ∷ tokens) each place rest =
     let size : place + length (spelling token) + length (flat_map spelling tokens) ≡ place + length (spelling token ++ flat_map spelling tokens) =
-        omega (arith, length-append (spelling token) (flat_map spelling tokens)) in
+    omega (arith, length-append (spelling token) (flat_map spelling tokens)) in
     ap (λ (text : List ℕ). tokens_at place text) (append_assoc (spelling token) (flat_map spelling tokens) rest)
     ∙ tokens_at-token token (each zero token (omega arith)) place (flat_map spelling tokens ++ rest)
     ∙ ap (λ (r : Result (List Token) WechslerFault). with_token token r)
-        (tokens_at-tokens tokens (All-tail IsToken token tokens each) (place + length (spelling token)) rest)
+    (tokens_at-tokens tokens (All-tail IsToken token tokens each) (place + length (spelling token)) rest)
     ∙ ap (λ (k : ℕ). with_token token (with_tokens tokens (tokens_at k rest))) size
 
 pub with_tokens-none : (tokens : List Token) → with_tokens tokens (Ok []) ≡ Ok tokens
@@ -219,7 +223,7 @@ text_induction P none bad short more [] = none
 text_induction P none bad short more (b ∷ []) = front_cases P bad more b [] none (short [] refl)
 text_induction P none bad short more (b ∷ c ∷ rest) =
     front_cases P bad more b (c ∷ rest) (text_induction P none bad short more (c ∷ rest))
-        (long_cases P short more c rest (text_induction P none bad short more rest))
+    (long_cases P short more c rest (text_induction P none bad short more rest))
 
 pub tokens_at-short_run : (place : ℕ) (rest : List ℕ) → has_character rest ≡ false → tokens_at place (121 ∷ rest) ≡ Err (ShortRun place)
 tokens_at-short_run place [] h = tokens_at-end place
@@ -264,8 +268,11 @@ Outcome start text (Err Empty) = ⊥
 
 Outcome-more : (token : Token) (text : List ℕ) → IsToken token → (start : ℕ) (r : Result (List Token) WechslerFault)
     → Outcome (start + length (spelling token)) text r → Outcome start (spelling token ++ text) (with_token token r)
-Outcome-more token text h start (Ok tokens) o = record { each = All-cons IsToken token tokens h o.each; spelled =
-    ap (λ (more : List ℕ). spelling token ++ more) o.spelled }
+Outcome-more token text h start (Ok tokens) o = record {
+  each = All-cons IsToken token tokens h o.each;
+  spelled =
+      ap (λ (more : List ℕ). spelling token ++ more) o.spelled;
+}
 Outcome-more token text h start (Err (BadByte place)) o = Stops-more IsBad start place token text h o
 Outcome-more token text h start (Err (ShortRun place)) o = Stops-more IsShort start place token text h o
 Outcome-more token text h start (Err TooLong) o = o
@@ -276,12 +283,19 @@ unfolding tokens_at
 tokens_at-outcome = text_induction (λ text. (start : ℕ) → Outcome start text (tokens_at start text))
     (λ start. record { each = All-nil IsToken; spelled = refl })
     (λ b rest bad start. rw (tokens_at-bad start b rest bad) (let s : Stops IsBad start (b ∷ rest) start =
-        record { tokens = []; rest = b ∷ rest; each = All-nil IsToken; whole = refl; at_place = omega arith; so = bad } in s))
+    record { tokens = []; rest = b ∷ rest; each = All-nil IsToken; whole = refl; at_place = omega arith; so = bad } in s))
     (λ rest short start. rw (tokens_at-short_run start rest short)
-        (let s : Stops IsShort start (121 ∷ rest) start = record { tokens = []; rest = 121 ∷ rest; each = All-nil IsToken; whole = refl; at_place =
-        omega arith; so = (refl, short) } in s))
+    (let s : Stops IsShort start (121 ∷ rest) start = record {
+      tokens = [];
+      rest = 121 ∷ rest;
+      each = All-nil IsToken;
+      whole = refl;
+      at_place =
+          omega arith;
+      so = (refl, short);
+    } in s))
     (λ token rest h o start. rw (tokens_at-token token h start rest)
-        (Outcome-more token rest h start (tokens_at (start + length (spelling token)) rest) (o (start + length (spelling token)))))
+    (Outcome-more token rest h start (tokens_at (start + length (spelling token)) rest) (o (start + length (spelling token)))))
 
 -- what is read spells the text
 pub Spells-tokens_at : (tokens : List Token) (text : List ℕ) (place : ℕ) → tokens_at place text ≡ Ok tokens → Spells tokens text
@@ -311,7 +325,7 @@ pub tokens_at-stops : (tokens : List Token) (rest text : List ℕ) (start place 
 tokens_at-stops tokens rest text start place fault each whole at_place e =
     ap (λ (t : List ℕ). tokens_at start t) whole ∙ tokens_at-tokens tokens each start rest
     ∙ ap (λ (k : ℕ). with_tokens tokens (tokens_at k rest)) (sym at_place) ∙ ap (λ (r : Result (List Token) WechslerFault). with_tokens tokens r) e
-        ∙ with_tokens-err tokens fault
+    ∙ with_tokens-err tokens fault
 
 pub tokens_at-Stops_bad : (text : List ℕ) (start place : ℕ) → Stops IsBad start text place → tokens_at start text ≡ Err (BadByte place)
 tokens_at-Stops_bad text start place s = tokens_at-stops s.tokens s.rest text start place (BadByte place) s.each s.whole s.at_place

@@ -49,7 +49,7 @@ after-image : (o : Orientation) (rule : Numbers) (cells : List Cell) (g : ℕ) �
 after-image o rule cells zero order = after-none rule (image o cells) ∙ ap (image o) (sym (after-none rule cells))
 after-image o rule cells (suc g) order =
     after-suc rule (image o cells) g ∙ ap (next rule) (after-image o rule cells g order)
-        ∙ next-image o rule (after rule cells g) (in_order-after rule cells g order)
+    ∙ next-image o rule (after rule cells g) (in_order-after rule cells g order)
     ∙ ap (image o) (sym (after-suc rule cells g))
 
 -- how an image comes back
@@ -90,7 +90,7 @@ text-unimage : (o : Orientation) (rule : Numbers) (cells : List Cell) (period : 
     → IsImageText rule (image o cells) period t
 text-unimage o rule cells period t order h =
     text-image (turning_back o).0 rule (image o cells) period t (in_order-image o cells)
-        (subst (λ (S : List Cell). IsImageText rule S period t) (sym (image-back o cells order)) h)
+    (subst (λ (S : List Cell). IsImageText rule S period t) (sym (image-back o cells order)) h)
 
 -- a set has no more cells than the list that it is made of
 length-put : (c : Cell) (ds : List Cell) → length (put c ds) ≤ suc (length ds)
@@ -191,4 +191,4 @@ codes_turned o rule cells limit code order h = go (image o cells) refl
     go (c ∷ cs) is =
         let b = grown c (box_of cs) in
         codes_moved (neg_ℤ b.left) (neg_ℤ b.top) rule (c ∷ cs) limit code (subst InOrder is (in_order-image o cells))
-            (subst (λ (S : List Cell). IsCode rule S limit code) is image_code)
+        (subst (λ (S : List Cell). IsCode rule S limit code) is image_code)

@@ -1,5 +1,5 @@
 -- What a text says in extended Wechsler format (LifeWiki, "Apgcode").
-use Rattle.std.specs.Prelude.{◌≡◌, ◌==◌, ◌+◌, ◌-◌, ◌<◌, ℕ, Bool, false, not, ◌||◌, List, [], ◌∷◌, length, take, Some, Result, Ok, Err, nat_lt}
+use Rattle.std.specs.Prelude.{◌≡◌, ◌==◌, ◌+◌, ◌-◌, ◌<◌, ℕ, false, not, List, [], ◌∷◌, length, take, Some, Result, Ok, Err, nat_lt}
 use Rattle.std.specs.Prelude.{slice_index, if◌then◌else◌}
 use Rattle.plane_core.specs.declared.cell.Cell.{Cell}
 use Rattle.plane_core.specs.Bounds.{at_corner}

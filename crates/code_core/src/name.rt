@@ -13,7 +13,8 @@
 //!
 //! Each phase is made once and kept, and no text is made of a pattern that doesn't come back.
 
-ghost use Rattle.std.specs.Prelude.{Option, ℕ, ◌≡◌, ◌≢◌, ◌<◌, ◌≤◌, ◌+◌, [], Some, Err, true, length, IfOk, IfSome, IfNone, OnOk, IsErrOf, option_map, string_bytes};
+ghost use Rattle.std.specs.Prelude.{Option, ℕ, ◌≡◌, ◌≢◌, ◌<◌, ◌≤◌, ◌+◌, [], Some, Err, true, length, option_map, string_bytes};
+ghost use Rattle.std.specs.Prelude.{IfOk, IfSome, IfNone, OnOk, IsErrOf};
 ghost use Rattle.std.specs.Cmp.{IsTotalOrder};
 ghost use Rattle.plane_core.specs.Cells.{plane_bound};
 ghost use Rattle.plane_core.specs.Generations.{lies_within, touches_edge};

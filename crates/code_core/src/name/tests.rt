@@ -266,7 +266,10 @@ fn stops_a_step_from_the_edge(rt: HostRuntime) -> Result<(), Fail> {
     let blinker = placed(rt.alloc(), &cells)?;
     let life = Rule::life();
     assert_eq!(rt; Recurrence::find(rt.alloc(), &blinker, &life, 1), Ok(None));
-    assert_eq!(rt; Recurrence::find(rt.alloc(), &blinker, &life, 64), Err(StepError::Edge));
+    assert_eq!(rt;
+        Recurrence::find(rt.alloc(), &blinker, &life, 64),
+        Err(StepError::Edge)
+    );
     assert!(rt; name(rt.alloc(), &blinker, &life, 1)?.is_none());
     assert!(rt; name(rt.alloc(), &blinker, &life, 64).err() == Some(StepError::Edge));
     Ok(())

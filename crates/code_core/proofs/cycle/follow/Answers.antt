@@ -14,10 +14,10 @@ returns-in-Some-clause-recurs c =
     let dx_fits : FitsSigned w32 c.in-Some.dx = search rules in
     let dy_fits : FitsSigned w32 c.in-Some.dy = search rules in
     let found : c.recurrence_at-recurrence.result ≡ record { period = suc c.loop-age.age; dx = c.in-Some.dx; dy = c.in-Some.dy } =
-        simp to_z-of_z at c.recurrence_at-recurrence.ensures in
+    simp to_z-of_z at c.recurrence_at-recurrence.ensures in
     let back : shifted c.in-Some.dx c.in-Some.dy c.args.pattern.now ≡ c.in_ok-next.next = c.in-Some.ensures.some in
     rw found (recurs_then c.args.rule.now c.args.pattern.now c.loop-age.age c.args.limit c.loop-age.phases.items c.loop-age.latest c.in_ok-next.next
-        c.in-Some.dx c.in-Some.dy
+    c.in-Some.dx c.in-Some.dy
     c.loop-age.invariant c.loop-age-test.true c.in_ok-next.ensures.next back)
 
 pub returns-in-Some-clause-inside : goal.returns-in-Some-clause-inside
@@ -35,7 +35,7 @@ pub returns-in-Some-clause-phases : goal.returns-in-Some-clause-phases
 returns-in-Some-clause-phases c =
     let age : c.recurrence_at-recurrence.result.period ≡ suc c.loop-age.age = ap (λ (r : Recurrence). r.period) c.recurrence_at-recurrence.ensures in
     rw (c.in_ok-keep.ensures, age)
-        (phases_then c.args.rule.now c.args.pattern.now c.loop-age.age c.loop-age.phases.items c.loop-age.latest c.loop-age.invariant)
+    (phases_then c.args.rule.now c.args.pattern.now c.loop-age.age c.loop-age.phases.items c.loop-age.latest c.loop-age.invariant)
 
 pub returns-clause-never : goal.returns-clause-never
 returns-clause-never c =
@@ -47,7 +47,7 @@ pub returns-then-touches_edge-clause-never_edge : goal.returns-then-touches_edge
 returns-then-touches_edge-clause-never_edge c =
     let on : touches_edge c.args.pattern.now ≡ true = sym c.touches_edge.ensures ∙ c.if-touches_edge.true in
     λ reach inside far e. never_meets c.args.rule.now c.args.pattern.now c.args.limit reach inside far
-        (meets_at_once c.args.rule.now c.args.pattern.now c.args.limit c.requires.least on)
+    (meets_at_once c.args.rule.now c.args.pattern.now c.args.limit c.requires.least on)
 
 pub returns-in_err-next-clause-edge : goal.returns-in_err-next-clause-edge
 returns-in_err-next-clause-edge c = search rules

@@ -7,7 +7,7 @@ use Rattle.code_core.proofs.name.least_image.Goals as goal
 pub loop-orientation-preserved : goal.loop-orientation-preserved
 loop-orientation-preserved c =
     rw (c.earlier-least.ensures, c.in_ok-found.ensures) (least_of_more (IsImageAt c.args.orientations.now c.args.pattern.now)
-        c.loop-orientation.orientation-index _ _ c.loop-orientation.invariant (least_of_one _))
+    c.loop-orientation.orientation-index _ _ c.loop-orientation.invariant (least_of_one _))
 
 pub returns : goal.returns
 returns c =

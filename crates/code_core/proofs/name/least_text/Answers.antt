@@ -12,9 +12,9 @@ pub loop-phase-preserved : goal.loop-phase-preserved
 loop-phase-preserved c =
     let low : c.loop-phase.phase-index < length c.args.phases.now = search rules in
     let phase : c.phase-item.result ≡ get_or c.args.phases.now c.loop-phase.phase-index [] = c.phase-item.is
-        ∙ get_or_default c.args.phases.now c.loop-phase.phase-index c.phase-item.result [] low in
+    ∙ get_or_default c.args.phases.now c.loop-phase.phase-index c.phase-item.result [] low in
     let found : IsLeastOf (Among (IsImageAt orientations c.phase-item.result) 8) (option_map string_bytes c.in_ok-found.found) =
-        rw c.orientations.ensures at c.in_ok-found.ensures in
+    rw c.orientations.ensures at c.in_ok-found.ensures in
     let here : IsLeastOf (IsImageOf c.args.phases.now c.loop-phase.phase-index) (option_map string_bytes c.in_ok-found.found) =
     subst (λ (cells : List Cell). IsLeastOf (IsImage cells) (option_map string_bytes c.in_ok-found.found)) phase (least_of_all c.phase-item.result _ found) in
     rw (c.earlier-least.ensures) (least_of_more (IsImageOf c.args.phases.now) c.loop-phase.phase-index _ _ c.loop-phase.invariant here)

@@ -12,7 +12,7 @@ returns-in_ok-name_of-in-Some-clause-code c =
     let told = c.in_ok-name_of-in-Some.ensures in
     let recurs : Recurs c.args.rule.now c.args.pattern.now c.args.limit c.in-Some.cycle.recurrence = rw c.in-Some.is at c.in_ok-cycle.ensures.recurs in
     let made : c.in-Some.cycle.phases.items ≡ phases c.args.rule.now c.args.pattern.now c.in-Some.cycle.recurrence.period =
-        rw c.in-Some.is at c.in_ok-cycle.ensures.phases in
+    rw c.in-Some.is at c.in_ok-cycle.ensures.phases in
     record {
       recurrence = c.in-Some.cycle.recurrence;
       recurs = recurs;

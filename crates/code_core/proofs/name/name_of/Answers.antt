@@ -1,7 +1,5 @@
-use Rattle.std.proofs.Common.{◌≡◌, ◌∙◌, sym, subst, option_map, string_bytes, List, ℕ, Bor, rules, length}
+use Rattle.std.proofs.Common.{◌≡◌, option_map, string_bytes}
 use Rattle.std.specs.Prelude.{IfSome}
-use Rattle.code_core.specs.Least.{Among, IsImageOf}
-use Rattle.code_core.specs.Names.{IsLeastOf}
 use Rattle.code_core.specs.Texts.{HasTextShape}
 use Rattle.code_core.proofs.LeastLemmas.{shape_of_least}
 use Rattle.code_core.proofs.name.name_of.Goals as goal
