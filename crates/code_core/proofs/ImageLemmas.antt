@@ -12,7 +12,7 @@ use Rattle.plane_core.specs.declared.orientation.Orientation.{Orientation}
 use Rattle.plane_core.specs.Orientations.{image, turned}
 use Rattle.plane_core.proofs.OrientationLemmas.{at_corner-shifted}
 use Rattle.plane_core.proofs.PlaintextBox.{within-box_of}
-use Rattle.code_core.specs.Texts.{boxed_text, is_small, text}
+use Rattle.code_core.specs.Texts.{boxed_text, fits_forty_square, text}
 
 -- a pattern at the corner is its own image at the corner
 pub at_corner-again : (cells : List Cell) → at_corner (at_corner cells) ≡ at_corner cells
@@ -53,8 +53,8 @@ all_near b [] left top wide high w = refl
 all_near b (c ∷ cs) left top wide high w = and_from _ _ (near_corner b c left top wide high w.0) (all_near b cs left top wide high w.1)
 
 -- only a small box has a text
-is_small_of : (cells : List Cell) (b : Bounds) (t : List ℕ) → boxed_text cells (Some b) ≡ Some t → is_small b ≡ true
-is_small_of cells b t told = not_none (is_small b) _ told
+is_small_of : (cells : List Cell) (b : Bounds) (t : List ℕ) → boxed_text cells (Some b) ≡ Some t → fits_forty_square b ≡ true
+is_small_of cells b t told = not_none (fits_forty_square b) _ told
   where
     not_none : (small : Bool) (some : List ℕ) → cond small (Some some) None ≡ Some t → small ≡ true
     not_none true some e = refl
@@ -69,7 +69,7 @@ text_on_plane cells t is = go (box_of (at_corner cells)) refl is
     go None box told = absurd cc
     go (Some b) box told =
         let corner = box_at_corner cells b box in
-        let small : is_small b ≡ true = is_small_of (at_corner cells) b t told in
+        let small : fits_forty_square b ≡ true = is_small_of (at_corner cells) b t told in
         let sides = and_parts _ _ small in
         all_near b (at_corner cells) corner.0 corner.1 (ltb-true _ _ sides.0) (ltb-true _ _ sides.1) (within-box_of (at_corner cells) b box)
 

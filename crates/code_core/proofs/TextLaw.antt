@@ -15,7 +15,7 @@ use Rattle.plane_core.proofs.PlaintextBox.{within-box_of}
 use Rattle.plane_core.proofs.SetLemmas.{has-all, has-append, has-filter, has-head, is_set_of, or_right}
 use Rattle.code_core.specs.declared.token.Token.{Token}
 use Rattle.code_core.specs.Columns.{cells_of}
-use Rattle.code_core.specs.Texts.{HasTextShape, TextsHaveTheirShape, TextsSpellPatterns, boxed_text, is_small, text, tokens_of}
+use Rattle.code_core.specs.Texts.{HasTextShape, TextsHaveTheirShape, TextsSpellPatterns, boxed_text, fits_forty_square, text, tokens_of}
 use Rattle.code_core.proofs.StripLemmas.{spelled}
 use Rattle.code_core.proofs.TextLemmas.{tokens_of-lawful, tokens_of-shape}
 use Rattle.code_core.proofs.WholeGaps.{tokens_of-whole}
@@ -105,7 +105,7 @@ inside-corner cells b e c h =
 in_order-corner : (cells : List Cell) (b : Bounds) → box_of cells ≡ Some b → InOrder cells → InOrder (at_corner cells)
 in_order-corner cells b e o = subst (λ f. InOrder (cornered f cells)) (sym e) (in_order-shifted (neg_ℤ b.left) (neg_ℤ b.top) cells o)
 
-small_sides : (b : Bounds) → is_small b ≡ true → (distance b.left b.right < 40) × (distance b.top b.bottom < 40)
+small_sides : (b : Bounds) → fits_forty_square b ≡ true → (distance b.left b.right < 40) × (distance b.top b.bottom < 40)
 small_sides b small =
     let sides = and_parts (nat_lt (distance b.left b.right) 40) (nat_lt (distance b.top b.bottom) 40) small in
     (ltb-true (distance b.left b.right) 40 sides.0, ltb-true (distance b.top b.bottom) 40 sides.1)
@@ -117,19 +117,19 @@ corner_tokens cells b = tokens_of (at_corner cells) (distance b.left b.right) (d
 
 -- a pattern with a text has a small box, and its text is that of its tokens
 boxed : (cells : List Cell) (t : List ℕ) → text cells ≡ Some t
-    → (b : Bounds) × (box_of cells ≡ Some b) × (is_small b ≡ true) × (spelled (corner_tokens cells b) ≡ t)
+    → (b : Bounds) × (box_of cells ≡ Some b) × (fits_forty_square b ≡ true) × (spelled (corner_tokens cells b) ≡ t)
 unfolding text
 boxed cells t e = go (box_of cells) refl e
   where
-    small : (b : Bounds) (s : Bool) → is_small b ≡ s → cond {A = Option (List ℕ)} s (Some (spelled (corner_tokens cells b))) None ≡ Some t
-        → (is_small b ≡ true) × (spelled (corner_tokens cells b) ≡ t)
+    small : (b : Bounds) (s : Bool) → fits_forty_square b ≡ s → cond {A = Option (List ℕ)} s (Some (spelled (corner_tokens cells b))) None ≡ Some t
+        → (fits_forty_square b ≡ true) × (spelled (corner_tokens cells b) ≡ t)
     small b true is e = (is, cc)
     small b false is e = absurd cc
 
     go : (o : Option Bounds) → box_of cells ≡ o → boxed_text cells o ≡ Some t
-        → (b : Bounds) × (box_of cells ≡ Some b) × (is_small b ≡ true) × (spelled (corner_tokens cells b) ≡ t)
+        → (b : Bounds) × (box_of cells ≡ Some b) × (fits_forty_square b ≡ true) × (spelled (corner_tokens cells b) ≡ t)
     go None is e = absurd cc
-    go (Some b) is e = let h = small b (is_small b) refl e in (b, is, h.0, h.1)
+    go (Some b) is e = let h = small b (fits_forty_square b) refl e in (b, is, h.0, h.1)
 
 pub texts_spell_patterns : TextsSpellPatterns
 texts_spell_patterns cells t o e =

@@ -38,14 +38,14 @@ unfoldable pub tokens_of : List Cell → ℕ → ℕ → List Token
 tokens_of cells right bottom = joined (map (λ k. strip_tokens (strip cells (right + 1) k)) (range_with_len 0 (bottom / 5 + 1)))
 
 -- the box is at most 40 columns by 40 rows: a larger object has no text (LifeWiki, "Apgcode")
-abbrev pub is_small : Bounds → Bool
-is_small b = nat_lt (distance b.left b.right) 40 && nat_lt (distance b.top b.bottom) 40
+abbrev pub fits_forty_square : Bounds → Bool
+fits_forty_square b = nat_lt (distance b.left b.right) 40 && nat_lt (distance b.top b.bottom) 40
 
 -- the text of a pattern with this box
 abbrev pub boxed_text : List Cell → Option Bounds → Option (List ℕ)
 boxed_text cells None = None
 boxed_text cells (Some b) =
-    if is_small b
+    if fits_forty_square b
     then Some (flat_map spelling (tokens_of (at_corner cells) (distance b.left b.right) (distance b.top b.bottom)))
     else None
 

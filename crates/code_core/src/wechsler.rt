@@ -20,7 +20,7 @@ ghost use Rattle.std.specs.String.{string_bytes};
 ghost use Rattle.plane_core.specs.Bounds.{at_corner, box_of};
 ghost use Rattle.plane_core.specs.Cells.{cell_at, distance, has};
 ghost use Rattle.code_core.specs.Columns.{column};
-ghost use Rattle.code_core.specs.Texts.{TextsHaveTheirShape, TextsSpellPatterns, is_small, strip, strip_tokens, text, tokens_of};
+ghost use Rattle.code_core.specs.Texts.{TextsHaveTheirShape, TextsSpellPatterns, fits_forty_square, strip, strip_tokens, text, tokens_of};
 ghost use Rattle.code_core.specs.Tokens.{character, gap_text, spelling};
 
 use plane_core::bounds::Bounds;
@@ -53,7 +53,7 @@ pub fn wechsler(alloc: Global, pattern: &Pattern) -> Result<Option<String>, Allo
     let Some(bounds) = pattern.bounds() else {
         return Ok(None);
     };
-    if !is_small(bounds) {
+    if !fits_forty_square(bounds) {
         return Ok(None);
     }
     Ok(Some(text_in(alloc, pattern, bounds)?))
@@ -82,8 +82,8 @@ fn last_row(bounds: Bounds) -> u32
 }
 
 /// Whether the box is small enough for a text.
-fn is_small(bounds: Bounds) -> bool
-    ensures { result ≡ is_small bounds }
+fn fits_forty_square(bounds: Bounds) -> bool
+    ensures { result ≡ fits_forty_square bounds }
 {
     last_column(bounds) < SIDE_LIMIT && last_row(bounds) < SIDE_LIMIT
 }
