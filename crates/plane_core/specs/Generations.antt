@@ -41,7 +41,7 @@ touches_edge cells = list_any on_edge cells
 abbrev pub lies_within : ℕ → List Cell → Bool
 lies_within reach cells = list_all (is_within reach) cells
 
--- a generation doesn't mind where a pattern lies, nor how
+-- the next generation of a pattern moved, or turned, is its next generation, moved or turned
 abbrev pub NextMoved : Type 0
 NextMoved = (dx dy : ℤ) (rule : Numbers) (cells : List Cell) → InOrder cells → next rule (shifted dx dy cells) ≡ shifted dx dy (next rule cells)
 

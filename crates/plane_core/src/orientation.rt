@@ -7,8 +7,8 @@ use crate::coordinate::negated;
 
 /// The eight ways in which a pattern can lie on the square grid.
 ///
-/// Each takes the cell (x, y) to the cell given here, and the image is then moved so that its least x and its least y
-/// are 0.
+/// Each takes the cell (x, y) to the cell that is given here. [`Pattern::turn`](crate::pattern::Pattern::turn) then moves
+/// the image so that its least x and its least y are 0.
 #[derive(Clone, Copy, Debug, PartialEq, Eq)]
 pub enum Orientation {
     /// (x, y)
