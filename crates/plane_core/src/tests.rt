@@ -66,9 +66,9 @@ fn a_large_still_life_stays(rt: HostRuntime) -> Result<(), Fail> {
     let life = Rule::life();
     let field = field(alloc)?;
     assert_eq!(rt; field.population(), 100_000);
-    assert_eq!(rt; field.copy(alloc)?.cells(), field.cells());
-    assert_eq!(rt; field.step(alloc, &life)?.cells(), field.cells());
-    assert_eq!(rt; field.run(alloc, &life, 3)?.cells(), field.cells());
+    assert!(rt; field.copy(alloc)?.cells() == field.cells());
+    assert!(rt; field.step(alloc, &life)?.cells() == field.cells());
+    assert!(rt; field.run(alloc, &life, 3)?.cells() == field.cells());
     let clusters = field.clusters(alloc)?;
     assert_eq!(rt; clusters.len(), 25_000);
     for cluster in &clusters {
@@ -113,10 +113,10 @@ fn a_large_text_is_read_and_written(rt: HostRuntime) -> Result<(), Fail> {
     let alloc = rt.alloc();
     let text = field_text(alloc)?;
     let read = Pattern::read_plaintext(alloc, text.as_slice())?;
-    assert_eq!(rt; read.cells(), field(alloc)?.cells());
+    assert!(rt; read.cells() == field(alloc)?.cells());
     let mut out = Out::new(Vec::new(alloc));
     read.write_plaintext(&mut out)?;
-    assert_eq!(rt; out.into_inner().as_slice(), text.as_slice());
+    assert!(rt; out.into_inner().as_slice() == text.as_slice());
     Ok(())
 }
 
