@@ -27,5 +27,6 @@ pub mod RuleNumbers
 pub mod RuleReading
 pub mod SearchLemmas
 pub mod SetLemmas
+pub mod SpeedLemmas
 pub mod TallyLemmas
 pub mod TurnLemmas

@@ -53,6 +53,6 @@ NextTurned = (o : Orientation) (rule : Numbers) (cells : List Cell) → InOrder 
 abbrev pub SpeedOfLight : Type 0
 SpeedOfLight = (rule : Numbers) (cells : List Cell) (b : Bounds) (g : ℕ) → All (IsWithin b) cells → All (IsWithin (enlarged g b)) (after rule cells g)
 
--- and as far from the origin as it lay, and g more
+-- and a pattern that lies within reach of the origin lies within g more after g generations
 abbrev pub SpeedFromOrigin : Type 0
 SpeedFromOrigin = (rule : Numbers) (cells : List Cell) (reach g : ℕ) → lies_within reach cells ≡ true → lies_within (reach + g) (after rule cells g) ≡ true

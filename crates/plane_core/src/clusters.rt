@@ -4,11 +4,12 @@
 //!      . . . . . . O          . . . . . . O
 //!      . . . O . . .          . . . 3 . . .
 //!
-//! Each place in the pattern's list of cells has a mark. The flood keeps a list of the cells that it has reached, above
-//! in the order 1, 2, 3, which is also its work: it goes through the list, and puts each cell without a mark that is at
-//! most two columns and two rows away at the list's end, with a mark from then on. When the list has been gone through,
-//! it is the cluster. The other two cells are three columns from the nearest. They are the next cluster, which begins at
-//! the first cell without a mark, so that the clusters come in the order of their first cells.
+//! Each cell of the pattern has a mark, and the flood a list of the cells that it has reached: 1, 2 and 3 above, in this
+//! order. It goes through the list from the front. For each cell there, the cells at most two columns and two rows away
+//! that have no mark yet are marked and put at the list's end. At the end of the list, the list is the cluster.
+//!
+//! The other two cells are three columns from cell 3, too far to be reached. The next flood starts at the first cell
+//! without a mark, so the clusters come in the order of their first cells.
 ghost use Rattle.std.specs.Prelude.{◌≡◌, ◌≤◌, ◌||◌, true, false, length, All, IfOk, OnOk, ◌+ℤ◌, unsigned_abs};
 ghost use Rattle.plane_core.specs.Cells.{InOrder, IsPattern, has, moved_by, on_plane, same_cell, set_of};
 ghost use Rattle.plane_core.specs.Clusters.{AreClusters, IsCluster};

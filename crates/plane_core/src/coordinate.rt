@@ -32,7 +32,7 @@ pub fn negated(at: i32) -> i32
     -at
 }
 
-/// The sum of two coordinates. It is `None` where it lies past the bound.
+/// The sum of two coordinates. It is `None` if it lies past the bound.
 pub fn sum_on_plane(at: i32, by: i32) -> Option<i32>
     ensures { result ≡ (if nat_le (unsigned_abs (at +ℤ by)) plane_bound then Some (at +ℤ by) else None) }
 {

@@ -70,8 +70,8 @@ impl Orientation {
 
 /// The laws of the eight orientations: they are the group of the square.
 ///
-/// Their product is a group, in which no two of them are one. Turning by one orientation and then by another is turning
-/// by their product, and doesn't mind where a pattern lies.
+/// They are different maps, and their product is that of a group. To turn a pattern by one of them and then by another is
+/// to turn it by their product, and a pattern has the same image wherever it lies.
 pub fn square_group()
     ensures associative { ProductAssociates }
     ensures identity { SameIsIdentity }

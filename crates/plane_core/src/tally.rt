@@ -45,7 +45,7 @@ impl Tally {
         Tally { cell, ..self }
     }
 
-    /// Whether the cell is alive next, where the count is that of its block. A live cell is counted there itself.
+    /// Whether the cell is alive next, if the count is that of its block. A live cell is counted there itself.
     fn lives(self, rule: &Rule) -> bool
         ensures { result ≡ tally_lives rule.now self }
     {
@@ -170,7 +170,7 @@ struct Taken<'a> {
     rest: &'a [Tally],
 }
 
-/// Takes the first tally off the list where it is one of this cell.
+/// Takes the first tally off the list if it is one of this cell.
 fn take_at(tallies: &[Tally], cell: Cell) -> Taken<'_>
     ensures count { result.count ≡ count_first cell tallies.now }
     ensures alive { result.alive ≡ alive_first cell tallies.now }

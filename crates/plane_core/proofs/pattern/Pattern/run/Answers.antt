@@ -4,7 +4,8 @@ use Rattle.std.proofs.lemmas.Result.{err_from_is_err_and}
 use Rattle.plane_core.specs.declared.cell.Cell.{Cell}
 use Rattle.plane_core.specs.declared.generation.StepError.TheVariants.{Edge}
 use Rattle.plane_core.specs.Generations.{next, touches_edge}
-use Rattle.plane_core.proofs.GenerationLemmas.{after-none, after-more, run_inside}
+use Rattle.plane_core.proofs.GenerationLemmas.{after-none, after-more}
+use Rattle.plane_core.proofs.SpeedLemmas.{run_inside}
 use Rattle.plane_core.proofs.pattern.Pattern.run.Goals as goal
 
 pub loop-init : goal.loop-init
