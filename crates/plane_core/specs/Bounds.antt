@@ -55,7 +55,7 @@ cornered (Some b) cells = shifted (neg_ℤ b.left) (neg_ℤ b.top) cells
 abbrev pub at_corner : List Cell → List Cell
 at_corner cells = cornered (box_of cells) cells
 
--- A shift is told just where one makes S into T. Of a pattern with a cell it is the only one; of two empty ones it is (0, 0).
+-- The answer is a shift that makes S into T, if there is one. A pattern with a cell has no other; for two empty ones it is (0, 0).
 pub record TellsShift (S T : List Cell) (told : Option (ℤ × ℤ)) : Type 0 where
   pub some : IfSome told (λ v. shifted v.0 v.1 S ≡ T)
   pub none : IfNone told ((dx dy : ℤ) → shifted dx dy S ≢ T)

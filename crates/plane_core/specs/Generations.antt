@@ -41,7 +41,7 @@ touches_edge cells = list_any on_edge cells
 abbrev pub lies_within : ℕ → List Cell → Bool
 lies_within reach cells = list_all (is_within reach) cells
 
--- a generation doesn't mind where a pattern lies, nor how
+-- the next generation of a pattern moved, or turned, is its next generation, moved or turned
 abbrev pub NextMoved : Type 0
 NextMoved = (dx dy : ℤ) (rule : Numbers) (cells : List Cell) → InOrder cells → next rule (shifted dx dy cells) ≡ shifted dx dy (next rule cells)
 
@@ -53,6 +53,6 @@ NextTurned = (o : Orientation) (rule : Numbers) (cells : List Cell) → InOrder 
 abbrev pub SpeedOfLight : Type 0
 SpeedOfLight = (rule : Numbers) (cells : List Cell) (b : Bounds) (g : ℕ) → All (IsWithin b) cells → All (IsWithin (enlarged g b)) (after rule cells g)
 
--- and as far from the origin as it lay, and g more
+-- and a pattern that lies within reach of the origin lies within g more after g generations
 abbrev pub SpeedFromOrigin : Type 0
 SpeedFromOrigin = (rule : Numbers) (cells : List Cell) (reach g : ℕ) → lies_within reach cells ≡ true → lies_within (reach + g) (after rule cells g) ≡ true

@@ -90,6 +90,6 @@ TurningTwice = (a b : Orientation) (cells : List Cell) → turned b (turned a ce
 abbrev pub TurningBack : Type 0
 TurningBack = (a : Orientation) → (b : Orientation) × (product a b ≡ Same) × (product b a ≡ Same)
 
--- turning doesn't mind where a pattern lies
+-- wherever a pattern lies, it is turned to the same image
 abbrev pub TurningMoved : Type 0
 TurningMoved = (a : Orientation) (dx dy : ℤ) (cells : List Cell) → turned a (shifted dx dy cells) ≡ turned a cells

@@ -1,5 +1,6 @@
 -- What a plaintext pattern file says, and the one that is written for a pattern (LifeWiki, "Plaintext").
-use Rattle.std.specs.Prelude.{◌==◌, ℕ, zero, suc, ℤ, pos, ◌+◌, ◌+ℤ◌, ◌<◌, Bool, not, ◌&&◌, ◌||◌, List, [], ◌∷◌, ◌++◌, Option, None, Some, Result, Ok, Err, map, filter, nat_lt, if◌then◌else◌}
+use Rattle.std.specs.Prelude.{◌==◌, ℕ, zero, suc, ℤ, pos, ◌+◌, ◌+ℤ◌, ◌<◌, Bool, not, ◌&&◌, ◌||◌, List, [], ◌∷◌}
+use Rattle.std.specs.Prelude.{◌++◌, Option, None, Some, Result, Ok, Err, map, filter, nat_lt, if◌then◌else◌}
 use Rattle.std.specs.List.{slice_get, filter_map, flat_map}
 use Rattle.plane_core.specs.declared.cell.Cell.{Cell}
 use Rattle.plane_core.specs.declared.bounds.Bounds.{Bounds}
@@ -66,6 +67,6 @@ unfoldable pub plain : List Cell → List ℕ
 plain cells = box_text (box_of cells) cells
 
 -- the box is at most 1,000 wide and 1,000 high
-pub record IsSmall (b : Bounds) : Type 0 where
+pub record FitsThousandSquare (b : Bounds) : Type 0 where
   pub width : distance b.left b.right < side_limit
   pub height : distance b.top b.bottom < side_limit

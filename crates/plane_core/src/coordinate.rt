@@ -4,7 +4,8 @@ ghost use Rattle.plane_core.specs.Cells.{plane_bound};
 
 use crate::cell::BOUND;
 
-/// The coordinate a step of at most two cells on. It may lie past the bound.
+/// The coordinate a step on. The step is at most two cells long, either way, and begins at most one cell past the bound;
+/// it may end past it.
 pub fn stepped(at: i32, step: i32) -> i32
     requires at { unsigned_abs at ≤ plane_bound + 1 }
     requires step { unsigned_abs step ≤ 2 }
@@ -13,7 +14,8 @@ pub fn stepped(at: i32, step: i32) -> i32
     at + step
 }
 
-/// The coordinate so many cells to the right, or down. It may lie past the bound.
+/// The coordinate so many cells to the right, or down, of one that lies within the bound: at most [`BOUND`] cells. It may
+/// lie past the bound.
 pub fn along(from: i32, cells: u32) -> i32
     requires from { unsigned_abs from ≤ plane_bound }
     requires cells { cells ≤ plane_bound }
@@ -22,7 +24,7 @@ pub fn along(from: i32, cells: u32) -> i32
     from + cells as i32
 }
 
-/// The coordinate on the other side of 0.
+/// The coordinate on the other side of 0, of one that lies within the bound.
 pub fn negated(at: i32) -> i32
     requires { unsigned_abs at ≤ plane_bound }
     ensures { result ≡ neg_ℤ at }
@@ -30,7 +32,7 @@ pub fn negated(at: i32) -> i32
     -at
 }
 
-/// The sum of two coordinates. It is `None` where it lies past the bound.
+/// The sum of two coordinates. It is `None` if it lies past the bound.
 pub fn sum_on_plane(at: i32, by: i32) -> Option<i32>
     ensures { result ≡ (if nat_le (unsigned_abs (at +ℤ by)) plane_bound then Some (at +ℤ by) else None) }
 {
@@ -40,7 +42,8 @@ pub fn sum_on_plane(at: i32, by: i32) -> Option<i32>
     }
 }
 
-/// How far it is from one coordinate to another: below 0 where the other is to the left, or above.
+/// How far it is from one coordinate to another, where both lie within the bound: below 0 if the other is to the left, or
+/// above.
 pub fn difference(from: i32, to: i32) -> i32
     requires from { unsigned_abs from ≤ plane_bound }
     requires to { unsigned_abs to ≤ plane_bound }

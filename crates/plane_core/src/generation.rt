@@ -12,13 +12,13 @@ use crate::tally;
 use std::alloc::{AllocError, Global};
 use thiserror::Error;
 
-/// Why a pattern has no next generation here.
+/// Why a pattern has no next generation.
 #[derive(Clone, Copy, Debug, PartialEq, Eq, Error)]
 pub enum StepError {
-    /// A cell lies on the edge of the plane, so that a neighbour would lie past it.
+    /// A cell lies on the edge of the plane, so a neighbour would lie past it.
     #[error("a cell lies on the edge of the plane")]
     Edge,
-    /// There was no memory for the next generation.
+    /// Memory ran out.
     #[error("out of memory")]
     Memory,
 }
@@ -38,7 +38,8 @@ impl Pattern {
     ///
     /// # Errors
     ///
-    /// `Edge` where a cell has a coordinate of 1,000,000 in size; else `Memory` where memory is wanting.
+    /// `Edge` if a cell has a coordinate of 1,000,000 in size, whether there is memory or not, and even if no cell would
+    /// be born past it. Otherwise `Memory` if memory runs out.
     pub fn step(&self, alloc: Global, rule: &Rule) -> Result<Pattern, StepError>
         ensures next { IfOk result (λ pattern. pattern ≡ next rule.now self.now) }
         // For every cell of the plane: it is alive then just where the rule's numbers say so.
@@ -54,12 +55,15 @@ impl Pattern {
         Ok(Pattern::from_ordered(cells))
     }
 
-    /// The pattern after a number of generations under the rule.
+    /// The pattern after so many generations under the rule. After 0 generations it is a copy.
     ///
     /// # Errors
     ///
-    /// `Edge` where a generation that is stepped on has a cell with a coordinate of 1,000,000 in size; `Memory`
-    /// where memory is wanting. Generations are made in order, so the first of these that is met is answered.
+    /// The generations are made one after another, and the first failure is returned.
+    ///
+    /// - `Edge`: a generation before the last has a cell with a coordinate of 1,000,000 in size. If the pattern itself
+    ///   has one, it is `Edge` whether there is memory or not.
+    /// - `Memory`: memory ran out.
     pub fn run(&self, alloc: Global, rule: &Rule, generations: u32) -> Result<Pattern, StepError>
         ensures after { IfOk result (λ pattern. pattern ≡ after rule.now self.now generations) }
         ensures inside { OnOk result ((g : ℕ) → g < generations → touches_edge (after rule.now self.now g) ≡ false) }

@@ -7,8 +7,8 @@ use crate::coordinate::negated;
 
 /// The eight ways in which a pattern can lie on the square grid.
 ///
-/// Each takes the cell (x, y) to the cell given here, and the image is then moved so that its least x and its least y
-/// are 0.
+/// Each takes the cell (x, y) to the cell that is given here. [`Pattern::turn`](crate::pattern::Pattern::turn) then moves
+/// the image so that its least x and its least y are 0.
 #[derive(Clone, Copy, Debug, PartialEq, Eq)]
 pub enum Orientation {
     /// (x, y)
@@ -70,8 +70,8 @@ impl Orientation {
 
 /// The laws of the eight orientations: they are the group of the square.
 ///
-/// Their product is a group, in which no two of them are one. Turning by one orientation and then by another is turning
-/// by their product, and doesn't mind where a pattern lies.
+/// They are different maps, and their product is that of a group. To turn a pattern by one of them and then by another is
+/// to turn it by their product, and a pattern has the same image wherever it lies.
 pub fn square_group()
     ensures associative { ProductAssociates }
     ensures identity { SameIsIdentity }

@@ -8,8 +8,8 @@ use crate::coordinate::difference;
 use crate::pattern::Pattern;
 
 impl Pattern {
-    /// The shift (dx, dy) that makes this pattern into the other. It is `None` where there is none, and (0, 0) where
-    /// both are empty.
+    /// The shift (dx, dy) that makes this pattern into the other. It is `None` if there is none, and (0, 0) if both are
+    /// empty.
     pub fn shift_to(&self, other: &Pattern) -> Option<(i32, i32)>
         ensures { TellsShift self.now other.now result }
     {
@@ -17,7 +17,7 @@ impl Pattern {
     }
 }
 
-/// The shift that makes the cells into the others: that of the first cells, where it is that of all.
+/// The shift that makes the cells into the others: that of the first cells, if it is that of all.
 fn shift_between(cells: &[Cell], others: &[Cell]) -> Option<(i32, i32)>
     requires cells { IsPattern cells.now }
     requires others { IsPattern others.now }

@@ -1,4 +1,4 @@
-use Rattle.plane_core.proofs.GenerationLemmas.{speed_from_origin, speed_of_light_law}
+use Rattle.plane_core.proofs.SpeedLemmas.{speed_from_origin, speed_of_light_law}
 use Rattle.plane_core.proofs.generation.speed_of_light.Goals as goal
 
 pub returns-clause-boxes : goal.returns-clause-boxes

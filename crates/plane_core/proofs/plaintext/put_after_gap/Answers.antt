@@ -9,13 +9,17 @@ returns-in_err-put g c =
     let left = c.loop-left.left in
     let some = c.min-some.result in
     Writes_as (replicate_more_rest (c.args.gap - left) some (left - some) c.args.gap dot (c.args.byte ∷ []) (omega arith))
-    (Writes_stops (replicate (left - some) dot ++ c.args.byte ∷ []) c.from_residual.ensures.0 (Writes_then c.loop-left.invariant.1 (Writes_as c.dead_cells.ensures c.in_err-put.ensures)))
+    (Writes_stops (replicate (left - some) dot ++ c.args.byte ∷ []) c.from_residual.ensures.0
+    (Writes_then c.loop-left.invariant.1 (Writes_as c.dead_cells.ensures c.in_err-put.ensures)))
 
 pub loop-left-preserved : goal.loop-left-preserved
 loop-left-preserved g c =
     let left = c.loop-left.left in
-    let some = c.min-some.result in
-    (omega arith, Writes_as (replicate_more (c.args.gap - left) some (c.args.gap - (left - some)) dot (omega arith)) (Writes_then c.loop-left.invariant.1 (Writes_as c.dead_cells.ensures c.in_ok-put.ensures)))
+    let some = c.min-some.result in (
+      omega arith,
+      Writes_as (replicate_more (c.args.gap - left) some (c.args.gap - (left - some)) dot (omega arith))
+          (Writes_then c.loop-left.invariant.1 (Writes_as c.dead_cells.ensures c.in_ok-put.ensures)),
+    )
 
 pub returns : goal.returns
 returns g c =
