@@ -1,5 +1,6 @@
 -- The block of a cell: the nine cells at king distance at most 1 from it, counted along rows and columns.
-use Rattle.std.proofs.Common.{◌≡◌, ◌==◌, ℕ, ℤ, pos, negsuc, ◌+ℤ◌, ◌<ℤ◌, ◌+◌, ◌≤◌, max, Bool, true, false, ◌&&◌, List, [], ◌∷◌, arith, cond, refl, ap, ◌∙◌, sym, inl, inr, ◌⊎◌, map, add-zero}
+use Rattle.std.proofs.Common.{◌≡◌, ◌==◌, ℕ, ℤ, pos, negsuc, ◌+ℤ◌, ◌<ℤ◌, ◌+◌, ◌≤◌, max, Bool, true, false, ◌&&◌}
+use Rattle.std.proofs.Common.{List, [], ◌∷◌, arith, cond, refl, ap, ◌∙◌, sym, inl, inr, ◌⊎◌, map, add-zero}
 use Rattle.std.specs.Cmp.{signed_Decides}
 use Rattle.std.proofs.lemmas.Cmp.{int_ranked}
 use Rattle.std.specs.declared.cmp.Ordering.{Ordering}
@@ -17,7 +18,7 @@ use Rattle.plane_core.proofs.CellLemmas.{same_cell-eq}
 
 -- ---- one coordinate
 
--- How one number lies by another: a step before it, at it, a step behind it, or further off. The tests say which.
+-- How one number lies by another: a step before it, at it, a step after it, or further off. The tests say which.
 abbrev pub IsNear : Bool → Bool → Bool → ℕ → Type 0
 IsNear before here behind far =
     ((before ≡ true) × (here ≡ false) × (behind ≡ false) × (far ≡ 1))
@@ -50,9 +51,11 @@ far_away a b (inr u) (inr v) (inr w) = omega (arith, ints)
 pub near : (a b : ℤ) → IsNear (int_eq (a +ℤ negsuc 0) b) (int_eq a b) (int_eq (a +ℤ pos 1) b) (distance a b)
 near a b = go (int_eq (a +ℤ negsuc 0) b) (int_eq a b) (int_eq (a +ℤ pos 1) b) refl refl refl
   where
-    go : (x y z : Bool) → int_eq (a +ℤ negsuc 0) b ≡ x → int_eq a b ≡ y → int_eq (a +ℤ pos 1) b ≡ z → IsNear (int_eq (a +ℤ negsuc 0) b) (int_eq a b) (int_eq (a +ℤ pos 1) b) (distance a b)
+    go : (x y z : Bool) → int_eq (a +ℤ negsuc 0) b ≡ x → int_eq a b ≡ y → int_eq (a +ℤ pos 1) b ≡ z
+        → IsNear (int_eq (a +ℤ negsuc 0) b) (int_eq a b) (int_eq (a +ℤ pos 1) b) (distance a b)
     go true true z p q r = absurd (let u : (a +ℤ negsuc 0) ≡ b = int_eq-true (a +ℤ negsuc 0) b p in let v : a ≡ b = int_eq-true a b q in omega (arith, ints))
-    go true false true p q r = absurd (let u : (a +ℤ negsuc 0) ≡ b = int_eq-true (a +ℤ negsuc 0) b p in let v : (a +ℤ pos 1) ≡ b = int_eq-true (a +ℤ pos 1) b r in omega (arith, ints))
+    go true false true p q r = absurd (let u : (a +ℤ negsuc 0) ≡ b = int_eq-true (a +ℤ negsuc 0) b p in let v : (a +ℤ pos 1) ≡ b =
+        int_eq-true (a +ℤ pos 1) b r in omega (arith, ints))
     go true false false p q r = inl (p, q, r, let u : (a +ℤ negsuc 0) ≡ b = int_eq-true (a +ℤ negsuc 0) b p in omega (arith, ints))
     go false true true p q r = absurd (let u : a ≡ b = int_eq-true a b q in let v : (a +ℤ pos 1) ≡ b = int_eq-true (a +ℤ pos 1) b r in omega (arith, ints))
     go false true false p q r = inr (inl (p, q, r, let u : a ≡ b = int_eq-true a b q in omega (arith, ints)))
@@ -114,7 +117,8 @@ moved_still a b = ap (λ (v : ℤ). v +ℤ b) (still a)
 
 -- the nine tests of one live cell
 hits_of : (c d : Cell) → block_total (one_of d ∷ []) c ≡ cond (king_distance c d == 1) 1 0 + cond (same_cell c d) 1 0
-hits_of c d = sum_of_hits ∙ sym (one_cell _ _ _ _ _ _ _ _ (near c.x d.x) (near c.y d.y)) ∙ ap (λ b. cond (king_distance c d == 1) 1 0 + cond b 1 0) (same_cell-eq c d)
+hits_of c d = sum_of_hits ∙ sym (one_cell _ _ _ _ _ _ _ _ (near c.x d.x) (near c.y d.y))
+    ∙ ap (λ b. cond (king_distance c d == 1) 1 0 + cond b 1 0) (same_cell-eq c d)
   where
     at : (e : Cell) (x y : ℤ) → e.x ≡ x → e.y ≡ y → total (one_of d ∷ []) e ≡ cond (int_eq y d.y && int_eq x d.x) 1 0
     at e x y p q = hit e d x y p q
@@ -134,13 +138,15 @@ hits_of c d = sum_of_hits ∙ sym (one_cell _ _ _ _ _ _ _ _ (near c.x d.x) (near
         (at _ c.x (c.y +ℤ negsuc 0) (still c.x) refl)
         (at _ (c.x +ℤ negsuc 0) (c.y +ℤ negsuc 0) (moved_still c.x (negsuc 0)) (still_moved c.y (negsuc 0)))
       where
-        sums : {a1 a2 a3 a4 a5 a6 a7 a8 a9 b1 b2 b3 b4 b5 b6 b7 b8 b9 : ℕ} → a1 ≡ b1 → a2 ≡ b2 → a3 ≡ b3 → a4 ≡ b4 → a5 ≡ b5 → a6 ≡ b6 → a7 ≡ b7 → a8 ≡ b8 → a9 ≡ b9
+        sums : {a1 a2 a3 a4 a5 a6 a7 a8 a9 b1 b2 b3 b4 b5 b6 b7 b8 b9 : ℕ} → a1 ≡ b1 → a2 ≡ b2 → a3 ≡ b3 → a4 ≡ b4 → a5 ≡ b5 → a6 ≡ b6 → a7 ≡ b7
+            → a8 ≡ b8 → a9 ≡ b9
             → (a1 + (a2 + a3)) + ((a4 + (a5 + a6)) + (a7 + (a8 + a9))) ≡ (b1 + (b2 + b3)) + ((b4 + (b5 + b6)) + (b7 + (b8 + b9)))
         sums p1 p2 p3 p4 p5 p6 p7 p8 p9 i = (p1 i + (p2 i + p3 i)) + ((p4 i + (p5 i + p6 i)) + (p7 i + (p8 i + p9 i)))
 
 regroup : (a1 a2 a3 a4 a5 a6 a7 a8 a9 b1 b2 b3 b4 b5 b6 b7 b8 b9 : ℕ)
     → ((a1 + b1) + ((a2 + b2) + (a3 + b3))) + (((a4 + b4) + ((a5 + b5) + (a6 + b6))) + ((a7 + b7) + ((a8 + b8) + (a9 + b9))))
-    ≡ (((a1 + 0) + ((a2 + 0) + (a3 + 0))) + (((a4 + 0) + ((a5 + 0) + (a6 + 0))) + ((a7 + 0) + ((a8 + 0) + (a9 + 0))))) + ((b1 + (b2 + b3)) + ((b4 + (b5 + b6)) + (b7 + (b8 + b9))))
+    ≡ (((a1 + 0) + ((a2 + 0) + (a3 + 0))) + (((a4 + 0) + ((a5 + 0) + (a6 + 0))) + ((a7 + 0) + ((a8 + 0) + (a9 + 0)))))
+    + ((b1 + (b2 + b3)) + ((b4 + (b5 + b6)) + (b7 + (b8 + b9))))
 regroup a1 a2 a3 a4 a5 a6 a7 a8 a9 b1 b2 b3 b4 b5 b6 b7 b8 b9 = omega arith
 
 block_total-cons : (t : Tally) (ts : List Tally) (c : Cell) → block_total (t ∷ ts) c ≡ block_total (t ∷ []) c + block_total ts c

@@ -1,5 +1,6 @@
 -- The least box round a list of cells.
-use Rattle.std.proofs.Common.{◌≡◌, ℕ, ℤ, true, false, List, [], ◌∷◌, ◌++◌, arith, refl, ap, ◌∙◌, sym, inl, inr, ◌⊎◌, Option, Some, None, Any, IsNone, IfSome, ◌↔◌, ◌+◌, ◌<◌, cond, length, map, take, get_or, suc, int_lt}
+use Rattle.std.proofs.Common.{◌≡◌, ℕ, ℤ, true, false, List, [], ◌∷◌, ◌++◌, arith, refl, ap, ◌∙◌, sym, inl, inr, ◌⊎◌, Option}
+use Rattle.std.proofs.Common.{Some, None, Any, IsNone, IfSome, ◌↔◌, ◌+◌, ◌<◌, cond, length, map, take, get_or, suc, int_lt}
 use Rattle.std.specs.Int.{int_min, int_max}
 use Rattle.std.proofs.lemmas.Bool.{false≢true}
 use Rattle.std.proofs.lemmas.List.{take_more, map-append}
@@ -35,7 +36,12 @@ max_again a b = omega (arith, ints, clamps)
 
 -- a box is widened by two cells in either order
 pub widened-swap : (c d : Cell) (b : Bounds) → widened c (widened d b) ≡ widened d (widened c b)
-widened-swap c d b i = record { left = min_swap c.x d.x b.left i; top = min_swap c.y d.y b.top i; right = max_swap c.x d.x b.right i; bottom = max_swap c.y d.y b.bottom i }
+widened-swap c d b i = record {
+  left = min_swap c.x d.x b.left i;
+  top = min_swap c.y d.y b.top i;
+  right = max_swap c.x d.x b.right i;
+  bottom = max_swap c.y d.y b.bottom i;
+}
 
 pub widened-pair : (c d : Cell) → widened c (box_at d) ≡ widened d (box_at c)
 widened-pair c d i = record { left = min_comm c.x d.x i; top = min_comm c.y d.y i; right = max_comm c.x d.x i; bottom = max_comm c.y d.y i }
@@ -62,10 +68,20 @@ max_cases : (a b : ℤ) → (int_max a b ≡ a) ⊎ (int_max a b ≡ b)
 max_cases a b = elim (int_lt b a) as (λ t. (cond t a b ≡ a) ⊎ (cond t a b ≡ b)) [ true ↦ inl refl | false ↦ inr refl ]
 
 within-widened : (c : Cell) (b : Bounds) (d : Cell) → IsWithin b d → IsWithin (widened c b) d
-within-widened c b d w = record { left = omega (arith, ints, clamps); top = omega (arith, ints, clamps); right = omega (arith, ints, clamps); bottom = omega (arith, ints, clamps) }
+within-widened c b d w = record {
+  left = omega (arith, ints, clamps);
+  top = omega (arith, ints, clamps);
+  right = omega (arith, ints, clamps);
+  bottom = omega (arith, ints, clamps);
+}
 
 within-itself : (c : Cell) (b : Bounds) → IsWithin (widened c b) c
-within-itself c b = record { left = omega (arith, ints, clamps); top = omega (arith, ints, clamps); right = omega (arith, ints, clamps); bottom = omega (arith, ints, clamps) }
+within-itself c b = record {
+  left = omega (arith, ints, clamps);
+  top = omega (arith, ints, clamps);
+  right = omega (arith, ints, clamps);
+  bottom = omega (arith, ints, clamps);
+}
 
 within-alone : (c : Cell) → IsWithin (box_at c) c
 within-alone c = record { left = omega (arith, ints); top = omega (arith, ints); right = omega (arith, ints); bottom = omega (arith, ints) }
@@ -83,7 +99,8 @@ side f c cs new old (inr e) (k, x, low, at, h) = any-tail (λ d. f d ≡ new) c 
 
 least-widened : (c : Cell) (cs : List Cell) (b : Bounds) → IsLeastBox cs b → IsLeastBox (c ∷ cs) (widened c b)
 least-widened c cs b l = record {
-  within = All-cons (IsWithin (widened c b)) c cs (within-itself c b) (All-weaker (IsWithin b) (IsWithin (widened c b)) (λ d w. within-widened c b d w) cs l.within);
+  within = All-cons (IsWithin (widened c b)) c cs (within-itself c b)
+      (All-weaker (IsWithin b) (IsWithin (widened c b)) (λ d w. within-widened c b d w) cs l.within);
   left = side (λ d. d.x) c cs (int_min c.x b.left) b.left (min_cases c.x b.left) l.left;
   top = side (λ d. d.y) c cs (int_min c.y b.top) b.top (min_cases c.y b.top) l.top;
   right = side (λ d. d.x) c cs (int_max c.x b.right) b.right (max_cases c.x b.right) l.right;
@@ -111,7 +128,8 @@ box_of-none [] = (λ _. refl, λ _. refl)
 box_of-none (c ∷ cs) = (λ e. absurd (false≢true (sym e)), λ e. absurd cc)
 
 -- a loop's step over the images of cells
-pub image_box_more : (f : Cell → Cell) (cs : List Cell) (i : ℕ) (d : Cell) → i < length cs → box_of (map f (take (i + 1) cs)) ≡ Some (grown (f (get_or cs i d)) (box_of (map f (take i cs))))
+pub image_box_more : (f : Cell → Cell) (cs : List Cell) (i : ℕ) (d : Cell) → i < length cs
+    → box_of (map f (take (i + 1) cs)) ≡ Some (grown (f (get_or cs i d)) (box_of (map f (take i cs))))
 image_box_more f cs i d low =
     ap (λ (xs : List Cell). box_of (map f xs)) (take_more cs i d low)
     ∙ ap box_of (map-append f (take i cs) (get_or cs i d ∷ []))

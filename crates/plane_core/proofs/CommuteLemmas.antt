@@ -48,7 +48,8 @@ module _ (f g : Cell → Cell) (rigid : IsRigid f g) where
   around-put x [] c h = refl
   around-put x (d ∷ ds) c h = go (cell_cmp x d) refl h (around-put x ds c)
     where
-      go : (r : Ordering) → cell_cmp x d ≡ r → (is_eq r || has ds x) ≡ false → (has ds x ≡ false → around (put x ds) c ≡ around (x ∷ ds) c) → around (match_ordering r (x ∷ d ∷ ds) (d ∷ ds) (d ∷ put x ds)) c ≡ around (x ∷ d ∷ ds) c
+      go : (r : Ordering) → cell_cmp x d ≡ r → (is_eq r || has ds x) ≡ false → (has ds x ≡ false → around (put x ds) c ≡ around (x ∷ ds) c)
+          → around (match_ordering r (x ∷ d ∷ ds) (d ∷ ds) (d ∷ put x ds)) c ≡ around (x ∷ d ∷ ds) c
       go Less is h ih = refl
       go Equal is h ih = absurd (false≢true (sym h))
       go Greater is h ih = omega (arith, around-cons d (put x ds) c, ih h, around-cons x ds c, around-cons x (d ∷ ds) c, around-cons d ds c)
@@ -57,17 +58,21 @@ module _ (f g : Cell → Cell) (rigid : IsRigid f g) where
   around-set_of : (S : List Cell) (c : Cell) → InOrder S → around (set_of (map f S)) c ≡ around (map f S) c
   around-set_of [] c o = refl
   around-set_of (d ∷ ds) c o =
-      let new : has (set_of (map f ds)) (f d) ≡ false = has-set_of (map f ds) (f d) ∙ has-image ds (f d) ∙ ap (has ds) (rigid.back d) ∙ has-before d ds (in_order-head d ds o) in
+      let new : has (set_of (map f ds)) (f d) ≡ false = has-set_of (map f ds) (f d) ∙ has-image ds (f d) ∙ ap (has ds) (rigid.back d)
+      ∙ has-before d ds (in_order-head d ds o) in
       around-put (f d) (set_of (map f ds)) c new
       ∙ omega (arith, around-cons (f d) (set_of (map f ds)) c, around-set_of ds c (in_order-tail d ds o), around-cons (f d) (map f ds) c)
 
   lives-image : (rule : Numbers) (S : List Cell) (c : Cell) → InOrder S → lives rule (set_of (map f S)) c ≡ lives rule S (g c)
-  lives-image rule S c o = λ i. cond ((has-set_of (map f S) c ∙ has-image S c) i) (is_survival rule ((around-set_of S c o ∙ around-image S c) i)) (is_birth rule ((around-set_of S c o ∙ around-image S c) i))
+  lives-image rule S c o = λ i. cond ((has-set_of (map f S) c ∙ has-image S c) i) (is_survival rule ((around-set_of S c o ∙ around-image S c) i))
+      (is_birth rule ((around-set_of S c o ∙ around-image S c) i))
 
   -- the next generation of the image is the image of the next generation
   pub next-rigid : (rule : Numbers) (S : List Cell) → InOrder S → next rule (set_of (map f S)) ≡ set_of (map f (next rule S))
-  next-rigid rule S o = same_lists (next rule (set_of (map f S))) (set_of (map f (next rule S))) (in_order-next rule (set_of (map f S))) (in_order-set_of (map f (next rule S)))
-      (λ c. has-next rule (set_of (map f S)) c ∙ lives-image rule S c o ∙ sym (has-next rule S (g c)) ∙ sym (has-image (next rule S) c) ∙ sym (has-set_of (map f (next rule S)) c))
+  next-rigid rule S o = same_lists (next rule (set_of (map f S))) (set_of (map f (next rule S))) (in_order-next rule (set_of (map f S)))
+      (in_order-set_of (map f (next rule S)))
+      (λ c. has-next rule (set_of (map f S)) c ∙ lives-image rule S c o ∙ sym (has-next rule S (g c)) ∙ sym (has-image (next rule S) c)
+      ∙ sym (has-set_of (map f (next rule S)) c))
 
 -- ---- the eight orientations
 

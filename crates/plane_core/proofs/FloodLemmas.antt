@@ -1,5 +1,6 @@
--- Cells that are marked by their places, and cells that are taken.
-use Rattle.std.proofs.Common.{◌≡◌, ℕ, ◌+◌, ◌<◌, ◌≤◌, zero, suc, Bool, true, false, not, ◌||◌, ◌&&◌, List, [], ◌∷◌, ◌++◌, arith, refl, ap, ◌∙◌, sym, subst, inl, inr, length, get_or, set, take, replicate, ℤ, Err, append_assoc}
+-- Cells that are marked by their places, and cells that are marked.
+use Rattle.std.proofs.Common.{◌≡◌, ℕ, ◌+◌, ◌<◌, ◌≤◌, zero, suc, Bool, true, false, not, ◌||◌, ◌&&◌, List, [], ◌∷◌, ◌++◌, arith}
+use Rattle.std.proofs.Common.{refl, ap, ◌∙◌, sym, subst, inl, inr, length, get_or, set, take, replicate, ℤ, Err, append_assoc}
 use Rattle.std.specs.List.{list_any}
 use Rattle.std.proofs.lemmas.List.Folds.{list_any_more}
 use Rattle.std.specs.List.Sorted.{IsBinarySearchResult, IsSearchInRange}
@@ -8,7 +9,7 @@ use Rattle.std.proofs.lemmas.List.{append-nil, length_push, take_all}
 use Rattle.std.proofs.lemmas.List.Elements.{Contains-get_or}
 use Rattle.plane_core.specs.declared.cell.Cell.{Cell}
 use Rattle.plane_core.specs.Cells.{cell_cmp, same_cell, has, InOrder}
-use Rattle.plane_core.specs.Flood.{marked, unmarked, Takes}
+use Rattle.plane_core.specs.Flood.{marked, unmarked, Marks}
 use Rattle.plane_core.proofs.CellLemmas.{same_cell-same, same_cell-itself}
 use Rattle.plane_core.proofs.SetLemmas.{Contains-has, has-append, has-before, in_order-head, in_order-tail}
 use Rattle.plane_core.proofs.SearchLemmas.{searched-has}
@@ -28,7 +29,8 @@ or_swap true false c = refl
 or_swap false b c = refl
 
 -- the cell at a place that is marked too is marked
-pub marked-set : (cells : List Cell) (marks : List Bool) (i : ℕ) (e c : Cell) → i < length cells → length marks ≡ length cells → marked cells (set marks i true) c ≡ (same_cell c (get_or cells i e) || marked cells marks c)
+pub marked-set : (cells : List Cell) (marks : List Bool) (i : ℕ) (e c : Cell) → i < length cells → length marks ≡ length cells
+    → marked cells (set marks i true) c ≡ (same_cell c (get_or cells i e) || marked cells marks c)
 marked-set [] marks i e c low size = absurd (omega arith)
 marked-set (d ∷ ds) [] i e c low size = absurd (omega arith)
 marked-set (d ∷ ds) (m ∷ ms) zero e c low size = mark_first (same_cell c d) m (marked ds ms c)
@@ -49,8 +51,9 @@ marked-has (d ∷ ds) (m ∷ ms) c h = go (same_cell c d) h (marked-has ds ms c)
 not_marked : (cells : List Cell) (marks : List Bool) (c : Cell) → has cells c ≡ false → marked cells marks c ≡ false
 not_marked cells marks c h = elim (cases_Bool (marked cells marks c)) [ inl e ↦ absurd (false≢true (sym h ∙ marked-has cells marks c e)) | inr e ↦ e ]
 
--- the mark at a place tells whether the cell there is marked
-pub marked-at : (cells : List Cell) (marks : List Bool) (i : ℕ) (e : Cell) → InOrder cells → i < length cells → length marks ≡ length cells → marked cells marks (get_or cells i e) ≡ get_or marks i false
+-- the mark at a place says whether the cell there is marked
+pub marked-at : (cells : List Cell) (marks : List Bool) (i : ℕ) (e : Cell) → InOrder cells → i < length cells → length marks ≡ length cells
+    → marked cells marks (get_or cells i e) ≡ get_or marks i false
 marked-at [] marks i e o low size = absurd (omega arith)
 marked-at (d ∷ ds) [] i e o low size = absurd (omega arith)
 marked-at (d ∷ ds) (m ∷ ms) zero e o low size = rw (same_cell-itself d, not_marked ds ms d (has-before d ds (in_order-head d ds o))) (last m)
@@ -62,7 +65,8 @@ marked-at (d ∷ ds) (m ∷ ms) (suc i) e o low size = rw other (marked-at ds ms
   where
     other : same_cell (get_or ds i e) d ≡ false
     other = elim (cases_Bool (same_cell (get_or ds i e) d)) [
-      | inl same ↦ absurd (false≢true (sym (has-before d ds (in_order-head d ds o)) ∙ ap (λ (c : Cell). has ds c) (sym (same_cell-same (get_or ds i e) d same)) ∙ has-get_or ds i e (omega arith)))
+      | inl same ↦ absurd (false≢true (sym (has-before d ds (in_order-head d ds o))
+          ∙ ap (λ (c : Cell). has ds c) (sym (same_cell-same (get_or ds i e) d same)) ∙ has-get_or ds i e (omega arith)))
       | inr different ↦ different
     ]
 
@@ -70,7 +74,8 @@ marked-at (d ∷ ds) (m ∷ ms) (suc i) e o low size = rw other (marked-at ds ms
 pub marked-none : (cells : List Cell) (n : ℕ) (c : Cell) → marked cells (replicate n false) c ≡ false
 marked-none [] n c = refl
 marked-none (d ∷ ds) zero c = refl
-marked-none (d ∷ ds) (suc n) c = elim (same_cell c d) as (λ b. ((b && false) || marked ds (replicate n false) c) ≡ false) [ true ↦ marked-none ds n c | false ↦ marked-none ds n c ]
+marked-none (d ∷ ds) (suc n) c =
+    elim (same_cell c d) as (λ b. ((b && false) || marked ds (replicate n false) c) ≡ false) [ true ↦ marked-none ds n c | false ↦ marked-none ds n c ]
 
 pub unmarked-set : (marks : List Bool) (i : ℕ) → i < length marks → get_or marks i false ≡ false → unmarked (set marks i true) + 1 ≡ unmarked marks
 unmarked-set [] i low h = absurd (omega arith)
@@ -79,10 +84,11 @@ unmarked-set (m ∷ ms) (suc i) low h = omega (arith, unmarked-set ms i (omega a
 
 -- ---- taking cells
 
--- where each cell that passes is marked already, nothing is taken
-pub takes_nothing : (cells : List Cell) (test : Cell → Bool) (marks : List Bool) (reached : List Cell) → ((c : Cell) → test c ≡ true → has cells c ≡ true → marked cells marks c ≡ true) → Takes cells test marks reached marks reached
-takes_nothing cells test marks reached h = record {
-  behind = ([], sym (append-nil reached));
+-- where each cell that passes is marked already, nothing is marked
+pub marks_nothing : (cells : List Cell) (test : Cell → Bool) (marks : List Bool) (reached : List Cell)
+    → ((c : Cell) → test c ≡ true → has cells c ≡ true → marked cells marks c ≡ true) → Marks cells test marks reached marks reached
+marks_nothing cells test marks reached h = record {
+  added = ([], sym (append-nil reached));
   marks = λ c. go (test c) (has cells c) (marked cells marks c) (h c);
   reached = λ c. put (has reached c) (test c) (has cells c) (marked cells marks c) (h c);
   count = refl;
@@ -101,10 +107,12 @@ takes_nothing cells test marks reached h = record {
     put false true false k h = refl
     put false false m k h = refl
 
--- a cell of the pattern that wasn't marked is taken
-pub takes_one : (cells : List Cell) (c : Cell) (marks : List Bool) (reached : List Cell) (i : ℕ) → i < length cells → length marks ≡ length cells → get_or cells i c ≡ c → marked cells marks c ≡ false → get_or marks i false ≡ false → Takes cells (λ d. same_cell d c) marks reached (set marks i true) (reached ++ c ∷ [])
-takes_one cells c marks reached i low size at fresh clear = record {
-  behind = (c ∷ [], refl);
+-- a cell of the pattern that wasn't marked is marked
+pub marks_one : (cells : List Cell) (c : Cell) (marks : List Bool) (reached : List Cell) (i : ℕ) → i < length cells → length marks ≡ length cells
+    → get_or cells i c ≡ c → marked cells marks c ≡ false → get_or marks i false ≡ false
+    → Marks cells (λ d. same_cell d c) marks reached (set marks i true) (reached ++ c ∷ [])
+marks_one cells c marks reached i low size at fresh clear = record {
+  added = (c ∷ [], refl);
   marks = λ d. marked-set cells marks i c d low size ∙ ap (λ (e : Cell). same_cell d e || marked cells marks d) at ∙ go d (same_cell d c) refl;
   reached = λ d. has-append reached (c ∷ []) d ∙ ap (λ b. has reached d || b) (put d (same_cell d c) refl);
   count = omega (arith, unmarked-set marks i (omega arith) clear, length_push reached c);
@@ -130,9 +138,10 @@ takes_one cells c marks reached i low size at fresh clear = record {
     put d false is = refl
 
 -- by one test, and then by another
-pub takes_more : (cells : List Cell) (p q : Cell → Bool) (ms ns os : List Bool) (rs ss ts : List Cell) → Takes cells p ms rs ns ss → Takes cells q ns ss os ts → Takes cells (λ c. p c || q c) ms rs os ts
-takes_more cells p q ms ns os rs ss ts a b = record {
-  behind = (a.behind.0 ++ b.behind.0, b.behind.1 ∙ ap (λ (cs : List Cell). cs ++ b.behind.0) a.behind.1 ∙ append_assoc rs a.behind.0 b.behind.0);
+pub marks_more : (cells : List Cell) (p q : Cell → Bool) (ms ns os : List Bool) (rs ss ts : List Cell) → Marks cells p ms rs ns ss
+    → Marks cells q ns ss os ts → Marks cells (λ c. p c || q c) ms rs os ts
+marks_more cells p q ms ns os rs ss ts a b = record {
+  added = (a.added.0 ++ b.added.0, b.added.1 ∙ ap (λ (cs : List Cell). cs ++ b.added.0) a.added.1 ∙ append_assoc rs a.added.0 b.added.0);
   marks = λ c. b.marks c ∙ ap (λ k. k || (q c && has cells c)) (a.marks c) ∙ go (marked cells ms c) (p c) (q c) (has cells c);
   reached = λ c. b.reached c ∙ rw (a.reached c, a.marks c) (put (has rs c) (marked cells ms c) (p c) (q c) (has cells c));
   count = omega (arith, a.count, b.count);
@@ -164,34 +173,41 @@ takes_more cells p q ms ns os rs ss ts a b = record {
 
 -- ---- looking for a cell
 
-pub not_found : (cells : List Cell) (c : Cell) (i : ℕ) → InOrder cells → IsSearchInRange (Err i) (length cells) → IsBinarySearchResult (λ d. cell_cmp d c) cells (Err i) → has cells c ≡ false
+pub not_found : (cells : List Cell) (c : Cell) (i : ℕ) → InOrder cells → IsSearchInRange (Err i) (length cells)
+    → IsBinarySearchResult (λ d. cell_cmp d c) cells (Err i) → has cells c ≡ false
 not_found cells c i o low found = sym (searched-has cells c (Err i) o low found)
 
--- what isn't a cell of the pattern is not taken
-pub takes_none : (cells : List Cell) (c : Cell) (marks : List Bool) (reached : List Cell) → has cells c ≡ false → Takes cells (λ d. same_cell d c) marks reached marks reached
-takes_none cells c marks reached none = takes_nothing cells (λ d. same_cell d c) marks reached (λ d same h. absurd (false≢true (sym none ∙ ap (λ (e : Cell). has cells e) (sym (same_cell-same d c same)) ∙ h)))
+-- what isn't a cell of the pattern is not marked
+pub marks_none : (cells : List Cell) (c : Cell) (marks : List Bool) (reached : List Cell) → has cells c ≡ false
+    → Marks cells (λ d. same_cell d c) marks reached marks reached
+marks_none cells c marks reached none =
+    marks_nothing cells (λ d. same_cell d c) marks reached
+    (λ d same h. absurd (false≢true (sym none ∙ ap (λ (e : Cell). has cells e) (sym (same_cell-same d c same)) ∙ h)))
 
--- nor is a marked cell taken again
-pub takes_marked : (cells : List Cell) (c : Cell) (marks : List Bool) (reached : List Cell) → marked cells marks c ≡ true → Takes cells (λ d. same_cell d c) marks reached marks reached
-takes_marked cells c marks reached h = takes_nothing cells (λ d. same_cell d c) marks reached (λ d same m. ap (λ (e : Cell). marked cells marks e) (same_cell-same d c same) ∙ h)
-
--- a test that passes none takes nothing
-pub takes_empty : (cells : List Cell) (marks : List Bool) (reached : List Cell) → Takes cells (λ _. false) marks reached marks reached
-takes_empty cells marks reached = takes_nothing cells (λ _. false) marks reached (λ d no h. absurd (false≢true no))
+-- nor is a marked cell marked again
+pub marks_marked : (cells : List Cell) (c : Cell) (marks : List Bool) (reached : List Cell) → marked cells marks c ≡ true
+    → Marks cells (λ d. same_cell d c) marks reached marks reached
+marks_marked cells c marks reached h =
+    marks_nothing cells (λ d. same_cell d c) marks reached (λ d same m. ap (λ (e : Cell). marked cells marks e) (same_cell-same d c same) ∙ h)
 
 -- the same cells pass two tests that agree
-pub takes_same : (cells : List Cell) (p q : Cell → Bool) (ms ns : List Bool) (rs ss : List Cell) → ((c : Cell) → p c ≡ q c) → Takes cells p ms rs ns ss → Takes cells q ms rs ns ss
-takes_same cells p q ms ns rs ss h t =
+pub marks_same : (cells : List Cell) (p q : Cell → Bool) (ms ns : List Bool) (rs ss : List Cell) → ((c : Cell) → p c ≡ q c)
+    → Marks cells p ms rs ns ss → Marks cells q ms rs ns ss
+marks_same cells p q ms ns rs ss h t =
     let e : p ≡ q = λ i c. h c i in
-    subst (λ (r : Cell → Bool). Takes cells r ms rs ns ss) e t
+    subst (λ (r : Cell → Bool). Marks cells r ms rs ns ss) e t
 
 -- one test of a list of tests more
-pub takes_step : (cells : List Cell) (tests : ℤ → Cell → Bool) (vs : List ℤ) (i : ℕ) (d : ℤ) (ms ns os : List Bool) (rs ss ts : List Cell) → i < length vs → Takes cells (λ c. list_any (λ v. tests v c) (take i vs)) ms rs ns ss → Takes cells (tests (get_or vs i d)) ns ss os ts → Takes cells (λ c. list_any (λ v. tests v c) (take (i + 1) vs)) ms rs os ts
-takes_step cells tests vs i d ms ns os rs ss ts low before now =
-    takes_same cells (λ c. list_any (λ v. tests v c) (take i vs) || tests (get_or vs i d) c) (λ c. list_any (λ v. tests v c) (take (i + 1) vs)) ms os rs ts
+pub marks_step : (cells : List Cell) (tests : ℤ → Cell → Bool) (vs : List ℤ) (i : ℕ) (d : ℤ) (ms ns os : List Bool) (rs ss ts : List Cell)
+    → i < length vs → Marks cells (λ c. list_any (λ v. tests v c) (take i vs)) ms rs ns ss → Marks cells (tests (get_or vs i d)) ns ss os ts
+    → Marks cells (λ c. list_any (λ v. tests v c) (take (i + 1) vs)) ms rs os ts
+marks_step cells tests vs i d ms ns os rs ss ts low before now =
+    marks_same cells (λ c. list_any (λ v. tests v c) (take i vs) || tests (get_or vs i d) c) (λ c. list_any (λ v. tests v c) (take (i + 1) vs)) ms os rs ts
     (λ c. sym (list_any_more (λ v. tests v c) vs i d low))
-    (takes_more cells (λ c. list_any (λ v. tests v c) (take i vs)) (tests (get_or vs i d)) ms ns os rs ss ts before now)
+    (marks_more cells (λ c. list_any (λ v. tests v c) (take i vs)) (tests (get_or vs i d)) ms ns os rs ss ts before now)
 
 -- all tests of a list
-pub takes_all : (cells : List Cell) (tests : ℤ → Cell → Bool) (vs : List ℤ) (i : ℕ) (ms ns : List Bool) (rs ss : List Cell) → length vs ≤ i → Takes cells (λ c. list_any (λ v. tests v c) (take i vs)) ms rs ns ss → Takes cells (λ c. list_any (λ v. tests v c) vs) ms rs ns ss
-takes_all cells tests vs i ms ns rs ss high t = takes_same cells _ _ ms ns rs ss (λ c. ap (λ (us : List ℤ). list_any (λ v. tests v c) us) (take_all i vs high)) t
+pub marks_all : (cells : List Cell) (tests : ℤ → Cell → Bool) (vs : List ℤ) (i : ℕ) (ms ns : List Bool) (rs ss : List Cell) → length vs ≤ i
+    → Marks cells (λ c. list_any (λ v. tests v c) (take i vs)) ms rs ns ss → Marks cells (λ c. list_any (λ v. tests v c) vs) ms rs ns ss
+marks_all cells tests vs i ms ns rs ss high t =
+    marks_same cells _ _ ms ns rs ss (λ c. ap (λ (us : List ℤ). list_any (λ v. tests v c) us) (take_all i vs high)) t

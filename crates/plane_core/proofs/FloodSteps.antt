@@ -1,5 +1,6 @@
 -- The cells at king distance at most 2 are those at most two steps away in x and in y.
-use Rattle.std.proofs.Common.{◌≡◌, ℕ, ℤ, pos, negsuc, ◌+ℤ◌, ◌≤ℤ◌, ◌<ℤ◌, ◌≤◌, Bool, true, false, ◌||◌, ◌&&◌, List, [], ◌∷◌, arith, refl, ap, ◌∙◌, sym, inl, inr, ◌⊎◌, max, leb}
+use Rattle.std.proofs.Common.{◌≡◌, ℕ, ℤ, pos, negsuc, ◌+ℤ◌, ◌≤ℤ◌, ◌<ℤ◌, ◌≤◌, Bool, true, false, ◌||◌}
+use Rattle.std.proofs.Common.{◌&&◌, List, [], ◌∷◌, arith, refl, ap, ◌∙◌, sym, inl, inr, ◌⊎◌, max, leb}
 use Rattle.std.specs.List.{list_any}
 use Rattle.std.specs.Cmp.{both_ways as both_true}
 use Rattle.std.specs.Ordering.{int_eq, int_cmp, is_eq}
@@ -44,7 +45,8 @@ steps_far a b h = go (or_cases _ _ h)
     second : (int_eq b (a +ℤ negsuc 0) || (int_eq b (a +ℤ pos 0) || (int_eq b (a +ℤ pos 1) || (int_eq b (a +ℤ pos 2) || false)))) ≡ true → distance a b ≤ 2
     second h = elim (or_cases _ _ h) [ inl e ↦ let is : b ≡ a +ℤ negsuc 0 = at (negsuc 0) e in omega (arith, ints) | inr e ↦ third e ]
 
-    go : (int_eq b (a +ℤ negsuc 1) ≡ true) ⊎ ((int_eq b (a +ℤ negsuc 0) || (int_eq b (a +ℤ pos 0) || (int_eq b (a +ℤ pos 1) || (int_eq b (a +ℤ pos 2) || false)))) ≡ true) → distance a b ≤ 2
+    go : (int_eq b (a +ℤ negsuc 1) ≡ true)
+        ⊎ ((int_eq b (a +ℤ negsuc 0) || (int_eq b (a +ℤ pos 0) || (int_eq b (a +ℤ pos 1) || (int_eq b (a +ℤ pos 2) || false)))) ≡ true) → distance a b ≤ 2
     go (inl e) = let is : b ≡ a +ℤ negsuc 1 = at (negsuc 1) e in omega (arith, ints)
     go (inr e) = second e
 
@@ -63,13 +65,16 @@ far_steps a b h = first (int_eq b (a +ℤ negsuc 1)) refl
     third true is low = refl
     third false is low = let more = beyond a b (pos 0) low is in fourth (int_eq b (a +ℤ pos 1)) refl (omega (arith, ints))
 
-    second : (x : Bool) → int_eq b (a +ℤ negsuc 0) ≡ x → (a +ℤ negsuc 0) ≤ℤ b → (x || (int_eq b (a +ℤ pos 0) || (int_eq b (a +ℤ pos 1) || (int_eq b (a +ℤ pos 2) || false)))) ≡ true
+    second : (x : Bool) → int_eq b (a +ℤ negsuc 0) ≡ x → (a +ℤ negsuc 0) ≤ℤ b
+        → (x || (int_eq b (a +ℤ pos 0) || (int_eq b (a +ℤ pos 1) || (int_eq b (a +ℤ pos 2) || false)))) ≡ true
     second true is low = refl
     second false is low = let more = beyond a b (negsuc 0) low is in third (int_eq b (a +ℤ pos 0)) refl (omega (arith, ints))
 
-    first : (x : Bool) → int_eq b (a +ℤ negsuc 1) ≡ x → (x || (int_eq b (a +ℤ negsuc 0) || (int_eq b (a +ℤ pos 0) || (int_eq b (a +ℤ pos 1) || (int_eq b (a +ℤ pos 2) || false))))) ≡ true
+    first : (x : Bool) → int_eq b (a +ℤ negsuc 1) ≡ x
+        → (x || (int_eq b (a +ℤ negsuc 0) || (int_eq b (a +ℤ pos 0) || (int_eq b (a +ℤ pos 1) || (int_eq b (a +ℤ pos 2) || false))))) ≡ true
     first true is = refl
-    first false is = let low : (a +ℤ negsuc 1) ≤ℤ b = omega (arith, ints) in let more = beyond a b (negsuc 1) low is in second (int_eq b (a +ℤ negsuc 0)) refl (omega (arith, ints))
+    first false is = let low : (a +ℤ negsuc 1) ≤ℤ b = omega (arith, ints) in let more =
+        beyond a b (negsuc 1) low is in second (int_eq b (a +ℤ negsuc 0)) refl (omega (arith, ints))
 
 -- a number lies at most two off just where one of the steps leads to it
 in_steps : (a b : ℤ) → list_any (λ v. int_eq b (a +ℤ v)) steps ≡ leb (distance a b) 2

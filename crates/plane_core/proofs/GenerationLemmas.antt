@@ -1,17 +1,19 @@
 -- The next generation, cell by cell.
-use Rattle.std.proofs.Common.{◌≡◌, ◌==◌, ℕ, ℤ, pos, negsuc, ◌+ℤ◌, ◌+◌, ◌<◌, ◌≤◌, zero, suc, Bool, true, false, ◌||◌, ◌&&◌, List, [], ◌∷◌, ◌++◌, arith, cond, refl, ap, ◌∙◌, sym, subst, inl, inr, ◌⊎◌, map, filter, add-zero, add-one, zero-add, unsigned_abs, leb, eqb}
+use Rattle.std.proofs.Common.{◌≡◌, ◌==◌, ℕ, ℤ, pos, negsuc, ◌+ℤ◌, ◌+◌, ◌<◌, ◌≤◌, zero, suc, Bool, true, false, ◌||◌, ◌&&◌, List, [], ◌∷◌, ◌++◌}
+use Rattle.std.proofs.Common.{arith, cond, refl, ap, ◌∙◌, sym, subst, inl, inr, ◌⊎◌, map, filter, add-zero, add-one, zero-add, unsigned_abs, leb, eqb}
 use Rattle.std.specs.List.{flat_map}
 use Rattle.std.proofs.lemmas.Int.{ints}
-use Rattle.std.proofs.lemmas.Bool.{false≢true, eqb-true, eqb-false, leb-true, le-leb, ne_eqb, and_parts, and_from}
+use Rattle.std.proofs.lemmas.Bool.{false≢true, eqb-true, eqb-false, leb-true, le-leb, and_parts, and_from}
 use Rattle.plane_core.specs.declared.cell.Cell.{Cell}
-use Rattle.plane_core.specs.declared.cell.TheConstants.{BOUND}
 use Rattle.plane_core.specs.declared.tally.Tally.{Tally}
-use Rattle.plane_core.specs.Cells.{cell_at, same_cell, king_distance, distance, moved_by, has, set_of, InOrder, is_within, on_plane, on_edge, IsPattern}
-use Rattle.plane_core.specs.Generations.{around, lives, triple, block, next, after, touches_edge, lies_within, SpeedOfLight}
+use Rattle.plane_core.specs.Cells.{plane_bound, cell_at, same_cell, king_distance, distance, moved_by}
+use Rattle.plane_core.specs.Cells.{has, set_of, InOrder, on_plane, on_edge, IsPattern}
+use Rattle.plane_core.specs.Generations.{around, lives, triple, block, next, after, touches_edge}
 use Rattle.plane_core.specs.Rules.{Numbers, is_birth, is_survival}
 use Rattle.plane_core.specs.Tallies.{cells_of, total, alive_at, one_of, lives_by, tally_lives, CountsBlocks}
 use Rattle.plane_core.proofs.CellLemmas.{same_cell-same}
-use Rattle.plane_core.proofs.SetLemmas.{IsBefore, has-head, has-append, has-filter, has-set_of, has-before, has-cases, in_order-head, in_order-tail, in_order-cons, in_order-nil, in_order-filter, in_order-set_of, same_lists, or_right}
+use Rattle.plane_core.proofs.SetLemmas.{IsBefore, has-head, has-append, has-filter, has-set_of, has-before, has-cases, in_order-head}
+use Rattle.plane_core.proofs.SetLemmas.{in_order-tail, in_order-cons, in_order-nil, in_order-filter, in_order-set_of, same_lists, or_right}
 use Rattle.plane_core.proofs.SearchLemmas.{list_all-has, has-list_all}
 use Rattle.plane_core.proofs.BlockLemmas.{near, int_eq-true, still, around-cons}
 
@@ -43,7 +45,8 @@ in_triple e c q h =
     elim (one_step e.x c.x h) [
       | inl p ↦ has-member left (e ∷ right ∷ []) c (same_place c left p (still e.y ∙ q))
       | inr (inl p) ↦ or_right (same_cell c left) (has (e ∷ right ∷ []) c) (has-member e (right ∷ []) c (same_place c e p q))
-      | inr (inr p) ↦ or_right (same_cell c left) (has (e ∷ right ∷ []) c) (or_right (same_cell c e) (has (right ∷ []) c) (has-member right [] c (same_place c right p (still e.y ∙ q))))
+      | inr (inr p) ↦ or_right (same_cell c left) (has (e ∷ right ∷ []) c)
+          (or_right (same_cell c e) (has (right ∷ []) c) (has-member right [] c (same_place c right p (still e.y ∙ q))))
     ]
 
 beside_still : (a b : ℤ) → distance a b ≤ 1 → distance (a +ℤ pos 0) b ≤ 1
@@ -59,8 +62,11 @@ in_block d c h =
     let last = triple below ++ [] in
     has-append (triple above) (triple d ++ last) c ∙ elim (one_step d.y c.y y) [
       | inl p ↦ or_left (has (triple above) c) (has (triple d ++ last) c) (in_triple above c p (beside_still d.x c.x x))
-      | inr (inl p) ↦ or_right (has (triple above) c) (has (triple d ++ last) c) (has-append (triple d) last c ∙ or_left (has (triple d) c) (has last c) (in_triple d c p x))
-      | inr (inr p) ↦ or_right (has (triple above) c) (has (triple d ++ last) c) (has-append (triple d) last c ∙ or_right (has (triple d) c) (has last c) (has-append (triple below) [] c ∙ or_left (has (triple below) c) (has [] c) (in_triple below c p (beside_still d.x c.x x))))
+      | inr (inl p) ↦ or_right (has (triple above) c) (has (triple d ++ last) c) (has-append (triple d) last c
+          ∙ or_left (has (triple d) c) (has last c) (in_triple d c p x))
+      | inr (inr p) ↦ or_right (has (triple above) c) (has (triple d ++ last) c) (has-append (triple d) last c
+          ∙ or_right (has (triple d) c) (has last c) (has-append (triple below) [] c
+          ∙ or_left (has (triple below) c) (has [] c) (in_triple below c p (beside_still d.x c.x x))))
     ]
   where
     turned : (a b : ℤ) → distance a b ≤ 1 → distance b a ≤ 1
@@ -78,7 +84,8 @@ pub a_neighbour : (S : List Cell) (c : Cell) → 0 < around S c → (d : Cell) �
 a_neighbour [] c h = absurd (omega arith)
 a_neighbour (d ∷ ds) c h = go (king_distance c d == 1) refl (a_neighbour ds c)
   where
-    go : (b : Bool) → (king_distance c d == 1) ≡ b → (0 < around ds c → (e : Cell) × (has ds e ≡ true) × (king_distance c e ≡ 1)) → (e : Cell) × (has (d ∷ ds) e ≡ true) × (king_distance c e ≡ 1)
+    go : (b : Bool) → (king_distance c d == 1) ≡ b → (0 < around ds c → (e : Cell) × (has ds e ≡ true) × (king_distance c e ≡ 1))
+        → (e : Cell) × (has (d ∷ ds) e ≡ true) × (king_distance c e ≡ 1)
     go true is ih = (d, has-head d ds, eqb-true _ _ is)
     go false is ih =
         let none : cond {A = ℕ} (king_distance c d == 1) 1 0 ≡ 0 = ap (λ (b : Bool). cond {A = ℕ} b 1 0) is in
@@ -97,7 +104,7 @@ lives_cases rule S c e = go (has S c) refl e
     go true is e = inl is
     go false is e = inr (born_beside rule (around S c) e)
 
-distance_itself : (a : ℤ) → distance a a ≡ 0
+pub distance_itself : (a : ℤ) → distance a a ≡ 0
 distance_itself a = omega (arith, ints)
 
 lives_near : (rule : Numbers) (S : List Cell) (c : Cell) → lives rule S c ≡ true → has (flat_map block S) c ≡ true
@@ -109,7 +116,8 @@ lives_near rule S c e = elim (lives_cases rule S c e) [
 -- for every cell of the plane: it is in the next generation just where the rule's numbers say so
 pub has-next : (rule : Numbers) (S : List Cell) (c : Cell) → has (next rule S) c ≡ lives rule S c
 unfolding next
-has-next rule S c = has-filter (lives rule S) (set_of (flat_map block S)) c ∙ ap (λ b. b && lives rule S c) (has-set_of (flat_map block S) c) ∙ go (lives rule S c) refl
+has-next rule S c = has-filter (lives rule S) (set_of (flat_map block S)) c ∙ ap (λ b. b && lives rule S c) (has-set_of (flat_map block S) c)
+    ∙ go (lives rule S c) refl
   where
     and-false : (a : Bool) → (a && false) ≡ false
     and-false true = refl
@@ -168,7 +176,14 @@ alive_at-absent (t ∷ ts) c h = go (same_cell c t.cell) h (alive_at-absent ts c
 
 before-filter : (p : Tally → Bool) (c : Cell) (ts : List Tally) → IsBefore c (cells_of ts) → IsBefore c (cells_of (filter p ts))
 before-filter p c [] h = tt
-before-filter p c (t ∷ ts) h = elim (p t) as (λ b. IsBefore c (cells_of (cond b (t ∷ filter p ts) (filter p ts)))) [ true ↦ (h.0, before-filter p c ts h.1) | false ↦ before-filter p c ts h.1 ]
+before-filter p c (t ∷ ts) h =
+    elim (p t) as (λ b. IsBefore c (cells_of (cond b (t ∷ filter p ts) (filter p ts)))) [
+      | true ↦ (
+        h.0,
+        before-filter p c ts h.1,
+      )
+      | false ↦ before-filter p c ts h.1
+    ]
 
 pub in_order-filter_tallies : (p : Tally → Bool) (ts : List Tally) → InOrder (cells_of ts) → InOrder (cells_of (filter p ts))
 in_order-filter_tallies p [] o = in_order-nil
@@ -191,9 +206,12 @@ has-selected rule (t ∷ ts) c o = go (same_cell c t.cell) refl (has-selected ru
     absent same = subst (λ (e : Cell). has (cells_of ts) e ≡ false) (sym same) (has-before t.cell (cells_of ts) before)
 
     unselected : c ≡ t.cell → has (cells_of (filter (tally_lives rule) ts)) c ≡ false
-    unselected same = subst (λ (e : Cell). has (cells_of (filter (tally_lives rule) ts)) e ≡ false) (sym same) (has-before t.cell (cells_of (filter (tally_lives rule) ts)) (before-filter (tally_lives rule) t.cell ts before))
+    unselected same = subst (λ (e : Cell). has (cells_of (filter (tally_lives rule) ts)) e ≡ false) (sym same)
+        (has-before t.cell (cells_of (filter (tally_lives rule) ts)) (before-filter (tally_lives rule) t.cell ts before))
 
-    one : (r : Bool) → tally_lives rule t ≡ r → same_cell c t.cell ≡ true → c ≡ t.cell → has (cells_of (cond r (t ∷ filter (tally_lives rule) ts) (filter (tally_lives rule) ts))) c ≡ lives_by rule (t.count + total ts c) ((true && t.alive) || alive_at ts c)
+    one : (r : Bool) → tally_lives rule t ≡ r → same_cell c t.cell ≡ true → c ≡ t.cell
+        → has (cells_of (cond r (t ∷ filter (tally_lives rule) ts) (filter (tally_lives rule) ts))) c
+        ≡ lives_by rule (t.count + total ts c) ((true && t.alive) || alive_at ts c)
     one r is here same =
         let count : t.count + total ts c ≡ t.count = omega (arith, total-absent ts c (absent same)) in
         let alive : ((true && t.alive) || alive_at ts c) ≡ t.alive = ap (λ (b : Bool). t.alive || b) (alive_at-absent ts c (absent same)) ∙ or-false t.alive in
@@ -207,21 +225,26 @@ has-selected rule (t ∷ ts) c o = go (same_cell c t.cell) refl (has-selected ru
         chosen true = or_left (same_cell c t.cell) (has (cells_of (filter (tally_lives rule) ts)) c) here
         chosen false = unselected same
 
-    go : (b : Bool) → same_cell c t.cell ≡ b → has (cells_of (filter (tally_lives rule) ts)) c ≡ (has (cells_of ts) c && lives_by rule (total ts c) (alive_at ts c))
-        → has (cells_of (cond (tally_lives rule t) (t ∷ filter (tally_lives rule) ts) (filter (tally_lives rule) ts))) c ≡ ((b || has (cells_of ts) c) && lives_by rule (cond b t.count 0 + total ts c) ((b && t.alive) || alive_at ts c))
+    go : (b : Bool) → same_cell c t.cell ≡ b
+        → has (cells_of (filter (tally_lives rule) ts)) c ≡ (has (cells_of ts) c && lives_by rule (total ts c) (alive_at ts c))
+        → has (cells_of (cond (tally_lives rule t) (t ∷ filter (tally_lives rule) ts) (filter (tally_lives rule) ts))) c
+        ≡ ((b || has (cells_of ts) c) && lives_by rule (cond b t.count 0 + total ts c) ((b && t.alive) || alive_at ts c))
     go true is ih = one (tally_lives rule t) refl is (same_cell-same c t.cell is)
     go false is ih = skipped (tally_lives rule t) ∙ ih ∙ (λ i. has (cells_of ts) c && lives_by rule (sym (zero-add (total ts c)) i) (alive_at ts c))
       where
-        skipped : (q : Bool) → has (cells_of (cond q (t ∷ filter (tally_lives rule) ts) (filter (tally_lives rule) ts))) c ≡ has (cells_of (filter (tally_lives rule) ts)) c
+        skipped : (q : Bool) → has (cells_of (cond q (t ∷ filter (tally_lives rule) ts) (filter (tally_lives rule) ts))) c
+            ≡ has (cells_of (filter (tally_lives rule) ts)) c
         skipped true = ap (λ (b : Bool). b || has (cells_of (filter (tally_lives rule) ts)) c) is
         skipped false = refl
 
 -- what is selected by the counts is the next generation
 pub selected-next : (rule : Numbers) (S : List Cell) (ts : List Tally) → CountsBlocks S ts → cells_of (filter (tally_lives rule) ts) ≡ next rule S
 selected-next rule S ts counts =
-    same_lists (cells_of (filter (tally_lives rule) ts)) (next rule S) (in_order-filter_tallies (tally_lives rule) ts counts.in_order) (in_order-next rule S) (λ c. has-selected rule ts c counts.in_order ∙ by_count c (has (cells_of ts) c) refl ∙ sym (has-next rule S c))
+    same_lists (cells_of (filter (tally_lives rule) ts)) (next rule S) (in_order-filter_tallies (tally_lives rule) ts counts.in_order)
+    (in_order-next rule S) (λ c. has-selected rule ts c counts.in_order ∙ by_count c (has (cells_of ts) c) refl ∙ sym (has-next rule S c))
   where
-    by_alive : (c : Cell) (b : Bool) → has S c ≡ b → lives_by rule (around S c + cond b 1 0) b ≡ cond b (is_survival rule (around S c)) (is_birth rule (around S c))
+    by_alive : (c : Cell) (b : Bool) → has S c ≡ b
+        → lives_by rule (around S c + cond b 1 0) b ≡ cond b (is_survival rule (around S c)) (is_birth rule (around S c))
     by_alive c true is = ap (λ (n : ℕ). is_survival rule n) (omega arith)
     by_alive c false is = ap (λ (n : ℕ). is_birth rule n) (add-zero (around S c))
 
@@ -248,18 +271,20 @@ selected-next rule S ts counts =
 on_plane-beside : (c d : Cell) → king_distance c d ≡ 1 → on_plane d ≡ true → on_edge d ≡ false → on_plane c ≡ true
 unfolding on_plane on_edge
 on_plane-beside c d near on off =
-    let inside = and_parts (leb (unsigned_abs d.x) BOUND) (leb (unsigned_abs d.y) BOUND) on in
-    let inner = or_parts (eqb (unsigned_abs d.x) BOUND) (eqb (unsigned_abs d.y) BOUND) off in
-    and_from (leb (unsigned_abs c.x) BOUND) (leb (unsigned_abs c.y) BOUND)
-    (le-leb (unsigned_abs c.x) BOUND (within c.x d.x (omega arith) (leb-true (unsigned_abs d.x) BOUND inside.0) (eqb-false (unsigned_abs d.x) BOUND inner.0)))
-    (le-leb (unsigned_abs c.y) BOUND (within c.y d.y (omega arith) (leb-true (unsigned_abs d.y) BOUND inside.1) (eqb-false (unsigned_abs d.y) BOUND inner.1)))
+    let inside = and_parts (leb (unsigned_abs d.x) plane_bound) (leb (unsigned_abs d.y) plane_bound) on in
+    let inner = or_parts (eqb (unsigned_abs d.x) plane_bound) (eqb (unsigned_abs d.y) plane_bound) off in
+    and_from (leb (unsigned_abs c.x) plane_bound) (leb (unsigned_abs c.y) plane_bound)
+    (le-leb (unsigned_abs c.x) plane_bound
+    (within c.x d.x (omega arith) (leb-true (unsigned_abs d.x) plane_bound inside.0) (eqb-false (unsigned_abs d.x) plane_bound inner.0)))
+    (le-leb (unsigned_abs c.y) plane_bound
+    (within c.y d.y (omega arith) (leb-true (unsigned_abs d.y) plane_bound inside.1) (eqb-false (unsigned_abs d.y) plane_bound inner.1)))
   where
     or_parts : (a b : Bool) → (a || b) ≡ false → (a ≡ false) × (b ≡ false)
     or_parts true b e = absurd (false≢true (sym e))
     or_parts false b e = (refl, e)
 
-    within : (a b : ℤ) → distance a b ≤ 1 → unsigned_abs b ≤ BOUND → (unsigned_abs b ≡ BOUND → ⊥) → unsigned_abs a ≤ BOUND
-    within a b h k apart = let less : unsigned_abs b < BOUND = omega arith in omega (arith, ints)
+    within : (a b : ℤ) → distance a b ≤ 1 → unsigned_abs b ≤ plane_bound → (unsigned_abs b ≡ plane_bound → ⊥) → unsigned_abs a ≤ plane_bound
+    within a b h k apart = let less : unsigned_abs b < plane_bound = omega arith in omega (arith, ints)
 
 not_touching : (S : List Cell) (d : Cell) → touches_edge S ≡ false → has S d ≡ true → on_edge d ≡ false
 not_touching [] d none h = absurd (false≢true h)
@@ -277,7 +302,8 @@ is_pattern-next rule S p off = record {
   where
     inside : (c : Cell) → (has S c ≡ true) ⊎ (0 < around S c) → on_plane c ≡ true
     inside c (inl alive) = list_all-has on_plane S p.on_plane c alive
-    inside c (inr beside) = let d = a_neighbour S c beside in on_plane-beside c d.0 d.2 (list_all-has on_plane S p.on_plane d.0 d.1) (not_touching S d.0 off d.1)
+    inside c (inr beside) = let d =
+        a_neighbour S c beside in on_plane-beside c d.0 d.2 (list_all-has on_plane S p.on_plane d.0 d.1) (not_touching S d.0 off d.1)
 
 -- ---- many generations
 
@@ -288,55 +314,3 @@ after-none rule S = refl
 pub after-more : (rule : Numbers) (S : List Cell) (g : ℕ) → after rule S (g + 1) ≡ next rule (after rule S g)
 unfolding after
 after-more rule S g = rw add-one refl
-
--- ---- how fast a pattern grows
-
--- a neighbour lies at most one further out
-within-beside : (n : ℕ) (c d : Cell) → king_distance c d ≤ 1 → is_within n d ≡ true → is_within (n + 1) c ≡ true
-within-beside n c d near h =
-    let parts = and_parts (leb (unsigned_abs d.x) n) (leb (unsigned_abs d.y) n) h in
-    and_from (leb (unsigned_abs c.x) (n + 1)) (leb (unsigned_abs c.y) (n + 1))
-    (le-leb (unsigned_abs c.x) (n + 1) (step c.x d.x (omega arith) (leb-true (unsigned_abs d.x) n parts.0)))
-    (le-leb (unsigned_abs c.y) (n + 1) (step c.y d.y (omega arith) (leb-true (unsigned_abs d.y) n parts.1)))
-  where
-    step : (a b : ℤ) → distance a b ≤ 1 → unsigned_abs b ≤ n → unsigned_abs a ≤ n + 1
-    step a b h k = omega (arith, ints)
-
-within-next : (rule : Numbers) (S : List Cell) (n : ℕ) → lies_within n S ≡ true → lies_within (n + 1) (next rule S) ≡ true
-within-next rule S n h = has-list_all (is_within (n + 1)) (next rule S) (λ c k. further c (lives_cases rule S c (sym (has-next rule S c) ∙ k)))
-  where
-    further : (c : Cell) → (has S c ≡ true) ⊎ (0 < around S c) → is_within (n + 1) c ≡ true
-    further c (inl alive) = within-beside n c c (omega (arith, distance_itself c.x, distance_itself c.y)) (list_all-has (is_within n) S h c alive)
-    further c (inr beside) = let d = a_neighbour S c beside in within-beside n c d.0 (omega (arith, d.2)) (list_all-has (is_within n) S h d.0 d.1)
-
-after-suc : (rule : Numbers) (S : List Cell) (g : ℕ) → after rule S (suc g) ≡ next rule (after rule S g)
-unfolding after
-after-suc rule S g = refl
-
-pub within-after : (rule : Numbers) (S : List Cell) (n g : ℕ) → lies_within n S ≡ true → lies_within (n + g) (after rule S g) ≡ true
-within-after rule S n zero h = subst (λ (m : ℕ). lies_within m (after rule S 0) ≡ true) (sym (add-zero n)) (subst (λ (T : List Cell). lies_within n T ≡ true) (sym (after-none rule S)) h)
-within-after rule S n (suc g) h =
-    let before = within-next rule (after rule S g) (n + g) (within-after rule S n g h) in
-    subst (λ (T : List Cell). lies_within (n + suc g) T ≡ true) (sym (after-suc rule S g)) (subst (λ (m : ℕ). lies_within m (next rule (after rule S g)) ≡ true) (omega arith) before)
-
-pub speed_of_light_law : SpeedOfLight
-speed_of_light_law rule S n g h = within-after rule S n g h
-
-off_edge : (c : Cell) (n : ℕ) → n < BOUND → is_within n c ≡ true → on_edge c ≡ false
-unfolding on_edge
-off_edge c n low h =
-    let parts = and_parts (leb (unsigned_abs c.x) n) (leb (unsigned_abs c.y) n) h in
-    let x : unsigned_abs c.x ≤ n = leb-true (unsigned_abs c.x) n parts.0 in
-    let y : unsigned_abs c.y ≤ n = leb-true (unsigned_abs c.y) n parts.1 in
-    rw (ne_eqb (unsigned_abs c.x) BOUND (λ e. absurd (omega arith)), ne_eqb (unsigned_abs c.y) BOUND (λ e. absurd (omega arith))) refl
-
--- a pattern that lies inside the edge doesn't touch it
-pub inside_edge : (S : List Cell) (n : ℕ) → n < BOUND → lies_within n S ≡ true → touches_edge S ≡ false
-inside_edge [] n low h = refl
-inside_edge (c ∷ cs) n low h =
-    let parts = and_parts (is_within n c) (lies_within n cs) h in
-    rw (off_edge c n low parts.0, inside_edge cs n low parts.1) refl
-
--- a run stays off the edge as long as a pattern that far in must
-pub run_inside : (rule : Numbers) (S : List Cell) (reach g n : ℕ) → lies_within reach S ≡ true → reach + n ≤ BOUND → g < n → touches_edge (after rule S g) ≡ false
-run_inside rule S reach g n h far low = inside_edge (after rule S g) (reach + g) (omega arith) (within-after rule S reach g h)

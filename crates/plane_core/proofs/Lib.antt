@@ -22,10 +22,11 @@ pub mod PlaintextRows
 pub mod PlaintextSmall
 pub mod PlaintextWalks
 pub mod PlaintextWriting
-pub mod ReadingLemmas
 pub mod RuleLemmas
+pub mod RuleNumbers
 pub mod RuleReading
 pub mod SearchLemmas
 pub mod SetLemmas
+pub mod SpeedLemmas
 pub mod TallyLemmas
 pub mod TurnLemmas

@@ -1,21 +1,25 @@
 -- The merge of three lists of tallies, one cell at a time.
-use Rattle.std.proofs.Common.{◌≡◌, ◌+◌, ◌<◌, ◌≤◌, Bool, true, false, ◌||◌, ◌&&◌, List, [], ◌∷◌, ◌++◌, arith, cond, refl, ap, ◌∙◌, sym, inl, inr, ◌⊎◌, length, Some, append_assoc}
+use Rattle.std.proofs.Common.{◌≡◌, ◌+◌, ◌<◌, ◌≤◌, Bool, true, false, ◌||◌, ◌&&◌, List, [], ◌∷◌, ◌++◌, arith}
+use Rattle.std.proofs.Common.{cond, refl, ap, ◌∙◌, sym, inl, inr, ◌⊎◌, length, Some, append_assoc}
 use Rattle.std.specs.List.{list_all}
 use Rattle.std.proofs.lemmas.Bool.{and_parts, and_from}
 use Rattle.plane_core.specs.declared.cell.Cell.{Cell}
 use Rattle.plane_core.specs.declared.tally.Tally.{Tally}
 use Rattle.plane_core.specs.Cells.{same_cell, InOrder}
 use Rattle.plane_core.specs.Tallies.{cells_of, total, alive_at, count_first, alive_first, rest_at, first_of, earlier_of}
-use Rattle.plane_core.proofs.TallyLemmas.{total-append, alive_at-append, cells_of-append, total-rest_at, alive_at-rest_at, NoneEarlier, later_than_both, one_of_both, itself, none_earlier, begins, push_order, length-rest_at, length-begins}
+use Rattle.plane_core.proofs.TallyLemmas.{total-append, alive_at-append, cells_of-append, total-rest_at, alive_at-rest_at, NoneEarlier, later_than_both}
+use Rattle.plane_core.proofs.TallyLemmas.{one_of_both, itself, none_earlier, begins, push_order, length-rest_at, length-begins}
 
 -- what a merge has done, and what is left of its three lists
-pub record Merging (before here behind sums left middle right : List Tally) : Type 0 where
-  pub totals : (x : Cell) → total sums x + (total left x + (total middle x + total right x)) ≡ total before x + (total here x + total behind x)
-  pub alive : (x : Cell) → (alive_at sums x || alive_at middle x) ≡ alive_at here x
-  pub left_order : InOrder (cells_of sums ++ cells_of left)
-  pub middle_order : InOrder (cells_of sums ++ cells_of middle)
-  pub right_order : InOrder (cells_of sums ++ cells_of right)
-  pub no_others : (p : Cell → Bool) → list_all p (cells_of before) ≡ true → list_all p (cells_of here) ≡ true → list_all p (cells_of behind) ≡ true → list_all p (cells_of sums) ≡ true × list_all p (cells_of left) ≡ true × list_all p (cells_of middle) ≡ true × list_all p (cells_of right) ≡ true
+pub record Merging (left middle right sums left_rest middle_rest right_rest : List Tally) : Type 0 where
+  pub totals : (x : Cell) → total sums x + (total left_rest x + (total middle_rest x + total right_rest x)) ≡ total left x + (total middle x + total right x)
+  pub alive : (x : Cell) → (alive_at sums x || alive_at middle_rest x) ≡ alive_at middle x
+  pub left_order : InOrder (cells_of sums ++ cells_of left_rest)
+  pub middle_order : InOrder (cells_of sums ++ cells_of middle_rest)
+  pub right_order : InOrder (cells_of sums ++ cells_of right_rest)
+  pub no_others : (p : Cell → Bool) → list_all p (cells_of left) ≡ true → list_all p (cells_of middle) ≡ true → list_all p (cells_of right) ≡ true
+      → list_all p (cells_of sums) ≡ true × list_all p (cells_of left_rest) ≡ true × list_all p (cells_of middle_rest) ≡ true
+      × list_all p (cells_of right_rest) ≡ true
 
 -- the least cell of the three lists, as `earliest` finds it
 abbrev pub Earliest : List Tally → List Tally → List Tally → Cell → Type 0
@@ -56,7 +60,8 @@ shorter left middle right c e =
 
 all_rest : (p : Cell → Bool) (c : Cell) (ts : List Tally) → list_all p (cells_of ts) ≡ true → list_all p (cells_of (rest_at c ts)) ≡ true
 all_rest p c [] h = refl
-all_rest p c (t ∷ ts) h = elim (same_cell c t.cell) as (λ b. list_all p (cells_of (cond b ts (t ∷ ts))) ≡ true) [ true ↦ (and_parts (p t.cell) (list_all p (cells_of ts)) h).1 | false ↦ h ]
+all_rest p c (t ∷ ts) h = elim (same_cell c t.cell) as (λ b. list_all p (cells_of (cond b ts (t ∷ ts)))
+    ≡ true) [ true ↦ (and_parts (p t.cell) (list_all p (cells_of ts)) h).1 | false ↦ h ]
 
 all_first : (p : Cell → Bool) (c : Cell) (ts : List Tally) → first_of ts ≡ Some c → list_all p (cells_of ts) ≡ true → p c ≡ true
 all_first p c [] e h = absurd cc
@@ -67,49 +72,66 @@ all_push p [] c h k = and_from (p c) true k refl
 all_push p (d ∷ ds) c h k = let parts = and_parts (p d) (list_all p ds) h in and_from (p d) (list_all p (ds ++ c ∷ [])) parts.0 (all_push p ds c parts.1 k)
 
 -- one turn of the merge
-pub merging_more : (before here behind sums left middle right : List Tally) (c : Cell) → Merging before here behind sums left middle right → Earliest left middle right c
-    → Merging before here behind (sums ++ added left middle right c ∷ []) (rest_at c left) (rest_at c middle) (rest_at c right)
-merging_more before here behind sums left middle right c m e =
-    let least = is_least left middle right c e in
+pub merging_more : (left middle right sums left_rest middle_rest right_rest : List Tally) (c : Cell)
+    → Merging left middle right sums left_rest middle_rest right_rest → Earliest left_rest middle_rest right_rest c
+    → Merging left middle right (sums ++ added left_rest middle_rest right_rest c ∷ []) (rest_at c left_rest) (rest_at c middle_rest) (rest_at c right_rest)
+merging_more left middle right sums left_rest middle_rest right_rest c m e =
+    let least = is_least left_rest middle_rest right_rest c e in
     let one : (ds : List Cell) × InOrder (cells_of sums ++ c ∷ ds) = elim least.first [
-      | inl l ↦ let b = begins c left l in (b.0, rw b.1 at m.left_order)
-      | inr (inl k) ↦ let b = begins c middle k in (b.0, rw b.1 at m.middle_order)
-      | inr (inr r) ↦ let b = begins c right r in (b.0, rw b.1 at m.right_order)
+      | inl l ↦ let b = begins c left_rest l in (b.0, rw b.1 at m.left_order)
+      | inr (inl k) ↦ let b = begins c middle_rest k in (b.0, rw b.1 at m.middle_order)
+      | inr (inr r) ↦ let b = begins c right_rest r in (b.0, rw b.1 at m.right_order)
     ] in
-    let pushed : (ts : List Tally) → InOrder (cells_of sums ++ cells_of ts) → NoneEarlier c (cells_of ts) → InOrder (cells_of (sums ++ added left middle right c ∷ []) ++ cells_of (rest_at c ts)) =
-    λ ts o none. rw (cells_of-append sums (added left middle right c ∷ []), append_assoc) (push_order (cells_of sums) c one.0 ts one.1 o none) in
+    let pushed : (ts : List Tally) → InOrder (cells_of sums ++ cells_of ts) → NoneEarlier c (cells_of ts)
+    → InOrder (cells_of (sums ++ added left_rest middle_rest right_rest c ∷ []) ++ cells_of (rest_at c ts)) =
+    λ ts o none. rw (cells_of-append sums (added left_rest middle_rest right_rest c ∷ []), append_assoc) (push_order (cells_of sums) c one.0 ts one.1 o none) in
     record {
       totals = λ x. totals_more x (same_cell x c) refl;
       alive = λ x. alive_more x;
-      left_order = pushed left m.left_order least.none_left;
-      middle_order = pushed middle m.middle_order least.none_middle;
-      right_order = pushed right m.right_order least.none_right;
+      left_order = pushed left_rest m.left_order least.none_left;
+      middle_order = pushed middle_rest m.middle_order least.none_middle;
+      right_order = pushed right_rest m.right_order least.none_right;
       no_others = λ p all_before all_here all_behind.
           let had = m.no_others p all_before all_here all_behind in
           let now : p c ≡ true = elim least.first [
-            | inl l ↦ all_first p c left l had.1
-            | inr (inl k) ↦ all_first p c middle k had.2
-            | inr (inr r) ↦ all_first p c right r had.3
-          ] in
-          (rw (cells_of-append sums (added left middle right c ∷ [])) (all_push p (cells_of sums) c had.0 now), all_rest p c left had.1, all_rest p c middle had.2, all_rest p c right had.3);
+            | inl l ↦ all_first p c left_rest l had.1
+            | inr (inl k) ↦ all_first p c middle_rest k had.2
+            | inr (inr r) ↦ all_first p c right_rest r had.3
+          ] in (
+            rw (cells_of-append sums (added left_rest middle_rest right_rest c ∷ [])) (all_push p (cells_of sums) c had.0 now),
+            all_rest p c left_rest had.1,
+            all_rest p c middle_rest had.2,
+            all_rest p c right_rest had.3,
+          );
     }
   where
-    totals_more : (x : Cell) (b : Bool) → same_cell x c ≡ b → total (sums ++ added left middle right c ∷ []) x + (total (rest_at c left) x + (total (rest_at c middle) x + total (rest_at c right) x)) ≡ total before x + (total here x + total behind x)
+    totals_more : (x : Cell) (b : Bool) → same_cell x c ≡ b
+        → total (sums ++ added left_rest middle_rest right_rest c ∷ [])
+        x + (total (rest_at c left_rest) x + (total (rest_at c middle_rest) x + total (rest_at c right_rest) x))
+        ≡ total left x + (total middle x + total right x)
     totals_more x true is =
-        let l : total left x ≡ count_first c left + total (rest_at c left) x = total-rest_at c x left ∙ ap (λ b. cond b (count_first c left) 0 + total (rest_at c left) x) is in
-        let k : total middle x ≡ count_first c middle + total (rest_at c middle) x = total-rest_at c x middle ∙ ap (λ b. cond b (count_first c middle) 0 + total (rest_at c middle) x) is in
-        let r : total right x ≡ count_first c right + total (rest_at c right) x = total-rest_at c x right ∙ ap (λ b. cond b (count_first c right) 0 + total (rest_at c right) x) is in
-        let one : total (added left middle right c ∷ []) x ≡ count_first c left + count_first c middle + count_first c right + 0 = ap (λ b. cond b (count_first c left + count_first c middle + count_first c right) 0 + 0) is in
+        let l : total left_rest x ≡ count_first c left_rest + total (rest_at c left_rest) x =
+        total-rest_at c x left_rest ∙ ap (λ b. cond b (count_first c left_rest) 0 + total (rest_at c left_rest) x) is in
+        let k : total middle_rest x ≡ count_first c middle_rest + total (rest_at c middle_rest) x =
+        total-rest_at c x middle_rest ∙ ap (λ b. cond b (count_first c middle_rest) 0 + total (rest_at c middle_rest) x) is in
+        let r : total right_rest x ≡ count_first c right_rest + total (rest_at c right_rest) x =
+        total-rest_at c x right_rest ∙ ap (λ b. cond b (count_first c right_rest) 0 + total (rest_at c right_rest) x) is in
+        let one : total (added left_rest middle_rest right_rest c ∷ []) x ≡ count_first c left_rest + count_first c middle_rest + count_first c
+        right_rest + 0 = ap (λ b. cond b (count_first c left_rest + count_first c middle_rest + count_first c right_rest) 0 + 0) is in
         let all = m.totals x in
-        let pushed = total-append sums (added left middle right c ∷ []) x in
+        let pushed = total-append sums (added left_rest middle_rest right_rest c ∷ []) x in
         omega arith
     totals_more x false is =
-        let l : total left x ≡ 0 + total (rest_at c left) x = total-rest_at c x left ∙ ap (λ b. cond b (count_first c left) 0 + total (rest_at c left) x) is in
-        let k : total middle x ≡ 0 + total (rest_at c middle) x = total-rest_at c x middle ∙ ap (λ b. cond b (count_first c middle) 0 + total (rest_at c middle) x) is in
-        let r : total right x ≡ 0 + total (rest_at c right) x = total-rest_at c x right ∙ ap (λ b. cond b (count_first c right) 0 + total (rest_at c right) x) is in
-        let one : total (added left middle right c ∷ []) x ≡ 0 + 0 = ap (λ b. cond b (count_first c left + count_first c middle + count_first c right) 0 + 0) is in
+        let l : total left_rest x ≡ 0 + total (rest_at c left_rest) x =
+        total-rest_at c x left_rest ∙ ap (λ b. cond b (count_first c left_rest) 0 + total (rest_at c left_rest) x) is in
+        let k : total middle_rest x ≡ 0 + total (rest_at c middle_rest) x =
+        total-rest_at c x middle_rest ∙ ap (λ b. cond b (count_first c middle_rest) 0 + total (rest_at c middle_rest) x) is in
+        let r : total right_rest x ≡ 0 + total (rest_at c right_rest) x =
+        total-rest_at c x right_rest ∙ ap (λ b. cond b (count_first c right_rest) 0 + total (rest_at c right_rest) x) is in
+        let one : total (added left_rest middle_rest right_rest c ∷ []) x ≡ 0 + 0 =
+        ap (λ b. cond b (count_first c left_rest + count_first c middle_rest + count_first c right_rest) 0 + 0) is in
         let all = m.totals x in
-        let pushed = total-append sums (added left middle right c ∷ []) x in
+        let pushed = total-append sums (added left_rest middle_rest right_rest c ∷ []) x in
         omega arith
 
     regroup : (s k r : Bool) → ((s || (k || false)) || r) ≡ (s || (k || r))
@@ -117,11 +139,11 @@ merging_more before here behind sums left middle right c m e =
     regroup false true r = refl
     regroup false false r = refl
 
-    alive_more : (x : Cell) → (alive_at (sums ++ added left middle right c ∷ []) x || alive_at (rest_at c middle) x) ≡ alive_at here x
+    alive_more : (x : Cell) → (alive_at (sums ++ added left_rest middle_rest right_rest c ∷ []) x || alive_at (rest_at c middle_rest) x) ≡ alive_at middle x
     alive_more x =
-        ap (λ b. b || alive_at (rest_at c middle) x) (alive_at-append sums (added left middle right c ∷ []) x)
-        ∙ regroup (alive_at sums x) (same_cell x c && alive_first c middle) (alive_at (rest_at c middle) x)
-        ∙ ap (λ b. alive_at sums x || b) (sym (alive_at-rest_at c x middle))
+        ap (λ b. b || alive_at (rest_at c middle_rest) x) (alive_at-append sums (added left_rest middle_rest right_rest c ∷ []) x)
+        ∙ regroup (alive_at sums x) (same_cell x c && alive_first c middle_rest) (alive_at (rest_at c middle_rest) x)
+        ∙ ap (λ b. alive_at sums x || b) (sym (alive_at-rest_at c x middle_rest))
         ∙ m.alive x
 
 first_in_total : (c : Cell) (ts : List Tally) → count_first c ts ≤ total ts c
@@ -129,6 +151,8 @@ first_in_total c [] = omega arith
 first_in_total c (t ∷ ts) = elim (same_cell c t.cell) as (λ b. cond b t.count 0 ≤ cond b t.count 0 + total ts c) [ true ↦ omega arith | false ↦ omega arith ]
 
 -- the sum at a cell is small where the totals are
-pub sum_small : (before here behind sums left middle right : List Tally) (c : Cell) → Merging before here behind sums left middle right → ((x : Cell) → total before x + (total here x + total behind x) < 256) → count_first c left + count_first c middle + count_first c right < 256
-sum_small before here behind sums left middle right c m small =
-    omega (arith, m.totals c, small c, first_in_total c left, first_in_total c middle, first_in_total c right)
+pub sum_small : (left middle right sums left_rest middle_rest right_rest : List Tally) (c : Cell)
+    → Merging left middle right sums left_rest middle_rest right_rest → ((x : Cell) → total left x + (total middle x + total right x) < 256)
+    → count_first c left_rest + count_first c middle_rest + count_first c right_rest < 256
+sum_small left middle right sums left_rest middle_rest right_rest c m small =
+    omega (arith, m.totals c, small c, first_in_total c left_rest, first_in_total c middle_rest, first_in_total c right_rest)

@@ -5,9 +5,8 @@ use Rattle.std.specs.Ordering.{int_cmp, is_eq, ordering_then}
 use Rattle.std.proofs.lemmas.Int.{ints}
 use Rattle.std.proofs.lemmas.Bool.{and_parts, and_from, leb-true, le-leb}
 use Rattle.plane_core.specs.declared.cell.Cell.{Cell}
-use Rattle.plane_core.specs.declared.cell.TheConstants.{BOUND}
 use Rattle.plane_core.specs.declared.tally.Tally.{Tally}
-use Rattle.plane_core.specs.Cells.{moved_by, has, InOrder, on_plane, near_plane}
+use Rattle.plane_core.specs.Cells.{plane_bound, moved_by, has, InOrder, on_plane, near_plane}
 use Rattle.plane_core.specs.Generations.{around}
 use Rattle.plane_core.specs.Tallies.{cells_of, total, one_of, moved_tally, IsMerged, AddsNeighbours, CountsBlocks}
 use Rattle.plane_core.proofs.CellLemmas.{cell_cmp-moved}
@@ -39,36 +38,41 @@ before-moved dx dy c (t ∷ ts) h = (cell_cmp-moved dx dy c t.cell ∙ h.0, befo
 -- moved cells stay in order
 pub in_order-moved : (dx dy : ℤ) (ts : List Tally) → InOrder (cells_of ts) → InOrder (cells_of (map (moved_tally dx dy) ts))
 in_order-moved dx dy [] o = in_order-nil
-in_order-moved dx dy (t ∷ ts) o = in_order-cons (moved_by dx dy t.cell) (cells_of (map (moved_tally dx dy) ts)) (before-moved dx dy t.cell ts (in_order-head t.cell (cells_of ts) o)) (in_order-moved dx dy ts (in_order-tail t.cell (cells_of ts) o))
+in_order-moved dx dy (t ∷ ts) o =
+    in_order-cons (moved_by dx dy t.cell) (cells_of (map (moved_tally dx dy) ts))
+    (before-moved dx dy t.cell ts (in_order-head t.cell (cells_of ts) o)) (in_order-moved dx dy ts (in_order-tail t.cell (cells_of ts) o))
 
 on_then_near : (c : Cell) → on_plane c ≡ true → near_plane c ≡ true
 unfolding on_plane near_plane
 on_then_near c h =
-    let parts = and_parts (leb (unsigned_abs c.x) BOUND) (leb (unsigned_abs c.y) BOUND) h in
-    and_from (leb (unsigned_abs c.x) (BOUND + 1)) (leb (unsigned_abs c.y) (BOUND + 1))
-    (le-leb (unsigned_abs c.x) (BOUND + 1) (let x = leb-true (unsigned_abs c.x) BOUND parts.0 in omega arith))
-    (le-leb (unsigned_abs c.y) (BOUND + 1) (let y = leb-true (unsigned_abs c.y) BOUND parts.1 in omega arith))
+    let parts = and_parts (leb (unsigned_abs c.x) plane_bound) (leb (unsigned_abs c.y) plane_bound) h in
+    and_from (leb (unsigned_abs c.x) (plane_bound + 1)) (leb (unsigned_abs c.y) (plane_bound + 1))
+    (le-leb (unsigned_abs c.x) (plane_bound + 1) (let x = leb-true (unsigned_abs c.x) plane_bound parts.0 in omega arith))
+    (le-leb (unsigned_abs c.y) (plane_bound + 1) (let y = leb-true (unsigned_abs c.y) plane_bound parts.1 in omega arith))
 
 moved_then_near : (dx dy : ℤ) (c : Cell) → unsigned_abs dx ≤ 1 → unsigned_abs dy ≤ 1 → on_plane c ≡ true → near_plane (moved_by dx dy c) ≡ true
 unfolding on_plane near_plane
 moved_then_near dx dy c u v h =
-    let parts = and_parts (leb (unsigned_abs c.x) BOUND) (leb (unsigned_abs c.y) BOUND) h in
-    and_from (leb (unsigned_abs (c.x +ℤ dx)) (BOUND + 1)) (leb (unsigned_abs (c.y +ℤ dy)) (BOUND + 1))
-    (le-leb (unsigned_abs (c.x +ℤ dx)) (BOUND + 1) (step c.x dx (leb-true (unsigned_abs c.x) BOUND parts.0) u))
-    (le-leb (unsigned_abs (c.y +ℤ dy)) (BOUND + 1) (step c.y dy (leb-true (unsigned_abs c.y) BOUND parts.1) v))
+    let parts = and_parts (leb (unsigned_abs c.x) plane_bound) (leb (unsigned_abs c.y) plane_bound) h in
+    and_from (leb (unsigned_abs (c.x +ℤ dx)) (plane_bound + 1)) (leb (unsigned_abs (c.y +ℤ dy)) (plane_bound + 1))
+    (le-leb (unsigned_abs (c.x +ℤ dx)) (plane_bound + 1) (step c.x dx (leb-true (unsigned_abs c.x) plane_bound parts.0) u))
+    (le-leb (unsigned_abs (c.y +ℤ dy)) (plane_bound + 1) (step c.y dy (leb-true (unsigned_abs c.y) plane_bound parts.1) v))
   where
-    step : (a d : ℤ) → unsigned_abs a ≤ BOUND → unsigned_abs d ≤ 1 → unsigned_abs (a +ℤ d) ≤ BOUND + 1
+    step : (a d : ℤ) → unsigned_abs a ≤ plane_bound → unsigned_abs d ≤ 1 → unsigned_abs (a +ℤ d) ≤ plane_bound + 1
     step a d h k = omega (arith, ints)
 
 pub all_near : (cs : List Cell) → list_all on_plane cs ≡ true → list_all near_plane cs ≡ true
 all_near [] h = refl
-all_near (c ∷ cs) h = let parts = and_parts (on_plane c) (list_all on_plane cs) h in and_from (near_plane c) (list_all near_plane cs) (on_then_near c parts.0) (all_near cs parts.1)
+all_near (c ∷ cs) h = let parts =
+    and_parts (on_plane c) (list_all on_plane cs) h in and_from (near_plane c) (list_all near_plane cs) (on_then_near c parts.0) (all_near cs parts.1)
 
-pub all_moved_near : (dx dy : ℤ) (ts : List Tally) → unsigned_abs dx ≤ 1 → unsigned_abs dy ≤ 1 → list_all on_plane (cells_of ts) ≡ true → list_all near_plane (cells_of (map (moved_tally dx dy) ts)) ≡ true
+pub all_moved_near : (dx dy : ℤ) (ts : List Tally) → unsigned_abs dx ≤ 1 → unsigned_abs dy ≤ 1 → list_all on_plane (cells_of ts) ≡ true
+    → list_all near_plane (cells_of (map (moved_tally dx dy) ts)) ≡ true
 all_moved_near dx dy [] u v h = refl
 all_moved_near dx dy (t ∷ ts) u v h =
     let parts = and_parts (on_plane t.cell) (list_all on_plane (cells_of ts)) h in
-    and_from (near_plane (moved_by dx dy t.cell)) (list_all near_plane (cells_of (map (moved_tally dx dy) ts))) (moved_then_near dx dy t.cell u v parts.0) (all_moved_near dx dy ts u v parts.1)
+    and_from (near_plane (moved_by dx dy t.cell)) (list_all near_plane (cells_of (map (moved_tally dx dy) ts)))
+    (moved_then_near dx dy t.cell u v parts.0) (all_moved_near dx dy ts u v parts.1)
 
 neg_small : (d : ℤ) → unsigned_abs d ≤ 1 → unsigned_abs (neg_ℤ d) ≤ 1
 neg_small d h = omega (arith, ints)
@@ -80,7 +84,8 @@ adds_neighbours dx dy ts sums u v m = record {
   totals = λ c. m.totals c ∙ (λ i. total-moved_back dx dy ts c i + (total ts c + total-moved dx dy ts c i));
   alive = m.alive;
   in_order = m.in_order;
-  near = λ on. m.no_others near_plane (all_moved_near (neg_ℤ dx) (neg_ℤ dy) ts (neg_small dx u) (neg_small dy v) on) (all_near (cells_of ts) on) (all_moved_near dx dy ts u v on);
+  near = λ on. m.no_others near_plane (all_moved_near (neg_ℤ dx) (neg_ℤ dy) ts (neg_small dx u) (neg_small dy v) on) (all_near (cells_of ts) on)
+      (all_moved_near dx dy ts u v on);
 }
 
 -- ---- a row of three cells, and three rows
@@ -94,9 +99,11 @@ row_small S rows c o sums =
     omega (arith, sums.totals c, one_small S (moved_by (pos 1) (pos 0) c) o, one_small S c o, one_small S (moved_by (negsuc 0) (pos 0) c) o)
 
 -- rows of rows are blocks
-pub counts_blocks : (S : List Cell) (rows blocks : List Tally) → InOrder S → AddsNeighbours (pos 1) (pos 0) (map one_of S) rows → AddsNeighbours (pos 0) (pos 1) rows blocks → CountsBlocks S blocks
+pub counts_blocks : (S : List Cell) (rows blocks : List Tally) → InOrder S → AddsNeighbours (pos 1) (pos 0) (map one_of S) rows
+    → AddsNeighbours (pos 0) (pos 1) rows blocks → CountsBlocks S blocks
 counts_blocks S rows blocks o r b = record {
-  totals = λ c. b.totals c ∙ (λ i. r.totals (moved_by (pos 0) (pos 1) c) i + (r.totals c i + r.totals (moved_by (pos 0) (negsuc 0) c) i)) ∙ block_total-around S c ∙ ap (λ (n : ℕ). around S c + n) (total-ones S c o);
+  totals = λ c. b.totals c ∙ (λ i. r.totals (moved_by (pos 0) (pos 1) c) i + (r.totals c i + r.totals (moved_by (pos 0) (negsuc 0) c) i))
+      ∙ block_total-around S c ∙ ap (λ (n : ℕ). around S c + n) (total-ones S c o);
   alive = λ c. b.alive c ∙ r.alive c ∙ alive_at-ones S c;
   in_order = b.in_order;
 }

@@ -1,5 +1,6 @@
 -- The orientations are the group of the square, and they commute with moving and with the next generation.
-use Rattle.std.proofs.Common.{◌≡◌, ℤ, ◌+ℤ◌, neg_ℤ, Bool, true, false, ◌||◌, List, [], ◌∷◌, arith, refl, ap, ◌∙◌, sym, subst, inl, inr, ◌⊎◌, map, Option, Some, None}
+use Rattle.std.proofs.Common.{◌≡◌, ℤ, pos, cond, ◌+ℤ◌, neg_ℤ, Bool, true, false, ◌||◌, List, [], ◌∷◌}
+use Rattle.std.proofs.Common.{arith, refl, ap, ◌∙◌, sym, subst, inl, inr, ◌⊎◌, map, Option, Some, None}
 use Rattle.std.specs.Int.{int_min, int_max}
 use Rattle.std.specs.Cmp.{both_ways as both_true}
 use Rattle.std.proofs.lemmas.Int.{ints, clamps}
@@ -10,7 +11,8 @@ use Rattle.plane_core.specs.declared.orientation.Orientation.{Orientation}
 use Rattle.plane_core.specs.declared.orientation.Orientation.TheVariants.{Same, Quarter, Half, ThreeQuarter, Mirror, Flip, Diagonal, AntiDiagonal}
 use Rattle.plane_core.specs.Bounds.{box_of, grown, shifted, at_corner, cornered}
 use Rattle.plane_core.specs.Cells.{cell_at, same_cell, moved_by, has, set_of}
-use Rattle.plane_core.specs.Orientations.{turned_cell, image, turned, quarter_after, mirror_after, product, TurningTwice, TurningBack, TurningMoved}
+use Rattle.plane_core.specs.Orientations.{orientations, turned_cell, image, turned, quarter_after, mirror_after, product, OrientationsDiffer}
+use Rattle.plane_core.specs.Orientations.{ProductAssociates, SameIsIdentity, TurningTwice, TurningBack, TurningMoved}
 use Rattle.plane_core.proofs.SetLemmas.{same_lists, in_order-set_of, has-set_of, has-head, has-cases, or_right}
 use Rattle.plane_core.proofs.TurnLemmas.{set_of-moved}
 
@@ -32,7 +34,8 @@ pub has-map_from : (f : Cell → Cell) (cs : List Cell) (c : Cell) → has (map 
 has-map_from f [] c h = absurd (false≢true h)
 has-map_from f (d ∷ ds) c h = go (has-cases (f d) (map f ds) c h) (has-map_from f ds c)
   where
-    go : (c ≡ f d) ⊎ (has (map f ds) c ≡ true) → (has (map f ds) c ≡ true → (e : Cell) × (has ds e ≡ true) × (c ≡ f e)) → (e : Cell) × (has (d ∷ ds) e ≡ true) × (c ≡ f e)
+    go : (c ≡ f d) ⊎ (has (map f ds) c ≡ true) → (has (map f ds) c ≡ true → (e : Cell) × (has ds e ≡ true) × (c ≡ f e))
+        → (e : Cell) × (has (d ∷ ds) e ≡ true) × (c ≡ f e)
     go (inl same) ih = (d, has-head d ds, same)
     go (inr more) ih = let found = ih more in (found.0, or_right (same_cell found.0 d) (has ds found.0) found.1, found.2)
 
@@ -84,7 +87,8 @@ mirror-cell AntiDiagonal c = λ i. cell_at (back c.y i) (neg_ℤ c.x)
 twice : (a : Orientation) (c : Cell) → turned_cell Quarter (turned_cell Quarter (turned_cell a c)) ≡ turned_cell (quarter_after (quarter_after a)) c
 twice a c = ap (turned_cell Quarter) (quarter-cell a c) ∙ quarter-cell (quarter_after a) c
 
-thrice : (a : Orientation) (c : Cell) → turned_cell Quarter (turned_cell Quarter (turned_cell Quarter (turned_cell a c))) ≡ turned_cell (quarter_after (quarter_after (quarter_after a))) c
+thrice : (a : Orientation) (c : Cell)
+    → turned_cell Quarter (turned_cell Quarter (turned_cell Quarter (turned_cell a c))) ≡ turned_cell (quarter_after (quarter_after (quarter_after a))) c
 thrice a c = ap (turned_cell Quarter) (twice a c) ∙ quarter-cell (quarter_after (quarter_after a)) c
 
 -- where a cell goes that is turned twice
@@ -95,13 +99,62 @@ product-cell a Half c = twice a c
 product-cell a ThreeQuarter c = (λ i. cell_at (sym (back (turned_cell a c).y) i) (neg_ℤ (turned_cell a c).x)) ∙ thrice a c
 product-cell a Mirror c = mirror-cell a c
 product-cell a AntiDiagonal c = ap (turned_cell Quarter) (mirror-cell a c) ∙ quarter-cell (mirror_after a) c
-product-cell a Flip c = (λ i. cell_at (sym (back (turned_cell a c).x) i) (neg_ℤ (turned_cell a c).y)) ∙ ap (λ (d : Cell). turned_cell Quarter (turned_cell Quarter d)) (mirror-cell a c) ∙ twice (mirror_after a) c
-product-cell a Diagonal c = (λ i. cell_at (sym (back (turned_cell a c).y) i) (sym (back (turned_cell a c).x) i)) ∙ ap (λ (d : Cell). turned_cell Quarter (turned_cell Quarter (turned_cell Quarter d))) (mirror-cell a c) ∙ thrice (mirror_after a) c
+product-cell a Flip c = (λ i. cell_at (sym (back (turned_cell a c).x) i) (neg_ℤ (turned_cell a c).y))
+    ∙ ap (λ (d : Cell). turned_cell Quarter (turned_cell Quarter d)) (mirror-cell a c) ∙ twice (mirror_after a) c
+product-cell a Diagonal c = (λ i. cell_at (sym (back (turned_cell a c).y) i) (sym (back (turned_cell a c).x) i))
+    ∙ ap (λ (d : Cell). turned_cell Quarter (turned_cell Quarter (turned_cell Quarter d))) (mirror-cell a c) ∙ thrice (mirror_after a) c
+
+-- a cell whose eight images differ, and the orientation that takes it to a place
+probe : Cell
+probe = cell_at (pos 1) (pos 2)
+
+seen_among : List Orientation → Cell → Orientation
+seen_among [] c = Same
+seen_among (o ∷ os) c = cond (same_cell c (turned_cell o probe)) o (seen_among os c)
+
+seen : Cell → Orientation
+seen c = seen_among orientations c
+
+seen-turned : (o : Orientation) → seen (turned_cell o probe) ≡ o
+unfolding seen seen_among probe
+seen-turned Same = refl
+seen-turned Quarter = refl
+seen-turned Half = refl
+seen-turned ThreeQuarter = refl
+seen-turned Mirror = refl
+seen-turned Flip = refl
+seen-turned Diagonal = refl
+seen-turned AntiDiagonal = refl
+
+one_probe : (a b : Orientation) → turned_cell a probe ≡ turned_cell b probe → a ≡ b
+one_probe a b same = sym (seen-turned a) ∙ ap seen same ∙ seen-turned b
+
+pub orientations_differ : OrientationsDiffer
+orientations_differ a b same = one_probe a b (same probe)
+
+pub product_associates : ProductAssociates
+product_associates a b c = one_probe (product (product a b) c) (product a (product b c)) (
+    sym (product-cell (product a b) c probe)
+    ∙ ap (turned_cell c) (sym (product-cell a b probe))
+    ∙ product-cell b c (turned_cell a probe)
+    ∙ product-cell a (product b c) probe
+    )
+
+pub same_is_identity : SameIsIdentity
+same_is_identity Same = (refl, refl)
+same_is_identity Quarter = (refl, refl)
+same_is_identity Half = (refl, refl)
+same_is_identity ThreeQuarter = (refl, refl)
+same_is_identity Mirror = (refl, refl)
+same_is_identity Flip = (refl, refl)
+same_is_identity Diagonal = (refl, refl)
+same_is_identity AntiDiagonal = (refl, refl)
 
 -- an image of an image is the image in the product
 pub image-image : (a b : Orientation) (cs : List Cell) → image b (image a cs) ≡ image (product a b) cs
 unfolding image
-image-image a b cs = set_of-map (turned_cell b) (map (turned_cell a) cs) ∙ ap set_of (map-map (turned_cell b) (turned_cell a) (turned_cell (product a b)) (product-cell a b) cs)
+image-image a b cs = set_of-map (turned_cell b) (map (turned_cell a) cs)
+    ∙ ap set_of (map-map (turned_cell b) (turned_cell a) (turned_cell (product a b)) (product-cell a b) cs)
 
 -- ---- at the corner
 
@@ -120,11 +173,13 @@ moved_box_of dx dy (Some b) = Some (moved_box dx dy b)
 
 grown-moved : (dx dy : ℤ) (c : Cell) (b : Option Bounds) → grown (moved_by dx dy c) (moved_box_of dx dy b) ≡ moved_box dx dy (grown c b)
 grown-moved dx dy c None = refl
-grown-moved dx dy c (Some b) = λ i. record { left = min-moved c.x b.left dx i; top = min-moved c.y b.top dy i; right = max-moved c.x b.right dx i; bottom = max-moved c.y b.bottom dy i }
+grown-moved dx dy c (Some b) =
+    λ i. record { left = min-moved c.x b.left dx i; top = min-moved c.y b.top dy i; right = max-moved c.x b.right dx i; bottom = max-moved c.y b.bottom dy i }
 
 box_of-shifted : (dx dy : ℤ) (cs : List Cell) → box_of (shifted dx dy cs) ≡ moved_box_of dx dy (box_of cs)
 box_of-shifted dx dy [] = refl
-box_of-shifted dx dy (c ∷ cs) = ap (λ (b : Option Bounds). Some (grown (moved_by dx dy c) b)) (box_of-shifted dx dy cs) ∙ ap Some (grown-moved dx dy c (box_of cs))
+box_of-shifted dx dy (c ∷ cs) = ap (λ (b : Option Bounds). Some (grown (moved_by dx dy c) b)) (box_of-shifted dx dy cs)
+    ∙ ap Some (grown-moved dx dy c (box_of cs))
 
 undone : (a v l : ℤ) → (a +ℤ v) +ℤ neg_ℤ (l +ℤ v) ≡ a +ℤ neg_ℤ l
 undone a v l = omega (arith, ints)
@@ -135,13 +190,15 @@ at_corner-shifted dx dy cs = ap (λ (b : Option Bounds). cornered b (shifted dx 
   where
     go : (b : Option Bounds) → cornered (moved_box_of dx dy b) (shifted dx dy cs) ≡ cornered b cs
     go None = refl
-    go (Some b) = map-map (moved_by (neg_ℤ (b.left +ℤ dx)) (neg_ℤ (b.top +ℤ dy))) (moved_by dx dy) (moved_by (neg_ℤ b.left) (neg_ℤ b.top)) (λ c i. cell_at (undone c.x dx b.left i) (undone c.y dy b.top i)) cs
+    go (Some b) = map-map (moved_by (neg_ℤ (b.left +ℤ dx)) (neg_ℤ (b.top +ℤ dy))) (moved_by dx dy) (moved_by (neg_ℤ b.left) (neg_ℤ b.top))
+        (λ c i. cell_at (undone c.x dx b.left i) (undone c.y dy b.top i)) cs
 
 neg-sum : (a b : ℤ) → neg_ℤ (a +ℤ b) ≡ neg_ℤ a +ℤ neg_ℤ b
 neg-sum a b = omega (arith, ints)
 
 -- turning a moved cell moves the turned one
-turned-moved : (o : Orientation) (dx dy : ℤ) (c : Cell) → turned_cell o (moved_by dx dy c) ≡ moved_by (turned_cell o (cell_at dx dy)).x (turned_cell o (cell_at dx dy)).y (turned_cell o c)
+turned-moved : (o : Orientation) (dx dy : ℤ) (c : Cell)
+    → turned_cell o (moved_by dx dy c) ≡ moved_by (turned_cell o (cell_at dx dy)).x (turned_cell o (cell_at dx dy)).y (turned_cell o c)
 turned-moved Same dx dy c = refl
 turned-moved Quarter dx dy c = λ i. cell_at (neg-sum c.y dy i) (c.x +ℤ dx)
 turned-moved Half dx dy c = λ i. cell_at (neg-sum c.x dx i) (neg-sum c.y dy i)
@@ -156,10 +213,12 @@ maps-agree f g h k e [] = refl
 maps-agree f g h k e (c ∷ cs) = λ i. e c i ∷ maps-agree f g h k e cs i
 
 -- the image of a moved pattern is the image, moved
-pub image-shifted : (o : Orientation) (dx dy : ℤ) (cs : List Cell) → image o (shifted dx dy cs) ≡ shifted (turned_cell o (cell_at dx dy)).x (turned_cell o (cell_at dx dy)).y (image o cs)
+pub image-shifted : (o : Orientation) (dx dy : ℤ) (cs : List Cell)
+    → image o (shifted dx dy cs) ≡ shifted (turned_cell o (cell_at dx dy)).x (turned_cell o (cell_at dx dy)).y (image o cs)
 unfolding image
 image-shifted o dx dy cs =
-    ap set_of (maps-agree (turned_cell o) (moved_by dx dy) (moved_by (turned_cell o (cell_at dx dy)).x (turned_cell o (cell_at dx dy)).y) (turned_cell o) (turned-moved o dx dy) cs)
+    ap set_of (maps-agree (turned_cell o) (moved_by dx dy) (moved_by (turned_cell o (cell_at dx dy)).x (turned_cell o (cell_at dx dy)).y)
+    (turned_cell o) (turned-moved o dx dy) cs)
     ∙ set_of-moved (turned_cell o (cell_at dx dy)).x (turned_cell o (cell_at dx dy)).y (map (turned_cell o) cs)
 
 -- the image of a pattern at the corner has the corner of the image

@@ -1,5 +1,6 @@
 -- How calls that write in a row make one call that writes.
-use Rattle.std.proofs.Common.{◌≡◌, ℕ, ◌-◌, ◌≤◌, false, List, [], ◌++◌, length, take, drop, Option, None, Some, Result, Ok, Err, IsErr, sym, subst, ◌∙◌, ap, append_assoc, append-nil, length-drop}
+use Rattle.std.proofs.Common.{◌≡◌, ℕ, ◌-◌, ◌≤◌, false, List, [], ◌++◌, length, take, drop, Option, None, Some, Result}
+use Rattle.std.proofs.Common.{Ok, Err, IsErr, sym, subst, ◌∙◌, ap, append_assoc, append-nil, length-drop}
 use Rattle.std.proofs.lemmas.List.{take-append-drop}
 use Rattle.std.proofs.Math.Seq.{take-length}
 use Rattle.std.specs.Io.KnownBytes.{Appends}
@@ -42,22 +43,26 @@ module _ {V : Type 0} {contents : V → Option (List ℕ)} where
   Writes_nothing x e = record { told = e; whole = Appends-nil (contents x.writer); front = tt }
 
   -- one text and then another are the two in a row
-  pub Writes_then : {E F : Type 0} {x y z : Output V} {r : Result (Unit {0}) F} {a b : List ℕ} → Writes {E = E} contents x y (Ok tt) a → Writes contents y z r b → Writes contents x z r (a ++ b)
+  pub Writes_then : {E F : Type 0} {x y z : Output V} {r : Result (Unit {0}) F} {a b : List ℕ} → Writes {E = E} contents x y (Ok tt) a
+      → Writes contents y z r b → Writes contents x z r (a ++ b)
   Writes_then {r = Ok _} {a} {b} p q = record { told = q.told; whole = Appends-append _ _ _ a b p.whole q.whole; front = tt }
   Writes_then {r = Err _} {a} {b} p q = record { told = q.told; whole = tt; front = AppendsFront-append _ _ _ a b p.whole q.front }
 
   -- a fault in a text's front is a fault in the text, also where it is passed on as another error
-  pub Writes_stops : {E F : Type 0} {x y : Output V} {e : E} {r : Result (Unit {0}) F} {a : List ℕ} (b : List ℕ) → IsErr r → Writes contents x y (Err e) a → Writes contents x y r (a ++ b)
+  pub Writes_stops : {E F : Type 0} {x y : Output V} {e : E} {r : Result (Unit {0}) F} {a : List ℕ} (b : List ℕ) → IsErr r
+      → Writes contents x y (Err e) a → Writes contents x y r (a ++ b)
   Writes_stops {r = Ok _} b h p = cc
   Writes_stops {r = Err _} {a} b h p = record { told = p.told; whole = tt; front = AppendsFront-longer _ _ a b p.front }
 
   -- the same where nothing of the text follows
-  pub Writes_fails : {E F : Type 0} {x y : Output V} {e : E} {r : Result (Unit {0}) F} {a : List ℕ} → IsErr r → Writes contents x y (Err e) a → Writes contents x y r a
+  pub Writes_fails : {E F : Type 0} {x y : Output V} {e : E} {r : Result (Unit {0}) F} {a : List ℕ} → IsErr r → Writes contents x y (Err e) a
+      → Writes contents x y r a
   Writes_fails {r = Ok _} h p = cc
   Writes_fails {r = Err _} h p = record { told = p.told; whole = tt; front = p.front }
 
   -- the same where the fault is already this call's
-  pub Writes_longer : {E : Type 0} {x y : Output V} {r : Result (Unit {0}) E} {a : List ℕ} (b : List ℕ) → IsErr r → Writes contents x y r a → Writes contents x y r (a ++ b)
+  pub Writes_longer : {E : Type 0} {x y : Output V} {r : Result (Unit {0}) E} {a : List ℕ} (b : List ℕ) → IsErr r → Writes contents x y r a
+      → Writes contents x y r (a ++ b)
   Writes_longer {r = Ok _} b h p = cc
   Writes_longer {r = Err _} b h p = Writes_stops b h p
 

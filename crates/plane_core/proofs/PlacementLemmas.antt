@@ -1,5 +1,6 @@
 -- Patterns moved on the plane.
-use Rattle.std.proofs.Common.{◌≡◌, ℕ, ℤ, zero, suc, ◌<◌, ◌+ℤ◌, Bool, true, false, ◌&&◌, List, [], ◌∷◌, arith, refl, ap, ◌∙◌, sym, subst, length, map, get_or, take, ◌-ℤ◌, ◌+◌, ◌≤◌, ◌++◌, ◌↔◌, not, IsTrue, Some}
+use Rattle.std.proofs.Common.{◌≡◌, ℕ, ℤ, zero, suc, ◌<◌, ◌+ℤ◌, Bool, true, false, ◌&&◌, List, [], ◌∷◌, arith, refl, ap}
+use Rattle.std.proofs.Common.{◌∙◌, sym, subst, length, map, get_or, take, ◌-ℤ◌, ◌+◌, ◌≤◌, ◌++◌, ◌↔◌, not, IsTrue, Some}
 use Rattle.std.specs.Bool.{then_some}
 use Rattle.std.specs.List.{list_all}
 use Rattle.std.specs.Ordering.{int_eq}
@@ -20,13 +21,15 @@ all_at p (c ∷ cs) zero d low h = (and_parts (p c) (list_all p cs) h).0
 all_at p (c ∷ cs) (suc i) d low h = all_at p cs i d (omega arith) (and_parts (p c) (list_all p cs) h).1
 
 -- a test that all images pass, at one of them
-pub all_images_at : (p : Cell → Bool) (f : Cell → Cell) (cs : List Cell) (i : ℕ) (d : Cell) → i < length cs → list_all p (map f cs) ≡ true → p (f (get_or cs i d)) ≡ true
+pub all_images_at : (p : Cell → Bool) (f : Cell → Cell) (cs : List Cell) (i : ℕ) (d : Cell) → i < length cs → list_all p (map f cs) ≡ true
+    → p (f (get_or cs i d)) ≡ true
 all_images_at p f [] i d low h = absurd (omega arith)
 all_images_at p f (c ∷ cs) zero d low h = (and_parts (p (f c)) (list_all p (map f cs)) h).0
 all_images_at p f (c ∷ cs) (suc i) d low h = all_images_at p f cs i d (omega arith) (and_parts (p (f c)) (list_all p (map f cs)) h).1
 
 -- where one image fails, not all pass
-pub one_image_fails : (p : Cell → Bool) (f : Cell → Cell) (cs : List Cell) (i : ℕ) (d : Cell) → i < length cs → p (f (get_or cs i d)) ≡ false → false ≡ list_all p (map f cs)
+pub one_image_fails : (p : Cell → Bool) (f : Cell → Cell) (cs : List Cell) (i : ℕ) (d : Cell) → i < length cs → p (f (get_or cs i d)) ≡ false
+    → false ≡ list_all p (map f cs)
 one_image_fails p f cs i d low h = go (list_all p (map f cs)) refl
   where
     go : (b : Bool) → list_all p (map f cs) ≡ b → false ≡ b
@@ -40,7 +43,8 @@ before-shifted dx dy c (d ∷ ds) h = (cell_cmp-moved dx dy c d ∙ h.0, before-
 -- moved cells stay in order
 pub in_order-shifted : (dx dy : ℤ) (cs : List Cell) → InOrder cs → InOrder (shifted dx dy cs)
 in_order-shifted dx dy [] o = in_order-nil
-in_order-shifted dx dy (c ∷ cs) o = in_order-cons (moved_by dx dy c) (shifted dx dy cs) (before-shifted dx dy c cs (in_order-head c cs o)) (in_order-shifted dx dy cs (in_order-tail c cs o))
+in_order-shifted dx dy (c ∷ cs) o =
+    in_order-cons (moved_by dx dy c) (shifted dx dy cs) (before-shifted dx dy c cs (in_order-head c cs o)) (in_order-shifted dx dy cs (in_order-tail c cs o))
 
 pub is_pattern-shifted : (dx dy : ℤ) (cs : List Cell) → InOrder cs → list_all on_plane (shifted dx dy cs) ≡ true → IsPattern (shifted dx dy cs)
 is_pattern-shifted dx dy cs o on = record { in_order = in_order-shifted dx dy cs o; on_plane = on }
@@ -55,25 +59,28 @@ step_of : (a b d : ℤ) → a +ℤ d ≡ b → (b -ℤ a) ≡ d
 step_of a b d e = omega (arith, ints)
 
 -- a loop's step: the next cell is as far from the next other
-pub stepped_more : (dx dy : ℤ) (cs ds : List Cell) (i : ℕ) (z : Cell) (s : ℤ × ℤ) → i < length cs → length cs ≡ length ds → shifted dx dy (take i cs) ≡ take i ds
+pub stepped_more : (dx dy : ℤ) (cs ds : List Cell) (i : ℕ) (z : Cell) (s : ℤ × ℤ) → i < length cs → length cs ≡ length ds
+    → shifted dx dy (take i cs) ≡ take i ds
     → s ≡ ((get_or ds i z).x -ℤ (get_or cs i z).x, (get_or ds i z).y -ℤ (get_or cs i z).y) → not (int_eq s.0 dx && int_eq s.1 dy) ≡ false
     → shifted dx dy (take (i + 1) cs) ≡ take (i + 1) ds
 stepped_more dx dy cs ds i z s low same so_far is ne =
     let both = and_parts (int_eq s.0 dx) (int_eq s.1 dy) (not-false (int_eq s.0 dx && int_eq s.1 dy) ne) in
     let x : (get_or ds i z).x -ℤ (get_or cs i z).x ≡ dx = sym (ap (λ (t : ℤ × ℤ). t.0) is) ∙ int_eq-true s.0 dx both.0 in
     let y : (get_or ds i z).y -ℤ (get_or cs i z).y ≡ dy = sym (ap (λ (t : ℤ × ℤ). t.1) is) ∙ int_eq-true s.1 dy both.1 in
-    let there : moved_by dx dy (get_or cs i z) ≡ get_or ds i z = λ k. cell_at (step_on (get_or cs i z).x (get_or ds i z).x dx x k) (step_on (get_or cs i z).y (get_or ds i z).y dy y k) in
+    let there : moved_by dx dy (get_or cs i z) ≡ get_or ds i z =
+    λ k. cell_at (step_on (get_or cs i z).x (get_or ds i z).x dx x k) (step_on (get_or cs i z).y (get_or ds i z).y dy y k) in
     let low_too : i < length ds = omega arith in
     ap (shifted dx dy) (take_more cs i z low) ∙ map-append (moved_by dx dy) (take i cs) (get_or cs i z ∷ [])
     ∙ (λ k. so_far k ++ there k ∷ []) ∙ sym (take_more ds i z low_too)
 
 -- a shift of a list with a first cell is the step between the first cells
-shift_is_step : (dx dy : ℤ) (c : Cell) (cs : List Cell) (d : Cell) (ds : List Cell) → shifted dx dy (c ∷ cs) ≡ d ∷ ds → ◌≡◌ {A = ℤ × ℤ} (d.x -ℤ c.x, d.y -ℤ c.y) (dx, dy)
+shift_is_step : (dx dy : ℤ) (c : Cell) (cs : List Cell) (d : Cell) (ds : List Cell) → shifted dx dy (c ∷ cs) ≡ d ∷ ds
+    → ◌≡◌ {A = ℤ × ℤ} (d.x -ℤ c.x, d.y -ℤ c.y) (dx, dy)
 shift_is_step dx dy c cs d ds e =
     let first : moved_by dx dy c ≡ d = cc in
     λ k. (step_of c.x d.x dx (ap (λ (a : Cell). a.x) first) k, step_of c.y d.y dy (ap (λ (a : Cell). a.y) first) k)
 
--- the step between the first cells is told just where it is that between all
+-- the step between the first cells is the answer if it is that between all
 pub tells_shift : (S T : List Cell) (z : Cell) (s : ℤ × ℤ) (b : Bool) → 1 ≤ length S → length S ≡ length T
     → s ≡ ((get_or T 0 z).x -ℤ (get_or S 0 z).x, (get_or T 0 z).y -ℤ (get_or S 0 z).y)
     → (IsTrue b ↔ (shifted s.0 s.1 S ≡ T)) → TellsShift S T (then_some b s)

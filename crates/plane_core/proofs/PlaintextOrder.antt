@@ -10,10 +10,9 @@ use Rattle.std.proofs.lemmas.Bool.Decides.{nat_tests}
 use Rattle.std.proofs.lemmas.Int.{ints}
 use Rattle.std.proofs.lemmas.List.Kept.{IsStrictlySortedBy-filter}
 use Rattle.plane_core.specs.declared.cell.Cell.{Cell}
-use Rattle.plane_core.specs.declared.plaintext.TheConstants.{SIDE_LIMIT}
 use Rattle.plane_core.specs.Cells.{cell_at, cell_cmp, on_plane, IsPattern}
 use Rattle.plane_core.specs.Plaintext.{is_live, first_fault, live_cells}
-use Rattle.plane_core.specs.PlaintextPlaces.{Place, is_comment, places}
+use Rattle.plane_core.specs.PlaintextPlaces.{side_limit, Place, is_comment, places}
 use Rattle.plane_core.proofs.PlaintextRows.{places_from, first_fault-cons, in_limits}
 use Rattle.plane_core.proofs.PlaintextLines.{parts_of, places_after, places_are, places_after-cons_comment, places_after-cons_row}
 
@@ -38,7 +37,8 @@ AllByRecursion-append P [] ys h k = k
 AllByRecursion-append P (x ∷ xs) ys h k = (h.0, AllByRecursion-append P xs ys h.1 k)
 
 -- two lists in order, each element of the first before those of the second
-pub IsStrictlySortedBy-append : {X : Type 0} (c : X → X → Ordering) (xs ys : List X) → IsStrictlySortedBy c xs → IsStrictlySortedBy c ys → AllByRecursion (λ x. AllByRecursion (λ y. c x y ≡ Less) ys) xs → IsStrictlySortedBy c (xs ++ ys)
+pub IsStrictlySortedBy-append : {X : Type 0} (c : X → X → Ordering) (xs ys : List X) → IsStrictlySortedBy c xs → IsStrictlySortedBy c ys
+    → AllByRecursion (λ x. AllByRecursion (λ y. c x y ≡ Less) ys) xs → IsStrictlySortedBy c (xs ++ ys)
 unfolding IsStrictlySortedBy
 IsStrictlySortedBy-append c [] ys h k b = k
 IsStrictlySortedBy-append c (x ∷ xs) ys h k b = (AllByRecursion-append (λ y. c x y ≡ Less) xs ys h.0 b.0, IsStrictlySortedBy-append c xs ys h.1 k b.1)
@@ -47,7 +47,8 @@ AllByRecursion-map : {X Y : Type 0} (P : Y → Type 0) (f : X → Y) (xs : List 
 AllByRecursion-map P f [] h = tt
 AllByRecursion-map P f (x ∷ xs) h = (h.0, AllByRecursion-map P f xs h.1)
 
-IsStrictlySortedBy-map : {X Y : Type 0} (c : Y → Y → Ordering) (f : X → Y) (xs : List X) → IsStrictlySortedBy (λ p q. c (f p) (f q)) xs → IsStrictlySortedBy c (map f xs)
+IsStrictlySortedBy-map : {X Y : Type 0} (c : Y → Y → Ordering) (f : X → Y) (xs : List X) → IsStrictlySortedBy (λ p q. c (f p) (f q)) xs
+    → IsStrictlySortedBy c (map f xs)
 unfolding IsStrictlySortedBy
 IsStrictlySortedBy-map c f [] h = tt
 IsStrictlySortedBy-map c f (x ∷ xs) h = (AllByRecursion-map (λ y. c (f x) y ≡ Less) f xs h.0, IsStrictlySortedBy-map c f xs h.1)
@@ -58,18 +59,24 @@ IsInRow y x q = (q.y ≡ y) × (x ≤ q.x)
 
 pub row_in_row : (line y x : ℕ) (row : List ℕ) → AllByRecursion (IsInRow y x) (places_from line y x row)
 row_in_row line y x [] = tt
-row_in_row line y x (b ∷ row) = ((refl, omega arith), AllByRecursion-weaker (IsInRow y (x + 1)) (IsInRow y x) _ (λ q h. (h.0, omega arith)) (row_in_row line y (x + 1) row))
+row_in_row line y x (b ∷ row) =
+    ((refl, omega arith), AllByRecursion-weaker (IsInRow y (x + 1)) (IsInRow y x) _ (λ q h. (h.0, omega arith)) (row_in_row line y (x + 1) row))
 
 row_in_order : (line y x : ℕ) (row : List ℕ) → IsStrictlySortedBy place_cmp (places_from line y x row)
 unfolding IsStrictlySortedBy
 row_in_order line y x [] = tt
-row_in_order line y x (b ∷ row) =
-    (AllByRecursion-weaker (IsInRow y (x + 1)) (λ q. place_cmp (record { line = line; y = y; x = x; byte = b }) q ≡ Less) _ (λ q h. right_of (record { line = line; y = y; x = x; byte = b }) q (sym h.0) (omega arith)) (row_in_row line y (x + 1) row), row_in_order line y (x + 1) row)
+row_in_order line y x (b ∷ row) = (
+  AllByRecursion-weaker (IsInRow y (x + 1)) (λ q. place_cmp (record { line = line; y = y; x = x; byte = b }) q ≡ Less) _
+      (λ q h. right_of (record { line = line; y = y; x = x; byte = b }) q (sym h.0) (omega arith)) (row_in_row line y (x + 1) row),
+  row_in_order line y (x + 1) row,
+)
 
 -- what holds of the places of some lines, by whether the first is a comment
-by_first_line : (P : List Place → Type 0) (n y : ℕ) (line : List ℕ) (parts : List (List ℕ)) → P (places_after (n + 1) y parts) → P (places_from n y 0 (strip_carriage_return line) ++ places_after (n + 1) (y + 1) parts) → P (places_after n y (line ∷ parts))
+by_first_line : (P : List Place → Type 0) (n y : ℕ) (line : List ℕ) (parts : List (List ℕ)) → P (places_after (n + 1) y parts)
+    → P (places_from n y 0 (strip_carriage_return line) ++ places_after (n + 1) (y + 1) parts) → P (places_after n y (line ∷ parts))
 by_first_line P n y line parts c r =
-    ⊎_elim (λ e. subst P (sym (places_after-cons_comment n y line parts e)) c) (λ e. subst P (sym (places_after-cons_row n y line parts e)) r) (cases_Bool (is_comment (strip_carriage_return line)))
+    ⊎_elim (λ e. subst P (sym (places_after-cons_comment n y line parts e)) c) (λ e. subst P (sym (places_after-cons_row n y line parts e)) r)
+    (cases_Bool (is_comment (strip_carriage_return line)))
 
 -- in row y or below it
 abbrev IsFromRow : ℕ → Place → Type 0
@@ -87,12 +94,13 @@ pub lines_in_order : (n y : ℕ) (parts : List (List ℕ)) → IsStrictlySortedB
 unfolding IsStrictlySortedBy places_after
 lines_in_order n y [] = tt
 lines_in_order n y (line ∷ parts) = by_first_line (IsStrictlySortedBy place_cmp) n y line parts (lines_in_order (n + 1) y parts)
-    (IsStrictlySortedBy-append place_cmp (places_from n y 0 (strip_carriage_return line)) (places_after (n + 1) (y + 1) parts) (row_in_order n y 0 (strip_carriage_return line)) (lines_in_order (n + 1) (y + 1) parts)
+    (IsStrictlySortedBy-append place_cmp (places_from n y 0 (strip_carriage_return line)) (places_after (n + 1) (y + 1) parts)
+    (row_in_order n y 0 (strip_carriage_return line)) (lines_in_order (n + 1) (y + 1) parts)
     (AllByRecursion-weaker (IsInRow y 0) (λ p. AllByRecursion (λ q. place_cmp p q ≡ Less) (places_after (n + 1) (y + 1) parts)) _
     (λ p h. AllByRecursion-weaker (IsFromRow (y + 1)) (λ q. place_cmp p q ≡ Less) _ (λ q k. below_row p q (omega arith)) (lines_from_row (n + 1) (y + 1) parts))
     (row_in_row n y 0 (strip_carriage_return line))))
 
-cell_on_plane : (p : Place) → (p.x < SIDE_LIMIT) × (p.y < SIDE_LIMIT) → on_plane (cell_of p) ≡ true
+cell_on_plane : (p : Place) → (p.x < side_limit) × (p.y < side_limit) → on_plane (cell_of p) ≡ true
 unfolding on_plane
 cell_on_plane p h = grind (arith, nat_tests)
 
@@ -102,11 +110,14 @@ live_cells-on_plane [] h = refl
 live_cells-on_plane (p ∷ ps) h =
     let rest = live_cells-on_plane ps (first_fault-cons p ps h).1 in
     let here = cell_on_plane p (in_limits p (first_fault-cons p ps h).0) in
-    elim (is_live p.byte) as (λ b. list_all on_plane (map cell_of (cond b (p ∷ filter (λ q. is_live q.byte) ps) (filter (λ q. is_live q.byte) ps))) ≡ true) [ true ↦ and_from _ _ here rest | false ↦ rest ]
+    elim (is_live p.byte) as (λ b. list_all on_plane (map cell_of (cond b (p ∷ filter (λ q. is_live q.byte) ps) (filter (λ q. is_live q.byte) ps)))
+    ≡ true) [ true ↦ and_from _ _ here rest | false ↦ rest ]
 
 pub IsPattern-live_cells : (text : List ℕ) → first_fault (places text) ≡ None → IsPattern (live_cells (places text))
 unfolding live_cells
 IsPattern-live_cells text h = record {
-  in_order = IsStrictlySortedBy-map cell_cmp cell_of _ (IsStrictlySortedBy-filter place_cmp (λ p. is_live p.byte) (places text) (subst (IsStrictlySortedBy place_cmp) (sym (places_are text)) (lines_in_order 1 0 (parts_of text))));
+  in_order = IsStrictlySortedBy-map cell_cmp cell_of _
+      (IsStrictlySortedBy-filter place_cmp (λ p. is_live p.byte) (places text)
+      (subst (IsStrictlySortedBy place_cmp) (sym (places_are text)) (lines_in_order 1 0 (parts_of text))));
   on_plane = live_cells-on_plane (places text) h;
 }

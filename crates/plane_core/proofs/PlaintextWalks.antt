@@ -1,5 +1,6 @@
 -- How a walk along cells in order meets the cells of a row.
-use Rattle.std.proofs.Common.{◌≡◌, ℕ, zero, suc, ℤ, pos, ◌+ℤ◌, ◌≤ℤ◌, ◌<ℤ◌, ◌+◌, ◌<◌, Bool, true, false, ◌||◌, List, [], ◌∷◌, length, take, drop, get_or, refl, sym, ap, subst, ◌∙◌, arith, ⊎_elim}
+use Rattle.std.proofs.Common.{◌≡◌, ℕ, zero, suc, ℤ, pos, ◌+ℤ◌, ◌≤ℤ◌, ◌<ℤ◌, ◌+◌, ◌<◌, Bool, true, false, ◌||◌, List}
+use Rattle.std.proofs.Common.{[], ◌∷◌, length, take, drop, get_or, refl, sym, ap, subst, ◌∙◌, arith, ⊎_elim}
 use Rattle.std.specs.List.{AllByRecursion, prefix_len}
 use Rattle.std.specs.declared.cmp.Ordering.TheVariants.{Less}
 use Rattle.std.specs.Ordering.{int_eq}
@@ -47,7 +48,8 @@ has-gap y x e z c cs h l =
 pub has-past : (y z : ℤ) (c : Cell) (cs : List Cell) → c.y ≡ y → c.x <ℤ z → has (c ∷ cs) (cell_at z y) ≡ has cs (cell_at z y)
 has-past y z c cs e l = ap (λ b. b || has cs (cell_at z y)) (apart_columns (cell_at z y) c (sym e) l)
 
-AllByRecursion-both : {X : Type 0} (P Q R : X → Type 0) (xs : List X) → ((x : X) → P x → Q x → R x) → AllByRecursion P xs → AllByRecursion Q xs → AllByRecursion R xs
+AllByRecursion-both : {X : Type 0} (P Q R : X → Type 0) (xs : List X) → ((x : X) → P x → Q x → R x) → AllByRecursion P xs → AllByRecursion Q xs
+    → AllByRecursion R xs
 AllByRecursion-both P Q R [] f h k = tt
 AllByRecursion-both P Q R (x ∷ xs) f h k = (f x h.0 k.0, AllByRecursion-both P Q R xs f h.1 k.1)
 
@@ -72,7 +74,8 @@ AllByRecursion-drop P (suc n) (x ∷ xs) h = AllByRecursion-drop P n xs h.1
 in_order-take : (n : ℕ) (cs : List Cell) → InOrder cs → InOrder (take n cs)
 in_order-take zero cs o = in_order-nil
 in_order-take (suc n) [] o = in_order-nil
-in_order-take (suc n) (c ∷ cs) o = in_order-cons c (take n cs) (AllByRecursion-take (λ d. cell_cmp c d ≡ Less) n cs (in_order-head c cs o)) (in_order-take n cs (in_order-tail c cs o))
+in_order-take (suc n) (c ∷ cs) o =
+    in_order-cons c (take n cs) (AllByRecursion-take (λ d. cell_cmp c d ≡ Less) n cs (in_order-head c cs o)) (in_order-take n cs (in_order-tail c cs o))
 
 in_order-drop : (n : ℕ) (cs : List Cell) → InOrder cs → InOrder (drop n cs)
 in_order-drop zero cs o = o
@@ -99,22 +102,28 @@ taken_in_row : (y : ℤ) (cs : List Cell) → AllByRecursion (λ c. c.y ≡ y) (
 taken_in_row y [] = tt
 taken_in_row y (c ∷ cs) =
     let P : ℕ → Type 0 = λ n. AllByRecursion (λ d. d.y ≡ y) (take n (c ∷ cs)) in
-    ⊎_elim (λ e. subst P (sym (len_in_row-here y c cs e)) (int_eq-true c.y y e, taken_in_row y cs)) (λ e. subst P (sym (len_in_row-below y c cs e)) tt) (cases_Bool (int_eq c.y y))
+    ⊎_elim (λ e. subst P (sym (len_in_row-here y c cs e)) (int_eq-true c.y y e, taken_in_row y cs))
+    (λ e. subst P (sym (len_in_row-below y c cs e)) tt) (cases_Bool (int_eq c.y y))
 
-left_below_row : (y : ℤ) (cs : List Cell) → InOrder cs → AllByRecursion (λ c. y ≤ℤ c.y) cs → AllByRecursion (λ c. (y +ℤ pos 1) ≤ℤ c.y) (drop (len_in_row y cs) cs)
+left_below_row : (y : ℤ) (cs : List Cell) → InOrder cs → AllByRecursion (λ c. y ≤ℤ c.y) cs
+    → AllByRecursion (λ c. (y +ℤ pos 1) ≤ℤ c.y) (drop (len_in_row y cs) cs)
 left_below_row y [] o h = tt
 left_below_row y (c ∷ cs) o h =
     let P : ℕ → Type 0 = λ n. AllByRecursion (λ d. (y +ℤ pos 1) ≤ℤ d.y) (drop n (c ∷ cs)) in
     ⊎_elim (λ e. subst P (sym (len_in_row-here y c cs e)) (left_below_row y cs (in_order-tail c cs o) h.1))
-    (λ e. subst P (sym (len_in_row-below y c cs e)) (let l = int_eq-above c.y y e h.0 in
-    (omega (arith, ints), AllByRecursion-weaker (λ d. cell_cmp c d ≡ Less) (λ d. (y +ℤ pos 1) ≤ℤ d.y) cs (λ d less. let m = no_row_above c d less in omega (arith, ints)) (in_order-head c cs o))))
+    (λ e. subst P (sym (len_in_row-below y c cs e)) (let l = int_eq-above c.y y e h.0 in (
+      omega (arith, ints),
+      AllByRecursion-weaker (λ d. cell_cmp c d ≡ Less) (λ d. (y +ℤ pos 1) ≤ℤ d.y) cs (λ d less. let m =
+          no_row_above c d less in omega (arith, ints)) (in_order-head c cs o),
+    )))
     (cases_Bool (int_eq c.y y))
 
 -- the cells of row y, and those below it, of what is ahead at row y
 pub IsRowAhead-taken : (y : ℤ) (b : Bounds) (cs : List Cell) → IsAhead y b cs → IsRowAhead y b.left (b.right +ℤ pos 1) (take (len_in_row y cs) cs)
 IsRowAhead-taken y b cs h = record {
   in_order = in_order-take (len_in_row y cs) cs h.in_order;
-  here = AllByRecursion-both (λ c. c.y ≡ y) (λ c. (b.left ≤ℤ c.x) × (c.x ≤ℤ b.right)) (λ c. (c.y ≡ y) × (b.left ≤ℤ c.x) × (c.x <ℤ (b.right +ℤ pos 1))) (take (len_in_row y cs) cs)
+  here = AllByRecursion-both (λ c. c.y ≡ y) (λ c. (b.left ≤ℤ c.x) × (c.x ≤ℤ b.right)) (λ c. (c.y ≡ y) × (b.left ≤ℤ c.x) × (c.x <ℤ (b.right +ℤ pos 1)))
+      (take (len_in_row y cs) cs)
       (λ c e w. (e, w.0, omega (arith, ints)))
       (taken_in_row y cs) (AllByRecursion-take (λ c. (b.left ≤ℤ c.x) × (c.x ≤ℤ b.right)) (len_in_row y cs) cs h.columns);
 }
@@ -139,19 +148,26 @@ pub has-taken : (y : ℤ) (b : Bounds) (cs : List Cell) → IsAhead y b cs → (
 has-taken y b cs h x =
     let n = len_in_row y cs in
     let none : has (drop n cs) (cell_at x y) ≡ false =
-    has-none (cell_at x y) (drop n cs) (AllByRecursion-weaker (λ d. (y +ℤ pos 1) ≤ℤ d.y) (λ d. same_cell (cell_at x y) d ≡ false) (drop n cs) (λ d l. apart_rows (cell_at x y) d (omega (arith, ints))) (left_below_row y cs h.in_order h.rows)) in
-    ap (λ ds. has ds (cell_at x y)) (sym (take-append-drop n cs)) ∙ has-append (take n cs) (drop n cs) (cell_at x y) ∙ ap (λ v. has (take n cs) (cell_at x y) || v) none ∙ or-false (has (take n cs) (cell_at x y))
+    has-none (cell_at x y) (drop n cs)
+    (AllByRecursion-weaker (λ d. (y +ℤ pos 1) ≤ℤ d.y) (λ d. same_cell (cell_at x y) d ≡ false) (drop n cs)
+    (λ d l. apart_rows (cell_at x y) d (omega (arith, ints))) (left_below_row y cs h.in_order h.rows)) in
+    ap (λ ds. has ds (cell_at x y)) (sym (take-append-drop n cs)) ∙ has-append (take n cs) (drop n cs) (cell_at x y)
+    ∙ ap (λ v. has (take n cs) (cell_at x y) || v) none ∙ or-false (has (take n cs) (cell_at x y))
 
 -- and a cell of a row below is among the others
 pub has-left : (y : ℤ) (cs : List Cell) (x z : ℤ) → y <ℤ z → has cs (cell_at x z) ≡ has (drop (len_in_row y cs) cs) (cell_at x z)
 has-left y cs x z l =
     let n = len_in_row y cs in
     let none : has (take n cs) (cell_at x z) ≡ false =
-    has-none (cell_at x z) (take n cs) (AllByRecursion-weaker (λ d. d.y ≡ y) (λ d. same_cell (cell_at x z) d ≡ false) (take n cs) (λ d e. apart_rows_down (cell_at x z) d (omega (arith, ints))) (taken_in_row y cs)) in
-    ap (λ ds. has ds (cell_at x z)) (sym (take-append-drop n cs)) ∙ has-append (take n cs) (drop n cs) (cell_at x z) ∙ ap (λ v. v || has (drop n cs) (cell_at x z)) none
+    has-none (cell_at x z) (take n cs)
+    (AllByRecursion-weaker (λ d. d.y ≡ y) (λ d. same_cell (cell_at x z) d ≡ false) (take n cs)
+    (λ d e. apart_rows_down (cell_at x z) d (omega (arith, ints))) (taken_in_row y cs)) in
+    ap (λ ds. has ds (cell_at x z)) (sym (take-append-drop n cs)) ∙ has-append (take n cs) (drop n cs) (cell_at x z)
+    ∙ ap (λ v. v || has (drop n cs) (cell_at x z)) none
 
 -- the part of a row that a walk has before it, with its first cell
-pub IsRowAhead-at : (y x e : ℤ) (row : List Cell) (i : ℕ) (d : Cell) → i < length row → IsRowAhead y x e (drop i row) → IsRowAhead y x e (get_or row i d ∷ drop (i + 1) row)
+pub IsRowAhead-at : (y x e : ℤ) (row : List Cell) (i : ℕ) (d : Cell) → i < length row → IsRowAhead y x e (drop i row)
+    → IsRowAhead y x e (get_or row i d ∷ drop (i + 1) row)
 IsRowAhead-at y x e row i d l h = subst (IsRowAhead y x e) (drop_more row i d l) h
 
 -- what a loop's test says

@@ -1,5 +1,6 @@
 -- What a text says as a rule: it is spelled so, what is spelled so is read, and a fault is the first.
-use Rattle.std.proofs.Common.{◌≡◌, ◌≢◌, ◌<◌, ◌≤◌, ◌+◌, ◌-◌, ◌==◌, ℕ, zero, suc, Bool, true, false, List, [], ◌∷◌, ◌++◌, length, take, drop, refl, sym, ◌∙◌, ap, subst, arith, append_assoc, append-nil, length-append, length-drop, codes, Result, Ok, Err, IfOk}
+use Rattle.std.proofs.Common.{◌≡◌, ◌≢◌, ◌<◌, ◌≤◌, ◌+◌, ◌-◌, ◌==◌, ℕ, zero, suc, Bool, true, false, List, [], ◌∷◌, ◌++◌, length, take, drop, refl}
+use Rattle.std.proofs.Common.{sym, ◌∙◌, ap, subst, arith, append_assoc, append-nil, length-append, length-drop, codes, Result, Ok, Err, IfOk}
 use Rattle.std.proofs.lemmas.List.{take_at}
 use Rattle.std.proofs.Math.Seq.{take-length}
 use Rattle.std.proofs.lemmas.Slice.Eq.{starts_is}
@@ -8,9 +9,9 @@ use Rattle.plane_core.specs.declared.rule.RuleError.{RuleError}
 use Rattle.plane_core.specs.declared.rule.RuleError.TheVariants.{BadRule, BirthZero}
 use Rattle.plane_core.specs.Rules.{Numbers, IsRule, BeginsRule, IsFirstFault, Reading, with_answer, digits, rule_text, numbers_at, begins, fault_at, rule_read}
 use Rattle.plane_core.proofs.OutLemmas.{take-drop-rest}
-use Rattle.plane_core.proofs.ReadingLemmas.{numbers_at-hit, numbers_at-miss}
+use Rattle.plane_core.proofs.RuleNumbers.{numbers_at-hit, numbers_at-miss}
 
--- a text that begins with a byte is that byte and what is behind it
+-- a text that begins with a byte is that byte and what is after it
 pub begins-true : (text : List ℕ) (d : ℕ) → begins text (d ∷ []) ≡ true → text ≡ d ∷ drop 1 text
 begins-true text d h = (starts_is Decides-eqb text (d ∷ []) (begins text (d ∷ [])) refl).0 h
 
@@ -51,13 +52,14 @@ length-numbers_at (suc k) n text =
     numbers_at-cases (λ read. length read.answers ≡ suc k) k n text
     (λ h. ap (λ (m : ℕ). suc m) (length-numbers_at k (n + 1) (drop 1 text))) (λ h. ap (λ (m : ℕ). suc m) (length-numbers_at k (n + 1) text))
 
--- How far numbers are read depends on nothing past the first byte behind them.
+-- How far numbers are read depends on nothing past the first byte after them.
 pub numbers_at-other_rest : (k n : ℕ) (text : List ℕ) (c : ℕ) (cs more : List ℕ) → (numbers_at k n text).rest ≡ c ∷ cs
     → numbers_at k n (digits n (numbers_at k n text).answers ++ c ∷ more) ≡ record { answers = (numbers_at k n text).answers; rest = c ∷ more }
 unfolding digits numbers_at
 numbers_at-other_rest zero n text c cs more = λ e. refl
 numbers_at-other_rest (suc k) n text c cs more =
-    numbers_at-cases (λ read. read.rest ≡ c ∷ cs → numbers_at (suc k) n (digits n read.answers ++ c ∷ more) ≡ record { answers = read.answers; rest = c ∷ more }) k n text
+    numbers_at-cases (λ read. read.rest ≡ c ∷ cs
+    → numbers_at (suc k) n (digits n read.answers ++ c ∷ more) ≡ record { answers = read.answers; rest = c ∷ more }) k n text
     (λ h rest.
     let front = digits (n + 1) (numbers_at k (n + 1) (drop 1 text)).answers in
     numbers_at-hit k n ((48 + n) ∷ (front ++ c ∷ more)) (begins-same (48 + n) (front ++ c ∷ more))
@@ -81,14 +83,17 @@ pub IsPastDigits-s : (more : List ℕ) → IsPastDigits (115 ∷ more)
 IsPastDigits-s more = record { past = λ n h. let ne : 115 ≢ 48 + n = omega arith in begins-other 115 (48 + n) more ne }
 
 -- where digits of greater numbers follow, a number's own doesn't
-pub begins-digits : (n m : ℕ) (answers : List Bool) (rest : List ℕ) → n < m → n < 10 → IsPastDigits rest → begins (digits m answers ++ rest) ((48 + n) ∷ []) ≡ false
+pub begins-digits : (n m : ℕ) (answers : List Bool) (rest : List ℕ) → n < m → n < 10 → IsPastDigits rest
+    → begins (digits m answers ++ rest) ((48 + n) ∷ []) ≡ false
 unfolding digits
 begins-digits n m [] rest h small past = past.past n small
-begins-digits n m (true ∷ answers) rest h small past = let ne : 48 + m ≢ 48 + n = omega arith in begins-other (48 + m) (48 + n) (digits (m + 1) answers ++ rest) ne
+begins-digits n m (true ∷ answers) rest h small past = let ne : 48 + m ≢ 48 + n =
+    omega arith in begins-other (48 + m) (48 + n) (digits (m + 1) answers ++ rest) ne
 begins-digits n m (false ∷ answers) rest h small past = begins-digits n (m + 1) answers rest (omega arith) small past
 
 -- what is spelled so is read, whatever follows that is no digit
-pub numbers_at-digits : (k n : ℕ) (answers : List Bool) (rest : List ℕ) → length answers ≡ k → k + n ≤ 10 → IsPastDigits rest → numbers_at k n (digits n answers ++ rest) ≡ record { answers = answers; rest = rest }
+pub numbers_at-digits : (k n : ℕ) (answers : List Bool) (rest : List ℕ) → length answers ≡ k → k + n ≤ 10 → IsPastDigits rest
+    → numbers_at k n (digits n answers ++ rest) ≡ record { answers = answers; rest = rest }
 unfolding digits numbers_at
 numbers_at-digits zero n [] rest len room past = refl
 numbers_at-digits zero n (a ∷ answers) rest len room past = absurd (omega arith)
@@ -105,7 +110,7 @@ length-rest k n text =
     let e : length (digits n (numbers_at k n text).answers ++ (numbers_at k n text).rest) ≡ length text = ap length (digits-numbers_at k n text) in
     omega (arith, e, length-append (digits n (numbers_at k n text).answers) (numbers_at k n text).rest)
 
--- the numbers behind the letters
+-- the numbers after the letters
 abbrev pub births_in : List ℕ → Reading
 births_in text = numbers_at 8 1 (drop 1 text)
 
@@ -132,7 +137,8 @@ unfolding rule_read
 rule_read-more text b no_zero s end = rw (b, no_zero, s, end) refl
 
 pub rule_read-all : (text : List ℕ) → begins text (codes "b") ≡ true → begins text (codes "b0") ≡ false → begins (births_in text).rest (codes "s") ≡ true
-    → (length (survivals_in text).rest == 0) ≡ true → rule_read text ≡ Ok (record { births = (births_in text).answers; survivals = (survivals_in text).answers })
+    → (length (survivals_in text).rest == 0) ≡ true
+    → rule_read text ≡ Ok (record { births = (births_in text).answers; survivals = (survivals_in text).answers })
 unfolding rule_read
 rule_read-all text b no_zero s end = rw (b, no_zero, s, end) refl
 
@@ -175,7 +181,7 @@ rule_read-rule_text rule whole =
     let end : (length (survivals_in text).rest == 0) ≡ true = ap (λ (r : Reading). length r.rest == 0) survivals in
     rule_read-all text (begins-same 98 (digits 1 rule.births ++ 115 ∷ behind)) no_zero s end ∙ rw (survivals, births) refl
 
--- Where the front begins a rule's text and no longer front does, the first fault is behind it.
+-- Where the front begins a rule's text and no longer front does, the first fault is after it.
 pub IsFirstFault-behind : (front rest : List ℕ) → BeginsRule front → ((c : ℕ) (cs : List ℕ) → rest ≡ c ∷ cs → BeginsRule (front ++ c ∷ []) → ⊥)
     → IsFirstFault (front ++ rest) (length (front ++ rest) - length rest)
 IsFirstFault-behind front [] begun stops =
@@ -211,12 +217,17 @@ BeginsRule-nil =
 pub BeginsRule-births : (births : List Bool) → length births ≡ 8 → BeginsRule (98 ∷ digits 1 births)
 unfolding rule_text digits
 BeginsRule-births births len =
-    record { rule = record { births = births; survivals = no_survivals }; rest = codes "s"; is_rule = record { births = len; survivals = refl }; spelled = refl }
+    record {
+      rule = record { births = births; survivals = no_survivals };
+      rest = codes "s";
+      is_rule = record { births = len; survivals = refl };
+      spelled = refl;
+    }
 
 pub BeginsRule-rule_text : (rule : Numbers) → IsRule rule → BeginsRule (rule_text rule)
 BeginsRule-rule_text rule whole = record { rule = rule; rest = []; is_rule = whole; spelled = sym (append-nil (rule_text rule)) }
 
--- what stands behind the births' digits in a rule's text that has a front in common with the text
+-- what stands after the births' digits in a rule's text that has a front in common with the text
 pub births-shared : (text : List ℕ) (c : ℕ) (cs more : List ℕ) (rule : Numbers) → IsRule rule → (births_in text).rest ≡ c ∷ cs
     → rule_text rule ≡ 98 ∷ (digits 1 (births_in text).answers ++ c ∷ more) → 115 ∷ digits 0 rule.survivals ≡ c ∷ more
 unfolding rule_text
@@ -227,7 +238,7 @@ births-shared text c cs more rule whole rest spelled =
     (sym (numbers_at-digits 8 1 rule.births behind whole.births (omega arith) (IsPastDigits-s (digits 0 rule.survivals)))
     ∙ ap (numbers_at 8 1) same ∙ numbers_at-other_rest 8 1 (drop 1 text) c cs more rest)
 
--- the same behind the survivals' digits, where a rule's text has nothing
+-- the same after the survivals' digits, where a rule's text has nothing
 pub survivals-shared : (text : List ℕ) (c : ℕ) (cs more : List ℕ) (rule : Numbers) → IsRule rule → (survivals_in text).rest ≡ c ∷ cs
     → digits 0 rule.survivals ≡ digits 0 (survivals_in text).answers ++ c ∷ more → [] ≡ c ∷ more
 survivals-shared text c cs more rule whole rest same =
@@ -254,7 +265,8 @@ Says_no_b text h = (
     go : (text : List ℕ) → begins text (codes "b") ≡ false → 0 < length text → (rule : Numbers) (more : List ℕ) → rule_text rule ≡ take 1 text ++ more → ⊥
     go [] h less rule more e = omega arith
     go (c ∷ cs) h less rule more e =
-        let same : begins (rule_text rule) (codes "b") ≡ begins (c ∷ cs) (codes "b") = ap (λ (xs : List ℕ). begins xs (codes "b")) e ∙ begins-same_front [] c 98 more cs in
+        let same : begins (rule_text rule) (codes "b") ≡ begins (c ∷ cs) (codes "b") =
+        ap (λ (xs : List ℕ). begins xs (codes "b")) e ∙ begins-same_front [] c 98 more cs in
         let yes : begins (rule_text rule) (codes "b") ≡ true = begins-same 98 (digits 1 rule.births ++ (115 ∷ digits 0 rule.survivals)) in
         let wrong : true ≡ false = sym yes ∙ same ∙ h in
         cc
@@ -273,7 +285,8 @@ Says_no_s text b no_zero no_s =
           let more = further.rest in
           let spelled : rule_text further.rule ≡ 98 ∷ (digits 1 births.answers ++ c ∷ more) = further.spelled ∙ append_assoc front (c ∷ []) more in
           let shared = births-shared text c cs more further.rule further.is_rule rest spelled in
-          let yes : begins (c ∷ more) (codes "s") ≡ true = ap (λ (xs : List ℕ). begins xs (codes "s")) (sym shared) ∙ begins-same 115 (digits 0 further.rule.survivals) in
+          let yes : begins (c ∷ more) (codes "s") ≡ true = ap (λ (xs : List ℕ). begins xs (codes "s")) (sym shared)
+          ∙ begins-same 115 (digits 0 further.rule.survivals) in
           let no : begins (c ∷ more) (codes "s") ≡ false = begins-same_front [] c 115 more cs ∙ ap (λ (xs : List ℕ). begins xs (codes "s")) (sym rest) ∙ no_s in
           let wrong : true ≡ false = sym yes ∙ no in
           cc)),
@@ -284,7 +297,8 @@ Says_no_s text b no_zero no_s =
 abbrev pub rule_in : List ℕ → Numbers
 rule_in text = record { births = (births_in text).answers; survivals = (survivals_in text).answers }
 
-pub rule_text-rule_in : (text : List ℕ) → begins text (codes "b") ≡ true → begins (births_in text).rest (codes "s") ≡ true → rule_text (rule_in text) ++ (survivals_in text).rest ≡ text
+pub rule_text-rule_in : (text : List ℕ) → begins text (codes "b") ≡ true → begins (births_in text).rest (codes "s") ≡ true
+    → rule_text (rule_in text) ++ (survivals_in text).rest ≡ text
 unfolding rule_text
 rule_text-rule_in text b s =
     let births = births_in text in
@@ -292,7 +306,8 @@ rule_text-rule_in text b s =
     let d = digits 1 births.answers in
     let tail : 115 ∷ (digits 0 survivals.answers ++ survivals.rest) ≡ births.rest =
     ap (λ (xs : List ℕ). 115 ∷ xs) (digits-numbers_at 9 0 (drop 1 births.rest)) ∙ sym (begins-true births.rest 115 s) in
-    ap (λ (xs : List ℕ). 98 ∷ xs) (append_assoc d (115 ∷ digits 0 survivals.answers) survivals.rest ∙ ap (λ (xs : List ℕ). d ++ xs) tail ∙ digits-numbers_at 8 1 (drop 1 text))
+    ap (λ (xs : List ℕ). 98 ∷ xs) (append_assoc d (115 ∷ digits 0 survivals.answers) survivals.rest ∙ ap (λ (xs : List ℕ). d ++ xs) tail
+    ∙ digits-numbers_at 8 1 (drop 1 text))
     ∙ sym (begins-true text 98 b)
 
 pub IsRule-rule_in : (text : List ℕ) → IsRule (rule_in text)
@@ -322,10 +337,14 @@ Says_more text b no_zero s =
       no_zero,
     )
 
-pub Says_all : (text : List ℕ) → begins text (codes "b") ≡ true → begins (births_in text).rest (codes "s") ≡ true → (length (survivals_in text).rest == 0) ≡ true → Says text (Ok (rule_in text))
+pub Says_all : (text : List ℕ) → begins text (codes "b") ≡ true → begins (births_in text).rest (codes "s") ≡ true
+    → (length (survivals_in text).rest == 0) ≡ true → Says text (Ok (rule_in text))
 Says_all text b s end =
-    let none : (survivals_in text).rest ≡ [] = empty (survivals_in text).rest end in
-    (IsRule-rule_in text, sym (append-nil (rule_text (rule_in text))) ∙ ap (λ (xs : List ℕ). rule_text (rule_in text) ++ xs) (sym none) ∙ rule_text-rule_in text b s)
+    let none : (survivals_in text).rest ≡ [] = empty (survivals_in text).rest end in (
+      IsRule-rule_in text,
+      sym (append-nil (rule_text (rule_in text))) ∙ ap (λ (xs : List ℕ). rule_text (rule_in text) ++ xs) (sym none)
+          ∙ rule_text-rule_in text b s,
+    )
   where
     empty : (xs : List ℕ) → (length xs == 0) ≡ true → xs ≡ []
     empty [] h = refl
@@ -334,7 +353,8 @@ Says_all text b s end =
 -- every outcome says what it should
 pub Says_rule_read : (text : List ℕ) → Says text (rule_read text)
 Says_rule_read text =
-    go (begins text (codes "b")) (begins text (codes "b0")) (begins (births_in text).rest (codes "s")) (length (survivals_in text).rest == 0) refl refl refl refl
+    go (begins text (codes "b")) (begins text (codes "b0")) (begins (births_in text).rest (codes "s")) (length (survivals_in text).rest == 0) refl
+    refl refl refl
   where
     go : (b zero_first s end : Bool) → begins text (codes "b") ≡ b → begins text (codes "b0") ≡ zero_first → begins (births_in text).rest (codes "s") ≡ s
         → (length (survivals_in text).rest == 0) ≡ end → Says text (rule_read text)
@@ -353,7 +373,7 @@ rule_text-rule_read text = spelled (rule_read text) (Says_rule_read text) where
 pub IsFirstFault-rule_read : (text : List ℕ) (place : ℕ) → rule_read text ≡ Err (BadRule place) → IsFirstFault text place
 IsFirstFault-rule_read text place e = let says = subst (Says text) e (Says_rule_read text) in says.0
 
--- the birth on zero neighbours is told exactly where the text begins with it
+-- the error is a birth on zero neighbours exactly if the text begins with one
 pub begins-rule_read : (text : List ℕ) → rule_read text ≡ Err BirthZero → begins text (codes "b0") ≡ true
 begins-rule_read text e = subst (Says text) e (Says_rule_read text)
 

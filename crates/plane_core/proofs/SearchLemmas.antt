@@ -1,5 +1,6 @@
 -- Looking for a cell in a list in order, and cells of the plane.
-use Rattle.std.proofs.Common.{◌≡◌, ℕ, ◌+◌, ◌≤◌, Bool, true, false, not, List, [], ◌∷◌, arith, cond, refl, ap, ◌∙◌, sym, subst, inl, inr, length, position, Some, None, Result, Ok, Err, is_ok, get_or, nat_lt, ◌||◌, ◌&&◌}
+use Rattle.std.proofs.Common.{◌≡◌, ℕ, ◌+◌, ◌≤◌, Bool, true, false, not, List, [], ◌∷◌, arith, cond, refl, ap, ◌∙◌, sym, subst}
+use Rattle.std.proofs.Common.{inl, inr, length, position, Some, None, Result, Ok, Err, is_ok, get_or, nat_lt, ◌||◌, ◌&&◌}
 use Rattle.std.specs.List.{dedup, list_all, Contains, prefix_len}
 use Rattle.std.specs.List.Sorted.{IsSorted, IsSortedBy, IsBinarySearchResult, IsSearchInRange, IsPermutation}
 use Rattle.std.specs.Cmp.{IsEquivalence, eq_by_cmp_equiv, tied_itself}
@@ -17,7 +18,9 @@ use Rattle.plane_core.proofs.SetLemmas.{Contains-has, has-Contains, has-head, ha
 
 -- a list in order is in order by the test that a search makes
 in_order-sorted : (S : List Cell) → InOrder S → IsSortedBy (λ a b. is_lt (cell_cmp a b)) S
-in_order-sorted S o k d low high = go (cell_cmp (get_or S (k + 1) d) (get_or S k d)) (sym (Less-from_sorted cell_cmp S k (k + 1) d o (omega arith) high) ∙ cell_cmp_total.antisymm (get_or S k d) (get_or S (k + 1) d))
+in_order-sorted S o k d low high =
+    go (cell_cmp (get_or S (k + 1) d) (get_or S k d)) (sym (Less-from_sorted cell_cmp S k (k + 1) d o (omega arith) high)
+    ∙ cell_cmp_total.antisymm (get_or S k d) (get_or S (k + 1) d))
   where
     go : (r : Ordering) → Less ≡ ordering_reverse r → is_lt r ≡ false
     go Less e = cc
@@ -25,7 +28,8 @@ in_order-sorted S o k d low high = go (cell_cmp (get_or S (k + 1) d) (get_or S k
     go Greater e = refl
 
 -- what a search in a list in order finds is whether the cell is a member
-pub searched-has : (S : List Cell) (c : Cell) (r : Result ℕ ℕ) → InOrder S → IsSearchInRange r (length S) → IsBinarySearchResult (λ d. cell_cmp d c) S r → is_ok r ≡ has S c
+pub searched-has : (S : List Cell) (c : Cell) (r : Result ℕ ℕ) → InOrder S → IsSearchInRange r (length S)
+    → IsBinarySearchResult (λ d. cell_cmp d c) S r → is_ok r ≡ has S c
 searched-has S c (Ok i) o low found = sym (Contains-has S c (i, low, cell_cmp-same (get_or S i c) c (found c)))
 searched-has S c (Err i) o low found = elim (cases_Bool (has S c)) [ inl found_it ↦ absurd (absent (has-Contains S c found_it)) | inr none ↦ sym none ]
   where
@@ -47,7 +51,8 @@ searched-has S c (Err i) o low found = elim (cases_Bool (has S c)) [ inl found_i
 pub position-none : (p : Cell → Bool) (cs : List Cell) → position (λ c. not (p c)) cs ≡ None → list_all p cs ≡ true
 position-none p cs e = reached p cs (whole (nat_lt (prefix_len (λ c. not (not (p c))) cs) (length cs)) refl e)
   where
-    whole : (b : Bool) → nat_lt (prefix_len (λ c. not (not (p c))) cs) (length cs) ≡ b → cond b (Some (prefix_len (λ c. not (not (p c))) cs)) None ≡ None → length cs ≤ prefix_len (λ c. not (not (p c))) cs
+    whole : (b : Bool) → nat_lt (prefix_len (λ c. not (not (p c))) cs) (length cs) ≡ b
+        → cond b (Some (prefix_len (λ c. not (not (p c))) cs)) None ≡ None → length cs ≤ prefix_len (λ c. not (not (p c))) cs
     whole true is e = cc
     whole false is e = ltb-false _ _ is
 
@@ -55,7 +60,8 @@ position-none p cs e = reached p cs (whole (nat_lt (prefix_len (λ c. not (not (
     reached q [] h = refl
     reached q (d ∷ ds) h = head (q d) h (reached q ds)
       where
-        head : (b : Bool) → length (d ∷ ds) ≤ cond (not (not b)) (1 + prefix_len (λ c. not (not (q c))) ds) 0 → (length ds ≤ prefix_len (λ c. not (not (q c))) ds → list_all q ds ≡ true) → (b && list_all q ds) ≡ true
+        head : (b : Bool) → length (d ∷ ds) ≤ cond (not (not b)) (1 + prefix_len (λ c. not (not (q c))) ds) 0
+            → (length ds ≤ prefix_len (λ c. not (not (q c))) ds → list_all q ds ≡ true) → (b && list_all q ds) ≡ true
         head true h ih = ih (omega arith)
         head false h ih = absurd (omega arith)
 
@@ -85,7 +91,8 @@ is_pattern-set_of cs none = record {
 }
 
 -- sorted and freed of doubles, a list is the set of its cells
-pub deduped-set_of : (same : Cell → Cell → Bool) (cs ds : List Cell) → ((a b : Cell) → same a b ≡ same_cell a b) → IsPermutation cs ds → IsSorted cell_cmp ds → dedup same ds ≡ set_of cs
+pub deduped-set_of : (same : Cell → Cell → Bool) (cs ds : List Cell) → ((a b : Cell) → same a b ≡ same_cell a b) → IsPermutation cs ds
+    → IsSorted cell_cmp ds → dedup same ds ≡ set_of cs
 deduped-set_of same cs ds is moved sorted =
     is_set_of (dedup same ds) cs
     (IsStrictlySortedBy-dedup cell_cmp_total is ds sorted)

@@ -39,7 +39,7 @@ pub before-trans : (b c : Cell) (ds : List Cell) → cell_cmp b c ≡ Less → I
 before-trans b c [] e h = tt
 before-trans b c (d ∷ ds) e h = (cell_cmp_total.trans b c d e h.0, before-trans b c ds e h.1)
 
--- a cell of a longer list is its head or stands behind it
+-- a cell of a longer list is its head or stands after it
 pub has-cases : (d : Cell) (ds : List Cell) (c : Cell) → has (d ∷ ds) c ≡ true → (c ≡ d) ⊎ (has ds c ≡ true)
 has-cases d ds c e = elim (or_cases (same_cell c d) (has ds c) e) [ inl s ↦ inl (same_cell-same c d s) | inr s ↦ inr s ]
 
@@ -187,7 +187,11 @@ has-filter p (c ∷ cs) x = go (p c) refl (has-filter p cs x)
 
 pub Contains-has : (cs : List Cell) (c : Cell) → Contains cs c → has cs c ≡ true
 Contains-has [] c h = absurd (omega (arith, h.1))
-Contains-has (d ∷ ds) c h = elim (Contains-append_cases (d ∷ []) ds c h) [ inl one ↦ is_head (Contains-push_cases [] d c one) | inr more ↦ or_right (same_cell c d) (has ds c) (Contains-has ds c more) ]
+Contains-has (d ∷ ds) c h = elim (Contains-append_cases (d ∷ []) ds c h) [
+  | inl one ↦ is_head (Contains-push_cases [] d c one)
+  | inr more ↦ or_right
+      (same_cell c d) (has ds c) (Contains-has ds c more)
+]
   where
     is_head : Contains [] c ⊎ (d ≡ c) → has (d ∷ ds) c ≡ true
     is_head (inl none) = absurd (omega (arith, none.1))
@@ -195,8 +199,14 @@ Contains-has (d ∷ ds) c h = elim (Contains-append_cases (d ∷ []) ds c h) [ i
 
 pub has-Contains : (cs : List Cell) (c : Cell) → has cs c ≡ true → Contains cs c
 has-Contains [] c h = absurd (false≢true h)
-has-Contains (d ∷ ds) c h = elim (has-cases d ds c h) [ inl same ↦ rw same (Contains-append_left (d ∷ []) ds d (Contains-push [] d)) | inr more ↦ Contains-append_right (d ∷ []) ds c (has-Contains ds c more) ]
+has-Contains (d ∷ ds) c h = elim (has-cases d ds c h) [
+  | inl same ↦ rw same (Contains-append_left (d ∷ []) ds d (Contains-push [] d))
+  | inr
+      more ↦ Contains-append_right (d ∷ []) ds c (has-Contains ds c more)
+]
 
 -- lists with the same elements have the same members
-pub same_members : (cs ds : List Cell) → ((c : Cell) → Contains cs c → Contains ds c) → ((c : Cell) → Contains ds c → Contains cs c) → (c : Cell) → has cs c ≡ has ds c
-same_members cs ds f g c = both_true (has cs c) (has ds c) (λ e. Contains-has ds c (f c (has-Contains cs c e))) (λ e. Contains-has cs c (g c (has-Contains ds c e)))
+pub same_members : (cs ds : List Cell) → ((c : Cell) → Contains cs c → Contains ds c) → ((c : Cell) → Contains ds c → Contains cs c) → (c : Cell)
+    → has cs c ≡ has ds c
+same_members cs ds f g c = both_true (has cs c) (has ds c) (λ e. Contains-has ds c (f c (has-Contains cs c e)))
+    (λ e. Contains-has cs c (g c (has-Contains ds c e)))

@@ -1,5 +1,6 @@
 -- Three lists of tallies, merged one cell at a time.
-use Rattle.std.proofs.Common.{◌≡◌, ℕ, ◌+◌, ◌<◌, ◌≤◌, Bool, true, false, ◌||◌, ◌&&◌, List, [], ◌∷◌, ◌++◌, arith, cond, refl, ap, ◌∙◌, sym, inl, inr, ◌⊎◌, length, Option, Some, None, get_or, zero, suc}
+use Rattle.std.proofs.Common.{◌≡◌, ℕ, ◌+◌, ◌<◌, ◌≤◌, Bool, true, false, ◌||◌, ◌&&◌, List, [], ◌∷◌, ◌++◌, arith, cond}
+use Rattle.std.proofs.Common.{refl, ap, ◌∙◌, sym, inl, inr, ◌⊎◌, length, Option, Some, None, get_or, zero, suc}
 use Rattle.std.specs.List.{list_all, AllByRecursion}
 use Rattle.std.specs.Ordering.{is_eq, match_ordering}
 use Rattle.std.specs.Cmp.{tied_itself}
@@ -13,7 +14,7 @@ use Rattle.plane_core.specs.Tallies.{cells_of, total, alive_at, count_first, ali
 use Rattle.plane_core.proofs.CellLemmas.{cell_cmp_total, cell_cmp-same, same_cell-same, same_cell-itself}
 use Rattle.plane_core.proofs.SetLemmas.{IsBefore, in_order-head, in_order-tail, in_order-cons, in_order-nil, before-trans, greater_turned}
 
--- what is counted in two lists, one behind the other
+-- what is counted in two lists, one after the other
 pub total-append : (ts us : List Tally) (x : Cell) → total (ts ++ us) x ≡ total ts x + total us x
 total-append [] us x = omega arith
 total-append (t ∷ ts) us x = omega (arith, total-append ts us x)
@@ -24,7 +25,8 @@ or_assoc false b c = refl
 
 pub alive_at-append : (ts us : List Tally) (x : Cell) → alive_at (ts ++ us) x ≡ (alive_at ts x || alive_at us x)
 alive_at-append [] us x = refl
-alive_at-append (t ∷ ts) us x = ap (λ b. (same_cell x t.cell && t.alive) || b) (alive_at-append ts us x) ∙ sym (or_assoc (same_cell x t.cell && t.alive) (alive_at ts x) (alive_at us x))
+alive_at-append (t ∷ ts) us x = ap (λ b. (same_cell x t.cell && t.alive) || b) (alive_at-append ts us x)
+    ∙ sym (or_assoc (same_cell x t.cell && t.alive) (alive_at ts x) (alive_at us x))
 
 pub cells_of-append : (ts us : List Tally) → cells_of (ts ++ us) ≡ cells_of ts ++ cells_of us
 cells_of-append [] us = refl
@@ -35,17 +37,21 @@ pub total-rest_at : (c x : Cell) (ts : List Tally) → total ts x ≡ cond (same
 total-rest_at c x [] = elim (same_cell x c) as (λ b. 0 ≡ cond b 0 0 + 0) [ true ↦ refl | false ↦ refl ]
 total-rest_at c x (t ∷ ts) = go (same_cell c t.cell) refl
   where
-    go : (b : Bool) → same_cell c t.cell ≡ b → cond (same_cell x t.cell) t.count 0 + total ts x ≡ cond (same_cell x c) (cond b t.count 0) 0 + total (cond b ts (t ∷ ts)) x
+    go : (b : Bool) → same_cell c t.cell ≡ b
+        → cond (same_cell x t.cell) t.count 0 + total ts x ≡ cond (same_cell x c) (cond b t.count 0) 0 + total (cond b ts (t ∷ ts)) x
     go true is = rw (same_cell-same c t.cell is) refl
-    go false is = elim (same_cell x c) as (λ b. cond (same_cell x t.cell) t.count 0 + total ts x ≡ cond b 0 0 + (cond (same_cell x t.cell) t.count 0 + total ts x)) [ true ↦ omega arith | false ↦ omega arith ]
+    go false is = elim (same_cell x c) as (λ b. cond (same_cell x t.cell) t.count 0 + total ts x
+        ≡ cond b 0 0 + (cond (same_cell x t.cell) t.count 0 + total ts x)) [ true ↦ omega arith | false ↦ omega arith ]
 
 pub alive_at-rest_at : (c x : Cell) (ts : List Tally) → alive_at ts x ≡ ((same_cell x c && alive_first c ts) || alive_at (rest_at c ts) x)
 alive_at-rest_at c x [] = elim (same_cell x c) as (λ b. false ≡ ((b && false) || false)) [ true ↦ refl | false ↦ refl ]
 alive_at-rest_at c x (t ∷ ts) = go (same_cell c t.cell) refl
   where
-    go : (b : Bool) → same_cell c t.cell ≡ b → ((same_cell x t.cell && t.alive) || alive_at ts x) ≡ ((same_cell x c && (b && t.alive)) || alive_at (cond b ts (t ∷ ts)) x)
+    go : (b : Bool) → same_cell c t.cell ≡ b
+        → ((same_cell x t.cell && t.alive) || alive_at ts x) ≡ ((same_cell x c && (b && t.alive)) || alive_at (cond b ts (t ∷ ts)) x)
     go true is = rw (same_cell-same c t.cell is) refl
-    go false is = elim (same_cell x c) as (λ b. ((same_cell x t.cell && t.alive) || alive_at ts x) ≡ ((b && false) || ((same_cell x t.cell && t.alive) || alive_at ts x))) [ true ↦ refl | false ↦ refl ]
+    go false is = elim (same_cell x c) as (λ b. ((same_cell x t.cell && t.alive) || alive_at ts x)
+        ≡ ((b && false) || ((same_cell x t.cell && t.alive) || alive_at ts x))) [ true ↦ refl | false ↦ refl ]
 
 -- ---- order
 
@@ -80,19 +86,19 @@ all-rest_at : (P : Cell → Type 0) (c : Cell) (ts : List Tally) → AllByRecurs
 all-rest_at P c [] h = tt
 all-rest_at P c (t ∷ ts) h = elim (same_cell c t.cell) as (λ b. AllByRecursion P (cells_of (cond b ts (t ∷ ts)))) [ true ↦ h.1 | false ↦ h ]
 
-pub in_order-back : (cs ds : List Cell) → InOrder (cs ++ ds) → InOrder ds
-in_order-back [] ds o = o
-in_order-back (c ∷ cs) ds o = in_order-back cs ds (in_order-tail c (cs ++ ds) o)
-
--- c goes behind the sums, where one list goes on with c and no list goes on with an earlier cell
-pub push_order : (S : List Cell) (c : Cell) (ds : List Cell) (ts : List Tally) → InOrder (S ++ c ∷ ds) → InOrder (S ++ cells_of ts) → NoneEarlier c (cells_of ts) → InOrder (S ++ c ∷ cells_of (rest_at c ts))
+-- c goes after the sums, if one list goes on with c and no list goes on with an earlier cell
+pub push_order : (S : List Cell) (c : Cell) (ds : List Cell) (ts : List Tally) → InOrder (S ++ c ∷ ds) → InOrder (S ++ cells_of ts)
+    → NoneEarlier c (cells_of ts) → InOrder (S ++ c ∷ cells_of (rest_at c ts))
 push_order [] c ds ts one o none = rest_behind c ts none o
 push_order (s ∷ ss) c ds ts one o none =
     let P : Cell → Type 0 = λ d. cell_cmp s d ≡ Less in
     let head : IsBefore s (ss ++ c ∷ ds) = in_order-head s (ss ++ c ∷ ds) one in
     let listed : IsBefore s (ss ++ cells_of ts) = in_order-head s (ss ++ cells_of ts) o in
     in_order-cons s (ss ++ c ∷ cells_of (rest_at c ts))
-    (all-append P ss (c ∷ cells_of (rest_at c ts)) (all-front P ss (c ∷ ds) head) ((all-back P ss (c ∷ ds) head).0, all-rest_at P c ts (all-back P ss (cells_of ts) listed)))
+    (all-append P ss (c ∷ cells_of (rest_at c ts)) (all-front P ss (c ∷ ds) head) (
+      (all-back P ss (c ∷ ds) head).0,
+      all-rest_at P c ts (all-back P ss (cells_of ts) listed),
+    ))
     (push_order ss c ds ts (in_order-tail s (ss ++ c ∷ ds) one) (in_order-tail s (ss ++ cells_of ts) o) none)
 
 -- ---- the earliest cell

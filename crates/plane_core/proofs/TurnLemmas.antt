@@ -1,5 +1,6 @@
 -- Images of patterns in the eight orientations, at the corner.
-use Rattle.std.proofs.Common.{◌≡◌, ℕ, ℤ, ◌≤◌, neg_ℤ, unsigned_abs, Bool, true, ◌&&◌, List, [], ◌∷◌, arith, refl, ap, ◌∙◌, sym, subst, map, Option, Some, None, Any, leb}
+use Rattle.std.proofs.Common.{◌≡◌, ℕ, ℤ, ◌≤◌, neg_ℤ, unsigned_abs, Bool, true, ◌&&◌, List, [], ◌∷◌}
+use Rattle.std.proofs.Common.{arith, refl, ap, ◌∙◌, sym, subst, map, Option, Some, None, Any, leb}
 use Rattle.std.specs.List.{list_all}
 use Rattle.std.specs.Option.{option_map}
 use Rattle.std.specs.Ordering.{match_ordering}
@@ -10,12 +11,11 @@ use Rattle.std.proofs.lemmas.Int.{ints}
 use Rattle.std.proofs.lemmas.Bool.{and_parts, and_from, leb-true}
 use Rattle.plane_core.specs.declared.bounds.Bounds.{Bounds}
 use Rattle.plane_core.specs.declared.cell.Cell.{Cell}
-use Rattle.plane_core.specs.declared.cell.TheConstants.{BOUND}
 use Rattle.plane_core.specs.declared.orientation.Orientation.{Orientation}
 use Rattle.plane_core.specs.declared.orientation.Orientation.TheVariants.{Same, Quarter, Half, ThreeQuarter, Mirror, Flip, Diagonal, AntiDiagonal}
 use Rattle.plane_core.specs.declared.placement.Placement.{Placement}
 use Rattle.plane_core.specs.Bounds.{box_of, grown, shifted, cornered, IsLeastBox}
-use Rattle.plane_core.specs.Cells.{cell_cmp, moved_by, put, set_of, InOrder, on_plane, IsPattern}
+use Rattle.plane_core.specs.Cells.{plane_bound, cell_cmp, moved_by, put, set_of, InOrder, on_plane, IsPattern}
 use Rattle.plane_core.specs.Orientations.{turned_cell, landed, corner_placement, image, turned}
 use Rattle.plane_core.proofs.BoundsLemmas.{box_of-least, widened-swap, widened-pair, min_same, max_same, min_again, max_again}
 use Rattle.plane_core.proofs.CellLemmas.{cell_cmp-same, cell_cmp-moved}
@@ -27,7 +27,12 @@ use Rattle.plane_core.proofs.SetLemmas.{has-set_of, in_order-set_of, in_order-ni
 
 grown-twice : (c : Cell) (b : Option Bounds) → grown c (Some (grown c b)) ≡ grown c b
 grown-twice c None i = record { left = min_same c.x i; top = min_same c.y i; right = max_same c.x i; bottom = max_same c.y i }
-grown-twice c (Some b) i = record { left = min_again c.x b.left i; top = min_again c.y b.top i; right = max_again c.x b.right i; bottom = max_again c.y b.bottom i }
+grown-twice c (Some b) i = record {
+  left = min_again c.x b.left i;
+  top = min_again c.y b.top i;
+  right = max_again c.x b.right i;
+  bottom = max_again c.y b.bottom i;
+}
 
 grown-swap : (c d : Cell) (b : Option Bounds) → grown c (Some (grown d b)) ≡ grown d (Some (grown c b))
 grown-swap c d None = widened-pair c d
@@ -38,9 +43,12 @@ box_of-put : (c : Cell) (ds : List Cell) → box_of (put c ds) ≡ Some (grown c
 box_of-put c [] = refl
 box_of-put c (d ∷ ds) = go (cell_cmp c d) refl (box_of-put c ds)
   where
-    go : (r : Ordering) → cell_cmp c d ≡ r → box_of (put c ds) ≡ Some (grown c (box_of ds)) → box_of (match_ordering r (c ∷ d ∷ ds) (d ∷ ds) (d ∷ put c ds)) ≡ Some (grown c (Some (grown d (box_of ds))))
+    go : (r : Ordering) → cell_cmp c d ≡ r → box_of (put c ds) ≡ Some (grown c (box_of ds))
+        → box_of (match_ordering r (c ∷ d ∷ ds) (d ∷ ds) (d ∷ put c ds)) ≡ Some (grown c (Some (grown d (box_of ds))))
     go Less is ih = refl
-    go Equal is ih = ap Some (sym (subst (λ (x : Cell). grown x (Some (grown d (box_of ds))) ≡ grown d (box_of ds)) (sym (cell_cmp-same c d is)) (grown-twice d (box_of ds))))
+    go Equal is ih =
+        ap Some (sym (subst (λ (x : Cell). grown x (Some (grown d (box_of ds))) ≡ grown d (box_of ds)) (sym (cell_cmp-same c d is))
+        (grown-twice d (box_of ds))))
     go Greater is ih = ap (λ (b : Option Bounds). Some (grown d b)) ih ∙ ap Some (grown-swap d c (box_of ds))
 
 -- the set of a list has the box of the list
@@ -52,10 +60,13 @@ box_of-set_of (c ∷ cs) = box_of-put c (set_of cs) ∙ ap (λ (b : Option Bound
 
 put-moved : (dx dy : ℤ) (c : Cell) (ds : List Cell) → put (moved_by dx dy c) (shifted dx dy ds) ≡ shifted dx dy (put c ds)
 put-moved dx dy c [] = refl
-put-moved dx dy c (d ∷ ds) = ap (λ (r : Ordering). match_ordering r (moved_by dx dy c ∷ shifted dx dy (d ∷ ds)) (shifted dx dy (d ∷ ds)) (moved_by dx dy d ∷ put (moved_by dx dy c) (shifted dx dy ds))) (cell_cmp-moved dx dy c d) ∙ go (cell_cmp c d) (put-moved dx dy c ds)
+put-moved dx dy c (d ∷ ds) = ap
+    (λ (r : Ordering). match_ordering r (moved_by dx dy c ∷ shifted dx dy (d ∷ ds)) (shifted dx dy (d ∷ ds))
+    (moved_by dx dy d ∷ put (moved_by dx dy c) (shifted dx dy ds))) (cell_cmp-moved dx dy c d) ∙ go (cell_cmp c d) (put-moved dx dy c ds)
   where
     go : (r : Ordering) → put (moved_by dx dy c) (shifted dx dy ds) ≡ shifted dx dy (put c ds)
-        → match_ordering r (moved_by dx dy c ∷ shifted dx dy (d ∷ ds)) (shifted dx dy (d ∷ ds)) (moved_by dx dy d ∷ put (moved_by dx dy c) (shifted dx dy ds)) ≡ shifted dx dy (match_ordering r (c ∷ d ∷ ds) (d ∷ ds) (d ∷ put c ds))
+        → match_ordering r (moved_by dx dy c ∷ shifted dx dy (d ∷ ds)) (shifted dx dy (d ∷ ds))
+        (moved_by dx dy d ∷ put (moved_by dx dy c) (shifted dx dy ds)) ≡ shifted dx dy (match_ordering r (c ∷ d ∷ ds) (d ∷ ds) (d ∷ put c ds))
     go Less ih = refl
     go Equal ih = refl
     go Greater ih = ap (λ (es : List Cell). moved_by dx dy d ∷ es) ih
@@ -71,19 +82,22 @@ list_all-set_of p cs = both_true (list_all p (set_of cs)) (list_all p cs)
     (λ h. has-list_all p cs (λ c e. list_all-has p (set_of cs) h c (has-set_of cs c ∙ e)))
     (λ h. has-list_all p (set_of cs) (λ c e. list_all-has p cs h c (sym (has-set_of cs c) ∙ e)))
 
-landed-map : (o : Orientation) (b : Bounds) (cs : List Cell) → map (landed (corner_placement o b)) cs ≡ shifted (neg_ℤ b.left) (neg_ℤ b.top) (map (turned_cell o) cs)
+landed-map : (o : Orientation) (b : Bounds) (cs : List Cell)
+    → map (landed (corner_placement o b)) cs ≡ shifted (neg_ℤ b.left) (neg_ℤ b.top) (map (turned_cell o) cs)
 landed-map o b [] = refl
 landed-map o b (c ∷ cs) = ap (λ (ds : List Cell). landed (corner_placement o b) c ∷ ds) (landed-map o b cs)
 
 -- the set of the landed cells is the image at the corner
-pub landed-turned : (o : Orientation) (cs : List Cell) (b : Bounds) → box_of (map (turned_cell o) cs) ≡ Some b → set_of (map (landed (corner_placement o b)) cs) ≡ turned o cs
+pub landed-turned : (o : Orientation) (cs : List Cell) (b : Bounds) → box_of (map (turned_cell o) cs) ≡ Some b
+    → set_of (map (landed (corner_placement o b)) cs) ≡ turned o cs
 unfolding turned image
 landed-turned o cs b e =
     ap set_of (landed-map o b cs)
     ∙ set_of-moved (neg_ℤ b.left) (neg_ℤ b.top) (map (turned_cell o) cs)
     ∙ sym (ap (λ (box : Option Bounds). cornered box (set_of (map (turned_cell o) cs))) (box_of-set_of (map (turned_cell o) cs) ∙ e))
 
-pub landed-plane : (o : Orientation) (cs : List Cell) (b : Bounds) → box_of (map (turned_cell o) cs) ≡ Some b → list_all on_plane (map (landed (corner_placement o b)) cs) ≡ list_all on_plane (turned o cs)
+pub landed-plane : (o : Orientation) (cs : List Cell) (b : Bounds) → box_of (map (turned_cell o) cs) ≡ Some b
+    → list_all on_plane (map (landed (corner_placement o b)) cs) ≡ list_all on_plane (turned o cs)
 landed-plane o cs b e = sym (list_all-set_of on_plane (map (landed (corner_placement o b)) cs)) ∙ ap (list_all on_plane) (landed-turned o cs b e)
 
 pub turned-empty : (o : Orientation) (cs : List Cell) → box_of (map (turned_cell o) cs) ≡ None → turned o cs ≡ []
@@ -107,12 +121,13 @@ neg_size a = omega (arith, ints)
 -- an image of a cell of the plane lies on the plane
 on_plane-turned : (o : Orientation) (c : Cell) → on_plane c ≡ true → on_plane (turned_cell o c) ≡ true
 unfolding on_plane
-on_plane-turned o c h = go o (and_parts (leb (unsigned_abs c.x) BOUND) (leb (unsigned_abs c.y) BOUND) h)
+on_plane-turned o c h = go o (and_parts (leb (unsigned_abs c.x) plane_bound) (leb (unsigned_abs c.y) plane_bound) h)
   where
-    both : (a b m n : ℕ) → a ≡ m → b ≡ n → (leb m BOUND ≡ true) → (leb n BOUND ≡ true) → (leb a BOUND && leb b BOUND) ≡ true
+    both : (a b m n : ℕ) → a ≡ m → b ≡ n → (leb m plane_bound ≡ true) → (leb n plane_bound ≡ true) → (leb a plane_bound && leb b plane_bound) ≡ true
     both a b m n p q u v = rw (p, q, u, v) refl
 
-    go : (o : Orientation) → (leb (unsigned_abs c.x) BOUND ≡ true) × (leb (unsigned_abs c.y) BOUND ≡ true) → (leb (unsigned_abs (turned_cell o c).x) BOUND && leb (unsigned_abs (turned_cell o c).y) BOUND) ≡ true
+    go : (o : Orientation) → (leb (unsigned_abs c.x) plane_bound ≡ true) × (leb (unsigned_abs c.y) plane_bound ≡ true)
+        → (leb (unsigned_abs (turned_cell o c).x) plane_bound && leb (unsigned_abs (turned_cell o c).y) plane_bound) ≡ true
     go Same (u, v) = both _ _ _ _ refl refl u v
     go Quarter (u, v) = both _ _ _ _ (neg_size c.y) refl v u
     go Half (u, v) = both _ _ _ _ (neg_size c.x) (neg_size c.y) u v
@@ -129,34 +144,43 @@ images_on_plane o (c ∷ cs) h =
     and_from (on_plane (turned_cell o c)) (list_all on_plane (map (turned_cell o) cs)) (on_plane-turned o c parts.0) (images_on_plane o cs parts.1)
 
 -- the corner of the box of cells of the plane is no further out than the bound
-pub corner_small : (cs : List Cell) (b : Bounds) → box_of cs ≡ Some b → list_all on_plane cs ≡ true → (unsigned_abs b.left ≤ BOUND) × (unsigned_abs b.top ≤ BOUND)
+pub corner_small : (cs : List Cell) (b : Bounds) → box_of cs ≡ Some b → list_all on_plane cs ≡ true
+    → (unsigned_abs b.left ≤ plane_bound) × (unsigned_abs b.top ≤ plane_bound)
 unfolding on_plane
 corner_small cs b e on =
     let least : IsLeastBox cs b = rw e at (box_of-least cs) in (
-      side (λ c. c.x) b.left (λ c h. leb-true (unsigned_abs c.x) BOUND (and_parts (leb (unsigned_abs c.x) BOUND) (leb (unsigned_abs c.y) BOUND) h).0) least.left,
-      side (λ c. c.y) b.top (λ c h. leb-true (unsigned_abs c.y) BOUND (and_parts (leb (unsigned_abs c.x) BOUND) (leb (unsigned_abs c.y) BOUND) h).1) least.top,
+      side (λ c. c.x) b.left (λ c h. leb-true (unsigned_abs c.x) plane_bound
+          (and_parts (leb (unsigned_abs c.x) plane_bound) (leb (unsigned_abs c.y) plane_bound) h).0) least.left,
+      side (λ c. c.y) b.top (λ c h. leb-true (unsigned_abs c.y) plane_bound
+          (and_parts (leb (unsigned_abs c.x) plane_bound) (leb (unsigned_abs c.y) plane_bound) h).1) least.top,
     )
   where
-    side : (f : Cell → ℤ) (v : ℤ) → ((c : Cell) → on_plane c ≡ true → unsigned_abs (f c) ≤ BOUND) → Any (λ c. f c ≡ v) cs → unsigned_abs v ≤ BOUND
-    side f v small (k, x, low, at, h) = subst (λ (a : ℤ). unsigned_abs a ≤ BOUND) h (small x (subst (λ (c : Cell). on_plane c ≡ true) at (all_at on_plane cs k x low on)))
+    side : (f : Cell → ℤ) (v : ℤ) → ((c : Cell) → on_plane c ≡ true → unsigned_abs (f c) ≤ plane_bound) → Any (λ c. f c ≡ v) cs → unsigned_abs v ≤ plane_bound
+    side f v small (k, x, low, at, h) =
+        subst (λ (a : ℤ). unsigned_abs a ≤ plane_bound) h (small x (subst (λ (c : Cell). on_plane c ≡ true) at (all_at on_plane cs k x low on)))
 
-pub image_corner_small : (o : Orientation) (cs : List Cell) (b : Bounds) → box_of (map (turned_cell o) cs) ≡ Some b → list_all on_plane cs ≡ true → (unsigned_abs b.left ≤ BOUND) × (unsigned_abs b.top ≤ BOUND)
+pub image_corner_small : (o : Orientation) (cs : List Cell) (b : Bounds) → box_of (map (turned_cell o) cs) ≡ Some b → list_all on_plane cs ≡ true
+    → (unsigned_abs b.left ≤ plane_bound) × (unsigned_abs b.top ≤ plane_bound)
 image_corner_small o cs b e on = corner_small (map (turned_cell o) cs) b e (images_on_plane o cs on)
 
 -- ---- what the placement to the corner does
 
-corner_cases : (o : Orientation) (cs : List Cell) (p : Placement) → Some p ≡ option_map (corner_placement o) (box_of (map (turned_cell o) cs)) → (b : Bounds) × (box_of (map (turned_cell o) cs) ≡ Some b) × (p ≡ corner_placement o b)
+corner_cases : (o : Orientation) (cs : List Cell) (p : Placement) → Some p ≡ option_map (corner_placement o) (box_of (map (turned_cell o) cs))
+    → (b : Bounds) × (box_of (map (turned_cell o) cs) ≡ Some b) × (p ≡ corner_placement o b)
 corner_cases o cs p e = go (box_of (map (turned_cell o) cs)) refl e
   where
-    go : (b : Option Bounds) → box_of (map (turned_cell o) cs) ≡ b → Some p ≡ option_map (corner_placement o) b → (b : Bounds) × (box_of (map (turned_cell o) cs) ≡ Some b) × (p ≡ corner_placement o b)
+    go : (b : Option Bounds) → box_of (map (turned_cell o) cs) ≡ b → Some p ≡ option_map (corner_placement o) b
+        → (b : Bounds) × (box_of (map (turned_cell o) cs) ≡ Some b) × (p ≡ corner_placement o b)
     go None is e = absurd cc
     go (Some b) is e = (b, is, cc)
 
 -- the set of the cells so placed is the image at the corner
-pub placed-turned : (o : Orientation) (cs : List Cell) (p : Placement) → Some p ≡ option_map (corner_placement o) (box_of (map (turned_cell o) cs)) → set_of (map (landed p) cs) ≡ turned o cs
+pub placed-turned : (o : Orientation) (cs : List Cell) (p : Placement) → Some p ≡ option_map (corner_placement o) (box_of (map (turned_cell o) cs))
+    → set_of (map (landed p) cs) ≡ turned o cs
 placed-turned o cs p e = let b = corner_cases o cs p e in ap (λ (q : Placement). set_of (map (landed q) cs)) b.2 ∙ landed-turned o cs b.0 b.1
 
-pub placed-plane : (o : Orientation) (cs : List Cell) (p : Placement) → Some p ≡ option_map (corner_placement o) (box_of (map (turned_cell o) cs)) → list_all on_plane (map (landed p) cs) ≡ list_all on_plane (turned o cs)
+pub placed-plane : (o : Orientation) (cs : List Cell) (p : Placement) → Some p ≡ option_map (corner_placement o) (box_of (map (turned_cell o) cs))
+    → list_all on_plane (map (landed p) cs) ≡ list_all on_plane (turned o cs)
 placed-plane o cs p e = let b = corner_cases o cs p e in ap (λ (q : Placement). list_all on_plane (map (landed q) cs)) b.2 ∙ landed-plane o cs b.0 b.1
 
 pub unplaced-turned : (o : Orientation) (cs : List Cell) → None ≡ option_map (corner_placement o) (box_of (map (turned_cell o) cs)) → turned o cs ≡ []

@@ -67,4 +67,5 @@ ClustersAreDetermined = (cells : List Cell) (one other : List (List Cell)) → A
 
 -- the clusters of a moved pattern are those of the pattern, moved
 abbrev pub ClustersMoveAlong : Type 0
-ClustersMoveAlong = (dx dy : ℤ) (cells : List Cell) (clusters : List (List Cell)) → AreClusters cells clusters → AreClusters (shifted dx dy cells) (map (shifted dx dy) clusters)
+ClustersMoveAlong = (dx dy : ℤ) (cells : List Cell) (clusters : List (List Cell)) → AreClusters cells clusters
+    → AreClusters (shifted dx dy cells) (map (shifted dx dy) clusters)

@@ -31,9 +31,9 @@ unmarked (m ∷ ms) = (if m then 0 else 1) + unmarked ms
 abbrev pub IsClosed : List Cell → List Bool → Type 0
 IsClosed cells marks = (c d : Cell) → marked cells marks c ≡ true → has cells d ≡ true → king_distance c d ≤ 2 → marked cells marks d ≡ true
 
--- The cells of the pattern that pass the test are marked, and those of them that weren't are reached, behind the others.
-pub record Takes (cells : List Cell) (test : Cell → Bool) (old_marks : List Bool) (old : List Cell) (new_marks : List Bool) (new : List Cell) : Type 0 where
-  pub behind : (more : List Cell) × (new ≡ old ++ more)
+-- The cells of the pattern that pass the test are marked. Those of them that weren't are reached, after the others.
+pub record Marks (cells : List Cell) (test : Cell → Bool) (old_marks : List Bool) (old : List Cell) (new_marks : List Bool) (new : List Cell) : Type 0 where
+  pub added : (more : List Cell) × (new ≡ old ++ more)
   pub marks : (c : Cell) → marked cells new_marks c ≡ (marked cells old_marks c || (test c && has cells c))
   pub reached : (c : Cell) → has new c ≡ (has old c || ((test c && has cells c) && not (marked cells old_marks c)))
   pub count : unmarked new_marks + length new ≡ unmarked old_marks + length old

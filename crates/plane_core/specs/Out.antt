@@ -1,4 +1,4 @@
--- What a call that writes a text leaves behind, where some writer may fail in mid-text.
+-- What a call that writes a text has done, if a writer may fail in mid-text.
 use Rattle.std.specs.Prelude.{◌≡◌, Bool, List, ℕ, ◌++◌, Option, Result, is_err, OnOk, OnErr}
 use Rattle.std.specs.Io.KnownBytes.{Appends}
 
@@ -11,7 +11,7 @@ pub record Output (V : Type 0) : Type 0 where
 abbrev pub AppendsFront : Option (List ℕ) → Option (List ℕ) → List ℕ → Type 0
 AppendsFront known_old known_new text = (front rest : List ℕ) × (text ≡ front ++ rest) × Appends known_old known_new front
 
--- A call wrote the text, or it answered an error, is failed from now on, and wrote a front of the text.
+-- A call wrote the text; or it failed, wrote a front of the text, and the `Out` is failed from then on.
 -- `contents` are the bytes that a writer holds, where they are known.
 pub record Writes {V E : Type 0} (contents : V → Option (List ℕ)) (old new : Output V) (result : Result (Unit {0}) E) (text : List ℕ) : Type 0 where
   pub told : new.failed ≡ is_err result

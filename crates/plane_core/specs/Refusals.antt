@@ -1,4 +1,4 @@
--- When a call of this crate refuses what it is handed.
+-- When a call of this crate returns which error.
 use Rattle.std.specs.Prelude.{◌≡◌, true, false, List, position, Some, None}
 use Rattle.plane_core.specs.declared.cell.Cell.{Cell}
 use Rattle.plane_core.specs.declared.pattern.FromCellsError.{FromCellsError}
@@ -11,17 +11,17 @@ use Rattle.plane_core.specs.declared.generation.StepError.TheVariants as step
 use Rattle.plane_core.specs.Cells.{off_plane, on_plane}
 use Rattle.plane_core.specs.Generations.{touches_edge}
 
--- the first cell past the bound is named, and memory is wanting only where there is none
+-- the first cell past the bound is named; `Memory` comes only if every cell is on the plane
 abbrev pub RefusesCells : List Cell → FromCellsError → Type 0
 RefusesCells cells (OutOfPlane index) = position off_plane cells ≡ Some index
 RefusesCells cells Memory = position off_plane cells ≡ None
 
--- a cell on the edge is told, and memory is wanting only where there is none
+-- `Edge` comes if a cell is on the edge; `Memory` only if none is
 abbrev pub RefusesStep : List Cell → StepError → Type 0
 RefusesStep cells step.Edge = touches_edge cells ≡ true
 RefusesStep cells step.Memory = touches_edge cells ≡ false
 
--- a cell past the bound is told, and memory is wanting only where there is none
+-- `OutOfPlane` comes if a cell lies past the bound; `Memory` only if every cell is on the plane
 abbrev pub RefusesPlace : List Cell → PlaceError → Type 0
 RefusesPlace cells place.OutOfPlane = list_all on_plane cells ≡ false
 RefusesPlace cells place.Memory = list_all on_plane cells ≡ true

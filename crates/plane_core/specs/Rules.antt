@@ -1,5 +1,6 @@
 -- Rules by birth and survival numbers (LifeWiki, "Life-like cellular automaton" and "Rulestring").
-use Rattle.std.specs.Prelude.{◌≡◌, ◌+◌, ◌-◌, ◌<◌, ◌≤◌, ◌++◌, ◌==◌, ℕ, zero, suc, Bool, true, false, not, if◌then◌else◌, List, [], ◌∷◌, length, take, drop, codes, unwrap_or, slice_get, nat_eq, Result, Ok, Err}
+use Rattle.std.specs.Prelude.{◌≡◌, ◌+◌, ◌-◌, ◌<◌, ◌≤◌, ◌++◌, ◌==◌, ℕ, zero, suc, Bool, true, false, not, if◌then◌else◌}
+use Rattle.std.specs.Prelude.{List, [], ◌∷◌, length, take, drop, codes, unwrap_or, slice_get, nat_eq, Result, Ok, Err}
 use Rattle.std.specs.List.{starts_with}
 use Rattle.plane_core.specs.declared.rule.RuleError.{RuleError}
 use Rattle.plane_core.specs.declared.rule.RuleError.TheVariants.{BadRule, BirthZero}
@@ -23,7 +24,7 @@ pub record IsRule (rule : Numbers) : Type 0 where
   pub births : length rule.births ≡ 8
   pub survivals : length rule.survivals ≡ 9
 
--- the digits, ascending, of the numbers that a table answers true, where its first answer is for n
+-- the digits, ascending, of the numbers that a table answers true, where its first answer is for n; `0` is byte 48
 unfoldable pub digits : ℕ → List Bool → List ℕ
 digits n [] = []
 digits n (true ∷ more) = (48 + n) ∷ digits (n + 1) more
@@ -46,7 +47,7 @@ pub record IsFirstFault (text : List ℕ) (place : ℕ) : Type 0 where
   pub before : BeginsRule (take place text)
   pub there : place < length text → ¬ BeginsRule (take (place + 1) text)
 
--- numbers read off the front of a text, as a table of answers, and the text behind them
+-- numbers read off the front of a text, as a table of answers, and the text after them
 pub record Reading : Type 0 where
   pub answers : List Bool
   pub rest : List ℕ

@@ -67,13 +67,14 @@ earlier_of (Some a) None = Some a
 earlier_of (Some a) (Some b) = Some (match_ordering (cell_cmp a b) a a b)
 
 -- the sums are the three lists made one: cells in order, counted together, alive as in the middle list
-pub record IsMerged (before here behind sums : List Tally) : Type 0 where
-  pub totals : (c : Cell) → total sums c ≡ total before c + (total here c + total behind c)
-  pub alive : (c : Cell) → alive_at sums c ≡ alive_at here c
+pub record IsMerged (left middle right sums : List Tally) : Type 0 where
+  pub totals : (c : Cell) → total sums c ≡ total left c + (total middle c + total right c)
+  pub alive : (c : Cell) → alive_at sums c ≡ alive_at middle c
   pub in_order : InOrder (cells_of sums)
-  pub no_others : (p : Cell → Bool) → list_all p (cells_of before) ≡ true → list_all p (cells_of here) ≡ true → list_all p (cells_of behind) ≡ true → list_all p (cells_of sums) ≡ true
+  pub no_others : (p : Cell → Bool) → list_all p (cells_of left) ≡ true → list_all p (cells_of middle) ≡ true → list_all p (cells_of right) ≡ true
+      → list_all p (cells_of sums) ≡ true
 
--- each cell has its own count and those of the cells a step (dx, dy) behind and before it
+-- each cell has its own count and those of the cells a step (dx, dy) from it, one on either side
 pub record AddsNeighbours (dx dy : ℤ) (tallies sums : List Tally) : Type 0 where
   pub totals : (c : Cell) → total sums c ≡ total tallies (moved_by dx dy c) + (total tallies c + total tallies (moved_by (neg_ℤ dx) (neg_ℤ dy) c))
   pub alive : (c : Cell) → alive_at sums c ≡ alive_at tallies c

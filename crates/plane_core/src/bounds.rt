@@ -14,6 +14,17 @@ pub struct Bounds {
     pub bottom: i32,
 }
 
+impl Pattern {
+    /// The least box round the pattern. It is `None` for the empty pattern.
+    pub fn bounds(&self) -> Option<Bounds>
+        ensures bounds { result ≡ box_of self.now }
+        ensures none { IsNone result ↔ (self.now ≡ []) }
+        ensures least { IfSome result (IsLeastBox self.now) }
+    {
+        least_box(self.cells())
+    }
+}
+
 impl Bounds {
     /// The box of one cell.
     fn at(cell: Cell) -> Bounds
@@ -37,17 +48,6 @@ impl Bounds {
             right: cell.x.max(self.right),
             bottom: cell.y.max(self.bottom),
         }
-    }
-}
-
-impl Pattern {
-    /// The least box round the pattern. It is `None` for the empty pattern.
-    pub fn bounds(&self) -> Option<Bounds>
-        ensures bounds { result ≡ box_of self.now }
-        ensures none { IsNone result ↔ (self.now ≡ []) }
-        ensures least { IfSome result (IsLeastBox self.now) }
-    {
-        least_box(self.cells())
     }
 }
 

@@ -1,24 +1,35 @@
+//! How a pattern falls into clusters: each one is flooded from its first cell.
+//!
+//!      O . O . . . O          1 . 2 . . . O
+//!      . . . . . . O          . . . . . . O
+//!      . . . O . . .          . . . 3 . . .
+//!
+//! Each cell of the pattern has a mark, and the flood a list of the cells that it has reached: 1, 2 and 3 above, in this
+//! order. It goes through the list from the front. For each cell there, the cells at most two columns and two rows away
+//! that have no mark yet are marked and put at the list's end. At the end of the list, the list is the cluster.
+//!
+//! The other two cells are three columns from cell 3, too far to be reached. The next flood starts at the first cell
+//! without a mark, so the clusters come in the order of their first cells.
 ghost use Rattle.std.specs.Prelude.{◌≡◌, ◌≤◌, ◌||◌, true, false, length, All, IfOk, OnOk, ◌+ℤ◌, unsigned_abs};
 ghost use Rattle.plane_core.specs.Cells.{InOrder, IsPattern, has, moved_by, on_plane, same_cell, set_of};
 ghost use Rattle.plane_core.specs.Clusters.{AreClusters, IsCluster};
 ghost use Rattle.plane_core.specs.Clusters.{ClustersAreDetermined, ClustersLieApart, ClustersMoveAlong, ClustersPartition, LinkedIsAnEquivalence};
-ghost use Rattle.plane_core.specs.Flood.{IsClosed, MarksCluster, Takes, is_in_row, is_near, marked};
+ghost use Rattle.plane_core.specs.Flood.{IsClosed, Marks, MarksCluster, is_in_row, is_near, marked};
 ghost use Rattle.plane_core.specs.declared.cell.Cell.{Cell};
-ghost use Rattle.plane_core.specs.declared.cell.TheConstants.{BOUND};
 
-use crate::cell::{Cell, sum};
+use crate::cell::Cell;
+use crate::coordinate::stepped;
 use crate::pattern::{Pattern, in_order};
 use std::alloc::{AllocError, Global};
 
 impl Pattern {
     /// The clusters, ordered by their first cells.
     ///
-    /// Two cells at king distance at most 2 belong together, and so do cells that are joined by a chain of such
-    /// pairs.
+    /// Two cells share a cluster if steps over live cells, each at most two cells in any direction, join them.
     ///
     /// # Errors
     ///
-    /// `AllocError` where memory is wanting.
+    /// `AllocError` if memory runs out.
     pub fn clusters(&self, alloc: Global) -> Result<Vec<Pattern>, AllocError>
         ensures clusters { IfOk result (λ clusters. AreClusters self.now clusters.items) }
         ensures patterns { IfOk result (λ clusters. All IsPattern clusters.items) }
@@ -36,7 +47,7 @@ impl Pattern {
     }
 }
 
-/// A law of all patterns: being linked parts their cells into classes.
+/// A law of all patterns: to be linked is an equivalence of their cells.
 pub fn linked_is_an_equivalence()
     ensures { LinkedIsAnEquivalence }
 {}
@@ -56,7 +67,7 @@ pub fn clusters_are_determined()
     ensures { ClustersAreDetermined }
 {}
 
-/// A law of all patterns: where the pattern is moved, its clusters move along.
+/// A law of all patterns: if a pattern is moved, its clusters move along.
 pub fn clusters_move_along()
     ensures { ClustersMoveAlong }
 {}
@@ -80,17 +91,17 @@ fn flood(
     ensures marks { IfOk result (λ cluster. MarksCluster cells.now cluster.items marks.old marks.new) }
 {
     let mut reached = Vec::new(alloc);
-    take(cells, start, marks, &mut reached)?;
+    mark(cells, start, marks, &mut reached)?;
     let mut next = 0;
     while next < reached.len() {
-        take_near(cells, reached[next], marks, &mut reached)?;
+        mark_near(cells, reached[next], marks, &mut reached)?;
         next += 1;
     }
     Ok(in_order(reached))
 }
 
-/// Takes the cells at king distance at most 2 from this one.
-fn take_near(
+/// Marks the cells that are at king distance at most 2 from this one.
+fn mark_near(
     cells: &[Cell],
     cell: Cell,
     marks: &mut [bool],
@@ -100,17 +111,17 @@ fn take_near(
     requires on_plane { on_plane cell ≡ true }
     requires size { length marks.old ≡ length cells.now }
     ensures size { length marks.new ≡ length marks.old }
-    ensures takes { OnOk result
-        (Takes cells.now (is_near cell) marks.old reached.old.items marks.new reached.new.items) }
+    ensures marks { OnOk result
+        (Marks cells.now (is_near cell) marks.old reached.old.items marks.new reached.new.items) }
 {
     for dy in [-2, -1, 0, 1, 2] {
-        take_row(cells, cell, dy, marks, reached)?;
+        mark_row(cells, cell, dy, marks, reached)?;
     }
     Ok(())
 }
 
-/// Takes the cells of one row dy further down, at most two columns away.
-fn take_row(
+/// Marks the cells that are dy rows further down and at most two columns away.
+fn mark_row(
     cells: &[Cell],
     cell: Cell,
     dy: i32,
@@ -119,14 +130,14 @@ fn take_row(
 ) -> Result<(), AllocError>
     requires in_order { InOrder cells.now }
     requires on_plane { on_plane cell ≡ true }
-    requires leap { unsigned_abs dy ≤ 2 }
+    requires down { unsigned_abs dy ≤ 2 }
     requires size { length marks.old ≡ length cells.now }
     ensures size { length marks.new ≡ length marks.old }
-    ensures takes { OnOk result
-        (Takes cells.now (is_in_row cell dy) marks.old reached.old.items marks.new reached.new.items) }
+    ensures marks { OnOk result
+        (Marks cells.now (is_in_row cell dy) marks.old reached.old.items marks.new reached.new.items) }
 {
     for dx in [-2, -1, 0, 1, 2] {
-        take(cells, near(cell, dx, dy), marks, reached)?;
+        mark(cells, near(cell, dx, dy), marks, reached)?;
     }
     Ok(())
 }
@@ -135,17 +146,17 @@ fn take_row(
 #[tactic(auto, unfolding(crate::specs::Cells::on_plane))]
 fn near(cell: Cell, dx: i32, dy: i32) -> Cell
     requires on_plane { on_plane cell ≡ true }
-    requires step { unsigned_abs dx ≤ 2 }
-    requires leap { unsigned_abs dy ≤ 2 }
+    requires right { unsigned_abs dx ≤ 2 }
+    requires down { unsigned_abs dy ≤ 2 }
     ensures { result ≡ moved_by dx dy cell }
 {
-    let x = sum(cell.x, dx);
-    let y = sum(cell.y, dy);
+    let x = stepped(cell.x, dx);
+    let y = stepped(cell.y, dy);
     Cell { y, x }
 }
 
-/// Marks the cell and puts it with those reached, where it is in the pattern and wasn't marked.
-fn take(
+/// Marks the cell and puts it after those reached, if it is in the pattern and wasn't marked.
+fn mark(
     cells: &[Cell],
     cell: Cell,
     marks: &mut [bool],
@@ -154,8 +165,8 @@ fn take(
     requires in_order { InOrder cells.now }
     requires size { length marks.old ≡ length cells.now }
     ensures size { length marks.new ≡ length marks.old }
-    ensures takes { OnOk result
-        (Takes cells.now (λ c. same_cell c cell) marks.old reached.old.items marks.new reached.new.items) }
+    ensures marks { OnOk result
+        (Marks cells.now (λ c. same_cell c cell) marks.old reached.old.items marks.new reached.new.items) }
 {
     if let Ok(place) = cells.binary_search(&cell) {
         if !marks[place] {

@@ -1,9 +1,8 @@
 ghost use Rattle.std.specs.Prelude.{◌≡◌, ◌≢◌, ℕ, ◌+◌, ◌<◌, ◌≤◌, true, false, IfOk, IfErr, OnOk, IsErrOf};
-ghost use Rattle.plane_core.specs.Cells.{has};
-ghost use Rattle.plane_core.specs.Generations.{next, after, lives, touches_edge, lies_within, SpeedOfLight};
+ghost use Rattle.plane_core.specs.Cells.{has, plane_bound};
+ghost use Rattle.plane_core.specs.Generations.{next, after, lives, touches_edge, lies_within, NextMoved, NextTurned, SpeedFromOrigin, SpeedOfLight};
 ghost use Rattle.plane_core.specs.Refusals.{RefusesStep};
 ghost use Rattle.plane_core.specs.declared.cell.Cell.{Cell};
-ghost use Rattle.plane_core.specs.declared.cell.TheConstants.{BOUND};
 ghost use Rattle.plane_core.specs.declared.generation.StepError.TheVariants.{Memory};
 
 use crate::cell::Cell;
@@ -13,13 +12,13 @@ use crate::tally;
 use std::alloc::{AllocError, Global};
 use thiserror::Error;
 
-/// Why a pattern has no next generation here.
+/// Why a pattern has no next generation.
 #[derive(Clone, Copy, Debug, PartialEq, Eq, Error)]
 pub enum StepError {
-    /// A cell lies on the edge of the plane, so that a neighbour would lie past it.
+    /// A cell lies on the edge of the plane, so a neighbour would lie past it.
     #[error("a cell lies on the edge of the plane")]
     Edge,
-    /// There was no memory for the next generation.
+    /// Memory ran out.
     #[error("out of memory")]
     Memory,
 }
@@ -39,7 +38,8 @@ impl Pattern {
     ///
     /// # Errors
     ///
-    /// `Edge` where a cell has a coordinate of 1,000,000 in size; else `Memory` where memory is wanting.
+    /// `Edge` if a cell has a coordinate of 1,000,000 in size, whether there is memory or not, and even if no cell would
+    /// be born past it. Otherwise `Memory` if memory runs out.
     pub fn step(&self, alloc: Global, rule: &Rule) -> Result<Pattern, StepError>
         ensures next { IfOk result (λ pattern. pattern ≡ next rule.now self.now) }
         // For every cell of the plane: it is alive then just where the rule's numbers say so.
@@ -55,19 +55,27 @@ impl Pattern {
         Ok(Pattern::from_ordered(cells))
     }
 
-    /// The pattern after a number of generations under the rule.
+    /// The pattern after so many generations under the rule. After 0 generations it is a copy.
     ///
     /// # Errors
     ///
-    /// `Edge` where a generation that is stepped on has a cell with a coordinate of 1,000,000 in size; `Memory`
-    /// where memory is wanting. Generations are made in order, so the first of these that is met is answered.
+    /// The generations are made one after another, and the first failure is returned.
+    ///
+    /// - `Edge`: a generation before the last has a cell with a coordinate of 1,000,000 in size. If the pattern itself
+    ///   has one, it is `Edge` whether there is memory or not.
+    /// - `Memory`: memory ran out.
     pub fn run(&self, alloc: Global, rule: &Rule, generations: u32) -> Result<Pattern, StepError>
         ensures after { IfOk result (λ pattern. pattern ≡ after rule.now self.now generations) }
         ensures inside { OnOk result ((g : ℕ) → g < generations → touches_edge (after rule.now self.now g) ≡ false) }
         // No pattern gets to the edge faster than a cell a generation.
-        ensures never_edge { (reach : ℕ) → lies_within reach self.now ≡ true → reach + generations ≤ BOUND → result ≢ Err StepError.Edge }
+        ensures never_edge { (reach : ℕ) → lies_within reach self.now ≡ true → reach + generations ≤ plane_bound → result ≢ Err StepError.Edge }
+        // An edge that is there from the start is refused as such, whether there is memory or not.
+        ensures edge_first { 1 ≤ generations → touches_edge self.now ≡ true → result ≡ Err StepError.Edge }
         ensures edge { IsErrOf result StepError.Edge → (g : ℕ) × (g < generations) × (touches_edge (after rule.now self.now g) ≡ true) }
     {
+        if generations > 0 && touches(self.cells()) {
+            return Err(StepError::Edge);
+        }
         let mut pattern = self.copy(alloc)?;
         for _ in 0..generations {
             pattern = pattern.step(alloc, rule)?;
@@ -78,7 +86,15 @@ impl Pattern {
 
 /// A law of all rules: in g generations no pattern comes further than g cells from where it lay.
 pub fn speed_of_light()
-    ensures { SpeedOfLight }
+    ensures boxes { SpeedOfLight }
+    ensures origin { SpeedFromOrigin }
+{}
+
+/// The laws of generations on the grid: the next generation of a pattern moved or turned is its next generation, moved
+/// or turned.
+pub fn isotropy()
+    ensures moved { NextMoved }
+    ensures turned { NextTurned }
 {}
 
 /// Whether a cell lies on the edge of the plane.

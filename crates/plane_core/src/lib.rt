@@ -8,9 +8,11 @@
 pub mod bounds;
 /// Cells of the plane, and their order.
 pub mod cell;
-/// The objects that a pattern falls into.
+/// Clusters: the objects that a pattern falls into.
 pub mod clusters;
-/// The next generation, and many.
+/// Sums and differences of coordinates.
+pub mod coordinate;
+/// The next generation, and later ones.
 pub mod generation;
 /// The eight orientations.
 pub mod orientation;
@@ -27,3 +29,5 @@ pub mod rule;
 /// The shift from one pattern to another.
 pub mod shift_to;
 mod tally;
+#[cfg(test)]
+mod tests;

@@ -5,7 +5,7 @@ use std::io::Write;
 use std::marker::Model;
 use thiserror::Error;
 
-/// A write failed, or took no byte.
+/// A write failed or took no byte.
 #[derive(Clone, Copy, Debug, PartialEq, Eq, Error)]
 #[error("write failed")]
 pub struct WriteError;
@@ -28,7 +28,7 @@ impl<V: Write> Model for Out<V> {
 }
 
 impl<V: Write> Out<V> {
-    /// An `Out` over the writer that hasn't failed.
+    /// An `Out` over the writer. It hasn't failed.
     pub fn new(writer: V) -> Self
         ensures writer { result.writer ≡ writer }
         ensures failed { result.failed ≡ false }
@@ -47,19 +47,19 @@ impl<V: Write> Out<V> {
         *failed
     }
 
-    /// Gives the writer back, failed or not.
+    /// Returns the writer, whether a write has failed or not.
     pub fn into_inner(self) -> V
         ensures { result ≡ self.writer }
     {
         self.writer
     }
 
-    /// Writes the whole piece.
+    /// Writes the whole piece. The `Out` must not have failed. No write is tried again, and nothing is flushed.
     ///
     /// # Errors
     ///
-    /// [`WriteError`] where a write fails, for whatever reason, or takes no byte of what is left. The `Out` is failed
-    /// from then on.
+    /// [`WriteError`] if a write fails, for whatever reason, or takes no byte of what is left. The front of the piece may
+    /// have been written by then, and the `Out` is failed from then on.
     pub fn put(&mut self, piece: &[u8]) -> Result<(), WriteError>
         requires { self.old.failed ≡ false }
         ensures { Writes V.contents self.old self.new result piece.now }
@@ -84,14 +84,16 @@ mod tests {
     use std::alloc::Global;
     use std::io;
     use std::io::ErrorKind;
+    use std::test::Fail;
 
-    // Takes two bytes at most in a write. At its write number `bad` it fails, or takes nothing.
+    // Takes two bytes at most in a write, and notes a flush. At its write number `bad` it fails, or takes nothing.
     #[derive(Drop)]
     struct Faulty {
         taken: Vec<u8>,
         writes: usize,
         bad: usize,
         fails: bool,
+        flushed: bool,
     }
 
     impl Write for Faulty {
@@ -110,6 +112,7 @@ mod tests {
         }
 
         fn flush(&mut self) -> io::Result<()> {
+            self.flushed = true;
             Ok(())
         }
     }
@@ -120,6 +123,7 @@ mod tests {
             writes: 0,
             bad,
             fails,
+            flushed: false,
         }
     }
 
@@ -133,6 +137,20 @@ mod tests {
         }
         assert!(rt; !out.failed());
         assert_eq!(rt; out.into_inner().as_slice(), b"abc".as_slice());
+    }
+
+    #[test]
+    fn puts_a_long_piece_whole(rt: HostRuntime) -> Result<(), Fail> {
+        let mut piece = Vec::new(rt.alloc());
+        for i in 0..100_000u32 {
+            piece.push((i % 251) as u8)?;
+        }
+        let mut out = Out::new(make_faulty(rt.alloc(), 0, true));
+        assert_eq!(rt; out.put(piece.as_slice()), Ok(()));
+        let writer = out.into_inner();
+        assert!(rt; writer.taken.as_slice() == piece.as_slice());
+        assert!(rt; !writer.flushed);
+        Ok(())
     }
 
     #[test]
@@ -157,6 +175,7 @@ mod tests {
                 let writer = out.into_inner();
                 assert_eq!(rt; writer.taken.as_slice(), want, "at {bad}");
                 assert_eq!(rt; writer.writes, bad.min(4), "at {bad}");
+                assert!(rt; !writer.flushed, "at {bad}");
             }
         }
     }

@@ -9,13 +9,13 @@ use std::alloc::{AllocError, Global};
 use std::marker::Model;
 use thiserror::Error;
 
-/// Why a list of cells was refused as a pattern.
+/// Why a list of cells is not a pattern.
 #[derive(Clone, Copy, Debug, PartialEq, Eq, Error)]
 pub enum FromCellsError {
-    /// The cell at this index, counted from 0, is the first that lies past the bound.
+    /// The cell at this index, counted from 0, is the first past the bound.
     #[error("cell {index} lies past the bound of the plane")]
     OutOfPlane { index: usize },
-    /// There was no memory for the cells.
+    /// Memory ran out.
     #[error("out of memory")]
     Memory,
 }
@@ -47,8 +47,8 @@ impl Pattern {
     ///
     /// # Errors
     ///
-    /// `OutOfPlane` where a cell lies past the bound, with the index of the first such cell; else `Memory` where
-    /// memory is wanting.
+    /// `OutOfPlane` if a cell lies past the bound, with the index of the first such cell, counted from 0, whether there is
+    /// memory or not. Otherwise `Memory` if memory runs out.
     pub fn from_cells(alloc: Global, cells: &[Cell]) -> Result<Pattern, FromCellsError>
         ensures set { IfOk result (λ pattern. pattern ≡ set_of cells.now) }
         ensures members { IfOk result (λ pattern. (c : Cell) → has pattern c ≡ has cells.now c) }
@@ -64,7 +64,7 @@ impl Pattern {
         })
     }
 
-    /// The pattern of cells that stand in order already.
+    /// The pattern of cells that are already in order, each once.
     pub(crate) fn from_ordered(cells: Vec<Cell>) -> Pattern
         requires { IsPattern cells.items }
         ensures { result ≡ cells.items }
@@ -76,7 +76,7 @@ impl Pattern {
     ///
     /// # Errors
     ///
-    /// `AllocError` where memory is wanting.
+    /// `AllocError` if memory runs out.
     pub fn copy(&self, alloc: Global) -> Result<Pattern, AllocError>
         ensures { IfOk result (λ pattern. pattern ≡ self.now) }
     {
@@ -107,7 +107,7 @@ impl Pattern {
     }
 }
 
-/// A law of all sets of cells: each has one list in order. So two patterns with the same cells are seen as the same list.
+/// A law of all sets of cells: each has one list in order. So two patterns with the same cells are the same list.
 pub fn sets_have_one_list()
     ensures { SetsHaveOneList }
 {}

@@ -5,23 +5,23 @@ ghost use Rattle.plane_core.specs.Bounds.{box_of, shifted};
 ghost use Rattle.plane_core.specs.Orientations.{corner_placement, landed, turned, turned_cell};
 ghost use Rattle.plane_core.specs.Cells.{moved_by, on_plane, IsPattern};
 ghost use Rattle.plane_core.specs.Refusals.{RefusesPlace};
-ghost use Rattle.plane_core.specs.declared.cell.TheConstants.{BOUND};
 ghost use Rattle.plane_core.specs.declared.placement.PlaceError.TheVariants.{Memory};
 
 use crate::bounds::{Bounds, grown};
-use crate::cell::{BOUND, Cell};
-use crate::orientation::{Orientation, negated};
+use crate::cell::Cell;
+use crate::coordinate::{negated, sum_on_plane};
+use crate::orientation::Orientation;
 use crate::pattern::{Pattern, in_order};
 use std::alloc::{AllocError, Global};
 use thiserror::Error;
 
-/// Why a pattern can't lie where it was to be put.
+/// Why a pattern can't be put somewhere.
 #[derive(Clone, Copy, Debug, PartialEq, Eq, Error)]
 pub enum PlaceError {
     /// A cell would lie past the bound.
     #[error("a cell would lie past the bound of the plane")]
     OutOfPlane,
-    /// There was no memory for the cells.
+    /// Memory ran out.
     #[error("out of memory")]
     Memory,
 }
@@ -34,22 +34,59 @@ impl From<AllocError> for PlaceError {
     }
 }
 
-/// The sum of two coordinates, where it is at most the bound in size.
-fn coordinate(at: i32, by: i32) -> Option<i32>
-    ensures { result ≡ (if nat_le (unsigned_abs (at +ℤ by)) BOUND then Some (at +ℤ by) else None) }
-{
-    match at.checked_add(by) {
-        Some(sum) if sum.unsigned_abs() <= BOUND => Some(sum),
-        _ => None,
+impl Pattern {
+    /// The pattern moved by (dx, dy).
+    ///
+    /// # Errors
+    ///
+    /// `OutOfPlane` if a cell would lie past the bound, whether there is memory or not. Otherwise `Memory` if memory runs
+    /// out.
+    pub fn shift(&self, alloc: Global, dx: i32, dy: i32) -> Result<Pattern, PlaceError>
+        ensures shifted { IfOk result (λ pattern. pattern ≡ shifted dx dy self.now) }
+        ensures plane { OnOk result (list_all on_plane (shifted dx dy self.now) ≡ true) }
+        ensures refused { IfErr result (RefusesPlace (shifted dx dy self.now)) }
+    {
+        let placement = Placement {
+            orientation: Orientation::Same,
+            dx,
+            dy,
+        };
+        if !placement.keeps_all(self.cells()) {
+            return Err(PlaceError::OutOfPlane);
+        }
+        let cells = placement.place_all(alloc, self.cells())?;
+        Ok(Pattern::from_ordered(cells))
+    }
+
+    /// The image of the pattern in an orientation, moved so that its least x and its least y are 0. The empty pattern
+    /// stays empty.
+    ///
+    /// # Errors
+    ///
+    /// `OutOfPlane` if a side of the image's box has over 1,000,001 cells, so that a cell would lie past the bound,
+    /// whether there is memory or not. Otherwise `Memory` if memory runs out.
+    pub fn turn(&self, alloc: Global, orientation: Orientation) -> Result<Pattern, PlaceError>
+        ensures turned { IfOk result (λ pattern. pattern ≡ turned orientation self.now) }
+        ensures plane { OnOk result (list_all on_plane (turned orientation self.now) ≡ true) }
+        ensures refused { IfErr result (RefusesPlace (turned orientation self.now)) }
+    {
+        let Some(placement) = to_corner(self.cells(), orientation) else {
+            return Ok(Pattern::from_ordered(Vec::new(alloc)));
+        };
+        if !placement.keeps_all(self.cells()) {
+            return Err(PlaceError::OutOfPlane);
+        }
+        let cells = placement.place_all(alloc, self.cells())?;
+        Ok(Pattern::from_ordered(in_order(cells)))
     }
 }
 
-/// The cell (x + dx, y + dy), where it lies on the plane.
+/// The cell (x + dx, y + dy), if it lies on the plane.
 #[tactic(auto, unfolding(crate::specs::Cells::on_plane))]
 fn displaced(cell: Cell, dx: i32, dy: i32) -> Option<Cell>
     ensures { result ≡ (if on_plane (moved_by dx dy cell) then Some (moved_by dx dy cell) else None) }
 {
-    match (coordinate(cell.x, dx), coordinate(cell.y, dy)) {
+    match (sum_on_plane(cell.x, dx), sum_on_plane(cell.y, dy)) {
         (Some(x), Some(y)) => Some(Cell { y, x }),
         _ => None,
     }
@@ -80,7 +117,7 @@ impl Placement {
         self.landing(cell).is_some()
     }
 
-    /// Where a cell lands that lands on the plane.
+    /// Where a cell lands, if it is known to land on the plane.
     fn place(self, cell: Cell) -> Cell
         requires cell { on_plane cell ≡ true }
         requires landed { on_plane (landed self cell) ≡ true }
@@ -116,52 +153,6 @@ impl Placement {
     }
 }
 
-impl Pattern {
-    /// The pattern moved by (dx, dy).
-    ///
-    /// # Errors
-    ///
-    /// `OutOfPlane` where a cell would lie past the bound; else `Memory` where memory is wanting.
-    pub fn shift(&self, alloc: Global, dx: i32, dy: i32) -> Result<Pattern, PlaceError>
-        ensures shifted { IfOk result (λ pattern. pattern ≡ shifted dx dy self.now) }
-        ensures plane { OnOk result (list_all on_plane (shifted dx dy self.now) ≡ true) }
-        ensures refused { IfErr result (RefusesPlace (shifted dx dy self.now)) }
-    {
-        let placement = Placement {
-            orientation: Orientation::Same,
-            dx,
-            dy,
-        };
-        if !placement.keeps_all(self.cells()) {
-            return Err(PlaceError::OutOfPlane);
-        }
-        let cells = placement.place_all(alloc, self.cells())?;
-        Ok(Pattern::from_ordered(cells))
-    }
-
-    /// The image of the pattern in an orientation, moved so that its least x and its least y are 0. The empty pattern
-    /// stays empty.
-    ///
-    /// # Errors
-    ///
-    /// `OutOfPlane` where a side of the image's box has over 1,000,001 cells, so that a cell would lie past the bound;
-    /// else `Memory` where memory is wanting.
-    pub fn turn(&self, alloc: Global, orientation: Orientation) -> Result<Pattern, PlaceError>
-        ensures turned { IfOk result (λ pattern. pattern ≡ turned orientation self.now) }
-        ensures plane { OnOk result (list_all on_plane (turned orientation self.now) ≡ true) }
-        ensures refused { IfErr result (RefusesPlace (turned orientation self.now)) }
-    {
-        let Some(placement) = to_corner(self.cells(), orientation) else {
-            return Ok(Pattern::from_ordered(Vec::new(alloc)));
-        };
-        if !placement.keeps_all(self.cells()) {
-            return Err(PlaceError::OutOfPlane);
-        }
-        let cells = placement.place_all(alloc, self.cells())?;
-        Ok(Pattern::from_ordered(in_order(cells)))
-    }
-}
-
 /// The least box round the image of the cells.
 #[tactic(auto, using(crate::proofs::BoundsLemmas::image_box_more))]
 fn image_box(cells: &[Cell], orientation: Orientation) -> Option<Bounds>
@@ -175,7 +166,7 @@ fn image_box(cells: &[Cell], orientation: Orientation) -> Option<Bounds>
     bounds
 }
 
-/// How cells are to lie so that their image is at the corner. It is `None` where there is no cell.
+/// How cells are to lie so that their image is at the corner. It is `None` if there is no cell.
 fn to_corner(cells: &[Cell], orientation: Orientation) -> Option<Placement>
     requires { list_all on_plane cells.now ≡ true }
     ensures { result ≡ option_map (corner_placement orientation) (box_of (map (turned_cell orientation) cells.now)) }

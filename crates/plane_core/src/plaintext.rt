@@ -10,8 +10,8 @@ ghost use Rattle.plane_core.specs.Cells.{IsPattern, cell_at, has};
 ghost use Rattle.plane_core.specs.declared.cell.Cell.{Cell};
 ghost use Rattle.plane_core.specs.declared.plaintext.PlaintextFault.{PlaintextFault};
 ghost use Rattle.plane_core.specs.Generations.{lies_within};
-ghost use Rattle.plane_core.specs.Plaintext.{is_live, fault_at, first_fault, live_cells, pattern, row_text, box_text, plain, IsSmall};
-ghost use Rattle.plane_core.specs.PlaintextPlaces.{Place, byte_at, is_comment, places_of_row, places};
+ghost use Rattle.plane_core.specs.Plaintext.{is_live, fault_at, first_fault, live_cells, pattern, row_text, box_text, plain, FitsThousandSquare};
+ghost use Rattle.plane_core.specs.PlaintextPlaces.{Place, byte_at, dot, is_comment, places_of_row, places, side_limit};
 
 use crate::bounds::Bounds;
 use crate::cell::Cell;
@@ -21,15 +21,14 @@ use std::alloc::{AllocError, Global};
 use std::io::Write;
 use thiserror::Error;
 
-/// In how many columns, and in how many rows, the cells of a plaintext pattern that is read may stand, dead ones
-/// included. Empty rows may follow.
+/// The most columns, or rows, that a text may have, dead cells included. Empty rows may follow.
 pub const SIDE_LIMIT: usize = 1_000;
 
 const DEAD: u8 = b'.';
 
 const LIVE: u8 = b'O';
 
-/// A second byte for a live cell, which is read and never written.
+/// Another byte for a live cell. It is read and never written.
 const STAR: u8 = b'*';
 
 /// The first byte of a comment.
@@ -40,27 +39,77 @@ const LINE_FEED: u8 = b'\n';
 /// Dead cells that are written at once.
 const DEAD_CELLS: [u8; 64] = [DEAD; 64];
 
-/// What is wrong with a text that is no plaintext pattern.
+/// Why a text is not a plaintext pattern.
 #[derive(Clone, Copy, Debug, PartialEq, Eq, Error)]
 pub enum PlaintextFault {
-    /// A byte of a row that is none of `.`, `O` and `*`. Lines and columns count from 1.
+    /// A byte of a row is none of `.`, `O` and `*`. Lines and columns count from 1.
     #[error("bad byte at line {line} column {column}")]
     BadByte { line: usize, column: usize },
-    /// A `.`, `O` or `*` past the 1,000th column or the 1,000th row.
+    /// A `.`, `O` or `*` stands past the 1,000th column or the 1,000th row.
     #[error("pattern larger than 1000 by 1000")]
     TooLarge,
 }
 
-/// Why no pattern was read.
+/// Why a text was not read.
 #[derive(Clone, Copy, Debug, PartialEq, Eq, Error)]
 pub enum PlaintextError {
-    /// The text is no plaintext pattern.
+    /// The text is not a plaintext pattern.
     #[error(transparent)]
     Fault(PlaintextFault),
     /// Memory ran out.
     #[error("out of memory")]
     Memory,
 }
+
+impl Pattern {
+    /// Reads a plaintext pattern file (LifeWiki, "Plaintext").
+    ///
+    /// Lines end with a line feed, which the last may lack; a carriage return at a line's end is dropped. A line
+    /// that begins with `!` is a comment. Each other line is the next row, from y = 0 on, and its bytes are the
+    /// cells from x = 0 on: `.` is dead, `O` and `*` are live. There may be up to 1,000 columns and 1,000 rows, dead
+    /// cells included; empty rows may follow.
+    ///
+    /// # Errors
+    ///
+    /// [`PlaintextError::Fault`] with the fault that stands first in the text, whether there is memory or not. Otherwise
+    /// [`PlaintextError::Memory`] if memory runs out.
+    pub fn read_plaintext(alloc: Global, input: &[u8]) -> Result<Pattern, PlaintextError>
+        ensures pattern { IfOk result (λ read. pattern input.now ≡ Ok read) }
+        ensures cells { IfOk result (λ read. (x y : ℕ) →
+            has read (cell_at (pos x) (pos y)) ≡ is_live (byte_at input.now x y)) }
+        ensures small { IfOk result (λ read. lies_within 999 read ≡ true) }
+        ensures fault { (fault : PlaintextFault) →
+            IsErrOf result (PlaintextError.Fault fault) ↔ (pattern input.now ≡ Err fault) }
+    {
+        if let Some(fault) = fault_in(input) {
+            return Err(PlaintextError::Fault(fault));
+        }
+        pattern_in(alloc, input).map_err(|_| PlaintextError::Memory)
+    }
+
+    /// Writes the pattern as plaintext (LifeWiki, "Plaintext"): the rows of its least box from the top, each from the
+    /// box's left column to its right column with `.` and `O`, and each ended by a line feed. Nothing is written of the
+    /// empty pattern. The `Out` must not have failed.
+    ///
+    /// It takes no memory. Each live cell is a write of one byte, so the writer should be buffered, as by a `BufWriter`.
+    ///
+    /// # Errors
+    ///
+    /// [`WriteError`] if a write fails or takes no byte. The front of the text may have been written by then.
+    pub fn write_plaintext<V: Write>(&self, out: &mut Out<V>) -> Result<(), WriteError>
+        requires { out.old.failed ≡ false }
+        ensures { Writes V.contents out.old out.new result (plain self.now) }
+    {
+        write_pattern(out, self)
+    }
+}
+
+/// A law of all patterns whose box is at most 1,000 by 1,000: what is written is read again, as the pattern moved to the
+/// corner.
+pub fn round_trip()
+    ensures { (cells : List Cell) → IsPattern cells → IfSome (box_of cells) FitsThousandSquare
+        → pattern (plain cells) ≡ Ok (at_corner cells) }
+{}
 
 /// The line without a carriage return at its end.
 fn without_return(line: &[u8]) -> &[u8]
@@ -84,7 +133,7 @@ fn is_live(byte: u8) -> bool
     byte == LIVE || byte == STAR
 }
 
-/// What is wrong with the byte of a row, if anything. Lines count from 1, and x and y from 0.
+/// The fault of a byte of a row, if it has one. Lines count from 1, and x and y from 0.
 #[tactic(auto, unfolding(crate::specs::Plaintext::fault_at))]
 fn fault_at(line: usize, y: usize, x: usize, byte: u8) -> Option<PlaintextFault>
     requires { x < usize.MAX }
@@ -137,8 +186,8 @@ fn fault_in(text: &[u8]) -> Option<PlaintextFault>
 
 /// The cell of a place in the first 1,000 columns and rows.
 fn small_cell(x: usize, y: usize) -> Cell
-    requires column { x < SIDE_LIMIT }
-    requires row { y < SIDE_LIMIT }
+    requires column { x < side_limit }
+    requires row { y < side_limit }
     ensures { result ≡ cell_at (pos x) (pos y) }
 {
     Cell {
@@ -150,7 +199,7 @@ fn small_cell(x: usize, y: usize) -> Cell
 /// Adds the cells of row y, each byte of which is in the first 1,000 columns and rows.
 #[tactic(auto, using(crate::proofs::PlaintextRows::live_here, crate::proofs::PlaintextRows::dead_here, crate::proofs::PlaintextRows::no_cell_past))]
 fn push_row(cells: &mut Vec<Cell>, y: usize, row: &[u8]) -> Result<(), AllocError>
-    requires { (x : ℕ) → x < length row.now → (x < SIDE_LIMIT) × (y < SIDE_LIMIT) }
+    requires { (x : ℕ) → x < length row.now → (x < side_limit) × (y < side_limit) }
     ensures { OnOk result
         (cells.new.items ≡ cells.old.items ++ live_cells (places_of_row (y, (0, row.now)))) }
 {
@@ -183,7 +232,7 @@ fn pattern_in(alloc: Global, text: &[u8]) -> Result<Pattern, AllocError>
 
 fn dead_cells(count: usize) -> &'static [u8]
     requires { count ≤ 64 }
-    ensures { result.now ≡ replicate count DEAD }
+    ensures { result.now ≡ replicate count dot }
 {
     &DEAD_CELLS[..count]
 }
@@ -191,7 +240,7 @@ fn dead_cells(count: usize) -> &'static [u8]
 /// Writes as many dead cells as the gap is wide, and then a byte.
 fn put_after_gap<V: Write>(out: &mut Out<V>, gap: u32, byte: u8) -> Result<(), WriteError>
     requires { out.old.failed ≡ false }
-    ensures { Writes V.contents out.old out.new result (replicate gap DEAD ++ byte ∷ []) }
+    ensures { Writes V.contents out.old out.new result (replicate gap dot ++ byte ∷ []) }
 {
     let mut left = gap as usize;
     while left > 0 {
@@ -261,52 +310,6 @@ fn write_pattern<V: Write>(out: &mut Out<V>, pattern: &Pattern) -> Result<(), Wr
         Some(bounds) => write_rows(out, pattern.cells(), bounds),
     }
 }
-
-impl Pattern {
-    /// Reads a plaintext pattern file (LifeWiki, "Plaintext").
-    ///
-    /// Lines end with a line feed, which the last may lack; a carriage return at a line's end is dropped. A line
-    /// that begins with `!` is a comment. Each other line is the next row, from y = 0 on, and its bytes are the
-    /// cells from x = 0 on: `.` is dead, `O` and `*` are live.
-    ///
-    /// # Errors
-    ///
-    /// [`PlaintextError::Fault`] with the fault that stands first in the text, whether there is memory or not, and
-    /// [`PlaintextError::Memory`] where memory runs out.
-    pub fn read_plaintext(alloc: Global, input: &[u8]) -> Result<Pattern, PlaintextError>
-        ensures pattern { IfOk result (λ read. pattern input.now ≡ Ok read) }
-        ensures cells { IfOk result (λ read. (x y : ℕ) →
-            has read (cell_at (pos x) (pos y)) ≡ is_live (byte_at input.now x y)) }
-        ensures small { IfOk result (λ read. lies_within 999 read ≡ true) }
-        ensures fault { (fault : PlaintextFault) →
-            IsErrOf result (PlaintextError.Fault fault) ↔ (pattern input.now ≡ Err fault) }
-    {
-        if let Some(fault) = fault_in(input) {
-            return Err(PlaintextError::Fault(fault));
-        }
-        pattern_in(alloc, input).map_err(|_| PlaintextError::Memory)
-    }
-
-    /// Writes the pattern as plaintext (LifeWiki, "Plaintext"): the rows of its least box from the top, each from the
-    /// box's left column to its right column with `.` and `O`, and each ended by a line feed. The empty pattern is
-    /// no byte. It takes no memory.
-    ///
-    /// # Errors
-    ///
-    /// [`WriteError`] where a write fails or takes no byte.
-    pub fn write_plaintext<V: Write>(&self, out: &mut Out<V>) -> Result<(), WriteError>
-        requires { out.old.failed ≡ false }
-        ensures { Writes V.contents out.old out.new result (plain self.now) }
-    {
-        write_pattern(out, self)
-    }
-}
-
-/// What is written of a pattern whose box is at most 1,000 by 1,000 is read again, as the pattern moved to the corner.
-pub fn round_trip()
-    ensures { (cells : List Cell) → IsPattern cells → IfSome (box_of cells) IsSmall
-        → pattern (plain cells) ≡ Ok (at_corner cells) }
-{}
 
 #[cfg(test)]
 mod tests;

@@ -1,4 +1,4 @@
-ghost use Rattle.std.specs.Prelude.{◌≡◌, ◌↔◌, ◌+◌, ◌≤◌, ℕ, true, false, IsTrue, ◌∷◌, [], length, codes, IfOk};
+ghost use Rattle.std.specs.Prelude.{◌≡◌, ◌↔◌, ◌+◌, ◌<◌, ◌≤◌, ℕ, true, false, IsTrue, ◌∷◌, [], length, codes, IfOk};
 ghost use Rattle.plane_core.specs.Out.{Writes};
 ghost use Rattle.plane_core.specs.Rules.{Numbers, IsRule, IsFirstFault, is_birth, is_survival, digits, rule_text, begins, numbers_at, rule_read};
 
@@ -7,13 +7,13 @@ use std::io::Write;
 use std::marker::Model;
 use thiserror::Error;
 
-/// Why a text is no rule's.
+/// Why a text is not a rule.
 #[derive(Clone, Copy, Debug, PartialEq, Eq, Error)]
 pub enum RuleError {
     /// The byte at `place` can't stand there, or the text ends there too early. Places count from 0.
     #[error("bad rule at {place}")]
     BadRule { place: usize },
-    /// A `0` stands directly behind the `b`.
+    /// A `0` stands directly after the `b`.
     #[error("birth on zero neighbours")]
     BirthZero,
 }
@@ -57,10 +57,10 @@ impl Rule {
     ///
     /// # Errors
     ///
-    /// Whichever stands first from the left:
+    /// The fault that stands first from the left:
     ///
     /// - [`RuleError::BadRule`]: a byte can't stand where it does, or the text ends too early.
-    /// - [`RuleError::BirthZero`]: a `0` stands directly behind the `b`.
+    /// - [`RuleError::BirthZero`]: a `0` stands directly after the `b`.
     pub fn read(text: &str) -> Result<Rule, RuleError>
         // What is read has the text as its one text, and each rule's text is read as that rule.
         ensures rule { IfOk result IsRule }
@@ -73,34 +73,41 @@ impl Rule {
 
         ensures exact { result ≡ rule_read text.now }
     {
-        rule_of(text.as_bytes())
+        read_bytes(text.as_bytes())
     }
 
     /// Whether n is a birth number. It is false for 0 and for every n over 8.
     pub fn births(&self, n: u8) -> bool
-        ensures { result ≡ is_birth self.now n }
+        ensures birth { result ≡ is_birth self.now n }
+        ensures zero { n ≡ 0 → result ≡ false }
+        ensures over { 8 < n → result ≡ false }
+        ensures rule { IsRule self.now }
     {
+        let Rule { births, .. } = self;
         match n {
-            1..=8 => self.births[(n - 1) as usize],
+            1..=8 => births[(n - 1) as usize],
             _ => false,
         }
     }
 
     /// Whether n is a survival number. It is false for every n over 8.
     pub fn survives(&self, n: u8) -> bool
-        ensures { result ≡ is_survival self.now n }
+        ensures survival { result ≡ is_survival self.now n }
+        ensures over { 8 < n → result ≡ false }
+        ensures rule { IsRule self.now }
     {
+        let Rule { survivals, .. } = self;
         match n {
-            0..=8 => self.survivals[n as usize],
+            0..=8 => survivals[n as usize],
             _ => false,
         }
     }
 
-    /// Writes the one text of the rule, which [`Rule::read`] reads as this rule.
+    /// Writes the one text of the rule, which [`Rule::read`] reads as this rule. The `Out` must not have failed.
     ///
     /// # Errors
     ///
-    /// [`WriteError`] where a write failed. A front of the text may have been written.
+    /// [`WriteError`] if a write fails or takes no byte. The front of the text may have been written by then.
     pub fn write_text<V: Write>(&self, out: &mut Out<V>) -> Result<(), WriteError>
         requires { out.old.failed ≡ false }
         ensures text { Writes V.contents out.old out.new result (rule_text self.now) }
@@ -114,7 +121,7 @@ impl Rule {
     }
 }
 
-// Writes the digits of the numbers from `least` on that the table answers true.
+/// Writes the digits of the numbers from `least` on that the table answers true.
 fn write_digits<V: Write>(out: &mut Out<V>, least: u8, answers: &[bool]) -> Result<(), WriteError>
     requires fresh { out.old.failed ≡ false }
     requires digits { least + length answers.now ≤ 10 }
@@ -128,8 +135,8 @@ fn write_digits<V: Write>(out: &mut Out<V>, least: u8, answers: &[bool]) -> Resu
     Ok(())
 }
 
-// The rule that the bytes of a text say, read from the left.
-fn rule_of(text: &[u8]) -> Result<Rule, RuleError>
+/// The rule that the bytes of a text say, read from the left.
+fn read_bytes(text: &[u8]) -> Result<Rule, RuleError>
     ensures { result ≡ rule_read text.now }
 {
     if !text.starts_with(b"b") {
@@ -151,7 +158,7 @@ fn rule_of(text: &[u8]) -> Result<Rule, RuleError>
     Ok(Rule { births, survivals })
 }
 
-// Reads the numbers from `least` on whose digits stand in order at the front of the text, and gives the text behind them.
+/// Reads the numbers from `least` on whose digits stand in order at the front of the text, and returns the text after them.
 fn read_numbers<const N: usize>(text: &[u8], least: u8) -> ([bool; N], &[u8])
     requires { least + N ≤ 10 }
     ensures answers { result.0 ≡ (numbers_at N least text.now).answers }

@@ -1,3 +1,17 @@
+//! How a generation is counted: in two merges of lists, and no table of the plane.
+//!
+//!      a pattern      rows of three      three such rows
+//!       . . . .          . . . .             1 1 1 .
+//!       . O . .          1 1 1 .             2 3 3 1
+//!       . O O .          1 2 2 1             2 3 3 1
+//!       . . . .          . . . .             1 2 2 1
+//!
+//! A list of tallies has, in the order of cells, how many live cells were counted at each. The first merge takes the
+//! ones of the pattern three times, moved a column to the left, not at all and to the right, and walks along all three
+//! at once: what they have at the earliest cell is added up. The second merge does so with the rows, moved up and down.
+//!
+//! A live cell is counted in its own block. So the four cells with a 3 are alive next under Life: one is dead and has
+//! three neighbours, and the others are alive and have two.
 ghost use Rattle.std.specs.Prelude.{◌≡◌, true, ℕ, ◌+◌, ◌<◌, ◌^◌, List, [], ◌∷◌, ◌||◌, ◌≤◌, map, filter, IfOk, MatchOption, unsigned_abs, neg_ℤ};
 ghost use Rattle.std.specs.List.{list_all};
 ghost use Rattle.plane_core.specs.Cells.{InOrder, IsPattern, moved_by, near_plane};
@@ -6,6 +20,7 @@ ghost use Rattle.plane_core.specs.declared.cell.Cell.{Cell};
 ghost use Rattle.plane_core.specs.declared.tally.Tally.{Tally};
 
 use crate::cell::Cell;
+use crate::coordinate::negated;
 use crate::rule::Rule;
 use std::alloc::{AllocError, Global};
 use std::cmp::Ordering;
@@ -22,15 +37,15 @@ impl Tally {
     /// The tally, counted at the cell (dx, dy) further.
     fn moved(self, dx: i32, dy: i32) -> Tally
         requires near { near_plane self.cell ≡ true }
-        requires step { unsigned_abs dx ≤ 1 }
-        requires leap { unsigned_abs dy ≤ 1 }
+        requires right { unsigned_abs dx ≤ 1 }
+        requires down { unsigned_abs dy ≤ 1 }
         ensures { result ≡ moved_tally dx dy self }
     {
         let cell = self.cell.moved(dx, dy);
         Tally { cell, ..self }
     }
 
-    /// Whether the cell is alive next, where the count is that of its block. A live cell is counted there itself.
+    /// Whether the cell is alive next, if the count is that of its block. A live cell is counted there itself.
     fn lives(self, rule: &Rule) -> bool
         ensures { result ≡ tally_lives rule.now self }
     {
@@ -40,161 +55,6 @@ impl Tally {
             rule.births(self.count)
         }
     }
-}
-
-/// What a list of tallies has at a cell, and the list without it.
-#[derive(Clone, Copy)]
-struct Taken<'a> {
-    count: u8,
-    alive: bool,
-    rest: &'a [Tally],
-}
-
-/// The first tally and those behind it.
-fn split(tallies: &[Tally]) -> Option<(Tally, &[Tally])>
-    ensures { MatchOption result (tallies.now ≡ []) (λ p. tallies.now ≡ p.0 ∷ p.1.now) }
-{
-    match tallies {
-        [] => None,
-        [first, rest @ ..] => Some((*first, rest)),
-    }
-}
-
-/// The cell of the first tally.
-fn first_cell(tallies: &[Tally]) -> Option<Cell>
-    ensures { result ≡ first_of tallies.now }
-{
-    let (first, _) = split(tallies)?;
-    Some(first.cell)
-}
-
-/// The earlier of two cells.
-fn earlier(a: Option<Cell>, b: Option<Cell>) -> Option<Cell>
-    ensures { result ≡ earlier_of a b }
-{
-    match (a, b) {
-        (None, b) => b,
-        (Some(a), None) => Some(a),
-        (Some(a), Some(b)) => match a.cmp(&b) {
-            Ordering::Less | Ordering::Equal => Some(a),
-            Ordering::Greater => Some(b),
-        },
-    }
-}
-
-/// The earliest cell of three lists of tallies.
-fn earliest(before: &[Tally], here: &[Tally], behind: &[Tally]) -> Option<Cell>
-    ensures { result ≡ earlier_of (first_of before.now) (earlier_of (first_of here.now) (first_of behind.now)) }
-{
-    earlier(
-        first_cell(before),
-        earlier(first_cell(here), first_cell(behind)),
-    )
-}
-
-/// Takes the first tally off the list where it is one of this cell.
-fn take_at(tallies: &[Tally], cell: Cell) -> Taken<'_>
-    ensures count { result.count ≡ count_first cell tallies.now }
-    ensures alive { result.alive ≡ alive_first cell tallies.now }
-    ensures rest { result.rest.now ≡ rest_at cell tallies.now }
-{
-    match split(tallies) {
-        Some((first, rest)) if cell == first.cell => Taken {
-            count: first.count,
-            alive: first.alive,
-            rest,
-        },
-        _ => Taken {
-            count: 0,
-            alive: false,
-            rest: tallies,
-        },
-    }
-}
-
-/// The tallies, each counted at the cell (dx, dy) further.
-fn moved(alloc: Global, tallies: &[Tally], dx: i32, dy: i32) -> Result<Vec<Tally>, AllocError>
-    requires near { list_all near_plane (cells_of tallies.now) ≡ true }
-    requires step { unsigned_abs dx ≤ 1 }
-    requires leap { unsigned_abs dy ≤ 1 }
-    ensures { IfOk result (λ moved. moved.items ≡ map (moved_tally dx dy) tallies.now) }
-{
-    let mut moved = Vec::with_capacity(alloc, tallies.len())?;
-    for tally in tallies {
-        moved.push(tally.moved(dx, dy))?;
-    }
-    Ok(moved)
-}
-
-/// Three lists of tallies in order, made one: what is counted at a cell is what the three have there together, and
-/// the middle list says what is alive.
-fn merged(
-    alloc: Global,
-    before: &[Tally],
-    here: &[Tally],
-    behind: &[Tally],
-) -> Result<Vec<Tally>, AllocError>
-    requires orders { InOrder (cells_of before.now) × InOrder (cells_of here.now) × InOrder (cells_of behind.now) }
-    requires small { (c : Cell) → total before.now c + (total here.now c + total behind.now c) < 256 }
-    ensures { IfOk result (λ sums. IsMerged before.now here.now behind.now sums.items) }
-{
-    let (mut left, mut middle, mut right) = (before, here, behind);
-    let mut sums = Vec::new(alloc);
-    while let Some(cell) = earliest(left, middle, right) {
-        let from_left = take_at(left, cell);
-        let from_middle = take_at(middle, cell);
-        let from_right = take_at(right, cell);
-        sums.push(Tally {
-            cell,
-            count: from_left.count + from_middle.count + from_right.count,
-            alive: from_middle.alive,
-        })?;
-        left = from_left.rest;
-        middle = from_middle.rest;
-        right = from_right.rest;
-    }
-    Ok(sums)
-}
-
-/// The same step the other way.
-fn opposite(step: i32) -> i32
-    requires { unsigned_abs step ≤ 1 }
-    ensures { result ≡ neg_ℤ step }
-{
-    -step
-}
-
-/// Each cell's count together with those of the two cells a step (dx, dy) from it, before and behind.
-fn with_neighbours(
-    alloc: Global,
-    tallies: &[Tally],
-    dx: i32,
-    dy: i32,
-) -> Result<Vec<Tally>, AllocError>
-    requires near { list_all near_plane (cells_of tallies.now) ≡ true }
-    requires in_order { InOrder (cells_of tallies.now) }
-    requires step { unsigned_abs dx ≤ 1 }
-    requires leap { unsigned_abs dy ≤ 1 }
-    requires small { (c : Cell) → total tallies.now (moved_by dx dy c) + (total tallies.now c + total tallies.now (moved_by (neg_ℤ dx) (neg_ℤ dy) c)) < 256 }
-    ensures { IfOk result (λ sums. AddsNeighbours dx dy tallies.now sums.items) }
-{
-    let before = moved(alloc, tallies, opposite(dx), opposite(dy))?;
-    let behind = moved(alloc, tallies, dx, dy)?;
-    merged(alloc, before.as_slice(), tallies, behind.as_slice())
-}
-
-/// Each cell of the pattern, counted once at itself.
-fn counted(alloc: Global, cells: &[Cell]) -> Result<Vec<Tally>, AllocError>
-    ensures { IfOk result (λ tallies. tallies.items ≡ map one_of cells.now) }
-{
-    cells
-        .iter()
-        .map(|cell| Tally {
-            cell: *cell,
-            count: 1,
-            alive: true,
-        })
-        .collect(alloc)
 }
 
 /// For each cell in the pattern or beside it, how many live cells its block has: the cell itself and the eight round
@@ -223,4 +83,151 @@ pub(crate) fn selected(
         }
     }
     Ok(cells)
+}
+
+/// Each cell's count together with those of the two cells a step (dx, dy) from it, one on either side.
+fn with_neighbours(
+    alloc: Global,
+    tallies: &[Tally],
+    dx: i32,
+    dy: i32,
+) -> Result<Vec<Tally>, AllocError>
+    requires near { list_all near_plane (cells_of tallies.now) ≡ true }
+    requires in_order { InOrder (cells_of tallies.now) }
+    requires right { unsigned_abs dx ≤ 1 }
+    requires down { unsigned_abs dy ≤ 1 }
+    requires small { (c : Cell) → total tallies.now (moved_by dx dy c) + (total tallies.now c + total tallies.now (moved_by (neg_ℤ dx) (neg_ℤ dy) c)) < 256 }
+    ensures { IfOk result (λ sums. AddsNeighbours dx dy tallies.now sums.items) }
+{
+    let left = moved(alloc, tallies, negated(dx), negated(dy))?;
+    let right = moved(alloc, tallies, dx, dy)?;
+    merged(alloc, left.as_slice(), tallies, right.as_slice())
+}
+
+/// Each cell of the pattern, counted once at itself.
+fn counted(alloc: Global, cells: &[Cell]) -> Result<Vec<Tally>, AllocError>
+    ensures { IfOk result (λ tallies. tallies.items ≡ map one_of cells.now) }
+{
+    cells
+        .iter()
+        .map(|cell| Tally {
+            cell: *cell,
+            count: 1,
+            alive: true,
+        })
+        .collect(alloc)
+}
+
+/// The tallies, each counted at the cell (dx, dy) further.
+fn moved(alloc: Global, tallies: &[Tally], dx: i32, dy: i32) -> Result<Vec<Tally>, AllocError>
+    requires near { list_all near_plane (cells_of tallies.now) ≡ true }
+    requires right { unsigned_abs dx ≤ 1 }
+    requires down { unsigned_abs dy ≤ 1 }
+    ensures { IfOk result (λ moved. moved.items ≡ map (moved_tally dx dy) tallies.now) }
+{
+    let mut moved = Vec::with_capacity(alloc, tallies.len())?;
+    for tally in tallies {
+        moved.push(tally.moved(dx, dy))?;
+    }
+    Ok(moved)
+}
+
+/// Three lists of tallies in order, made one: what is counted at a cell is what the three have there together, and
+/// the middle list says what is alive.
+fn merged(
+    alloc: Global,
+    left: &[Tally],
+    middle: &[Tally],
+    right: &[Tally],
+) -> Result<Vec<Tally>, AllocError>
+    requires orders { InOrder (cells_of left.now) × InOrder (cells_of middle.now) × InOrder (cells_of right.now) }
+    requires small { (c : Cell) → total left.now c + (total middle.now c + total right.now c) < 256 }
+    ensures { IfOk result (λ sums. IsMerged left.now middle.now right.now sums.items) }
+{
+    let (mut left_rest, mut middle_rest, mut right_rest) = (left, middle, right);
+    let mut sums = Vec::new(alloc);
+    while let Some(cell) = earliest(left_rest, middle_rest, right_rest) {
+        let from_left = take_at(left_rest, cell);
+        let from_middle = take_at(middle_rest, cell);
+        let from_right = take_at(right_rest, cell);
+        sums.push(Tally {
+            cell,
+            count: from_left.count + from_middle.count + from_right.count,
+            alive: from_middle.alive,
+        })?;
+        left_rest = from_left.rest;
+        middle_rest = from_middle.rest;
+        right_rest = from_right.rest;
+    }
+    Ok(sums)
+}
+
+/// What a list of tallies has at a cell, and the list without it.
+#[derive(Clone, Copy)]
+struct Taken<'a> {
+    count: u8,
+    alive: bool,
+    rest: &'a [Tally],
+}
+
+/// Takes the first tally off the list if it is one of this cell.
+fn take_at(tallies: &[Tally], cell: Cell) -> Taken<'_>
+    ensures count { result.count ≡ count_first cell tallies.now }
+    ensures alive { result.alive ≡ alive_first cell tallies.now }
+    ensures rest { result.rest.now ≡ rest_at cell tallies.now }
+{
+    match split(tallies) {
+        Some((first, rest)) if cell == first.cell => Taken {
+            count: first.count,
+            alive: first.alive,
+            rest,
+        },
+        _ => Taken {
+            count: 0,
+            alive: false,
+            rest: tallies,
+        },
+    }
+}
+
+/// The earliest cell of three lists of tallies.
+fn earliest(left: &[Tally], middle: &[Tally], right: &[Tally]) -> Option<Cell>
+    ensures { result ≡ earlier_of (first_of left.now) (earlier_of (first_of middle.now) (first_of right.now)) }
+{
+    earlier(
+        first_cell(left),
+        earlier(first_cell(middle), first_cell(right)),
+    )
+}
+
+/// The earlier of two cells.
+fn earlier(a: Option<Cell>, b: Option<Cell>) -> Option<Cell>
+    ensures { result ≡ earlier_of a b }
+{
+    match (a, b) {
+        (None, b) => b,
+        (Some(a), None) => Some(a),
+        (Some(a), Some(b)) => match a.cmp(&b) {
+            Ordering::Less | Ordering::Equal => Some(a),
+            Ordering::Greater => Some(b),
+        },
+    }
+}
+
+/// The cell of the first tally.
+fn first_cell(tallies: &[Tally]) -> Option<Cell>
+    ensures { result ≡ first_of tallies.now }
+{
+    let (first, _) = split(tallies)?;
+    Some(first.cell)
+}
+
+/// The first tally and those after it.
+fn split(tallies: &[Tally]) -> Option<(Tally, &[Tally])>
+    ensures { MatchOption result (tallies.now ≡ []) (λ p. tallies.now ≡ p.0 ∷ p.1.now) }
+{
+    match tallies {
+        [] => None,
+        [first, rest @ ..] => Some((*first, rest)),
+    }
 }

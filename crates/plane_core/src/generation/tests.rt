@@ -37,7 +37,7 @@ fn two_rows_of_three_under_two_rules(rt: HostRuntime) -> Result<(), Fail> {
 }
 
 #[test]
-fn the_edge_is_told(rt: HostRuntime) -> Result<(), Fail> {
+fn the_edge_is_an_error(rt: HostRuntime) -> Result<(), Fail> {
     let far = pattern(rt.alloc(), &[(999_999, 0), (1_000_000, 0)])?;
     let life = Rule::life();
     assert_eq!(rt; far.step(rt.alloc(), &life).err(), Some(StepError::Edge));

@@ -70,7 +70,7 @@ fn knows_its_limits(rt: HostRuntime) {
     assert_eq!(rt; refusal(rt.alloc(), &rows), None);
 }
 
-// Where memory is refused the answer is that or the whole pattern.
+// If memory is refused, the answer is `Memory` or the whole pattern.
 #[test]
 fn keeps_cells_or_says_memory(rt: HostRuntime) {
     match Pattern::read_plaintext(rt.alloc(), b"OOOOO\n\n.OOOO") {

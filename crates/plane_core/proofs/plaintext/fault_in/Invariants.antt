@@ -6,4 +6,5 @@ use Rattle.plane_core.proofs.plaintext.fault_in.Given as goal
 
 abbrev pub invariant-loop-line : goal.invariant-loop-line
 invariant-loop-line l =
-    (l.number ≡ length l.yielded) × (l.y ≤ l.number) × (first_fault (places_after (l.number + 1) l.y (drop l.number (parts_of l.text))) ≡ first_fault (places l.text))
+    (l.number ≡ length l.yielded) × (l.y ≤ l.number)
+    × (first_fault (places_after (l.number + 1) l.y (drop l.number (parts_of l.text))) ≡ first_fault (places l.text))

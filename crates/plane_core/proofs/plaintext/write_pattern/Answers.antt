@@ -11,7 +11,8 @@ write_rows-requires-clause-bounds g c = IsBox-box_of c.args.pattern.now c.in-Som
 
 pub write_rows-requires-clause-cells : goal.write_rows-requires-clause-cells
 write_rows-requires-clause-cells g c =
-    subst (IsAhead c.in-Some.bounds.top c.in-Some.bounds) (sym c.cells.ensures.cells) (IsAhead-box_of c.args.pattern.now c.in-Some.bounds c.cells.ensures.pattern (sym c.in-Some.ensures.bounds))
+    subst (IsAhead c.in-Some.bounds.top c.in-Some.bounds) (sym c.cells.ensures.cells)
+    (IsAhead-box_of c.args.pattern.now c.in-Some.bounds c.cells.ensures.pattern (sym c.in-Some.ensures.bounds))
 
 pub returns-in-None : goal.returns-in-None
 unfolding plain box_text
@@ -20,4 +21,5 @@ returns-in-None g c = Writes_as (ap (λ o. box_text o c.args.pattern.now) c.in-N
 pub returns-in-Some : goal.returns-in-Some
 unfolding plain
 returns-in-Some g c =
-    Writes_as (ap (λ cells. box_text (Some c.in-Some.bounds) cells) c.cells.ensures.cells ∙ ap (λ o. box_text o c.args.pattern.now) c.in-Some.ensures.bounds) c.write_rows.ensures
+    Writes_as (ap (λ cells. box_text (Some c.in-Some.bounds) cells) c.cells.ensures.cells
+    ∙ ap (λ o. box_text o c.args.pattern.now) c.in-Some.ensures.bounds) c.write_rows.ensures

@@ -12,8 +12,13 @@ loop-y-init g c =
     let cells = c.args.cells.now in
     let top_fits : FitsSigned w32 b.top = search rules in
     let high = c.requires.bounds.high in
-    rw (to_z-of_z w32 b.top top_fits)
-    (omega (arith, ints), omega (arith, ints), c.requires.cells, (λ x z l. refl), ([], box_text_is cells b high, Writes_nothing c.args.out.now c.requires.fresh))
+    rw (to_z-of_z w32 b.top top_fits) (
+      omega (arith, ints),
+      omega (arith, ints),
+      c.requires.cells,
+      (λ x z l. refl),
+      ([], box_text_is cells b high, Writes_nothing c.args.out.now c.requires.fresh),
+    )
 
 pub loop-y-preserved : goal.loop-y-preserved
 loop-y-preserved g c =
@@ -30,7 +35,8 @@ loop-y-preserved g c =
     let bottom_fits : FitsSigned w32 b.bottom = search rules in
     let bottom : to_z w32 (of_z w32 b.bottom) ≡ b.bottom = to_z-of_z w32 b.bottom bottom_fits in
     let end_fits : FitsSigned w32 end = omega (arith, ints) in
-    let at_end : to_z w32 (of_z w32 (to_z w32 (of_z w32 b.bottom) +ℤ pos 1)) ≡ end = ap (λ z. to_z w32 (of_z w32 (z +ℤ pos 1))) bottom ∙ to_z-of_z w32 end end_fits in
+    let at_end : to_z w32 (of_z w32 (to_z w32 (of_z w32 b.bottom) +ℤ pos 1)) ≡ end = ap (λ z. to_z w32 (of_z w32 (z +ℤ pos 1))) bottom
+    ∙ to_z-of_z w32 end end_fits in
     let test = rw at_end at c.loop-y-test.true in
     let l : y <ℤ end = lt_z-true y end test in
     let next_fits : FitsSigned w32 (y +ℤ pos 1) = omega (arith, ints) in
@@ -41,7 +47,11 @@ loop-y-preserved g c =
       omega (arith, ints),
       IsAhead-next y b rest inv.2,
       SameFrom-next y cells rest inv.3,
-      (front.0 ++ row_text rest b y, rows_rest-at cells rest b y front.0 (box_text (Some b) cells) l inv.3 front.1, Writes_then front.2 c.in_ok-write_row.ensures),
+      (
+        front.0 ++ row_text rest b y,
+        rows_rest-at cells rest b y front.0 (box_text (Some b) cells) l inv.3 front.1,
+        Writes_then front.2 c.in_ok-write_row.ensures,
+      ),
     )
 
 pub returns-in_err-write_row : goal.returns-in_err-write_row
@@ -59,7 +69,8 @@ returns-in_err-write_row g c =
     let bottom_fits : FitsSigned w32 b.bottom = search rules in
     let bottom : to_z w32 (of_z w32 b.bottom) ≡ b.bottom = to_z-of_z w32 b.bottom bottom_fits in
     let end_fits : FitsSigned w32 end = omega (arith, ints) in
-    let at_end : to_z w32 (of_z w32 (to_z w32 (of_z w32 b.bottom) +ℤ pos 1)) ≡ end = ap (λ z. to_z w32 (of_z w32 (z +ℤ pos 1))) bottom ∙ to_z-of_z w32 end end_fits in
+    let at_end : to_z w32 (of_z w32 (to_z w32 (of_z w32 b.bottom) +ℤ pos 1)) ≡ end = ap (λ z. to_z w32 (of_z w32 (z +ℤ pos 1))) bottom
+    ∙ to_z-of_z w32 end end_fits in
     let test = rw at_end at c.loop-y-test.true in
     let l : y <ℤ end = lt_z-true y end test in
     let front = inv.4 in
@@ -79,7 +90,8 @@ returns g c =
     let bottom_fits : FitsSigned w32 b.bottom = search rules in
     let bottom : to_z w32 (of_z w32 b.bottom) ≡ b.bottom = to_z-of_z w32 b.bottom bottom_fits in
     let end_fits : FitsSigned w32 end = omega (arith, ints) in
-    let at_end : to_z w32 (of_z w32 (to_z w32 (of_z w32 b.bottom) +ℤ pos 1)) ≡ end = ap (λ z. to_z w32 (of_z w32 (z +ℤ pos 1))) bottom ∙ to_z-of_z w32 end end_fits in
+    let at_end : to_z w32 (of_z w32 (to_z w32 (of_z w32 b.bottom) +ℤ pos 1)) ≡ end = ap (λ z. to_z w32 (of_z w32 (z +ℤ pos 1))) bottom
+    ∙ to_z-of_z w32 end end_fits in
     let test = rw at_end at c.loop-y-test.false in
     let front = inv.4 in
     Writes_as (sym (rows_rest-end cells b y front.0 (box_text (Some b) cells) (lt_z-false y end test) inv.1 front.1)) front.2

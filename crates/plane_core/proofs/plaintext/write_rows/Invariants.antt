@@ -10,4 +10,5 @@ use Rattle.plane_core.proofs.plaintext.write_rows.Given as goal
 abbrev pub invariant-loop-y : goal.invariant-loop-y
 invariant-loop-y g l =
     (l.bounds.top ≤ℤ l.y) × (l.y ≤ℤ (l.bounds.bottom +ℤ pos 1)) × IsAhead l.y l.bounds l.rest × SameFrom l.y l.cells l.rest
-    × ((front : List ℕ) × (box_text (Some l.bounds) l.cells ≡ front ++ rows_rest l.cells l.bounds l.y) × Writes {E = WriteError} g.V.Write.contents l.fn.out l.out (Ok tt) front)
+    × ((front : List ℕ) × (box_text (Some l.bounds) l.cells ≡ front ++ rows_rest l.cells l.bounds l.y)
+    × Writes {E = WriteError} g.V.Write.contents l.fn.out l.out (Ok tt) front)

@@ -1,7 +1,7 @@
 use Rattle.std.proofs.Common.{ap, sym, ◌∙◌, subst, List, ℕ, ◌+◌, set, true}
 use Rattle.plane_core.specs.Rules.{Reading}
 use Rattle.plane_core.proofs.OutLemmas.{take-drop-rest}
-use Rattle.plane_core.proofs.ReadingLemmas.{ReadUpTo, ReadUpTo_hit, ReadUpTo_miss, ReadUpTo_done}
+use Rattle.plane_core.proofs.RuleNumbers.{ReadUpTo, ReadUpTo_hit, ReadUpTo_miss, ReadUpTo_done}
 use Rattle.plane_core.proofs.rule.read_numbers.Goals as goal
 use Rattle.plane_core.proofs.rule.read_numbers.Goals.{then-starts_with, else-starts_with}
 

@@ -1,4 +1,4 @@
-use Rattle.plane_core.proofs.ReadingLemmas.{ReadUpTo}
+use Rattle.plane_core.proofs.RuleNumbers.{ReadUpTo}
 use Rattle.plane_core.proofs.rule.read_numbers.Given as goal
 
 abbrev pub invariant-loop-i : goal.invariant-loop-i

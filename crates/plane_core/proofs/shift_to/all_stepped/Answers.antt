@@ -9,4 +9,5 @@ loop-i-preserved c =
     let fits_y : FitsSigned w32 c.args.dy = search rules in
     let same = simp to_z-of_z at c.if-ne.ensures in
     let so_far = simp to_z-of_z at c.loop-i.invariant in
-    simp to_z-of_z (stepped_more c.args.dx c.args.dy c.args.cells.now c.args.others.now c.loop-i.i _ c.step_between.result c.loop-i-test.true c.requires.lengths so_far c.step_between.ensures (sym same))
+    simp to_z-of_z (stepped_more c.args.dx c.args.dy c.args.cells.now c.args.others.now c.loop-i.i _ c.step_between.result c.loop-i-test.true
+    c.requires.lengths so_far c.step_between.ensures (sym same))

@@ -7,4 +7,6 @@ pub returns-in-len1-up : goal.returns-in-len1-up
 returns-in-len1-up c =
     let fits_x : FitsSigned w32 c.step_between-dx.result.0 = search rules in
     let fits_y : FitsSigned w32 c.step_between-dx.result.1 = search rules in
-    rw (simp to_z-of_z at c.then_some.ensures) (tells_shift c.args.cells.now c.args.others.now _ c.step_between-dx.result c.all_stepped.result c.in-len1-up.len_at_least (omega arith) c.step_between-dx.ensures (simp to_z-of_z at c.all_stepped.ensures))
+    rw (simp to_z-of_z at c.then_some.ensures)
+    (tells_shift c.args.cells.now c.args.others.now _ c.step_between-dx.result c.all_stepped.result c.in-len1-up.len_at_least (omega arith)
+    c.step_between-dx.ensures (simp to_z-of_z at c.all_stepped.ensures))

@@ -22,7 +22,12 @@ pub with_neighbours-requires-clause-small : goal.with_neighbours-requires-clause
 with_neighbours-requires-clause-small c = λ x.
     let ones : c.as_slice.result.now ≡ map one_of c.args.cells.now = c.as_slice.ensures.value ∙ c.in_ok-ones.ensures in
     let in_order = c.requires.in_order in
-    rw ones (omega (arith, one_small c.args.cells.now (moved_by (pos 1) (pos 0) x) in_order, one_small c.args.cells.now x in_order, one_small c.args.cells.now (moved_by (negsuc 0) (pos 0) x) in_order))
+    rw ones (omega (
+      arith,
+      one_small c.args.cells.now (moved_by (pos 1) (pos 0) x) in_order,
+      one_small c.args.cells.now x in_order,
+      one_small c.args.cells.now (moved_by (negsuc 0) (pos 0) x) in_order,
+    ))
 
 pub with_neighbours-requires-2-clause-near : goal.with_neighbours-requires-2-clause-near
 with_neighbours-requires-2-clause-near c =
@@ -41,4 +46,6 @@ pub returns : goal.returns
 returns c =
     let ones : c.as_slice.result.now ≡ map one_of c.args.cells.now = c.as_slice.ensures.value ∙ c.in_ok-ones.ensures in
     let rows : AddsNeighbours (pos 1) (pos 0) (map one_of c.args.cells.now) c.in_ok-rows.rows.items = rw ones at c.in_ok-rows.ensures in
-    IfOk-weaker c.with_neighbours-2.result _ _ (λ sums m. counts_blocks c.args.cells.now c.in_ok-rows.rows.items sums.items c.requires.in_order rows m) (rw c.as_slice-2.ensures.value at c.with_neighbours-2.ensures)
+    IfOk-weaker c.with_neighbours-2.result _ _
+    (λ sums m. counts_blocks c.args.cells.now c.in_ok-rows.rows.items sums.items c.requires.in_order rows m)
+    (rw c.as_slice-2.ensures.value at c.with_neighbours-2.ensures)

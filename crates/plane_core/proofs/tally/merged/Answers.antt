@@ -14,7 +14,7 @@ overflow_add-from_left-in-Some c =
 
 pub loop-cell-smaller : goal.loop-cell-smaller
 loop-cell-smaller c =
-    let least = shorter c.loop-cell.left.now c.loop-cell.middle.now c.loop-cell.right.now c.in-Some.cell (sym c.in-Some.ensures) in
+    let least = shorter c.loop-cell.left_rest.now c.loop-cell.middle_rest.now c.loop-cell.right_rest.now c.in-Some.cell (sym c.in-Some.ensures) in
     rw (c.take_at-from_left.ensures.rest, c.take_at-from_middle.ensures.rest, c.take_at-from_right.ensures.rest) least
 
 -- what is pushed is what the merge adds at the earliest cell

@@ -12,7 +12,8 @@ from_ordered-requires c =
     let fits_x : FitsSigned w32 c.args.dx = search rules in
     let fits_y : FitsSigned w32 c.args.dy = search rules in
     let on : list_all on_plane (shifted c.args.dx c.args.dy c.args.self.now) ≡ true = search rules in
-    let moved : c.in_ok-cells.cells.items ≡ shifted c.args.dx c.args.dy c.args.self.now = rw c.cells-2.ensures.cells at (simp to_z-of_z at c.in_ok-cells.ensures) in
+    let moved : c.in_ok-cells.cells.items ≡ shifted c.args.dx c.args.dy c.args.self.now =
+    rw c.cells-2.ensures.cells at (simp to_z-of_z at c.in_ok-cells.ensures) in
     rw moved (is_pattern-shifted c.args.dx c.args.dy c.args.self.now c.cells.ensures.pattern.in_order on)
 
 pub returns-in_err-cells-clause-refused : goal.returns-in_err-cells-clause-refused

@@ -37,13 +37,16 @@ pub from_ordered-requires-2 : goal.from_ordered-requires-2
 from_ordered-requires-2 c =
     let some = rw c.cells.ensures.cells at c.in-Some.ensures in
     let on = rw c.cells-2.ensures.cells at c.if-not-keeps_all.ensures in
-    let placed : c.in_order.result.items ≡ turned c.args.orientation c.args.self.now = c.in_order.ensures ∙ ap set_of (rw c.cells-3.ensures.cells at c.in_ok-cells.ensures) ∙ placed-turned c.args.orientation c.args.self.now c.in-Some.placement some in
+    let placed : c.in_order.result.items ≡ turned c.args.orientation c.args.self.now =
+    c.in_order.ensures ∙ ap set_of (rw c.cells-3.ensures.cells at c.in_ok-cells.ensures)
+    ∙ placed-turned c.args.orientation c.args.self.now c.in-Some.placement some in
     rw placed (is_pattern-turned c.args.orientation c.args.self.now (sym (placed-plane c.args.orientation c.args.self.now c.in-Some.placement some) ∙ sym on))
 
 pub returns-clause-turned : goal.returns-clause-turned
 returns-clause-turned c =
     let some = rw c.cells.ensures.cells at c.in-Some.ensures in
-    c.from_ordered-2.ensures ∙ c.in_order.ensures ∙ ap set_of (rw c.cells-3.ensures.cells at c.in_ok-cells.ensures) ∙ placed-turned c.args.orientation c.args.self.now c.in-Some.placement some
+    c.from_ordered-2.ensures ∙ c.in_order.ensures ∙ ap set_of (rw c.cells-3.ensures.cells at c.in_ok-cells.ensures)
+    ∙ placed-turned c.args.orientation c.args.self.now c.in-Some.placement some
 
 pub returns-clause-plane : goal.returns-clause-plane
 returns-clause-plane c =

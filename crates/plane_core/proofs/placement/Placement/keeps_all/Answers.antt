@@ -8,4 +8,5 @@ pub keeps-requires : goal.keeps-requires
 keeps-requires c = all_at on_plane c.args.cells.now c.loop-cell.cell-index _ c.loop-cell-test.true c.requires
 
 pub returns-then-not-keeps : goal.returns-then-not-keeps
-returns-then-not-keeps c = one_image_fails on_plane (landed c.args.self) c.args.cells.now c.loop-cell.cell-index _ c.loop-cell-test.true (sym c.if-not-keeps.ensures)
+returns-then-not-keeps c = one_image_fails on_plane (landed c.args.self) c.args.cells.now c.loop-cell.cell-index _ c.loop-cell-test.true
+    (sym c.if-not-keeps.ensures)

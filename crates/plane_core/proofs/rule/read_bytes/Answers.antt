@@ -1,14 +1,16 @@
 use Rattle.std.proofs.Common.{◌≡◌, ◌==◌, sym, ◌∙◌, ap, true, false, List, ℕ, length, codes}
 use Rattle.plane_core.specs.Rules.{Reading, begins}
-use Rattle.plane_core.proofs.RuleReading.{length-births, length-survivals, births_in, survivals_in, sliced, births_sliced, survivals_sliced, rule_read-no_b, rule_read-zero, rule_read-no_s, rule_read-more, rule_read-all}
-use Rattle.plane_core.proofs.rule.rule_of.Goals as goal
+use Rattle.plane_core.proofs.RuleReading.{length-births, length-survivals, births_in, survivals_in, sliced, births_sliced, survivals_sliced}
+use Rattle.plane_core.proofs.RuleReading.{rule_read-no_b, rule_read-zero, rule_read-no_s, rule_read-more, rule_read-all}
+use Rattle.plane_core.proofs.rule.read_bytes.Goals as goal
 
 pub returns-then-not-starts_with : goal.returns-then-not-starts_with
 returns-then-not-starts_with c = sym (rule_read-no_b c.args.text.now (sym c.starts_with.ensures.value ∙ c.if-not-starts_with.true))
 
 pub returns-then-starts_with : goal.returns-then-starts_with
 returns-then-starts_with c =
-    sym (rule_read-zero c.args.text.now (sym c.starts_with.ensures.value ∙ c.if-not-starts_with.false) (sym c.starts_with-2.ensures.value ∙ c.if-starts_with.true))
+    sym (rule_read-zero c.args.text.now (sym c.starts_with.ensures.value ∙ c.if-not-starts_with.false) (sym c.starts_with-2.ensures.value
+    ∙ c.if-starts_with.true))
 
 pub overflow_sub-place : goal.overflow_sub-place
 overflow_sub-place c =
@@ -22,7 +24,8 @@ returns-then-not-starts_with-2 c =
     let rest = births_sliced text c.read_numbers.result.1.now c.read_numbers.ensures.rest in
     let s : begins (births_in text).rest (codes "s") ≡ false =
     ap (λ (xs : List ℕ). begins xs (codes "s")) (sym rest) ∙ sym c.starts_with-3.ensures.value ∙ c.if-not-starts_with-2.true in
-    rw rest (sym (rule_read-no_s text (sym c.starts_with.ensures.value ∙ c.if-not-starts_with.false) (sym c.starts_with-2.ensures.value ∙ c.if-starts_with.false) s))
+    rw rest (sym (rule_read-no_s text (sym c.starts_with.ensures.value ∙ c.if-not-starts_with.false) (sym c.starts_with-2.ensures.value
+    ∙ c.if-starts_with.false) s))
 
 pub overflow_sub-place-then-not-is_empty : goal.overflow_sub-place-then-not-is_empty
 overflow_sub-place-then-not-is_empty c =
@@ -40,7 +43,8 @@ returns-then-not-is_empty c =
     ap (λ (xs : List ℕ). begins xs (codes "s")) (sym rest) ∙ sym c.starts_with-3.ensures.value ∙ c.if-not-starts_with-2.false in
     let more : (length (survivals_in text).rest == 0) ≡ false =
     ap (λ (xs : List ℕ). length xs == 0) (sym end) ∙ sym c.is_empty.ensures ∙ c.if-not-is_empty.true in
-    rw end (sym (rule_read-more text (sym c.starts_with.ensures.value ∙ c.if-not-starts_with.false) (sym c.starts_with-2.ensures.value ∙ c.if-starts_with.false) s more))
+    rw end (sym (rule_read-more text (sym c.starts_with.ensures.value ∙ c.if-not-starts_with.false) (sym c.starts_with-2.ensures.value
+    ∙ c.if-starts_with.false) s more))
 
 pub returns : goal.returns
 returns c =
@@ -54,4 +58,5 @@ returns c =
     ap (λ (xs : List ℕ). length xs == 0) (sym end) ∙ sym c.is_empty.ensures ∙ c.if-not-is_empty.false in
     let births : c.read_numbers.result.0 ≡ (births_in text).answers = c.read_numbers.ensures.answers ∙ ap (λ (r : Reading). r.answers) (sliced 8 1 text) in
     let others : c.read_numbers-2.result.0 ≡ (survivals_in text).answers = c.read_numbers-2.ensures.answers ∙ ap (λ (r : Reading). r.answers) survivals in
-    rw (births, others) (sym (rule_read-all text (sym c.starts_with.ensures.value ∙ c.if-not-starts_with.false) (sym c.starts_with-2.ensures.value ∙ c.if-starts_with.false) s none))
+    rw (births, others) (sym (rule_read-all text (sym c.starts_with.ensures.value ∙ c.if-not-starts_with.false) (sym c.starts_with-2.ensures.value
+    ∙ c.if-starts_with.false) s none))

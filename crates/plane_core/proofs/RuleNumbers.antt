@@ -1,5 +1,6 @@
 -- Numbers read off the front of a text, digit by digit.
-use Rattle.std.proofs.Common.{◌≡◌, ◌<◌, ◌≤◌, ◌+◌, ◌-◌, ℕ, suc, Bool, true, false, List, [], ◌∷◌, ◌++◌, length, take, drop, get_or, set, refl, sym, ◌∙◌, ap, arith, append_assoc, append-nil, get_or-set_other, length-set}
+use Rattle.std.proofs.Common.{◌≡◌, ◌<◌, ◌≤◌, ◌+◌, ◌-◌, ℕ, suc, Bool, true, false, List, [], ◌∷◌, ◌++◌, length, take, drop, get_or}
+use Rattle.std.proofs.Common.{set, refl, sym, ◌∙◌, ap, arith, append_assoc, append-nil, get_or-set_other, length-set}
 use Rattle.std.proofs.lemmas.List.{take_more_set}
 use Rattle.std.proofs.lemmas.Grind.{take_at_read}
 use Rattle.std.proofs.Math.Seq.{take-length}
@@ -10,12 +11,14 @@ abbrev pub in_front : List Bool → Reading → Reading
 in_front front read = record { answers = front ++ read.answers; rest = read.rest }
 
 -- the next digit stands there
-pub numbers_at-hit : (more n : ℕ) (text : List ℕ) → begins text ((48 + n) ∷ []) ≡ true → numbers_at (suc more) n text ≡ with_answer true (numbers_at more (n + 1) (drop 1 text))
+pub numbers_at-hit : (more n : ℕ) (text : List ℕ) → begins text ((48 + n) ∷ []) ≡ true
+    → numbers_at (suc more) n text ≡ with_answer true (numbers_at more (n + 1) (drop 1 text))
 unfolding numbers_at
 numbers_at-hit more n text h = rw h refl
 
 -- it doesn't
-pub numbers_at-miss : (more n : ℕ) (text : List ℕ) → begins text ((48 + n) ∷ []) ≡ false → numbers_at (suc more) n text ≡ with_answer false (numbers_at more (n + 1) text)
+pub numbers_at-miss : (more n : ℕ) (text : List ℕ) → begins text ((48 + n) ∷ []) ≡ false
+    → numbers_at (suc more) n text ≡ with_answer false (numbers_at more (n + 1) text)
 unfolding numbers_at
 numbers_at-miss more n text h = rw h refl
 
@@ -23,7 +26,8 @@ pub numbers_at-none : (n : ℕ) (text : List ℕ) → numbers_at 0 n text ≡ re
 unfolding numbers_at
 numbers_at-none n text = refl
 
-pub in_front-with_answer : (front : List Bool) (answer : Bool) (read : Reading) → in_front front (with_answer answer read) ≡ in_front (front ++ answer ∷ []) read
+pub in_front-with_answer : (front : List Bool) (answer : Bool) (read : Reading)
+    → in_front front (with_answer answer read) ≡ in_front (front ++ answer ∷ []) read
 in_front-with_answer front answer read =
     ap (λ (xs : List Bool). let r : Reading = record { answers = xs; rest = read.rest } in r) (sym (append_assoc front (answer ∷ []) read.answers))
 
@@ -82,4 +86,5 @@ ReadUpTo_done count n text i answers rest h k up =
     let none : count - i ≡ 0 = omega arith in
     sym up.whole ∙ ap (λ (k : ℕ). in_front (take i answers) (numbers_at k (n + i) rest)) none
     ∙ ap (λ (r : Reading). in_front (take i answers) r) (numbers_at-none (n + i) rest)
-    ∙ ap (λ (xs : List Bool). let r : Reading = record { answers = xs; rest = rest } in r) (append-nil (take i answers) ∙ ap (λ (k : ℕ). take k answers) all ∙ take-length answers)
+    ∙ ap (λ (xs : List Bool). let r : Reading = record { answers = xs; rest = rest } in r) (append-nil (take i answers)
+    ∙ ap (λ (k : ℕ). take k answers) all ∙ take-length answers)
