@@ -9,7 +9,8 @@ use Rattle.plane_core.specs.Bounds.{shifted}
 use Rattle.plane_core.specs.Cells.{plane_bound}
 use Rattle.plane_core.specs.Generations.{after, lies_within, next, touches_edge}
 use Rattle.plane_core.specs.Rules.{Numbers}
-use Rattle.plane_core.proofs.GenerationLemmas.{after-none, after-more, run_inside}
+use Rattle.plane_core.proofs.GenerationLemmas.{after-none, after-more}
+use Rattle.plane_core.proofs.SpeedLemmas.{run_inside}
 use Rattle.code_core.specs.Recurrences.{Follows, IsNew, MeetsEdge, Recurs, phases}
 
 -- one phase more

@@ -107,7 +107,7 @@ impl Apgcode {
     ///
     /// # Errors
     ///
-    /// [`AllocError`] if there is no memory.
+    /// [`AllocError`] if memory runs out.
     pub fn copy(&self, alloc: Global) -> Result<Apgcode, AllocError>
         ensures { IfOk result (λ code. code ≡ self.now) }
     {

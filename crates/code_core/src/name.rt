@@ -48,7 +48,7 @@ use std::cmp::Ordering;
 /// - [`StepError::Edge`] if a generation that has to be stepped on has a cell with a coordinate of 1,000,000 in size.
 ///   It never comes if every cell starts at least `limit` cells inside that bound, and it comes before any memory is
 ///   asked for if the pattern itself has such a cell.
-/// - [`StepError::Memory`] if there is no memory.
+/// - [`StepError::Memory`] if memory runs out.
 ///
 /// Generations are made in order until one is the pattern again, and the first error ends the search.
 pub fn name(

@@ -73,7 +73,7 @@ impl From<AllocError> for WechslerError {
 /// - [`WechslerError::Fault`] if the text is not that of a pattern with a cell, whether there is memory or not. It is
 ///   `TooLong` for over 10,000 bytes, else the first `BadByte` or `ShortRun` from the left, and `Empty` if there is
 ///   neither but also no live cell.
-/// - [`WechslerError::Memory`] if there is no memory.
+/// - [`WechslerError::Memory`] if memory runs out.
 pub fn read_wechsler(alloc: Global, text: &str) -> Result<Pattern, WechslerError>
     ensures pattern { IfOk result (λ read. wechsler_read text.now ≡ Ok read) }
     ensures fault { (fault : WechslerFault) →

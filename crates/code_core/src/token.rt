@@ -3,8 +3,8 @@
 pub(crate) enum Token {
     /// A column with a live cell, by its value from 1 to 31.
     Column(u8),
-    /// So many columns without a live cell, 1 to 39.
+    /// A run of 1 to 39 empty columns.
     Gap(u8),
-    /// The end of a strip, and the beginning of the next.
+    /// The end of a strip and the beginning of the next.
     NextStrip,
 }

@@ -45,7 +45,7 @@ const STRIP: u32 = 5;
 ///
 /// # Errors
 ///
-/// [`AllocError`] if there is no memory.
+/// [`AllocError`] if memory runs out.
 #[tactic(auto, unfolding(crate::specs::Texts::text))]
 pub fn wechsler(alloc: Global, pattern: &Pattern) -> Result<Option<String>, AllocError>
     ensures { IfOk result (λ found. option_map string_bytes found ≡ text pattern.now) }

@@ -186,7 +186,10 @@ fn names_a_full_grid_of_blocks(rt: HostRuntime) -> Result<(), Fail> {
     let grid = placed(rt.alloc(), cells.as_slice())?;
     let text = grid_text(rt.alloc())?;
     assert_eq!(rt; text.len(), 311);
-    let code = name(rt.alloc(), &grid, &Rule::life(), 64)?.expect(&rt, "a name");
+    let life = Rule::life();
+    let still = Recurrence::find(rt.alloc(), &grid, &life, 64)?.expect(&rt, "a recurrence");
+    assert_eq!(rt; (still.period, still.dx, still.dy), (1, 0, 0));
+    let code = name(rt.alloc(), &grid, &life, 64)?.expect(&rt, "a name");
     let same = code.copy(rt.alloc())?;
     assert_eq!(rt; same.text().strip_prefix("xs676_"), Some(text.as_str()));
     assert!(rt; same == code);
@@ -236,6 +239,7 @@ fn finds_when_a_pattern_comes_back(rt: HostRuntime) -> Result<(), Fail> {
         (".O.\n..O\nOOO", 4, Some((4, 1, 1))),
         (".O.\n..O\nOOO", 3, None),
         ("OO\nOO", 1, Some((1, 0, 0))),
+        ("O", 64, None),
         ("OOO", 1, None),
         ("OOO", 2, Some((2, 0, 0))),
         (LIGHTWEIGHT_SPACESHIP, 64, Some((4, -2, 0))),
