@@ -1,11 +1,11 @@
 -- What the calls of the program ask for.
-use Rattle.std.proofs.Common.{◌≡◌, ◌≢◌, ◌∙◌, ◌<◌, ◌++◌, ℕ, Bool, true, false, cond, Option, None, Some, List, [], ◌∷◌, codes, find, option_and_then, refl, sym, ap, ap₂, arith}
+use Rattle.std.proofs.Common.{◌≡◌, ◌≢◌, ◌∙◌, ◌<◌, ◌++◌, ℕ, Bool, true, false, cond, None, Some, List, [], ◌∷◌, codes, option_and_then, refl, sym, ap, ap₂, arith}
 use Rattle.std.specs.Str.{bytes_eq}
 use Rattle.std.specs.Str.Parse.{IsNumeral, digits_value}
 use Rattle.std.proofs.lemmas.Slice.Eq.{bytes_eq-Decides}
 use Rattle.clap.specs.Words.{App, Kinds, Row, Rule, Shape, Text, built, subcommand_of}
 use Rattle.clap.specs.Kinds.{or_else}
-use Rattle.clap.specs.Faults.{built_fault, other_fault, step_fault, check_fault, defaults_fault, level_fault, stray_fault, turn_fault, walk_fault}
+use Rattle.clap.specs.Faults.{built_fault, other_fault, step_fault, check_fault, defaults_fault, level_fault, turn_fault, walk_fault}
 use Rattle.clap.specs.Simple.{built_leaf, filled, inherited, marked_built, names_of, with_index, with_leaf_noted}
 use Rattle.clap.specs.Walk.{Held, idle, nothing_held, reacted, subcommand_met, subcommand_or_other, value, walk_from}
 use Rattle.clap.specs.declared.error.kind.ErrorKind.{ErrorKind}
@@ -16,7 +16,7 @@ use Rattle.census.specs.Application.{census_app, code_argument, generations_argu
 use Rattle.census.specs.Calls.{AsksForNothing, AsksForVersion, AsksToRun, AsksToShow, IsNumberUpTo, IsValue}
 use Rattle.census.specs.Words.{asked_by, asks_version, request_in, unless_faulty}
 use Rattle.census.proofs.NumberLemmas.{number_accepted, numeral_plain, number_read, number_refused}
-use Rattle.census.proofs.UseLemmas.{HasCommand, Holds, IsFirstUse, IsNamedBy, IsPlainWord, Leads, Reads, StandsAt, TakesOne, command_fault, command_rows, completed, level_reads, level_refuses, leads_argument, leads_option, leads_then, nothing_holds, pending, no_flag_fault, plain_word-is, plain_word_met, reads_argument, reads_attached, reads_option, reads_then, row_with, rows_read}
+use Rattle.census.proofs.UseLemmas.{HasCommand, IsFirstUse, IsNamedBy, Reads, StandsAt, TakesOne, command_fault, command_rows, completed, level_reads, level_refuses, leads_argument, leads_option, leads_then, nothing_holds, pending, no_flag_fault, plain_word-is, plain_word_met, reads_argument, reads_attached, reads_option, reads_then, row_with, rows_read}
 use Rattle.census.proofs.WordLemmas.{asked_by-command}
 
 -- the program, as `clap` builds it

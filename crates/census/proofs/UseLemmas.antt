@@ -1,6 +1,6 @@
 -- How `clap` walks the words of a call, for any command: a word at a time, and then a use of an argument at a time.
-use Rattle.std.proofs.Common.{◌≡◌, ◌∙◌, ◌++◌, ◌==◌, ◌&&◌, ◌||◌, ℕ, Bool, true, false, cond, Option, None, Some, List, [], ◌∷◌, nat_lt, is_some, option_and_then, not, refl, sym, ap, ap₂, subst, append-nil, append_assoc}
-use Rattle.std.specs.List.{find, fold, list_any}
+use Rattle.std.proofs.Common.{◌≡◌, ◌∙◌, ◌++◌, ◌&&◌, ℕ, Bool, true, false, cond, Option, None, Some, List, [], ◌∷◌, is_some, option_and_then, not, refl, sym, ap, ap₂, subst, append-nil, append_assoc}
+use Rattle.std.specs.List.{find, fold}
 use Rattle.std.specs.Option.{option_map, option_map_or}
 use Rattle.std.specs.Str.{bytes_eq}
 use Rattle.std.specs.Str.Parse.{starts_with_minus}
@@ -12,9 +12,9 @@ use Rattle.clap.specs.Values.{refused_kind}
 use Rattle.clap.specs.declared.error.kind.ErrorKind.TheVariants.{ArgumentConflict}
 use Rattle.clap.specs.declared.error.kind.ErrorKind.{ErrorKind}
 use Rattle.clap.specs.Facts.{parser_of_value, unwrap_or_range}
-use Rattle.clap.specs.Faults.{built_fault, check_fault, defaults_fault, entered_fault, level_fault, action_fault, repeat_fault, set_fault, values_fault, bundle_fault, flag_word_fault, other_fault, settle_fault, step_fault, turn_fault, use_fault, walk_fault, word_fault}
+use Rattle.clap.specs.Faults.{built_fault, check_fault, defaults_fault, entered_fault, level_fault, action_fault, repeat_fault, set_fault, values_fault, bundle_fault, flag_word_fault, other_fault, settle_fault, step_fault, turn_fault, use_fault, walk_fault}
 use Rattle.clap.specs.ValueTests.{accepts}
-use Rattle.clap.specs.Walk.{answers_to, finished, rows_after, stop_after, with_default, more_values, next, used_as, used_by_id, with_values, Held, Names, Step, Waiting, Walk, action_of, after_step, arg_by_id, arg_by_index, arg_by_long, at_row, has_row, idle, is_multiple, is_pending, long_or_other, most_values, next_position, nothing_held, option, plain_word, reacted, reading_by, settled, short_or_plain, subcommand_met, subcommand_or_other, takes_several, takes_values, to_positional, trailing, used, value, walk, walk_from, walked, word_met}
+use Rattle.clap.specs.Walk.{answers_to, finished, rows_after, stop_after, with_default, more_values, next, used_as, used_by_id, with_values, Held, Names, Step, Waiting, Walk, action_of, after_step, arg_by_id, arg_by_index, arg_by_long, at_row, has_row, idle, is_multiple, is_pending, long_or_other, most_values, next_position, nothing_held, option, plain_word, reacted, reading_by, settled, short_or_plain, subcommand_met, subcommand_or_other, takes_several, takes_values, to_positional, trailing, used, value, walk, walk_from, walked}
 use Rattle.clap.specs.declared.builder.action.ArgAction.TheVariants.{Set}
 use Rattle.clap.specs.declared.parser.matches.ValueSource.TheVariants.{CommandLine}
 
