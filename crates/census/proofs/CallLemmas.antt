@@ -1,5 +1,6 @@
 -- What the calls of the program ask for.
-use Rattle.std.proofs.Common.{◌≡◌, ◌≢◌, ◌∙◌, ◌<◌, ◌++◌, ℕ, Bool, true, false, cond, None, Some, List, [], ◌∷◌, codes, option_and_then, refl, sym, ap, ap₂, arith}
+use Rattle.std.proofs.Common.{◌≡◌, ◌≢◌, ◌∙◌, ◌<◌, ◌++◌, ℕ, Bool, true, false, cond, None, Some, List, [], ◌∷◌, codes, option_and_then, refl, sym, ap}
+use Rattle.std.proofs.Common.{ap₂, arith}
 use Rattle.std.specs.Str.{bytes_eq}
 use Rattle.std.specs.Str.Parse.{IsNumeral, digits_value}
 use Rattle.std.proofs.lemmas.Slice.Eq.{bytes_eq-Decides}
@@ -16,7 +17,9 @@ use Rattle.census.specs.Application.{census_app, code_argument, generations_argu
 use Rattle.census.specs.Calls.{AsksForNothing, AsksForVersion, AsksToRun, AsksToShow, IsNumberUpTo, IsValue}
 use Rattle.census.specs.Words.{asked_by, asks_version, request_in, unless_faulty}
 use Rattle.census.proofs.NumberLemmas.{number_accepted, numeral_plain, number_read, number_refused}
-use Rattle.census.proofs.UseLemmas.{HasCommand, IsFirstUse, IsNamedBy, Reads, StandsAt, TakesOne, command_fault, command_rows, completed, level_reads, level_refuses, leads_argument, leads_option, leads_then, nothing_holds, pending, no_flag_fault, plain_word-is, plain_word_met, reads_argument, reads_attached, reads_option, reads_then, row_with, rows_read}
+use Rattle.census.proofs.UseLemmas.{HasCommand, IsFirstUse, IsNamedBy, Reads, StandsAt, TakesOne, command_fault, command_rows, completed, level_reads}
+use Rattle.census.proofs.UseLemmas.{level_refuses, leads_argument, leads_option, leads_then, nothing_holds, pending, no_flag_fault, plain_word-is}
+use Rattle.census.proofs.UseLemmas.{plain_word_met, reads_argument, reads_attached, reads_option, reads_then, row_with, rows_read}
 use Rattle.census.proofs.WordLemmas.{asked_by-command}
 
 -- the program, as `clap` builds it
@@ -24,7 +27,8 @@ abbrev census_built : App
 census_built = built census_app
 
 -- words of a command that are read ask for it, with their values and its defaults
-asks : (program name : Text) (words : List Text) (s : Shape) (h : Held) (position : ℕ) (rows : List Row) → asks_version (program ∷ name ∷ words) ≡ false → HasCommand census_built name s
+asks : (program name : Text) (words : List Text) (s : Shape) (h : Held) (position : ℕ) (rows : List Row)
+    → asks_version (program ∷ name ∷ words) ≡ false → HasCommand census_built name s
     → Reads s nothing_held 1 words h position rows → or_else (defaults_fault rows s.rules) (check_fault s (completed s rows) false) ≡ []
     → asked_by (program ∷ name ∷ words) ≡ request_in (s.name, completed s rows)
 asks program name words s h position rows no_version command reads fine =
@@ -34,11 +38,13 @@ asks program name words s h position rows no_version command reads fine =
     (command_rows census_built name s words command ∙ ap (λ rs. Some (s.name, rs)) (rows_read s words h position rows reads))
 
 -- words of a command with a fault ask for nothing
-asks_none : (program name : Text) (words : List Text) (s : Shape) (kind : ErrorKind) → asks_version (program ∷ name ∷ words) ≡ false → HasCommand census_built name s
+asks_none : (program name : Text) (words : List Text) (s : Shape) (kind : ErrorKind) → asks_version (program ∷ name ∷ words) ≡ false
+    → HasCommand census_built name s
     → level_fault s [] nothing_held words false [] ≡ kind ∷ [] → asked_by (program ∷ name ∷ words) ≡ None
 asks_none program name words s kind no_version command fault =
     asked_by-command (program ∷ name ∷ words) no_version
-    ∙ ap (λ k. unless_faulty k (option_and_then request_in (subcommand_of census_app (program ∷ name ∷ words)))) (command_fault census_built name s words command ∙ ap (λ k. or_else k []) fault)
+    ∙ ap (λ k. unless_faulty k (option_and_then request_in (subcommand_of census_app (program ∷ name ∷ words))))
+    (command_fault census_built name s words command ∙ ap (λ k. or_else k []) fault)
 
 -- ---- `run`
 
@@ -93,57 +99,71 @@ asks-alone program n h =
 
 -- N, and then `--rule TEXT`
 reads_n_rule : (n text : Text) → IsNumberUpTo 100000 n → IsValue text
-    → Reads run_built nothing_held 1 (n ∷ codes "--rule" ∷ text ∷ []) (pending run_built (pending run_built nothing_held n_built n) rule_built text) 2 (row_with n_built n ∷ row_with rule_built text ∷ [])
+    → Reads run_built nothing_held 1 (n ∷ codes "--rule" ∷ text ∷ [])
+    (pending run_built (pending run_built nothing_held n_built n) rule_built text) 2 (row_with n_built n ∷ row_with rule_built text ∷ [])
 reads_n_rule n text h is_value =
     let first = reads_n n h in
-    reads_then run_built nothing_held (pending run_built nothing_held n_built n) (pending run_built (pending run_built nothing_held n_built n) rule_built text) 1 2 2 (n ∷ []) (codes "--rule" ∷ text ∷ [])
+    reads_then run_built nothing_held (pending run_built nothing_held n_built n)
+    (pending run_built (pending run_built nothing_held n_built n) rule_built text) 1 2 2 (n ∷ []) (codes "--rule" ∷ text ∷ [])
     (row_with n_built n ∷ []) (row_with n_built n ∷ row_with rule_built text ∷ []) first
-    (reads_option run_built (pending run_built nothing_held n_built n) 2 (row_with n_built n ∷ []) rule_built text (codes "--rule") first.holds (rule_after n text) rule_named (plain_word-is text is_value))
+    (reads_option run_built (pending run_built nothing_held n_built n) 2 (row_with n_built n ∷ []) rule_built text (codes "--rule") first.holds
+    (rule_after n text) rule_named (plain_word-is text is_value))
 
 -- `run N --rule TEXT`
-asks-rule : (program n text : Text) → IsNumberUpTo 100000 n → IsValue text → asked_by (program ∷ codes "run" ∷ n ∷ codes "--rule" ∷ text ∷ []) ≡ Some (Run (digits_value 10 n) text)
+asks-rule : (program n text : Text) → IsNumberUpTo 100000 n → IsValue text
+    → asked_by (program ∷ codes "run" ∷ n ∷ codes "--rule" ∷ text ∷ []) ≡ Some (Run (digits_value 10 n) text)
 unfolding clap_on_literals
 asks-rule program n text h is_value =
-    asks program (codes "run") (n ∷ codes "--rule" ∷ text ∷ []) run_built (pending run_built (pending run_built nothing_held n_built n) rule_built text) 2 (row_with n_built n ∷ row_with rule_built text ∷ [])
+    asks program (codes "run") (n ∷ codes "--rule" ∷ text ∷ []) run_built
+    (pending run_built (pending run_built nothing_held n_built n) rule_built text) 2 (row_with n_built n ∷ row_with rule_built text ∷ [])
     refl has_run (reads_n_rule n text h is_value) refl
     ∙ ap (option_and_then (λ k. Some (Run k text))) (number_read 100000 n h.0 h.1)
 
 -- `run --rule TEXT N`
-asks-rule_first : (program n text : Text) → IsNumberUpTo 100000 n → IsValue text → asked_by (program ∷ codes "run" ∷ codes "--rule" ∷ text ∷ n ∷ []) ≡ Some (Run (digits_value 10 n) text)
+asks-rule_first : (program n text : Text) → IsNumberUpTo 100000 n → IsValue text
+    → asked_by (program ∷ codes "run" ∷ codes "--rule" ∷ text ∷ n ∷ []) ≡ Some (Run (digits_value 10 n) text)
 unfolding clap_on_literals
 asks-rule_first program n text h is_value =
     let ruled : Held = pending run_built nothing_held rule_built text in
     let both : Held = pending run_built ruled n_built n in
-    let first = reads_option run_built nothing_held 1 [] rule_built text (codes "--rule") (nothing_holds run_built) (rule_first text) rule_named (plain_word-is text is_value) in
+    let first = reads_option run_built nothing_held 1 [] rule_built text (codes "--rule") (nothing_holds run_built) (rule_first text) rule_named
+    (plain_word-is text is_value) in
     let second = reads_argument run_built ruled 1 (row_with rule_built text ∷ []) n_built n first.holds (n_after n text h) n_stands (numeral_plain n h.0) in
     asks program (codes "run") (codes "--rule" ∷ text ∷ n ∷ []) run_built both 2 (row_with rule_built text ∷ row_with n_built n ∷ []) refl has_run
-    (reads_then run_built nothing_held ruled both 1 1 2 (codes "--rule" ∷ text ∷ []) (n ∷ []) (row_with rule_built text ∷ []) (row_with rule_built text ∷ row_with n_built n ∷ []) first second) refl
+    (reads_then run_built nothing_held ruled both 1 1 2 (codes "--rule" ∷ text ∷ []) (n ∷ []) (row_with rule_built text ∷ [])
+    (row_with rule_built text ∷ row_with n_built n ∷ []) first second) refl
     ∙ ap (option_and_then (λ k. Some (Run k text))) (number_read 100000 n h.0 h.1)
 
 -- `run N --rule=TEXT`
-asks-attached : (program n text : Text) → IsNumberUpTo 100000 n → asked_by (program ∷ codes "run" ∷ n ∷ (codes "--rule=" ++ text) ∷ []) ≡ Some (Run (digits_value 10 n) text)
+asks-attached : (program n text : Text) → IsNumberUpTo 100000 n
+    → asked_by (program ∷ codes "run" ∷ n ∷ (codes "--rule=" ++ text) ∷ []) ≡ Some (Run (digits_value 10 n) text)
 unfolding clap_on_literals
 asks-attached program n text h =
     let word : Text = codes "--rule=" ++ text in
     let numbered : Held = pending run_built nothing_held n_built n in
     let both : Held = reacted run_built.rules rule_built (text ∷ []) numbered in
     let first = reads_n n h in
-    let second = reads_attached run_built numbered 2 (row_with n_built n ∷ []) rule_built (codes "rule") text word first.holds (rule_after n text) refl refl refl refl in
+    let second = reads_attached run_built numbered 2 (row_with n_built n ∷ []) rule_built (codes "rule") text word first.holds
+    (rule_after n text) refl refl refl refl in
     asks program (codes "run") (n ∷ word ∷ []) run_built both 2 (row_with n_built n ∷ row_with rule_built text ∷ []) refl has_run
-    (reads_then run_built nothing_held numbered both 1 2 2 (n ∷ []) (word ∷ []) (row_with n_built n ∷ []) (row_with n_built n ∷ row_with rule_built text ∷ []) first second) refl
+    (reads_then run_built nothing_held numbered both 1 2 2 (n ∷ []) (word ∷ []) (row_with n_built n ∷ [])
+    (row_with n_built n ∷ row_with rule_built text ∷ []) first second) refl
     ∙ ap (option_and_then (λ k. Some (Run k text))) (number_read 100000 n h.0 h.1)
 
 -- `run --rule=TEXT N`
-asks-attached_first : (program n text : Text) → IsNumberUpTo 100000 n → asked_by (program ∷ codes "run" ∷ (codes "--rule=" ++ text) ∷ n ∷ []) ≡ Some (Run (digits_value 10 n) text)
+asks-attached_first : (program n text : Text) → IsNumberUpTo 100000 n
+    → asked_by (program ∷ codes "run" ∷ (codes "--rule=" ++ text) ∷ n ∷ []) ≡ Some (Run (digits_value 10 n) text)
 unfolding clap_on_literals
 asks-attached_first program n text h =
     let word : Text = codes "--rule=" ++ text in
     let ruled : Held = reacted run_built.rules rule_built (text ∷ []) nothing_held in
     let both : Held = pending run_built ruled n_built n in
-    let first = reads_attached run_built nothing_held 1 [] rule_built (codes "rule") text word (nothing_holds run_built) (rule_first text) refl refl refl refl in
+    let first = reads_attached run_built nothing_held 1 [] rule_built (codes "rule") text word (nothing_holds run_built)
+    (rule_first text) refl refl refl refl in
     let second = reads_argument run_built ruled 1 (row_with rule_built text ∷ []) n_built n first.holds (n_after n text h) n_stands (numeral_plain n h.0) in
     asks program (codes "run") (word ∷ n ∷ []) run_built both 2 (row_with rule_built text ∷ row_with n_built n ∷ []) refl has_run
-    (reads_then run_built nothing_held ruled both 1 1 2 (word ∷ []) (n ∷ []) (row_with rule_built text ∷ []) (row_with rule_built text ∷ row_with n_built n ∷ []) first second) refl
+    (reads_then run_built nothing_held ruled both 1 1 2 (word ∷ []) (n ∷ []) (row_with rule_built text ∷ [])
+    (row_with rule_built text ∷ row_with n_built n ∷ []) first second) refl
     ∙ ap (option_and_then (λ k. Some (Run k text))) (number_read 100000 n h.0 h.1)
 
 -- `run N` with too large a number
@@ -167,7 +187,8 @@ asks-rule_twice program n one other h one_value other_value =
     let words : List Text = n ∷ codes "--rule" ∷ one ∷ codes "--rule" ∷ other ∷ [] in
     asks_none program (codes "run") words run_built ArgumentConflict refl has_run
     (level_refuses run_built words once 2 rows rule_built other ArgumentConflict
-    (leads_then run_built nothing_held once (pending run_built once rule_built other) 1 2 2 (n ∷ codes "--rule" ∷ one ∷ []) (codes "--rule" ∷ other ∷ []) first.leads second) first.holds refl refl)
+    (leads_then run_built nothing_held once (pending run_built once rule_built other) 1 2 2 (n ∷ codes "--rule" ∷ one ∷ [])
+    (codes "--rule" ∷ other ∷ []) first.leads second) first.holds refl refl)
 
 asks-run_missing : (program : Text) → asked_by (program ∷ codes "run" ∷ []) ≡ None
 unfolding clap_on_literals
@@ -240,7 +261,8 @@ or_else_first : (one two : Kinds) (kind : ErrorKind) (kinds : Kinds) → one ≡
 or_else_first one two kind kinds is = ap (λ k. or_else k two) is
 
 -- a word in a command's place that is none
-asks-unknown : (program word : Text) (words : List Text) → IsValue word → word ≢ codes "run" → word ≢ codes "show" → word ≢ codes "help" → asked_by (program ∷ word ∷ words) ≡ None
+asks-unknown : (program word : Text) (words : List Text) → IsValue word → word ≢ codes "run" → word ≢ codes "show" → word ≢ codes "help"
+    → asked_by (program ∷ word ∷ words) ≡ None
 unfolding clap_on_literals
 asks-unknown program word words is_value no_run no_show no_help =
     let top = census_built.top in
@@ -253,7 +275,8 @@ asks-unknown program word words is_value no_run no_show no_help =
     let met : subcommand_or_other top.rules (subcommand_met names idle word) idle 1 word nothing_held ≡ (nothing_held, value) =
     ap (λ o. subcommand_or_other top.rules o idle 1 word nothing_held) unnamed ∙ plain_word_met top.rules idle 1 word nothing_held plain in
     let no_flag = ap (λ o. other_fault top o word nothing_held) unnamed ∙ no_flag_fault top word nothing_held plain in
-    let turn : turn_fault top names (walk_from nothing_held) word ≡ UnknownArgument ∷ InvalidSubcommand ∷ [] = ap₂ or_else no_flag (ap (λ m. step_fault top 1 m.0 m.1) met) in
+    let turn : turn_fault top names (walk_from nothing_held) word ≡ UnknownArgument ∷ InvalidSubcommand ∷ [] =
+    ap₂ or_else no_flag (ap (λ m. step_fault top 1 m.0 m.1) met) in
     let walks : walk_fault top names (walk_from nothing_held) (word ∷ words) ≡ UnknownArgument ∷ InvalidSubcommand ∷ [] =
     or_else_first (turn_fault top names (walk_from nothing_held) word) _ UnknownArgument (InvalidSubcommand ∷ []) turn in
     let fault : built_fault census_built nothing_held (word ∷ words) ≡ UnknownArgument ∷ InvalidSubcommand ∷ [] =

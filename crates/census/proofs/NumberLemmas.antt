@@ -1,5 +1,6 @@
 -- Numbers in words: digits that are in the range of an argument, and what is read of them.
-use Rattle.std.proofs.Common.{◌≡◌, ◌∙◌, ◌<◌, ◌≤◌, ◌==◌, ◌&&◌, ◌^◌, ℕ, pos, Bool, true, false, cond, Option, None, Some, [], ◌∷◌, nat_le, unwrap_or, refl, ap, ap₂, arith, rules, drop}
+use Rattle.std.proofs.Common.{◌≡◌, ◌∙◌, ◌<◌, ◌≤◌, ◌==◌, ◌&&◌, ◌^◌, ℕ, pos, Bool, true, false, cond, Option, None, Some, [], ◌∷◌, nat_le, unwrap_or}
+use Rattle.std.proofs.Common.{refl, ap, ap₂, arith, rules, drop}
 use Rattle.std.specs.Str.Parse.{IsNumeral, digits_value, signed_digits_value, starts_with_minus, without_leading_plus, without_leading_sign}
 use Rattle.std.proofs.lemmas.Bool.{le-leb, ne_eqb}
 use Rattle.std.proofs.lemmas.Int.{ints}
@@ -25,7 +26,8 @@ pub numeral_plain : (n : Text) → IsNumeral 10 n → IsPlainWord n
 numeral_plain n numeral = plain_word-is n (no_sign n numeral).0
 
 -- a numeral in the range of an argument is accepted
-pub number_accepted : (least most : ℕ) (n : Text) → most < 2 ^ 63 → IsNumeral 10 n → least ≤ digits_value 10 n → digits_value 10 n ≤ most → accepts false (Signed (pos least) (pos most)) n ≡ true
+pub number_accepted : (least most : ℕ) (n : Text) → most < 2 ^ 63 → IsNumeral 10 n → least ≤ digits_value 10 n → digits_value 10 n ≤ most
+    → accepts false (Signed (pos least) (pos most)) n ≡ true
 number_accepted least most n fits numeral above below =
     let signs = no_sign n numeral in
     let bare : without_leading_sign n ≡ n = rw signs.0 signs.1 in

@@ -1,5 +1,6 @@
 -- From what a command leaves in a buffer to what is with the writer below it.
-use Rattle.std.proofs.Common.{◌≡◌, ◌≢◌, ◌++◌, ◌⊎◌, ℕ, List, [], Bool, true, false, Option, None, Some, Ok, Err, IsSomeAnd, inl, inr, refl, sym, ap, ◌∙◌, subst, append_assoc, append-nil}
+use Rattle.std.proofs.Common.{◌≡◌, ◌≢◌, ◌++◌, ◌⊎◌, ℕ, List, [], Bool, true, false, Option, None, Some, Ok, Err, IsSomeAnd, inl, inr, refl, sym, ap}
+use Rattle.std.proofs.Common.{◌∙◌, subst, append_assoc, append-nil}
 use Rattle.std.specs.Io.KnownBytes.{Appends, Keeps, append_known}
 use Rattle.clap.specs.Words.{Text}
 use Rattle.commands.specs.declared.complaint.Complaint.{Complaint}
@@ -16,14 +17,16 @@ use Rattle.census.specs.Program.{Complains, IsDone, IsEndedBy, IsFront, MayCompl
 use Rattle.census.specs.Words.{DoesWords, asked_by}
 
 -- an empty buffer holds nothing back
-whole_sent : (before buffered below : Option (List ℕ)) (text : List ℕ) → Appends (append_known before []) buffered text → Keeps buffered (append_known below []) → Appends before below text
+whole_sent : (before buffered below : Option (List ℕ)) (text : List ℕ) → Appends (append_known before []) buffered text
+    → Keeps buffered (append_known below []) → Appends before below text
 whole_sent None buffered below text wrote kept = tt
 whole_sent (Some xs) None below text wrote kept = absurd wrote
 whole_sent (Some xs) (Some ys) None text wrote kept = absurd kept
 whole_sent (Some xs) (Some ys) (Some zs) text wrote kept = sym (append-nil zs) ∙ kept ∙ wrote ∙ ap (λ l. l ++ text) (append-nil xs)
 
 -- what is below a buffer is a front of what was written
-front_sent : (before buffered below : Option (List ℕ)) (held front more : List ℕ) → Appends (append_known before []) buffered front → Keeps buffered (append_known below held)
+front_sent : (before buffered below : Option (List ℕ)) (held front more : List ℕ) → Appends (append_known before []) buffered front
+    → Keeps buffered (append_known below held)
     → IsFront before below (front ++ more)
 front_sent None buffered below held front more wrote kept = tt
 front_sent (Some xs) None below held front more wrote kept = absurd wrote
@@ -41,10 +44,12 @@ status_of-done ReadFailed is = cc
 status_of-done WriteFailed is = cc
 
 -- a command that was done has a text for its answer, and wrote it
-done_text : (reads : Bool) (answer : Answer) (output errors : Stream) → Ends reads answer statuses.Done output errors → (text : List ℕ) × (answer ≡ Ok text) × Has output text
+done_text : (reads : Bool) (answer : Answer) (output errors : Stream) → Ends reads answer statuses.Done output errors
+    → (text : List ℕ) × (answer ≡ Ok text) × Has output text
 done_text reads answer output errors ends = go answer refl ends.outcome ends.reached ends.told
   where
-    go : (a : Answer) → answer ≡ a → (outcome : Outcome) → Reaches reads a outcome output → Tells outcome statuses.Done errors → (text : List ℕ) × (answer ≡ Ok text) × Has output text
+    go : (a : Answer) → answer ≡ a → (outcome : Outcome) → Reaches reads a outcome output → Tells outcome statuses.Done errors
+        → (text : List ℕ) × (answer ≡ Ok text) × Has output text
     go (Ok text) is (Ok u) reached told = (text, is, reached.0)
     go (Err complaint) is (Ok u) reached told = absurd reached.0
     go a is (Err complaint) reached told = absurd (status_of-done complaint (sym told.0))
@@ -63,7 +68,16 @@ words_done words known before buffered below failed errors (inl does) kept = go 
     go None is does = absurd does
     go (Some request) is does =
         let wrote = done_text (reads_input request) (answer_to request does.bytes) output errors does.ends in
-        record { request = request; asked = is; bytes = does.bytes; input = does.input; text = wrote.0; answer = wrote.1; written = whole_sent before buffered below wrote.0 wrote.2 kept }
+        record {
+          request = request;
+          asked = is;
+          bytes = does.bytes;
+          input = does.input;
+          text = wrote.0;
+          answer = wrote.1;
+          written =
+              whole_sent before buffered below wrote.0 wrote.2 kept;
+        }
 
 -- a complaint that ended a request is one that may, and a front of the text was written
 ended_by : (request : Request) (bytes : List ℕ) (complaint : Complaint) (before buffered below : Option (List ℕ)) (held : List ℕ) (failed : Bool)
@@ -83,21 +97,30 @@ words_ended : (words : List Text) (known before buffered below : Option (List �
     → DoesWords words known status (record { before = append_known before []; after = buffered; failed = failed }) errors
     → status ≢ statuses.Done → Keeps buffered (append_known below held) → Complains words known (exit_code status) before below errors
 words_ended words known before buffered below held failed status errors (inr lacks) undone kept =
-    record { complaint = OutOfMemory; code = ap exit_code lacks.told; line = lacks.line; why = inl (refl, front_sent before buffered below held [] [] lacks.nothing kept) }
+    record {
+      complaint = OutOfMemory;
+      code = ap exit_code lacks.told;
+      line = lacks.line;
+      why =
+          inl (refl, front_sent before buffered below held [] [] lacks.nothing kept);
+    }
 words_ended words known before buffered below held failed status errors (inl does) undone kept = go (asked_by words) refl does
   where
     output : Stream
     output = record { before = append_known before []; after = buffered; failed = failed }
 
-    go : (asked : Option Request) → asked_by words ≡ asked → IsSomeAnd asked (DoesRequest known status output errors) → Complains words known (exit_code status) before below errors
+    go : (asked : Option Request) → asked_by words ≡ asked → IsSomeAnd asked (DoesRequest known status output errors)
+        → Complains words known (exit_code status) before below errors
     go None is does = absurd does
     go (Some request) is does = at does.ends.outcome does.ends.reached does.ends.told
       where
-        at : (outcome : Outcome) → Reaches (reads_input request) (answer_to request does.bytes) outcome output → Tells outcome status errors → Complains words known (exit_code status) before below errors
+        at : (outcome : Outcome) → Reaches (reads_input request) (answer_to request does.bytes) outcome output → Tells outcome status errors
+            → Complains words known (exit_code status) before below errors
         at (Ok u) reached said = absurd (undone said.0)
         at (Err complaint) reached said =
             let ended = ended_by request does.bytes complaint before buffered below held failed reached kept in
-            let by : IsSomeAnd (Some request) (IsEndedBy complaint known before below) = record { bytes = does.bytes; input = does.input; may = ended.0; front = ended.1 } in
+            let by : IsSomeAnd (Some request) (IsEndedBy complaint known before below) =
+            record { bytes = does.bytes; input = does.input; may = ended.0; front = ended.1 } in
             record {
               complaint = complaint;
               code = ap exit_code said.0;
@@ -109,19 +132,22 @@ words_ended words known before buffered below held failed status errors (inl doe
 words_unsent : (words : List Text) (known before buffered below : Option (List ℕ)) (held : List ℕ) (failed : Bool) (errors after : Stream)
     → DoesWords words known statuses.Done (record { before = append_known before []; after = buffered; failed = failed }) errors
     → Keeps buffered (append_known below held) → HasLine after (line_of WriteFailed) → Complains words known (exit_code statuses.Failed) before below after
-words_unsent words known before buffered below held failed errors after (inr lacks) kept line = let bad : statuses.Done ≡ statuses.OutOfMemory = lacks.told in cc
+words_unsent words known before buffered below held failed errors after (inr lacks) kept line = let bad : statuses.Done ≡ statuses.OutOfMemory =
+    lacks.told in cc
 words_unsent words known before buffered below held failed errors after (inl does) kept line = go (asked_by words) refl does
   where
     output : Stream
     output = record { before = append_known before []; after = buffered; failed = failed }
 
-    go : (asked : Option Request) → asked_by words ≡ asked → IsSomeAnd asked (DoesRequest known statuses.Done output errors) → Complains words known (exit_code statuses.Failed) before below after
+    go : (asked : Option Request) → asked_by words ≡ asked → IsSomeAnd asked (DoesRequest known statuses.Done output errors)
+        → Complains words known (exit_code statuses.Failed) before below after
     go None is does = absurd does
     go (Some request) is does =
         let wrote = done_text (reads_input request) (answer_to request does.bytes) output errors does.ends in
         let front : IsFront before below (wrote.0 ++ []) = front_sent before buffered below held wrote.0 [] wrote.2 kept in
         let text : wrote.0 ++ [] ≡ text_of (answer_to request does.bytes) = append-nil wrote.0 ∙ ap text_of (sym wrote.1) in
-        let by : IsSomeAnd (Some request) (IsEndedBy WriteFailed known before below) = record { bytes = does.bytes; input = does.input; may = tt; front = subst (IsFront before below) text front } in
+        let by : IsSomeAnd (Some request) (IsEndedBy WriteFailed known before below) =
+        record { bytes = does.bytes; input = does.input; may = tt; front = subst (IsFront before below) text front } in
         record {
           complaint = WriteFailed;
           code = refl;
@@ -137,7 +163,8 @@ appends_after (Some xs) (Some ys) None text nothing wrote = absurd wrote
 appends_after (Some xs) (Some ys) (Some zs) text nothing wrote = wrote ∙ ap (λ l. l ++ text) (nothing ∙ append-nil xs)
 
 -- a command that was done left nothing on standard error, and the stream is fine
-words_silent : (words : List Text) (known : Option (List ℕ)) (output errors : Stream) → DoesWords words known statuses.Done output errors → Has errors [] × (errors.failed ≡ false)
+words_silent : (words : List Text) (known : Option (List ℕ)) (output errors : Stream) → DoesWords words known statuses.Done output errors
+    → Has errors [] × (errors.failed ≡ false)
 words_silent words known output errors (inr lacks) = let bad : statuses.Done ≡ statuses.OutOfMemory = lacks.told in cc
 words_silent words known output errors (inl does) = go (asked_by words) does
   where
@@ -150,9 +177,11 @@ words_silent words known output errors (inl does) = go (asked_by words) does
         at (Err complaint) said = absurd (status_of-done complaint (sym said.0))
 
 -- a line after nothing is the line
-line_after_nothing : (before between after : Option (List ℕ)) (was failed : Bool) (line : List ℕ) → Has (record { before = before; after = between; failed = was }) []
+line_after_nothing : (before between after : Option (List ℕ)) (was failed : Bool) (line : List ℕ)
+    → Has (record { before = before; after = between; failed = was }) []
     → HasLine (record { before = between; after = after; failed = failed }) line → HasLine (record { before = before; after = after; failed = failed }) line
-line_after_nothing before between after was true line nothing (front, rest, is, wrote) = (front, rest, is, appends_after before between after front nothing wrote)
+line_after_nothing before between after was true line nothing (front, rest, is, wrote) =
+    (front, rest, is, appends_after before between after front nothing wrote)
 line_after_nothing before between after was false line nothing wrote = appends_after before between after line nothing wrote
 
 -- How bytes pass a buffer: it was empty at the start, and what was written to it stands below it, but for what it still holds.
@@ -166,14 +195,16 @@ front_of_nothing None = tt
 front_of_nothing (Some xs) = ([], refl)
 
 -- at the buffer's start its writer is all that there is
-from_start : (words : List Text) (known : Option (List ℕ)) (status : Status) (before start buffered : Option (List ℕ)) (failed : Bool) (errors : Stream) → start ≡ append_known before []
+from_start : (words : List Text) (known : Option (List ℕ)) (status : Status) (before start buffered : Option (List ℕ)) (failed : Bool)
+    (errors : Stream) → start ≡ append_known before []
     → DoesWords words known status (record { before = start; after = buffered; failed = failed }) errors
     → DoesWords words known status (record { before = append_known before []; after = buffered; failed = failed }) errors
 from_start words known status before start buffered failed errors is does =
     subst (λ (s : Option (List ℕ)). DoesWords words known status (record { before = s; after = buffered; failed = failed }) errors) is does
 
 -- a command that was done, with an empty buffer
-pub program_done : (words : List Text) (known : Option (List ℕ)) (status : Status) (before start buffered below : Option (List ℕ)) (held : List ℕ) (failed : Bool) (errors : Stream)
+pub program_done : (words : List Text) (known : Option (List ℕ)) (status : Status) (before start buffered below : Option (List ℕ)) (held : List ℕ)
+    (failed : Bool) (errors : Stream)
     → Passes before start buffered below held → DoesWords words known status (record { before = start; after = buffered; failed = failed }) errors
     → status ≡ statuses.Done → held ≡ [] → IsDone words known before below
 program_done words known status before start buffered below held failed errors passes does done empty =
@@ -182,16 +213,20 @@ program_done words known status before start buffered below held failed errors p
     (subst (λ (h : List ℕ). Keeps buffered (append_known below h)) empty passes.kept)
 
 -- a command that was not done keeps its status
-pub program_ended : (words : List Text) (known : Option (List ℕ)) (status : Status) (before start buffered below : Option (List ℕ)) (held : List ℕ) (failed : Bool) (errors : Stream)
+pub program_ended : (words : List Text) (known : Option (List ℕ)) (status : Status) (before start buffered below : Option (List ℕ)) (held : List ℕ)
+    (failed : Bool) (errors : Stream)
     → Passes before start buffered below held → DoesWords words known status (record { before = start; after = buffered; failed = failed }) errors
     → status ≢ statuses.Done → Complains words known (exit_code status) before below errors
 program_ended words known status before start buffered below held failed errors passes does undone =
-    words_ended words known before buffered below held failed status errors (from_start words known status before start buffered failed errors passes.starts does) undone passes.kept
+    words_ended words known before buffered below held failed status errors
+    (from_start words known status before start buffered failed errors passes.starts does) undone passes.kept
 
 -- a command that was done, and whose output could not all be sent on
-pub program_unsent : (words : List Text) (known : Option (List ℕ)) (status : Status) (before start buffered below : Option (List ℕ)) (held : List ℕ) (failed : Bool)
+pub program_unsent : (words : List Text) (known : Option (List ℕ)) (status : Status) (before start buffered below : Option (List ℕ)) (held : List ℕ)
+    (failed : Bool)
     (silent between spoken : Option (List ℕ)) (was is_failed : Bool) → Passes before start buffered below held
-    → DoesWords words known status (record { before = start; after = buffered; failed = failed }) (record { before = silent; after = between; failed = was }) → status ≡ statuses.Done
+    → DoesWords words known status (record { before = start; after = buffered; failed = failed })
+    (record { before = silent; after = between; failed = was }) → status ≡ statuses.Done
     → (was ≡ false → HasLine (record { before = between; after = spoken; failed = is_failed }) (line_of WriteFailed))
     → Complains words known (exit_code statuses.Failed) before below (record { before = silent; after = spoken; failed = is_failed })
 program_unsent words known status before start buffered below held failed silent between spoken was is_failed passes does done line =

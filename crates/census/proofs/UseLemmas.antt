@@ -1,5 +1,6 @@
 -- How `clap` walks the words of a call, for any command: a word at a time, and then a use of an argument at a time.
-use Rattle.std.proofs.Common.{◌≡◌, ◌∙◌, ◌++◌, ◌&&◌, ℕ, Bool, true, false, cond, Option, None, Some, List, [], ◌∷◌, is_some, option_and_then, not, refl, sym, ap, ap₂, subst, append-nil, append_assoc}
+use Rattle.std.proofs.Common.{◌≡◌, ◌∙◌, ◌++◌, ◌&&◌, ℕ, Bool, true, false, cond, Option, None, Some, List, [], ◌∷◌, is_some, option_and_then, not}
+use Rattle.std.proofs.Common.{refl, sym, ap, ap₂, subst, append-nil, append_assoc}
 use Rattle.std.specs.List.{find, fold}
 use Rattle.std.specs.Option.{option_map, option_map_or}
 use Rattle.std.specs.Str.{bytes_eq}
@@ -12,9 +13,14 @@ use Rattle.clap.specs.Values.{refused_kind}
 use Rattle.clap.specs.declared.error.kind.ErrorKind.TheVariants.{ArgumentConflict}
 use Rattle.clap.specs.declared.error.kind.ErrorKind.{ErrorKind}
 use Rattle.clap.specs.Facts.{parser_of_value, unwrap_or_range}
-use Rattle.clap.specs.Faults.{built_fault, check_fault, defaults_fault, entered_fault, level_fault, action_fault, repeat_fault, set_fault, values_fault, bundle_fault, flag_word_fault, other_fault, settle_fault, step_fault, turn_fault, use_fault, walk_fault}
+use Rattle.clap.specs.Faults.{built_fault, check_fault, defaults_fault, entered_fault, level_fault, action_fault, repeat_fault, set_fault}
+use Rattle.clap.specs.Faults.{values_fault, bundle_fault, flag_word_fault, other_fault, settle_fault, step_fault, turn_fault, use_fault, walk_fault}
 use Rattle.clap.specs.ValueTests.{accepts}
-use Rattle.clap.specs.Walk.{answers_to, finished, rows_after, stop_after, with_default, more_values, next, used_as, used_by_id, with_values, Held, Names, Step, Waiting, Walk, action_of, after_step, arg_by_id, arg_by_index, arg_by_long, at_row, has_row, idle, is_multiple, is_pending, long_or_other, most_values, next_position, nothing_held, option, plain_word, reacted, reading_by, settled, short_or_plain, subcommand_met, subcommand_or_other, takes_several, takes_values, to_positional, trailing, used, value, walk, walk_from, walked}
+use Rattle.clap.specs.Walk.{answers_to, finished, rows_after, stop_after, with_default, more_values, next, used_as, used_by_id, with_values, Held}
+use Rattle.clap.specs.Walk.{Names, Step, Waiting, Walk, action_of, after_step, arg_by_id, arg_by_index, arg_by_long, at_row, has_row, idle}
+use Rattle.clap.specs.Walk.{is_multiple, is_pending, long_or_other, most_values, next_position, nothing_held, option, plain_word, reacted, reading_by}
+use Rattle.clap.specs.Walk.{settled, short_or_plain, subcommand_met, subcommand_or_other, takes_several, takes_values, to_positional, trailing, used}
+use Rattle.clap.specs.Walk.{value, walk, walk_from, walked}
 use Rattle.clap.specs.declared.builder.action.ArgAction.TheVariants.{Set}
 use Rattle.clap.specs.declared.parser.matches.ValueSource.TheVariants.{CommandLine}
 
@@ -60,7 +66,8 @@ at_row_none : (id : Text) (change : Row → List Row) (missing rows : List Row) 
 at_row_none id change missing [] none = refl
 at_row_none id change missing (r ∷ rs) none = go (bytes_eq r.id id) refl (at_row_none id change missing rs)
   where
-    go : (b : Bool) → bytes_eq r.id id ≡ b → (has_row id rs ≡ false → at_row id change missing rs ≡ rs ++ missing) → at_row id change missing (r ∷ rs) ≡ r ∷ (rs ++ missing)
+    go : (b : Bool) → bytes_eq r.id id ≡ b → (has_row id rs ≡ false → at_row id change missing rs ≡ rs ++ missing)
+        → at_row id change missing (r ∷ rs) ≡ r ∷ (rs ++ missing)
     go true e more = let bad : true ≡ false = rw e at none in cc
     go false e more = let rest : has_row id rs ≡ false = rw e at none in rw e (ap (λ l. r ∷ l) (more rest))
 
@@ -90,8 +97,10 @@ used_row c a v rows first =
 
 pub use_fine : (c : List Rule) (again : Bool) (a : Rule) (v : Text) (rows : List Row) → IsFirstUse c a v rows → use_fault again a (v ∷ []) rows ≡ []
 use_fine c again a v rows first =
-    let range : range_kinds (unwrap_or_range a.range).start_inclusive (most_values a) 1 ≡ [] = ap₂ (λ l m. range_kinds l m 1) first.argument.least first.argument.most in
-    let sets : action_fault (action_of a) again a (v ∷ []) rows ≡ set_fault again a (v ∷ []) rows = ap (λ act. action_fault act again a (v ∷ []) rows) first.argument.sets in
+    let range : range_kinds (unwrap_or_range a.range).start_inclusive (most_values a) 1 ≡ [] =
+    ap₂ (λ l m. range_kinds l m 1) first.argument.least first.argument.most in
+    let sets : action_fault (action_of a) again a (v ∷ []) rows ≡ set_fault again a (v ∷ []) rows =
+    ap (λ act. action_fault act again a (v ∷ []) rows) first.argument.sets in
     let repeated : repeat_fault again a.id rows ≡ [] = ap (λ b. cond {A = Kinds} (b && not again) (ArgumentConflict ∷ []) []) first.fresh in
     let values : values_fault a (v ∷ []) ≡ [] = ap (λ b. or_else (cond {A = Kinds} b [] (refused_kind (parser_of_value a.parser) ∷ [])) []) first.accepted in
     ap₂ or_else range (sets ∙ ap₂ or_else repeated values)
@@ -126,13 +135,16 @@ nothing_holds s = record { fine = refl; found = refl }
 abbrev pub pending : Shape → Held → Rule → Text → Held
 pending s h a v = record (settled s.rules h) { pending = Some (a.id, v ∷ []) }
 
-pending_holds : (s : Shape) (h : Held) (a : Rule) (v : Text) (rows : List Row) → Holds s h rows → IsFirstUse s.rules a v rows → Holds s (pending s h a v) (rows ++ row_with a v ∷ [])
+pending_holds : (s : Shape) (h : Held) (a : Rule) (v : Text) (rows : List Row) → Holds s h rows → IsFirstUse s.rules a v rows
+    → Holds s (pending s h a v) (rows ++ row_with a v ∷ [])
 pending_holds s h a v rows holds first =
     let by_id = first.argument.by_id in
     let here : IsFirstUse s.rules a v (settled s.rules h).rows = subst (IsFirstUse s.rules a v) (sym holds.found) first in
     record {
-      fine = ap (λ o. option_map_or (λ b. use_fault s.args_override_self b (v ∷ []) (settled s.rules h).rows) o []) by_id ∙ use_fine s.rules s.args_override_self a v (settled s.rules h).rows here;
-      found = ap (λ o. used_by_id o (v ∷ []) (settled s.rules h).rows) by_id ∙ used_row s.rules a v (settled s.rules h).rows here ∙ ap (λ rs. rs ++ row_with a v ∷ []) holds.found;
+      fine = ap (λ o. option_map_or (λ b. use_fault s.args_override_self b (v ∷ []) (settled s.rules h).rows) o []) by_id
+          ∙ use_fine s.rules s.args_override_self a v (settled s.rules h).rows here;
+      found = ap (λ o. used_by_id o (v ∷ []) (settled s.rules h).rows) by_id ∙ used_row s.rules a v (settled s.rules h).rows here
+          ∙ ap (λ rs. rs ++ row_with a v ∷ []) holds.found;
     }
 
 and_false : (b : Bool) → (b && false) ≡ false
@@ -146,7 +158,8 @@ pub reads_attached : (s : Shape) (h : Held) (position : ℕ) (rows : List Row) (
 unfolding walked walk_fault
 reads_attached s h position rows a name v word holds first by_long takes no_dashes is_long =
     let here : IsFirstUse s.rules a v (settled s.rules h).rows = subst (IsFirstUse s.rules a v) (sym holds.found) first in
-    let met : subcommand_or_other s.rules None idle position word h ≡ (reacted s.rules a (v ∷ []) h, next idle) = rw (no_dashes, is_long, by_long, takes) refl in
+    let met : subcommand_or_other s.rules None idle position word h ≡ (reacted s.rules a (v ∷ []) h, next idle) =
+    rw (no_dashes, is_long, by_long, takes) refl in
     let fine : other_fault s None word h ≡ [] =
     rw (no_dashes, is_long, by_long, takes) (ap₂ or_else holds.fine (use_fine s.rules s.args_override_self a v (settled s.rules h).rows here)) in
     record {
@@ -170,7 +183,8 @@ pub record IsNamedBy (c : List Rule) (a : Rule) (word : Text) : Type 0 where
   pub same : bytes_eq a.id a.id ≡ true
 
 -- `--name value`, whatever the value
-pub leads_option : (s : Shape) (h : Held) (position : ℕ) (rows : List Row) (a : Rule) (v word : Text) → Holds s h rows → TakesOne s.rules a → IsNamedBy s.rules a word → IsPlainWord v
+pub leads_option : (s : Shape) (h : Held) (position : ℕ) (rows : List Row) (a : Rule) (v word : Text) → Holds s h rows → TakesOne s.rules a
+    → IsNamedBy s.rules a word → IsPlainWord v
     → Leads s h position (word ∷ v ∷ []) (pending s h a v) position
 unfolding walked walk_fault
 leads_option s h position rows a v word holds one by plain =
@@ -190,7 +204,8 @@ leads_option s h position rows a v word holds one by plain =
     }
 
 -- `--name value`, with a value that is accepted
-pub reads_option : (s : Shape) (h : Held) (position : ℕ) (rows : List Row) (a : Rule) (v word : Text) → Holds s h rows → IsFirstUse s.rules a v rows → IsNamedBy s.rules a word → IsPlainWord v
+pub reads_option : (s : Shape) (h : Held) (position : ℕ) (rows : List Row) (a : Rule) (v word : Text) → Holds s h rows → IsFirstUse s.rules a v rows
+    → IsNamedBy s.rules a word → IsPlainWord v
     → Reads s h position (word ∷ v ∷ []) (pending s h a v) position (rows ++ row_with a v ∷ [])
 reads_option s h position rows a v word holds first by plain =
     record { leads = leads_option s h position rows a v word holds first.argument by plain; holds = pending_holds s h a v rows holds first }
@@ -203,14 +218,16 @@ pub record StandsAt (c : List Rule) (position : ℕ) (a : Rule) : Type 0 where
   pub no_trailing : a.trailing_var_arg ≡ false
 
 -- a value that goes to the next position, whatever it is
-pub leads_argument : (s : Shape) (h : Held) (position : ℕ) (rows : List Row) (a : Rule) (v : Text) → Holds s h rows → StandsAt s.rules position a → IsPlainWord v
+pub leads_argument : (s : Shape) (h : Held) (position : ℕ) (rows : List Row) (a : Rule) (v : Text) → Holds s h rows → StandsAt s.rules position a
+    → IsPlainWord v
     → Leads s h position (v ∷ []) (pending s h a v) (next_position a position)
 unfolding walked walk_fault
 leads_argument s h position rows a v holds stands plain =
     let c = s.rules in
     let alone : (is_pending a h.pending && takes_several a) ≡ false = ap (λ b. is_pending a h.pending && b) stands.one ∙ and_false (is_pending a h.pending) in
     let met : subcommand_or_other c None idle position v h ≡ (h, value) = plain_word_met c idle position v h plain in
-    let stored : to_positional c (arg_by_index c position) v (at h position) h ≡ at (pending s h a v) (next_position a position) = rw (stands.by_index, alone, stands.single, stands.no_trailing) refl in
+    let stored : to_positional c (arg_by_index c position) v (at h position) h ≡ at (pending s h a v) (next_position a position) =
+    rw (stands.by_index, alone, stands.single, stands.no_trailing) refl in
     let no_stray : step_fault s position h value ≡ [] = rw (stands.by_index, alone) holds.fine in
     let turn : turn_fault s [] (at h position) v ≡ [] = ap₂ or_else (no_flag_fault s v h plain) (ap (λ m. step_fault s position m.0 m.1) met ∙ no_stray) in
     record {
@@ -219,7 +236,8 @@ leads_argument s h position rows a v holds stands plain =
     }
 
 -- a value that goes to the next position, and is accepted
-pub reads_argument : (s : Shape) (h : Held) (position : ℕ) (rows : List Row) (a : Rule) (v : Text) → Holds s h rows → IsFirstUse s.rules a v rows → StandsAt s.rules position a → IsPlainWord v
+pub reads_argument : (s : Shape) (h : Held) (position : ℕ) (rows : List Row) (a : Rule) (v : Text) → Holds s h rows → IsFirstUse s.rules a v rows
+    → StandsAt s.rules position a → IsPlainWord v
     → Reads s h position (v ∷ []) (pending s h a v) (next_position a position) (rows ++ row_with a v ∷ [])
 reads_argument s h position rows a v holds first stands plain =
     record { leads = leads_argument s h position rows a v holds stands plain; holds = pending_holds s h a v rows holds first }
@@ -240,16 +258,19 @@ unfolding walk_fault
 walk_fault-append s names w [] more = refl
 walk_fault-append s names w (word ∷ words) more =
     ap (or_else (turn_fault s names w word)) (walk_fault-append s names (walked s.rules names w word) words more)
-    ∙ sym (or_else_assoc (turn_fault s names w word) (walk_fault s names (walked s.rules names w word) words) (walk_fault s names (fold (walked s.rules names) (walked s.rules names w word) words) more))
+    ∙ sym (or_else_assoc (turn_fault s names w word) (walk_fault s names (walked s.rules names w word) words)
+    (walk_fault s names (fold (walked s.rules names) (walked s.rules names w word) words) more))
 
-pub leads_then : (s : Shape) (h h' h'' : Held) (position position' position'' : ℕ) (words more : List Text) → Leads s h position words h' position' → Leads s h' position' more h'' position''
+pub leads_then : (s : Shape) (h h' h'' : Held) (position position' position'' : ℕ) (words more : List Text) → Leads s h position words h' position'
+    → Leads s h' position' more h'' position''
     → Leads s h position (words ++ more) h'' position''
 leads_then s h h' h'' position position' position'' words more one two = record {
   walks = fold-append (walked s.rules []) (at h position) words more ∙ ap (λ w. fold (walked s.rules []) w more) one.walks ∙ two.walks;
   fine = walk_fault-append s [] (at h position) words more ∙ ap₂ (λ k w. or_else k (walk_fault s [] w more)) one.fine one.walks ∙ two.fine;
 }
 
-pub reads_then : (s : Shape) (h h' h'' : Held) (position position' position'' : ℕ) (words more : List Text) (rows rows' : List Row) → Reads s h position words h' position' rows
+pub reads_then : (s : Shape) (h h' h'' : Held) (position position' position'' : ℕ) (words more : List Text) (rows rows' : List Row)
+    → Reads s h position words h' position' rows
     → Reads s h' position' more h'' position'' rows' → Reads s h position (words ++ more) h'' position'' rows'
 reads_then s h h' h'' position position' position'' words more rows rows' one two =
     record { leads = leads_then s h h' h'' position position' position'' words more one.leads two.leads; holds = two.holds }
@@ -258,7 +279,8 @@ reads_then s h h' h'' position position' position'' words more rows rows' one tw
 
 -- what is wrong after the walk
 abbrev end_fault : Shape → Held → Kinds
-end_fault s h = or_else (settle_fault s.rules s.args_override_self h) (or_else (defaults_fault (settled s.rules h).rows s.rules) (check_fault s (finished s.rules h) false))
+end_fault s h = or_else (settle_fault s.rules s.args_override_self h)
+    (or_else (defaults_fault (settled s.rules h).rows s.rules) (check_fault s (finished s.rules h) false))
 
 -- the rows with the defaults of what was not given
 abbrev pub completed : Shape → List Row → List Row
@@ -272,18 +294,23 @@ level_reads s words h position rows reads =
     ∙ ap₂ (λ k rs. or_else k (or_else (defaults_fault rs s.rules) (check_fault s (fold with_default rs s.rules) false))) reads.holds.fine reads.holds.found
 
 -- a last use that is refused is the fault
-pub level_refuses : (s : Shape) (words : List Text) (h : Held) (position : ℕ) (rows : List Row) (a : Rule) (v : Text) (kind : ErrorKind) → Leads s nothing_held 1 words (pending s h a v) position
-    → Holds s h rows → arg_by_id s.rules a.id ≡ Some a → use_fault s.args_override_self a (v ∷ []) rows ≡ kind ∷ [] → level_fault s [] nothing_held words false [] ≡ kind ∷ []
+pub level_refuses : (s : Shape) (words : List Text) (h : Held) (position : ℕ) (rows : List Row) (a : Rule) (v : Text) (kind : ErrorKind)
+    → Leads s nothing_held 1 words (pending s h a v) position
+    → Holds s h rows → arg_by_id s.rules a.id ≡ Some a → use_fault s.args_override_self a (v ∷ []) rows ≡ kind ∷ []
+    → level_fault s [] nothing_held words false [] ≡ kind ∷ []
 level_refuses s words h position rows a v kind leads holds by_id refused =
     let again = s.args_override_self in
     let settles : settle_fault s.rules again (pending s h a v) ≡ kind ∷ [] =
     ap (λ o. option_map_or (λ b. use_fault again b (v ∷ []) (settled s.rules h).rows) o []) by_id ∙ ap (use_fault again a (v ∷ [])) holds.found ∙ refused in
     ap₂ (λ k (w : Walk). or_else k (end_fault s w.held)) leads.fine leads.walks
-    ∙ ap (λ k. or_else k (or_else (defaults_fault (settled s.rules (pending s h a v)).rows s.rules) (check_fault s (finished s.rules (pending s h a v)) false))) settles
+    ∙ ap (λ k. or_else k (or_else (defaults_fault (settled s.rules (pending s h a v)).rows s.rules)
+    (check_fault s (finished s.rules (pending s h a v)) false))) settles
 
 -- and these values
-pub rows_read : (s : Shape) (words : List Text) (h : Held) (position : ℕ) (rows : List Row) → Reads s nothing_held 1 words h position rows → rows_after s.rules [] words ≡ completed s rows
-rows_read s words h position rows reads = ap (λ (w : Walk). finished s.rules w.held) reads.leads.walks ∙ ap (λ rs. fold with_default rs s.rules) reads.holds.found
+pub rows_read : (s : Shape) (words : List Text) (h : Held) (position : ℕ) (rows : List Row) → Reads s nothing_held 1 words h position rows
+    → rows_after s.rules [] words ≡ completed s rows
+rows_read s words h position rows reads = ap (λ (w : Walk). finished s.rules w.held) reads.leads.walks
+    ∙ ap (λ rs. fold with_default rs s.rules) reads.holds.found
 
 -- ---- the name of a command, and the words after it
 
@@ -291,7 +318,8 @@ rows_read s words h position rows reads = ap (λ (w : Walk). finished s.rules w.
 abbrev left : Text → List Text → Walk
 left name words = record (walk_from nothing_held) { stopped = Some (name, words) }
 
-left_fold : (c : List Rule) (names : Names) (name : Text) (before words : List Text) → fold (walked c names) (left name before) words ≡ left name (before ++ words)
+left_fold : (c : List Rule) (names : Names) (name : Text) (before words : List Text)
+    → fold (walked c names) (left name before) words ≡ left name (before ++ words)
 unfolding walked
 left_fold c names name before [] = ap (left name) (sym (append-nil before))
 left_fold c names name before (word ∷ words) = left_fold c names name (before ++ word ∷ []) words ∙ ap (left name) (append_assoc before (word ∷ []) words)
@@ -312,12 +340,16 @@ pub record HasCommand (a : App) (name : Text) (s : Shape) : Type 0 where
 name_walked : (a : App) (name : Text) (s : Shape) → HasCommand a name s → walked a.top.rules (names_of a) (walk_from nothing_held) name ≡ left name []
 unfolding walked
 name_walked a name s command =
-    ap (λ o. after_step a.top.rules name (walk_from nothing_held) (subcommand_or_other a.top.rules o idle 1 name nothing_held).0 (subcommand_or_other a.top.rules o idle 1 name nothing_held).1) command.named
+    ap (λ o. after_step a.top.rules name (walk_from nothing_held) (subcommand_or_other a.top.rules o idle 1 name nothing_held).0
+    (subcommand_or_other a.top.rules o idle 1 name nothing_held).1) command.named
 
-words_walked : (a : App) (name : Text) (s : Shape) (words : List Text) → HasCommand a name s → walk a.top.rules (names_of a) nothing_held (name ∷ words) ≡ left name words
-words_walked a name s words command = ap (λ w. fold (walked a.top.rules (names_of a)) w words) (name_walked a name s command) ∙ left_fold a.top.rules (names_of a) name [] words
+words_walked : (a : App) (name : Text) (s : Shape) (words : List Text) → HasCommand a name s
+    → walk a.top.rules (names_of a) nothing_held (name ∷ words) ≡ left name words
+words_walked a name s words command = ap (λ w. fold (walked a.top.rules (names_of a)) w words) (name_walked a name s command)
+    ∙ left_fold a.top.rules (names_of a) name [] words
 
-words_fine : (a : App) (name : Text) (s : Shape) (words : List Text) → HasCommand a name s → walk_fault a.top (names_of a) (walk_from nothing_held) (name ∷ words) ≡ []
+words_fine : (a : App) (name : Text) (s : Shape) (words : List Text) → HasCommand a name s
+    → walk_fault a.top (names_of a) (walk_from nothing_held) (name ∷ words) ≡ []
 unfolding walk_fault
 words_fine a name s words command =
     let met = ap (λ o. subcommand_or_other a.top.rules o idle 1 name nothing_held) command.named in
@@ -326,10 +358,12 @@ words_fine a name s words command =
     ap₂ (λ k w. or_else k (walk_fault a.top (names_of a) w words)) turn (name_walked a name s command) ∙ left_fault a.top (names_of a) name [] words
 
 -- the faults of a call are those of its command
-pub command_fault : (a : App) (name : Text) (s : Shape) (words : List Text) → HasCommand a name s → built_fault a nothing_held (name ∷ words) ≡ or_else (level_fault s [] nothing_held words false []) []
+pub command_fault : (a : App) (name : Text) (s : Shape) (words : List Text) → HasCommand a name s
+    → built_fault a nothing_held (name ∷ words) ≡ or_else (level_fault s [] nothing_held words false []) []
 command_fault a name s words command =
     ap₂ (λ k (w : Walk). or_else k (or_else (entered_fault a w.stopped) (or_else (settle_fault a.top.rules a.top.args_override_self w.held)
-    (or_else (defaults_fault (settled a.top.rules w.held).rows a.top.rules) (check_fault a.top (finished a.top.rules w.held) (is_some (entered a w.stopped)))))))
+    (or_else (defaults_fault (settled a.top.rules w.held).rows a.top.rules)
+    (check_fault a.top (finished a.top.rules w.held) (is_some (entered a w.stopped)))))))
     (words_fine a name s words command) (words_walked a name s words command)
     ∙ ap (λ o. or_else (option_map_or (λ sub. level_fault sub [] nothing_held words false []) o []) (or_else (defaults_fault [] a.top.rules)
     (check_fault a.top (finished a.top.rules nothing_held) (is_some (option_map (λ sub. rows_at sub words) o))))) command.found
@@ -338,4 +372,5 @@ command_fault a name s words command =
 -- and so are its values
 pub command_rows : (a : App) (name : Text) (s : Shape) (words : List Text) → HasCommand a name s
     → entered a (stop_after a.top.rules (names_of a) (name ∷ words)) ≡ Some (s.name, rows_after s.rules [] words)
-command_rows a name s words command = ap (λ (w : Walk). entered a w.stopped) (words_walked a name s words command) ∙ ap (option_map (λ sub. rows_at sub words)) command.found
+command_rows a name s words command = ap (λ (w : Walk). entered a w.stopped) (words_walked a name s words command)
+    ∙ ap (option_map (λ sub. rows_at sub words)) command.found

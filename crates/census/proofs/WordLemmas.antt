@@ -1,5 +1,6 @@
 -- What `clap` found for the words, and what they ask for.
-use Rattle.std.proofs.Common.{◌≡◌, ◌<◌, ◌^◌, ◌&&◌, ◌⊎◌, ℕ, Bool, true, false, cond, Option, None, Some, Result, Ok, Err, List, [], ◌∷◌, length, codes, nat_le, nat_lt, option_and_then, option_map, is_some, inl, inr, refl, sym, ap, subst, ◌∙◌, arith, lt-ltb, ltb-true}
+use Rattle.std.proofs.Common.{◌≡◌, ◌<◌, ◌^◌, ◌&&◌, ◌⊎◌, ℕ, Bool, true, false, cond, Option, None, Some, Result, Ok, Err, List, [], ◌∷◌, length, codes}
+use Rattle.std.proofs.Common.{nat_le, nat_lt, option_and_then, option_map, is_some, inl, inr, refl, sym, ap, subst, ◌∙◌, arith, lt-ltb, ltb-true}
 use Rattle.std.proofs.lemmas.Bool.{leb-true}
 use Rattle.std.specs.List.{list_all}
 use Rattle.std.specs.Char.{digit_value}
@@ -39,10 +40,12 @@ abbrev pub within : ℕ → ℕ → Option ℕ
 within most n = cond (nat_le n most) (Some n) None
 
 -- a text that is read as a number of 32 bits
-ok_within : (most : ℕ) (text : Text) (n : ℕ) → IsNumeral 10 (without_leading_plus text) → n ≡ digits_value 10 (without_leading_plus text) → within most n ≡ number_of most text
+ok_within : (most : ℕ) (text : Text) (n : ℕ) → IsNumeral 10 (without_leading_plus text) → n ≡ digits_value 10 (without_leading_plus text)
+    → within most n ≡ number_of most text
 ok_within most text n numeral is = rw (is, is_numeral-passes _ numeral) refl
 
-none_within : (most : ℕ) (text : Text) → most < 2 ^ 32 → ((IsNumeral 10 (without_leading_plus text) × (digits_value 10 (without_leading_plus text) < 2 ^ 32)) → ⊥) → None ≡ number_of most text
+none_within : (most : ℕ) (text : Text) → most < 2 ^ 32
+    → ((IsNumeral 10 (without_leading_plus text) × (digits_value 10 (without_leading_plus text) < 2 ^ 32)) → ⊥) → None ≡ number_of most text
 none_within most text fits never = go (is_numeral (without_leading_plus text) && nat_le (digits_value 10 (without_leading_plus text)) most) refl
   where
     go : (b : Bool) → (is_numeral (without_leading_plus text) && nat_le (digits_value 10 (without_leading_plus text)) most) ≡ b → None ≡ number_of most text
@@ -53,13 +56,15 @@ none_within most text fits never = go (is_numeral (without_leading_plus text) &&
         absurd (never (is_numeral-from _ parts.0, omega arith))
 
 -- the number that is read of a text
-text_within : {E : Type 0} (most : ℕ) → most < 2 ^ 32 → (G : Text → Result ℕ E → Type 0) → ((t : Text) (r : Result ℕ E) → G t r → ParsesUnsigned 32 10 t r) → (text : Text) (found : Option ℕ) → ReadsOne G text found
+text_within : {E : Type 0} (most : ℕ) → most < 2 ^ 32 → (G : Text → Result ℕ E → Type 0)
+    → ((t : Text) (r : Result ℕ E) → G t r → ParsesUnsigned 32 10 t r) → (text : Text) (found : Option ℕ) → ReadsOne G text found
     → option_and_then (within most) found ≡ number_of most text
 text_within most fits G only text (Some n) read = let h = only text (Ok n) read in ok_within most text n h.0.0 h.1
 text_within most fits G only text None read = none_within most text fits (only text (Err read.0) read.1)
 
 -- the number of an argument: the number that is read, where it is within the limit
-pub found_within : {E : Type 0} (most : ℕ) (id : Text) → most < 2 ^ 32 → (G : Text → Result ℕ E → Type 0) → ((t : Text) (r : Result ℕ E) → G t r → ParsesUnsigned 32 10 t r) → (f : Found) (found : Option ℕ)
+pub found_within : {E : Type 0} (most : ℕ) (id : Text) → most < 2 ^ 32 → (G : Text → Result ℕ E → Type 0)
+    → ((t : Text) (r : Result ℕ E) → G t r → ParsesUnsigned 32 10 t r) → (f : Found) (found : Option ℕ)
     → (one_text f id ≡ None → found ≡ None) → ((t : Text) → one_text f id ≡ Some t → ReadsOne G t found)
     → option_and_then (within most) found ≡ number_in most id (rows_of f)
 found_within most id fits G only f found none some = go (one_text f id) refl
@@ -69,7 +74,8 @@ found_within most id fits G only f found none some = go (one_text f id) refl
     go (Some t) e = rw (← one_text-rows f id, e) (text_within most fits G only t found (some t e))
 
 -- what `run` is asked for, from its two values
-pub run_in-is : (rows : List Row) (n : Option ℕ) (rule : Option Text) → n ≡ number_in 100000 (codes "N") rows → rule ≡ first_of (codes "rule") rows → run_in rows ≡ option_and_then (λ k. option_map (Run k) rule) n
+pub run_in-is : (rows : List Row) (n : Option ℕ) (rule : Option Text) → n ≡ number_in 100000 (codes "N") rows → rule ≡ first_of (codes "rule") rows
+    → run_in rows ≡ option_and_then (λ k. option_map (Run k) rule) n
 run_in-is rows n rule is_n is_rule = rw (is_n, is_rule) refl
 
 -- what `show` is asked for, from its value
@@ -86,7 +92,8 @@ unfolding clap_on_literals
 census_is_free = refl
 
 -- what a parse finds is what the words ask for
-pub command_of-found : (app : App) (words : List Text) (found : Option (Text × List Row)) → app ≡ census_app → (is_simple_and_free app ≡ true → fault_of app words ≡ [])
+pub command_of-found : (app : App) (words : List Text) (found : Option (Text × List Row)) → app ≡ census_app
+    → (is_simple_and_free app ≡ true → fault_of app words ≡ [])
     → (is_simple app ≡ true → found ≡ subcommand_of app words) → command_of words ≡ option_and_then request_in found
 command_of-found app words found is faultless finds =
     let none : fault_of census_app words ≡ [] = ap (λ (a : App). fault_of a words) (sym is) ∙ faultless (ap is_simple_and_free is ∙ census_is_free) in
@@ -94,10 +101,12 @@ command_of-found app words found is faultless finds =
     rw (none, same) refl
 
 -- where the words ask for something, a parse fails for want of memory alone
-pub command_of-fails : (app : App) (words : List Text) (kind : ErrorKind) → app ≡ census_app → (is_simple_and_free app ≡ true → (kind ≡ kinds.OutOfMemory) ⊎ IsAmong kind (fault_of app words))
+pub command_of-fails : (app : App) (words : List Text) (kind : ErrorKind) → app ≡ census_app
+    → (is_simple_and_free app ≡ true → (kind ≡ kinds.OutOfMemory) ⊎ IsAmong kind (fault_of app words))
     → is_some (command_of words) ≡ true → kind ≡ kinds.OutOfMemory
 command_of-fails app words kind is fails asked =
-    go (fault_of census_app words) refl (subst (λ (a : App). (kind ≡ kinds.OutOfMemory) ⊎ IsAmong kind (fault_of a words)) is (fails (ap is_simple_and_free is ∙ census_is_free)))
+    go (fault_of census_app words) refl (subst (λ (a : App). (kind ≡ kinds.OutOfMemory) ⊎ IsAmong kind (fault_of a words)) is
+    (fails (ap is_simple_and_free is ∙ census_is_free)))
   where
     go : (faults : Kinds) → fault_of census_app words ≡ faults → (kind ≡ kinds.OutOfMemory) ⊎ IsAmong kind faults → kind ≡ kinds.OutOfMemory
     go [] e (inl memory) = memory
@@ -108,7 +117,8 @@ command_of-fails app words kind is fails asked =
 
 -- any other failure comes of words that ask for nothing
 pub command_of-none : (app : App) (words : List Text) (kind : ErrorKind) → app ≡ census_app
-    → (is_simple_and_free app ≡ true → (kind ≡ kinds.OutOfMemory) ⊎ IsAmong kind (fault_of app words)) → (kind ≡ kinds.OutOfMemory → ⊥) → command_of words ≡ None
+    → (is_simple_and_free app ≡ true → (kind ≡ kinds.OutOfMemory) ⊎ IsAmong kind (fault_of app words)) → (kind ≡ kinds.OutOfMemory → ⊥)
+    → command_of words ≡ None
 command_of-none app words kind is fails other = go (command_of words) refl
   where
     go : (o : Option Request) → command_of words ≡ o → o ≡ None

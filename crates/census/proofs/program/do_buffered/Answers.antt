@@ -20,12 +20,14 @@ returns-clause-done g c =
     let below = g.W.Write.contents c.into_parts-writer.result.0 in
     let held = writer_buffer c.send_buffered-status.new.buffered in
     let passes : Passes before start buffered below held = record {
-      starts = ap (writer_contents g.W.Write.contents) c.new-output.ensures.writer ∙ ap₂ append_known (ap g.W.Write.contents c.in-Ok.ensures.inner) c.in-Ok.ensures.empty;
+      starts = ap (writer_contents g.W.Write.contents) c.new-output.ensures.writer
+          ∙ ap₂ append_known (ap g.W.Write.contents c.in-Ok.ensures.inner) c.in-Ok.ensures.empty;
       kept = rw (c.into_parts-writer.ensures.inner, ← c.into_inner-buffered.ensures) c.send_buffered-status.ensures.bytes;
     } in
     λ done. let sent = c.send_buffered-status.ensures.done done in
     let command : c.do_words-status.result ≢ statuses.Usage = λ usage. let bad : statuses.Usage ≡ statuses.Done = sym usage ∙ sent.0 in cc in
-    program_done words (g.R.Read.remaining c.args.input.now) c.do_words-status.result before start buffered below held _ _ passes (c.do_words-status.ensures.command command) sent.0 sent.1
+    program_done words (g.R.Read.remaining c.args.input.now) c.do_words-status.result before start buffered below held _ _ passes
+    (c.do_words-status.ensures.command command) sent.0 sent.1
 
 pub returns-clause-complains : goal.returns-clause-complains
 returns-clause-complains g c =
@@ -37,7 +39,8 @@ returns-clause-complains g c =
     let below = g.W.Write.contents c.into_parts-writer.result.0 in
     let held = writer_buffer c.send_buffered-status.new.buffered in
     let passes : Passes before start buffered below held = record {
-      starts = ap (writer_contents g.W.Write.contents) c.new-output.ensures.writer ∙ ap₂ append_known (ap g.W.Write.contents c.in-Ok.ensures.inner) c.in-Ok.ensures.empty;
+      starts = ap (writer_contents g.W.Write.contents) c.new-output.ensures.writer
+          ∙ ap₂ append_known (ap g.W.Write.contents c.in-Ok.ensures.inner) c.in-Ok.ensures.empty;
       kept = rw (c.into_parts-writer.ensures.inner, ← c.into_inner-buffered.ensures) c.send_buffered-status.ensures.bytes;
     } in
     λ undone no_usage. elim (done_or_not c.do_words-status.result) [
@@ -45,10 +48,12 @@ returns-clause-complains g c =
           let changed : c.send_buffered-status.result ≢ c.do_words-status.result = λ same. undone (same ∙ done) in
           let command : c.do_words-status.result ≢ statuses.Usage = λ usage. let bad : statuses.Usage ≡ statuses.Done = sym usage ∙ done in cc in
           rw (c.send_buffered-status.ensures.failed changed)
-          (program_unsent words known c.do_words-status.result before start buffered below held _ _ _ _ _ _ passes (c.do_words-status.ensures.command command) done
+          (program_unsent words known c.do_words-status.result before start buffered below held _ _ _ _ _ _ passes
+          (c.do_words-status.ensures.command command) done
           (c.send_buffered-status.ensures.line changed))
       | inr not_done ↦
           let kept = c.send_buffered-status.ensures.kept not_done in
           let command : c.do_words-status.result ≢ statuses.Usage = λ usage. no_usage (kept.0 ∙ usage) in
-          rw (kept.0, kept.1) (program_ended words known c.do_words-status.result before start buffered below held _ _ passes (c.do_words-status.ensures.command command) not_done)
+          rw (kept.0, kept.1) (program_ended words known c.do_words-status.result before start buffered below held _ _ passes
+          (c.do_words-status.ensures.command command) not_done)
     ]

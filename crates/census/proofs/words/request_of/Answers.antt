@@ -8,7 +8,8 @@ returns-in-Some-clause-asked g c =
     let words = map g.S.AsStr.text c.args.words.now in
     let parsed = c.in-Ok.ensures in
     asked_by-command words (sym c.if-asks_version.ensures)
-    ∙ command_of-found (app_of c.in_ok-command.command) words (subcommand_rows_of c.in-Ok.matches) c.in_ok-command.ensures parsed.kinds (λ simple. (parsed.matches simple).1)
+    ∙ command_of-found (app_of c.in_ok-command.command) words (subcommand_rows_of c.in-Ok.matches) c.in_ok-command.ensures parsed.kinds
+    (λ simple. (parsed.matches simple).1)
     ∙ sym c.in-Some.ensures.request
 
 pub returns-in-Ok-clause-usage : goal.returns-in-Ok-clause-usage
@@ -16,7 +17,8 @@ returns-in-Ok-clause-usage g c =
     let words = map g.S.AsStr.text c.args.words.now in
     let parsed = c.in-Ok.ensures in
     λ _. asked_by-command words (sym c.if-asks_version.ensures)
-    ∙ command_of-found (app_of c.in_ok-command.command) words (subcommand_rows_of c.in-Ok.matches) c.in_ok-command.ensures parsed.kinds (λ simple. (parsed.matches simple).1)
+    ∙ command_of-found (app_of c.in_ok-command.command) words (subcommand_rows_of c.in-Ok.matches) c.in_ok-command.ensures parsed.kinds
+    (λ simple. (parsed.matches simple).1)
     ∙ sym c.in-None.ensures.request
 
 pub returns-clause-usage : goal.returns-clause-usage
