@@ -100,7 +100,10 @@ impl Pattern {
         requires { out.old.failed ≡ false }
         ensures { Writes V.contents out.old out.new result (plain self.now) }
     {
-        write_pattern(out, self)
+        match self.bounds() {
+            None => Ok(()),
+            Some(bounds) => write_rows(out, self.cells(), bounds),
+        }
     }
 }
 
@@ -299,16 +302,6 @@ fn write_rows<V: Write>(out: &mut Out<V>, cells: &[Cell], bounds: Bounds) -> Res
         rest = below(rest, y);
     }
     Ok(())
-}
-
-fn write_pattern<V: Write>(out: &mut Out<V>, pattern: &Pattern) -> Result<(), WriteError>
-    requires { out.old.failed ≡ false }
-    ensures { Writes V.contents out.old out.new result (plain pattern.now) }
-{
-    match pattern.bounds() {
-        None => Ok(()),
-        Some(bounds) => write_rows(out, pattern.cells(), bounds),
-    }
 }
 
 #[cfg(test)]
