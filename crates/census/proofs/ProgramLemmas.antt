@@ -1,5 +1,5 @@
 -- From what a command leaves in a buffer to what is with the writer below it.
-use Rattle.std.proofs.Common.{◌≡◌, ◌≢◌, ◌++◌, ◌⊎◌, ℕ, List, [], Bool, true, false, Option, None, Some, Ok, Err, IsSomeAnd, inl, inr, refl, sym, ap}
+use Rattle.std.proofs.Common.{◌≡◌, ◌≢◌, ◌++◌, ◌⊎◌, ℕ, List, [], Bool, true, false, Option, None, Some, Ok, Err, IsOk, IsSomeAnd, inl, inr, refl, sym, ap}
 use Rattle.std.proofs.Common.{◌∙◌, subst, append_assoc, append-nil}
 use Rattle.std.specs.Io.KnownBytes.{Appends, Keeps, append_known}
 use Rattle.clap.specs.Words.{Text}
@@ -85,12 +85,12 @@ ended_by : (request : Request) (bytes : List ℕ) (complaint : Complaint) (befor
     → Keeps buffered (append_known below held) → MayComplain request bytes complaint × IsFront before below (text_of (answer_to request bytes))
 ended_by request bytes (Refused refusal) before buffered below held failed reached kept =
     (reached.0, front_sent before buffered below held [] (text_of (answer_to request bytes)) reached.1 kept)
-ended_by request bytes OutOfMemory before buffered below held failed (front, rest, is, wrote) kept =
-    (tt, subst (IsFront before below) (sym is) (front_sent before buffered below held front rest wrote kept))
+ended_by request bytes OutOfMemory before buffered below held failed (may, (front, rest, is, wrote)) kept =
+    (may, subst (IsFront before below) (sym is) (front_sent before buffered below held front rest wrote kept))
 ended_by request bytes ReadFailed before buffered below held failed reached kept =
     (reached.0, front_sent before buffered below held [] (text_of (answer_to request bytes)) reached.1 kept)
-ended_by request bytes WriteFailed before buffered below held failed ((front, rest, is, wrote), told) kept =
-    (tt, subst (IsFront before below) (sym is) (front_sent before buffered below held front rest wrote kept))
+ended_by request bytes WriteFailed before buffered below held failed (may, (front, rest, is, wrote), told) kept =
+    (may, subst (IsFront before below) (sym is) (front_sent before buffered below held front rest wrote kept))
 
 -- words that were not done, whatever is held back
 words_ended : (words : List Text) (known before buffered below : Option (List ℕ)) (held : List ℕ) (failed : Bool) (status : Status) (errors : Stream)
@@ -147,7 +147,8 @@ words_unsent words known before buffered below held failed errors after (inl doe
         let front : IsFront before below (wrote.0 ++ []) = front_sent before buffered below held wrote.0 [] wrote.2 kept in
         let text : wrote.0 ++ [] ≡ text_of (answer_to request does.bytes) = append-nil wrote.0 ∙ ap text_of (sym wrote.1) in
         let by : IsSomeAnd (Some request) (IsEndedBy WriteFailed known before below) =
-        record { bytes = does.bytes; input = does.input; may = tt; front = subst (IsFront before below) text front } in
+        record { bytes = does.bytes; input = does.input; may = subst (λ (a : Answer). IsOk a) (sym wrote.1) refl; front =
+            subst (IsFront before below) text front } in
         record {
           complaint = WriteFailed;
           code = refl;

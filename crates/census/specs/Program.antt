@@ -1,5 +1,5 @@
 -- How the program ends, from its words to the bytes that it leaves.
-use Rattle.std.specs.Prelude.{◌≡◌, ◌++◌, ◌⊎◌, ℕ, true, List, [], Option, None, Some, Ok, Err, IsSomeAnd, ⊤, codes}
+use Rattle.std.specs.Prelude.{◌≡◌, ◌++◌, ◌⊎◌, ℕ, true, false, List, [], Option, None, Some, Ok, Err, IsOk, IsSomeAnd, ⊤, codes}
 use Rattle.std.specs.Io.KnownBytes.{Appends}
 use Rattle.plane_core.specs.Out.{Output}
 use Rattle.commands.specs.declared.complaint.Complaint.{Complaint}
@@ -42,12 +42,13 @@ IsFront None after text = ⊤
 IsFront (Some xs) None text = ⊥
 IsFront (Some xs) (Some ys) text = (rest : List ℕ) × (ys ++ rest ≡ xs ++ text)
 
--- what may end a request: a refusal if that is its answer, memory that runs out, or a stream that fails
+-- What may end a request: a refusal if that is its answer, memory that runs out, or a stream that fails. Memory hides a
+-- refusal only until the input is read, and only a text is written.
 abbrev pub MayComplain : Request → List ℕ → Complaint → Type 0
 MayComplain request bytes (Refused refusal) = answer_to request bytes ≡ Err (Refused refusal)
-MayComplain request bytes OutOfMemory = ⊤
+MayComplain request bytes OutOfMemory = reads_input request ≡ false → IsOk (answer_to request bytes)
 MayComplain request bytes ReadFailed = reads_input request ≡ true
-MayComplain request bytes WriteFailed = ⊤
+MayComplain request bytes WriteFailed = IsOk (answer_to request bytes)
 
 -- a request was ended by a complaint on an input, and the writer holds a front of its text
 pub record IsEndedBy (complaint : Complaint) (known before after : Option (List ℕ)) (request : Request) : Type 0 where

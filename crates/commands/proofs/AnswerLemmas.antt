@@ -1,5 +1,6 @@
 -- Lemmas on what commands read and answer.
-use Rattle.std.proofs.Common.{◌≡◌, ◌≤◌, ◌^◌, ◌↔◌, ℕ, List, [], length, Bool, true, Option, None, Some, Result, Ok, Err, nat_le, is_ok, refl, sym, ap, ◌∙◌, rules}
+use Rattle.std.proofs.Common.{◌≡◌, ◌≤◌, ◌^◌, ◌↔◌, ℕ, List, [], length, Bool, true, false, Option, None, Some, Result, Ok, Err, nat_le, is_ok, refl}
+use Rattle.std.proofs.Common.{sym, ap, ◌∙◌, rules}
 use Rattle.std.specs.Result.{IsErrAnd, IsErrOf, result_map_both}
 use Rattle.plane_core.specs.declared.cell.Cell.{Cell}
 use Rattle.plane_core.specs.declared.rule.RuleError.{RuleError}
@@ -70,7 +71,8 @@ status_of-command ReadFailed is = cc
 status_of-command WriteFailed is = cc
 
 -- a command that ended well has no usage fault
-pub Ends-command : {reads : Bool} {answer : Answer} {status : Status} {output errors : Stream} → Ends reads answer status output errors → status ≡ statuses.Usage → ⊥
+pub Ends-command : {reads : Bool} {answer : Answer} {status : Status} {output errors : Stream} → Ends reads answer status output errors
+    → status ≡ statuses.Usage → ⊥
 Ends-command {status = status} {errors = errors} ends is = go ends.outcome ends.told
   where
     go : (outcome : Outcome) → Tells outcome status errors → ⊥
@@ -81,6 +83,8 @@ Ends-command {status = status} {errors = errors} ends is = go ends.outcome ends.
 pub Reaches_pattern : (text : List ℕ) (n : ℕ) (bytes : List ℕ) (rule : Numbers) (complaint : Complaint) (output : Stream) → rule_read text ≡ Ok rule
     → Reads (pattern_of bytes) (Err complaint) → Has output [] → Reaches (is_ok (rule_named text)) (run_answer text n bytes) (Err complaint) output
 Reaches_pattern text n bytes rule (Refused refusal) output ruled refused nothing = (rw (ruled, refused) refl, nothing)
-Reaches_pattern text n bytes rule OutOfMemory output ruled refused nothing = ([], _, refl, nothing)
+Reaches_pattern text n bytes rule OutOfMemory output ruled refused nothing =
+    let reads : is_ok (rule_named text) ≡ true = rw ruled refl in
+    (λ unread. let bad : false ≡ true = sym unread ∙ reads in cc, ([], _, refl, nothing))
 Reaches_pattern text n bytes rule ReadFailed output ruled refused nothing = (rw ruled refl, nothing)
 Reaches_pattern text n bytes rule WriteFailed output ruled refused nothing = absurd refused

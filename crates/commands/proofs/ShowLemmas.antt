@@ -1,5 +1,5 @@
 -- What `show` answers.
-use Rattle.std.proofs.Common.{◌≡◌, ◌↔◌, ℕ, false, List, [], Ok, Err, refl}
+use Rattle.std.proofs.Common.{◌≡◌, ◌↔◌, ℕ, false, List, [], Result, Ok, Err, IsOk, refl}
 use Rattle.std.specs.Result.{IsErrOf}
 use Rattle.plane_core.specs.declared.cell.Cell.{Cell}
 use Rattle.plane_core.specs.Plaintext.{plain}
@@ -13,18 +13,31 @@ use Rattle.commands.specs.Show.{reader_complaint, show_answer, text_in, wechsler
 use Rattle.commands.specs.Streams.{Stream, Has}
 
 -- a pattern that was read is the answer
-pub show_answer-pattern : (word text : List ℕ) (cells : List Cell) → text_in word ≡ Ok text → wechsler_read text ≡ Ok cells → show_answer word ≡ Ok (plain cells)
+pub show_answer-pattern : (word text : List ℕ) (cells : List Cell) → text_in word ≡ Ok text → wechsler_read text ≡ Ok cells
+    → show_answer word ≡ Ok (plain cells)
 show_answer-pattern word text cells is read = rw (is, read) refl
 
-show_answer-fault : (word text : List ℕ) (fault : WechslerFault) → text_in word ≡ Ok text → wechsler_read text ≡ Err fault → show_answer word ≡ Err (wechsler_complaint fault)
+show_answer-fault : (word text : List ℕ) (fault : WechslerFault) → text_in word ≡ Ok text → wechsler_read text ≡ Err fault
+    → show_answer word ≡ Err (wechsler_complaint fault)
 show_answer-fault word text fault is read = rw (is, read) refl
+
+-- memory ran out over a text without a fault
+show_answer-faultless : (word text : List ℕ) → text_in word ≡ Ok text
+    → ((fault : WechslerFault) → IsErrOf {T = List Cell} (Err Memory) (Fault fault) ↔ (wechsler_read text ≡ Err fault)) → IsOk (show_answer word)
+show_answer-faultless word text is faults = go (wechsler_read text) refl
+  where
+    go : (read : Result (List Cell) WechslerFault) → wechsler_read text ≡ read → IsOk (show_answer word)
+    go (Ok cells) e = rw (is, e) refl
+    go (Err fault) e = let bad = (faults fault).1 e in cc
 
 -- a text that was refused is the answer, with nothing on the output
 pub Reaches_text : (word text : List ℕ) (error : WechslerError) (output : Stream) → text_in word ≡ Ok text
     → ((fault : WechslerFault) → IsErrOf {T = List Cell} (Err error) (Fault fault) ↔ (wechsler_read text ≡ Err fault)) → Has output []
     → Reaches false (show_answer word) (Err (reader_complaint error)) output
 Reaches_text word text (Fault TooLong) output is faults nothing = (show_answer-fault word text TooLong is ((faults TooLong).0 refl), nothing)
-Reaches_text word text (Fault (BadByte place)) output is faults nothing = (show_answer-fault word text (BadByte place) is ((faults (BadByte place)).0 refl), nothing)
-Reaches_text word text (Fault (ShortRun place)) output is faults nothing = (show_answer-fault word text (ShortRun place) is ((faults (ShortRun place)).0 refl), nothing)
+Reaches_text word text (Fault (BadByte place)) output is faults nothing =
+    (show_answer-fault word text (BadByte place) is ((faults (BadByte place)).0 refl), nothing)
+Reaches_text word text (Fault (ShortRun place)) output is faults nothing =
+    (show_answer-fault word text (ShortRun place) is ((faults (ShortRun place)).0 refl), nothing)
 Reaches_text word text (Fault Empty) output is faults nothing = (show_answer-fault word text Empty is ((faults Empty).0 refl), nothing)
-Reaches_text word text Memory output is faults nothing = ([], _, refl, nothing)
+Reaches_text word text Memory output is faults nothing = (λ _. show_answer-faultless word text is faults, ([], _, refl, nothing))

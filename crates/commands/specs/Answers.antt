@@ -1,5 +1,5 @@
 -- What a command is asked for, and how it may end.
-use Rattle.std.specs.Prelude.{◌≡◌, ℕ, Bool, true, false, List, [], Option, Result, Ok, Err, IfSome, IsOkAnd}
+use Rattle.std.specs.Prelude.{◌≡◌, ℕ, Bool, true, false, List, [], Option, Result, Ok, Err, IfSome, IsOk, IsOkAnd}
 use Rattle.std.specs.Result.{result_unwrap_or}
 use Rattle.commands.specs.declared.complaint.Complaint.{Complaint}
 use Rattle.commands.specs.declared.complaint.Complaint.TheVariants.{Refused, OutOfMemory, ReadFailed, WriteFailed}
@@ -30,12 +30,13 @@ abbrev pub Outcome : Type 0
 Outcome = Result (Unit {0}) Complaint
 
 -- What stands on standard output after an outcome: the answer's text if all was done, the front of it if memory ran out
--- or a write failed, and else nothing. Only a command that reads its input meets a failed read. A refusal is the answer.
+-- or a write failed, and else nothing. A refusal is the answer. Only a text is written, only an input that is read can
+-- fail to be, and memory that runs out hides a refusal only until the input is read.
 abbrev pub Reaches : Bool → Answer → Outcome → Stream → Type 0
 Reaches reads answer (Ok _) output = IsOkAnd answer (Has output) × (output.failed ≡ false)
-Reaches reads answer (Err OutOfMemory) output = HasFront output (text_of answer)
+Reaches reads answer (Err OutOfMemory) output = (reads ≡ false → IsOk answer) × HasFront output (text_of answer)
 Reaches reads answer (Err ReadFailed) output = (reads ≡ true) × Has output []
-Reaches reads answer (Err WriteFailed) output = HasFront output (text_of answer) × (output.failed ≡ true)
+Reaches reads answer (Err WriteFailed) output = IsOk answer × HasFront output (text_of answer) × (output.failed ≡ true)
 Reaches reads answer (Err (Refused refusal)) output = (answer ≡ Err (Refused refusal)) × Has output []
 
 -- the status of an outcome, and its line on standard error

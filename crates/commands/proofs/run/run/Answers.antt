@@ -18,5 +18,6 @@ returns-in_err-pattern-clause-reached g c =
       read.0,
       read.1,
       rw (err_of _ _ c.from_residual-in_err-pattern.ensures.1)
-          (Reaches_pattern c.args.rule_text.now c.args.generations read.0 c.in_ok-rule.rule c.in_err-pattern.field-0.0 _ (sym c.in_ok-rule.ensures.exact) read.2 (Appends-nil _)),
+          (Reaches_pattern c.args.rule_text.now c.args.generations read.0 c.in_ok-rule.rule c.in_err-pattern.field-0.0 _
+          (sym c.in_ok-rule.ensures.exact) read.2 (Appends-nil _)),
     )
