@@ -20,9 +20,9 @@ pub mod run;
 pub mod show;
 /// How a command ended, as a shell sees it.
 pub mod status;
+#[cfg(test)]
+mod tests;
 /// `--version`: the program's name and version.
 pub mod version;
 /// Words of the command line.
-#[cfg(test)]
-mod tests;
 pub mod word;
