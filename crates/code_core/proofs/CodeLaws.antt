@@ -1,5 +1,6 @@
 -- A pattern has one name, and its phases have the same.
-use Rattle.std.proofs.Common.{◌≡◌, ◌≢◌, ◌∙◌, sym, ap, refl, subst, ℕ, ℤ, ◌+ℤ◌, ◌<◌, ◌≤◌, List, [], ◌∷◌, length, Option, None, Some, arith, inl, inr, Ordering, Less, Equal, Greater, nat_cmp}
+use Rattle.std.proofs.Common.{◌≡◌, ◌≢◌, ◌∙◌, sym, ap, refl, subst, ℕ, ℤ, ◌+ℤ◌, ◌<◌, ◌≤◌, List, [], ◌∷◌, length, Option, None, Some, arith, inl, inr}
+use Rattle.std.proofs.Common.{Ordering, Less, Equal, Greater, nat_cmp}
 use Rattle.std.proofs.lemmas.Int.{ints}
 use Rattle.std.specs.Cmp.Lexicographic.{slice_cmp}
 use Rattle.std.specs.FinMap.{nat_cmp-IsAntisymmetric, slice_cmp-IsAntisymmetric}
@@ -9,20 +10,28 @@ use Rattle.plane_core.specs.Bounds.{shifted}
 use Rattle.plane_core.specs.Cells.{moved_by}
 use Rattle.plane_core.specs.Generations.{after}
 use Rattle.plane_core.specs.Rules.{Numbers}
-use Rattle.code_core.specs.declared.cycle.Recurrence.{Recurrence}
-use Rattle.code_core.specs.Codes.{CodesAreDetermined, IsImageText, OnlyEqualTextsTie, TellsLeast, code_text, kind_of, number_of, text_cmp}
+use Rattle.code_core.specs.declared.recurrence.Recurrence.{Recurrence}
+use Rattle.code_core.specs.Apgcodes.{HasCodeShape, code_text}
+use Rattle.code_core.specs.Names.{CodesAreDetermined, CodesHaveTheirShape, IsImageText, OnlyEqualTextsTie, IsLeastOf, kind_of, number_of, text_cmp}
 use Rattle.code_core.specs.Recurrences.{Recurs}
+use Rattle.code_core.specs.Texts.{HasTextShape}
+use Rattle.code_core.specs.declared.apgcode.Kind.{Kind}
+use Rattle.code_core.specs.declared.apgcode.Kind.TheVariants.{Still, Oscillator, Ship}
+use Rattle.code_core.proofs.ApgcodeLemmas.{shape_of_name}
+use Rattle.code_core.proofs.TextLaw.{texts_have_their_shape}
+use Rattle.plane_core.specs.Orientations.{turned}
+use Rattle.std.specs.Prelude.{IfSome, ◌^◌}
 use Rattle.code_core.proofs.LeastLemmas.{text_cmp_total}
 use Rattle.code_core.proofs.RecurrenceLemmas.{le_or_lt}
 
 -- texts that tie are one text
 pub texts_tie : OnlyEqualTextsTie
-texts_tie a b e = slice_cmp-IsAntisymmetric nat_cmp-IsAntisymmetric a b (behind (nat_cmp (length a) (length b)) (slice_cmp nat_cmp a b) e)
+texts_tie a b e = slice_cmp-IsAntisymmetric nat_cmp-IsAntisymmetric a b (second_ties (nat_cmp (length a) (length b)) (slice_cmp nat_cmp a b) e)
   where
-    behind : (p q : Ordering) → ordering_then p q ≡ Equal → q ≡ Equal
-    behind Less q e = cc
-    behind Equal q e = e
-    behind Greater q e = cc
+    second_ties : (p q : Ordering) → ordering_then p q ≡ Equal → q ≡ Equal
+    second_ties Less q e = cc
+    second_ties Equal q e = e
+    second_ties Greater q e = cc
 
 -- neither comes after the other, so they tie
 text_cmp-tie : (a b : List ℕ) → text_cmp a b ≢ Greater → text_cmp b a ≢ Greater → text_cmp a b ≡ Equal
@@ -34,7 +43,7 @@ text_cmp-tie a b one other = go (text_cmp a b) refl
     go Greater is = absurd (one is)
 
 -- there is one least text
-least_is_one : (P : List ℕ → Type 0) (a b : Option (List ℕ)) → TellsLeast P a → TellsLeast P b → a ≡ b
+least_is_one : (P : List ℕ → Type 0) (a b : Option (List ℕ)) → IsLeastOf P a → IsLeastOf P b → a ≡ b
 least_is_one P None None one other = refl
 least_is_one P None (Some b) one other = absurd (one b other.0)
 least_is_one P (Some a) None one other = absurd (other a one.0)
@@ -66,6 +75,26 @@ recurs_once rule cells limit q r some one other =
 pub codes_are_determined : CodesAreDetermined
 codes_are_determined rule cells limit one other some h k =
     let recurrence : h.recurrence ≡ k.recurrence = recurs_once rule cells limit h.recurrence k.recurrence some h.recurs k.recurs in
-    let tells : TellsLeast (IsImageText rule cells h.recurrence.period) k.least = subst (λ (r : Recurrence). TellsLeast (IsImageText rule cells r.period) k.least) (sym recurrence) k.tells in
-    let least : h.least ≡ k.least = least_is_one (IsImageText rule cells h.recurrence.period) h.least k.least h.tells tells in
+    let is_least : IsLeastOf (IsImageText rule cells h.recurrence.period) k.least =
+    subst (λ (r : Recurrence). IsLeastOf (IsImageText rule cells r.period) k.least) (sym recurrence) k.is_least in
+    let least : h.least ≡ k.least = least_is_one (IsImageText rule cells h.recurrence.period) h.least k.least h.is_least is_least in
     h.spelled ∙ (λ i. code_text (kind_of (recurrence i)) (number_of (kind_of (recurrence i)) cells (recurrence i)) (least i)) ∙ sym k.spelled
+
+-- ---- the shape of a name
+
+image_shape : (rule : Numbers) (cells : List Cell) (period : ℕ) (least : Option (List ℕ)) → IsLeastOf (IsImageText rule cells period) least
+    → IfSome least HasTextShape
+image_shape rule cells period None h = tt
+image_shape rule cells period (Some t) h = texts_have_their_shape (turned h.0.orientation (after rule cells h.0.phase)) t h.0.is
+
+small_number : (kind : Kind) (cells : List Cell) (r : Recurrence) → length cells < 2 ^ 64 → r.period < 2 ^ 64 → number_of kind cells r < 2 ^ 64
+small_number Still cells r few low = few
+small_number Oscillator cells r few low = low
+small_number Ship cells r few low = low
+
+pub codes_have_their_shape : CodesHaveTheirShape
+codes_have_their_shape rule cells limit code few low h =
+    let r = h.recurrence in
+    let number : number_of (kind_of r) cells r < 2 ^ 64 = small_number (kind_of r) cells r few (omega (arith, h.recurs.within)) in
+    let shape = image_shape rule cells r.period h.least h.is_least in
+    subst HasCodeShape (sym h.spelled) (shape_of_name (kind_of r) (number_of (kind_of r) cells r) h.least number shape)

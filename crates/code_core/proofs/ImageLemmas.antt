@@ -1,13 +1,13 @@
 -- An image with a text lies on the plane.
-use Rattle.std.proofs.Common.{◌≡◌, ◌∙◌, sym, ap, refl, ℕ, ℤ, pos, ◌+ℤ◌, neg_ℤ, ◌<◌, Bool, true, false, List, [], ◌∷◌, Option, None, Some, arith, cond, unsigned_abs, ltb-true}
+use Rattle.std.proofs.Common.{◌≡◌, ◌∙◌, sym, ap, refl, ℕ, ℤ, pos, ◌+ℤ◌, neg_ℤ, ◌<◌, Bool, true, false, List, [], ◌∷◌, Option, None, Some, arith, cond}
+use Rattle.std.proofs.Common.{unsigned_abs, ltb-true}
 use Rattle.std.proofs.lemmas.Bool.{and_from, and_parts, le-leb, false≢true}
 use Rattle.std.proofs.lemmas.Int.{ints}
 use Rattle.std.specs.List.{list_all, AllByRecursion}
 use Rattle.plane_core.specs.declared.cell.Cell.{Cell}
-use Rattle.plane_core.specs.declared.cell.TheConstants.{BOUND}
 use Rattle.plane_core.specs.declared.bounds.Bounds.{Bounds}
 use Rattle.plane_core.specs.Bounds.{IsWithin, at_corner, box_of, cornered, shifted}
-use Rattle.plane_core.specs.Cells.{distance, moved_by, on_plane}
+use Rattle.plane_core.specs.Cells.{distance, moved_by, on_plane, plane_bound}
 use Rattle.plane_core.specs.declared.orientation.Orientation.{Orientation}
 use Rattle.plane_core.specs.Orientations.{image, turned}
 use Rattle.plane_core.proofs.OrientationLemmas.{at_corner-shifted}
@@ -38,14 +38,16 @@ box_at_corner cells b is = go (at_corner cells) is (at_corner-again cells)
         (unmoved c.x b.left (ap (λ (d : Cell). d.x) first), unmoved c.y b.top (ap (λ (d : Cell). d.y) first))
 
 -- a cell in a small box at the corner lies on the plane
-near_corner : (b : Bounds) (c : Cell) → b.left ≡ pos 0 → b.top ≡ pos 0 → distance b.left b.right < 40 → distance b.top b.bottom < 40 → IsWithin b c → on_plane c ≡ true
+near_corner : (b : Bounds) (c : Cell) → b.left ≡ pos 0 → b.top ≡ pos 0 → distance b.left b.right < 40 → distance b.top b.bottom < 40 → IsWithin b c
+    → on_plane c ≡ true
 unfolding on_plane
 near_corner b c left top wide high w =
     let x : unsigned_abs c.x < 40 = omega (arith, ints) in
     let y : unsigned_abs c.y < 40 = omega (arith, ints) in
-    and_from _ _ (le-leb (unsigned_abs c.x) BOUND (omega arith)) (le-leb (unsigned_abs c.y) BOUND (omega arith))
+    and_from _ _ (le-leb (unsigned_abs c.x) plane_bound (omega arith)) (le-leb (unsigned_abs c.y) plane_bound (omega arith))
 
-all_near : (b : Bounds) (cells : List Cell) → b.left ≡ pos 0 → b.top ≡ pos 0 → distance b.left b.right < 40 → distance b.top b.bottom < 40 → AllByRecursion (IsWithin b) cells
+all_near : (b : Bounds) (cells : List Cell) → b.left ≡ pos 0 → b.top ≡ pos 0 → distance b.left b.right < 40 → distance b.top b.bottom < 40
+    → AllByRecursion (IsWithin b) cells
     → list_all on_plane cells ≡ true
 all_near b [] left top wide high w = refl
 all_near b (c ∷ cs) left top wide high w = and_from _ _ (near_corner b c left top wide high w.0) (all_near b cs left top wide high w.1)

@@ -27,7 +27,8 @@ pub strips_begin : (cells : List Cell) (width : ℕ) → strips_text cells width
 unfolding strips_text
 strips_begin cells width = refl
 
-pub strips_more : (cells : List Cell) (width n : ℕ) → 1 ≤ n → strips_text cells width (n + 1) ≡ (strips_text cells width n ++ 122 ∷ []) ++ flat_map spelling (strip_tokens (strip cells width n))
+pub strips_more : (cells : List Cell) (width n : ℕ) → 1 ≤ n → strips_text cells width (n + 1) ≡ (strips_text cells width n ++ 122 ∷ [])
+    ++ flat_map spelling (strip_tokens (strip cells width n))
 unfolding strips_text
 strips_more cells width zero h = absurd (omega arith)
 strips_more cells width (suc n) h =

@@ -1,5 +1,6 @@
 -- A phase of a pattern that recurs has the name of the pattern.
-use Rattle.std.proofs.Common.{◌≡◌, ◌∙◌, sym, ap, refl, subst, ℕ, zero, suc, ℤ, ◌+◌, ◌-◌, ◌≤◌, List, length, arith, eq-or-lt_of_le, inl, inr, add-zero, Bool, true, false, ◌&&◌, ◌==◌, cond, int_eq, pos, eqb-true}
+use Rattle.std.proofs.Common.{◌≡◌, ◌∙◌, sym, ap, refl, subst, ℕ, zero, suc, ℤ, ◌+◌, ◌-◌, ◌≤◌, List, length, arith, eq-or-lt_of_le, inl, inr, add-zero}
+use Rattle.std.proofs.Common.{Bool, true, false, ◌&&◌, ◌==◌, cond, int_eq, pos, eqb-true}
 use Rattle.plane_core.specs.declared.cell.Cell.{Cell}
 use Rattle.plane_core.specs.Bounds.{shifted}
 use Rattle.plane_core.specs.Cells.{InOrder}
@@ -10,17 +11,19 @@ use Rattle.plane_core.proofs.GenerationLemmas.{after-none}
 use Rattle.plane_core.proofs.OrientationLemmas.{turning_moved}
 use Rattle.code_core.specs.declared.apgcode.Kind.{Kind}
 use Rattle.code_core.specs.declared.apgcode.Kind.TheVariants.{Still, Oscillator, Ship}
-use Rattle.code_core.specs.declared.cycle.Recurrence.{Recurrence}
-use Rattle.code_core.specs.Codes.{CodesLater, IsCode, IsImageText, code_text, kind_of, number_of}
+use Rattle.code_core.specs.declared.recurrence.Recurrence.{Recurrence}
+use Rattle.code_core.specs.Apgcodes.{code_text}
+use Rattle.code_core.specs.Names.{CodesLater, IsCode, IsImageText, kind_of, number_of}
 use Rattle.code_core.specs.Recurrences.{Recurs}
 use Rattle.code_core.specs.Texts.{text}
-use Rattle.code_core.proofs.LeastLemmas.{tells_same}
+use Rattle.code_core.proofs.LeastLemmas.{least_of_same}
 use Rattle.code_core.proofs.MovedCodes.{after-shifted, after-suc, in_order-after, length-shifted, shifted-same, shifted-swap}
 
 -- some generations after some generations
 after-after : (rule : Numbers) (cells : List Cell) (g h : ℕ) → after rule (after rule cells g) h ≡ after rule cells (g + h)
 after-after rule cells g zero = after-none rule (after rule cells g) ∙ ap (after rule cells) (sym (add-zero g))
-after-after rule cells g (suc h) = after-suc rule (after rule cells g) h ∙ ap (next rule) (after-after rule cells g h) ∙ sym (after-suc rule cells (g + h)) ∙ ap (after rule cells) (omega arith)
+after-after rule cells g (suc h) = after-suc rule (after rule cells g) h ∙ ap (next rule) (after-after rule cells g h)
+    ∙ sym (after-suc rule cells (g + h)) ∙ ap (after rule cells) (omega arith)
 
 module _ (rule : Numbers) (cells : List Cell) (limit : ℕ) (r : Recurrence) (order : InOrder cells) (h : Recurs rule cells limit r) where
   -- a period later each generation is itself again, moved
@@ -40,11 +43,14 @@ module _ (rule : Numbers) (cells : List Cell) (limit : ℕ) (r : Recurrence) (or
       sooner : (p : ℕ) (ex ey : ℤ) → after rule (after rule cells 1) p ≡ shifted ex ey (after rule cells 1) → after rule cells p ≡ shifted ex ey cells
       sooner p ex ey is =
           let rest : 1 + (r.period - 1) ≡ r.period = omega (arith, h.some) in
-          let whole : after rule (after rule cells 1) (r.period - 1) ≡ shifted r.dx r.dy cells = after-after rule cells 1 (r.period - 1) ∙ ap (after rule cells) rest ∙ h.back in
+          let whole : after rule (after rule cells 1) (r.period - 1) ≡ shifted r.dx r.dy cells = after-after rule cells 1 (r.period - 1)
+          ∙ ap (after rule cells) rest ∙ h.back in
           let early : after rule (after rule (after rule cells 1) p) (r.period - 1) ≡ shifted r.dx r.dy (after rule cells p) =
-          after-after rule (after rule cells 1) p (r.period - 1) ∙ after-after rule cells 1 (p + (r.period - 1)) ∙ ap (after rule cells) (omega (arith, h.some)) ∙ a_period_later p in
+          after-after rule (after rule cells 1) p (r.period - 1) ∙ after-after rule cells 1 (p + (r.period - 1))
+          ∙ ap (after rule cells) (omega (arith, h.some)) ∙ a_period_later p in
           let late : after rule (shifted ex ey (after rule cells 1)) (r.period - 1) ≡ shifted r.dx r.dy (shifted ex ey cells) =
-          after-shifted ex ey rule (after rule cells 1) (r.period - 1) (in_order-after rule cells 1 order) ∙ ap (shifted ex ey) whole ∙ shifted-swap ex ey r.dx r.dy cells in
+          after-shifted ex ey rule (after rule cells 1) (r.period - 1) (in_order-after rule cells 1 order) ∙ ap (shifted ex ey) whole
+          ∙ shifted-swap ex ey r.dx r.dy cells in
           shifted-same r.dx r.dy (after rule cells p) (shifted ex ey cells) (sym early ∙ ap (λ (S : List Cell). after rule S (r.period - 1)) is ∙ late)
 
   -- the images of a generation a period later are the same
@@ -82,7 +88,8 @@ module _ (rule : Numbers) (cells : List Cell) (limit : ℕ) (r : Recurrence) (or
       phase = one.phase - 1;
       orientation = one.orientation;
       within = omega (arith, one.within);
-      is = ap (λ (S : List Cell). text (turned one.orientation S)) (after-after rule cells 1 (one.phase - 1) ∙ ap (after rule cells) (omega (arith, later))) ∙ one.is;
+      is = ap (λ (S : List Cell). text (turned one.orientation S)) (after-after rule cells 1 (one.phase - 1)
+          ∙ ap (after rule cells) (omega (arith, later))) ∙ one.is;
     }
   ]
     where
@@ -99,20 +106,23 @@ still_period r is = eqb-true r.period 1 (only (int_eq r.dx (pos 0) && int_eq r.d
     only false one is = cc
 
 -- of a still life the next generation has the population
-number-next : (rule : Numbers) (cells : List Cell) (limit : ℕ) (r : Recurrence) (kind : Kind) → Recurs rule cells limit r → kind_of r ≡ kind → number_of kind cells r ≡ number_of kind (after rule cells 1) r
+number-next : (rule : Numbers) (cells : List Cell) (limit : ℕ) (r : Recurrence) (kind : Kind) → Recurs rule cells limit r → kind_of r ≡ kind
+    → number_of kind cells r ≡ number_of kind (after rule cells 1) r
 number-next rule cells limit r Still h is =
     sym (length-shifted r.dx r.dy cells) ∙ ap length (sym h.back) ∙ ap (λ (g : ℕ). length (after rule cells g)) (still_period r is)
 number-next rule cells limit r Oscillator h is = refl
 number-next rule cells limit r Ship h is = refl
 
-codes_next : (rule : Numbers) (cells : List Cell) (limit : ℕ) (code : List ℕ) → InOrder cells → IsCode rule cells limit code → IsCode rule (after rule cells 1) limit code
+codes_next : (rule : Numbers) (cells : List Cell) (limit : ℕ) (code : List ℕ) → InOrder cells → IsCode rule cells limit code
+    → IsCode rule (after rule cells 1) limit code
 codes_next rule cells limit code order h = record {
   recurrence = h.recurrence;
   recurs = recurs-next rule cells limit h.recurrence order h.recurs;
   least = h.least;
-  tells = tells_same (IsImageText rule cells h.recurrence.period) (IsImageText rule (after rule cells 1) h.recurrence.period) h.least
-      (text-before rule cells limit h.recurrence order h.recurs) (text-next rule cells limit h.recurrence order h.recurs) h.tells;
-  spelled = h.spelled ∙ ap (λ (n : ℕ). code_text (kind_of h.recurrence) n h.least) (number-next rule cells limit h.recurrence (kind_of h.recurrence) h.recurs refl);
+  is_least = least_of_same (IsImageText rule cells h.recurrence.period) (IsImageText rule (after rule cells 1) h.recurrence.period) h.least
+      (text-before rule cells limit h.recurrence order h.recurs) (text-next rule cells limit h.recurrence order h.recurs) h.is_least;
+  spelled = h.spelled ∙ ap (λ (n : ℕ). code_text (kind_of h.recurrence) n h.least)
+      (number-next rule cells limit h.recurrence (kind_of h.recurrence) h.recurs refl);
 }
 
 -- each phase has the name of the pattern

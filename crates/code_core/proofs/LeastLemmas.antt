@@ -1,20 +1,24 @@
 -- The least of some texts, looked for one group at a time.
-use Rattle.std.proofs.Common.{◌≡◌, ◌≢◌, ◌∙◌, sym, ap, refl, subst, ℕ, ◌+◌, ◌<◌, ◌≤◌, List, [], length, get_or, Option, None, Some, arith, eq-or-lt_of_le, inl, inr, ◌⊎◌, Ordering, Less, Equal, Greater, is_le, IsTrue}
+use Rattle.std.proofs.Common.{◌≡◌, ◌≢◌, ◌∙◌, sym, ap, refl, subst, ℕ, ◌+◌, ◌<◌, ◌≤◌, List, [], length, get_or, Option, None, Some, arith}
+use Rattle.std.proofs.Common.{eq-or-lt_of_le, inl, inr, ◌⊎◌, Ordering, Less, Equal, Greater, is_le, IsTrue}
 use Rattle.std.proofs.lemmas.Cmp.{nat_cmp_total, nat_list_cmp_total, on_total, then_total}
 use Rattle.std.specs.BTreeMap.Comparable.{le_lt_trans}
 use Rattle.std.specs.Cmp.{IsTotalOrder}
+use Rattle.std.specs.Prelude.{IfSome}
 use Rattle.std.specs.Ordering.{match_ordering, ordering_reverse}
-use Rattle.code_core.specs.Codes.{IsImageText, TellsLeast, text_cmp}
+use Rattle.code_core.specs.Names.{IsImageText, IsLeastOf, text_cmp}
 use Rattle.code_core.specs.Recurrences.{phases}
-use Rattle.code_core.specs.Texts.{text}
+use Rattle.code_core.specs.Texts.{HasTextShape, text}
 use Rattle.std.proofs.lemmas.List.FromFn.{get_or-map-range_with_len, length-map-range_with_len}
 use Rattle.plane_core.specs.declared.cell.Cell.{Cell}
 use Rattle.plane_core.specs.Generations.{after}
-use Rattle.plane_core.specs.Orientations.{turned}
+use Rattle.plane_core.specs.Orientations.{orientations, turned}
 use Rattle.plane_core.specs.Rules.{Numbers}
 use Rattle.plane_core.specs.declared.orientation.Orientation.TheVariants.{Same, Quarter, Half, ThreeQuarter, Mirror, Flip, Diagonal, AntiDiagonal}
-use Rattle.code_core.specs.Least.{Among, IsImage, IsImageAt, IsImageOf, earlier_of, orientations}
+use Rattle.code_core.specs.Least.{Among, IsImage, IsImageAt, IsImageOf, earlier_of}
+use Rattle.code_core.proofs.TextLaw.{texts_have_their_shape}
 
+-- the order is total
 pub text_cmp_total : IsTotalOrder text_cmp
 text_cmp_total = then_total (on_total length nat_cmp_total) nat_list_cmp_total
 
@@ -43,26 +47,23 @@ text_cmp-onward a b c first second = go (text_cmp b c) refl
         let less : text_cmp a c ≡ Less = le_lt_trans text_cmp_total a b c (not_greater (text_cmp a b) first) is in
         cc
     go Equal is e =
-        let same : text_cmp a b ≡ text_cmp a c = text_cmp_total.antisymm a b ∙ ap ordering_reverse (text_cmp_total.congr b c a is) ∙ sym (text_cmp_total.antisymm a c) in
+        let same : text_cmp a b ≡ text_cmp a c = text_cmp_total.antisymm a b ∙ ap ordering_reverse (text_cmp_total.congr b c a is)
+        ∙ sym (text_cmp_total.antisymm a c) in
         first (same ∙ e)
     go Greater is e = second is
 
--- nothing comes first among no texts
-pub tells_none : (IsIn : ℕ → List ℕ → Type 0) → TellsLeast (Among IsIn 0) None
-tells_none IsIn = λ t one. absurd (omega (arith, one.1))
-
 -- a text alone is the first
-pub tells_one : (o : Option (List ℕ)) → TellsLeast (λ (t : List ℕ). o ≡ Some t) o
-tells_one None = λ t one. cc
-tells_one (Some a) = (refl, λ t one. alone t cc)
+pub least_of_one : (o : Option (List ℕ)) → IsLeastOf (λ (t : List ℕ). o ≡ Some t) o
+least_of_one None = λ t one. cc
+least_of_one (Some a) = (refl, λ t one. alone t cc)
   where
     alone : (t : List ℕ) → a ≡ t → text_cmp a t ≢ Greater
     alone t is = subst (λ (u : List ℕ). text_cmp a u ≢ Greater) is (text_cmp-itself a)
 
 -- the first of the same texts is the same
-pub tells_same : (P Q : List ℕ → Type 0) (o : Option (List ℕ)) → ((t : List ℕ) → P t → Q t) → ((t : List ℕ) → Q t → P t) → TellsLeast P o → TellsLeast Q o
-tells_same P Q None there back h = λ t q. h t (back t q)
-tells_same P Q (Some a) there back h = (there a h.0, λ t q. h.1 t (back t q))
+pub least_of_same : (P Q : List ℕ → Type 0) (o : Option (List ℕ)) → ((t : List ℕ) → P t → Q t) → ((t : List ℕ) → Q t → P t) → IsLeastOf P o → IsLeastOf Q o
+least_of_same P Q None there back h = λ t q. h t (back t q)
+least_of_same P Q (Some a) there back h = (there a h.0, λ t q. h.1 t (back t q))
 
 among_cases : (IsIn : ℕ → List ℕ → Type 0) (n : ℕ) (t : List ℕ) → Among IsIn (n + 1) t → Among IsIn n t ⊎ IsIn n t
 among_cases IsIn n t (k, low, is) =
@@ -73,13 +74,13 @@ among_cases IsIn n t (k, low, is) =
 
 -- the first of two firsts
 first_of_two : (P Q R : List ℕ → Type 0) (a b : Option (List ℕ)) → ((t : List ℕ) → P t → R t) → ((t : List ℕ) → Q t → R t) → ((t : List ℕ) → R t → P t ⊎ Q t)
-    → TellsLeast P a → TellsLeast Q b → TellsLeast R (earlier_of a b)
+    → IsLeastOf P a → IsLeastOf Q b → IsLeastOf R (earlier_of a b)
 first_of_two P Q R None None left right split p q = λ t r. elim (split t r) [ inl is ↦ p t is | inr is ↦ q t is ]
 first_of_two P Q R None (Some b) left right split p q = (right b q.0, λ t r. elim (split t r) [ inl is ↦ absurd (p t is) | inr is ↦ q.1 t is ])
 first_of_two P Q R (Some a) None left right split p q = (left a p.0, λ t r. elim (split t r) [ inl is ↦ p.1 t is | inr is ↦ absurd (q t is) ])
 first_of_two P Q R (Some a) (Some b) left right split p q = go (text_cmp a b) refl
   where
-    stays : text_cmp a b ≢ Greater → TellsLeast R (Some a)
+    stays : text_cmp a b ≢ Greater → IsLeastOf R (Some a)
     stays low = (left a p.0, λ t r. elim (split t r) [ inl is ↦ p.1 t is | inr is ↦ text_cmp-onward a b t low (q.1 t is) ])
 
     turned : text_cmp a b ≡ Greater → text_cmp b a ≢ Greater
@@ -88,17 +89,19 @@ first_of_two P Q R (Some a) (Some b) left right split p q = go (text_cmp a b) re
         let less : text_cmp a b ≡ Less = back ∙ ap ordering_reverse e in
         cc
 
-    changes : text_cmp a b ≡ Greater → TellsLeast R (Some b)
+    changes : text_cmp a b ≡ Greater → IsLeastOf R (Some b)
     changes is = (right b q.0, λ t r. elim (split t r) [ inl one ↦ text_cmp-onward b a t (turned is) (p.1 t one) | inr other ↦ q.1 t other ])
 
-    go : (o : Ordering) → text_cmp a b ≡ o → TellsLeast R (match_ordering o (Some a) (Some a) (Some b))
+    go : (o : Ordering) → text_cmp a b ≡ o → IsLeastOf R (match_ordering o (Some a) (Some a) (Some b))
     go Less is = stays (λ e. cc)
     go Equal is = stays (λ e. cc)
     go Greater is = changes is
 
 -- one group more
-pub tells_more : (IsIn : ℕ → List ℕ → Type 0) (n : ℕ) (a b : Option (List ℕ)) → TellsLeast (Among IsIn n) a → TellsLeast (IsIn n) b → TellsLeast (Among IsIn (n + 1)) (earlier_of a b)
-tells_more IsIn n a b p q = first_of_two (Among IsIn n) (IsIn n) (Among IsIn (n + 1)) a b (λ t one. (one.0, omega (arith, one.1), one.2)) (λ t one. (n, omega arith, one)) (among_cases IsIn n) p q
+pub least_of_more : (IsIn : ℕ → List ℕ → Type 0) (n : ℕ) (a b : Option (List ℕ)) → IsLeastOf (Among IsIn n) a → IsLeastOf (IsIn n) b
+    → IsLeastOf (Among IsIn (n + 1)) (earlier_of a b)
+least_of_more IsIn n a b p q = first_of_two (Among IsIn n) (IsIn n) (Among IsIn (n + 1)) a b (λ t one. (one.0, omega (arith, one.1), one.2))
+    (λ t one. (n, omega arith, one)) (among_cases IsIn n) p q
 
 -- the images in all orientations, one after another
 pub images_listed : (cells : List Cell) (t : List ℕ) → Among (IsImageAt orientations cells) 8 t → IsImage cells t
@@ -115,26 +118,45 @@ images_reached cells t (Diagonal, is) = (6, omega arith, is)
 images_reached cells t (AntiDiagonal, is) = (7, omega arith, is)
 
 -- the least text of a pattern in all orientations
-pub least_of_all : (cells : List Cell) (o : Option (List ℕ)) → TellsLeast (Among (IsImageAt orientations cells) 8) o → TellsLeast (IsImage cells) o
-least_of_all cells o h = tells_same (Among (IsImageAt orientations cells) 8) (IsImage cells) o (images_listed cells) (images_reached cells) h
+pub least_of_all : (cells : List Cell) (o : Option (List ℕ)) → IsLeastOf (Among (IsImageAt orientations cells) 8) o → IsLeastOf (IsImage cells) o
+least_of_all cells o h = least_of_same (Among (IsImageAt orientations cells) 8) (IsImage cells) o (images_listed cells) (images_reached cells) h
 
 -- the images of the phases are those of the pattern's generations
 phase_images : (rule : Numbers) (cells : List Cell) (n : ℕ) (t : List ℕ) → Among (IsImageOf (phases rule cells n)) n t → IsImageText rule cells n t
 unfolding phases
 phase_images rule cells n t (k, low, (o, is)) =
-    record { phase = k; orientation = o; within = low; is = subst (λ (S : List Cell). text (turned o S) ≡ Some t) (get_or-map-range_with_len (after rule cells) 0 n k k [] low (omega arith)) is }
+    record {
+      phase = k;
+      orientation = o;
+      within = low;
+      is = subst (λ (S : List Cell). text (turned o S) ≡ Some t)
+          (get_or-map-range_with_len (after rule cells) 0 n k k [] low (omega arith)) is;
+    }
 
 image_phases : (rule : Numbers) (cells : List Cell) (n : ℕ) (t : List ℕ) → IsImageText rule cells n t → Among (IsImageOf (phases rule cells n)) n t
 unfolding phases
-image_phases rule cells n t one =
-    (one.phase, one.within, (one.orientation, subst (λ (S : List Cell). text (turned one.orientation S) ≡ Some t) (sym (get_or-map-range_with_len (after rule cells) 0 n one.phase one.phase [] one.within (omega arith))) one.is))
+image_phases rule cells n t one = (
+  one.phase,
+  one.within,
+  (
+    one.orientation,
+    subst (λ (S : List Cell). text (turned one.orientation S) ≡ Some t)
+        (sym (get_or-map-range_with_len (after rule cells) 0 n one.phase one.phase [] one.within (omega arith))) one.is,
+  ),
+)
 
 phase_count : (rule : Numbers) (cells : List Cell) (n : ℕ) → length (phases rule cells n) ≡ n
 unfolding phases
 phase_count rule cells n = length-map-range_with_len (after rule cells) 0 n
 
 -- the least text of the phases is that of the pattern
-pub least_of_phases : (rule : Numbers) (cells : List Cell) (n : ℕ) (o : Option (List ℕ)) → TellsLeast (Among (IsImageOf (phases rule cells n)) (length (phases rule cells n))) o → TellsLeast (IsImageText rule cells n) o
+pub least_of_phases : (rule : Numbers) (cells : List Cell) (n : ℕ) (o : Option (List ℕ))
+    → IsLeastOf (Among (IsImageOf (phases rule cells n)) (length (phases rule cells n))) o → IsLeastOf (IsImageText rule cells n) o
 least_of_phases rule cells n o h =
-    tells_same (Among (IsImageOf (phases rule cells n)) n) (IsImageText rule cells n) o (phase_images rule cells n) (image_phases rule cells n)
-    (subst (λ (m : ℕ). TellsLeast (Among (IsImageOf (phases rule cells n)) m) o) (phase_count rule cells n) h)
+    least_of_same (Among (IsImageOf (phases rule cells n)) n) (IsImageText rule cells n) o (phase_images rule cells n) (image_phases rule cells n)
+    (subst (λ (m : ℕ). IsLeastOf (Among (IsImageOf (phases rule cells n)) m) o) (phase_count rule cells n) h)
+
+-- the least text of the phases has the shape of a text
+pub shape_of_least : (phases : List (List Cell)) (o : Option (List ℕ)) → IsLeastOf (Among (IsImageOf phases) (length phases)) o → IfSome o HasTextShape
+shape_of_least phases None h = tt
+shape_of_least phases (Some t) ((k, low, (o, is)), first) = texts_have_their_shape (turned o (get_or phases k [])) t is

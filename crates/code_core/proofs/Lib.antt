@@ -1,3 +1,4 @@
+pub mod ApgcodeLemmas
 pub mod CodeLaws
 pub mod CornerLemmas
 pub mod ImageLemmas
@@ -5,16 +6,15 @@ pub mod JoinedStrips
 pub mod LaterCodes
 pub mod LeastLemmas
 pub mod MovedCodes
-pub mod NameLemmas
 pub mod ReaderCells
 pub mod ReaderLoops
 pub mod ReadingLaws
-pub mod ReadingLemmas
 pub mod RecurrenceLemmas
 pub mod RoundTrip
 pub mod StripLemmas
 pub mod TextLaw
 pub mod TextLemmas
 pub mod TokenCells
+pub mod TokenReading
 pub mod TurnedCodes
 pub mod WholeGaps

@@ -13,11 +13,12 @@ use Rattle.plane_core.proofs.OrientationLemmas.{turning_moved}
 use Rattle.plane_core.proofs.PlacementLemmas.{in_order-shifted}
 use Rattle.code_core.specs.declared.apgcode.Kind.{Kind}
 use Rattle.code_core.specs.declared.apgcode.Kind.TheVariants.{Still, Oscillator, Ship}
-use Rattle.code_core.specs.declared.cycle.Recurrence.{Recurrence}
-use Rattle.code_core.specs.Codes.{CodesMoved, IsImageText, code_text, kind_of, number_of}
+use Rattle.code_core.specs.declared.recurrence.Recurrence.{Recurrence}
+use Rattle.code_core.specs.Apgcodes.{code_text}
+use Rattle.code_core.specs.Names.{CodesMoved, IsImageText, kind_of, number_of}
 use Rattle.code_core.specs.Recurrences.{Recurs}
 use Rattle.code_core.specs.Texts.{text}
-use Rattle.code_core.proofs.LeastLemmas.{tells_same}
+use Rattle.code_core.proofs.LeastLemmas.{least_of_same}
 
 pub after-suc : (rule : Numbers) (cells : List Cell) (g : ℕ) → after rule cells (suc g) ≡ next rule (after rule cells g)
 unfolding after
@@ -28,10 +29,12 @@ in_order-after rule cells zero order = subst InOrder (sym (after-none rule cells
 in_order-after rule cells (suc g) order = subst InOrder (sym (after-suc rule cells g)) (in_order-next rule (after rule cells g))
 
 -- the generations of a moved pattern are those of the pattern, moved
-pub after-shifted : (dx dy : ℤ) (rule : Numbers) (cells : List Cell) (g : ℕ) → InOrder cells → after rule (shifted dx dy cells) g ≡ shifted dx dy (after rule cells g)
+pub after-shifted : (dx dy : ℤ) (rule : Numbers) (cells : List Cell) (g : ℕ) → InOrder cells
+    → after rule (shifted dx dy cells) g ≡ shifted dx dy (after rule cells g)
 after-shifted dx dy rule cells zero order = after-none rule (shifted dx dy cells) ∙ ap (shifted dx dy) (sym (after-none rule cells))
 after-shifted dx dy rule cells (suc g) order =
-    after-suc rule (shifted dx dy cells) g ∙ ap (next rule) (after-shifted dx dy rule cells g order) ∙ next-shifted dx dy rule (after rule cells g) (in_order-after rule cells g order)
+    after-suc rule (shifted dx dy cells) g ∙ ap (next rule) (after-shifted dx dy rule cells g order)
+    ∙ next-shifted dx dy rule (after rule cells g) (in_order-after rule cells g order)
     ∙ ap (shifted dx dy) (sym (after-suc rule cells g))
 
 either_way : (a v w : ℤ) → (a +ℤ v) +ℤ w ≡ (a +ℤ w) +ℤ v
@@ -58,7 +61,8 @@ length-shifted dx dy [] = refl
 length-shifted dx dy (c ∷ cs) = ap suc (length-shifted dx dy cs)
 
 -- a pattern comes back as it does elsewhere
-recurs-shifted : (dx dy : ℤ) (rule : Numbers) (cells : List Cell) (limit : ℕ) (r : Recurrence) → InOrder cells → Recurs rule cells limit r → Recurs rule (shifted dx dy cells) limit r
+recurs-shifted : (dx dy : ℤ) (rule : Numbers) (cells : List Cell) (limit : ℕ) (r : Recurrence) → InOrder cells → Recurs rule cells limit r
+    → Recurs rule (shifted dx dy cells) limit r
 recurs-shifted dx dy rule cells limit r order h = record {
   some = h.some;
   within = h.within;
@@ -68,17 +72,21 @@ recurs-shifted dx dy rule cells limit r order h = record {
 }
 
 -- the images of a moved pattern are the same
-text-shifted : (dx dy : ℤ) (rule : Numbers) (cells : List Cell) (period : ℕ) (t : List ℕ) → InOrder cells → IsImageText rule cells period t → IsImageText rule (shifted dx dy cells) period t
+text-shifted : (dx dy : ℤ) (rule : Numbers) (cells : List Cell) (period : ℕ) (t : List ℕ) → InOrder cells → IsImageText rule cells period t
+    → IsImageText rule (shifted dx dy cells) period t
 text-shifted dx dy rule cells period t order h = record {
   phase = h.phase;
   orientation = h.orientation;
   within = h.within;
-  is = ap (λ (S : List Cell). text (turned h.orientation S)) (after-shifted dx dy rule cells h.phase order) ∙ ap text (turning_moved h.orientation dx dy (after rule cells h.phase)) ∙ h.is;
+  is = ap (λ (S : List Cell). text (turned h.orientation S)) (after-shifted dx dy rule cells h.phase order)
+      ∙ ap text (turning_moved h.orientation dx dy (after rule cells h.phase)) ∙ h.is;
 }
 
-text-unshifted : (dx dy : ℤ) (rule : Numbers) (cells : List Cell) (period : ℕ) (t : List ℕ) → InOrder cells → IsImageText rule (shifted dx dy cells) period t → IsImageText rule cells period t
+text-unshifted : (dx dy : ℤ) (rule : Numbers) (cells : List Cell) (period : ℕ) (t : List ℕ) → InOrder cells
+    → IsImageText rule (shifted dx dy cells) period t → IsImageText rule cells period t
 text-unshifted dx dy rule cells period t order h =
-    subst (λ (S : List Cell). IsImageText rule S period t) (shifted-back dx dy cells) (text-shifted (neg_ℤ dx) (neg_ℤ dy) rule (shifted dx dy cells) period t (in_order-shifted dx dy cells order) h)
+    subst (λ (S : List Cell). IsImageText rule S period t) (shifted-back dx dy cells)
+    (text-shifted (neg_ℤ dx) (neg_ℤ dy) rule (shifted dx dy cells) period t (in_order-shifted dx dy cells order) h)
 
 -- the number of a name looks at the population alone
 pub number-same : (kind : Kind) (S T : List Cell) (r : Recurrence) → length S ≡ length T → number_of kind S r ≡ number_of kind T r
@@ -92,7 +100,8 @@ codes_moved dx dy rule cells limit code order h = record {
   recurrence = h.recurrence;
   recurs = recurs-shifted dx dy rule cells limit h.recurrence order h.recurs;
   least = h.least;
-  tells = tells_same (IsImageText rule cells h.recurrence.period) (IsImageText rule (shifted dx dy cells) h.recurrence.period) h.least
-      (λ t. text-shifted dx dy rule cells h.recurrence.period t order) (λ t. text-unshifted dx dy rule cells h.recurrence.period t order) h.tells;
-  spelled = h.spelled ∙ ap (λ (n : ℕ). code_text (kind_of h.recurrence) n h.least) (number-same (kind_of h.recurrence) cells (shifted dx dy cells) h.recurrence (sym (length-shifted dx dy cells)));
+  is_least = least_of_same (IsImageText rule cells h.recurrence.period) (IsImageText rule (shifted dx dy cells) h.recurrence.period) h.least
+      (λ t. text-shifted dx dy rule cells h.recurrence.period t order) (λ t. text-unshifted dx dy rule cells h.recurrence.period t order) h.is_least;
+  spelled = h.spelled ∙ ap (λ (n : ℕ). code_text (kind_of h.recurrence) n h.least)
+      (number-same (kind_of h.recurrence) cells (shifted dx dy cells) h.recurrence (sym (length-shifted dx dy cells)));
 }

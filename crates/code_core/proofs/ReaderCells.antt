@@ -1,5 +1,7 @@
 -- The cells of tokens: there are some exactly where there is a column, and those of a short text lie on the plane.
-use Rattle.std.proofs.Common.{◌≡◌, ◌<◌, ◌≤◌, ◌+◌, ◌-◌, ◌*◌, ℕ, zero, suc, pos, Bool, true, false, ◌||◌, ◌&&◌, cond, List, [], ◌∷◌, ◌++◌, length, map, filter, get_or, refl, sym, ◌∙◌, ap, subst, arith, length-append, append-nil, append_assoc, Option, None, Some, Result, Ok, Err, nat_lt, true≢false}
+use Rattle.std.proofs.Common.{◌≡◌, ◌<◌, ◌≤◌, ◌+◌, ◌-◌, ◌*◌, ℕ, zero, suc, pos, Bool, true, false, ◌||◌, ◌&&◌, cond, List, [], ◌∷◌, ◌++◌, length, map}
+use Rattle.std.proofs.Common.{filter, get_or, refl, sym, ◌∙◌, ap, subst, arith, length-append, append-nil, append_assoc, Option, None, Some, Result}
+use Rattle.std.proofs.Common.{Ok, Err, nat_lt, true≢false}
 use Rattle.std.proofs.lemmas.Bool.Decides.{nat_tests}
 use Rattle.std.proofs.lemmas.List.{length-map, map-id, map-append}
 use Rattle.std.specs.Ordering.{match_ordering}
@@ -30,7 +32,8 @@ list_all-map-filter : (q : Cell → Bool) (f : ℕ → Cell) (p : ℕ → Bool) 
 list_all-map-filter q f p [] h = refl
 list_all-map-filter q f p (i ∷ is) h = go (p i) (q (f i)) refl h (list_all-map-filter q f p is)
   where
-    go : (b c : Bool) → q (f i) ≡ c → (c && list_all q (map f is)) ≡ true → (list_all q (map f is) ≡ true → list_all q (map f (filter p is)) ≡ true) → list_all q (map f (cond b (i ∷ filter p is) (filter p is))) ≡ true
+    go : (b c : Bool) → q (f i) ≡ c → (c && list_all q (map f is)) ≡ true → (list_all q (map f is) ≡ true → list_all q (map f (filter p is)) ≡ true)
+        → list_all q (map f (cond b (i ∷ filter p is) (filter p is))) ≡ true
     go b false e k ih = absurd (true≢false (sym k))
     go false true e k ih = ih k
     go true true e k ih = rw (e, ih k) refl
@@ -38,18 +41,21 @@ list_all-map-filter q f p (i ∷ is) h = go (p i) (q (f i)) refl h (list_all-map
 lit_cells-on_plane : (k x value : ℕ) → x ≤ 1000000 → 5 * k + 4 ≤ 1000000 → list_all on_plane (lit_cells k x value) ≡ true
 unfolding lit_cells
 lit_cells-on_plane k x value hx hk =
-    list_all-map-filter on_plane (λ i. cell_at (pos x) (pos (5 * k + i))) (is_lit value) (range_with_len 0 5) (rw (at 0 (omega arith), at 1 (omega arith), at 2 (omega arith), at 3 (omega arith), at 4 (omega arith)) refl)
+    list_all-map-filter on_plane (λ i. cell_at (pos x) (pos (5 * k + i))) (is_lit value) (range_with_len 0 5)
+    (rw (at 0 (omega arith), at 1 (omega arith), at 2 (omega arith), at 3 (omega arith), at 4 (omega arith)) refl)
   where
     at : (i : ℕ) → i ≤ 4 → on_plane (cell_at (pos x) (pos (5 * k + i))) ≡ true
     at i h = on_plane-small x (5 * k + i) hx (omega arith)
 
 -- no column stands further right than 39 times the number of tokens, and no row lower than five times it and four
-pub cells_from-on_plane : (tokens : List Token) → All IsToken tokens → (k x : ℕ) → x + 39 * length tokens ≤ 1000000 → 5 * k + 4 + 5 * length tokens ≤ 1000000 → list_all on_plane (cells_from k x tokens) ≡ true
+pub cells_from-on_plane : (tokens : List Token) → All IsToken tokens → (k x : ℕ) → x + 39 * length tokens ≤ 1000000
+    → 5 * k + 4 + 5 * length tokens ≤ 1000000 → list_all on_plane (cells_from k x tokens) ≡ true
 unfolding cells_from
 cells_from-on_plane [] each k x hx hk = refl
 cells_from-on_plane (Column value ∷ tokens) each k x hx hk =
     list_all-append on_plane (lit_cells k x value) (cells_from k (x + 1) tokens)
-    ∙ rw (lit_cells-on_plane k x value (omega arith) (omega arith)) (cells_from-on_plane tokens (All-tail IsToken (Column value) tokens each) k (x + 1) (omega arith) (omega arith))
+    ∙ rw (lit_cells-on_plane k x value (omega arith) (omega arith))
+    (cells_from-on_plane tokens (All-tail IsToken (Column value) tokens each) k (x + 1) (omega arith) (omega arith))
 cells_from-on_plane (Gap n ∷ tokens) each k x hx hk =
     let small = each zero (Gap n) (omega arith) in
     cells_from-on_plane tokens (All-tail IsToken (Gap n) tokens each) k (x + n) (omega arith) (omega arith)
@@ -69,7 +75,11 @@ lit_rows value low high =
 
 pub length-lit_cells : (k x value : ℕ) → 1 ≤ value → value ≤ 31 → 0 < length (lit_cells k x value)
 unfolding lit_cells
-length-lit_cells k x value low high = omega (arith, lit_rows value low high, length-map (filter (is_lit value) (range_with_len 0 5)) (λ i. cell_at (pos x) (pos (5 * k + i))))
+length-lit_cells k x value low high = omega (
+  arith,
+  lit_rows value low high,
+  length-map (filter (is_lit value) (range_with_len 0 5)) (λ i. cell_at (pos x) (pos (5 * k + i))),
+)
 
 -- without a column there is no cell, and with one there is
 pub cells_from-none : (tokens : List Token) (k x : ℕ) → list_any is_column tokens ≡ false → cells_from k x tokens ≡ []
@@ -93,7 +103,8 @@ unless_empty-put : (c : Cell) (cells : List Cell) → unless_empty (put c cells)
 unless_empty-put c [] = refl
 unless_empty-put c (d ∷ cells) = go (cell_cmp c d)
   where
-    go : (o : Ordering) → unless_empty (match_ordering o (c ∷ d ∷ cells) (d ∷ cells) (d ∷ put c cells)) ≡ Ok (match_ordering o (c ∷ d ∷ cells) (d ∷ cells) (d ∷ put c cells))
+    go : (o : Ordering) → unless_empty (match_ordering o (c ∷ d ∷ cells) (d ∷ cells) (d ∷ put c cells)) ≡ Ok
+        (match_ordering o (c ∷ d ∷ cells) (d ∷ cells) (d ∷ put c cells))
     go Less = refl
     go Equal = refl
     go Greater = refl
@@ -109,7 +120,8 @@ pub unless_empty-none : (tokens : List Token) → list_any is_column tokens ≡ 
 unless_empty-none tokens h = ap (λ (cells : List Cell). unless_empty (set_of cells)) (cells_from-none tokens 0 0 h)
 
 -- the cells of a token come before those of the next
-pub cells_from-column : (cells more : List Cell) (k x value : ℕ) (token : Token) (tokens : List Token) → token ≡ Column value → more ≡ cells ++ lit_cells k x value → more ++ cells_from k (x + 1) tokens ≡ cells ++ cells_from k x (token ∷ tokens)
+pub cells_from-column : (cells more : List Cell) (k x value : ℕ) (token : Token) (tokens : List Token) → token ≡ Column value
+    → more ≡ cells ++ lit_cells k x value → more ++ cells_from k (x + 1) tokens ≡ cells ++ cells_from k x (token ∷ tokens)
 unfolding cells_from
 cells_from-column cells more k x value token tokens e m = rw (e, m) (append_assoc cells (lit_cells k x value) (cells_from k (x + 1) tokens))
 
@@ -136,11 +148,13 @@ lit_above-none k x value = refl
 
 pub lit_above-lit : (n k x value : ℕ) → is_lit value n ≡ true → lit_above (n + 1) k x value ≡ lit_above n k x value ++ cell_at (pos x) (pos (5 * k + n)) ∷ []
 unfolding lit_above
-lit_above-lit n k x value h = rw (rows_more (is_lit value) n, h) (map-append (λ i. cell_at (pos x) (pos (5 * k + i))) (filter (is_lit value) (range_with_len 0 n)) (n ∷ []))
+lit_above-lit n k x value h = rw (rows_more (is_lit value) n, h)
+    (map-append (λ i. cell_at (pos x) (pos (5 * k + i))) (filter (is_lit value) (range_with_len 0 n)) (n ∷ []))
 
 pub lit_above-dark : (n k x value : ℕ) → is_lit value n ≡ false → lit_above (n + 1) k x value ≡ lit_above n k x value
 unfolding lit_above
-lit_above-dark n k x value h = rw (rows_more (is_lit value) n, h) (ap (map (λ i. cell_at (pos x) (pos (5 * k + i)))) (append-nil (filter (is_lit value) (range_with_len 0 n))))
+lit_above-dark n k x value h = rw (rows_more (is_lit value) n, h)
+    (ap (map (λ i. cell_at (pos x) (pos (5 * k + i)))) (append-nil (filter (is_lit value) (range_with_len 0 n))))
 
 pub lit_above-all : (n k x value : ℕ) → n ≡ 5 → lit_above n k x value ≡ lit_cells k x value
 unfolding lit_above lit_cells
@@ -153,7 +167,8 @@ position_or_len-all : (cells : List Cell) → list_all on_plane cells ≡ true �
 position_or_len-all [] h = refl
 position_or_len-all (c ∷ cells) h = go (on_plane c) refl h (position_or_len-all cells)
   where
-    go : (b : Bool) → on_plane c ≡ b → (b && list_all on_plane cells) ≡ true → (list_all on_plane cells ≡ true → position_or_len off_plane cells ≡ length cells) → position_or_len off_plane (c ∷ cells) ≡ length (c ∷ cells)
+    go : (b : Bool) → on_plane c ≡ b → (b && list_all on_plane cells) ≡ true
+        → (list_all on_plane cells ≡ true → position_or_len off_plane cells ≡ length cells) → position_or_len off_plane (c ∷ cells) ≡ length (c ∷ cells)
     go false e k ih = absurd (true≢false (sym k))
     go true e k ih = rw (e, ih k) (omega arith)
 

@@ -1,5 +1,6 @@
 -- What the reader's loops have done when they have come to the rest of a text.
-use Rattle.std.proofs.Common.{◌≡◌, ◌<◌, ◌≤◌, ◌+◌, ◌-◌, ◌*◌, ℕ, Bool, true, false, ◌||◌, List, [], ◌∷◌, ◌++◌, length, refl, sym, ◌∙◌, ap, arith, append_assoc, append-nil, length-append, Some, None, Result, Ok, Err}
+use Rattle.std.proofs.Common.{◌≡◌, ◌<◌, ◌≤◌, ◌+◌, ◌-◌, ◌*◌, ℕ, Bool, true, false, ◌||◌, List, [], ◌∷◌, ◌++◌, length, refl, sym, ◌∙◌, ap, arith}
+use Rattle.std.proofs.Common.{append_assoc, append-nil, length-append, Some, None, Result, Ok, Err}
 use Rattle.std.specs.List.{All, list_all, list_any, flat_map}
 use Rattle.std.specs.Prelude.{if◌then◌else◌}
 use Rattle.std.specs.Result.{result_err}
@@ -11,12 +12,12 @@ use Rattle.plane_core.specs.Cells.{on_plane}
 use Rattle.code_core.specs.declared.token.Token.{Token}
 use Rattle.code_core.specs.declared.reader.WechslerFault.{WechslerFault}
 use Rattle.code_core.specs.declared.reader.WechslerFault.TheVariants.{BadByte, ShortRun, Empty}
-use Rattle.code_core.specs.declared.reader.TheConstants.{TEXT_LIMIT}
 use Rattle.code_core.specs.Columns.{cells_from, cells_of}
-use Rattle.code_core.specs.Tokens.{spelling, IsToken, Spells}
-use Rattle.code_core.specs.Reading.{is_character, with_token, tokens_at, unless_empty, wechsler_pattern}
+use Rattle.code_core.specs.Tokens.{spelling, IsToken, Spells, is_character}
+use Rattle.code_core.specs.Reading.{with_token, tokens_at, unless_empty, wechsler_pattern}
 use Rattle.code_core.specs.ReadingSteps.{Begins, IsStuck, fault_at, is_column}
-use Rattle.code_core.proofs.ReadingLemmas.{tokens_at-bad, tokens_at-short_run, tokens_at-stops, tokens_at-spelled, tokens_at-token, tokens_at-Spells, Spells-tokens_at, length-Begins, length-spelled}
+use Rattle.code_core.proofs.TokenReading.{tokens_at-bad, tokens_at-short_run, tokens_at-stops, tokens_at-spelled, tokens_at-token, tokens_at-Spells}
+use Rattle.code_core.proofs.TokenReading.{Spells-tokens_at, length-Begins, length-spelled}
 use Rattle.code_core.proofs.ReaderCells.{unless_empty-some, unless_empty-none, cells_from-on_plane}
 
 -- tokens spell the text up to the rest, and it is known whether one of them is a column
@@ -34,19 +35,20 @@ or-false true b = refl
 or-false false true = refl
 or-false false false = refl
 
-pub Passed_more : (text rest behind : List ℕ) (token : Token) (has_cell : Bool) → Passed text rest has_cell → Begins rest token behind → Passed text behind (has_cell || is_column token)
-Passed_more text rest behind token has_cell p b = record {
+pub Passed_more : (text rest after : List ℕ) (token : Token) (has_cell : Bool) → Passed text rest has_cell → Begins rest token after
+    → Passed text after (has_cell || is_column token)
+Passed_more text rest after token has_cell p b = record {
   tokens = p.tokens ++ token ∷ [];
   each = All-push IsToken p.tokens token p.each b.is_token;
-  whole = p.whole ∙ ap (λ (more : List ℕ). flat_map spelling p.tokens ++ more) b.spelled ∙ sym (append_assoc (flat_map spelling p.tokens) (spelling token) behind)
-      ∙ ap (λ (front : List ℕ). front ++ behind) (sym (flat_map-append spelling p.tokens (token ∷ []) ∙ ap (λ (more : List ℕ). flat_map spelling p.tokens ++ more) (append-nil (spelling token))));
-  columns = sym (list_any-append is_column p.tokens (token ∷ []) ∙ ap (λ (any : Bool). any || (is_column token || false)) (sym p.columns) ∙ or-false has_cell (is_column token));
+  whole = p.whole ∙ ap (λ (more : List ℕ). flat_map spelling p.tokens ++ more) b.spelled
+      ∙ sym (append_assoc (flat_map spelling p.tokens) (spelling token) after)
+      ∙ ap (λ (front : List ℕ). front ++ after) (sym (flat_map-append spelling p.tokens (token ∷ [])
+      ∙ ap (λ (more : List ℕ). flat_map spelling p.tokens ++ more) (append-nil (spelling token))));
+  columns = sym (list_any-append is_column p.tokens (token ∷ []) ∙ ap (λ (any : Bool). any || (is_column token || false)) (sym p.columns)
+      ∙ or-false has_cell (is_column token));
 }
 
-pub length-Passed : (text rest : List ℕ) (has_cell : Bool) → Passed text rest has_cell → length rest ≤ length text
-length-Passed text rest has_cell p = omega (arith, ap length p.whole, length-append (flat_map spelling p.tokens) rest)
-
--- where no token begins, the fault is told
+-- where no token begins, the fault is known
 tokens_at-stuck : (place : ℕ) (rest : List ℕ) (fault : WechslerFault) → IsStuck rest → fault_at place rest ≡ Some fault → tokens_at place rest ≡ Err fault
 tokens_at-stuck place [] fault stuck e = absurd (cc)
 tokens_at-stuck place (b ∷ rest) fault stuck e = go (is_character b) refl
@@ -58,10 +60,13 @@ tokens_at-stuck place (b ∷ rest) fault stuck e = go (is_character b) refl
         let f : ShortRun place ≡ fault = (let k = rw h at e in cc) in
         rw s.0 (tokens_at-short_run place rest s.1 ∙ ap (λ (f : WechslerFault). Err f) f)
 
-pub Passed_fault : (text rest : List ℕ) (has_cell : Bool) (fault : WechslerFault) → Passed text rest has_cell → IsStuck rest → fault_at (length text - length rest) rest ≡ Some fault → result_err (wechsler_pattern text) ≡ Some fault
+pub Passed_fault : (text rest : List ℕ) (has_cell : Bool) (fault : WechslerFault) → Passed text rest has_cell → IsStuck rest
+    → fault_at (length text - length rest) rest ≡ Some fault → result_err (wechsler_pattern text) ≡ Some fault
 Passed_fault text rest has_cell fault p stuck e =
-    let at : length text - length rest ≡ 0 + length (flat_map spelling p.tokens) = omega (arith, ap length p.whole, length-append (flat_map spelling p.tokens) rest) in
-    rw (tokens_at-stops p.tokens rest text 0 (length text - length rest) fault p.each p.whole at (tokens_at-stuck (length text - length rest) rest fault stuck e)) refl
+    let at : length text - length rest ≡ 0 + length (flat_map spelling p.tokens) =
+    omega (arith, ap length p.whole, length-append (flat_map spelling p.tokens) rest) in
+    rw (tokens_at-stops p.tokens rest text 0 (length text - length rest) fault p.each p.whole at
+    (tokens_at-stuck (length text - length rest) rest fault stuck e)) refl
 
 -- and at the end it is known whether there is a cell
 fault_at-none : (place : ℕ) (rest : List ℕ) → fault_at place rest ≡ None → rest ≡ []
@@ -70,31 +75,36 @@ fault_at-none place (b ∷ rest) e = absurd (cc)
 
 Passed_spells : (text rest : List ℕ) (has_cell : Bool) (place : ℕ) (p : Passed text rest has_cell) → fault_at place rest ≡ None → tokens_at 0 text ≡ Ok p.tokens
 Passed_spells text rest has_cell place p e =
-    ap (λ (t : List ℕ). tokens_at 0 t) (p.whole ∙ ap (λ (more : List ℕ). flat_map spelling p.tokens ++ more) (fault_at-none place rest e) ∙ append-nil (flat_map spelling p.tokens)) ∙ tokens_at-spelled p.tokens p.each 0
+    ap (λ (t : List ℕ). tokens_at 0 t) (p.whole ∙ ap (λ (more : List ℕ). flat_map spelling p.tokens ++ more) (fault_at-none place rest e)
+    ∙ append-nil (flat_map spelling p.tokens)) ∙ tokens_at-spelled p.tokens p.each 0
 
-pub Passed_empty : (text rest : List ℕ) (has_cell : Bool) (place : ℕ) → Passed text rest has_cell → fault_at place rest ≡ None → has_cell ≡ false → result_err (wechsler_pattern text) ≡ Some Empty
+pub Passed_empty : (text rest : List ℕ) (has_cell : Bool) (place : ℕ) → Passed text rest has_cell → fault_at place rest ≡ None → has_cell ≡ false
+    → result_err (wechsler_pattern text) ≡ Some Empty
 Passed_empty text rest has_cell place p e none = rw (Passed_spells text rest has_cell place p e, unless_empty-none p.tokens (sym p.columns ∙ none)) refl
 
-pub Passed_cells : (text rest : List ℕ) (has_cell : Bool) (place : ℕ) → Passed text rest has_cell → fault_at place rest ≡ None → has_cell ≡ true → result_err (wechsler_pattern text) ≡ None
+pub Passed_cells : (text rest : List ℕ) (has_cell : Bool) (place : ℕ) → Passed text rest has_cell → fault_at place rest ≡ None → has_cell ≡ true
+    → result_err (wechsler_pattern text) ≡ None
 Passed_cells text rest has_cell place p e some = rw (Passed_spells text rest has_cell place p e, unless_empty-some p.tokens p.each (sym p.columns ∙ some)) refl
 
 -- where a token begins a text that tokens spell, it is the first of them
-pub record Behind (token : Token) (behind : List ℕ) (tokens : List Token) : Type 0 where
+pub record TokensAfter (token : Token) (after : List ℕ) (tokens : List Token) : Type 0 where
   pub more : List Token
-  pub spells : Spells more behind
+  pub spells : Spells more after
   pub is : tokens ≡ token ∷ more
 
-Spells_behind : (tokens : List Token) (rest behind : List ℕ) (token : Token) → Spells tokens rest → Begins rest token behind → Behind token behind tokens
-Spells_behind tokens rest behind token s b = go (tokens_at (0 + length (spelling token)) behind) refl
+Spells_after : (tokens : List Token) (rest after : List ℕ) (token : Token) → Spells tokens rest → Begins rest token after → TokensAfter token after tokens
+Spells_after tokens rest after token s b = go (tokens_at (0 + length (spelling token)) after) refl
   where
-    go : (r : Result (List Token) WechslerFault) → tokens_at (0 + length (spelling token)) behind ≡ r → Behind token behind tokens
+    go : (r : Result (List Token) WechslerFault) → tokens_at (0 + length (spelling token)) after ≡ r → TokensAfter token after tokens
     go (Ok more) e =
         let same : with_token token (Ok more) ≡ Ok tokens =
-        ap (with_token token) (sym e) ∙ sym (tokens_at-token token b.is_token 0 behind) ∙ ap (λ (t : List ℕ). tokens_at 0 t) (sym b.spelled) ∙ tokens_at-Spells tokens rest 0 s in
-        record { more = more; spells = Spells-tokens_at more behind (0 + length (spelling token)) e; is = cc }
+        ap (with_token token) (sym e) ∙ sym (tokens_at-token token b.is_token 0 after) ∙ ap (λ (t : List ℕ). tokens_at 0 t) (sym b.spelled)
+        ∙ tokens_at-Spells tokens rest 0 s in
+        record { more = more; spells = Spells-tokens_at more after (0 + length (spelling token)) e; is = cc }
     go (Err fault) e =
         let same : with_token token (Err fault) ≡ Ok tokens =
-        ap (with_token token) (sym e) ∙ sym (tokens_at-token token b.is_token 0 behind) ∙ ap (λ (t : List ℕ). tokens_at 0 t) (sym b.spelled) ∙ tokens_at-Spells tokens rest 0 s in
+        ap (with_token token) (sym e) ∙ sym (tokens_at-token token b.is_token 0 after) ∙ ap (λ (t : List ℕ). tokens_at 0 t) (sym b.spelled)
+        ∙ tokens_at-Spells tokens rest 0 s in
         absurd (cc)
 
 -- and where none begins it, there is none
@@ -118,24 +128,29 @@ pub record Gathered (text rest : List ℕ) (cells : List Cell) (strip x : ℕ) :
   pub columns : x + 39 * length rest ≤ 39 * length text
   pub to_come : (tokens : List Token) → Spells tokens text → ToCome rest cells strip x (cells_from 0 0 tokens)
 
-pub Gathered_none : (text : List ℕ) → Gathered text text [] 0 0
-Gathered_none text = record { strips = omega arith; columns = omega arith; to_come = λ tokens s. record { tokens = tokens; spells = s; cells_are = refl } }
-
-pub Gathered_more : (text rest behind : List ℕ) (token : Token) (cells more : List Cell) (strip x next_strip next_x : ℕ) → Gathered text rest cells strip x → Begins rest token behind
-    → ((tokens : List Token) → more ++ cells_from next_strip next_x tokens ≡ cells ++ cells_from strip x (token ∷ tokens)) → next_strip ≤ strip + 1 → next_x ≤ x + 39
-    → Gathered text behind more next_strip next_x
-Gathered_more text rest behind token cells more strip x next_strip next_x g b added strips columns =
-    let shorter : length behind < length rest = length-Begins rest token behind b in
+pub Gathered_more : (text rest after : List ℕ) (token : Token) (cells more : List Cell) (strip x next_strip next_x : ℕ)
+    → Gathered text rest cells strip x → Begins rest token after
+    → ((tokens : List Token) → more ++ cells_from next_strip next_x tokens ≡ cells ++ cells_from strip x (token ∷ tokens)) → next_strip ≤ strip + 1
+    → next_x ≤ x + 39
+    → Gathered text after more next_strip next_x
+Gathered_more text rest after token cells more strip x next_strip next_x g b added strips columns =
+    let shorter : length after < length rest = length-Begins rest token after b in
     record {
       strips = omega (arith, g.strips);
       columns = omega (arith, g.columns);
       to_come = λ all s.
           let t = g.to_come all s in
-          let f = Spells_behind t.tokens rest behind token t.spells b in
-          record { tokens = f.more; spells = f.spells; cells_are = added f.more ∙ ap (λ (tokens : List Token). cells ++ cells_from strip x tokens) (sym f.is) ∙ t.cells_are };
+          let f = Spells_after t.tokens rest after token t.spells b in
+          record {
+            tokens = f.more;
+            spells = f.spells;
+            cells_are = added f.more
+                ∙ ap (λ (tokens : List Token). cells ++ cells_from strip x tokens) (sym f.is) ∙ t.cells_are;
+          };
     }
 
-pub Gathered_all : (text rest : List ℕ) (cells : List Cell) (strip x : ℕ) → Gathered text rest cells strip x → IsStuck rest → (tokens : List Token) → Spells tokens text → cells ≡ cells_from 0 0 tokens
+pub Gathered_all : (text rest : List ℕ) (cells : List Cell) (strip x : ℕ) → Gathered text rest cells strip x → IsStuck rest → (tokens : List Token)
+    → Spells tokens text → cells ≡ cells_from 0 0 tokens
 unfolding cells_from
 Gathered_all text rest cells strip x g stuck tokens s =
     let t = g.to_come tokens s in
@@ -150,7 +165,8 @@ pub record IsSound (text : List ℕ) : Type 0 where
 pub sound : (text : List ℕ) → result_err (wechsler_pattern text) ≡ None → IsSound text
 sound text h = go (tokens_at 0 text) refl
   where
-    some : (tokens : List Token) (cells : List Cell) → cells ≡ cells_of tokens → tokens_at 0 text ≡ Ok tokens → result_err (unless_empty cells) ≡ None → wechsler_pattern text ≡ Ok (cells_of tokens)
+    some : (tokens : List Token) (cells : List Cell) → cells ≡ cells_of tokens → tokens_at 0 text ≡ Ok tokens
+        → result_err (unless_empty cells) ≡ None → wechsler_pattern text ≡ Ok (cells_of tokens)
     some tokens [] is e none = absurd (cc)
     some tokens (c ∷ cells) is e none = rw (e, ← is) refl
 
@@ -159,7 +175,7 @@ sound text h = go (tokens_at 0 text) refl
     go (Err fault) e = absurd (let k = rw e at h in cc)
 
 -- the cells of a short text lie on the plane
-pub Spells-on_plane : (tokens : List Token) (text : List ℕ) → Spells tokens text → length text ≤ TEXT_LIMIT → list_all on_plane (cells_from 0 0 tokens) ≡ true
+pub Spells-on_plane : (tokens : List Token) (text : List ℕ) → Spells tokens text → length text ≤ 10000 → list_all on_plane (cells_from 0 0 tokens) ≡ true
 Spells-on_plane tokens text s short =
     let few : length tokens ≤ 10000 = omega (arith, length-spelled tokens, ap length s.spelled) in
     cells_from-on_plane tokens s.each 0 0 (omega arith) (omega arith)

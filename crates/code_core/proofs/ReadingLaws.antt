@@ -1,6 +1,7 @@
 -- What is read, and each fault, in the words of tokens that spell the text.
-use Rattle.std.proofs.Common.{◌≡◌, ◌≢◌, ◌<◌, ◌≤◌, ◌+◌, ◌↔◌, ℕ, Bool, true, false, List, [], ◌∷◌, ◌++◌, length, take, drop, get_or, refl, sym, ◌∙◌, ap, subst, arith, length-append, length-take-le, Result, Ok, Err, nat_lt}
-use Rattle.std.specs.List.{All, flat_map}
+use Rattle.std.proofs.Common.{◌≡◌, ◌≢◌, ◌<◌, ◌≤◌, ◌+◌, ◌↔◌, ℕ, Bool, true, false, List, [], ◌∷◌, ◌++◌, length, take, drop, get_or, refl, sym, ◌∙◌, ap}
+use Rattle.std.proofs.Common.{subst, arith, length-append, length-take-le, Result, Ok, Err, nat_lt}
+use Rattle.std.specs.List.{flat_map}
 use Rattle.std.specs.Prelude.{IfOk, IsErrOf, MatchResult, slice_index}
 use Rattle.std.proofs.Math.Seq.{take-append_seam, get_or-append_seam}
 use Rattle.std.proofs.lemmas.Bool.Decides.{nat_tests}
@@ -11,25 +12,25 @@ use Rattle.code_core.specs.declared.reader.WechslerError.{WechslerError}
 use Rattle.code_core.specs.declared.reader.WechslerError.TheVariants.{Fault, Memory}
 use Rattle.code_core.specs.declared.reader.WechslerFault.{WechslerFault}
 use Rattle.code_core.specs.declared.reader.WechslerFault.TheVariants.{TooLong, BadByte, ShortRun, Empty}
-use Rattle.code_core.specs.declared.reader.TheConstants.{MANY_EMPTY, TEXT_LIMIT}
 use Rattle.code_core.specs.Columns.{cells_of}
-use Rattle.code_core.specs.Tokens.{spelling, IsToken}
-use Rattle.code_core.specs.Reading.{is_character, tokens_at, unless_empty, pattern_of, wechsler_pattern, wechsler_read, Says, IsBadByte, IsShortRun}
+use Rattle.code_core.specs.Tokens.{spelling, is_character}
+use Rattle.code_core.specs.Reading.{tokens_at, unless_empty, pattern_of, wechsler_pattern, wechsler_read, Says, IsBadByte, IsShortRun}
 use Rattle.code_core.specs.ReadingSteps.{has_character}
-use Rattle.code_core.proofs.ReadingLemmas.{Outcome, tokens_at-outcome, Stops, IsBad, IsShort, Stops-bad, Stops-short, tokens_at-Stops_bad, tokens_at-Stops_short, tokens_at-Spells, Spells-tokens_at}
+use Rattle.code_core.proofs.TokenReading.{Outcome, tokens_at-outcome, Stops, IsBad, IsShort, Stops-bad, Stops-short, tokens_at-Stops_bad}
+use Rattle.code_core.proofs.TokenReading.{tokens_at-Stops_short, tokens_at-Spells, Spells-tokens_at}
 
 -- a text within the limit is its pattern's
-read-short : (text : List ℕ) → length text ≤ TEXT_LIMIT → wechsler_read text ≡ wechsler_pattern text
-read-short text h = let e : nat_lt TEXT_LIMIT (length text) ≡ false = grind (arith, nat_tests) in rw e refl
+read-short : (text : List ℕ) → length text ≤ 10000 → wechsler_read text ≡ wechsler_pattern text
+read-short text h = let e : nat_lt 10000 (length text) ≡ false = grind (arith, nat_tests) in rw e refl
 
-read-long : (text : List ℕ) → TEXT_LIMIT < length text → wechsler_read text ≡ Err TooLong
-read-long text h = let e : nat_lt TEXT_LIMIT (length text) ≡ true = grind (arith, nat_tests) in rw e refl
+read-long : (text : List ℕ) → 10000 < length text → wechsler_read text ≡ Err TooLong
+read-long text h = let e : nat_lt 10000 (length text) ≡ true = grind (arith, nat_tests) in rw e refl
 
 -- of a text that is read, the length
-short-read : (text : List ℕ) (cells : List Cell) → wechsler_read text ≡ Ok cells → length text ≤ TEXT_LIMIT
-short-read text cells e = go (nat_lt TEXT_LIMIT (length text)) refl
+short-read : (text : List ℕ) (cells : List Cell) → wechsler_read text ≡ Ok cells → length text ≤ 10000
+short-read text cells e = go (nat_lt 10000 (length text)) refl
   where
-    go : (b : Bool) → nat_lt TEXT_LIMIT (length text) ≡ b → length text ≤ TEXT_LIMIT
+    go : (b : Bool) → nat_lt 10000 (length text) ≡ b → length text ≤ 10000
     go true h = absurd (let k = rw h at e in cc)
     go false h = grind (arith, nat_tests)
 
@@ -50,13 +51,9 @@ unless_empty-some : (cells : List Cell) → cells ≢ [] → unless_empty cells 
 unless_empty-some [] some = absurd (some refl)
 unless_empty-some (c ∷ cells) some = refl
 
-pub wechsler_read-Says : (text : List ℕ) (cells : List Cell) → Says text cells → cells ≢ [] → length text ≤ TEXT_LIMIT → wechsler_read text ≡ Ok cells
+pub wechsler_read-Says : (text : List ℕ) (cells : List Cell) → Says text cells → cells ≢ [] → length text ≤ 10000 → wechsler_read text ≡ Ok cells
 wechsler_read-Says text cells s some short =
     read-short text short ∙ rw (tokens_at-Spells s.tokens text 0 s.spells, ← s.pattern) (unless_empty-some cells some)
-
-pub wechsler_read-spelled : (tokens : List Token) → All IsToken tokens → cells_of tokens ≢ [] → length (flat_map spelling tokens) ≤ TEXT_LIMIT → wechsler_read (flat_map spelling tokens) ≡ Ok (cells_of tokens)
-wechsler_read-spelled tokens each some short =
-    wechsler_read-Says (flat_map spelling tokens) (cells_of tokens) (record { tokens = tokens; spells = record { each = each; spelled = refl }; pattern = refl }) some short
 
 -- a fault other than that of no cell is one of the tokens
 pattern_of-err : (r : Result (List Token) WechslerFault) (fault : WechslerFault) → fault ≢ Empty → pattern_of r ≡ Err fault → r ≡ Err fault
@@ -71,16 +68,21 @@ pattern_of-err (Err f) fault other e = let k : f ≡ fault = cc in ap (λ (g : W
 tokens_at-other : (text : List ℕ) (fault : WechslerFault) → (Outcome 0 text (Err fault) → ⊥) → tokens_at 0 text ≡ Err fault → ⊥
 tokens_at-other text fault none e = none (subst (λ (r : Result (List Token) WechslerFault). Outcome 0 text r) e (tokens_at-outcome text 0))
 
-pub too_long : (text : List ℕ) → (wechsler_read text ≡ Err TooLong) ↔ (TEXT_LIMIT < length text)
-too_long text = (λ e. go (nat_lt TEXT_LIMIT (length text)) refl e, λ h. read-long text h)
+pub too_long : (text : List ℕ) → (wechsler_read text ≡ Err TooLong) ↔ (10000 < length text)
+too_long text = (λ e. go (nat_lt 10000 (length text)) refl e, λ h. read-long text h)
   where
-    go : (b : Bool) → nat_lt TEXT_LIMIT (length text) ≡ b → wechsler_read text ≡ Err TooLong → TEXT_LIMIT < length text
+    go : (b : Bool) → nat_lt 10000 (length text) ≡ b → wechsler_read text ≡ Err TooLong → 10000 < length text
     go true h e = grind (arith, nat_tests)
-    go false h e = let other : TooLong ≢ Empty = λ k. cc in absurd (tokens_at-other text TooLong (λ o. o) (pattern_of-err (tokens_at 0 text) TooLong other (rw h at e)))
+    go false h e = let other : TooLong ≢ Empty = λ k. cc in absurd
+        (tokens_at-other text TooLong (λ o. o) (pattern_of-err (tokens_at 0 text) TooLong other (rw h at e)))
 
 -- a text that says the empty pattern
-pub no_cell : (text : List ℕ) → length text ≤ TEXT_LIMIT → (wechsler_read text ≡ Err Empty) ↔ Says text []
-no_cell text short = (λ e. there (tokens_at 0 text) refl (sym (read-short text short) ∙ e), λ s. read-short text short ∙ rw (tokens_at-Spells s.tokens text 0 s.spells, ← s.pattern) refl)
+pub no_cell : (text : List ℕ) → length text ≤ 10000 → (wechsler_read text ≡ Err Empty) ↔ Says text []
+no_cell text short = (
+  λ e. there (tokens_at 0 text) refl (sym (read-short text short) ∙ e),
+  λ s. read-short text short
+      ∙ rw (tokens_at-Spells s.tokens text 0 s.spells, ← s.pattern) refl,
+)
   where
     there : (r : Result (List Token) WechslerFault) → tokens_at 0 text ≡ r → pattern_of r ≡ Err Empty → Says text []
     there (Ok tokens) t e = record { tokens = tokens; spells = Spells-tokens_at tokens text 0 t; pattern = go (cells_of tokens) e }
@@ -88,7 +90,8 @@ no_cell text short = (λ e. there (tokens_at 0 text) refl (sym (read-short text 
         go : (cells : List Cell) → unless_empty cells ≡ Err Empty → [] ≡ cells
         go [] h = refl
         go (c ∷ cells) h = absurd (cc)
-    there (Err fault) t e = let k : fault ≡ Empty = cc in let f : tokens_at 0 text ≡ Err Empty = t ∙ ap (λ (g : WechslerFault). Err g) k in absurd (tokens_at-other text Empty (λ o. o) f)
+    there (Err fault) t e = let k : fault ≡ Empty = cc in let f : tokens_at 0 text ≡ Err Empty = t ∙ ap (λ (g : WechslerFault). Err g) k in
+        absurd (tokens_at-other text Empty (λ o. o) f)
 
 -- the places of faults, as parts of the text and by their bytes
 IsBadByte-Stops : (text : List ℕ) (place : ℕ) → Stops IsBad 0 text place → IsBadByte text place
@@ -111,12 +114,13 @@ Stops-IsBadByte text place s = record {
   tokens = s.tokens;
   rest = slice_index text place ∷ drop (place + 1) text;
   each = s.before.each;
-  whole = sym (take-append-drop place text) ∙ ap (λ (rest : List ℕ). take place text ++ rest) (drop_more text place 0 s.within) ∙ ap (λ (front : List ℕ). front ++ slice_index text place ∷ drop (place + 1) text) (sym s.before.spelled);
+  whole = sym (take-append-drop place text) ∙ ap (λ (rest : List ℕ). take place text ++ rest) (drop_more text place 0 s.within)
+      ∙ ap (λ (front : List ℕ). front ++ slice_index text place ∷ drop (place + 1) text) (sym s.before.spelled);
   at_place = omega (arith, length-take-le place text (omega (arith, s.within)), ap length s.before.spelled);
   so = s.bad;
 }
 
-pub bad_byte : (text : List ℕ) (place : ℕ) → length text ≤ TEXT_LIMIT → (wechsler_read text ≡ Err (BadByte place)) ↔ IsBadByte text place
+pub bad_byte : (text : List ℕ) (place : ℕ) → length text ≤ 10000 → (wechsler_read text ≡ Err (BadByte place)) ↔ IsBadByte text place
 bad_byte text place short =
     let other : BadByte place ≢ Empty = λ k. cc in (
       λ e. IsBadByte-Stops text place (Stops-bad text 0 place (pattern_of-err (tokens_at 0 text) (BadByte place) other (sym (read-short text short) ∙ e))),
@@ -129,7 +133,7 @@ IsShortRun-Stops text place s = go s.rest s.whole s.so
     at : place ≡ length (flat_map spelling s.tokens)
     at = s.at_place ∙ omega arith
 
-    none : (rest : List ℕ) → has_character rest ≡ false → 1 < length (MANY_EMPTY ∷ rest) → is_character (get_or (MANY_EMPTY ∷ rest) 1 0) ≡ false
+    none : (rest : List ℕ) → has_character rest ≡ false → 1 < length (121 ∷ rest) → is_character (get_or (121 ∷ rest) 1 0) ≡ false
     none [] h k = absurd (omega arith)
     none (c ∷ rest) h k = h
 
@@ -141,8 +145,9 @@ IsShortRun-Stops text place s = go s.rest s.whole s.so
       within = rw (whole, at) (omega (arith, length-append (flat_map spelling s.tokens) (b ∷ rest)));
       run = rw (whole, at) (get_or-append_seam (flat_map spelling s.tokens) b rest 0) ∙ so.0;
       short = λ k.
-          let m : 1 < length (MANY_EMPTY ∷ rest) = omega (arith, ap length whole, length-append (flat_map spelling s.tokens) (b ∷ rest)) in
-          let e : slice_index text (place + 1) ≡ get_or (MANY_EMPTY ∷ rest) 1 0 = rw (whole, at) (get_or-append-add (flat_map spelling s.tokens) (b ∷ rest) 1 0 ∙ ap (λ (c : ℕ). get_or (c ∷ rest) 1 0) so.0) in
+          let m : 1 < length (121 ∷ rest) = omega (arith, ap length whole, length-append (flat_map spelling s.tokens) (b ∷ rest)) in
+          let e : slice_index text (place + 1) ≡ get_or (121 ∷ rest) 1 0 =
+          rw (whole, at) (get_or-append-add (flat_map spelling s.tokens) (b ∷ rest) 1 0 ∙ ap (λ (c : ℕ). get_or (c ∷ rest) 1 0) so.0) in
           ap is_character e ∙ none rest so.1 m;
     }
 
@@ -151,28 +156,31 @@ Stops-IsShortRun text place s = record {
   tokens = s.tokens;
   rest = slice_index text place ∷ drop (place + 1) text;
   each = s.before.each;
-  whole = sym (take-append-drop place text) ∙ ap (λ (rest : List ℕ). take place text ++ rest) (drop_more text place 0 s.within) ∙ ap (λ (front : List ℕ). front ++ slice_index text place ∷ drop (place + 1) text) (sym s.before.spelled);
+  whole = sym (take-append-drop place text) ∙ ap (λ (rest : List ℕ). take place text ++ rest) (drop_more text place 0 s.within)
+      ∙ ap (λ (front : List ℕ). front ++ slice_index text place ∷ drop (place + 1) text) (sym s.before.spelled);
   at_place = omega (arith, length-take-le place text (omega (arith, s.within)), ap length s.before.spelled);
-  so = (s.run, behind (nat_lt (place + 1) (length text)) refl);
+  so = (s.run, after_y (nat_lt (place + 1) (length text)) refl);
 }
   where
-    behind : (b : Bool) → nat_lt (place + 1) (length text) ≡ b → has_character (drop (place + 1) text) ≡ false
-    behind true h = let k : place + 1 < length text = grind (arith, nat_tests) in rw (drop_more text (place + 1) 0 k) (s.short k)
-    behind false h = let k : length text ≤ place + 1 = grind (arith, nat_tests) in rw (drop_all (place + 1) text k) refl
+    after_y : (b : Bool) → nat_lt (place + 1) (length text) ≡ b → has_character (drop (place + 1) text) ≡ false
+    after_y true h = let k : place + 1 < length text = grind (arith, nat_tests) in rw (drop_more text (place + 1) 0 k) (s.short k)
+    after_y false h = let k : length text ≤ place + 1 = grind (arith, nat_tests) in rw (drop_all (place + 1) text k) refl
 
-pub short_run : (text : List ℕ) (place : ℕ) → length text ≤ TEXT_LIMIT → (wechsler_read text ≡ Err (ShortRun place)) ↔ IsShortRun text place
+pub short_run : (text : List ℕ) (place : ℕ) → length text ≤ 10000 → (wechsler_read text ≡ Err (ShortRun place)) ↔ IsShortRun text place
 short_run text place short =
     let other : ShortRun place ≢ Empty = λ k. cc in (
       λ e. IsShortRun-Stops text place (Stops-short text 0 place (pattern_of-err (tokens_at 0 text) (ShortRun place) other (sym (read-short text short) ∙ e))),
       λ s. read-short text short ∙ rw (tokens_at-Stops_short text 0 place (Stops-IsShortRun text place s)) refl,
     )
 
--- a law of what is read is one of a result that tells the same
-pub told : (P : Type 0) (text : List ℕ) (r : Result (List Cell) WechslerError) (fault : WechslerFault) → (IsErrOf r (Fault fault) ↔ (wechsler_read text ≡ Err fault)) → (wechsler_read text ≡ Err fault) ↔ P → IsErrOf r (Fault fault) ↔ P
+-- a law of what is read is one of a result that says the same
+pub told : (P : Type 0) (text : List ℕ) (r : Result (List Cell) WechslerError) (fault : WechslerFault)
+    → (IsErrOf r (Fault fault) ↔ (wechsler_read text ≡ Err fault)) → (wechsler_read text ≡ Err fault) ↔ P → IsErrOf r (Fault fault) ↔ P
 told P text r fault f law = (λ e. law.0 (f.0 e), λ p. f.1 (law.1 p))
 
--- a result that tells what is read has the pattern that is read, unless memory is wanting
-pub read_as : (text : List ℕ) (r : Result (List Cell) WechslerError) (cells : List Cell) → IfOk r (λ read. wechsler_read text ≡ Ok read) → ((fault : WechslerFault) → IsErrOf r (Fault fault) ↔ (wechsler_read text ≡ Err fault))
+-- a result that says what is read has the pattern that is read, unless there is no memory
+pub read_as : (text : List ℕ) (r : Result (List Cell) WechslerError) (cells : List Cell) → IfOk r (λ read. wechsler_read text ≡ Ok read)
+    → ((fault : WechslerFault) → IsErrOf r (Fault fault) ↔ (wechsler_read text ≡ Err fault))
     → wechsler_read text ≡ Ok cells → MatchResult r (λ read. read ≡ cells) (λ error. error ≡ Memory)
 read_as text (Ok read) cells ok faults e = let k : wechsler_read text ≡ Ok read = ok in cc
 read_as text (Err (Fault fault)) cells ok faults e = let k : wechsler_read text ≡ Err fault = (faults fault).0 refl in absurd (cc)

@@ -1,13 +1,16 @@
 -- Following a pattern until it comes back.
-use Rattle.std.proofs.Common.{◌≡◌, ◌≢◌, ◌∙◌, sym, ap, refl, subst, ℕ, suc, ℤ, ◌+◌, ◌<◌, ◌≤◌, List, [], ◌∷◌, ◌++◌, false, arith, below_more, eq-or-lt_of_le, inl, inr, ◌⊎◌}
+use Rattle.std.proofs.Common.{◌≡◌, ◌≢◌, ◌∙◌, sym, ap, refl, subst, ℕ, suc, ℤ, ◌+◌, ◌<◌, ◌≤◌, List, [], ◌∷◌, ◌++◌, false, arith, below_more}
+use Rattle.std.proofs.Common.{eq-or-lt_of_le, inl, inr, ◌⊎◌, true}
+use Rattle.std.proofs.lemmas.Bool.{false≢true}
 use Rattle.std.proofs.lemmas.Bool.Decides.{leb_tells}
 use Rattle.std.proofs.lemmas.List.FromFn.{map-range_with_len_more}
 use Rattle.plane_core.specs.declared.cell.Cell.{Cell}
 use Rattle.plane_core.specs.Bounds.{shifted}
-use Rattle.plane_core.specs.Generations.{after, next, touches_edge}
+use Rattle.plane_core.specs.Cells.{plane_bound}
+use Rattle.plane_core.specs.Generations.{after, lies_within, next, touches_edge}
 use Rattle.plane_core.specs.Rules.{Numbers}
-use Rattle.plane_core.proofs.GenerationLemmas.{after-none, after-more}
-use Rattle.code_core.specs.Recurrences.{Follows, IsNew, Recurs, phases}
+use Rattle.plane_core.proofs.GenerationLemmas.{after-none, after-more, run_inside}
+use Rattle.code_core.specs.Recurrences.{Follows, IsNew, MeetsEdge, Recurs, phases}
 
 -- one phase more
 pub phases-more : (rule : Numbers) (cells : List Cell) (n : ℕ) → phases rule cells (n + 1) ≡ phases rule cells n ++ after rule cells n ∷ []
@@ -32,13 +35,15 @@ next_of : (rule : Numbers) (cells latest later : List Cell) (n : ℕ) → latest
 next_of rule cells latest later n is next_is = next_is ∙ ap (next rule) is ∙ sym (after-more rule cells n)
 
 -- no generation up to the latest touches the edge
-pub inside-more : (rule : Numbers) (cells : List Cell) (n : ℕ) (before : List (List Cell)) (latest : List Cell) → Follows rule cells n before latest → touches_edge latest ≡ false
+pub inside-more : (rule : Numbers) (cells : List Cell) (n : ℕ) (before : List (List Cell)) (latest : List Cell) → Follows rule cells n before latest
+    → touches_edge latest ≡ false
     → (g : ℕ) → g < n + 1 → touches_edge (after rule cells g) ≡ false
 inside-more rule cells n before latest h off = below_more _ _ h.inside (ap touches_edge (sym h.latest) ∙ off)
 
 -- one generation more, which isn't the pattern again
 pub follows-more : (rule : Numbers) (cells : List Cell) (n : ℕ) (before : List (List Cell)) (latest later : List Cell) → Follows rule cells n before latest
-    → touches_edge latest ≡ false → later ≡ next rule latest → ((dx dy : ℤ) → shifted dx dy cells ≢ later) → Follows rule cells (n + 1) (before ++ latest ∷ []) later
+    → touches_edge latest ≡ false → later ≡ next rule latest → ((dx dy : ℤ) → shifted dx dy cells ≢ later)
+    → Follows rule cells (n + 1) (before ++ latest ∷ []) later
 follows-more rule cells n before latest later h off next_is other = record {
   earlier = (λ k. h.earlier k ++ h.latest k ∷ []) ∙ sym (phases-more rule cells n);
   latest = is;
@@ -56,7 +61,8 @@ follows-more rule cells n before latest later h off next_is other = record {
     ]
 
 -- the search ends where a generation is the pattern again
-pub recurs_then : (rule : Numbers) (cells : List Cell) (n limit : ℕ) (before : List (List Cell)) (latest later : List Cell) (dx dy : ℤ) → Follows rule cells n before latest
+pub recurs_then : (rule : Numbers) (cells : List Cell) (n limit : ℕ) (before : List (List Cell)) (latest later : List Cell) (dx dy : ℤ)
+    → Follows rule cells n before latest
     → n < limit → later ≡ next rule latest → shifted dx dy cells ≡ later → Recurs rule cells limit (record { period = suc n; dx = dx; dy = dy })
 recurs_then rule cells n limit before latest later dx dy h low next_is is = record {
   some = omega arith;
@@ -66,8 +72,10 @@ recurs_then rule cells n limit before latest later dx dy h low next_is is = reco
 }
 
 -- no generation that was stepped on touches the edge
-pub inside_then : (rule : Numbers) (cells : List Cell) (n : ℕ) (before : List (List Cell)) (latest later : List Cell) (dx dy : ℤ) → Follows rule cells n before latest
-    → touches_edge latest ≡ false → later ≡ next rule latest → shifted dx dy cells ≡ later → (g : ℕ) → IsNew rule cells g → touches_edge (after rule cells g) ≡ false
+pub inside_then : (rule : Numbers) (cells : List Cell) (n : ℕ) (before : List (List Cell)) (latest later : List Cell) (dx dy : ℤ)
+    → Follows rule cells n before latest
+    → touches_edge latest ≡ false → later ≡ next rule latest → shifted dx dy cells ≡ later → (g : ℕ) → IsNew rule cells g
+    → touches_edge (after rule cells g) ≡ false
 inside_then rule cells n before latest later dx dy h off next_is is g new =
     elim (le_or_lt (n + 1) g) [
       | inl far ↦ absurd (new (n + 1) dx dy (omega arith) far (sym (next_of rule cells latest later n h.latest next_is) ∙ sym is))
@@ -79,3 +87,15 @@ pub phases_then : (rule : Numbers) (cells : List Cell) (n : ℕ) (before : List 
     → before ++ latest ∷ [] ≡ phases rule cells (suc n)
 phases_then rule cells n before latest h =
     (λ k. h.earlier k ++ h.latest k ∷ []) ∙ sym (phases-more rule cells n) ∙ ap (phases rule cells) (omega arith)
+
+-- ---- at the edge
+
+-- a pattern that touches the edge meets it at once
+pub meets_at_once : (rule : Numbers) (cells : List Cell) (limit : ℕ) → 1 ≤ limit → touches_edge cells ≡ true → MeetsEdge rule cells limit
+meets_at_once rule cells limit some on =
+    (0, omega arith, λ p dx dy least most back. absurd (omega arith), ap touches_edge (after-none rule cells) ∙ on)
+
+-- a pattern that lies too far in never meets it
+pub never_meets : (rule : Numbers) (cells : List Cell) (limit reach : ℕ) → lies_within reach cells ≡ true → reach + limit ≤ plane_bound
+    → MeetsEdge rule cells limit → ⊥
+never_meets rule cells limit reach inside far (g, low, new, on) = false≢true (sym (run_inside rule cells reach g limit inside far low) ∙ on)

@@ -1,5 +1,6 @@
 -- The text of a strip, column by column.
-use Rattle.std.proofs.Common.{◌≡◌, ℕ, zero, suc, ◌+◌, ◌-◌, ◌≤◌, ◌<◌, List, [], ◌∷◌, ◌++◌, map, arith, refl, ap, sym, ◌∙◌, replicate, add-one, ◌==◌, if◌then◌else◌, cond, Result, Ok, Err, OnOk}
+use Rattle.std.proofs.Common.{◌≡◌, ℕ, zero, suc, ◌+◌, ◌-◌, ◌≤◌, ◌<◌, List, [], ◌∷◌, ◌++◌, map, arith, refl, ap, sym, ◌∙◌, replicate, add-one, ◌==◌}
+use Rattle.std.proofs.Common.{if◌then◌else◌, cond, Result, Ok, Err, OnOk}
 use Rattle.std.proofs.lemmas.Bool.{ne_eqb}
 use Rattle.std.specs.List.{flat_map, range_with_len}
 use Rattle.std.proofs.lemmas.List.{append_assoc, append-nil}
@@ -25,22 +26,28 @@ strip_tokens-live zero values h = absurd (omega arith)
 strip_tokens-live (suc value) values h = refl
 
 -- empty columns before one with a live cell are one gap
-pub strip_tokens-gap : (n value : ℕ) (values : List ℕ) → 1 ≤ value → strip_tokens (replicate (suc n) 0 ++ value ∷ values) ≡ Gap (suc n) ∷ Column value ∷ strip_tokens values
+pub strip_tokens-gap : (n value : ℕ) (values : List ℕ) → 1 ≤ value
+    → strip_tokens (replicate (suc n) 0 ++ value ∷ values) ≡ Gap (suc n) ∷ Column value ∷ strip_tokens values
 unfolding strip_tokens
 strip_tokens-gap zero value values h = ap (before 0) (strip_tokens-live value values h)
-strip_tokens-gap (suc n) value values h = ap (before 0) (strip_tokens-gap n value values h) ∙ ap (λ m. Gap m ∷ Column value ∷ strip_tokens values) (add-one (suc n))
+strip_tokens-gap (suc n) value values h = ap (before 0) (strip_tokens-gap n value values h)
+    ∙ ap (λ m. Gap m ∷ Column value ∷ strip_tokens values) (add-one (suc n))
 
 -- the text of a column with a live cell and of the empty ones before it
-pub gap_and_column : (n value : ℕ) → 1 ≤ value → spelled (strip_tokens (replicate n 0 ++ value ∷ [])) ≡ (if n == 0 then [] else gap_text n) ++ character value ∷ []
+pub gap_and_column : (n value : ℕ) → 1 ≤ value → spelled (strip_tokens (replicate n 0 ++ value ∷ [])) ≡ (if n == 0 then [] else gap_text n)
+    ++ character value ∷ []
 unfolding strip_tokens
 gap_and_column zero value h = ap spelled (strip_tokens-live value [] h)
 gap_and_column (suc n) value h =
-    ap spelled (strip_tokens-gap n value [] h) ∙ ap (λ none. cond {A = List ℕ} none [] (gap_text (suc n)) ++ character value ∷ []) (sym (ne_eqb (suc n) 0 (λ e. absurd (omega arith))))
+    ap spelled (strip_tokens-gap n value [] h) ∙ ap (λ none. cond {A = List ℕ} none [] (gap_text (suc n)) ++ character value ∷ [])
+    (sym (ne_eqb (suc n) 0 (λ e. absurd (omega arith))))
 
 -- a column with a live cell parts a strip's text in two
-pub spelled-parted : (n value : ℕ) (values : List ℕ) → 1 ≤ value → spelled (strip_tokens (replicate n 0 ++ value ∷ values)) ≡ spelled (strip_tokens (replicate n 0 ++ value ∷ [])) ++ spelled (strip_tokens values)
+pub spelled-parted : (n value : ℕ) (values : List ℕ) → 1 ≤ value
+    → spelled (strip_tokens (replicate n 0 ++ value ∷ values)) ≡ spelled (strip_tokens (replicate n 0 ++ value ∷ [])) ++ spelled (strip_tokens values)
 unfolding strip_tokens
-spelled-parted zero value values h = ap spelled (strip_tokens-live value values h) ∙ ap (λ t. t ++ spelled (strip_tokens values)) (sym (gap_and_column 0 value h))
+spelled-parted zero value values h = ap spelled (strip_tokens-live value values h)
+    ∙ ap (λ t. t ++ spelled (strip_tokens values)) (sym (gap_and_column 0 value h))
 spelled-parted (suc n) value values h =
     ap spelled (strip_tokens-gap n value values h)
     ∙ sym (append_assoc (gap_text (suc n)) (character value ∷ []) (spelled (strip_tokens values)))
@@ -51,7 +58,8 @@ one_more_empty zero values = refl
 one_more_empty (suc n) values = ap (λ vs. 0 ∷ vs) (one_more_empty n values)
 
 -- two pieces that are written one after the other
-pub written_on : {T E : Type 0} (r : Result T E) (old middle new a b c : List ℕ) → middle ≡ old ++ a → c ≡ a ++ b → OnOk r (new ≡ middle ++ b) → OnOk r (new ≡ old ++ c)
+pub written_on : {T E : Type 0} (r : Result T E) (old middle new a b c : List ℕ) → middle ≡ old ++ a → c ≡ a ++ b → OnOk r (new ≡ middle ++ b)
+    → OnOk r (new ≡ old ++ c)
 written_on (Ok x) old middle new a b c e f h = h ∙ ap (λ t. t ++ b) e ∙ append_assoc old a b ∙ ap (λ t. old ++ t) (sym f)
 written_on (Err x) old middle new a b c e f h = tt
 
@@ -63,7 +71,8 @@ pub rest_text-start : (cells : List Cell) (width k : ℕ) → rest_text cells wi
 unfolding rest_text
 rest_text-start cells width k = let e : width - 0 ≡ width = omega arith in ap (λ n. spelled (strip_tokens (map (column cells k) (range_with_len 0 n)))) e
 
-columns_from : (cells : List Cell) (width k x : ℕ) → x < width → map (column cells k) (range_with_len x (width - x)) ≡ column cells k x ∷ map (column cells k) (range_with_len (x + 1) (width - (x + 1)))
+columns_from : (cells : List Cell) (width k x : ℕ) → x < width
+    → map (column cells k) (range_with_len x (width - x)) ≡ column cells k x ∷ map (column cells k) (range_with_len (x + 1) (width - (x + 1)))
 columns_from cells width k x h = let e : width - x ≡ suc (width - (x + 1)) = omega arith in ap (λ n. map (column cells k) (range_with_len x n)) e
 
 pub rest_text-live : (cells : List Cell) (width k gap x value : ℕ) → x < width → 1 ≤ value → value ≡ column cells k x
@@ -71,34 +80,41 @@ pub rest_text-live : (cells : List Cell) (width k gap x value : ℕ) → x < wid
 unfolding rest_text
 rest_text-live cells width k gap x value h some is =
     let rest = map (column cells k) (range_with_len (x + 1) (width - (x + 1))) in
-    ap (λ vs. spelled (strip_tokens (replicate gap 0 ++ vs))) (columns_from cells width k x h ∙ ap (λ v. v ∷ rest) (sym is)) ∙ spelled-parted gap value rest some
+    ap (λ vs. spelled (strip_tokens (replicate gap 0 ++ vs))) (columns_from cells width k x h ∙ ap (λ v. v ∷ rest) (sym is))
+    ∙ spelled-parted gap value rest some
 
 pub rest_text-empty : (cells : List Cell) (width k gap x value : ℕ) → x < width → value ≡ 0 → value ≡ column cells k x
     → rest_text cells width k gap x ≡ rest_text cells width k (gap + 1) (x + 1)
 unfolding rest_text
 rest_text-empty cells width k gap x value h none is =
     let rest = map (column cells k) (range_with_len (x + 1) (width - (x + 1))) in
-    ap (λ vs. spelled (strip_tokens (replicate gap 0 ++ vs))) (columns_from cells width k x h ∙ ap (λ v. v ∷ rest) (sym is ∙ none)) ∙ ap (λ vs. spelled (strip_tokens vs)) (one_more_empty gap rest ∙ ap (λ n. replicate n 0 ++ rest) (sym (add-one gap)))
+    ap (λ vs. spelled (strip_tokens (replicate gap 0 ++ vs))) (columns_from cells width k x h ∙ ap (λ v. v ∷ rest) (sym is ∙ none))
+    ∙ ap (λ vs. spelled (strip_tokens vs)) (one_more_empty gap rest ∙ ap (λ n. replicate n 0 ++ rest) (sym (add-one gap)))
 
 pub rest_text-end : (cells : List Cell) (width k gap x : ℕ) → width ≤ x → rest_text cells width k gap x ≡ []
 unfolding rest_text
 rest_text-end cells width k gap x h =
     let e : width - x ≡ 0 = omega arith in
-    ap (λ n. spelled (strip_tokens (replicate gap 0 ++ map (column cells k) (range_with_len x n)))) e ∙ ap (λ vs. spelled (strip_tokens vs)) (append-nil (replicate gap 0)) ∙ ap spelled (strip_tokens-empty gap)
+    ap (λ n. spelled (strip_tokens (replicate gap 0 ++ map (column cells k) (range_with_len x n)))) e
+    ∙ ap (λ vs. spelled (strip_tokens vs)) (append-nil (replicate gap 0)) ∙ ap spelled (strip_tokens-empty gap)
 
 -- a loop's step at a column with a live cell
 pub strip_more-live : (cells : List Cell) (width k gap x value : ℕ) (whole text new : List ℕ) → x < width → 1 ≤ value → value ≡ column cells k x
-    → text ++ rest_text cells width k gap x ≡ whole → new ≡ text ++ spelled (strip_tokens (replicate gap 0 ++ value ∷ [])) → new ++ rest_text cells width k 0 (x + 1) ≡ whole
+    → text ++ rest_text cells width k gap x ≡ whole → new ≡ text ++ spelled (strip_tokens (replicate gap 0 ++ value ∷ []))
+    → new ++ rest_text cells width k 0 (x + 1) ≡ whole
 strip_more-live cells width k gap x value whole text new h some is so_far e =
     let rest = rest_text cells width k 0 (x + 1) in
-    ap (λ t. t ++ rest) e ∙ append_assoc text (spelled (strip_tokens (replicate gap 0 ++ value ∷ []))) rest ∙ ap (λ t. text ++ t) (sym (rest_text-live cells width k gap x value h some is)) ∙ so_far
+    ap (λ t. t ++ rest) e ∙ append_assoc text (spelled (strip_tokens (replicate gap 0 ++ value ∷ []))) rest
+    ∙ ap (λ t. text ++ t) (sym (rest_text-live cells width k gap x value h some is)) ∙ so_far
 
 -- and at an empty one
 pub strip_more-empty : (cells : List Cell) (width k gap x value : ℕ) (whole text : List ℕ) → x < width → value ≡ 0 → value ≡ column cells k x
     → text ++ rest_text cells width k gap x ≡ whole → text ++ rest_text cells width k (gap + 1) (x + 1) ≡ whole
-strip_more-empty cells width k gap x value whole text h none is so_far = ap (λ t. text ++ t) (sym (rest_text-empty cells width k gap x value h none is)) ∙ so_far
+strip_more-empty cells width k gap x value whole text h none is so_far =
+    ap (λ t. text ++ t) (sym (rest_text-empty cells width k gap x value h none is)) ∙ so_far
 
 -- the loop's end
-pub strip_done : (cells : List Cell) (width k gap x : ℕ) (start text : List ℕ) → width ≤ x → text ++ rest_text cells width k gap x ≡ start ++ rest_text cells width k 0 0 → text ≡ start ++ spelled (strip_tokens (strip cells width k))
+pub strip_done : (cells : List Cell) (width k gap x : ℕ) (start text : List ℕ) → width ≤ x
+    → text ++ rest_text cells width k gap x ≡ start ++ rest_text cells width k 0 0 → text ≡ start ++ spelled (strip_tokens (strip cells width k))
 strip_done cells width k gap x start text h so_far =
     sym (append-nil text) ∙ ap (λ t. text ++ t) (sym (rest_text-end cells width k gap x h)) ∙ so_far ∙ ap (λ t. start ++ t) (rest_text-start cells width k)

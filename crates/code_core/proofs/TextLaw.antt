@@ -1,5 +1,6 @@
 -- Each text is that of tokens whose cells are the pattern at the corner.
-use Rattle.std.proofs.Common.{◌≡◌, ℕ, ℤ, zero, suc, pos, neg_ℤ, ◌+ℤ◌, ◌≤ℤ◌, ◌+◌, ◌*◌, ◌/◌, ◌%◌, ◌≤◌, ◌<◌, Bool, true, false, ◌&&◌, ◌||◌, ◌⊎◌, inl, inr, cond, List, ◌∷◌, length, nat_lt, Option, Some, None, filter, map, arith, refl, ap, subst, sym, ◌∙◌}
+use Rattle.std.proofs.Common.{◌≡◌, ℕ, ℤ, zero, suc, pos, neg_ℤ, ◌+ℤ◌, ◌≤ℤ◌, ◌+◌, ◌*◌, ◌/◌, ◌%◌, ◌≤◌, ◌<◌, Bool, true, false, ◌&&◌, ◌||◌, ◌⊎◌, inl}
+use Rattle.std.proofs.Common.{inr, cond, List, ◌∷◌, nat_lt, Option, Some, None, filter, map, arith, refl, ap, subst, sym, ◌∙◌}
 use Rattle.std.specs.Prelude.{unsigned_abs}
 use Rattle.std.specs.List.{flat_map, range_with_len}
 use Rattle.std.proofs.lemmas.Int.{ints}
@@ -13,11 +14,10 @@ use Rattle.plane_core.proofs.PlacementLemmas.{in_order-shifted}
 use Rattle.plane_core.proofs.PlaintextBox.{within-box_of}
 use Rattle.plane_core.proofs.SetLemmas.{has-all, has-append, has-filter, has-head, is_set_of, or_right}
 use Rattle.code_core.specs.declared.token.Token.{Token}
-use Rattle.code_core.specs.declared.wechsler.TheConstants.{SIDE_LIMIT}
 use Rattle.code_core.specs.Columns.{cells_of}
-use Rattle.code_core.specs.Texts.{TextsAreShort, TextsSpellPatterns, boxed_text, is_small, text, tokens_of}
+use Rattle.code_core.specs.Texts.{HasTextShape, TextsHaveTheirShape, TextsSpellPatterns, boxed_text, is_small, text, tokens_of}
 use Rattle.code_core.proofs.StripLemmas.{spelled}
-use Rattle.code_core.proofs.TextLemmas.{tokens_of-lawful, tokens_of-short}
+use Rattle.code_core.proofs.TextLemmas.{tokens_of-lawful, tokens_of-shape}
 use Rattle.code_core.proofs.WholeGaps.{tokens_of-whole}
 use Rattle.code_core.proofs.TokenCells.{box_cells, cells_from-joined, column_cells, strip_cells}
 
@@ -47,7 +47,8 @@ has-box_cells : (width n x y : ℕ) → x < width → y < 5 * n → has (box_cel
 has-box_cells width n x y h k =
     let c = cell_at (pos x) (pos y) in
     let row : 5 * (y / 5) + y % 5 ≡ y = omega arith in
-    let in_column : has (column_cells (y / 5) x) c ≡ true = subst (λ (r : ℕ). has (column_cells (y / 5) x) (cell_at (pos x) (pos r)) ≡ true) row (has-map (λ i. cell_at (pos x) (pos (5 * (y / 5) + i))) 0 5 (y % 5) (omega arith) (omega arith)) in
+    let in_column : has (column_cells (y / 5) x) c ≡ true = subst (λ (r : ℕ). has (column_cells (y / 5) x) (cell_at (pos x) (pos r)) ≡ true) row
+    (has-map (λ i. cell_at (pos x) (pos (5 * (y / 5) + i))) 0 5 (y % 5) (omega arith) (omega arith)) in
     let in_strip : has (strip_cells width (y / 5)) c ≡ true = has-flat_map (column_cells (y / 5)) 0 width x c (omega arith) (omega arith) in_column in
     has-flat_map (strip_cells width) 0 n (y / 5) c (omega arith) (omega arith) in_strip
 
@@ -75,15 +76,24 @@ cells_of-tokens cells right bottom o inside =
     ap set_of (cells_from-joined cells width 0 n)
     ∙ sym (is_set_of cells (filter (has cells) all) o (λ c. absorb (has all c) (has cells c) (λ e. member c (inside c e)) ∙ sym (has-filter (has cells) all c)))
   where
-    member : (c : Cell) → (x : ℕ) × (y : ℕ) × (c ≡ cell_at (pos x) (pos y)) × (x ≤ right) × (y ≤ bottom) → has (box_cells (right + 1) 0 (bottom / 5 + 1)) c ≡ true
-    member c (x, y, is, l, m) = subst (λ d. has (box_cells (right + 1) 0 (bottom / 5 + 1)) d ≡ true) (sym is) (has-box_cells (right + 1) (bottom / 5 + 1) x y (omega arith) (omega arith))
+    member : (c : Cell) → (x : ℕ) × (y : ℕ) × (c ≡ cell_at (pos x) (pos y)) × (x ≤ right) × (y ≤ bottom)
+        → has (box_cells (right + 1) 0 (bottom / 5 + 1)) c ≡ true
+    member c (x, y, is, l, m) = subst (λ d. has (box_cells (right + 1) 0 (bottom / 5 + 1)) d ≡ true) (sym is)
+        (has-box_cells (right + 1) (bottom / 5 + 1) x y (omega arith) (omega arith))
 
 -- where a cell of the box is, counted from the corner
-counted : (b : Bounds) (c d : Cell) → IsWithin b d → c ≡ moved_by (neg_ℤ b.left) (neg_ℤ b.top) d → (x : ℕ) × (y : ℕ) × (c ≡ cell_at (pos x) (pos y)) × (x ≤ distance b.left b.right) × (y ≤ distance b.top b.bottom)
+counted : (b : Bounds) (c d : Cell) → IsWithin b d → c ≡ moved_by (neg_ℤ b.left) (neg_ℤ b.top) d
+    → (x : ℕ) × (y : ℕ) × (c ≡ cell_at (pos x) (pos y)) × (x ≤ distance b.left b.right) × (y ≤ distance b.top b.bottom)
 counted b c d w is =
     let x : d.x +ℤ neg_ℤ b.left ≡ pos (unsigned_abs (d.x +ℤ neg_ℤ b.left)) = size_of _ (omega (arith, ints, w.left)) in
-    let y : d.y +ℤ neg_ℤ b.top ≡ pos (unsigned_abs (d.y +ℤ neg_ℤ b.top)) = size_of _ (omega (arith, ints, w.top)) in
-    (unsigned_abs (d.x +ℤ neg_ℤ b.left), unsigned_abs (d.y +ℤ neg_ℤ b.top), is ∙ (λ i. cell_at (x i) (y i)), omega (arith, ints, w.left, w.right), omega (arith, ints, w.top, w.bottom))
+    let y : d.y +ℤ neg_ℤ b.top ≡ pos (unsigned_abs (d.y +ℤ neg_ℤ b.top)) = size_of _ (omega (arith, ints, w.top)) in (
+      unsigned_abs (d.x +ℤ neg_ℤ b.left),
+      unsigned_abs (d.y +ℤ neg_ℤ b.top),
+      is
+          ∙ (λ i. cell_at (x i) (y i)),
+      omega (arith, ints, w.left, w.right),
+      omega (arith, ints, w.top, w.bottom),
+    )
 
 -- a pattern at the corner lies in its box
 inside-corner : (cells : List Cell) (b : Bounds) → box_of cells ≡ Some b → LiesInside (at_corner cells) (distance b.left b.right) (distance b.top b.bottom)
@@ -97,8 +107,8 @@ in_order-corner cells b e o = subst (λ f. InOrder (cornered f cells)) (sym e) (
 
 small_sides : (b : Bounds) → is_small b ≡ true → (distance b.left b.right < 40) × (distance b.top b.bottom < 40)
 small_sides b small =
-    let sides = and_parts (nat_lt (distance b.left b.right) SIDE_LIMIT) (nat_lt (distance b.top b.bottom) SIDE_LIMIT) small in
-    (ltb-true (distance b.left b.right) SIDE_LIMIT sides.0, ltb-true (distance b.top b.bottom) SIDE_LIMIT sides.1)
+    let sides = and_parts (nat_lt (distance b.left b.right) 40) (nat_lt (distance b.top b.bottom) 40) small in
+    (ltb-true (distance b.left b.right) 40 sides.0, ltb-true (distance b.top b.bottom) 40 sides.1)
 
 -- ---- the laws
 
@@ -106,15 +116,18 @@ abbrev corner_tokens : List Cell → Bounds → List Token
 corner_tokens cells b = tokens_of (at_corner cells) (distance b.left b.right) (distance b.top b.bottom)
 
 -- a pattern with a text has a small box, and its text is that of its tokens
-boxed : (cells : List Cell) (t : List ℕ) → text cells ≡ Some t → (b : Bounds) × (box_of cells ≡ Some b) × (is_small b ≡ true) × (spelled (corner_tokens cells b) ≡ t)
+boxed : (cells : List Cell) (t : List ℕ) → text cells ≡ Some t
+    → (b : Bounds) × (box_of cells ≡ Some b) × (is_small b ≡ true) × (spelled (corner_tokens cells b) ≡ t)
 unfolding text
 boxed cells t e = go (box_of cells) refl e
   where
-    small : (b : Bounds) (s : Bool) → is_small b ≡ s → cond {A = Option (List ℕ)} s (Some (spelled (corner_tokens cells b))) None ≡ Some t → (is_small b ≡ true) × (spelled (corner_tokens cells b) ≡ t)
+    small : (b : Bounds) (s : Bool) → is_small b ≡ s → cond {A = Option (List ℕ)} s (Some (spelled (corner_tokens cells b))) None ≡ Some t
+        → (is_small b ≡ true) × (spelled (corner_tokens cells b) ≡ t)
     small b true is e = (is, cc)
     small b false is e = absurd cc
 
-    go : (o : Option Bounds) → box_of cells ≡ o → boxed_text cells o ≡ Some t → (b : Bounds) × (box_of cells ≡ Some b) × (is_small b ≡ true) × (spelled (corner_tokens cells b) ≡ t)
+    go : (o : Option Bounds) → box_of cells ≡ o → boxed_text cells o ≡ Some t
+        → (b : Bounds) × (box_of cells ≡ Some b) × (is_small b ≡ true) × (spelled (corner_tokens cells b) ≡ t)
     go None is e = absurd cc
     go (Some b) is e = let h = small b (is_small b) refl e in (b, is, h.0, h.1)
 
@@ -130,9 +143,9 @@ texts_spell_patterns cells t o e =
       cells_of-tokens (at_corner cells) right bottom (in_order-corner cells b f.1 o) (inside-corner cells b f.1),
     )
 
-pub texts_are_short : TextsAreShort
-texts_are_short cells t e =
+pub texts_have_their_shape : TextsHaveTheirShape
+texts_have_their_shape cells t e =
     let f = boxed cells t e in
     let b = f.0 in
     let sides = small_sides b f.2 in
-    subst (λ s. length s ≤ 10000) f.3 (tokens_of-short (at_corner cells) (distance b.left b.right) (distance b.top b.bottom) sides.0 sides.1)
+    subst HasTextShape f.3 (tokens_of-shape (at_corner cells) (distance b.left b.right) (distance b.top b.bottom) sides.0 sides.1)

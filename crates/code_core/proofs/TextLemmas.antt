@@ -1,7 +1,10 @@
 -- The tokens of a pattern's text: each is lawful, and the text is short.
-use Rattle.std.proofs.Common.{ℕ, zero, suc, ◌+◌, ◌*◌, ◌-◌, ◌==◌, ◌/◌, ◌≤◌, ◌<◌, Bool, true, false, cond, List, [], ◌∷◌, length, map, get_or, arith}
-use Rattle.std.specs.List.{All, range_with_len}
+use Rattle.std.proofs.Common.{ℕ, zero, suc, ◌+◌, ◌*◌, ◌-◌, ◌/◌, ◌≤◌, ◌<◌, Bool, true, false, List, [], ◌∷◌, ◌∙◌, ◌≡◌, cond, length, map, get_or}
+use Rattle.std.proofs.Common.{refl, arith}
+use Rattle.std.specs.List.{All, list_all, range_with_len}
+use Rattle.std.proofs.lemmas.Bool.{and_from, ne_eqb}
 use Rattle.std.proofs.lemmas.List.{length-append}
+use Rattle.std.proofs.lemmas.List.Folds.{list_all-append}
 use Rattle.std.proofs.lemmas.List.Elements.{All-nil, All-cons, All-tail, All-append, All-map}
 use Rattle.std.proofs.lemmas.List.FromFn.{length-map-range_with_len}
 use Rattle.std.proofs.lemmas.Grind.{flat_map-append}
@@ -9,9 +12,10 @@ use Rattle.plane_core.specs.declared.cell.Cell.{Cell}
 use Rattle.code_core.specs.declared.token.Token.{Token}
 use Rattle.code_core.specs.declared.token.Token.TheVariants.{Column, Gap, NextStrip}
 use Rattle.code_core.specs.Columns.{column, value_of}
-use Rattle.code_core.specs.Texts.{before, joined, strip, strip_tokens, tokens_of}
-use Rattle.code_core.specs.Tokens.{IsToken, character, gap_text, spelling}
+use Rattle.code_core.specs.Texts.{HasTextShape, before, joined, strip, strip_tokens, tokens_of}
+use Rattle.code_core.specs.Tokens.{IsToken, character, gap_text, is_character, spelling}
 use Rattle.code_core.proofs.StripLemmas.{spelled}
+use Rattle.code_core.proofs.TokenReading.{is_character-character}
 
 -- ---- each token is lawful
 
@@ -82,44 +86,101 @@ tokens_of-lawful cells right bottom h =
 
 -- ---- the text is short
 
-one_of_four : (p q r : Bool) (a b c d e : ℕ) → length (cond {A = List ℕ} p (a ∷ []) (cond {A = List ℕ} q (b ∷ []) (cond {A = List ℕ} r (c ∷ []) (d ∷ e ∷ [])))) ≤ 2
-one_of_four true q r a b c d e = omega arith
-one_of_four false true r a b c d e = omega arith
-one_of_four false false true a b c d e = omega arith
-one_of_four false false false a b c d e = omega arith
-
-gap_text_at_most : (n : ℕ) → length (gap_text n) ≤ 2
+-- a run of 4 columns or more takes two bytes
+long_gap_text : (n : ℕ) → 4 ≤ n → length (gap_text n) ≡ 2
 unfolding gap_text
-gap_text_at_most n = one_of_four (n == 1) (n == 2) (n == 3) 48 119 120 121 (character (n - 4))
+long_gap_text n low = rw (ne_eqb n 1 (λ e. absurd (omega arith)), ne_eqb n 2 (λ e. absurd (omega arith)), ne_eqb n 3 (λ e. absurd (omega arith))) refl
 
-length-before : (value : ℕ) (tokens : List Token) → length (spelled (before value tokens)) ≤ length (spelled tokens) + 2
+-- one empty column more costs at most a byte
+gap_text_more : (n : ℕ) → length (gap_text (n + 1)) ≤ length (gap_text n) + 1
+unfolding gap_text
+gap_text_more zero = omega arith
+gap_text_more (suc zero) = omega arith
+gap_text_more (suc (suc zero)) = omega arith
+gap_text_more (suc (suc (suc zero))) = omega arith
+gap_text_more (suc (suc (suc (suc n)))) =
+    let m : ℕ = suc (suc (suc (suc n))) in
+    omega (arith, long_gap_text m (omega arith), long_gap_text (m + 1) (omega arith))
+
+length-before : (value : ℕ) (tokens : List Token) → length (spelled (before value tokens)) ≤ length (spelled tokens) + 1
+unfolding gap_text
 length-before zero [] = omega arith
-length-before zero (Gap n ∷ tokens) = simp length-append (omega (arith, gap_text_at_most (n + 1)))
-length-before zero (Column value ∷ tokens) = simp length-append (omega (arith, gap_text_at_most 1))
-length-before zero (NextStrip ∷ tokens) = simp length-append (omega (arith, gap_text_at_most 1))
+length-before zero (Gap n ∷ tokens) = simp length-append (omega (arith, gap_text_more n))
+length-before zero (Column value ∷ tokens) = omega arith
+length-before zero (NextStrip ∷ tokens) = omega arith
 length-before (suc value) tokens = omega arith
 
-length-strip : (values : List ℕ) → length (spelled (strip_tokens values)) ≤ 2 * length values
+-- a strip takes at most a byte a column
+length-strip : (values : List ℕ) → length (spelled (strip_tokens values)) ≤ length values
 unfolding strip_tokens
 length-strip [] = omega arith
 length-strip (value ∷ values) = omega (arith, length-before value (strip_tokens values), length-strip values)
 
--- each strip adds at most 80 bytes, and one to begin the next
-length-joined : (strips : List (List Token)) → All (λ tokens. length (spelled tokens) ≤ 80) strips → length (spelled (joined strips)) ≤ 81 * length strips
-length-joined [] all = omega arith
-length-joined (tokens ∷ []) all = let h = all 0 [] (omega arith) in omega arith
-length-joined (tokens ∷ more ∷ strips) all =
-    let h = all 0 [] (omega arith) in
-    let rest = length-joined (more ∷ strips) (All-tail (λ tokens. length (spelled tokens) ≤ 80) tokens (more ∷ strips) all) in
-    rw (flat_map-append spelling tokens (NextStrip ∷ joined (more ∷ strips)), length-append) (omega arith)
-
-length-strip_of : (cells : List Cell) (right k : ℕ) → right < 40 → length (spelled (strip_tokens (strip cells (right + 1) k))) ≤ 80
+length-strip_of : (cells : List Cell) (right k : ℕ) → right < 40 → length (spelled (strip_tokens (strip cells (right + 1) k))) ≤ 40
 length-strip_of cells right k h = omega (arith, length-strip (strip cells (right + 1) k), length-map-range_with_len (column cells k) 0 (right + 1))
 
-pub tokens_of-short : (cells : List Cell) (right bottom : ℕ) → right < 40 → bottom < 40 → length (spelled (tokens_of cells right bottom)) ≤ 10000
+-- each strip adds at most 40 bytes, and one to begin the next
+length-joined : (tokens : List Token) (strips : List (List Token)) → All (λ tokens. length (spelled tokens) ≤ 40) (tokens ∷ strips)
+    → length (spelled (joined (tokens ∷ strips))) ≤ 41 * length strips + 40
+length-joined tokens [] all = let h = all 0 [] (omega arith) in omega arith
+length-joined tokens (more ∷ strips) all =
+    let h = all 0 [] (omega arith) in
+    let rest = length-joined more strips (All-tail (λ tokens. length (spelled tokens) ≤ 40) tokens (more ∷ strips) all) in
+    rw (flat_map-append spelling tokens (NextStrip ∷ joined (more ∷ strips)), length-append) (omega arith)
+
+-- at most eight strips
+few_strips : (strips : List (List Token)) → All (λ tokens. length (spelled tokens) ≤ 40) strips → length strips ≤ 8 → length (spelled (joined strips)) ≤ 327
+few_strips [] all few = omega arith
+few_strips (tokens ∷ strips) all few = omega (arith, length-joined tokens strips all)
+
+tokens_of-short : (cells : List Cell) (right bottom : ℕ) → right < 40 → bottom < 40 → length (spelled (tokens_of cells right bottom)) ≤ 327
 unfolding tokens_of
 tokens_of-short cells right bottom h k =
     let f : ℕ → List Token = λ k. strip_tokens (strip cells (right + 1) k) in
     let strips = range_with_len 0 (bottom / 5 + 1) in
-    let each = All-map (λ tokens. length (spelled tokens) ≤ 80) f strips (λ i d l. length-strip_of cells right (get_or strips i d) h) in
-    omega (arith, length-joined (map f strips) each, length-map-range_with_len f 0 (bottom / 5 + 1))
+    let each = All-map (λ tokens. length (spelled tokens) ≤ 40) f strips (λ i d l. length-strip_of cells right (get_or strips i d) h) in
+    few_strips (map f strips) each (omega (arith, length-map-range_with_len f 0 (bottom / 5 + 1)))
+
+-- ---- and all its bytes are characters
+
+is_y : is_character 121 ≡ true
+unfolding is_character
+is_y = refl
+
+value_character : (v : ℕ) → v ≤ 35 → list_all is_character (character v ∷ []) ≡ true
+value_character v h = rw (is_character-character v h) refl
+
+long_characters : (n : ℕ) → 4 ≤ n → n ≤ 39 → list_all is_character (gap_text n) ≡ true
+unfolding gap_text
+long_characters n low high =
+    rw (
+      ne_eqb n 1 (λ e. absurd (omega arith)),
+      ne_eqb n 2 (λ e. absurd (omega arith)),
+      ne_eqb n 3 (λ e. absurd (omega arith)),
+      is_y,
+      is_character-character (n - 4) (omega arith),
+    ) refl
+
+characters_of : (token : Token) → IsToken token → list_all is_character (spelling token) ≡ true
+unfolding gap_text is_character
+characters_of (Column value) h = value_character value (omega (arith, h.1))
+characters_of (Gap zero) h = absurd (omega (arith, h.0))
+characters_of (Gap (suc zero)) h = refl
+characters_of (Gap (suc (suc zero))) h = refl
+characters_of (Gap (suc (suc (suc zero)))) h = refl
+characters_of (Gap (suc (suc (suc (suc n))))) h = long_characters (suc (suc (suc (suc n)))) (omega arith) h.1
+characters_of NextStrip h = refl
+
+characters_of_all : (tokens : List Token) → All IsToken tokens → list_all is_character (spelled tokens) ≡ true
+characters_of_all [] all = refl
+characters_of_all (token ∷ tokens) all =
+    list_all-append is_character (spelling token) (spelled tokens)
+    ∙ and_from _ _ (characters_of token (all 0 token (omega arith))) (characters_of_all tokens (All-tail IsToken token tokens all))
+
+pub tokens_of-shape : (cells : List Cell) (right bottom : ℕ) → right < 40 → bottom < 40 → HasTextShape (spelled (tokens_of cells right bottom))
+tokens_of-shape cells right bottom h k =
+    record {
+      short = tokens_of-short cells right bottom h k;
+      characters =
+          characters_of_all (tokens_of cells right bottom) (tokens_of-lawful cells right bottom h);
+    }

@@ -1,5 +1,6 @@
 -- The cells of a pattern's tokens: those of its box that the pattern has.
-use Rattle.std.proofs.Common.{◌≡◌, ℕ, zero, suc, pos, ◌+◌, ◌*◌, ◌/◌, ◌%◌, eqb, Bool, true, false, cond, List, [], ◌∷◌, ◌++◌, filter, map, arith, refl, ap, sym, ◌∙◌}
+use Rattle.std.proofs.Common.{◌≡◌, ℕ, zero, suc, pos, ◌+◌, ◌*◌, ◌/◌, ◌%◌, eqb, Bool, true, false, cond, List, [], ◌∷◌, ◌++◌, filter, map, arith, refl}
+use Rattle.std.proofs.Common.{ap, sym, ◌∙◌}
 use Rattle.std.specs.List.{flat_map, range_with_len}
 use Rattle.std.proofs.lemmas.List.{append_assoc, append-nil}
 use Rattle.std.proofs.lemmas.List.Elements.{filter-append}
@@ -59,7 +60,9 @@ filter-map : (p : Cell → Bool) (f : ℕ → Cell) (xs : List ℕ) → map f (f
 filter-map p f [] = refl
 filter-map p f (x ∷ xs) = go (p (f x)) (filter-map p f xs)
   where
-    go : (b : Bool) → map f (filter (λ i. p (f i)) xs) ≡ filter p (map f xs) → map f (cond {A = List ℕ} b (x ∷ filter (λ i. p (f i)) xs) (filter (λ i. p (f i)) xs)) ≡ cond {A = List Cell} b (f x ∷ filter p (map f xs)) (filter p (map f xs))
+    go : (b : Bool) → map f (filter (λ i. p (f i)) xs) ≡ filter p (map f xs)
+        → map f (cond {A = List ℕ} b (x ∷ filter (λ i. p (f i)) xs) (filter (λ i. p (f i)) xs)) ≡ cond {A = List Cell} b (f x ∷ filter p (map f xs))
+        (filter p (map f xs))
     go true e = ap (λ cs. f x ∷ cs) e
     go false e = e
 
@@ -89,7 +92,8 @@ lit_cells-column cells k x =
     let c = alive (n + 1 + 1) in
     let d = alive (n + 1 + 1 + 1) in
     let e = alive (n + 1 + 1 + 1 + 1) in
-    ap (map (place k x)) (kept_alike (is_lit (five a b c d e)) (λ i. has cells (place k x i)) (lit_0 a b c d e ∙ ap alive (row_0 n)) (lit_1 a b c d e) (lit_2 a b c d e ∙ ap alive (row_2 n)) (lit_3 a b c d e ∙ ap alive (row_3 n)) (lit_4 a b c d e ∙ ap alive (row_4 n)))
+    ap (map (place k x)) (kept_alike (is_lit (five a b c d e)) (λ i. has cells (place k x i)) (lit_0 a b c d e ∙ ap alive (row_0 n))
+    (lit_1 a b c d e) (lit_2 a b c d e ∙ ap alive (row_2 n)) (lit_3 a b c d e ∙ ap alive (row_3 n)) (lit_4 a b c d e ∙ ap alive (row_4 n)))
     ∙ filter-map (has cells) (place k x) (range_with_len 0 5)
 
 -- ---- the tokens of a strip
@@ -141,7 +145,8 @@ unfolding cells_from
 strip_next k tokens a b = refl
 
 -- the cells of the tokens of some strips, from strip k on
-pub cells_from-joined : (cells : List Cell) (width k n : ℕ) → cells_from k 0 (joined (map (λ k. strip_tokens (strip cells width k)) (range_with_len k n))) ≡ filter (has cells) (box_cells width k n)
+pub cells_from-joined : (cells : List Cell) (width k n : ℕ) → cells_from k 0
+    (joined (map (λ k. strip_tokens (strip cells width k)) (range_with_len k n))) ≡ filter (has cells) (box_cells width k n)
 unfolding cells_from
 cells_from-joined cells width k zero = refl
 cells_from-joined cells width k (suc zero) =

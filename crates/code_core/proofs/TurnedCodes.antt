@@ -1,5 +1,6 @@
 -- A pattern that is turned keeps its name.
-use Rattle.std.proofs.Common.{◌≡◌, ◌∙◌, sym, ap, refl, subst, ℕ, zero, suc, ℤ, pos, neg_ℤ, ◌≤◌, Bool, true, false, ◌&&◌, ◌==◌, List, [], ◌∷◌, length, map, arith, cond, int_eq, Ordering, Less, Equal, Greater}
+use Rattle.std.proofs.Common.{◌≡◌, ◌∙◌, sym, ap, refl, subst, ℕ, zero, suc, ℤ, pos, neg_ℤ, ◌≤◌, Bool, true, false, ◌&&◌, ◌==◌, List, [], ◌∷◌, length}
+use Rattle.std.proofs.Common.{map, arith, cond, int_eq, Ordering, Less, Equal, Greater}
 use Rattle.std.proofs.lemmas.Int.{ints}
 use Rattle.plane_core.proofs.BlockLemmas.{int_eq-true}
 use Rattle.std.specs.Cmp.{both_ways}
@@ -18,11 +19,12 @@ use Rattle.plane_core.proofs.OrientationLemmas.{image-image, image-shifted, turn
 use Rattle.plane_core.proofs.SetLemmas.{in_order-set_of}
 use Rattle.code_core.specs.declared.apgcode.Kind.{Kind}
 use Rattle.code_core.specs.declared.apgcode.Kind.TheVariants.{Still, Oscillator, Ship}
-use Rattle.code_core.specs.declared.cycle.Recurrence.{Recurrence}
-use Rattle.code_core.specs.Codes.{CodesTurned, IsCode, IsImageText, code_text, kind_of, number_of}
+use Rattle.code_core.specs.declared.recurrence.Recurrence.{Recurrence}
+use Rattle.code_core.specs.Apgcodes.{code_text}
+use Rattle.code_core.specs.Names.{CodesTurned, IsCode, IsImageText, kind_of, number_of}
 use Rattle.code_core.specs.Recurrences.{Recurs}
 use Rattle.code_core.specs.Texts.{text}
-use Rattle.code_core.proofs.LeastLemmas.{tells_same}
+use Rattle.code_core.proofs.LeastLemmas.{least_of_same}
 use Rattle.code_core.proofs.MovedCodes.{after-suc, codes_moved, in_order-after, number-same}
 
 in_order-image : (o : Orientation) (cells : List Cell) → InOrder (image o cells)
@@ -46,14 +48,16 @@ image-back o cells order = image-image o (turning_back o).0 cells ∙ ap (λ (p 
 after-image : (o : Orientation) (rule : Numbers) (cells : List Cell) (g : ℕ) → InOrder cells → after rule (image o cells) g ≡ image o (after rule cells g)
 after-image o rule cells zero order = after-none rule (image o cells) ∙ ap (image o) (sym (after-none rule cells))
 after-image o rule cells (suc g) order =
-    after-suc rule (image o cells) g ∙ ap (next rule) (after-image o rule cells g order) ∙ next-image o rule (after rule cells g) (in_order-after rule cells g order)
+    after-suc rule (image o cells) g ∙ ap (next rule) (after-image o rule cells g order)
+    ∙ next-image o rule (after rule cells g) (in_order-after rule cells g order)
     ∙ ap (image o) (sym (after-suc rule cells g))
 
 -- how an image comes back
 abbrev turned_recurrence : Orientation → Recurrence → Recurrence
 turned_recurrence o r = record { period = r.period; dx = (turned_cell o (cell_at r.dx r.dy)).x; dy = (turned_cell o (cell_at r.dx r.dy)).y }
 
-recurs-image : (o : Orientation) (rule : Numbers) (cells : List Cell) (limit : ℕ) (r : Recurrence) → InOrder cells → Recurs rule cells limit r → Recurs rule (image o cells) limit (turned_recurrence o r)
+recurs-image : (o : Orientation) (rule : Numbers) (cells : List Cell) (limit : ℕ) (r : Recurrence) → InOrder cells → Recurs rule cells limit r
+    → Recurs rule (image o cells) limit (turned_recurrence o r)
 recurs-image o rule cells limit r order h = record {
   some = h.some;
   within = h.within;
@@ -72,17 +76,21 @@ unfolding turned
 turned-image a b cells = ap at_corner (image-image a b cells)
 
 -- the images of an image are images of the pattern
-text-image : (o : Orientation) (rule : Numbers) (cells : List Cell) (period : ℕ) (t : List ℕ) → InOrder cells → IsImageText rule (image o cells) period t → IsImageText rule cells period t
+text-image : (o : Orientation) (rule : Numbers) (cells : List Cell) (period : ℕ) (t : List ℕ) → InOrder cells
+    → IsImageText rule (image o cells) period t → IsImageText rule cells period t
 text-image o rule cells period t order h = record {
   phase = h.phase;
   orientation = product o h.orientation;
   within = h.within;
-  is = ap text (sym (turned-image o h.orientation (after rule cells h.phase)) ∙ ap (turned h.orientation) (sym (after-image o rule cells h.phase order))) ∙ h.is;
+  is = ap text (sym (turned-image o h.orientation (after rule cells h.phase))
+      ∙ ap (turned h.orientation) (sym (after-image o rule cells h.phase order))) ∙ h.is;
 }
 
-text-unimage : (o : Orientation) (rule : Numbers) (cells : List Cell) (period : ℕ) (t : List ℕ) → InOrder cells → IsImageText rule cells period t → IsImageText rule (image o cells) period t
+text-unimage : (o : Orientation) (rule : Numbers) (cells : List Cell) (period : ℕ) (t : List ℕ) → InOrder cells → IsImageText rule cells period t
+    → IsImageText rule (image o cells) period t
 text-unimage o rule cells period t order h =
-    text-image (turning_back o).0 rule (image o cells) period t (in_order-image o cells) (subst (λ (S : List Cell). IsImageText rule S period t) (sym (image-back o cells order)) h)
+    text-image (turning_back o).0 rule (image o cells) period t (in_order-image o cells)
+    (subst (λ (S : List Cell). IsImageText rule S period t) (sym (image-back o cells order)) h)
 
 -- a set has no more cells than the list that it is made of
 length-put : (c : Cell) (ds : List Cell) → length (put c ds) ≤ suc (length ds)
@@ -114,7 +122,8 @@ length-image o cells order =
 
 -- only 0 is 0 on the other side
 still-negated : (a : ℤ) → int_eq (neg_ℤ a) (pos 0) ≡ int_eq a (pos 0)
-still-negated a = both_ways (int_eq (neg_ℤ a) (pos 0)) (int_eq a (pos 0)) (λ e. back a (int_eq-true (neg_ℤ a) (pos 0) e)) (λ e. there a (int_eq-true a (pos 0) e))
+still-negated a = both_ways (int_eq (neg_ℤ a) (pos 0)) (int_eq a (pos 0)) (λ e. back a (int_eq-true (neg_ℤ a) (pos 0) e))
+    (λ e. there a (int_eq-true a (pos 0) e))
   where
     back : (a : ℤ) → neg_ℤ a ≡ pos 0 → int_eq a (pos 0) ≡ true
     back a is = let zero_too : pos 0 ≡ a = omega (arith, ints) in subst (λ (b : ℤ). int_eq b (pos 0) ≡ true) zero_too refl
@@ -129,7 +138,8 @@ and_swap false true = refl
 and_swap false false = refl
 
 -- a move by nothing is turned into one, and no other
-stays-turned : (o : Orientation) (x y : ℤ) → (int_eq (turned_cell o (cell_at x y)).x (pos 0) && int_eq (turned_cell o (cell_at x y)).y (pos 0)) ≡ (int_eq x (pos 0) && int_eq y (pos 0))
+stays-turned : (o : Orientation) (x y : ℤ) → (int_eq (turned_cell o (cell_at x y)).x (pos 0) && int_eq (turned_cell o (cell_at x y)).y (pos 0)) ≡
+    (int_eq x (pos 0) && int_eq y (pos 0))
 stays-turned Same x y = refl
 stays-turned Quarter x y = ap (λ (b : Bool). b && int_eq x (pos 0)) (still-negated y) ∙ and_swap (int_eq y (pos 0)) (int_eq x (pos 0))
 stays-turned Half x y = λ i. still-negated x i && still-negated y i
@@ -150,17 +160,19 @@ kind-turned : (o : Orientation) (r : Recurrence) → kind_of (turned_recurrence 
 kind-turned o r = ap (λ (stays : Bool). cond stays (cond (r.period == 1) Still Oscillator) Ship) (stays-turned o r.dx r.dy)
 
 -- an image has the name of the pattern
-codes_image : (o : Orientation) (rule : Numbers) (cells : List Cell) (limit : ℕ) (code : List ℕ) → InOrder cells → IsCode rule cells limit code → IsCode rule (image o cells) limit code
+codes_image : (o : Orientation) (rule : Numbers) (cells : List Cell) (limit : ℕ) (code : List ℕ) → InOrder cells → IsCode rule cells limit code
+    → IsCode rule (image o cells) limit code
 codes_image o rule cells limit code order h = record {
   recurrence = turned_recurrence o h.recurrence;
   recurs = recurs-image o rule cells limit h.recurrence order h.recurs;
   least = h.least;
-  tells = tells_same (IsImageText rule cells h.recurrence.period) (IsImageText rule (image o cells) h.recurrence.period) h.least
-      (λ t. text-unimage o rule cells h.recurrence.period t order) (λ t. text-image o rule cells h.recurrence.period t order) h.tells;
+  is_least = least_of_same (IsImageText rule cells h.recurrence.period) (IsImageText rule (image o cells) h.recurrence.period) h.least
+      (λ t. text-unimage o rule cells h.recurrence.period t order) (λ t. text-image o rule cells h.recurrence.period t order) h.is_least;
   spelled = h.spelled ∙ (λ i. code_text (sym (kind-turned o h.recurrence) i) (number i) h.least);
 }
   where
-    number : number_of (kind_of h.recurrence) cells h.recurrence ≡ number_of (kind_of (turned_recurrence o h.recurrence)) (image o cells) (turned_recurrence o h.recurrence)
+    number : number_of (kind_of h.recurrence) cells h.recurrence ≡ number_of (kind_of (turned_recurrence o h.recurrence)) (image o cells)
+        (turned_recurrence o h.recurrence)
     number =
         number-same (kind_of h.recurrence) cells (image o cells) h.recurrence (sym (length-image o cells order))
         ∙ number-period (kind_of h.recurrence) (image o cells) h.recurrence (turned_recurrence o h.recurrence) refl
@@ -178,4 +190,5 @@ codes_turned o rule cells limit code order h = go (image o cells) refl
     go [] is = subst (λ (S : List Cell). IsCode rule S limit code) is image_code
     go (c ∷ cs) is =
         let b = grown c (box_of cs) in
-        codes_moved (neg_ℤ b.left) (neg_ℤ b.top) rule (c ∷ cs) limit code (subst InOrder is (in_order-image o cells)) (subst (λ (S : List Cell). IsCode rule S limit code) is image_code)
+        codes_moved (neg_ℤ b.left) (neg_ℤ b.top) rule (c ∷ cs) limit code (subst InOrder is (in_order-image o cells))
+        (subst (λ (S : List Cell). IsCode rule S limit code) is image_code)

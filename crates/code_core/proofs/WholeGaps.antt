@@ -55,4 +55,5 @@ whole-each cells width (k ∷ ks) = (whole-strip (strip cells width k), whole-ea
 pub tokens_of-whole : (cells : List Cell) (right bottom : ℕ) → GapsAreWhole (tokens_of cells right bottom)
 unfolding tokens_of
 tokens_of-whole cells right bottom =
-    whole-joined (map (λ k. strip_tokens (strip cells (right + 1) k)) (range_with_len 0 (bottom / 5 + 1))) (whole-each cells (right + 1) (range_with_len 0 (bottom / 5 + 1)))
+    whole-joined (map (λ k. strip_tokens (strip cells (right + 1) k)) (range_with_len 0 (bottom / 5 + 1)))
+    (whole-each cells (right + 1) (range_with_len 0 (bottom / 5 + 1)))

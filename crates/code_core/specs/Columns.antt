@@ -6,7 +6,7 @@ use Rattle.plane_core.specs.Cells.{cell_at, has, set_of}
 use Rattle.code_core.specs.declared.token.Token.{Token}
 use Rattle.code_core.specs.declared.token.Token.TheVariants.{Column, Gap, NextStrip}
 
--- what the first of some cells counts 1 for, the next 2, then 4, 8 and so on, where they are alive
+-- the value of some cells: the first counts 1, the next 2, then 4, 8 and so on, where they are alive
 abbrev pub value_of : List Bool → ℕ
 value_of [] = 0
 value_of (live ∷ more) = (if live then 1 else 0) + 2 * value_of more
@@ -15,7 +15,7 @@ value_of (live ∷ more) = (if live then 1 else 0) + 2 * value_of more
 abbrev pub is_lit : ℕ → ℕ → Bool
 is_lit value i = (value / 2 ^ i) % 2 == 1
 
--- the rows of a strip, of which each has five: those of strip k begin at 5k
+-- the five rows of strip k, from row 5k on
 abbrev pub rows_of : ℕ → List ℕ
 rows_of k = range_with_len (5 * k) 5
 

@@ -1,12 +1,13 @@
 -- How the least text of a pattern's images is looked for.
-use Rattle.std.specs.Prelude.{◌≡◌, ◌<◌, ℕ, List, [], ◌∷◌, get_or, length, Option, None, Some}
+use Rattle.std.specs.Prelude.{◌≡◌, ◌<◌, ℕ, List, [], get_or, length, Option, None, Some}
 use Rattle.std.specs.Ordering.{match_ordering}
 use Rattle.plane_core.specs.declared.cell.Cell.{Cell}
 use Rattle.plane_core.specs.declared.orientation.Orientation.{Orientation}
-use Rattle.plane_core.specs.declared.orientation.Orientation.TheVariants.{Same, Quarter, Half, ThreeQuarter, Mirror, Flip, Diagonal, AntiDiagonal}
+use Rattle.plane_core.specs.declared.orientation.Orientation.TheVariants.{Same}
 use Rattle.plane_core.specs.Orientations.{turned}
-use Rattle.code_core.specs.declared.cycle.Recurrence.{Recurrence}
-use Rattle.code_core.specs.Codes.{TellsLeast, code_text, kind_of, number_of, text_cmp}
+use Rattle.code_core.specs.declared.recurrence.Recurrence.{Recurrence}
+use Rattle.code_core.specs.Apgcodes.{code_text}
+use Rattle.code_core.specs.Names.{IsLeastOf, kind_of, number_of, text_cmp}
 use Rattle.code_core.specs.Texts.{text}
 
 -- the earlier of two texts, where there are two
@@ -18,10 +19,6 @@ earlier_of (Some a) (Some b) = match_ordering (text_cmp a b) (Some a) (Some a) (
 -- a text of one of the first n groups
 abbrev pub Among : (ℕ → List ℕ → Type 0) → ℕ → List ℕ → Type 0
 Among IsIn n t = (k : ℕ) × (k < n) × IsIn k t
-
--- all orientations, each once
-abbrev pub orientations : List Orientation
-orientations = Same ∷ Quarter ∷ Half ∷ ThreeQuarter ∷ Mirror ∷ Flip ∷ Diagonal ∷ AntiDiagonal ∷ []
 
 -- the text of a pattern in the orientation at place k
 abbrev pub IsImageAt : List Orientation → List Cell → ℕ → List ℕ → Type 0
@@ -38,5 +35,5 @@ IsImageOf phases k t = IsImage (get_or phases k []) t
 -- the name of a pattern with these phases, which comes back so
 pub record IsNameBy (cells : List Cell) (phases : List (List Cell)) (r : Recurrence) (code : List ℕ) : Type 0 where
   pub least : Option (List ℕ)
-  pub tells : TellsLeast (Among (IsImageOf phases) (length phases)) least
+  pub is_least : IsLeastOf (Among (IsImageOf phases) (length phases)) least
   pub spelled : code ≡ code_text (kind_of r) (number_of (kind_of r) cells r) least

@@ -1,4 +1,4 @@
-pub mod Codes
+pub mod Apgcodes
 pub mod Columns
 pub mod Least
 pub mod Names

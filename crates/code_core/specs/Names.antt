@@ -1,24 +1,85 @@
--- What a name says of its object: its kind and its number.
-use Rattle.std.specs.Prelude.{◌==◌, ◌&&◌, ℕ, Bool, List, codes, drop, nat_eq, nat_le, slice_index, take_while, if◌then◌else◌}
-use Rattle.std.specs.List.{starts_with}
-use Rattle.std.specs.Str.Parse.{digits_value}
+-- The names of patterns that recur (LifeWiki, "Apgcode").
+use Rattle.std.specs.Prelude.{◌≡◌, ◌≢◌, ◌==◌, ◌<◌, ◌^◌, ◌&&◌, ℕ, ℤ, pos, List, [], Option, None, Some, length, if◌then◌else◌}
+use Rattle.std.specs.declared.cmp.Ordering.{Ordering}
+use Rattle.std.specs.declared.cmp.Ordering.TheVariants.{Equal, Greater}
+use Rattle.std.specs.Ordering.{ordering_then, nat_cmp, int_eq}
+use Rattle.std.specs.Cmp.Lexicographic.{slice_cmp}
+use Rattle.plane_core.specs.declared.cell.Cell.{Cell}
+use Rattle.plane_core.specs.declared.orientation.Orientation.{Orientation}
+use Rattle.plane_core.specs.Bounds.{shifted}
+use Rattle.plane_core.specs.Cells.{InOrder}
+use Rattle.plane_core.specs.Generations.{after}
+use Rattle.plane_core.specs.Orientations.{turned}
+use Rattle.plane_core.specs.Rules.{Numbers}
+use Rattle.code_core.specs.declared.recurrence.Recurrence.{Recurrence}
 use Rattle.code_core.specs.declared.apgcode.Kind.{Kind}
 use Rattle.code_core.specs.declared.apgcode.Kind.TheVariants.{Still, Oscillator, Ship}
+use Rattle.code_core.specs.Apgcodes.{HasCodeShape, code_text}
+use Rattle.code_core.specs.Recurrences.{Recurs}
+use Rattle.code_core.specs.Texts.{text}
 
--- a name from its letter on, which stands behind `x` or `ov_`
-abbrev pub from_letter : List ℕ → List ℕ
-from_letter code = if starts_with nat_eq code (codes "ov_") then drop 3 code else drop 1 code
+-- shorter texts come first, and of two that are equally long the first in ASCII order
+abbrev pub text_cmp : List ℕ → List ℕ → Ordering
+text_cmp a b = ordering_then (nat_cmp (length a) (length b)) (slice_cmp nat_cmp a b)
 
--- `s` is the letter of a still life, `p` that of an oscillator, and `q` that of a spaceship
-abbrev pub kind_of_letter : ℕ → Kind
-kind_of_letter letter = if letter == 115 then Still else if letter == 112 then Oscillator else Ship
+-- only equal texts tie
+abbrev pub OnlyEqualTextsTie : Type 0
+OnlyEqualTextsTie = (a b : List ℕ) → text_cmp a b ≡ Equal → a ≡ b
 
-unfoldable pub kind_in : List ℕ → Kind
-kind_in code = kind_of_letter (slice_index (from_letter code) 0)
+-- t is the text, in some orientation, of one of the generations 0 to period - 1 of the pattern
+pub record IsImageText (rule : Numbers) (cells : List Cell) (period : ℕ) (t : List ℕ) : Type 0 where
+  pub phase : ℕ
+  pub orientation : Orientation
+  pub within : phase < period
+  pub is : text (turned orientation (after rule cells phase)) ≡ Some t
 
-abbrev pub is_digit : ℕ → Bool
-is_digit b = nat_le 48 b && nat_le b 57
+-- the least of some texts: one of them, which none of them comes before, or `None` where there are none
+abbrev pub IsLeastOf : (List ℕ → Type 0) → Option (List ℕ) → Type 0
+IsLeastOf IsOne None = (t : List ℕ) → ¬ IsOne t
+IsLeastOf IsOne (Some least) = IsOne least × ((t : List ℕ) → IsOne t → text_cmp least t ≢ Greater)
 
--- the number of a name, whose digits stand behind its letter
-unfoldable pub number_in : List ℕ → ℕ
-number_in code = digits_value 10 (take_while is_digit (drop 1 (from_letter code)))
+-- a still life stays as it is, an oscillator comes back to its place, a spaceship elsewhere
+abbrev pub kind_of : Recurrence → Kind
+kind_of r =
+    if int_eq r.dx (pos 0) && int_eq r.dy (pos 0)
+    then (if r.period == 1 then Still else Oscillator)
+    else Ship
+
+-- the number in a name: a still life's population, and else the period
+abbrev pub number_of : Kind → List Cell → Recurrence → ℕ
+number_of Still cells r = length cells
+number_of Oscillator cells r = r.period
+number_of Ship cells r = r.period
+
+-- the name of a pattern that recurs within the limit: its kind, its number and the least text of its phases in all orientations
+pub record IsCode (rule : Numbers) (cells : List Cell) (limit : ℕ) (code : List ℕ) : Type 0 where
+  pub recurrence : Recurrence
+  pub recurs : Recurs rule cells limit recurrence
+  pub least : Option (List ℕ)
+  pub is_least : IsLeastOf (IsImageText rule cells recurrence.period) least
+  pub spelled : code ≡ code_text (kind_of recurrence) (number_of (kind_of recurrence) cells recurrence) least
+
+-- a pattern with a cell has one name
+abbrev pub CodesAreDetermined : Type 0
+CodesAreDetermined = (rule : Numbers) (cells : List Cell) (limit : ℕ) (one other : List ℕ)
+    → cells ≢ [] → IsCode rule cells limit one → IsCode rule cells limit other → one ≡ other
+
+-- a pattern that is moved keeps its name
+abbrev pub CodesMoved : Type 0
+CodesMoved = (dx dy : ℤ) (rule : Numbers) (cells : List Cell) (limit : ℕ) (code : List ℕ)
+    → InOrder cells → IsCode rule cells limit code → IsCode rule (shifted dx dy cells) limit code
+
+-- a pattern that is turned or mirrored keeps its name
+abbrev pub CodesTurned : Type 0
+CodesTurned = (o : Orientation) (rule : Numbers) (cells : List Cell) (limit : ℕ) (code : List ℕ)
+    → InOrder cells → IsCode rule cells limit code → IsCode rule (turned o cells) limit code
+
+-- each later generation of a pattern has its name
+abbrev pub CodesLater : Type 0
+CodesLater = (g : ℕ) (rule : Numbers) (cells : List Cell) (limit : ℕ) (code : List ℕ)
+    → InOrder cells → IsCode rule cells limit code → IsCode rule (after rule cells g) limit code
+
+-- a name has 1 to 400 bytes, each one of `a` to `z`, `0` to `9` and `_`, where the numbers fit 64 bits
+abbrev pub CodesHaveTheirShape : Type 0
+CodesHaveTheirShape = (rule : Numbers) (cells : List Cell) (limit : ℕ) (code : List ℕ)
+    → length cells < 2 ^ 64 → limit < 2 ^ 64 → IsCode rule cells limit code → HasCodeShape code

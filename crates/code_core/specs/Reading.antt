@@ -1,6 +1,6 @@
 -- What a text says in extended Wechsler format (LifeWiki, "Apgcode").
-use Rattle.std.specs.Prelude.{◌≡◌, ◌==◌, ◌+◌, ◌-◌, ◌<◌, ℕ, Bool, false, not, ◌||◌, List, [], ◌∷◌, length, take, Some, Result, Ok, Err, nat_lt, slice_index, if◌then◌else◌}
-use Rattle.std.specs.Char.{is_ascii_digit, is_ascii_lowercase}
+use Rattle.std.specs.Prelude.{◌≡◌, ◌==◌, ◌+◌, ◌-◌, ◌<◌, ℕ, false, not, List, [], ◌∷◌, length, take, Some, Result, Ok, Err, nat_lt}
+use Rattle.std.specs.Prelude.{slice_index, if◌then◌else◌}
 use Rattle.plane_core.specs.declared.cell.Cell.{Cell}
 use Rattle.plane_core.specs.Bounds.{at_corner}
 use Rattle.plane_core.specs.Cells.{InOrder}
@@ -8,29 +8,25 @@ use Rattle.code_core.specs.declared.token.Token.{Token}
 use Rattle.code_core.specs.declared.token.Token.TheVariants.{Column, Gap, NextStrip}
 use Rattle.code_core.specs.declared.reader.WechslerFault.{WechslerFault}
 use Rattle.code_core.specs.declared.reader.WechslerFault.TheVariants.{TooLong, BadByte, ShortRun, Empty}
-use Rattle.code_core.specs.declared.reader.TheConstants.{TEXT_LIMIT, ONE_EMPTY, TWO_EMPTY, THREE_EMPTY, MANY_EMPTY, STRIP_END}
 use Rattle.code_core.specs.Columns.{cells_of}
 use Rattle.code_core.specs.Texts.{text}
-use Rattle.code_core.specs.Tokens.{Spells}
-
--- `0` to `9` and `a` to `z`
-unfoldable pub is_character : ℕ → Bool
-is_character b = is_ascii_digit b || is_ascii_lowercase b
+use Rattle.code_core.specs.Tokens.{Spells, is_character}
 
 -- the value of a character: 0 to 9 for `0` to `9`, then 10 to 35 for `a` to `z`
 unfoldable pub character_value : ℕ → ℕ
 character_value b = if nat_lt b 58 then b - 48 else b - 87
 
--- the token of a character other than `y`: runs of one, two and three empty columns, the next strip, or else a column
+-- the token of a character other than `y`: `0` (48), `w` (119) and `x` (120) are runs of 1, 2 and 3 empty columns, `z` (122) begins the
+-- next strip, and any other is a column
 unfoldable pub single : ℕ → Token
 single b =
-    if b == ONE_EMPTY then Gap 1
-    else if b == TWO_EMPTY then Gap 2
-    else if b == THREE_EMPTY then Gap 3
-    else if b == STRIP_END then NextStrip
+    if b == 48 then Gap 1
+    else if b == 119 then Gap 2
+    else if b == 120 then Gap 3
+    else if b == 122 then NextStrip
     else Column (character_value b)
 
--- the token of `y` and the character behind it
+-- the token of `y` and the character after it
 abbrev pub long_gap : ℕ → Token
 long_gap c = Gap (character_value c + 4)
 
@@ -39,16 +35,17 @@ abbrev pub with_token : Token → Result (List Token) WechslerFault → Result (
 with_token token (Ok tokens) = Ok (token ∷ tokens)
 with_token token (Err fault) = Err fault
 
--- the tokens of a text whose first byte stands at this place, or the first fault: a byte that is no character, or a `y` with no character behind it
+-- the tokens of a text whose first byte stands at this place, or the first fault: a byte that is no character, or a `y` (121) with no
+-- character after it
 unfoldable pub tokens_at : ℕ → List ℕ → Result (List Token) WechslerFault
 tokens_at place [] = Ok []
 tokens_at place (b ∷ []) =
     if not (is_character b) then Err (BadByte place)
-    else if b == MANY_EMPTY then Err (ShortRun place)
+    else if b == 121 then Err (ShortRun place)
     else Ok (single b ∷ [])
 tokens_at place (b ∷ c ∷ rest) =
     if not (is_character b) then Err (BadByte place)
-    else if not (b == MANY_EMPTY) then with_token (single b) (tokens_at (place + 1) (c ∷ rest))
+    else if not (b == 121) then with_token (single b) (tokens_at (place + 1) (c ∷ rest))
     else if is_character c then with_token (long_gap c) (tokens_at (place + 2) rest)
     else Err (ShortRun place)
 
@@ -66,9 +63,9 @@ pattern_of (Err fault) = Err fault
 abbrev pub wechsler_pattern : List ℕ → Result (List Cell) WechslerFault
 wechsler_pattern text = pattern_of (tokens_at 0 text)
 
--- the pattern of a text that isn't too long
+-- the pattern of a text of at most 10,000 bytes: this project's choice, far above the 327 of the longest text of a pattern
 abbrev pub wechsler_read : List ℕ → Result (List Cell) WechslerFault
-wechsler_read text = if nat_lt TEXT_LIMIT (length text) then Err TooLong else wechsler_pattern text
+wechsler_read text = if nat_lt 10000 (length text) then Err TooLong else wechsler_pattern text
 
 -- the text says the pattern: some tokens spell it, and the pattern is theirs
 pub record Says (text : List ℕ) (cells : List Cell) : Type 0 where
@@ -83,12 +80,12 @@ pub record IsBadByte (text : List ℕ) (place : ℕ) : Type 0 where
   pub within : place < length text
   pub bad : is_character (slice_index text place) ≡ false
 
--- tokens spell the bytes before the place, and there is a `y` with no character behind it
+-- tokens spell the bytes before the place, and there is a `y` (121) with no character after it
 pub record IsShortRun (text : List ℕ) (place : ℕ) : Type 0 where
   pub tokens : List Token
   pub before : Spells tokens (take place text)
   pub within : place < length text
-  pub run : slice_index text place ≡ MANY_EMPTY
+  pub run : slice_index text place ≡ 121
   pub short : place + 1 < length text → is_character (slice_index text (place + 1)) ≡ false
 
 -- each text of a pattern is read again, as the pattern moved to the corner

@@ -4,26 +4,24 @@ use Rattle.code_core.specs.declared.token.Token.{Token}
 use Rattle.code_core.specs.declared.token.Token.TheVariants.{Column, Gap, NextStrip}
 use Rattle.code_core.specs.declared.reader.WechslerFault.{WechslerFault}
 use Rattle.code_core.specs.declared.reader.WechslerFault.TheVariants.{BadByte, ShortRun}
-use Rattle.code_core.specs.declared.reader.TheConstants.{MANY_EMPTY}
-use Rattle.code_core.specs.Tokens.{spelling, IsToken}
-use Rattle.code_core.specs.Reading.{is_character}
+use Rattle.code_core.specs.Tokens.{spelling, IsToken, is_character}
 
--- the text begins with a token, and behind it is the rest
+-- the text begins with a token, and the rest follows
 pub record Begins (text : List ℕ) (token : Token) (rest : List ℕ) : Type 0 where
   pub is_token : IsToken token
   pub spelled : text ≡ spelling token ++ rest
 
--- a character stands at the front of a text
+-- the text begins with a character
 abbrev pub has_character : List ℕ → Bool
 has_character [] = false
 has_character (c ∷ rest) = is_character c
 
--- no token begins the text: a character at its front is a `y` with none behind it
+-- no token begins the text: a character at its front is a `y` (121) with none after it
 abbrev pub IsStuck : List ℕ → Type 0
 IsStuck [] = Unit {0}
-IsStuck (b ∷ rest) = is_character b ≡ true → (b ≡ MANY_EMPTY) × (has_character rest ≡ false)
+IsStuck (b ∷ rest) = is_character b ≡ true → (b ≡ 121) × (has_character rest ≡ false)
 
--- what is wrong where no token begins, at this place
+-- the fault at this place, where no token begins
 abbrev pub fault_at : ℕ → List ℕ → Option WechslerFault
 fault_at place [] = None
 fault_at place (b ∷ rest) = Some (if is_character b then ShortRun place else BadByte place)

@@ -5,13 +5,13 @@ use Rattle.plane_core.specs.declared.cell.Cell.{Cell}
 use Rattle.plane_core.specs.Bounds.{shifted}
 use Rattle.plane_core.specs.Generations.{after, touches_edge}
 use Rattle.plane_core.specs.Rules.{Numbers}
-use Rattle.code_core.specs.declared.cycle.Recurrence.{Recurrence}
+use Rattle.code_core.specs.declared.recurrence.Recurrence.{Recurrence}
 
 -- in none of the generations from 1 to g is the pattern itself again, moved or not
 abbrev pub IsNew : Numbers → List Cell → ℕ → Type 0
 IsNew rule cells g = (p : ℕ) (dx dy : ℤ) → 1 ≤ p → p ≤ g → after rule cells p ≢ shifted dx dy cells
 
--- The pattern recurs: after the period, which is the least number of generations of the kind and within the limit, it is itself, moved by (dx, dy).
+-- the pattern recurs: after the period it is itself, moved by (dx, dy), and after no earlier generation; the period is 1 to the limit
 pub record Recurs (rule : Numbers) (cells : List Cell) (limit : ℕ) (r : Recurrence) : Type 0 where
   pub some : 1 ≤ r.period
   pub within : r.period ≤ limit

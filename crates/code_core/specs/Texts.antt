@@ -1,15 +1,15 @@
 -- The text of a pattern in extended Wechsler format (LifeWiki, "Apgcode").
-use Rattle.std.specs.Prelude.{◌≡◌, ◌≤◌, length, ◌+◌, ◌/◌, ℕ, zero, suc, Bool, ◌&&◌, List, [], ◌∷◌, ◌++◌, Option, None, Some, map, flat_map, nat_lt, if◌then◌else◌}
-use Rattle.std.specs.List.{range_with_len}
+use Rattle.std.specs.Prelude.{◌≡◌, ◌≤◌, length, ◌+◌, ◌/◌, ℕ, zero, suc, Bool, true, ◌&&◌, List, [], ◌∷◌, ◌++◌, Option, None, Some, map, flat_map}
+use Rattle.std.specs.Prelude.{nat_lt, if◌then◌else◌}
+use Rattle.std.specs.List.{list_all, range_with_len}
 use Rattle.plane_core.specs.declared.cell.Cell.{Cell}
 use Rattle.plane_core.specs.declared.bounds.Bounds.{Bounds}
 use Rattle.plane_core.specs.Bounds.{at_corner, box_of}
 use Rattle.plane_core.specs.Cells.{InOrder, distance}
 use Rattle.code_core.specs.declared.token.Token.{Token}
 use Rattle.code_core.specs.declared.token.Token.TheVariants.{Column, Gap, NextStrip}
-use Rattle.code_core.specs.declared.wechsler.TheConstants.{SIDE_LIMIT}
 use Rattle.code_core.specs.Columns.{cells_of, column}
-use Rattle.code_core.specs.Tokens.{Spells, spelling}
+use Rattle.code_core.specs.Tokens.{Spells, is_character, spelling}
 
 -- a column before the tokens of a strip: an empty one is left out at the strip's end, and else it lengthens the gap that follows or makes one
 abbrev pub before : ℕ → List Token → List Token
@@ -37,9 +37,9 @@ joined (tokens ∷ more ∷ strips) = tokens ++ NextStrip ∷ joined (more ∷ s
 unfoldable pub tokens_of : List Cell → ℕ → ℕ → List Token
 tokens_of cells right bottom = joined (map (λ k. strip_tokens (strip cells (right + 1) k)) (range_with_len 0 (bottom / 5 + 1)))
 
--- the box is at most 40 by 40
+-- the box is at most 40 columns by 40 rows: a larger object has no text (LifeWiki, "Apgcode")
 abbrev pub is_small : Bounds → Bool
-is_small b = nat_lt (distance b.left b.right) SIDE_LIMIT && nat_lt (distance b.top b.bottom) SIDE_LIMIT
+is_small b = nat_lt (distance b.left b.right) 40 && nat_lt (distance b.top b.bottom) 40
 
 -- the text of a pattern with this box
 abbrev pub boxed_text : List Cell → Option Bounds → Option (List ℕ)
@@ -60,7 +60,7 @@ BeginsWithColumn (Gap n ∷ tokens) = ⊥
 BeginsWithColumn (Column value ∷ tokens) = Unit {0}
 BeginsWithColumn (NextStrip ∷ tokens) = ⊥
 
--- such a column stands behind each gap: no run of empty columns is in pieces, and none ends a strip
+-- such a column stands after each gap: no run of empty columns is in pieces, and none ends a strip
 abbrev pub GapsAreWhole : List Token → Type 0
 GapsAreWhole [] = Unit {0}
 GapsAreWhole (Gap n ∷ tokens) = BeginsWithColumn tokens × GapsAreWhole tokens
@@ -72,6 +72,11 @@ abbrev pub TextsSpellPatterns : Type 0
 TextsSpellPatterns = (cells : List Cell) (t : List ℕ) → InOrder cells → text cells ≡ Some t
     → (tokens : List Token) × Spells tokens t × GapsAreWhole tokens × (cells_of tokens ≡ at_corner cells)
 
--- no text has over 10,000 bytes
-abbrev pub TextsAreShort : Type 0
-TextsAreShort = (cells : List Cell) (t : List ℕ) → text cells ≡ Some t → length t ≤ 10000
+-- a text has at most 327 bytes, which is 40 for each of eight strips and a `z` between each two, and all are `0` to `9` and `a` to `z`
+pub record HasTextShape (t : List ℕ) : Type 0 where
+  pub short : length t ≤ 327
+  pub characters : list_all is_character t ≡ true
+
+-- the text of each pattern has that shape
+abbrev pub TextsHaveTheirShape : Type 0
+TextsHaveTheirShape = (cells : List Cell) (t : List ℕ) → text cells ≡ Some t → HasTextShape t

@@ -1,13 +1,18 @@
 -- The pieces of a text in extended Wechsler format (LifeWiki, "Apgcode").
-use Rattle.std.specs.Prelude.{◌≡◌, ◌==◌, ◌+◌, ◌-◌, ◌≤◌, ℕ, List, [], ◌∷◌, ◌++◌, All, codes, flat_map, nat_lt, if◌then◌else◌}
+use Rattle.std.specs.Prelude.{◌≡◌, ◌==◌, ◌+◌, ◌-◌, ◌≤◌, ℕ, Bool, ◌||◌, List, [], ◌∷◌, ◌++◌, All, codes, flat_map, nat_lt, if◌then◌else◌}
+use Rattle.std.specs.Char.{is_ascii_digit, is_ascii_lowercase}
 use Rattle.code_core.specs.declared.token.Token.{Token}
 use Rattle.code_core.specs.declared.token.Token.TheVariants.{Column, Gap, NextStrip}
 
--- the character of a value: `0` to `9` for 0 to 9, then `a` to `z` for 10 to 35
+-- the characters of a text: `0` to `9` and `a` to `z`
+unfoldable pub is_character : ℕ → Bool
+is_character b = is_ascii_digit b || is_ascii_lowercase b
+
+-- the character of a value: `0` to `9` (48 to 57) for 0 to 9, then `a` to `z` (97 to 122) for 10 to 35
 unfoldable pub character : ℕ → ℕ
 character value = if nat_lt value 10 then 48 + value else 87 + value
 
--- a run of empty columns by its length: `0`, `w` and `x` for 1 to 3, then `y` and the character of what is over 4
+-- a run of empty columns by its length: `0`, `w` and `x` for 1 to 3, and then `y` with the character of the length minus 4
 unfoldable pub gap_text : ℕ → List ℕ
 gap_text n =
     if n == 1 then codes "0"

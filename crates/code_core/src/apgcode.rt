@@ -1,12 +1,12 @@
-ghost use Rattle.std.specs.Prelude.{◌≡◌, ◌<◌, ◌^◌, ℕ, Some, ◌++◌, IfOk, OnOk, List, Option, nat_eq, option_map, refl, string_bytes};
+ghost use Rattle.std.specs.Prelude.{◌≡◌, ◌<◌, ◌^◌, ℕ, Some, ◌++◌, IfOk, OnOk, IfSome, List, Option, nat_eq, option_map, refl, string_bytes};
 ghost use Rattle.std.specs.Ordering.{nat_cmp};
 ghost use Rattle.std.specs.Hash as fed;
 ghost use Rattle.std.specs.Cmp.Lexicographic.{pointwise, slice_cmp, nat_list_eq_equiv, nat_list_cmp_total, texts_ties, texts_po};
 ghost use Rattle.std.specs.Cmp.{partial_equiv_from_equiv};
 ghost use Rattle.std.specs.Cmp.Rules.{hashing};
 ghost use Rattle.std.proofs.Common.{rules};
-ghost use Rattle.code_core.specs.Codes.{code_text, ending, letter, opening};
-ghost use Rattle.code_core.specs.Names.{kind_in, number_in};
+ghost use Rattle.code_core.specs.Apgcodes.{HasCodeShape, code_text, ending, kind_in, letter, number_in, opening};
+ghost use Rattle.code_core.specs.Texts.{HasTextShape};
 ghost use Rattle.code_core.specs.declared.apgcode.Kind.{Kind};
 
 use itoa::Buffer;
@@ -16,12 +16,12 @@ use std::fmt;
 use std::hash::{Hash, Hasher};
 use std::marker::Model;
 
-/// The kinds of patterns that recur.
+/// The three kinds of patterns that recur.
 #[derive(Clone, Copy, Debug, PartialEq, Eq)]
 pub enum Kind {
     /// A still life: the next generation is the pattern itself.
     Still,
-    /// An oscillator: it comes back to its place after two generations or more.
+    /// An oscillator: it comes back in its place, after two generations or more.
     Oscillator,
     /// A spaceship: it comes back elsewhere.
     Ship,
@@ -40,11 +40,13 @@ impl Kind {
     }
 }
 
-/// The name of a pattern that recurs (LifeWiki, "Apgcode"): `xs` and its population for a still life, `xp` or `xq` and
-/// its period for an oscillator or a spaceship, then `_` and the least extended Wechsler text of its phases and their
-/// images. An object without a text has `ov_s`, `ov_p` or `ov_q` and the number.
+/// The name of a pattern that recurs (LifeWiki, "Apgcode").
 ///
-/// Contracts see it as its text. By that it is compared, in ASCII order, and hashed.
+/// It is `xs` and the population for a still life, `xp` or `xq` and the period for an oscillator or a spaceship, then
+/// `_` and the least extended Wechsler text of the pattern's generations in all orientations. An object that is too
+/// large for a text has `ov_s`, `ov_p` or `ov_q` and the number. Three examples: `xs4_33`, `xq4_153`, `ov_s56`.
+///
+/// Names are compared as their texts, byte by byte, and hashed as their texts. Contracts see a name as its text.
 #[derive(Drop)]
 pub struct Apgcode {
     text: String,
@@ -57,11 +59,11 @@ impl Model for Apgcode {
 
     ghost Value = { List ℕ };
 
-    ghost use Rattle.code_core.specs.Names.{kind_in, number_in};
+    ghost use Rattle.code_core.specs.Apgcodes.{HasCodeShape, kind_in, number_in};
 
     ghost view = { λ a. string_bytes a.text };
 
-    ghost invariant = { λ a. (kind_in (string_bytes a.text) ≡ a.kind) × (number_in (string_bytes a.text) ≡ a.number) };
+    ghost invariant = { λ a. (kind_in (string_bytes a.text) ≡ a.kind) × (number_in (string_bytes a.text) ≡ a.number) × HasCodeShape (string_bytes a.text) };
 }
 
 impl Apgcode {
@@ -72,15 +74,17 @@ impl Apgcode {
         number: u64,
         text: Option<&str>,
     ) -> Result<Apgcode, AllocError>
+        requires { IfSome (option_map (λ t. t.now) text) HasTextShape }
         ensures { IfOk result (λ code. code ≡ code_text kind number (option_map (λ t. t.now) text.entry)) }
     {
         let text = spelled(alloc, kind, number, text)?;
         Ok(Apgcode { text, kind, number })
     }
 
-    /// The whole name, as `xs4_33`.
+    /// The whole name, as `xs4_33`: 1 to 400 bytes, each one of `a` to `z`, `0` to `9` and `_`.
     pub fn text(&self) -> &str
-        ensures { result.now ≡ self.now }
+        ensures text { result.now ≡ self.now }
+        ensures shape { HasCodeShape self.now }
     {
         self.text.as_str()
     }
@@ -92,7 +96,7 @@ impl Apgcode {
         self.kind
     }
 
-    /// A still life's population, or the period of an oscillator or a spaceship.
+    /// The population of a still life, or the period of an oscillator or a spaceship.
     pub fn number(&self) -> u64
         ensures { result ≡ number_in self.now }
     {
@@ -103,7 +107,7 @@ impl Apgcode {
     ///
     /// # Errors
     ///
-    /// `AllocError` where memory is wanting.
+    /// [`AllocError`] if there is no memory.
     pub fn copy(&self, alloc: Global) -> Result<Apgcode, AllocError>
         ensures { IfOk result (λ code. code ≡ self.now) }
     {
@@ -117,15 +121,16 @@ impl Apgcode {
     }
 }
 
-/// A law of all names: what is read off a name is its kind and its number.
-#[tactic(auto, using(crate::proofs::NameLemmas::kind_of_name, crate::proofs::NameLemmas::number_of_name))]
+/// The laws that the kind and the number can be read off a name's text: the kind always, and the number if it fits 64
+/// bits.
+#[tactic(auto, using(crate::proofs::ApgcodeLemmas::kind_of_name, crate::proofs::ApgcodeLemmas::number_of_name))]
 pub fn readings()
-    ensures kind { (kind : Kind) (number : ℕ) (text : Option (List ℕ)) → number < 2 ^ 64 → kind_in (code_text kind number text) ≡ kind }
+    ensures kind { (kind : Kind) (number : ℕ) (text : Option (List ℕ)) → kind_in (code_text kind number text) ≡ kind }
     ensures number { (kind : Kind) (number : ℕ) (text : Option (List ℕ)) → number < 2 ^ 64 → number_in (code_text kind number text) ≡ number }
 {}
 
 /// The text of a name.
-#[tactic(auto, unfolding(crate::specs::Codes::code_text))]
+#[tactic(auto, unfolding(crate::specs::Apgcodes::code_text))]
 fn spelled(alloc: Global, kind: Kind, number: u64, text: Option<&str>) -> Result<String, AllocError>
     ensures { IfOk result (λ code. string_bytes code ≡ code_text kind number (option_map (λ t. t.now) text.entry)) }
 {
@@ -147,7 +152,7 @@ fn opening(text: Option<&str>) -> &'static str
     }
 }
 
-/// Puts the end of a name behind what there is.
+/// Adds the end of a name.
 fn push_ending(code: &mut String, text: Option<&str>) -> Result<(), AllocError>
     ensures { OnOk result (string_bytes code.new ≡ string_bytes code.old ++ ending (option_map (λ t. t.now) text.entry)) }
 {

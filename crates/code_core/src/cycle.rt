@@ -1,18 +1,13 @@
-ghost use Rattle.std.specs.Prelude.{◌≡◌, ◌≢◌, ◌++◌, ◌<◌, suc, [], ◌∷◌, IfOk, IfSome, IfNone, OnOk, IsErrOf};
+ghost use Rattle.std.specs.Prelude.{◌≡◌, ◌≢◌, ◌++◌, ◌<◌, ◌≤◌, ◌+◌, ℕ, suc, [], ◌∷◌, Err, true, IfOk, IfSome, IfNone, OnOk, IsErrOf};
+ghost use Rattle.plane_core.specs.Cells.{plane_bound};
+ghost use Rattle.plane_core.specs.Generations.{lies_within, touches_edge};
 ghost use Rattle.code_core.specs.Recurrences.{IsNew, MeetsEdge, Recurs, StaysInside, phases};
 
+use crate::recurrence::Recurrence;
 use plane_core::generation::StepError;
 use plane_core::pattern::Pattern;
 use plane_core::rule::Rule;
 use std::alloc::{AllocError, Global};
-
-/// How a pattern comes back: it is itself, moved by (dx, dy), after `period` generations, and not earlier.
-#[derive(Clone, Copy, Debug, PartialEq, Eq)]
-pub struct Recurrence {
-    pub period: u32,
-    pub dx: i32,
-    pub dy: i32,
-}
 
 /// A pattern that recurs: its phases, from the pattern itself on, and how it comes back.
 #[derive(Debug, Drop)]
@@ -22,6 +17,7 @@ pub(crate) struct Cycle {
 }
 
 /// Follows the pattern until it comes back, if it does so within the limit. Each phase is made once.
+#[tactic(auto, using(crate::proofs::RecurrenceLemmas::meets_at_once, crate::proofs::RecurrenceLemmas::never_meets))]
 pub(crate) fn follow(
     alloc: Global,
     pattern: &Pattern,
@@ -29,12 +25,18 @@ pub(crate) fn follow(
     limit: u32,
 ) -> Result<Option<Cycle>, StepError>
     requires pattern { pattern.now ≢ [] }
+    requires least { 1 ≤ limit }
     ensures recurs { IfOk result (λ found. IfSome found (λ cycle. Recurs rule.now pattern.now limit cycle.recurrence)) }
     ensures phases { IfOk result (λ found. IfSome found (λ cycle. cycle.phases.items ≡ phases rule.now pattern.now cycle.recurrence.period)) }
     ensures never { IfOk result (λ found. IfNone found (IsNew rule.now pattern.now limit)) }
     ensures inside { OnOk result (StaysInside rule.now pattern.now limit) }
     ensures edge { IsErrOf result StepError.Edge → MeetsEdge rule.now pattern.now limit }
+    ensures edge_first { touches_edge pattern.now ≡ true → result ≡ Err StepError.Edge }
+    ensures never_edge { (reach : ℕ) → lies_within reach pattern.now ≡ true → reach + limit ≤ plane_bound → result ≢ Err StepError.Edge }
 {
+    if touches_edge(pattern) {
+        return Err(StepError::Edge);
+    }
     let mut phases = Vec::new(alloc);
     let mut latest = pattern.copy(alloc)?;
     for age in 0..limit {
@@ -49,7 +51,14 @@ pub(crate) fn follow(
     Ok(None)
 }
 
-/// Puts a phase behind the others.
+/// Whether a cell of the pattern lies on the edge of the plane.
+fn touches_edge(pattern: &Pattern) -> bool
+    ensures { result ≡ touches_edge pattern.now }
+{
+    pattern.cells().iter().any(|cell| cell.is_on_edge())
+}
+
+/// Adds a phase after the others.
 fn keep(phases: &mut Vec<Pattern>, phase: Pattern) -> Result<(), AllocError>
     ensures { OnOk result (phases.new.items ≡ phases.old.items ++ phase ∷ []) }
 {

@@ -1,16 +1,15 @@
 //! The names of the objects of Life-like cellular automata: extended Wechsler texts and apgcodes (LifeWiki, "Apgcode").
 #![tactic(auto)]
 
-/// Names, and how they are read.
+/// Apgcodes as values: their texts, kinds and numbers.
 pub mod apgcode;
-/// How a pattern comes back.
-pub mod cycle;
-/// The names of patterns that recur.
+mod cycle;
+/// The name of a pattern that recurs.
 pub mod name;
-/// How the text of a pattern is read.
+/// The pattern of an extended Wechsler text.
 pub mod reader;
-/// When a pattern comes back.
+/// When and where a pattern comes back.
 pub mod recurrence;
 mod token;
-/// The text of a pattern.
+/// The extended Wechsler text of a pattern.
 pub mod wechsler;

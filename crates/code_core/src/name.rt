@@ -1,50 +1,56 @@
-ghost use Rattle.std.specs.Prelude.{Option, ◌≡◌, ◌≢◌, ◌<◌, ◌≤◌, [], Some, length, IfOk, IfSome, IfNone, OnOk, IsErrOf, option_map, string_bytes};
+//! A name is found in two steps. First the pattern is followed until it comes back, which gives its kind, its number
+//! and its phases. Then the texts of all phases in the eight orientations are compared, and the least one ends the
+//! name: the shorter comes first, and of two that are equally long the first in ASCII order.
+//!
+//! ```text
+//! generation 0    generation 1    generation 2
+//!     ...             .O.             ...
+//!     OOO             .O.             OOO       it comes back in its place after 2 generations: xp2
+//!     ...             .O.             ...
+//!
+//! lying: 111      upright: 7                    two texts, of which 7 is the shorter one: xp2_7
+//! ```
+//!
+//! Each phase is made once and kept, and no text is made of a pattern that doesn't come back.
+
+ghost use Rattle.std.specs.Prelude.{Option, ℕ, ◌≡◌, ◌≢◌, ◌<◌, ◌≤◌, ◌+◌, [], Some, Err, true, length, option_map, string_bytes};
+ghost use Rattle.std.specs.Prelude.{IfOk, IfSome, IfNone, OnOk, IsErrOf};
 ghost use Rattle.std.specs.Cmp.{IsTotalOrder};
+ghost use Rattle.plane_core.specs.Cells.{plane_bound};
+ghost use Rattle.plane_core.specs.Generations.{lies_within, touches_edge};
 ghost use Rattle.plane_core.specs.Orientations.{turned};
-ghost use Rattle.code_core.specs.Codes.{CodesAreDetermined, CodesLater, CodesMoved, CodesTurned, IsCode, OnlyEqualTextsTie, TellsLeast, kind_of, number_of, text_cmp};
-ghost use Rattle.code_core.specs.Least.{Among, IsImageAt, IsImageOf, IsNameBy, earlier_of, orientations};
+ghost use Rattle.code_core.specs.Names.{CodesAreDetermined, CodesHaveTheirShape, CodesLater, CodesMoved, CodesTurned, IsCode, OnlyEqualTextsTie};
+ghost use Rattle.code_core.specs.Names.{IsLeastOf, kind_of, number_of, text_cmp};
+ghost use Rattle.code_core.specs.Least.{Among, IsImageAt, IsImageOf, IsNameBy, earlier_of};
 ghost use Rattle.code_core.specs.Recurrences.{IsNew, MeetsEdge, StaysInside};
 ghost use Rattle.code_core.specs.Texts.{text};
 
 use crate::apgcode::{Apgcode, Kind};
-use crate::cycle::{Cycle, Recurrence, follow};
+use crate::cycle::{Cycle, follow};
+use crate::recurrence::Recurrence;
 use crate::wechsler::wechsler;
 use plane_core::generation::StepError;
-use plane_core::orientation::Orientation;
+use plane_core::orientation::{Orientation, orientations};
 use plane_core::pattern::Pattern;
 use plane_core::placement::PlaceError;
 use plane_core::rule::Rule;
 use std::alloc::{AllocError, Global};
 use std::cmp::Ordering;
 
-const ORIENTATIONS: [Orientation; 8] = [
-    Orientation::Same,
-    Orientation::Quarter,
-    Orientation::Half,
-    Orientation::ThreeQuarter,
-    Orientation::Mirror,
-    Orientation::Flip,
-    Orientation::Diagonal,
-    Orientation::AntiDiagonal,
-];
-
-/// All orientations, each once.
-fn orientations() -> &'static [Orientation]
-    ensures { result.now ≡ orientations }
-{
-    &ORIENTATIONS
-}
-
-/// The name of the pattern, if it recurs within the limit: it is the same for all its phases, wherever and however it
-/// lies (LifeWiki, "Apgcode").
+/// The name of the pattern under the rule (LifeWiki, "Apgcode"), or `None` if none of the generations 1 to `limit` is
+/// the pattern again, moved or not. A name is the same for each generation of the pattern, wherever it lies and
+/// however it is turned.
 ///
-/// Each phase is made once.
+/// The pattern must not be empty, and the limit must be 1 to 64.
 ///
 /// # Errors
 ///
-/// `Edge` where a generation that is stepped on has a cell with a coordinate of 1,000,000 in size; `Memory` where memory
-/// is wanting. Generations are made in order until one is the pattern, moved or not, so the first of these that is met
-/// is answered.
+/// - [`StepError::Edge`] if a generation that has to be stepped on has a cell with a coordinate of 1,000,000 in size.
+///   It never comes if every cell starts at least `limit` cells inside that bound, and it comes before any memory is
+///   asked for if the pattern itself has such a cell.
+/// - [`StepError::Memory`] if there is no memory.
+///
+/// Generations are made in order until one is the pattern again, and the first error ends the search.
 pub fn name(
     alloc: Global,
     pattern: &Pattern,
@@ -58,6 +64,10 @@ pub fn name(
     ensures never { IfOk result (λ found. IfNone found (IsNew rule.now pattern.now limit)) }
     ensures inside { OnOk result (StaysInside rule.now pattern.now limit) }
     ensures edge { IsErrOf result StepError.Edge → MeetsEdge rule.now pattern.now limit }
+    // The edge comes before memory where the pattern lies on it.
+    ensures edge_first { touches_edge pattern.now ≡ true → result ≡ Err StepError.Edge }
+    // No pattern gets to the edge faster than a cell a generation.
+    ensures never_edge { (reach : ℕ) → lies_within reach pattern.now ≡ true → reach + limit ≤ plane_bound → result ≢ Err StepError.Edge }
 {
     match follow(alloc, pattern, rule, limit)? {
         Some(cycle) => Ok(Some(name_of(alloc, pattern, &cycle)?)),
@@ -65,19 +75,25 @@ pub fn name(
     }
 }
 
-/// The laws of the order of texts: it is total, and only equal texts tie.
+/// The laws of the order in which the least text is found, shorter texts first and then in ASCII order: it is total,
+/// and only equal texts tie.
 #[tactic(auto, using(crate::proofs::LeastLemmas::text_cmp_total, crate::proofs::CodeLaws::texts_tie))]
 pub fn text_order_is_total()
     ensures total { IsTotalOrder text_cmp }
     ensures ties { OnlyEqualTextsTie }
 {}
 
-/// A law of all patterns: one with a cell has one name.
+/// The law that a pattern with a cell has at most one name under a rule.
 pub fn codes_are_determined()
     ensures { CodesAreDetermined }
 {}
 
-/// The laws of names: a name is that of an object, wherever it lies, however, and in each of its phases.
+/// The law that a name has 1 to 400 bytes, each one of `a` to `z`, `0` to `9` and `_`.
+pub fn codes_have_their_shape()
+    ensures { CodesHaveTheirShape }
+{}
+
+/// The laws that a pattern keeps its name when it is moved, when it is turned or mirrored, and in each later generation.
 #[tactic(auto, using(crate::proofs::MovedCodes::codes_moved, crate::proofs::TurnedCodes::codes_turned, crate::proofs::LaterCodes::codes_later))]
 pub fn codes_are_of_objects()
     ensures moved { CodesMoved }
@@ -95,7 +111,7 @@ fn name_of(alloc: Global, pattern: &Pattern, cycle: &Cycle) -> Result<Apgcode, A
     Apgcode::make(alloc, kind, number, least.as_deref())
 }
 
-/// The number in a name: a still life's population, and else the period.
+/// The number in a name: the population of a still life, and the period of any other object.
 fn number_of(kind: Kind, pattern: &Pattern, recurrence: Recurrence) -> u64
     ensures { result ≡ number_of kind pattern.now recurrence }
 {
@@ -105,7 +121,7 @@ fn number_of(kind: Kind, pattern: &Pattern, recurrence: Recurrence) -> u64
     }
 }
 
-/// The kind of a pattern that comes back so.
+/// The kind of a pattern with this recurrence.
 fn kind_of(recurrence: Recurrence) -> Kind
     ensures { result ≡ kind_of recurrence }
 {
@@ -118,7 +134,7 @@ fn kind_of(recurrence: Recurrence) -> Kind
 
 /// The least text of the phases in all orientations.
 fn least_text(alloc: Global, phases: &[Pattern]) -> Result<Option<String>, AllocError>
-    ensures { IfOk result (λ found. TellsLeast (Among (IsImageOf phases.now) (length phases.now)) (option_map string_bytes found)) }
+    ensures { IfOk result (λ found. IsLeastOf (Among (IsImageOf phases.now) (length phases.now)) (option_map string_bytes found)) }
 {
     let mut least = None;
     for phase in phases {
@@ -134,7 +150,7 @@ fn least_image(
     pattern: &Pattern,
     orientations: &[Orientation],
 ) -> Result<Option<String>, AllocError>
-    ensures { IfOk result (λ found. TellsLeast (Among (IsImageAt orientations.now pattern.now) (length orientations.now)) (option_map string_bytes found)) }
+    ensures { IfOk result (λ found. IsLeastOf (Among (IsImageAt orientations.now pattern.now) (length orientations.now)) (option_map string_bytes found)) }
 {
     let mut least = None;
     for orientation in orientations {
@@ -144,7 +160,7 @@ fn least_image(
     Ok(least)
 }
 
-/// The text of a pattern in an orientation. An image that lies past the bound is too large for one.
+/// The text of a pattern in an orientation, if it has one. An image that doesn't fit the plane is far too large for one.
 fn image_text(
     alloc: Global,
     pattern: &Pattern,

@@ -1,10 +1,11 @@
-ghost use Rattle.std.specs.Prelude.{◌≡◌, ◌≢◌, ◌↔◌, ◌<◌, ◌≤◌, ◌+◌, ◌++◌, ◌∷◌, [], ℕ, List, Option, Some, None, Result, Ok, Err, true, false, length, IfOk, IfErr, OnOk, IsErrOf, MatchResult, IfSome, IfNone, ◌*◌, pos};
+ghost use Rattle.std.specs.Prelude.{◌≡◌, ◌≢◌, ◌↔◌, ◌<◌, ◌≤◌, ◌+◌, ◌*◌, ◌++◌, ◌∷◌, [], ℕ, List, Some, None, Ok, Err, true, length, pos};
+ghost use Rattle.std.specs.Prelude.{IfOk, IfErr, OnOk, IsErrOf, MatchResult, IfSome, IfNone};
 ghost use Rattle.std.specs.Result.{result_err};
 ghost use Rattle.plane_core.specs.declared.cell.Cell.{Cell};
 ghost use Rattle.plane_core.specs.Cells.{cell_at};
 ghost use Rattle.code_core.specs.Columns.{is_lit, lit_cells, cells_from};
-ghost use Rattle.code_core.specs.Tokens.{IsToken, Spells};
-ghost use Rattle.code_core.specs.Reading.{wechsler_pattern, wechsler_read, is_character, character_value, single, Says, IsBadByte, IsShortRun, TextsAreRead};
+ghost use Rattle.code_core.specs.Tokens.{IsToken, Spells, is_character};
+ghost use Rattle.code_core.specs.Reading.{wechsler_pattern, wechsler_read, character_value, single, Says, IsBadByte, IsShortRun, TextsAreRead};
 ghost use Rattle.code_core.specs.ReadingSteps.{Begins, IsStuck, fault_at, is_column};
 ghost use Rattle.code_core.specs.declared.token.Token.{Token};
 ghost use Rattle.code_core.specs.declared.reader.WechslerFault.{WechslerFault};
@@ -18,34 +19,20 @@ use plane_core::pattern::{FromCellsError, Pattern};
 use std::alloc::{AllocError, Global};
 use thiserror::Error;
 
-/// How many bytes a text that is read may have. A text of so many stays within the bound of the plane.
+/// The most bytes that a text may have to be read. The cells of such a text lie on the plane, since a byte goes at most
+/// 39 columns on or begins a strip of five rows.
 pub const TEXT_LIMIT: usize = 10_000;
 
-/// A run of one empty column.
-const ONE_EMPTY: u8 = b'0';
-
-/// A run of two empty columns.
-const TWO_EMPTY: u8 = b'w';
-
-/// A run of three empty columns.
-const THREE_EMPTY: u8 = b'x';
-
-/// A run of 4 to 39 empty columns, by the character behind it.
-const MANY_EMPTY: u8 = b'y';
-
-/// The end of a strip.
-const STRIP_END: u8 = b'z';
-
-/// What is wrong with a text that says no pattern. Places count bytes from 0.
+/// What is wrong with a text. Places count bytes from 0.
 #[derive(Clone, Copy, Debug, PartialEq, Eq, Error)]
 pub enum WechslerFault {
     /// The text is longer than 10,000 bytes.
     #[error("text longer than 10000 bytes")]
     TooLong,
-    /// A byte that is none of `0` to `9` and `a` to `z`.
+    /// A byte that isn't one of `0` to `9` and `a` to `z`.
     #[error("bad byte at {place}")]
     BadByte { place: usize },
-    /// A `y` that has none of `0` to `9` and `a` to `z` behind it.
+    /// A `y` that begins a run and isn't followed by one of `0` to `9` and `a` to `z`.
     #[error("run without a length at {place}")]
     ShortRun { place: usize },
     /// No column has a live cell.
@@ -72,92 +59,74 @@ impl From<AllocError> for WechslerError {
     }
 }
 
-/// Whether a byte is one of `0` to `9` and `a` to `z`.
-#[tactic(auto, unfolding(crate::specs::Reading::is_character))]
-fn is_character(byte: u8) -> bool
-    ensures { result ≡ is_character byte }
+/// The pattern of a text in extended Wechsler format (LifeWiki, "Apgcode"), whose first strip has its top left cell at
+/// (0, 0).
+///
+/// The text has at most 10,000 bytes. It is cut at each `z` into strips of five rows, from the top. In a strip, `0` to
+/// `9` and `a` to `v` are the next column from the left, whose live cells add up to 0 to 31 where the top cell counts 1
+/// and those below it 2, 4, 8 and 16. `w` and `x` are two and three empty columns, and `y` with one of `0` to `9` and
+/// `a` to `z` is 4 to 39. Texts that are never written are read too: with zeros at a strip's end, with one run of empty
+/// columns after another, and with empty strips at the end.
+///
+/// # Errors
+///
+/// - [`WechslerError::Fault`] if the text is not that of a pattern with a cell, whether there is memory or not. It is
+///   `TooLong` for over 10,000 bytes, else the first `BadByte` or `ShortRun` from the left, and `Empty` if there is
+///   neither but also no live cell.
+/// - [`WechslerError::Memory`] if there is no memory.
+pub fn read_wechsler(alloc: Global, text: &str) -> Result<Pattern, WechslerError>
+    ensures pattern { IfOk result (λ read. wechsler_read text.now ≡ Ok read) }
+    ensures fault { (fault : WechslerFault) →
+        IsErrOf result (WechslerError.Fault fault) ↔ (wechsler_read text.now ≡ Err fault) }
+
+    // What is read is what the text says, and each pattern that a text says is read.
+    ensures says { IfOk result (Says text.now) }
+    ensures complete { (cells : List Cell) → Says text.now cells → cells ≢ [] → length text.now ≤ 10000
+        → MatchResult result (λ read. read ≡ cells) (λ error. error ≡ Memory) }
+
+    // Which fault it is.
+    ensures too_long { IsErrOf result (WechslerError.Fault TooLong) ↔ (10000 < length text.now) }
+    ensures bad_byte { (place : ℕ) → length text.now ≤ 10000 →
+        (IsErrOf result (WechslerError.Fault (BadByte place)) ↔ IsBadByte text.now place) }
+    ensures short_run { (place : ℕ) → length text.now ≤ 10000 →
+        (IsErrOf result (WechslerError.Fault (ShortRun place)) ↔ IsShortRun text.now place) }
+    ensures empty { length text.now ≤ 10000 →
+        (IsErrOf result (WechslerError.Fault Empty) ↔ Says text.now []) }
 {
-    byte.is_ascii_digit() || byte.is_ascii_lowercase()
+    read(alloc, text.as_bytes())
 }
 
-/// The value of a character, 0 to 35.
-#[tactic(auto, unfolding(crate::specs::Reading::is_character, crate::specs::Reading::character_value))]
-fn character_value(byte: u8) -> u8
-    requires { is_character byte ≡ true }
-    ensures value { result ≡ character_value byte }
-    ensures bound { result ≤ 35 }
+/// The law that the text of each pattern is read again, as the pattern moved to the corner.
+#[tactic(auto, using(crate::proofs::RoundTrip::texts_are_read))]
+pub fn texts_are_read()
+    ensures { TextsAreRead }
+{}
+
+/// The pattern of a text.
+fn read(alloc: Global, text: &[u8]) -> Result<Pattern, WechslerError>
+    ensures pattern { IfOk result (λ read. wechsler_read text.now ≡ Ok read) }
+    ensures fault { (fault : WechslerFault) →
+        IsErrOf result (WechslerError.Fault fault) ↔ (wechsler_read text.now ≡ Err fault) }
 {
-    if byte.is_ascii_digit() {
-        byte - b'0'
-    } else {
-        byte - b'a' + 10
+    if text.len() > TEXT_LIMIT {
+        return Err(WechslerError::Fault(WechslerFault::TooLong));
     }
+    if let Some(fault) = fault_in(text) {
+        return Err(WechslerError::Fault(fault));
+    }
+    pattern_in(alloc, text)
 }
 
-/// The token of a character other than `y`.
-#[tactic(auto, unfolding(crate::specs::Reading::single))]
-fn single(byte: u8) -> Token
-    requires { is_character byte ≡ true }
-    ensures { result ≡ single byte }
-{
-    match byte {
-        ONE_EMPTY => Token::Gap(1),
-        TWO_EMPTY => Token::Gap(2),
-        THREE_EMPTY => Token::Gap(3),
-        STRIP_END => Token::NextStrip,
-        _ => Token::Column(character_value(byte)),
-    }
-}
-
-/// The first token of a text, and what is behind it. There is none where the text is empty or begins with a fault.
-#[tactic(auto, using(crate::proofs::ReadingLemmas::Begins_long_gap))]
-fn first_token(text: &[u8]) -> Option<(Token, &[u8])>
-    ensures token { IfSome result (λ first. Begins text.now first.0 first.1.now) }
-    ensures none { IfNone result (IsStuck text.now) }
-{
-    let (byte, rest) = text.split_first()?;
-    if !is_character(*byte) {
-        return None;
-    }
-    if *byte != MANY_EMPTY {
-        return Some((single(*byte), rest));
-    }
-    let (length, rest) = rest.split_first()?;
-    if !is_character(*length) {
-        return None;
-    }
-    Some((Token::Gap(character_value(*length) + 4), rest))
-}
-
-/// What is wrong at this place of a text, from which on it begins with no token.
-fn fault_at(place: usize, rest: &[u8]) -> Option<WechslerFault>
-    ensures { result ≡ fault_at place rest.now }
-{
-    let byte = rest.first()?;
-    if is_character(*byte) {
-        Some(WechslerFault::ShortRun { place })
-    } else {
-        Some(WechslerFault::BadByte { place })
-    }
-}
-
-/// Whether a token is a column with a live cell.
-fn is_column(token: Token) -> bool
-    ensures { result ≡ is_column token }
-{
-    matches!(token, Token::Column(_))
-}
-
-/// What is wrong with a text that isn't too long.
-#[tactic(auto, using(crate::proofs::ReadingLemmas::shorter, crate::proofs::ReaderLoops::Passed_none, crate::proofs::ReaderLoops::Passed_more))]
+/// What is wrong with a text that isn't too long, if anything is.
+#[tactic(auto, using(crate::proofs::TokenReading::shorter, crate::proofs::ReaderLoops::Passed_none, crate::proofs::ReaderLoops::Passed_more))]
 fn fault_in(text: &[u8]) -> Option<WechslerFault>
     ensures { result ≡ result_err (wechsler_pattern text.now) }
 {
     let mut rest = text;
     let mut has_cell = false;
-    while let Some((token, behind)) = first_token(rest) {
+    while let Some((token, more)) = first_token(rest) {
         has_cell |= is_column(token);
-        rest = behind;
+        rest = more;
     }
     if let Some(fault) = fault_at(text.len() - rest.len(), rest) {
         return Some(fault);
@@ -169,6 +138,54 @@ fn fault_in(text: &[u8]) -> Option<WechslerFault>
     }
 }
 
+/// What is wrong at this place of a text, where the rest doesn't begin with a token.
+fn fault_at(place: usize, rest: &[u8]) -> Option<WechslerFault>
+    ensures { result ≡ fault_at place rest.now }
+{
+    let byte = rest.first()?;
+    if is_character(*byte) {
+        Some(WechslerFault::ShortRun { place })
+    } else {
+        Some(WechslerFault::BadByte { place })
+    }
+}
+
+/// The pattern of a text that has no fault.
+///
+/// # Errors
+///
+/// `Memory` alone.
+fn pattern_in(alloc: Global, text: &[u8]) -> Result<Pattern, WechslerError>
+    requires short { length text.now ≤ TEXT_LIMIT }
+    requires sound { result_err (wechsler_pattern text.now) ≡ None }
+    ensures pattern { IfOk result (λ read. wechsler_pattern text.now ≡ Ok read) }
+    ensures memory { IfErr result (λ error. error ≡ Memory) }
+{
+    let cells = cells_in(alloc, text)?;
+    match Pattern::from_cells(alloc, &cells) {
+        Ok(pattern) => Ok(pattern),
+        Err(FromCellsError::Memory) => Err(WechslerError::Memory),
+        Err(FromCellsError::OutOfPlane { .. }) => unreachable!(),
+    }
+}
+
+/// The cells of a text, column by column.
+#[tactic(auto, using(crate::proofs::TokenReading::shorter))]
+fn cells_in(alloc: Global, text: &[u8]) -> Result<Vec<Cell>, AllocError>
+    requires { length text.now ≤ TEXT_LIMIT }
+    ensures { (tokens : List Token) → Spells tokens text.now
+        → IfOk result (λ cells. cells.items ≡ cells_from 0 0 tokens) }
+{
+    let mut cells = Vec::new(alloc);
+    let mut head = Head { strip: 0, x: 0 };
+    let mut rest = text;
+    while let Some((token, more)) = first_token(rest) {
+        head = push_token(&mut cells, head, token)?;
+        rest = more;
+    }
+    Ok(cells)
+}
+
 /// Where the next column of a text stands.
 #[derive(Clone, Copy)]
 struct Head {
@@ -176,43 +193,7 @@ struct Head {
     x: u32,
 }
 
-/// Whether the cell of a column that counts 2 to the power i is alive.
-fn is_lit(value: u8, i: u32) -> bool
-    requires { i < 5 }
-    ensures { result ≡ is_lit value i }
-{
-    (value >> i) % 2 == 1
-}
-
-/// The cell in row i of the strip.
-fn cell_of(head: Head, i: u32) -> Cell
-    requires strip { head.strip ≤ TEXT_LIMIT }
-    requires column { head.x ≤ 39 * TEXT_LIMIT }
-    requires row { i < 5 }
-    ensures { result ≡ cell_at (pos head.x) (pos (5 * head.strip + i)) }
-{
-    Cell {
-        y: (5 * head.strip + i) as i32,
-        x: head.x as i32,
-    }
-}
-
-/// Adds the cells of a column.
-#[tactic(auto, using(crate::proofs::ReaderCells::lit))]
-fn push_column(cells: &mut Vec<Cell>, head: Head, value: u8) -> Result<(), AllocError>
-    requires strip { head.strip ≤ TEXT_LIMIT }
-    requires column { head.x ≤ 39 * TEXT_LIMIT }
-    ensures { OnOk result (cells.new.items ≡ cells.old.items ++ lit_cells head.strip head.x value) }
-{
-    for i in 0..5 {
-        if is_lit(value, i) {
-            cells.push(cell_of(head, i))?;
-        }
-    }
-    Ok(())
-}
-
-/// Adds the cells of a token, and says where the column behind it stands.
+/// Adds the cells of a token. The answer is where the next column stands.
 fn push_token(cells: &mut Vec<Cell>, head: Head, token: Token) -> Result<Head, AllocError>
     requires strip { head.strip ≤ TEXT_LIMIT }
     requires column { head.x ≤ 39 * TEXT_LIMIT }
@@ -242,96 +223,120 @@ fn push_token(cells: &mut Vec<Cell>, head: Head, token: Token) -> Result<Head, A
     }
 }
 
-/// The cells of a text, column by column.
-#[tactic(auto, using(crate::proofs::ReadingLemmas::shorter))]
-fn cells_in(alloc: Global, text: &[u8]) -> Result<Vec<Cell>, AllocError>
-    requires { length text.now ≤ TEXT_LIMIT }
-    ensures { (tokens : List Token) → Spells tokens text.now
-        → IfOk result (λ cells. cells.items ≡ cells_from 0 0 tokens) }
+/// Adds the cells of a column.
+#[tactic(auto, using(crate::proofs::ReaderCells::lit))]
+fn push_column(cells: &mut Vec<Cell>, head: Head, value: u8) -> Result<(), AllocError>
+    requires strip { head.strip ≤ TEXT_LIMIT }
+    requires column { head.x ≤ 39 * TEXT_LIMIT }
+    ensures { OnOk result (cells.new.items ≡ cells.old.items ++ lit_cells head.strip head.x value) }
 {
-    let mut cells = Vec::new(alloc);
-    let mut head = Head { strip: 0, x: 0 };
-    let mut rest = text;
-    while let Some((token, behind)) = first_token(rest) {
-        head = push_token(&mut cells, head, token)?;
-        rest = behind;
+    for i in 0..5 {
+        if is_lit(value, i) {
+            cells.push(cell_of(head, i))?;
+        }
     }
-    Ok(cells)
+    Ok(())
 }
 
-/// The pattern of a text that has no fault.
-///
-/// # Errors
-///
-/// `Memory` alone.
-fn pattern_in(alloc: Global, text: &[u8]) -> Result<Pattern, WechslerError>
-    requires short { length text.now ≤ TEXT_LIMIT }
-    requires sound { result_err (wechsler_pattern text.now) ≡ None }
-    ensures pattern { IfOk result (λ read. wechsler_pattern text.now ≡ Ok read) }
-    ensures memory { IfErr result (λ error. error ≡ Memory) }
+/// The cell in row i of the strip.
+fn cell_of(head: Head, i: u32) -> Cell
+    requires strip { head.strip ≤ TEXT_LIMIT }
+    requires column { head.x ≤ 39 * TEXT_LIMIT }
+    requires row { i < 5 }
+    ensures { result ≡ cell_at (pos head.x) (pos (5 * head.strip + i)) }
 {
-    let cells = cells_in(alloc, text)?;
-    match Pattern::from_cells(alloc, &cells) {
-        Ok(pattern) => Ok(pattern),
-        Err(FromCellsError::Memory) => Err(WechslerError::Memory),
-        Err(FromCellsError::OutOfPlane { .. }) => unreachable!(),
+    Cell {
+        y: (5 * head.strip + i) as i32,
+        x: head.x as i32,
     }
 }
 
-/// The pattern of a text.
-fn read(alloc: Global, text: &[u8]) -> Result<Pattern, WechslerError>
-    ensures pattern { IfOk result (λ read. wechsler_read text.now ≡ Ok read) }
-    ensures fault { (fault : WechslerFault) →
-        IsErrOf result (WechslerError.Fault fault) ↔ (wechsler_read text.now ≡ Err fault) }
+/// Whether the cell of a column that counts 2 to the power i is alive.
+fn is_lit(value: u8, i: u32) -> bool
+    requires { i < 5 }
+    ensures { result ≡ is_lit value i }
 {
-    if text.len() > TEXT_LIMIT {
-        return Err(WechslerError::Fault(WechslerFault::TooLong));
-    }
-    if let Some(fault) = fault_in(text) {
-        return Err(WechslerError::Fault(fault));
-    }
-    pattern_in(alloc, text)
+    (value >> i) % 2 == 1
 }
 
-/// Reads a pattern in extended Wechsler format (LifeWiki, "Apgcode").
-///
-/// The text is cut at each `z` into strips of five rows, from the top. The characters `0` to `9` and `a` to `v` are
-/// the next column of a strip, from the left, whose cells count 1, 2, 4, 8 and 16 from the top; `w`, `x` and `y`
-/// stand for two empty columns, for three, and for four and the value of the character behind the `y`. Texts that
-/// are never written are read too: with zeros at a strip's end, several runs of empty columns in a row, and empty
-/// strips. The cells keep their place, of which the top left of the first strip is (0, 0).
-///
-/// # Errors
-///
-/// [`WechslerError::Fault`], whether there is memory or not: `TooLong` first, then of `BadByte` and `ShortRun` the first
-/// from the left, and `Empty` where there is neither. [`WechslerError::Memory`] where memory runs out.
-pub fn read_wechsler(alloc: Global, text: &str) -> Result<Pattern, WechslerError>
-    ensures pattern { IfOk result (λ read. wechsler_read text.now ≡ Ok read) }
-    ensures fault { (fault : WechslerFault) →
-        IsErrOf result (WechslerError.Fault fault) ↔ (wechsler_read text.now ≡ Err fault) }
-
-    // What is read is what the text says, and each pattern that a text says is read.
-    ensures says { IfOk result (Says text.now) }
-    ensures complete { (cells : List Cell) → Says text.now cells → cells ≢ [] → length text.now ≤ TEXT_LIMIT
-        → MatchResult result (λ read. read ≡ cells) (λ error. error ≡ Memory) }
-
-    // Which fault it is.
-    ensures too_long { IsErrOf result (WechslerError.Fault TooLong) ↔ (TEXT_LIMIT < length text.now) }
-    ensures bad_byte { (place : ℕ) → length text.now ≤ TEXT_LIMIT →
-        (IsErrOf result (WechslerError.Fault (BadByte place)) ↔ IsBadByte text.now place) }
-    ensures short_run { (place : ℕ) → length text.now ≤ TEXT_LIMIT →
-        (IsErrOf result (WechslerError.Fault (ShortRun place)) ↔ IsShortRun text.now place) }
-    ensures empty { length text.now ≤ TEXT_LIMIT →
-        (IsErrOf result (WechslerError.Fault Empty) ↔ Says text.now []) }
+/// The first token of a text, and the rest of the text. There is none if the text is empty or begins with a fault.
+#[tactic(auto, using(crate::proofs::TokenReading::Begins_long_gap))]
+fn first_token(text: &[u8]) -> Option<(Token, &[u8])>
+    ensures token { IfSome result (λ first. Begins text.now first.0 first.1.now) }
+    ensures none { IfNone result (IsStuck text.now) }
 {
-    read(alloc, text.as_bytes())
+    let (byte, rest) = text.split_first()?;
+    if !is_character(*byte) {
+        return None;
+    }
+    if *byte != MANY_EMPTY {
+        return Some((single(*byte), rest));
+    }
+    let (length, rest) = rest.split_first()?;
+    if !is_character(*length) {
+        return None;
+    }
+    Some((Token::Gap(character_value(*length) + 4), rest))
 }
 
-/// A law of all patterns: the text of a pattern is read again, as the pattern moved to the corner.
-#[tactic(auto, using(crate::proofs::RoundTrip::texts_are_read))]
-pub fn texts_are_read()
-    ensures { TextsAreRead }
-{}
+/// Whether a token is a column with a live cell.
+fn is_column(token: Token) -> bool
+    ensures { result ≡ is_column token }
+{
+    matches!(token, Token::Column(_))
+}
+
+/// A run of one empty column.
+const ONE_EMPTY: u8 = b'0';
+
+/// A run of two empty columns.
+const TWO_EMPTY: u8 = b'w';
+
+/// A run of three empty columns.
+const THREE_EMPTY: u8 = b'x';
+
+/// A run of 4 to 39 empty columns, by the character after it.
+const MANY_EMPTY: u8 = b'y';
+
+/// The end of a strip.
+const STRIP_END: u8 = b'z';
+
+/// The token of a character other than `y`.
+#[tactic(auto, unfolding(crate::specs::Reading::single))]
+fn single(byte: u8) -> Token
+    requires { is_character byte ≡ true }
+    ensures { result ≡ single byte }
+{
+    match byte {
+        ONE_EMPTY => Token::Gap(1),
+        TWO_EMPTY => Token::Gap(2),
+        THREE_EMPTY => Token::Gap(3),
+        STRIP_END => Token::NextStrip,
+        _ => Token::Column(character_value(byte)),
+    }
+}
+
+/// Whether a byte is one of `0` to `9` and `a` to `z`.
+#[tactic(auto, unfolding(crate::specs::Tokens::is_character))]
+fn is_character(byte: u8) -> bool
+    ensures { result ≡ is_character byte }
+{
+    byte.is_ascii_digit() || byte.is_ascii_lowercase()
+}
+
+/// The value of a character, 0 to 35.
+#[tactic(auto, unfolding(crate::specs::Tokens::is_character, crate::specs::Reading::character_value))]
+fn character_value(byte: u8) -> u8
+    requires { is_character byte ≡ true }
+    ensures value { result ≡ character_value byte }
+    ensures bound { result ≤ 35 }
+{
+    if byte.is_ascii_digit() {
+        byte - b'0'
+    } else {
+        byte - b'a' + 10
+    }
+}
 
 #[cfg(test)]
 mod tests;

@@ -1,34 +1,51 @@
-ghost use Rattle.std.specs.Prelude.{◌≡◌, ◌+◌, ◌<◌, ◌≤◌, ◌++◌, ◌∷◌, [], ◌+ℤ◌, pos, Some, IfOk, OnOk, flat_map, option_map, replicate, unsigned_abs, if◌then◌else◌, ◌==◌};
+//! A pattern becomes a text strip by strip from the top, and in a strip column by column from the left. Each cell of a
+//! column has a weight, and the sum of the weights of the live cells is the column's value.
+//!
+//! ```text
+//! weight
+//!    1     O...O
+//!    2     O....     column 0 has 1 + 2 = 3, three columns are empty, column 4 has 1:    3x1
+//!    4     .....
+//!    8     .....
+//!   16     .....
+//!          -----     the next strip:                                                     z
+//!    1     ..O..     two columns are empty, column 2 has 1, and the rest is left out:    w1
+//! ```
+//!
+//! So this pattern's text is `3x1zw1`. A column with a live cell is written together with the run of empty columns
+//! before it, and so nothing is written of a run that ends a strip.
+
+ghost use Rattle.std.specs.Prelude.{◌≡◌, ◌+◌, ◌<◌, ◌≤◌, ◌++◌, ◌∷◌, [], pos, Some, IfOk, OnOk, flat_map, option_map, replicate, if◌then◌else◌, ◌==◌};
 ghost use Rattle.std.specs.String.{string_bytes};
 ghost use Rattle.plane_core.specs.Bounds.{at_corner, box_of};
 ghost use Rattle.plane_core.specs.Cells.{cell_at, distance, has};
-ghost use Rattle.plane_core.specs.declared.cell.TheConstants.{BOUND};
 ghost use Rattle.code_core.specs.Columns.{column};
-ghost use Rattle.code_core.specs.Texts.{TextsAreShort, TextsSpellPatterns, is_small, strip, strip_tokens, text, tokens_of};
+ghost use Rattle.code_core.specs.Texts.{TextsHaveTheirShape, TextsSpellPatterns, is_small, strip, strip_tokens, text, tokens_of};
 ghost use Rattle.code_core.specs.Tokens.{character, gap_text, spelling};
 
 use plane_core::bounds::Bounds;
+use plane_core::coordinate::along;
 use plane_core::pattern::Pattern;
 use std::alloc::{AllocError, Global};
 
-/// How wide, and how high, the box of a pattern with a text may be at most.
+/// The most columns, and the most rows, that the box of a pattern with a text may have.
 pub const SIDE_LIMIT: u32 = 40;
 
 /// How many rows a strip has.
 const STRIP: u32 = 5;
 
-/// The text of a pattern in extended Wechsler format (LifeWiki, "Apgcode"). It is `None` where the pattern is empty or
-/// its least box is over 40 wide or high.
+/// The text of a pattern in extended Wechsler format (LifeWiki, "Apgcode"), or `None` if the pattern is empty or its
+/// least box has over 40 columns or over 40 rows. Where the pattern lies makes no difference.
 ///
 /// The box is cut from the top into strips of five rows, and `z` stands between the texts of two strips. A strip is
-/// read column by column from the left. A column with a live cell is one of `0` to `9` and `a` to `v` by its value, to
-/// which the top cell adds 1 and those below it 2, 4, 8 and 16. A run of columns without one is `0`, `w` or `x` where
-/// it is 1, 2 or 3 long, and else `y` with one of `0` to `9` and `a` to `z` for what its length is over 4; at a
-/// strip's end it is left out.
+/// written column by column from the left. A column with a live cell is one character, `1` to `9` or `a` to `v`, for
+/// its value 1 to 31, to which the top cell adds 1 and those below it 2, 4, 8 and 16. A run of empty columns is left
+/// out at a strip's end. Elsewhere it is `0`, `w` or `x` for 1, 2 or 3 columns, and for more `y` and then `0` to `9`
+/// for 4 to 13 columns or `a` to `z` for 14 to 39.
 ///
 /// # Errors
 ///
-/// `AllocError` where memory is wanting.
+/// [`AllocError`] if there is no memory.
 #[tactic(auto, unfolding(crate::specs::Texts::text))]
 pub fn wechsler(alloc: Global, pattern: &Pattern) -> Result<Option<String>, AllocError>
     ensures { IfOk result (λ found. option_map string_bytes found ≡ text pattern.now) }
@@ -42,12 +59,12 @@ pub fn wechsler(alloc: Global, pattern: &Pattern) -> Result<Option<String>, Allo
     Ok(Some(text_in(alloc, pattern, bounds)?))
 }
 
-/// The laws of the texts of all patterns: each is that of tokens whose cells are the pattern, moved to the corner, with
-/// each run of empty columns in one piece and none at a strip's end; and none has over 10,000 bytes.
-#[tactic(auto, using(crate::proofs::TextLaw::texts_spell_patterns, crate::proofs::TextLaw::texts_are_short))]
+/// The laws of the texts of all patterns: each is spelled by tokens whose cells are the pattern, moved to the corner, with
+/// each run of empty columns in one piece and none at a strip's end; and it has at most 327 bytes, each one of `0` to
+/// `9` and `a` to `z`.
 pub fn texts_spell_patterns()
     ensures spell { TextsSpellPatterns }
-    ensures short { TextsAreShort }
+    ensures shape { TextsHaveTheirShape }
 {}
 
 /// The number of the box's last column, counted from 0.
@@ -64,6 +81,7 @@ fn last_row(bounds: Bounds) -> u32
     bounds.top.abs_diff(bounds.bottom)
 }
 
+/// Whether the box is small enough for a text.
 fn is_small(bounds: Bounds) -> bool
     ensures { result ≡ is_small bounds }
 {
@@ -114,7 +132,7 @@ fn push_strip(
     Ok(())
 }
 
-/// Adds a column with a live cell, and before it so many without one.
+/// Adds a run of so many empty columns and then a column with a live cell.
 fn push_column(text: &mut String, gap: u8, value: u8) -> Result<(), AllocError>
     requires gap { gap ≤ 39 }
     requires least { 1 ≤ value }
@@ -126,7 +144,7 @@ fn push_column(text: &mut String, gap: u8, value: u8) -> Result<(), AllocError>
     push_character(text, value)
 }
 
-/// Adds a run of columns without a live cell, if there is one.
+/// Adds a run of empty columns, if there is one.
 #[tactic(auto, unfolding(crate::specs::Tokens::gap_text))]
 fn push_gap(text: &mut String, gap: u8) -> Result<(), AllocError>
     requires { gap ≤ 39 }
@@ -194,15 +212,6 @@ fn one_at(pattern: &Pattern, bounds: Bounds, x: u32, y: u32) -> u8
     // What it ensures: the pattern, and so its box, lies on the plane.
     let _cells = pattern.cells();
     u8::from(pattern.has(along(bounds.left, x), along(bounds.top, y)))
-}
-
-/// The coordinate so many cells on.
-fn along(from: i32, cells: u32) -> i32
-    requires from { unsigned_abs from ≤ BOUND }
-    requires cells { cells < SIDE_LIMIT }
-    ensures { result ≡ from +ℤ pos cells }
-{
-    from + cells as i32
 }
 
 #[cfg(test)]

@@ -1,17 +1,19 @@
 -- The next generation, cell by cell.
-use Rattle.std.proofs.Common.{◌≡◌, ◌==◌, ℕ, ℤ, pos, negsuc, ◌+ℤ◌, ◌+◌, ◌<◌, ◌≤◌, zero, suc, Bool, true, false, ◌||◌, ◌&&◌, List, [], ◌∷◌, ◌++◌, arith, cond, refl, ap, ◌∙◌, sym, subst, inl, inr, ◌⊎◌, map, filter, add-zero, add-one, zero-add, unsigned_abs, leb, eqb}
+use Rattle.std.proofs.Common.{◌≡◌, ◌==◌, ℕ, ℤ, pos, negsuc, ◌+ℤ◌, ◌-ℤ◌, ◌≤ℤ◌, ◌+◌, ◌<◌, ◌≤◌, zero, suc, Bool, true, false, ◌||◌, ◌&&◌, List, [], ◌∷◌, ◌++◌, arith, cond, refl, ap, ◌∙◌, sym, subst, inl, inr, ◌⊎◌, map, filter, add-zero, add-one, zero-add, unsigned_abs, leb, eqb}
 use Rattle.std.specs.List.{flat_map}
 use Rattle.std.proofs.lemmas.Int.{ints}
+use Rattle.std.proofs.lemmas.List.Elements.{All-from_recursion, recursion_from_All}
 use Rattle.std.proofs.lemmas.Bool.{false≢true, eqb-true, eqb-false, leb-true, le-leb, ne_eqb, and_parts, and_from}
 use Rattle.plane_core.specs.declared.cell.Cell.{Cell}
-use Rattle.plane_core.specs.declared.cell.TheConstants.{BOUND}
 use Rattle.plane_core.specs.declared.tally.Tally.{Tally}
-use Rattle.plane_core.specs.Cells.{cell_at, same_cell, king_distance, distance, moved_by, has, set_of, InOrder, is_within, on_plane, on_edge, IsPattern}
-use Rattle.plane_core.specs.Generations.{around, lives, triple, block, next, after, touches_edge, lies_within, SpeedOfLight}
+use Rattle.plane_core.specs.Cells.{plane_bound, cell_at, same_cell, king_distance, distance, moved_by, has, set_of, InOrder, is_within, on_plane, on_edge, IsPattern}
+use Rattle.plane_core.specs.Generations.{around, lives, triple, block, next, after, touches_edge, lies_within, SpeedFromOrigin, SpeedOfLight}
+use Rattle.plane_core.specs.declared.bounds.Bounds.{Bounds}
+use Rattle.plane_core.specs.Bounds.{IsWithin, enlarged}
 use Rattle.plane_core.specs.Rules.{Numbers, is_birth, is_survival}
 use Rattle.plane_core.specs.Tallies.{cells_of, total, alive_at, one_of, lives_by, tally_lives, CountsBlocks}
 use Rattle.plane_core.proofs.CellLemmas.{same_cell-same}
-use Rattle.plane_core.proofs.SetLemmas.{IsBefore, has-head, has-append, has-filter, has-set_of, has-before, has-cases, in_order-head, in_order-tail, in_order-cons, in_order-nil, in_order-filter, in_order-set_of, same_lists, or_right}
+use Rattle.plane_core.proofs.SetLemmas.{IsBefore, all-has, has-all, has-head, has-append, has-filter, has-set_of, has-before, has-cases, in_order-head, in_order-tail, in_order-cons, in_order-nil, in_order-filter, in_order-set_of, same_lists, or_right}
 use Rattle.plane_core.proofs.SearchLemmas.{list_all-has, has-list_all}
 use Rattle.plane_core.proofs.BlockLemmas.{near, int_eq-true, still, around-cons}
 
@@ -248,18 +250,18 @@ selected-next rule S ts counts =
 on_plane-beside : (c d : Cell) → king_distance c d ≡ 1 → on_plane d ≡ true → on_edge d ≡ false → on_plane c ≡ true
 unfolding on_plane on_edge
 on_plane-beside c d near on off =
-    let inside = and_parts (leb (unsigned_abs d.x) BOUND) (leb (unsigned_abs d.y) BOUND) on in
-    let inner = or_parts (eqb (unsigned_abs d.x) BOUND) (eqb (unsigned_abs d.y) BOUND) off in
-    and_from (leb (unsigned_abs c.x) BOUND) (leb (unsigned_abs c.y) BOUND)
-    (le-leb (unsigned_abs c.x) BOUND (within c.x d.x (omega arith) (leb-true (unsigned_abs d.x) BOUND inside.0) (eqb-false (unsigned_abs d.x) BOUND inner.0)))
-    (le-leb (unsigned_abs c.y) BOUND (within c.y d.y (omega arith) (leb-true (unsigned_abs d.y) BOUND inside.1) (eqb-false (unsigned_abs d.y) BOUND inner.1)))
+    let inside = and_parts (leb (unsigned_abs d.x) plane_bound) (leb (unsigned_abs d.y) plane_bound) on in
+    let inner = or_parts (eqb (unsigned_abs d.x) plane_bound) (eqb (unsigned_abs d.y) plane_bound) off in
+    and_from (leb (unsigned_abs c.x) plane_bound) (leb (unsigned_abs c.y) plane_bound)
+    (le-leb (unsigned_abs c.x) plane_bound (within c.x d.x (omega arith) (leb-true (unsigned_abs d.x) plane_bound inside.0) (eqb-false (unsigned_abs d.x) plane_bound inner.0)))
+    (le-leb (unsigned_abs c.y) plane_bound (within c.y d.y (omega arith) (leb-true (unsigned_abs d.y) plane_bound inside.1) (eqb-false (unsigned_abs d.y) plane_bound inner.1)))
   where
     or_parts : (a b : Bool) → (a || b) ≡ false → (a ≡ false) × (b ≡ false)
     or_parts true b e = absurd (false≢true (sym e))
     or_parts false b e = (refl, e)
 
-    within : (a b : ℤ) → distance a b ≤ 1 → unsigned_abs b ≤ BOUND → (unsigned_abs b ≡ BOUND → ⊥) → unsigned_abs a ≤ BOUND
-    within a b h k apart = let less : unsigned_abs b < BOUND = omega arith in omega (arith, ints)
+    within : (a b : ℤ) → distance a b ≤ 1 → unsigned_abs b ≤ plane_bound → (unsigned_abs b ≡ plane_bound → ⊥) → unsigned_abs a ≤ plane_bound
+    within a b h k apart = let less : unsigned_abs b < plane_bound = omega arith in omega (arith, ints)
 
 not_touching : (S : List Cell) (d : Cell) → touches_edge S ≡ false → has S d ≡ true → on_edge d ≡ false
 not_touching [] d none h = absurd (false≢true h)
@@ -319,24 +321,60 @@ within-after rule S n (suc g) h =
     let before = within-next rule (after rule S g) (n + g) (within-after rule S n g h) in
     subst (λ (T : List Cell). lies_within (n + suc g) T ≡ true) (sym (after-suc rule S g)) (subst (λ (m : ℕ). lies_within m (next rule (after rule S g)) ≡ true) (omega arith) before)
 
-pub speed_of_light_law : SpeedOfLight
-speed_of_light_law rule S n g h = within-after rule S n g h
+pub speed_from_origin : SpeedFromOrigin
+speed_from_origin = within-after
 
-off_edge : (c : Cell) (n : ℕ) → n < BOUND → is_within n c ≡ true → on_edge c ≡ false
+-- a neighbour of a cell in a box lies in the box with one column and row more on each side
+boxed-beside : (b : Bounds) (g : ℕ) (c d : Cell) → king_distance c d ≤ 1 → IsWithin (enlarged g b) d → IsWithin (enlarged (suc g) b) c
+boxed-beside b g c d near h = record {
+  left = low b.left d.x c.x (omega arith) h.left;
+  top = low b.top d.y c.y (omega arith) h.top;
+  right = high b.right d.x c.x (omega arith) h.right;
+  bottom = high b.bottom d.y c.y (omega arith) h.bottom;
+}
+  where
+    low : (l a e : ℤ) → distance e a ≤ 1 → (l -ℤ pos g) ≤ℤ a → (l -ℤ pos (suc g)) ≤ℤ e
+    low l a e k m = omega (arith, ints)
+
+    high : (r a e : ℤ) → distance e a ≤ 1 → a ≤ℤ (r +ℤ pos g) → e ≤ℤ (r +ℤ pos (suc g))
+    high r a e k m = omega (arith, ints)
+
+boxed-none : (b : Bounds) (c : Cell) → IsWithin b c → IsWithin (enlarged 0 b) c
+boxed-none b c h = record { left = low b.left c.x h.left; top = low b.top c.y h.top; right = high b.right c.x h.right; bottom = high b.bottom c.y h.bottom }
+  where
+    low : (l a : ℤ) → l ≤ℤ a → (l -ℤ pos 0) ≤ℤ a
+    low l a m = omega (arith, ints)
+
+    high : (r a : ℤ) → a ≤ℤ r → a ≤ℤ (r +ℤ pos 0)
+    high r a m = omega (arith, ints)
+
+boxed-after : (rule : Numbers) (S : List Cell) (b : Bounds) (g : ℕ) → ((c : Cell) → has S c ≡ true → IsWithin b c) → (c : Cell) → has (after rule S g) c ≡ true → IsWithin (enlarged g b) c
+boxed-after rule S b zero h c e = boxed-none b c (h c (subst (λ (T : List Cell). has T c ≡ true) (after-none rule S) e))
+boxed-after rule S b (suc g) h c e = go (boxed-after rule S b g h) (lives_cases rule (after rule S g) c (sym (has-next rule (after rule S g) c) ∙ subst (λ (T : List Cell). has T c ≡ true) (after-suc rule S g) e))
+  where
+    go : ((d : Cell) → has (after rule S g) d ≡ true → IsWithin (enlarged g b) d) → (has (after rule S g) c ≡ true) ⊎ (0 < around (after rule S g) c) → IsWithin (enlarged (suc g) b) c
+    go ih (inl alive) = boxed-beside b g c c (omega (arith, distance_itself c.x, distance_itself c.y)) (ih c alive)
+    go ih (inr beside) = let d = a_neighbour (after rule S g) c beside in boxed-beside b g c d.0 (omega (arith, d.2)) (ih d.0 d.1)
+
+pub speed_of_light_law : SpeedOfLight
+speed_of_light_law rule S b g h =
+    All-from_recursion (IsWithin (enlarged g b)) (after rule S g) (all-has (IsWithin (enlarged g b)) (after rule S g) (boxed-after rule S b g (λ c e. has-all (IsWithin b) S c (recursion_from_All (IsWithin b) S h) e)))
+
+off_edge : (c : Cell) (n : ℕ) → n < plane_bound → is_within n c ≡ true → on_edge c ≡ false
 unfolding on_edge
 off_edge c n low h =
     let parts = and_parts (leb (unsigned_abs c.x) n) (leb (unsigned_abs c.y) n) h in
     let x : unsigned_abs c.x ≤ n = leb-true (unsigned_abs c.x) n parts.0 in
     let y : unsigned_abs c.y ≤ n = leb-true (unsigned_abs c.y) n parts.1 in
-    rw (ne_eqb (unsigned_abs c.x) BOUND (λ e. absurd (omega arith)), ne_eqb (unsigned_abs c.y) BOUND (λ e. absurd (omega arith))) refl
+    rw (ne_eqb (unsigned_abs c.x) plane_bound (λ e. absurd (omega arith)), ne_eqb (unsigned_abs c.y) plane_bound (λ e. absurd (omega arith))) refl
 
 -- a pattern that lies inside the edge doesn't touch it
-pub inside_edge : (S : List Cell) (n : ℕ) → n < BOUND → lies_within n S ≡ true → touches_edge S ≡ false
+pub inside_edge : (S : List Cell) (n : ℕ) → n < plane_bound → lies_within n S ≡ true → touches_edge S ≡ false
 inside_edge [] n low h = refl
 inside_edge (c ∷ cs) n low h =
     let parts = and_parts (is_within n c) (lies_within n cs) h in
     rw (off_edge c n low parts.0, inside_edge cs n low parts.1) refl
 
 -- a run stays off the edge as long as a pattern that far in must
-pub run_inside : (rule : Numbers) (S : List Cell) (reach g n : ℕ) → lies_within reach S ≡ true → reach + n ≤ BOUND → g < n → touches_edge (after rule S g) ≡ false
+pub run_inside : (rule : Numbers) (S : List Cell) (reach g n : ℕ) → lies_within reach S ≡ true → reach + n ≤ plane_bound → g < n → touches_edge (after rule S g) ≡ false
 run_inside rule S reach g n h far low = inside_edge (after rule S g) (reach + g) (omega arith) (within-after rule S reach g h)

@@ -5,9 +5,8 @@ use Rattle.std.specs.Ordering.{int_cmp, is_eq, ordering_then}
 use Rattle.std.proofs.lemmas.Int.{ints}
 use Rattle.std.proofs.lemmas.Bool.{and_parts, and_from, leb-true, le-leb}
 use Rattle.plane_core.specs.declared.cell.Cell.{Cell}
-use Rattle.plane_core.specs.declared.cell.TheConstants.{BOUND}
 use Rattle.plane_core.specs.declared.tally.Tally.{Tally}
-use Rattle.plane_core.specs.Cells.{moved_by, has, InOrder, on_plane, near_plane}
+use Rattle.plane_core.specs.Cells.{plane_bound, moved_by, has, InOrder, on_plane, near_plane}
 use Rattle.plane_core.specs.Generations.{around}
 use Rattle.plane_core.specs.Tallies.{cells_of, total, one_of, moved_tally, IsMerged, AddsNeighbours, CountsBlocks}
 use Rattle.plane_core.proofs.CellLemmas.{cell_cmp-moved}
@@ -44,20 +43,20 @@ in_order-moved dx dy (t ∷ ts) o = in_order-cons (moved_by dx dy t.cell) (cells
 on_then_near : (c : Cell) → on_plane c ≡ true → near_plane c ≡ true
 unfolding on_plane near_plane
 on_then_near c h =
-    let parts = and_parts (leb (unsigned_abs c.x) BOUND) (leb (unsigned_abs c.y) BOUND) h in
-    and_from (leb (unsigned_abs c.x) (BOUND + 1)) (leb (unsigned_abs c.y) (BOUND + 1))
-    (le-leb (unsigned_abs c.x) (BOUND + 1) (let x = leb-true (unsigned_abs c.x) BOUND parts.0 in omega arith))
-    (le-leb (unsigned_abs c.y) (BOUND + 1) (let y = leb-true (unsigned_abs c.y) BOUND parts.1 in omega arith))
+    let parts = and_parts (leb (unsigned_abs c.x) plane_bound) (leb (unsigned_abs c.y) plane_bound) h in
+    and_from (leb (unsigned_abs c.x) (plane_bound + 1)) (leb (unsigned_abs c.y) (plane_bound + 1))
+    (le-leb (unsigned_abs c.x) (plane_bound + 1) (let x = leb-true (unsigned_abs c.x) plane_bound parts.0 in omega arith))
+    (le-leb (unsigned_abs c.y) (plane_bound + 1) (let y = leb-true (unsigned_abs c.y) plane_bound parts.1 in omega arith))
 
 moved_then_near : (dx dy : ℤ) (c : Cell) → unsigned_abs dx ≤ 1 → unsigned_abs dy ≤ 1 → on_plane c ≡ true → near_plane (moved_by dx dy c) ≡ true
 unfolding on_plane near_plane
 moved_then_near dx dy c u v h =
-    let parts = and_parts (leb (unsigned_abs c.x) BOUND) (leb (unsigned_abs c.y) BOUND) h in
-    and_from (leb (unsigned_abs (c.x +ℤ dx)) (BOUND + 1)) (leb (unsigned_abs (c.y +ℤ dy)) (BOUND + 1))
-    (le-leb (unsigned_abs (c.x +ℤ dx)) (BOUND + 1) (step c.x dx (leb-true (unsigned_abs c.x) BOUND parts.0) u))
-    (le-leb (unsigned_abs (c.y +ℤ dy)) (BOUND + 1) (step c.y dy (leb-true (unsigned_abs c.y) BOUND parts.1) v))
+    let parts = and_parts (leb (unsigned_abs c.x) plane_bound) (leb (unsigned_abs c.y) plane_bound) h in
+    and_from (leb (unsigned_abs (c.x +ℤ dx)) (plane_bound + 1)) (leb (unsigned_abs (c.y +ℤ dy)) (plane_bound + 1))
+    (le-leb (unsigned_abs (c.x +ℤ dx)) (plane_bound + 1) (step c.x dx (leb-true (unsigned_abs c.x) plane_bound parts.0) u))
+    (le-leb (unsigned_abs (c.y +ℤ dy)) (plane_bound + 1) (step c.y dy (leb-true (unsigned_abs c.y) plane_bound parts.1) v))
   where
-    step : (a d : ℤ) → unsigned_abs a ≤ BOUND → unsigned_abs d ≤ 1 → unsigned_abs (a +ℤ d) ≤ BOUND + 1
+    step : (a d : ℤ) → unsigned_abs a ≤ plane_bound → unsigned_abs d ≤ 1 → unsigned_abs (a +ℤ d) ≤ plane_bound + 1
     step a d h k = omega (arith, ints)
 
 pub all_near : (cs : List Cell) → list_all on_plane cs ≡ true → list_all near_plane cs ≡ true

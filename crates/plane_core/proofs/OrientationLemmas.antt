@@ -1,5 +1,5 @@
 -- The orientations are the group of the square, and they commute with moving and with the next generation.
-use Rattle.std.proofs.Common.{◌≡◌, ℤ, ◌+ℤ◌, neg_ℤ, Bool, true, false, ◌||◌, List, [], ◌∷◌, arith, refl, ap, ◌∙◌, sym, subst, inl, inr, ◌⊎◌, map, Option, Some, None}
+use Rattle.std.proofs.Common.{◌≡◌, ℤ, pos, cond, ◌+ℤ◌, neg_ℤ, Bool, true, false, ◌||◌, List, [], ◌∷◌, arith, refl, ap, ◌∙◌, sym, subst, inl, inr, ◌⊎◌, map, Option, Some, None}
 use Rattle.std.specs.Int.{int_min, int_max}
 use Rattle.std.specs.Cmp.{both_ways as both_true}
 use Rattle.std.proofs.lemmas.Int.{ints, clamps}
@@ -10,7 +10,7 @@ use Rattle.plane_core.specs.declared.orientation.Orientation.{Orientation}
 use Rattle.plane_core.specs.declared.orientation.Orientation.TheVariants.{Same, Quarter, Half, ThreeQuarter, Mirror, Flip, Diagonal, AntiDiagonal}
 use Rattle.plane_core.specs.Bounds.{box_of, grown, shifted, at_corner, cornered}
 use Rattle.plane_core.specs.Cells.{cell_at, same_cell, moved_by, has, set_of}
-use Rattle.plane_core.specs.Orientations.{turned_cell, image, turned, quarter_after, mirror_after, product, TurningTwice, TurningBack, TurningMoved}
+use Rattle.plane_core.specs.Orientations.{orientations, turned_cell, image, turned, quarter_after, mirror_after, product, OrientationsDiffer, ProductAssociates, SameIsIdentity, TurningTwice, TurningBack, TurningMoved}
 use Rattle.plane_core.proofs.SetLemmas.{same_lists, in_order-set_of, has-set_of, has-head, has-cases, or_right}
 use Rattle.plane_core.proofs.TurnLemmas.{set_of-moved}
 
@@ -97,6 +97,52 @@ product-cell a Mirror c = mirror-cell a c
 product-cell a AntiDiagonal c = ap (turned_cell Quarter) (mirror-cell a c) ∙ quarter-cell (mirror_after a) c
 product-cell a Flip c = (λ i. cell_at (sym (back (turned_cell a c).x) i) (neg_ℤ (turned_cell a c).y)) ∙ ap (λ (d : Cell). turned_cell Quarter (turned_cell Quarter d)) (mirror-cell a c) ∙ twice (mirror_after a) c
 product-cell a Diagonal c = (λ i. cell_at (sym (back (turned_cell a c).y) i) (sym (back (turned_cell a c).x) i)) ∙ ap (λ (d : Cell). turned_cell Quarter (turned_cell Quarter (turned_cell Quarter d))) (mirror-cell a c) ∙ thrice (mirror_after a) c
+
+-- a cell whose eight images differ, and the orientation that takes it to a place
+probe : Cell
+probe = cell_at (pos 1) (pos 2)
+
+seen_among : List Orientation → Cell → Orientation
+seen_among [] c = Same
+seen_among (o ∷ os) c = cond (same_cell c (turned_cell o probe)) o (seen_among os c)
+
+seen : Cell → Orientation
+seen c = seen_among orientations c
+
+seen-turned : (o : Orientation) → seen (turned_cell o probe) ≡ o
+unfolding seen seen_among probe
+seen-turned Same = refl
+seen-turned Quarter = refl
+seen-turned Half = refl
+seen-turned ThreeQuarter = refl
+seen-turned Mirror = refl
+seen-turned Flip = refl
+seen-turned Diagonal = refl
+seen-turned AntiDiagonal = refl
+
+one_probe : (a b : Orientation) → turned_cell a probe ≡ turned_cell b probe → a ≡ b
+one_probe a b same = sym (seen-turned a) ∙ ap seen same ∙ seen-turned b
+
+pub orientations_differ : OrientationsDiffer
+orientations_differ a b same = one_probe a b (same probe)
+
+pub product_associates : ProductAssociates
+product_associates a b c = one_probe (product (product a b) c) (product a (product b c)) (
+    sym (product-cell (product a b) c probe)
+    ∙ ap (turned_cell c) (sym (product-cell a b probe))
+    ∙ product-cell b c (turned_cell a probe)
+    ∙ product-cell a (product b c) probe
+    )
+
+pub same_is_identity : SameIsIdentity
+same_is_identity Same = (refl, refl)
+same_is_identity Quarter = (refl, refl)
+same_is_identity Half = (refl, refl)
+same_is_identity ThreeQuarter = (refl, refl)
+same_is_identity Mirror = (refl, refl)
+same_is_identity Flip = (refl, refl)
+same_is_identity Diagonal = (refl, refl)
+same_is_identity AntiDiagonal = (refl, refl)
 
 -- an image of an image is the image in the product
 pub image-image : (a b : Orientation) (cs : List Cell) → image b (image a cs) ≡ image (product a b) cs

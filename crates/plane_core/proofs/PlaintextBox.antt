@@ -5,10 +5,9 @@ use Rattle.std.specs.Prelude.{unsigned_abs}
 use Rattle.std.proofs.lemmas.Int.{ints, clamps}
 use Rattle.std.proofs.lemmas.Bool.{and_parts, leb-true}
 use Rattle.plane_core.specs.declared.cell.Cell.{Cell}
-use Rattle.plane_core.specs.declared.cell.TheConstants.{BOUND}
 use Rattle.plane_core.specs.declared.bounds.Bounds.{Bounds}
 use Rattle.plane_core.specs.Bounds.{box_of, box_at, grown, widened, IsWithin}
-use Rattle.plane_core.specs.Cells.{IsPattern, on_plane}
+use Rattle.plane_core.specs.Cells.{plane_bound, IsPattern, on_plane}
 use Rattle.plane_core.specs.PlaintextWalk.{IsBox, IsAhead}
 use Rattle.plane_core.proofs.PlaintextOrder.{AllByRecursion-weaker}
 
@@ -35,9 +34,9 @@ all_within c (d ∷ ds) = (widened-first c (least d ds), AllByRecursion-weaker (
 cell_box : (c : Cell) → on_plane c ≡ true → IsBox (box_at c)
 unfolding on_plane
 cell_box c h =
-    let parts = and_parts (nat_le (unsigned_abs c.x) BOUND) (nat_le (unsigned_abs c.y) BOUND) h in
-    let x = leb-true (unsigned_abs c.x) BOUND parts.0 in
-    let y = leb-true (unsigned_abs c.y) BOUND parts.1 in
+    let parts = and_parts (nat_le (unsigned_abs c.x) plane_bound) (nat_le (unsigned_abs c.y) plane_bound) h in
+    let x = leb-true (unsigned_abs c.x) plane_bound parts.0 in
+    let y = leb-true (unsigned_abs c.y) plane_bound parts.1 in
     record { left = omega (arith, ints); top = omega (arith, ints); right = omega (arith, ints); bottom = omega (arith, ints); wide = omega (arith, ints); high = omega (arith, ints) }
 
 wider_box : (c : Cell) (b : Bounds) → IsBox (box_at c) → IsBox b → IsBox (widened c b)

@@ -7,15 +7,14 @@ use Rattle.std.proofs.lemmas.List.Elements.{filter-append, filter_map-append}
 use Rattle.std.proofs.lemmas.List.{drop_more, drop_all, append_assoc, append-nil, map-append}
 use Rattle.plane_core.specs.declared.cell.Cell.{Cell}
 use Rattle.plane_core.specs.declared.plaintext.PlaintextFault.{PlaintextFault}
-use Rattle.plane_core.specs.declared.plaintext.TheConstants.{LINE_FEED, SIDE_LIMIT}
 use Rattle.plane_core.specs.Cells.{cell_at}
 use Rattle.plane_core.specs.Plaintext.{is_live, fault_at, first_fault, live_cells}
-use Rattle.plane_core.specs.PlaintextPlaces.{Place, is_comment, lines_of, rows_of, places_of_row, places}
+use Rattle.plane_core.specs.PlaintextPlaces.{line_feed, side_limit, Place, is_comment, lines_of, rows_of, places_of_row, places}
 use Rattle.plane_core.proofs.PlaintextRows.{row_in_limits, live_cells-line}
 
 -- the text between line feeds
 abbrev pub parts_of : List ℕ → List (List ℕ)
-parts_of text = slice_split (λ b. b == LINE_FEED) text
+parts_of text = slice_split (λ b. b == line_feed) text
 
 -- the places of some lines, of which the first is line n and the first row is row y
 unfoldable pub places_after : ℕ → ℕ → List (List ℕ) → List Place
@@ -90,7 +89,7 @@ no_fault_both n y parts line t e h = neither _ _ (sym (fault_of_rows n y parts l
 pub no_fault_later : (n y : ℕ) (parts : List (List ℕ)) (line : List ℕ) → IsNext parts n line → is_comment (strip_carriage_return line) ≡ false → first_fault (places_after (n + 1) y (drop n parts)) ≡ None → first_fault (places_after (n + 1 + 1) (y + 1) (drop (n + 1) parts)) ≡ None
 no_fault_later n y parts line t e h = (no_fault_both n y parts line t e h).1
 
-pub row_is_small : (n y : ℕ) (parts : List (List ℕ)) (line : List ℕ) → IsNext parts n line → is_comment (strip_carriage_return line) ≡ false → first_fault (places_after (n + 1) y (drop n parts)) ≡ None → (k : ℕ) → k < length (strip_carriage_return line) → (k < SIDE_LIMIT) × (y < SIDE_LIMIT)
+pub row_is_small : (n y : ℕ) (parts : List (List ℕ)) (line : List ℕ) → IsNext parts n line → is_comment (strip_carriage_return line) ≡ false → first_fault (places_after (n + 1) y (drop n parts)) ≡ None → (k : ℕ) → k < length (strip_carriage_return line) → (k < side_limit) × (y < side_limit)
 row_is_small n y parts line t e h k l =
     let s = row_in_limits (n + 1) y 0 (strip_carriage_return line) (no_fault_both n y parts line t e h).0 k l in
     (omega arith, s.1)

@@ -10,10 +10,9 @@ use Rattle.std.proofs.lemmas.Bool.Decides.{nat_tests}
 use Rattle.std.proofs.lemmas.Int.{ints}
 use Rattle.std.proofs.lemmas.List.Kept.{IsStrictlySortedBy-filter}
 use Rattle.plane_core.specs.declared.cell.Cell.{Cell}
-use Rattle.plane_core.specs.declared.plaintext.TheConstants.{SIDE_LIMIT}
 use Rattle.plane_core.specs.Cells.{cell_at, cell_cmp, on_plane, IsPattern}
 use Rattle.plane_core.specs.Plaintext.{is_live, first_fault, live_cells}
-use Rattle.plane_core.specs.PlaintextPlaces.{Place, is_comment, places}
+use Rattle.plane_core.specs.PlaintextPlaces.{side_limit, Place, is_comment, places}
 use Rattle.plane_core.proofs.PlaintextRows.{places_from, first_fault-cons, in_limits}
 use Rattle.plane_core.proofs.PlaintextLines.{parts_of, places_after, places_are, places_after-cons_comment, places_after-cons_row}
 
@@ -92,7 +91,7 @@ lines_in_order n y (line ∷ parts) = by_first_line (IsStrictlySortedBy place_cm
     (λ p h. AllByRecursion-weaker (IsFromRow (y + 1)) (λ q. place_cmp p q ≡ Less) _ (λ q k. below_row p q (omega arith)) (lines_from_row (n + 1) (y + 1) parts))
     (row_in_row n y 0 (strip_carriage_return line))))
 
-cell_on_plane : (p : Place) → (p.x < SIDE_LIMIT) × (p.y < SIDE_LIMIT) → on_plane (cell_of p) ≡ true
+cell_on_plane : (p : Place) → (p.x < side_limit) × (p.y < side_limit) → on_plane (cell_of p) ≡ true
 unfolding on_plane
 cell_on_plane p h = grind (arith, nat_tests)
 

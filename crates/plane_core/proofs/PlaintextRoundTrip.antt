@@ -12,10 +12,9 @@ use Rattle.std.proofs.lemmas.List.Splits.{slice_split_at}
 use lib.Signed.{lt_z}
 use Rattle.plane_core.specs.declared.cell.Cell.{Cell}
 use Rattle.plane_core.specs.declared.bounds.Bounds.{Bounds}
-use Rattle.plane_core.specs.declared.plaintext.TheConstants.{LINE_FEED, SIDE_LIMIT}
 use Rattle.plane_core.specs.Bounds.{box_of, grown, IsWithin, at_corner}
 use Rattle.plane_core.specs.Cells.{cell_at, cell_cmp, same_cell, moved_by, distance, has, InOrder, IsPattern}
-use Rattle.plane_core.specs.PlaintextPlaces.{Place, is_comment, lines_of, rows_of, places}
+use Rattle.plane_core.specs.PlaintextPlaces.{line_feed, side_limit, Place, is_comment, lines_of, rows_of, places}
 use Rattle.plane_core.specs.Plaintext.{byte_of, is_live, fault_at, first_fault, live_cells, cells_unless, pattern, run, span, row_text, box_text, plain, IsSmall}
 use Rattle.plane_core.proofs.SetLemmas.{same_lists, has-append, has-filter, has-head, has-all, in_order-filter, in_order-nil, in_order-cons}
 use Rattle.plane_core.proofs.PlaintextBox.{IsBox-box_of, within-box_of}
@@ -39,9 +38,9 @@ stripped f xs = rw (no_return f xs (length (bytes f xs) - 1)) refl
 no_comment : (f : ℤ → Bool) (x : ℤ) (xs : List ℤ) → is_comment (bytes f (x ∷ xs)) ≡ false
 no_comment f x xs = elim (f x) as (λ v. eqb (byte_of v) 33 ≡ false) [ true ↦ refl | false ↦ refl ]
 
-no_feed : (f : ℤ → Bool) (xs : List ℤ) → All (λ b. eqb b LINE_FEED ≡ false) (bytes f xs)
+no_feed : (f : ℤ → Bool) (xs : List ℤ) → All (λ b. eqb b line_feed ≡ false) (bytes f xs)
 no_feed f [] k d l = absurd (omega arith)
-no_feed f (x ∷ xs) zero d l = elim (f x) as (λ v. eqb (byte_of v) LINE_FEED ≡ false) [ true ↦ refl | false ↦ refl ]
+no_feed f (x ∷ xs) zero d l = elim (f x) as (λ v. eqb (byte_of v) line_feed ≡ false) [ true ↦ refl | false ↦ refl ]
 no_feed f (x ∷ xs) (suc k) d l = no_feed f xs k d (omega arith)
 
 -- one row of a box
@@ -55,7 +54,7 @@ split_rows cells b [] = refl
 split_rows cells b (z ∷ zs) =
     let row = row_bytes cells b z in
     let rest = flat_map (row_text cells b) zs in
-    ap parts_of (append_assoc row (LINE_FEED ∷ []) rest) ∙ slice_split_at (λ b. b == LINE_FEED) row LINE_FEED rest (no_feed (λ x. has cells (cell_at x z)) (span b.left b.right)) refl ∙ ap (λ ps. row ∷ ps) (split_rows cells b zs)
+    ap parts_of (append_assoc row (line_feed ∷ []) rest) ∙ slice_split_at (λ b. b == line_feed) row line_feed rest (no_feed (λ x. has cells (cell_at x z)) (span b.left b.right)) refl ∙ ap (λ ps. row ∷ ps) (split_rows cells b zs)
 
 -- the places of those rows
 abbrev grid_places : List Cell → Bounds → ℕ → ℕ → List ℤ → List Place
@@ -72,17 +71,17 @@ places_of_rows cells b n y (z ∷ zs) =
     let same = stripped f (span b.left b.right) in
     places_after-cons_row n y row rest (ap is_comment same ∙ no_comment f b.left (run (b.left +ℤ pos 1) (distance b.left b.right))) ∙ ap (λ r. places_from n y 0 r ++ places_after (n + 1) (y + 1) rest) same ∙ ap (λ ps. places_from n y 0 row ++ ps) (places_of_rows cells b (n + 1) (y + 1) zs)
 
-no_fault_at : (line y x : ℕ) (v : Bool) → x < SIDE_LIMIT → y < SIDE_LIMIT → fault_at (record { line = line; y = y; x = x; byte = byte_of v }) ≡ None
+no_fault_at : (line y x : ℕ) (v : Bool) → x < side_limit → y < side_limit → fault_at (record { line = line; y = y; x = x; byte = byte_of v }) ≡ None
 unfolding fault_at
-no_fault_at line y x true h k = rw (lt-ltb x SIDE_LIMIT h, lt-ltb y SIDE_LIMIT k) refl
-no_fault_at line y x false h k = rw (lt-ltb x SIDE_LIMIT h, lt-ltb y SIDE_LIMIT k) refl
+no_fault_at line y x true h k = rw (lt-ltb x side_limit h, lt-ltb y side_limit k) refl
+no_fault_at line y x false h k = rw (lt-ltb x side_limit h, lt-ltb y side_limit k) refl
 
-row_no_fault : (f : ℤ → Bool) (line y x : ℕ) (xs : List ℤ) → x + length xs ≤ SIDE_LIMIT → y < SIDE_LIMIT → first_fault (places_from line y x (bytes f xs)) ≡ None
+row_no_fault : (f : ℤ → Bool) (line y x : ℕ) (xs : List ℤ) → x + length xs ≤ side_limit → y < side_limit → first_fault (places_from line y x (bytes f xs)) ≡ None
 unfolding first_fault
 row_no_fault f line y x [] h k = refl
 row_no_fault f line y x (u ∷ xs) h k = first_fault-cons_none (record { line = line; y = y; x = x; byte = byte_of (f u) }) (places_from line y (x + 1) (bytes f xs)) (no_fault_at line y x (f u) (omega arith) k) ∙ row_no_fault f line y (x + 1) xs (omega arith) k
 
-rows_no_fault : (cells : List Cell) (b : Bounds) (n y : ℕ) (zs : List ℤ) → length (span b.left b.right) ≤ SIDE_LIMIT → y + length zs ≤ SIDE_LIMIT → first_fault (grid_places cells b n y zs) ≡ None
+rows_no_fault : (cells : List Cell) (b : Bounds) (n y : ℕ) (zs : List ℤ) → length (span b.left b.right) ≤ side_limit → y + length zs ≤ side_limit → first_fault (grid_places cells b n y zs) ≡ None
 unfolding first_fault
 rows_no_fault cells b n y [] w h = refl
 rows_no_fault cells b n y (z ∷ zs) w h =
@@ -216,8 +215,8 @@ unfolding box_text
 box_text_read cells b p e small =
     let zs = span b.top b.bottom in
     let text = flat_map (row_text cells b) zs in
-    let width : length (span b.left b.right) ≤ SIDE_LIMIT = omega (arith, length-run b.left (suc (distance b.left b.right)), small.width) in
-    let height : 0 + length zs ≤ SIDE_LIMIT = omega (arith, length-run b.top (suc (distance b.top b.bottom)), small.height) in
+    let width : length (span b.left b.right) ≤ side_limit = omega (arith, length-run b.left (suc (distance b.left b.right)), small.width) in
+    let height : 0 + length zs ≤ side_limit = omega (arith, length-run b.top (suc (distance b.top b.bottom)), small.height) in
     let same : places text ≡ grid_places cells b 1 0 zs = places_are text ∙ ap (places_after 1 0) (split_rows cells b zs) ∙ places_of_rows cells b 1 0 zs in
     let none : first_fault (places text) ≡ None = ap first_fault same ∙ rows_no_fault cells b 1 0 zs width height in
     let live : live_cells (places text) ≡ map (moved_by (neg_ℤ b.left) (neg_ℤ b.top)) cells =

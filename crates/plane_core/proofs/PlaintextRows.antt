@@ -4,11 +4,10 @@ use Rattle.std.specs.List.{slice_get, filter_map, cons_option, enumerate_from}
 use Rattle.std.proofs.lemmas.List.{drop_more, drop_all, append_assoc, append-nil}
 use Rattle.std.proofs.lemmas.Bool.Decides.{nat_tests}
 use Rattle.plane_core.specs.declared.cell.Cell.{Cell}
-use Rattle.plane_core.specs.declared.plaintext.TheConstants.{SIDE_LIMIT}
 use Rattle.plane_core.specs.declared.plaintext.PlaintextFault.{PlaintextFault}
 use Rattle.plane_core.specs.Cells.{cell_at}
 use Rattle.plane_core.specs.Plaintext.{is_live, fault_at, first_fault, live_cells}
-use Rattle.plane_core.specs.PlaintextPlaces.{Place}
+use Rattle.plane_core.specs.PlaintextPlaces.{side_limit, Place}
 
 -- the places of row y from column x on
 abbrev pub places_from : ℕ → ℕ → ℕ → List ℕ → List Place
@@ -60,7 +59,7 @@ unfolding live_cells
 no_cell_past line y x row cells h = rw (drop_all x row h) (append-nil cells)
 
 -- a place without a fault is in the first 1,000 columns and rows
-pub in_limits : (p : Place) → fault_at p ≡ None → (p.x < SIDE_LIMIT) × (p.y < SIDE_LIMIT)
+pub in_limits : (p : Place) → fault_at p ≡ None → (p.x < side_limit) × (p.y < side_limit)
 unfolding fault_at
 in_limits p h = (grind (arith, nat_tests), grind (arith, nat_tests))
 
@@ -73,7 +72,7 @@ unfolding first_fault
 first_fault-cons p ps h = first-cons_option (fault_at p) (filter_map fault_at ps) h
 
 -- each byte of a row without a fault is
-pub row_in_limits : (line y x : ℕ) (row : List ℕ) → first_fault (places_from line y x row) ≡ None → (k : ℕ) → k < length row → (x + k < SIDE_LIMIT) × (y < SIDE_LIMIT)
+pub row_in_limits : (line y x : ℕ) (row : List ℕ) → first_fault (places_from line y x row) ≡ None → (k : ℕ) → k < length row → (x + k < side_limit) × (y < side_limit)
 row_in_limits line y x [] h k l = absurd (omega arith)
 row_in_limits line y x (b ∷ row) h zero l = let s = in_limits _ (first_fault-cons _ _ h).0 in (omega arith, s.1)
 row_in_limits line y x (b ∷ row) h (suc k) l = let s = row_in_limits line y (x + 1) row (first_fault-cons _ _ h).1 k (omega arith) in (omega arith, s.1)

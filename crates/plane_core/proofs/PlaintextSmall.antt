@@ -4,18 +4,17 @@ use Rattle.std.proofs.lemmas.Bool.{and_from}
 use Rattle.std.proofs.lemmas.Bool.Decides.{nat_tests}
 use Rattle.plane_core.specs.declared.cell.Cell.{Cell}
 use Rattle.plane_core.specs.declared.plaintext.PlaintextFault.{PlaintextFault}
-use Rattle.plane_core.specs.declared.plaintext.TheConstants.{SIDE_LIMIT}
 use Rattle.plane_core.specs.Cells.{is_within}
 use Rattle.plane_core.specs.Generations.{lies_within}
 use Rattle.plane_core.specs.Plaintext.{is_live, first_fault, live_cells, pattern, cells_unless}
-use Rattle.plane_core.specs.PlaintextPlaces.{Place, places}
+use Rattle.plane_core.specs.PlaintextPlaces.{side_limit, Place, places}
 use Rattle.plane_core.proofs.PlaintextOrder.{cell_of}
 use Rattle.plane_core.proofs.PlaintextRows.{first_fault-cons, in_limits}
 
 abbrev IsSmall : List Cell → Type 0
 IsSmall cells = lies_within 999 cells ≡ true
 
-cell_is_small : (p : Place) → (p.x < SIDE_LIMIT) × (p.y < SIDE_LIMIT) → is_within 999 (cell_of p) ≡ true
+cell_is_small : (p : Place) → (p.x < side_limit) × (p.y < side_limit) → is_within 999 (cell_of p) ≡ true
 cell_is_small p h = grind (arith, nat_tests)
 
 live_cells-small : (ps : List Place) → first_fault ps ≡ None → IsSmall (live_cells ps)

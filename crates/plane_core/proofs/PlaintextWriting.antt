@@ -6,13 +6,13 @@ use Rattle.std.proofs.lemmas.List.{map-append}
 use Rattle.std.specs.List.{flat_map}
 use Rattle.plane_core.specs.declared.cell.Cell.{Cell}
 use Rattle.plane_core.specs.declared.bounds.Bounds.{Bounds}
-use Rattle.plane_core.specs.declared.plaintext.TheConstants.{DEAD, LIVE, LINE_FEED}
 use Rattle.plane_core.specs.Cells.{cell_at, distance, has}
 use Rattle.plane_core.specs.Out.{Output, Writes}
 use Rattle.plane_core.specs.Plaintext.{run, byte_of, row_text, box_text}
 use Rattle.plane_core.specs.PlaintextWalk.{IsAhead}
 use Rattle.plane_core.proofs.SetLemmas.{has-head}
 use Rattle.plane_core.proofs.PlaintextWalks.{IsRowAhead, IsRowAhead-at, has-gap, has-past, has-taken, has-left, len_in_row}
+use Rattle.plane_core.specs.PlaintextPlaces.{dot, letter_o, line_feed}
 
 -- what was written, as another form of its text
 pub Writes_as : {V E : Type 0} {contents : V → Option (List ℕ)} {x y : Output V} {r : Result (Unit {0}) E} {a b : List ℕ} → a ≡ b → Writes contents x y r a → Writes contents x y r b
@@ -53,19 +53,19 @@ bytes_at cells y xs = map (λ x. byte_of (has cells (cell_at x y))) xs
 
 -- what is to be written of row y from column x on, where the box ends before column e
 unfoldable pub row_rest : List Cell → ℤ → ℤ → ℤ → List ℕ
-row_rest cells y x e = bytes_at cells y (run x (distance x e)) ++ LINE_FEED ∷ []
+row_rest cells y x e = bytes_at cells y (run x (distance x e)) ++ line_feed ∷ []
 
 pub row_text_is : (cells : List Cell) (b : Bounds) (y : ℤ) → b.left ≤ℤ b.right → row_text cells b y ≡ row_rest cells y b.left (b.right +ℤ pos 1)
 unfolding row_text row_rest
 row_text_is cells b y l =
     let n : suc (distance b.left b.right) ≡ distance b.left (b.right +ℤ pos 1) = omega (arith, ints) in
-    ap (λ k. bytes_at cells y (run b.left k) ++ LINE_FEED ∷ []) n
+    ap (λ k. bytes_at cells y (run b.left k) ++ line_feed ∷ []) n
 
-pub row_rest-nil : (y x e : ℤ) → row_rest [] y x e ≡ replicate (distance x e) DEAD ++ LINE_FEED ∷ []
+pub row_rest-nil : (y x e : ℤ) → row_rest [] y x e ≡ replicate (distance x e) dot ++ line_feed ∷ []
 unfolding row_rest
-row_rest-nil y x e = ap (λ bs. bs ++ LINE_FEED ∷ []) (map-run-same DEAD x (distance x e))
+row_rest-nil y x e = ap (λ bs. bs ++ line_feed ∷ []) (map-run-same dot x (distance x e))
 
-pub row_rest-cons : (y x e : ℤ) (c : Cell) (cs : List Cell) → IsRowAhead y x e (c ∷ cs) → row_rest (c ∷ cs) y x e ≡ (replicate (distance x c.x) DEAD ++ LIVE ∷ []) ++ row_rest cs y (c.x +ℤ pos 1) e
+pub row_rest-cons : (y x e : ℤ) (c : Cell) (cs : List Cell) → IsRowAhead y x e (c ∷ cs) → row_rest (c ∷ cs) y x e ≡ (replicate (distance x c.x) dot ++ letter_o ∷ []) ++ row_rest cs y (c.x +ℤ pos 1) e
 unfolding row_rest
 row_rest-cons y x e c cs h =
     let here = h.here.0 in
@@ -74,33 +74,33 @@ row_rest-cons y x e c cs h =
     let all : distance x e ≡ gap + suc rest = omega (arith, ints) in
     let at_cell : x +ℤ pos gap ≡ c.x = omega (arith, ints) in
     let split : run x (distance x e) ≡ run x gap ++ (c.x ∷ run (c.x +ℤ pos 1) rest) = run-append x gap (suc rest) (distance x e) all ∙ ap (λ b. run x gap ++ run b (suc rest)) at_cell in
-    let dead : bytes_at (c ∷ cs) y (run x gap) ≡ replicate gap DEAD =
-    map-run (λ z. byte_of (has (c ∷ cs) (cell_at z y))) (λ _. DEAD) x gap (λ z l m. ap byte_of (has-gap y x e z c cs h (omega (arith, ints)))) ∙ map-run-same DEAD x gap in
-    let live : byte_of (has (c ∷ cs) (cell_at c.x y)) ≡ LIVE =
+    let dead : bytes_at (c ∷ cs) y (run x gap) ≡ replicate gap dot =
+    map-run (λ z. byte_of (has (c ∷ cs) (cell_at z y))) (λ _. dot) x gap (λ z l m. ap byte_of (has-gap y x e z c cs h (omega (arith, ints)))) ∙ map-run-same dot x gap in
+    let live : byte_of (has (c ∷ cs) (cell_at c.x y)) ≡ letter_o =
     ap byte_of (subst (λ w. has (c ∷ cs) (cell_at c.x w) ≡ true) here.0 (has-head c cs)) in
     let past : bytes_at (c ∷ cs) y (run (c.x +ℤ pos 1) rest) ≡ bytes_at cs y (run (c.x +ℤ pos 1) rest) =
     map-run (λ z. byte_of (has (c ∷ cs) (cell_at z y))) (λ z. byte_of (has cs (cell_at z y))) (c.x +ℤ pos 1) rest (λ z l m. ap byte_of (has-past y z c cs here.0 (omega (arith, ints)))) in
-    let columns : bytes_at (c ∷ cs) y (run x (distance x e)) ≡ replicate gap DEAD ++ (LIVE ∷ bytes_at cs y (run (c.x +ℤ pos 1) rest)) =
+    let columns : bytes_at (c ∷ cs) y (run x (distance x e)) ≡ replicate gap dot ++ (letter_o ∷ bytes_at cs y (run (c.x +ℤ pos 1) rest)) =
     ap (λ zs. bytes_at (c ∷ cs) y zs) split ∙ map-append (λ z. byte_of (has (c ∷ cs) (cell_at z y))) (run x gap) (c.x ∷ run (c.x +ℤ pos 1) rest) ∙ cc in
-    ap (λ bs. bs ++ LINE_FEED ∷ []) columns ∙ append_assoc (replicate gap DEAD) (LIVE ∷ bytes_at cs y (run (c.x +ℤ pos 1) rest)) (LINE_FEED ∷ [])
-    ∙ sym (append_assoc (replicate gap DEAD) (LIVE ∷ []) (bytes_at cs y (run (c.x +ℤ pos 1) rest) ++ LINE_FEED ∷ []))
+    ap (λ bs. bs ++ line_feed ∷ []) columns ∙ append_assoc (replicate gap dot) (letter_o ∷ bytes_at cs y (run (c.x +ℤ pos 1) rest)) (line_feed ∷ [])
+    ∙ sym (append_assoc (replicate gap dot) (letter_o ∷ []) (bytes_at cs y (run (c.x +ℤ pos 1) rest) ++ line_feed ∷ []))
 
 -- the same, in a loop over the cells of the row
 pub row_rest-at : (y x e : ℤ) (row : List Cell) (i : ℕ) (d : Cell) (front whole : List ℕ) → i < length row → IsRowAhead y x e (drop i row) → whole ≡ front ++ row_rest (drop i row) y x e
-    → whole ≡ (front ++ (replicate (distance x (get_or row i d).x) DEAD ++ LIVE ∷ [])) ++ row_rest (drop (i + 1) row) y ((get_or row i d).x +ℤ pos 1) e
+    → whole ≡ (front ++ (replicate (distance x (get_or row i d).x) dot ++ letter_o ∷ [])) ++ row_rest (drop (i + 1) row) y ((get_or row i d).x +ℤ pos 1) e
 row_rest-at y x e row i d front whole l h w =
     let c = get_or row i d in
     let cs = drop (i + 1) row in
     w ∙ ap (λ ds. front ++ row_rest ds y x e) (drop_more row i d l) ∙ ap (λ t. front ++ t) (row_rest-cons y x e c cs (IsRowAhead-at y x e row i d l h))
-    ∙ sym (append_assoc front (replicate (distance x c.x) DEAD ++ LIVE ∷ []) (row_rest cs y (c.x +ℤ pos 1) e))
+    ∙ sym (append_assoc front (replicate (distance x c.x) dot ++ letter_o ∷ []) (row_rest cs y (c.x +ℤ pos 1) e))
 
-pub row_rest-end : (y x e : ℤ) (row : List Cell) (i : ℕ) (front whole : List ℕ) → length row ≤ i → whole ≡ front ++ row_rest (drop i row) y x e → whole ≡ front ++ (replicate (distance x e) DEAD ++ LINE_FEED ∷ [])
+pub row_rest-end : (y x e : ℤ) (row : List Cell) (i : ℕ) (front whole : List ℕ) → length row ≤ i → whole ≡ front ++ row_rest (drop i row) y x e → whole ≡ front ++ (replicate (distance x e) dot ++ line_feed ∷ [])
 row_rest-end y x e row i front whole l w = w ∙ ap (λ ds. front ++ row_rest ds y x e) (drop_all i row l) ∙ ap (λ t. front ++ t) (row_rest-nil y x e)
 
 -- lists that have the same cells of row y have the same text of it
 pub row_text-same : (cs ds : List Cell) (b : Bounds) (y : ℤ) → ((x : ℤ) → has cs (cell_at x y) ≡ has ds (cell_at x y)) → row_text cs b y ≡ row_text ds b y
 unfolding row_text
-row_text-same cs ds b y h = ap (λ bs. bs ++ LINE_FEED ∷ []) (map-run (λ x. byte_of (has cs (cell_at x y))) (λ x. byte_of (has ds (cell_at x y))) b.left (suc (distance b.left b.right)) (λ z l m. ap byte_of (h z)))
+row_text-same cs ds b y h = ap (λ bs. bs ++ line_feed ∷ []) (map-run (λ x. byte_of (has cs (cell_at x y))) (λ x. byte_of (has ds (cell_at x y))) b.left (suc (distance b.left b.right)) (λ z l m. ap byte_of (h z)))
 
 pub row_text-taken : (y : ℤ) (b : Bounds) (cs : List Cell) → IsAhead y b cs → row_text cs b y ≡ row_text (take (len_in_row y cs) cs) b y
 row_text-taken y b cs h = row_text-same cs (take (len_in_row y cs) cs) b y (has-taken y b cs h)

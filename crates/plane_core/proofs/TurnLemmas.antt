@@ -10,12 +10,11 @@ use Rattle.std.proofs.lemmas.Int.{ints}
 use Rattle.std.proofs.lemmas.Bool.{and_parts, and_from, leb-true}
 use Rattle.plane_core.specs.declared.bounds.Bounds.{Bounds}
 use Rattle.plane_core.specs.declared.cell.Cell.{Cell}
-use Rattle.plane_core.specs.declared.cell.TheConstants.{BOUND}
 use Rattle.plane_core.specs.declared.orientation.Orientation.{Orientation}
 use Rattle.plane_core.specs.declared.orientation.Orientation.TheVariants.{Same, Quarter, Half, ThreeQuarter, Mirror, Flip, Diagonal, AntiDiagonal}
 use Rattle.plane_core.specs.declared.placement.Placement.{Placement}
 use Rattle.plane_core.specs.Bounds.{box_of, grown, shifted, cornered, IsLeastBox}
-use Rattle.plane_core.specs.Cells.{cell_cmp, moved_by, put, set_of, InOrder, on_plane, IsPattern}
+use Rattle.plane_core.specs.Cells.{plane_bound, cell_cmp, moved_by, put, set_of, InOrder, on_plane, IsPattern}
 use Rattle.plane_core.specs.Orientations.{turned_cell, landed, corner_placement, image, turned}
 use Rattle.plane_core.proofs.BoundsLemmas.{box_of-least, widened-swap, widened-pair, min_same, max_same, min_again, max_again}
 use Rattle.plane_core.proofs.CellLemmas.{cell_cmp-same, cell_cmp-moved}
@@ -107,12 +106,12 @@ neg_size a = omega (arith, ints)
 -- an image of a cell of the plane lies on the plane
 on_plane-turned : (o : Orientation) (c : Cell) → on_plane c ≡ true → on_plane (turned_cell o c) ≡ true
 unfolding on_plane
-on_plane-turned o c h = go o (and_parts (leb (unsigned_abs c.x) BOUND) (leb (unsigned_abs c.y) BOUND) h)
+on_plane-turned o c h = go o (and_parts (leb (unsigned_abs c.x) plane_bound) (leb (unsigned_abs c.y) plane_bound) h)
   where
-    both : (a b m n : ℕ) → a ≡ m → b ≡ n → (leb m BOUND ≡ true) → (leb n BOUND ≡ true) → (leb a BOUND && leb b BOUND) ≡ true
+    both : (a b m n : ℕ) → a ≡ m → b ≡ n → (leb m plane_bound ≡ true) → (leb n plane_bound ≡ true) → (leb a plane_bound && leb b plane_bound) ≡ true
     both a b m n p q u v = rw (p, q, u, v) refl
 
-    go : (o : Orientation) → (leb (unsigned_abs c.x) BOUND ≡ true) × (leb (unsigned_abs c.y) BOUND ≡ true) → (leb (unsigned_abs (turned_cell o c).x) BOUND && leb (unsigned_abs (turned_cell o c).y) BOUND) ≡ true
+    go : (o : Orientation) → (leb (unsigned_abs c.x) plane_bound ≡ true) × (leb (unsigned_abs c.y) plane_bound ≡ true) → (leb (unsigned_abs (turned_cell o c).x) plane_bound && leb (unsigned_abs (turned_cell o c).y) plane_bound) ≡ true
     go Same (u, v) = both _ _ _ _ refl refl u v
     go Quarter (u, v) = both _ _ _ _ (neg_size c.y) refl v u
     go Half (u, v) = both _ _ _ _ (neg_size c.x) (neg_size c.y) u v
@@ -129,18 +128,18 @@ images_on_plane o (c ∷ cs) h =
     and_from (on_plane (turned_cell o c)) (list_all on_plane (map (turned_cell o) cs)) (on_plane-turned o c parts.0) (images_on_plane o cs parts.1)
 
 -- the corner of the box of cells of the plane is no further out than the bound
-pub corner_small : (cs : List Cell) (b : Bounds) → box_of cs ≡ Some b → list_all on_plane cs ≡ true → (unsigned_abs b.left ≤ BOUND) × (unsigned_abs b.top ≤ BOUND)
+pub corner_small : (cs : List Cell) (b : Bounds) → box_of cs ≡ Some b → list_all on_plane cs ≡ true → (unsigned_abs b.left ≤ plane_bound) × (unsigned_abs b.top ≤ plane_bound)
 unfolding on_plane
 corner_small cs b e on =
     let least : IsLeastBox cs b = rw e at (box_of-least cs) in (
-      side (λ c. c.x) b.left (λ c h. leb-true (unsigned_abs c.x) BOUND (and_parts (leb (unsigned_abs c.x) BOUND) (leb (unsigned_abs c.y) BOUND) h).0) least.left,
-      side (λ c. c.y) b.top (λ c h. leb-true (unsigned_abs c.y) BOUND (and_parts (leb (unsigned_abs c.x) BOUND) (leb (unsigned_abs c.y) BOUND) h).1) least.top,
+      side (λ c. c.x) b.left (λ c h. leb-true (unsigned_abs c.x) plane_bound (and_parts (leb (unsigned_abs c.x) plane_bound) (leb (unsigned_abs c.y) plane_bound) h).0) least.left,
+      side (λ c. c.y) b.top (λ c h. leb-true (unsigned_abs c.y) plane_bound (and_parts (leb (unsigned_abs c.x) plane_bound) (leb (unsigned_abs c.y) plane_bound) h).1) least.top,
     )
   where
-    side : (f : Cell → ℤ) (v : ℤ) → ((c : Cell) → on_plane c ≡ true → unsigned_abs (f c) ≤ BOUND) → Any (λ c. f c ≡ v) cs → unsigned_abs v ≤ BOUND
-    side f v small (k, x, low, at, h) = subst (λ (a : ℤ). unsigned_abs a ≤ BOUND) h (small x (subst (λ (c : Cell). on_plane c ≡ true) at (all_at on_plane cs k x low on)))
+    side : (f : Cell → ℤ) (v : ℤ) → ((c : Cell) → on_plane c ≡ true → unsigned_abs (f c) ≤ plane_bound) → Any (λ c. f c ≡ v) cs → unsigned_abs v ≤ plane_bound
+    side f v small (k, x, low, at, h) = subst (λ (a : ℤ). unsigned_abs a ≤ plane_bound) h (small x (subst (λ (c : Cell). on_plane c ≡ true) at (all_at on_plane cs k x low on)))
 
-pub image_corner_small : (o : Orientation) (cs : List Cell) (b : Bounds) → box_of (map (turned_cell o) cs) ≡ Some b → list_all on_plane cs ≡ true → (unsigned_abs b.left ≤ BOUND) × (unsigned_abs b.top ≤ BOUND)
+pub image_corner_small : (o : Orientation) (cs : List Cell) (b : Bounds) → box_of (map (turned_cell o) cs) ≡ Some b → list_all on_plane cs ≡ true → (unsigned_abs b.left ≤ plane_bound) × (unsigned_abs b.top ≤ plane_bound)
 image_corner_small o cs b e on = corner_small (map (turned_cell o) cs) b e (images_on_plane o cs on)
 
 -- ---- what the placement to the corner does

@@ -1,10 +1,10 @@
 -- The least box round a pattern, and a pattern moved to the corner (0, 0).
-use Rattle.std.specs.Prelude.{◌≡◌, ℤ, ◌≤ℤ◌, List, [], ◌∷◌, Option, None, Some, All, Any, map, ◌≢◌, pos, IfSome, IfNone}
+use Rattle.std.specs.Prelude.{◌≡◌, ℕ, ℤ, ◌+ℤ◌, ◌≤ℤ◌, List, [], ◌∷◌, Option, None, Some, All, Any, map, ◌≢◌, pos, IfSome, IfNone}
 use Rattle.std.specs.Int.{int_min, int_max}
 use Rattle.plane_core.specs.declared.cell.Cell.{Cell}
 use Rattle.plane_core.specs.declared.bounds.Bounds.{Bounds}
 use Rattle.plane_core.specs.Cells.{moved_by}
-use lib.IntN.{neg_ℤ}
+use lib.IntN.{◌-ℤ◌, neg_ℤ}
 
 -- the box of one cell
 abbrev pub box_at : Cell → Bounds
@@ -30,6 +30,10 @@ pub record IsWithin (b : Bounds) (c : Cell) : Type 0 where
   pub top : b.top ≤ℤ c.y
   pub right : c.x ≤ℤ b.right
   pub bottom : c.y ≤ℤ b.bottom
+
+-- the box with n more columns and rows on each side
+abbrev pub enlarged : ℕ → Bounds → Bounds
+enlarged n b = record { left = b.left -ℤ pos n; top = b.top -ℤ pos n; right = b.right +ℤ pos n; bottom = b.bottom +ℤ pos n }
 
 -- the box has every cell in it, and each of its four sides has a cell on it
 pub record IsLeastBox (cells : List Cell) (b : Bounds) : Type 0 where

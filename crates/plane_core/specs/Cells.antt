@@ -5,8 +5,11 @@ use Rattle.std.specs.List.Sorted.{IsStrictlySortedBy}
 use Rattle.std.specs.declared.cmp.Ordering.{Ordering}
 use Rattle.std.specs.Ordering.{ordering_then, int_cmp, is_eq, match_ordering}
 use Rattle.plane_core.specs.declared.cell.Cell.{Cell}
-use Rattle.plane_core.specs.declared.cell.TheConstants.{BOUND}
 use lib.IntN.{◌-ℤ◌}
+
+-- how large the coordinates of a cell of the plane may be in size: this project's choice
+abbrev pub plane_bound : ℕ
+plane_bound = 1000000
 
 -- the cell at column x of row y
 abbrev pub cell_at : ℤ → ℤ → Cell
@@ -56,18 +59,18 @@ is_within reach c = nat_le (unsigned_abs c.x) reach && nat_le (unsigned_abs c.y)
 
 -- the cell lies within the bound
 unfoldable pub on_plane : Cell → Bool
-on_plane c = is_within BOUND c
+on_plane c = is_within plane_bound c
 
 abbrev pub off_plane : Cell → Bool
 off_plane c = not (on_plane c)
 
 -- the cell is at most a step off the plane
 unfoldable pub near_plane : Cell → Bool
-near_plane c = is_within (BOUND + 1) c
+near_plane c = is_within (plane_bound + 1) c
 
 -- a coordinate is as large as the bound in size
 unfoldable pub on_edge : Cell → Bool
-on_edge c = unsigned_abs c.x == BOUND || unsigned_abs c.y == BOUND
+on_edge c = unsigned_abs c.x == plane_bound || unsigned_abs c.y == plane_bound
 
 -- a list that stands for a finite set of cells of the plane
 pub record IsPattern (cells : List Cell) : Type 0 where

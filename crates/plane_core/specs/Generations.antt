@@ -1,8 +1,12 @@
 -- Generations under a rule (LifeWiki, "Life-like cellular automaton").
-use Rattle.std.specs.Prelude.{◌≡◌, ◌+◌, true, ◌==◌, ℕ, zero, suc, pos, negsuc, Bool, List, [], ◌∷◌, count_by, filter, flat_map, if◌then◌else◌}
+use Rattle.std.specs.Prelude.{◌≡◌, ◌+◌, true, ◌==◌, ℕ, ℤ, zero, suc, pos, negsuc, Bool, List, [], ◌∷◌, All, count_by, filter, flat_map, if◌then◌else◌}
 use Rattle.std.specs.List.{list_any, list_all}
 use Rattle.plane_core.specs.declared.cell.Cell.{Cell}
-use Rattle.plane_core.specs.Cells.{king_distance, moved_by, has, set_of, on_edge, is_within}
+use Rattle.plane_core.specs.Cells.{InOrder, king_distance, moved_by, has, set_of, on_edge, is_within}
+use Rattle.plane_core.specs.declared.orientation.Orientation.{Orientation}
+use Rattle.plane_core.specs.declared.bounds.Bounds.{Bounds}
+use Rattle.plane_core.specs.Bounds.{IsWithin, enlarged, shifted}
+use Rattle.plane_core.specs.Orientations.{image}
 use Rattle.plane_core.specs.Rules.{Numbers, is_birth, is_survival}
 
 -- how many cells of the pattern are at king distance 1 from c
@@ -37,6 +41,18 @@ touches_edge cells = list_any on_edge cells
 abbrev pub lies_within : ℕ → List Cell → Bool
 lies_within reach cells = list_all (is_within reach) cells
 
--- no pattern grows by more than a cell a side in a generation: the field's speed of light
+-- a generation doesn't mind where a pattern lies, nor how
+abbrev pub NextMoved : Type 0
+NextMoved = (dx dy : ℤ) (rule : Numbers) (cells : List Cell) → InOrder cells → next rule (shifted dx dy cells) ≡ shifted dx dy (next rule cells)
+
+abbrev pub NextTurned : Type 0
+NextTurned = (o : Orientation) (rule : Numbers) (cells : List Cell) → InOrder cells → next rule (image o cells) ≡ image o (next rule cells)
+
+-- The field's speed of light: in a generation no pattern grows by more than a cell a side. So after g generations it lies
+-- in each box that it lay in, with g more columns and rows on each side.
 abbrev pub SpeedOfLight : Type 0
-SpeedOfLight = (rule : Numbers) (cells : List Cell) (reach g : ℕ) → lies_within reach cells ≡ true → lies_within (reach + g) (after rule cells g) ≡ true
+SpeedOfLight = (rule : Numbers) (cells : List Cell) (b : Bounds) (g : ℕ) → All (IsWithin b) cells → All (IsWithin (enlarged g b)) (after rule cells g)
+
+-- and as far from the origin as it lay, and g more
+abbrev pub SpeedFromOrigin : Type 0
+SpeedFromOrigin = (rule : Numbers) (cells : List Cell) (reach g : ℕ) → lies_within reach cells ≡ true → lies_within (reach + g) (after rule cells g) ≡ true

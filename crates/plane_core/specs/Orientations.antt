@@ -1,14 +1,16 @@
 -- The eight orientations of a pattern: the symmetries of the square.
-use Rattle.std.specs.Prelude.{◌≡◌, ℤ, List, map, neg_ℤ}
+use Rattle.std.specs.Prelude.{◌≡◌, ℤ, List, [], ◌∷◌, map, neg_ℤ}
 use Rattle.plane_core.specs.declared.cell.Cell.{Cell}
 use Rattle.plane_core.specs.declared.orientation.Orientation.{Orientation}
 use Rattle.plane_core.specs.declared.orientation.Orientation.TheVariants.{Same, Quarter, Half, ThreeQuarter, Mirror, Flip, Diagonal, AntiDiagonal}
 use Rattle.plane_core.specs.declared.placement.Placement.{Placement}
 use Rattle.plane_core.specs.declared.bounds.Bounds.{Bounds}
 use Rattle.plane_core.specs.Bounds.{at_corner, shifted}
-use Rattle.plane_core.specs.Cells.{cell_at, moved_by, set_of, InOrder}
-use Rattle.plane_core.specs.Generations.{next}
-use Rattle.plane_core.specs.Rules.{Numbers}
+use Rattle.plane_core.specs.Cells.{cell_at, moved_by, set_of}
+
+-- all orientations, each once
+abbrev pub orientations : List Orientation
+orientations = Same ∷ Quarter ∷ Half ∷ ThreeQuarter ∷ Mirror ∷ Flip ∷ Diagonal ∷ AntiDiagonal ∷ []
 
 -- where an orientation takes a cell
 abbrev pub turned_cell : Orientation → Cell → Cell
@@ -68,6 +70,18 @@ product a AntiDiagonal = quarter_after (mirror_after a)
 product a Flip = quarter_after (quarter_after (mirror_after a))
 product a Diagonal = quarter_after (quarter_after (quarter_after (mirror_after a)))
 
+-- three orientations one after another: it doesn't matter which two are put together first
+abbrev pub ProductAssociates : Type 0
+ProductAssociates = (a b c : Orientation) → product (product a b) c ≡ product a (product b c)
+
+-- `Same` changes nothing, before and after
+abbrev pub SameIsIdentity : Type 0
+SameIsIdentity = (a : Orientation) → (product Same a ≡ a) × (product a Same ≡ a)
+
+-- orientations that take each cell to the same place are one
+abbrev pub OrientationsDiffer : Type 0
+OrientationsDiffer = (a b : Orientation) → ((c : Cell) → turned_cell a c ≡ turned_cell b c) → a ≡ b
+
 -- turning by one orientation and then by another is turning by their product
 abbrev pub TurningTwice : Type 0
 TurningTwice = (a b : Orientation) (cells : List Cell) → turned b (turned a cells) ≡ turned (product a b) cells
@@ -79,10 +93,3 @@ TurningBack = (a : Orientation) → (b : Orientation) × (product a b ≡ Same) 
 -- turning doesn't mind where a pattern lies
 abbrev pub TurningMoved : Type 0
 TurningMoved = (a : Orientation) (dx dy : ℤ) (cells : List Cell) → turned a (shifted dx dy cells) ≡ turned a cells
-
--- a generation doesn't mind where a pattern lies, nor how
-abbrev pub NextMoved : Type 0
-NextMoved = (dx dy : ℤ) (rule : Numbers) (cells : List Cell) → InOrder cells → next rule (shifted dx dy cells) ≡ shifted dx dy (next rule cells)
-
-abbrev pub NextTurned : Type 0
-NextTurned = (a : Orientation) (rule : Numbers) (cells : List Cell) → InOrder cells → next rule (image a cells) ≡ image a (next rule cells)

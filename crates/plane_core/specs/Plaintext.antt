@@ -5,23 +5,22 @@ use Rattle.plane_core.specs.declared.cell.Cell.{Cell}
 use Rattle.plane_core.specs.declared.bounds.Bounds.{Bounds}
 use Rattle.plane_core.specs.declared.plaintext.PlaintextFault.{PlaintextFault}
 use Rattle.plane_core.specs.declared.plaintext.PlaintextFault.TheVariants.{BadByte, TooLarge}
-use Rattle.plane_core.specs.declared.plaintext.TheConstants.{DEAD, LIVE, STAR, LINE_FEED, SIDE_LIMIT}
 use Rattle.plane_core.specs.Cells.{cell_at, distance, has}
 use Rattle.plane_core.specs.Bounds.{box_of}
-use Rattle.plane_core.specs.PlaintextPlaces.{Place, places}
+use Rattle.plane_core.specs.PlaintextPlaces.{dot, letter_o, star, line_feed, side_limit, Place, places}
 
 -- `O` and `*` are live
 abbrev pub is_live : ℕ → Bool
-is_live b = b == LIVE || b == STAR
+is_live b = b == letter_o || b == star
 
 -- and `.` is dead; no other byte is a cell
 abbrev pub is_cell : ℕ → Bool
-is_cell b = b == DEAD || is_live b
+is_cell b = b == dot || is_live b
 
 -- what is wrong at a place: a byte that is no cell, or else a row or a column past the last
 unfoldable pub fault_at : Place → Option PlaintextFault
 fault_at p = if not (is_cell p.byte) then Some (BadByte p.line (p.x + 1))
-    else (if nat_lt p.x SIDE_LIMIT && nat_lt p.y SIDE_LIMIT then None else Some TooLarge)
+    else (if nat_lt p.x side_limit && nat_lt p.y side_limit then None else Some TooLarge)
 
 -- the first fault at some places
 unfoldable pub first_fault : List Place → Option PlaintextFault
@@ -51,11 +50,11 @@ span a b = run a (suc (distance a b))
 
 -- the byte that is written for a cell
 abbrev pub byte_of : Bool → ℕ
-byte_of live = if live then LIVE else DEAD
+byte_of live = if live then letter_o else dot
 
 -- row y of the cells' box from the left, and a line feed
 unfoldable pub row_text : List Cell → Bounds → ℤ → List ℕ
-row_text cells b y = map (λ x. byte_of (has cells (cell_at x y))) (span b.left b.right) ++ LINE_FEED ∷ []
+row_text cells b y = map (λ x. byte_of (has cells (cell_at x y))) (span b.left b.right) ++ line_feed ∷ []
 
 -- the rows of the box from the top
 unfoldable pub box_text : Option Bounds → List Cell → List ℕ
@@ -68,5 +67,5 @@ plain cells = box_text (box_of cells) cells
 
 -- the box is at most 1,000 wide and 1,000 high
 pub record IsSmall (b : Bounds) : Type 0 where
-  pub width : distance b.left b.right < SIDE_LIMIT
-  pub height : distance b.top b.bottom < SIDE_LIMIT
+  pub width : distance b.left b.right < side_limit
+  pub height : distance b.top b.bottom < side_limit

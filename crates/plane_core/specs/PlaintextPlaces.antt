@@ -2,16 +2,36 @@
 use Rattle.std.specs.Prelude.{◌==◌, ℕ, Bool, false, not, List, [], ◌∷◌, map, filter}
 use Rattle.std.specs.List.{slice_index, slice_index_or, slice_split, flat_map, enumerate_from}
 use Rattle.std.specs.Str.Lines.{strip_carriage_return}
-use Rattle.plane_core.specs.declared.plaintext.TheConstants.{COMMENT, LINE_FEED}
+
+-- the bytes of the format (LifeWiki, "Plaintext"): `.` for a dead cell, `O` and `*` for a live one
+abbrev pub dot : ℕ
+dot = 46
+
+abbrev pub letter_o : ℕ
+letter_o = 79
+
+abbrev pub star : ℕ
+star = 42
+
+-- `!` at the front of a comment, and the end of a line
+abbrev pub exclamation_mark : ℕ
+exclamation_mark = 33
+
+abbrev pub line_feed : ℕ
+line_feed = 10
+
+-- the most columns, or rows, that a text may have, dead cells included: this project's choice
+abbrev pub side_limit : ℕ
+side_limit = 1000
 
 -- the lines of a text, each without a carriage return at its end; one of no byte follows the last line feed
 unfoldable pub lines_of : List ℕ → List (List ℕ)
-lines_of text = map strip_carriage_return (slice_split (λ b. b == LINE_FEED) text)
+lines_of text = map strip_carriage_return (slice_split (λ b. b == line_feed) text)
 
 -- whether a line is a comment: it begins with `!`
 abbrev pub is_comment : List ℕ → Bool
 is_comment [] = false
-is_comment (b ∷ bs) = b == COMMENT
+is_comment (b ∷ bs) = b == exclamation_mark
 
 -- each line with its number, counted from 1, and of those the rows: the lines that are no comments
 unfoldable pub rows_of : List ℕ → List (ℕ × List ℕ)

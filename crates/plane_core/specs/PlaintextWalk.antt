@@ -2,17 +2,16 @@
 use Rattle.std.specs.Prelude.{ℤ, pos, ◌≤ℤ◌, List}
 use Rattle.std.specs.List.{AllByRecursion}
 use Rattle.plane_core.specs.declared.cell.Cell.{Cell}
-use Rattle.plane_core.specs.declared.cell.TheConstants.{BOUND}
 use Rattle.plane_core.specs.declared.bounds.Bounds.{Bounds}
-use Rattle.plane_core.specs.Cells.{InOrder}
+use Rattle.plane_core.specs.Cells.{plane_bound, InOrder}
 use lib.IntN.{neg_ℤ}
 
 -- the box has a cell of the plane at least, and no cell off the plane
 pub record IsBox (b : Bounds) : Type 0 where
-  pub left : neg_ℤ (pos BOUND) ≤ℤ b.left
-  pub top : neg_ℤ (pos BOUND) ≤ℤ b.top
-  pub right : b.right ≤ℤ pos BOUND
-  pub bottom : b.bottom ≤ℤ pos BOUND
+  pub left : neg_ℤ (pos plane_bound) ≤ℤ b.left
+  pub top : neg_ℤ (pos plane_bound) ≤ℤ b.top
+  pub right : b.right ≤ℤ pos plane_bound
+  pub bottom : b.bottom ≤ℤ pos plane_bound
   pub wide : b.left ≤ℤ b.right
   pub high : b.top ≤ℤ b.bottom
 

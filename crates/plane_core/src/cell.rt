@@ -1,6 +1,7 @@
-ghost use Rattle.std.specs.Prelude.{◌≡◌, ◌≤◌, ◌+◌, ◌+ℤ◌, true, unsigned_abs};
+ghost use Rattle.std.specs.Prelude.{◌≡◌, ◌≤◌, true, unsigned_abs};
 ghost use Rattle.plane_core.specs.Cells.{moved_by, near_plane, on_plane, on_edge};
-ghost use Rattle.plane_core.specs.declared.cell.TheConstants.{BOUND};
+
+use crate::coordinate::stepped;
 
 /// How large the coordinates of a pattern's cells may be in size: from -1,000,000 to 1,000,000.
 pub const BOUND: u32 = 1_000_000;
@@ -36,21 +37,12 @@ impl Cell {
     #[tactic(auto, unfolding(crate::specs::Cells::near_plane))]
     pub(crate) fn moved(self, dx: i32, dy: i32) -> Cell
         requires near { near_plane self ≡ true }
-        requires step { unsigned_abs dx ≤ 1 }
-        requires leap { unsigned_abs dy ≤ 1 }
+        requires right { unsigned_abs dx ≤ 1 }
+        requires down { unsigned_abs dy ≤ 1 }
         ensures { result ≡ moved_by dx dy self }
     {
-        let x = sum(self.x, dx);
-        let y = sum(self.y, dy);
+        let x = stepped(self.x, dx);
+        let y = stepped(self.y, dy);
         Cell { y, x }
     }
-}
-
-/// The sum of two numbers, of which neither is large.
-pub(crate) fn sum(a: i32, b: i32) -> i32
-    requires first { unsigned_abs a ≤ BOUND + 1 }
-    requires second { unsigned_abs b ≤ 2 }
-    ensures { result ≡ a +ℤ b }
-{
-    a + b
 }

@@ -4,9 +4,9 @@ ghost use Rattle.plane_core.specs.Clusters.{AreClusters, IsCluster};
 ghost use Rattle.plane_core.specs.Clusters.{ClustersAreDetermined, ClustersLieApart, ClustersMoveAlong, ClustersPartition, LinkedIsAnEquivalence};
 ghost use Rattle.plane_core.specs.Flood.{IsClosed, MarksCluster, Takes, is_in_row, is_near, marked};
 ghost use Rattle.plane_core.specs.declared.cell.Cell.{Cell};
-ghost use Rattle.plane_core.specs.declared.cell.TheConstants.{BOUND};
 
-use crate::cell::{Cell, sum};
+use crate::cell::Cell;
+use crate::coordinate::stepped;
 use crate::pattern::{Pattern, in_order};
 use std::alloc::{AllocError, Global};
 
@@ -119,7 +119,7 @@ fn take_row(
 ) -> Result<(), AllocError>
     requires in_order { InOrder cells.now }
     requires on_plane { on_plane cell ≡ true }
-    requires leap { unsigned_abs dy ≤ 2 }
+    requires down { unsigned_abs dy ≤ 2 }
     requires size { length marks.old ≡ length cells.now }
     ensures size { length marks.new ≡ length marks.old }
     ensures takes { OnOk result
@@ -135,12 +135,12 @@ fn take_row(
 #[tactic(auto, unfolding(crate::specs::Cells::on_plane))]
 fn near(cell: Cell, dx: i32, dy: i32) -> Cell
     requires on_plane { on_plane cell ≡ true }
-    requires step { unsigned_abs dx ≤ 2 }
-    requires leap { unsigned_abs dy ≤ 2 }
+    requires right { unsigned_abs dx ≤ 2 }
+    requires down { unsigned_abs dy ≤ 2 }
     ensures { result ≡ moved_by dx dy cell }
 {
-    let x = sum(cell.x, dx);
-    let y = sum(cell.y, dy);
+    let x = stepped(cell.x, dx);
+    let y = stepped(cell.y, dy);
     Cell { y, x }
 }
 

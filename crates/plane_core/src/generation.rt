@@ -1,9 +1,8 @@
 ghost use Rattle.std.specs.Prelude.{◌≡◌, ◌≢◌, ℕ, ◌+◌, ◌<◌, ◌≤◌, true, false, IfOk, IfErr, OnOk, IsErrOf};
-ghost use Rattle.plane_core.specs.Cells.{has};
-ghost use Rattle.plane_core.specs.Generations.{next, after, lives, touches_edge, lies_within, SpeedOfLight};
+ghost use Rattle.plane_core.specs.Cells.{has, plane_bound};
+ghost use Rattle.plane_core.specs.Generations.{next, after, lives, touches_edge, lies_within, NextMoved, NextTurned, SpeedFromOrigin, SpeedOfLight};
 ghost use Rattle.plane_core.specs.Refusals.{RefusesStep};
 ghost use Rattle.plane_core.specs.declared.cell.Cell.{Cell};
-ghost use Rattle.plane_core.specs.declared.cell.TheConstants.{BOUND};
 ghost use Rattle.plane_core.specs.declared.generation.StepError.TheVariants.{Memory};
 
 use crate::cell::Cell;
@@ -65,9 +64,14 @@ impl Pattern {
         ensures after { IfOk result (λ pattern. pattern ≡ after rule.now self.now generations) }
         ensures inside { OnOk result ((g : ℕ) → g < generations → touches_edge (after rule.now self.now g) ≡ false) }
         // No pattern gets to the edge faster than a cell a generation.
-        ensures never_edge { (reach : ℕ) → lies_within reach self.now ≡ true → reach + generations ≤ BOUND → result ≢ Err StepError.Edge }
+        ensures never_edge { (reach : ℕ) → lies_within reach self.now ≡ true → reach + generations ≤ plane_bound → result ≢ Err StepError.Edge }
+        // An edge that is there from the start is refused as such, whether there is memory or not.
+        ensures edge_first { 1 ≤ generations → touches_edge self.now ≡ true → result ≡ Err StepError.Edge }
         ensures edge { IsErrOf result StepError.Edge → (g : ℕ) × (g < generations) × (touches_edge (after rule.now self.now g) ≡ true) }
     {
+        if generations > 0 && touches(self.cells()) {
+            return Err(StepError::Edge);
+        }
         let mut pattern = self.copy(alloc)?;
         for _ in 0..generations {
             pattern = pattern.step(alloc, rule)?;
@@ -78,7 +82,15 @@ impl Pattern {
 
 /// A law of all rules: in g generations no pattern comes further than g cells from where it lay.
 pub fn speed_of_light()
-    ensures { SpeedOfLight }
+    ensures boxes { SpeedOfLight }
+    ensures origin { SpeedFromOrigin }
+{}
+
+/// The laws of generations on the grid: the next generation of a pattern moved or turned is its next generation, moved
+/// or turned.
+pub fn isotropy()
+    ensures moved { NextMoved }
+    ensures turned { NextTurned }
 {}
 
 /// Whether a cell lies on the edge of the plane.

@@ -10,6 +10,8 @@ pub mod bounds;
 pub mod cell;
 /// The objects that a pattern falls into.
 pub mod clusters;
+/// The arithmetic of coordinates.
+pub mod coordinate;
 /// The next generation, and many.
 pub mod generation;
 /// The eight orientations.

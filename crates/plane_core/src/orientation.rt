@@ -1,9 +1,9 @@
-ghost use Rattle.std.specs.Prelude.{◌≡◌, ◌≤◌, true, neg_ℤ, unsigned_abs};
+ghost use Rattle.std.specs.Prelude.{◌≡◌, true};
 ghost use Rattle.plane_core.specs.Cells.{cell_at, on_plane};
-ghost use Rattle.plane_core.specs.Orientations.{turned_cell, TurningTwice, TurningBack, TurningMoved, NextMoved, NextTurned};
-ghost use Rattle.plane_core.specs.declared.cell.TheConstants.{BOUND};
+ghost use Rattle.plane_core.specs.Orientations.{orientations, turned_cell, OrientationsDiffer, ProductAssociates, SameIsIdentity, TurningBack, TurningMoved, TurningTwice};
 
 use crate::cell::Cell;
+use crate::coordinate::negated;
 
 /// The eight ways in which a pattern can lie on the square grid.
 ///
@@ -29,6 +29,24 @@ pub enum Orientation {
     AntiDiagonal,
 }
 
+const ORIENTATIONS: [Orientation; 8] = [
+    Orientation::Same,
+    Orientation::Quarter,
+    Orientation::Half,
+    Orientation::ThreeQuarter,
+    Orientation::Mirror,
+    Orientation::Flip,
+    Orientation::Diagonal,
+    Orientation::AntiDiagonal,
+];
+
+/// All eight orientations, each once.
+pub fn orientations() -> &'static [Orientation]
+    ensures { result.now ≡ orientations }
+{
+    &ORIENTATIONS
+}
+
 impl Orientation {
     /// Where the orientation takes a cell of the plane.
     #[tactic(auto, unfolding(crate::specs::Cells::on_plane))]
@@ -50,18 +68,17 @@ impl Orientation {
     }
 }
 
-/// The laws of the eight orientations: they are the group of the square, up to moving to the corner.
+/// The laws of the eight orientations: they are the group of the square.
+///
+/// Their product is a group, in which no two of them are one. Turning by one orientation and then by another is turning
+/// by their product, and doesn't mind where a pattern lies.
 pub fn square_group()
-    ensures twice { TurningTwice }
+    ensures associative { ProductAssociates }
+    ensures identity { SameIsIdentity }
     ensures back { TurningBack }
+    ensures different { OrientationsDiffer }
+    ensures twice { TurningTwice }
     ensures moved { TurningMoved }
-{}
-
-/// The laws of generations on the grid: the next generation of a pattern moved or turned is its next generation, moved
-/// or turned.
-pub fn isotropy()
-    ensures moved { NextMoved }
-    ensures turned { NextTurned }
 {}
 
 /// The cell in column x of row y.
@@ -69,12 +86,4 @@ fn at(x: i32, y: i32) -> Cell
     ensures { result ≡ cell_at x y }
 {
     Cell { y, x }
-}
-
-/// The coordinate on the other side of 0.
-pub(crate) fn negated(at: i32) -> i32
-    requires { unsigned_abs at ≤ BOUND }
-    ensures { result ≡ neg_ℤ at }
-{
-    -at
 }

@@ -5,12 +5,12 @@ ghost use Rattle.plane_core.specs.Bounds.{box_of, shifted};
 ghost use Rattle.plane_core.specs.Orientations.{corner_placement, landed, turned, turned_cell};
 ghost use Rattle.plane_core.specs.Cells.{moved_by, on_plane, IsPattern};
 ghost use Rattle.plane_core.specs.Refusals.{RefusesPlace};
-ghost use Rattle.plane_core.specs.declared.cell.TheConstants.{BOUND};
 ghost use Rattle.plane_core.specs.declared.placement.PlaceError.TheVariants.{Memory};
 
 use crate::bounds::{Bounds, grown};
-use crate::cell::{BOUND, Cell};
-use crate::orientation::{Orientation, negated};
+use crate::cell::Cell;
+use crate::coordinate::{negated, sum_on_plane};
+use crate::orientation::Orientation;
 use crate::pattern::{Pattern, in_order};
 use std::alloc::{AllocError, Global};
 use thiserror::Error;
@@ -34,22 +34,12 @@ impl From<AllocError> for PlaceError {
     }
 }
 
-/// The sum of two coordinates, where it is at most the bound in size.
-fn coordinate(at: i32, by: i32) -> Option<i32>
-    ensures { result ≡ (if nat_le (unsigned_abs (at +ℤ by)) BOUND then Some (at +ℤ by) else None) }
-{
-    match at.checked_add(by) {
-        Some(sum) if sum.unsigned_abs() <= BOUND => Some(sum),
-        _ => None,
-    }
-}
-
 /// The cell (x + dx, y + dy), where it lies on the plane.
 #[tactic(auto, unfolding(crate::specs::Cells::on_plane))]
 fn displaced(cell: Cell, dx: i32, dy: i32) -> Option<Cell>
     ensures { result ≡ (if on_plane (moved_by dx dy cell) then Some (moved_by dx dy cell) else None) }
 {
-    match (coordinate(cell.x, dx), coordinate(cell.y, dy)) {
+    match (sum_on_plane(cell.x, dx), sum_on_plane(cell.y, dy)) {
         (Some(x), Some(y)) => Some(Cell { y, x }),
         _ => None,
     }

@@ -11,7 +11,7 @@ ghost use Rattle.plane_core.specs.declared.cell.Cell.{Cell};
 ghost use Rattle.plane_core.specs.declared.plaintext.PlaintextFault.{PlaintextFault};
 ghost use Rattle.plane_core.specs.Generations.{lies_within};
 ghost use Rattle.plane_core.specs.Plaintext.{is_live, fault_at, first_fault, live_cells, pattern, row_text, box_text, plain, IsSmall};
-ghost use Rattle.plane_core.specs.PlaintextPlaces.{Place, byte_at, is_comment, places_of_row, places};
+ghost use Rattle.plane_core.specs.PlaintextPlaces.{Place, byte_at, dot, is_comment, places_of_row, places, side_limit};
 
 use crate::bounds::Bounds;
 use crate::cell::Cell;
@@ -137,8 +137,8 @@ fn fault_in(text: &[u8]) -> Option<PlaintextFault>
 
 /// The cell of a place in the first 1,000 columns and rows.
 fn small_cell(x: usize, y: usize) -> Cell
-    requires column { x < SIDE_LIMIT }
-    requires row { y < SIDE_LIMIT }
+    requires column { x < side_limit }
+    requires row { y < side_limit }
     ensures { result ≡ cell_at (pos x) (pos y) }
 {
     Cell {
@@ -150,7 +150,7 @@ fn small_cell(x: usize, y: usize) -> Cell
 /// Adds the cells of row y, each byte of which is in the first 1,000 columns and rows.
 #[tactic(auto, using(crate::proofs::PlaintextRows::live_here, crate::proofs::PlaintextRows::dead_here, crate::proofs::PlaintextRows::no_cell_past))]
 fn push_row(cells: &mut Vec<Cell>, y: usize, row: &[u8]) -> Result<(), AllocError>
-    requires { (x : ℕ) → x < length row.now → (x < SIDE_LIMIT) × (y < SIDE_LIMIT) }
+    requires { (x : ℕ) → x < length row.now → (x < side_limit) × (y < side_limit) }
     ensures { OnOk result
         (cells.new.items ≡ cells.old.items ++ live_cells (places_of_row (y, (0, row.now)))) }
 {
@@ -183,7 +183,7 @@ fn pattern_in(alloc: Global, text: &[u8]) -> Result<Pattern, AllocError>
 
 fn dead_cells(count: usize) -> &'static [u8]
     requires { count ≤ 64 }
-    ensures { result.now ≡ replicate count DEAD }
+    ensures { result.now ≡ replicate count dot }
 {
     &DEAD_CELLS[..count]
 }
@@ -191,7 +191,7 @@ fn dead_cells(count: usize) -> &'static [u8]
 /// Writes as many dead cells as the gap is wide, and then a byte.
 fn put_after_gap<V: Write>(out: &mut Out<V>, gap: u32, byte: u8) -> Result<(), WriteError>
     requires { out.old.failed ≡ false }
-    ensures { Writes V.contents out.old out.new result (replicate gap DEAD ++ byte ∷ []) }
+    ensures { Writes V.contents out.old out.new result (replicate gap dot ++ byte ∷ []) }
 {
     let mut left = gap as usize;
     while left > 0 {

@@ -1,4 +1,4 @@
-ghost use Rattle.std.specs.Prelude.{◌≡◌, ◌↔◌, ◌+◌, ◌≤◌, ℕ, true, false, IsTrue, ◌∷◌, [], length, codes, IfOk};
+ghost use Rattle.std.specs.Prelude.{◌≡◌, ◌↔◌, ◌+◌, ◌<◌, ◌≤◌, ℕ, true, false, IsTrue, ◌∷◌, [], length, codes, IfOk};
 ghost use Rattle.plane_core.specs.Out.{Writes};
 ghost use Rattle.plane_core.specs.Rules.{Numbers, IsRule, IsFirstFault, is_birth, is_survival, digits, rule_text, begins, numbers_at, rule_read};
 
@@ -78,20 +78,27 @@ impl Rule {
 
     /// Whether n is a birth number. It is false for 0 and for every n over 8.
     pub fn births(&self, n: u8) -> bool
-        ensures { result ≡ is_birth self.now n }
+        ensures birth { result ≡ is_birth self.now n }
+        ensures zero { n ≡ 0 → result ≡ false }
+        ensures over { 8 < n → result ≡ false }
+        ensures rule { IsRule self.now }
     {
+        let Rule { births, .. } = self;
         match n {
-            1..=8 => self.births[(n - 1) as usize],
+            1..=8 => births[(n - 1) as usize],
             _ => false,
         }
     }
 
     /// Whether n is a survival number. It is false for every n over 8.
     pub fn survives(&self, n: u8) -> bool
-        ensures { result ≡ is_survival self.now n }
+        ensures survival { result ≡ is_survival self.now n }
+        ensures over { 8 < n → result ≡ false }
+        ensures rule { IsRule self.now }
     {
+        let Rule { survivals, .. } = self;
         match n {
-            0..=8 => self.survivals[n as usize],
+            0..=8 => survivals[n as usize],
             _ => false,
         }
     }

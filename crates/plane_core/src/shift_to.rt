@@ -1,10 +1,10 @@
-ghost use Rattle.std.specs.Prelude.{◌≡◌, ◌-ℤ◌, ◌≤◌, ◌↔◌, true, length, unsigned_abs, IsTrue};
+ghost use Rattle.std.specs.Prelude.{◌≡◌, ◌-ℤ◌, ◌↔◌, true, length, IsTrue};
 ghost use Rattle.std.specs.List.{list_all};
 ghost use Rattle.plane_core.specs.Bounds.{shifted, TellsShift};
 ghost use Rattle.plane_core.specs.Cells.{on_plane, IsPattern};
-ghost use Rattle.plane_core.specs.declared.cell.TheConstants.{BOUND};
 
 use crate::cell::Cell;
+use crate::coordinate::difference;
 use crate::pattern::Pattern;
 
 impl Pattern {
@@ -50,15 +50,6 @@ fn all_stepped(cells: &[Cell], others: &[Cell], dx: i32, dy: i32) -> bool
     true
 }
 
-/// How far it is from one coordinate of the plane to another.
-fn distance(from: i32, to: i32) -> i32
-    requires from { unsigned_abs from ≤ BOUND }
-    requires to { unsigned_abs to ≤ BOUND }
-    ensures { result ≡ to -ℤ from }
-{
-    to - from
-}
-
 /// The step from one cell of the plane to another.
 #[tactic(auto, unfolding(crate::specs::Cells::on_plane))]
 fn step_between(from: Cell, to: Cell) -> (i32, i32)
@@ -66,5 +57,5 @@ fn step_between(from: Cell, to: Cell) -> (i32, i32)
     requires to { on_plane to ≡ true }
     ensures { result ≡ (to.x -ℤ from.x, to.y -ℤ from.y) }
 {
-    (distance(from.x, to.x), distance(from.y, to.y))
+    (difference(from.x, to.x), difference(from.y, to.y))
 }

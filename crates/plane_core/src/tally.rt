@@ -6,6 +6,7 @@ ghost use Rattle.plane_core.specs.declared.cell.Cell.{Cell};
 ghost use Rattle.plane_core.specs.declared.tally.Tally.{Tally};
 
 use crate::cell::Cell;
+use crate::coordinate::negated;
 use crate::rule::Rule;
 use std::alloc::{AllocError, Global};
 use std::cmp::Ordering;
@@ -22,8 +23,8 @@ impl Tally {
     /// The tally, counted at the cell (dx, dy) further.
     fn moved(self, dx: i32, dy: i32) -> Tally
         requires near { near_plane self.cell ≡ true }
-        requires step { unsigned_abs dx ≤ 1 }
-        requires leap { unsigned_abs dy ≤ 1 }
+        requires right { unsigned_abs dx ≤ 1 }
+        requires down { unsigned_abs dy ≤ 1 }
         ensures { result ≡ moved_tally dx dy self }
     {
         let cell = self.cell.moved(dx, dy);
@@ -115,8 +116,8 @@ fn take_at(tallies: &[Tally], cell: Cell) -> Taken<'_>
 /// The tallies, each counted at the cell (dx, dy) further.
 fn moved(alloc: Global, tallies: &[Tally], dx: i32, dy: i32) -> Result<Vec<Tally>, AllocError>
     requires near { list_all near_plane (cells_of tallies.now) ≡ true }
-    requires step { unsigned_abs dx ≤ 1 }
-    requires leap { unsigned_abs dy ≤ 1 }
+    requires right { unsigned_abs dx ≤ 1 }
+    requires down { unsigned_abs dy ≤ 1 }
     ensures { IfOk result (λ moved. moved.items ≡ map (moved_tally dx dy) tallies.now) }
 {
     let mut moved = Vec::with_capacity(alloc, tallies.len())?;
@@ -156,14 +157,6 @@ fn merged(
     Ok(sums)
 }
 
-/// The same step the other way.
-fn opposite(step: i32) -> i32
-    requires { unsigned_abs step ≤ 1 }
-    ensures { result ≡ neg_ℤ step }
-{
-    -step
-}
-
 /// Each cell's count together with those of the two cells a step (dx, dy) from it, before and behind.
 fn with_neighbours(
     alloc: Global,
@@ -173,12 +166,12 @@ fn with_neighbours(
 ) -> Result<Vec<Tally>, AllocError>
     requires near { list_all near_plane (cells_of tallies.now) ≡ true }
     requires in_order { InOrder (cells_of tallies.now) }
-    requires step { unsigned_abs dx ≤ 1 }
-    requires leap { unsigned_abs dy ≤ 1 }
+    requires right { unsigned_abs dx ≤ 1 }
+    requires down { unsigned_abs dy ≤ 1 }
     requires small { (c : Cell) → total tallies.now (moved_by dx dy c) + (total tallies.now c + total tallies.now (moved_by (neg_ℤ dx) (neg_ℤ dy) c)) < 256 }
     ensures { IfOk result (λ sums. AddsNeighbours dx dy tallies.now sums.items) }
 {
-    let before = moved(alloc, tallies, opposite(dx), opposite(dy))?;
+    let before = moved(alloc, tallies, negated(dx), negated(dy))?;
     let behind = moved(alloc, tallies, dx, dy)?;
     merged(alloc, before.as_slice(), tallies, behind.as_slice())
 }

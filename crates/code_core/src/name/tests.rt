@@ -1,7 +1,7 @@
 ghost use Rattle.std.specs.Prelude.{◌≢◌, ◌≤◌, [], IfOk};
 
 use super::*;
-use crate::recurrence::recurrence;
+use crate::reader::read_wechsler;
 use plane_core::cell::Cell;
 use plane_core::pattern::FromCellsError;
 use plane_core::plaintext::PlaintextError;
@@ -123,6 +123,78 @@ fn names_under_other_rules(rt: HostRuntime) -> Result<(), Fail> {
     Ok(())
 }
 
+// The eight orientations of the eater, drawn by hand.
+#[test]
+fn names_each_orientation(rt: HostRuntime) -> Result<(), Fail> {
+    for picture in [
+        EATER,
+        "OO..\nO...\n.OOO\n...O",
+        "..OO\n.O.O\n.O..\nOO..",
+        "O...\nOOO.\n...O\n..OO",
+        "OO..\n.O..\n.O.O\n..OO",
+        "OO..\nO.O.\n..O.\n..OO",
+        "..OO\n...O\nOOO.\nO...",
+        "...O\n.OOO\nO...\nOO..",
+    ] {
+        assert_eq!(rt;
+            named(rt.alloc(), picture, "b3s23", 64)?.as_str(),
+            "xs7_178c",
+            "{picture}"
+        );
+    }
+    Ok(())
+}
+
+/// Blocks in 13 rows and 13 columns, which fill 40 by 40 cells: one empty row or column lies between two blocks, and two
+/// lie after the first and before the last.
+fn grid_of_blocks(alloc: Global) -> Result<Vec<Cell>, AllocError> {
+    let starts: [i32; 13] = [0, 4, 7, 10, 13, 16, 19, 22, 25, 28, 31, 34, 38];
+    let mut cells = Vec::new(alloc);
+    for top in starts {
+        for left in starts {
+            for (right, down) in [(0, 0), (1, 0), (0, 1), (1, 1)] {
+                let x = left.saturating_add(right);
+                let y = top.saturating_add(down);
+                cells.push(Cell { y, x })?;
+            }
+        }
+    }
+    Ok(cells)
+}
+
+/// The text of that grid: in each strip all columns with live cells are the same.
+fn grid_text(alloc: Global) -> Result<String, AllocError> {
+    let mut text = String::new(alloc);
+    for (strip, column) in ["j", "d", "r", "m", "d", "r", "m", "p"].iter().enumerate() {
+        if strip > 0 {
+            text.push('z')?;
+        }
+        for part in "..w..0..0..0..0..0..0..0..0..0..0..w..".chars() {
+            match part {
+                '.' => text.push_str(column)?,
+                gap => text.push(gap)?,
+            }
+        }
+    }
+    Ok(text)
+}
+
+// The grid is a still life, and each of its images is the grid.
+#[test]
+fn names_a_full_grid_of_blocks(rt: HostRuntime) -> Result<(), Fail> {
+    let cells = grid_of_blocks(rt.alloc())?;
+    let grid = placed(rt.alloc(), cells.as_slice())?;
+    let text = grid_text(rt.alloc())?;
+    assert_eq!(rt; text.len(), 311);
+    let code = name(rt.alloc(), &grid, &Rule::life(), 64)?.expect(&rt, "a name");
+    let same = code.copy(rt.alloc())?;
+    assert_eq!(rt; same.text().strip_prefix("xs676_"), Some(text.as_str()));
+    assert!(rt; same == code);
+    let read = read_wechsler(rt.alloc(), text.as_str())?;
+    assert!(rt; read.cells() == grid.cells());
+    Ok(())
+}
+
 // Fourteen blocks with a column between each two are 41 columns wide.
 #[test]
 fn names_what_is_too_large_for_a_text(rt: HostRuntime) -> Result<(), Fail> {
@@ -158,7 +230,7 @@ fn finds_no_period_past_the_limit(rt: HostRuntime) -> Result<(), Fail> {
 }
 
 #[test]
-fn tells_when_a_pattern_comes_back(rt: HostRuntime) -> Result<(), Fail> {
+fn finds_when_a_pattern_comes_back(rt: HostRuntime) -> Result<(), Fail> {
     let life = Rule::life();
     for (picture, limit, found) in [
         (".O.\n..O\nOOO", 4, Some((4, 1, 1))),
@@ -169,8 +241,8 @@ fn tells_when_a_pattern_comes_back(rt: HostRuntime) -> Result<(), Fail> {
         (LIGHTWEIGHT_SPACESHIP, 64, Some((4, -2, 0))),
     ] {
         let pattern = drawn(rt.alloc(), picture)?;
-        let told = recurrence(rt.alloc(), &pattern, &life, limit)?;
-        assert_eq!(rt; told.map(|r| (r.period, r.dx, r.dy)), found);
+        let recurrence = Recurrence::find(rt.alloc(), &pattern, &life, limit)?;
+        assert_eq!(rt; recurrence.map(|r| (r.period, r.dx, r.dy)), found);
     }
     Ok(())
 }
@@ -180,9 +252,26 @@ fn tells_when_a_pattern_comes_back(rt: HostRuntime) -> Result<(), Fail> {
 fn stops_at_the_edge(rt: HostRuntime) -> Result<(), Fail> {
     let cells = [Cell { y: 0, x: 999_999 }, Cell { y: 0, x: 1_000_000 }];
     let pattern = placed(rt.alloc(), &cells)?;
-    let told = recurrence(rt.alloc(), &pattern, &Rule::life(), 1);
-    assert_eq!(rt; told, Err(StepError::Edge));
+    let found = Recurrence::find(rt.alloc(), &pattern, &Rule::life(), 1);
+    assert_eq!(rt; found, Err(StepError::Edge));
     assert!(rt; name(rt.alloc(), &pattern, &Rule::life(), 64).err() == Some(StepError::Edge));
+    Ok(())
+}
+
+// A vertical blinker beside the bound gets to it in one generation.
+#[test]
+fn stops_a_step_from_the_edge(rt: HostRuntime) -> Result<(), Fail> {
+    let x = 999_999;
+    let cells = [Cell { y: -1, x }, Cell { y: 0, x }, Cell { y: 1, x }];
+    let blinker = placed(rt.alloc(), &cells)?;
+    let life = Rule::life();
+    assert_eq!(rt; Recurrence::find(rt.alloc(), &blinker, &life, 1), Ok(None));
+    assert_eq!(rt;
+        Recurrence::find(rt.alloc(), &blinker, &life, 64),
+        Err(StepError::Edge)
+    );
+    assert!(rt; name(rt.alloc(), &blinker, &life, 1)?.is_none());
+    assert!(rt; name(rt.alloc(), &blinker, &life, 64).err() == Some(StepError::Edge));
     Ok(())
 }
 

@@ -87,6 +87,21 @@ fn knows_its_limit(rt: HostRuntime) -> Result<(), Fail> {
     Ok(())
 }
 
+// 10,000 full columns of the first strip, and one cell in the last of 10,000 strips.
+#[test]
+fn reads_long_texts(rt: HostRuntime) -> Result<(), Fail> {
+    let wide = [b'v'; 10_000];
+    let read = read_wechsler(rt.alloc(), std::str::from_utf8(&wide)?)?;
+    assert_eq!(rt; read.population(), 50_000);
+    assert!(rt; read.has(0, 0) && read.has(9_999, 4));
+    let mut high = [b'z'; 10_000];
+    high[9_999] = b'1';
+    let read = read_wechsler(rt.alloc(), std::str::from_utf8(&high)?)?;
+    assert_eq!(rt; read.population(), 1);
+    assert!(rt; read.has(0, 49_995));
+    Ok(())
+}
+
 // Where memory is refused the answer is that or the whole pattern.
 #[test]
 fn keeps_cells_or_says_memory(rt: HostRuntime) {

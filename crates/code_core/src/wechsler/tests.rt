@@ -65,6 +65,41 @@ fn spells_strips(rt: HostRuntime) -> Result<(), Fail> {
     Ok(())
 }
 
+// The eight orientations of the eater, each with the values of its four columns.
+#[test]
+fn spells_each_orientation(rt: HostRuntime) -> Result<(), Fail> {
+    for (picture, text) in [
+        ("..OO\n..O.\nO.O.\nOO..", "c871"),
+        ("OO..\nO...\n.OOO\n...O", "354c"),
+        ("..OO\n.O.O\n.O..\nOO..", "8e13"),
+        ("O...\nOOO.\n...O\n..OO", "32ac"),
+        ("OO..\n.O..\n.O.O\n..OO", "178c"),
+        ("OO..\nO.O.\n..O.\n..OO", "31e8"),
+        ("..OO\n...O\nOOO.\nO...", "c453"),
+        ("...O\n.OOO\nO...\nOO..", "ca23"),
+    ] {
+        assert!(rt; is_text(rt.alloc(), picture, text)?, "{text}");
+    }
+    Ok(())
+}
+
+// Eight strips of 40 full columns each.
+#[test]
+fn spells_the_longest_text(rt: HostRuntime) -> Result<(), Fail> {
+    let mut cells = Vec::new(rt.alloc());
+    for y in 0..40 {
+        for x in 0..40 {
+            cells.push(Cell { y, x })?;
+        }
+    }
+    let found = text_of(rt.alloc(), cells.as_slice())?.expect(&rt, "a text");
+    assert_eq!(rt; found.len(), 327);
+    for strip in found.split('z') {
+        assert_eq!(rt; strip, "vvvvvvvvvvvvvvvvvvvvvvvvvvvvvvvvvvvvvvvv");
+    }
+    Ok(())
+}
+
 #[test]
 fn knows_its_limits(rt: HostRuntime) -> Result<(), Fail> {
     assert!(rt; text_of(rt.alloc(), &[])?.is_none());

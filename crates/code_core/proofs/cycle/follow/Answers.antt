@@ -1,20 +1,23 @@
-use Rattle.std.proofs.Common.{◌≡◌, ap, suc, arith, rules, FitsSigned, to_z-of_z, w32}
+use Rattle.std.proofs.Common.{◌≡◌, ◌∙◌, sym, true, ap, suc, arith, rules, FitsSigned, to_z-of_z, w32}
 use Rattle.plane_core.specs.Bounds.{shifted}
-use Rattle.code_core.specs.declared.cycle.Recurrence.{Recurrence}
-use Rattle.code_core.proofs.RecurrenceLemmas.{follows-none, follows-more, recurs_then, inside_then, phases_then}
+use Rattle.plane_core.specs.Generations.{touches_edge}
+use Rattle.code_core.specs.declared.recurrence.Recurrence.{Recurrence}
+use Rattle.code_core.proofs.RecurrenceLemmas.{follows-none, follows-more, inside_then, meets_at_once, never_meets, phases_then, recurs_then}
 use Rattle.code_core.proofs.cycle.follow.Goals as goal
 
 pub loop-age-init : goal.loop-age-init
 loop-age-init c = rw c.new-phases.ensures.items (follows-none c.args.rule.now c.args.pattern.now c.in_ok-latest.latest c.in_ok-latest.ensures)
 
--- the shift that was told is that of the recurrence
+-- the shift that was found is that of the recurrence
 pub returns-in-Some-clause-recurs : goal.returns-in-Some-clause-recurs
 returns-in-Some-clause-recurs c =
     let dx_fits : FitsSigned w32 c.in-Some.dx = search rules in
     let dy_fits : FitsSigned w32 c.in-Some.dy = search rules in
-    let found : c.recurrence_at-recurrence.result ≡ record { period = suc c.loop-age.age; dx = c.in-Some.dx; dy = c.in-Some.dy } = simp to_z-of_z at c.recurrence_at-recurrence.ensures in
+    let found : c.recurrence_at-recurrence.result ≡ record { period = suc c.loop-age.age; dx = c.in-Some.dx; dy = c.in-Some.dy } =
+    simp to_z-of_z at c.recurrence_at-recurrence.ensures in
     let back : shifted c.in-Some.dx c.in-Some.dy c.args.pattern.now ≡ c.in_ok-next.next = c.in-Some.ensures.some in
-    rw found (recurs_then c.args.rule.now c.args.pattern.now c.loop-age.age c.args.limit c.loop-age.phases.items c.loop-age.latest c.in_ok-next.next c.in-Some.dx c.in-Some.dy
+    rw found (recurs_then c.args.rule.now c.args.pattern.now c.loop-age.age c.args.limit c.loop-age.phases.items c.loop-age.latest c.in_ok-next.next
+    c.in-Some.dx c.in-Some.dy
     c.loop-age.invariant c.loop-age-test.true c.in_ok-next.ensures.next back)
 
 pub returns-in-Some-clause-inside : goal.returns-in-Some-clause-inside
@@ -24,15 +27,31 @@ returns-in-Some-clause-inside c =
     c.loop-age.invariant c.in_ok-next.ensures.inside c.in_ok-next.ensures.next back g
 
 pub loop-age-preserved : goal.loop-age-preserved
-loop-age-preserved c = rw c.in_ok-keep.ensures (follows-more c.args.rule.now c.args.pattern.now c.loop-age.age c.loop-age.phases.items c.loop-age.latest c.in_ok-next.next
+loop-age-preserved c =
+    rw c.in_ok-keep.ensures (follows-more c.args.rule.now c.args.pattern.now c.loop-age.age c.loop-age.phases.items c.loop-age.latest c.in_ok-next.next
     c.loop-age.invariant c.in_ok-next.ensures.inside c.in_ok-next.ensures.next c.in_default.ensures.none)
 
 pub returns-in-Some-clause-phases : goal.returns-in-Some-clause-phases
 returns-in-Some-clause-phases c =
     let age : c.recurrence_at-recurrence.result.period ≡ suc c.loop-age.age = ap (λ (r : Recurrence). r.period) c.recurrence_at-recurrence.ensures in
-    rw (c.in_ok-keep.ensures, age) (phases_then c.args.rule.now c.args.pattern.now c.loop-age.age c.loop-age.phases.items c.loop-age.latest c.loop-age.invariant)
+    rw (c.in_ok-keep.ensures, age)
+    (phases_then c.args.rule.now c.args.pattern.now c.loop-age.age c.loop-age.phases.items c.loop-age.latest c.loop-age.invariant)
 
 pub returns-clause-never : goal.returns-clause-never
 returns-clause-never c =
     let all : c.loop-age.age ≡ c.args.limit = search rules in
     λ p dx dy some low. c.loop-age.invariant.new p dx dy some (omega arith)
+
+-- where the pattern lies too far in, the edge isn't met
+pub returns-then-touches_edge-clause-never_edge : goal.returns-then-touches_edge-clause-never_edge
+returns-then-touches_edge-clause-never_edge c =
+    let on : touches_edge c.args.pattern.now ≡ true = sym c.touches_edge.ensures ∙ c.if-touches_edge.true in
+    λ reach inside far e. never_meets c.args.rule.now c.args.pattern.now c.args.limit reach inside far
+    (meets_at_once c.args.rule.now c.args.pattern.now c.args.limit c.requires.least on)
+
+pub returns-in_err-next-clause-edge : goal.returns-in_err-next-clause-edge
+returns-in_err-next-clause-edge c = search rules
+
+pub returns-in_err-next-clause-never_edge : goal.returns-in_err-next-clause-never_edge
+returns-in_err-next-clause-never_edge c = λ reach inside far e.
+    never_meets c.args.rule.now c.args.pattern.now c.args.limit reach inside far (returns-in_err-next-clause-edge c e)

@@ -4,7 +4,8 @@ use Rattle.code_core.proofs.reader.cells_in.Goals as goal
 
 pub loop-token-preserved : goal.loop-token-preserved
 loop-token-preserved c =
-    Gathered_more _ _ _ _ _ _ _ _ _ _ c.loop-token.invariant c.in-Some.ensures.token c.in_ok-head.ensures.cells c.in_ok-head.ensures.strip c.in_ok-head.ensures.column
+    Gathered_more _ _ _ _ _ _ _ _ _ _ c.loop-token.invariant c.in-Some.ensures.token c.in_ok-head.ensures.cells c.in_ok-head.ensures.strip
+    c.in_ok-head.ensures.column
 
 pub returns : goal.returns
 returns c = Gathered_all _ _ _ _ _ c.loop-token.invariant (search rules)

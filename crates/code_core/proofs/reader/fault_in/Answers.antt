@@ -10,8 +10,10 @@ returns-in-Some-fault_at c =
 
 pub returns-then-has_cell : goal.returns-then-has_cell
 returns-then-has_cell c =
-    sym (Passed_cells c.args.text.now c.loop-token.rest.now c.loop-token.has_cell (length c.args.text.now - length c.loop-token.rest.now) c.loop-token.invariant (search rules) c.if-has_cell.true)
+    sym (Passed_cells c.args.text.now c.loop-token.rest.now c.loop-token.has_cell (length c.args.text.now - length c.loop-token.rest.now)
+    c.loop-token.invariant (search rules) c.if-has_cell.true)
 
 pub returns-else-has_cell : goal.returns-else-has_cell
 returns-else-has_cell c =
-    sym (Passed_empty c.args.text.now c.loop-token.rest.now c.loop-token.has_cell (length c.args.text.now - length c.loop-token.rest.now) c.loop-token.invariant (search rules) c.if-has_cell.false)
+    sym (Passed_empty c.args.text.now c.loop-token.rest.now c.loop-token.has_cell (length c.args.text.now - length c.loop-token.rest.now)
+    c.loop-token.invariant (search rules) c.if-has_cell.false)

@@ -17,6 +17,7 @@ pub unreachable-requires : goal.unreachable-requires
 unreachable-requires c =
     let s = sound c.args.text.now c.requires.sound in
     let cells : c.in_ok-cells.cells.items ≡ cells_from 0 0 s.tokens = c.in_ok-cells.ensures s.tokens s.spells in
-    let none : position off_plane c.deref.result.now ≡ None = ap (position off_plane) (c.deref.ensures.value ∙ cells) ∙ position-on_plane (cells_from 0 0 s.tokens) (Spells-on_plane s.tokens c.args.text.now s.spells c.requires.short) in
+    let none : position off_plane c.deref.result.now ≡ None = ap (position off_plane) (c.deref.ensures.value ∙ cells)
+    ∙ position-on_plane (cells_from 0 0 s.tokens) (Spells-on_plane s.tokens c.args.text.now s.spells c.requires.short) in
     let some : position off_plane c.deref.result.now ≡ Some c.in-Err-OutOfPlane.field-0-0 = search rules in
     cc

@@ -4,7 +4,8 @@ use Rattle.code_core.proofs.reader.push_token.Goals as goal
 
 pub returns-in_ok-push_column-in-Column-clause-cells : goal.returns-in_ok-push_column-in-Column-clause-cells
 returns-in_ok-push_column-in-Column-clause-cells c = λ tokens.
-    cells_from-column c.args.cells.now.items c.push_column.new.cells.items c.args.head.strip c.args.head.x c.in-Column.value c.args.token tokens c.in-Column.is (search rules)
+    cells_from-column c.args.cells.now.items c.push_column.new.cells.items c.args.head.strip c.args.head.x c.in-Column.value c.args.token tokens
+    c.in-Column.is (search rules)
 
 pub returns-in-Gap-clause-cells : goal.returns-in-Gap-clause-cells
 returns-in-Gap-clause-cells c = λ tokens.

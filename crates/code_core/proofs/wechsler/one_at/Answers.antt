@@ -24,7 +24,9 @@ returns-clause-value c =
     let top_fits : FitsSigned w32 b.top = search rules in
     let x_fits : FitsSigned w32 c.along.result = search rules in
     let y_fits : FitsSigned w32 c.along-2.result = search rules in
-    let x : to_z w32 (of_z w32 c.along.result) ≡ b.left +ℤ pos c.args.x = to_z-of_z w32 c.along.result x_fits ∙ c.along.ensures ∙ ap (λ z. z +ℤ pos c.args.x) (to_z-of_z w32 b.left left_fits) in
-    let y : to_z w32 (of_z w32 c.along-2.result) ≡ b.top +ℤ pos c.args.y = to_z-of_z w32 c.along-2.result y_fits ∙ c.along-2.ensures ∙ ap (λ z. z +ℤ pos c.args.y) (to_z-of_z w32 b.top top_fits) in
+    let x : to_z w32 (of_z w32 c.along.result) ≡ b.left +ℤ pos c.args.x = to_z-of_z w32 c.along.result x_fits ∙ c.along.ensures
+    ∙ ap (λ z. z +ℤ pos c.args.x) (to_z-of_z w32 b.left left_fits) in
+    let y : to_z w32 (of_z w32 c.along-2.result) ≡ b.top +ℤ pos c.args.y = to_z-of_z w32 c.along-2.result y_fits ∙ c.along-2.ensures
+    ∙ ap (λ z. z +ℤ pos c.args.y) (to_z-of_z w32 b.top top_fits) in
     let alive = c.has.ensures ∙ (λ i. has S (cell_at (x i) (y i))) ∙ has-at_corner S b c.args.x c.args.y c.requires.bounds in
     rw (← alive) (search (rules, c.from.ensures))

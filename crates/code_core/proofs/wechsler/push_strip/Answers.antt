@@ -11,8 +11,17 @@ loop-x-preserved c =
     let width = distance c.args.bounds.left c.args.bounds.right + 1 in
     let low : c.loop-x.x < width = omega (arith, c.last_column-x-end.ensures) in
     elim c.if-value-eq0.branch [
-      | then-value-eq0 w ↦ rw (w.text-is, w.gap-is) (omega arith, strip_more-empty cells width c.args.k c.loop-x.gap c.loop-x.x c.column-value.result _ _ low w.if-value-eq0.true c.column-value.ensures.value c.loop-x.invariant.1)
-      | else-value-eq0+in_ok-push_column w ↦ rw (w.text-is, w.gap-is) (omega arith, strip_more-live cells width c.args.k c.loop-x.gap c.loop-x.x c.column-value.result _ _ _ low (omega arith) c.column-value.ensures.value c.loop-x.invariant.1 w.in_ok-push_column.ensures)
+      | then-value-eq0 w ↦
+          rw (w.text-is, w.gap-is) (
+            omega arith,
+            strip_more-empty cells width c.args.k c.loop-x.gap c.loop-x.x c.column-value.result _ _ low w.if-value-eq0.true
+                c.column-value.ensures.value c.loop-x.invariant.1,
+          )
+      | else-value-eq0+in_ok-push_column w ↦ rw (w.text-is, w.gap-is) (
+        omega arith,
+        strip_more-live cells width c.args.k c.loop-x.gap c.loop-x.x c.column-value.result _ _ _ low (omega arith)
+            c.column-value.ensures.value c.loop-x.invariant.1 w.in_ok-push_column.ensures,
+      )
     ]
 
 pub returns : goal.returns

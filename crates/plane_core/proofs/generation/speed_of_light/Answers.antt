@@ -1,5 +1,8 @@
-use Rattle.plane_core.proofs.GenerationLemmas.{speed_of_light_law}
+use Rattle.plane_core.proofs.GenerationLemmas.{speed_from_origin, speed_of_light_law}
 use Rattle.plane_core.proofs.generation.speed_of_light.Goals as goal
 
-pub returns : goal.returns
-returns c = speed_of_light_law
+pub returns-clause-boxes : goal.returns-clause-boxes
+returns-clause-boxes c = speed_of_light_law
+
+pub returns-clause-origin : goal.returns-clause-origin
+returns-clause-origin c = speed_from_origin

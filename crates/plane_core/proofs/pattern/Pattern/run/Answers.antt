@@ -1,4 +1,4 @@
-use Rattle.std.proofs.Common.{◌≡◌, ◌∙◌, sym, ap, List, false, true, arith, below_more}
+use Rattle.std.proofs.Common.{◌≡◌, ◌∙◌, sym, ap, List, false, true, arith, below_more, rules}
 use Rattle.std.proofs.lemmas.Bool.{false≢true}
 use Rattle.std.proofs.lemmas.Result.{err_from_is_err_and}
 use Rattle.plane_core.specs.declared.cell.Cell.{Cell}
@@ -25,3 +25,15 @@ returns-in_err-pattern-2-clause-never_edge c = λ reach h far e.
     let edge : c.in_err-pattern-2.field-0.0 ≡ Edge = cc in
     let on : touches_edge c.loop.pattern ≡ true = rw edge at c.in_err-pattern-2.ensures.refused in
     false≢true (sym off ∙ on)
+
+-- no generation before the first: the pattern itself is at the edge
+pub returns-then-touches-clause-never_edge : goal.returns-then-touches-clause-never_edge
+returns-then-touches-clause-never_edge c = λ reach h far e.
+    let on : touches_edge c.args.self.now ≡ true = search rules in
+    let off = run_inside c.args.rule.now c.args.self.now reach 0 c.args.generations h far c.if-generations-gt0.true in
+    false≢true (sym off ∙ ap touches_edge (after-none c.args.rule.now c.args.self.now) ∙ on)
+
+pub returns-then-touches-clause-edge : goal.returns-then-touches-clause-edge
+returns-then-touches-clause-edge c = λ e.
+    let on : touches_edge c.args.self.now ≡ true = search rules in
+    (0, c.if-generations-gt0.true, ap touches_edge (after-none c.args.rule.now c.args.self.now) ∙ on)

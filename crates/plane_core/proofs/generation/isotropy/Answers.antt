@@ -1,5 +1,5 @@
 use Rattle.plane_core.proofs.CommuteLemmas.{next-shifted, next-image}
-use Rattle.plane_core.proofs.orientation.isotropy.Goals as goal
+use Rattle.plane_core.proofs.generation.isotropy.Goals as goal
 
 pub returns-clause-moved : goal.returns-clause-moved
 returns-clause-moved c = next-shifted

@@ -1,5 +1,6 @@
 -- Texts as tokens: what tokens spell is read as these tokens, and what is read is spelled so.
-use Rattle.std.proofs.Common.{◌≡◌, ◌≢◌, ◌==◌, ◌<◌, ◌≤◌, ◌+◌, ◌-◌, ℕ, zero, suc, Bool, true, false, List, [], ◌∷◌, ◌++◌, length, refl, sym, ◌∙◌, ap, subst, arith, ◌⊎◌, inl, inr, length-append, append_assoc, append-nil, codes, Result, Ok, Err}
+use Rattle.std.proofs.Common.{◌≡◌, ◌≢◌, ◌==◌, ◌<◌, ◌≤◌, ◌+◌, ◌-◌, ℕ, zero, suc, Bool, true, false, List, [], ◌∷◌, ◌++◌, length, refl, sym, ◌∙◌, ap}
+use Rattle.std.proofs.Common.{subst, arith, ◌⊎◌, inl, inr, length-append, append_assoc, append-nil, codes, Result, Ok, Err}
 use Rattle.std.specs.Prelude.{if◌then◌else◌}
 use Rattle.std.proofs.lemmas.Bool.Decides.{nat_tests, Decides-eqb}
 use Rattle.std.specs.List.{All, flat_map}
@@ -8,9 +9,8 @@ use Rattle.code_core.specs.declared.token.Token.{Token}
 use Rattle.code_core.specs.declared.token.Token.TheVariants.{Column, Gap, NextStrip}
 use Rattle.code_core.specs.declared.reader.WechslerFault.{WechslerFault}
 use Rattle.code_core.specs.declared.reader.WechslerFault.TheVariants.{TooLong, BadByte, ShortRun, Empty}
-use Rattle.code_core.specs.declared.reader.TheConstants.{ONE_EMPTY, TWO_EMPTY, THREE_EMPTY, MANY_EMPTY, STRIP_END}
-use Rattle.code_core.specs.Tokens.{character, gap_text, spelling, IsToken, Spells}
-use Rattle.code_core.specs.Reading.{is_character, character_value, single, long_gap, with_token, tokens_at}
+use Rattle.code_core.specs.Tokens.{character, gap_text, spelling, IsToken, Spells, is_character}
+use Rattle.code_core.specs.Reading.{character_value, single, long_gap, with_token, tokens_at}
 use Rattle.code_core.specs.ReadingSteps.{Begins, has_character}
 
 -- characters and their values
@@ -31,29 +31,31 @@ unfolding character character_value
 character_value-character v h = grind (arith, nat_tests)
 
 -- the bytes of a token
-pub spelling-single : (b : ℕ) → is_character b ≡ true → (b == MANY_EMPTY) ≡ false → spelling (single b) ≡ b ∷ []
+pub spelling-single : (b : ℕ) → is_character b ≡ true → (b == 121) ≡ false → spelling (single b) ≡ b ∷ []
 unfolding single gap_text
-spelling-single b h many = go (b == ONE_EMPTY) refl (b == TWO_EMPTY) refl (b == THREE_EMPTY) refl (b == STRIP_END) refl
+spelling-single b h many = go (b == 48) refl (b == 119) refl (b == 120) refl (b == 122) refl
   where
-    go : (one : Bool) → (b == ONE_EMPTY) ≡ one → (two : Bool) → (b == TWO_EMPTY) ≡ two → (three : Bool) → (b == THREE_EMPTY) ≡ three → (end : Bool) → (b == STRIP_END) ≡ end → spelling (single b) ≡ b ∷ []
+    go : (one : Bool) → (b == 48) ≡ one → (two : Bool) → (b == 119) ≡ two → (three : Bool) → (b == 120) ≡ three → (end : Bool) → (b == 122) ≡ end
+        → spelling (single b) ≡ b ∷ []
     go true e1 two e2 three e3 end e4 = rw e1 (grind (arith, nat_tests))
     go false e1 true e2 three e3 end e4 = rw (e1, e2) (grind (arith, nat_tests))
     go false e1 false e2 true e3 end e4 = rw (e1, e2, e3) (grind (arith, nat_tests))
     go false e1 false e2 false e3 true e4 = rw (e1, e2, e3, e4) (grind (arith, nat_tests))
     go false e1 false e2 false e3 false e4 = rw (e1, e2, e3, e4) (ap (λ (c : ℕ). c ∷ []) (character-character_value b h))
 
-pub IsToken-single : (b : ℕ) → is_character b ≡ true → (b == MANY_EMPTY) ≡ false → IsToken (single b)
+pub IsToken-single : (b : ℕ) → is_character b ≡ true → (b == 121) ≡ false → IsToken (single b)
 unfolding is_character single character_value
-IsToken-single b h many = go (b == ONE_EMPTY) refl (b == TWO_EMPTY) refl (b == THREE_EMPTY) refl (b == STRIP_END) refl
+IsToken-single b h many = go (b == 48) refl (b == 119) refl (b == 120) refl (b == 122) refl
   where
-    go : (one : Bool) → (b == ONE_EMPTY) ≡ one → (two : Bool) → (b == TWO_EMPTY) ≡ two → (three : Bool) → (b == THREE_EMPTY) ≡ three → (end : Bool) → (b == STRIP_END) ≡ end → IsToken (single b)
+    go : (one : Bool) → (b == 48) ≡ one → (two : Bool) → (b == 119) ≡ two → (three : Bool) → (b == 120) ≡ three → (end : Bool) → (b == 122) ≡ end
+        → IsToken (single b)
     go true e1 two e2 three e3 end e4 = rw e1 (omega arith, omega arith)
     go false e1 true e2 three e3 end e4 = rw (e1, e2) (omega arith, omega arith)
     go false e1 false e2 true e3 end e4 = rw (e1, e2, e3) (omega arith, omega arith)
     go false e1 false e2 false e3 true e4 = rw (e1, e2, e3, e4) tt
     go false e1 false e2 false e3 false e4 = rw (e1, e2, e3, e4) (grind (arith, nat_tests), grind (arith, nat_tests))
 
-pub spelling-long_gap : (c : ℕ) → is_character c ≡ true → spelling (long_gap c) ≡ MANY_EMPTY ∷ c ∷ []
+pub spelling-long_gap : (c : ℕ) → is_character c ≡ true → spelling (long_gap c) ≡ 121 ∷ c ∷ []
 unfolding gap_text
 spelling-long_gap c h =
     let e : character (character_value c) ≡ c = character-character_value c h in
@@ -68,25 +70,27 @@ unfolding tokens_at
 tokens_at-bad place b [] bad = rw bad refl
 tokens_at-bad place b (c ∷ rest) bad = rw bad refl
 
-pub tokens_at-single : (place b : ℕ) (rest : List ℕ) → is_character b ≡ true → (b == MANY_EMPTY) ≡ false → tokens_at place (b ∷ rest) ≡ with_token (single b) (tokens_at (place + 1) rest)
+pub tokens_at-single : (place b : ℕ) (rest : List ℕ) → is_character b ≡ true → (b == 121) ≡ false
+    → tokens_at place (b ∷ rest) ≡ with_token (single b) (tokens_at (place + 1) rest)
 unfolding tokens_at
 tokens_at-single place b [] h many = rw (h, many) refl
 tokens_at-single place b (c ∷ rest) h many = rw (h, many) refl
 
-pub tokens_at-long : (place c : ℕ) (rest : List ℕ) → is_character c ≡ true → tokens_at place (MANY_EMPTY ∷ c ∷ rest) ≡ with_token (long_gap c) (tokens_at (place + 2) rest)
+pub tokens_at-long : (place c : ℕ) (rest : List ℕ) → is_character c ≡ true
+    → tokens_at place (121 ∷ c ∷ rest) ≡ with_token (long_gap c) (tokens_at (place + 2) rest)
 unfolding is_character tokens_at
 tokens_at-long place c rest h = rw h refl
 
-pub tokens_at-short : (place c : ℕ) (rest : List ℕ) → is_character c ≡ false → tokens_at place (MANY_EMPTY ∷ c ∷ rest) ≡ Err (ShortRun place)
+pub tokens_at-short : (place c : ℕ) (rest : List ℕ) → is_character c ≡ false → tokens_at place (121 ∷ c ∷ rest) ≡ Err (ShortRun place)
 unfolding is_character tokens_at
 tokens_at-short place c rest h = rw h refl
 
-pub tokens_at-end : (place : ℕ) → tokens_at place (MANY_EMPTY ∷ []) ≡ Err (ShortRun place)
+pub tokens_at-end : (place : ℕ) → tokens_at place (121 ∷ []) ≡ Err (ShortRun place)
 unfolding is_character tokens_at
 tokens_at-end place = refl
 
 -- a column's character is none of those with a meaning of their own
-pub column-character : (v : ℕ) → 1 ≤ v → v ≤ 31 → (k : ℕ) → (k ≡ ONE_EMPTY) ⊎ (TWO_EMPTY ≤ k) → (character v == k) ≡ false
+pub column-character : (v : ℕ) → 1 ≤ v → v ≤ 31 → (k : ℕ) → (k ≡ 48) ⊎ (119 ≤ k) → (character v == k) ≡ false
 unfolding character
 column-character v low high k (inl zero_byte) = grind (arith, nat_tests)
 column-character v low high k (inr letter) = grind (arith, nat_tests)
@@ -94,11 +98,13 @@ column-character v low high k (inr letter) = grind (arith, nat_tests)
 pub single-character : (v : ℕ) → 1 ≤ v → v ≤ 31 → single (character v) ≡ Column v
 unfolding single
 single-character v low high =
-    rw (column-character v low high ONE_EMPTY (inl refl), column-character v low high TWO_EMPTY (inr (omega arith)), column-character v low high THREE_EMPTY (inr (omega arith)), column-character v low high STRIP_END (inr (omega arith)))
+    rw (
+      column-character v low high 48 (inl refl),
+      column-character v low high 119 (inr (omega arith)),
+      column-character v low high 120 (inr (omega arith)),
+      column-character v low high 122 (inr (omega arith)),
+    )
     (ap (λ (k : ℕ). Column k) (character_value-character v (omega arith)))
-
-pub long_gap-character : (n : ℕ) → 4 ≤ n → n ≤ 39 → long_gap (character (n - 4)) ≡ Gap n
-long_gap-character n low high = let e : character_value (character (n - 4)) + 4 ≡ n = omega (arith, character_value-character (n - 4) (omega arith)) in ap (λ (k : ℕ). Gap k) e
 
 -- a token is read from its spelling, whatever follows
 abbrev pub IsRead : Token → Type 0
@@ -107,24 +113,25 @@ IsRead token = (place : ℕ) (rest : List ℕ) → tokens_at place (spelling tok
 pub tokens_at-token : (token : Token) → IsToken token → IsRead token
 unfolding is_character gap_text single
 tokens_at-token (Column v) h = λ place rest.
-    tokens_at-single place (character v) rest (is_character-character v (omega arith)) (column-character v h.0 h.1 MANY_EMPTY (inr (omega arith)))
+    tokens_at-single place (character v) rest (is_character-character v (omega arith)) (column-character v h.0 h.1 121 (inr (omega arith)))
     ∙ ap (λ (t : Token). with_token t (tokens_at (place + 1) rest)) (single-character v h.0 h.1)
 tokens_at-token (Gap zero) h = absurd (omega arith)
-tokens_at-token (Gap (suc zero)) h = λ place rest. tokens_at-single place ONE_EMPTY rest refl refl
-tokens_at-token (Gap (suc (suc zero))) h = λ place rest. tokens_at-single place TWO_EMPTY rest refl refl
-tokens_at-token (Gap (suc (suc (suc zero)))) h = λ place rest. tokens_at-single place THREE_EMPTY rest refl refl
+tokens_at-token (Gap (suc zero)) h = λ place rest. tokens_at-single place 48 rest refl refl
+tokens_at-token (Gap (suc (suc zero))) h = λ place rest. tokens_at-single place 119 rest refl refl
+tokens_at-token (Gap (suc (suc (suc zero)))) h = λ place rest. tokens_at-single place 120 rest refl refl
 tokens_at-token (Gap (suc (suc (suc (suc n))))) h =
     let e : character_value (character n) + 4 ≡ suc (suc (suc (suc n))) = omega (arith, character_value-character n (omega arith)) in
     let c : is_character (character n) ≡ true = is_character-character n (omega arith) in
     subst (λ (m : ℕ). IsRead (Gap m)) e (λ place rest. rw (spelling-long_gap (character n) c) (tokens_at-long place (character n) rest c))
-tokens_at-token NextStrip h = λ place rest. tokens_at-single place STRIP_END rest refl refl
+tokens_at-token NextStrip h = λ place rest. tokens_at-single place 122 rest refl refl
 
--- a token is a byte or two, so what is behind it is shorter
+-- a token is a byte or two, so the rest is shorter
 length-gap_text : (n : ℕ) → 1 ≤ length (gap_text n)
 unfolding gap_text
 length-gap_text n = go (n == 1) (n == 2) (n == 3)
   where
-    go : (one two three : Bool) → 1 ≤ length (if one then codes "0" else if two then codes "w" else if three then codes "x" else codes "y" ++ character (n - 4) ∷ [])
+    go : (one two three : Bool) → 1 ≤ length (if one then codes "0" else if two then codes "w" else if three then codes "x" else codes "y"
+        ++ character (n - 4) ∷ [])
     go true two three = omega arith
     go false true three = omega arith
     go false false true = omega arith
@@ -152,10 +159,12 @@ pub tokens_at-tokens : (tokens : List Token) → All IsToken tokens → (place :
     → tokens_at place (flat_map spelling tokens ++ rest) ≡ with_tokens tokens (tokens_at (place + length (flat_map spelling tokens)) rest)
 tokens_at-tokens [] each place rest = ap (λ (k : ℕ). tokens_at k rest) (omega arith)
 tokens_at-tokens (token ∷ tokens) each place rest =
-    let size : place + length (spelling token) + length (flat_map spelling tokens) ≡ place + length (spelling token ++ flat_map spelling tokens) = omega (arith, length-append (spelling token) (flat_map spelling tokens)) in
+    let size : place + length (spelling token) + length (flat_map spelling tokens) ≡ place + length (spelling token ++ flat_map spelling tokens) =
+    omega (arith, length-append (spelling token) (flat_map spelling tokens)) in
     ap (λ (text : List ℕ). tokens_at place text) (append_assoc (spelling token) (flat_map spelling tokens) rest)
     ∙ tokens_at-token token (each zero token (omega arith)) place (flat_map spelling tokens ++ rest)
-    ∙ ap (λ (r : Result (List Token) WechslerFault). with_token token r) (tokens_at-tokens tokens (All-tail IsToken token tokens each) (place + length (spelling token)) rest)
+    ∙ ap (λ (r : Result (List Token) WechslerFault). with_token token r)
+    (tokens_at-tokens tokens (All-tail IsToken token tokens each) (place + length (spelling token)) rest)
     ∙ ap (λ (k : ℕ). with_token token (with_tokens tokens (tokens_at k rest))) size
 
 pub with_tokens-none : (tokens : List Token) → with_tokens tokens (Ok []) ≡ Ok tokens
@@ -173,59 +182,61 @@ tokens_at-spelled tokens each place =
     ap (λ (text : List ℕ). tokens_at place text) (sym (append-nil (flat_map spelling tokens))) ∙ tokens_at-tokens tokens each place [] ∙ with_tokens-none tokens
 
 -- the token at the front of a text
-pub Begins_single : (text : List ℕ) (token : Token) (b : ℕ) (rest : List ℕ) → text ≡ b ∷ rest → token ≡ single b → is_character b ≡ true → b ≢ MANY_EMPTY → Begins text token rest
+pub Begins_single : (text : List ℕ) (token : Token) (b : ℕ) (rest : List ℕ) → text ≡ b ∷ rest → token ≡ single b → is_character b ≡ true → b ≢ 121
+    → Begins text token rest
 Begins_single text token b rest whole is h other =
-    let many : (b == MANY_EMPTY) ≡ false = grind (arith, nat_tests) in
+    let many : (b == 121) ≡ false = grind (arith, nat_tests) in
     record { is_token = rw is (IsToken-single b h many); spelled = rw (whole, is, spelling-single b h many) refl }
 
-pub Begins_long_gap : (c : ℕ) (rest : List ℕ) → is_character c ≡ true → Begins (MANY_EMPTY ∷ c ∷ rest) (long_gap c) rest
+pub Begins_long_gap : (c : ℕ) (rest : List ℕ) → is_character c ≡ true → Begins (121 ∷ c ∷ rest) (long_gap c) rest
 Begins_long_gap c rest h = record { is_token = IsToken-long_gap c h; spelled = ap (λ (text : List ℕ). text ++ rest) (sym (spelling-long_gap c h)) }
 
 -- a text begins with a byte that is no character, with a token of one byte, or with `y`
 front_cases : (P : List ℕ → Type 0)
     → ((b : ℕ) (rest : List ℕ) → is_character b ≡ false → P (b ∷ rest))
     → ((token : Token) (rest : List ℕ) → IsToken token → P rest → P (spelling token ++ rest))
-    → (b : ℕ) (rest : List ℕ) → P rest → P (MANY_EMPTY ∷ rest) → P (b ∷ rest)
-front_cases P bad more b rest behind many = go (is_character b) refl (b == MANY_EMPTY) refl
+    → (b : ℕ) (rest : List ℕ) → P rest → P (121 ∷ rest) → P (b ∷ rest)
+front_cases P bad more b rest after many = go (is_character b) refl (b == 121) refl
   where
-    go : (c : Bool) → is_character b ≡ c → (m : Bool) → (b == MANY_EMPTY) ≡ m → P (b ∷ rest)
+    go : (c : Bool) → is_character b ≡ c → (m : Bool) → (b == 121) ≡ m → P (b ∷ rest)
     go false h m e = bad b rest h
-    go true h false e = subst (λ (text : List ℕ). P (text ++ rest)) (spelling-single b h e) (more (single b) rest (IsToken-single b h e) behind)
-    go true h true e = subst (λ (k : ℕ). P (k ∷ rest)) (sym ((Decides-eqb b MANY_EMPTY).0 e)) many
+    go true h false e = subst (λ (text : List ℕ). P (text ++ rest)) (spelling-single b h e) (more (single b) rest (IsToken-single b h e) after)
+    go true h true e = subst (λ (k : ℕ). P (k ∷ rest)) (sym ((Decides-eqb b 121).0 e)) many
 
 long_cases : (P : List ℕ → Type 0)
-    → ((rest : List ℕ) → has_character rest ≡ false → P (MANY_EMPTY ∷ rest))
+    → ((rest : List ℕ) → has_character rest ≡ false → P (121 ∷ rest))
     → ((token : Token) (rest : List ℕ) → IsToken token → P rest → P (spelling token ++ rest))
-    → (c : ℕ) (rest : List ℕ) → P rest → P (MANY_EMPTY ∷ c ∷ rest)
-long_cases P short more c rest behind = go (is_character c) refl
+    → (c : ℕ) (rest : List ℕ) → P rest → P (121 ∷ c ∷ rest)
+long_cases P short more c rest after = go (is_character c) refl
   where
-    go : (d : Bool) → is_character c ≡ d → P (MANY_EMPTY ∷ c ∷ rest)
+    go : (d : Bool) → is_character c ≡ d → P (121 ∷ c ∷ rest)
     go false h = short (c ∷ rest) h
-    go true h = subst (λ (text : List ℕ). P (text ++ rest)) (spelling-long_gap c h) (more (long_gap c) rest (IsToken-long_gap c h) behind)
+    go true h = subst (λ (text : List ℕ). P (text ++ rest)) (spelling-long_gap c h) (more (long_gap c) rest (IsToken-long_gap c h) after)
 
 -- induction over texts: each is empty, or has a fault at its front, or begins with a token
 pub text_induction : (P : List ℕ → Type 0) → P []
     → ((b : ℕ) (rest : List ℕ) → is_character b ≡ false → P (b ∷ rest))
-    → ((rest : List ℕ) → has_character rest ≡ false → P (MANY_EMPTY ∷ rest))
+    → ((rest : List ℕ) → has_character rest ≡ false → P (121 ∷ rest))
     → ((token : Token) (rest : List ℕ) → IsToken token → P rest → P (spelling token ++ rest))
     → (text : List ℕ) → P text
 text_induction P none bad short more [] = none
 text_induction P none bad short more (b ∷ []) = front_cases P bad more b [] none (short [] refl)
 text_induction P none bad short more (b ∷ c ∷ rest) =
-    front_cases P bad more b (c ∷ rest) (text_induction P none bad short more (c ∷ rest)) (long_cases P short more c rest (text_induction P none bad short more rest))
+    front_cases P bad more b (c ∷ rest) (text_induction P none bad short more (c ∷ rest))
+    (long_cases P short more c rest (text_induction P none bad short more rest))
 
-pub tokens_at-short_run : (place : ℕ) (rest : List ℕ) → has_character rest ≡ false → tokens_at place (MANY_EMPTY ∷ rest) ≡ Err (ShortRun place)
+pub tokens_at-short_run : (place : ℕ) (rest : List ℕ) → has_character rest ≡ false → tokens_at place (121 ∷ rest) ≡ Err (ShortRun place)
 tokens_at-short_run place [] h = tokens_at-end place
 tokens_at-short_run place (c ∷ rest) h = tokens_at-short place c rest h
 
--- a byte that is no character stands at the front, and so does a `y` without one behind it
+-- a byte that is no character stands at the front, and so does a `y` without one after it
 abbrev pub IsBad : List ℕ → Type 0
 IsBad [] = ⊥
 IsBad (b ∷ rest) = is_character b ≡ false
 
 abbrev pub IsShort : List ℕ → Type 0
 IsShort [] = ⊥
-IsShort (b ∷ rest) = (b ≡ MANY_EMPTY) × (has_character rest ≡ false)
+IsShort (b ∷ rest) = (b ≡ 121) × (has_character rest ≡ false)
 
 -- tokens spell the front of the text, and its rest begins so, at this place of a longer text in which the text stands at another
 pub record Stops (BeginsSo : List ℕ → Type 0) (start : ℕ) (text : List ℕ) (place : ℕ) : Type 0 where
@@ -236,7 +247,8 @@ pub record Stops (BeginsSo : List ℕ → Type 0) (start : ℕ) (text : List ℕ
   pub at_place : place ≡ start + length (flat_map spelling tokens)
   pub so : BeginsSo rest
 
-Stops-more : (BeginsSo : List ℕ → Type 0) (start place : ℕ) (token : Token) (text : List ℕ) → IsToken token → Stops BeginsSo (start + length (spelling token)) text place → Stops BeginsSo start (spelling token ++ text) place
+Stops-more : (BeginsSo : List ℕ → Type 0) (start place : ℕ) (token : Token) (text : List ℕ) → IsToken token
+    → Stops BeginsSo (start + length (spelling token)) text place → Stops BeginsSo start (spelling token ++ text) place
 Stops-more BeginsSo start place token text h s = record {
   tokens = token ∷ s.tokens;
   rest = s.rest;
@@ -254,8 +266,13 @@ Outcome start text (Err (ShortRun place)) = Stops IsShort start text place
 Outcome start text (Err TooLong) = ⊥
 Outcome start text (Err Empty) = ⊥
 
-Outcome-more : (token : Token) (text : List ℕ) → IsToken token → (start : ℕ) (r : Result (List Token) WechslerFault) → Outcome (start + length (spelling token)) text r → Outcome start (spelling token ++ text) (with_token token r)
-Outcome-more token text h start (Ok tokens) o = record { each = All-cons IsToken token tokens h o.each; spelled = ap (λ (more : List ℕ). spelling token ++ more) o.spelled }
+Outcome-more : (token : Token) (text : List ℕ) → IsToken token → (start : ℕ) (r : Result (List Token) WechslerFault)
+    → Outcome (start + length (spelling token)) text r → Outcome start (spelling token ++ text) (with_token token r)
+Outcome-more token text h start (Ok tokens) o = record {
+  each = All-cons IsToken token tokens h o.each;
+  spelled =
+      ap (λ (more : List ℕ). spelling token ++ more) o.spelled;
+}
 Outcome-more token text h start (Err (BadByte place)) o = Stops-more IsBad start place token text h o
 Outcome-more token text h start (Err (ShortRun place)) o = Stops-more IsShort start place token text h o
 Outcome-more token text h start (Err TooLong) o = o
@@ -265,9 +282,20 @@ pub tokens_at-outcome : (text : List ℕ) (start : ℕ) → Outcome start text (
 unfolding tokens_at
 tokens_at-outcome = text_induction (λ text. (start : ℕ) → Outcome start text (tokens_at start text))
     (λ start. record { each = All-nil IsToken; spelled = refl })
-    (λ b rest bad start. rw (tokens_at-bad start b rest bad) (let s : Stops IsBad start (b ∷ rest) start = record { tokens = []; rest = b ∷ rest; each = All-nil IsToken; whole = refl; at_place = omega arith; so = bad } in s))
-    (λ rest short start. rw (tokens_at-short_run start rest short) (let s : Stops IsShort start (MANY_EMPTY ∷ rest) start = record { tokens = []; rest = MANY_EMPTY ∷ rest; each = All-nil IsToken; whole = refl; at_place = omega arith; so = (refl, short) } in s))
-    (λ token rest h o start. rw (tokens_at-token token h start rest) (Outcome-more token rest h start (tokens_at (start + length (spelling token)) rest) (o (start + length (spelling token)))))
+    (λ b rest bad start. rw (tokens_at-bad start b rest bad) (let s : Stops IsBad start (b ∷ rest) start =
+    record { tokens = []; rest = b ∷ rest; each = All-nil IsToken; whole = refl; at_place = omega arith; so = bad } in s))
+    (λ rest short start. rw (tokens_at-short_run start rest short)
+    (let s : Stops IsShort start (121 ∷ rest) start = record {
+      tokens = [];
+      rest = 121 ∷ rest;
+      each = All-nil IsToken;
+      whole = refl;
+      at_place =
+          omega arith;
+      so = (refl, short);
+    } in s))
+    (λ token rest h o start. rw (tokens_at-token token h start rest)
+    (Outcome-more token rest h start (tokens_at (start + length (spelling token)) rest) (o (start + length (spelling token)))))
 
 -- what is read spells the text
 pub Spells-tokens_at : (tokens : List Token) (text : List ℕ) (place : ℕ) → tokens_at place text ≡ Ok tokens → Spells tokens text
@@ -291,15 +319,20 @@ tokens_at-IsShort : (start : ℕ) (rest : List ℕ) → IsShort rest → tokens_
 tokens_at-IsShort start [] so = absurd so
 tokens_at-IsShort start (b ∷ rest) so = rw so.0 (tokens_at-short_run start rest so.1)
 
-pub tokens_at-stops : (tokens : List Token) (rest text : List ℕ) (start place : ℕ) (fault : WechslerFault) → All IsToken tokens → text ≡ flat_map spelling tokens ++ rest → place ≡ start + length (flat_map spelling tokens) → tokens_at place rest ≡ Err fault → tokens_at start text ≡ Err fault
+pub tokens_at-stops : (tokens : List Token) (rest text : List ℕ) (start place : ℕ) (fault : WechslerFault) → All IsToken tokens
+    → text ≡ flat_map spelling tokens ++ rest → place ≡ start + length (flat_map spelling tokens) → tokens_at place rest ≡ Err fault
+    → tokens_at start text ≡ Err fault
 tokens_at-stops tokens rest text start place fault each whole at_place e =
     ap (λ (t : List ℕ). tokens_at start t) whole ∙ tokens_at-tokens tokens each start rest
-    ∙ ap (λ (k : ℕ). with_tokens tokens (tokens_at k rest)) (sym at_place) ∙ ap (λ (r : Result (List Token) WechslerFault). with_tokens tokens r) e ∙ with_tokens-err tokens fault
+    ∙ ap (λ (k : ℕ). with_tokens tokens (tokens_at k rest)) (sym at_place) ∙ ap (λ (r : Result (List Token) WechslerFault). with_tokens tokens r) e
+    ∙ with_tokens-err tokens fault
 
 pub tokens_at-Stops_bad : (text : List ℕ) (start place : ℕ) → Stops IsBad start text place → tokens_at start text ≡ Err (BadByte place)
-tokens_at-Stops_bad text start place s = tokens_at-stops s.tokens s.rest text start place (BadByte place) s.each s.whole s.at_place (tokens_at-IsBad place s.rest s.so)
+tokens_at-Stops_bad text start place s = tokens_at-stops s.tokens s.rest text start place (BadByte place) s.each s.whole s.at_place
+    (tokens_at-IsBad place s.rest s.so)
 
 pub tokens_at-Stops_short : (text : List ℕ) (start place : ℕ) → Stops IsShort start text place → tokens_at start text ≡ Err (ShortRun place)
-tokens_at-Stops_short text start place s = tokens_at-stops s.tokens s.rest text start place (ShortRun place) s.each s.whole s.at_place (tokens_at-IsShort place s.rest s.so)
+tokens_at-Stops_short text start place s = tokens_at-stops s.tokens s.rest text start place (ShortRun place) s.each s.whole s.at_place
+    (tokens_at-IsShort place s.rest s.so)
 
 pub ruleset shorter = length-Begins
