@@ -1,0 +1,2 @@
+mod SeedLemmas
+mod SoupLemmas

@@ -1,0 +1,3 @@
+pub mod Profiles
+pub mod Seeds
+pub mod Soups
