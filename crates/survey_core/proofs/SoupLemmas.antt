@@ -4,13 +4,12 @@ use Rattle.std.specs.List.{list_all, range_with_len}
 use Rattle.std.proofs.lemmas.Bool.{and_from, and_parts, false≢true, le-leb, leb-true}
 use Rattle.std.proofs.lemmas.List.{append-nil, map-append}
 use Rattle.std.proofs.lemmas.List.Elements.{filter-append}
-use Rattle.std.proofs.lemmas.List.Quantifiers.{position-Some}
-use Rattle.std.proofs.lemmas.List.Sums.{AllPass-from_list_all}
 use Rattle.plane_core.specs.declared.cell.Cell.{Cell}
 use Rattle.plane_core.specs.Cells.{has, is_within, off_plane, on_plane, set_of}
 use Rattle.plane_core.specs.Generations.{lies_within}
 use Rattle.plane_core.proofs.SearchLemmas.{has-list_all, list_all-has}
 use Rattle.plane_core.proofs.SetLemmas.{Contains-has, has-set_of}
+use Rattle.survey_core.proofs.PlaneLemmas.{none_off, within_more}
 use Rattle.survey_core.specs.Soups.{is_alive_at, live_cells, square_cell}
 
 range-more : (a n : ℕ) → range_with_len a (suc n) ≡ range_with_len a n ++ (a + n) ∷ []
@@ -59,29 +58,5 @@ soup_is_small digest =
     has-list_all (is_within 15) (set_of (live_cells digest 256))
     (λ c e. list_all-has (is_within 15) (live_cells digest 256) (cells_near digest) c (sym (has-set_of (live_cells digest 256) c) ∙ e))
 
-origin : Cell
-origin = record { y = pos 0; x = pos 0 }
-
--- cells near the origin lie on the plane
-near_on_plane : (c : Cell) → is_within 15 c ≡ true → off_plane c ≡ false
-unfolding on_plane
-near_on_plane c near =
-    let parts = and_parts (nat_le (unsigned_abs c.x) 15) (nat_le (unsigned_abs c.y) 15) near in
-    let across : unsigned_abs c.x ≤ 15 = leb-true _ _ parts.0 in
-    let down : unsigned_abs c.y ≤ 15 = leb-true _ _ parts.1 in
-    ap not (and_from (nat_le (unsigned_abs c.x) 1000000) (nat_le (unsigned_abs c.y) 1000000) (le-leb _ _ (omega arith)) (le-leb _ _ (omega arith)))
-
-none_off : (cells : List Cell) → list_all (is_within 15) cells ≡ true → position off_plane cells ≡ None
-none_off cells near = go (position off_plane cells) refl
-  where
-    is_near : (i : ℕ) → i < length cells → is_within 15 (get_or cells i origin) ≡ true
-    is_near i low = AllPass-from_list_all (is_within 15) cells near i origin low
-
-    go : (found : Option ℕ) → position off_plane cells ≡ found → found ≡ None
-    go None e = refl
-    go (Some i) e =
-        let there = position-Some off_plane cells i origin e in
-        absurd (false≢true (sym (near_on_plane (get_or cells i origin) (is_near i there.0)) ∙ there.1))
-
 pub soup_on_plane : (digest : List ℕ) → position off_plane (live_cells digest 256) ≡ None
-soup_on_plane digest = none_off (live_cells digest 256) (cells_near digest)
+soup_on_plane digest = none_off (live_cells digest 256) (within_more 15 999999 (live_cells digest 256) (omega arith) (cells_near digest))
