@@ -50,10 +50,11 @@ no_rest_more rule profile cells latest place some is before moves t e u check lo
 -- the finding at a checkpoint before which there is no rest is that of the pattern
 pub finding_from : (rule : Numbers) (profile : Settling) (cells latest : List Cell) (t : ℕ) (finding : Finding) → SettlesAt rule profile latest t finding
     → latest ≡ after rule cells t → IsCheckpoint profile t → NoRestBefore rule profile cells t → IsFinding rule profile cells finding
-finding_from rule profile cells latest t (Settled u objects good) (same, settled) is check before =
-    (subst (IsCheckpoint profile) (sym same) check,
-    subst (NoRestBefore rule profile cells) (sym same) before,
-    subst (λ (state : List Cell). IsSettled rule profile state objects good) (is ∙ ap (after rule cells) (sym same)) settled)
+finding_from rule profile cells latest t (Settled u objects good) (same, settled) is check before = (
+  subst (IsCheckpoint profile) (sym same) check,
+  subst (NoRestBefore rule profile cells) (sym same) before,
+  subst (λ (state : List Cell). IsSettled rule profile state objects good) (is ∙ ap (after rule cells) (sym same)) settled,
+)
 finding_from rule profile cells latest t Unsettled settled is check before = absurd settled
 
 -- and at the last checkpoint there is a finding, or none anywhere

@@ -20,6 +20,7 @@ ghost use Rattle.plane_core.specs.Cells.{InOrder};
 ghost use Rattle.plane_core.specs.Clusters.{AreClusters, Partition};
 ghost use Rattle.plane_core.specs.Generations.{lies_within, next};
 ghost use Rattle.survey_core.specs.Rest.{ComesBack, IsAtRest, KeepApart, RestsAs};
+ghost use Rattle.survey_core.specs.RestLaws.{AtRestForGood, EmptyIsAtRest};
 
 use crate::profile::Profile;
 use code_core::recurrence::Recurrence;
@@ -75,12 +76,7 @@ fn all_come_back(
 }
 
 /// Whether the pattern comes back within so many generations.
-fn comes_back(
-    alloc: Global,
-    rule: &Rule,
-    limit: u32,
-    pattern: &Pattern,
-) -> Result<bool, AllocError>
+fn comes_back(alloc: Global, rule: &Rule, limit: u32, pattern: &Pattern) -> Result<bool, AllocError>
     requires least { 1 ≤ limit }
     requires most { limit ≤ 64 }
     requires some { pattern.now ≢ [] }
@@ -194,3 +190,11 @@ fn all_cells(alloc: Global, patterns: &[Pattern]) -> Result<Vec<Cell>, AllocErro
     }
     Ok(cells)
 }
+
+/// The laws of patterns at rest: the empty pattern is at rest, and a pattern whose objects stay for good is at rest in
+/// every later generation, and comes back after the least common multiple of their periods.
+#[tactic(auto, using(crate::proofs::ForGoodLemmas::empty_is_at_rest))]
+pub fn at_rest_for_good()
+    ensures empty { EmptyIsAtRest }
+    ensures forever { AtRestForGood }
+{}

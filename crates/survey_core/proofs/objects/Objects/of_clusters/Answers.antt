@@ -16,9 +16,10 @@ code_of-requires-clause-back c =
 pub loop-cluster-preserved : goal.loop-cluster-preserved
 loop-cluster-preserved c =
     let low : c.loop-cluster.cluster-index < length c.args.clusters.now = c.loop-cluster-test.true in
-    let codes : List (List ℕ) = c.loop-cluster.invariant.0 in
-    (codes ++ c.in_ok-code.code ∷ [],
-    codes_more c.args.rule.now c.args.limit c.args.clusters.now c.loop-cluster.cluster-index c.cluster-item.result codes c.in_ok-code.code low c.cluster-item.is c.loop-cluster.invariant.1 c.in_ok-code.ensures,
-    length_more codes c.in_ok-code.code c.loop-cluster.cluster-index c.loop-cluster.invariant.2,
-    (λ code. c.in_ok-count.ensures.counts code ∙ ap (λ n. n + (if is_code code c.in_ok-code.code then 1 else 0)) (c.loop-cluster.invariant.3 code) ∙ sym (count_by_more (is_code code) codes c.in_ok-code.code)),
-    c.in_ok-count.ensures.some)
+    let codes : List (List ℕ) = c.loop-cluster.invariant.0 in (
+      codes ++ c.in_ok-code.code ∷ [],
+      codes_more c.args.rule.now c.args.limit c.args.clusters.now c.loop-cluster.cluster-index c.cluster-item.result codes c.in_ok-code.code low c.cluster-item.is c.loop-cluster.invariant.1 c.in_ok-code.ensures,
+      length_more codes c.in_ok-code.code c.loop-cluster.cluster-index c.loop-cluster.invariant.2,
+      (λ code. c.in_ok-count.ensures.counts code ∙ ap (λ n. n + (if is_code code c.in_ok-code.code then 1 else 0)) (c.loop-cluster.invariant.3 code) ∙ sym (count_by_more (is_code code) codes c.in_ok-code.code)),
+      c.in_ok-count.ensures.some,
+    )
