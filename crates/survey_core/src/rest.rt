@@ -1,15 +1,16 @@
 //! A pattern is at rest if each of its clusters comes back, and if the clusters, each run alone, are the whole pattern in
-//! every generation up to the horizon. Two blinkers too close to each other show why the second is asked for:
+//! every generation up to the horizon. Two blinkers with two empty rows between them show why the second is asked for:
 //!
 //! ```text
-//! generation 0    each alone    the whole
-//!     OOO            .O.           .O.
-//!     ...            .O.           .O.
-//!     ...            .O. (twice)   ...
-//!     OOO            .O.           .O.
+//! generation 0    generation 1    generation 2,    generation 2,
+//!                                 each alone       the whole
+//!                     .O.
+//!     OOO             .O.             OOO              OOO
+//!     ...             .O.             ...              OOO
+//!     ...             .O.             ...              OOO
+//!     OOO             .O.             OOO              OOO
+//!                     .O.
 //! ```
-//!
-//! Each upright blinker has a cell in both middle rows, and the two share them.
 //!
 //! Most patterns that are looked at are not at rest, and nearly always some cluster doesn't come back. So that is
 //! asked first. Then the whole and the clusters are stepped side by side, a generation at a time, until a generation
