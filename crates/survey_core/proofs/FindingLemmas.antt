@@ -1,5 +1,5 @@
 -- From one checkpoint to the next, and the finding of a pattern.
-use Rattle.std.proofs.Common.{◌≡◌, ◌∙◌, ap, sym, refl, subst, inl, inr, ◌⊎◌, ℕ, zero, suc, ◌+◌, ◌*◌, ◌/◌, ◌<◌, ◌≤◌, add-zero, add-one, eq-or-lt_of_le, Bool, true, List, Option, None, Some, IfSome, IfNone, unwrap_or, arith}
+use Rattle.std.proofs.Common.{◌≡◌, ◌∙◌, ap, sym, refl, subst, inl, inr, ◌⊎◌, ℕ, zero, suc, ◌+◌, ◌*◌, ◌/◌, ◌<◌, ◌≤◌, add-zero, add-one, eq-or-lt_of_le, List, Option, None, Some, IfSome, IfNone, unwrap_or, arith}
 use Rattle.std.proofs.Math.Nat.{le-div_iff_mul-le, lt-div-mul-add, lt_of_mul-lt-mul_right, mul-lt-mul_of_pos_right, suc-mul}
 use Rattle.plane_core.specs.declared.cell.Cell.{Cell}
 use Rattle.plane_core.specs.Generations.{after, next}

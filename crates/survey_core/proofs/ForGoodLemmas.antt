@@ -1,6 +1,5 @@
 -- The laws of patterns at rest: the empty pattern, and patterns that are at rest for good.
-use Rattle.std.proofs.Common.{◌≡◌, ◌≢◌, ◌∙◌, ap, sym, refl, subst, inl, inr, ℕ, ℤ, pos, ◌+ℤ◌, zero, suc, ◌+◌, ◌*◌, ◌/◌, ◌%◌, ◌<◌, ◌≤◌, ◌^◌, ◌==◌, ◌&&◌, add-zero, add-one, add_comm, zero-add, Bool, true, false, cond, List, [], ◌∷◌, map, All, AllPairs, count_by, get_or, length, Option, None, Some, unwrap_or, arith, if◌then◌else◌}
-use Rattle.std.specs.BTreeMap.{BTreeMap}
+use Rattle.std.proofs.Common.{◌≡◌, ◌≢◌, ◌∙◌, ap, sym, refl, subst, ℕ, ℤ, pos, ◌+ℤ◌, zero, suc, ◌+◌, ◌*◌, ◌/◌, ◌%◌, ◌<◌, ◌≤◌, ◌^◌, ◌==◌, ◌&&◌, add-one, add_comm, Bool, true, false, cond, List, [], ◌∷◌, map, All, count_by, get_or, Some, unwrap_or, arith, if◌then◌else◌}
 use Rattle.std.specs.List.{AllZip, list_any}
 use Rattle.std.specs.Map.{lookup}
 use Rattle.std.specs.Ordering.{int_eq, is_eq, nat_cmp}
@@ -8,15 +7,15 @@ use Rattle.std.specs.Cmp.Lexicographic.{nat_list_cmp_total, slice_cmp}
 use Rattle.std.specs.Cmp.{tied_itself}
 use Rattle.std.specs.declared.cmp.Ordering.{Ordering}
 use Rattle.std.specs.declared.cmp.Ordering.TheVariants.{Less, Equal, Greater}
-use Rattle.std.proofs.lemmas.Bool.{and_parts, cases_Bool, false≢true}
+use Rattle.std.proofs.lemmas.Bool.{and_parts, false≢true}
 use Rattle.std.proofs.lemmas.Bool.Decides.{Decides-eqb, Decides-int_eq}
 use Rattle.std.proofs.lemmas.Int.{ints}
 use Rattle.std.proofs.lemmas.List.Sums.{sum_by-append}
 use Rattle.std.proofs.Math.Nat.{div-add-mod, mul_comm, suc-mul, zero-mul}
 use Rattle.plane_core.specs.declared.cell.Cell.{Cell}
 use Rattle.plane_core.specs.Bounds.{shifted}
-use Rattle.plane_core.specs.Cells.{InOrder, cell_at, has, moved_by}
-use Rattle.plane_core.specs.Clusters.{AreClusters, Partition}
+use Rattle.plane_core.specs.Cells.{has}
+use Rattle.plane_core.specs.Clusters.{Partition}
 use Rattle.plane_core.specs.Generations.{after, next}
 use Rattle.plane_core.specs.Rules.{Numbers}
 use Rattle.plane_core.proofs.ClusterLaws.{partition_law}
@@ -29,10 +28,8 @@ use Rattle.code_core.specs.Apgcodes.{code_text, kind_in, number_in}
 use Rattle.code_core.specs.Names.{IsCode, kind_of, number_of}
 use Rattle.code_core.proofs.ApgcodeLemmas.{kind_of_name, number_of_name}
 use Rattle.code_core.proofs.MovedCodes.{in_order-after}
-use Rattle.survey_core.specs.Objects.{AreObjects, AreObjectsOf, IsCommonMultiple, IsMultiple, StayForGood, count_of, is_code, period_in, period_of_kind}
-use Rattle.survey_core.specs.Profiles.{Settling}
-use Rattle.survey_core.specs.Rest.{IsAtRest, KeepApart, RestsAs}
-use Rattle.survey_core.specs.RestLaws.{AtRestForGood, EmptyIsAtRest, RestsForever}
+use Rattle.survey_core.specs.Objects.{IsMultiple, count_of, is_code, period_in, period_of_kind}
+use Rattle.survey_core.specs.RestLaws.{AtRestForGood, EmptyIsAtRest}
 use Rattle.survey_core.proofs.FindingLemmas.{after-then}
 use Rattle.survey_core.proofs.ObjectLemmas.{same_code}
 

@@ -1,5 +1,5 @@
 -- Parts that share no cell and make up the whole, as lists: joined, they have each cell of the whole, and no cell twice.
-use Rattle.std.proofs.Common.{◌≡◌, ◌≢◌, ◌∙◌, ap, sym, refl, subst, inl, inr, ℕ, zero, suc, ◌+◌, ◌<◌, ◌≤◌, Bool, true, false, ◌||◌, ◌&&◌, List, [], ◌∷◌, ◌++◌, All, AllPairs, flat_map, arith, length, get_or}
+use Rattle.std.proofs.Common.{◌≡◌, ◌∙◌, ap, sym, refl, subst, inl, inr, zero, suc, ◌+◌, ◌≤◌, Bool, true, false, ◌||◌, ◌&&◌, List, [], ◌∷◌, ◌++◌, All, AllPairs, flat_map, arith, length}
 use Rattle.std.specs.Bool.{Decides}
 use Rattle.std.specs.List.{list_any}
 use Rattle.std.specs.Ordering.{int_eq, is_eq, match_ordering}
@@ -12,7 +12,7 @@ use Rattle.std.proofs.lemmas.List.Kept.{AllPairs-cons}
 use Rattle.plane_core.specs.declared.cell.Cell.{Cell}
 use Rattle.plane_core.specs.Cells.{InOrder, cell_cmp, has, put, same_cell, set_of}
 use Rattle.plane_core.specs.Clusters.{Partition}
-use Rattle.plane_core.proofs.SetLemmas.{before-trans, has-append, has-before, has-cases, has-head, has-put, has-set_of, in_order-head, in_order-set_of, in_order-tail, is_set_of}
+use Rattle.plane_core.proofs.SetLemmas.{before-trans, has-append, has-before, has-cases, has-head, has-set_of, in_order-head, in_order-set_of, in_order-tail, is_set_of}
 
 -- two cells are equal where their coordinates are
 pub cell_decides : (a b : Cell) → Decides (int_eq a.y b.y && int_eq a.x b.x) (a ≡ b)

@@ -1,8 +1,8 @@
-use Rattle.std.proofs.Common.{◌≡◌, ◌∙◌, ◌<◌, sym, subst, refl, ℕ, List, length, take, All}
+use Rattle.std.proofs.Common.{◌∙◌, sym, subst, refl, ℕ, List, All}
 use Rattle.std.proofs.lemmas.Bool.{false≢true}
 use Rattle.std.proofs.lemmas.List.{take_all}
 use Rattle.std.proofs.lemmas.List.Elements.{All-more}
-use Rattle.survey_core.specs.Objects.{IsCommonMultiple, IsMultiple, period_in}
+use Rattle.survey_core.specs.Objects.{IsMultiple, period_in}
 use Rattle.survey_core.proofs.objects.is_common_multiple.Goals as goal
 
 -- one whose period doesn't divide the number

@@ -1,8 +1,7 @@
-use Rattle.std.proofs.Common.{◌≡◌, ◌∙◌, ◌<◌, sym, subst, List, [], length, get_or, take, All, refl}
+use Rattle.std.proofs.Common.{◌∙◌, ◌<◌, sym, subst, [], length, All, refl}
 use Rattle.std.proofs.lemmas.Bool.{false≢true}
 use Rattle.std.proofs.lemmas.List.{get_or_default, take_all}
 use Rattle.std.proofs.lemmas.List.Elements.{All-more}
-use Rattle.plane_core.specs.declared.cell.Cell.{Cell}
 use Rattle.survey_core.specs.Rest.{ComesBack}
 use Rattle.survey_core.proofs.rest.all_come_back.Goals as goal
 

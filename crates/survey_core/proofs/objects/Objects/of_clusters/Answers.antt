@@ -1,9 +1,5 @@
-use Rattle.std.proofs.Common.{◌≡◌, ◌∙◌, ◌+◌, ◌<◌, ap, sym, subst, refl, ℕ, List, [], ◌∷◌, ◌++◌, length, get_or, take, count_by, arith, if◌then◌else◌}
-use Rattle.std.specs.List.{AllZip}
-use Rattle.std.proofs.lemmas.List.{get_or_default, take_more}
-use Rattle.plane_core.specs.declared.cell.Cell.{Cell}
-use Rattle.code_core.specs.Names.{IsCode}
-use Rattle.survey_core.specs.Objects.{count_of, is_code}
+use Rattle.std.proofs.Common.{◌∙◌, ◌+◌, ◌<◌, ap, sym, subst, ℕ, List, [], ◌∷◌, ◌++◌, length, if◌then◌else◌}
+use Rattle.survey_core.specs.Objects.{is_code}
 use Rattle.survey_core.specs.Rest.{ComesBack}
 use Rattle.survey_core.proofs.ObjectLemmas.{codes_more, count_by_more, length_more}
 use Rattle.survey_core.proofs.objects.Objects.of_clusters.Goals as goal

@@ -1,4 +1,4 @@
-use Rattle.std.proofs.Common.{◌≡◌, ◌∙◌, ◌+◌, ◌<◌, ◌≤◌, sym, subst, refl, inl, inr, ℕ, List, arith}
+use Rattle.std.proofs.Common.{◌≡◌, ◌∙◌, ◌+◌, ◌≤◌, sym, subst, refl, inl, inr, ℕ, arith}
 use Rattle.std.proofs.lemmas.Bool.{cases_lt, false≢true}
 use Rattle.survey_core.specs.Objects.{IsCommonMultiple, StayForGood}
 use Rattle.survey_core.proofs.objects.Objects.stay_for_good.Goals as goal

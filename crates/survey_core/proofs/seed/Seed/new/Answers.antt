@@ -1,4 +1,4 @@
-use Rattle.std.proofs.Common.{◌≡◌, ◌∙◌, ap, sym, List, ℕ, ◌++◌, ◌-◌, ◌≤◌, length, replicate, take, arith, subst, refl}
+use Rattle.std.proofs.Common.{◌≡◌, ◌∙◌, ap, sym, List, ℕ, ◌++◌, ◌-◌, ◌≤◌, length, replicate, take, arith, subst}
 use Rattle.std.proofs.Math.Seq.{take-append_seam}
 use Rattle.survey_core.specs.Seeds.{IsSeed, most_bytes}
 use Rattle.survey_core.proofs.SeedLemmas.{all_visible}
