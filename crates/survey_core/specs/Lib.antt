@@ -1,0 +1,7 @@
+pub mod Findings
+pub mod Objects
+pub mod Profiles
+pub mod Rest
+pub mod RestLaws
+pub mod Seeds
+pub mod Soups
