@@ -1,0 +1,6 @@
+mod ObjectLemmas
+mod PartitionLemmas
+mod PlaneLemmas
+mod RestLemmas
+mod SeedLemmas
+mod SoupLemmas

@@ -1,0 +1,2 @@
+-- Counting objects by their codes.
+use Rattle.std.proofs.Common.{◌≡◌, ℕ}

@@ -1,0 +1,84 @@
+-- The test of rest, a generation and a cluster at a time.
+use Rattle.std.proofs.Common.{◌≡◌, ◌≢◌, ◌∙◌, ap, sym, refl, subst, ℕ, suc, ◌+◌, ◌<◌, ◌≤◌, ◌↔◌, Bool, true, false, IsTrue, List, [], ◌∷◌, All, map, Option, None, Some, is_some, IfSome, IfNone, arith, length, get_or, eq-or-lt_of_le, inl, inr}
+use Rattle.std.proofs.lemmas.Bool.{false≢true}
+use Rattle.std.proofs.lemmas.List.Elements.{All-map}
+use Rattle.plane_core.specs.declared.cell.Cell.{Cell}
+use Rattle.plane_core.specs.Cells.{InOrder, has}
+use Rattle.plane_core.specs.Clusters.{AreClusters, IsCluster, Partition}
+use Rattle.plane_core.specs.Generations.{after, lies_within, next, touches_edge}
+use Rattle.plane_core.specs.Rules.{Numbers}
+use Rattle.plane_core.proofs.ClusterLemmas.{linked-has, linked-itself}
+use Rattle.plane_core.proofs.ClusterLaws.{determined_law, partition_law}
+use Rattle.plane_core.proofs.GenerationLemmas.{after-none, after-more, within-after}
+use Rattle.plane_core.proofs.SearchLemmas.{has-list_all, list_all-has}
+use Rattle.code_core.specs.declared.recurrence.Recurrence.{Recurrence}
+use Rattle.code_core.specs.Recurrences.{IsNew, Recurs}
+use Rattle.code_core.proofs.MovedCodes.{in_order-after}
+use Rattle.survey_core.proofs.PlaneLemmas.{within_later, within_more}
+use Rattle.survey_core.specs.Profiles.{Settling}
+use Rattle.survey_core.specs.Rest.{ComesBack, IsAtRest, KeepApart, RestsAs}
+
+-- a search for the recurrence tells whether the pattern comes back
+pub back_then : (rule : Numbers) (limit : ℕ) (cells : List Cell) (found : Option Recurrence) → IfSome found (Recurs rule cells limit) → IfNone found (IsNew rule cells limit)
+    → IsTrue (is_some found) ↔ ComesBack rule limit cells
+back_then rule limit cells None some none =
+    (λ e. absurd (false≢true e), λ back. absurd (none back.0.period back.0.dx back.0.dy back.1.some back.1.within back.1.back))
+back_then rule limit cells (Some r) some none = (λ e. (r, some), λ back. refl)
+
+-- a cluster has a cell
+pub cluster_some : (cells cluster : List Cell) → IsCluster cells cluster → cluster ≢ []
+cluster_some cells cluster is none =
+    false≢true (ap (λ (c : List Cell). has c is.start) (sym none) ∙ (is.members is.start).1 (linked-itself cells is.start is.has_start))
+
+-- and lies where its pattern lies
+pub cluster_within : (reach : ℕ) (cells cluster : List Cell) → lies_within reach cells ≡ true → IsCluster cells cluster → lies_within reach cluster ≡ true
+cluster_within reach cells cluster within is =
+    has-list_all _ cluster (λ c e. list_all-has _ cells within c (linked-has cells is.start c ((is.members c).0 e)))
+
+pub alone_at_once : (rule : Numbers) (clusters : List (List Cell)) → map (λ part. after rule part 0) clusters ≡ clusters
+alone_at_once rule [] = refl
+alone_at_once rule (part ∷ parts) = λ i. after-none rule part i ∷ alone_at_once rule parts i
+
+-- at generation 0 the clusters are the pattern
+pub apart_at_once : (rule : Numbers) (cells : List Cell) (clusters : List (List Cell)) → AreClusters cells clusters → KeepApart rule cells clusters 0
+apart_at_once rule cells clusters are =
+    subst (λ (parts : List (List Cell)). Partition (after rule cells 0) parts) (sym (alone_at_once rule clusters))
+    (subst (λ (whole : List Cell). Partition whole clusters) (sym (after-none rule cells)) (partition_law cells clusters are))
+
+-- ---- the clusters beside the whole
+
+pub alone_later : (rule : Numbers) (clusters : List (List Cell)) (g : ℕ) → map (next rule) (map (λ part. after rule part g) clusters) ≡ map (λ part. after rule part (g + 1)) clusters
+alone_later rule [] g = refl
+alone_later rule (part ∷ parts) g = λ i. sym (after-more rule part g) i ∷ alone_later rule parts g i
+
+-- each cluster later lies in order
+pub alone_in_order : (rule : Numbers) (cells : List Cell) (clusters : List (List Cell)) (g : ℕ) → AreClusters cells clusters → All InOrder (map (λ part. after rule part g) clusters)
+alone_in_order rule cells clusters g are =
+    All-map InOrder (λ part. after rule part g) clusters (λ k d low. in_order-after rule (get_or clusters k d) g (are.each k d low).in_order)
+
+-- and near the origin
+pub alone_near : (rule : Numbers) (cells : List Cell) (clusters : List (List Cell)) (g : ℕ) → AreClusters cells clusters → lies_within 101000 cells ≡ true → g ≤ 4096
+    → All (λ part. lies_within 999999 part ≡ true) (map (λ part. after rule part g) clusters)
+alone_near rule cells clusters g are near low =
+    All-map (λ part. lies_within 999999 part ≡ true) (λ part. after rule part g) clusters
+    (λ k d there. within_later 101000 999999 rule (get_or clusters k d) g (omega arith) (cluster_within 101000 cells (get_or clusters k d) near (are.each k d there)))
+
+-- one generation more in which they keep apart
+pub apart_more : (rule : Numbers) (cells : List Cell) (clusters : List (List Cell)) (g : ℕ) (whole : List Cell) (alone : List (List Cell))
+    → whole ≡ after rule cells (g + 1) → alone ≡ map (λ part. after rule part (g + 1)) clusters
+    → ((k : ℕ) → k ≤ g → KeepApart rule cells clusters k) → Partition whole alone → (k : ℕ) → k ≤ g + 1 → KeepApart rule cells clusters k
+apart_more rule cells clusters g whole alone is_whole is_alone before now k low = elim (eq-or-lt_of_le low) [
+  | inl e ↦ subst (λ (h : ℕ). KeepApart rule cells clusters h) (sym e) (subst (λ (parts : List (List Cell)). Partition (after rule cells (g + 1)) parts) is_alone (subst (λ (w : List Cell). Partition w alone) is_whole now))
+  | inr less ↦ before k (omega arith)
+]
+
+-- what keeping apart says of a whole and of clusters that were run
+pub apart_now : (rule : Numbers) (cells : List Cell) (clusters : List (List Cell)) (g : ℕ) (whole : List Cell) (alone : List (List Cell))
+    → whole ≡ after rule cells g → alone ≡ map (λ part. after rule part g) clusters → KeepApart rule cells clusters g → Partition whole alone
+apart_now rule cells clusters g whole alone is_whole is_alone apart =
+    subst (λ (parts : List (List Cell)). Partition whole parts) (sym is_alone) (subst (λ (w : List Cell). Partition w (map (λ part. after rule part g) clusters)) (sym is_whole) apart)
+
+-- where all clusters come back and keep apart, the pattern is at rest; its clusters are the only ones that may say so
+pub same_clusters : (rule : Numbers) (profile : Settling) (cells : List Cell) (clusters : List (List Cell)) → AreClusters cells clusters → IsAtRest rule profile cells → RestsAs rule profile cells clusters
+same_clusters rule profile cells clusters are (others, rest) =
+    subst (λ (c : List (List Cell)). RestsAs rule profile cells c) (determined_law cells others clusters rest.parts are) rest

@@ -1,0 +1,10 @@
+use Rattle.std.proofs.Common.{◌≡◌, ◌*◌}
+use Rattle.plane_core.specs.Generations.{after}
+use Rattle.survey_core.specs.Findings.{NoRestBefore}
+use Rattle.survey_core.proofs.finding.survey_pattern.Given as goal
+
+abbrev pub invariant-loop-place : goal.invariant-loop-place
+invariant-loop-place l = record {
+  latest : l.latest ≡ after l.rule l.fn.pattern (l.place * l.profile.stride);
+  before : NoRestBefore l.rule l.profile l.fn.pattern (l.place * l.profile.stride);
+}

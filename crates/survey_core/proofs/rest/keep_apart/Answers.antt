@@ -1,0 +1,71 @@
+use Rattle.std.proofs.Common.{◌≡◌, ◌∙◌, ◌+◌, ◌<◌, ◌≤◌, ap, sym, subst, refl, ℕ, List, [], length, get_or, map, All, true, false, arith}
+use Rattle.std.proofs.lemmas.Bool.{false≢true}
+use Rattle.plane_core.specs.declared.cell.Cell.{Cell}
+use Rattle.plane_core.specs.Cells.{InOrder}
+use Rattle.plane_core.specs.Clusters.{Partition}
+use Rattle.plane_core.specs.Generations.{after, lies_within, next}
+use Rattle.plane_core.proofs.GenerationLemmas.{after-none, after-more}
+use Rattle.survey_core.specs.Rest.{KeepApart}
+use Rattle.survey_core.proofs.PlaneLemmas.{within_later}
+use Rattle.survey_core.proofs.RestLemmas.{alone_at_once, alone_in_order, alone_later, alone_near, apart_at_once, apart_more, apart_now}
+use Rattle.survey_core.proofs.rest.keep_apart.Goals as goal
+
+pub loop-init : goal.loop-init
+loop-init c = record {
+  whole = c.in_ok-whole.ensures ∙ sym (after-none c.args.rule.now c.args.pattern.now);
+  alone = c.in_ok-alone.ensures ∙ sym (alone_at_once c.args.rule.now c.args.clusters.now);
+  apart = λ k low. subst (λ (h : ℕ). KeepApart c.args.rule.now c.args.pattern.now c.args.clusters.now h) (omega arith) (apart_at_once c.args.rule.now c.args.pattern.now c.args.clusters.now c.requires.clusters);
+}
+
+pub next-requires : goal.next-requires
+next-requires c =
+    let low : c.loop.counter < c.args.horizon = c.loop-test.true in
+    let most : c.args.horizon ≤ 4096 = c.requires.horizon in
+    ap (lies_within 999999) c.loop.invariant.whole ∙ within_later 101000 999999 c.args.rule.now c.args.pattern.now c.loop.counter (omega arith) c.requires.near
+
+pub next_of_each-requires : goal.next_of_each-requires
+next_of_each-requires c =
+    let low : c.loop.counter < c.args.horizon = c.loop-test.true in
+    let most : c.args.horizon ≤ 4096 = c.requires.horizon in
+    subst (All (λ part. lies_within 999999 part ≡ true)) (sym (c.as_slice.ensures.value ∙ c.loop.invariant.alone))
+    (alone_near c.args.rule.now c.args.pattern.now c.args.clusters.now c.loop.counter c.requires.clusters c.requires.near (omega arith))
+
+pub make_up-requires-clause-in_order : goal.make_up-requires-clause-in_order
+make_up-requires-clause-in_order c =
+    let alone : c.as_slice-in-loop.result.now ≡ map (λ part. after c.args.rule.now part (c.loop.counter + 1)) c.args.clusters.now =
+    c.as_slice-in-loop.ensures.value ∙ c.in_ok-alone-2.ensures ∙ ap (map (next c.args.rule.now)) (c.as_slice.ensures.value ∙ c.loop.invariant.alone) ∙ alone_later c.args.rule.now c.args.clusters.now c.loop.counter in
+    subst (All InOrder) (sym alone) (alone_in_order c.args.rule.now c.args.pattern.now c.args.clusters.now (c.loop.counter + 1) c.requires.clusters)
+
+pub make_up-requires-clause-near : goal.make_up-requires-clause-near
+make_up-requires-clause-near c =
+    let low : c.loop.counter < c.args.horizon = c.loop-test.true in
+    let most : c.args.horizon ≤ 4096 = c.requires.horizon in
+    let alone : c.as_slice-in-loop.result.now ≡ map (λ part. after c.args.rule.now part (c.loop.counter + 1)) c.args.clusters.now =
+    c.as_slice-in-loop.ensures.value ∙ c.in_ok-alone-2.ensures ∙ ap (map (next c.args.rule.now)) (c.as_slice.ensures.value ∙ c.loop.invariant.alone) ∙ alone_later c.args.rule.now c.args.clusters.now c.loop.counter in
+    subst (All (λ part. lies_within 999999 part ≡ true)) (sym alone)
+    (alone_near c.args.rule.now c.args.pattern.now c.args.clusters.now (c.loop.counter + 1) c.requires.clusters c.requires.near (omega arith))
+
+-- a generation in which they don't keep apart
+pub returns-then-not-same : goal.returns-then-not-same
+returns-then-not-same c =
+    let low : c.loop.counter + 1 ≤ c.args.horizon = omega arith in
+    let whole : c.in_ok-whole-2.whole ≡ after c.args.rule.now c.args.pattern.now (c.loop.counter + 1) =
+    c.in_ok-whole-2.ensures ∙ ap (next c.args.rule.now) c.loop.invariant.whole ∙ sym (after-more c.args.rule.now c.args.pattern.now c.loop.counter) in
+    let alone : c.as_slice-in-loop.result.now ≡ map (λ part. after c.args.rule.now part (c.loop.counter + 1)) c.args.clusters.now =
+    c.as_slice-in-loop.ensures.value ∙ c.in_ok-alone-2.ensures ∙ ap (map (next c.args.rule.now)) (c.as_slice.ensures.value ∙ c.loop.invariant.alone) ∙ alone_later c.args.rule.now c.args.clusters.now c.loop.counter in
+    (λ e. absurd (false≢true e),
+    λ apart. absurd (false≢true (sym c.if-not-same.true ∙ c.in_ok-same.ensures.1
+    (apart_now c.args.rule.now c.args.pattern.now c.args.clusters.now (c.loop.counter + 1) c.in_ok-whole-2.whole c.as_slice-in-loop.result.now whole alone (apart (c.loop.counter + 1) low)))))
+
+pub loop-preserved : goal.loop-preserved
+loop-preserved c =
+    let whole : c.in_ok-whole-2.whole ≡ after c.args.rule.now c.args.pattern.now (c.loop.counter + 1) =
+    c.in_ok-whole-2.ensures ∙ ap (next c.args.rule.now) c.loop.invariant.whole ∙ sym (after-more c.args.rule.now c.args.pattern.now c.loop.counter) in
+    let items : c.in_ok-alone-2.alone.items ≡ map (λ part. after c.args.rule.now part (c.loop.counter + 1)) c.args.clusters.now =
+    c.in_ok-alone-2.ensures ∙ ap (map (next c.args.rule.now)) (c.as_slice.ensures.value ∙ c.loop.invariant.alone) ∙ alone_later c.args.rule.now c.args.clusters.now c.loop.counter in
+    record {
+      whole = whole;
+      alone = items;
+      apart = apart_more c.args.rule.now c.args.pattern.now c.args.clusters.now c.loop.counter c.in_ok-whole-2.whole c.as_slice-in-loop.result.now whole
+          (c.as_slice-in-loop.ensures.value ∙ items) c.loop.invariant.apart (c.in_ok-same.ensures.0 c.if-not-same.false);
+    }

@@ -1,0 +1,32 @@
+-- Findings: at which checkpoint a pattern is at rest, which objects it consists of then, and whether they stay for good.
+use Rattle.std.specs.Prelude.{◌≡◌, ◌<◌, ◌↔◌, ℕ, Bool, IsTrue, List}
+use Rattle.plane_core.specs.declared.cell.Cell.{Cell}
+use Rattle.plane_core.specs.Generations.{after}
+use Rattle.plane_core.specs.Rules.{Numbers}
+use Rattle.survey_core.specs.declared.finding.Finding.{Finding}
+use Rattle.survey_core.specs.declared.finding.Finding.TheVariants.{Settled, Unsettled}
+use Rattle.survey_core.specs.Objects.{AreObjectsOf, StayForGood}
+use Rattle.survey_core.specs.Profiles.{IsCheckpoint, Settling}
+use Rattle.survey_core.specs.Rest.{IsAtRest, RestsAs}
+
+-- At no checkpoint before t is the pattern at rest.
+abbrev pub NoRestBefore : Numbers → Settling → List Cell → ℕ → Type 0
+NoRestBefore rule profile cells t = (u : ℕ) → IsCheckpoint profile u → u < t → ¬ IsAtRest rule profile (after rule cells u)
+
+-- After t generations the pattern is at rest, with these objects, which stay for good or not.
+pub record IsSettled (rule : Numbers) (profile : Settling) (cells : List Cell) (objects : List (List ℕ × ℕ)) (for_good : Bool) : Type 0 where
+  pub clusters : List (List Cell)
+  pub rest : RestsAs rule profile cells clusters
+  pub counted : AreObjectsOf rule profile.period clusters objects
+  pub good : IsTrue for_good ↔ StayForGood profile.horizon objects
+
+-- the finding of a pattern that is at rest after t generations, and which is this one then
+abbrev pub SettlesAt : Numbers → Settling → List Cell → ℕ → Finding → Type 0
+SettlesAt rule profile cells t (Settled u objects for_good) = (u ≡ t) × IsSettled rule profile cells objects for_good
+SettlesAt rule profile cells t Unsettled = ⊥
+
+-- The finding of a pattern: the first checkpoint at which it is at rest, with the objects that it consists of then, or that there is none.
+abbrev pub IsFinding : Numbers → Settling → List Cell → Finding → Type 0
+IsFinding rule profile cells (Settled t objects for_good) =
+    IsCheckpoint profile t × NoRestBefore rule profile cells t × IsSettled rule profile (after rule cells t) objects for_good
+IsFinding rule profile cells Unsettled = (u : ℕ) → IsCheckpoint profile u → ¬ IsAtRest rule profile (after rule cells u)

@@ -1,0 +1,6 @@
+pub mod Findings
+pub mod Objects
+pub mod Profiles
+pub mod Rest
+pub mod Seeds
+pub mod Soups

@@ -1,0 +1,43 @@
+-- Profiles: when a pattern counts as settled, in four numbers.
+use Rattle.std.specs.Prelude.{◌≡◌, ◌*◌, ◌≤◌, ◌&&◌, ℕ, Bool, not, Result, Ok, Err, nat_le, if◌then◌else◌}
+use Rattle.survey_core.specs.declared.profile.ProfileError.{ProfileError}
+use Rattle.survey_core.specs.declared.profile.ProfileError.TheVariants as fault
+
+-- the longest period that counts, how far the test of rest looks ahead, from one checkpoint to the next, and the last checkpoint
+pub record Settling : Type 0 where
+  pub period : ℕ
+  pub horizon : ℕ
+  pub stride : ℕ
+  pub limit : ℕ
+
+-- the ranges of the four numbers: this project's choice
+pub record IsProfile (profile : Settling) : Type 0 where
+  pub some : 1 ≤ profile.period
+  pub period : profile.period ≤ 64
+  pub ahead : profile.period ≤ profile.horizon
+  pub horizon : profile.horizon ≤ 4096
+  pub onward : 1 ≤ profile.stride
+  pub stride : profile.stride ≤ 10000
+  pub limit : profile.limit ≤ 100000
+
+abbrev pub is_from_to : ℕ → ℕ → ℕ → Bool
+is_from_to least most n = nat_le least n && nat_le n most
+
+-- the profile of four numbers, or the first of them that lies outside its range
+abbrev pub profile_of : Settling → Result Settling ProfileError
+profile_of p =
+    if not (is_from_to 1 64 p.period) then Err fault.Period
+    else if not (is_from_to p.period 4096 p.horizon) then Err fault.Horizon
+    else if not (is_from_to 1 10000 p.stride) then Err fault.Stride
+    else if not (nat_le p.limit 100000) then Err fault.Limit
+    else Ok p
+
+-- the profile that is meant where nothing else is said
+abbrev pub standard : Settling
+standard = record { period = 64; horizon = 512; stride = 101; limit = 30300 }
+
+-- the generations at which a pattern is looked at: 0, the stride, twice the stride and so on, up to the limit
+pub record IsCheckpoint (profile : Settling) (t : ℕ) : Type 0 where
+  pub place : ℕ
+  pub is : t ≡ place * profile.stride
+  pub within : t ≤ profile.limit

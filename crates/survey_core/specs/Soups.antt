@@ -1,0 +1,29 @@
+-- Soups: 16 by 16 cells from the 256 bits of a SHA-256 digest (FIPS 180-4).
+use Rattle.std.specs.Prelude.{◌≡◌, ◌==◌, ◌+◌, ◌-◌, ◌*◌, ◌/◌, ◌%◌, ◌^◌, ◌++◌, ℕ, pos, Bool, List, decimal, filter, map, slice_index}
+use Rattle.std.specs.List.{range_with_len}
+use Rattle.plane_core.specs.declared.cell.Cell.{Cell}
+use Rattle.plane_core.specs.Cells.{cell_at, set_of}
+use Rattle.sha2.specs.Sha256.{sha256}
+
+-- the digest's bit for column x of row y is set: bit 7 - x mod 8 of byte 2y + x div 8, where bit 7 is the greatest
+abbrev pub is_set : List ℕ → ℕ → ℕ → Bool
+is_set digest x y = (slice_index digest (2 * y + x / 8) / 2 ^ (7 - x % 8)) % 2 == 1
+
+-- the places of the square are counted row by row, from 0 to 255: which cell stands at a place, and whether it is alive
+abbrev pub square_cell : ℕ → Cell
+square_cell place = cell_at (pos (place % 16)) (pos (place / 16))
+
+unfoldable pub is_alive_at : List ℕ → ℕ → Bool
+is_alive_at digest place = is_set digest (place % 16) (place / 16)
+
+-- the live cells at the first n places
+unfoldable pub live_cells : List ℕ → ℕ → List Cell
+live_cells digest n = map square_cell (filter (is_alive_at digest) (range_with_len 0 n))
+
+-- the soup of a digest: the cells of the square, columns 0 to 15 of rows 0 to 15, whose bit is set
+abbrev pub soup_of : List ℕ → List Cell
+soup_of digest = set_of (live_cells digest 256)
+
+-- the soup with this number: the message is the seed's bytes and then the number in decimal
+abbrev pub soup : List ℕ → ℕ → List Cell
+soup seed number = soup_of (sha256 (seed ++ decimal number))

@@ -1,0 +1,118 @@
+ghost use Rattle.std.specs.Prelude.{◌≡◌, ◌≤◌, IfOk, IfNone, IfSome, true};
+ghost use Rattle.plane_core.specs.Generations.{after, lies_within};
+ghost use Rattle.survey_core.specs.Findings.{IsFinding, SettlesAt};
+ghost use Rattle.survey_core.specs.Rest.{IsAtRest};
+ghost use Rattle.survey_core.specs.Soups.{soup};
+
+use crate::job::Job;
+use crate::objects::Objects;
+use crate::profile::Profile;
+use crate::rest::clusters_at_rest;
+use crate::soup::soup;
+use plane_core::generation::StepError;
+use plane_core::pattern::Pattern;
+use plane_core::rule::Rule;
+use std::alloc::{AllocError, Global};
+
+/// What becomes of a pattern.
+#[derive(Debug, Drop)]
+pub enum Finding {
+    /// The pattern is at rest.
+    Settled {
+        /// The first generation that was looked at in which the pattern is at rest.
+        checkpoint: u32,
+        /// The objects that it consists of then.
+        objects: Objects,
+        /// Whether they stay as they are forever, each coming back in its place.
+        for_good: bool,
+    },
+    /// In no generation that was looked at is the pattern at rest.
+    Unsettled,
+}
+
+/// The finding of the soup with this number.
+///
+/// # Errors
+///
+/// [`AllocError`] if there is no memory.
+pub fn survey(alloc: Global, job: &Job, number: u64) -> Result<Finding, AllocError>
+    ensures { IfOk result (IsFinding job.now.rule job.now.profile (soup job.now.seed number)) }
+{
+    let pattern = soup(alloc, job, number)?;
+    survey_pattern(alloc, &job.profile, &job.rule, pattern)
+}
+
+/// The finding of a pattern, of which no coordinate is over 1,000 in size.
+///
+/// It takes time in proportion to the generations that are run and to the cells that live in them.
+///
+/// # Errors
+///
+/// [`AllocError`] if there is no memory. The pattern is given up.
+pub fn survey_pattern(
+    alloc: Global,
+    profile: &Profile,
+    rule: &Rule,
+    pattern: Pattern,
+) -> Result<Finding, AllocError>
+    requires { lies_within 1000 pattern ≡ true }
+    ensures { IfOk result (IsFinding rule.now profile.now pattern) }
+{
+    let last = profile.limit() / profile.stride();
+    let mut latest = pattern;
+    for place in 0..last {
+        let checkpoint = place * profile.stride();
+        if let Some(finding) = finding_at(alloc, profile, rule, checkpoint, &latest)? {
+            return Ok(finding);
+        }
+        latest = run_on(alloc, rule, profile.stride(), &latest)?;
+    }
+    let checkpoint = last * profile.stride();
+    let finding = finding_at(alloc, profile, rule, checkpoint, &latest)?;
+    Ok(finding.unwrap_or(Finding::Unsettled))
+}
+
+/// The finding of a pattern that is this one at the checkpoint, if it is at rest.
+fn finding_at(
+    alloc: Global,
+    profile: &Profile,
+    rule: &Rule,
+    checkpoint: u32,
+    latest: &Pattern,
+) -> Result<Option<Finding>, AllocError>
+    requires { lies_within 101000 latest.now ≡ true }
+    ensures settled { IfOk result (λ found. IfSome found (SettlesAt rule.now profile.now latest.now checkpoint)) }
+    ensures moves { IfOk result (λ found. IfNone found (¬ IsAtRest rule.now profile.now latest.now)) }
+{
+    let Some(clusters) = clusters_at_rest(alloc, profile, rule, latest)? else {
+        return Ok(None);
+    };
+    let objects = Objects::of_clusters(alloc, rule, profile.period(), clusters.as_slice())?;
+    let for_good = objects.stay_for_good(profile.horizon());
+    Ok(Some(Finding::Settled {
+        checkpoint,
+        objects,
+        for_good,
+    }))
+}
+
+/// The pattern after so many generations, in which it doesn't come near the edge of the plane.
+fn run_on(
+    alloc: Global,
+    rule: &Rule,
+    generations: u32,
+    pattern: &Pattern,
+) -> Result<Pattern, AllocError>
+    requires near { lies_within 101000 pattern.now ≡ true }
+    requires few { generations ≤ 10000 }
+    ensures { IfOk result (λ later. later ≡ after rule.now pattern.now generations) }
+{
+    match pattern.run(alloc, rule, generations) {
+        Ok(later) => Ok(later),
+        Err(StepError::Memory) => Err(AllocError),
+        Err(StepError::Edge) => unreachable!(),
+    }
+}
+
+#[cfg(test)]
+mod tests;

@@ -1,0 +1,16 @@
+//! Soups, and what becomes of a pattern: when it is at rest, and which objects are left then.
+#![tactic(auto)]
+
+/// What a survey finds.
+pub mod finding;
+/// Seed, profile and rule together.
+pub mod job;
+/// The objects of a finding, with how many there are of each.
+pub mod objects;
+/// When a pattern counts as settled.
+pub mod profile;
+mod rest;
+/// Seeds: the texts from which soups are made.
+pub mod seed;
+/// Random patterns of 16 by 16 cells.
+pub mod soup;

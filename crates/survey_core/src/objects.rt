@@ -1,0 +1,187 @@
+ghost use Rattle.std.specs.Prelude.{◌≡◌, ◌+◌, ◌<◌, ◌≤◌, ◌^◌, ◌↔◌, ◌≢◌, [], ℕ, All, IfOk, IsTrue, List, OnOk, length, true, if◌then◌else◌};
+ghost use Rattle.std.specs.BTreeMap.{get};
+ghost use Rattle.std.specs.Cmp.Lexicographic.{slice_cmp};
+ghost use Rattle.std.specs.Ordering.{nat_cmp};
+ghost use Rattle.std.specs.Prelude.{unwrap_or};
+ghost use Rattle.plane_core.specs.Generations.{lies_within};
+ghost use Rattle.code_core.specs.Apgcodes.{kind_in};
+ghost use Rattle.code_core.specs.Names.{IsCode};
+ghost use Rattle.code_core.specs.declared.apgcode.Kind.TheVariants.{Ship};
+ghost use Rattle.survey_core.specs.Objects.{AreObjects, AreObjectsOf, CountsAreSome, IsCommonMultiple, IsMultiple, StayForGood, count_of, is_code, period_in};
+ghost use Rattle.survey_core.specs.Rest.{ComesBack};
+
+use code_core::apgcode::{Apgcode, Kind};
+use code_core::name::name;
+use plane_core::generation::StepError;
+use plane_core::pattern::Pattern;
+use plane_core::rule::Rule;
+use std::alloc::{AllocError, Global};
+use std::collections::BTreeMap;
+use std::marker::Model;
+
+/// The objects of a finding: their codes in ASCII order, each once, and beside each code how many there are, at least 1.
+#[derive(Debug, Drop)]
+pub struct Objects {
+    counted: Vec<(Apgcode, u64)>,
+}
+
+impl Model for Objects {
+    ghost use Rattle.std.specs.Prelude.{ℕ, List};
+    ghost use Rattle.survey_core.specs.Objects.{AreObjects};
+
+    ghost Value = { List (List ℕ × ℕ) };
+
+    ghost view = { λ o. o.counted.items };
+
+    ghost invariant = { λ o. AreObjects o.counted.items };
+}
+
+impl Objects {
+    /// The codes in ASCII order, each once, with how many objects have it.
+    pub fn as_slice(&self) -> &[(Apgcode, u64)]
+        ensures objects { result.now ≡ self.now }
+        ensures lawful { AreObjects self.now }
+    {
+        self.counted.as_slice()
+    }
+
+    /// The objects of clusters that all come back within so many generations.
+    pub(crate) fn of_clusters(
+        alloc: Global,
+        rule: &Rule,
+        limit: u32,
+        clusters: &[Pattern],
+    ) -> Result<Objects, AllocError>
+        requires least { 1 ≤ limit }
+        requires most { limit ≤ 64 }
+        requires some { All (λ cluster. cluster ≢ []) clusters.now }
+        requires near { All (λ cluster. lies_within 101000 cluster ≡ true) clusters.now }
+        requires back { All (ComesBack rule.now limit) clusters.now }
+        ensures { IfOk result (AreObjectsOf rule.now limit clusters.now) }
+    {
+        let mut counts = BTreeMap::new(alloc);
+        for cluster in clusters {
+            let code = code_of(alloc, rule, limit, cluster)?;
+            count(&mut counts, code)?;
+        }
+        listed(alloc, counts)
+    }
+
+    /// Whether the objects stay for good: no spaceship is among them, and the least common multiple of their periods
+    /// is at most the horizon.
+    pub(crate) fn stay_for_good(&self, horizon: u32) -> bool
+        ensures { IsTrue result ↔ StayForGood horizon self.now }
+    {
+        let objects = self.as_slice();
+        if !none_is_ship(objects) {
+            return false;
+        }
+        for multiple in 1..=horizon {
+            if is_common_multiple(objects, multiple) {
+                return true;
+            }
+        }
+        false
+    }
+}
+
+/// The code of a cluster that comes back within so many generations.
+fn code_of(
+    alloc: Global,
+    rule: &Rule,
+    limit: u32,
+    cluster: &Pattern,
+) -> Result<Apgcode, AllocError>
+    requires least { 1 ≤ limit }
+    requires most { limit ≤ 64 }
+    requires some { cluster.now ≢ [] }
+    requires near { lies_within 101000 cluster.now ≡ true }
+    requires back { ComesBack rule.now limit cluster.now }
+    ensures { IfOk result (IsCode rule.now cluster.now limit) }
+{
+    match name(alloc, cluster, rule, limit) {
+        Ok(Some(code)) => Ok(code),
+        Ok(None) => unreachable!(),
+        Err(StepError::Memory) => Err(AllocError),
+        Err(StepError::Edge) => unreachable!(),
+    }
+}
+
+/// Counts one object more with this code.
+fn count(counts: &mut BTreeMap<Apgcode, u64>, code: Apgcode) -> Result<(), AllocError>
+    requires room { (c : List ℕ) → count_of counts.old.entries c + 1 < 2 ^ 64 }
+    requires some { CountsAreSome counts.old.entries }
+    ensures counts { OnOk result ((c : List ℕ) → count_of counts.new.entries c ≡ count_of counts.old.entries c + (if is_code c code then 1 else 0)) }
+    ensures some { OnOk result (CountsAreSome counts.new.entries) }
+{
+    let before = counts.get(&code).copied().unwrap_or(0);
+    counts.insert(code, before + 1)?;
+    Ok(())
+}
+
+/// The counts as a list.
+fn listed(alloc: Global, counts: BTreeMap<Apgcode, u64>) -> Result<Objects, AllocError>
+    requires { CountsAreSome counts.entries }
+    ensures { IfOk result (λ objects. objects ≡ counts.entries) }
+{
+    let mut counted = Vec::with_capacity(alloc, counts.len())?;
+    for object in counts {
+        counted.push(object)?;
+    }
+    Ok(Objects { counted })
+}
+
+/// Whether none of the objects is a spaceship.
+fn none_is_ship(objects: &[(Apgcode, u64)]) -> bool
+    ensures { IsTrue result ↔ All (λ object. kind_in object.0 ≢ Ship) objects.now }
+{
+    for object in objects {
+        let ship = is_ship(&object.0);
+        if ship {
+            return false;
+        }
+    }
+    true
+}
+
+/// Whether an object with this code is a spaceship.
+fn is_ship(code: &Apgcode) -> bool
+    ensures { IsTrue result ↔ (kind_in code.now ≡ Ship) }
+{
+    match code.kind() {
+        Kind::Ship => true,
+        Kind::Still | Kind::Oscillator => false,
+    }
+}
+
+/// Whether the number, which isn't 0, is a multiple of the period of each object.
+fn is_common_multiple(objects: &[(Apgcode, u64)], multiple: u32) -> bool
+    requires { 1 ≤ multiple }
+    ensures { IsTrue result ↔ IsCommonMultiple objects.now multiple }
+{
+    for object in objects {
+        let whole = is_multiple(multiple, period(&object.0));
+        if !whole {
+            return false;
+        }
+    }
+    true
+}
+
+/// Whether the number, which isn't 0, is a multiple of the other.
+fn is_multiple(number: u32, of: u64) -> bool
+    requires { 1 ≤ number }
+    ensures { IsTrue result ↔ IsMultiple number of }
+{
+    of > 0 && u64::from(number) % of == 0
+}
+
+/// The period of an object with this code: 1 for a still life.
+fn period(code: &Apgcode) -> u64
+    ensures { result ≡ period_in code.now }
+{
+    match code.kind() {
+        Kind::Still => 1,
+        Kind::Oscillator | Kind::Ship => code.number(),
+    }
+}

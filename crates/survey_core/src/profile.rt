@@ -1,0 +1,133 @@
+ghost use Rattle.std.specs.Prelude.{◌≡◌};
+ghost use Rattle.survey_core.specs.Profiles.{IsProfile, is_from_to, profile_of, standard};
+
+use std::marker::Model;
+use thiserror::Error;
+
+/// Why four numbers are not a profile.
+#[derive(Clone, Copy, Debug, PartialEq, Eq, Error)]
+pub enum ProfileError {
+    /// The period is not 1 to 64.
+    #[error("bad period")]
+    Period,
+    /// The horizon is not the period to 4,096.
+    #[error("bad horizon")]
+    Horizon,
+    /// The stride is not 1 to 10,000.
+    #[error("bad stride")]
+    Stride,
+    /// The limit is over 100,000.
+    #[error("bad limit")]
+    Limit,
+}
+
+/// When a pattern counts as settled, in four numbers of generations.
+///
+/// A pattern is looked at in the generations 0, `stride`, twice the stride and so on, up to `limit`. It has settled if
+/// each of its clusters comes back within `period` generations, and if none of them comes into another's way for
+/// `horizon` generations.
+#[derive(Clone, Copy, Debug, PartialEq, Eq)]
+pub struct Profile {
+    period: u32,
+    horizon: u32,
+    stride: u32,
+    limit: u32,
+}
+
+impl Model for Profile {
+    ghost use Rattle.survey_core.specs.Profiles.{IsProfile, Settling};
+
+    ghost Value = { Settling };
+
+    ghost view = { λ p. record { period = p.period; horizon = p.horizon; stride = p.stride; limit = p.limit } };
+
+    ghost inverse = { λ p. record { period = p.period; horizon = p.horizon; stride = p.stride; limit = p.limit } };
+
+    ghost invariant = { λ p. IsProfile (record { period = p.period; horizon = p.horizon; stride = p.stride; limit = p.limit }) };
+}
+
+impl Profile {
+    /// The profile with these numbers.
+    ///
+    /// # Errors
+    ///
+    /// The first of these that holds:
+    ///
+    /// - [`ProfileError::Period`] if the period is not 1 to 64.
+    /// - [`ProfileError::Horizon`] if the horizon is not the period to 4,096.
+    /// - [`ProfileError::Stride`] if the stride is not 1 to 10,000.
+    /// - [`ProfileError::Limit`] if the limit is over 100,000.
+    pub fn new(period: u32, horizon: u32, stride: u32, limit: u32) -> Result<Profile, ProfileError>
+        ensures { result ≡ profile_of (record { period = period; horizon = horizon; stride = stride; limit = limit }) }
+    {
+        if !is_from_to(1, 64, period) {
+            return Err(ProfileError::Period);
+        }
+        if !is_from_to(period, 4096, horizon) {
+            return Err(ProfileError::Horizon);
+        }
+        if !is_from_to(1, 10_000, stride) {
+            return Err(ProfileError::Stride);
+        }
+        if limit > 100_000 {
+            return Err(ProfileError::Limit);
+        }
+        Ok(Profile {
+            period,
+            horizon,
+            stride,
+            limit,
+        })
+    }
+
+    /// The profile that is meant where nothing else is said: 64, 512, 101 and 30,300.
+    pub fn standard() -> Profile
+        ensures { result ≡ standard }
+    {
+        Profile {
+            period: 64,
+            horizon: 512,
+            stride: 101,
+            limit: 30_300,
+        }
+    }
+
+    /// The longest period that counts, 1 to 64.
+    pub fn period(&self) -> u32
+        ensures period { result ≡ self.now.period }
+        ensures profile { IsProfile self.now }
+    {
+        self.period
+    }
+
+    /// For how many generations clusters may not come into each other's way, at least the period and at most 4,096.
+    pub fn horizon(&self) -> u32
+        ensures horizon { result ≡ self.now.horizon }
+        ensures profile { IsProfile self.now }
+    {
+        self.horizon
+    }
+
+    /// How many generations there are from one look to the next, 1 to 10,000.
+    pub fn stride(&self) -> u32
+        ensures stride { result ≡ self.now.stride }
+        ensures profile { IsProfile self.now }
+    {
+        self.stride
+    }
+
+    /// The last generation at which there may be a look, at most 100,000.
+    pub fn limit(&self) -> u32
+        ensures limit { result ≡ self.now.limit }
+        ensures profile { IsProfile self.now }
+    {
+        self.limit
+    }
+}
+
+/// Whether n is one of the numbers from the least to the most.
+fn is_from_to(least: u32, most: u32, n: u32) -> bool
+    ensures { result ≡ is_from_to least most n }
+{
+    least <= n && n <= most
+}

@@ -1,0 +1,196 @@
+//! A pattern is at rest if each of its clusters comes back, and if the clusters, each run alone, are the whole pattern in
+//! every generation up to the horizon. Two blinkers too close to each other show why the second is asked for:
+//!
+//! ```text
+//! generation 0    each alone    the whole
+//!     OOO            .O.           .O.
+//!     ...            .O.           .O.
+//!     ...            .O. (twice)   ...
+//!     OOO            .O.           .O.
+//! ```
+//!
+//! Each upright blinker has a cell in both middle rows, and the two share them.
+//!
+//! Most patterns that are looked at are not at rest, and nearly always some cluster doesn't come back. So that is
+//! asked first. Then the whole and the clusters are stepped side by side, a generation at a time, until a generation
+//! differs.
+
+ghost use Rattle.std.specs.Prelude.{◌≡◌, ◌≢◌, ◌≤◌, ◌↔◌, [], ℕ, All, IfNone, IfOk, IfSome, IsTrue, flat_map, map, true};
+ghost use Rattle.plane_core.specs.Cells.{InOrder};
+ghost use Rattle.plane_core.specs.Clusters.{AreClusters, Partition};
+ghost use Rattle.plane_core.specs.Generations.{lies_within, next};
+ghost use Rattle.survey_core.specs.Rest.{ComesBack, IsAtRest, KeepApart, RestsAs};
+
+use crate::profile::Profile;
+use code_core::recurrence::Recurrence;
+use plane_core::cell::Cell;
+use plane_core::generation::StepError;
+use plane_core::pattern::{FromCellsError, Pattern};
+use plane_core::rule::Rule;
+use std::alloc::{AllocError, Global};
+
+/// The clusters of the pattern, if it is at rest.
+pub(crate) fn clusters_at_rest(
+    alloc: Global,
+    profile: &Profile,
+    rule: &Rule,
+    pattern: &Pattern,
+) -> Result<Option<Vec<Pattern>>, AllocError>
+    requires { lies_within 101000 pattern.now ≡ true }
+    ensures rest { IfOk result (λ found. IfSome found (λ clusters. RestsAs rule.now profile.now pattern.now clusters.items)) }
+    ensures moves { IfOk result (λ found. IfNone found (¬ IsAtRest rule.now profile.now pattern.now)) }
+{
+    let clusters = pattern.clusters(alloc)?;
+    let back = all_come_back(alloc, rule, profile.period(), clusters.as_slice())?;
+    if !back {
+        return Ok(None);
+    }
+    let apart = keep_apart(alloc, rule, profile.horizon(), pattern, clusters.as_slice())?;
+    if !apart {
+        return Ok(None);
+    }
+    Ok(Some(clusters))
+}
+
+/// Whether each of the patterns comes back within so many generations.
+fn all_come_back(
+    alloc: Global,
+    rule: &Rule,
+    limit: u32,
+    patterns: &[Pattern],
+) -> Result<bool, AllocError>
+    requires least { 1 ≤ limit }
+    requires most { limit ≤ 64 }
+    requires some { All (λ pattern. pattern ≢ []) patterns.now }
+    requires near { All (λ pattern. lies_within 101000 pattern ≡ true) patterns.now }
+    ensures { IfOk result (λ all. IsTrue all ↔ All (ComesBack rule.now limit) patterns.now) }
+{
+    for pattern in patterns {
+        let back = comes_back(alloc, rule, limit, pattern)?;
+        if !back {
+            return Ok(false);
+        }
+    }
+    Ok(true)
+}
+
+/// Whether the pattern comes back within so many generations.
+fn comes_back(
+    alloc: Global,
+    rule: &Rule,
+    limit: u32,
+    pattern: &Pattern,
+) -> Result<bool, AllocError>
+    requires least { 1 ≤ limit }
+    requires most { limit ≤ 64 }
+    requires some { pattern.now ≢ [] }
+    requires near { lies_within 101000 pattern.now ≡ true }
+    ensures { IfOk result (λ back. IsTrue back ↔ ComesBack rule.now limit pattern.now) }
+{
+    match Recurrence::find(alloc, pattern, rule, limit) {
+        Ok(found) => Ok(found.is_some()),
+        Err(StepError::Memory) => Err(AllocError),
+        Err(StepError::Edge) => unreachable!(),
+    }
+}
+
+/// Whether the clusters, each run alone, keep apart and make up the whole in each generation up to the horizon.
+fn keep_apart(
+    alloc: Global,
+    rule: &Rule,
+    horizon: u32,
+    pattern: &Pattern,
+    clusters: &[Pattern],
+) -> Result<bool, AllocError>
+    requires horizon { horizon ≤ 4096 }
+    requires near { lies_within 101000 pattern.now ≡ true }
+    requires clusters { AreClusters pattern.now clusters.now }
+    ensures { IfOk result (λ apart. IsTrue apart ↔ ((g : ℕ) → g ≤ horizon → KeepApart rule.now pattern.now clusters.now g)) }
+{
+    let mut whole = pattern.copy(alloc)?;
+    let mut alone = copies(alloc, clusters)?;
+    for _ in 0..horizon {
+        whole = next(alloc, rule, &whole)?;
+        alone = next_of_each(alloc, rule, alone.as_slice())?;
+        let same = make_up(alloc, alone.as_slice(), &whole)?;
+        if !same {
+            return Ok(false);
+        }
+    }
+    Ok(true)
+}
+
+/// The patterns once more.
+fn copies(alloc: Global, patterns: &[Pattern]) -> Result<Vec<Pattern>, AllocError>
+    ensures { IfOk result (λ copies. copies.items ≡ patterns.now) }
+{
+    let mut copies = Vec::with_capacity(alloc, patterns.len())?;
+    for pattern in patterns {
+        copies.push(pattern.copy(alloc)?)?;
+    }
+    Ok(copies)
+}
+
+/// The next generation of each of the patterns, run alone.
+fn next_of_each(
+    alloc: Global,
+    rule: &Rule,
+    patterns: &[Pattern],
+) -> Result<Vec<Pattern>, AllocError>
+    requires { All (λ pattern. lies_within 999999 pattern ≡ true) patterns.now }
+    ensures { IfOk result (λ later. later.items ≡ map (next rule.now) patterns.now) }
+{
+    let mut later = Vec::with_capacity(alloc, patterns.len())?;
+    for pattern in patterns {
+        later.push(next(alloc, rule, pattern)?)?;
+    }
+    Ok(later)
+}
+
+/// The next generation of a pattern that doesn't touch the edge of the plane.
+fn next(alloc: Global, rule: &Rule, pattern: &Pattern) -> Result<Pattern, AllocError>
+    requires { lies_within 999999 pattern.now ≡ true }
+    ensures { IfOk result (λ later. later ≡ next rule.now pattern.now) }
+{
+    match pattern.step(alloc, rule) {
+        Ok(later) => Ok(later),
+        Err(StepError::Memory) => Err(AllocError),
+        Err(StepError::Edge) => unreachable!(),
+    }
+}
+
+/// Whether the parts share no cell, and are the whole together.
+fn make_up(alloc: Global, parts: &[Pattern], whole: &Pattern) -> Result<bool, AllocError>
+    requires in_order { All InOrder parts.now }
+    requires near { All (λ part. lies_within 999999 part ≡ true) parts.now }
+    ensures { IfOk result (λ same. IsTrue same ↔ Partition whole.now parts.now) }
+{
+    let cells = all_cells(alloc, parts)?;
+    let all = whole.cells();
+    if cells.len() != all.len() {
+        return Ok(false);
+    }
+    match Pattern::from_cells(alloc, cells.as_slice()) {
+        Ok(union) => Ok(are_same(union.cells(), all)),
+        Err(FromCellsError::Memory) => Err(AllocError),
+        Err(FromCellsError::OutOfPlane { .. }) => unreachable!(),
+    }
+}
+
+/// Whether the two lists are the same.
+fn are_same(one: &[Cell], other: &[Cell]) -> bool
+    ensures { IsTrue result ↔ (one.now ≡ other.now) }
+{
+    one == other
+}
+
+/// The cells of the patterns, those of the first pattern first.
+fn all_cells(alloc: Global, patterns: &[Pattern]) -> Result<Vec<Cell>, AllocError>
+    ensures { IfOk result (λ cells. cells.items ≡ flat_map (λ pattern. pattern) patterns.now) }
+{
+    let mut cells = Vec::new(alloc);
+    for pattern in patterns {
+        cells.extend_from_slice(pattern.cells())?;
+    }
+    Ok(cells)
+}

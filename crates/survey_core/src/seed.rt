@@ -1,0 +1,101 @@
+ghost use Rattle.std.specs.Prelude.{◌≡◌, ◌≤◌, ◌-◌, ◌++◌, length, position, replicate};
+ghost use Rattle.survey_core.specs.Seeds.{IsSeed, is_invisible, is_visible, most_bytes, seed_read};
+
+use std::marker::Model;
+use thiserror::Error;
+
+/// The most bytes of a seed.
+pub const MOST_BYTES: usize = 64;
+
+/// Why a text is not a seed.
+#[derive(Clone, Copy, Debug, PartialEq, Eq, Error)]
+pub enum SeedError {
+    /// The text has over 64 bytes.
+    #[error("seed too long")]
+    TooLong,
+    /// The byte at `place` is the first that isn't a visible ASCII character. Places count from 0.
+    #[error("bad byte in seed at {place}")]
+    BadByte { place: usize },
+}
+
+/// A text from which soups are made: at most 64 bytes, each one of `!` to `~`. It may be empty.
+///
+/// Seeds are equal where their bytes are. Contracts see a seed as the list of its bytes.
+#[derive(Clone, Copy, Debug, PartialEq, Eq)]
+pub struct Seed {
+    /// The bytes, and zeros after them.
+    padded: [u8; 64],
+    count: usize,
+}
+
+impl Model for Seed {
+    ghost use Rattle.std.specs.Prelude.{◌≡◌, ◌++◌, ◌-◌, ◌≤◌, ℕ, List, length, replicate, take};
+    ghost use Rattle.survey_core.specs.Seeds.{IsSeed, most_bytes};
+
+    ghost Value = { List ℕ };
+
+    ghost view = { λ s. take s.count s.padded };
+
+    ghost inverse = { λ bytes. record { padded = bytes ++ replicate (most_bytes - length bytes) 0; count = length bytes } };
+
+    ghost invariant = { λ s. (take s.count s.padded ++ replicate (most_bytes - length (take s.count s.padded)) 0 ≡ s.padded) × (length (take s.count s.padded) ≡ s.count) × IsSeed (take s.count s.padded) };
+}
+
+impl Seed {
+    /// The seed that the text is.
+    ///
+    /// # Errors
+    ///
+    /// - [`SeedError::TooLong`] if the text has over 64 bytes.
+    /// - [`SeedError::BadByte`] with the place of the first byte that isn't one of `!` to `~` (33 to 126).
+    pub fn new(text: &str) -> Result<Seed, SeedError>
+        ensures { result ≡ seed_read text.now }
+    {
+        let bytes = text.as_bytes();
+        if bytes.len() > MOST_BYTES {
+            return Err(SeedError::TooLong);
+        }
+        match first_invisible(bytes) {
+            Some(place) => Err(SeedError::BadByte { place }),
+            None => Ok(Seed {
+                padded: padded(bytes),
+                count: bytes.len(),
+            }),
+        }
+    }
+
+    /// The bytes of the text.
+    pub fn bytes(&self) -> &[u8]
+        ensures bytes { result.now ≡ self.now }
+        ensures seed { IsSeed self.now }
+    {
+        let Seed { padded, count } = self;
+        &padded[..*count]
+    }
+}
+
+/// The place of the first byte that isn't visible.
+fn first_invisible(bytes: &[u8]) -> Option<usize>
+    ensures { result ≡ position is_invisible bytes.now }
+{
+    bytes.iter().position(|byte| !is_visible(*byte))
+}
+
+/// The bytes, and zeros after them.
+fn padded(bytes: &[u8]) -> [u8; 64]
+    requires { length bytes.now ≤ most_bytes }
+    ensures { result ≡ bytes.now ++ replicate (most_bytes - length bytes.now) 0 }
+{
+    let mut padded = [0; 64];
+    for (place, byte) in bytes.iter().enumerate() {
+        padded[place] = *byte;
+    }
+    padded
+}
+
+/// Whether the byte is a visible ASCII character.
+fn is_visible(byte: u8) -> bool
+    ensures { result ≡ is_visible byte }
+{
+    33 <= byte && byte <= 126
+}

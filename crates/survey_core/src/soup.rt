@@ -1,0 +1,101 @@
+//! A soup has 16 rows of 16 cells, and a digest 32 bytes of 8 bits. A row is two bytes, and the greatest bit of a byte
+//! stands leftmost:
+//!
+//! ```text
+//!            byte 2y            byte 2y + 1
+//! row y      0 1 0 1 1 1 1 1    1 1 1 0 1 0 0 1
+//!            . O . O O O O O    O O O . O . . O
+//! ```
+//!
+//! So the cell at place i of the square, counted row by row, is bit 7 - i mod 8 of byte i div 8.
+
+ghost use Rattle.std.specs.Prelude.{◌≡◌, ◌<◌, ◌++◌, decimal, true, IfOk};
+ghost use Rattle.plane_core.specs.Generations.{lies_within};
+ghost use Rattle.sha2.specs.Sha256.{sha256};
+ghost use Rattle.survey_core.specs.Soups.{is_alive_at, live_cells, soup, soup_of, square_cell};
+
+use crate::job::Job;
+use crate::seed::Seed;
+use itoa::Buffer;
+use plane_core::cell::Cell;
+use plane_core::pattern::{FromCellsError, Pattern};
+use sha2::{Digest, Sha256};
+use std::alloc::{AllocError, Global};
+
+/// The soup with this number: the 256 bits of the SHA-256 digest of the job's seed and then the number in decimal, as a
+/// square of 16 by 16 cells. The job's profile and rule don't matter.
+///
+/// # Errors
+///
+/// [`AllocError`] if there is no memory.
+pub fn soup(alloc: Global, job: &Job, number: u64) -> Result<Pattern, AllocError>
+    ensures soup { IfOk result (λ pattern. pattern ≡ soup job.now.seed number) }
+    ensures small { IfOk result (λ pattern. lies_within 15 pattern ≡ true) }
+{
+    soup_of_digest(alloc, &digest(&job.seed, number))
+}
+
+/// The soup of a digest: the cell in column x of row y, both 0 to 15, is bit 7 - x mod 8 of byte 2y + x div 8, where bit
+/// 7 is the greatest.
+///
+/// # Errors
+///
+/// [`AllocError`] if there is no memory.
+pub fn soup_of_digest(alloc: Global, digest: &[u8; 32]) -> Result<Pattern, AllocError>
+    ensures soup { IfOk result (λ pattern. pattern ≡ soup_of digest.now) }
+    ensures small { IfOk result (λ pattern. lies_within 15 pattern ≡ true) }
+{
+    let cells = live_cells(alloc, digest)?;
+    match Pattern::from_cells(alloc, cells.as_slice()) {
+        Ok(pattern) => Ok(pattern),
+        Err(FromCellsError::Memory) => Err(AllocError),
+        Err(FromCellsError::OutOfPlane { .. }) => unreachable!(),
+    }
+}
+
+/// The live cells of the square.
+#[tactic(auto, using(crate::proofs::SoupLemmas::live_cells_none, crate::proofs::SoupLemmas::live_cells_alive, crate::proofs::SoupLemmas::live_cells_dead))]
+fn live_cells(alloc: Global, digest: &[u8; 32]) -> Result<Vec<Cell>, AllocError>
+    ensures { IfOk result (λ cells. cells.items ≡ live_cells digest.now 256) }
+{
+    let mut cells = Vec::new(alloc);
+    for place in 0..256 {
+        if is_alive_at(digest, place) {
+            cells.push(square_cell(place))?;
+        }
+    }
+    Ok(cells)
+}
+
+/// The digest of the seed's bytes and then the number in decimal.
+fn digest(seed: &Seed, number: u64) -> [u8; 32]
+    ensures { result ≡ sha256 (seed.now ++ decimal number) }
+{
+    let mut buffer = Buffer::new();
+    let mut hasher = Sha256::new();
+    hasher.update(seed.bytes());
+    hasher.update(buffer.format(number).as_bytes());
+    hasher.finalize()
+}
+
+/// Whether the cell at this place of the square is alive.
+#[tactic(auto, unfolding(crate::specs::Soups::is_alive_at))]
+fn is_alive_at(digest: &[u8; 32], place: u32) -> bool
+    requires { place < 256 }
+    ensures { result ≡ is_alive_at digest.now place }
+{
+    let (x, y) = (place % 16, place / 16);
+    let byte = digest[(2 * y + x / 8) as usize];
+    (byte >> (7 - x % 8)) % 2 == 1
+}
+
+/// The cell at this place of the square.
+fn square_cell(place: u32) -> Cell
+    requires { place < 256 }
+    ensures { result ≡ square_cell place }
+{
+    Cell {
+        y: (place / 16) as i32,
+        x: (place % 16) as i32,
+    }
+}
