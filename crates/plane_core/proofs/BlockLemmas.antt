@@ -18,13 +18,13 @@ use Rattle.plane_core.proofs.CellLemmas.{same_cell-eq}
 
 -- ---- one coordinate
 
--- How one number lies by another: a step before it, at it, a step after it, or further off. The tests say which.
+-- How one number lies by another: a step to its left, at it, a step to its right, or further off. The tests say which.
 abbrev pub IsNear : Bool → Bool → Bool → ℕ → Type 0
-IsNear before here behind far =
-    ((before ≡ true) × (here ≡ false) × (behind ≡ false) × (far ≡ 1))
-    ⊎ (((before ≡ false) × (here ≡ true) × (behind ≡ false) × (far ≡ 0))
-    ⊎ (((before ≡ false) × (here ≡ false) × (behind ≡ true) × (far ≡ 1))
-    ⊎ ((before ≡ false) × (here ≡ false) × (behind ≡ false) × (2 ≤ far))))
+IsNear left middle right far =
+    ((left ≡ true) × (middle ≡ false) × (right ≡ false) × (far ≡ 1))
+    ⊎ (((left ≡ false) × (middle ≡ true) × (right ≡ false) × (far ≡ 0))
+    ⊎ (((left ≡ false) × (middle ≡ false) × (right ≡ true) × (far ≡ 1))
+    ⊎ ((left ≡ false) × (middle ≡ false) × (right ≡ false) × (2 ≤ far))))
 
 pub int_eq-true : (a b : ℤ) → int_eq a b ≡ true → a ≡ b
 int_eq-true a b e = (signed_Decides a b).0 e
@@ -66,7 +66,7 @@ near a b = go (int_eq (a +ℤ negsuc 0) b) (int_eq a b) (int_eq (a +ℤ pos 1) b
 
 -- how many of three cells of a row are the one
 abbrev hits : Bool → Bool → Bool → Bool → ℕ
-hits row before here behind = cond (row && behind) 1 0 + (cond (row && here) 1 0 + cond (row && before) 1 0)
+hits row left middle right = cond (row && right) 1 0 + (cond (row && middle) 1 0 + cond (row && left) 1 0)
 
 far_off : (m n : ℕ) → 2 ≤ max m n → (max m n == 1) ≡ false
 far_off m n h = ne_eqb _ _ (λ e. absurd (omega arith))

@@ -91,8 +91,8 @@ merging_more left middle right sums left_rest middle_rest right_rest c m e =
       left_order = pushed left_rest m.left_order least.none_left;
       middle_order = pushed middle_rest m.middle_order least.none_middle;
       right_order = pushed right_rest m.right_order least.none_right;
-      no_others = λ p all_before all_here all_behind.
-          let had = m.no_others p all_before all_here all_behind in
+      no_others = λ p all_left all_middle all_right.
+          let had = m.no_others p all_left all_middle all_right in
           let now : p c ≡ true = elim least.first [
             | inl l ↦ all_first p c left_rest l had.1
             | inr (inl k) ↦ all_first p c middle_rest k had.2

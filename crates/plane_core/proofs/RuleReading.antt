@@ -170,21 +170,21 @@ pub rule_read-rule_text : (rule : Numbers) → IsRule rule → rule_read (rule_t
 unfolding rule_text
 rule_read-rule_text rule whole =
     let text = rule_text rule in
-    let behind = digits 0 rule.survivals in
-    let births : births_in text ≡ record { answers = rule.births; rest = 115 ∷ behind } =
-    numbers_at-digits 8 1 rule.births (115 ∷ behind) whole.births (omega arith) (IsPastDigits-s behind) in
+    let after_s = digits 0 rule.survivals in
+    let births : births_in text ≡ record { answers = rule.births; rest = 115 ∷ after_s } =
+    numbers_at-digits 8 1 rule.births (115 ∷ after_s) whole.births (omega arith) (IsPastDigits-s after_s) in
     let survivals : survivals_in text ≡ record { answers = rule.survivals; rest = [] } =
-    ap (λ (r : Reading). numbers_at 9 0 (drop 1 r.rest)) births ∙ ap (numbers_at 9 0) (sym (append-nil behind))
+    ap (λ (r : Reading). numbers_at 9 0 (drop 1 r.rest)) births ∙ ap (numbers_at 9 0) (sym (append-nil after_s))
     ∙ numbers_at-digits 9 0 rule.survivals [] whole.survivals (omega arith) IsPastDigits-nil in
-    let no_zero : begins text (codes "b0") ≡ false = begins-digits 0 1 rule.births (115 ∷ behind) (omega arith) (omega arith) (IsPastDigits-s behind) in
-    let s : begins (births_in text).rest (codes "s") ≡ true = ap (λ (r : Reading). begins r.rest (codes "s")) births ∙ begins-same 115 behind in
+    let no_zero : begins text (codes "b0") ≡ false = begins-digits 0 1 rule.births (115 ∷ after_s) (omega arith) (omega arith) (IsPastDigits-s after_s) in
+    let s : begins (births_in text).rest (codes "s") ≡ true = ap (λ (r : Reading). begins r.rest (codes "s")) births ∙ begins-same 115 after_s in
     let end : (length (survivals_in text).rest == 0) ≡ true = ap (λ (r : Reading). length r.rest == 0) survivals in
-    rule_read-all text (begins-same 98 (digits 1 rule.births ++ 115 ∷ behind)) no_zero s end ∙ rw (survivals, births) refl
+    rule_read-all text (begins-same 98 (digits 1 rule.births ++ 115 ∷ after_s)) no_zero s end ∙ rw (survivals, births) refl
 
 -- Where the front begins a rule's text and no longer front does, the first fault is after it.
-pub IsFirstFault-behind : (front rest : List ℕ) → BeginsRule front → ((c : ℕ) (cs : List ℕ) → rest ≡ c ∷ cs → BeginsRule (front ++ c ∷ []) → ⊥)
+pub IsFirstFault-after : (front rest : List ℕ) → BeginsRule front → ((c : ℕ) (cs : List ℕ) → rest ≡ c ∷ cs → BeginsRule (front ++ c ∷ []) → ⊥)
     → IsFirstFault (front ++ rest) (length (front ++ rest) - length rest)
-IsFirstFault-behind front [] begun stops =
+IsFirstFault-after front [] begun stops =
     let here : length (front ++ []) - 0 ≡ length (front ++ []) = omega arith in
     let all : take (length (front ++ [])) (front ++ []) ≡ front = take-length (front ++ []) ∙ append-nil front in
     rw here (record {
@@ -192,7 +192,7 @@ IsFirstFault-behind front [] begun stops =
       before = let P : List ℕ → Type 0 = λ xs. BeginsRule xs in subst P (sym all) begun;
       there = λ less. absurd (omega arith);
     })
-IsFirstFault-behind front (c ∷ cs) begun stops =
+IsFirstFault-after front (c ∷ cs) begun stops =
     let place = length (front ++ c ∷ cs) - length (c ∷ cs) in
     let P : List ℕ → Type 0 = λ xs. BeginsRule xs in
     let at : length front ≡ place = omega (arith, length-append front (c ∷ cs)) in
@@ -232,10 +232,10 @@ pub births-shared : (text : List ℕ) (c : ℕ) (cs more : List ℕ) (rule : Num
     → rule_text rule ≡ 98 ∷ (digits 1 (births_in text).answers ++ c ∷ more) → 115 ∷ digits 0 rule.survivals ≡ c ∷ more
 unfolding rule_text
 births-shared text c cs more rule whole rest spelled =
-    let behind = 115 ∷ digits 0 rule.survivals in
-    let same : digits 1 rule.births ++ behind ≡ digits 1 (births_in text).answers ++ c ∷ more = ap (drop 1) spelled in
+    let after_s = 115 ∷ digits 0 rule.survivals in
+    let same : digits 1 rule.births ++ after_s ≡ digits 1 (births_in text).answers ++ c ∷ more = ap (drop 1) spelled in
     ap (λ (r : Reading). r.rest)
-    (sym (numbers_at-digits 8 1 rule.births behind whole.births (omega arith) (IsPastDigits-s (digits 0 rule.survivals)))
+    (sym (numbers_at-digits 8 1 rule.births after_s whole.births (omega arith) (IsPastDigits-s (digits 0 rule.survivals)))
     ∙ ap (numbers_at 8 1) same ∙ numbers_at-other_rest 8 1 (drop 1 text) c cs more rest)
 
 -- the same after the survivals' digits, where a rule's text has nothing
@@ -280,7 +280,7 @@ Says_no_s text b no_zero no_s =
     let whole : front ++ births.rest ≡ text = ap (λ (xs : List ℕ). 98 ∷ xs) (digits-numbers_at 8 1 (drop 1 text)) ∙ sym (begins-true text 98 b) in
     let P : List ℕ → Type 0 = λ xs. IsFirstFault xs (length xs - length births.rest) in (
       subst P whole
-          (IsFirstFault-behind front births.rest (BeginsRule-births births.answers (length-numbers_at 8 1 (drop 1 text)))
+          (IsFirstFault-after front births.rest (BeginsRule-births births.answers (length-numbers_at 8 1 (drop 1 text)))
           (λ c cs rest further.
           let more = further.rest in
           let spelled : rule_text further.rule ≡ 98 ∷ (digits 1 births.answers ++ c ∷ more) = further.spelled ∙ append_assoc front (c ∷ []) more in
@@ -322,16 +322,16 @@ Says_more text b no_zero s =
     let rule = rule_in text in
     let P : List ℕ → Type 0 = λ xs. IsFirstFault xs (length xs - length survivals.rest) in (
       subst P (rule_text-rule_in text b s)
-          (IsFirstFault-behind (rule_text rule) survivals.rest (BeginsRule-rule_text rule (IsRule-rule_in text))
+          (IsFirstFault-after (rule_text rule) survivals.rest (BeginsRule-rule_text rule (IsRule-rule_in text))
           (λ c cs rest further.
           let more = further.rest in
           let d = digits 1 births.answers in
           let t = digits 0 survivals.answers in
           let spelled : rule_text further.rule ≡ 98 ∷ (d ++ 115 ∷ (t ++ c ∷ more)) =
           further.spelled ∙ append_assoc (rule_text rule) (c ∷ []) more ∙ ap (λ (xs : List ℕ). 98 ∷ xs) (append_assoc d (115 ∷ t) (c ∷ more)) in
-          let behind : births.rest ≡ 115 ∷ drop 1 births.rest = begins-true births.rest 115 s in
+          let after_s : births.rest ≡ 115 ∷ drop 1 births.rest = begins-true births.rest 115 s in
           let shared : 115 ∷ digits 0 further.rule.survivals ≡ 115 ∷ (t ++ c ∷ more) =
-          births-shared text 115 (drop 1 births.rest) (t ++ c ∷ more) further.rule further.is_rule behind spelled in
+          births-shared text 115 (drop 1 births.rest) (t ++ c ∷ more) further.rule further.is_rule after_s spelled in
           let none = survivals-shared text c cs more further.rule further.is_rule rest (ap (drop 1) shared) in
           cc)),
       no_zero,

@@ -44,7 +44,7 @@ searched-has S c (Err i) o low found = elim (cases_Bool (has S c)) [ inl found_i
         let apart = found (searchable_from_sorted cell_cmp_total (λ d. d) S c (in_order-sorted S o)) in
         elim (cases_lt h.0 i) [
           | inl before ↦ not_less (ap (λ d. cell_cmp d c) (sym h.2) ∙ apart.0 h.0 c (omega arith) before)
-          | inr behind ↦ not_greater (ap (λ d. cell_cmp d c) (sym h.2) ∙ apart.1 h.0 c behind h.1)
+          | inr later ↦ not_greater (ap (λ d. cell_cmp d c) (sym h.2) ∙ apart.1 h.0 c later h.1)
         ]
 
 -- where no cell fails a test, all pass it

@@ -61,9 +61,9 @@ NoneEarlier c [] = Unit {0}
 NoneEarlier c (d ∷ ds) = cell_cmp d c ≡ Less → ⊥
 
 -- c stands before each cell of the list but itself
-rest_behind : (c : Cell) (ts : List Tally) → NoneEarlier c (cells_of ts) → InOrder (cells_of ts) → InOrder (c ∷ cells_of (rest_at c ts))
-rest_behind c [] none o = in_order-cons c [] tt in_order-nil
-rest_behind c (t ∷ ts) none o = go (cell_cmp c t.cell) refl
+rest_after : (c : Cell) (ts : List Tally) → NoneEarlier c (cells_of ts) → InOrder (cells_of ts) → InOrder (c ∷ cells_of (rest_at c ts))
+rest_after c [] none o = in_order-cons c [] tt in_order-nil
+rest_after c (t ∷ ts) none o = go (cell_cmp c t.cell) refl
   where
     go : (r : Ordering) → cell_cmp c t.cell ≡ r → InOrder (c ∷ cells_of (cond (is_eq r) ts (t ∷ ts)))
     go Less is = in_order-cons c (cells_of (t ∷ ts)) (is, before-trans c t.cell (cells_of ts) is (in_order-head t.cell (cells_of ts) o)) o
@@ -89,7 +89,7 @@ all-rest_at P c (t ∷ ts) h = elim (same_cell c t.cell) as (λ b. AllByRecursio
 -- c goes after the sums, if one list goes on with c and no list goes on with an earlier cell
 pub push_order : (S : List Cell) (c : Cell) (ds : List Cell) (ts : List Tally) → InOrder (S ++ c ∷ ds) → InOrder (S ++ cells_of ts)
     → NoneEarlier c (cells_of ts) → InOrder (S ++ c ∷ cells_of (rest_at c ts))
-push_order [] c ds ts one o none = rest_behind c ts none o
+push_order [] c ds ts one o none = rest_after c ts none o
 push_order (s ∷ ss) c ds ts one o none =
     let P : Cell → Type 0 = λ d. cell_cmp s d ≡ Less in
     let head : IsBefore s (ss ++ c ∷ ds) = in_order-head s (ss ++ c ∷ ds) one in
