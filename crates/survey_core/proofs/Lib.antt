@@ -1,3 +1,4 @@
+mod FindingLemmas
 mod ObjectLemmas
 mod PartitionLemmas
 mod PlaneLemmas

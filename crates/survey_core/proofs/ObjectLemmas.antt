@@ -1,2 +1,102 @@
--- Counting objects by their codes.
-use Rattle.std.proofs.Common.{◌≡◌, ℕ}
+-- Counting objects by their codes, and multiples of their periods.
+use Rattle.std.proofs.Common.{◌≡◌, ◌∙◌, ap, sym, refl, subst, ℕ, suc, ◌+◌, ◌*◌, ◌/◌, ◌%◌, ◌<◌, ◌≤◌, ◌↔◌, add-zero, zero-add, mul_comm, nat_eq, Bool, true, false, IsTrue, cond, List, [], ◌∷◌, ◌++◌, take, get_or, All, count_by, length, Option, None, Some, IfSome, unwrap_or, arith, if◌then◌else◌}
+use Rattle.std.specs.BTreeMap.{BTreeMap, IsOrdered}
+use Rattle.std.specs.Cmp.Lexicographic.{nat_list_cmp_total, slice_cmp}
+use Rattle.std.specs.FinMap.{nat_cmp-IsAntisymmetric, slice_cmp-IsAntisymmetric}
+use Rattle.std.specs.List.{AllZip}
+use Rattle.std.specs.Map.{lookup}
+use Rattle.std.specs.Ordering.{is_eq, nat_cmp, ordering_reverse}
+use Rattle.std.specs.declared.cmp.Ordering.{Ordering}
+use Rattle.std.specs.declared.cmp.Ordering.TheVariants.{Less, Equal, Greater}
+use Rattle.std.proofs.lemmas.Bool.{false≢true}
+use Rattle.std.proofs.lemmas.Bool.Decides.{Decides-eqb}
+use Rattle.std.proofs.lemmas.List.{length-append, take_more, get_or_default}
+use Rattle.std.proofs.lemmas.List.Sums.{sum_by-append}
+use Rattle.std.proofs.lemmas.Map.Views.{All-found}
+use Rattle.std.proofs.Math.Nat.{div-add-mod, mul-mod_left}
+use Rattle.plane_core.specs.declared.cell.Cell.{Cell}
+use Rattle.plane_core.specs.Rules.{Numbers}
+use Rattle.code_core.specs.Names.{IsCode}
+use Rattle.survey_core.specs.Objects.{AreObjects, CountsAreSome, IsMultiple, count_of, is_code}
+
+-- a multiple of n is what n divides without a rest
+pub multiple_then : (m n : ℕ) → IsTrue (nat_eq (m % n) 0) ↔ IsMultiple m n
+multiple_then m n =
+    (λ e. (m / n, sym (div-add-mod m n) ∙ ap (λ (rest : ℕ). n * (m / n) + rest) ((Decides-eqb (m % n) 0).0 e) ∙ add-zero (n * (m / n)) ∙ mul_comm n (m / n)),
+    λ (k, is). (Decides-eqb (m % n) 0).1 (ap (λ (x : ℕ). x % n) is ∙ mul-mod_left k n))
+
+-- ---- codes
+
+-- two texts that compare as equal are one
+pub same_code : (a b : List ℕ) → slice_cmp nat_cmp a b ≡ Equal → a ≡ b
+same_code a b e = slice_cmp-IsAntisymmetric nat_cmp-IsAntisymmetric a b e
+
+-- the order in which two codes are compared doesn't matter
+pub is_code-sym : (a b : List ℕ) → is_code a b ≡ is_code b a
+is_code-sym a b = ap is_eq (nat_list_cmp_total.antisymm a b) ∙ turned (slice_cmp nat_cmp b a)
+  where
+    turned : (o : Ordering) → is_eq (ordering_reverse o) ≡ is_eq o
+    turned Less = refl
+    turned Equal = refl
+    turned Greater = refl
+
+-- one object more with the code k
+pub counted_more : (old new : List (List ℕ × ℕ)) (k : List ℕ) (before : ℕ)
+    → ((q : List ℕ) → lookup (is_code q) new ≡ cond (is_code k q) (Some (before + 1)) (lookup (is_code q) old))
+    → before ≡ count_of old k → (q : List ℕ) → count_of new q ≡ count_of old q + (if is_code q k then 1 else 0)
+counted_more old new k before updates is q = go (slice_cmp nat_cmp k q) refl
+  where
+    miss : is_code k q ≡ false → count_of new q ≡ count_of old q + (if is_code q k then 1 else 0)
+    miss other =
+        ap (λ (o : Option ℕ). unwrap_or o 0) (updates q ∙ ap (λ (b : Bool). cond b (Some (before + 1)) (lookup (is_code q) old)) other)
+        ∙ sym (add-zero (count_of old q)) ∙ ap (λ (b : Bool). count_of old q + (if b then 1 else 0)) (sym (is_code-sym q k ∙ other))
+
+    go : (o : Ordering) → slice_cmp nat_cmp k q ≡ o → count_of new q ≡ count_of old q + (if is_code q k then 1 else 0)
+    go Equal e =
+        let hit : is_code k q ≡ true = ap is_eq e in
+        let told : count_of new q ≡ before + 1 = ap (λ (o : Option ℕ). unwrap_or o 0) (updates q ∙ ap (λ (b : Bool). cond b (Some (before + 1)) (lookup (is_code q) old)) hit) in
+        told ∙ ap (λ (n : ℕ). n + 1) (is ∙ ap (count_of old) (same_code k q e)) ∙ ap (λ (b : Bool). count_of old q + (if b then 1 else 0)) (sym (is_code-sym q k ∙ hit))
+    go Less e = miss (ap is_eq e)
+    go Greater e = miss (ap is_eq e)
+
+-- and still no count is 0
+pub some_more : (old new : List (List ℕ × ℕ)) (k : List ℕ) (before : ℕ)
+    → ((q : List ℕ) → lookup (is_code q) new ≡ cond (is_code k q) (Some (before + 1)) (lookup (is_code q) old))
+    → CountsAreSome old → CountsAreSome new
+some_more old new k before updates some q =
+    subst (λ (o : Option ℕ). IfSome o (λ n. 1 ≤ n)) (sym (updates q)) (go (is_code k q))
+  where
+    go : (b : Bool) → IfSome (cond b (Some (before + 1)) (lookup (is_code q) old)) (λ n. 1 ≤ n)
+    go true = omega arith
+    go false = some q
+
+-- the entries of a map whose counts are not 0
+pub entries_are_objects : (counts : BTreeMap (List ℕ) ℕ) → IsOrdered (slice_cmp nat_cmp) counts → CountsAreSome counts.entries → AreObjects counts.entries
+entries_are_objects counts ordered some = record {
+  in_order = ordered;
+  some = λ k d low. subst (λ (o : Option ℕ). IfSome o (λ n. 1 ≤ n)) (All-found nat_list_cmp_total counts ordered k d low) (some (get_or counts.entries k d).0);
+}
+
+-- ---- clusters and their codes, one after another
+
+zip_more : (rule : Numbers) (limit : ℕ) (clusters : List (List Cell)) (codes : List (List ℕ)) (cluster : List Cell) (code : List ℕ)
+    → AllZip (λ cluster code. IsCode rule cluster limit code) clusters codes → IsCode rule cluster limit code
+    → AllZip (λ cluster code. IsCode rule cluster limit code) (clusters ++ cluster ∷ []) (codes ++ code ∷ [])
+zip_more rule limit [] [] cluster code all is = (is, tt)
+zip_more rule limit [] (y ∷ ys) cluster code all is = absurd all
+zip_more rule limit (x ∷ xs) [] cluster code all is = absurd all
+zip_more rule limit (x ∷ xs) (y ∷ ys) cluster code all is = (all.0, zip_more rule limit xs ys cluster code all.1 is)
+
+pub codes_more : (rule : Numbers) (limit : ℕ) (clusters : List (List Cell)) (i : ℕ) (cluster : List Cell) (codes : List (List ℕ)) (code : List ℕ)
+    → i < length clusters → cluster ≡ get_or clusters i cluster
+    → AllZip (λ cluster code. IsCode rule cluster limit code) (take i clusters) codes → IsCode rule cluster limit code
+    → AllZip (λ cluster code. IsCode rule cluster limit code) (take (i + 1) clusters) (codes ++ code ∷ [])
+codes_more rule limit clusters i cluster codes code low at all is =
+    subst (λ (front : List (List Cell)). AllZip (λ cluster code. IsCode rule cluster limit code) front (codes ++ code ∷ [])) (sym (take_more clusters i cluster low))
+    (zip_more rule limit (take i clusters) codes (get_or clusters i cluster) code all (subst (λ (x : List Cell). IsCode rule x limit code) at is))
+
+pub length_more : (codes : List (List ℕ)) (code : List ℕ) (n : ℕ) → length codes ≡ n → length (codes ++ code ∷ []) ≡ n + 1
+length_more codes code n is = length-append codes (code ∷ []) ∙ ap (λ (m : ℕ). m + 1) is
+
+pub count_by_more : (p : List ℕ → Bool) (codes : List (List ℕ)) (code : List ℕ) → count_by p (codes ++ code ∷ []) ≡ count_by p codes + (if p code then 1 else 0)
+count_by_more p codes code = sum_by-append (λ x. cond (p x) 1 0) codes (code ∷ []) ∙ ap (λ (n : ℕ). count_by p codes + n) (zero-add (cond (p code) 1 0))

@@ -62,10 +62,10 @@ pub fn survey_pattern(
     let mut latest = pattern;
     for place in 0..last {
         let checkpoint = place * profile.stride();
-        if let Some(finding) = finding_at(alloc, profile, rule, checkpoint, &latest)? {
-            return Ok(finding);
+        match finding_at(alloc, profile, rule, checkpoint, &latest)? {
+            Some(finding) => return Ok(finding),
+            None => latest = run_on(alloc, rule, profile.stride(), &latest)?,
         }
-        latest = run_on(alloc, rule, profile.stride(), &latest)?;
     }
     let checkpoint = last * profile.stride();
     let finding = finding_at(alloc, profile, rule, checkpoint, &latest)?;

@@ -1,5 +1,5 @@
 ghost use Rattle.std.specs.Prelude.{◌≡◌, ◌+◌, ◌<◌, ◌≤◌, ◌^◌, ◌↔◌, ◌≢◌, [], ℕ, All, IfOk, IsTrue, List, OnOk, length, true, if◌then◌else◌};
-ghost use Rattle.std.specs.BTreeMap.{get};
+ghost use Rattle.std.specs.BTreeMap.{IsOrdered};
 ghost use Rattle.std.specs.Cmp.Lexicographic.{slice_cmp};
 ghost use Rattle.std.specs.Ordering.{nat_cmp};
 ghost use Rattle.std.specs.Prelude.{unwrap_or};
@@ -76,8 +76,8 @@ impl Objects {
         if !none_is_ship(objects) {
             return false;
         }
-        for multiple in 1..=horizon {
-            if is_common_multiple(objects, multiple) {
+        for below in 0..horizon {
+            if is_common_multiple(objects, below + 1) {
                 return true;
             }
         }
@@ -122,13 +122,26 @@ fn count(counts: &mut BTreeMap<Apgcode, u64>, code: Apgcode) -> Result<(), Alloc
 /// The counts as a list.
 fn listed(alloc: Global, counts: BTreeMap<Apgcode, u64>) -> Result<Objects, AllocError>
     requires { CountsAreSome counts.entries }
-    ensures { IfOk result (λ objects. objects ≡ counts.entries) }
+    ensures entries { IfOk result (λ objects. objects ≡ counts.entries) }
+    ensures lawful { IfOk result AreObjects }
 {
-    let mut counted = Vec::with_capacity(alloc, counts.len())?;
-    for object in counts {
-        counted.push(object)?;
-    }
+    let counted = entries(alloc, counts)?;
     Ok(Objects { counted })
+}
+
+/// The entries of the counts.
+fn entries(
+    alloc: Global,
+    counts: BTreeMap<Apgcode, u64>,
+) -> Result<Vec<(Apgcode, u64)>, AllocError>
+    ensures entries { IfOk result (λ entries. entries.items ≡ counts.entries) }
+    ensures ordered { OnOk result (IsOrdered (slice_cmp nat_cmp) counts) }
+{
+    let mut entries = Vec::with_capacity(alloc, counts.len())?;
+    for object in counts {
+        entries.push(object)?;
+    }
+    Ok(entries)
 }
 
 /// Whether none of the objects is a spaceship.

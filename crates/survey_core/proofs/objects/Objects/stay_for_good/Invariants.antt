@@ -1,6 +1,6 @@
-use Rattle.std.proofs.Common.{◌<◌, ℕ}
+use Rattle.std.proofs.Common.{◌≤◌, ℕ}
 use Rattle.survey_core.specs.Objects.{IsCommonMultiple}
 use Rattle.survey_core.proofs.objects.Objects.stay_for_good.Given as goal
 
-abbrev pub invariant-loop-multiple : goal.invariant-loop-multiple
-invariant-loop-multiple l = (m : ℕ) → m < l.multiple → ¬ IsCommonMultiple l.objects m
+abbrev pub invariant-loop-below : goal.invariant-loop-below
+invariant-loop-below l = (m : ℕ) → m ≤ l.below → ¬ IsCommonMultiple l.objects m
