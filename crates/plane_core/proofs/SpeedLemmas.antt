@@ -36,7 +36,7 @@ after-suc : (rule : Numbers) (S : List Cell) (g : ℕ) → after rule S (suc g) 
 unfolding after
 after-suc rule S g = refl
 
-within-after : (rule : Numbers) (S : List Cell) (n g : ℕ) → lies_within n S ≡ true → lies_within (n + g) (after rule S g) ≡ true
+pub within-after : (rule : Numbers) (S : List Cell) (n g : ℕ) → lies_within n S ≡ true → lies_within (n + g) (after rule S g) ≡ true
 within-after rule S n zero h =
     subst (λ (m : ℕ). lies_within m (after rule S 0) ≡ true) (sym (add-zero n)) (subst (λ (T : List Cell). lies_within n T ≡ true) (sym (after-none rule S)) h)
 within-after rule S n (suc g) h =
@@ -97,7 +97,7 @@ off_edge c n low h =
     rw (ne_eqb (unsigned_abs c.x) plane_bound (λ e. absurd (omega arith)), ne_eqb (unsigned_abs c.y) plane_bound (λ e. absurd (omega arith))) refl
 
 -- a pattern that lies inside the edge doesn't touch it
-inside_edge : (S : List Cell) (n : ℕ) → n < plane_bound → lies_within n S ≡ true → touches_edge S ≡ false
+pub inside_edge : (S : List Cell) (n : ℕ) → n < plane_bound → lies_within n S ≡ true → touches_edge S ≡ false
 inside_edge [] n low h = refl
 inside_edge (c ∷ cs) n low h =
     let parts = and_parts (is_within n c) (lies_within n cs) h in
