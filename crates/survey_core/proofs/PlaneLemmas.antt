@@ -9,7 +9,7 @@ use Rattle.plane_core.specs.declared.cell.Cell.{Cell}
 use Rattle.plane_core.specs.Cells.{is_within, off_plane, on_plane, plane_bound}
 use Rattle.plane_core.specs.Generations.{after, lies_within}
 use Rattle.plane_core.specs.Rules.{Numbers}
-use Rattle.plane_core.proofs.GenerationLemmas.{within-after}
+use Rattle.plane_core.proofs.SpeedLemmas.{within-after}
 use Rattle.plane_core.proofs.SearchLemmas.{has-list_all, list_all-has}
 
 is_within-more : (near far : ℕ) (c : Cell) → near ≤ far → is_within near c ≡ true → is_within far c ≡ true

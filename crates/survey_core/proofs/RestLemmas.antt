@@ -9,7 +9,8 @@ use Rattle.plane_core.specs.Generations.{after, lies_within, next, touches_edge}
 use Rattle.plane_core.specs.Rules.{Numbers}
 use Rattle.plane_core.proofs.ClusterLemmas.{linked-has, linked-itself}
 use Rattle.plane_core.proofs.ClusterLaws.{determined_law, partition_law}
-use Rattle.plane_core.proofs.GenerationLemmas.{after-none, after-more, within-after}
+use Rattle.plane_core.proofs.GenerationLemmas.{after-none, after-more}
+use Rattle.plane_core.proofs.SpeedLemmas.{within-after}
 use Rattle.plane_core.proofs.SearchLemmas.{has-list_all, list_all-has}
 use Rattle.code_core.specs.declared.recurrence.Recurrence.{Recurrence}
 use Rattle.code_core.specs.Recurrences.{IsNew, Recurs}

@@ -3,7 +3,7 @@ use Rattle.std.proofs.lemmas.Bool.{false≢true}
 use Rattle.plane_core.specs.Generations.{touches_edge}
 use Rattle.plane_core.specs.Refusals.{RefusesStep}
 use Rattle.plane_core.specs.declared.generation.StepError.TheVariants.{Edge}
-use Rattle.plane_core.proofs.GenerationLemmas.{inside_edge}
+use Rattle.plane_core.proofs.SpeedLemmas.{inside_edge}
 use Rattle.survey_core.proofs.rest.next.Goals as goal
 
 -- no cell lies on the edge
