@@ -147,8 +147,13 @@ words_unsent words known before buffered below held failed errors after (inl doe
         let front : IsFront before below (wrote.0 ++ []) = front_sent before buffered below held wrote.0 [] wrote.2 kept in
         let text : wrote.0 ++ [] ≡ text_of (answer_to request does.bytes) = append-nil wrote.0 ∙ ap text_of (sym wrote.1) in
         let by : IsSomeAnd (Some request) (IsEndedBy WriteFailed known before below) =
-        record { bytes = does.bytes; input = does.input; may = subst (λ (a : Answer). IsOk a) (sym wrote.1) refl; front =
-            subst (IsFront before below) text front } in
+        record {
+          bytes = does.bytes;
+          input = does.input;
+          may = subst (λ (a : Answer). IsOk a) (sym wrote.1) refl;
+          front =
+              subst (IsFront before below) text front;
+        } in
         record {
           complaint = WriteFailed;
           code = refl;
@@ -245,3 +250,9 @@ done_or_not statuses.Usage = inr (λ is. cc)
 done_or_not statuses.Refused = inr (λ is. cc)
 done_or_not statuses.OutOfMemory = inr (λ is. cc)
 done_or_not statuses.Failed = inr (λ is. cc)
+
+-- a command that was done leaves nothing on standard error
+pub program_silent : (words : List Text) (known : Option (List ℕ)) (status : Status) (output errors : Stream) → DoesWords words known status output errors
+    → status ≡ statuses.Done → Has errors []
+program_silent words known status output errors does done =
+    (words_silent words known output errors (subst (λ (s : Status). DoesWords words known s output errors) done does)).0

@@ -1,10 +1,10 @@
-ghost use Rattle.std.specs.Prelude.{◌≡◌, ◌≢◌, None, Some, IfOk, IfErr, IfNone, IfSome, IsOkAnd, IsSomeAnd, true, false, map, string_bytes};
+ghost use Rattle.std.specs.Prelude.{◌≡◌, ◌≢◌, [], IsErr, None, Some, IfOk, IfErr, IfNone, IfSome, IsOkAnd, IsSomeAnd, true, false, map, string_bytes};
 ghost use Rattle.std.specs.Io.Buffered.{writer_buffer, writer_contents, writer_inner};
 ghost use Rattle.std.specs.IoError.{error_kind};
 ghost use Rattle.commands.specs.Complaints.{line_of};
 ghost use Rattle.commands.specs.Requests.{reads_input};
-ghost use Rattle.commands.specs.Status.{exit_code, prints_nothing};
-ghost use Rattle.commands.specs.Streams.{HasLine, stream};
+ghost use Rattle.commands.specs.Status.{exit_code};
+ghost use Rattle.commands.specs.Streams.{Has, HasLine, stream};
 ghost use Rattle.census.specs.Program.{Complains, IsDone, left_by, not_text_line, returned};
 ghost use Rattle.census.specs.Words.{asked_by};
 
@@ -41,6 +41,7 @@ pub fn run_program<R: Read, W: Write + Drop, E: Write + Drop>(
     // Code 0: what the words ask for was done, and its whole text is with the writer.
     ensures done { result.code ≡ 0 → IsOkAnd words (λ list. IsSomeAnd result.output (λ writer.
         IsDone (map string_bytes list.items) (R.remaining input.old) (W.contents output) (W.contents writer))) }
+    ensures silent { result.code ≡ 0 → Has (returned E.contents errors result.errors) [] }
 
     // Code 2: the words ask for nothing, and nothing was read or written.
     ensures usage { result.code ≡ 2 → IfOk words (λ list. asked_by (map string_bytes list.items) ≡ None) }
@@ -61,6 +62,7 @@ pub fn run_program<R: Read, W: Write + Drop, E: Write + Drop>(
         × HasLine (returned E.contents errors result.errors) not_text_line) }
     ensures no_memory { IfErr words (λ error. error_kind error ≡ ErrorKind.OutOfMemory → (result.code ≡ 4)
         × HasLine (returned E.contents errors result.errors) (line_of Complaint.OutOfMemory)) }
+    ensures unread_words { IsErr words → (input.new ≡ input.old) × (result.output ≡ Some output) }
 {
     let mut errors = Out::new(errors);
     match words {
@@ -96,11 +98,12 @@ fn do_buffered<R: Read, W: Write + Drop, E: Write>(
     ensures done { result.0 ≡ Status.Done → IsSomeAnd result.1 (λ writer.
         IsDone (map string_bytes words.now) (R.remaining input.old) (W.contents output) (W.contents writer)) }
     ensures usage { result.0 ≡ Status.Usage → asked_by (map string_bytes words.now) ≡ None }
-    ensures unused { result.0 ≡ Status.Usage → input.new ≡ input.old }
+    ensures unused { result.0 ≡ Status.Usage → (input.new ≡ input.old) × (result.1 ≡ Some output) }
+    ensures silent { result.0 ≡ Status.Done → Has (stream E.contents errors.old errors.new) [] }
     ensures complains { result.0 ≢ Status.Done → result.0 ≢ Status.Usage →
         Complains (map string_bytes words.now) (R.remaining input.old) (exit_code result.0)
         (W.contents output) (left_by W.contents output result.1) (stream E.contents errors.old errors.new) }
-    ensures untouched { prints_nothing result.0 ≡ true → result.1 ≡ Some output }
+    ensures refused { result.0 ≡ Status.Refused → result.1 ≡ Some output }
     ensures unread { IfSome (asked_by (map string_bytes words.now)) (λ request.
         reads_input request ≡ false → input.new ≡ input.old) }
 {

@@ -109,6 +109,31 @@ fn shows_usage(rt: HostRuntime) {
     }
 }
 
+/// Whether the text has the part.
+fn has_part(text: &[u8], part: &[u8]) -> bool {
+    text.windows(part.len()).any(|window| window == part)
+}
+
+#[test]
+fn explains_itself(rt: HostRuntime) {
+    let left = left_by(&rt, &["census", "--help"], b"");
+    for part in ["run", "show", "census --version"] {
+        assert!(rt; has_part(left.errors.as_slice(), part.as_bytes()), "{part}");
+    }
+    let left = left_by(&rt, &["census", "run", "--help"], b"");
+    for part in [
+        "census run 4 < glider.cells",
+        "100000",
+        "B3/S23",
+        "RLE",
+        "--rule",
+    ] {
+        assert!(rt; has_part(left.errors.as_slice(), part.as_bytes()), "{part}");
+    }
+    let left = left_by(&rt, &["census", "show", "--help"], b"");
+    assert!(rt; has_part(left.errors.as_slice(), b"census show xs7_178c"));
+}
+
 /// The words, as a process gets them.
 fn list_of(rt: &impl AllocGlobal, words: &[&str]) -> Result<Vec<String>, Fail> {
     let mut list = Vec::new(rt.alloc());

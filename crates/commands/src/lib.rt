@@ -22,9 +22,9 @@ pub mod show;
 pub mod soup;
 /// How a command ended, as a shell sees it.
 pub mod status;
+#[cfg(test)]
+mod tests;
 /// `--version`: the program's name and version.
 pub mod version;
 /// Words of the command line.
-#[cfg(test)]
-mod tests;
 pub mod word;

@@ -1,8 +1,7 @@
-ghost use Rattle.std.specs.Prelude.{◌≡◌, ◌≢◌, true, false, []};
+ghost use Rattle.std.specs.Prelude.{◌≡◌, ◌≢◌, false, []};
 ghost use Rattle.std.specs.Io.Buffered.{writer_buffer, writer_contents};
 ghost use Rattle.std.specs.Io.KnownBytes.{Keeps};
 ghost use Rattle.commands.specs.Complaints.{line_of};
-ghost use Rattle.commands.specs.Status.{prints_nothing};
 ghost use Rattle.commands.specs.Streams.{stream, HasLine};
 
 use crate::complaint::Complaint;
@@ -14,8 +13,8 @@ use std::io::{BufWriter, Write};
 /// Sends on what a command has left in the buffer, and returns the status that the process ends with: that of the
 /// command, or `Failed` if the command was done and not all of its output could be sent on.
 ///
-/// A command that has written nothing leaves nothing to send: then the buffer is not touched. The line of a failure goes
-/// to `errors`; a failure to write that line is not reported.
+/// After a command that wasn't done nothing more is written: then the buffer is not touched. The line of a failure goes to
+/// `errors`; a failure to write that line is not reported.
 pub fn send_buffered<W: Write + Drop, E: Write>(
     status: Status,
     buffered: &mut BufWriter<W, Global>,
@@ -23,13 +22,14 @@ pub fn send_buffered<W: Write + Drop, E: Write>(
 ) -> Status
     ensures done { result ≡ Status.Done → (status ≡ Status.Done) × (writer_buffer buffered.new ≡ []) }
     ensures bytes { Keeps (writer_contents W.contents buffered.old) (writer_contents W.contents buffered.new) }
-    ensures untouched { prints_nothing status ≡ true → buffered.new ≡ buffered.old }
+    ensures untouched { status ≢ Status.Done → buffered.new ≡ buffered.old }
+    ensures silent { result ≡ Status.Done → errors.new ≡ errors.old }
     ensures kept { status ≢ Status.Done → (result ≡ status) × (errors.new ≡ errors.old) }
     ensures failed { result ≢ status → result ≡ Status.Failed }
     ensures line { result ≢ status → errors.old.failed ≡ false
         → HasLine (stream E.contents errors.old errors.new) (line_of Complaint.WriteFailed) }
 {
-    if status.prints_nothing() || buffered.flush().is_ok() || status != Status::Done {
+    if status != Status::Done || buffered.flush().is_ok() {
         return status;
     }
     if errors.failed() {

@@ -1,5 +1,5 @@
 ghost use Rattle.std.specs.Prelude.{◌≡◌};
-ghost use Rattle.commands.specs.Status.{exit_code, prints_nothing};
+ghost use Rattle.commands.specs.Status.{exit_code};
 
 /// How a command ended, as a shell sees it.
 #[derive(Clone, Copy, Debug, PartialEq, Eq)]
@@ -28,12 +28,5 @@ impl Status {
             Status::OutOfMemory => 4,
             Status::Failed => 5,
         }
-    }
-
-    /// Whether a command that ends so has written nothing to standard output.
-    pub fn prints_nothing(self) -> bool
-        ensures { result ≡ prints_nothing self }
-    {
-        matches!(self, Status::Usage | Status::Refused)
     }
 }

@@ -1,5 +1,5 @@
 -- From one checkpoint to the next, and the finding of a pattern.
-use Rattle.std.proofs.Common.{◌≡◌, ◌∙◌, ap, sym, refl, subst, inl, inr, ◌⊎◌, ℕ, zero, suc, ◌+◌, ◌*◌, ◌/◌, ◌<◌, ◌≤◌, add-zero, add-one, eq-or-lt_of_le, Bool, true, List, Option, None, Some, IfSome, IfNone, unwrap_or, arith}
+use Rattle.std.proofs.Common.{◌≡◌, ◌∙◌, ap, sym, refl, subst, inl, inr, ◌⊎◌, ℕ, zero, suc, ◌+◌, ◌*◌, ◌/◌, ◌<◌, ◌≤◌, add-zero, add-one, eq-or-lt_of_le, List, Option, None, Some, IfSome, IfNone, unwrap_or, arith}
 use Rattle.std.proofs.Math.Nat.{le-div_iff_mul-le, lt-div-mul-add, lt_of_mul-lt-mul_right, mul-lt-mul_of_pos_right, suc-mul}
 use Rattle.plane_core.specs.declared.cell.Cell.{Cell}
 use Rattle.plane_core.specs.Generations.{after, next}
@@ -50,10 +50,11 @@ no_rest_more rule profile cells latest place some is before moves t e u check lo
 -- the finding at a checkpoint before which there is no rest is that of the pattern
 pub finding_from : (rule : Numbers) (profile : Settling) (cells latest : List Cell) (t : ℕ) (finding : Finding) → SettlesAt rule profile latest t finding
     → latest ≡ after rule cells t → IsCheckpoint profile t → NoRestBefore rule profile cells t → IsFinding rule profile cells finding
-finding_from rule profile cells latest t (Settled u objects good) (same, settled) is check before =
-    (subst (IsCheckpoint profile) (sym same) check,
-    subst (NoRestBefore rule profile cells) (sym same) before,
-    subst (λ (state : List Cell). IsSettled rule profile state objects good) (is ∙ ap (after rule cells) (sym same)) settled)
+finding_from rule profile cells latest t (Settled u objects good) (same, settled) is check before = (
+  subst (IsCheckpoint profile) (sym same) check,
+  subst (NoRestBefore rule profile cells) (sym same) before,
+  subst (λ (state : List Cell). IsSettled rule profile state objects good) (is ∙ ap (after rule cells) (sym same)) settled,
+)
 finding_from rule profile cells latest t Unsettled settled is check before = absurd settled
 
 -- and at the last checkpoint there is a finding, or none anywhere

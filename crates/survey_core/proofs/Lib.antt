@@ -1,4 +1,5 @@
 mod FindingLemmas
+mod ForGoodLemmas
 mod ObjectLemmas
 mod PartitionLemmas
 mod PlaneLemmas

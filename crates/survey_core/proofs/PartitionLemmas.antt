@@ -1,5 +1,5 @@
 -- Parts that share no cell and make up the whole, as lists: joined, they have each cell of the whole, and no cell twice.
-use Rattle.std.proofs.Common.{◌≡◌, ◌≢◌, ◌∙◌, ap, sym, refl, subst, inl, inr, ℕ, zero, suc, ◌+◌, ◌<◌, ◌≤◌, Bool, true, false, ◌||◌, ◌&&◌, List, [], ◌∷◌, ◌++◌, All, AllPairs, flat_map, arith, length, get_or}
+use Rattle.std.proofs.Common.{◌≡◌, ◌∙◌, ap, sym, refl, subst, inl, inr, zero, suc, ◌+◌, ◌≤◌, Bool, true, false, ◌||◌, ◌&&◌, List, [], ◌∷◌, ◌++◌, All, AllPairs, flat_map, arith, length}
 use Rattle.std.specs.Bool.{Decides}
 use Rattle.std.specs.List.{list_any}
 use Rattle.std.specs.Ordering.{int_eq, is_eq, match_ordering}
@@ -12,16 +12,17 @@ use Rattle.std.proofs.lemmas.List.Kept.{AllPairs-cons}
 use Rattle.plane_core.specs.declared.cell.Cell.{Cell}
 use Rattle.plane_core.specs.Cells.{InOrder, cell_cmp, has, put, same_cell, set_of}
 use Rattle.plane_core.specs.Clusters.{Partition}
-use Rattle.plane_core.proofs.SetLemmas.{before-trans, has-append, has-before, has-cases, has-head, has-put, has-set_of, in_order-head, in_order-set_of, in_order-tail, is_set_of}
+use Rattle.plane_core.proofs.SetLemmas.{before-trans, has-append, has-before, has-cases, has-head, has-set_of, in_order-head, in_order-set_of, in_order-tail, is_set_of}
 
 -- two cells are equal where their coordinates are
 pub cell_decides : (a b : Cell) → Decides (int_eq a.y b.y && int_eq a.x b.x) (a ≡ b)
-cell_decides a b =
-    (λ e. let parts = and_parts (int_eq a.y b.y) (int_eq a.x b.x) e in
-    let y : a.y ≡ b.y = (Decides-int_eq a.y b.y).0 parts.0 in
-    let x : a.x ≡ b.x = (Decides-int_eq a.x b.x).0 parts.1 in
-    λ i. record { y = y i; x = x i },
-    λ e. and_from (int_eq a.y b.y) (int_eq a.x b.x) ((Decides-int_eq a.y b.y).1 (λ i. (e i).y)) ((Decides-int_eq a.x b.x).1 (λ i. (e i).x)))
+cell_decides a b = (
+  λ e. let parts = and_parts (int_eq a.y b.y) (int_eq a.x b.x) e in
+      let y : a.y ≡ b.y = (Decides-int_eq a.y b.y).0 parts.0 in
+      let x : a.x ≡ b.x = (Decides-int_eq a.x b.x).0 parts.1 in
+      λ i. record { y = y i; x = x i },
+  λ e. and_from (int_eq a.y b.y) (int_eq a.x b.x) ((Decides-int_eq a.y b.y).1 (λ i. (e i).y)) ((Decides-int_eq a.x b.x).1 (λ i. (e i).x)),
+)
 
 -- the cells of the parts
 abbrev pub joined : List (List Cell) → List Cell
@@ -80,7 +81,7 @@ front_adds : (front rest : List Cell) → InOrder front → Disjoint front rest 
 front_adds [] rest order apart = omega arith
 front_adds (c ∷ cs) rest order apart =
     let new : has (set_of (cs ++ rest)) c ≡ false = has-set_of (cs ++ rest) c ∙ has-append cs rest c
-        ∙ (λ i. has-before c cs (in_order-head c cs order) i || apart c (has-head c cs) i) in
+    ∙ (λ i. has-before c cs (in_order-head c cs order) i || apart c (has-head c cs) i) in
     let more : length (put c (set_of (cs ++ rest))) ≡ suc (length (set_of (cs ++ rest))) = length-put c (set_of (cs ++ rest)) new in
     let later : length (set_of (cs ++ rest)) ≡ length cs + length (set_of rest) = front_adds cs rest (in_order-tail c cs order) (λ d h. apart d (or_right (same_cell d c) (has cs d) h)) in
     omega arith
@@ -117,11 +118,13 @@ front_apart (c ∷ cs) rest same = elim (cases_Bool (has (set_of (cs ++ rest)) c
       absurd (omega arith)
   | inr new ↦
       let e : length (put c (set_of (cs ++ rest))) ≡ suc (length (set_of (cs ++ rest))) = length-put c (set_of (cs ++ rest)) new in
-      let later = front_apart cs rest (omega arith) in
-      (λ d h. elim (has-cases c cs d h) [
-        | inl is ↦ subst (λ (x : Cell). has rest x ≡ false) (sym is) (neither (has cs c) (has rest c) (sym (has-append cs rest c) ∙ sym (has-set_of (cs ++ rest) c) ∙ new)).1
-        | inr more ↦ later.0 d more
-      ], later.1)
+      let later = front_apart cs rest (omega arith) in (
+        λ d h. elim (has-cases c cs d h) [
+          | inl is ↦ subst (λ (x : Cell). has rest x ≡ false) (sym is) (neither (has cs c) (has rest c) (sym (has-append cs rest c) ∙ sym (has-set_of (cs ++ rest) c) ∙ new)).1
+          | inr more ↦ later.0 d more
+        ],
+        later.1,
+      )
 ]
 
 apart_from_each : (part : List Cell) (parts : List (List Cell)) → Disjoint part (joined parts) → All (Disjoint part) parts

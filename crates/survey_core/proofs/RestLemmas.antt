@@ -1,21 +1,20 @@
 -- The test of rest, a generation and a cluster at a time.
-use Rattle.std.proofs.Common.{◌≡◌, ◌≢◌, ◌∙◌, ap, sym, refl, subst, ℕ, suc, ◌+◌, ◌<◌, ◌≤◌, ◌↔◌, Bool, true, false, IsTrue, List, [], ◌∷◌, All, map, Option, None, Some, is_some, IfSome, IfNone, arith, length, get_or, eq-or-lt_of_le, inl, inr}
+use Rattle.std.proofs.Common.{◌≡◌, ◌≢◌, ◌∙◌, ap, sym, refl, subst, ℕ, ◌+◌, ◌≤◌, ◌↔◌, true, IsTrue, List, [], ◌∷◌, All, map, Option, None, Some, is_some, IfSome, IfNone, arith, get_or, eq-or-lt_of_le, inl, inr}
 use Rattle.std.proofs.lemmas.Bool.{false≢true}
 use Rattle.std.proofs.lemmas.List.Elements.{All-map}
 use Rattle.plane_core.specs.declared.cell.Cell.{Cell}
 use Rattle.plane_core.specs.Cells.{InOrder, has}
 use Rattle.plane_core.specs.Clusters.{AreClusters, IsCluster, Partition}
-use Rattle.plane_core.specs.Generations.{after, lies_within, next, touches_edge}
+use Rattle.plane_core.specs.Generations.{after, lies_within, next}
 use Rattle.plane_core.specs.Rules.{Numbers}
 use Rattle.plane_core.proofs.ClusterLemmas.{linked-has, linked-itself}
 use Rattle.plane_core.proofs.ClusterLaws.{determined_law, partition_law}
 use Rattle.plane_core.proofs.GenerationLemmas.{after-none, after-more}
-use Rattle.plane_core.proofs.SpeedLemmas.{within-after}
 use Rattle.plane_core.proofs.SearchLemmas.{has-list_all, list_all-has}
 use Rattle.code_core.specs.declared.recurrence.Recurrence.{Recurrence}
 use Rattle.code_core.specs.Recurrences.{IsNew, Recurs}
 use Rattle.code_core.proofs.MovedCodes.{in_order-after}
-use Rattle.survey_core.proofs.PlaneLemmas.{within_later, within_more}
+use Rattle.survey_core.proofs.PlaneLemmas.{within_later}
 use Rattle.survey_core.specs.Profiles.{Settling}
 use Rattle.survey_core.specs.Rest.{ComesBack, IsAtRest, KeepApart, RestsAs}
 

@@ -1,11 +1,8 @@
 -- Texts without an invisible byte.
-use Rattle.std.proofs.Common.{◌≡◌, ◌∙◌, ap, sym, refl, ℕ, suc, ◌+◌, ◌-◌, ◌<◌, ◌≤◌, Bool, true, false, not, List, [], ◌∷◌, ◌++◌, append_assoc, position, get_or, length, None, Some, take, replicate, nat_lt, arith, cond, ◌&&◌, min}
+use Rattle.std.proofs.Common.{◌≡◌, refl, ℕ, ◌+◌, ◌≤◌, Bool, true, false, not, List, [], ◌∷◌, position, length, None, Some, nat_lt, arith, cond, ◌&&◌}
 use Rattle.std.specs.List.{list_all, prefix_len}
 use Rattle.std.proofs.lemmas.Bool.{ltb-false}
-use Rattle.std.proofs.lemmas.List.{length-take, set-append_right}
-use Rattle.std.proofs.Math.ListN.{set}
-use Rattle.std.proofs.Math.Seq.{take-append_seam, take-suc}
-use Rattle.survey_core.specs.Seeds.{is_invisible, is_visible, most_bytes}
+use Rattle.survey_core.specs.Seeds.{is_invisible, is_visible}
 
 -- no byte is invisible, so all are visible
 pub all_visible : (bytes : List ℕ) → position is_invisible bytes ≡ None → list_all is_visible bytes ≡ true

@@ -1,14 +1,13 @@
 -- The live cells of the square, one place after another, and that they lie near the origin.
-use Rattle.std.proofs.Common.{◌≡◌, ◌∙◌, ap, sym, refl, subst, ℕ, zero, suc, ◌+◌, ◌<◌, ◌≤◌, ◌/◌, ◌%◌, Bool, true, false, not, List, [], ◌∷◌, ◌++◌, position, filter, map, length, Option, None, Some, arith, cond, add-zero, add-one, zero-add, ◌&&◌, get_or, nat_le, pos, unsigned_abs}
+use Rattle.std.proofs.Common.{◌≡◌, ◌∙◌, ap, sym, refl, ℕ, zero, suc, ◌+◌, ◌<◌, ◌≤◌, ◌/◌, ◌%◌, Bool, true, false, List, [], ◌∷◌, ◌++◌, position, filter, map, None, arith, cond, add-zero, add-one, zero-add, nat_le}
 use Rattle.std.specs.List.{list_all, range_with_len}
-use Rattle.std.proofs.lemmas.Bool.{and_from, and_parts, false≢true, le-leb, leb-true}
+use Rattle.std.proofs.lemmas.Bool.{and_from, le-leb}
 use Rattle.std.proofs.lemmas.List.{append-nil, map-append}
 use Rattle.std.proofs.lemmas.List.Elements.{filter-append}
-use Rattle.plane_core.specs.declared.cell.Cell.{Cell}
-use Rattle.plane_core.specs.Cells.{has, is_within, off_plane, on_plane, set_of}
+use Rattle.plane_core.specs.Cells.{is_within, off_plane, set_of}
 use Rattle.plane_core.specs.Generations.{lies_within}
 use Rattle.plane_core.proofs.SearchLemmas.{has-list_all, list_all-has}
-use Rattle.plane_core.proofs.SetLemmas.{Contains-has, has-set_of}
+use Rattle.plane_core.proofs.SetLemmas.{has-set_of}
 use Rattle.survey_core.proofs.PlaneLemmas.{none_off, within_more}
 use Rattle.survey_core.specs.Soups.{is_alive_at, live_cells, square_cell}
 

@@ -1,5 +1,5 @@
 -- When a pattern is at rest: its objects come back, and never come into each other's way as far as one looks ahead.
-use Rattle.std.specs.Prelude.{◌≡◌, ◌≤◌, ℕ, List, All, [], map}
+use Rattle.std.specs.Prelude.{◌≤◌, ℕ, List, All, [], map}
 use Rattle.plane_core.specs.declared.cell.Cell.{Cell}
 use Rattle.plane_core.specs.Clusters.{AreClusters, Partition}
 use Rattle.plane_core.specs.Generations.{after}

@@ -1,5 +1,5 @@
 -- Seeds: the texts from which soups are made.
-use Rattle.std.specs.Prelude.{◌≡◌, ◌<◌, ◌≤◌, ◌&&◌, ℕ, Bool, true, not, List, length, position, Option, None, Some, Result, Ok, Err, nat_le, nat_lt, if◌then◌else◌}
+use Rattle.std.specs.Prelude.{◌≡◌, ◌≤◌, ◌&&◌, ℕ, Bool, true, not, List, length, position, Option, None, Some, Result, Ok, Err, nat_le, nat_lt, if◌then◌else◌}
 use Rattle.std.specs.List.{list_all}
 use Rattle.survey_core.specs.declared.seed.SeedError.{SeedError}
 use Rattle.survey_core.specs.declared.seed.SeedError.TheVariants.{BadByte, TooLong}

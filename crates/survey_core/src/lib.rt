@@ -9,7 +9,8 @@ pub mod job;
 pub mod objects;
 /// When a pattern counts as settled.
 pub mod profile;
-mod rest;
+/// When a pattern is at rest.
+pub mod rest;
 /// Seeds: the texts from which soups are made.
 pub mod seed;
 /// Random patterns of 16 by 16 cells.

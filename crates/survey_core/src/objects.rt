@@ -86,12 +86,7 @@ impl Objects {
 }
 
 /// The code of a cluster that comes back within so many generations.
-fn code_of(
-    alloc: Global,
-    rule: &Rule,
-    limit: u32,
-    cluster: &Pattern,
-) -> Result<Apgcode, AllocError>
+fn code_of(alloc: Global, rule: &Rule, limit: u32, cluster: &Pattern) -> Result<Apgcode, AllocError>
     requires least { 1 ≤ limit }
     requires most { limit ≤ 64 }
     requires some { cluster.now ≢ [] }
@@ -130,10 +125,7 @@ fn listed(alloc: Global, counts: BTreeMap<Apgcode, u64>) -> Result<Objects, Allo
 }
 
 /// The entries of the counts.
-fn entries(
-    alloc: Global,
-    counts: BTreeMap<Apgcode, u64>,
-) -> Result<Vec<(Apgcode, u64)>, AllocError>
+fn entries(alloc: Global, counts: BTreeMap<Apgcode, u64>) -> Result<Vec<(Apgcode, u64)>, AllocError>
     ensures entries { IfOk result (λ entries. entries.items ≡ counts.entries) }
     ensures ordered { OnOk result (IsOrdered (slice_cmp nat_cmp) counts) }
 {

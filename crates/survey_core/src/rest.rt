@@ -1,15 +1,16 @@
 //! A pattern is at rest if each of its clusters comes back, and if the clusters, each run alone, are the whole pattern in
-//! every generation up to the horizon. Two blinkers too close to each other show why the second is asked for:
+//! every generation up to the horizon. Two blinkers with two empty rows between them show why the second is asked for:
 //!
 //! ```text
-//! generation 0    each alone    the whole
-//!     OOO            .O.           .O.
-//!     ...            .O.           .O.
-//!     ...            .O. (twice)   ...
-//!     OOO            .O.           .O.
+//! generation 0    generation 1    generation 2,    generation 2,
+//!                                 each alone       the whole
+//!                     .O.
+//!     OOO             .O.             OOO              OOO
+//!     ...             .O.             ...              OOO
+//!     ...             .O.             ...              OOO
+//!     OOO             .O.             OOO              OOO
+//!                     .O.
 //! ```
-//!
-//! Each upright blinker has a cell in both middle rows, and the two share them.
 //!
 //! Most patterns that are looked at are not at rest, and nearly always some cluster doesn't come back. So that is
 //! asked first. Then the whole and the clusters are stepped side by side, a generation at a time, until a generation
@@ -20,6 +21,7 @@ ghost use Rattle.plane_core.specs.Cells.{InOrder};
 ghost use Rattle.plane_core.specs.Clusters.{AreClusters, Partition};
 ghost use Rattle.plane_core.specs.Generations.{lies_within, next};
 ghost use Rattle.survey_core.specs.Rest.{ComesBack, IsAtRest, KeepApart, RestsAs};
+ghost use Rattle.survey_core.specs.RestLaws.{AtRestForGood, EmptyIsAtRest};
 
 use crate::profile::Profile;
 use code_core::recurrence::Recurrence;
@@ -75,12 +77,7 @@ fn all_come_back(
 }
 
 /// Whether the pattern comes back within so many generations.
-fn comes_back(
-    alloc: Global,
-    rule: &Rule,
-    limit: u32,
-    pattern: &Pattern,
-) -> Result<bool, AllocError>
+fn comes_back(alloc: Global, rule: &Rule, limit: u32, pattern: &Pattern) -> Result<bool, AllocError>
     requires least { 1 ≤ limit }
     requires most { limit ≤ 64 }
     requires some { pattern.now ≢ [] }
@@ -194,3 +191,11 @@ fn all_cells(alloc: Global, patterns: &[Pattern]) -> Result<Vec<Cell>, AllocErro
     }
     Ok(cells)
 }
+
+/// The laws of patterns at rest: the empty pattern is at rest, and a pattern whose objects stay for good is at rest in
+/// every later generation, and comes back after the least common multiple of their periods.
+#[tactic(auto, using(crate::proofs::ForGoodLemmas::empty_is_at_rest))]
+pub fn at_rest_for_good()
+    ensures empty { EmptyIsAtRest }
+    ensures forever { AtRestForGood }
+{}

@@ -99,3 +99,6 @@ fn square_cell(place: u32) -> Cell
         x: (place % 16) as i32,
     }
 }
+
+#[cfg(test)]
+mod tests;

@@ -2,9 +2,11 @@ use Rattle.std.proofs.Common.{◌≡◌, ◌≢◌, ◌∙◌, map, string_bytes
 use Rattle.std.specs.Io.Buffered.{writer_buffer, writer_contents}
 use Rattle.std.specs.Io.KnownBytes.{append_known}
 use Rattle.commands.specs.declared.complaint.Complaint.TheVariants.{OutOfMemory}
+use Rattle.commands.specs.declared.status.Status.{Status}
 use Rattle.commands.specs.declared.status.Status.TheVariants as statuses
+use Rattle.commands.specs.Streams.{stream}
 use Rattle.commands.specs.Status.{exit_code}
-use Rattle.census.proofs.ProgramLemmas.{Passes, done_or_not, front_of_nothing, program_done, program_ended, program_unsent}
+use Rattle.census.proofs.ProgramLemmas.{Passes, done_or_not, front_of_nothing, program_done, program_ended, program_unsent, program_silent}
 use Rattle.census.proofs.program.do_buffered.Goals as goal
 
 pub returns-in_default-clause-complains : goal.returns-in_default-clause-complains
@@ -57,3 +59,13 @@ returns-clause-complains g c =
           rw (kept.0, kept.1) (program_ended words known c.do_words-status.result before start buffered below held _ _ passes
           (c.do_words-status.ensures.command command) not_done)
     ]
+
+pub returns-clause-silent : goal.returns-clause-silent
+returns-clause-silent g c =
+    λ done. let sent = c.send_buffered-status.ensures.done done in
+    let command : c.do_words-status.result ≢ statuses.Usage = λ usage. let bad : statuses.Usage ≡ statuses.Done = sym usage ∙ sent.0 in cc in
+    let output = stream (writer_contents g.W.Write.contents) c.new-output.result c.do_words-status.new.output in
+    let errors = stream g.E.Write.contents c.args.errors.now c.do_words-status.new.errors in
+    rw (c.send_buffered-status.ensures.silent done)
+    (program_silent (map string_bytes c.args.words.now) (g.R.Read.remaining c.args.input.now) c.do_words-status.result output errors
+    (c.do_words-status.ensures.command command) sent.0)

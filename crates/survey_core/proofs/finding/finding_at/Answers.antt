@@ -1,4 +1,4 @@
-use Rattle.std.proofs.Common.{◌≡◌, ◌≢◌, ◌∙◌, sym, subst, List, [], All, ℕ, true}
+use Rattle.std.proofs.Common.{◌≡◌, ◌≢◌, sym, subst, List, [], All, ℕ, true}
 use Rattle.plane_core.specs.declared.cell.Cell.{Cell}
 use Rattle.plane_core.specs.Generations.{lies_within}
 use Rattle.survey_core.specs.Rest.{ComesBack, RestsAs}

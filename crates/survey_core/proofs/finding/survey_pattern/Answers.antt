@@ -1,10 +1,8 @@
-use Rattle.std.proofs.Common.{◌≡◌, ◌∙◌, ◌+◌, ◌*◌, ◌/◌, ◌<◌, ◌≤◌, ap, sym, subst, refl, ℕ, List, true, arith, Option, unwrap_or, IfSome, IfNone}
+use Rattle.std.proofs.Common.{◌≡◌, ◌∙◌, ◌+◌, ◌*◌, ◌/◌, ◌≤◌, ap, sym, subst, ℕ, arith, IfSome}
 use Rattle.std.proofs.Math.Nat.{zero-mul}
-use Rattle.plane_core.specs.declared.cell.Cell.{Cell}
 use Rattle.plane_core.specs.Generations.{after, lies_within}
 use Rattle.plane_core.proofs.GenerationLemmas.{after-none}
-use Rattle.survey_core.specs.declared.finding.Finding.{Finding}
-use Rattle.survey_core.specs.Findings.{IsFinding, NoRestBefore, SettlesAt}
+use Rattle.survey_core.specs.Findings.{IsFinding, SettlesAt}
 use Rattle.survey_core.specs.Profiles.{IsCheckpoint}
 use Rattle.survey_core.specs.Rest.{IsAtRest}
 use Rattle.survey_core.proofs.FindingLemmas.{after-then, finding_from, finding_last, is_checkpoint, no_rest_more, one_more}

@@ -1,4 +1,3 @@
-use Rattle.std.proofs.Common.{◌≡◌, None, IfNone}
 use Rattle.code_core.specs.Recurrences.{IsNew}
 use Rattle.survey_core.proofs.objects.code_of.Goals as goal
 

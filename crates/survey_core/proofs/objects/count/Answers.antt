@@ -1,4 +1,4 @@
-use Rattle.std.proofs.Common.{◌≡◌, ◌∙◌, ◌+◌, ◌<◌, ◌^◌, ap, sym, ℕ, List, rules, arith, unwrap_or, Fits, w64}
+use Rattle.std.proofs.Common.{◌≡◌, ◌∙◌, ◌+◌, ◌<◌, ◌^◌, ap, arith, unwrap_or}
 use Rattle.survey_core.specs.Objects.{count_of}
 use Rattle.survey_core.proofs.ObjectLemmas.{counted_more, some_more}
 use Rattle.survey_core.proofs.objects.count.Goals as goal

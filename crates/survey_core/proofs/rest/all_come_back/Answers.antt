@@ -1,17 +1,17 @@
-use Rattle.std.proofs.Common.{◌≡◌, ◌∙◌, ◌<◌, sym, subst, List, [], length, get_or, take, All, refl}
+use Rattle.std.proofs.Common.{◌∙◌, ◌<◌, sym, subst, [], length, All, refl}
 use Rattle.std.proofs.lemmas.Bool.{false≢true}
 use Rattle.std.proofs.lemmas.List.{get_or_default, take_all}
 use Rattle.std.proofs.lemmas.List.Elements.{All-more}
-use Rattle.plane_core.specs.declared.cell.Cell.{Cell}
 use Rattle.survey_core.specs.Rest.{ComesBack}
 use Rattle.survey_core.proofs.rest.all_come_back.Goals as goal
 
 -- one that doesn't come back
 pub returns-then-not-back : goal.returns-then-not-back
-returns-then-not-back c =
-    (λ e. absurd (false≢true e),
-    λ all. absurd (false≢true (sym c.if-not-back.true ∙ c.in_ok-back.ensures.1
-    (subst (ComesBack c.args.rule.now c.args.limit) (sym c.pattern-item.is) (all c.loop-pattern.pattern-index c.pattern-item.result c.loop-pattern-test.true)))))
+returns-then-not-back c = (
+  λ e. absurd (false≢true e),
+  λ all. absurd (false≢true (sym c.if-not-back.true ∙ c.in_ok-back.ensures.1
+      (subst (ComesBack c.args.rule.now c.args.limit) (sym c.pattern-item.is) (all c.loop-pattern.pattern-index c.pattern-item.result c.loop-pattern-test.true)))),
+)
 
 -- one more that does
 pub loop-pattern-preserved : goal.loop-pattern-preserved
@@ -22,6 +22,7 @@ loop-pattern-preserved c =
     (subst (ComesBack c.args.rule.now c.args.limit) (c.pattern-item.is ∙ get_or_default c.args.patterns.now c.loop-pattern.pattern-index c.pattern-item.result [] low) here)
 
 pub returns : goal.returns
-returns c =
-    (λ e. subst (All (ComesBack c.args.rule.now c.args.limit)) (take_all c.loop-pattern.pattern-index c.args.patterns.now c.loop-pattern-test.false) c.loop-pattern.invariant,
-    λ all. refl)
+returns c = (
+  λ e. subst (All (ComesBack c.args.rule.now c.args.limit)) (take_all c.loop-pattern.pattern-index c.args.patterns.now c.loop-pattern-test.false) c.loop-pattern.invariant,
+  λ all. refl,
+)

@@ -1,4 +1,4 @@
-use Rattle.std.proofs.Common.{◌≡◌, Bool, IsTrue, ◌↔◌, subst, sym, is_some}
+use Rattle.std.proofs.Common.{Bool, IsTrue, ◌↔◌, subst, sym}
 use Rattle.survey_core.specs.Rest.{ComesBack}
 use Rattle.survey_core.proofs.RestLemmas.{back_then}
 use Rattle.survey_core.proofs.rest.comes_back.Goals as goal

@@ -1,8 +1,6 @@
-use Rattle.std.proofs.Common.{◌≡◌, ◌∙◌, ◌+◌, ◌<◌, ◌≤◌, ap, sym, subst, refl, ℕ, List, [], length, get_or, map, All, true, false, arith}
+use Rattle.std.proofs.Common.{◌≡◌, ◌∙◌, ◌+◌, ◌<◌, ◌≤◌, ap, sym, subst, ℕ, map, All, true, arith}
 use Rattle.std.proofs.lemmas.Bool.{false≢true}
-use Rattle.plane_core.specs.declared.cell.Cell.{Cell}
 use Rattle.plane_core.specs.Cells.{InOrder}
-use Rattle.plane_core.specs.Clusters.{Partition}
 use Rattle.plane_core.specs.Generations.{after, lies_within, next}
 use Rattle.plane_core.proofs.GenerationLemmas.{after-none, after-more}
 use Rattle.survey_core.specs.Rest.{KeepApart}
@@ -52,10 +50,11 @@ returns-then-not-same c =
     let whole : c.in_ok-whole-2.whole ≡ after c.args.rule.now c.args.pattern.now (c.loop.counter + 1) =
     c.in_ok-whole-2.ensures ∙ ap (next c.args.rule.now) c.loop.invariant.whole ∙ sym (after-more c.args.rule.now c.args.pattern.now c.loop.counter) in
     let alone : c.as_slice-in-loop.result.now ≡ map (λ part. after c.args.rule.now part (c.loop.counter + 1)) c.args.clusters.now =
-    c.as_slice-in-loop.ensures.value ∙ c.in_ok-alone-2.ensures ∙ ap (map (next c.args.rule.now)) (c.as_slice.ensures.value ∙ c.loop.invariant.alone) ∙ alone_later c.args.rule.now c.args.clusters.now c.loop.counter in
-    (λ e. absurd (false≢true e),
-    λ apart. absurd (false≢true (sym c.if-not-same.true ∙ c.in_ok-same.ensures.1
-    (apart_now c.args.rule.now c.args.pattern.now c.args.clusters.now (c.loop.counter + 1) c.in_ok-whole-2.whole c.as_slice-in-loop.result.now whole alone (apart (c.loop.counter + 1) low)))))
+    c.as_slice-in-loop.ensures.value ∙ c.in_ok-alone-2.ensures ∙ ap (map (next c.args.rule.now)) (c.as_slice.ensures.value ∙ c.loop.invariant.alone) ∙ alone_later c.args.rule.now c.args.clusters.now c.loop.counter in (
+      λ e. absurd (false≢true e),
+      λ apart. absurd (false≢true (sym c.if-not-same.true ∙ c.in_ok-same.ensures.1
+          (apart_now c.args.rule.now c.args.pattern.now c.args.clusters.now (c.loop.counter + 1) c.in_ok-whole-2.whole c.as_slice-in-loop.result.now whole alone (apart (c.loop.counter + 1) low)))),
+    )
 
 pub loop-preserved : goal.loop-preserved
 loop-preserved c =

@@ -10,9 +10,10 @@ use Rattle.survey_core.proofs.rest.make_up.Goals as goal
 pub returns-then-len-all : goal.returns-then-len-all
 returns-then-len-all c =
     let items : length c.in_ok-cells.cells.items ≡ length (joined c.args.parts.now) = ap length c.in_ok-cells.ensures in
-    let all : length c.cells-all.result.now ≡ length c.args.whole.now = ap length c.cells-all.ensures.cells in
-    (λ e. absurd (false≢true e),
-    λ is. let long : length (joined c.args.parts.now) ≡ length c.args.whole.now = length-partition c.args.whole.now c.args.parts.now c.cells-all.ensures.pattern.in_order c.requires.in_order is in absurd (omega arith))
+    let all : length c.cells-all.result.now ≡ length c.args.whole.now = ap length c.cells-all.ensures.cells in (
+      λ e. absurd (false≢true e),
+      λ is. let long : length (joined c.args.parts.now) ≡ length c.args.whole.now = length-partition c.args.whole.now c.args.parts.now c.cells-all.ensures.pattern.in_order c.requires.in_order is in absurd (omega arith),
+    )
 
 pub returns-in-Ok : goal.returns-in-Ok
 returns-in-Ok c =
@@ -20,9 +21,10 @@ returns-in-Ok c =
     let size : length c.cells-all.result.now ≡ length c.args.whole.now = ap length c.cells-all.ensures.cells in
     let long : length (joined c.args.parts.now) ≡ length c.args.whole.now = omega arith in
     let union : c.cells.result.now ≡ set_of (joined c.args.parts.now) = c.cells.ensures.cells ∙ c.in-Ok.ensures.set ∙ ap set_of (c.as_slice.ensures.value ∙ c.in_ok-cells.ensures) in
-    let all : c.cells-all.result.now ≡ c.args.whole.now = c.cells-all.ensures.cells in
-    (λ yes. partition_from c.args.whole.now c.args.parts.now long (sym union ∙ c.are_same.ensures.0 yes ∙ all),
-    λ is. c.are_same.ensures.1 (union ∙ set_of-joined c.args.whole.now c.args.parts.now c.cells-all.ensures.pattern.in_order is ∙ sym all))
+    let all : c.cells-all.result.now ≡ c.args.whole.now = c.cells-all.ensures.cells in (
+      λ yes. partition_from c.args.whole.now c.args.parts.now long (sym union ∙ c.are_same.ensures.0 yes ∙ all),
+      λ is. c.are_same.ensures.1 (union ∙ set_of-joined c.args.whole.now c.args.parts.now c.cells-all.ensures.pattern.in_order is ∙ sym all),
+    )
 
 -- no cell lies past the bound
 pub unreachable-requires : goal.unreachable-requires

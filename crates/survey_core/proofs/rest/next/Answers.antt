@@ -1,6 +1,5 @@
-use Rattle.std.proofs.Common.{◌≡◌, ◌∙◌, sym, true, arith}
+use Rattle.std.proofs.Common.{◌∙◌, sym, arith}
 use Rattle.std.proofs.lemmas.Bool.{false≢true}
-use Rattle.plane_core.specs.Generations.{touches_edge}
 use Rattle.plane_core.specs.Refusals.{RefusesStep}
 use Rattle.plane_core.specs.declared.generation.StepError.TheVariants.{Edge}
 use Rattle.plane_core.proofs.SpeedLemmas.{inside_edge}

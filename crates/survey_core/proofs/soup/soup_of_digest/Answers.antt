@@ -1,5 +1,4 @@
-use Rattle.std.proofs.Common.{◌≡◌, ◌∙◌, ap, position, List, Some, None}
-use Rattle.plane_core.specs.declared.cell.Cell.{Cell}
+use Rattle.std.proofs.Common.{◌≡◌, ◌∙◌, ap, position, Some, None}
 use Rattle.plane_core.specs.declared.pattern.FromCellsError.TheVariants.{OutOfPlane}
 use Rattle.plane_core.specs.Cells.{off_plane, set_of}
 use Rattle.plane_core.specs.Generations.{lies_within}

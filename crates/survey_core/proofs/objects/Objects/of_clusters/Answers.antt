@@ -1,9 +1,5 @@
-use Rattle.std.proofs.Common.{◌≡◌, ◌∙◌, ◌+◌, ◌<◌, ap, sym, subst, refl, ℕ, List, [], ◌∷◌, ◌++◌, length, get_or, take, count_by, arith, if◌then◌else◌}
-use Rattle.std.specs.List.{AllZip}
-use Rattle.std.proofs.lemmas.List.{get_or_default, take_more}
-use Rattle.plane_core.specs.declared.cell.Cell.{Cell}
-use Rattle.code_core.specs.Names.{IsCode}
-use Rattle.survey_core.specs.Objects.{count_of, is_code}
+use Rattle.std.proofs.Common.{◌∙◌, ◌+◌, ◌<◌, ap, sym, subst, ℕ, List, [], ◌∷◌, ◌++◌, length, if◌then◌else◌}
+use Rattle.survey_core.specs.Objects.{is_code}
 use Rattle.survey_core.specs.Rest.{ComesBack}
 use Rattle.survey_core.proofs.ObjectLemmas.{codes_more, count_by_more, length_more}
 use Rattle.survey_core.proofs.objects.Objects.of_clusters.Goals as goal
@@ -16,9 +12,10 @@ code_of-requires-clause-back c =
 pub loop-cluster-preserved : goal.loop-cluster-preserved
 loop-cluster-preserved c =
     let low : c.loop-cluster.cluster-index < length c.args.clusters.now = c.loop-cluster-test.true in
-    let codes : List (List ℕ) = c.loop-cluster.invariant.0 in
-    (codes ++ c.in_ok-code.code ∷ [],
-    codes_more c.args.rule.now c.args.limit c.args.clusters.now c.loop-cluster.cluster-index c.cluster-item.result codes c.in_ok-code.code low c.cluster-item.is c.loop-cluster.invariant.1 c.in_ok-code.ensures,
-    length_more codes c.in_ok-code.code c.loop-cluster.cluster-index c.loop-cluster.invariant.2,
-    (λ code. c.in_ok-count.ensures.counts code ∙ ap (λ n. n + (if is_code code c.in_ok-code.code then 1 else 0)) (c.loop-cluster.invariant.3 code) ∙ sym (count_by_more (is_code code) codes c.in_ok-code.code)),
-    c.in_ok-count.ensures.some)
+    let codes : List (List ℕ) = c.loop-cluster.invariant.0 in (
+      codes ++ c.in_ok-code.code ∷ [],
+      codes_more c.args.rule.now c.args.limit c.args.clusters.now c.loop-cluster.cluster-index c.cluster-item.result codes c.in_ok-code.code low c.cluster-item.is c.loop-cluster.invariant.1 c.in_ok-code.ensures,
+      length_more codes c.in_ok-code.code c.loop-cluster.cluster-index c.loop-cluster.invariant.2,
+      (λ code. c.in_ok-count.ensures.counts code ∙ ap (λ n. n + (if is_code code c.in_ok-code.code then 1 else 0)) (c.loop-cluster.invariant.3 code) ∙ sym (count_by_more (is_code code) codes c.in_ok-code.code)),
+      c.in_ok-count.ensures.some,
+    )
