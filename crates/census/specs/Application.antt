@@ -47,6 +47,10 @@ soup_shape = (with_rule (with_rule (new_app (codes "soup")) number_argument) see
 abbrev pub census_shape : Shape
 census_shape = record ((new_app (codes "census")).top) { subcommand_required = true }
 
+-- the program with the commands on single patterns
+abbrev pub pattern_app : App
+pattern_app = with_subcommand (with_subcommand (record { top = census_shape; subs = [] }) run_shape) show_shape
+
 -- the program
 abbrev pub census_app : App
-census_app = with_subcommand (with_subcommand (with_subcommand (record { top = census_shape; subs = [] }) run_shape) show_shape) soup_shape
+census_app = with_subcommand pattern_app soup_shape

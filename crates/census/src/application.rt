@@ -1,7 +1,7 @@
 ghost use Rattle.std.specs.Prelude.{◌≡◌, false, IfOk};
 ghost use Rattle.clap.specs.Words.{app_of, rule_of, shape_of};
 ghost use Rattle.clap.specs.declared.builder.command.Command.TheViews.{out-Command as fields_of};
-ghost use Rattle.census.specs.Application.{census_app, code_argument, generations_argument, number_argument, rule_argument, run_shape, seed_argument, show_shape, soup_shape};
+ghost use Rattle.census.specs.Application.{census_app, pattern_app, code_argument, generations_argument, number_argument, rule_argument, run_shape, seed_argument, show_shape, soup_shape};
 
 use clap::builder::ValueParser;
 use clap::{Arg, Command, value_parser};
@@ -18,6 +18,13 @@ const LIFE: &str = "b3s23";
 pub fn census_command<'a>(alloc: Global) -> Result<Command<'a>, AllocError>
     ensures { IfOk result (λ command. app_of command ≡ census_app) }
 {
+    pattern_commands(alloc)?.subcommand(soup_command(alloc)?)
+}
+
+/// The program with the commands on single patterns.
+fn pattern_commands<'a>(alloc: Global) -> Result<Command<'a>, AllocError>
+    ensures { IfOk result (λ command. app_of command ≡ pattern_app) }
+{
     Command::new(alloc, "census")
         .about(
             "Runs patterns of Conway's Game of Life and its kin, draws the objects that codes name, and makes soups",
@@ -25,8 +32,7 @@ pub fn census_command<'a>(alloc: Global) -> Result<Command<'a>, AllocError>
         .after_help("`census --version` prints the name and version.")
         .subcommand_required(true)
         .subcommand(run_command(alloc)?)?
-        .subcommand(show_command(alloc)?)?
-        .subcommand(soup_command(alloc)?)
+        .subcommand(show_command(alloc)?)
 }
 
 fn run_command<'a>(alloc: Global) -> Result<Command<'a>, AllocError>

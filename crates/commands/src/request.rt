@@ -54,9 +54,7 @@ pub fn do_request<R: Read, W: Write, E: Write>(
             do_run(alloc, *generations, rule.as_str(), input, output, errors)
         }
         Request::Show { code } => do_show(alloc, code.as_str(), output, errors),
-        Request::Soup { seed, number } => {
-            do_soup(alloc, seed.as_str(), *number, output, errors)
-        }
+        Request::Soup { seed, number } => { do_soup(alloc, seed.as_str(), *number, output, errors) }
         Request::Version => do_version(output, errors),
     }
 }
