@@ -1,6 +1,6 @@
 -- What the calls of the program ask for.
 use Rattle.std.proofs.Common.{◌≡◌, ◌≢◌, ◌∙◌, ◌<◌, ◌++◌, ℕ, Bool, true, false, cond, None, Some, List, [], ◌∷◌, codes, option_and_then, refl, sym, ap}
-use Rattle.std.proofs.Common.{ap₂, arith}
+use Rattle.std.proofs.Common.{ap₂, arith, lit<}
 use Rattle.std.specs.Str.{bytes_eq}
 use Rattle.std.specs.Str.Parse.{IsNumeral, digits_value}
 use Rattle.std.proofs.lemmas.Slice.Eq.{bytes_eq-Decides}
@@ -12,11 +12,12 @@ use Rattle.clap.specs.Walk.{Held, idle, nothing_held, reacted, subcommand_met, s
 use Rattle.clap.specs.declared.error.kind.ErrorKind.{ErrorKind}
 use Rattle.clap.specs.declared.error.kind.ErrorKind.TheVariants.{ArgumentConflict, InvalidSubcommand, UnknownArgument, ValueValidation}
 use Rattle.clap.proofs.OnLiterals.{clap_on_literals}
-use Rattle.commands.specs.declared.request.Request.TheVariants.{Run, Show, Version}
-use Rattle.census.specs.Application.{census_app, code_argument, generations_argument, rule_argument, run_shape, show_shape}
-use Rattle.census.specs.Calls.{AsksForNothing, AsksForVersion, AsksToRun, AsksToShow, IsNumberUpTo, IsValue}
+use Rattle.commands.specs.declared.request.Request.TheVariants.{Run, Show, Soup, Version}
+use Rattle.census.specs.Application.{census_app, code_argument, generations_argument, number_argument, rule_argument, run_shape, seed_argument}
+use Rattle.census.specs.Application.{show_shape, soup_shape}
+use Rattle.census.specs.Calls.{AsksForNothing, AsksForSoup, AsksForVersion, AsksToRun, AsksToShow, IsNumberUpTo, IsValue}
 use Rattle.census.specs.Words.{asked_by, asks_version, request_in, unless_faulty}
-use Rattle.census.proofs.NumberLemmas.{number_accepted, numeral_plain, number_read, number_refused}
+use Rattle.census.proofs.NumberLemmas.{large_accepted, large_read, large_refused, number_accepted, number_read, number_refused, numeral_plain}
 use Rattle.census.proofs.UseLemmas.{HasCommand, IsFirstUse, IsNamedBy, Reads, StandsAt, TakesOne, command_fault, command_rows, completed, level_reads}
 use Rattle.census.proofs.UseLemmas.{level_refuses, leads_argument, leads_option, leads_then, nothing_holds, pending, no_flag_fault, plain_word-is}
 use Rattle.census.proofs.UseLemmas.{plain_word_met, reads_argument, reads_attached, reads_option, reads_then, row_with, rows_read}
@@ -223,6 +224,154 @@ asks-code_missing : (program : Text) → asked_by (program ∷ codes "show" ∷ 
 unfolding clap_on_literals
 asks-code_missing program = refl
 
+-- ---- `soup`
+
+abbrev soup_built : Shape
+soup_built = built_leaf (inherited (with_leaf_noted (marked_built census_app.top)) soup_shape)
+
+abbrev k_built : Rule
+k_built = with_index 1 (filled number_argument)
+
+abbrev seed_built : Rule
+seed_built = with_index 2 (filled seed_argument)
+
+has_soup : HasCommand census_built (codes "soup") soup_built
+unfolding clap_on_literals
+has_soup = record { named = refl; found = refl; no_help = refl; defaults = refl; checked = refl }
+
+k_one : TakesOne soup_built.rules k_built
+k_one = record { by_id = refl; sets = refl; least = refl; most = refl }
+
+k_stands : StandsAt soup_built.rules 1 k_built
+k_stands = record { by_index = refl; single = refl; one = refl; no_trailing = refl }
+
+seed_one : TakesOne soup_built.rules seed_built
+seed_one = record { by_id = refl; sets = refl; least = refl; most = refl }
+
+seed_named : IsNamedBy soup_built.rules seed_built (codes "--seed")
+unfolding clap_on_literals
+seed_named = record { name = codes "seed"; long = refl; dashes = refl; by_long = refl; takes = refl; same = refl }
+
+k_first : (n : Text) → IsNumberUpTo 1099511627775 n → IsFirstUse soup_built.rules k_built n []
+k_first n h = record { argument = k_one; fresh = refl; accepted = large_accepted 1099511627775 n (lit< tt) h.0 h.1 }
+
+k_after : (n text : Text) → IsNumberUpTo 1099511627775 n → IsFirstUse soup_built.rules k_built n (row_with seed_built text ∷ [])
+k_after n text h = record { argument = k_one; fresh = refl; accepted = large_accepted 1099511627775 n (lit< tt) h.0 h.1 }
+
+seed_first : (text : Text) → IsFirstUse soup_built.rules seed_built text []
+seed_first text = record { argument = seed_one; fresh = refl; accepted = refl }
+
+seed_after : (n text : Text) → IsFirstUse soup_built.rules seed_built text (row_with k_built n ∷ [])
+seed_after n text = record { argument = seed_one; fresh = refl; accepted = refl }
+
+-- N as the first of all, and what is held after it
+reads_k : (n : Text) → IsNumberUpTo 1099511627775 n → Reads soup_built nothing_held 1 (n ∷ []) (pending soup_built nothing_held k_built n) 2 (row_with k_built n ∷ [])
+reads_k n h = reads_argument soup_built nothing_held 1 [] k_built n (nothing_holds soup_built) (k_first n h) k_stands (numeral_plain n h.0)
+
+-- `run N`
+asks-soup : (program n : Text) → IsNumberUpTo 1099511627775 n → asked_by (program ∷ codes "soup" ∷ n ∷ []) ≡ Some (Soup [] (digits_value 10 n))
+unfolding clap_on_literals
+asks-soup program n h =
+    asks program (codes "soup") (n ∷ []) soup_built (pending soup_built nothing_held k_built n) 2 (row_with k_built n ∷ []) refl has_soup (reads_k n h) refl
+    ∙ ap (option_and_then (λ k. Some (Soup [] k))) (large_read 1099511627775 n h.0 h.1)
+
+-- N, and then `--seed TEXT`
+reads_k_seed : (n text : Text) → IsNumberUpTo 1099511627775 n → IsValue text
+    → Reads soup_built nothing_held 1 (n ∷ codes "--seed" ∷ text ∷ [])
+    (pending soup_built (pending soup_built nothing_held k_built n) seed_built text) 2 (row_with k_built n ∷ row_with seed_built text ∷ [])
+reads_k_seed n text h is_value =
+    let first = reads_k n h in
+    reads_then soup_built nothing_held (pending soup_built nothing_held k_built n)
+    (pending soup_built (pending soup_built nothing_held k_built n) seed_built text) 1 2 2 (n ∷ []) (codes "--seed" ∷ text ∷ [])
+    (row_with k_built n ∷ []) (row_with k_built n ∷ row_with seed_built text ∷ []) first
+    (reads_option soup_built (pending soup_built nothing_held k_built n) 2 (row_with k_built n ∷ []) seed_built text (codes "--seed") first.holds
+    (seed_after n text) seed_named (plain_word-is text is_value))
+
+-- `run N --seed TEXT`
+asks-seed : (program n text : Text) → IsNumberUpTo 1099511627775 n → IsValue text
+    → asked_by (program ∷ codes "soup" ∷ n ∷ codes "--seed" ∷ text ∷ []) ≡ Some (Soup text (digits_value 10 n))
+unfolding clap_on_literals
+asks-seed program n text h is_value =
+    asks program (codes "soup") (n ∷ codes "--seed" ∷ text ∷ []) soup_built
+    (pending soup_built (pending soup_built nothing_held k_built n) seed_built text) 2 (row_with k_built n ∷ row_with seed_built text ∷ [])
+    refl has_soup (reads_k_seed n text h is_value) refl
+    ∙ ap (option_and_then (λ k. Some (Soup text k))) (large_read 1099511627775 n h.0 h.1)
+
+-- `run --seed TEXT N`
+asks-seed_first : (program n text : Text) → IsNumberUpTo 1099511627775 n → IsValue text
+    → asked_by (program ∷ codes "soup" ∷ codes "--seed" ∷ text ∷ n ∷ []) ≡ Some (Soup text (digits_value 10 n))
+unfolding clap_on_literals
+asks-seed_first program n text h is_value =
+    let ruled : Held = pending soup_built nothing_held seed_built text in
+    let both : Held = pending soup_built ruled k_built n in
+    let first = reads_option soup_built nothing_held 1 [] seed_built text (codes "--seed") (nothing_holds soup_built) (seed_first text) seed_named
+    (plain_word-is text is_value) in
+    let second = reads_argument soup_built ruled 1 (row_with seed_built text ∷ []) k_built n first.holds (k_after n text h) k_stands (numeral_plain n h.0) in
+    asks program (codes "soup") (codes "--seed" ∷ text ∷ n ∷ []) soup_built both 2 (row_with seed_built text ∷ row_with k_built n ∷ []) refl has_soup
+    (reads_then soup_built nothing_held ruled both 1 1 2 (codes "--seed" ∷ text ∷ []) (n ∷ []) (row_with seed_built text ∷ [])
+    (row_with seed_built text ∷ row_with k_built n ∷ []) first second) refl
+    ∙ ap (option_and_then (λ k. Some (Soup text k))) (large_read 1099511627775 n h.0 h.1)
+
+-- `run N --seed=TEXT`
+asks-seed_attached : (program n text : Text) → IsNumberUpTo 1099511627775 n
+    → asked_by (program ∷ codes "soup" ∷ n ∷ (codes "--seed=" ++ text) ∷ []) ≡ Some (Soup text (digits_value 10 n))
+unfolding clap_on_literals
+asks-seed_attached program n text h =
+    let word : Text = codes "--seed=" ++ text in
+    let numbered : Held = pending soup_built nothing_held k_built n in
+    let both : Held = reacted soup_built.rules seed_built (text ∷ []) numbered in
+    let first = reads_k n h in
+    let second = reads_attached soup_built numbered 2 (row_with k_built n ∷ []) seed_built (codes "seed") text word first.holds
+    (seed_after n text) refl refl refl refl in
+    asks program (codes "soup") (n ∷ word ∷ []) soup_built both 2 (row_with k_built n ∷ row_with seed_built text ∷ []) refl has_soup
+    (reads_then soup_built nothing_held numbered both 1 2 2 (n ∷ []) (word ∷ []) (row_with k_built n ∷ [])
+    (row_with k_built n ∷ row_with seed_built text ∷ []) first second) refl
+    ∙ ap (option_and_then (λ k. Some (Soup text k))) (large_read 1099511627775 n h.0 h.1)
+
+-- `run --seed=TEXT N`
+asks-seed_attached_first : (program n text : Text) → IsNumberUpTo 1099511627775 n
+    → asked_by (program ∷ codes "soup" ∷ (codes "--seed=" ++ text) ∷ n ∷ []) ≡ Some (Soup text (digits_value 10 n))
+unfolding clap_on_literals
+asks-seed_attached_first program n text h =
+    let word : Text = codes "--seed=" ++ text in
+    let ruled : Held = reacted soup_built.rules seed_built (text ∷ []) nothing_held in
+    let both : Held = pending soup_built ruled k_built n in
+    let first = reads_attached soup_built nothing_held 1 [] seed_built (codes "seed") text word (nothing_holds soup_built)
+    (seed_first text) refl refl refl refl in
+    let second = reads_argument soup_built ruled 1 (row_with seed_built text ∷ []) k_built n first.holds (k_after n text h) k_stands (numeral_plain n h.0) in
+    asks program (codes "soup") (word ∷ n ∷ []) soup_built both 2 (row_with seed_built text ∷ row_with k_built n ∷ []) refl has_soup
+    (reads_then soup_built nothing_held ruled both 1 1 2 (word ∷ []) (n ∷ []) (row_with seed_built text ∷ [])
+    (row_with seed_built text ∷ row_with k_built n ∷ []) first second) refl
+    ∙ ap (option_and_then (λ k. Some (Soup text k))) (large_read 1099511627775 n h.0 h.1)
+
+-- `run N` with too large a number
+asks-too_large : (program n : Text) → IsNumeral 10 n → 1099511627775 < digits_value 10 n → asked_by (program ∷ codes "soup" ∷ n ∷ []) ≡ None
+unfolding clap_on_literals
+asks-too_large program n numeral over =
+    let leads = leads_argument soup_built nothing_held 1 [] k_built n (nothing_holds soup_built) k_stands (numeral_plain n numeral) in
+    asks_none program (codes "soup") (n ∷ []) soup_built ValueValidation refl has_soup
+    (level_refuses soup_built (n ∷ []) nothing_held 2 [] k_built n ValueValidation leads (nothing_holds soup_built) refl
+    (ap (λ b. or_else (cond {A = Kinds} b [] (ValueValidation ∷ [])) []) (large_refused 1099511627775 n numeral over)))
+
+-- `run N --seed TEXT --seed TEXT`
+asks-seed_twice : (program n one other : Text) → IsNumberUpTo 1099511627775 n → IsValue one → IsValue other
+    → asked_by (program ∷ codes "soup" ∷ n ∷ codes "--seed" ∷ one ∷ codes "--seed" ∷ other ∷ []) ≡ None
+unfolding clap_on_literals
+asks-seed_twice program n one other h one_value other_value =
+    let once : Held = pending soup_built (pending soup_built nothing_held k_built n) seed_built one in
+    let rows : List Row = row_with k_built n ∷ row_with seed_built one ∷ [] in
+    let first = reads_k_seed n one h one_value in
+    let second = leads_option soup_built once 2 rows seed_built other (codes "--seed") first.holds seed_one seed_named (plain_word-is other other_value) in
+    let words : List Text = n ∷ codes "--seed" ∷ one ∷ codes "--seed" ∷ other ∷ [] in
+    asks_none program (codes "soup") words soup_built ArgumentConflict refl has_soup
+    (level_refuses soup_built words once 2 rows seed_built other ArgumentConflict
+    (leads_then soup_built nothing_held once (pending soup_built once seed_built other) 1 2 2 (n ∷ codes "--seed" ∷ one ∷ [])
+    (codes "--seed" ∷ other ∷ []) first.leads second) first.holds refl refl)
+
+asks-soup_missing : (program : Text) → asked_by (program ∷ codes "soup" ∷ []) ≡ None
+unfolding clap_on_literals
+asks-soup_missing program = refl
+
 -- ---- no command
 
 asks-version : (program : Text) → asked_by (program ∷ codes "--version" ∷ []) ≡ Some Version
@@ -239,6 +388,10 @@ asks-help program = refl
 asks-run_help : (program : Text) → asked_by (program ∷ codes "run" ∷ codes "--help" ∷ []) ≡ None
 unfolding clap_on_literals
 asks-run_help program = refl
+
+asks-soup_help : (program : Text) → asked_by (program ∷ codes "soup" ∷ codes "--help" ∷ []) ≡ None
+unfolding clap_on_literals
+asks-soup_help program = refl
 
 asks-show_help : (program : Text) → asked_by (program ∷ codes "show" ∷ codes "--help" ∷ []) ≡ None
 unfolding clap_on_literals
@@ -261,17 +414,18 @@ or_else_first : (one two : Kinds) (kind : ErrorKind) (kinds : Kinds) → one ≡
 or_else_first one two kind kinds is = ap (λ k. or_else k two) is
 
 -- a word in a command's place that is none
-asks-unknown : (program word : Text) (words : List Text) → IsValue word → word ≢ codes "run" → word ≢ codes "show" → word ≢ codes "help"
+asks-unknown : (program word : Text) (words : List Text) → IsValue word → word ≢ codes "run" → word ≢ codes "show" → word ≢ codes "soup" → word ≢ codes "help"
     → asked_by (program ∷ word ∷ words) ≡ None
 unfolding clap_on_literals
-asks-unknown program word words is_value no_run no_show no_help =
+asks-unknown program word words is_value no_run no_show no_soup no_help =
     let top = census_built.top in
     let names = names_of census_built in
     let plain = plain_word-is word is_value in
     let is_run : bytes_eq (codes "run") word ≡ false = not_named (codes "run") word no_run in
     let is_show : bytes_eq (codes "show") word ≡ false = not_named (codes "show") word no_show in
+    let is_soup : bytes_eq (codes "soup") word ≡ false = not_named (codes "soup") word no_soup in
     let is_help : bytes_eq (codes "help") word ≡ false = not_named (codes "help") word no_help in
-    let unnamed : subcommand_met names idle word ≡ None = rw (is_run, is_show, is_help) refl in
+    let unnamed : subcommand_met names idle word ≡ None = rw (is_run, is_show, is_soup, is_help) refl in
     let met : subcommand_or_other top.rules (subcommand_met names idle word) idle 1 word nothing_held ≡ (nothing_held, value) =
     ap (λ o. subcommand_or_other top.rules o idle 1 word nothing_held) unnamed ∙ plain_word_met top.rules idle 1 word nothing_held plain in
     let no_flag = ap (λ o. other_fault top o word nothing_held) unnamed ∙ no_flag_fault top word nothing_held plain in
@@ -301,6 +455,18 @@ asks_to_run = record {
 pub asks_to_show : AsksToShow
 asks_to_show = record { alone = asks-code; code_missing = asks-code_missing }
 
+pub asks_for_soup : AsksForSoup
+asks_for_soup = record {
+  alone = asks-soup;
+  seed = asks-seed;
+  seed_first = asks-seed_first;
+  attached = asks-seed_attached;
+  attached_first = asks-seed_attached_first;
+  too_large = asks-too_large;
+  seed_twice = asks-seed_twice;
+  number_missing = asks-soup_missing;
+}
+
 pub asks_for_version : AsksForVersion
 asks_for_version = asks-version
 
@@ -311,4 +477,5 @@ asks_for_nothing = record {
   help = asks-help;
   run_help = asks-run_help;
   show_help = asks-show_help;
+  soup_help = asks-soup_help;
 }

@@ -8,7 +8,7 @@ use Rattle.std.proofs.lemmas.Str.Parse.{digit_from_value}
 use Rattle.clap.specs.Lexer.{without_minus}
 use Rattle.clap.specs.Words.{Text}
 use Rattle.clap.specs.ValueTests.{accepts, is_numeral}
-use Rattle.clap.specs.declared.builder.value_parser.ValueParser.TheVariants.{Signed}
+use Rattle.clap.specs.declared.builder.value_parser.ValueParser.TheVariants.{Signed, Unsigned}
 use Rattle.clap.proofs.ValueTestLemmas.{Accepts-accepts, accepts-Accepts}
 use Rattle.census.specs.Words.{number_of}
 use Rattle.census.proofs.UseLemmas.{IsPlainWord, no_hyphen, plain_word-is}
@@ -56,4 +56,29 @@ number_read most n numeral below =
     let passes = is_numeral-passes n numeral in
     let within = le-leb _ _ below in
     ap (number_of most) bare ∙ ap (λ ds. cond {A = Option ℕ} (is_numeral ds && nat_le (digits_value 10 ds) most) (Some (digits_value 10 ds)) None) signs.1
+    ∙ ap₂ (λ a b. cond {A = Option ℕ} (a && b) (Some (digits_value 10 n)) None) passes within
+
+-- the same of an argument whose numbers have no sign and may be large
+pub large_accepted : (most : ℕ) (n : Text) → most < 2 ^ 63 → IsNumeral 10 n → digits_value 10 n ≤ most → accepts false (Unsigned 0 most) n ≡ true
+large_accepted most n fits numeral below =
+    let signs = no_sign n numeral in
+    let small : digits_value 10 n < 2 ^ 64 = omega arith in
+    Accepts-accepts false (Unsigned 0 most) n (rw signs.1 numeral, rw signs.1 small, rw signs.1 (omega arith), rw signs.1 below)
+
+pub large_refused : (most : ℕ) (n : Text) → IsNumeral 10 n → most < digits_value 10 n → accepts false (Unsigned 0 most) n ≡ false
+large_refused most n numeral over = go (accepts false (Unsigned 0 most) n) refl
+  where
+    go : (b : Bool) → accepts false (Unsigned 0 most) n ≡ b → b ≡ false
+    go false e = refl
+    go true e =
+        let signs = no_sign n numeral in
+        let high = rw signs.1 at (accepts-Accepts false (Unsigned 0 most) n e).3 in
+        absurd (omega arith)
+
+pub large_read : (most : ℕ) (n : Text) → IsNumeral 10 n → digits_value 10 n ≤ most → number_of most n ≡ Some (digits_value 10 n)
+large_read most n numeral below =
+    let signs = no_sign n numeral in
+    let passes = is_numeral-passes n numeral in
+    let within = le-leb _ _ below in
+    ap (λ ds. cond {A = Option ℕ} (is_numeral ds && nat_le (digits_value 10 ds) most) (Some (digits_value 10 ds)) None) signs.1
     ∙ ap₂ (λ a b. cond {A = Option ℕ} (a && b) (Some (digits_value 10 n)) None) passes within

@@ -13,9 +13,9 @@ use Rattle.clap.specs.declared.parser.matches.Found.{Found}
 use Rattle.clap.proofs.OnLiterals.{clap_on_literals}
 use Rattle.clap.proofs.WalkLemmas.{both, one_text-rows}
 use Rattle.commands.specs.declared.request.Request.{Request}
-use Rattle.commands.specs.declared.request.Request.TheVariants.{Run, Show}
+use Rattle.commands.specs.declared.request.Request.TheVariants.{Run, Show, Soup}
 use Rattle.census.specs.Application.{census_app}
-use Rattle.census.specs.Words.{asked_by, asks_version, command_of, request_in, number_in, number_of, run_in, show_in}
+use Rattle.census.specs.Words.{asked_by, asks_version, command_of, request_in, number_in, number_of, run_in, show_in, soup_in}
 
 digits_pass : (ds : List ℕ) → AllDigits 10 ds → list_all (λ d. nat_lt (digit_value d) 10) ds ≡ true
 digits_pass [] h = refl
@@ -44,9 +44,9 @@ ok_within : (most : ℕ) (text : Text) (n : ℕ) → IsNumeral 10 (without_leadi
     → within most n ≡ number_of most text
 ok_within most text n numeral is = rw (is, is_numeral-passes _ numeral) refl
 
-none_within : (most : ℕ) (text : Text) → most < 2 ^ 32
-    → ((IsNumeral 10 (without_leading_plus text) × (digits_value 10 (without_leading_plus text) < 2 ^ 32)) → ⊥) → None ≡ number_of most text
-none_within most text fits never = go (is_numeral (without_leading_plus text) && nat_le (digits_value 10 (without_leading_plus text)) most) refl
+none_within : (bits most : ℕ) (text : Text) → most < 2 ^ bits
+    → ((IsNumeral 10 (without_leading_plus text) × (digits_value 10 (without_leading_plus text) < 2 ^ bits)) → ⊥) → None ≡ number_of most text
+none_within bits most text fits never = go (is_numeral (without_leading_plus text) && nat_le (digits_value 10 (without_leading_plus text)) most) refl
   where
     go : (b : Bool) → (is_numeral (without_leading_plus text) && nat_le (digits_value 10 (without_leading_plus text)) most) ≡ b → None ≡ number_of most text
     go false t = rw t refl
@@ -56,27 +56,32 @@ none_within most text fits never = go (is_numeral (without_leading_plus text) &&
         absurd (never (is_numeral-from _ parts.0, omega arith))
 
 -- the number that is read of a text
-text_within : {E : Type 0} (most : ℕ) → most < 2 ^ 32 → (G : Text → Result ℕ E → Type 0)
-    → ((t : Text) (r : Result ℕ E) → G t r → ParsesUnsigned 32 10 t r) → (text : Text) (found : Option ℕ) → ReadsOne G text found
+text_within : {E : Type 0} (bits most : ℕ) → most < 2 ^ bits → (G : Text → Result ℕ E → Type 0)
+    → ((t : Text) (r : Result ℕ E) → G t r → ParsesUnsigned bits 10 t r) → (text : Text) (found : Option ℕ) → ReadsOne G text found
     → option_and_then (within most) found ≡ number_of most text
-text_within most fits G only text (Some n) read = let h = only text (Ok n) read in ok_within most text n h.0.0 h.1
-text_within most fits G only text None read = none_within most text fits (only text (Err read.0) read.1)
+text_within bits most fits G only text (Some n) read = let h = only text (Ok n) read in ok_within most text n h.0.0 h.1
+text_within bits most fits G only text None read = none_within bits most text fits (only text (Err read.0) read.1)
 
 -- the number of an argument: the number that is read, where it is within the limit
-pub found_within : {E : Type 0} (most : ℕ) (id : Text) → most < 2 ^ 32 → (G : Text → Result ℕ E → Type 0)
-    → ((t : Text) (r : Result ℕ E) → G t r → ParsesUnsigned 32 10 t r) → (f : Found) (found : Option ℕ)
+pub found_within : {E : Type 0} (bits most : ℕ) (id : Text) → most < 2 ^ bits → (G : Text → Result ℕ E → Type 0)
+    → ((t : Text) (r : Result ℕ E) → G t r → ParsesUnsigned bits 10 t r) → (f : Found) (found : Option ℕ)
     → (one_text f id ≡ None → found ≡ None) → ((t : Text) → one_text f id ≡ Some t → ReadsOne G t found)
     → option_and_then (within most) found ≡ number_in most id (rows_of f)
-found_within most id fits G only f found none some = go (one_text f id) refl
+found_within bits most id fits G only f found none some = go (one_text f id) refl
   where
     go : (o : Option Text) → one_text f id ≡ o → option_and_then (within most) found ≡ number_in most id (rows_of f)
     go None e = rw (← one_text-rows f id, e, none e) refl
-    go (Some t) e = rw (← one_text-rows f id, e) (text_within most fits G only t found (some t e))
+    go (Some t) e = rw (← one_text-rows f id, e) (text_within bits most fits G only t found (some t e))
 
 -- what `run` is asked for, from its two values
 pub run_in-is : (rows : List Row) (n : Option ℕ) (rule : Option Text) → n ≡ number_in 100000 (codes "N") rows → rule ≡ first_of (codes "rule") rows
     → run_in rows ≡ option_and_then (λ k. option_map (Run k) rule) n
 run_in-is rows n rule is_n is_rule = rw (is_n, is_rule) refl
+
+-- what `soup` is asked for, from its two values
+pub soup_in-is : (rows : List Row) (n : Option ℕ) (seed : Option Text) → n ≡ number_in 1099511627775 (codes "N") rows → seed ≡ first_of (codes "seed") rows
+    → soup_in rows ≡ option_and_then (λ k. option_map (λ text. Soup text k) seed) n
+soup_in-is rows n seed is_n is_seed = rw (is_n, is_seed) refl
 
 -- what `show` is asked for, from its value
 pub show_in-is : (rows : List Row) (code : Option Text) → code ≡ first_of (codes "CODE") rows → show_in rows ≡ option_map Show code

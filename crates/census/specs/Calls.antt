@@ -2,7 +2,7 @@
 use Rattle.std.specs.Prelude.{◌≡◌, ◌≢◌, ◌<◌, ◌≤◌, ◌++◌, ℕ, List, [], ◌∷◌, None, Some, false, codes}
 use Rattle.std.specs.Str.Parse.{IsNumeral, digits_value, starts_with_minus}
 use Rattle.clap.specs.Words.{Text}
-use Rattle.commands.specs.declared.request.Request.TheVariants.{Run, Show, Version}
+use Rattle.commands.specs.declared.request.Request.TheVariants.{Run, Show, Soup, Version}
 use Rattle.census.specs.Words.{asked_by}
 
 -- digits of a number up to a limit
@@ -36,6 +36,24 @@ pub record AsksToShow : Type 0 where
   pub alone : (program code : Text) → IsValue code → asked_by (program ∷ codes "show" ∷ code ∷ []) ≡ Some (Show code)
   pub code_missing : (program : Text) → asked_by (program ∷ codes "show" ∷ []) ≡ None
 
+-- `soup N` alone, and with `--seed` after it or before it, in the next word or after `=`; N is below 2^40, and `--seed`
+-- stands once
+pub record AsksForSoup : Type 0 where
+  pub alone : (program n : Text) → IsNumberUpTo 1099511627775 n
+      → asked_by (program ∷ codes "soup" ∷ n ∷ []) ≡ Some (Soup [] (digits_value 10 n))
+  pub seed : (program n text : Text) → IsNumberUpTo 1099511627775 n → IsValue text
+      → asked_by (program ∷ codes "soup" ∷ n ∷ codes "--seed" ∷ text ∷ []) ≡ Some (Soup text (digits_value 10 n))
+  pub seed_first : (program n text : Text) → IsNumberUpTo 1099511627775 n → IsValue text
+      → asked_by (program ∷ codes "soup" ∷ codes "--seed" ∷ text ∷ n ∷ []) ≡ Some (Soup text (digits_value 10 n))
+  pub attached : (program n text : Text) → IsNumberUpTo 1099511627775 n
+      → asked_by (program ∷ codes "soup" ∷ n ∷ (codes "--seed=" ++ text) ∷ []) ≡ Some (Soup text (digits_value 10 n))
+  pub attached_first : (program n text : Text) → IsNumberUpTo 1099511627775 n
+      → asked_by (program ∷ codes "soup" ∷ (codes "--seed=" ++ text) ∷ n ∷ []) ≡ Some (Soup text (digits_value 10 n))
+  pub too_large : (program n : Text) → IsNumeral 10 n → 1099511627775 < digits_value 10 n → asked_by (program ∷ codes "soup" ∷ n ∷ []) ≡ None
+  pub seed_twice : (program n one other : Text) → IsNumberUpTo 1099511627775 n → IsValue one → IsValue other
+      → asked_by (program ∷ codes "soup" ∷ n ∷ codes "--seed" ∷ one ∷ codes "--seed" ∷ other ∷ []) ≡ None
+  pub number_missing : (program : Text) → asked_by (program ∷ codes "soup" ∷ []) ≡ None
+
 -- `--version` alone
 abbrev pub AsksForVersion : Type 0
 AsksForVersion = (program : Text) → asked_by (program ∷ codes "--version" ∷ []) ≡ Some Version
@@ -43,8 +61,9 @@ AsksForVersion = (program : Text) → asked_by (program ∷ codes "--version" �
 -- no command, another word in its place, whatever comes after it, and calls for help
 pub record AsksForNothing : Type 0 where
   pub no_command : (program : Text) → asked_by (program ∷ []) ≡ None
-  pub unknown : (program word : Text) (words : List Text) → IsValue word → word ≢ codes "run" → word ≢ codes "show" → word ≢ codes "help"
+  pub unknown : (program word : Text) (words : List Text) → IsValue word → word ≢ codes "run" → word ≢ codes "show" → word ≢ codes "soup" → word ≢ codes "help"
       → asked_by (program ∷ word ∷ words) ≡ None
   pub help : (program : Text) → asked_by (program ∷ codes "--help" ∷ []) ≡ None
   pub run_help : (program : Text) → asked_by (program ∷ codes "run" ∷ codes "--help" ∷ []) ≡ None
   pub show_help : (program : Text) → asked_by (program ∷ codes "show" ∷ codes "--help" ∷ []) ≡ None
+  pub soup_help : (program : Text) → asked_by (program ∷ codes "soup" ∷ codes "--help" ∷ []) ≡ None

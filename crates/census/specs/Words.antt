@@ -7,7 +7,7 @@ use Rattle.clap.specs.Words.{Kinds, Row, Text, fault_of, first_of, one_of, subco
 use Rattle.clap.specs.ValueTests.{is_numeral}
 use Rattle.commands.specs.declared.complaint.Complaint.TheVariants as complaint
 use Rattle.commands.specs.declared.request.Request.{Request}
-use Rattle.commands.specs.declared.request.Request.TheVariants.{Run, Show, Version}
+use Rattle.commands.specs.declared.request.Request.TheVariants.{Run, Show, Soup, Version}
 use Rattle.commands.specs.declared.status.Status.{Status}
 use Rattle.commands.specs.declared.status.Status.TheVariants.{OutOfMemory}
 use Rattle.commands.specs.Complaints.{line_of}
@@ -33,11 +33,16 @@ run_in rows = option_and_then (λ n. option_map (Run n) (first_of (codes "rule")
 abbrev pub show_in : List Row → Option Request
 show_in rows = option_map Show (first_of (codes "CODE") rows)
 
+-- `soup`, with what was found for its arguments
+abbrev pub soup_in : List Row → Option Request
+soup_in rows = option_and_then (λ n. option_map (λ seed. Soup seed n) (first_of (codes "seed") rows)) (number_in 1099511627775 (codes "N") rows)
+
 -- the command of this name, with its values
 abbrev pub request_in : Text × List Row → Option Request
 request_in found =
     if bytes_eq found.0 (codes "run") then run_in found.1
     else if bytes_eq found.0 (codes "show") then show_in found.1
+    else if bytes_eq found.0 (codes "soup") then soup_in found.1
     else None
 
 -- a request, if nothing is wrong with the words

@@ -2,8 +2,8 @@ ghost use Rattle.std.specs.Prelude.{◌≡◌, ◌≢◌, None, Some, IfOk, IfEr
 ghost use Rattle.clap.specs.Words.{found_of, kind_of, rows_of, subcommand_rows_of};
 ghost use Rattle.commands.specs.Requests.{IsWithinLimits, reads_input};
 ghost use Rattle.commands.specs.Streams.{stream};
-ghost use Rattle.census.specs.Calls.{AsksForNothing, AsksForVersion, AsksToRun, AsksToShow};
-ghost use Rattle.census.specs.Words.{DoesWords, asked_by, asks_version, number_in, request_in, run_in, show_in};
+ghost use Rattle.census.specs.Calls.{AsksForNothing, AsksForSoup, AsksForVersion, AsksToRun, AsksToShow};
+ghost use Rattle.census.specs.Words.{DoesWords, asked_by, asks_version, number_in, request_in, run_in, show_in, soup_in};
 
 use crate::application::census_command;
 use clap::ArgMatches;
@@ -17,6 +17,9 @@ use plane_core::output::Out;
 use std::alloc::{AllocError, Global};
 use std::convert::AsStr;
 use std::io::{Read, Write};
+
+/// The greatest number of a soup: 2^40 - 1.
+const SOUP_LIMIT: u64 = 1_099_511_627_775;
 
 /// Why words give no request.
 #[derive(Debug, Drop)]
@@ -109,6 +112,12 @@ pub fn asks_to_show()
     ensures { AsksToShow }
 {}
 
+/// A law of all words: what the calls of `soup` ask for.
+#[tactic(auto, using(crate::proofs::CallLemmas::asks_for_soup))]
+pub fn asks_for_soup()
+    ensures { AsksForSoup }
+{}
+
 /// A law of all words: what `--version` asks for.
 #[tactic(auto, using(crate::proofs::CallLemmas::asks_for_version))]
 pub fn asks_for_version()
@@ -139,6 +148,7 @@ fn request_in<'a>(matches: &ArgMatches<'a>) -> Option<Request<'a>>
     match matches.subcommand() {
         Some(("run", found)) => run_in(found),
         Some(("show", found)) => show_in(found),
+        Some(("soup", found)) => soup_in(found),
         _ => None,
     }
 }
@@ -169,11 +179,35 @@ fn show_in<'a>(found: &ArgMatches<'a>) -> Option<Request<'a>>
     })
 }
 
+/// `soup` with the values of its arguments.
+fn soup_in<'a>(found: &ArgMatches<'a>) -> Option<Request<'a>>
+    ensures request { result ≡ soup_in (rows_of (found_of found.now)) }
+    ensures limits { IfSome result IsWithinLimits }
+{
+    let number = large_number_in(found, "N", SOUP_LIMIT)?;
+    let seed = found.get_str("seed")?;
+    Some(Request::Soup {
+        seed: Word::new(seed),
+        number,
+    })
+}
+
 /// The number up to a limit that was found for an argument.
 fn number_in(found: &ArgMatches<'_>, id: &str, most: u32) -> Option<u32>
     ensures { result ≡ number_in most id.now (rows_of (found_of found.now)) }
 {
     let number = found.get_one::<u32>(id)?;
+    if number > most {
+        return None;
+    }
+    Some(number)
+}
+
+/// The number up to a limit that was found for an argument, where it may take more than 32 bits.
+fn large_number_in(found: &ArgMatches<'_>, id: &str, most: u64) -> Option<u64>
+    ensures { result ≡ number_in most id.now (rows_of (found_of found.now)) }
+{
+    let number = found.get_one::<u64>(id)?;
     if number > most {
         return None;
     }

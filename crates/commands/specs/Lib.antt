@@ -4,6 +4,7 @@ pub mod Inputs
 pub mod Requests
 pub mod Run
 pub mod Show
+pub mod Soup
 pub mod Status
 pub mod Streams
 pub mod Version

@@ -10,7 +10,9 @@ use code_core::reader::{WechslerError, WechslerFault};
 use plane_core::output::{Out, WriteError};
 use plane_core::plaintext::{PlaintextError, PlaintextFault};
 use plane_core::rule::RuleError;
+use std::alloc::AllocError;
 use std::io::Write;
+use survey_core::seed::SeedError;
 
 /// Why a command did not do all that was asked: the one line that it leaves on standard error, and its status.
 #[derive(Clone, Copy, Debug, PartialEq, Eq)]
@@ -115,6 +117,29 @@ impl From<WechslerError> for Complaint {
             WechslerError::Fault(WechslerFault::Empty) => Complaint::Refused(Refusal::CodeEmpty),
             WechslerError::Memory => Complaint::OutOfMemory,
         }
+    }
+}
+
+impl From<SeedError> for Complaint {
+    ghost use Rattle.commands.specs.Soup.{seed_complaint};
+
+    ghost from_gives = { λ error complaint. complaint ≡ seed_complaint error };
+
+    fn from(error: SeedError) -> Complaint {
+        Complaint::Refused(match error {
+            SeedError::TooLong => Refusal::SeedTooLong,
+            SeedError::BadByte { place } => Refusal::SeedBadByte { place },
+        })
+    }
+}
+
+impl From<AllocError> for Complaint {
+    ghost use Rattle.commands.specs.declared.complaint.Complaint.TheVariants.{OutOfMemory};
+
+    ghost from_gives = { λ _ complaint. complaint ≡ OutOfMemory };
+
+    fn from(_error: AllocError) -> Complaint {
+        Complaint::OutOfMemory
     }
 }
 

@@ -18,6 +18,8 @@ pub mod request;
 pub mod run;
 /// `show`: the object that a code names.
 pub mod show;
+/// `soup`: a random start pattern.
+pub mod soup;
 /// How a command ended, as a shell sees it.
 pub mod status;
 #[cfg(test)]

@@ -27,6 +27,10 @@ pub enum Refusal {
     CodeShortRun { place: usize },
     /// A text of a code without a live cell.
     CodeEmpty,
+    /// A seed of over 64 bytes.
+    SeedTooLong,
+    /// A byte of a seed that isn't a visible ASCII character. Places count from 0.
+    SeedBadByte { place: usize },
 }
 
 impl Refusal {
@@ -55,6 +59,10 @@ impl Refusal {
                 put_numbered(errors, b"census: short run in code at ", place)
             }
             Refusal::CodeEmpty => errors.put(b"census: code without a live cell\n"),
+            Refusal::SeedTooLong => errors.put(b"census: seed longer than 64 bytes\n"),
+            Refusal::SeedBadByte { place } => {
+                put_numbered(errors, b"census: bad byte in seed at ", place)
+            }
         }
     }
 }

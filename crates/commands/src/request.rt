@@ -4,6 +4,7 @@ ghost use Rattle.commands.specs.Streams.{stream};
 
 use crate::run::do_run;
 use crate::show::do_show;
+use crate::soup::do_soup;
 use crate::status::Status;
 use crate::version::do_version;
 use crate::word::Word;
@@ -18,6 +19,8 @@ pub enum Request<'a> {
     Run { generations: u32, rule: Word<'a> },
     /// The object that a code names.
     Show { code: Word<'a> },
+    /// The soup with this number, which is below 2^40, of the seed of a text.
+    Soup { seed: Word<'a>, number: u64 },
     /// The program's name and version.
     Version,
 }
@@ -29,7 +32,7 @@ pub enum Request<'a> {
 ///
 /// # Errors
 ///
-/// As of the request's own function: [`do_run`], [`do_show`] or [`do_version`].
+/// As of the request's own function: [`do_run`], [`do_show`], [`do_soup`] or [`do_version`].
 pub fn do_request<R: Read, W: Write, E: Write>(
     alloc: Global,
     request: &Request<'_>,
@@ -51,6 +54,7 @@ pub fn do_request<R: Read, W: Write, E: Write>(
             do_run(alloc, *generations, rule.as_str(), input, output, errors)
         }
         Request::Show { code } => do_show(alloc, code.as_str(), output, errors),
+        Request::Soup { seed, number } => { do_soup(alloc, seed.as_str(), *number, output, errors) }
         Request::Version => do_version(output, errors),
     }
 }

@@ -12,6 +12,7 @@ use std::process::Abort;
 use std::test::Fail;
 
 mod show;
+mod soup;
 
 const BLINKER: &[u8] = b"OOO\n";
 

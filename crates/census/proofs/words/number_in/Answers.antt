@@ -8,7 +8,7 @@ use Rattle.census.proofs.words.number_in.Goals as goal
 pub returns-in_err-number : goal.returns-in_err-number
 returns-in_err-number c =
     let fits : c.args.most < 2 ^ 32 = search rules in
-    let is = found_within c.args.most c.args.id.now fits
+    let is = found_within 32 c.args.most c.args.id.now fits
     (λ bs r. ParsesUnsigned 32 10 bs r × ExplainsUnsignedError 10 bs r × HasUnsignedDigitsIfOk bs r) (λ t r g. g.0)
     (found_of c.args.found.now) c.get_one.result c.get_one.ensures.none c.get_one.ensures.value in
     c.from_residual.ensures ∙ ap (option_and_then (within c.args.most)) (sym c.in_err-number.was) ∙ is
@@ -16,7 +16,7 @@ returns-in_err-number c =
 pub returns-then-number-most : goal.returns-then-number-most
 returns-then-number-most c =
     let fits : c.args.most < 2 ^ 32 = search rules in
-    let is = found_within c.args.most c.args.id.now fits
+    let is = found_within 32 c.args.most c.args.id.now fits
     (λ bs r. ParsesUnsigned 32 10 bs r × ExplainsUnsignedError 10 bs r × HasUnsignedDigitsIfOk bs r) (λ t r g. g.0)
     (found_of c.args.found.now) c.get_one.result c.get_one.ensures.none c.get_one.ensures.value in
     let over : nat_le c.in_ok-number.number c.args.most ≡ false = search (rules, nat_tests) in
@@ -26,7 +26,7 @@ returns-then-number-most c =
 pub returns : goal.returns
 returns c =
     let fits : c.args.most < 2 ^ 32 = search rules in
-    let is = found_within c.args.most c.args.id.now fits
+    let is = found_within 32 c.args.most c.args.id.now fits
     (λ bs r. ParsesUnsigned 32 10 bs r × ExplainsUnsignedError 10 bs r × HasUnsignedDigitsIfOk bs r) (λ t r g. g.0)
     (found_of c.args.found.now) c.get_one.result c.get_one.ensures.none c.get_one.ensures.value in
     let below : nat_le c.in_ok-number.number c.args.most ≡ true = search (rules, nat_tests) in

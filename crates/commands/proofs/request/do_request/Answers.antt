@@ -19,3 +19,11 @@ returns-in-Show-clause-command g c = Ends-command c.do_show.ensures.ends
 
 pub returns-in-Version-clause-command : goal.returns-in-Version-clause-command
 returns-in-Version-clause-command g c = Ends-command c.do_version.ensures.ends
+
+pub returns-in-Soup-clause-ends : goal.returns-in-Soup-clause-ends
+returns-in-Soup-clause-ends g c =
+    let some = some_input (g.R.Read.remaining c.args.input.now) in
+    rw (c.in-Soup.is, ← c.as_str-in-Soup.ensures) (record { bytes = some.0; input = some.1; ends = c.do_soup.ensures.ends })
+
+pub returns-in-Soup-clause-command : goal.returns-in-Soup-clause-command
+returns-in-Soup-clause-command g c = Ends-command c.do_soup.ensures.ends

@@ -1,0 +1,12 @@
+use Rattle.std.proofs.Common.{◌≡◌, Ok, refl}
+use Rattle.plane_core.specs.Plaintext.{plain}
+use Rattle.commands.specs.Soup.{soup_answer}
+use Rattle.commands.proofs.AnswerLemmas.{err_of}
+use Rattle.commands.proofs.soup.put_soup.Goals as goal
+
+pub returns-in_err-write_plaintext-clause-reached : goal.returns-in_err-write_plaintext-clause-reached
+returns-in_err-write_plaintext-clause-reached g c =
+    let answer : soup_answer c.args.seed_text.now c.args.number ≡ Ok (plain c.in_ok-pattern.pattern) =
+    rw (← c.in_ok-seed.ensures, c.in_ok-pattern.ensures.soup) refl in
+    rw (err_of _ _ c.from_residual-in_err-write_plaintext.ensures.1, answer)
+    (refl, c.in_err-write_plaintext.ensures.front, c.in_err-write_plaintext.ensures.told)

@@ -1,0 +1,25 @@
+-- What `census soup` is asked for.
+use Rattle.std.specs.Prelude.{ℕ, List, Result, Ok}
+use Rattle.std.specs.Result.{result_map_both}
+use Rattle.plane_core.specs.Plaintext.{plain}
+use Rattle.survey_core.specs.declared.seed.SeedError.{SeedError}
+use Rattle.survey_core.specs.declared.seed.SeedError.TheVariants as error
+use Rattle.survey_core.specs.Seeds.{seed_read}
+use Rattle.survey_core.specs.Soups.{soup}
+use Rattle.commands.specs.declared.complaint.Complaint.{Complaint}
+use Rattle.commands.specs.declared.complaint.Complaint.TheVariants.{Refused}
+use Rattle.commands.specs.declared.refusal.Refusal.TheVariants.{SeedBadByte, SeedTooLong}
+use Rattle.commands.specs.Answers.{Answer, given}
+
+-- the complaint about a seed
+abbrev pub seed_complaint : SeedError → Complaint
+seed_complaint error.TooLong = Refused SeedTooLong
+seed_complaint (error.BadByte place) = Refused (SeedBadByte place)
+
+-- the seed that a text names
+abbrev pub seed_named : List ℕ → Result (List ℕ) Complaint
+seed_named text = result_map_both (λ seed. seed) seed_complaint (seed_read text)
+
+-- the plaintext of the soup with this number
+abbrev pub soup_answer : List ℕ → ℕ → Answer
+soup_answer seed_text number = given (seed_named seed_text) (λ seed. Ok (plain (soup seed number)))
