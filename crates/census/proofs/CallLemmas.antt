@@ -265,7 +265,8 @@ seed_after : (n text : Text) → IsFirstUse soup_built.rules seed_built text (ro
 seed_after n text = record { argument = seed_one; fresh = refl; accepted = refl }
 
 -- N as the first of all, and what is held after it
-reads_k : (n : Text) → IsNumberUpTo 1099511627775 n → Reads soup_built nothing_held 1 (n ∷ []) (pending soup_built nothing_held k_built n) 2 (row_with k_built n ∷ [])
+reads_k : (n : Text) → IsNumberUpTo 1099511627775 n
+    → Reads soup_built nothing_held 1 (n ∷ []) (pending soup_built nothing_held k_built n) 2 (row_with k_built n ∷ [])
 reads_k n h = reads_argument soup_built nothing_held 1 [] k_built n (nothing_holds soup_built) (k_first n h) k_stands (numeral_plain n h.0)
 
 -- `run N`

@@ -1,5 +1,6 @@
 -- From one checkpoint to the next, and the finding of a pattern.
-use Rattle.std.proofs.Common.{◌≡◌, ◌∙◌, ap, sym, refl, subst, inl, inr, ◌⊎◌, ℕ, zero, suc, ◌+◌, ◌*◌, ◌/◌, ◌<◌, ◌≤◌, add-zero, add-one, eq-or-lt_of_le, List, Option, None, Some, IfSome, IfNone, unwrap_or, arith}
+use Rattle.std.proofs.Common.{◌≡◌, ◌∙◌, ap, sym, refl, subst, inl, inr, ◌⊎◌, ℕ, zero, suc, ◌+◌, ◌*◌, ◌/◌, ◌<◌, ◌≤◌, add-zero, add-one, eq-or-lt_of_le}
+use Rattle.std.proofs.Common.{List, Option, None, Some, IfSome, IfNone, unwrap_or, arith}
 use Rattle.std.proofs.Math.Nat.{le-div_iff_mul-le, lt-div-mul-add, lt_of_mul-lt-mul_right, mul-lt-mul_of_pos_right, suc-mul}
 use Rattle.plane_core.specs.declared.cell.Cell.{Cell}
 use Rattle.plane_core.specs.Generations.{after, next}
@@ -19,8 +20,14 @@ after-then rule cells g (suc n) =
     ∙ sym (after-more rule cells (g + n)) ∙ ap (after rule cells) (omega arith)
 
 -- a place up to the last is a checkpoint's
-pub is_checkpoint : (profile : Settling) (place : ℕ) → 1 ≤ profile.stride → place ≤ profile.limit / profile.stride → IsCheckpoint profile (place * profile.stride)
-is_checkpoint profile place some low = record { place = place; is = refl; within = (le-div_iff_mul-le {k = profile.stride} {x = place} {y = profile.limit} some).0 low }
+pub is_checkpoint : (profile : Settling) (place : ℕ) → 1 ≤ profile.stride → place ≤ profile.limit / profile.stride
+    → IsCheckpoint profile (place * profile.stride)
+is_checkpoint profile place some low = record {
+  place = place;
+  is = refl;
+  within =
+      (le-div_iff_mul-le {k = profile.stride} {x = place} {y = profile.limit} some).0 low;
+}
 
 pub one_more : (place stride : ℕ) → (place + 1) * stride ≡ place * stride + stride
 one_more place stride = ap (λ (p : ℕ). p * stride) (add-one place) ∙ suc-mul place stride
@@ -30,7 +37,8 @@ pub this_or_before : (profile : Settling) (place u : ℕ) → 1 ≤ profile.stri
     → (u ≡ place * profile.stride) ⊎ (u < place * profile.stride)
 this_or_before profile place u some is low =
     let e : u ≡ is.place * profile.stride = is.is in
-    let here : is.place * profile.stride < (place + 1) * profile.stride = subst (λ (v : ℕ). v < (place + 1) * profile.stride) e (subst (λ (v : ℕ). u < v) (sym (one_more place profile.stride)) low) in
+    let here : is.place * profile.stride < (place + 1) * profile.stride =
+    subst (λ (v : ℕ). v < (place + 1) * profile.stride) e (subst (λ (v : ℕ). u < v) (sym (one_more place profile.stride)) low) in
     let earlier : is.place < place + 1 = lt_of_mul-lt-mul_right profile.stride here in
     let below : is.place ≤ place = omega arith in
     elim (eq-or-lt_of_le below) [
@@ -39,7 +47,8 @@ this_or_before profile place u some is low =
     ]
 
 -- no rest before the next checkpoint either
-pub no_rest_more : (rule : Numbers) (profile : Settling) (cells latest : List Cell) (place : ℕ) → 1 ≤ profile.stride → latest ≡ after rule cells (place * profile.stride)
+pub no_rest_more : (rule : Numbers) (profile : Settling) (cells latest : List Cell) (place : ℕ) → 1 ≤ profile.stride
+    → latest ≡ after rule cells (place * profile.stride)
     → NoRestBefore rule profile cells (place * profile.stride) → ¬ IsAtRest rule profile latest
     → (t : ℕ) → t ≡ place * profile.stride + profile.stride → NoRestBefore rule profile cells t
 no_rest_more rule profile cells latest place some is before moves t e u check low rest = elim (this_or_before profile place u some check (omega arith)) [
@@ -65,7 +74,9 @@ pub finding_last : (rule : Numbers) (profile : Settling) (cells latest : List Ce
 finding_last rule profile cells latest place (Some finding) settled moves is some last before =
     finding_from rule profile cells latest (place * profile.stride) finding settled is (is_checkpoint profile place some (omega arith)) before
 finding_last rule profile cells latest place None settled moves is some last before = λ u check rest.
-    let past : profile.limit < profile.limit / profile.stride * profile.stride + profile.stride = lt-div-mul-add {a = profile.limit} {b = profile.stride} some in
-    let past_here : profile.limit < place * profile.stride + profile.stride = subst (λ (p : ℕ). profile.limit < p * profile.stride + profile.stride) (sym last) past in
+    let past : profile.limit < profile.limit / profile.stride * profile.stride + profile.stride =
+    lt-div-mul-add {a = profile.limit} {b = profile.stride} some in
+    let past_here : profile.limit < place * profile.stride + profile.stride =
+    subst (λ (p : ℕ). profile.limit < p * profile.stride + profile.stride) (sym last) past in
     let within : u ≤ profile.limit = check.within in
     no_rest_more rule profile cells latest place some is before moves (place * profile.stride + profile.stride) refl u check (omega arith) rest

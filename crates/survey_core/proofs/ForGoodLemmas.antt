@@ -1,5 +1,6 @@
 -- The laws of patterns at rest: the empty pattern, and patterns that are at rest for good.
-use Rattle.std.proofs.Common.{◌≡◌, ◌≢◌, ◌∙◌, ap, sym, refl, subst, ℕ, ℤ, pos, ◌+ℤ◌, zero, suc, ◌+◌, ◌*◌, ◌/◌, ◌%◌, ◌<◌, ◌≤◌, ◌^◌, ◌==◌, ◌&&◌, add-one, add_comm, Bool, true, false, cond, List, [], ◌∷◌, map, All, count_by, get_or, Some, unwrap_or, arith, if◌then◌else◌}
+use Rattle.std.proofs.Common.{◌≡◌, ◌≢◌, ◌∙◌, ap, sym, refl, subst, ℕ, ℤ, pos, ◌+ℤ◌, zero, suc, ◌+◌, ◌*◌, ◌/◌, ◌%◌, ◌<◌, ◌≤◌, ◌^◌, ◌==◌, ◌&&◌, add-one}
+use Rattle.std.proofs.Common.{add_comm, Bool, true, false, cond, List, [], ◌∷◌, map, All, count_by, get_or, Some, unwrap_or, arith, if◌then◌else◌}
 use Rattle.std.specs.List.{AllZip, list_any}
 use Rattle.std.specs.Map.{lookup}
 use Rattle.std.specs.Ordering.{int_eq, is_eq, nat_cmp}
@@ -53,7 +54,8 @@ empty_is_at_rest rule profile = (
       in_order = λ i j d lt low. absurd (omega arith);
     };
     back = λ k d low. absurd (omega arith);
-    apart = λ g low. subst (λ (cells : List Cell). Partition cells []) (sym (after-empty rule g)) (record { disjoint = λ i j d lt low. absurd (omega arith); union = λ c. refl });
+    apart = λ g low. subst (λ (cells : List Cell). Partition cells []) (sym (after-empty rule g))
+        (record { disjoint = λ i j d lt low. absurd (omega arith); union = λ c. refl });
   },
 )
 
@@ -94,13 +96,15 @@ in_its_place rule cells limit code low is stays = go (int_eq r.dx (pos 0) && int
     kind = ap kind_in is.spelled ∙ kind_of_name (kind_of is.recurrence) (number_of (kind_of is.recurrence) cells is.recurrence) is.least
 
     number : (n : ℕ) → number_of (kind_of is.recurrence) cells is.recurrence ≡ n → n < 2 ^ 64 → number_in code ≡ n
-    number n e fits = ap number_in (is.spelled ∙ ap (λ (m : ℕ). code_text (kind_of is.recurrence) m is.least) e) ∙ number_of_name (kind_of is.recurrence) n is.least fits
+    number n e fits = ap number_in (is.spelled ∙ ap (λ (m : ℕ). code_text (kind_of is.recurrence) m is.least) e)
+        ∙ number_of_name (kind_of is.recurrence) n is.least fits
 
     told : (b : Bool) → (is.recurrence.period == 1) ≡ b → kind_of is.recurrence ≡ (if b then Still else Oscillator) → period_in code ≡ is.recurrence.period
     told true e k = ap (λ (kind : Kind). period_of_kind kind (number_in code)) (kind ∙ k) ∙ sym ((Decides-eqb is.recurrence.period 1).0 e)
     told false e k =
         let within : is.recurrence.period ≤ limit = is.recurs.within in
-        ap (λ (kind : Kind). period_of_kind kind (number_in code)) (kind ∙ k) ∙ number is.recurrence.period (ap (λ (kind : Kind). number_of kind cells is.recurrence) k) (omega arith)
+        ap (λ (kind : Kind). period_of_kind kind (number_in code)) (kind ∙ k)
+        ∙ number is.recurrence.period (ap (λ (kind : Kind). number_of kind cells is.recurrence) k) (omega arith)
 
     go : (b : Bool) → (int_eq is.recurrence.dx (pos 0) && int_eq is.recurrence.dy (pos 0)) ≡ b → after rule cells (period_in code) ≡ cells
     go false e = absurd (stays (kind ∙ ap (λ (b : Bool). if b then (if is.recurrence.period == 1 then Still else Oscillator) else Ship) e))
@@ -108,7 +112,8 @@ in_its_place rule cells limit code low is stays = go (int_eq r.dx (pos 0) && int
         let parts = and_parts (int_eq is.recurrence.dx (pos 0)) (int_eq is.recurrence.dy (pos 0)) e in
         let dx : is.recurrence.dx ≡ pos 0 = (Decides-int_eq is.recurrence.dx (pos 0)).0 parts.0 in
         let dy : is.recurrence.dy ≡ pos 0 = (Decides-int_eq is.recurrence.dy (pos 0)).0 parts.1 in
-        let still : kind_of is.recurrence ≡ (if is.recurrence.period == 1 then Still else Oscillator) = ap (λ (b : Bool). if b then (if is.recurrence.period == 1 then Still else Oscillator) else Ship) e in
+        let still : kind_of is.recurrence ≡ (if is.recurrence.period == 1 then Still else Oscillator) =
+        ap (λ (b : Bool). if b then (if is.recurrence.period == 1 then Still else Oscillator) else Ship) e in
         ap (after rule cells) (told (is.recurrence.period == 1) refl still) ∙ is.recurs.back ∙ (λ i. shifted (dx i) (dy i) cells) ∙ shifted-none cells
 
 -- a code that stands among the codes stands among the objects
@@ -127,16 +132,22 @@ count_by-cons : (p : List ℕ → Bool) (y : List ℕ) (ys : List (List ℕ)) �
 count_by-cons p y ys = sum_by-append (λ x. cond (p x) 1 0) (y ∷ []) ys
 
 -- each cluster has one of the codes
-each_listed : (rule : Numbers) (limit : ℕ) (clusters : List (List Cell)) (codes : List (List ℕ)) → AllZip (λ cluster code. IsCode rule cluster limit code) clusters codes
+each_listed : (rule : Numbers) (limit : ℕ) (clusters : List (List Cell)) (codes : List (List ℕ))
+    → AllZip (λ cluster code. IsCode rule cluster limit code) clusters codes
     → (Q : List ℕ → Type 0) → ((code : List ℕ) → 1 ≤ count_by (is_code code) codes → Q code)
     → All (λ cluster. (code : List ℕ) × IsCode rule cluster limit code × Q code) clusters
 each_listed rule limit [] codes all Q h k d low = absurd (omega arith)
 each_listed rule limit (x ∷ xs) [] all Q h k d low = absurd all
 each_listed rule limit (x ∷ xs) (y ∷ ys) all Q h zero d low =
-    let itself : is_code y y ≡ true = ap is_eq (tied_itself nat_list_cmp_total y) in
-    (y, all.0, h y (subst (λ (n : ℕ). 1 ≤ n) (sym (count_by-cons (is_code y) y ys ∙ ap (λ (b : Bool). (0 + cond b 1 0) + count_by (is_code y) ys) itself)) (omega arith)))
+    let itself : is_code y y ≡ true = ap is_eq (tied_itself nat_list_cmp_total y) in (
+      y,
+      all.0,
+      h y (subst (λ (n : ℕ). 1 ≤ n) (sym (count_by-cons (is_code y) y ys
+          ∙ ap (λ (b : Bool). (0 + cond b 1 0) + count_by (is_code y) ys) itself)) (omega arith)),
+    )
 each_listed rule limit (x ∷ xs) (y ∷ ys) all Q h (suc k) d low =
-    each_listed rule limit xs ys all.1 Q (λ code some. h code (subst (λ (n : ℕ). 1 ≤ n) (sym (count_by-cons (is_code code) y ys)) (more (is_code code y) (count_by (is_code code) ys) some))) k d (omega arith)
+    each_listed rule limit xs ys all.1 Q (λ code some. h code
+    (subst (λ (n : ℕ). 1 ≤ n) (sym (count_by-cons (is_code code) y ys)) (more (is_code code y) (count_by (is_code code) ys) some))) k d (omega arith)
   where
     more : (b : Bool) (n : ℕ) → 1 ≤ n → 1 ≤ (0 + cond b 1 0) + n
     more true n some = omega arith
@@ -157,8 +168,10 @@ at_rest_for_good rule profile cells clusters objects order low rest counted good
   apart = λ g.
       let inside : g % L ≤ profile.horizon = omega (arith, good.within, good.common.some) in
       subst (λ (parts : List (List Cell)). Partition (after rule cells g) parts)
-      (map_same (λ part. after rule part (g % L)) (λ part. after rule part g) clusters (λ k d there. sym (after_rest rule (get_or clusters k d) L g (each k d there))))
-      (subst (λ (whole : List Cell). Partition whole (map (λ part. after rule part (g % L)) clusters)) (sym (after_rest rule cells L g whole)) (rest.apart (g % L) inside));
+      (map_same (λ part. after rule part (g % L)) (λ part. after rule part g) clusters
+      (λ k d there. sym (after_rest rule (get_or clusters k d) L g (each k d there))))
+      (subst (λ (whole : List Cell). Partition whole (map (λ part. after rule part (g % L)) clusters)) (sym (after_rest rule cells L g whole))
+      (rest.apart (g % L) inside));
   back = λ g. ap (after rule cells) (add_comm g L) ∙ sym (after-then rule cells L g) ∙ ap (λ (state : List Cell). after rule state g) whole;
 }
   where
@@ -167,11 +180,14 @@ at_rest_for_good rule profile cells clusters objects order low rest counted good
 
     each : All (λ part. after rule part good.multiple ≡ part) clusters
     each k d there =
-        let found = each_listed rule profile.period clusters counted.codes counted.named (λ code. (kind_in code ≢ Ship) × IsMultiple good.multiple (period_in code))
-        (λ code some. listed_code objects code (subst (λ (n : ℕ). 1 ≤ n) (sym (counted.counts code)) some) (λ code. (kind_in code ≢ Ship) × IsMultiple good.multiple (period_in code))
+        let found = each_listed rule profile.period clusters counted.codes counted.named
+        (λ code. (kind_in code ≢ Ship) × IsMultiple good.multiple (period_in code))
+        (λ code some. listed_code objects code (subst (λ (n : ℕ). 1 ≤ n) (sym (counted.counts code)) some)
+        (λ code. (kind_in code ≢ Ship) × IsMultiple good.multiple (period_in code))
         (λ k d low. (good.none k d low, good.common.each k d low))) k d there in
         let part : List Cell = get_or clusters k d in
-        let back : after rule (get_or clusters k d) (period_in found.0) ≡ get_or clusters k d = in_its_place rule (get_or clusters k d) profile.period found.0 low found.1 found.2.0 in
+        let back : after rule (get_or clusters k d) (period_in found.0) ≡ get_or clusters k d =
+        in_its_place rule (get_or clusters k d) profile.period found.0 low found.1 found.2.0 in
         ap (after rule (get_or clusters k d)) found.2.1.1 ∙ after_periods rule (get_or clusters k d) (period_in found.0) found.2.1.0 back
 
     -- after the common multiple the clusters are what they were, and so is the whole
@@ -179,6 +195,7 @@ at_rest_for_good rule profile cells clusters objects order low rest counted good
     whole =
         let later : Partition (after rule cells good.multiple) (map (λ part. after rule part good.multiple) clusters) = rest.apart good.multiple good.within in
         let now : Partition cells clusters = partition_law cells clusters rest.parts in
-        let same : map (λ part. after rule part good.multiple) clusters ≡ clusters = map_same (λ part. after rule part good.multiple) (λ part. part) clusters each ∙ map_itself clusters in
+        let same : map (λ part. after rule part good.multiple) clusters ≡ clusters =
+        map_same (λ part. after rule part good.multiple) (λ part. part) clusters each ∙ map_itself clusters in
         same_lists (after rule cells good.multiple) cells (in_order-after rule cells good.multiple order) order
         (λ c. sym (later.union c) ∙ ap (λ (parts : List (List Cell)). list_any (λ part. has part c) parts) same ∙ now.union c)

@@ -1,5 +1,7 @@
 -- Counting objects by their codes, and multiples of their periods.
-use Rattle.std.proofs.Common.{◌≡◌, ◌∙◌, ap, sym, refl, subst, ℕ, ◌+◌, ◌*◌, ◌/◌, ◌%◌, ◌<◌, ◌≤◌, ◌↔◌, add-zero, zero-add, mul_comm, nat_eq, Bool, true, false, IsTrue, cond, List, [], ◌∷◌, ◌++◌, take, get_or, count_by, length, Option, Some, IfSome, unwrap_or, arith, if◌then◌else◌}
+use Rattle.std.proofs.Common.{◌≡◌, ◌∙◌, ap, sym, refl, subst, ℕ, ◌+◌, ◌*◌, ◌/◌, ◌%◌, ◌<◌, ◌≤◌, ◌↔◌, add-zero, zero-add, mul_comm, nat_eq, Bool, true}
+use Rattle.std.proofs.Common.{false, IsTrue, cond, List, [], ◌∷◌, ◌++◌, take, get_or, count_by, length, Option, Some, IfSome, unwrap_or, arith}
+use Rattle.std.proofs.Common.{if◌then◌else◌}
 use Rattle.std.specs.BTreeMap.{BTreeMap, IsOrdered}
 use Rattle.std.specs.Cmp.Lexicographic.{nat_list_cmp_total, slice_cmp}
 use Rattle.std.specs.FinMap.{nat_cmp-IsAntisymmetric, slice_cmp-IsAntisymmetric}
@@ -54,8 +56,10 @@ counted_more old new k before updates is q = go (slice_cmp nat_cmp k q) refl
     go : (o : Ordering) → slice_cmp nat_cmp k q ≡ o → count_of new q ≡ count_of old q + (if is_code q k then 1 else 0)
     go Equal e =
         let hit : is_code k q ≡ true = ap is_eq e in
-        let told : count_of new q ≡ before + 1 = ap (λ (o : Option ℕ). unwrap_or o 0) (updates q ∙ ap (λ (b : Bool). cond b (Some (before + 1)) (lookup (is_code q) old)) hit) in
-        told ∙ ap (λ (n : ℕ). n + 1) (is ∙ ap (count_of old) (same_code k q e)) ∙ ap (λ (b : Bool). count_of old q + (if b then 1 else 0)) (sym (is_code-sym q k ∙ hit))
+        let told : count_of new q ≡ before + 1 = ap (λ (o : Option ℕ). unwrap_or o 0) (updates q
+        ∙ ap (λ (b : Bool). cond b (Some (before + 1)) (lookup (is_code q) old)) hit) in
+        told ∙ ap (λ (n : ℕ). n + 1) (is ∙ ap (count_of old) (same_code k q e))
+        ∙ ap (λ (b : Bool). count_of old q + (if b then 1 else 0)) (sym (is_code-sym q k ∙ hit))
     go Less e = miss (ap is_eq e)
     go Greater e = miss (ap is_eq e)
 
@@ -92,7 +96,8 @@ pub codes_more : (rule : Numbers) (limit : ℕ) (clusters : List (List Cell)) (i
     → AllZip (λ cluster code. IsCode rule cluster limit code) (take i clusters) codes → IsCode rule cluster limit code
     → AllZip (λ cluster code. IsCode rule cluster limit code) (take (i + 1) clusters) (codes ++ code ∷ [])
 codes_more rule limit clusters i cluster codes code low at all is =
-    subst (λ (front : List (List Cell)). AllZip (λ cluster code. IsCode rule cluster limit code) front (codes ++ code ∷ [])) (sym (take_more clusters i cluster low))
+    subst (λ (front : List (List Cell)). AllZip (λ cluster code. IsCode rule cluster limit code) front (codes ++ code ∷ []))
+    (sym (take_more clusters i cluster low))
     (zip_more rule limit (take i clusters) codes (get_or clusters i cluster) code all (subst (λ (x : List Cell). IsCode rule x limit code) at is))
 
 pub length_more : (codes : List (List ℕ)) (code : List ℕ) (n : ℕ) → length codes ≡ n → length (codes ++ code ∷ []) ≡ n + 1

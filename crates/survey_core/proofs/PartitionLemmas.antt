@@ -1,5 +1,6 @@
 -- Parts that share no cell and make up the whole, as lists: joined, they have each cell of the whole, and no cell twice.
-use Rattle.std.proofs.Common.{◌≡◌, ◌∙◌, ap, sym, refl, subst, inl, inr, zero, suc, ◌+◌, ◌≤◌, Bool, true, false, ◌||◌, ◌&&◌, List, [], ◌∷◌, ◌++◌, All, AllPairs, flat_map, arith, length}
+use Rattle.std.proofs.Common.{◌≡◌, ◌∙◌, ap, sym, refl, subst, inl, inr, zero, suc, ◌+◌, ◌≤◌, Bool, true, false, ◌||◌, ◌&&◌, List, [], ◌∷◌, ◌++◌, All}
+use Rattle.std.proofs.Common.{AllPairs, flat_map, arith, length}
 use Rattle.std.specs.Bool.{Decides}
 use Rattle.std.specs.List.{list_any}
 use Rattle.std.specs.Ordering.{int_eq, is_eq, match_ordering}
@@ -12,7 +13,8 @@ use Rattle.std.proofs.lemmas.List.Kept.{AllPairs-cons}
 use Rattle.plane_core.specs.declared.cell.Cell.{Cell}
 use Rattle.plane_core.specs.Cells.{InOrder, cell_cmp, has, put, same_cell, set_of}
 use Rattle.plane_core.specs.Clusters.{Partition}
-use Rattle.plane_core.proofs.SetLemmas.{before-trans, has-append, has-before, has-cases, has-head, has-set_of, in_order-head, in_order-set_of, in_order-tail, is_set_of}
+use Rattle.plane_core.proofs.SetLemmas.{before-trans, has-append, has-before, has-cases, has-head, has-set_of, in_order-head, in_order-set_of}
+use Rattle.plane_core.proofs.SetLemmas.{in_order-tail, is_set_of}
 
 -- two cells are equal where their coordinates are
 pub cell_decides : (a b : Cell) → Decides (int_eq a.y b.y && int_eq a.x b.x) (a ≡ b)
@@ -47,7 +49,8 @@ length-put : (c : Cell) (cells : List Cell) → has cells c ≡ false → length
 length-put c [] new = refl
 length-put c (d ∷ ds) new = go (cell_cmp c d) refl (length-put c ds)
   where
-    go : (o : Ordering) → cell_cmp c d ≡ o → (has ds c ≡ false → length (put c ds) ≡ suc (length ds)) → length (match_ordering o (c ∷ d ∷ ds) (d ∷ ds) (d ∷ put c ds)) ≡ suc (suc (length ds))
+    go : (o : Ordering) → cell_cmp c d ≡ o → (has ds c ≡ false → length (put c ds) ≡ suc (length ds))
+        → length (match_ordering o (c ∷ d ∷ ds) (d ∷ ds) (d ∷ put c ds)) ≡ suc (suc (length ds))
     go Less is more = refl
     go Equal is more = absurd (false≢true (sym new ∙ ap (λ (o : Ordering). is_eq o || has ds c) is))
     go Greater is more = ap suc (more (neither (is_eq (cell_cmp c d)) (has ds c) new).1)
@@ -56,7 +59,8 @@ length-put_again : (c : Cell) (cells : List Cell) → InOrder cells → has cell
 length-put_again c [] order there = absurd (false≢true there)
 length-put_again c (d ∷ ds) order there = go (cell_cmp c d) refl (length-put_again c ds (in_order-tail d ds order))
   where
-    go : (o : Ordering) → cell_cmp c d ≡ o → (has ds c ≡ true → length (put c ds) ≡ length ds) → length (match_ordering o (c ∷ d ∷ ds) (d ∷ ds) (d ∷ put c ds)) ≡ suc (length ds)
+    go : (o : Ordering) → cell_cmp c d ≡ o → (has ds c ≡ true → length (put c ds) ≡ length ds)
+        → length (match_ordering o (c ∷ d ∷ ds) (d ∷ ds) (d ∷ put c ds)) ≡ suc (length ds)
     go Less is more = absurd (false≢true (sym (has-before c (d ∷ ds) (is, before-trans c d ds is (in_order-head d ds order))) ∙ there))
     go Equal is more = refl
     go Greater is more = ap suc (more (sym (ap (λ (o : Ordering). is_eq o || has ds c) is) ∙ there))
@@ -83,7 +87,8 @@ front_adds (c ∷ cs) rest order apart =
     let new : has (set_of (cs ++ rest)) c ≡ false = has-set_of (cs ++ rest) c ∙ has-append cs rest c
     ∙ (λ i. has-before c cs (in_order-head c cs order) i || apart c (has-head c cs) i) in
     let more : length (put c (set_of (cs ++ rest))) ≡ suc (length (set_of (cs ++ rest))) = length-put c (set_of (cs ++ rest)) new in
-    let later : length (set_of (cs ++ rest)) ≡ length cs + length (set_of rest) = front_adds cs rest (in_order-tail c cs order) (λ d h. apart d (or_right (same_cell d c) (has cs d) h)) in
+    let later : length (set_of (cs ++ rest)) ≡ length cs + length (set_of rest) =
+    front_adds cs rest (in_order-tail c cs order) (λ d h. apart d (or_right (same_cell d c) (has cs d) h)) in
     omega arith
   where
     or_right : (a b : Bool) → b ≡ true → (a || b) ≡ true
@@ -101,8 +106,10 @@ length-joined : (parts : List (List Cell)) → All InOrder parts → AllPairs Di
 length-joined [] orders apart = refl
 length-joined (part ∷ parts) orders apart =
     let head : Disjoint part (joined parts) = apart_from_all part parts (λ k d low. apart 0 (suc k) d (omega arith) (omega arith)) in
-    let front : length (set_of (part ++ joined parts)) ≡ length part + length (set_of (joined parts)) = front_adds part (joined parts) (orders 0 [] (omega arith)) head in
-    let rest : length (set_of (joined parts)) ≡ length (joined parts) = length-joined parts (λ k d low. orders (suc k) d (omega arith)) (λ i j d lt low. apart (suc i) (suc j) d (omega arith) (omega arith)) in
+    let front : length (set_of (part ++ joined parts)) ≡ length part + length (set_of (joined parts)) =
+    front_adds part (joined parts) (orders 0 [] (omega arith)) head in
+    let rest : length (set_of (joined parts)) ≡ length (joined parts) =
+    length-joined parts (λ k d low. orders (suc k) d (omega arith)) (λ i j d lt low. apart (suc i) (suc j) d (omega arith) (omega arith)) in
     let all : length (part ++ joined parts) ≡ length part + length (joined parts) = length-append part (joined parts) in
     omega arith
 
@@ -113,14 +120,16 @@ front_apart : (front rest : List Cell) → length (set_of (front ++ rest)) ≡ l
 front_apart [] rest same = (λ c h. absurd (false≢true h), same)
 front_apart (c ∷ cs) rest same = elim (cases_Bool (has (set_of (cs ++ rest)) c)) [
   | inl there ↦
-      let e : length (put c (set_of (cs ++ rest))) ≡ length (set_of (cs ++ rest)) = length-put_again c (set_of (cs ++ rest)) (in_order-set_of (cs ++ rest)) there in
+      let e : length (put c (set_of (cs ++ rest))) ≡ length (set_of (cs ++ rest)) =
+      length-put_again c (set_of (cs ++ rest)) (in_order-set_of (cs ++ rest)) there in
       let low : length (set_of (cs ++ rest)) ≤ length (cs ++ rest) = length-set_of_le (cs ++ rest) in
       absurd (omega arith)
   | inr new ↦
       let e : length (put c (set_of (cs ++ rest))) ≡ suc (length (set_of (cs ++ rest))) = length-put c (set_of (cs ++ rest)) new in
       let later = front_apart cs rest (omega arith) in (
         λ d h. elim (has-cases c cs d h) [
-          | inl is ↦ subst (λ (x : Cell). has rest x ≡ false) (sym is) (neither (has cs c) (has rest c) (sym (has-append cs rest c) ∙ sym (has-set_of (cs ++ rest) c) ∙ new)).1
+          | inl is ↦ subst (λ (x : Cell). has rest x ≡ false) (sym is)
+              (neither (has cs c) (has rest c) (sym (has-append cs rest c) ∙ sym (has-set_of (cs ++ rest) c) ∙ new)).1
           | inr more ↦ later.0 d more
         ],
         later.1,
@@ -128,9 +137,11 @@ front_apart (c ∷ cs) rest same = elim (cases_Bool (has (set_of (cs ++ rest)) c
 ]
 
 apart_from_each : (part : List Cell) (parts : List (List Cell)) → Disjoint part (joined parts) → All (Disjoint part) parts
-apart_from_each part (other ∷ others) apart zero d low = λ c h. (neither (has other c) (has (joined others) c) (sym (has-append other (joined others) c) ∙ apart c h)).0
+apart_from_each part (other ∷ others) apart zero d low =
+    λ c h. (neither (has other c) (has (joined others) c) (sym (has-append other (joined others) c) ∙ apart c h)).0
 apart_from_each part (other ∷ others) apart (suc k) d low =
-    apart_from_each part others (λ c h. (neither (has other c) (has (joined others) c) (sym (has-append other (joined others) c) ∙ apart c h)).1) k d (omega arith)
+    apart_from_each part others (λ c h. (neither (has other c) (has (joined others) c) (sym (has-append other (joined others) c) ∙ apart c h)).1) k d
+    (omega arith)
 apart_from_each part [] apart k d low = absurd (omega arith)
 
 disjoint_parts : (parts : List (List Cell)) → length (set_of (joined parts)) ≡ length (joined parts) → AllPairs Disjoint parts
@@ -145,11 +156,13 @@ disjoint_parts (part ∷ parts) same =
 pub set_of-joined : (whole : List Cell) (parts : List (List Cell)) → InOrder whole → Partition whole parts → set_of (joined parts) ≡ whole
 set_of-joined whole parts order is = sym (is_set_of whole (joined parts) order (λ c. sym (has-joined parts c ∙ is.union c)))
 
-pub length-partition : (whole : List Cell) (parts : List (List Cell)) → InOrder whole → All InOrder parts → Partition whole parts → length (joined parts) ≡ length whole
+pub length-partition : (whole : List Cell) (parts : List (List Cell)) → InOrder whole → All InOrder parts → Partition whole parts
+    → length (joined parts) ≡ length whole
 length-partition whole parts order orders is = sym (length-joined parts orders is.disjoint) ∙ ap length (set_of-joined whole parts order is)
 
 -- and where they are the whole and no longer than it, they are a partition
-pub partition_from : (whole : List Cell) (parts : List (List Cell)) → length (joined parts) ≡ length whole → set_of (joined parts) ≡ whole → Partition whole parts
+pub partition_from : (whole : List Cell) (parts : List (List Cell)) → length (joined parts) ≡ length whole → set_of (joined parts) ≡ whole
+    → Partition whole parts
 partition_from whole parts long same = record {
   disjoint = disjoint_parts parts (ap length same ∙ sym long);
   union = λ c. sym (has-joined parts c) ∙ sym (has-set_of (joined parts) c) ∙ ap (λ (cells : List Cell). has cells c) same;

@@ -1,5 +1,6 @@
 -- Cells that lie near the origin, and so on the plane.
-use Rattle.std.proofs.Common.{◌≡◌, ◌∙◌, ap, sym, refl, ℕ, suc, ◌+◌, ◌<◌, ◌≤◌, true, false, not, List, [], ◌∷◌, All, flat_map, position, get_or, length, Option, None, Some, arith, nat_le, pos, unsigned_abs}
+use Rattle.std.proofs.Common.{◌≡◌, ◌∙◌, ap, sym, refl, ℕ, suc, ◌+◌, ◌<◌, ◌≤◌, true, false, not, List, [], ◌∷◌, All, flat_map, position, get_or}
+use Rattle.std.proofs.Common.{length, Option, None, Some, arith, nat_le, pos, unsigned_abs}
 use Rattle.std.specs.List.{list_all}
 use Rattle.std.proofs.lemmas.Bool.{and_from, and_parts, false≢true, le-leb, leb-true}
 use Rattle.std.proofs.lemmas.List.Folds.{list_all-append}
@@ -25,15 +26,18 @@ within_more near far cells low within =
     has-list_all (is_within far) cells (λ c e. is_within-more near far c low (list_all-has (is_within near) cells within c e))
 
 -- and so do their later generations
-pub within_later : (near far : ℕ) (rule : Numbers) (cells : List Cell) (g : ℕ) → near + g ≤ far → lies_within near cells ≡ true → lies_within far (after rule cells g) ≡ true
+pub within_later : (near far : ℕ) (rule : Numbers) (cells : List Cell) (g : ℕ) → near + g ≤ far → lies_within near cells ≡ true
+    → lies_within far (after rule cells g) ≡ true
 within_later near far rule cells g low within = within_more (near + g) far (after rule cells g) low (within-after rule cells near g within)
 
 -- the cells of patterns that all do
-pub within_all : (reach : ℕ) (parts : List (List Cell)) → All (λ part. lies_within reach part ≡ true) parts → lies_within reach (flat_map (λ part. part) parts) ≡ true
+pub within_all : (reach : ℕ) (parts : List (List Cell)) → All (λ part. lies_within reach part ≡ true) parts
+    → lies_within reach (flat_map (λ part. part) parts) ≡ true
 within_all reach [] each = refl
 within_all reach (part ∷ parts) each =
     list_all-append (is_within reach) part (flat_map (λ p. p) parts)
-    ∙ and_from (list_all (is_within reach) part) (list_all (is_within reach) (flat_map (λ p. p) parts)) (each 0 [] (omega arith)) (within_all reach parts (λ k d low. each (suc k) d (omega arith)))
+    ∙ and_from (list_all (is_within reach) part) (list_all (is_within reach) (flat_map (λ p. p) parts)) (each 0 [] (omega arith))
+    (within_all reach parts (λ k d low. each (suc k) d (omega arith)))
 
 origin : Cell
 origin = record { y = pos 0; x = pos 0 }

@@ -1,5 +1,6 @@
 -- The test of rest, a generation and a cluster at a time.
-use Rattle.std.proofs.Common.{◌≡◌, ◌≢◌, ◌∙◌, ap, sym, refl, subst, ℕ, ◌+◌, ◌≤◌, ◌↔◌, true, IsTrue, List, [], ◌∷◌, All, map, Option, None, Some, is_some, IfSome, IfNone, arith, get_or, eq-or-lt_of_le, inl, inr}
+use Rattle.std.proofs.Common.{◌≡◌, ◌≢◌, ◌∙◌, ap, sym, refl, subst, ℕ, ◌+◌, ◌≤◌, ◌↔◌, true, IsTrue, List, [], ◌∷◌, All, map, Option, None, Some}
+use Rattle.std.proofs.Common.{is_some, IfSome, IfNone, arith, get_or, eq-or-lt_of_le, inl, inr}
 use Rattle.std.proofs.lemmas.Bool.{false≢true}
 use Rattle.std.proofs.lemmas.List.Elements.{All-map}
 use Rattle.plane_core.specs.declared.cell.Cell.{Cell}
@@ -19,7 +20,8 @@ use Rattle.survey_core.specs.Profiles.{Settling}
 use Rattle.survey_core.specs.Rest.{ComesBack, IsAtRest, KeepApart, RestsAs}
 
 -- a search for the recurrence tells whether the pattern comes back
-pub back_then : (rule : Numbers) (limit : ℕ) (cells : List Cell) (found : Option Recurrence) → IfSome found (Recurs rule cells limit) → IfNone found (IsNew rule cells limit)
+pub back_then : (rule : Numbers) (limit : ℕ) (cells : List Cell) (found : Option Recurrence) → IfSome found (Recurs rule cells limit)
+    → IfNone found (IsNew rule cells limit)
     → IsTrue (is_some found) ↔ ComesBack rule limit cells
 back_then rule limit cells None some none =
     (λ e. absurd (false≢true e), λ back. absurd (none back.0.period back.0.dx back.0.dy back.1.some back.1.within back.1.back))
@@ -47,28 +49,33 @@ apart_at_once rule cells clusters are =
 
 -- ---- the clusters beside the whole
 
-pub alone_later : (rule : Numbers) (clusters : List (List Cell)) (g : ℕ) → map (next rule) (map (λ part. after rule part g) clusters) ≡ map (λ part. after rule part (g + 1)) clusters
+pub alone_later : (rule : Numbers) (clusters : List (List Cell)) (g : ℕ)
+    → map (next rule) (map (λ part. after rule part g) clusters) ≡ map (λ part. after rule part (g + 1)) clusters
 alone_later rule [] g = refl
 alone_later rule (part ∷ parts) g = λ i. sym (after-more rule part g) i ∷ alone_later rule parts g i
 
 -- each cluster later lies in order
-pub alone_in_order : (rule : Numbers) (cells : List Cell) (clusters : List (List Cell)) (g : ℕ) → AreClusters cells clusters → All InOrder (map (λ part. after rule part g) clusters)
+pub alone_in_order : (rule : Numbers) (cells : List Cell) (clusters : List (List Cell)) (g : ℕ) → AreClusters cells clusters
+    → All InOrder (map (λ part. after rule part g) clusters)
 alone_in_order rule cells clusters g are =
     All-map InOrder (λ part. after rule part g) clusters (λ k d low. in_order-after rule (get_or clusters k d) g (are.each k d low).in_order)
 
 -- and near the origin
-pub alone_near : (rule : Numbers) (cells : List Cell) (clusters : List (List Cell)) (g : ℕ) → AreClusters cells clusters → lies_within 101000 cells ≡ true → g ≤ 4096
+pub alone_near : (rule : Numbers) (cells : List Cell) (clusters : List (List Cell)) (g : ℕ) → AreClusters cells clusters
+    → lies_within 101000 cells ≡ true → g ≤ 4096
     → All (λ part. lies_within 999999 part ≡ true) (map (λ part. after rule part g) clusters)
 alone_near rule cells clusters g are near low =
     All-map (λ part. lies_within 999999 part ≡ true) (λ part. after rule part g) clusters
-    (λ k d there. within_later 101000 999999 rule (get_or clusters k d) g (omega arith) (cluster_within 101000 cells (get_or clusters k d) near (are.each k d there)))
+    (λ k d there. within_later 101000 999999 rule (get_or clusters k d) g (omega arith)
+    (cluster_within 101000 cells (get_or clusters k d) near (are.each k d there)))
 
 -- one generation more in which they keep apart
 pub apart_more : (rule : Numbers) (cells : List Cell) (clusters : List (List Cell)) (g : ℕ) (whole : List Cell) (alone : List (List Cell))
     → whole ≡ after rule cells (g + 1) → alone ≡ map (λ part. after rule part (g + 1)) clusters
     → ((k : ℕ) → k ≤ g → KeepApart rule cells clusters k) → Partition whole alone → (k : ℕ) → k ≤ g + 1 → KeepApart rule cells clusters k
 apart_more rule cells clusters g whole alone is_whole is_alone before now k low = elim (eq-or-lt_of_le low) [
-  | inl e ↦ subst (λ (h : ℕ). KeepApart rule cells clusters h) (sym e) (subst (λ (parts : List (List Cell)). Partition (after rule cells (g + 1)) parts) is_alone (subst (λ (w : List Cell). Partition w alone) is_whole now))
+  | inl e ↦ subst (λ (h : ℕ). KeepApart rule cells clusters h) (sym e)
+      (subst (λ (parts : List (List Cell)). Partition (after rule cells (g + 1)) parts) is_alone (subst (λ (w : List Cell). Partition w alone) is_whole now))
   | inr less ↦ before k (omega arith)
 ]
 
@@ -76,9 +83,11 @@ apart_more rule cells clusters g whole alone is_whole is_alone before now k low 
 pub apart_now : (rule : Numbers) (cells : List Cell) (clusters : List (List Cell)) (g : ℕ) (whole : List Cell) (alone : List (List Cell))
     → whole ≡ after rule cells g → alone ≡ map (λ part. after rule part g) clusters → KeepApart rule cells clusters g → Partition whole alone
 apart_now rule cells clusters g whole alone is_whole is_alone apart =
-    subst (λ (parts : List (List Cell)). Partition whole parts) (sym is_alone) (subst (λ (w : List Cell). Partition w (map (λ part. after rule part g) clusters)) (sym is_whole) apart)
+    subst (λ (parts : List (List Cell)). Partition whole parts) (sym is_alone)
+    (subst (λ (w : List Cell). Partition w (map (λ part. after rule part g) clusters)) (sym is_whole) apart)
 
 -- where all clusters come back and keep apart, the pattern is at rest; its clusters are the only ones that may say so
-pub same_clusters : (rule : Numbers) (profile : Settling) (cells : List Cell) (clusters : List (List Cell)) → AreClusters cells clusters → IsAtRest rule profile cells → RestsAs rule profile cells clusters
+pub same_clusters : (rule : Numbers) (profile : Settling) (cells : List Cell) (clusters : List (List Cell)) → AreClusters cells clusters
+    → IsAtRest rule profile cells → RestsAs rule profile cells clusters
 same_clusters rule profile cells clusters are (others, rest) =
     subst (λ (c : List (List Cell)). RestsAs rule profile cells c) (determined_law cells others clusters rest.parts are) rest

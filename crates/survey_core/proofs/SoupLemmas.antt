@@ -1,5 +1,6 @@
 -- The live cells of the square, one place after another, and that they lie near the origin.
-use Rattle.std.proofs.Common.{◌≡◌, ◌∙◌, ap, sym, refl, ℕ, zero, suc, ◌+◌, ◌<◌, ◌≤◌, ◌/◌, ◌%◌, Bool, true, false, List, [], ◌∷◌, ◌++◌, position, filter, map, None, arith, cond, add-zero, add-one, zero-add, nat_le}
+use Rattle.std.proofs.Common.{◌≡◌, ◌∙◌, ap, sym, refl, ℕ, zero, suc, ◌+◌, ◌<◌, ◌≤◌, ◌/◌, ◌%◌, Bool, true, false, List, [], ◌∷◌, ◌++◌, position}
+use Rattle.std.proofs.Common.{filter, map, None, arith, cond, add-zero, add-one, zero-add, nat_le}
 use Rattle.std.specs.List.{list_all, range_with_len}
 use Rattle.std.proofs.lemmas.Bool.{and_from, le-leb}
 use Rattle.std.proofs.lemmas.List.{append-nil, map-append}
@@ -45,7 +46,8 @@ all_near p a (suc n) low = go (p a) (all_near p (a + 1) n (omega arith))
   where
     go : (b : Bool) → list_all (is_within 15) (map square_cell (filter p (range_with_len (a + 1) n))) ≡ true
         → list_all (is_within 15) (map square_cell (cond {A = List ℕ} b (a ∷ filter p (range_with_len (a + 1) n)) (filter p (range_with_len (a + 1) n)))) ≡ true
-    go true rest = and_from (is_within 15 (square_cell a)) (list_all (is_within 15) (map square_cell (filter p (range_with_len (a + 1) n)))) (near_origin a (omega arith)) rest
+    go true rest = and_from (is_within 15 (square_cell a)) (list_all (is_within 15) (map square_cell (filter p (range_with_len (a + 1) n))))
+        (near_origin a (omega arith)) rest
     go false rest = rest
 
 cells_near : (digest : List ℕ) → list_all (is_within 15) (live_cells digest 256) ≡ true

@@ -13,7 +13,8 @@ of_clusters-requires-clause-some c =
 pub of_clusters-requires-clause-near : goal.of_clusters-requires-clause-near
 of_clusters-requires-clause-near c =
     let rest : RestsAs c.args.rule.now c.args.profile.now c.args.latest.now c.in-Some.clusters.items = rw c.in-Some.is at c.in_ok-clusters.ensures.rest in
-    subst (All (λ (part : List Cell). lies_within 101000 part ≡ true)) (sym c.as_slice.ensures.value) (λ k d low. cluster_within 101000 c.args.latest.now _ c.requires (rest.parts.each k d low))
+    subst (All (λ (part : List Cell). lies_within 101000 part ≡ true)) (sym c.as_slice.ensures.value)
+    (λ k d low. cluster_within 101000 c.args.latest.now _ c.requires (rest.parts.each k d low))
 
 pub of_clusters-requires-clause-back : goal.of_clusters-requires-clause-back
 of_clusters-requires-clause-back c =

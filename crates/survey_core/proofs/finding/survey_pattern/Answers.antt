@@ -17,36 +17,49 @@ loop-place-init c = record {
 
 pub finding_at-requires : goal.finding_at-requires
 finding_at-requires c =
-    let low : c.loop-place.place ≤ c.args.profile.now.limit / c.args.profile.now.stride = subst (λ (n : ℕ). c.loop-place.place ≤ n) (λ i. c.limit.ensures.limit i / c.stride.ensures.stride i) (omega arith) in
-    let check : IsCheckpoint c.args.profile.now (c.loop-place.place * c.args.profile.now.stride) = is_checkpoint c.args.profile.now c.loop-place.place c.stride.ensures.profile.onward low in
+    let low : c.loop-place.place ≤ c.args.profile.now.limit / c.args.profile.now.stride =
+    subst (λ (n : ℕ). c.loop-place.place ≤ n) (λ i. c.limit.ensures.limit i / c.stride.ensures.stride i) (omega arith) in
+    let check : IsCheckpoint c.args.profile.now (c.loop-place.place * c.args.profile.now.stride) =
+    is_checkpoint c.args.profile.now c.loop-place.place c.stride.ensures.profile.onward low in
     let within : c.loop-place.place * c.args.profile.now.stride ≤ c.args.profile.now.limit = check.within in
     let most : c.args.profile.now.limit ≤ 100000 = c.stride.ensures.profile.limit in
-    ap (lies_within 101000) c.loop-place.invariant.latest ∙ within_later 1000 101000 c.args.rule.now c.args.pattern (c.loop-place.place * c.args.profile.now.stride) (omega arith) c.requires
+    ap (lies_within 101000) c.loop-place.invariant.latest
+    ∙ within_later 1000 101000 c.args.rule.now c.args.pattern (c.loop-place.place * c.args.profile.now.stride) (omega arith) c.requires
 
 pub finding_at-requires-2 : goal.finding_at-requires-2
 finding_at-requires-2 c =
-    let low : c.loop-place.place ≤ c.args.profile.now.limit / c.args.profile.now.stride = subst (λ (n : ℕ). c.loop-place.place ≤ n) (λ i. c.limit.ensures.limit i / c.stride.ensures.stride i) (omega arith) in
-    let check : IsCheckpoint c.args.profile.now (c.loop-place.place * c.args.profile.now.stride) = is_checkpoint c.args.profile.now c.loop-place.place c.stride.ensures.profile.onward low in
+    let low : c.loop-place.place ≤ c.args.profile.now.limit / c.args.profile.now.stride =
+    subst (λ (n : ℕ). c.loop-place.place ≤ n) (λ i. c.limit.ensures.limit i / c.stride.ensures.stride i) (omega arith) in
+    let check : IsCheckpoint c.args.profile.now (c.loop-place.place * c.args.profile.now.stride) =
+    is_checkpoint c.args.profile.now c.loop-place.place c.stride.ensures.profile.onward low in
     let within : c.loop-place.place * c.args.profile.now.stride ≤ c.args.profile.now.limit = check.within in
     let most : c.args.profile.now.limit ≤ 100000 = c.stride.ensures.profile.limit in
-    ap (lies_within 101000) c.loop-place.invariant.latest ∙ within_later 1000 101000 c.args.rule.now c.args.pattern (c.loop-place.place * c.args.profile.now.stride) (omega arith) c.requires
+    ap (lies_within 101000) c.loop-place.invariant.latest
+    ∙ within_later 1000 101000 c.args.rule.now c.args.pattern (c.loop-place.place * c.args.profile.now.stride) (omega arith) c.requires
 
 pub run_on-requires-clause-near : goal.run_on-requires-clause-near
 run_on-requires-clause-near c =
-    let low : c.loop-place.place ≤ c.args.profile.now.limit / c.args.profile.now.stride = subst (λ (n : ℕ). c.loop-place.place ≤ n) (λ i. c.limit.ensures.limit i / c.stride.ensures.stride i) (omega arith) in
-    let check : IsCheckpoint c.args.profile.now (c.loop-place.place * c.args.profile.now.stride) = is_checkpoint c.args.profile.now c.loop-place.place c.stride.ensures.profile.onward low in
+    let low : c.loop-place.place ≤ c.args.profile.now.limit / c.args.profile.now.stride =
+    subst (λ (n : ℕ). c.loop-place.place ≤ n) (λ i. c.limit.ensures.limit i / c.stride.ensures.stride i) (omega arith) in
+    let check : IsCheckpoint c.args.profile.now (c.loop-place.place * c.args.profile.now.stride) =
+    is_checkpoint c.args.profile.now c.loop-place.place c.stride.ensures.profile.onward low in
     let within : c.loop-place.place * c.args.profile.now.stride ≤ c.args.profile.now.limit = check.within in
     let most : c.args.profile.now.limit ≤ 100000 = c.stride.ensures.profile.limit in
-    ap (lies_within 101000) c.loop-place.invariant.latest ∙ within_later 1000 101000 c.args.rule.now c.args.pattern (c.loop-place.place * c.args.profile.now.stride) (omega arith) c.requires
+    ap (lies_within 101000) c.loop-place.invariant.latest
+    ∙ within_later 1000 101000 c.args.rule.now c.args.pattern (c.loop-place.place * c.args.profile.now.stride) (omega arith) c.requires
 
 -- at rest for the first time
 pub returns-in-Some : goal.returns-in-Some
 returns-in-Some c =
-    let low : c.loop-place.place ≤ c.args.profile.now.limit / c.args.profile.now.stride = subst (λ (n : ℕ). c.loop-place.place ≤ n) (λ i. c.limit.ensures.limit i / c.stride.ensures.stride i) (omega arith) in
-    let told : SettlesAt c.args.rule.now c.args.profile.now c.loop-place.latest (c.loop-place.place * c.stride-in-loop-place.result) c.in-Some.finding = rw c.in-Some.is at c.in_ok-finding.ensures.settled in
+    let low : c.loop-place.place ≤ c.args.profile.now.limit / c.args.profile.now.stride =
+    subst (λ (n : ℕ). c.loop-place.place ≤ n) (λ i. c.limit.ensures.limit i / c.stride.ensures.stride i) (omega arith) in
+    let told : SettlesAt c.args.rule.now c.args.profile.now c.loop-place.latest
+    (c.loop-place.place * c.stride-in-loop-place.result) c.in-Some.finding = rw c.in-Some.is at c.in_ok-finding.ensures.settled in
     let settled : SettlesAt c.args.rule.now c.args.profile.now c.loop-place.latest (c.loop-place.place * c.args.profile.now.stride) c.in-Some.finding =
-    subst (λ (k : ℕ). SettlesAt c.args.rule.now c.args.profile.now c.loop-place.latest (c.loop-place.place * k) c.in-Some.finding) c.stride-in-loop-place.ensures.stride told in
-    finding_from c.args.rule.now c.args.profile.now c.args.pattern c.loop-place.latest (c.loop-place.place * c.args.profile.now.stride) c.in-Some.finding settled c.loop-place.invariant.latest
+    subst (λ (k : ℕ). SettlesAt c.args.rule.now c.args.profile.now c.loop-place.latest (c.loop-place.place * k) c.in-Some.finding)
+    c.stride-in-loop-place.ensures.stride told in
+    finding_from c.args.rule.now c.args.profile.now c.args.pattern c.loop-place.latest
+    (c.loop-place.place * c.args.profile.now.stride) c.in-Some.finding settled c.loop-place.invariant.latest
     (is_checkpoint c.args.profile.now c.loop-place.place c.stride.ensures.profile.onward low) c.loop-place.invariant.before
 
 -- not yet
@@ -54,12 +67,14 @@ pub loop-place-preserved : goal.loop-place-preserved
 loop-place-preserved c =
     let some : 1 ≤ c.args.profile.now.stride = c.stride.ensures.profile.onward in
     let moves : ¬ IsAtRest c.args.rule.now c.args.profile.now c.loop-place.latest = rw c.in-None.is at c.in_ok-finding.ensures.moves in
-    let next_place : (c.loop-place.place + 1) * c.args.profile.now.stride ≡ c.loop-place.place * c.args.profile.now.stride + c.args.profile.now.stride = one_more c.loop-place.place c.args.profile.now.stride in
+    let next_place : (c.loop-place.place + 1) * c.args.profile.now.stride ≡ c.loop-place.place * c.args.profile.now.stride +
+    c.args.profile.now.stride = one_more c.loop-place.place c.args.profile.now.stride in
     record {
       latest = c.in_ok-latest-in-None.ensures ∙ (λ i. after c.args.rule.now (c.loop-place.invariant.latest i) (c.stride-in-None.ensures.stride i))
           ∙ after-then c.args.rule.now c.args.pattern (c.loop-place.place * c.args.profile.now.stride) c.args.profile.now.stride
           ∙ ap (after c.args.rule.now c.args.pattern) (sym next_place);
-      before = no_rest_more c.args.rule.now c.args.profile.now c.args.pattern c.loop-place.latest c.loop-place.place some c.loop-place.invariant.latest c.loop-place.invariant.before moves
+      before = no_rest_more c.args.rule.now c.args.profile.now c.args.pattern c.loop-place.latest c.loop-place.place some
+          c.loop-place.invariant.latest c.loop-place.invariant.before moves
           ((c.loop-place.place + 1) * c.args.profile.now.stride) next_place;
     }
 
@@ -72,5 +87,6 @@ returns c =
     let check : c.limit.result / c.stride.result * c.stride-2.result ≡ c.loop-place.place * c.args.profile.now.stride = λ i. at i * same i in
     subst (IsFinding c.args.rule.now c.args.profile.now c.args.pattern) (sym c.unwrap_or.ensures)
     (finding_last c.args.rule.now c.args.profile.now c.args.pattern c.loop-place.latest c.loop-place.place c.in_ok-finding-2.finding
-    (subst (λ (t : ℕ). IfSome c.in_ok-finding-2.finding (SettlesAt c.args.rule.now c.args.profile.now c.loop-place.latest t)) check c.in_ok-finding-2.ensures.settled)
+    (subst (λ (t : ℕ). IfSome c.in_ok-finding-2.finding (SettlesAt c.args.rule.now c.args.profile.now c.loop-place.latest t)) check
+    c.in_ok-finding-2.ensures.settled)
     c.in_ok-finding-2.ensures.moves c.loop-place.invariant.latest c.stride.ensures.profile.onward last c.loop-place.invariant.before)

@@ -11,7 +11,8 @@ returns-then-not-whole c =
     let P : List ℕ × ℕ → Type 0 = λ object. IsMultiple c.args.multiple (period_in object.0) in (
       λ e. absurd (false≢true e),
       λ m. absurd (false≢true (sym c.if-not-whole.true ∙ c.is_multiple-whole.ensures.1
-          (subst (IsMultiple c.args.multiple) (sym c.period.ensures) (subst P (sym c.object-item.is) (m.each c.loop-object.object-index c.object-item.result c.loop-object-test.true))))),
+          (subst (IsMultiple c.args.multiple) (sym c.period.ensures)
+          (subst P (sym c.object-item.is) (m.each c.loop-object.object-index c.object-item.result c.loop-object-test.true))))),
     )
 
 -- one more whose period does
@@ -24,6 +25,10 @@ loop-object-preserved c =
 pub returns : goal.returns
 returns c =
     let P : List ℕ × ℕ → Type 0 = λ object. IsMultiple c.args.multiple (period_in object.0) in (
-      λ e. record { some = c.requires; each = subst (All P) (take_all c.loop-object.object-index c.args.objects.now c.loop-object-test.false) c.loop-object.invariant },
+      λ e. record {
+        some = c.requires;
+        each = subst (All P)
+            (take_all c.loop-object.object-index c.args.objects.now c.loop-object-test.false) c.loop-object.invariant;
+      },
       λ m. refl,
     )

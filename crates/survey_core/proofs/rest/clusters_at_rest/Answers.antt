@@ -19,7 +19,8 @@ all_come_back-requires-clause-near c =
 -- a cluster doesn't come back
 pub returns-then-not-back-clause-moves : goal.returns-then-not-back-clause-moves
 returns-then-not-back-clause-moves c = λ rest.
-    let same : RestsAs c.args.rule.now c.args.profile.now c.args.pattern.now c.in_ok-clusters.clusters.items = same_clusters c.args.rule.now c.args.profile.now c.args.pattern.now c.in_ok-clusters.clusters.items c.in_ok-clusters.ensures.clusters rest in
+    let same : RestsAs c.args.rule.now c.args.profile.now c.args.pattern.now c.in_ok-clusters.clusters.items =
+    same_clusters c.args.rule.now c.args.profile.now c.args.pattern.now c.in_ok-clusters.clusters.items c.in_ok-clusters.ensures.clusters rest in
     false≢true (sym c.if-not-back.true ∙ c.in_ok-back.ensures.1
     (subst (λ (p : ℕ). All (ComesBack c.args.rule.now p) c.as_slice.result.now) (sym c.period.ensures.period)
     (subst (All (ComesBack c.args.rule.now c.args.profile.now.period)) (sym c.as_slice.ensures.value) same.back)))
@@ -27,10 +28,12 @@ returns-then-not-back-clause-moves c = λ rest.
 -- or they don't keep apart
 pub returns-then-not-apart-clause-moves : goal.returns-then-not-apart-clause-moves
 returns-then-not-apart-clause-moves c = λ rest.
-    let same : RestsAs c.args.rule.now c.args.profile.now c.args.pattern.now c.in_ok-clusters.clusters.items = same_clusters c.args.rule.now c.args.profile.now c.args.pattern.now c.in_ok-clusters.clusters.items c.in_ok-clusters.ensures.clusters rest in
+    let same : RestsAs c.args.rule.now c.args.profile.now c.args.pattern.now c.in_ok-clusters.clusters.items =
+    same_clusters c.args.rule.now c.args.profile.now c.args.pattern.now c.in_ok-clusters.clusters.items c.in_ok-clusters.ensures.clusters rest in
     false≢true (sym c.if-not-apart.true ∙ c.in_ok-apart.ensures.1
     (subst (λ (h : ℕ). (g : ℕ) → g ≤ h → KeepApart c.args.rule.now c.args.pattern.now c.as_slice-2.result.now g) (sym c.horizon.ensures.horizon)
-    (subst (λ (parts : List (List Cell)). (g : ℕ) → g ≤ c.args.profile.now.horizon → KeepApart c.args.rule.now c.args.pattern.now parts g) (sym c.as_slice-2.ensures.value) same.apart)))
+    (subst (λ (parts : List (List Cell)). (g : ℕ) → g ≤ c.args.profile.now.horizon
+    → KeepApart c.args.rule.now c.args.pattern.now parts g) (sym c.as_slice-2.ensures.value) same.apart)))
 
 pub returns-clause-rest : goal.returns-clause-rest
 returns-clause-rest c = record {
@@ -38,5 +41,6 @@ returns-clause-rest c = record {
   back = subst (λ (p : ℕ). All (ComesBack c.args.rule.now p) c.in_ok-clusters.clusters.items) c.period.ensures.period
       (subst (All (ComesBack c.args.rule.now c.period.result)) c.as_slice.ensures.value (c.in_ok-back.ensures.0 c.if-not-back.false));
   apart = subst (λ (h : ℕ). (g : ℕ) → g ≤ h → KeepApart c.args.rule.now c.args.pattern.now c.in_ok-clusters.clusters.items g) c.horizon.ensures.horizon
-      (subst (λ (parts : List (List Cell)). (g : ℕ) → g ≤ c.horizon.result → KeepApart c.args.rule.now c.args.pattern.now parts g) c.as_slice-2.ensures.value (c.in_ok-apart.ensures.0 c.if-not-apart.false));
+      (subst (λ (parts : List (List Cell)). (g : ℕ) → g ≤ c.horizon.result
+      → KeepApart c.args.rule.now c.args.pattern.now parts g) c.as_slice-2.ensures.value (c.in_ok-apart.ensures.0 c.if-not-apart.false));
 }

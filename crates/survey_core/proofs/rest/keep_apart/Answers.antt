@@ -12,7 +12,8 @@ pub loop-init : goal.loop-init
 loop-init c = record {
   whole = c.in_ok-whole.ensures ∙ sym (after-none c.args.rule.now c.args.pattern.now);
   alone = c.in_ok-alone.ensures ∙ sym (alone_at_once c.args.rule.now c.args.clusters.now);
-  apart = λ k low. subst (λ (h : ℕ). KeepApart c.args.rule.now c.args.pattern.now c.args.clusters.now h) (omega arith) (apart_at_once c.args.rule.now c.args.pattern.now c.args.clusters.now c.requires.clusters);
+  apart = λ k low. subst (λ (h : ℕ). KeepApart c.args.rule.now c.args.pattern.now c.args.clusters.now h) (omega arith)
+      (apart_at_once c.args.rule.now c.args.pattern.now c.args.clusters.now c.requires.clusters);
 }
 
 pub next-requires : goal.next-requires
@@ -31,7 +32,8 @@ next_of_each-requires c =
 pub make_up-requires-clause-in_order : goal.make_up-requires-clause-in_order
 make_up-requires-clause-in_order c =
     let alone : c.as_slice-in-loop.result.now ≡ map (λ part. after c.args.rule.now part (c.loop.counter + 1)) c.args.clusters.now =
-    c.as_slice-in-loop.ensures.value ∙ c.in_ok-alone-2.ensures ∙ ap (map (next c.args.rule.now)) (c.as_slice.ensures.value ∙ c.loop.invariant.alone) ∙ alone_later c.args.rule.now c.args.clusters.now c.loop.counter in
+    c.as_slice-in-loop.ensures.value ∙ c.in_ok-alone-2.ensures ∙ ap (map (next c.args.rule.now)) (c.as_slice.ensures.value ∙ c.loop.invariant.alone)
+    ∙ alone_later c.args.rule.now c.args.clusters.now c.loop.counter in
     subst (All InOrder) (sym alone) (alone_in_order c.args.rule.now c.args.pattern.now c.args.clusters.now (c.loop.counter + 1) c.requires.clusters)
 
 pub make_up-requires-clause-near : goal.make_up-requires-clause-near
@@ -39,7 +41,8 @@ make_up-requires-clause-near c =
     let low : c.loop.counter < c.args.horizon = c.loop-test.true in
     let most : c.args.horizon ≤ 4096 = c.requires.horizon in
     let alone : c.as_slice-in-loop.result.now ≡ map (λ part. after c.args.rule.now part (c.loop.counter + 1)) c.args.clusters.now =
-    c.as_slice-in-loop.ensures.value ∙ c.in_ok-alone-2.ensures ∙ ap (map (next c.args.rule.now)) (c.as_slice.ensures.value ∙ c.loop.invariant.alone) ∙ alone_later c.args.rule.now c.args.clusters.now c.loop.counter in
+    c.as_slice-in-loop.ensures.value ∙ c.in_ok-alone-2.ensures ∙ ap (map (next c.args.rule.now)) (c.as_slice.ensures.value ∙ c.loop.invariant.alone)
+    ∙ alone_later c.args.rule.now c.args.clusters.now c.loop.counter in
     subst (All (λ part. lies_within 999999 part ≡ true)) (sym alone)
     (alone_near c.args.rule.now c.args.pattern.now c.args.clusters.now (c.loop.counter + 1) c.requires.clusters c.requires.near (omega arith))
 
@@ -50,10 +53,12 @@ returns-then-not-same c =
     let whole : c.in_ok-whole-2.whole ≡ after c.args.rule.now c.args.pattern.now (c.loop.counter + 1) =
     c.in_ok-whole-2.ensures ∙ ap (next c.args.rule.now) c.loop.invariant.whole ∙ sym (after-more c.args.rule.now c.args.pattern.now c.loop.counter) in
     let alone : c.as_slice-in-loop.result.now ≡ map (λ part. after c.args.rule.now part (c.loop.counter + 1)) c.args.clusters.now =
-    c.as_slice-in-loop.ensures.value ∙ c.in_ok-alone-2.ensures ∙ ap (map (next c.args.rule.now)) (c.as_slice.ensures.value ∙ c.loop.invariant.alone) ∙ alone_later c.args.rule.now c.args.clusters.now c.loop.counter in (
+    c.as_slice-in-loop.ensures.value ∙ c.in_ok-alone-2.ensures ∙ ap (map (next c.args.rule.now)) (c.as_slice.ensures.value ∙ c.loop.invariant.alone)
+    ∙ alone_later c.args.rule.now c.args.clusters.now c.loop.counter in (
       λ e. absurd (false≢true e),
       λ apart. absurd (false≢true (sym c.if-not-same.true ∙ c.in_ok-same.ensures.1
-          (apart_now c.args.rule.now c.args.pattern.now c.args.clusters.now (c.loop.counter + 1) c.in_ok-whole-2.whole c.as_slice-in-loop.result.now whole alone (apart (c.loop.counter + 1) low)))),
+          (apart_now c.args.rule.now c.args.pattern.now c.args.clusters.now
+          (c.loop.counter + 1) c.in_ok-whole-2.whole c.as_slice-in-loop.result.now whole alone (apart (c.loop.counter + 1) low)))),
     )
 
 pub loop-preserved : goal.loop-preserved
@@ -61,7 +66,8 @@ loop-preserved c =
     let whole : c.in_ok-whole-2.whole ≡ after c.args.rule.now c.args.pattern.now (c.loop.counter + 1) =
     c.in_ok-whole-2.ensures ∙ ap (next c.args.rule.now) c.loop.invariant.whole ∙ sym (after-more c.args.rule.now c.args.pattern.now c.loop.counter) in
     let items : c.in_ok-alone-2.alone.items ≡ map (λ part. after c.args.rule.now part (c.loop.counter + 1)) c.args.clusters.now =
-    c.in_ok-alone-2.ensures ∙ ap (map (next c.args.rule.now)) (c.as_slice.ensures.value ∙ c.loop.invariant.alone) ∙ alone_later c.args.rule.now c.args.clusters.now c.loop.counter in
+    c.in_ok-alone-2.ensures ∙ ap (map (next c.args.rule.now)) (c.as_slice.ensures.value ∙ c.loop.invariant.alone)
+    ∙ alone_later c.args.rule.now c.args.clusters.now c.loop.counter in
     record {
       whole = whole;
       alone = items;

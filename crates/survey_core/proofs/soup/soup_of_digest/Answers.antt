@@ -17,6 +17,7 @@ pub unreachable-requires : goal.unreachable-requires
 unreachable-requires c =
     let cells : c.as_slice.result.now ≡ live_cells c.args.digest.now 256 = c.as_slice.ensures.value ∙ c.in_ok-cells.ensures in
     let none : position off_plane c.as_slice.result.now ≡ None = ap (position off_plane) cells ∙ soup_on_plane c.args.digest.now in
-    let past : RefusesCells c.as_slice.result.now (OutOfPlane c.in-Err-OutOfPlane.field-0-0) = rw c.in-Err-OutOfPlane.field-0-is at c.in-Err-OutOfPlane.ensures.refused in
+    let past : RefusesCells c.as_slice.result.now (OutOfPlane c.in-Err-OutOfPlane.field-0-0) =
+    rw c.in-Err-OutOfPlane.field-0-is at c.in-Err-OutOfPlane.ensures.refused in
     let there : position off_plane c.as_slice.result.now ≡ Some c.in-Err-OutOfPlane.field-0-0 = past in
     cc

@@ -9,7 +9,8 @@ pub invariant_of-result : goal.invariant_of-result
 invariant_of-result c =
     let bytes : List ℕ = c.as_bytes-bytes.result.now in
     let short : length bytes ≤ 64 = omega arith in
-    let front : take (length bytes) c.padded.result ≡ bytes = ap (take (length bytes)) c.padded.ensures ∙ take-append_seam bytes (replicate (most_bytes - length bytes) 0) in (
+    let front : take (length bytes) c.padded.result ≡ bytes = ap (take (length bytes)) c.padded.ensures
+    ∙ take-append_seam bytes (replicate (most_bytes - length bytes) 0) in (
       (λ i. front i ++ replicate (most_bytes - length (front i)) 0) ∙ sym c.padded.ensures,
       ap length front,
       subst IsSeed (sym front) (record { short = short; visible = all_visible bytes (sym c.first_invisible.ensures ∙ c.in-None.is) }),
