@@ -111,7 +111,12 @@ fn shows_usage(rt: HostRuntime) {
 
 /// Whether the text has the part.
 fn has_part(text: &[u8], part: &[u8]) -> bool {
-    text.windows(part.len()).any(|window| window == part)
+    for start in 0..text.len() {
+        if text[start..].starts_with(part) {
+            return true;
+        }
+    }
+    false
 }
 
 #[test]
