@@ -30,3 +30,4 @@ pub mod SetLemmas
 pub mod SpeedLemmas
 pub mod TallyLemmas
 pub mod TurnLemmas
+pub mod WordLemmas

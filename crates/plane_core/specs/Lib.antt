@@ -1,3 +1,4 @@
+pub mod Boards
 pub mod Bounds
 pub mod Cells
 pub mod Clusters
@@ -11,3 +12,4 @@ pub mod PlaintextWalk
 pub mod Refusals
 pub mod Rules
 pub mod Tallies
+pub mod Words

@@ -4,6 +4,7 @@
 //! for the finite set.
 #![tactic(auto)]
 
+mod blocks;
 /// The least box round a pattern.
 pub mod bounds;
 /// Cells of the plane, and their order.
@@ -29,5 +30,6 @@ pub mod rule;
 /// The shift from one pattern to another.
 pub mod shift_to;
 mod tally;
+mod word;
 #[cfg(test)]
 mod tests;

@@ -1,0 +1,74 @@
+-- A board: a rectangle of cells in words, all in one list. A strip is 64 columns wide, a word of it is a row, and 16 words are a
+-- block. The words of a strip stand one after another, and so do the strips. So the words above and below a word stand beside it
+-- in the list, and those to its left and right a strip's length away.
+use Rattle.std.specs.Prelude.{◌≡◌, ◌+◌, ◌-◌, ◌*◌, ◌/◌, ◌%◌, ◌<◌, ◌≤◌, ℕ, List, length, slice_index}
+use Rattle.std.specs.Int.{bit_at}
+use Rattle.plane_core.specs.declared.word.Row.{Row}
+use Rattle.plane_core.specs.declared.blocks.Grid.{Grid}
+use Rattle.plane_core.specs.Rules.{Numbers}
+use Rattle.plane_core.specs.Words.{IsNextWord}
+
+-- word i with its neighbours in the row
+abbrev pub row_at : List ℕ → Grid → ℕ → Row
+row_at words grid i = record {
+  before = slice_index words (i - 16 * grid.blocks);
+  here = slice_index words i;
+  after = slice_index words (i + 16 * grid.blocks);
+}
+
+-- the word is word i, one generation later
+abbrev pub IsNextAt : Numbers → Grid → List ℕ → ℕ → ℕ → Type 0
+IsNextAt rule grid words i word = IsNextWord rule (row_at words grid (i - 1)) (row_at words grid i) (row_at words grid (i + 1)) word
+
+-- a block with blocks all round it: not one of the first or last strip, nor the list's first or last beside these
+pub record IsInner (grid : Grid) (j : ℕ) : Type 0 where
+  pub low : grid.blocks + 1 ≤ j
+  pub high : j + grid.blocks + 1 < grid.count
+
+-- the second list is the first one, one generation later
+abbrev pub IsNext : Numbers → Grid → List ℕ → List ℕ → Type 0
+IsNext rule grid now later = (i : ℕ) → IsInner grid (i / 16) → IsNextAt rule grid now i (slice_index later i)
+
+-- block k isn't marked: flags have a bit for each block, in words of 64
+abbrev pub IsClear : List ℕ → ℕ → Type 0
+IsClear flags k = bit_at (slice_index flags (k / 64)) (k % 64) ≡ 0
+
+-- where a block isn't marked, its words in `last` are already those of the next generation
+abbrev pub IsRight : Numbers → Grid → List ℕ → List ℕ → List ℕ → Type 0
+IsRight rule grid now last todo = (i : ℕ) → IsInner grid (i / 16) → IsClear todo (i / 16) → IsNextAt rule grid now i (slice_index last i)
+
+abbrev pub AreSameBits : ℕ → ℕ → Type 0
+AreSameBits a b = (k : ℕ) → bit_at a k ≡ bit_at b k
+
+-- the two blocks are one, or the one stands directly above the other
+abbrev pub IsBeside : ℕ → ℕ → Type 0
+IsBeside j k = (j ≤ k + 1) × (k ≤ j + 1)
+
+-- As far as block k with the ring of cells round it goes, word i is what it was: all of it in the block itself, in the last row of
+-- the block above and in the first row of the one below, and one bit in the blocks to the left and right.
+pub record IsQuiet (grid : Grid) (k i old new : ℕ) : Type 0 where
+  pub own : i / 16 ≡ k → AreSameBits new old
+  pub above : i / 16 + 1 ≡ k → i % 16 ≡ 15 → AreSameBits new old
+  pub below : i / 16 ≡ k + 1 → i % 16 ≡ 0 → AreSameBits new old
+  pub west : IsBeside (i / 16 + grid.blocks) k → bit_at new 63 ≡ bit_at old 63
+  pub east : IsBeside (i / 16) (k + grid.blocks) → bit_at new 0 ≡ bit_at old 0
+
+-- every block that isn't marked is what it was, with the ring of cells round it
+abbrev pub IsStill : Grid → List ℕ → List ℕ → List ℕ → Type 0
+IsStill grid marks old new = (k i : ℕ) → IsClear marks k → IsQuiet grid k i (slice_index old i) (slice_index new i)
+
+-- the outer blocks are what they were
+abbrev pub KeepsOuter : Grid → List ℕ → List ℕ → Type 0
+KeepsOuter grid old new = (i : ℕ) → ¬ IsInner grid (i / 16) → slice_index new i ≡ slice_index old i
+
+-- a mark stays
+abbrev pub KeepsMarks : List ℕ → List ℕ → Type 0
+KeepsMarks old new = (k : ℕ) → IsClear new k → IsClear old k
+
+-- A generation as far as it has come: blocks before j are those of the next generation, and what has changed is marked.
+pub record IsGoing (rule : Numbers) (grid : Grid) (j : ℕ) (now old new first marks : List ℕ) : Type 0 where
+  pub done : (i : ℕ) → i / 16 < j → IsInner grid (i / 16) → IsNextAt rule grid now i (slice_index new i)
+  pub ahead : (i : ℕ) → j ≤ i / 16 → slice_index new i ≡ slice_index old i
+  pub outer : KeepsOuter grid old new
+  pub still : (k i : ℕ) → i / 16 < j → IsClear marks k → IsQuiet grid k i (slice_index old i) (slice_index new i)
+  pub kept : KeepsMarks first marks
