@@ -1,4 +1,5 @@
 pub mod BlockLemmas
+pub mod BoardLemmas
 pub mod BoundsLemmas
 pub mod CellLemmas
 pub mod ClusterLaws

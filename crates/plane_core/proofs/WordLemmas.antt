@@ -19,9 +19,9 @@ bit_from_west before here (suc i) b h low =
     let half : (here * 2 % 2 ^ 64) / 2 ≡ here % 2 ^ 63 = omega arith in
     let whole : here / 2 ^ 63 * 2 ^ 63 + here % 2 ^ 63 ≡ here = omega arith in
     let kept : bit_at here i ≡ bit_at (here % 2 ^ 63) i =
-        ap (λ (n : ℕ). bit_at n i) (sym whole) ∙ bit_at_cat_low (here / 2 ^ 63) 63 (here % 2 ^ 63) i (omega arith) in
+    ap (λ (n : ℕ). bit_at n i) (sym whole) ∙ bit_at_cat_low (here / 2 ^ 63) 63 (here % 2 ^ 63) i (omega arith) in
     let moved : bit_at (here * 2 % 2 ^ 64) (suc i) ≡ bit_at here i =
-        bit_at-suc (here * 2 % 2 ^ 64) i ∙ ap (λ (n : ℕ). bit_at n i) half ∙ sym kept in
+    bit_at-suc (here * 2 % 2 ^ 64) i ∙ ap (λ (n : ℕ). bit_at n i) half ∙ sym kept in
     omega (arith, bit_at_or (here * 2 % 2 ^ 64) (before / 2 ^ 63) (suc i), moved, bit_at_above (before / 2 ^ 63) 1 (suc i) (omega arith) (omega arith))
 
 -- a word moved a place down, its last bit the first one of the word after

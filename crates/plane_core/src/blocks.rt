@@ -5,9 +5,9 @@
 //! round it, what it was two generations ago will be what it was one generation ago: `last` has it already. So only
 //! blocks with a change in them or on their ring are marked for the next turn. Each change marks its own block; one in
 //! the top or bottom row marks the block above or below too, and one in the first or last column those to that side.
-ghost use Rattle.std.specs.Prelude.{◌≡◌, ◌≢◌, ◌==◌, ◌+◌, ◌-◌, ◌*◌, ◌/◌, ◌%◌, ◌<◌, ◌≤◌, ℕ, List, length, slice_index};
+ghost use Rattle.std.specs.Prelude.{◌≡◌, ◌≢◌, ◌==◌, ◌+◌, ◌-◌, ◌*◌, ◌/◌, ◌%◌, ◌^◌, ◌<◌, ◌≤◌, ◌↔◌, IsTrue, false, ℕ, List, length, slice_index};
 ghost use Rattle.std.specs.Int.{bit_at};
-ghost use Rattle.plane_core.specs.Boards.{IsBeside, IsClear, IsGoing, IsInner, IsNext, IsNextAt, IsRight, IsStill, KeepsMarks, KeepsOuter, row_at};
+ghost use Rattle.plane_core.specs.Boards.{IsBeside, IsClear, IsGoing, IsInner, IsNext, IsNextAt, IsRight, IsStill, IsUnmarked, IsWritten, KeepsMarks, KeepsOuter, TellsChanges, row_at};
 
 use crate::word::{Answers, Row};
 
@@ -24,6 +24,15 @@ struct Changes {
     columns: u64,
     top: u64,
     bottom: u64,
+}
+
+impl Grid {
+    /// Whether a block has blocks all round it.
+    fn is_inner(self, j: usize) -> bool
+        ensures { IsTrue result ↔ IsInner self j }
+    {
+        self.blocks < j && j < self.count && self.blocks < self.count - j - 1
+    }
 }
 
 /// Word i with its neighbours in the row.
@@ -79,11 +88,128 @@ fn mark_if(flags: &mut [u64], k: usize, change: u64)
 fn mark_three(flags: &mut [u64], k: usize, change: u64)
     requires low { 1 ≤ k }
     requires high { k + 1 < 64 * length flags.old }
+    requires small { k < 2 ^ 60 }
     ensures { (m : ℕ) → IsClear flags.new m → IsClear flags.old m × (IsBeside k m → change ≡ 0) }
 {
     if change != 0 {
         mark(flags, k - 1);
         mark(flags, k);
         mark(flags, k + 1);
+    }
+}
+
+/// Marks the blocks that the changes of block j concern.
+fn mark_changes(flags: &mut [u64], grid: Grid, j: usize, changes: Changes)
+    requires inner { IsInner grid j }
+    requires high { grid.count ≤ 64 * length flags.old }
+    requires small { grid.count < 2 ^ 60 }
+    ensures { (m : ℕ) → IsClear flags.new m → IsUnmarked grid j changes flags.old m }
+{
+    mark_if(flags, j, changes.columns);
+    mark_if(flags, j - 1, changes.top);
+    mark_if(flags, j + 1, changes.bottom);
+    mark_three(flags, j - grid.blocks, changes.columns & 1);
+    mark_three(flags, j + grid.blocks, changes.columns >> 63);
+}
+
+/// Writes block j of the next generation, and returns what has changed in it.
+fn step_block(answers: &Answers, grid: Grid, now: &[u64], last: &mut [u64], j: usize) -> Changes
+    requires inner { IsInner grid j }
+    requires long { length last.old ≡ length now.now }
+    requires size { length now.now ≡ 16 * grid.count }
+    ensures written { IsWritten answers.now.rule grid j now.now last.old last.new }
+    ensures changes { TellsChanges j result last.old last.new }
+{
+    let start = 16 * j;
+    let end = start + 15;
+    let (first, final_row) = (last[start], last[end]);
+    let mut columns = 0;
+    for i in start..start + 16 {
+        columns |= step_word(answers, grid, now, last, i);
+    }
+    Changes {
+        columns,
+        top: last[start] ^ first,
+        bottom: last[end] ^ final_row,
+    }
+}
+
+/// Does block j if it is marked: writes it, and marks what its changes concern. An outer block stays as it is.
+fn step_marked(
+    answers: &Answers,
+    grid: Grid,
+    now: &[u64],
+    last: &mut [u64],
+    marks: &mut [u64],
+    j: usize,
+    marked: bool,
+)
+    requires long { length last.old ≡ length now.now }
+    requires size { length now.now ≡ 16 * grid.count }
+    requires flags { grid.count ≤ 64 * length marks.old }
+    ensures { (old first todo : List ℕ) → (marked ≡ false → IsClear todo j) → IsRight answers.now.rule grid now.now old todo
+        → IsGoing answers.now.rule grid j now.now old last.old first marks.old
+        → IsGoing answers.now.rule grid (j + 1) now.now old last.new first marks.new }
+{
+    if !marked {
+        return;
+    }
+    if !grid.is_inner(j) {
+        return;
+    }
+    let changes = step_block(answers, grid, now, last, j);
+    mark_changes(marks, grid, j, changes);
+}
+
+/// Does the marked ones of 64 blocks, of which w times 64 come before.
+fn step_group(
+    answers: &Answers,
+    grid: Grid,
+    now: &[u64],
+    last: &mut [u64],
+    marks: &mut [u64],
+    w: usize,
+    flags: u64,
+)
+    requires long { length last.old ≡ length now.now }
+    requires size { length now.now ≡ 16 * grid.count }
+    requires flags { grid.count ≤ 64 * length marks.old }
+    requires small { w < 2 ^ 40 }
+    ensures { (old first todo : List ℕ) → slice_index todo w ≡ flags → IsRight answers.now.rule grid now.now old todo
+        → IsGoing answers.now.rule grid (64 * w) now.now old last.old first marks.old
+        → IsGoing answers.now.rule grid (64 * w + 64) now.now old last.new first marks.new }
+{
+    if flags == 0 {
+        return;
+    }
+    for b in 0..64 {
+        let marked = flags >> b & 1 == 1;
+        step_marked(answers, grid, now, last, marks, 64 * w + b, marked);
+    }
+}
+
+/// Writes the next generation over the last one, of which it is enough to have what isn't marked to do. What changes by
+/// that is marked.
+pub(crate) fn generation(
+    answers: &Answers,
+    grid: Grid,
+    now: &[u64],
+    last: &mut [u64],
+    todo: &[u64],
+    marks: &mut [u64],
+)
+    requires long { length last.old ≡ length now.now }
+    requires size { length now.now ≡ 16 * grid.count }
+    requires flags { grid.count ≤ 64 * length marks.old }
+    requires todo { grid.count ≤ 64 * length todo.now }
+    requires small { length todo.now < 2 ^ 40 }
+    requires right { IsRight answers.now.rule grid now.now last.old todo.now }
+    ensures next { IsNext answers.now.rule grid now.now last.new }
+    ensures still { IsStill grid marks.new last.old last.new }
+    ensures outer { KeepsOuter grid last.old last.new }
+    ensures marks { KeepsMarks marks.old marks.new }
+{
+    for (w, flags) in todo.iter().enumerate() {
+        step_group(answers, grid, now, last, marks, w, *flags);
     }
 }

@@ -30,6 +30,6 @@ pub mod rule;
 /// The shift from one pattern to another.
 pub mod shift_to;
 mod tally;
-mod word;
 #[cfg(test)]
 mod tests;
+mod word;
