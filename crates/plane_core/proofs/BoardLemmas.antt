@@ -132,7 +132,7 @@ going_start rule grid now old marks = record {
   kept = λ k clear. clear;
 }
 
-less_or_not : (a b : ℕ) → (a < b) ⊎ (b ≤ a)
+pub less_or_not : (a b : ℕ) → (a < b) ⊎ (b ≤ a)
 less_or_not a b = split (nat_lt a b) refl
   where
     split : (t : Bool) → nat_lt a b ≡ t → (a < b) ⊎ (b ≤ a)
@@ -188,7 +188,7 @@ quiet_written grid j changes flags old new k i at tells unmarked = record {
   east = λ (low, high). tells.columns 0 i (unmarked.west (omega arith, omega arith));
 }
 
-same_or_not : (a b : ℕ) → (a ≡ b) ⊎ (a ≢ b)
+pub same_or_not : (a b : ℕ) → (a ≡ b) ⊎ (a ≢ b)
 same_or_not a b = split (a == b) refl
   where
     split : (t : Bool) → (a == b) ≡ t → (a ≡ b) ⊎ (a ≢ b)
@@ -276,7 +276,7 @@ flag_of todo w b flags is low none =
     let place : (64 * w + b) % 64 ≡ b = omega arith in
     (λ i. bit_at (slice_index todo (word i)) (place i)) ∙ ap (λ (n : ℕ). bit_at n b) is ∙ none
 
-not_one : (n : ℕ) → n < 2 → (n == 1) ≡ false → n ≡ 0
+pub not_one : (n : ℕ) → n < 2 → (n == 1) ≡ false → n ≡ 0
 not_one n low e = let apart = eqb-false n 1 e in omega arith
 
 -- what the test of a flag says where it fails

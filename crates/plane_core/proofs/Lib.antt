@@ -9,6 +9,7 @@ pub mod FloodLemmas
 pub mod FloodLoops
 pub mod FloodSteps
 pub mod GenerationLemmas
+pub mod LayoutLemmas
 pub mod MergeLemmas
 pub mod NeighbourLemmas
 pub mod OrientationLemmas

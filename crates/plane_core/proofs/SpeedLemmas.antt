@@ -71,7 +71,7 @@ boxed-none b c h = record { left = low b.left c.x h.left; top = low b.top c.y h.
     high : (r a : ℤ) → a ≤ℤ r → a ≤ℤ (r +ℤ pos 0)
     high r a m = omega (arith, ints)
 
-boxed-after : (rule : Numbers) (S : List Cell) (b : Bounds) (g : ℕ) → ((c : Cell) → has S c ≡ true → IsWithin b c) → (c : Cell)
+pub boxed-after : (rule : Numbers) (S : List Cell) (b : Bounds) (g : ℕ) → ((c : Cell) → has S c ≡ true → IsWithin b c) → (c : Cell)
     → has (after rule S g) c ≡ true → IsWithin (enlarged g b) c
 boxed-after rule S b zero h c e = boxed-none b c (h c (subst (λ (T : List Cell). has T c ≡ true) (after-none rule S) e))
 boxed-after rule S b (suc g) h c e =

@@ -4,6 +4,7 @@ pub mod Cells
 pub mod Clusters
 pub mod Flood
 pub mod Generations
+pub mod Layouts
 pub mod Orientations
 pub mod Out
 pub mod Plaintext

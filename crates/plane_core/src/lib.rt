@@ -5,6 +5,7 @@
 #![tactic(auto)]
 
 mod blocks;
+mod board;
 /// The least box round a pattern.
 pub mod bounds;
 /// Cells of the plane, and their order.
