@@ -44,7 +44,7 @@ bit_if S ws at shown e s r i hs hr hi is =
     one (suc zero) low = refl
     one (suc (suc n)) low = absurd (omega arith)
 
-same_cells : (x y v w : ℤ) → x ≡ v → y ≡ w → cell_at x y ≡ cell_at v w
+pub same_cells : (x y v w : ℤ) → x ≡ v → y ≡ w → cell_at x y ≡ cell_at v w
 same_cells x y v w p q i = cell_at (p i) (q i)
 
 row_shown : (S : List Cell) (ws : List ℕ) (at : Layout) → InOrder S → IsShown at ws S → (e : Cell) (s r i : ℕ) → 1 ≤ s → s + 1 < at.strips → r < 16 * at.blocks
@@ -109,7 +109,7 @@ pub record IsInside (at : Layout) (s r : ℕ) : Type 0 where
   pub top : 16 ≤ r
   pub bottom : r + 16 < 16 * at.blocks
 
-inside-room : (at : Layout) (n s r i : ℕ) → i < 64 → IsWithin (room at n) (place at s r i) → IsInside at s r
+pub inside-room : (at : Layout) (n s r i : ℕ) → i < 64 → IsWithin (room at n) (place at s r i) → IsInside at s r
 inside-room at n s r i low within = record {
   left = let h = within.left in omega (arith, ints);
   right = let h = within.right in omega (arith, ints);
@@ -118,7 +118,7 @@ inside-room at n s r i low within = record {
 }
 
 -- an inside cell's word is in an inner block
-inner-inside : (at : Layout) (s r : ℕ) → IsInside at s r → IsInner (grid_of at) (index_of at s r / 16)
+pub inner-inside : (at : Layout) (s r : ℕ) → IsInside at s r → IsInner (grid_of at) (index_of at s r / 16)
 inner-inside at s r inside =
     let many : at.strips ≡ s + 2 + (at.strips - (s + 2)) = let h = inside.right in omega arith in
     let whole : at.strips * at.blocks ≡ (s + 2 + (at.strips - (s + 2))) * at.blocks = ap (λ (m : ℕ). m * at.blocks) many in

@@ -10,6 +10,7 @@ pub mod FloodLoops
 pub mod FloodSteps
 pub mod GenerationLemmas
 pub mod LayoutLemmas
+pub mod LoadLemmas
 pub mod MergeLemmas
 pub mod NeighbourLemmas
 pub mod OrientationLemmas

@@ -1,7 +1,7 @@
 -- A board: a rectangle of cells in words, all in one list. A strip is 64 columns wide, a word of it is a row, and 16 words are a
 -- block. The words of a strip stand one after another, and so do the strips. So the words above and below a word stand beside it
 -- in the list, and those to its left and right a strip's length away.
-use Rattle.std.specs.Prelude.{◌≡◌, ◌≢◌, ◌+◌, ◌-◌, ◌*◌, ◌/◌, ◌%◌, ◌<◌, ◌≤◌, ℕ, List, slice_index}
+use Rattle.std.specs.Prelude.{◌≡◌, ◌≢◌, ◌+◌, ◌-◌, ◌*◌, ◌/◌, ◌%◌, ◌<◌, ◌≤◌, ◌^◌, ℕ, List, length, slice_index}
 use Rattle.std.specs.Int.{bit_at}
 use Rattle.plane_core.specs.declared.word.Row.{Row}
 use Rattle.plane_core.specs.declared.blocks.Changes.{Changes}
@@ -90,3 +90,19 @@ pub record IsGoing (rule : Numbers) (grid : Grid) (j : ℕ) (now old new first m
   pub outer : KeepsOuter grid old new
   pub still : (k i : ℕ) → i / 16 < j → IsClear marks k → IsQuiet grid k i (slice_index old i) (slice_index new i)
   pub kept : KeepsMarks first marks
+
+-- block m is neither block j nor one of those round it
+pub record IsFar (grid : Grid) (j m : ℕ) : Type 0 where
+  pub here : ¬ IsBeside j m
+  pub west : ¬ IsBeside j (m + grid.blocks)
+  pub east : ¬ IsBeside (j + grid.blocks) m
+
+-- the lists of a board, before a generation: it is enough to do what isn't marked in `todo`
+pub record IsReady (rule : Numbers) (grid : Grid) (now last todo marks : List ℕ) : Type 0 where
+  pub now_long : length now ≡ 16 * grid.count
+  pub last_long : length last ≡ 16 * grid.count
+  pub todo_long : grid.count ≤ 64 * length todo
+  pub marks_long : grid.count ≤ 64 * length marks
+  pub todo_small : length todo < 2 ^ 40
+  pub marks_small : length marks < 2 ^ 40
+  pub right : IsRight rule grid now last todo

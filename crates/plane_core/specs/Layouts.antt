@@ -1,12 +1,12 @@
 -- Where the cells of a board lie on the plane.
-use Rattle.std.specs.Prelude.{◌≡◌, ◌==◌, ◌+◌, ◌*◌, ◌/◌, ◌<◌, ◌≤◌, ◌^◌, ℕ, ◌+ℤ◌, ◌-ℤ◌, pos, List, slice_index, true, unsigned_abs}
+use Rattle.std.specs.Prelude.{◌≡◌, ◌==◌, ◌+◌, ◌*◌, ◌/◌, ◌<◌, ◌≤◌, ◌^◌, ℕ, ◌+ℤ◌, ◌-ℤ◌, pos, List, [], length, slice_index, true, unsigned_abs}
 use Rattle.std.specs.Int.{bit_at}
 use Rattle.plane_core.specs.declared.blocks.Grid.{Grid}
 use Rattle.plane_core.specs.declared.board.Layout.{Layout}
 use Rattle.plane_core.specs.declared.bounds.Bounds.{Bounds}
 use Rattle.plane_core.specs.declared.cell.Cell.{Cell}
 use Rattle.plane_core.specs.Bounds.{IsWithin}
-use Rattle.plane_core.specs.Boards.{IsInner}
+use Rattle.plane_core.specs.Boards.{IsInner, IsStill}
 use Rattle.plane_core.specs.Cells.{cell_at, has}
 
 -- the sizes of the board's list
@@ -46,5 +46,22 @@ IsDead grid words = (i : ℕ) → ¬ IsInner grid (i / 16) → slice_index words
 pub record IsLaid (at : Layout) : Type 0 where
   pub left : unsigned_abs at.left ≤ 2 ^ 21
   pub top : unsigned_abs at.top ≤ 2 ^ 21
+  pub tall : 2 ≤ at.blocks
   pub strips : at.strips ≤ 2 ^ 16
   pub blocks : at.blocks ≤ 2 ^ 18
+
+-- the cells of a list are cells of another
+abbrev pub AreAmong : List Cell → List Cell → Type 0
+AreAmong others cells = (c : Cell) → has cells c ≡ true → has others c ≡ true
+
+-- The lists of a board just after the cells were put on it. Before there was nothing: what isn't marked is empty still.
+pub record IsLoaded (at : Layout) (cells : List Cell) (now last todo marks : List ℕ) : Type 0 where
+  pub now_long : length now ≡ 16 * (at.strips * at.blocks)
+  pub last_long : length last ≡ 16 * (at.strips * at.blocks)
+  pub todo_long : at.strips * at.blocks ≤ 64 * length todo
+  pub todo_small : length todo < 2 ^ 40
+  pub marks_same : marks ≡ todo
+  pub empty : (i : ℕ) → slice_index last i ≡ 0
+  pub shown : IsShown at now cells
+  pub still : IsStill (grid_of at) todo [] now
+  pub dead : IsDead (grid_of at) now

@@ -7,7 +7,7 @@
 //! the top or bottom row marks the block above or below too, and one in the first or last column those to that side.
 ghost use Rattle.std.specs.Prelude.{◌≡◌, ◌≢◌, ◌==◌, ◌+◌, ◌-◌, ◌*◌, ◌/◌, ◌%◌, ◌^◌, ◌<◌, ◌≤◌, ◌↔◌, IsTrue, false, ℕ, List, length, slice_index};
 ghost use Rattle.std.specs.Int.{bit_at};
-ghost use Rattle.plane_core.specs.Boards.{IsBeside, IsClear, IsGoing, IsInner, IsNext, IsNextAt, IsRight, IsStill, IsUnmarked, IsWritten, KeepsMarks, KeepsOuter, TellsChanges, row_at};
+ghost use Rattle.plane_core.specs.Boards.{IsBeside, IsClear, IsFar, IsGoing, IsInner, IsNext, IsNextAt, IsRight, IsStill, IsUnmarked, IsWritten, KeepsMarks, KeepsOuter, TellsChanges, row_at};
 
 use crate::word::{Answers, Row};
 
@@ -110,6 +110,18 @@ fn mark_changes(flags: &mut [u64], grid: Grid, j: usize, changes: Changes)
     mark_if(flags, j + 1, changes.bottom);
     mark_three(flags, j - grid.blocks, changes.columns & 1);
     mark_three(flags, j + grid.blocks, changes.columns >> 63);
+}
+
+/// Marks block j and those round it.
+pub(crate) fn mark_near(flags: &mut [u64], grid: Grid, j: usize)
+    requires inner { IsInner grid j }
+    requires high { grid.count ≤ 64 * length flags.old }
+    requires small { grid.count < 2 ^ 60 }
+    ensures { (m : ℕ) → IsClear flags.new m → IsClear flags.old m × IsFar grid j m }
+{
+    mark_three(flags, j - grid.blocks, 1);
+    mark_three(flags, j, 1);
+    mark_three(flags, j + grid.blocks, 1);
 }
 
 /// Writes block j of the next generation, and returns what has changed in it.

@@ -1,10 +1,23 @@
 //! A rectangle of the plane as a list of words, and generations of a pattern on it.
-ghost use Rattle.std.specs.Prelude.{◌≡◌, ◌+◌, ◌*◌, ◌<◌, ◌≤◌, ◌++◌, ◌∷◌, [], ◌+ℤ◌, ℕ, List, length, pos, slice_index, IfOk};
-ghost use Rattle.plane_core.specs.Boards.{IsNext, IsStill};
-ghost use Rattle.plane_core.specs.Layouts.{HasRoom, IsDead, IsLaid, IsShown, grid_of, room};
+//!
+//! A board is laid out so wide that in the generations to come no live cell can reach the outer blocks. The cells are
+//! loaded, run block by block, and read back.
+ghost use Rattle.std.specs.Prelude.{◌≡◌, ◌+◌, ◌*◌, ◌<◌, ◌≤◌, ◌^◌, ◌++◌, ◌∷◌, [], ◌-ℤ◌, ◌+ℤ◌, ℕ, List, length, pos, slice_index, IfOk, OnOk, true, unsigned_abs};
+ghost use Rattle.std.specs.Int.{bit_at};
+ghost use Rattle.plane_core.specs.Boards.{IsNext, IsReady, IsStill, KeepsMarks, KeepsOuter};
+ghost use Rattle.plane_core.specs.Bounds.{IsWithin};
+ghost use Rattle.plane_core.specs.Cells.{InOrder, cell_at, has};
+ghost use Rattle.plane_core.specs.Generations.{after};
+ghost use Rattle.plane_core.specs.Layouts.{AreAmong, HasRoom, IsDead, IsLaid, IsLoaded, IsShown, grid_of, index_of, place, room};
+ghost use Rattle.plane_core.specs.declared.cell.Cell.{Cell};
 
-use crate::blocks::Grid;
+use crate::blocks::{Grid, generation, mark_near};
 use crate::cell::Cell;
+use crate::pattern::in_order;
+use crate::rule::Rule;
+use crate::word::Answers;
+use std::alloc::{AllocError, Global};
+use std::mem::swap;
 
 /// Where a board lies: its first column and row, how many strips of 64 columns it has, and how many blocks of 16 rows each.
 #[derive(Clone, Copy)]
@@ -25,5 +38,164 @@ impl Layout {
             blocks: self.blocks,
             count: self.strips * self.blocks,
         }
+    }
+
+    /// The place of a row of a strip in the list of words.
+    fn index(self, strip: usize, row: usize) -> usize
+        requires laid { IsLaid self }
+        requires strip { strip < self.strips }
+        requires row { row < 16 * self.blocks }
+        ensures index { result ≡ index_of self strip row }
+        ensures inside { result < 16 * (self.strips * self.blocks) }
+        ensures small { result < 2 ^ 40 }
+    {
+        strip * (16 * self.blocks) + row
+    }
+
+    /// How many columns of the board are left of the cell.
+    fn across(self, cell: Cell) -> usize
+        requires laid { IsLaid self }
+        requires within { IsWithin (room self 0) cell }
+        ensures { pos result ≡ cell.x -ℤ self.left }
+    {
+        (cell.x - self.left) as usize
+    }
+
+    /// How many rows of the board are above the cell.
+    fn down(self, cell: Cell) -> usize
+        requires laid { IsLaid self }
+        requires within { IsWithin (room self 0) cell }
+        ensures { pos result ≡ cell.y -ℤ self.top }
+    {
+        (cell.y - self.top) as usize
+    }
+}
+
+/// The lists of a board: the words of a generation and of the one before it, which blocks there are to do, and an empty
+/// list for what will be there to do after that.
+#[derive(Drop)]
+struct Board {
+    now: Vec<u64>,
+    last: Vec<u64>,
+    todo: Vec<u64>,
+    marks: Vec<u64>,
+}
+
+impl Board {
+    /// A board with these cells.
+    fn load(alloc: Global, at: Layout, cells: &[Cell]) -> Result<Board, AllocError>
+        requires laid { IsLaid at }
+        requires room { HasRoom at 0 cells.now }
+        ensures { IfOk result (λ board. IsLoaded at cells.now board.now.items board.last.items board.todo.items board.marks.items) }
+    {
+        let count = at.grid().count;
+        let last = vec![in alloc; 0u64; 16 * count]?;
+        let mut now = vec![in alloc; 0u64; 16 * count]?;
+        let mut todo = vec![in alloc; 0u64; count / 64 + 1]?;
+        fill(at, now.as_mut_slice(), todo.as_mut_slice(), cells);
+        let marks = Vec::from_slice(alloc, todo.as_slice())?;
+        Ok(Board {
+            now,
+            last,
+            todo,
+            marks,
+        })
+    }
+
+    /// Goes on by a generation.
+    fn advance(&mut self, answers: &Answers, grid: Grid)
+        requires { IsReady answers.now.rule grid self.old.now.items self.old.last.items self.old.todo.items self.old.marks.items }
+        ensures next { IsNext answers.now.rule grid self.old.now.items self.new.now.items }
+        ensures last { self.new.last.items ≡ self.old.now.items }
+        ensures still { IsStill grid self.new.todo.items self.old.last.items self.new.now.items }
+        ensures outer { KeepsOuter grid self.old.last.items self.new.now.items }
+        ensures marks { KeepsMarks self.old.marks.items self.new.todo.items }
+        ensures now_long { length self.new.now.items ≡ length self.old.last.items }
+        ensures todo_long { length self.new.todo.items ≡ length self.old.marks.items }
+        ensures marks_long { length self.new.marks.items ≡ length self.old.todo.items }
+    {
+        generation(
+            answers,
+            grid,
+            self.now.as_slice(),
+            self.last.as_mut_slice(),
+            self.todo.as_slice(),
+            self.marks.as_mut_slice(),
+        );
+        swap(&mut self.now, &mut self.last);
+        swap(&mut self.todo, &mut self.marks);
+        unmark(self.marks.as_mut_slice());
+    }
+}
+
+/// Takes all marks away.
+fn unmark(flags: &mut [u64])
+    ensures { (i : ℕ) → slice_index flags.new i ≡ 0 }
+{
+    for word in flags.iter_mut() {
+        *word = 0;
+    }
+}
+
+/// Reads the cells of a word, whose first cell this is, and adds them to a list.
+fn read_word(word: u64, first: Cell, cells: &mut Vec<Cell>) -> Result<(), AllocError>
+    requires { unsigned_abs first.x ≤ 2 ^ 24 }
+    ensures grows { AreAmong cells.new.items cells.old.items }
+    ensures sound { (others : List Cell) → ((i : ℕ) → i < 64 → bit_at word i ≡ 1 → has others (cell_at (first.x +ℤ pos i) first.y) ≡ true)
+        → AreAmong others cells.old.items → AreAmong others cells.new.items }
+    ensures complete { OnOk result ((i : ℕ) → i < 64 → bit_at word i ≡ 1 → has cells.new.items (cell_at (first.x +ℤ pos i) first.y) ≡ true) }
+{
+    if word == 0 {
+        return Ok(());
+    }
+    for i in 0..64 {
+        if word >> i & 1 == 1 {
+            cells.push(along(first, i))?;
+        }
+    }
+    Ok(())
+}
+
+/// The cell so many columns to the right.
+fn along(cell: Cell, columns: u32) -> Cell
+    requires cell { unsigned_abs cell.x ≤ 2 ^ 24 }
+    requires columns { columns < 64 }
+    ensures { result ≡ cell_at (cell.x +ℤ pos columns) cell.y }
+{
+    Cell {
+        x: cell.x + columns as i32,
+        y: cell.y,
+    }
+}
+
+/// Puts one more cell on the board, and marks the blocks that it concerns.
+fn put(at: Layout, words: &mut [u64], flags: &mut [u64], cell: Cell)
+    requires laid { IsLaid at }
+    requires within { IsWithin (room at 0) cell }
+    requires long { length words.old ≡ 16 * (at.strips * at.blocks) }
+    requires flags { at.strips * at.blocks ≤ 64 * length flags.old }
+    ensures shown { (cells : List Cell) → IsShown at words.old cells → IsShown at words.new (cells ++ cell ∷ []) }
+    ensures still { IsStill (grid_of at) flags.old [] words.old → IsStill (grid_of at) flags.new [] words.new }
+    ensures dead { IsDead (grid_of at) words.old → IsDead (grid_of at) words.new }
+{
+    let across = at.across(cell);
+    let i = at.index(across / 64, at.down(cell));
+    words[i] |= 1 << (across % 64);
+    mark_near(flags, at.grid(), i / 16);
+}
+
+/// Puts all cells on an empty board.
+fn fill(at: Layout, words: &mut [u64], flags: &mut [u64], cells: &[Cell])
+    requires laid { IsLaid at }
+    requires room { HasRoom at 0 cells.now }
+    requires long { length words.old ≡ 16 * (at.strips * at.blocks) }
+    requires flags { at.strips * at.blocks ≤ 64 * length flags.old }
+    requires empty { (i : ℕ) → slice_index words.old i ≡ 0 }
+    ensures shown { IsShown at words.new cells.now }
+    ensures still { IsStill (grid_of at) flags.new [] words.new }
+    ensures dead { IsDead (grid_of at) words.new }
+{
+    for cell in cells {
+        put(at, words, flags, *cell);
     }
 }

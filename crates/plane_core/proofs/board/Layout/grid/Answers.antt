@@ -1,6 +1,6 @@
-use Rattle.std.proofs.Common.{refl}
-use Rattle.plane_core.proofs.LayoutLemmas.{next_shown}
+use Rattle.std.proofs.Common.{arith}
+use Rattle.plane_core.proofs.LoadLemmas.{board-small}
 use Rattle.plane_core.proofs.board.Layout.grid.Goals as goal
 
-pub returns : goal.returns
-returns c = let h = next_shown in refl
+pub overflow_mul-result : goal.overflow_mul-result
+overflow_mul-result c = omega (arith, board-small c.args.self c.requires)
