@@ -25,9 +25,11 @@ pub mod PlaintextRows
 pub mod PlaintextSmall
 pub mod PlaintextWalks
 pub mod PlaintextWriting
+pub mod ReadLemmas
 pub mod RuleLemmas
 pub mod RuleNumbers
 pub mod RuleReading
+pub mod RunLemmas
 pub mod SearchLemmas
 pub mod SetLemmas
 pub mod SpeedLemmas

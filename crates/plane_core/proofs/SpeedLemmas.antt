@@ -32,7 +32,7 @@ within-next rule S n h = has-list_all (is_within (n + 1)) (next rule S) (λ c k.
     further c (inl alive) = within-beside n c c (omega (arith, distance_itself c.x, distance_itself c.y)) (list_all-has (is_within n) S h c alive)
     further c (inr beside) = let d = a_neighbour S c beside in within-beside n c d.0 (omega (arith, d.2)) (list_all-has (is_within n) S h d.0 d.1)
 
-after-suc : (rule : Numbers) (S : List Cell) (g : ℕ) → after rule S (suc g) ≡ next rule (after rule S g)
+pub after-suc : (rule : Numbers) (S : List Cell) (g : ℕ) → after rule S (suc g) ≡ next rule (after rule S g)
 unfolding after
 after-suc rule S g = refl
 

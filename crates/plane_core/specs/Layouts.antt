@@ -65,3 +65,16 @@ pub record IsLoaded (at : Layout) (cells : List Cell) (now last todo marks : Lis
   pub shown : IsShown at now cells
   pub still : IsStill (grid_of at) todo [] now
   pub dead : IsDead (grid_of at) now
+
+-- the first n bits of a word have been read
+pub record HasRead (word : ℕ) (first : Cell) (old : List Cell) (n : ℕ) (new : List Cell) : Type 0 where
+  pub grows : AreAmong new old
+  pub sound : (others : List Cell) → ((i : ℕ) → i < 64 → bit_at word i ≡ 1 → has others (cell_at (first.x +ℤ pos i) first.y) ≡ true)
+      → AreAmong others old → AreAmong others new
+  pub complete : (i : ℕ) → i < n → bit_at word i ≡ 1 → has new (cell_at (first.x +ℤ pos i) first.y) ≡ true
+
+-- the first n rows of a strip have been read
+pub record HasReadRows (at : Layout) (words : List ℕ) (s : ℕ) (old : List Cell) (n : ℕ) (new : List Cell) : Type 0 where
+  pub grows : AreAmong new old
+  pub sound : (others : List Cell) → IsShown at words others → AreAmong others old → AreAmong others new
+  pub complete : (r i : ℕ) → r < n → i < 64 → bit_at (slice_index words (index_of at s r)) i ≡ 1 → has new (place at s r i) ≡ true

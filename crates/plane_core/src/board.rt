@@ -8,7 +8,7 @@ ghost use Rattle.plane_core.specs.Boards.{IsNext, IsReady, IsStill, KeepsMarks, 
 ghost use Rattle.plane_core.specs.Bounds.{IsWithin};
 ghost use Rattle.plane_core.specs.Cells.{InOrder, cell_at, has};
 ghost use Rattle.plane_core.specs.Generations.{after};
-ghost use Rattle.plane_core.specs.Layouts.{AreAmong, HasRoom, IsDead, IsLaid, IsLoaded, IsShown, grid_of, index_of, place, room};
+ghost use Rattle.plane_core.specs.Layouts.{HasRead, HasReadRows, HasRoom, IsDead, IsLaid, IsLoaded, IsShown, grid_of, index_of, place, room};
 ghost use Rattle.plane_core.specs.declared.cell.Cell.{Cell};
 
 use crate::blocks::{Grid, generation, mark_near};
@@ -26,6 +26,28 @@ pub(crate) struct Layout {
     pub(crate) top: i32,
     pub(crate) strips: usize,
     pub(crate) blocks: usize,
+}
+
+/// The pattern after so many generations, on a board with room for them.
+pub(crate) fn run(
+    alloc: Global,
+    rule: &Rule,
+    at: Layout,
+    cells: &[Cell],
+    generations: u32,
+) -> Result<Vec<Cell>, AllocError>
+    requires laid { IsLaid at }
+    requires in_order { InOrder cells.now }
+    requires room { HasRoom at generations cells.now }
+    ensures { IfOk result (λ later. later.items ≡ after rule.now cells.now generations) }
+{
+    let answers = Answers::new(rule);
+    let grid = at.grid();
+    let mut board = Board::load(alloc, at, cells)?;
+    for made in 0..generations {
+        board.advance(&answers, grid);
+    }
+    read(alloc, at, board.now.as_slice())
 }
 
 impl Layout {
@@ -50,6 +72,20 @@ impl Layout {
         ensures small { result < 2 ^ 40 }
     {
         strip * (16 * self.blocks) + row
+    }
+
+    /// The first cell of a row of a strip.
+    fn corner(self, strip: usize, row: usize) -> Cell
+        requires laid { IsLaid self }
+        requires strip { strip < self.strips }
+        requires row { row < 16 * self.blocks }
+        ensures corner { result ≡ place self strip row 0 }
+        ensures small { unsigned_abs result.x ≤ 2 ^ 24 }
+    {
+        Cell {
+            x: self.left + (64 * strip) as i32,
+            y: self.top + row as i32,
+        }
     }
 
     /// How many columns of the board are left of the cell.
@@ -140,10 +176,7 @@ fn unmark(flags: &mut [u64])
 /// Reads the cells of a word, whose first cell this is, and adds them to a list.
 fn read_word(word: u64, first: Cell, cells: &mut Vec<Cell>) -> Result<(), AllocError>
     requires { unsigned_abs first.x ≤ 2 ^ 24 }
-    ensures grows { AreAmong cells.new.items cells.old.items }
-    ensures sound { (others : List Cell) → ((i : ℕ) → i < 64 → bit_at word i ≡ 1 → has others (cell_at (first.x +ℤ pos i) first.y) ≡ true)
-        → AreAmong others cells.old.items → AreAmong others cells.new.items }
-    ensures complete { OnOk result ((i : ℕ) → i < 64 → bit_at word i ≡ 1 → has cells.new.items (cell_at (first.x +ℤ pos i) first.y) ≡ true) }
+    ensures { OnOk result (HasRead word first cells.old.items 64 cells.new.items) }
 {
     if word == 0 {
         return Ok(());
@@ -166,6 +199,38 @@ fn along(cell: Cell, columns: u32) -> Cell
         x: cell.x + columns as i32,
         y: cell.y,
     }
+}
+
+/// Reads the cells of a strip, and adds them to a list.
+fn read_strip(
+    at: Layout,
+    words: &[u64],
+    strip: usize,
+    cells: &mut Vec<Cell>,
+) -> Result<(), AllocError>
+    requires laid { IsLaid at }
+    requires strip { strip < at.strips }
+    requires long { length words.now ≡ 16 * (at.strips * at.blocks) }
+    ensures { OnOk result (HasReadRows at words.now strip cells.old.items (16 * at.blocks) cells.new.items) }
+{
+    for row in 0..16 * at.blocks {
+        let word = words[at.index(strip, row)];
+        read_word(word, at.corner(strip, row), cells)?;
+    }
+    Ok(())
+}
+
+/// Reads all cells of a board.
+fn read(alloc: Global, at: Layout, words: &[u64]) -> Result<Vec<Cell>, AllocError>
+    requires laid { IsLaid at }
+    requires long { length words.now ≡ 16 * (at.strips * at.blocks) }
+    ensures { IfOk result (λ read. (cells : List Cell) → InOrder cells → HasRoom at 0 cells → IsShown at words.now cells → read.items ≡ cells) }
+{
+    let mut cells = Vec::new(alloc);
+    for strip in 0..at.strips {
+        read_strip(at, words, strip, &mut cells)?;
+    }
+    Ok(in_order(cells))
 }
 
 /// Puts one more cell on the board, and marks the blocks that it concerns.
