@@ -9,6 +9,7 @@ pub mod FloodLemmas
 pub mod FloodLoops
 pub mod FloodSteps
 pub mod GenerationLemmas
+pub mod LayLemmas
 pub mod LayoutLemmas
 pub mod LoadLemmas
 pub mod MergeLemmas

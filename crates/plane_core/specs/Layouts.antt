@@ -78,3 +78,10 @@ pub record HasReadRows (at : Layout) (words : List ℕ) (s : ℕ) (old : List Ce
   pub grows : AreAmong new old
   pub sound : (others : List Cell) → IsShown at words others → AreAmong others old → AreAmong others new
   pub complete : (r i : ℕ) → r < n → i < 64 → bit_at (slice_index words (index_of at s r)) i ≡ 1 → has new (place at s r i) ≡ true
+
+-- the sides of a box are at most so far from the origin
+pub record AreSidesWithin (reach : ℕ) (b : Bounds) : Type 0 where
+  pub left : unsigned_abs b.left ≤ reach
+  pub top : unsigned_abs b.top ≤ reach
+  pub right : unsigned_abs b.right ≤ reach
+  pub bottom : unsigned_abs b.bottom ≤ reach

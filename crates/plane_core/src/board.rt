@@ -2,18 +2,20 @@
 //!
 //! A board is laid out so wide that in the generations to come no live cell can reach the outer blocks. The cells are
 //! loaded, run block by block, and read back.
-ghost use Rattle.std.specs.Prelude.{◌≡◌, ◌+◌, ◌*◌, ◌<◌, ◌≤◌, ◌^◌, ◌++◌, ◌∷◌, [], ◌-ℤ◌, ◌+ℤ◌, ℕ, List, length, pos, slice_index, IfOk, OnOk, true, unsigned_abs};
+ghost use Rattle.std.specs.Prelude.{◌≡◌, ◌+◌, ◌*◌, ◌<◌, ◌≤◌, ◌^◌, ◌++◌, ◌∷◌, [], ◌-ℤ◌, ◌+ℤ◌, ℕ, List, length, pos, slice_index, IfOk, IfSome, OnOk, OnSome, ◌-◌, true, false, unsigned_abs};
 ghost use Rattle.std.specs.Int.{bit_at};
 ghost use Rattle.plane_core.specs.Boards.{IsNext, IsReady, IsStill, KeepsMarks, KeepsOuter};
 ghost use Rattle.plane_core.specs.Bounds.{IsWithin};
-ghost use Rattle.plane_core.specs.Cells.{InOrder, cell_at, has};
-ghost use Rattle.plane_core.specs.Generations.{after};
-ghost use Rattle.plane_core.specs.Layouts.{HasRead, HasReadRows, HasRoom, IsDead, IsLaid, IsLoaded, IsShown, grid_of, index_of, place, room};
+ghost use Rattle.plane_core.specs.Cells.{InOrder, cell_at, has, plane_bound};
+ghost use Rattle.plane_core.specs.Generations.{after, lies_within};
+ghost use Rattle.plane_core.specs.Layouts.{AreSidesWithin, HasRead, HasReadRows, HasRoom, IsDead, IsLaid, IsLoaded, IsShown, grid_of, index_of, place, room};
 ghost use Rattle.plane_core.specs.declared.cell.Cell.{Cell};
 
 use crate::blocks::{Grid, generation, mark_near};
-use crate::cell::Cell;
-use crate::pattern::in_order;
+use crate::bounds::Bounds;
+use crate::cell::{BOUND, Cell};
+use crate::coordinate::{apart, back};
+use crate::pattern::{Pattern, in_order};
 use crate::rule::Rule;
 use crate::word::Answers;
 use std::alloc::{AllocError, Global};
@@ -51,6 +53,51 @@ pub(crate) fn run(
 }
 
 impl Layout {
+    /// A layout round the pattern with room for so many generations, if one is worth it: the pattern has a cell, it won't
+    /// get to the edge of the plane, and there are not many more blocks than cells.
+    pub(crate) fn round(pattern: &Pattern, generations: u32) -> Option<Layout>
+        requires { generations ≤ 1000 }
+        ensures laid { IfSome result IsLaid }
+        ensures room { IfSome result (λ at. HasRoom at generations pattern.now) }
+        ensures inside { OnSome result (lies_within (plane_bound - generations) pattern.now ≡ true) }
+    {
+        let bounds = pattern.bounds()?;
+        if farthest(bounds) > BOUND - generations {
+            return None;
+        }
+        let at = Layout::round_box(bounds, generations);
+        if at.is_sparse(pattern.population()) {
+            return None;
+        }
+        Some(at)
+    }
+
+    /// A layout round the box, with so many columns and rows more on each side inside the outer blocks.
+    fn round_box(bounds: Bounds, margin: u32) -> Layout
+        requires margin { margin ≤ 1000 }
+        requires sides { AreSidesWithin plane_bound bounds }
+        ensures laid { IsLaid result }
+        ensures room { (c : Cell) → IsWithin bounds c → IsWithin (room result margin) c }
+    {
+        let width = apart(bounds.left, bounds.right) + 2 * margin + 65;
+        let height = apart(bounds.top, bounds.bottom) + 2 * margin + 17;
+        Layout {
+            left: back(bounds.left, margin + 64),
+            top: back(bounds.top, margin + 16),
+            strips: (width / 64 + 2) as usize,
+            blocks: (height / 16 + 2) as usize,
+        }
+    }
+
+    /// Whether there are many more blocks than cells.
+    fn is_sparse(self, population: usize) -> bool
+        requires { IsLaid self }
+        ensures { result ≡ false → self.strips * self.blocks ≤ 16 * population + 4112 }
+    {
+        let count = self.grid().count;
+        count > 4096 && (count - 4096) / 16 > population
+    }
+
     /// How many blocks there are.
     fn grid(self) -> Grid
         requires { IsLaid self }
@@ -231,6 +278,15 @@ fn read(alloc: Global, at: Layout, words: &[u64]) -> Result<Vec<Cell>, AllocErro
         read_strip(at, words, strip, &mut cells)?;
     }
     Ok(in_order(cells))
+}
+
+/// How far the sides of a box are from the origin, at most.
+fn farthest(bounds: Bounds) -> u32
+    ensures { AreSidesWithin result bounds }
+{
+    let across = bounds.left.unsigned_abs().max(bounds.right.unsigned_abs());
+    let down = bounds.top.unsigned_abs().max(bounds.bottom.unsigned_abs());
+    across.max(down)
 }
 
 /// Puts one more cell on the board, and marks the blocks that it concerns.
