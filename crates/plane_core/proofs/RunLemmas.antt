@@ -8,8 +8,8 @@ use Rattle.plane_core.specs.declared.board.Layout.{Layout}
 use Rattle.plane_core.specs.declared.cell.Cell.{Cell}
 use Rattle.plane_core.specs.declared.word.Row.{Row}
 use Rattle.plane_core.specs.Boards.{row_at, IsClear, IsInner, IsNext, IsNextAt, IsQuiet, IsReady, IsRight, IsStill, KeepsMarks, KeepsOuter}
-use Rattle.plane_core.specs.Cells.{InOrder}
-use Rattle.plane_core.specs.Generations.{next, after}
+use Rattle.plane_core.specs.Cells.{InOrder, IsPattern, plane_bound, on_plane}
+use Rattle.plane_core.specs.Generations.{next, after, lies_within, touches_edge}
 use Rattle.plane_core.specs.Layouts.{grid_of, IsShown, HasRoom, IsDead, IsLoaded}
 use Rattle.plane_core.specs.Rules.{Numbers}
 use Rattle.plane_core.specs.Tallies.{lives_by}
@@ -17,7 +17,7 @@ use Rattle.plane_core.specs.Words.{one_if, west_of, east_of, row_count, block_co
 use Rattle.plane_core.proofs.BoardLemmas.{two_generations_ago, less_or_not}
 use Rattle.plane_core.proofs.GenerationLemmas.{in_order-next, after-none, after-more}
 use Rattle.plane_core.proofs.LayoutLemmas.{next_shown, room-after}
-use Rattle.plane_core.proofs.SpeedLemmas.{after-suc}
+use Rattle.plane_core.proofs.SpeedLemmas.{after-suc, within-after}
 
 -- ---- the first two generations
 
@@ -133,3 +133,30 @@ running_more rule at cells n g now last todo marks now2 last2 todo2 marks2 tall 
     right (inl some) = two_generations_ago rule (grid_of at) last now now2 todo2 (run.before some) step.still
     right (inr none) =
         second_right rule (grid_of at) now2 now todo2 (λ k i clear. run.loaded (omega arith) k i (step.kept k clear)) (was_empty (omega arith))
+
+-- ---- one run after another
+
+pub after-plus : (rule : Numbers) (S : List Cell) (a b : ℕ) → after rule (after rule S a) b ≡ after rule S (a + b)
+after-plus rule S a zero = after-none rule (after rule S a) ∙ ap (λ (n : ℕ). after rule S n) (omega arith)
+after-plus rule S a (suc b) =
+    after-suc rule (after rule S a) b ∙ ap (λ (T : List Cell). next rule T) (after-plus rule S a b) ∙ sym (after-suc rule S (a + b))
+    ∙ ap (λ (n : ℕ). after rule S n) (omega arith)
+
+-- a pattern that lies far enough inside the plane stays a pattern
+pub is_pattern-after : (rule : Numbers) (S : List Cell) (n : ℕ) → n ≤ plane_bound → lies_within (plane_bound - n) S ≡ true → IsPattern S
+    → IsPattern (after rule S n)
+unfolding on_plane
+is_pattern-after rule S n low h p = record {
+  in_order = in_order-after rule S n p.in_order;
+  on_plane = ap (λ (m : ℕ). lies_within m (after rule S n)) (omega arith) ∙ within-after rule S (plane_bound - n) n h;
+}
+
+-- generations inside the edge, and more of them
+pub inside-more : (rule : Numbers) (S : List Cell) (a b : ℕ) → ((g : ℕ) → g < a → touches_edge (after rule S g) ≡ false)
+    → ((g : ℕ) → g < b → touches_edge (after rule (after rule S a) g) ≡ false) → (g : ℕ) → g < a + b → touches_edge (after rule S g) ≡ false
+inside-more rule S a b before later g low = go (less_or_not g a)
+  where
+    go : (g < a) ⊎ (a ≤ g) → touches_edge (after rule S g) ≡ false
+    go (inl early) = before g early
+    go (inr late) =
+        ap (λ (n : ℕ). touches_edge (after rule S n)) (omega arith) ∙ ap touches_edge (sym (after-plus rule S a (g - a))) ∙ later (g - a) (omega arith)
