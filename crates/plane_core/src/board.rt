@@ -89,13 +89,13 @@ impl Layout {
         }
     }
 
-    /// Whether there are many more blocks than cells.
+    /// Whether there are many more blocks than cells: over 16,384, which take 4 megabytes, and sixteen a cell.
     fn is_sparse(self, population: usize) -> bool
         requires { IsLaid self }
-        ensures { result ≡ false → self.strips * self.blocks ≤ 16 * population + 4112 }
+        ensures { result ≡ false → self.strips * self.blocks ≤ 16 * population + 16400 }
     {
         let count = self.grid().count;
-        count > 4096 && (count - 4096) / 16 > population
+        count > 16_384 && (count - 16_384) / 16 > population
     }
 
     /// How many blocks there are.

@@ -27,7 +27,7 @@ pub enum StepError {
 
 /// The most generations on one board. Then the pattern is read back and a board is laid out anew, so that it is no wider
 /// than the pattern for long.
-const STRETCH: u32 = 100;
+const STRETCH: u32 = 128;
 
 impl From<AllocError> for StepError {
     ghost from_gives = { λ _ e. e ≡ Memory };
