@@ -9,8 +9,8 @@ use Rattle.plane_core.specs.declared.blocks.Changes.{Changes}
 use Rattle.plane_core.specs.declared.blocks.Grid.{Grid}
 use Rattle.plane_core.specs.Rules.{Numbers}
 use Rattle.plane_core.specs.Tallies.{lives_by}
-use Rattle.plane_core.specs.Words.{one_if, west_of, east_of, row_count, block_count, IsNextWord}
-use Rattle.plane_core.specs.Boards.{row_at, IsBeside, IsClear, IsGoing, IsInner, IsNext, IsNextAt, IsQuiet, IsRight, IsStill, IsUnmarked, IsWritten, KeepsMarks, KeepsOuter, TellsChanges}
+use Rattle.plane_core.specs.Words.{one_if, west_of, row_count, IsNextWord}
+use Rattle.plane_core.specs.Boards.{row_at, IsClear, IsGoing, IsInner, IsNext, IsNextAt, IsQuiet, IsRight, IsStill, IsUnmarked, IsWritten, TellsChanges}
 
 -- ---- marks
 

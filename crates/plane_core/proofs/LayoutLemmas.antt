@@ -1,25 +1,24 @@
 -- A generation of a board is one of the cells that it shows.
-use Rattle.std.proofs.Common.{◌≡◌, ◌≢◌, ◌==◌, ◌+◌, ◌-◌, ◌*◌, ◌/◌, ◌%◌, ◌^◌, ◌<◌, ◌≤◌, ℕ, ℤ, pos, negsuc, ◌+ℤ◌, ◌-ℤ◌, ◌≤ℤ◌, zero, suc, Bool, true, false, cond, List, map}
-use Rattle.std.proofs.Common.{arith, refl, ap, ◌∙◌, sym, subst, inl, inr, ◌⊎◌, slice_index, nat_lt, add-zero}
+use Rattle.std.proofs.Common.{◌≡◌, ◌==◌, ◌+◌, ◌-◌, ◌*◌, ◌/◌, ◌<◌, ◌≤◌, ℕ, ℤ, pos, negsuc, zero, suc, Bool, true, false, cond, List, map}
+use Rattle.std.proofs.Common.{arith, refl, ap, ◌∙◌, sym, inl, inr, ◌⊎◌, slice_index, add-zero}
 use Rattle.std.specs.Int.{bit_at}
 use Rattle.std.proofs.lemmas.Int.{ints}
-use Rattle.std.proofs.lemmas.Bool.{eqb-true, eqb-false, ltb-true, ltb-false, false≢true}
-use Rattle.std.proofs.lemmas.Bool.Decides.{nat_tests}
+use Rattle.std.proofs.lemmas.Bool.{eqb-true, eqb-false}
 use Rattle.std.proofs.lemmas.Nat.Bits.{bit_at-lt, bit_at-zero}
 use Rattle.plane_core.specs.declared.blocks.Grid.{Grid}
 use Rattle.plane_core.specs.declared.board.Layout.{Layout}
 use Rattle.plane_core.specs.declared.cell.Cell.{Cell}
-use Rattle.plane_core.specs.Bounds.{IsWithin, enlarged}
-use Rattle.plane_core.specs.Boards.{row_at, IsInner, IsNext, IsNextAt}
+use Rattle.plane_core.specs.Bounds.{IsWithin}
+use Rattle.plane_core.specs.Boards.{row_at, IsInner, IsNext}
 use Rattle.plane_core.specs.Cells.{InOrder, cell_at, has, moved_by}
-use Rattle.plane_core.specs.Generations.{around, lives, next, after}
+use Rattle.plane_core.specs.Generations.{around, next, after}
 use Rattle.plane_core.specs.Layouts.{grid_of, place, index_of, IsShown, room, HasRoom, IsDead}
 use Rattle.plane_core.specs.Rules.{Numbers, is_birth, is_survival}
-use Rattle.plane_core.specs.Tallies.{lives_by, one_of, total}
-use Rattle.plane_core.specs.Words.{one_if, west_of, east_of, row_count, block_count}
-use Rattle.plane_core.proofs.BlockLemmas.{row_total, block_total, block_total-around}
+use Rattle.plane_core.specs.Tallies.{lives_by, one_of}
+use Rattle.plane_core.specs.Words.{one_if, west_of, row_count, block_count}
+use Rattle.plane_core.proofs.BlockLemmas.{row_total, block_total-around}
 use Rattle.plane_core.proofs.BoardLemmas.{less_or_not, not_one}
-use Rattle.plane_core.proofs.GenerationLemmas.{has-next, total-ones, in_order-next, after-none, after-more}
+use Rattle.plane_core.proofs.GenerationLemmas.{has-next, total-ones}
 use Rattle.plane_core.proofs.SpeedLemmas.{boxed-after}
 
 -- ---- the list's indexes

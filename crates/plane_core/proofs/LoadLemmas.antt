@@ -1,9 +1,8 @@
 -- Cells that are put on a board, one after another.
-use Rattle.std.proofs.Common.{◌≡◌, ◌≢◌, ◌==◌, ◌+◌, ◌-◌, ◌*◌, ◌/◌, ◌%◌, ◌^◌, ◌<◌, ◌≤◌, ℕ, ℤ, pos, ◌+ℤ◌, ◌-ℤ◌, zero, suc, Bool, true, false, ◌||◌, cond, List, [], ◌∷◌, ◌++◌}
+use Rattle.std.proofs.Common.{◌≡◌, ◌≢◌, ◌==◌, ◌+◌, ◌-◌, ◌*◌, ◌/◌, ◌%◌, ◌^◌, ◌<◌, ◌≤◌, ℕ, pos, ◌+ℤ◌, ◌-ℤ◌, zero, suc, Bool, true, false, ◌||◌, List, [], ◌∷◌, ◌++◌}
 use Rattle.std.proofs.Common.{arith, refl, ap, ◌∙◌, sym, subst, inl, inr, ◌⊎◌, slice_index, get_or, set, get_or-set_same, get_or-set_other, length, bit_or, w64, take, replicate}
 use Rattle.std.specs.Int.{bit_at}
 use Rattle.std.proofs.lemmas.Int.{ints}
-use Rattle.std.proofs.lemmas.Bool.{false≢true, or_cases}
 use Rattle.std.proofs.lemmas.List.{take_more}
 use Rattle.std.proofs.lemmas.Nat.Bits.{bit_at-zero, bit_at_set_same, bit_at_set_other}
 use Rattle.std.proofs.Math.Nat.{mul-le-mul}
@@ -11,9 +10,9 @@ use Rattle.plane_core.specs.declared.blocks.Grid.{Grid}
 use Rattle.plane_core.specs.declared.board.Layout.{Layout}
 use Rattle.plane_core.specs.declared.cell.Cell.{Cell}
 use Rattle.plane_core.specs.Bounds.{IsWithin}
-use Rattle.plane_core.specs.Boards.{IsBeside, IsClear, IsFar, IsInner, IsQuiet, IsStill}
-use Rattle.plane_core.specs.Cells.{cell_at, has, same_cell}
-use Rattle.plane_core.specs.Layouts.{grid_of, place, index_of, IsShown, room, HasRoom, IsDead, IsLaid}
+use Rattle.plane_core.specs.Boards.{IsClear, IsFar, IsInner, IsQuiet, IsStill}
+use Rattle.plane_core.specs.Cells.{has, same_cell}
+use Rattle.plane_core.specs.Layouts.{grid_of, place, index_of, IsShown, room, IsDead, IsLaid}
 use Rattle.plane_core.proofs.BoardLemmas.{less_or_not, same_or_not}
 use Rattle.plane_core.proofs.CellLemmas.{same_cell-itself, same_cell-same}
 use Rattle.plane_core.proofs.SetLemmas.{has-append, has-head, or_right}

@@ -1,5 +1,5 @@
 -- The cells that are read off a board.
-use Rattle.std.proofs.Common.{◌≡◌, ◌≢◌, ◌==◌, ◌+◌, ◌-◌, ◌*◌, ◌/◌, ◌%◌, ◌^◌, ◌<◌, ◌≤◌, ℕ, ℤ, pos, ◌+ℤ◌, ◌-ℤ◌, ◌≤ℤ◌, zero, suc, Bool, true, false, ◌||◌, List, [], ◌∷◌, ◌++◌}
+use Rattle.std.proofs.Common.{◌≡◌, ◌≢◌, ◌==◌, ◌+◌, ◌*◌, ◌/◌, ◌%◌, ◌<◌, ℕ, ℤ, pos, ◌+ℤ◌, ◌-ℤ◌, ◌≤ℤ◌, Bool, true, false, ◌||◌, List, [], ◌∷◌, ◌++◌}
 use Rattle.std.proofs.Common.{arith, refl, ap, ◌∙◌, sym, subst, inl, inr, ◌⊎◌, slice_index, unsigned_abs}
 use Rattle.std.specs.Int.{bit_at}
 use Rattle.std.specs.Cmp.{both_ways as both_true}
@@ -7,12 +7,10 @@ use Rattle.std.proofs.lemmas.Int.{ints}
 use Rattle.std.proofs.lemmas.Bool.{false≢true, or_cases, eqb-true}
 use Rattle.plane_core.specs.declared.board.Layout.{Layout}
 use Rattle.plane_core.specs.declared.cell.Cell.{Cell}
-use Rattle.plane_core.specs.Bounds.{IsWithin}
-use Rattle.plane_core.specs.Cells.{InOrder, cell_at, has, same_cell, set_of}
-use Rattle.plane_core.specs.Layouts.{AreAmong, HasRead, HasReadRows, place, index_of, IsShown, room, HasRoom}
+use Rattle.plane_core.specs.Cells.{InOrder, cell_at, has, set_of}
+use Rattle.plane_core.specs.Layouts.{AreAmong, HasRead, HasReadRows, place, index_of, IsShown, HasRoom}
 use Rattle.plane_core.proofs.BoardLemmas.{same_or_not}
-use Rattle.plane_core.proofs.CellLemmas.{same_cell-same}
-use Rattle.plane_core.proofs.LayoutLemmas.{IsInside, same_cells}
+use Rattle.plane_core.proofs.LayoutLemmas.{same_cells}
 use Rattle.plane_core.proofs.LoadLemmas.{place_of, spot_inside}
 use Rattle.plane_core.proofs.SetLemmas.{has-append, has-cases, has-head, is_set_of, or_right}
 

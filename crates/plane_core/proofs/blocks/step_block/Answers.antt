@@ -1,5 +1,4 @@
-use Rattle.std.proofs.Common.{◌≡◌, ◌+◌, ◌*◌, arith, ap, ◌∙◌, ℕ}
-use Rattle.std.proofs.lemmas.Nat.Bits.{bit_at-zero}
+use Rattle.std.proofs.Common.{arith}
 use Rattle.plane_core.proofs.BoardLemmas.{writing_more, written_block, no_difference}
 use Rattle.plane_core.proofs.blocks.step_block.Goals as goal
 

@@ -1,4 +1,4 @@
-use Rattle.std.proofs.Common.{◌≡◌, ◌+◌, ◌*◌, ◌∙◌, ℕ, arith, sym, subst}
+use Rattle.std.proofs.Common.{◌∙◌, ℕ, arith, subst}
 use Rattle.plane_core.specs.Boards.{IsGoing}
 use Rattle.plane_core.proofs.BoardLemmas.{going_skip_group, flag_of, unmarked_bit}
 use Rattle.plane_core.proofs.blocks.step_group.Goals as goal

@@ -1,4 +1,4 @@
-use Rattle.std.proofs.Common.{◌∙◌, sym, arith}
+use Rattle.std.proofs.Common.{◌∙◌, sym}
 use Rattle.std.proofs.lemmas.Bool.{false≢true}
 use Rattle.plane_core.proofs.BoardLemmas.{going_written, going_skip_one}
 use Rattle.plane_core.proofs.blocks.step_marked.Goals as goal

@@ -1,4 +1,4 @@
-use Rattle.std.proofs.Common.{◌≡◌, ◌∙◌, ℕ, arith, ap, get_or-set_same, get_or}
+use Rattle.std.proofs.Common.{◌∙◌, ℕ, arith, ap, get_or-set_same, get_or}
 use Rattle.std.specs.Int.{bit_at}
 use Rattle.plane_core.proofs.BoardLemmas.{same_bit}
 use Rattle.plane_core.proofs.blocks.step_word.Goals as goal

@@ -1,4 +1,3 @@
-use Rattle.std.proofs.Common.{arith}
 use Rattle.plane_core.proofs.LoadLemmas.{has-at, shown_taken, shown-empty, still-empty}
 use Rattle.plane_core.proofs.board.fill.Goals as goal
 

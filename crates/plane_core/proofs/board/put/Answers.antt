@@ -1,5 +1,4 @@
-use Rattle.std.proofs.Common.{arith}
-use Rattle.plane_core.proofs.LoadLemmas.{spot_inner, spot_inside, put_shown, dead_more, still_more}
+use Rattle.plane_core.proofs.LoadLemmas.{spot_inner, put_shown, dead_more, still_more}
 use Rattle.plane_core.proofs.board.put.Goals as goal
 
 pub mark_near-requires-clause-inner : goal.mark_near-requires-clause-inner

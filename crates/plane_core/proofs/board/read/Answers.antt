@@ -1,6 +1,5 @@
-use Rattle.std.proofs.Common.{◌≡◌, ◌∙◌, ℕ, List, arith, ap, subst, sym}
-use Rattle.plane_core.specs.declared.cell.Cell.{Cell}
-use Rattle.plane_core.proofs.ReadLemmas.{HasReadStrips, strips-none, strips-more, read_all}
+use Rattle.std.proofs.Common.{◌∙◌, ℕ, arith, subst}
+use Rattle.plane_core.proofs.ReadLemmas.{HasReadStrips, strips-more, read_all}
 use Rattle.plane_core.proofs.board.read.Goals as goal
 
 pub loop-strip-preserved : goal.loop-strip-preserved

@@ -1,4 +1,4 @@
-use Rattle.std.proofs.Common.{◌≡◌, ◌*◌, ℕ, arith, ap, subst, slice_index}
+use Rattle.std.proofs.Common.{ℕ, arith, ap, subst, slice_index}
 use Rattle.plane_core.specs.Layouts.{HasReadRows}
 use Rattle.plane_core.proofs.ReadLemmas.{rows-none, rows-more}
 use Rattle.plane_core.proofs.board.read_strip.Goals as goal

@@ -1,4 +1,4 @@
-use Rattle.std.proofs.Common.{◌≡◌, ◌+◌, ◌+ℤ◌, ◌≢◌, ◌∙◌, ◌∷◌, ◌++◌, [], pos, ℕ, arith, sym, ap, subst, List}
+use Rattle.std.proofs.Common.{◌≡◌, ◌+◌, ◌+ℤ◌, ◌≢◌, ◌∙◌, ◌∷◌, ◌++◌, [], pos, arith, sym, ap, subst, List}
 use Rattle.std.specs.Int.{bit_at}
 use Rattle.std.proofs.lemmas.Nat.Bits.{shr_and_one}
 use Rattle.plane_core.specs.declared.cell.Cell.{Cell}

@@ -1,15 +1,12 @@
-use Rattle.std.proofs.Common.{◌≡◌, ◌∙◌, ℕ, List, arith, ap, subst, sym}
+use Rattle.std.proofs.Common.{◌≡◌, ℕ, List, arith, subst, sym}
 use Rattle.std.proofs.lemmas.Result.{IfOk-weaker}
-use Rattle.plane_core.specs.declared.blocks.Grid.{Grid}
 use Rattle.plane_core.specs.declared.cell.Cell.{Cell}
-use Rattle.plane_core.specs.Boards.{IsNext, IsStill, KeepsOuter}
 use Rattle.plane_core.specs.Cells.{InOrder}
 use Rattle.plane_core.specs.Generations.{after}
-use Rattle.plane_core.specs.Layouts.{HasRoom, IsShown, grid_of}
-use Rattle.plane_core.specs.Rules.{Numbers}
+use Rattle.plane_core.specs.Layouts.{HasRoom, IsShown}
 use Rattle.plane_core.proofs.GenerationLemmas.{after-none}
 use Rattle.plane_core.proofs.LayoutLemmas.{room-after}
-use Rattle.plane_core.proofs.RunLemmas.{IsAdvanced, in_order-after, running_start, running_more}
+use Rattle.plane_core.proofs.RunLemmas.{in_order-after, running_start, running_more}
 use Rattle.plane_core.proofs.board.run.Goals as goal
 
 pub load-requires-clause-room : goal.load-requires-clause-room

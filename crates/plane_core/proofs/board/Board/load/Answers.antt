@@ -1,8 +1,5 @@
-use Rattle.std.proofs.Common.{◌≡◌, ◌+◌, ◌*◌, ◌∙◌, ◌<◌, ◌≤◌, ℕ, List, [], ap, arith, refl, sym, subst, length, rules, slice_index, replicate}
-use Rattle.std.proofs.lemmas.Grind.{common_steps}
+use Rattle.std.proofs.Common.{◌≡◌, ◌*◌, ◌∙◌, ℕ, List, ap, arith, length, slice_index, replicate}
 use Rattle.std.proofs.lemmas.List.{with_items_is}
-use Rattle.plane_core.specs.Boards.{IsStill}
-use Rattle.plane_core.specs.Layouts.{IsDead, IsLoaded, IsShown, grid_of}
 use Rattle.plane_core.proofs.LoadLemmas.{board-small, zeros}
 use Rattle.plane_core.proofs.board.Board.load.Goals as goal
 

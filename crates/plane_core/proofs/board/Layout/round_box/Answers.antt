@@ -1,4 +1,4 @@
-use Rattle.std.proofs.Common.{arith, ap, ℕ, ◌+◌, ◌*◌, ◌/◌, rules, w32, FitsSigned}
+use Rattle.std.proofs.Common.{ap, ℕ, ◌+◌, ◌*◌, ◌/◌, rules, w32, FitsSigned}
 use Rattle.std.proofs.lemmas.Int.{to_z-of_z}
 use Rattle.plane_core.proofs.LayLemmas.{IsRound, round_is_laid, round_has_room}
 use Rattle.plane_core.proofs.board.Layout.round_box.Goals as goal

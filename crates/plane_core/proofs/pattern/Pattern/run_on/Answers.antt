@@ -1,7 +1,6 @@
-use Rattle.std.proofs.Common.{◌≡◌, ◌∙◌, ap, List, true}
+use Rattle.std.proofs.Common.{◌∙◌, ap, List}
 use Rattle.plane_core.specs.declared.cell.Cell.{Cell}
 use Rattle.plane_core.specs.Generations.{after}
-use Rattle.plane_core.specs.Cells.{IsPattern}
 use Rattle.plane_core.proofs.RunLemmas.{is_pattern-after}
 use Rattle.plane_core.proofs.pattern.Pattern.run_on.Goals as goal
 

@@ -1,4 +1,4 @@
-use Rattle.std.proofs.Common.{◌≡◌, ◌+◌, ◌*◌, ◌<◌, ◌≤◌, ℕ, arith, ap, ◌∙◌, ◌==◌, cond}
+use Rattle.std.proofs.Common.{arith, ◌∙◌}
 use Rattle.std.specs.Int.{bit_at}
 use Rattle.plane_core.proofs.WordLemmas.{by_state}
 use Rattle.plane_core.proofs.word.Answers.at_one.Goals as goal

@@ -1,7 +1,7 @@
-use Rattle.std.proofs.Common.{◌≡◌, ◌+◌, ◌*◌, ◌<◌, ◌≤◌, ℕ, arith, ap, ◌∙◌, ◌==◌, cond, Bool, true, false}
+use Rattle.std.proofs.Common.{ℕ, arith, ap, ◌∙◌, ◌==◌}
 use Rattle.std.specs.Int.{bit_at}
 use Rattle.plane_core.specs.Tallies.{lives_by}
-use Rattle.plane_core.specs.Words.{one_if, block_count}
+use Rattle.plane_core.specs.Words.{one_if}
 use Rattle.plane_core.proofs.WordLemmas.{block_count-small}
 use Rattle.plane_core.proofs.word.Answers.next_word.Goals as goal
 
