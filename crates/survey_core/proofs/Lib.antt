@@ -2,7 +2,7 @@ mod FindingLemmas
 mod ForGoodLemmas
 mod ObjectLemmas
 mod PartitionLemmas
-mod PlaneLemmas
+pub mod PlaneLemmas
 mod RestLemmas
 mod SeedLemmas
 mod SoupLemmas
