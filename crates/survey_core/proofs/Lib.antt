@@ -1,3 +1,4 @@
+mod DeterminedLemmas
 mod FindingLemmas
 mod ForGoodLemmas
 mod ObjectLemmas
