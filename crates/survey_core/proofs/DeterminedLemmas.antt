@@ -1,6 +1,6 @@
 -- A pattern has one finding.
-use Rattle.std.proofs.Common.{◌≡◌, ◌≢◌, ◌∙◌, ap, sym, refl, subst, ℕ, zero, suc, ◌+◌, ◌<◌, ◌≤◌, ◌↔◌, Bool, true, false, IsTrue, List, [], ◌∷◌, All, get_or}
-use Rattle.std.proofs.Common.{arith, count_by, Option, None, Some, IfSome, unwrap_or, inl, inr, eq-or-lt_of_le, cond}
+use Rattle.std.proofs.Common.{◌≡◌, ◌≢◌, ◌∙◌, ap, sym, refl, subst, ℕ, suc, ◌≤◌, Bool, false, List, [], ◌∷◌, All, get_or}
+use Rattle.std.proofs.Common.{arith, count_by, Some, unwrap_or, inl, inr, eq-or-lt_of_le, cond}
 use Rattle.std.specs.Cmp.{both_ways as both_true, tied_itself}
 use Rattle.std.specs.Cmp.Lexicographic.{nat_list_cmp_total, slice_cmp}
 use Rattle.std.specs.List.{AllByRecursion, AllZip}
@@ -16,13 +16,11 @@ use Rattle.plane_core.specs.Rules.{Numbers}
 use Rattle.plane_core.proofs.ClusterLaws.{determined_law}
 use Rattle.code_core.specs.Names.{IsCode}
 use Rattle.code_core.proofs.CodeLaws.{codes_are_determined}
-use Rattle.survey_core.specs.declared.finding.Finding.{Finding}
 use Rattle.survey_core.specs.declared.finding.Finding.TheVariants.{Settled, Unsettled}
 use Rattle.survey_core.specs.FindingLaws.{FindingsAreDetermined}
-use Rattle.survey_core.specs.Findings.{IsFinding, IsSettled, NoRestBefore}
+use Rattle.survey_core.specs.Findings.{IsSettled}
 use Rattle.survey_core.specs.Objects.{AreObjects, AreObjectsOf, count_of, is_code}
 use Rattle.survey_core.specs.Profiles.{Settling}
-use Rattle.survey_core.specs.Rest.{IsAtRest}
 use Rattle.survey_core.proofs.ObjectLemmas.{same_code}
 use Rattle.survey_core.proofs.RestLemmas.{cluster_some}
 
