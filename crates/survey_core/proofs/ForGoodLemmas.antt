@@ -167,26 +167,26 @@ map_itself (part ∷ parts) = λ i. part ∷ map_itself parts i
 -- clusters that all are themselves again in a generation up to which they keep apart
 module _ (rule : Numbers) (cells : List Cell) (clusters : List (List Cell)) (L : ℕ) (some : 1 ≤ L) (order : InOrder cells)
     (are : AreClusters cells clusters) (each : All (λ part. after rule part L ≡ part) clusters) (apart : (g : ℕ) → g ≤ L → KeepApart rule cells clusters g)
-    where
-  -- the whole is itself again as well
-  pub whole_back : after rule cells L ≡ cells
-  whole_back =
-      let later : Partition (after rule cells L) (map (λ part. after rule part L) clusters) = apart L (omega arith) in
-      let now : Partition cells clusters = partition_law cells clusters are in
-      let same : map (λ part. after rule part L) clusters ≡ clusters =
-      map_same (λ part. after rule part L) (λ part. part) clusters each ∙ map_itself clusters in
-      same_lists (after rule cells L) cells (in_order-after rule cells L order) order
-      (λ c. sym (later.union c) ∙ ap (λ (parts : List (List Cell)). list_any (λ part. has part c) parts) same ∙ now.union c)
+  where
+    -- the whole is itself again as well
+    pub whole_back : after rule cells L ≡ cells
+    whole_back =
+        let later : Partition (after rule cells L) (map (λ part. after rule part L) clusters) = apart L (omega arith) in
+        let now : Partition cells clusters = partition_law cells clusters are in
+        let same : map (λ part. after rule part L) clusters ≡ clusters =
+        map_same (λ part. after rule part L) (λ part. part) clusters each ∙ map_itself clusters in
+        same_lists (after rule cells L) cells (in_order-after rule cells L order) order
+        (λ c. sym (later.union c) ∙ ap (λ (parts : List (List Cell)). list_any (λ part. has part c) parts) same ∙ now.union c)
 
-  -- so they keep apart forever
-  pub apart_forever : (g : ℕ) → KeepApart rule cells clusters g
-  apart_forever g =
-      let inside : g % L ≤ L = omega arith in
-      subst (λ (parts : List (List Cell)). Partition (after rule cells g) parts)
-      (map_same (λ part. after rule part (g % L)) (λ part. after rule part g) clusters
-      (λ k d there. sym (after_rest rule (get_or clusters k d) L g (each k d there))))
-      (subst (λ (whole : List Cell). Partition whole (map (λ part. after rule part (g % L)) clusters)) (sym (after_rest rule cells L g whole_back))
-      (apart (g % L) inside))
+    -- so they keep apart forever
+    pub apart_forever : (g : ℕ) → KeepApart rule cells clusters g
+    apart_forever g =
+        let inside : g % L ≤ L = omega arith in
+        subst (λ (parts : List (List Cell)). Partition (after rule cells g) parts)
+        (map_same (λ part. after rule part (g % L)) (λ part. after rule part g) clusters
+        (λ k d there. sym (after_rest rule (get_or clusters k d) L g (each k d there))))
+        (subst (λ (whole : List Cell). Partition whole (map (λ part. after rule part (g % L)) clusters)) (sym (after_rest rule cells L g whole_back))
+        (apart (g % L) inside))
 
 pub at_rest_for_good : AtRestForGood
 at_rest_for_good rule profile cells clusters objects order low rest counted good = record {
