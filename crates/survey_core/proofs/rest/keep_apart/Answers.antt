@@ -17,14 +17,19 @@ loop-init c = record {
       (apart_at_once c.args.rule.now c.args.pattern.now c.args.clusters.now c.requires.clusters);
 }
 
+pub next_of_each-requires : goal.next_of_each-requires
+next_of_each-requires c =
+    subst (All (λ part. lies_within 999999 part ≡ true)) (alone_at_once c.args.rule.now c.args.clusters.now)
+    (alone_near c.args.rule.now c.args.pattern.now c.args.clusters.now 0 c.requires.clusters c.requires.near (omega arith))
+
 pub next-requires : goal.next-requires
 next-requires c =
     let low : c.loop.counter < c.args.horizon = c.loop-test.true in
     let most : c.args.horizon ≤ 4096 = c.requires.horizon in
     ap (lies_within 999999) c.loop.invariant.whole ∙ within_later 101000 999999 c.args.rule.now c.args.pattern.now c.loop.counter (omega arith) c.requires.near
 
-pub next_of_each-requires : goal.next_of_each-requires
-next_of_each-requires c =
+pub next_of_all-requires-clause-near : goal.next_of_all-requires-clause-near
+next_of_all-requires-clause-near c =
     let low : c.loop.counter < c.args.horizon = c.loop-test.true in
     let most : c.args.horizon ≤ 4096 = c.requires.horizon in
     subst (All (λ part. lies_within 999999 part ≡ true)) (sym (c.as_slice.ensures.value ∙ c.loop.invariant.alone))
