@@ -20,12 +20,12 @@ abbrev pub FindingsMoved : Type 0
 FindingsMoved = (dx dy : ℤ) (rule : Numbers) (profile : Settling) (cells : List Cell) (finding : Finding)
     → InOrder cells → IsFinding rule profile cells finding → IsFinding rule profile (shifted dx dy cells) finding
 
--- a pattern that is turned or mirrored keeps its finding, as its image comes
+-- the image of a pattern, turned or mirrored, has its finding, where it comes to lie
 abbrev pub FindingsOfImages : Type 0
 FindingsOfImages = (o : Orientation) (rule : Numbers) (profile : Settling) (cells : List Cell) (finding : Finding)
     → InOrder cells → IsFinding rule profile cells finding → IsFinding rule profile (image o cells) finding
 
--- and as its image lies at the corner
+-- and at the corner
 abbrev pub FindingsTurned : Type 0
 FindingsTurned = (o : Orientation) (rule : Numbers) (profile : Settling) (cells : List Cell) (finding : Finding)
     → InOrder cells → IsFinding rule profile cells finding → IsFinding rule profile (turned o cells) finding
