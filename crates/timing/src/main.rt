@@ -13,13 +13,13 @@ use plane_core::clusters::clusters_are_determined;
 use plane_core::generation::StepError;
 use plane_core::pattern::Pattern;
 use plane_core::rule::Rule;
+use std::alloc::{AllocError, Global};
+use std::env;
+use std::io::{self, Read};
 use survey_core::finding::{Finding, survey};
 use survey_core::job::Job;
 use survey_core::profile::Profile;
 use survey_core::seed::Seed;
-use std::alloc::{AllocError, Global};
-use std::env;
-use std::io::{self, Read};
 
 /// How many clusters the pattern has.
 fn cluster_count(alloc: Global, pattern: &Pattern) -> Result<usize, AllocError>
