@@ -1,5 +1,6 @@
 -- A pattern that is moved, turned or mirrored keeps its finding.
-use Rattle.std.proofs.Common.{◌≡◌, ◌∙◌, ap, sym, refl, subst, ℕ, ℤ, neg_ℤ, ◌+ℤ◌, pos, zero, suc, Bool, true, false, List, [], ◌∷◌, All, map, get_or, count_by, cond, arith}
+use Rattle.std.proofs.Common.{◌≡◌, ◌∙◌, ap, sym, refl, subst, ℕ, ℤ, neg_ℤ, ◌+ℤ◌, pos, zero, suc, Bool, true, false, List, []}
+use Rattle.std.proofs.Common.{◌∷◌, All, map, get_or, count_by, cond, arith}
 use Rattle.std.specs.List.{AllZip}
 use Rattle.std.specs.List.Sorted.{IsPermutation}
 use Rattle.std.specs.Ordering.{is_lt}
