@@ -1,4 +1,5 @@
 pub mod BlockLemmas
+pub mod BoardLemmas
 pub mod BoundsLemmas
 pub mod CellLemmas
 pub mod ClusterLaws
@@ -8,6 +9,9 @@ pub mod FloodLemmas
 pub mod FloodLoops
 pub mod FloodSteps
 pub mod GenerationLemmas
+pub mod LayLemmas
+pub mod LayoutLemmas
+pub mod LoadLemmas
 pub mod MergeLemmas
 pub mod NeighbourLemmas
 pub mod OrientationLemmas
@@ -22,11 +26,14 @@ pub mod PlaintextRows
 pub mod PlaintextSmall
 pub mod PlaintextWalks
 pub mod PlaintextWriting
+pub mod ReadLemmas
 pub mod RuleLemmas
 pub mod RuleNumbers
 pub mod RuleReading
+pub mod RunLemmas
 pub mod SearchLemmas
 pub mod SetLemmas
 pub mod SpeedLemmas
 pub mod TallyLemmas
 pub mod TurnLemmas
+pub mod WordLemmas

@@ -32,7 +32,7 @@ within-next rule S n h = has-list_all (is_within (n + 1)) (next rule S) (λ c k.
     further c (inl alive) = within-beside n c c (omega (arith, distance_itself c.x, distance_itself c.y)) (list_all-has (is_within n) S h c alive)
     further c (inr beside) = let d = a_neighbour S c beside in within-beside n c d.0 (omega (arith, d.2)) (list_all-has (is_within n) S h d.0 d.1)
 
-after-suc : (rule : Numbers) (S : List Cell) (g : ℕ) → after rule S (suc g) ≡ next rule (after rule S g)
+pub after-suc : (rule : Numbers) (S : List Cell) (g : ℕ) → after rule S (suc g) ≡ next rule (after rule S g)
 unfolding after
 after-suc rule S g = refl
 
@@ -71,7 +71,7 @@ boxed-none b c h = record { left = low b.left c.x h.left; top = low b.top c.y h.
     high : (r a : ℤ) → a ≤ℤ r → a ≤ℤ (r +ℤ pos 0)
     high r a m = omega (arith, ints)
 
-boxed-after : (rule : Numbers) (S : List Cell) (b : Bounds) (g : ℕ) → ((c : Cell) → has S c ≡ true → IsWithin b c) → (c : Cell)
+pub boxed-after : (rule : Numbers) (S : List Cell) (b : Bounds) (g : ℕ) → ((c : Cell) → has S c ≡ true → IsWithin b c) → (c : Cell)
     → has (after rule S g) c ≡ true → IsWithin (enlarged g b) c
 boxed-after rule S b zero h c e = boxed-none b c (h c (subst (λ (T : List Cell). has T c ≡ true) (after-none rule S) e))
 boxed-after rule S b (suc g) h c e =

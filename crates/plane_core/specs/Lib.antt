@@ -1,8 +1,10 @@
+pub mod Boards
 pub mod Bounds
 pub mod Cells
 pub mod Clusters
 pub mod Flood
 pub mod Generations
+pub mod Layouts
 pub mod Orientations
 pub mod Out
 pub mod Plaintext
@@ -11,3 +13,4 @@ pub mod PlaintextWalk
 pub mod Refusals
 pub mod Rules
 pub mod Tallies
+pub mod Words

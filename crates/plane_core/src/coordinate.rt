@@ -1,6 +1,6 @@
 //! The arithmetic of coordinates: each call says how large its numbers may be, so that none overflows.
 ghost use Rattle.std.specs.Prelude.{◌≡◌, ◌+◌, ◌≤◌, ◌+ℤ◌, ◌-ℤ◌, Some, None, if◌then◌else◌, nat_le, neg_ℤ, pos, unsigned_abs};
-ghost use Rattle.plane_core.specs.Cells.{plane_bound};
+ghost use Rattle.plane_core.specs.Cells.{distance, plane_bound};
 
 use crate::cell::BOUND;
 
@@ -22,6 +22,25 @@ pub fn along(from: i32, cells: u32) -> i32
     ensures { result ≡ from +ℤ pos cells }
 {
     from + cells as i32
+}
+
+/// The coordinate so many cells to the left, or up, of one that lies within the bound: at most [`BOUND`] cells. It may lie
+/// past the bound.
+pub(crate) fn back(from: i32, cells: u32) -> i32
+    requires from { unsigned_abs from ≤ plane_bound }
+    requires cells { cells ≤ plane_bound }
+    ensures { result ≡ from -ℤ pos cells }
+{
+    from - cells as i32
+}
+
+/// How far apart two coordinates are that lie within the bound.
+pub(crate) fn apart(a: i32, b: i32) -> u32
+    requires a { unsigned_abs a ≤ plane_bound }
+    requires b { unsigned_abs b ≤ plane_bound }
+    ensures { result ≡ distance a b }
+{
+    (a - b).unsigned_abs()
 }
 
 /// The coordinate on the other side of 0, of one that lies within the bound.

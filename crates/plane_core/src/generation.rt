@@ -1,10 +1,12 @@
-ghost use Rattle.std.specs.Prelude.{◌≡◌, ◌≢◌, ℕ, ◌+◌, ◌<◌, ◌≤◌, true, false, IfOk, IfErr, OnOk, IsErrOf};
+ghost use Rattle.std.specs.Prelude.{◌≡◌, ◌≢◌, ℕ, ◌+◌, ◌-◌, ◌<◌, ◌≤◌, true, false, IfOk, IfErr, OnOk, IsErrOf};
 ghost use Rattle.plane_core.specs.Cells.{has, plane_bound};
 ghost use Rattle.plane_core.specs.Generations.{next, after, lives, touches_edge, lies_within, NextMoved, NextTurned, SpeedFromOrigin, SpeedOfLight};
+ghost use Rattle.plane_core.specs.Layouts.{HasRoom, IsLaid};
 ghost use Rattle.plane_core.specs.Refusals.{RefusesStep};
 ghost use Rattle.plane_core.specs.declared.cell.Cell.{Cell};
 ghost use Rattle.plane_core.specs.declared.generation.StepError.TheVariants.{Memory};
 
+use crate::board::{self, Layout};
 use crate::cell::Cell;
 use crate::pattern::Pattern;
 use crate::rule::Rule;
@@ -22,6 +24,10 @@ pub enum StepError {
     #[error("out of memory")]
     Memory,
 }
+
+/// The most generations on one board. Then the pattern is read back and a board is laid out anew, so that it is no wider
+/// than the pattern for long.
+const STRETCH: u32 = 128;
 
 impl From<AllocError> for StepError {
     ghost from_gives = { λ _ e. e ≡ Memory };
@@ -77,11 +83,61 @@ impl Pattern {
             return Err(StepError::Edge);
         }
         let mut pattern = self.copy(alloc)?;
-        for _ in 0..generations {
-            pattern = pattern.step(alloc, rule)?;
+        let mut made = 0;
+        while made < generations {
+            let stretch = pattern.stretch(alloc, rule, generations - made)?;
+            pattern = stretch.pattern;
+            made += stretch.count;
         }
         Ok(pattern)
     }
+
+    /// The pattern some generations later, at most so many: on a board if one is worth it, and else after one step.
+    fn stretch(&self, alloc: Global, rule: &Rule, most: u32) -> Result<Stretch, StepError>
+        requires { 0 < most }
+        ensures some { IfOk result (λ stretch. 0 < stretch.count) }
+        ensures most { IfOk result (λ stretch. stretch.count ≤ most) }
+        ensures after { IfOk result (λ stretch. stretch.pattern ≡ after rule.now self.now stretch.count) }
+        ensures inside { IfOk result (λ stretch. (g : ℕ) → g < stretch.count → touches_edge (after rule.now self.now g) ≡ false) }
+        ensures edge { IsErrOf result StepError.Edge → touches_edge self.now ≡ true }
+    {
+        let count = most.min(STRETCH);
+        match Layout::round(self, count) {
+            Some(at) => {
+                let pattern = self.run_on(alloc, rule, at, count)?;
+                Ok(Stretch { pattern, count })
+            }
+            None => {
+                let pattern = self.step(alloc, rule)?;
+                Ok(Stretch { pattern, count: 1 })
+            }
+        }
+    }
+
+    /// The pattern after so many generations, on a board with room for them.
+    fn run_on(
+        &self,
+        alloc: Global,
+        rule: &Rule,
+        at: Layout,
+        generations: u32,
+    ) -> Result<Pattern, AllocError>
+        requires laid { IsLaid at }
+        requires room { HasRoom at generations self.now }
+        requires few { generations ≤ plane_bound }
+        requires inside { lies_within (plane_bound - generations) self.now ≡ true }
+        ensures { IfOk result (λ pattern. pattern ≡ after rule.now self.now generations) }
+    {
+        let cells = board::run(alloc, rule, at, self.cells(), generations)?;
+        Ok(Pattern::from_ordered(cells))
+    }
+}
+
+/// A pattern some generations later, and how many.
+#[derive(Drop)]
+struct Stretch {
+    pattern: Pattern,
+    count: u32,
 }
 
 /// A law of all rules: in g generations no pattern comes further than g cells from where it lay.

@@ -4,6 +4,8 @@
 //! for the finite set.
 #![tactic(auto)]
 
+mod blocks;
+mod board;
 /// The least box round a pattern.
 pub mod bounds;
 /// Cells of the plane, and their order.
@@ -31,3 +33,4 @@ pub mod shift_to;
 mod tally;
 #[cfg(test)]
 mod tests;
+mod word;

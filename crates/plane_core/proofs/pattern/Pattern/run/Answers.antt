@@ -1,32 +1,64 @@
-use Rattle.std.proofs.Common.{◌≡◌, ◌∙◌, sym, ap, List, false, true, arith, below_more, rules}
+use Rattle.std.proofs.Common.{◌≡◌, ◌∙◌, ◌≤◌, ℕ, sym, ap, List, false, true, arith, rules, Err}
 use Rattle.std.proofs.lemmas.Bool.{false≢true}
 use Rattle.std.proofs.lemmas.Result.{err_from_is_err_and}
 use Rattle.plane_core.specs.declared.cell.Cell.{Cell}
 use Rattle.plane_core.specs.declared.generation.StepError.TheVariants.{Edge}
-use Rattle.plane_core.specs.Generations.{next, touches_edge}
-use Rattle.plane_core.proofs.GenerationLemmas.{after-none, after-more}
+use Rattle.plane_core.specs.Generations.{after, touches_edge}
+use Rattle.plane_core.proofs.GenerationLemmas.{after-none}
+use Rattle.plane_core.proofs.RunLemmas.{after-plus, inside-more}
 use Rattle.plane_core.proofs.SpeedLemmas.{run_inside}
 use Rattle.plane_core.proofs.pattern.Pattern.run.Goals as goal
 
-pub loop-init : goal.loop-init
-loop-init c = (c.in_ok-pattern.ensures ∙ sym (after-none c.args.rule.now c.args.self.now), λ g low. absurd (omega arith))
+pub loop-made-init : goal.loop-made-init
+loop-made-init c = record {
+  most = omega arith;
+  later = c.in_ok-pattern.ensures ∙ sym (after-none c.args.rule.now c.args.self.now);
+  inside = λ g low. absurd (omega arith);
+}
 
--- one generation more
-pub loop-preserved : goal.loop-preserved
-loop-preserved c = (
-  c.in_ok-pattern-2.ensures.next ∙ ap (λ (cells : List Cell). next c.args.rule.now cells) c.loop.invariant.0
-      ∙ sym (after-more c.args.rule.now c.args.self.now c.loop.counter),
-  below_more _ _ c.loop.invariant.1 (ap (λ (cells : List Cell). touches_edge cells) (sym c.loop.invariant.0) ∙ c.in_ok-pattern-2.ensures.inside),
-)
+pub loop-made-preserved : goal.loop-made-preserved
+loop-made-preserved c =
+    let rule = c.args.rule.now in
+    let start = c.args.self.now in
+    let before = c.loop-made.invariant in
+    let made = c.loop-made.made in
+    let more = c.in_ok-stretch.stretch.count in
+    record {
+      most = let low = c.in_ok-stretch.ensures.most in omega arith;
+      later = c.in_ok-stretch.ensures.after ∙ ap (λ (S : List Cell). after rule S more) before.later ∙ after-plus rule start made more;
+      inside = inside-more rule start made more before.inside
+          (λ g low. ap (λ (S : List Cell). touches_edge (after rule S g)) (sym before.later) ∙ c.in_ok-stretch.ensures.inside g low);
+    }
 
--- a generation on the edge would have come too far
-pub returns-in_err-pattern-2-clause-never_edge : goal.returns-in_err-pattern-2-clause-never_edge
-returns-in_err-pattern-2-clause-never_edge c = λ reach h far e.
-    let off : touches_edge c.loop.pattern ≡ false =
-    ap touches_edge c.loop.invariant.0 ∙ run_inside c.args.rule.now c.args.self.now reach c.loop.counter c.args.generations h far c.loop-test.true in
-    let told = err_from_is_err_and c.from_residual-in_err-pattern-2.result c.from_residual-in_err-pattern-2.ensures.1 in
-    let edge : c.in_err-pattern-2.field-0.0 ≡ Edge = cc in
-    let on : touches_edge c.loop.pattern ≡ true = rw edge at c.in_err-pattern-2.ensures.refused in
+-- at the end all generations are made
+all_made : (made generations : ℕ) → made ≤ generations → generations ≤ made → made ≡ generations
+all_made made generations p q = omega arith
+
+pub returns-clause-after : goal.returns-clause-after
+returns-clause-after c =
+    c.loop-made.invariant.later
+    ∙ ap (λ (g : ℕ). after c.args.rule.now c.args.self.now g) (all_made _ _ c.loop-made.invariant.most c.loop-made-test.false)
+
+pub returns-clause-inside : goal.returns-clause-inside
+returns-clause-inside c g low = c.loop-made.invariant.inside g (let end = c.loop-made-test.false in omega arith)
+
+-- a generation was on the edge
+pub returns-in_err-stretch-clause-edge : goal.returns-in_err-stretch-clause-edge
+returns-in_err-stretch-clause-edge c e =
+    let told = err_from_is_err_and c.from_residual-in_err-stretch.result c.from_residual-in_err-stretch.ensures.1 in
+    let edge : c.in_err-stretch.field-0.0 ≡ Edge = cc in
+    let on : touches_edge c.loop-made.pattern ≡ true = c.in_err-stretch.ensures.edge (ap Err edge) in
+    (c.loop-made.made, c.loop-made-test.true, ap touches_edge (sym c.loop-made.invariant.later) ∙ on)
+
+-- and would have come too far
+pub returns-in_err-stretch-clause-never_edge : goal.returns-in_err-stretch-clause-never_edge
+returns-in_err-stretch-clause-never_edge c reach h far e =
+    let told = err_from_is_err_and c.from_residual-in_err-stretch.result c.from_residual-in_err-stretch.ensures.1 in
+    let edge : c.in_err-stretch.field-0.0 ≡ Edge = cc in
+    let on : touches_edge c.loop-made.pattern ≡ true = c.in_err-stretch.ensures.edge (ap Err edge) in
+    let off : touches_edge c.loop-made.pattern ≡ false =
+    ap touches_edge c.loop-made.invariant.later
+    ∙ run_inside c.args.rule.now c.args.self.now reach c.loop-made.made c.args.generations h far c.loop-made-test.true in
     false≢true (sym off ∙ on)
 
 -- no generation before the first: the pattern itself is at the edge

@@ -1,0 +1,34 @@
+use Rattle.std.proofs.Common.{ap, ℕ, ◌+◌, ◌*◌, ◌/◌, rules, w32, FitsSigned}
+use Rattle.std.proofs.lemmas.Int.{to_z-of_z}
+use Rattle.plane_core.proofs.LayLemmas.{IsRound, round_is_laid, round_has_room}
+use Rattle.plane_core.proofs.board.Layout.round_box.Goals as goal
+
+is_round : (c : goal.After-back-2) → IsRound c.args.bounds c.args.margin (record {
+  left = c.back.result;
+  top = c.back-2.result;
+  strips = (c.apart.result + 2 * c.args.margin + 65) / 64 + 2;
+  blocks = (c.apart-2.result + 2 * c.args.margin + 17) / 16 + 2;
+})
+is_round c =
+    let left : FitsSigned w32 c.args.bounds.left = search rules in
+    let top : FitsSigned w32 c.args.bounds.top = search rules in
+    let right : FitsSigned w32 c.args.bounds.right = search rules in
+    let bottom : FitsSigned w32 c.args.bounds.bottom = search rules in
+    record {
+      left = simp to_z-of_z at c.back.ensures;
+      top = simp to_z-of_z at c.back-2.ensures;
+      strips = ap (λ (n : ℕ). (n + 2 * c.args.margin + 65) / 64 + 2) (simp to_z-of_z at c.apart.ensures);
+      blocks = ap (λ (n : ℕ). (n + 2 * c.args.margin + 17) / 16 + 2) (simp to_z-of_z at c.apart-2.ensures);
+    }
+
+pub returns-clause-laid : goal.returns-clause-laid
+returns-clause-laid c =
+    let left : FitsSigned w32 c.back.result = search rules in
+    let top : FitsSigned w32 c.back-2.result = search rules in
+    simp to_z-of_z (round_is_laid c.args.bounds c.args.margin _ c.requires.margin c.requires.sides (is_round c))
+
+pub returns-clause-room : goal.returns-clause-room
+returns-clause-room c =
+    let left : FitsSigned w32 c.back.result = search rules in
+    let top : FitsSigned w32 c.back-2.result = search rules in
+    simp to_z-of_z (round_has_room c.args.bounds c.args.margin _ (is_round c))

@@ -1,0 +1,32 @@
+-- Words of 64 cells of a row: bit i of a word is 1 if the cell in its column i is alive. Columns count from the left, from 0.
+use Rattle.std.specs.Prelude.{◌≡◌, ◌==◌, ◌+◌, ◌<◌, ℕ, zero, suc, Bool, if◌then◌else◌}
+use Rattle.std.specs.Int.{bit_at}
+use Rattle.plane_core.specs.declared.word.Row.{Row}
+use Rattle.plane_core.specs.Rules.{Numbers}
+use Rattle.plane_core.specs.Tallies.{lives_by}
+
+-- 1 for a live cell, 0 for a dead one
+abbrev pub one_if : Bool → ℕ
+one_if b = if b then 1 else 0
+
+-- the cell to the left of column i, which is the last one of the word before if i is 0
+abbrev pub west_of : ℕ → ℕ → ℕ → ℕ
+west_of before here zero = bit_at before 63
+west_of before here (suc i) = bit_at here i
+
+-- the cell to its right, which is the first one of the word after if i is 63
+abbrev pub east_of : ℕ → ℕ → ℕ → ℕ
+east_of here after i = if i == 63 then bit_at after 0 else bit_at here (i + 1)
+
+-- the live cells among the three of a row in columns i - 1, i and i + 1
+abbrev pub row_count : Row → ℕ → ℕ
+row_count row i = west_of row.before row.here i + bit_at row.here i + east_of row.here row.after i
+
+-- the live cells of the block of nine round column i of the middle row
+abbrev pub block_count : Row → Row → Row → ℕ → ℕ
+block_count above here below i = row_count above i + row_count here i + row_count below i
+
+-- the word is that of the middle row, one generation later
+abbrev pub IsNextWord : Numbers → Row → Row → Row → ℕ → Type 0
+IsNextWord rule above here below word =
+    (i : ℕ) → i < 64 → bit_at word i ≡ one_if (lives_by rule (block_count above here below i) (bit_at here.here i == 1))

@@ -1,0 +1,227 @@
+//! A generation of a board, block by block. Blocks that need no work are passed over.
+//!
+//! There are two lists of words: `now` is this generation, and `last` the one before it. The next generation is written
+//! over `last`. What a block overwrites is what it was two generations ago. A block that is now, with the ring of cells
+//! round it, what it was two generations ago will be what it was one generation ago: `last` has it already. So only
+//! blocks with a change in them or on their ring are marked for the next turn. Each change marks its own block; one in
+//! the top or bottom row marks the block above or below too, and one in the first or last column those to that side.
+ghost use Rattle.std.specs.Prelude.{◌≡◌, ◌≢◌, ◌==◌, ◌+◌, ◌-◌, ◌*◌, ◌/◌, ◌%◌, ◌^◌, ◌<◌, ◌≤◌, ◌↔◌, IsTrue, false, ℕ, List, length, slice_index};
+ghost use Rattle.std.specs.Int.{bit_at};
+ghost use Rattle.plane_core.specs.Boards.{IsBeside, IsClear, IsFar, IsGoing, IsInner, IsNext, IsNextAt, IsRight, IsStill, IsUnmarked, IsWritten, KeepsMarks, KeepsOuter, TellsChanges, row_at};
+
+use crate::word::{Answers, Row};
+
+/// How many blocks a strip of a board has, and how many there are in all.
+#[derive(Clone, Copy)]
+pub(crate) struct Grid {
+    pub(crate) blocks: usize,
+    pub(crate) count: usize,
+}
+
+/// What has changed in a block, as bits: in any row, in the first row, and in the last.
+#[derive(Clone, Copy)]
+struct Changes {
+    columns: u64,
+    top: u64,
+    bottom: u64,
+}
+
+impl Grid {
+    /// Whether a block has blocks all round it.
+    fn is_inner(self, j: usize) -> bool
+        ensures { IsTrue result ↔ IsInner self j }
+    {
+        self.blocks < j && j < self.count && self.blocks < self.count - j - 1
+    }
+}
+
+/// Word i with its neighbours in the row.
+fn row_of(words: &[u64], grid: Grid, i: usize) -> Row
+    requires low { 16 * grid.blocks ≤ i }
+    requires high { i + 16 * grid.blocks < length words.now }
+    ensures { result ≡ row_at words.now grid i }
+{
+    Row {
+        before: words[i - 16 * grid.blocks],
+        here: words[i],
+        after: words[i + 16 * grid.blocks],
+    }
+}
+
+/// Writes word i of the next generation, and returns which of its bits have changed.
+fn step_word(answers: &Answers, grid: Grid, now: &[u64], last: &mut [u64], i: usize) -> u64
+    requires long { length last.old ≡ length now.now }
+    requires low { 16 * grid.blocks + 1 ≤ i }
+    requires high { i + 16 * grid.blocks + 1 < length now.now }
+    ensures next { IsNextAt answers.now.rule grid now.now i (slice_index last.new i) }
+    ensures others { (m : ℕ) → m ≢ i → slice_index last.new m ≡ slice_index last.old m }
+    ensures changes { (b : ℕ) → bit_at result b ≡ 0 → bit_at (slice_index last.new i) b ≡ bit_at (slice_index last.old i) b }
+{
+    let above = row_of(now, grid, i - 1);
+    let here = row_of(now, grid, i);
+    let below = row_of(now, grid, i + 1);
+    let word = answers.next_word(above, here, below);
+    let change = last[i] ^ word;
+    last[i] = word;
+    change
+}
+
+/// Marks block k.
+fn mark(flags: &mut [u64], k: usize)
+    requires { k < 64 * length flags.old }
+    ensures { (m : ℕ) → IsClear flags.new m → IsClear flags.old m × (m ≢ k) }
+{
+    flags[k / 64] |= 1 << (k % 64);
+}
+
+/// Marks block k if there is a change.
+fn mark_if(flags: &mut [u64], k: usize, change: u64)
+    requires { k < 64 * length flags.old }
+    ensures { (m : ℕ) → IsClear flags.new m → IsClear flags.old m × (m ≡ k → change ≡ 0) }
+{
+    if change != 0 {
+        mark(flags, k);
+    }
+}
+
+/// Marks block k and those above and below it if there is a change.
+fn mark_three(flags: &mut [u64], k: usize, change: u64)
+    requires low { 1 ≤ k }
+    requires high { k + 1 < 64 * length flags.old }
+    requires small { k < 2 ^ 60 }
+    ensures { (m : ℕ) → IsClear flags.new m → IsClear flags.old m × (IsBeside k m → change ≡ 0) }
+{
+    if change != 0 {
+        mark(flags, k - 1);
+        mark(flags, k);
+        mark(flags, k + 1);
+    }
+}
+
+/// Marks the blocks that the changes of block j concern.
+fn mark_changes(flags: &mut [u64], grid: Grid, j: usize, changes: Changes)
+    requires inner { IsInner grid j }
+    requires high { grid.count ≤ 64 * length flags.old }
+    requires small { grid.count < 2 ^ 60 }
+    ensures { (m : ℕ) → IsClear flags.new m → IsUnmarked grid j changes flags.old m }
+{
+    mark_if(flags, j, changes.columns);
+    mark_if(flags, j - 1, changes.top);
+    mark_if(flags, j + 1, changes.bottom);
+    mark_three(flags, j - grid.blocks, changes.columns & 1);
+    mark_three(flags, j + grid.blocks, changes.columns >> 63);
+}
+
+/// Marks block j and those round it.
+pub(crate) fn mark_near(flags: &mut [u64], grid: Grid, j: usize)
+    requires inner { IsInner grid j }
+    requires high { grid.count ≤ 64 * length flags.old }
+    requires small { grid.count < 2 ^ 60 }
+    ensures { (m : ℕ) → IsClear flags.new m → IsClear flags.old m × IsFar grid j m }
+{
+    mark_three(flags, j - grid.blocks, 1);
+    mark_three(flags, j, 1);
+    mark_three(flags, j + grid.blocks, 1);
+}
+
+/// Writes block j of the next generation, and returns what has changed in it.
+fn step_block(answers: &Answers, grid: Grid, now: &[u64], last: &mut [u64], j: usize) -> Changes
+    requires inner { IsInner grid j }
+    requires long { length last.old ≡ length now.now }
+    requires size { length now.now ≡ 16 * grid.count }
+    ensures written { IsWritten answers.now.rule grid j now.now last.old last.new }
+    ensures changes { TellsChanges j result last.old last.new }
+{
+    let start = 16 * j;
+    let end = start + 15;
+    let (first, final_row) = (last[start], last[end]);
+    let mut columns = 0;
+    for i in start..start + 16 {
+        columns |= step_word(answers, grid, now, last, i);
+    }
+    Changes {
+        columns,
+        top: last[start] ^ first,
+        bottom: last[end] ^ final_row,
+    }
+}
+
+/// Does block j if it is marked: writes it, and marks what its changes concern. An outer block stays as it is.
+fn step_marked(
+    answers: &Answers,
+    grid: Grid,
+    now: &[u64],
+    last: &mut [u64],
+    marks: &mut [u64],
+    j: usize,
+    marked: bool,
+)
+    requires long { length last.old ≡ length now.now }
+    requires size { length now.now ≡ 16 * grid.count }
+    requires flags { grid.count ≤ 64 * length marks.old }
+    ensures { (old first todo : List ℕ) → (marked ≡ false → IsClear todo j) → IsRight answers.now.rule grid now.now old todo
+        → IsGoing answers.now.rule grid j now.now old last.old first marks.old
+        → IsGoing answers.now.rule grid (j + 1) now.now old last.new first marks.new }
+{
+    if !marked {
+        return;
+    }
+    if !grid.is_inner(j) {
+        return;
+    }
+    let changes = step_block(answers, grid, now, last, j);
+    mark_changes(marks, grid, j, changes);
+}
+
+/// Does the marked ones of 64 blocks, of which w times 64 come before.
+fn step_group(
+    answers: &Answers,
+    grid: Grid,
+    now: &[u64],
+    last: &mut [u64],
+    marks: &mut [u64],
+    w: usize,
+    flags: u64,
+)
+    requires long { length last.old ≡ length now.now }
+    requires size { length now.now ≡ 16 * grid.count }
+    requires flags { grid.count ≤ 64 * length marks.old }
+    requires small { w < 2 ^ 40 }
+    ensures { (old first todo : List ℕ) → slice_index todo w ≡ flags → IsRight answers.now.rule grid now.now old todo
+        → IsGoing answers.now.rule grid (64 * w) now.now old last.old first marks.old
+        → IsGoing answers.now.rule grid (64 * w + 64) now.now old last.new first marks.new }
+{
+    if flags == 0 {
+        return;
+    }
+    for b in 0..64 {
+        let marked = flags >> b & 1 == 1;
+        step_marked(answers, grid, now, last, marks, 64 * w + b, marked);
+    }
+}
+
+/// Writes the next generation over the last one, of which it is enough to have what isn't marked to do. What changes by
+/// that is marked.
+pub(crate) fn generation(
+    answers: &Answers,
+    grid: Grid,
+    now: &[u64],
+    last: &mut [u64],
+    todo: &[u64],
+    marks: &mut [u64],
+)
+    requires long { length last.old ≡ length now.now }
+    requires size { length now.now ≡ 16 * grid.count }
+    requires flags { grid.count ≤ 64 * length marks.old }
+    requires todo { grid.count ≤ 64 * length todo.now }
+    requires small { length todo.now < 2 ^ 40 }
+    requires right { IsRight answers.now.rule grid now.now last.old todo.now }
+    ensures next { IsNext answers.now.rule grid now.now last.new }
+    ensures still { IsStill grid marks.new last.old last.new }
+    ensures outer { KeepsOuter grid last.old last.new }
+    ensures marks { KeepsMarks marks.old marks.new }
+{
+    for (w, flags) in todo.iter().enumerate() {
+        step_group(answers, grid, now, last, marks, w, *flags);
+    }
+}

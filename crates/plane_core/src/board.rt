@@ -1,0 +1,322 @@
+//! A rectangle of the plane as a list of words, and generations of a pattern on it.
+//!
+//! A board is laid out so wide that in the generations to come no live cell can reach the outer blocks. The cells are
+//! loaded, run block by block, and read back.
+ghost use Rattle.std.specs.Prelude.{◌≡◌, ◌+◌, ◌*◌, ◌<◌, ◌≤◌, ◌^◌, ◌++◌, ◌∷◌, [], ◌-ℤ◌, ◌+ℤ◌, ℕ, List, length, pos, slice_index, IfOk, IfSome, OnOk, OnSome, ◌-◌, true, false, unsigned_abs};
+ghost use Rattle.std.specs.Int.{bit_at};
+ghost use Rattle.plane_core.specs.Boards.{IsNext, IsReady, IsStill, KeepsMarks, KeepsOuter};
+ghost use Rattle.plane_core.specs.Bounds.{IsWithin};
+ghost use Rattle.plane_core.specs.Cells.{InOrder, cell_at, has, plane_bound};
+ghost use Rattle.plane_core.specs.Generations.{after, lies_within};
+ghost use Rattle.plane_core.specs.Layouts.{AreSidesWithin, HasRead, HasReadRows, HasRoom, IsDead, IsLaid, IsLoaded, IsShown, grid_of, index_of, place, room};
+ghost use Rattle.plane_core.specs.declared.cell.Cell.{Cell};
+
+use crate::blocks::{Grid, generation, mark_near};
+use crate::bounds::Bounds;
+use crate::cell::{BOUND, Cell};
+use crate::coordinate::{apart, back};
+use crate::pattern::{Pattern, in_order};
+use crate::rule::Rule;
+use crate::word::Answers;
+use std::alloc::{AllocError, Global};
+use std::mem::swap;
+
+/// Where a board lies: its first column and row, how many strips of 64 columns it has, and how many blocks of 16 rows each.
+#[derive(Clone, Copy)]
+pub(crate) struct Layout {
+    pub(crate) left: i32,
+    pub(crate) top: i32,
+    pub(crate) strips: usize,
+    pub(crate) blocks: usize,
+}
+
+/// The pattern after so many generations, on a board with room for them.
+pub(crate) fn run(
+    alloc: Global,
+    rule: &Rule,
+    at: Layout,
+    cells: &[Cell],
+    generations: u32,
+) -> Result<Vec<Cell>, AllocError>
+    requires laid { IsLaid at }
+    requires in_order { InOrder cells.now }
+    requires room { HasRoom at generations cells.now }
+    ensures { IfOk result (λ later. later.items ≡ after rule.now cells.now generations) }
+{
+    let answers = Answers::new(rule);
+    let grid = at.grid();
+    let mut board = Board::load(alloc, at, cells)?;
+    for made in 0..generations {
+        board.advance(&answers, grid);
+    }
+    read(alloc, at, board.now.as_slice())
+}
+
+impl Layout {
+    /// A layout round the pattern with room for so many generations, if one is worth it: the pattern has a cell, it won't
+    /// get to the edge of the plane, and there are not many more blocks than cells.
+    pub(crate) fn round(pattern: &Pattern, generations: u32) -> Option<Layout>
+        requires { generations ≤ 1000 }
+        ensures laid { IfSome result IsLaid }
+        ensures room { IfSome result (λ at. HasRoom at generations pattern.now) }
+        ensures inside { OnSome result (lies_within (plane_bound - generations) pattern.now ≡ true) }
+    {
+        let bounds = pattern.bounds()?;
+        if farthest(bounds) > BOUND - generations {
+            return None;
+        }
+        let at = Layout::round_box(bounds, generations);
+        if at.is_sparse(pattern.population()) {
+            return None;
+        }
+        Some(at)
+    }
+
+    /// A layout round the box, with so many columns and rows more on each side inside the outer blocks.
+    fn round_box(bounds: Bounds, margin: u32) -> Layout
+        requires margin { margin ≤ 1000 }
+        requires sides { AreSidesWithin plane_bound bounds }
+        ensures laid { IsLaid result }
+        ensures room { (c : Cell) → IsWithin bounds c → IsWithin (room result margin) c }
+    {
+        let width = apart(bounds.left, bounds.right) + 2 * margin + 65;
+        let height = apart(bounds.top, bounds.bottom) + 2 * margin + 17;
+        Layout {
+            left: back(bounds.left, margin + 64),
+            top: back(bounds.top, margin + 16),
+            strips: (width / 64 + 2) as usize,
+            blocks: (height / 16 + 2) as usize,
+        }
+    }
+
+    /// Whether there are many more blocks than cells: over 16,384, which take 4 megabytes, and sixteen a cell.
+    fn is_sparse(self, population: usize) -> bool
+        requires { IsLaid self }
+        ensures { result ≡ false → self.strips * self.blocks ≤ 16 * population + 16400 }
+    {
+        let count = self.grid().count;
+        count > 16_384 && (count - 16_384) / 16 > population
+    }
+
+    /// How many blocks there are.
+    fn grid(self) -> Grid
+        requires { IsLaid self }
+        ensures { result ≡ grid_of self }
+    {
+        Grid {
+            blocks: self.blocks,
+            count: self.strips * self.blocks,
+        }
+    }
+
+    /// The place of a row of a strip in the list of words.
+    fn index(self, strip: usize, row: usize) -> usize
+        requires laid { IsLaid self }
+        requires strip { strip < self.strips }
+        requires row { row < 16 * self.blocks }
+        ensures index { result ≡ index_of self strip row }
+        ensures inside { result < 16 * (self.strips * self.blocks) }
+        ensures small { result < 2 ^ 40 }
+    {
+        strip * (16 * self.blocks) + row
+    }
+
+    /// The first cell of a row of a strip.
+    fn corner(self, strip: usize, row: usize) -> Cell
+        requires laid { IsLaid self }
+        requires strip { strip < self.strips }
+        requires row { row < 16 * self.blocks }
+        ensures corner { result ≡ place self strip row 0 }
+        ensures small { unsigned_abs result.x ≤ 2 ^ 24 }
+    {
+        Cell {
+            x: self.left + (64 * strip) as i32,
+            y: self.top + row as i32,
+        }
+    }
+
+    /// How many columns of the board are left of the cell.
+    fn across(self, cell: Cell) -> usize
+        requires laid { IsLaid self }
+        requires within { IsWithin (room self 0) cell }
+        ensures { pos result ≡ cell.x -ℤ self.left }
+    {
+        (cell.x - self.left) as usize
+    }
+
+    /// How many rows of the board are above the cell.
+    fn down(self, cell: Cell) -> usize
+        requires laid { IsLaid self }
+        requires within { IsWithin (room self 0) cell }
+        ensures { pos result ≡ cell.y -ℤ self.top }
+    {
+        (cell.y - self.top) as usize
+    }
+}
+
+/// The lists of a board: the words of a generation and of the one before it, which blocks there are to do, and an empty
+/// list for what will be there to do after that.
+#[derive(Drop)]
+struct Board {
+    now: Vec<u64>,
+    last: Vec<u64>,
+    todo: Vec<u64>,
+    marks: Vec<u64>,
+}
+
+impl Board {
+    /// A board with these cells.
+    fn load(alloc: Global, at: Layout, cells: &[Cell]) -> Result<Board, AllocError>
+        requires laid { IsLaid at }
+        requires room { HasRoom at 0 cells.now }
+        ensures { IfOk result (λ board. IsLoaded at cells.now board.now.items board.last.items board.todo.items board.marks.items) }
+    {
+        let count = at.grid().count;
+        let last = vec![in alloc; 0u64; 16 * count]?;
+        let mut now = vec![in alloc; 0u64; 16 * count]?;
+        let mut todo = vec![in alloc; 0u64; count / 64 + 1]?;
+        fill(at, now.as_mut_slice(), todo.as_mut_slice(), cells);
+        let marks = Vec::from_slice(alloc, todo.as_slice())?;
+        Ok(Board {
+            now,
+            last,
+            todo,
+            marks,
+        })
+    }
+
+    /// Goes on by a generation.
+    fn advance(&mut self, answers: &Answers, grid: Grid)
+        requires { IsReady answers.now.rule grid self.old.now.items self.old.last.items self.old.todo.items self.old.marks.items }
+        ensures next { IsNext answers.now.rule grid self.old.now.items self.new.now.items }
+        ensures last { self.new.last.items ≡ self.old.now.items }
+        ensures still { IsStill grid self.new.todo.items self.old.last.items self.new.now.items }
+        ensures outer { KeepsOuter grid self.old.last.items self.new.now.items }
+        ensures marks { KeepsMarks self.old.marks.items self.new.todo.items }
+        ensures now_long { length self.new.now.items ≡ length self.old.last.items }
+        ensures todo_long { length self.new.todo.items ≡ length self.old.marks.items }
+        ensures marks_long { length self.new.marks.items ≡ length self.old.todo.items }
+    {
+        generation(
+            answers,
+            grid,
+            self.now.as_slice(),
+            self.last.as_mut_slice(),
+            self.todo.as_slice(),
+            self.marks.as_mut_slice(),
+        );
+        swap(&mut self.now, &mut self.last);
+        swap(&mut self.todo, &mut self.marks);
+        unmark(self.marks.as_mut_slice());
+    }
+}
+
+/// Takes all marks away.
+fn unmark(flags: &mut [u64])
+    ensures { (i : ℕ) → slice_index flags.new i ≡ 0 }
+{
+    for word in flags.iter_mut() {
+        *word = 0;
+    }
+}
+
+/// Reads the cells of a word, whose first cell this is, and adds them to a list.
+fn read_word(word: u64, first: Cell, cells: &mut Vec<Cell>) -> Result<(), AllocError>
+    requires { unsigned_abs first.x ≤ 2 ^ 24 }
+    ensures { OnOk result (HasRead word first cells.old.items 64 cells.new.items) }
+{
+    if word == 0 {
+        return Ok(());
+    }
+    for i in 0..64 {
+        if word >> i & 1 == 1 {
+            cells.push(along(first, i))?;
+        }
+    }
+    Ok(())
+}
+
+/// The cell so many columns to the right.
+fn along(cell: Cell, columns: u32) -> Cell
+    requires cell { unsigned_abs cell.x ≤ 2 ^ 24 }
+    requires columns { columns < 64 }
+    ensures { result ≡ cell_at (cell.x +ℤ pos columns) cell.y }
+{
+    Cell {
+        x: cell.x + columns as i32,
+        y: cell.y,
+    }
+}
+
+/// Reads the cells of a strip, and adds them to a list.
+fn read_strip(
+    at: Layout,
+    words: &[u64],
+    strip: usize,
+    cells: &mut Vec<Cell>,
+) -> Result<(), AllocError>
+    requires laid { IsLaid at }
+    requires strip { strip < at.strips }
+    requires long { length words.now ≡ 16 * (at.strips * at.blocks) }
+    ensures { OnOk result (HasReadRows at words.now strip cells.old.items (16 * at.blocks) cells.new.items) }
+{
+    for row in 0..16 * at.blocks {
+        let word = words[at.index(strip, row)];
+        read_word(word, at.corner(strip, row), cells)?;
+    }
+    Ok(())
+}
+
+/// Reads all cells of a board.
+fn read(alloc: Global, at: Layout, words: &[u64]) -> Result<Vec<Cell>, AllocError>
+    requires laid { IsLaid at }
+    requires long { length words.now ≡ 16 * (at.strips * at.blocks) }
+    ensures { IfOk result (λ read. (cells : List Cell) → InOrder cells → HasRoom at 0 cells → IsShown at words.now cells → read.items ≡ cells) }
+{
+    let mut cells = Vec::new(alloc);
+    for strip in 0..at.strips {
+        read_strip(at, words, strip, &mut cells)?;
+    }
+    Ok(in_order(cells))
+}
+
+/// How far the sides of a box are from the origin, at most.
+fn farthest(bounds: Bounds) -> u32
+    ensures { AreSidesWithin result bounds }
+{
+    let across = bounds.left.unsigned_abs().max(bounds.right.unsigned_abs());
+    let down = bounds.top.unsigned_abs().max(bounds.bottom.unsigned_abs());
+    across.max(down)
+}
+
+/// Puts one more cell on the board, and marks the blocks that it concerns.
+fn put(at: Layout, words: &mut [u64], flags: &mut [u64], cell: Cell)
+    requires laid { IsLaid at }
+    requires within { IsWithin (room at 0) cell }
+    requires long { length words.old ≡ 16 * (at.strips * at.blocks) }
+    requires flags { at.strips * at.blocks ≤ 64 * length flags.old }
+    ensures shown { (cells : List Cell) → IsShown at words.old cells → IsShown at words.new (cells ++ cell ∷ []) }
+    ensures still { IsStill (grid_of at) flags.old [] words.old → IsStill (grid_of at) flags.new [] words.new }
+    ensures dead { IsDead (grid_of at) words.old → IsDead (grid_of at) words.new }
+{
+    let across = at.across(cell);
+    let i = at.index(across / 64, at.down(cell));
+    words[i] |= 1 << (across % 64);
+    mark_near(flags, at.grid(), i / 16);
+}
+
+/// Puts all cells on an empty board.
+fn fill(at: Layout, words: &mut [u64], flags: &mut [u64], cells: &[Cell])
+    requires laid { IsLaid at }
+    requires room { HasRoom at 0 cells.now }
+    requires long { length words.old ≡ 16 * (at.strips * at.blocks) }
+    requires flags { at.strips * at.blocks ≤ 64 * length flags.old }
+    requires empty { (i : ℕ) → slice_index words.old i ≡ 0 }
+    ensures shown { IsShown at words.new cells.now }
+    ensures still { IsStill (grid_of at) flags.new [] words.new }
+    ensures dead { IsDead (grid_of at) words.new }
+{
+    for cell in cells {
+        put(at, words, flags, *cell);
+    }
+}
