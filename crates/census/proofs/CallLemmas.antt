@@ -24,11 +24,11 @@ use Rattle.census.proofs.UseLemmas.{plain_word_met, reads_argument, reads_attach
 use Rattle.census.proofs.WordLemmas.{asked_by-command}
 
 -- the program, as `clap` builds it
-abbrev census_built : App
+abbrev pub census_built : App
 census_built = built census_app
 
 -- words of a command that are read ask for it, with their values and its defaults
-asks : (program name : Text) (words : List Text) (s : Shape) (h : Held) (position : ℕ) (rows : List Row)
+pub asks : (program name : Text) (words : List Text) (s : Shape) (h : Held) (position : ℕ) (rows : List Row)
     → asks_version (program ∷ name ∷ words) ≡ false → HasCommand census_built name s
     → Reads s nothing_held 1 words h position rows → or_else (defaults_fault rows s.rules) (check_fault s (completed s rows) false) ≡ []
     → asked_by (program ∷ name ∷ words) ≡ request_in (s.name, completed s rows)
@@ -39,7 +39,7 @@ asks program name words s h position rows no_version command reads fine =
     (command_rows census_built name s words command ∙ ap (λ rs. Some (s.name, rs)) (rows_read s words h position rows reads))
 
 -- words of a command with a fault ask for nothing
-asks_none : (program name : Text) (words : List Text) (s : Shape) (kind : ErrorKind) → asks_version (program ∷ name ∷ words) ≡ false
+pub asks_none : (program name : Text) (words : List Text) (s : Shape) (kind : ErrorKind) → asks_version (program ∷ name ∷ words) ≡ false
     → HasCommand census_built name s
     → level_fault s [] nothing_held words false [] ≡ kind ∷ [] → asked_by (program ∷ name ∷ words) ≡ None
 asks_none program name words s kind no_version command fault =
@@ -394,6 +394,10 @@ asks-soup_help : (program : Text) → asked_by (program ∷ codes "soup" ∷ cod
 unfolding clap_on_literals
 asks-soup_help program = refl
 
+asks-name_help : (program : Text) → asked_by (program ∷ codes "name" ∷ codes "--help" ∷ []) ≡ None
+unfolding clap_on_literals
+asks-name_help program = refl
+
 asks-show_help : (program : Text) → asked_by (program ∷ codes "show" ∷ codes "--help" ∷ []) ≡ None
 unfolding clap_on_literals
 asks-show_help program = refl
@@ -415,18 +419,20 @@ or_else_first : (one two : Kinds) (kind : ErrorKind) (kinds : Kinds) → one ≡
 or_else_first one two kind kinds is = ap (λ k. or_else k two) is
 
 -- a word in a command's place that is none
-asks-unknown : (program word : Text) (words : List Text) → IsValue word → word ≢ codes "run" → word ≢ codes "show" → word ≢ codes "soup" → word ≢ codes "help"
+asks-unknown : (program word : Text) (words : List Text) → IsValue word → word ≢ codes "run" → word ≢ codes "name" → word ≢ codes "show"
+    → word ≢ codes "soup" → word ≢ codes "help"
     → asked_by (program ∷ word ∷ words) ≡ None
 unfolding clap_on_literals
-asks-unknown program word words is_value no_run no_show no_soup no_help =
+asks-unknown program word words is_value no_run no_name no_show no_soup no_help =
     let top = census_built.top in
     let names = names_of census_built in
     let plain = plain_word-is word is_value in
     let is_run : bytes_eq (codes "run") word ≡ false = not_named (codes "run") word no_run in
+    let is_name : bytes_eq (codes "name") word ≡ false = not_named (codes "name") word no_name in
     let is_show : bytes_eq (codes "show") word ≡ false = not_named (codes "show") word no_show in
     let is_soup : bytes_eq (codes "soup") word ≡ false = not_named (codes "soup") word no_soup in
     let is_help : bytes_eq (codes "help") word ≡ false = not_named (codes "help") word no_help in
-    let unnamed : subcommand_met names idle word ≡ None = rw (is_run, is_show, is_soup, is_help) refl in
+    let unnamed : subcommand_met names idle word ≡ None = rw (is_run, is_name, is_show, is_soup, is_help) refl in
     let met : subcommand_or_other top.rules (subcommand_met names idle word) idle 1 word nothing_held ≡ (nothing_held, value) =
     ap (λ o. subcommand_or_other top.rules o idle 1 word nothing_held) unnamed ∙ plain_word_met top.rules idle 1 word nothing_held plain in
     let no_flag = ap (λ o. other_fault top o word nothing_held) unnamed ∙ no_flag_fault top word nothing_held plain in
@@ -477,6 +483,7 @@ asks_for_nothing = record {
   unknown = asks-unknown;
   help = asks-help;
   run_help = asks-run_help;
+  name_help = asks-name_help;
   show_help = asks-show_help;
   soup_help = asks-soup_help;
 }

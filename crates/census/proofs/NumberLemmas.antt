@@ -48,6 +48,19 @@ number_refused least most n numeral over = go (accepts false (Signed (pos least)
         let high = rw is at (accepts-Accepts false (Signed (pos least) (pos most)) n e).3 in
         absurd (omega (arith, ints))
 
+-- nor is one below it
+pub number_below : (least most : ℕ) (n : Text) → IsNumeral 10 n → digits_value 10 n < least → accepts false (Signed (pos least) (pos most)) n ≡ false
+number_below least most n numeral under = go (accepts false (Signed (pos least) (pos most)) n) refl
+  where
+    go : (b : Bool) → accepts false (Signed (pos least) (pos most)) n ≡ b → b ≡ false
+    go false e = refl
+    go true e =
+        let signs = no_sign n numeral in
+        let bare : without_leading_sign n ≡ n = rw signs.0 signs.1 in
+        let is : signed_digits_value 10 n ≡ pos (digits_value 10 n) = rw (signs.0, signs.1) refl in
+        let low = rw is at (accepts-Accepts false (Signed (pos least) (pos most)) n e).2 in
+        absurd (omega (arith, ints))
+
 -- what is read of a numeral within a limit
 pub number_read : (most : ℕ) (n : Text) → IsNumeral 10 n → digits_value 10 n ≤ most → number_of most (without_minus n) ≡ Some (digits_value 10 n)
 number_read most n numeral below =

@@ -1,5 +1,5 @@
 -- From what a command leaves in a buffer to what is with the writer below it.
-use Rattle.std.proofs.Common.{◌≡◌, ◌≢◌, ◌++◌, ◌⊎◌, ℕ, List, [], Bool, true, false, Option, None, Some, Ok, Err, IsOk, IsSomeAnd, inl, inr, refl, sym, ap}
+use Rattle.std.proofs.Common.{◌≡◌, ◌≢◌, ◌++◌, ◌⊎◌, ℕ, List, [], Bool, true, false, Option, None, Some, Ok, Err, IsSomeAnd, inl, inr, refl, sym, ap}
 use Rattle.std.proofs.Common.{◌∙◌, subst, append_assoc, append-nil}
 use Rattle.std.specs.Io.KnownBytes.{Appends, Keeps, append_known}
 use Rattle.clap.specs.Words.{Text}
@@ -8,12 +8,12 @@ use Rattle.commands.specs.declared.complaint.Complaint.TheVariants.{Refused, Out
 use Rattle.commands.specs.declared.request.Request.{Request}
 use Rattle.commands.specs.declared.status.Status.{Status}
 use Rattle.commands.specs.declared.status.Status.TheVariants as statuses
-use Rattle.commands.specs.Answers.{Answer, Ends, Outcome, Reaches, Tells, text_of}
+use Rattle.commands.specs.Answers.{Ends, HasRight, Outcome, Reaches, Right, Tells}
 use Rattle.commands.specs.Complaints.{line_of, status_of}
-use Rattle.commands.specs.Requests.{DoesRequest, answer_to, reads_input}
+use Rattle.commands.specs.Requests.{DoesRequest, reads_input, right_for}
 use Rattle.commands.specs.Status.{exit_code}
 use Rattle.commands.specs.Streams.{Stream, Has, HasLine}
-use Rattle.census.specs.Program.{Complains, IsDone, IsEndedBy, IsFront, MayComplain}
+use Rattle.census.specs.Program.{Complains, IsDone, IsEndedBy, IsFront, MayEnd}
 use Rattle.census.specs.Words.{DoesWords, asked_by}
 
 -- an empty buffer holds nothing back
@@ -43,16 +43,13 @@ status_of-done OutOfMemory is = cc
 status_of-done ReadFailed is = cc
 status_of-done WriteFailed is = cc
 
--- a command that was done has a text for its answer, and wrote it
-done_text : (reads : Bool) (answer : Answer) (output errors : Stream) → Ends reads answer statuses.Done output errors
-    → (text : List ℕ) × (answer ≡ Ok text) × Has output text
-done_text reads answer output errors ends = go answer refl ends.outcome ends.reached ends.told
+-- a command that was done has a right text, and wrote it
+done_text : (reads : Bool) (right : Right) (output errors : Stream) → Ends reads right statuses.Done output errors → HasRight right output
+done_text reads right output errors ends = go ends.outcome ends.reached ends.told
   where
-    go : (a : Answer) → answer ≡ a → (outcome : Outcome) → Reaches reads a outcome output → Tells outcome statuses.Done errors
-        → (text : List ℕ) × (answer ≡ Ok text) × Has output text
-    go (Ok text) is (Ok u) reached told = (text, is, reached.0)
-    go (Err complaint) is (Ok u) reached told = absurd reached.0
-    go a is (Err complaint) reached told = absurd (status_of-done complaint (sym told.0))
+    go : (outcome : Outcome) → Reaches reads right outcome output → Tells outcome statuses.Done errors → HasRight right output
+    go (Ok u) reached told = reached.0
+    go (Err complaint) reached told = absurd (status_of-done complaint (sym told.0))
 
 -- words that were done, with nothing held back
 words_done : (words : List Text) (known before buffered below : Option (List ℕ)) (failed : Bool) (errors : Stream)
@@ -67,7 +64,7 @@ words_done words known before buffered below failed errors (inl does) kept = go 
     go : (asked : Option Request) → asked_by words ≡ asked → IsSomeAnd asked (DoesRequest known statuses.Done output errors) → IsDone words known before below
     go None is does = absurd does
     go (Some request) is does =
-        let wrote = done_text (reads_input request) (answer_to request does.bytes) output errors does.ends in
+        let wrote = done_text (reads_input request) (right_for request does.bytes) output errors does.ends in
         record {
           request = request;
           asked = is;
@@ -79,18 +76,21 @@ words_done words known before buffered below failed errors (inl does) kept = go 
               whole_sent before buffered below wrote.0 wrote.2 kept;
         }
 
--- a complaint that ended a request is one that may, and a front of the text was written
+-- a complaint that ended a request is one that may
 ended_by : (request : Request) (bytes : List ℕ) (complaint : Complaint) (before buffered below : Option (List ℕ)) (held : List ℕ) (failed : Bool)
-    → Reaches (reads_input request) (answer_to request bytes) (Err complaint) (record { before = append_known before []; after = buffered; failed = failed })
-    → Keeps buffered (append_known below held) → MayComplain request bytes complaint × IsFront before below (text_of (answer_to request bytes))
+    → Reaches (reads_input request) (right_for request bytes) (Err complaint) (record { before = append_known before []; after = buffered; failed = failed })
+    → Keeps buffered (append_known below held) → MayEnd request bytes before below complaint
 ended_by request bytes (Refused refusal) before buffered below held failed reached kept =
-    (reached.0, front_sent before buffered below held [] (text_of (answer_to request bytes)) reached.1 kept)
-ended_by request bytes OutOfMemory before buffered below held failed (may, (front, rest, is, wrote)) kept =
-    (may, subst (IsFront before below) (sym is) (front_sent before buffered below held front rest wrote kept))
+    (reached.0, front_sent before buffered below held [] [] reached.1 kept)
+ended_by request bytes OutOfMemory before buffered below held failed (may, fronts) kept = (
+  may,
+  λ answer right. let (front, rest, is, wrote) = fronts answer right in
+      subst (IsFront before below) (sym is) (front_sent before buffered below held front rest wrote kept),
+)
 ended_by request bytes ReadFailed before buffered below held failed reached kept =
-    (reached.0, front_sent before buffered below held [] (text_of (answer_to request bytes)) reached.1 kept)
-ended_by request bytes WriteFailed before buffered below held failed (may, (front, rest, is, wrote), told) kept =
-    (may, subst (IsFront before below) (sym is) (front_sent before buffered below held front rest wrote kept))
+    (reached.0, front_sent before buffered below held [] [] reached.1 kept)
+ended_by request bytes WriteFailed before buffered below held failed ((text, right, (front, rest, is, wrote)), told) kept =
+    (text, right, subst (IsFront before below) (sym is) (front_sent before buffered below held front rest wrote kept))
 
 -- words that were not done, whatever is held back
 words_ended : (words : List Text) (known before buffered below : Option (List ℕ)) (held : List ℕ) (failed : Bool) (status : Status) (errors : Stream)
@@ -114,13 +114,13 @@ words_ended words known before buffered below held failed status errors (inl doe
     go None is does = absurd does
     go (Some request) is does = at does.ends.outcome does.ends.reached does.ends.told
       where
-        at : (outcome : Outcome) → Reaches (reads_input request) (answer_to request does.bytes) outcome output → Tells outcome status errors
+        at : (outcome : Outcome) → Reaches (reads_input request) (right_for request does.bytes) outcome output → Tells outcome status errors
             → Complains words known (exit_code status) before below errors
         at (Ok u) reached said = absurd (undone said.0)
         at (Err complaint) reached said =
             let ended = ended_by request does.bytes complaint before buffered below held failed reached kept in
             let by : IsSomeAnd (Some request) (IsEndedBy complaint known before below) =
-            record { bytes = does.bytes; input = does.input; may = ended.0; front = ended.1 } in
+            record { bytes = does.bytes; input = does.input; may = ended } in
             record {
               complaint = complaint;
               code = ap exit_code said.0;
@@ -143,17 +143,10 @@ words_unsent words known before buffered below held failed errors after (inl doe
         → Complains words known (exit_code statuses.Failed) before below after
     go None is does = absurd does
     go (Some request) is does =
-        let wrote = done_text (reads_input request) (answer_to request does.bytes) output errors does.ends in
+        let wrote = done_text (reads_input request) (right_for request does.bytes) output errors does.ends in
         let front : IsFront before below (wrote.0 ++ []) = front_sent before buffered below held wrote.0 [] wrote.2 kept in
-        let text : wrote.0 ++ [] ≡ text_of (answer_to request does.bytes) = append-nil wrote.0 ∙ ap text_of (sym wrote.1) in
         let by : IsSomeAnd (Some request) (IsEndedBy WriteFailed known before below) =
-        record {
-          bytes = does.bytes;
-          input = does.input;
-          may = subst (λ (a : Answer). IsOk a) (sym wrote.1) refl;
-          front =
-              subst (IsFront before below) text front;
-        } in
+        record { bytes = does.bytes; input = does.input; may = (wrote.0, wrote.1, subst (IsFront before below) (append-nil wrote.0) front) } in
         record {
           complaint = WriteFailed;
           code = refl;

@@ -12,10 +12,11 @@ use Rattle.clap.specs.declared.error.kind.ErrorKind.TheVariants as kinds
 use Rattle.clap.specs.declared.parser.matches.Found.{Found}
 use Rattle.clap.proofs.OnLiterals.{clap_on_literals}
 use Rattle.clap.proofs.WalkLemmas.{both, one_text-rows}
+use Rattle.commands.specs.declared.profile.ProfileNumbers.{ProfileNumbers}
 use Rattle.commands.specs.declared.request.Request.{Request}
-use Rattle.commands.specs.declared.request.Request.TheVariants.{Run, Show, Soup}
+use Rattle.commands.specs.declared.request.Request.TheVariants.{Run, Name, Show, Soup}
 use Rattle.census.specs.Application.{census_app}
-use Rattle.census.specs.Words.{asked_by, asks_version, command_of, request_in, number_in, number_of, run_in, show_in, soup_in}
+use Rattle.census.specs.Words.{asked_by, asks_version, command_of, name_in, profile_in, request_in, number_in, number_of, run_in, show_in, soup_in}
 
 digits_pass : (ds : List ℕ) → AllDigits 10 ds → list_all (λ d. nat_lt (digit_value d) 10) ds ≡ true
 digits_pass [] h = refl
@@ -77,6 +78,11 @@ found_within bits most id fits G only f found none some = go (one_text f id) ref
 pub run_in-is : (rows : List Row) (n : Option ℕ) (rule : Option Text) → n ≡ number_in 100000 (codes "N") rows → rule ≡ first_of (codes "rule") rows
     → run_in rows ≡ option_and_then (λ k. option_map (Run k) rule) n
 run_in-is rows n rule is_n is_rule = rw (is_n, is_rule) refl
+
+-- what `name` is asked for, from its two values
+pub name_in-is : (rows : List Row) (profile : Option ProfileNumbers) (rule : Option Text) → profile ≡ profile_in rows → rule ≡ first_of (codes "rule") rows
+    → name_in rows ≡ option_and_then (λ numbers. option_map (Name numbers) rule) profile
+name_in-is rows profile rule is_profile is_rule = rw (← is_profile, ← is_rule) refl
 
 -- what `soup` is asked for, from its two values
 pub soup_in-is : (rows : List Row) (n : Option ℕ) (seed : Option Text) → n ≡ number_in 1099511627775 (codes "N") rows → seed ≡ first_of (codes "seed") rows

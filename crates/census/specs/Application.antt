@@ -43,14 +43,58 @@ number_argument = record (new_rule (codes "N")) { required = true; parser = Some
 abbrev pub soup_shape : Shape
 soup_shape = (with_rule (with_rule (new_app (codes "soup")) number_argument) seed_argument).top
 
+-- the options of a profile: four numbers, each in its range, with the standard ones as defaults
+abbrev pub period_argument : Rule
+period_argument = record (new_rule (codes "period")) {
+  long = Some (codes "period");
+  value_names = 1;
+  parser = Some (Signed (pos 1) (pos 64));
+  defaults = codes "64" ∷ [];
+}
+
+abbrev pub horizon_argument : Rule
+horizon_argument = record (new_rule (codes "horizon")) {
+  long = Some (codes "horizon");
+  value_names = 1;
+  parser = Some (Signed (pos 0) (pos 4096));
+  defaults = codes "512" ∷ [];
+}
+
+abbrev pub stride_argument : Rule
+stride_argument = record (new_rule (codes "stride")) {
+  long = Some (codes "stride");
+  value_names = 1;
+  parser = Some (Signed (pos 1) (pos 10000));
+  defaults = codes "101" ∷ [];
+}
+
+abbrev pub limit_argument : Rule
+limit_argument = record (new_rule (codes "limit")) {
+  long = Some (codes "limit");
+  value_names = 1;
+  parser = Some (Signed (pos 0) (pos 100000));
+  defaults = codes "30300" ∷ [];
+}
+
+-- a command with the options on when an object counts, and with those on when to look
+abbrev pub with_rest : App → App
+with_rest app = with_rule (with_rule app period_argument) horizon_argument
+
+abbrev pub with_looks : App → App
+with_looks app = with_rule (with_rule app stride_argument) limit_argument
+
+-- `name`
+abbrev pub name_shape : Shape
+name_shape = (with_rule (with_looks (with_rest (new_app (codes "name")))) rule_argument).top
+
 -- a command must be named
 abbrev pub census_shape : Shape
 census_shape = record ((new_app (codes "census")).top) { subcommand_required = true }
 
--- the program with the commands on single patterns
+-- the program with the commands that read a pattern
 abbrev pub pattern_app : App
-pattern_app = with_subcommand (with_subcommand (record { top = census_shape; subs = [] }) run_shape) show_shape
+pattern_app = with_subcommand (with_subcommand (record { top = census_shape; subs = [] }) run_shape) name_shape
 
 -- the program
 abbrev pub census_app : App
-census_app = with_subcommand pattern_app soup_shape
+census_app = with_subcommand (with_subcommand pattern_app show_shape) soup_shape

@@ -1,8 +1,9 @@
 -- Calls of the program, and what they ask for.
-use Rattle.std.specs.Prelude.{◌≡◌, ◌≢◌, ◌<◌, ◌≤◌, ◌++◌, ℕ, List, [], ◌∷◌, None, Some, false, codes}
+use Rattle.std.specs.Prelude.{◌≡◌, ◌≢◌, ◌<◌, ◌≤◌, ◌++◌, ℕ, List, [], ◌∷◌, Option, None, Some, false, codes}
 use Rattle.std.specs.Str.Parse.{IsNumeral, digits_value, starts_with_minus}
 use Rattle.clap.specs.Words.{Text}
-use Rattle.commands.specs.declared.request.Request.TheVariants.{Run, Show, Soup, Version}
+use Rattle.commands.specs.declared.request.Request.{Request}
+use Rattle.commands.specs.declared.request.Request.TheVariants.{Run, Name, Show, Soup, Version}
 use Rattle.census.specs.Words.{asked_by}
 
 -- digits of a number up to a limit
@@ -30,6 +31,45 @@ pub record AsksToRun : Type 0 where
   pub rule_twice : (program n one other : Text) → IsNumberUpTo 100000 n → IsValue one → IsValue other
       → asked_by (program ∷ codes "run" ∷ n ∷ codes "--rule" ∷ one ∷ codes "--rule" ∷ other ∷ []) ≡ None
   pub number_missing : (program : Text) → asked_by (program ∷ codes "run" ∷ []) ≡ None
+
+-- digits of a number from a least to a most
+pub record IsNumberFromTo (least most : ℕ) (n : Text) : Type 0 where
+  pub numeral : IsNumeral 10 n
+  pub low : least ≤ digits_value 10 n
+  pub high : digits_value 10 n ≤ most
+
+-- `name` under these numbers and this rule
+abbrev pub Names : ℕ → ℕ → ℕ → ℕ → Text → Option Request
+Names p h k t rule = Some (Name (record { period = p; horizon = h; stride = k; limit = t }) rule)
+
+-- `name` alone, with each option alone, in the next word or after `=`, and with all; each number lies in its range, and no
+-- option stands twice
+pub record AsksToName : Type 0 where
+  pub alone : (program : Text) → asked_by (program ∷ codes "name" ∷ []) ≡ Names 64 512 101 30300 (codes "b3s23")
+  pub period : (program n : Text) → IsNumberFromTo 1 64 n
+      → asked_by (program ∷ codes "name" ∷ codes "--period" ∷ n ∷ []) ≡ Names (digits_value 10 n) 512 101 30300 (codes "b3s23")
+  pub horizon : (program n : Text) → IsNumberUpTo 4096 n
+      → asked_by (program ∷ codes "name" ∷ codes "--horizon" ∷ n ∷ []) ≡ Names 64 (digits_value 10 n) 101 30300 (codes "b3s23")
+  pub stride : (program n : Text) → IsNumberFromTo 1 10000 n
+      → asked_by (program ∷ codes "name" ∷ codes "--stride" ∷ n ∷ []) ≡ Names 64 512 (digits_value 10 n) 30300 (codes "b3s23")
+  pub limit : (program n : Text) → IsNumberUpTo 100000 n
+      → asked_by (program ∷ codes "name" ∷ codes "--limit" ∷ n ∷ []) ≡ Names 64 512 101 (digits_value 10 n) (codes "b3s23")
+  pub rule : (program text : Text) → IsValue text
+      → asked_by (program ∷ codes "name" ∷ codes "--rule" ∷ text ∷ []) ≡ Names 64 512 101 30300 text
+  pub attached : (program text : Text)
+      → asked_by (program ∷ codes "name" ∷ (codes "--rule=" ++ text) ∷ []) ≡ Names 64 512 101 30300 text
+  pub all : (program p h k t text : Text) → IsNumberFromTo 1 64 p → IsNumberUpTo 4096 h → IsNumberFromTo 1 10000 k → IsNumberUpTo 100000 t → IsValue text
+      → asked_by (program ∷ codes "name" ∷ codes "--period" ∷ p ∷ codes "--horizon" ∷ h ∷ codes "--stride" ∷ k ∷ codes "--limit" ∷ t
+      ∷ codes "--rule" ∷ text ∷ [])
+      ≡ Names (digits_value 10 p) (digits_value 10 h) (digits_value 10 k) (digits_value 10 t) text
+  pub too_long_a_period : (program n : Text) → IsNumeral 10 n → 64 < digits_value 10 n → asked_by (program ∷ codes "name" ∷ codes "--period" ∷ n ∷ []) ≡ None
+  pub no_period : (program n : Text) → IsNumeral 10 n → digits_value 10 n < 1 → asked_by (program ∷ codes "name" ∷ codes "--period" ∷ n ∷ []) ≡ None
+  pub too_far_a_horizon : (program n : Text) → IsNumeral 10 n → 4096 < digits_value 10 n → asked_by (program ∷ codes "name" ∷ codes "--horizon" ∷ n ∷ []) ≡ None
+  pub too_wide_a_stride : (program n : Text) → IsNumeral 10 n → 10000 < digits_value 10 n → asked_by (program ∷ codes "name" ∷ codes "--stride" ∷ n ∷ []) ≡ None
+  pub no_stride : (program n : Text) → IsNumeral 10 n → digits_value 10 n < 1 → asked_by (program ∷ codes "name" ∷ codes "--stride" ∷ n ∷ []) ≡ None
+  pub too_late_a_limit : (program n : Text) → IsNumeral 10 n → 100000 < digits_value 10 n → asked_by (program ∷ codes "name" ∷ codes "--limit" ∷ n ∷ []) ≡ None
+  pub rule_twice : (program one other : Text) → IsValue one → IsValue other
+      → asked_by (program ∷ codes "name" ∷ codes "--rule" ∷ one ∷ codes "--rule" ∷ other ∷ []) ≡ None
 
 -- `show CODE`
 pub record AsksToShow : Type 0 where
@@ -61,9 +101,11 @@ AsksForVersion = (program : Text) → asked_by (program ∷ codes "--version" �
 -- no command, another word in its place, whatever comes after it, and calls for help
 pub record AsksForNothing : Type 0 where
   pub no_command : (program : Text) → asked_by (program ∷ []) ≡ None
-  pub unknown : (program word : Text) (words : List Text) → IsValue word → word ≢ codes "run" → word ≢ codes "show" → word ≢ codes "soup" → word ≢ codes "help"
+  pub unknown : (program word : Text) (words : List Text) → IsValue word → word ≢ codes "run" → word ≢ codes "name" → word ≢ codes "show"
+      → word ≢ codes "soup" → word ≢ codes "help"
       → asked_by (program ∷ word ∷ words) ≡ None
   pub help : (program : Text) → asked_by (program ∷ codes "--help" ∷ []) ≡ None
   pub run_help : (program : Text) → asked_by (program ∷ codes "run" ∷ codes "--help" ∷ []) ≡ None
+  pub name_help : (program : Text) → asked_by (program ∷ codes "name" ∷ codes "--help" ∷ []) ≡ None
   pub show_help : (program : Text) → asked_by (program ∷ codes "show" ∷ codes "--help" ∷ []) ≡ None
   pub soup_help : (program : Text) → asked_by (program ∷ codes "soup" ∷ codes "--help" ∷ []) ≡ None

@@ -1,13 +1,13 @@
 -- How the program ends, from its words to the bytes that it leaves.
-use Rattle.std.specs.Prelude.{◌≡◌, ◌++◌, ◌⊎◌, ℕ, true, false, List, [], Option, None, Some, Ok, Err, IsOk, IsSomeAnd, ⊤, codes}
+use Rattle.std.specs.Prelude.{◌≡◌, ◌++◌, ◌⊎◌, ℕ, true, false, List, [], Option, None, Some, Ok, Err, IsSomeAnd, ⊤, codes}
 use Rattle.std.specs.Io.KnownBytes.{Appends}
 use Rattle.plane_core.specs.Out.{Output}
 use Rattle.commands.specs.declared.complaint.Complaint.{Complaint}
 use Rattle.commands.specs.declared.complaint.Complaint.TheVariants.{Refused, OutOfMemory, ReadFailed, WriteFailed}
 use Rattle.commands.specs.declared.request.Request.{Request}
-use Rattle.commands.specs.Answers.{IsInput, text_of}
+use Rattle.commands.specs.Answers.{Answer, IsInput, text_of}
 use Rattle.commands.specs.Complaints.{line_of, status_of}
-use Rattle.commands.specs.Requests.{answer_to, reads_input}
+use Rattle.commands.specs.Requests.{reads_input, right_for}
 use Rattle.commands.specs.Status.{exit_code}
 use Rattle.commands.specs.Streams.{Stream, HasLine}
 use Rattle.clap.specs.Words.{Text}
@@ -26,14 +26,14 @@ abbrev pub left_by : {V : Type 0} → (V → Option (List ℕ)) → V → Option
 left_by contents old None = contents old
 left_by contents old (Some new) = contents new
 
--- the words ask for something; on this input its answer is a text, and the whole text was added to what the writer held
+-- the words ask for something; on this input a text is right for it, and the whole text was added to what the writer held
 pub record IsDone (words : List Text) (known before after : Option (List ℕ)) : Type 0 where
   pub request : Request
   pub asked : asked_by words ≡ Some request
   pub bytes : List ℕ
   pub input : IsInput known bytes
   pub text : List ℕ
-  pub answer : answer_to request bytes ≡ Ok text
+  pub answer : right_for request bytes (Ok text)
   pub written : Appends before after text
 
 -- the bytes now are a front of the bytes before and the text
@@ -42,20 +42,22 @@ IsFront None after text = ⊤
 IsFront (Some xs) None text = ⊥
 IsFront (Some xs) (Some ys) text = (rest : List ℕ) × (ys ++ rest ≡ xs ++ text)
 
--- What may end a request: a refusal if that is its answer, memory that runs out, or a stream that fails. Memory hides a
--- refusal only until the input is read, and only a text is written.
-abbrev pub MayComplain : Request → List ℕ → Complaint → Type 0
-MayComplain request bytes (Refused refusal) = answer_to request bytes ≡ Err (Refused refusal)
-MayComplain request bytes OutOfMemory = reads_input request ≡ false → IsOk (answer_to request bytes)
-MayComplain request bytes ReadFailed = reads_input request ≡ true
-MayComplain request bytes WriteFailed = IsOk (answer_to request bytes)
+-- A complaint may end a request: a refusal if that is right for it, memory that runs out, or a stream that fails. The writer
+-- holds nothing of it, or a front of the right text where memory ran out or a write failed. Memory hides a refusal only until
+-- the input is read, and only a text is written.
+abbrev pub MayEnd : Request → List ℕ → Option (List ℕ) → Option (List ℕ) → Complaint → Type 0
+MayEnd request bytes before after (Refused refusal) = right_for request bytes (Err (Refused refusal)) × IsFront before after []
+MayEnd request bytes before after OutOfMemory =
+    (reads_input request ≡ false → (complaint : Complaint) → ¬ right_for request bytes (Err complaint))
+    × ((answer : Answer) → right_for request bytes answer → IsFront before after (text_of answer))
+MayEnd request bytes before after ReadFailed = (reads_input request ≡ true) × IsFront before after []
+MayEnd request bytes before after WriteFailed = (text : List ℕ) × right_for request bytes (Ok text) × IsFront before after text
 
--- a request was ended by a complaint on an input, and the writer holds a front of its text
+-- a request was ended by a complaint on an input
 pub record IsEndedBy (complaint : Complaint) (known before after : Option (List ℕ)) (request : Request) : Type 0 where
   pub bytes : List ℕ
   pub input : IsInput known bytes
-  pub may : MayComplain request bytes complaint
-  pub front : IsFront before after (text_of (answer_to request bytes))
+  pub may : MayEnd request bytes before after complaint
 
 -- the code and the line are those of a complaint: of memory for the words, or of what they ask for
 pub record Complains (words : List Text) (known : Option (List ℕ)) (number : ℕ) (before after : Option (List ℕ)) (errors : Stream) : Type 0 where

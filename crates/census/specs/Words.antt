@@ -6,8 +6,9 @@ use Rattle.std.specs.Str.Parse.{digits_value, without_leading_plus}
 use Rattle.clap.specs.Words.{Kinds, Row, Text, fault_of, first_of, one_of, subcommand_of}
 use Rattle.clap.specs.ValueTests.{is_numeral}
 use Rattle.commands.specs.declared.complaint.Complaint.TheVariants as complaint
+use Rattle.commands.specs.declared.profile.ProfileNumbers.{ProfileNumbers}
 use Rattle.commands.specs.declared.request.Request.{Request}
-use Rattle.commands.specs.declared.request.Request.TheVariants.{Run, Show, Soup, Version}
+use Rattle.commands.specs.declared.request.Request.TheVariants.{Run, Name, Show, Soup, Version}
 use Rattle.commands.specs.declared.status.Status.{Status}
 use Rattle.commands.specs.declared.status.Status.TheVariants.{OutOfMemory}
 use Rattle.commands.specs.Complaints.{line_of}
@@ -24,6 +25,24 @@ number_of most text =
 -- the number that was found for an argument
 abbrev pub number_in : ℕ → Text → List Row → Option ℕ
 number_in most id rows = option_and_then (number_of most) (one_of id rows)
+
+-- the same where the number has a least value too
+abbrev pub number_from : ℕ → ℕ → Text → List Row → Option ℕ
+number_from least most id rows = option_and_then (λ n. if nat_le least n then Some n else None) (number_in most id rows)
+
+-- the numbers of a profile, if all four are there
+abbrev pub all_four : Option ℕ → Option ℕ → Option ℕ → Option ℕ → Option ProfileNumbers
+all_four (Some p) (Some h) (Some k) (Some t) = Some (record { period = p; horizon = h; stride = k; limit = t })
+all_four _ _ _ _ = None
+
+-- the numbers of a profile, with what was found for its options
+abbrev pub profile_in : List Row → Option ProfileNumbers
+profile_in rows = all_four (number_from 1 64 (codes "period") rows) (number_in 4096 (codes "horizon") rows)
+    (number_from 1 10000 (codes "stride") rows) (number_in 100000 (codes "limit") rows)
+
+-- `name`, with what was found for its options
+abbrev pub name_in : List Row → Option Request
+name_in rows = option_and_then (λ profile. option_map (Name profile) (first_of (codes "rule") rows)) (profile_in rows)
 
 -- `run`, with what was found for its arguments
 abbrev pub run_in : List Row → Option Request
@@ -43,6 +62,7 @@ request_in found =
     if bytes_eq found.0 (codes "run") then run_in found.1
     else if bytes_eq found.0 (codes "show") then show_in found.1
     else if bytes_eq found.0 (codes "soup") then soup_in found.1
+    else if bytes_eq found.0 (codes "name") then name_in found.1
     else None
 
 -- a request, if nothing is wrong with the words

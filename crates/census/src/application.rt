@@ -1,7 +1,7 @@
 ghost use Rattle.std.specs.Prelude.{◌≡◌, false, IfOk};
 ghost use Rattle.clap.specs.Words.{app_of, rule_of, shape_of};
 ghost use Rattle.clap.specs.declared.builder.command.Command.TheViews.{out-Command as fields_of};
-ghost use Rattle.census.specs.Application.{census_app, pattern_app, code_argument, generations_argument, number_argument, rule_argument, run_shape, seed_argument, show_shape, soup_shape};
+ghost use Rattle.census.specs.Application.{census_app, pattern_app, code_argument, generations_argument, number_argument, rule_argument, run_shape, seed_argument, show_shape, soup_shape, name_shape, period_argument, horizon_argument, stride_argument, limit_argument, with_looks, with_rest};
 
 use clap::builder::ValueParser;
 use clap::{Arg, Command, value_parser};
@@ -18,21 +18,23 @@ const LIFE: &str = "b3s23";
 pub fn census_command<'a>(alloc: Global) -> Result<Command<'a>, AllocError>
     ensures { IfOk result (λ command. app_of command ≡ census_app) }
 {
-    pattern_commands(alloc)?.subcommand(soup_command(alloc)?)
+    pattern_commands(alloc)?
+        .subcommand(show_command(alloc)?)?
+        .subcommand(soup_command(alloc)?)
 }
 
-/// The program with the commands on single patterns.
+/// The program with the commands that read a pattern.
 fn pattern_commands<'a>(alloc: Global) -> Result<Command<'a>, AllocError>
     ensures { IfOk result (λ command. app_of command ≡ pattern_app) }
 {
     Command::new(alloc, "census")
         .about(
-            "Runs patterns of Conway's Game of Life and its kin, draws the objects that codes name, and makes soups",
+            "Runs patterns of Conway's Game of Life and its kin, names and draws their objects, and makes soups",
         )
         .after_help("`census --version` prints the name and version.")
         .subcommand_required(true)
         .subcommand(run_command(alloc)?)?
-        .subcommand(show_command(alloc)?)
+        .subcommand(name_command(alloc)?)
 }
 
 fn run_command<'a>(alloc: Global) -> Result<Command<'a>, AllocError>
@@ -50,6 +52,44 @@ fn run_command<'a>(alloc: Global) -> Result<Command<'a>, AllocError>
         .after_help("Example: census run 4 < glider.cells")
         .arg(generations_argument(alloc))?
         .arg(rule_argument(alloc))
+}
+
+fn name_command<'a>(alloc: Global) -> Result<Command<'a>, AllocError>
+    ensures shape { IfOk result (λ command. shape_of command ≡ name_shape) }
+    ensures local { IfOk result (λ command. (fields_of command).has_globals ≡ false) }
+{
+    let command = Command::new(alloc, "name")
+        .about("Reads a pattern, runs it until it has settled, and names its objects")
+        .long_about(
+            "Reads a pattern from standard input, in plaintext, and runs it until it has settled. Prints `settled` and the \
+             generation of the first look at which it has, and then a line for each apgcode with how many objects have \
+             it. Prints `unsettled` if it hasn't by the last look.\n\n\
+             The looks are at the generations 0, STRIDE, twice STRIDE and so on, up to LIMIT. A pattern has settled if each \
+             of its objects comes back within PERIOD generations, and if none comes into another's way for HORIZON \
+             generations.",
+        )
+        .after_help("Example: census name < acorn.cells");
+    with_looks(alloc, with_rest(alloc, command)?)?.arg(rule_argument(alloc))
+}
+
+/// The command with the options on when an object counts.
+fn with_rest<'a>(alloc: Global, command: Command<'a>) -> Result<Command<'a>, AllocError>
+    ensures app { IfOk result (λ new. app_of new ≡ with_rest (app_of command.entry)) }
+    ensures local { (fields_of command.entry).has_globals ≡ false → IfOk result (λ new. (fields_of new).has_globals ≡ false) }
+{
+    command
+        .arg(period_argument(alloc))?
+        .arg(horizon_argument(alloc))
+}
+
+/// The command with the options on when to look.
+fn with_looks<'a>(alloc: Global, command: Command<'a>) -> Result<Command<'a>, AllocError>
+    ensures app { IfOk result (λ new. app_of new ≡ with_looks (app_of command.entry)) }
+    ensures local { (fields_of command.entry).has_globals ≡ false → IfOk result (λ new. (fields_of new).has_globals ≡ false) }
+{
+    command
+        .arg(stride_argument(alloc))?
+        .arg(limit_argument(alloc))
 }
 
 fn show_command<'a>(alloc: Global) -> Result<Command<'a>, AllocError>
@@ -113,6 +153,54 @@ fn rule_argument<'a>(alloc: Global) -> Arg<'a>
             "The rule: `b`, the numbers of live neighbours that give birth, `s`, the numbers on which a live cell \
              survives. Life is b3s23, which others write B3/S23",
         )
+}
+
+fn period_argument<'a>(alloc: Global) -> Arg<'a>
+    ensures rule { rule_of result ≡ period_argument }
+    ensures local { result.global ≡ false }
+{
+    Arg::new(alloc, "period")
+        .long("period")
+        .value_name("PERIOD")
+        .value_parser(value_parser!(u32).range(1..=64))
+        .default_value("64")
+        .help("The longest period that counts, from 1 to 64")
+}
+
+fn horizon_argument<'a>(alloc: Global) -> Arg<'a>
+    ensures rule { rule_of result ≡ horizon_argument }
+    ensures local { result.global ≡ false }
+{
+    Arg::new(alloc, "horizon")
+        .long("horizon")
+        .value_name("HORIZON")
+        .value_parser(value_parser!(u32).range(0..=4096))
+        .default_value("512")
+        .help("For how many generations objects may not come into each other's way: PERIOD to 4096")
+}
+
+fn stride_argument<'a>(alloc: Global) -> Arg<'a>
+    ensures rule { rule_of result ≡ stride_argument }
+    ensures local { result.global ≡ false }
+{
+    Arg::new(alloc, "stride")
+        .long("stride")
+        .value_name("STRIDE")
+        .value_parser(value_parser!(u32).range(1..=10_000))
+        .default_value("101")
+        .help("How many generations there are from one look to the next, from 1 to 10000")
+}
+
+fn limit_argument<'a>(alloc: Global) -> Arg<'a>
+    ensures rule { rule_of result ≡ limit_argument }
+    ensures local { result.global ≡ false }
+{
+    Arg::new(alloc, "limit")
+        .long("limit")
+        .value_name("LIMIT")
+        .value_parser(value_parser!(u32).range(0..=100_000))
+        .default_value("30300")
+        .help("The last generation at which there may be a look, from 0 to 100000")
 }
 
 fn number_argument<'a>(alloc: Global) -> Arg<'a>

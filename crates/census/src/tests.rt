@@ -66,6 +66,22 @@ fn does_what_words_ask_for(rt: HostRuntime) {
     assert_prints(&rt, &attached, three, upright);
     let hyphens = ["census", "run", "--rule", "b36s23", "--", "1"];
     assert_prints(&rt, &hyphens, three, upright);
+    let found = b"settled 0\nxp2_7 1\n";
+    assert_prints(&rt, &["census", "name"], BLINKER, found);
+    let looks = [
+        "census",
+        "name",
+        "--period",
+        "1",
+        "--horizon",
+        "1",
+        "--stride",
+        "1",
+        "--limit",
+        "1",
+    ];
+    assert_prints(&rt, &looks, b"OO\n", b"settled 1\n");
+    assert_prints(&rt, &looks, BLINKER, b"unsettled\n");
     assert_prints(&rt, &["census", "show", "xs7_178c"], b"", EATER);
     assert_prints(&rt, &["census", "show", "178c"], b"OOO", EATER);
     assert_prints(&rt, &["census", "--version"], b"", b"census 0.1.0\n");
@@ -76,6 +92,9 @@ fn tells_what_is_wrong(rt: HostRuntime) {
     let line = b"census: bad rule at 2\n";
     let bad = ["census", "run", "1", "--rule", "b33s2"];
     assert_complains(&rt, &bad, BLINKER, Status::Refused, line);
+    let line = b"census: horizon below period\n";
+    let low = ["census", "name", "--horizon", "63"];
+    assert_complains(&rt, &low, BLINKER, Status::Refused, line);
     let line = b"census: not a code\n";
     let bad = ["census", "show", "xs_33"];
     assert_complains(&rt, &bad, b"", Status::Refused, line);
@@ -83,7 +102,7 @@ fn tells_what_is_wrong(rt: HostRuntime) {
 
 #[test]
 fn shows_usage(rt: HostRuntime) {
-    let words: [&[&str]; 16] = [
+    let words: [&[&str]; 18] = [
         &["census", "run", "100001"],
         &["census", "run", "-1"],
         &["census", "run", "1", "2"],
@@ -96,6 +115,8 @@ fn shows_usage(rt: HostRuntime) {
         &["census", "run", "--help"],
         &["census", "help", "run"],
         &["census", "run", "1", "--rule"],
+        &["census", "name", "--period", "0"],
+        &["census", "name", "1"],
         &["census", "show"],
         &["census", "show", "a", "b"],
         &["census", "show", "--rule", "b3s23", "33"],
@@ -122,7 +143,7 @@ fn has_part(text: &[u8], part: &[u8]) -> bool {
 #[test]
 fn explains_itself(rt: HostRuntime) {
     let left = left_by(&rt, &["census", "--help"], b"");
-    for part in ["run", "show", "census --version"] {
+    for part in ["run", "name", "show", "soup", "census --version"] {
         assert!(rt; has_part(left.errors.as_slice(), part.as_bytes()), "{part}");
     }
     let left = left_by(&rt, &["census", "run", "--help"], b"");
@@ -135,6 +156,12 @@ fn explains_itself(rt: HostRuntime) {
     ] {
         assert!(rt; has_part(left.errors.as_slice(), part.as_bytes()), "{part}");
     }
+    let left = left_by(&rt, &["census", "name", "--help"], b"");
+    for part in ["census name < acorn.cells", "30300", "unsettled"] {
+        assert!(rt; has_part(left.errors.as_slice(), part.as_bytes()), "{part}");
+    }
+    let left = left_by(&rt, &["census", "soup", "--help"], b"");
+    assert!(rt; has_part(left.errors.as_slice(), b"census soup --seed abc 12"));
     let left = left_by(&rt, &["census", "show", "--help"], b"");
     assert!(rt; has_part(left.errors.as_slice(), b"census show xs7_178c"));
 }

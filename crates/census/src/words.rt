@@ -1,14 +1,16 @@
-ghost use Rattle.std.specs.Prelude.{◌≡◌, ◌≢◌, None, Some, IfOk, IfErr, IfSome, false, true, is_some, map, option_and_then};
+ghost use Rattle.std.specs.Prelude.{◌≡◌, ◌≢◌, ◌≤◌, None, Some, IfOk, IfErr, IfSome, false, true, is_some, map, option_and_then};
 ghost use Rattle.clap.specs.Words.{found_of, kind_of, rows_of, subcommand_rows_of};
+ghost use Rattle.commands.specs.Profiles.{AreInRange};
 ghost use Rattle.commands.specs.Requests.{IsWithinLimits, reads_input};
 ghost use Rattle.commands.specs.Streams.{stream};
-ghost use Rattle.census.specs.Calls.{AsksForNothing, AsksForSoup, AsksForVersion, AsksToRun, AsksToShow};
-ghost use Rattle.census.specs.Words.{DoesWords, asked_by, asks_version, number_in, request_in, run_in, show_in, soup_in};
+ghost use Rattle.census.specs.Calls.{AsksForNothing, AsksForSoup, AsksForVersion, AsksToName, AsksToRun, AsksToShow};
+ghost use Rattle.census.specs.Words.{DoesWords, asked_by, asks_version, name_in, number_from, number_in, profile_in, request_in, run_in, show_in, soup_in};
 
 use crate::application::census_command;
 use clap::ArgMatches;
 use clap::error::ErrorKind;
 use commands::complaint::Complaint;
+use commands::profile::ProfileNumbers;
 use commands::request::{Request, do_request};
 use commands::run::GENERATION_LIMIT;
 use commands::status::Status;
@@ -106,6 +108,12 @@ pub fn asks_to_run()
     ensures { AsksToRun }
 {}
 
+/// A law of all words: what the calls of `name` ask for.
+#[tactic(auto, using(crate::proofs::NameCalls::asks_to_name))]
+pub fn asks_to_name()
+    ensures { AsksToName }
+{}
+
 /// A law of all words: what the calls of `show` ask for.
 #[tactic(auto, using(crate::proofs::CallLemmas::asks_to_show))]
 pub fn asks_to_show()
@@ -147,6 +155,7 @@ fn request_in<'a>(matches: &ArgMatches<'a>) -> Option<Request<'a>>
 {
     match matches.subcommand() {
         Some(("run", found)) => run_in(found),
+        Some(("name", found)) => name_in(found),
         Some(("show", found)) => show_in(found),
         Some(("soup", found)) => soup_in(found),
         _ => None,
@@ -165,6 +174,36 @@ fn run_in<'a>(found: &ArgMatches<'a>) -> Option<Request<'a>>
     Some(Request::Run {
         generations,
         rule: Word::new(rule),
+    })
+}
+
+/// `name` with the values of its options.
+fn name_in<'a>(found: &ArgMatches<'a>) -> Option<Request<'a>>
+    ensures request { result ≡ name_in (rows_of (found_of found.now)) }
+    ensures limits { IfSome result IsWithinLimits }
+{
+    let profile = profile_in(found)?;
+    let rule = found.get_str("rule")?;
+    Some(Request::Name {
+        profile,
+        rule: Word::new(rule),
+    })
+}
+
+/// The numbers of a profile.
+fn profile_in(found: &ArgMatches<'_>) -> Option<ProfileNumbers>
+    ensures profile { result ≡ profile_in (rows_of (found_of found.now)) }
+    ensures limits { IfSome result AreInRange }
+{
+    let period = number_from(found, "period", 1, 64)?;
+    let horizon = number_in(found, "horizon", 4096)?;
+    let stride = number_from(found, "stride", 1, 10_000)?;
+    let limit = number_in(found, "limit", 100_000)?;
+    Some(ProfileNumbers {
+        period,
+        horizon,
+        stride,
+        limit,
     })
 }
 
@@ -194,10 +233,24 @@ fn soup_in<'a>(found: &ArgMatches<'a>) -> Option<Request<'a>>
 
 /// The number up to a limit that was found for an argument.
 fn number_in(found: &ArgMatches<'_>, id: &str, most: u32) -> Option<u32>
-    ensures { result ≡ number_in most id.now (rows_of (found_of found.now)) }
+    ensures number { result ≡ number_in most id.now (rows_of (found_of found.now)) }
+    ensures most { IfSome result (λ n. n ≤ most) }
 {
     let number = found.get_one::<u32>(id)?;
     if number > most {
+        return None;
+    }
+    Some(number)
+}
+
+/// The number in a range that was found for an argument.
+fn number_from(found: &ArgMatches<'_>, id: &str, least: u32, most: u32) -> Option<u32>
+    ensures number { result ≡ number_from least most id.now (rows_of (found_of found.now)) }
+    ensures least { IfSome result (λ n. least ≤ n) }
+    ensures most { IfSome result (λ n. n ≤ most) }
+{
+    let number = number_in(found, id, most)?;
+    if number < least {
         return None;
     }
     Some(number)

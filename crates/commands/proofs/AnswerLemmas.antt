@@ -1,5 +1,5 @@
 -- Lemmas on what commands read and answer.
-use Rattle.std.proofs.Common.{◌≡◌, ◌≤◌, ◌^◌, ◌↔◌, ℕ, List, [], length, Bool, true, false, Option, None, Some, Result, Ok, Err, nat_le, is_ok, refl}
+use Rattle.std.proofs.Common.{◌≡◌, ◌≤◌, ◌^◌, ◌↔◌, ℕ, List, [], length, Bool, true, false, Option, None, Some, Result, Ok, Err, nat_le, refl}
 use Rattle.std.proofs.Common.{sym, ap, ◌∙◌, rules}
 use Rattle.std.specs.Result.{IsErrAnd, IsErrOf, result_map_both}
 use Rattle.plane_core.specs.declared.cell.Cell.{Cell}
@@ -13,14 +13,14 @@ use Rattle.plane_core.specs.Rules.{Numbers, rule_read}
 use Rattle.plane_core.specs.Plaintext.{pattern}
 use Rattle.commands.specs.declared.complaint.Complaint.{Complaint}
 use Rattle.commands.specs.declared.complaint.Complaint.TheVariants.{Refused, OutOfMemory, ReadFailed, WriteFailed}
+use Rattle.commands.specs.declared.refusal.Refusal.{Refusal}
 use Rattle.commands.specs.declared.status.Status.{Status}
 use Rattle.commands.specs.declared.status.Status.TheVariants as statuses
 use Rattle.commands.specs.declared.input.InputFault.{InputFault}
 use Rattle.commands.specs.declared.input.InputFault.TheVariants as input_fault
-use Rattle.commands.specs.Answers.{Answer, Ends, IsInput, Outcome, Reaches, Tells}
+use Rattle.commands.specs.Answers.{Ends, IsInput, Outcome, Reaches, Right, Tells, text_of}
 use Rattle.commands.specs.Inputs.{Reads, rule_named, input_complaint, plaintext_complaint, pattern_complaint, pattern_of, rule_complaint}
 use Rattle.commands.specs.Complaints.{status_of}
-use Rattle.commands.specs.Run.{run_answer}
 use Rattle.commands.specs.Streams.{Stream, Has}
 
 -- an error that is known is the result
@@ -57,11 +57,26 @@ pub Reads_error : (bytes : List ℕ) (error : PlaintextError) → length bytes �
 Reads_error bytes (plaintext_error.Fault fault) short faults = Reads_refused bytes fault short ((faults fault).0 refl)
 Reads_error bytes plaintext_error.Memory short faults = tt
 
--- a refused rule is the answer, with nothing on the output
-pub Reaches_rule : (reads : Bool) (text : List ℕ) (n : ℕ) (bytes : List ℕ) (error : RuleError) (output : Stream) → rule_read text ≡ Err error → Has output []
-    → Reaches reads (run_answer text n bytes) (Err (rule_complaint error)) output
-Reaches_rule reads text n bytes (rule_error.BadRule place) output is nothing = (rw is refl, nothing)
-Reaches_rule reads text n bytes rule_error.BirthZero output is nothing = (rw is refl, nothing)
+-- memory that runs out after the input is begun leaves nothing on the output
+pub Reaches_no_memory : (reads : Bool) (right : Right) (output : Stream) → reads ≡ true → Has output [] → Reaches reads right (Err OutOfMemory) output
+Reaches_no_memory reads right output read nothing =
+    (λ unread complaint is. let bad : false ≡ true = sym unread ∙ read in cc, λ answer is. ([], text_of answer, refl, nothing))
+
+-- an input that was refused or not read is what a command ends with, with nothing on the output
+pub Reaches_unread : {A : Type 0} (reads : Bool) (right : Right) (answer : Result A Complaint) (complaint : Complaint) (output : Stream) → reads ≡ true
+    → ((refusal : Refusal) → answer ≡ Err (Refused refusal) → right (Err (Refused refusal))) → Reads answer (Err complaint) → Has output []
+    → Reaches reads right (Err complaint) output
+Reaches_unread reads right answer (Refused refusal) output read is refused nothing = (is refusal refused, nothing)
+Reaches_unread reads right answer OutOfMemory output read is refused nothing = Reaches_no_memory reads right output read nothing
+Reaches_unread reads right answer ReadFailed output read is refused nothing = (read, nothing)
+Reaches_unread reads right answer WriteFailed output read is refused nothing = absurd refused
+
+-- a refused rule is a right answer, with nothing on the output
+pub Reaches_rule : (reads : Bool) (right : Right) (text : List ℕ) (error : RuleError) (output : Stream) → rule_read text ≡ Err error
+    → ((complaint : Complaint) → rule_named text ≡ Err complaint → right (Err complaint)) → Has output []
+    → Reaches reads right (Err (rule_complaint error)) output
+Reaches_rule reads right text (rule_error.BadRule place) output is told nothing = (told _ (rw is refl), nothing)
+Reaches_rule reads right text rule_error.BirthZero output is told nothing = (told _ (rw is refl), nothing)
 
 -- no complaint has the status of a usage fault
 pub status_of-command : (complaint : Complaint) → status_of complaint ≡ statuses.Usage → ⊥
@@ -71,20 +86,10 @@ status_of-command ReadFailed is = cc
 status_of-command WriteFailed is = cc
 
 -- a command that ended well has no usage fault
-pub Ends-command : {reads : Bool} {answer : Answer} {status : Status} {output errors : Stream} → Ends reads answer status output errors
+pub Ends-command : {reads : Bool} {right : Right} {status : Status} {output errors : Stream} → Ends reads right status output errors
     → status ≡ statuses.Usage → ⊥
 Ends-command {status = status} {errors = errors} ends is = go ends.outcome ends.told
   where
     go : (outcome : Outcome) → Tells outcome status errors → ⊥
     go (Ok done) told = let bad : statuses.Done ≡ statuses.Usage = sym told.0 ∙ is in cc
     go (Err complaint) told = status_of-command complaint (sym told.0 ∙ is)
-
--- an input that was refused or not read is what the command ends with, with nothing on the output
-pub Reaches_pattern : (text : List ℕ) (n : ℕ) (bytes : List ℕ) (rule : Numbers) (complaint : Complaint) (output : Stream) → rule_read text ≡ Ok rule
-    → Reads (pattern_of bytes) (Err complaint) → Has output [] → Reaches (is_ok (rule_named text)) (run_answer text n bytes) (Err complaint) output
-Reaches_pattern text n bytes rule (Refused refusal) output ruled refused nothing = (rw (ruled, refused) refl, nothing)
-Reaches_pattern text n bytes rule OutOfMemory output ruled refused nothing =
-    let reads : is_ok (rule_named text) ≡ true = rw ruled refl in
-    (λ unread. let bad : false ≡ true = sym unread ∙ reads in cc, ([], _, refl, nothing))
-Reaches_pattern text n bytes rule ReadFailed output ruled refused nothing = (rw ruled refl, nothing)
-Reaches_pattern text n bytes rule WriteFailed output ruled refused nothing = absurd refused

@@ -8,7 +8,8 @@ use Rattle.code_core.specs.declared.reader.WechslerError.TheVariants.{Fault, Mem
 use Rattle.code_core.specs.declared.reader.WechslerFault.{WechslerFault}
 use Rattle.code_core.specs.declared.reader.WechslerFault.TheVariants.{TooLong, BadByte, ShortRun, Empty}
 use Rattle.code_core.specs.Reading.{wechsler_read}
-use Rattle.commands.specs.Answers.{Reaches}
+use Rattle.commands.specs.declared.complaint.Complaint.{Complaint}
+use Rattle.commands.specs.Answers.{Reaches, only, text_of}
 use Rattle.commands.specs.Show.{reader_complaint, show_answer, text_in, wechsler_complaint}
 use Rattle.commands.specs.Streams.{Stream, Has}
 
@@ -30,14 +31,20 @@ show_answer-faultless word text is faults = go (wechsler_read text) refl
     go (Ok cells) e = rw (is, e) refl
     go (Err fault) e = let bad = (faults fault).1 e in cc
 
+faultless_refused : (word : List ℕ) (complaint : Complaint) → IsOk (show_answer word) → show_answer word ≡ Err complaint → ⊥
+faultless_refused word complaint ok refused = let bad : IsOk {T = List ℕ} (Err complaint) = rw refused at ok in cc
+
 -- a text that was refused is the answer, with nothing on the output
 pub Reaches_text : (word text : List ℕ) (error : WechslerError) (output : Stream) → text_in word ≡ Ok text
     → ((fault : WechslerFault) → IsErrOf {T = List Cell} (Err error) (Fault fault) ↔ (wechsler_read text ≡ Err fault)) → Has output []
-    → Reaches false (show_answer word) (Err (reader_complaint error)) output
+    → Reaches false (only (show_answer word)) (Err (reader_complaint error)) output
 Reaches_text word text (Fault TooLong) output is faults nothing = (show_answer-fault word text TooLong is ((faults TooLong).0 refl), nothing)
 Reaches_text word text (Fault (BadByte place)) output is faults nothing =
     (show_answer-fault word text (BadByte place) is ((faults (BadByte place)).0 refl), nothing)
 Reaches_text word text (Fault (ShortRun place)) output is faults nothing =
     (show_answer-fault word text (ShortRun place) is ((faults (ShortRun place)).0 refl), nothing)
 Reaches_text word text (Fault Empty) output is faults nothing = (show_answer-fault word text Empty is ((faults Empty).0 refl), nothing)
-Reaches_text word text Memory output is faults nothing = (λ _. show_answer-faultless word text is faults, ([], _, refl, nothing))
+Reaches_text word text Memory output is faults nothing = (
+  λ unread complaint refused. faultless_refused word complaint (show_answer-faultless word text is faults) refused,
+  λ answer told. ([], text_of answer, refl, nothing),
+)

@@ -1,5 +1,5 @@
 -- What a command is asked for, and how it may end.
-use Rattle.std.specs.Prelude.{◌≡◌, ℕ, Bool, true, false, List, [], Option, Result, Ok, Err, IfSome, IsOk, IsOkAnd}
+use Rattle.std.specs.Prelude.{◌≡◌, ℕ, Bool, true, false, List, [], Option, Result, Ok, Err, IfSome}
 use Rattle.std.specs.Result.{result_unwrap_or}
 use Rattle.commands.specs.declared.complaint.Complaint.{Complaint}
 use Rattle.commands.specs.declared.complaint.Complaint.TheVariants.{Refused, OutOfMemory, ReadFailed, WriteFailed}
@@ -29,23 +29,45 @@ IsInput known bytes = IfSome known (λ left. bytes ≡ left)
 abbrev pub Outcome : Type 0
 Outcome = Result (Unit {0}) Complaint
 
--- What stands on standard output after an outcome: the answer's text if all was done, the front of it if memory ran out
--- or a write failed, and else nothing. A refusal is the answer. Only a text is written, only an input that is read can
--- fail to be, and memory that runs out hides a refusal only until the input is read.
-abbrev pub Reaches : Bool → Answer → Outcome → Stream → Type 0
-Reaches reads answer (Ok _) output = IsOkAnd answer (Has output) × (output.failed ≡ false)
-Reaches reads answer (Err OutOfMemory) output = (reads ≡ false → IsOk answer) × HasFront output (text_of answer)
-Reaches reads answer (Err ReadFailed) output = (reads ≡ true) × Has output []
-Reaches reads answer (Err WriteFailed) output = IsOk answer × HasFront output (text_of answer) × (output.failed ≡ true)
-Reaches reads answer (Err (Refused refusal)) output = (answer ≡ Err (Refused refusal)) × Has output []
+-- a property of answers: to be right for a request
+abbrev pub Right : Type 1
+Right = Answer → Type 0
+
+-- the one right answer
+abbrev pub only : Answer → Right
+only answer other = answer ≡ other
+
+-- what is right is told by what the step before gave, and a complaint is the one right answer
+abbrev pub given_right : {A : Type 0} → Result A Complaint → (A → Right) → Right
+given_right (Ok x) next = next x
+given_right (Err complaint) next = only (Err complaint)
+
+-- the text of a right answer was added, and nothing else
+abbrev pub HasRight : Right → Stream → Type 0
+HasRight right output = (text : List ℕ) × right (Ok text) × Has output text
+
+-- a front of the text of a right answer was added, and nothing else
+abbrev pub HasFrontOfRight : Right → Stream → Type 0
+HasFrontOfRight right output = (text : List ℕ) × right (Ok text) × HasFront output text
+
+-- What stands on standard output after an outcome: the text of a right answer if all was done, a front of it if memory
+-- ran out or a write failed, and else nothing. A refusal is a right answer. Only a text is written, only an input that is
+-- read can fail to be, and memory that runs out hides a refusal only until the input is read.
+abbrev pub Reaches : Bool → Right → Outcome → Stream → Type 0
+Reaches reads right (Ok _) output = HasRight right output × (output.failed ≡ false)
+Reaches reads right (Err OutOfMemory) output =
+    (reads ≡ false → (complaint : Complaint) → ¬ right (Err complaint)) × ((answer : Answer) → right answer → HasFront output (text_of answer))
+Reaches reads right (Err ReadFailed) output = (reads ≡ true) × Has output []
+Reaches reads right (Err WriteFailed) output = HasFrontOfRight right output × (output.failed ≡ true)
+Reaches reads right (Err (Refused refusal)) output = right (Err (Refused refusal)) × Has output []
 
 -- the status of an outcome, and its line on standard error
 abbrev pub Tells : Outcome → Status → Stream → Type 0
 Tells (Ok _) status errors = (status ≡ Done) × Has errors [] × (errors.failed ≡ false)
 Tells (Err complaint) status errors = (status ≡ status_of complaint) × HasLine errors (line_of complaint)
 
--- a command with this answer ends well: it gives the answer, or it gives up because memory runs out or a stream fails
-pub record Ends (reads : Bool) (answer : Answer) (status : Status) (output errors : Stream) : Type 0 where
+-- a command ends well: it gives a right answer, or it gives up because memory runs out or a stream fails
+pub record Ends (reads : Bool) (right : Right) (status : Status) (output errors : Stream) : Type 0 where
   pub outcome : Outcome
-  pub reached : Reaches reads answer outcome output
+  pub reached : Reaches reads right outcome output
   pub told : Tells outcome status errors

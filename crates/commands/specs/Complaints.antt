@@ -4,7 +4,7 @@ use Rattle.commands.specs.declared.complaint.Complaint.{Complaint}
 use Rattle.commands.specs.declared.complaint.Complaint.TheVariants.{Refused, OutOfMemory, ReadFailed, WriteFailed}
 use Rattle.commands.specs.declared.refusal.Refusal.{Refusal}
 use Rattle.commands.specs.declared.refusal.Refusal.TheVariants.{BadByte, PatternTooLarge, BadRule, BirthZero, NotACode, CodeTooLong, CodeBadByte}
-use Rattle.commands.specs.declared.refusal.Refusal.TheVariants.{CodeShortRun, CodeEmpty, SeedTooLong, SeedBadByte}
+use Rattle.commands.specs.declared.refusal.Refusal.TheVariants.{CodeShortRun, CodeEmpty, SeedTooLong, SeedBadByte, HorizonBelowPeriod}
 use Rattle.commands.specs.declared.status.Status.{Status}
 use Rattle.commands.specs.declared.status.Status.TheVariants as status
 
@@ -21,6 +21,7 @@ refusal_line (CodeShortRun place) = codes "census: short run in code at " ++ dec
 refusal_line CodeEmpty = codes "census: code without a live cell\n"
 refusal_line SeedTooLong = codes "census: seed longer than 64 bytes\n"
 refusal_line (SeedBadByte place) = codes "census: bad byte in seed at " ++ decimal place ++ codes "\n"
+refusal_line HorizonBelowPeriod = codes "census: horizon below period\n"
 
 -- the line of a complaint
 abbrev pub line_of : Complaint → List ℕ

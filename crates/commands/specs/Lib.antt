@@ -1,6 +1,8 @@
 pub mod Answers
 pub mod Complaints
 pub mod Inputs
+pub mod Name
+pub mod Profiles
 pub mod Requests
 pub mod Run
 pub mod Show

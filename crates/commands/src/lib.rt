@@ -8,8 +8,12 @@
 pub mod complaint;
 /// Inputs, read whole.
 mod input;
+/// `name`: what becomes of a pattern, and of which objects it then consists.
+pub mod name;
 /// Output that is buffered until a command has ended.
 pub mod output;
+/// Profiles, as words ask for them.
+pub mod profile;
 /// Why a text was refused, and its line.
 pub mod refusal;
 /// Commands with their values.

@@ -1,12 +1,14 @@
-ghost use Rattle.std.specs.Prelude.{◌≡◌, ◌≢◌, false, []};
+ghost use Rattle.std.specs.Prelude.{◌≡◌, ◌≢◌, false, [], decimal};
 ghost use Rattle.std.specs.Io.Buffered.{writer_buffer, writer_contents};
 ghost use Rattle.std.specs.Io.KnownBytes.{Keeps};
+ghost use Rattle.plane_core.specs.Out.{Writes};
 ghost use Rattle.commands.specs.Complaints.{line_of};
 ghost use Rattle.commands.specs.Streams.{stream, HasLine};
 
 use crate::complaint::Complaint;
 use crate::status::Status;
-use plane_core::output::Out;
+use itoa::Buffer;
+use plane_core::output::{Out, WriteError};
 use std::alloc::Global;
 use std::io::{BufWriter, Write};
 
@@ -36,4 +38,13 @@ pub fn send_buffered<W: Write + Drop, E: Write>(
         return Status::Failed;
     }
     Complaint::WriteFailed.tell(errors)
+}
+
+/// Writes a number in decimal. It takes no memory.
+pub(crate) fn put_decimal<W: Write>(output: &mut Out<W>, number: u64) -> Result<(), WriteError>
+    requires { output.old.failed ≡ false }
+    ensures { Writes W.contents output.old output.new result (decimal number) }
+{
+    let mut buffer = Buffer::new();
+    output.put(buffer.format(number).as_bytes())
 }

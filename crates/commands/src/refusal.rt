@@ -2,7 +2,7 @@ ghost use Rattle.std.specs.Prelude.{◌≡◌, ◌++◌, false, codes, decimal};
 ghost use Rattle.plane_core.specs.Out.{Writes};
 ghost use Rattle.commands.specs.Complaints.{refusal_line};
 
-use itoa::Buffer;
+use crate::output::put_decimal;
 use plane_core::output::{Out, WriteError};
 use std::io::Write;
 
@@ -31,6 +31,8 @@ pub enum Refusal {
     SeedTooLong,
     /// A byte of a seed that isn't a visible ASCII character. Places count from 0.
     SeedBadByte { place: usize },
+    /// A profile whose horizon is below its period.
+    HorizonBelowPeriod,
 }
 
 impl Refusal {
@@ -63,6 +65,7 @@ impl Refusal {
             Refusal::SeedBadByte { place } => {
                 put_numbered(errors, b"census: bad byte in seed at ", place)
             }
+            Refusal::HorizonBelowPeriod => errors.put(b"census: horizon below period\n"),
         }
     }
 }
@@ -72,9 +75,9 @@ fn put_bad_byte<E: Write>(errors: &mut Out<E>, line: usize, column: usize) -> Re
     ensures { Writes E.contents errors.old errors.new result (refusal_line (Refusal.BadByte line column)) }
 {
     errors.put(b"census: bad byte at line ")?;
-    put_decimal(errors, line)?;
+    put_decimal(errors, line as u64)?;
     errors.put(b" column ")?;
-    put_decimal(errors, column)?;
+    put_decimal(errors, column as u64)?;
     errors.put(b"\n")
 }
 
@@ -88,15 +91,6 @@ fn put_numbered<E: Write>(
     ensures { Writes E.contents errors.old errors.new result (front.now ++ (decimal number ++ codes "\n")) }
 {
     errors.put(front)?;
-    put_decimal(errors, number)?;
+    put_decimal(errors, number as u64)?;
     errors.put(b"\n")
-}
-
-/// Writes a number in decimal.
-fn put_decimal<E: Write>(errors: &mut Out<E>, number: usize) -> Result<(), WriteError>
-    requires { errors.old.failed ≡ false }
-    ensures { Writes E.contents errors.old errors.new result (decimal number) }
-{
-    let mut buffer = Buffer::new();
-    errors.put(buffer.format(number).as_bytes())
 }

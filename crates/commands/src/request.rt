@@ -2,6 +2,8 @@ ghost use Rattle.std.specs.Prelude.{◌≡◌, ◌≢◌, false};
 ghost use Rattle.commands.specs.Requests.{DoesRequest, IsWithinLimits, reads_input};
 ghost use Rattle.commands.specs.Streams.{stream};
 
+use crate::name::do_name;
+use crate::profile::ProfileNumbers;
 use crate::run::do_run;
 use crate::show::do_show;
 use crate::soup::do_soup;
@@ -16,11 +18,24 @@ use std::io::{Read, Write};
 #[derive(Drop)]
 pub enum Request<'a> {
     /// The pattern of the input so many generations later, at most 100,000, under the rule of a text.
-    Run { generations: u32, rule: Word<'a> },
+    Run {
+        generations: u32,
+        rule: Word<'a>,
+    },
+    /// The finding of the input's pattern, under a profile, of which each number is in its range, and the rule of a text.
+    Name {
+        profile: ProfileNumbers,
+        rule: Word<'a>,
+    },
     /// The object that a code names.
-    Show { code: Word<'a> },
+    Show {
+        code: Word<'a>,
+    },
     /// The soup with this number, which is below 2^40, of the seed of a text.
-    Soup { seed: Word<'a>, number: u64 },
+    Soup {
+        seed: Word<'a>,
+        number: u64,
+    },
     /// The program's name and version.
     Version,
 }
@@ -28,11 +43,11 @@ pub enum Request<'a> {
 /// Does what a request asks for, and returns how that ended.
 ///
 /// The request must be within its limits, and neither writer may have failed. Nothing of the input is read for a
-/// request that doesn't look at it, nor for one whose rule is refused.
+/// request that doesn't look at it, nor for one whose rule or profile is refused.
 ///
 /// # Errors
 ///
-/// As of the request's own function: [`do_run`], [`do_show`], [`do_soup`] or [`do_version`].
+/// Those of the request's own function: [`do_run`], [`do_name`], [`do_show`], [`do_soup`] or [`do_version`].
 pub fn do_request<R: Read, W: Write, E: Write>(
     alloc: Global,
     request: &Request<'_>,
@@ -52,6 +67,9 @@ pub fn do_request<R: Read, W: Write, E: Write>(
     match request {
         Request::Run { generations, rule } => {
             do_run(alloc, *generations, rule.as_str(), input, output, errors)
+        }
+        Request::Name { profile, rule } => {
+            do_name(alloc, *profile, rule.as_str(), input, output, errors)
         }
         Request::Show { code } => do_show(alloc, code.as_str(), output, errors),
         Request::Soup { seed, number } => { do_soup(alloc, seed.as_str(), *number, output, errors) }

@@ -11,6 +11,7 @@ use std::io::{self, BufWriter, ErrorKind, Read, Write};
 use std::process::Abort;
 use std::test::Fail;
 
+mod name;
 mod show;
 mod soup;
 

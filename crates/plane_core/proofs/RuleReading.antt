@@ -382,3 +382,18 @@ rule_read-begins text h = go (begins text (codes "b")) refl where
   go : (b : Bool) → begins text (codes "b") ≡ b → rule_read text ≡ Err BirthZero
   go true e = rule_read-zero text e h
   go false e = let wrong : true ≡ false = sym h ∙ no_b text e in cc
+
+-- ---- what is read keeps these laws
+
+pub reads_complete : (text : List ℕ) (read : Result Numbers RuleError) → read ≡ rule_read text → (rule : Numbers) → IsRule rule → rule_text rule ≡ text
+    → read ≡ Ok rule
+reads_complete text read exact rule whole spelled = exact ∙ ap rule_read (sym spelled) ∙ rule_read-rule_text rule whole
+
+pub reads_first : (text : List ℕ) (read : Result Numbers RuleError) → read ≡ rule_read text → (place : ℕ) → read ≡ Err (BadRule place)
+    → IsFirstFault text place
+reads_first text read exact place is = IsFirstFault-rule_read text place (sym exact ∙ is)
+
+pub reads_text : (text : List ℕ) (rule : Numbers) → Ok rule ≡ rule_read text → rule_text rule ≡ text
+reads_text text rule exact =
+    let P : Result Numbers RuleError → Type 0 = λ r. IfOk r (λ read. rule_text read ≡ text) in
+    subst P (sym exact) (rule_text-rule_read text)

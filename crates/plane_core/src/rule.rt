@@ -73,7 +73,24 @@ impl Rule {
 
         ensures exact { result ≡ rule_read text.now }
     {
-        read_bytes(text.as_bytes())
+        let text = text.as_bytes();
+        if !text.starts_with(b"b") {
+            return Err(RuleError::BadRule { place: 0 });
+        }
+        if text.starts_with(b"b0") {
+            return Err(RuleError::BirthZero);
+        }
+        let (births, rest) = read_numbers(&text[1..], 1);
+        if !rest.starts_with(b"s") {
+            let place = text.len() - rest.len();
+            return Err(RuleError::BadRule { place });
+        }
+        let (survivals, rest) = read_numbers(&rest[1..], 0);
+        if !rest.is_empty() {
+            let place = text.len() - rest.len();
+            return Err(RuleError::BadRule { place });
+        }
+        Ok(Rule { births, survivals })
     }
 
     /// Whether n is a birth number. It is false for 0 and for every n over 8.
@@ -133,29 +150,6 @@ fn write_digits<V: Write>(out: &mut Out<V>, least: u8, answers: &[bool]) -> Resu
         }
     }
     Ok(())
-}
-
-/// The rule that the bytes of a text say, read from the left.
-fn read_bytes(text: &[u8]) -> Result<Rule, RuleError>
-    ensures { result ≡ rule_read text.now }
-{
-    if !text.starts_with(b"b") {
-        return Err(RuleError::BadRule { place: 0 });
-    }
-    if text.starts_with(b"b0") {
-        return Err(RuleError::BirthZero);
-    }
-    let (births, rest) = read_numbers(&text[1..], 1);
-    if !rest.starts_with(b"s") {
-        let place = text.len() - rest.len();
-        return Err(RuleError::BadRule { place });
-    }
-    let (survivals, rest) = read_numbers(&rest[1..], 0);
-    if !rest.is_empty() {
-        let place = text.len() - rest.len();
-        return Err(RuleError::BadRule { place });
-    }
-    Ok(Rule { births, survivals })
 }
 
 /// Reads the numbers from `least` on whose digits stand in order at the front of the text, and returns the text after them.

@@ -1,5 +1,5 @@
 -- When a pattern is at rest: its objects come back, and never come into each other's way as far as one looks ahead.
-use Rattle.std.specs.Prelude.{◌≤◌, ℕ, List, All, [], map}
+use Rattle.std.specs.Prelude.{◌≤◌, ℕ, List, All, map}
 use Rattle.plane_core.specs.declared.cell.Cell.{Cell}
 use Rattle.plane_core.specs.Clusters.{AreClusters, Partition}
 use Rattle.plane_core.specs.Generations.{after}
@@ -25,7 +25,3 @@ pub record RestsAs (rule : Numbers) (profile : Settling) (cells : List Cell) (cl
 -- the pattern is at rest
 abbrev pub IsAtRest : Numbers → Settling → List Cell → Type 0
 IsAtRest rule profile cells = (clusters : List (List Cell)) × RestsAs rule profile cells clusters
-
--- the empty pattern is at rest
-abbrev pub EmptyIsAtRest : Type 0
-EmptyIsAtRest = (rule : Numbers) (profile : Settling) → IsAtRest rule profile []

@@ -14,9 +14,11 @@
 //!
 //! Most patterns that are looked at are not at rest, and nearly always some cluster doesn't come back. So that is
 //! asked first. Then the whole and the clusters are stepped side by side, a generation at a time, until a generation
-//! differs.
+//! differs, or until each cluster is itself again in its place: then the whole is what it was as well, and all that
+//! follows has been seen. So the horizon is reached only if there is a spaceship. Even then a cluster that is itself
+//! again isn't stepped, since its next generation is known.
 
-ghost use Rattle.std.specs.Prelude.{◌≡◌, ◌≢◌, ◌≤◌, ◌↔◌, [], ℕ, All, IfNone, IfOk, IfSome, IsTrue, flat_map, map, true};
+ghost use Rattle.std.specs.Prelude.{◌≡◌, ◌≢◌, ◌≤◌, ◌↔◌, [], ℕ, All, IfNone, IfOk, IfSome, IsTrue, flat_map, length, map, true};
 ghost use Rattle.plane_core.specs.Cells.{InOrder};
 ghost use Rattle.plane_core.specs.Clusters.{AreClusters, Partition};
 ghost use Rattle.plane_core.specs.Generations.{lies_within, next};
@@ -106,15 +108,35 @@ fn keep_apart(
 {
     let mut whole = pattern.copy(alloc)?;
     let mut alone = copies(alloc, clusters)?;
+    let stepped = next_of_each(alloc, rule, clusters)?;
+    let first = stepped.as_slice();
     for _ in 0..horizon {
         whole = next(alloc, rule, &whole)?;
-        alone = next_of_each(alloc, rule, alone.as_slice())?;
+        alone = next_of_all(alloc, rule, clusters, first, alone.as_slice())?;
         let same = make_up(alloc, alone.as_slice(), &whole)?;
         if !same {
             return Ok(false);
         }
+        let back = are_back(alone.as_slice(), clusters);
+        if back {
+            return Ok(true);
+        }
     }
     Ok(true)
+}
+
+/// Whether each of the patterns is the one at its place again.
+fn are_back(later: &[Pattern], patterns: &[Pattern]) -> bool
+    requires { length later.now ≡ length patterns.now }
+    ensures { IsTrue result ↔ (later.now ≡ patterns.now) }
+{
+    for (place, pattern) in patterns.iter().enumerate() {
+        let same = are_same(later[place].cells(), pattern.cells());
+        if !same {
+            return false;
+        }
+    }
+    true
 }
 
 /// The patterns once more.
@@ -142,6 +164,46 @@ fn next_of_each(
         later.push(next(alloc, rule, pattern)?)?;
     }
     Ok(later)
+}
+
+/// The next generation of each of the patterns, run alone, where that of the cluster at its place is known.
+fn next_of_all(
+    alloc: Global,
+    rule: &Rule,
+    clusters: &[Pattern],
+    first: &[Pattern],
+    patterns: &[Pattern],
+) -> Result<Vec<Pattern>, AllocError>
+    requires first { first.now ≡ map (next rule.now) clusters.now }
+    requires long { length patterns.now ≡ length clusters.now }
+    requires near { All (λ pattern. lies_within 999999 pattern ≡ true) patterns.now }
+    ensures { IfOk result (λ later. later.items ≡ map (next rule.now) patterns.now) }
+{
+    let mut later = Vec::with_capacity(alloc, patterns.len())?;
+    for (place, pattern) in patterns.iter().enumerate() {
+        let next = next_beside(alloc, rule, &clusters[place], &first[place], pattern)?;
+        later.push(next)?;
+    }
+    Ok(later)
+}
+
+/// The next generation of a pattern, which is known if the pattern is the cluster again. A still life always is.
+fn next_beside(
+    alloc: Global,
+    rule: &Rule,
+    cluster: &Pattern,
+    first: &Pattern,
+    pattern: &Pattern,
+) -> Result<Pattern, AllocError>
+    requires first { first.now ≡ next rule.now cluster.now }
+    requires near { lies_within 999999 pattern.now ≡ true }
+    ensures { IfOk result (λ later. later ≡ next rule.now pattern.now) }
+{
+    let same = are_same(pattern.cells(), cluster.cells());
+    if same {
+        return first.copy(alloc);
+    }
+    next(alloc, rule, pattern)
 }
 
 /// The next generation of a pattern that doesn't touch the edge of the plane.

@@ -31,11 +31,30 @@ fn draws_soups(rt: HostRuntime) -> Result<(), Fail> {
     let one = drawn(rt.alloc(), "12", 3)?;
     let other = drawn(rt.alloc(), "1", 23)?;
     assert!(rt; one.as_slice() == other.as_slice());
+    assert!(rt; one.starts_with(b"O.O..OO..OO..O.O\n"));
+    assert!(rt; one.ends_with(b"\n.OOOO.O.OOO...OO\n"));
+    Ok(())
+}
+
+// The digest of `0`, as its hexadecimal digits stand above.
+#[test]
+fn draws_a_digest(rt: HostRuntime) -> Result<(), Fail> {
+    let digest = [
+        0x5f, 0xec, 0xeb, 0x66, 0xff, 0xc8, 0x6f, 0x38, 0xd9, 0x52, 0x78, 0x6c, 0x6d, 0x69, 0x6c,
+        0x79, 0xc2, 0xdb, 0xc2, 0x39, 0xdd, 0x4e, 0x91, 0xb4, 0x67, 0x29, 0xd7, 0x3a, 0x27, 0xfb,
+        0x57, 0xe9,
+    ];
+    let mut out = Out::new(Vec::new(rt.alloc()));
+    soup_of_digest(rt.alloc(), &digest)?.write_plaintext(&mut out)?;
+    assert!(rt; out.into_inner().as_slice() == SOUP_0.as_bytes());
     Ok(())
 }
 
 #[test]
 fn refuses_seeds(rt: HostRuntime) -> Result<(), Fail> {
+    let spaces = "                                                                 ";
+    assert!(rt; spaces.len() == 65);
+    assert!(rt; Seed::new(spaces) == Err(SeedError::TooLong));
     assert!(rt; Seed::new("a b") == Err(SeedError::BadByte { place: 1 }));
     assert!(rt; Seed::new("12")? == Seed::new("12")?);
     Ok(())

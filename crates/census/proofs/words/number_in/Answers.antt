@@ -5,16 +5,16 @@ use Rattle.clap.specs.Words.{found_of}
 use Rattle.census.proofs.WordLemmas.{found_within, within}
 use Rattle.census.proofs.words.number_in.Goals as goal
 
-pub returns-in_err-number : goal.returns-in_err-number
-returns-in_err-number c =
+pub returns-in_err-number-clause-number : goal.returns-in_err-number-clause-number
+returns-in_err-number-clause-number c =
     let fits : c.args.most < 2 ^ 32 = search rules in
     let is = found_within 32 c.args.most c.args.id.now fits
     (λ bs r. ParsesUnsigned 32 10 bs r × ExplainsUnsignedError 10 bs r × HasUnsignedDigitsIfOk bs r) (λ t r g. g.0)
     (found_of c.args.found.now) c.get_one.result c.get_one.ensures.none c.get_one.ensures.value in
     c.from_residual.ensures ∙ ap (option_and_then (within c.args.most)) (sym c.in_err-number.was) ∙ is
 
-pub returns-then-number-most : goal.returns-then-number-most
-returns-then-number-most c =
+pub returns-then-number-most-clause-number : goal.returns-then-number-most-clause-number
+returns-then-number-most-clause-number c =
     let fits : c.args.most < 2 ^ 32 = search rules in
     let is = found_within 32 c.args.most c.args.id.now fits
     (λ bs r. ParsesUnsigned 32 10 bs r × ExplainsUnsignedError 10 bs r × HasUnsignedDigitsIfOk bs r) (λ t r g. g.0)
@@ -23,8 +23,8 @@ returns-then-number-most c =
     let none : None ≡ within c.args.most c.in_ok-number.number = rw over refl in
     none ∙ ap (option_and_then (within c.args.most)) (sym c.in_ok-number.was) ∙ is
 
-pub returns : goal.returns
-returns c =
+pub returns-clause-number : goal.returns-clause-number
+returns-clause-number c =
     let fits : c.args.most < 2 ^ 32 = search rules in
     let is = found_within 32 c.args.most c.args.id.now fits
     (λ bs r. ParsesUnsigned 32 10 bs r × ExplainsUnsignedError 10 bs r × HasUnsignedDigitsIfOk bs r) (λ t r g. g.0)

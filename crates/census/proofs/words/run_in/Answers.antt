@@ -10,11 +10,11 @@ returns-in_err-rule-clause-request c =
     let found = found_of c.args.found.now in
     let rule = c.in_err-rule.ensures ∙ first_value-rows found (codes "rule") in
     c.from_residual-in_err-rule.ensures
-    ∙ sym (run_in-is (rows_of found) (Some c.in_ok-generations.generations) None c.in_ok-generations.ensures rule)
+    ∙ sym (run_in-is (rows_of found) (Some c.in_ok-generations.generations) None c.in_ok-generations.ensures.number rule)
 
 pub returns-clause-request : goal.returns-clause-request
 returns-clause-request c =
     let found = found_of c.args.found.now in
     let rule = c.in_ok-rule.ensures ∙ first_value-rows found (codes "rule") in
     ap (λ text. Some (Run c.in_ok-generations.generations text)) c.new.ensures
-    ∙ sym (run_in-is (rows_of found) (Some c.in_ok-generations.generations) (Some c.in_ok-rule.rule.now) c.in_ok-generations.ensures rule)
+    ∙ sym (run_in-is (rows_of found) (Some c.in_ok-generations.generations) (Some c.in_ok-rule.rule.now) c.in_ok-generations.ensures.number rule)

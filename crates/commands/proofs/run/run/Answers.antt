@@ -1,5 +1,9 @@
-use Rattle.std.proofs.Common.{sym}
-use Rattle.commands.proofs.AnswerLemmas.{err_of, some_input, Reaches_rule, Reaches_pattern}
+use Rattle.std.proofs.Common.{◌≡◌, Ok, true, is_ok, refl, sym}
+use Rattle.commands.specs.Answers.{only}
+use Rattle.commands.specs.Inputs.{pattern_of, rule_named}
+use Rattle.commands.specs.Run.{run_answer}
+use Rattle.commands.specs.Streams.{stream}
+use Rattle.commands.proofs.AnswerLemmas.{err_of, some_input, Reaches_no_memory, Reaches_rule, Reaches_unread}
 use Rattle.std.proofs.KnownBytes.{Appends-nil}
 use Rattle.commands.proofs.run.run.Goals as goal
 
@@ -9,15 +13,30 @@ returns-in_err-rule-clause-reached g c =
       some.0,
       some.1,
       rw (err_of _ _ c.from_residual.ensures.1)
-          (Reaches_rule _ c.args.rule_text.now c.args.generations some.0 c.in_err-rule.field-0.0 _ (sym c.in_err-rule.ensures.exact) (Appends-nil _)),
+          (Reaches_rule _ (only (run_answer c.args.rule_text.now c.args.generations some.0)) c.args.rule_text.now c.in_err-rule.field-0.0 _
+          (sym c.in_err-rule.ensures.exact) (λ complaint is. rw is refl) (Appends-nil _)),
     )
 
 pub returns-in_err-pattern-clause-reached : goal.returns-in_err-pattern-clause-reached
 returns-in_err-pattern-clause-reached g c =
-    let read = c.in_err-pattern.ensures.read in (
+    let read = c.in_err-pattern.ensures.read in
+    let ruled : rule_named c.args.rule_text.now ≡ Ok c.in_ok-rule.rule = rw (← c.in_ok-rule.ensures.exact) refl in
+    let reads : is_ok (rule_named c.args.rule_text.now) ≡ true = rw ruled refl in (
       read.0,
       read.1,
       rw (err_of _ _ c.from_residual-in_err-pattern.ensures.1)
-          (Reaches_pattern c.args.rule_text.now c.args.generations read.0 c.in_ok-rule.rule c.in_err-pattern.field-0.0 _
-          (sym c.in_ok-rule.ensures.exact) read.2 (Appends-nil _)),
+          (Reaches_unread _ (only (run_answer c.args.rule_text.now c.args.generations read.0)) (pattern_of read.0)
+          c.in_err-pattern.field-0.0 _ reads (λ refusal is. rw (ruled, is) refl) read.2 (Appends-nil _)),
+    )
+
+pub returns-in_err-pattern-2-clause-reached : goal.returns-in_err-pattern-2-clause-reached
+returns-in_err-pattern-2-clause-reached g c =
+    let read = c.in_ok-pattern.ensures.read in
+    let ruled : rule_named c.args.rule_text.now ≡ Ok c.in_ok-rule.rule = rw (← c.in_ok-rule.ensures.exact) refl in
+    let reads : is_ok (rule_named c.args.rule_text.now) ≡ true = rw ruled refl in (
+      read.0,
+      read.1,
+      rw (err_of _ _ c.from_residual-in_err-pattern-2.ensures.1, c.in_err-pattern-2.ensures.err)
+          (Reaches_no_memory _ (only (run_answer c.args.rule_text.now c.args.generations read.0))
+          (stream g.W.Write.contents c.args.output.now c.args.output.now) reads (Appends-nil _)),
     )

@@ -1,5 +1,5 @@
-use Rattle.std.proofs.Common.{refl}
 use Rattle.std.proofs.KnownBytes.{Appends-nil}
+use Rattle.plane_core.specs.Plaintext.{plain}
 use Rattle.commands.proofs.AnswerLemmas.{err_of}
 use Rattle.commands.proofs.ShowLemmas.{Reaches_text, show_answer-pattern}
 use Rattle.commands.proofs.show.show.Goals as goal
@@ -12,5 +12,5 @@ returns-in_err-pattern-clause-reached g c =
 pub returns-in_err-write_plaintext-clause-reached : goal.returns-in_err-write_plaintext-clause-reached
 returns-in_err-write_plaintext-clause-reached g c =
     let answer = show_answer-pattern c.args.code.now c.in_ok-text.text.now c.in_ok-pattern.pattern c.in_ok-text.ensures.ok c.in_ok-pattern.ensures.pattern in
-    rw (err_of _ _ c.from_residual-in_err-write_plaintext.ensures.1, answer)
-    (refl, c.in_err-write_plaintext.ensures.front, c.in_err-write_plaintext.ensures.told)
+    rw (err_of _ _ c.from_residual-in_err-write_plaintext.ensures.1)
+    ((plain c.in_ok-pattern.pattern, answer, c.in_err-write_plaintext.ensures.front), c.in_err-write_plaintext.ensures.told)

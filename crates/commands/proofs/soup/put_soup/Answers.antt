@@ -8,5 +8,5 @@ pub returns-in_err-write_plaintext-clause-reached : goal.returns-in_err-write_pl
 returns-in_err-write_plaintext-clause-reached g c =
     let answer : soup_answer c.args.seed_text.now c.args.number ≡ Ok (plain c.in_ok-pattern.pattern) =
     rw (← c.in_ok-seed.ensures, c.in_ok-pattern.ensures.soup) refl in
-    rw (err_of _ _ c.from_residual-in_err-write_plaintext.ensures.1, answer)
-    (refl, c.in_err-write_plaintext.ensures.front, c.in_err-write_plaintext.ensures.told)
+    rw (err_of _ _ c.from_residual-in_err-write_plaintext.ensures.1)
+    ((plain c.in_ok-pattern.pattern, answer, c.in_err-write_plaintext.ensures.front), c.in_err-write_plaintext.ensures.told)
