@@ -1,5 +1,6 @@
 -- A generation of a board, in terms of its list of words.
-use Rattle.std.proofs.Common.{◌≡◌, ◌≢◌, ◌==◌, ◌+◌, ◌-◌, ◌*◌, ◌/◌, ◌%◌, ◌^◌, ◌<◌, ◌≤◌, ℕ, zero, suc, Bool, true, false, cond, List, length, nat_lt, arith, refl, ap, ◌∙◌, sym, subst, inl, inr, ◌⊎◌}
+use Rattle.std.proofs.Common.{◌≡◌, ◌≢◌, ◌==◌, ◌+◌, ◌-◌, ◌*◌, ◌/◌, ◌%◌, ◌^◌, ◌<◌, ◌≤◌, ℕ, zero, suc, Bool}
+use Rattle.std.proofs.Common.{true, false, cond, List, length, nat_lt, arith, refl, ap, ◌∙◌, sym, subst, inl, inr, ◌⊎◌}
 use Rattle.std.proofs.Common.{get_or, set, get_or-set_same, get_or-set_other, bit_and, bit_or, bit_xor, w64, slice_index}
 use Rattle.std.specs.Int.{bit_at}
 use Rattle.std.proofs.lemmas.Bool.{eqb-true, eqb-false, ltb-true, ltb-false}
@@ -304,7 +305,8 @@ going_skip_one rule grid j now old new first marks todo right clear going =
     at k same inner = subst (λ (n : ℕ). IsClear todo n) (sym same) (clear (subst (λ (n : ℕ). IsInner grid n) same inner))
 
 -- at the end, what isn't marked is still
-pub going_end : (rule : Numbers) (grid : Grid) (j : ℕ) (now old new first marks : List ℕ) → IsGoing rule grid j now old new first marks → IsStill grid marks old new
+pub going_end : (rule : Numbers) (grid : Grid) (j : ℕ) (now old new first marks : List ℕ) → IsGoing rule grid j now old new first marks
+    → IsStill grid marks old new
 going_end rule grid j now old new first marks going k i clear = at (less_or_not (i / 16) j)
   where
     at : (i / 16 < j) ⊎ (j ≤ i / 16) → IsQuiet grid k i (slice_index old i) (slice_index new i)

@@ -32,7 +32,8 @@ index_west at s r low = let is : s ≡ s - 1 + 1 = omega arith in omega (arith, 
 
 -- ---- the live cells of a row of three
 
-bit_if : (S : List Cell) (ws : List ℕ) (at : Layout) → IsShown at ws S → (e : Cell) (s r i : ℕ) → s < at.strips → r < 16 * at.blocks → i < 64 → e ≡ place at s r i
+bit_if : (S : List Cell) (ws : List ℕ) (at : Layout) → IsShown at ws S → (e : Cell) (s r i : ℕ) → s < at.strips → r < 16 * at.blocks → i < 64
+    → e ≡ place at s r i
     → cond {A = ℕ} (has S e) 1 0 ≡ bit_at (slice_index ws (index_of at s r)) i
 bit_if S ws at shown e s r i hs hr hi is =
     ap (λ (d : Cell). cond {A = ℕ} (has S d) 1 0) is ∙ ap (λ (b : Bool). cond {A = ℕ} b 1 0) (shown s r i hs hr hi)
@@ -185,7 +186,8 @@ dead_bit S ws at shown fits s r k hs hr hk quiet =
 dead_row : (S : List Cell) (ws : List ℕ) (at : Layout) → IsShown at ws S → HasRoom at 1 S → (m s r i : ℕ) → m ≡ index_of at s r → 1 ≤ s → s + 1 < at.strips
     → r < 16 * at.blocks → i < 64 → IsQuietRow at r → row_count (row_at ws (grid_of at) m) i ≡ 0
 dead_row S ws at shown fits m s r i is low high hr hi quiet =
-    ap (λ (n : ℕ). row_count (row_at ws (grid_of at) n) i) is ∙ omega (arith, dead_bit S ws at shown fits s r i (omega arith) hr hi quiet, west i hi, east (i == 63) refl)
+    ap (λ (n : ℕ). row_count (row_at ws (grid_of at) n) i) is
+    ∙ omega (arith, dead_bit S ws at shown fits s r i (omega arith) hr hi quiet, west i hi, east (i == 63) refl)
   where
     h : ℕ
     h = 16 * at.blocks
@@ -256,8 +258,15 @@ dead_block S ws at shown fits s r i hr hi rim = (
         dead_row S ws at shown fits (index_of at s r + 1) (s + 1) 0 i (omega (arith, index_east at s 0)) (omega arith) (omega arith) (omega arith) hi (inl (omega arith))
 
 -- an inner block of the list that isn't all inside
-rim_of : (at : Layout) (s r : ℕ) → 2 ≤ at.blocks → s < at.strips → r < 16 * at.blocks → IsInner (grid_of at) (index_of at s r / 16) → ¬ IsInside at s r → IsRim at s r
-rim_of at s r tall hs hr inner outside = record { left = left; right = right; tall = tall; ends = ends (less_or_not r 16) (less_or_not (r + 16) (16 * at.blocks)) }
+rim_of : (at : Layout) (s r : ℕ) → 2 ≤ at.blocks → s < at.strips → r < 16 * at.blocks → IsInner (grid_of at) (index_of at s r / 16) → ¬ IsInside at s r
+    → IsRim at s r
+rim_of at s r tall hs hr inner outside = record {
+  left = left;
+  right = right;
+  tall = tall;
+  ends =
+      ends (less_or_not r 16) (less_or_not (r + 16) (16 * at.blocks));
+}
   where
     low : at.blocks + 1 ≤ index_of at s r / 16
     low = inner.low
@@ -267,7 +276,8 @@ rim_of at s r tall hs hr inner outside = record { left = left; right = right; ta
 
     left : 1 ≤ s
     left = elim (less_or_not s 1) [
-      | inl none ↦ absurd (let zero_is : s * (16 * at.blocks) ≡ 0 * (16 * at.blocks) = ap (λ (n : ℕ). n * (16 * at.blocks)) (omega arith) in omega (arith, zero_is))
+      | inl none ↦ absurd (let zero_is : s * (16 * at.blocks) ≡ 0 * (16 * at.blocks) =
+          ap (λ (n : ℕ). n * (16 * at.blocks)) (omega arith) in omega (arith, zero_is))
       | inr some ↦ some
     ]
 
@@ -279,17 +289,20 @@ rim_of at s r tall hs hr inner outside = record { left = left; right = right; ta
 
     second : r < 16 → 2 ≤ s
     second near = elim (less_or_not s 2) [
-      | inl first ↦ absurd (let one_is : s * (16 * at.blocks) ≡ 1 * (16 * at.blocks) = ap (λ (n : ℕ). n * (16 * at.blocks)) (omega (arith, left)) in omega (arith, one_is))
+      | inl first ↦ absurd (let one_is : s * (16 * at.blocks) ≡ 1 * (16 * at.blocks) =
+          ap (λ (n : ℕ). n * (16 * at.blocks)) (omega (arith, left)) in omega (arith, one_is))
       | inr some ↦ some
     ]
 
     before_last : 16 * at.blocks ≤ r + 16 → s + 2 < at.strips
     before_last far = elim (less_or_not (s + 2) at.strips) [
       | inl inside ↦ inside
-      | inr past ↦ absurd (let whole : at.strips * at.blocks ≡ (s + 2) * at.blocks = ap (λ (n : ℕ). n * at.blocks) (omega (arith, right)) in omega (arith, whole))
+      | inr past ↦ absurd (let whole : at.strips * at.blocks ≡ (s + 2) * at.blocks =
+          ap (λ (n : ℕ). n * at.blocks) (omega (arith, right)) in omega (arith, whole))
     ]
 
-    ends : (r < 16) ⊎ (16 ≤ r) → (r + 16 < 16 * at.blocks) ⊎ (16 * at.blocks ≤ r + 16) → ((r < 16) × (2 ≤ s)) ⊎ ((16 * at.blocks ≤ r + 16) × (s + 2 < at.strips))
+    ends : (r < 16) ⊎ (16 ≤ r) → (r + 16 < 16 * at.blocks) ⊎ (16 * at.blocks ≤ r + 16)
+        → ((r < 16) × (2 ≤ s)) ⊎ ((16 * at.blocks ≤ r + 16) × (s + 2 < at.strips))
     ends (inl near) q = inl (near, second near)
     ends (inr p) (inr far) = inr (far, before_last far)
     ends (inr p) (inl q) = absurd (outside (record { left = left; right = right; top = p; bottom = q }))
@@ -308,7 +321,8 @@ inside_or_not at s r = go (less_or_not s 1) (less_or_not (s + 1) at.strips) (les
 pub inner_or_not : (grid : Grid) (j : ℕ) → IsInner grid j ⊎ (IsInner grid j → ⊥)
 inner_or_not grid j = go (less_or_not j (grid.blocks + 1)) (less_or_not (j + grid.blocks + 1) grid.count)
   where
-    go : (j < grid.blocks + 1) ⊎ (grid.blocks + 1 ≤ j) → (j + grid.blocks + 1 < grid.count) ⊎ (grid.count ≤ j + grid.blocks + 1) → IsInner grid j ⊎ (IsInner grid j → ⊥)
+    go : (j < grid.blocks + 1) ⊎ (grid.blocks + 1 ≤ j) → (j + grid.blocks + 1 < grid.count) ⊎ (grid.count ≤ j + grid.blocks + 1)
+        → IsInner grid j ⊎ (IsInner grid j → ⊥)
     go (inr a) (inl b) = inl (record { low = a; high = b })
     go (inl a) q = inr (λ h. let k = h.low in omega arith)
     go (inr a) (inr b) = inr (λ h. let k = h.high in omega arith)
@@ -333,4 +347,5 @@ next_shown rule S ws later at tall o fits stays shown step dead s r i hs hr hi =
     go : IsInside at s r ⊎ (IsInside at s r → ⊥) → has (next rule S) (place at s r i) ≡ (bit_at (slice_index later (index_of at s r)) i == 1)
     go (inl inside) = next_inside rule S ws later at o shown step s r i inside hi
     go (inr outside) =
-        none (has (next rule S) (place at s r i)) refl outside ∙ ap (λ (n : ℕ). n == 1) (sym (zero_bit (inner_or_not (grid_of at) (index_of at s r / 16)) outside))
+        none (has (next rule S) (place at s r i)) refl outside
+        ∙ ap (λ (n : ℕ). n == 1) (sym (zero_bit (inner_or_not (grid_of at) (index_of at s r / 16)) outside))

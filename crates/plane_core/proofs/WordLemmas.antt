@@ -1,9 +1,11 @@
 -- Bits of words that were moved by a place, and sums in binary digits.
-use Rattle.std.proofs.Common.{◌≡◌, ◌==◌, ◌+◌, ◌-◌, ◌*◌, ◌/◌, ◌%◌, ◌^◌, ◌<◌, ◌≤◌, ℕ, zero, suc, Bool, true, false, cond, arith, refl, ap, ◌∙◌, sym, add-one, bit_and, bit_or, bit_xor, min, max}
+use Rattle.std.proofs.Common.{◌≡◌, ◌==◌, ◌+◌, ◌-◌, ◌*◌, ◌/◌, ◌%◌, ◌^◌, ◌<◌, ◌≤◌, ℕ, zero, suc, Bool}
+use Rattle.std.proofs.Common.{true, false, cond, arith, refl, ap, ◌∙◌, sym, add-one, bit_and, bit_or, bit_xor, min, max}
 use Rattle.std.specs.Int.{bit_at}
 use Rattle.std.proofs.lemmas.Bool.{eqb-true, eqb-false}
 use Rattle.std.proofs.lemmas.Bool.Decides.{nat_tests}
-use Rattle.std.proofs.lemmas.Nat.Bits.{bit_at_and, bit_at_or, bit_at_xor, bit_at-suc, bit_at_lowest, bit_at-lt, bit_at_above, bit_at_cat_low, bit_at_cat_high, bit_at-zero}
+use Rattle.std.proofs.lemmas.Nat.Bits.{bit_at_and, bit_at_or, bit_at_xor, bit_at-suc, bit_at_lowest}
+use Rattle.std.proofs.lemmas.Nat.Bits.{bit_at-lt, bit_at_above, bit_at_cat_low, bit_at_cat_high, bit_at-zero}
 use Rattle.plane_core.specs.Rules.{Numbers, is_birth, is_survival}
 use Rattle.plane_core.specs.Tallies.{lives_by}
 use Rattle.plane_core.specs.declared.word.Row.{Row}
@@ -12,7 +14,8 @@ use Rattle.plane_core.specs.Words.{west_of, east_of, one_if, row_count, block_co
 -- ---- moved by a place
 
 -- a word moved a place up, its first bit the last one of the word before
-pub bit_from_west : (before here i : ℕ) → before < 2 ^ 64 → here < 2 ^ 64 → i < 64 → bit_at (bit_or (here * 2 % 2 ^ 64) (before / 2 ^ 63)) i ≡ west_of before here i
+pub bit_from_west : (before here i : ℕ) → before < 2 ^ 64 → here < 2 ^ 64 → i < 64
+    → bit_at (bit_or (here * 2 % 2 ^ 64) (before / 2 ^ 63)) i ≡ west_of before here i
 bit_from_west before here zero b h low =
     omega (arith, bit_at_or (here * 2 % 2 ^ 64) (before / 2 ^ 63) 0, bit_at_lowest (here * 2 % 2 ^ 64), bit_at_lowest (before / 2 ^ 63))
 bit_from_west before here (suc i) b h low =
@@ -101,7 +104,8 @@ east_sums m1 m2 a1 a2 u v w x y z h k i = split (i == 63)
 chosen : (t y n : ℕ) → t < 2 → y < 2 → n < 2 → (n + min ((n + y) % 2) t) % 2 ≡ cond (t == 1) y n
 chosen t y n ht hy hn = grind (arith, nat_tests)
 
-pub choice_bit : (test one other i : ℕ) → bit_at (bit_xor other (bit_and (bit_xor other one) test)) i ≡ cond (bit_at test i == 1) (bit_at one i) (bit_at other i)
+pub choice_bit : (test one other i : ℕ)
+    → bit_at (bit_xor other (bit_and (bit_xor other one) test)) i ≡ cond (bit_at test i == 1) (bit_at one i) (bit_at other i)
 choice_bit test one other i =
     bit_at_xor other (bit_and (bit_xor other one) test) i
     ∙ ap (λ (m : ℕ). (bit_at other i + m) % 2)

@@ -23,7 +23,8 @@ index_of at s r = s * (16 * at.blocks) + r
 
 -- in the board's rectangle, the bits that are 1 are the cells of the list
 abbrev pub IsShown : Layout → List ℕ → List Cell → Type 0
-IsShown at words cells = (s r i : ℕ) → s < at.strips → r < 16 * at.blocks → i < 64 → has cells (place at s r i) ≡ (bit_at (slice_index words (index_of at s r)) i == 1)
+IsShown at words cells = (s r i : ℕ) → s < at.strips → r < 16 * at.blocks → i < 64
+    → has cells (place at s r i) ≡ (bit_at (slice_index words (index_of at s r)) i == 1)
 
 -- what the board has inside its outer blocks, less n columns and rows on each side
 abbrev pub room : Layout → ℕ → Bounds

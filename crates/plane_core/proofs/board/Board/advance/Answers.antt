@@ -8,6 +8,7 @@ returns-clause-next c =
     let rule = c.args.answers.now.rule in
     let now = c.args.self.now.now.items in
     let long : length c.generation.new.last ≡ c.args.self.now.last.len = omega (arith, c.generation.auto.last, c.as_mut_slice.ensures.len) in
-    let same : c.swap.new.x.items ≡ c.generation.new.last = ap (λ v. v.items) c.swap.ensures.x_after ∙ with_items_is c.args.self.now.last c.generation.new.last long in
+    let same : c.swap.new.x.items ≡ c.generation.new.last = ap (λ v. v.items) c.swap.ensures.x_after
+    ∙ with_items_is c.args.self.now.last c.generation.new.last long in
     let next = subst (λ (ws : List ℕ). IsNext rule c.args.grid ws c.generation.new.last) c.as_slice.ensures.value c.generation.ensures.next in
     subst (λ (ws : List ℕ). IsNext rule c.args.grid now ws) (sym same) next
