@@ -1,0 +1,4 @@
+pub mod RangeSteps
+pub mod Ranges
+pub mod Reports
+pub mod Samples

@@ -1,0 +1,9 @@
+//! Hauls: which soups of a job have been taken, by whom, and which objects they left.
+#![tactic(auto)]
+
+/// Sets of soup numbers.
+pub mod range;
+/// What a worker reports of a soup.
+pub mod report;
+/// The least numbers of soups that have an object.
+pub mod samples;
