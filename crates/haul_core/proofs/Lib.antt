@@ -1,2 +1,4 @@
+mod JobLemmas
 mod RangeLemmas
 mod SampleLemmas
+mod TallyLemmas

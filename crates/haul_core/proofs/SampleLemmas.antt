@@ -1,7 +1,7 @@
 -- The least three of some numbers, kept while numbers come.
-use Rattle.std.proofs.Common.{◌≡◌, ◌∙◌, ◌+◌, ◌<◌, ◌≤◌, ℕ, zero, suc, Bool, true, false, cond, nat_le, List, [], ◌∷◌, ◌++◌, ap, sym, subst, refl, arith, length, take, drop, get_or, set, inl, inr, ◌⊎◌}
+use Rattle.std.proofs.Common.{◌≡◌, ◌∙◌, ◌+◌, ◌<◌, ◌≤◌, ℕ, zero, suc, Bool, true, false, cond, nat_le, List, [], ◌∷◌, ◌++◌, ap, sym, subst, refl, arith, length, take, drop, get_or, set, inl, inr, ◌⊎◌, add-zero}
 use Rattle.std.proofs.lemmas.Bool.{cases_lt, le-leb, lt-leb}
-use Rattle.std.proofs.lemmas.List.{take-take}
+use Rattle.std.proofs.lemmas.List.{append_assoc, drop-drop, drop-set-lt, drop_all, drop_more, get_or-drop, get_or-take, length-set, length-take-le, take-take, take_more, take_more_set}
 use Rattle.haul_core.specs.Samples.{IsAscending, ascending, least_three, with_number}
 
 with_least : (n x : ℕ) (more : List ℕ) → n ≤ x → with_number n (x ∷ more) ≡ n ∷ x ∷ more
@@ -33,7 +33,7 @@ ascending_with n (x ∷ y ∷ more) h = go (ascending_with n (y ∷ more) h.1) (
 
     go : IsAscending (with_number n (y ∷ more)) → (x < n) ⊎ (n ≤ x) → IsAscending (with_number n (x ∷ y ∷ more))
     go rest (inl low) = subst IsAscending (sym (with_greater n x (y ∷ more) low)) (next low rest)
-    go rest (inr least) = subst IsAscending (sym (with_least n x (y ∷ more) least)) (least, h.0, h.1)
+    go rest (inr least) = subst IsAscending (sym (with_least n x (y ∷ more) least)) (least, h)
 
 take_nil : (k : ℕ) → take {A = ℕ} k [] ≡ []
 take_nil zero = refl
@@ -57,3 +57,76 @@ take_with (suc k) n (x ∷ more) = elim (cases_lt x n) [
   | inr least ↦ ap (take (suc k)) (with_least n x (take k more) least) ∙ ap (λ (ys : List ℕ). n ∷ ys) (take-take k (suc k) (x ∷ more) (omega arith))
       ∙ sym (ap (take (suc k)) (with_least n x more least))
 ]
+
+-- ---- a number is put in its place among the first of an array
+
+-- the places before have the least numbers, the others are as they were, and one number is left
+pub record Putting (old : List ℕ) (count number : ℕ) (numbers : List ℕ) (left place : ℕ) : Type 0 where
+  pub long : length numbers ≡ length old
+  pub done : take place numbers ++ with_number left (drop place (take count old)) ≡ with_number number (take count old)
+  pub rest : drop place numbers ≡ drop place old
+  pub ascending : IsAscending (drop place (take count old))
+
+ascending_tail : (x : ℕ) (xs : List ℕ) → IsAscending (x ∷ xs) → IsAscending xs
+ascending_tail x [] h = tt
+ascending_tail x (y ∷ ys) h = h.1
+
+pub putting_start : (old : List ℕ) (count number : ℕ) → IsAscending (take count old) → Putting old count number old number 0
+putting_start old count number h = record { long = refl; done = refl; rest = refl; ascending = h }
+
+-- the number at the place, in the list as it was
+next_old : (old : List ℕ) (count number : ℕ) (numbers : List ℕ) (left place : ℕ) → count ≤ length old → place < count → Putting old count number numbers left place
+    → drop place (take count old) ≡ get_or numbers place 0 ∷ drop (place + 1) (take count old)
+next_old old count number numbers left place few low p =
+    let long : length (take count old) ≡ count = length-take-le count old few in
+    let here : get_or (take count old) place 0 ≡ get_or numbers place 0 =
+    get_or-take count old place 0 low ∙ ap (λ (n : ℕ). get_or old n 0) (sym (add-zero place)) ∙ sym (get_or-drop place old 0 0)
+    ∙ ap (λ (xs : List ℕ). get_or xs 0 0) (sym p.rest) ∙ get_or-drop place numbers 0 0 ∙ ap (λ (n : ℕ). get_or numbers n 0) (add-zero place) in
+    drop_more (take count old) place 0 (omega arith) ∙ ap (λ (x : ℕ). x ∷ drop (place + 1) (take count old)) here
+
+rest_more : (xs ys : List ℕ) (i : ℕ) → drop i xs ≡ drop i ys → drop (i + 1) xs ≡ drop (i + 1) ys
+rest_more xs ys i e = sym (drop-drop 1 i xs) ∙ ap (drop 1) e ∙ drop-drop 1 i ys
+
+pub putting_low : (old : List ℕ) (count number : ℕ) (numbers : List ℕ) (left place : ℕ) → count ≤ length old → place < count → left ≤ get_or numbers place 0
+    → Putting old count number numbers left place → Putting old count number (set numbers place left) (get_or numbers place 0) (place + 1)
+putting_low old count number numbers left place few low h p =
+    let kept : ℕ = get_or numbers place 0 in
+    let rest : List ℕ = drop (place + 1) (take count old) in
+    let next = next_old old count number numbers left place few low p in
+    let up : IsAscending (kept ∷ rest) = subst IsAscending next p.ascending in
+    let long : length numbers ≡ length old = p.long in
+    record {
+      long = length-set numbers place left ∙ p.long;
+      done = ap (λ (xs : List ℕ). xs ++ with_number kept rest) (take_more_set numbers place left (omega arith))
+          ∙ append_assoc (take place numbers) (left ∷ []) (with_number kept rest)
+          ∙ ap (λ (xs : List ℕ). take place numbers ++ left ∷ xs) (with_first kept rest up)
+          ∙ ap (λ (xs : List ℕ). take place numbers ++ xs) (sym (with_least left kept rest h))
+          ∙ ap (λ (xs : List ℕ). take place numbers ++ with_number left xs) (sym next)
+          ∙ p.done;
+      rest = drop-set-lt (place + 1) numbers place left (omega arith) ∙ rest_more numbers old place p.rest;
+      ascending = ascending_tail kept rest up;
+    }
+
+pub putting_high : (old : List ℕ) (count number : ℕ) (numbers : List ℕ) (left place : ℕ) → count ≤ length old → place < count → get_or numbers place 0 < left
+    → Putting old count number numbers left place → Putting old count number numbers left (place + 1)
+putting_high old count number numbers left place few low h p =
+    let kept : ℕ = get_or numbers place 0 in
+    let rest : List ℕ = drop (place + 1) (take count old) in
+    let next = next_old old count number numbers left place few low p in
+    let up : IsAscending (kept ∷ rest) = subst IsAscending next p.ascending in
+    let long : length numbers ≡ length old = p.long in
+    record {
+      long = p.long;
+      done = ap (λ (xs : List ℕ). xs ++ with_number left rest) (take_more numbers place 0 (omega arith))
+          ∙ append_assoc (take place numbers) (kept ∷ []) (with_number left rest)
+          ∙ ap (λ (xs : List ℕ). take place numbers ++ xs) (sym (with_greater left kept rest h))
+          ∙ ap (λ (xs : List ℕ). take place numbers ++ with_number left xs) (sym next)
+          ∙ p.done;
+      rest = rest_more numbers old place p.rest;
+      ascending = ascending_tail kept rest up;
+    }
+
+pub putting_end : (old : List ℕ) (count number : ℕ) (numbers : List ℕ) (left : ℕ) → count ≤ length old → Putting old count number numbers left count
+    → take count numbers ++ left ∷ [] ≡ with_number number (take count old)
+putting_end old count number numbers left few p =
+    ap (λ (xs : List ℕ). take count numbers ++ with_number left xs) (sym (drop_all count (take count old) (omega (arith, length-take-le count old few)))) ∙ p.done

@@ -7,3 +7,6 @@ pub mod range;
 pub mod report;
 /// The least numbers of soups that have an object.
 pub mod samples;
+/// Why a report is refused.
+pub mod refusal;
+mod tally;
