@@ -1,5 +1,6 @@
 -- Rows of codes: how they are found and changed, and that rows with nothing in them change no total.
-use Rattle.std.proofs.Common.{◌≡◌, ◌≢◌, ◌∙◌, ◌+◌, ◌<◌, ◌≤◌, ◌^◌, ℕ, zero, suc, Bool, true, false, cond, List, [], ◌∷◌, ◌++◌, Option, None, Some, IsSome, ap, sym, subst, refl, arith, inl, inr, length, take, get_or, nat_eq, unwrap_or, is_some, ◌⊎◌}
+use Rattle.std.proofs.Common.{◌≡◌, ◌≢◌, ◌∙◌, ◌+◌, ◌<◌, ◌≤◌, ◌^◌, ℕ, zero, suc, Bool, true, false, cond, List, [], ◌∷◌, ◌++◌, Option, None, Some, IsSome, ap, sym, subst, refl, arith, inl, inr, length, take, get_or, nat_eq, unwrap_or, is_some, ◌⊎◌, Result, Ok, Err, is_ok}
+use Rattle.std.specs.Result.{OnOk}
 use Rattle.std.specs.Cmp.{Equal-is, both_ways, eq_by_cmp_equiv}
 use Rattle.std.specs.Cmp.Lexicographic.{bytes_decides, nat_list_cmp_total, pointwise, slice_cmp}
 use Rattle.std.specs.Ordering.{is_eq, nat_cmp}
@@ -234,3 +235,7 @@ adding_more old new newer objects number i d lawful low a here others rows = rec
         found code ∙ ap (λ (b : Bool). option_or (lookup (is_code code) (take i objects)) (cond b (Some o.1) None)) other ∙ or_none (lookup (is_code code) (take i objects)) in
         others code (λ e. false≢true (sym other ∙ subst (λ (c : List ℕ). is_code code c ≡ true) e ((eq_by_cmp_equiv nat_list_cmp_total).refl code)))
         ∙ a.tallies code ∙ ap (λ (r : Option ℕ). added r number (tally_in old code)) (sym miss)
+
+pub on_ok_at : {T E P : Type 0} (r : Result T E) → is_ok r ≡ true → OnOk r P → P
+on_ok_at (Ok x) is h = h
+on_ok_at (Err e) is h = absurd (false≢true is)

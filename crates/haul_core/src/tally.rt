@@ -92,7 +92,8 @@ pub(crate) fn add(rows: &mut IndexMap<Apgcode, Tally>, objects: &[(Apgcode, u64)
         ≡ added (lookup (is_code code) objects.now) number (tally_in rows.old.entries code) }
 {
     for object in objects {
-        add_one(rows, &object.0, object.1, number);
+        let count = object.1;
+        add_one(rows, &object.0, count, number);
     }
 }
 
