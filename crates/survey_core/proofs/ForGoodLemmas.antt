@@ -1,6 +1,6 @@
 -- The laws of patterns at rest: the empty pattern, and patterns that are at rest for good.
 use Rattle.std.proofs.Common.{◌≡◌, ◌≢◌, ◌∙◌, ap, sym, refl, subst, ℕ, ℤ, pos, ◌+ℤ◌, zero, suc, ◌+◌, ◌*◌, ◌/◌, ◌%◌, ◌<◌, ◌≤◌, ◌^◌, ◌==◌, ◌&&◌, add-one}
-use Rattle.std.proofs.Common.{add_comm, Bool, true, false, cond, List, [], ◌∷◌, map, All, count_by, get_or, Some, unwrap_or, arith, if◌then◌else◌}
+use Rattle.std.proofs.Common.{add_comm, Bool, true, false, cond, List, [], ◌∷◌, map, All, count_by, drop, get_or, Some, unwrap_or, arith, if◌then◌else◌}
 use Rattle.std.specs.List.{AllZip, list_any}
 use Rattle.std.specs.Map.{lookup}
 use Rattle.std.specs.Ordering.{int_eq, is_eq, nat_cmp}
@@ -15,8 +15,8 @@ use Rattle.std.proofs.lemmas.List.Sums.{sum_by-append}
 use Rattle.std.proofs.Math.Nat.{div-add-mod, mul_comm, suc-mul, zero-mul}
 use Rattle.plane_core.specs.declared.cell.Cell.{Cell}
 use Rattle.plane_core.specs.Bounds.{shifted}
-use Rattle.plane_core.specs.Cells.{has}
-use Rattle.plane_core.specs.Clusters.{Partition}
+use Rattle.plane_core.specs.Cells.{InOrder, has}
+use Rattle.plane_core.specs.Clusters.{AreClusters, Partition}
 use Rattle.plane_core.specs.Generations.{after, next}
 use Rattle.plane_core.specs.Rules.{Numbers}
 use Rattle.plane_core.proofs.ClusterLaws.{partition_law}
@@ -30,6 +30,7 @@ use Rattle.code_core.specs.Names.{IsCode, kind_of, number_of}
 use Rattle.code_core.proofs.ApgcodeLemmas.{kind_of_name, number_of_name}
 use Rattle.code_core.proofs.MovedCodes.{in_order-after}
 use Rattle.survey_core.specs.Objects.{IsMultiple, count_of, is_code, period_in, period_of_kind}
+use Rattle.survey_core.specs.Rest.{KeepApart}
 use Rattle.survey_core.specs.RestLaws.{AtRestForGood, EmptyIsAtRest}
 use Rattle.survey_core.proofs.FindingLemmas.{after-then}
 use Rattle.survey_core.proofs.ObjectLemmas.{same_code}
@@ -163,21 +164,38 @@ map_itself : (parts : List (List Cell)) → map (λ part. part) parts ≡ parts
 map_itself [] = refl
 map_itself (part ∷ parts) = λ i. part ∷ map_itself parts i
 
-pub at_rest_for_good : AtRestForGood
-at_rest_for_good rule profile cells clusters objects order low rest counted good = record {
-  apart = λ g.
-      let inside : g % L ≤ profile.horizon = omega (arith, good.within, good.common.some) in
+-- clusters that all are themselves again in a generation up to which they keep apart
+module _ (rule : Numbers) (cells : List Cell) (clusters : List (List Cell)) (L : ℕ) (some : 1 ≤ L) (order : InOrder cells)
+    (are : AreClusters cells clusters) (each : All (λ part. after rule part L ≡ part) clusters) (apart : (g : ℕ) → g ≤ L → KeepApart rule cells clusters g)
+    where
+  -- the whole is itself again as well
+  pub whole_back : after rule cells L ≡ cells
+  whole_back =
+      let later : Partition (after rule cells L) (map (λ part. after rule part L) clusters) = apart L (omega arith) in
+      let now : Partition cells clusters = partition_law cells clusters are in
+      let same : map (λ part. after rule part L) clusters ≡ clusters =
+      map_same (λ part. after rule part L) (λ part. part) clusters each ∙ map_itself clusters in
+      same_lists (after rule cells L) cells (in_order-after rule cells L order) order
+      (λ c. sym (later.union c) ∙ ap (λ (parts : List (List Cell)). list_any (λ part. has part c) parts) same ∙ now.union c)
+
+  -- so they keep apart forever
+  pub apart_forever : (g : ℕ) → KeepApart rule cells clusters g
+  apart_forever g =
+      let inside : g % L ≤ L = omega arith in
       subst (λ (parts : List (List Cell)). Partition (after rule cells g) parts)
       (map_same (λ part. after rule part (g % L)) (λ part. after rule part g) clusters
       (λ k d there. sym (after_rest rule (get_or clusters k d) L g (each k d there))))
-      (subst (λ (whole : List Cell). Partition whole (map (λ part. after rule part (g % L)) clusters)) (sym (after_rest rule cells L g whole))
-      (rest.apart (g % L) inside));
-  back = λ g. ap (after rule cells) (add_comm g L) ∙ sym (after-then rule cells L g) ∙ ap (λ (state : List Cell). after rule state g) whole;
+      (subst (λ (whole : List Cell). Partition whole (map (λ part. after rule part (g % L)) clusters)) (sym (after_rest rule cells L g whole_back))
+      (apart (g % L) inside))
+
+pub at_rest_for_good : AtRestForGood
+at_rest_for_good rule profile cells clusters objects order low rest counted good = record {
+  apart = apart_forever rule cells clusters good.multiple good.common.some order rest.parts each up_to;
+  back = λ g. ap (after rule cells) (add_comm g good.multiple) ∙ sym (after-then rule cells good.multiple g)
+      ∙ ap (λ (state : List Cell). after rule state g)
+      (whole_back rule cells clusters good.multiple good.common.some order rest.parts each up_to);
 }
   where
-    L : ℕ
-    L = good.multiple
-
     each : All (λ part. after rule part good.multiple ≡ part) clusters
     each k d there =
         let found = each_listed rule profile.period clusters counted.codes counted.named
@@ -190,12 +208,17 @@ at_rest_for_good rule profile cells clusters objects order low rest counted good
         in_its_place rule (get_or clusters k d) profile.period found.0 low found.1 found.2.0 in
         ap (after rule (get_or clusters k d)) found.2.1.1 ∙ after_periods rule (get_or clusters k d) (period_in found.0) found.2.1.0 back
 
-    -- after the common multiple the clusters are what they were, and so is the whole
-    whole : after rule cells good.multiple ≡ cells
-    whole =
-        let later : Partition (after rule cells good.multiple) (map (λ part. after rule part good.multiple) clusters) = rest.apart good.multiple good.within in
-        let now : Partition cells clusters = partition_law cells clusters rest.parts in
-        let same : map (λ part. after rule part good.multiple) clusters ≡ clusters =
-        map_same (λ part. after rule part good.multiple) (λ part. part) clusters each ∙ map_itself clusters in
-        same_lists (after rule cells good.multiple) cells (in_order-after rule cells good.multiple order) order
-        (λ c. sym (later.union c) ∙ ap (λ (parts : List (List Cell)). list_any (λ part. has part c) parts) same ∙ now.union c)
+    up_to : (g : ℕ) → g ≤ good.multiple → KeepApart rule cells clusters g
+    up_to g least = rest.apart g (omega (arith, least, good.within))
+
+map_fixed : (f : List Cell → List Cell) (parts : List (List Cell)) → map f parts ≡ parts → All (λ part. f part ≡ part) parts
+map_fixed f [] same k d low = absurd (omega arith)
+map_fixed f (part ∷ parts) same zero d low = ap (λ (list : List (List Cell)). get_or list 0 part) same
+map_fixed f (part ∷ parts) same (suc k) d low = map_fixed f parts (ap (λ (list : List (List Cell)). drop 1 list) same) k d (omega arith)
+
+-- clusters that were run for some generations and are themselves again
+pub apart_once_back : (rule : Numbers) (cells : List Cell) (clusters alone : List (List Cell)) (L : ℕ) → 1 ≤ L → InOrder cells → AreClusters cells clusters
+    → alone ≡ map (λ part. after rule part L) clusters → alone ≡ clusters → ((g : ℕ) → g ≤ L → KeepApart rule cells clusters g)
+    → (g : ℕ) → KeepApart rule cells clusters g
+apart_once_back rule cells clusters alone L some order are run back apart =
+    apart_forever rule cells clusters L some order are (map_fixed (λ part. after rule part L) clusters (sym run ∙ back)) apart

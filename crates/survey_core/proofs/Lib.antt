@@ -1,8 +1,12 @@
+mod DeterminedLemmas
 mod FindingLemmas
 mod ForGoodLemmas
+mod ImageLemmas
 mod ObjectLemmas
 mod PartitionLemmas
-mod PlaneLemmas
+mod PlacedFindings
+pub mod PlaneLemmas
 mod RestLemmas
 mod SeedLemmas
+mod SortedClusters
 mod SoupLemmas

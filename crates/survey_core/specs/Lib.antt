@@ -1,3 +1,4 @@
+pub mod FindingLaws
 pub mod Findings
 pub mod Objects
 pub mod Profiles

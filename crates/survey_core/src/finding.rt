@@ -1,5 +1,6 @@
 ghost use Rattle.std.specs.Prelude.{◌≡◌, ◌≤◌, IfOk, IfNone, IfSome, true};
 ghost use Rattle.plane_core.specs.Generations.{after, lies_within};
+ghost use Rattle.survey_core.specs.FindingLaws.{FindingsAreDetermined, FindingsMoved, FindingsOfImages, FindingsTurned};
 ghost use Rattle.survey_core.specs.Findings.{IsFinding, SettlesAt};
 ghost use Rattle.survey_core.specs.Rest.{IsAtRest};
 ghost use Rattle.survey_core.specs.Soups.{soup};
@@ -71,6 +72,20 @@ pub fn survey_pattern(
     let finding = finding_at(alloc, profile, rule, checkpoint, &latest)?;
     Ok(finding.unwrap_or(Finding::Unsettled))
 }
+
+/// A law of all patterns: they have one finding.
+#[tactic(auto, using(crate::proofs::DeterminedLemmas::findings_determined))]
+pub fn findings_are_determined()
+    ensures { FindingsAreDetermined }
+{}
+
+/// The laws that a pattern keeps its finding when it is moved, and when it is turned or mirrored.
+#[tactic(auto, using(crate::proofs::PlacedFindings::findings_moved, crate::proofs::PlacedFindings::findings_of_images, crate::proofs::PlacedFindings::findings_turned))]
+pub fn findings_are_kept()
+    ensures moved { FindingsMoved }
+    ensures images { FindingsOfImages }
+    ensures turned { FindingsTurned }
+{}
 
 /// The finding of a pattern that is this one at the checkpoint, if it is at rest.
 fn finding_at(

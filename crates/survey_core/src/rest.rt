@@ -14,9 +14,10 @@
 //!
 //! Most patterns that are looked at are not at rest, and nearly always some cluster doesn't come back. So that is
 //! asked first. Then the whole and the clusters are stepped side by side, a generation at a time, until a generation
-//! differs.
+//! differs, or until each cluster is itself again in its place: then the whole is what it was as well, and all that
+//! follows has been seen. So the horizon is reached only if there is a spaceship.
 
-ghost use Rattle.std.specs.Prelude.{◌≡◌, ◌≢◌, ◌≤◌, ◌↔◌, [], ℕ, All, IfNone, IfOk, IfSome, IsTrue, flat_map, map, true};
+ghost use Rattle.std.specs.Prelude.{◌≡◌, ◌≢◌, ◌≤◌, ◌↔◌, [], ℕ, All, IfNone, IfOk, IfSome, IsTrue, flat_map, length, map, true};
 ghost use Rattle.plane_core.specs.Cells.{InOrder};
 ghost use Rattle.plane_core.specs.Clusters.{AreClusters, Partition};
 ghost use Rattle.plane_core.specs.Generations.{lies_within, next};
@@ -113,8 +114,26 @@ fn keep_apart(
         if !same {
             return Ok(false);
         }
+        let back = are_back(alone.as_slice(), clusters);
+        if back {
+            return Ok(true);
+        }
     }
     Ok(true)
+}
+
+/// Whether each of the patterns is the one at its place again.
+fn are_back(later: &[Pattern], patterns: &[Pattern]) -> bool
+    requires { length later.now ≡ length patterns.now }
+    ensures { IsTrue result ↔ (later.now ≡ patterns.now) }
+{
+    for (place, pattern) in patterns.iter().enumerate() {
+        let same = are_same(later[place].cells(), pattern.cells());
+        if !same {
+            return false;
+        }
+    }
+    true
 }
 
 /// The patterns once more.

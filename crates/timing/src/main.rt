@@ -1,5 +1,6 @@
-//! Names a plaintext pattern from standard input, or finds its clusters, as often as its words say: a program for
-//! `bench/run` to time. `timing clusters N` prints how many clusters there are, and `timing names N` the name.
+//! Names a plaintext pattern from standard input, or finds its clusters, as often as its words say, or surveys soups: a
+//! program for `bench/run` to time. `timing clusters N` prints how many clusters there are, `timing names N` the name,
+//! and `timing surveys N` how many of the soups 0 to N - 1 settle; it doesn't look at its input.
 #![tactic(auto)]
 
 ghost use Rattle.std.specs.Prelude.{◌≡◌, IfOk, List, length};
@@ -12,6 +13,10 @@ use plane_core::clusters::clusters_are_determined;
 use plane_core::generation::StepError;
 use plane_core::pattern::Pattern;
 use plane_core::rule::Rule;
+use survey_core::finding::{Finding, survey};
+use survey_core::job::Job;
+use survey_core::profile::Profile;
+use survey_core::seed::Seed;
 use std::alloc::{AllocError, Global};
 use std::env;
 use std::io::{self, Read};
@@ -55,6 +60,28 @@ fn find_names(rt: &HostRuntime, pattern: &Pattern, times: u32) -> io::Result<()>
     }
 }
 
+/// How many of the first soups of the empty seed settle, in Life and by the standard profile.
+fn settled_count(alloc: Global, job: &Job, soups: u32) -> Result<usize, AllocError> {
+    let mut settled = Vec::new(alloc);
+    for number in 0..soups {
+        if let Finding::Settled { checkpoint, .. } = survey(alloc, job, u64::from(number))? {
+            settled.push(checkpoint)?;
+        }
+    }
+    Ok(settled.len())
+}
+
+/// Surveys so many soups, and prints how many settle.
+fn survey_soups(rt: &HostRuntime, seed: Seed, soups: u32) -> io::Result<()> {
+    let job = Job {
+        seed,
+        profile: Profile::standard(),
+        rule: Rule::life(),
+    };
+    let settled = settled_count(rt.alloc(), &job, soups)?;
+    println!(rt; "{settled}")
+}
+
 fn main(rt: HostRuntime) -> io::Result<()> {
     let alloc = rt.alloc();
     let words: Vec<String> = env::args(&rt)?.collect(alloc)?;
@@ -67,6 +94,10 @@ fn main(rt: HostRuntime) -> io::Result<()> {
     let times = times.unwrap_or(1);
     match words.get(1).map(|word| word.as_str()) {
         Some("names") => find_names(&rt, &pattern, times),
+        Some("surveys") => match Seed::new("") {
+            Ok(seed) => survey_soups(&rt, seed, times),
+            Err(error) => println!(rt; "{error}"),
+        },
         _ => find_clusters(&rt, &pattern, times),
     }
 }

@@ -1,9 +1,10 @@
-use Rattle.std.proofs.Common.{◌≡◌, ◌∙◌, ◌+◌, ◌<◌, ◌≤◌, ap, sym, subst, ℕ, map, All, true, arith}
+use Rattle.std.proofs.Common.{◌≡◌, ◌∙◌, ◌+◌, ◌<◌, ◌≤◌, ap, sym, refl, subst, ℕ, map, All, true, arith}
 use Rattle.std.proofs.lemmas.Bool.{false≢true}
 use Rattle.plane_core.specs.Cells.{InOrder}
 use Rattle.plane_core.specs.Generations.{after, lies_within, next}
 use Rattle.plane_core.proofs.GenerationLemmas.{after-none, after-more}
 use Rattle.survey_core.specs.Rest.{KeepApart}
+use Rattle.survey_core.proofs.ForGoodLemmas.{apart_once_back}
 use Rattle.survey_core.proofs.PlaneLemmas.{within_later}
 use Rattle.survey_core.proofs.RestLemmas.{alone_at_once, alone_in_order, alone_later, alone_near, apart_at_once, apart_more, apart_now}
 use Rattle.survey_core.proofs.rest.keep_apart.Goals as goal
@@ -59,6 +60,22 @@ returns-then-not-same c =
       λ apart. absurd (false≢true (sym c.if-not-same.true ∙ c.in_ok-same.ensures.1
           (apart_now c.args.rule.now c.args.pattern.now c.args.clusters.now
           (c.loop.counter + 1) c.in_ok-whole-2.whole c.as_slice-in-loop.result.now whole alone (apart (c.loop.counter + 1) low)))),
+    )
+
+-- each cluster is itself again, so what follows has been seen
+pub returns-then-back : goal.returns-then-back
+returns-then-back c =
+    let whole : c.in_ok-whole-2.whole ≡ after c.args.rule.now c.args.pattern.now (c.loop.counter + 1) =
+    c.in_ok-whole-2.ensures ∙ ap (next c.args.rule.now) c.loop.invariant.whole ∙ sym (after-more c.args.rule.now c.args.pattern.now c.loop.counter) in
+    let items : c.in_ok-alone-2.alone.items ≡ map (λ part. after c.args.rule.now part (c.loop.counter + 1)) c.args.clusters.now =
+    c.in_ok-alone-2.ensures ∙ ap (map (next c.args.rule.now)) (c.as_slice.ensures.value ∙ c.loop.invariant.alone)
+    ∙ alone_later c.args.rule.now c.args.clusters.now c.loop.counter in
+    let back : c.in_ok-alone-2.alone.items ≡ c.args.clusters.now = sym c.as_slice-in-loop-2.ensures.value ∙ c.are_back-back.ensures.0 c.if-back.true in (
+      λ e g low. apart_once_back c.args.rule.now c.args.pattern.now c.args.clusters.now c.in_ok-alone-2.alone.items (c.loop.counter + 1) (omega arith)
+          (subst InOrder (c.whole.view_is ∙ c.in_ok-whole.ensures) c.whole.invariant.in_order) c.requires.clusters items back
+          (apart_more c.args.rule.now c.args.pattern.now c.args.clusters.now c.loop.counter c.in_ok-whole-2.whole c.as_slice-in-loop.result.now whole
+          (c.as_slice-in-loop.ensures.value ∙ items) c.loop.invariant.apart (c.in_ok-same.ensures.0 c.if-not-same.false)) g,
+      λ apart. refl,
     )
 
 pub loop-preserved : goal.loop-preserved
