@@ -1,3 +1,4 @@
+pub mod Books
 pub mod Jobs
 pub mod RangeSteps
 pub mod Ranges

@@ -1,6 +1,6 @@
 -- Reports: what a worker says of a soup.
-use Rattle.std.specs.Prelude.{◌<◌, ◌≤◌, ℕ}
-use Rattle.survey_core.specs.Findings.{IsFinding}
+use Rattle.std.specs.Prelude.{◌<◌, ◌≤◌, ◌^◌, ℕ}
+use Rattle.survey_core.specs.Findings.{IsFinding, objects_in}
 use Rattle.survey_core.specs.Soups.{soup}
 use Rattle.survey_core.specs.declared.finding.Finding.{Finding}
 use Rattle.survey_core.specs.declared.job.Job.{Job}
@@ -23,3 +23,4 @@ pub record IsReport (report : Reported) : Type 0 where
   pub worker : IsWorker report.worker
   pub number : report.number < number_bound
   pub finding : IsFinding report.job.rule report.job.profile (soup report.job.seed report.number) report.finding
+  pub few : objects_in report.finding < 2 ^ 64

@@ -1,6 +1,8 @@
 //! Hauls: which soups of a job have been taken, by whom, and which objects they left.
 #![tactic(auto)]
 
+/// What arrives at a haul.
+pub mod arrival;
 /// Sets of soup numbers.
 pub mod range;
 /// What a worker reports of a soup.

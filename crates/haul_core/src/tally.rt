@@ -8,15 +8,17 @@
 //! add            xs4_33  9 | xp2_7  5 | xq4_153  1
 //! ```
 
-ghost use Rattle.std.specs.Prelude.{◌≡◌, ◌≢◌, ◌+◌, ◌<◌, ◌≤◌, ◌^◌, ℕ, Some, List, All, OnErr, OnOk};
+ghost use Rattle.std.specs.Prelude.{◌≡◌, ◌≢◌, ◌+◌, ◌<◌, ◌≤◌, ◌^◌, ℕ, Some, List, All, OnErr, OnOk, if◌then◌else◌};
 ghost use Rattle.std.specs.Map.{lookup};
 ghost use Rattle.survey_core.specs.Objects.{AreObjects, is_code};
-ghost use Rattle.haul_core.specs.Tallies.{Extends, HasRow, added, tally_in};
+ghost use Rattle.haul_core.specs.Tallies.{Extends, HasLawfulObjects, HasRow, HasRows, added, found_in, tally_in};
+ghost use Rattle.haul_core.specs.Totals.{is_for_good, is_unsettled};
 
 use crate::samples::Samples;
 use code_core::apgcode::Apgcode;
 use indexmap::IndexMap;
 use std::alloc::{AllocError, Global};
+use survey_core::finding::Finding;
 
 /// What is kept of a code.
 #[derive(Debug, Drop)]
@@ -25,6 +27,57 @@ pub(crate) struct Tally {
     pub(crate) total: u128,
     /// The least three numbers of soups that have one.
     pub(crate) samples: Samples,
+}
+
+/// The totals over some surveyed soups.
+#[derive(Debug, Drop)]
+pub(crate) struct Totals {
+    /// A row for each code that one of them left, and perhaps some with total 0.
+    pub(crate) rows: IndexMap<Apgcode, Tally>,
+    /// How many soups are unsettled.
+    pub(crate) unsettled: u64,
+    /// How many soups stay for good.
+    pub(crate) for_good: u64,
+}
+
+impl Totals {
+    /// Makes a row for each code of a finding that has none. If there is no memory the rows are as they were.
+    pub(crate) fn make_room(&mut self, alloc: Global, finding: &Finding) -> Result<(), AllocError>
+        ensures extends { Extends self.old.rows.entries self.new.rows.entries }
+        ensures rows { OnOk result (HasRows finding.now self.new.rows.entries) }
+        ensures unsettled { self.new.unsettled ≡ self.old.unsettled }
+        ensures for_good { self.new.for_good ≡ self.old.for_good }
+    {
+        match finding {
+            Finding::Settled { objects, .. } => {
+                make_rows(alloc, &mut self.rows, objects.as_slice())
+            }
+            Finding::Unsettled => Ok(()),
+        }
+    }
+
+    /// Adds a soup with its finding, each of whose codes has a row.
+    pub(crate) fn add(&mut self, finding: &Finding, number: u64)
+        requires rows { HasRows finding.now self.old.rows.entries }
+        requires lawful { HasLawfulObjects finding.now }
+        requires room { (code : List ℕ) → (tally_in self.old.rows.entries code).total + 2 ^ 64 ≤ 2 ^ 128 }
+        requires unsettled { self.old.unsettled + 1 < 2 ^ 64 }
+        requires for_good { self.old.for_good + 1 < 2 ^ 64 }
+        ensures rows { (code : List ℕ) → tally_in self.new.rows.entries code
+            ≡ added (found_in code finding.now) number (tally_in self.old.rows.entries code) }
+        ensures unsettled { self.new.unsettled ≡ self.old.unsettled + (if is_unsettled finding.now then 1 else 0) }
+        ensures for_good { self.new.for_good ≡ self.old.for_good + (if is_for_good finding.now then 1 else 0) }
+    {
+        match finding {
+            Finding::Settled {
+                objects, for_good, ..
+            } => {
+                add(&mut self.rows, objects.as_slice(), number);
+                self.for_good += u64::from(*for_good);
+            }
+            Finding::Unsettled => self.unsettled += 1,
+        }
+    }
 }
 
 impl Tally {
