@@ -1,4 +1,6 @@
+mod BookLemmas
 mod JobLemmas
+mod KeepLemmas
 mod RangeLemmas
 mod SampleLemmas
 mod TallyLemmas

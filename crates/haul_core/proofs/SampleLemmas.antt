@@ -1,6 +1,6 @@
 -- The least three of some numbers, kept while numbers come.
 use Rattle.std.proofs.Common.{◌≡◌, ◌∙◌, ◌+◌, ◌<◌, ◌≤◌, ℕ, zero, suc, Bool, true, false, cond, nat_le, List, [], ◌∷◌, ◌++◌, ap, sym, subst, refl, arith, length, take, drop, get_or, set, inl, inr, ◌⊎◌, add-zero}
-use Rattle.std.proofs.lemmas.Bool.{cases_lt, le-leb, lt-leb}
+use Rattle.std.proofs.lemmas.Bool.{cases_lt, cases_order, le-leb, lt-leb}
 use Rattle.std.proofs.lemmas.List.{append_assoc, drop-drop, drop-set-lt, drop_all, drop_more, get_or-drop, get_or-take, length-set, length-take-le, take-take, take_more, take_more_set}
 use Rattle.haul_core.specs.Samples.{IsAscending, ascending, least_three, with_number}
 
@@ -130,3 +130,37 @@ pub putting_end : (old : List ℕ) (count number : ℕ) (numbers : List ℕ) (le
     → take count numbers ++ left ∷ [] ≡ with_number number (take count old)
 putting_end old count number numbers left few p =
     ap (λ (xs : List ℕ). take count numbers ++ with_number left xs) (sym (drop_all count (take count old) (omega (arith, length-take-le count old few)))) ∙ p.done
+
+-- ---- the order in which numbers come doesn't matter
+
+pub with_two : (a b : ℕ) (xs : List ℕ) → with_number a (with_number b xs) ≡ with_number b (with_number a xs)
+with_two a b [] = go (cases_order a b)
+  where
+    go : (a ≡ b) ⊎ ((a < b) ⊎ (b < a)) → with_number a (b ∷ []) ≡ with_number b (a ∷ [])
+    go (inl same) = λ i. with_number (same i) (sym same i ∷ [])
+    go (inr (inl less)) = with_least a b [] (omega arith) ∙ sym (with_greater b a [] less)
+    go (inr (inr more)) = with_greater a b [] more ∙ sym (with_least b a [] (omega arith))
+with_two a b (x ∷ xs) = go (cases_lt x a) (cases_lt x b) (cases_order a b) (with_two a b xs)
+  where
+    go : (x < a) ⊎ (a ≤ x) → (x < b) ⊎ (b ≤ x) → (a ≡ b) ⊎ ((a < b) ⊎ (b < a)) → with_number a (with_number b xs) ≡ with_number b (with_number a xs)
+        → with_number a (with_number b (x ∷ xs)) ≡ with_number b (with_number a (x ∷ xs))
+    go (inl xa) (inl xb) order rest =
+        ap (with_number a) (with_greater b x xs xb) ∙ with_greater a x (with_number b xs) xa ∙ ap (λ (ys : List ℕ). x ∷ ys) rest
+        ∙ sym (ap (with_number b) (with_greater a x xs xa) ∙ with_greater b x (with_number a xs) xb)
+    go (inl xa) (inr bx) order rest =
+        ap (with_number a) (with_least b x xs bx) ∙ with_greater a b (x ∷ xs) (omega arith) ∙ ap (λ (ys : List ℕ). b ∷ ys) (with_greater a x xs xa)
+        ∙ sym (ap (with_number b) (with_greater a x xs xa) ∙ with_least b x (with_number a xs) bx)
+    go (inr ax) (inl xb) order rest =
+        ap (with_number a) (with_greater b x xs xb) ∙ with_least a x (with_number b xs) ax
+        ∙ sym (ap (with_number b) (with_least a x xs ax) ∙ with_greater b a (x ∷ xs) (omega arith) ∙ ap (λ (ys : List ℕ). a ∷ ys) (with_greater b x xs xb))
+    go (inr ax) (inr bx) (inl same) rest = λ i. with_number (same i) (with_number (sym same i) (x ∷ xs))
+    go (inr ax) (inr bx) (inr (inl less)) rest =
+        ap (with_number a) (with_least b x xs bx) ∙ with_least a b (x ∷ xs) (omega arith)
+        ∙ sym (ap (with_number b) (with_least a x xs ax) ∙ with_greater b a (x ∷ xs) less ∙ ap (λ (ys : List ℕ). a ∷ ys) (with_least b x xs bx))
+    go (inr ax) (inr bx) (inr (inr more)) rest =
+        ap (with_number a) (with_least b x xs bx) ∙ with_greater a b (x ∷ xs) more ∙ ap (λ (ys : List ℕ). b ∷ ys) (with_least a x xs ax)
+        ∙ sym (ap (with_number b) (with_least a x xs ax) ∙ with_least b a (x ∷ xs) (omega arith))
+
+pub ascending_push : (xs : List ℕ) (n : ℕ) → ascending (xs ++ n ∷ []) ≡ with_number n (ascending xs)
+ascending_push [] n = refl
+ascending_push (x ∷ xs) n = ap (with_number x) (ascending_push xs n) ∙ with_two x n (ascending xs)

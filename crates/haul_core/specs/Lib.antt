@@ -1,5 +1,7 @@
+pub mod BookSteps
 pub mod Books
 pub mod Jobs
+pub mod Keeping
 pub mod RangeSteps
 pub mod Ranges
 pub mod Reports

@@ -3,6 +3,8 @@
 
 /// What arrives at a haul.
 pub mod arrival;
+/// Which soups of a job have been taken.
+pub mod haul;
 /// Sets of soup numbers.
 pub mod range;
 /// What a worker reports of a soup.

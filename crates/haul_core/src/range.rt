@@ -2,7 +2,7 @@ ghost use Rattle.std.specs.Prelude.{◌≡◌, ◌↔◌, ◌≤◌, ◌+◌, �
 ghost use Rattle.std.specs.List.{filter, list_any};
 ghost use Rattle.std.specs.List.Sorted.{IsNonDecreasingBy, IsPermutation};
 ghost use Rattle.haul_core.specs.RangeSteps.{Ascending, has_numbers};
-ghost use Rattle.haul_core.specs.Ranges.{AreBelow, AreNormal, IsNormalForm, Overlap, end_of, number_bound, shares, size_of};
+ghost use Rattle.haul_core.specs.Ranges.{AreBelow, AreNormal, IsNormalForm, Overlap, end_of, is_in, is_in_range, number_bound, shares, size_of};
 
 use std::alloc::{AllocError, Global};
 use std::marker::Model;
@@ -15,6 +15,13 @@ pub struct Range {
 }
 
 impl Range {
+    /// Whether the number is one of the range's.
+    fn has(&self, number: u64) -> bool
+        ensures { result ≡ is_in_range number self.now }
+    {
+        self.first <= number && number - self.first < self.count
+    }
+
     /// Whether the two have a number in common.
     fn shares(&self, other: &Range) -> bool
         requires own { end_of self.now ≤ number_bound }
@@ -53,6 +60,18 @@ impl Ranges {
         ensures below { AreBelow number_bound self.now }
     {
         self.ranges.as_slice()
+    }
+
+    /// Whether the number is in the set.
+    pub(crate) fn has(&self, number: u64) -> bool
+        ensures { result ≡ is_in self.now number }
+    {
+        for range in self.as_slice() {
+            if range.has(number) {
+                return true;
+            }
+        }
+        false
     }
 
     /// The normal form of ranges of which no two share a number.
