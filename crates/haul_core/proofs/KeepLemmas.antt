@@ -12,7 +12,10 @@ use Rattle.std.proofs.lemmas.Map.Keys.{IsDistinct-push}
 use Rattle.std.proofs.lemmas.Map.Steps.{lookup-le-sum}
 use Rattle.survey_core.specs.Findings.{IsFinding, objects_in}
 use Rattle.survey_core.specs.Objects.{AreObjects, count_of, is_code}
+use Rattle.survey_core.specs.Profiles.{Settling}
 use Rattle.survey_core.specs.Soups.{soup}
+use Rattle.plane_core.specs.Rules.{Numbers}
+use Rattle.plane_core.specs.declared.cell.Cell.{Cell}
 use Rattle.survey_core.specs.declared.finding.Finding.{Finding}
 use Rattle.survey_core.specs.declared.finding.Finding.TheVariants.{Settled, Unsettled}
 use Rattle.haul_core.specs.declared.tally.Tally.{Tally}
@@ -174,3 +177,29 @@ has_room held count workers sums short k =
       unsettled_room = omega (arith, k.sum.unsettled_sum, count_by-le-length (λ s. is_unsettled s.finding) k.surveys);
       for_good_room = omega (arith, k.sum.for_good_sum, count_by-le-length (λ s. is_for_good s.finding) k.surveys);
     }
+
+-- after room was made
+pub keeps_mid : (terms : Terms) (closed : Bool) (taken more_taken : List (ℕ × ℕ)) (count : ℕ) (workers more_workers : List (ℕ × ℕ)) (old new : Sums)
+    → more_taken ≡ taken → more_workers ≡ workers → Extends old.rows new.rows → new.unsettled ≡ old.unsettled → new.for_good ≡ old.for_good
+    → Keeps (record { terms = terms; closed = closed; taken = taken }) count workers old
+    → Keeps (record { terms = terms; closed = closed; taken = more_taken }) count more_workers new
+keeps_mid terms closed taken more_taken count workers more_workers old new t w x u g k =
+    keeps_extended (record { terms = terms; closed = closed; taken = more_taken }) count more_workers old new x u g
+    (subst (λ (ts : List (ℕ × ℕ)). Keeps (record { terms = terms; closed = closed; taken = ts }) count more_workers old) (sym t)
+    (subst (λ (ws : List (ℕ × ℕ)). Keeps (record { terms = terms; closed = closed; taken = taken }) count ws old) (sym w) k))
+
+-- and after the report was noted
+pub keeps_noted : (terms : Terms) (closed : Bool) (taken new_taken : List (ℕ × ℕ)) (count : ℕ) (workers new_workers : List (ℕ × ℕ)) (sums : Sums) (t w : ℕ × ℕ) (r : Reported)
+    → new_taken ≡ taken ++ t ∷ [] → new_workers ≡ workers ++ w ∷ [] → t ≡ entry r → w ≡ (r.number, r.worker)
+    → Keeps (record { terms = terms; closed = closed; taken = taken ++ entry r ∷ [] }) count (workers ++ (r.number, r.worker) ∷ []) sums
+    → Keeps (record { terms = terms; closed = closed; taken = new_taken }) count new_workers sums
+keeps_noted terms closed taken new_taken count workers new_workers sums t w r et ew et' ew' k =
+    subst (λ (ts : List (ℕ × ℕ)). Keeps (record { terms = terms; closed = closed; taken = ts }) count new_workers sums)
+    (sym (et ∙ ap (λ (x : ℕ × ℕ). taken ++ x ∷ []) et'))
+    (subst (λ (ws : List (ℕ × ℕ)). Keeps (record { terms = terms; closed = closed; taken = taken ++ entry r ∷ [] }) count ws sums)
+    (sym (ew ∙ ap (λ (x : ℕ × ℕ). workers ++ x ∷ []) ew')) k)
+
+-- the objects of a finding are lawful
+pub lawful_of : (rule : Numbers) (profile : Settling) (cells : List Cell) (finding : Finding) → IsFinding rule profile cells finding → HasLawfulObjects finding
+lawful_of rule profile cells (Settled t objects good) h = h.2.counted.lawful
+lawful_of rule profile cells Unsettled h = tt
