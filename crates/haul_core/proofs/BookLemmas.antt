@@ -1,9 +1,13 @@
 -- The book, one arrival at a time.
-use Rattle.std.proofs.Common.{◌≡◌, ◌≢◌, ◌∙◌, ◌&&◌, ◌||◌, ◌==◌, ℕ, Bool, true, false, cond, not, nat_eq, nat_le, nat_lt, List, [], ◌∷◌, ◌++◌, Option, None, Some, ap, sym, subst, refl, inl, inr, ◌⊎◌, filter, map, option_map, if◌then◌else◌}
+use Rattle.std.proofs.Common.{◌≡◌, ◌≢◌, ◌∙◌, ◌&&◌, ◌||◌, ◌==◌, ℕ, Bool, true, false, cond, not, nat_eq, nat_le, nat_lt, List, [], ◌∷◌, ◌++◌, Option, None, Some, ap, sym, subst, refl, inl, inr, ◌⊎◌, filter, map, option_map, if◌then◌else◌, Result, Ok, Err}
 use Rattle.std.specs.List.{find, list_any}
+use Rattle.std.specs.Iterator.{Yields}
 use Rattle.std.specs.Map.{lookup}
+use Rattle.std.specs.Result.{OnErr}
+use Rattle.std.specs.Vec.Iter.{into_iter_items, into_iter_steps}
+use Rattle.std.specs.declared.vec.IntoIter.{IntoIter}
 use Rattle.std.proofs.lemmas.Bool.{and_from, cases_Bool, false≢true, eq-eqb, eqb-true, ne_eqb, leb-false, leb-true, le-ltb, lt-ltb, or_right}
-use Rattle.std.proofs.lemmas.List.{append-nil, map_push}
+use Rattle.std.proofs.lemmas.List.{append-nil, append_assoc, map_push}
 use Rattle.std.proofs.lemmas.List.Elements.{filter-append}
 use Rattle.std.proofs.lemmas.List.Folds.{list_any-append}
 use Rattle.haul_core.specs.declared.arrival.Arrival.{Arrival}
@@ -11,7 +15,8 @@ use Rattle.haul_core.specs.declared.arrival.Arrival.TheVariants.{Closing, Offer}
 use Rattle.haul_core.specs.declared.refusal.Refusal.{Refusal}
 use Rattle.haul_core.specs.declared.refusal.Refusal.TheVariants.{Closed, Double, OtherJob, OutOfRange, UnknownWorker}
 use Rattle.haul_core.specs.BookSteps.{refusal_at, worker_in}
-use Rattle.haul_core.specs.Books.{Held, StandsFor, Terms, double, eligible, entry, first_of_each, first_worker, has_closing, has_number, is_closing, is_lawful, offered, refusal_of, taken_of}
+use Rattle.haul_core.specs.Books.{Held, StandsFor, Terms, double, eligible, entry, first_of_each, first_worker, has_closing, has_number, is_closing, is_lawful, offered, refusal_of, replies_to, reply_to, taken_of}
+use Rattle.haul_core.specs.declared.arrival.Reply.{Reply}
 use Rattle.haul_core.specs.Jobs.{same_job}
 use Rattle.haul_core.specs.Ranges.{is_in}
 use Rattle.haul_core.specs.Reports.{Reported}
@@ -257,3 +262,20 @@ stands_closed arrivals held s = record {
   taken = s.taken ∙ ap (λ (rs : List Reported). map entry (first_of_each (filter (is_lawful held.terms) rs))) (sym (offered_closing arrivals));
   closed = sym (list_any-append is_closing arrivals (Closing ∷ []) ∙ or_right (has_closing arrivals) true refl);
 }
+
+-- ---- a list of arrivals
+
+pub replies_push : (terms : Terms) (before xs : List Arrival) (a : Arrival) → replies_to terms before (xs ++ a ∷ []) ≡ replies_to terms before xs ++ reply_to terms (before ++ xs) a ∷ []
+replies_push terms before [] a = ap (λ (b : List Arrival). reply_to terms b a ∷ []) (sym (append-nil before))
+replies_push terms before (x ∷ xs) a =
+    ap (λ (rs : List Reply). reply_to terms before x ∷ rs)
+    (replies_push terms (before ++ x ∷ []) xs a ∙ ap (λ (b : List Arrival). replies_to terms (before ++ x ∷ []) xs ++ reply_to terms b a ∷ []) (append_assoc before (x ∷ []) xs))
+
+pub on_err_from : {T E P : Type 0} (r : Result T E) → P → OnErr r P
+on_err_from (Ok x) p = tt
+on_err_from (Err e) p = p
+
+-- what the iterator of a vector has given is a front of its items
+pub taken_front : {X A : Type 0} (s : IntoIter X A) (xs : List X) (t : IntoIter X A) → Yields into_iter_steps s xs t → into_iter_items s ≡ xs ++ into_iter_items t
+taken_front s [] t y = ap into_iter_items y
+taken_front s (x ∷ xs) t y = y.1.0 ∙ ap (λ ys. x ∷ ys) (taken_front y.0 xs t y.2)

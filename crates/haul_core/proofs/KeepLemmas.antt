@@ -8,7 +8,7 @@ use Rattle.std.proofs.lemmas.List.{append-nil, length-append, length-map, map_pu
 use Rattle.std.proofs.lemmas.List.Elements.{All-append, All-cons, All-head, All-nil, All-push, All-tail, All-weaker, filter-append}
 use Rattle.std.proofs.lemmas.List.Sums.{count_by-le-length, sum_by-le, sum_by_push}
 use Rattle.std.proofs.lemmas.Map.Entries.{All-lookup}
-use Rattle.std.proofs.lemmas.Map.Keys.{IsDistinct-push}
+use Rattle.std.proofs.lemmas.Map.Keys.{IsDistinct-from_apart, IsDistinct-push}
 use Rattle.std.proofs.lemmas.Map.Steps.{lookup-le-sum}
 use Rattle.survey_core.specs.Findings.{IsFinding, objects_in}
 use Rattle.survey_core.specs.Objects.{AreObjects, count_of, is_code}
@@ -26,8 +26,9 @@ use Rattle.haul_core.proofs.BookLemmas.{none_holds}
 use Rattle.haul_core.proofs.JobLemmas.{jobs_decide}
 use Rattle.haul_core.specs.Books.{Held, Terms, entry}
 use Rattle.haul_core.specs.Keeping.{AreSums, Keeps, Sums, numbers_in, tally_of}
-use Rattle.haul_core.specs.Ranges.{is_in}
-use Rattle.haul_core.specs.Reports.{IsReport, Reported}
+use Rattle.haul_core.specs.Ranges.{AreBelow, AreNormal, is_in, number_bound, size_of}
+use Rattle.haul_core.specs.declared.range.Range.{Range}
+use Rattle.haul_core.specs.Reports.{IsReport, IsWorker, Reported}
 use Rattle.haul_core.specs.Samples.{ascending, least_three, with_number}
 use Rattle.haul_core.specs.Tallies.{Extends, HasLawfulObjects, added, found_in, tally_in}
 use Rattle.haul_core.specs.Totals.{AreSurveys, Survey, count_in, for_good, has_object, is_for_good, is_unsettled, samples, total, unsettled}
@@ -203,3 +204,26 @@ keeps_noted terms closed taken new_taken count workers new_workers sums t w r et
 pub lawful_of : (rule : Numbers) (profile : Settling) (cells : List Cell) (finding : Finding) → IsFinding rule profile cells finding → HasLawfulObjects finding
 lawful_of rule profile cells (Settled t objects good) h = h.2.counted.lawful
 lawful_of rule profile cells Unsettled h = tt
+
+-- a haul that was just opened
+pub keeps_none : (job : Job) (ranges : List Range) (workers count : ℕ) (taken numbers : List (ℕ × ℕ)) (sums : Sums) → AreNormal ranges → AreBelow number_bound ranges
+    → count ≡ size_of ranges → IsWorker workers → taken ≡ [] → numbers ≡ [] → sums.rows ≡ [] → sums.unsettled ≡ 0 → sums.for_good ≡ 0
+    → Keeps (record { terms = record { job = job; ranges = ranges; workers = workers }; closed = false; taken = taken }) count numbers sums
+keeps_none job ranges workers count taken numbers sums normal below size worker t n rows u g =
+    subst (λ (ts : List (ℕ × ℕ)). Keeps (record { terms = record { job = job; ranges = ranges; workers = workers }; closed = false; taken = ts }) count numbers sums) (sym t)
+    (record {
+      normal = normal; below = below; size = size; worker = worker; by_number = n;
+      within = All-nil (λ t. is_in ranges t.1 ≡ true);
+      distinct = distinct_none;
+      surveys = [];
+      surveyed = record { each = refl; findings = All-nil (λ s. IsFinding job.rule job.profile (soup job.seed s.number) s.finding) };
+      sum = record {
+        rows = λ code. ap (λ (rs : List (List ℕ × Tally)). tally_in rs code) rows;
+        unsettled_sum = u;
+        for_good_sum = g;
+        few = All-nil (λ s. objects_in s.finding < 2 ^ 64);
+      };
+    })
+  where
+    distinct_none : IsDistinct nat_eq []
+    distinct_none = IsDistinct-from_apart nat_eq [] (λ i j d low short. absurd (omega arith))

@@ -1,5 +1,5 @@
 -- The book: which reports a haul takes, of whatever arrives in whatever order, and what it replies.
-use Rattle.std.specs.Prelude.{◌≡◌, ◌==◌, ◌&&◌, ◌⊎◌, ℕ, Bool, true, false, not, List, [], ◌∷◌, Option, None, Some, filter, map, nat_le, nat_lt, option_map, if◌then◌else◌}
+use Rattle.std.specs.Prelude.{◌≡◌, ◌==◌, ◌&&◌, ◌++◌, ◌⊎◌, ℕ, Bool, true, false, not, List, [], ◌∷◌, Option, None, Some, filter, map, nat_le, nat_lt, option_map, if◌then◌else◌}
 use Rattle.std.specs.List.{find, list_any}
 use Rattle.survey_core.specs.declared.job.Job.{Job}
 use Rattle.haul_core.specs.declared.arrival.Arrival.{Arrival}
@@ -7,6 +7,8 @@ use Rattle.haul_core.specs.declared.arrival.Arrival.TheVariants.{Closing, Offer}
 use Rattle.haul_core.specs.declared.range.Range.{Range}
 use Rattle.haul_core.specs.declared.refusal.Refusal.{Refusal}
 use Rattle.haul_core.specs.declared.refusal.Refusal.TheVariants.{Closed, Double, Memory, OtherJob, OutOfRange, UnknownWorker}
+use Rattle.haul_core.specs.declared.arrival.Reply.{Reply}
+use Rattle.haul_core.specs.declared.arrival.Reply.TheVariants.{AlreadyClosed, NowClosed, Refused, Taken}
 use Rattle.haul_core.specs.Jobs.{same_job}
 use Rattle.haul_core.specs.Ranges.{is_in}
 use Rattle.haul_core.specs.Reports.{Reported}
@@ -70,6 +72,20 @@ refusal_of terms before r =
     else if nat_lt terms.workers r.worker then Some UnknownWorker
     else if not (is_in terms.ranges r.number) then Some OutOfRange
     else double (first_worker r.number (eligible terms before))
+
+-- the reply to an arrival that comes after these
+abbrev pub reply_for : Option Refusal → Reply
+reply_for None = Taken
+reply_for (Some reason) = Refused reason
+
+abbrev pub reply_to : Terms → List Arrival → Arrival → Reply
+reply_to terms before (Offer report) = reply_for (refusal_of terms before report)
+reply_to terms before Closing = if has_closing before then AlreadyClosed else NowClosed
+
+-- the replies to some arrivals in order, after those before
+abbrev pub replies_to : Terms → List Arrival → List Arrival → List Reply
+replies_to terms before [] = []
+replies_to terms before (a ∷ more) = reply_to terms before a ∷ replies_to terms (before ++ a ∷ []) more
 
 -- a reply is the book's; or there was no memory for an offer that the book takes
 abbrev pub IsReply : Option Refusal → Option Refusal → Type 0

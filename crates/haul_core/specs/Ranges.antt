@@ -39,6 +39,11 @@ AreBelow bound ranges = All (λ r. end_of r ≤ bound) ranges
 abbrev pub number_bound : ℕ
 number_bound = 2 ^ 40
 
+-- small enough for a haul: no number over the bound, and at most 2^24 numbers, which is the project's choice too
+pub record AreSmall (ranges : List Range) : Type 0 where
+  pub below : AreBelow number_bound ranges
+  pub few : size_of ranges ≤ 2 ^ 24
+
 -- the next range, if there is one, begins after the place: so the number at the place is left out
 abbrev pub BeginAfter : ℕ → List Range → Type 0
 BeginAfter place [] = Unit {0}

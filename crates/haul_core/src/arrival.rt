@@ -1,3 +1,4 @@
+use crate::refusal::Refusal;
 use crate::report::Report;
 
 /// What arrives at a haul.
@@ -7,4 +8,17 @@ pub enum Arrival {
     Offer(Report),
     /// The haul is closed.
     Closing,
+}
+
+/// What is replied to an arrival.
+#[derive(Clone, Copy, Debug, PartialEq, Eq)]
+pub enum Reply {
+    /// The report is taken.
+    Taken,
+    /// The report is refused.
+    Refused(Refusal),
+    /// The haul is closed from now on.
+    NowClosed,
+    /// The haul was closed before.
+    AlreadyClosed,
 }

@@ -1,16 +1,18 @@
-ghost use Rattle.std.specs.Prelude.{◌≡◌, ◌⊎◌, ◌↔◌, ◌<◌, ◌≤◌, ◌+◌, ◌^◌, ◌++◌, ◌∷◌, [], ℕ, List, Option, None, Some, IfErr, IfOk, IsErrOf, OnErr, OnOk, false, true, vec_len, vec_capacity, nat_eq, is_some};
+ghost use Rattle.std.specs.Prelude.{◌≡◌, ◌⊎◌, ◌↔◌, ◌<◌, ◌≤◌, ◌+◌, ◌^◌, ◌++◌, ◌∷◌, [], ℕ, List, Option, None, Some, IfErr, IfOk, IsErrOf, OnErr, OnOk, false, true, vec_len, vec_capacity, nat_eq, is_err};
 ghost use Rattle.indexmap.specs.IndexMap.{get, spare};
-ghost use Rattle.haul_core.specs.Books.{IsReply, StandsFor, is_closing, refusal_of};
+ghost use Rattle.haul_core.specs.Books.{IsReply, StandsFor, has_closing, refusal_of};
 ghost use Rattle.haul_core.specs.BookSteps.{refusal_at, reply_of, IsAnswered};
-ghost use Rattle.haul_core.specs.Ranges.{AreBelow, AreNormal, IsNormalForm, Overlap, number_bound, size_of};
+ghost use Rattle.haul_core.specs.Ranges.{AreNormal, AreSmall, IsNormalForm, Overlap, size_of};
 ghost use Rattle.haul_core.specs.Reports.{IsWorker};
 ghost use Rattle.haul_core.specs.Tallies.{Extends, HasRows};
 ghost use Rattle.haul_core.specs.declared.arrival.Arrival.{Arrival};
 ghost use Rattle.haul_core.specs.declared.arrival.Arrival.TheVariants as arrival;
+ghost use Rattle.haul_core.specs.declared.haul.OpenError.TheVariants.{BadRange, BadWorkers, Memory};
+ghost use Rattle.haul_core.specs.declared.haul.OpenError.TheVariants.{Overlap as SharedNumber};
 
-use crate::range::{Range, Ranges};
+use crate::range::{Range, Ranges, overlap, small_size};
 use crate::refusal::{Refusal, Refused, is_same_job};
-use crate::report::Report;
+use crate::report::{Report, is_worker};
 use crate::tally::Totals;
 use indexmap::IndexMap;
 use std::alloc::{AllocError, Global};
@@ -23,6 +25,31 @@ use thiserror::Error;
 #[derive(Clone, Copy, Debug, PartialEq, Eq, Error)]
 #[error("already closed")]
 pub struct AlreadyClosed;
+
+/// Why no haul was opened.
+#[derive(Clone, Copy, Debug, PartialEq, Eq, Error)]
+pub enum OpenError {
+    /// There are not 1 to 16 workers.
+    #[error("bad number of workers")]
+    BadWorkers,
+    /// A range goes past 2^40, or the ranges have over 2^24 numbers together.
+    #[error("range too large")]
+    BadRange,
+    /// Two ranges share a number.
+    #[error("ranges overlap")]
+    Overlap,
+    /// Memory ran out.
+    #[error("out of memory")]
+    Memory,
+}
+
+impl From<AllocError> for OpenError {
+    ghost from_gives = { λ _ e. e ≡ Memory };
+
+    fn from(_e: AllocError) -> OpenError {
+        OpenError::Memory
+    }
+}
 
 /// Which soups of a job have been taken, by whom, and the totals over them.
 ///
@@ -53,6 +80,123 @@ impl Model for Haul {
 }
 
 impl Haul {
+    /// A haul for a job, the soup numbers of the ranges, and workers with the numbers from 1 on. It is open.
+    ///
+    /// # Errors
+    ///
+    /// The first of these that holds:
+    ///
+    /// - [`OpenError::BadWorkers`] if there are not 1 to 16 workers.
+    /// - [`OpenError::BadRange`] if a range goes past 2^40, or the ranges have over 2^24 numbers together.
+    /// - [`OpenError::Overlap`] if two ranges share a number.
+    /// - [`OpenError::Memory`] if memory runs out.
+    pub fn open(
+        alloc: Global,
+        job: Job,
+        ranges: &[Range],
+        workers: u8,
+    ) -> Result<Haul, OpenError>
+        // What was handed in, and nothing taken.
+        ensures job { IfOk result (λ haul. haul.terms.job ≡ job) }
+        ensures ranges { IfOk result (λ haul. IsNormalForm ranges.now haul.terms.ranges) }
+        ensures workers { IfOk result (λ haul. haul.terms.workers ≡ workers) }
+        ensures stands { IfOk result (StandsFor []) }
+
+        // Which error it is.
+        ensures bad_workers { IsErrOf result BadWorkers ↔ ¬ IsWorker workers }
+        ensures bad_range { IsErrOf result BadRange ↔ (IsWorker workers × ¬ AreSmall ranges.now) }
+        ensures overlap { IsErrOf result SharedNumber ↔ (IsWorker workers × AreSmall ranges.now × Overlap ranges.now) }
+    {
+        let known = is_worker(workers);
+        if !known {
+            return Err(OpenError::BadWorkers);
+        }
+        let Some(count) = small_size(ranges) else {
+            return Err(OpenError::BadRange);
+        };
+        let shared = overlap(ranges);
+        if shared {
+            return Err(OpenError::Overlap);
+        }
+        let ranges = Ranges::normal_form(alloc, ranges)?;
+        Ok(Haul {
+            alloc,
+            job,
+            ranges,
+            count,
+            workers,
+            closed: false,
+            taken: Vec::new(alloc),
+            worker_of: IndexMap::new(alloc),
+            totals: Totals::none(alloc),
+        })
+    }
+
+    /// Closes the haul. It takes no report from then on.
+    ///
+    /// # Errors
+    ///
+    /// [`AlreadyClosed`] if it is closed.
+    pub fn close(&mut self) -> Result<(), AlreadyClosed>
+        ensures reply { (arrivals : List Arrival) → StandsFor arrivals self.old → is_err result ≡ has_closing arrivals }
+        ensures stands { (arrivals : List Arrival) → StandsFor arrivals self.old
+            → StandsFor (arrivals ++ arrival.Closing ∷ []) self.new }
+        ensures terms { self.new.terms ≡ self.old.terms }
+        ensures kept { OnErr result (self.new ≡ self.old) }
+    {
+        if self.closed {
+            return Err(AlreadyClosed);
+        }
+        self.closed = true;
+        Ok(())
+    }
+
+    /// Whether the haul is closed.
+    pub fn is_closed(&self) -> bool
+        ensures { result ≡ self.now.closed }
+    {
+        self.closed
+    }
+
+    /// The job.
+    pub fn job(&self) -> Job
+        ensures { result ≡ self.now.terms.job }
+    {
+        self.job
+    }
+
+    /// How many workers there are, 1 to 16.
+    pub fn workers(&self) -> u8
+        ensures workers { result ≡ self.now.terms.workers }
+        ensures few { IsWorker self.now.terms.workers }
+    {
+        self.workers
+    }
+
+    /// The set of soup numbers, in normal form.
+    pub fn ranges(&self) -> &[Range]
+        ensures ranges { result.now ≡ self.now.terms.ranges }
+        ensures normal { AreNormal self.now.terms.ranges }
+    {
+        let Haul { ranges, .. } = self;
+        ranges.as_slice()
+    }
+
+    /// How many numbers the set has.
+    pub fn count(&self) -> u64
+        ensures { result ≡ size_of self.now.terms.ranges }
+    {
+        self.count
+    }
+
+    /// The worker and the number of each report taken, in order.
+    pub fn taken(&self) -> &[(u8, u64)]
+        ensures { result.now ≡ self.now.taken }
+    {
+        let Haul { taken, .. } = self;
+        taken.as_slice()
+    }
+
     /// Offers a report. It is taken if the haul is open, the report is of its job, of one of its workers, and of a number
     /// of its set that has not been taken.
     ///

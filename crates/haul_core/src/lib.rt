@@ -1,8 +1,10 @@
 //! Hauls: which soups of a job have been taken, by whom, and which objects they left.
 #![tactic(auto)]
 
-/// What arrives at a haul.
+/// What arrives at a haul, and what is replied.
 pub mod arrival;
+/// A haul and any list of arrivals.
+pub mod book;
 /// Which soups of a job have been taken.
 pub mod haul;
 /// Sets of soup numbers.

@@ -1,11 +1,17 @@
-ghost use Rattle.std.specs.Prelude.{◌≡◌, ◌↔◌, ◌≤◌, ◌+◌, ◌++◌, IfOk, IsTrue, All, OnOk, if◌then◌else◌};
+ghost use Rattle.std.specs.Prelude.{◌≡◌, ◌↔◌, ◌≤◌, ◌+◌, ◌++◌, IfOk, IfNone, IfSome, IsTrue, All, OnOk, if◌then◌else◌};
 ghost use Rattle.std.specs.List.{filter, list_any};
 ghost use Rattle.std.specs.List.Sorted.{IsNonDecreasingBy, IsPermutation};
 ghost use Rattle.haul_core.specs.RangeSteps.{Ascending, has_numbers};
-ghost use Rattle.haul_core.specs.Ranges.{AreBelow, AreNormal, IsNormalForm, Overlap, end_of, is_in, is_in_range, number_bound, shares, size_of};
+ghost use Rattle.haul_core.specs.Ranges.{AreBelow, AreNormal, AreSmall, IsNormalForm, Overlap, end_of, is_in, is_in_range, number_bound, shares, size_of};
 
 use std::alloc::{AllocError, Global};
 use std::marker::Model;
+
+/// Soup numbers lie below this, so that there are enough of them for anybody, and sums over them stay small.
+pub const NUMBER_BOUND: u64 = 1 << 40;
+
+/// The most numbers of a haul that is opened, so that a haul fits into memory.
+pub const MOST_NUMBERS: u64 = 1 << 24;
 
 /// The soup numbers from `first` on, `count` of them.
 #[derive(Clone, Copy, Debug, PartialEq, Eq)]
@@ -20,6 +26,13 @@ impl Range {
         ensures { result ≡ is_in_range number self.now }
     {
         self.first <= number && number - self.first < self.count
+    }
+
+    /// Whether the range doesn't go past 2^40.
+    fn is_below(&self) -> bool
+        ensures { IsTrue result ↔ (end_of self.now ≤ number_bound) }
+    {
+        self.first <= NUMBER_BOUND && self.count <= NUMBER_BOUND - self.first
     }
 
     /// Whether the two have a number in common.
@@ -80,6 +93,7 @@ impl Ranges {
         requires apart { ¬ Overlap ranges.now }
         ensures form { IfOk result (IsNormalForm ranges.now) }
         ensures size { IfOk result (λ normal. size_of normal ≡ size_of ranges.now) }
+        ensures below { IfOk result (AreBelow number_bound) }
     {
         let ascending = ascending(alloc, ranges)?;
         let ranges = joined(alloc, ascending.as_slice())?;
@@ -94,6 +108,25 @@ impl Ranges {
         let ranges = Vec::from_slice(alloc, ranges.as_slice())?;
         Ok(Ranges { ranges })
     }
+}
+
+/// How many numbers the ranges have together, if none goes past 2^40 and they have at most 2^24.
+pub(crate) fn small_size(ranges: &[Range]) -> Option<u64>
+    ensures small { IfSome result (λ size. (size ≡ size_of ranges.now) × AreSmall ranges.now) }
+    ensures large { IfNone result (¬ AreSmall ranges.now) }
+{
+    let mut size = 0;
+    for range in ranges {
+        let below = range.is_below();
+        if !below {
+            return None;
+        }
+        if range.count > MOST_NUMBERS - size {
+            return None;
+        }
+        size += range.count;
+    }
+    Some(size)
 }
 
 /// The ranges that aren't empty, in ascending order.

@@ -8,7 +8,7 @@
 //! add            xs4_33  9 | xp2_7  5 | xq4_153  1
 //! ```
 
-ghost use Rattle.std.specs.Prelude.{◌≡◌, ◌≢◌, ◌+◌, ◌<◌, ◌≤◌, ◌^◌, ℕ, Some, List, All, OnErr, OnOk, if◌then◌else◌};
+ghost use Rattle.std.specs.Prelude.{◌≡◌, ◌≢◌, ◌+◌, ◌<◌, ◌≤◌, ◌^◌, [], ℕ, Some, List, All, OnErr, OnOk, if◌then◌else◌};
 ghost use Rattle.std.specs.Map.{lookup};
 ghost use Rattle.survey_core.specs.Objects.{AreObjects, is_code};
 ghost use Rattle.haul_core.specs.Tallies.{Extends, HasLawfulObjects, HasRow, HasRows, added, found_in, tally_in};
@@ -41,6 +41,19 @@ pub(crate) struct Totals {
 }
 
 impl Totals {
+    /// The totals over no soup.
+    pub(crate) fn none(alloc: Global) -> Totals
+        ensures rows { result.rows.entries ≡ [] }
+        ensures unsettled { result.unsettled ≡ 0 }
+        ensures for_good { result.for_good ≡ 0 }
+    {
+        Totals {
+            rows: IndexMap::new(alloc),
+            unsettled: 0,
+            for_good: 0,
+        }
+    }
+
     /// Makes a row for each code of a finding that has none. If there is no memory the rows are as they were.
     pub(crate) fn make_room(&mut self, alloc: Global, finding: &Finding) -> Result<(), AllocError>
         ensures extends { Extends self.old.rows.entries self.new.rows.entries }
