@@ -69,7 +69,7 @@ row_written {X} (e ∷ rows) (suc i) w code low hit before q =
 
 -- ---- rows with nothing in them
 
-lookup_append : {X : Type 0} (test : List ℕ → Bool) (xs ys : List (List ℕ × X)) → lookup test (xs ++ ys) ≡ option_or (lookup test xs) (lookup test ys)
+pub lookup_append : {X : Type 0} (test : List ℕ → Bool) (xs ys : List (List ℕ × X)) → lookup test (xs ++ ys) ≡ option_or (lookup test xs) (lookup test ys)
 lookup_append test [] ys = refl
 lookup_append {X} test (x ∷ xs) ys = go (test x.0) (lookup_append test xs ys)
   where
@@ -166,12 +166,12 @@ none_from (Some x) h = absurd (false≢true (sym h))
 
 -- ---- objects whose codes ascend
 
-is_code-same : (a b : List ℕ) → is_code a b ≡ pointwise nat_eq a b
+pub is_code-same : (a b : List ℕ) → is_code a b ≡ pointwise nat_eq a b
 is_code-same a b = both_ways (is_code a b) (pointwise nat_eq a b)
     (λ e. (bytes_decides a b).1 (exact_bytes a b ((Equal-is (slice_cmp nat_cmp a b)).0 e)))
     (λ e. subst (λ (c : List ℕ). is_code a c ≡ true) (code_same a b e) ((eq_by_cmp_equiv nat_list_cmp_total).refl a))
 
-lookup_none : {X : Type 0} (test : List ℕ → Bool) (xs : List (List ℕ × X)) → All (λ x. test x.0 ≡ false) xs → lookup test xs ≡ None
+pub lookup_none : {X : Type 0} (test : List ℕ → Bool) (xs : List (List ℕ × X)) → All (λ x. test x.0 ≡ false) xs → lookup test xs ≡ None
 lookup_none test [] h = refl
 lookup_none {X} test (x ∷ xs) h =
     ap (λ (b : Bool). cond b (Some x.1) (lookup test xs)) (All-head (λ e. test e.0 ≡ false) x xs h) ∙ lookup_none test xs (All-tail (λ e. test e.0 ≡ false) x xs h)
@@ -201,7 +201,7 @@ adding_next old new objects number i d lawful low a =
     let code : List ℕ = (get_or objects i d).0 in
     a.tallies code ∙ ap (λ (o : Option ℕ). added o number (tally_in old code)) (not_before objects i d lawful low)
 
-or_none : {X : Type 0} (o : Option X) → option_or o None ≡ o
+pub or_none : {X : Type 0} (o : Option X) → option_or o None ≡ o
 or_none None = refl
 or_none (Some x) = refl
 

@@ -2,6 +2,8 @@ ghost use Rattle.std.specs.Prelude.{◌≡◌, ◌⊎◌, ◌↔◌, ◌<◌, �
 ghost use Rattle.indexmap.specs.IndexMap.{get, spare};
 ghost use Rattle.haul_core.specs.Books.{IsReply, StandsFor, has_closing, refusal_of};
 ghost use Rattle.haul_core.specs.BookSteps.{refusal_at, reply_of, IsAnswered};
+ghost use Rattle.haul_core.specs.Censuses.{IsCensus};
+ghost use Rattle.haul_core.specs.Keeping.{numbers_in};
 ghost use Rattle.haul_core.specs.Ranges.{AreNormal, AreSmall, IsNormalForm, Overlap, size_of};
 ghost use Rattle.haul_core.specs.Reports.{IsWorker};
 ghost use Rattle.haul_core.specs.Tallies.{Extends, HasRows};
@@ -10,9 +12,11 @@ ghost use Rattle.haul_core.specs.declared.arrival.Arrival.TheVariants as arrival
 ghost use Rattle.haul_core.specs.declared.haul.OpenError.TheVariants.{BadRange, BadWorkers, Memory};
 ghost use Rattle.haul_core.specs.declared.haul.OpenError.TheVariants.{Overlap as SharedNumber};
 
+use crate::census::Census;
 use crate::range::{Range, Ranges, overlap, small_size};
 use crate::refusal::{Refusal, Refused, is_same_job};
 use crate::report::{Report, is_worker};
+use crate::row::{Rows, sum_of_totals};
 use crate::tally::Totals;
 use indexmap::IndexMap;
 use std::alloc::{AllocError, Global};
@@ -195,6 +199,37 @@ impl Haul {
     {
         let Haul { taken, .. } = self;
         taken.as_slice()
+    }
+
+    /// What the taken soups left, whether the haul is open or closed.
+    ///
+    /// # Errors
+    ///
+    /// [`AllocError`] if memory runs out.
+    pub fn census(&self) -> Result<Census, AllocError>
+        ensures { IfOk result (IsCensus self.now.terms.job self.now.terms.ranges (numbers_in self.now.taken)) }
+    {
+        let Haul {
+            alloc,
+            job,
+            ranges,
+            count,
+            taken,
+            totals,
+            ..
+        } = self;
+        let rows = Rows::of_tallies(*alloc, &totals.rows)?;
+        let objects = sum_of_totals(rows.as_slice());
+        Ok(Census {
+            job: *job,
+            ranges: ranges.copy(*alloc)?,
+            count: *count,
+            soups: taken.len() as u64,
+            unsettled: totals.unsettled,
+            for_good: totals.for_good,
+            objects,
+            rows,
+        })
     }
 
     /// Offers a report. It is taken if the haul is open, the report is of its job, of one of its workers, and of a number

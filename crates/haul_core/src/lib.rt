@@ -5,12 +5,16 @@
 pub mod arrival;
 /// A haul and any list of arrivals.
 pub mod book;
+/// What the taken soups left.
+pub mod census;
 /// Which soups of a job have been taken.
 pub mod haul;
 /// Sets of soup numbers.
 pub mod range;
 /// What a worker reports of a soup.
 pub mod report;
+/// The rows of a census.
+pub mod row;
 /// The least numbers of soups that have an object.
 pub mod samples;
 /// Why a report is refused.

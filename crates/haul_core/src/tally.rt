@@ -94,6 +94,17 @@ impl Totals {
 }
 
 impl Tally {
+    /// An equal tally.
+    pub(crate) fn copy(&self) -> Tally
+        ensures { result ≡ self.now }
+    {
+        let Tally { total, samples } = self;
+        Tally {
+            total: *total,
+            samples: samples.copy(),
+        }
+    }
+
     /// The tally after one soup more, with so many objects.
     fn with(&self, count: u64, number: u64) -> Tally
         requires { self.now.total + count < 2 ^ 128 }
