@@ -20,3 +20,5 @@ pub mod samples;
 /// Why a report is refused.
 pub mod refusal;
 mod tally;
+/// The haul text.
+pub mod text;

@@ -1,0 +1,11 @@
+use Rattle.std.proofs.Common.{◌≡◌, ℕ, List, ◌++◌, drop, flat_map, Ok}
+use Rattle.plane_core.specs.declared.output.WriteError.{WriteError}
+use Rattle.plane_core.specs.Out.{Writes}
+use Rattle.haul_core.specs.HaulText.{total_text}
+use Rattle.haul_core.proofs.text.put_totals.Given as goal
+
+-- the whole is what is written and what is to come
+abbrev pub invariant-loop-row : goal.invariant-loop-row
+invariant-loop-row g l =
+    (front : List ℕ) × (flat_map total_text l.rows ≡ front ++ flat_map total_text (drop l.row-index l.rows))
+    × Writes {E = WriteError} g.V.Write.contents l.fn.out l.out (Ok tt) front
