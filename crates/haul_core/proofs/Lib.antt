@@ -6,4 +6,3 @@ mod RangeLemmas
 mod SampleLemmas
 mod SumLemmas
 mod TallyLemmas
-mod TextLemmas

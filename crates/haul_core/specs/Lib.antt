@@ -1,7 +1,6 @@
 pub mod BookSteps
 pub mod Books
 pub mod Censuses
-pub mod HaulText
 pub mod Jobs
 pub mod Keeping
 pub mod RangeSteps

@@ -20,5 +20,6 @@ pub mod samples;
 /// Why a report is refused.
 pub mod refusal;
 mod tally;
-/// The haul text.
-pub mod text;
+
+#[cfg(test)]
+mod tests;
