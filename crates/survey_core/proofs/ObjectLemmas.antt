@@ -1,12 +1,15 @@
 -- Counting objects by their codes, and multiples of their periods.
 use Rattle.std.proofs.Common.{◌≡◌, ◌∙◌, ap, sym, refl, subst, ℕ, ◌+◌, ◌*◌, ◌/◌, ◌%◌, ◌<◌, ◌≤◌, ◌↔◌, add-zero, zero-add, mul_comm, nat_eq, Bool, true}
-use Rattle.std.proofs.Common.{false, IsTrue, cond, List, [], ◌∷◌, ◌++◌, take, get_or, count_by, length, Option, Some, IfSome, unwrap_or, arith}
+use Rattle.std.proofs.Common.{false, sum, IsTrue, cond, List, [], ◌∷◌, ◌++◌, take, get_or, count_by, length, Option, Some, IfSome, unwrap_or, arith}
 use Rattle.std.proofs.Common.{if◌then◌else◌}
-use Rattle.std.specs.BTreeMap.{BTreeMap, IsOrdered}
+use Rattle.std.specs.BTreeMap.{BTreeMap, IsOrdered, insert_entry}
 use Rattle.std.specs.Cmp.Lexicographic.{nat_list_cmp_total, slice_cmp}
 use Rattle.std.specs.FinMap.{nat_cmp-IsAntisymmetric, slice_cmp-IsAntisymmetric}
 use Rattle.std.specs.List.{AllZip}
-use Rattle.std.specs.Map.{lookup}
+use Rattle.std.specs.Map.{lookup, values_of}
+use Rattle.std.specs.Option.{option_map}
+use Rattle.std.proofs.lemmas.Map.Entries.{sum_by-insert_entry}
+use Rattle.std.proofs.lemmas.Iterator.Adapters.{option_map_id}
 use Rattle.std.specs.Ordering.{is_eq, nat_cmp, ordering_reverse}
 use Rattle.std.specs.declared.cmp.Ordering.{Ordering}
 use Rattle.std.specs.declared.cmp.Ordering.TheVariants.{Less, Equal, Greater}
@@ -73,6 +76,17 @@ some_more old new k before updates some q =
     go : (b : Bool) → IfSome (cond b (Some (before + 1)) (lookup (is_code q) old)) (λ n. 1 ≤ n)
     go true = omega arith
     go false = some q
+
+-- and one object more together
+pub number_more : (old : BTreeMap (List ℕ) ℕ) (new : List (List ℕ × ℕ)) (k : List ℕ) (before : ℕ) → IsOrdered (slice_cmp nat_cmp) old
+    → new ≡ insert_entry (slice_cmp nat_cmp) old.entries k (before + 1) → before ≡ count_of old.entries k → sum (values_of new) ≡ sum (values_of old.entries) + 1
+number_more old new k before ordered is at =
+    let put = sum_by-insert_entry (λ n. n) nat_list_cmp_total old.entries k (before + 1) ordered in
+    let same : unwrap_or (option_map (λ (n : ℕ). n) (lookup (is_code k) old.entries)) 0 ≡ before =
+    ap (λ (o : Option ℕ). unwrap_or o 0) (option_map_id (lookup (is_code k) old.entries)) ∙ sym at in
+    let newer : sum (values_of new) ≡ sum (values_of (insert_entry (slice_cmp nat_cmp) old.entries k (before + 1))) =
+    ap (λ (es : List (List ℕ × ℕ)). sum (values_of es)) is in
+    omega (arith, put)
 
 -- the entries of a map whose counts are not 0
 pub entries_are_objects : (counts : BTreeMap (List ℕ) ℕ) → IsOrdered (slice_cmp nat_cmp) counts → CountsAreSome counts.entries → AreObjects counts.entries

@@ -1,5 +1,6 @@
 -- Findings: at which checkpoint a pattern is at rest, which objects it consists of then, and whether they stay for good.
-use Rattle.std.specs.Prelude.{◌≡◌, ◌<◌, ◌↔◌, ℕ, Bool, IsTrue, List}
+use Rattle.std.specs.Prelude.{◌≡◌, ◌<◌, ◌↔◌, ℕ, Bool, IsTrue, List, sum}
+use Rattle.std.specs.Map.{values_of}
 use Rattle.plane_core.specs.declared.cell.Cell.{Cell}
 use Rattle.plane_core.specs.Generations.{after}
 use Rattle.plane_core.specs.Rules.{Numbers}
@@ -8,6 +9,11 @@ use Rattle.survey_core.specs.declared.finding.Finding.TheVariants.{Settled, Unse
 use Rattle.survey_core.specs.Objects.{AreObjectsOf, StayForGood}
 use Rattle.survey_core.specs.Profiles.{IsCheckpoint, Settling}
 use Rattle.survey_core.specs.Rest.{IsAtRest, RestsAs}
+
+-- how many objects a finding has: its counts added up
+abbrev pub objects_in : Finding → ℕ
+objects_in (Settled checkpoint objects for_good) = sum (values_of objects)
+objects_in Unsettled = 0
 
 -- At no checkpoint before t is the pattern at rest.
 abbrev pub NoRestBefore : Numbers → Settling → List Cell → ℕ → Type 0

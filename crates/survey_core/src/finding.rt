@@ -1,7 +1,7 @@
-ghost use Rattle.std.specs.Prelude.{◌≡◌, ◌≤◌, IfOk, IfNone, IfSome, true};
+ghost use Rattle.std.specs.Prelude.{◌≡◌, ◌<◌, ◌≤◌, ◌^◌, IfOk, IfNone, IfSome, true};
 ghost use Rattle.plane_core.specs.Generations.{after, lies_within};
 ghost use Rattle.survey_core.specs.FindingLaws.{FindingsAreDetermined, FindingsMoved, FindingsOfImages, FindingsTurned};
-ghost use Rattle.survey_core.specs.Findings.{IsFinding, SettlesAt};
+ghost use Rattle.survey_core.specs.Findings.{IsFinding, SettlesAt, objects_in};
 ghost use Rattle.survey_core.specs.Rest.{IsAtRest};
 ghost use Rattle.survey_core.specs.Soups.{soup};
 
@@ -31,19 +31,20 @@ pub enum Finding {
     Unsettled,
 }
 
-/// The finding of the soup with this number.
+/// The finding of the soup with this number. It has fewer than 2^64 objects.
 ///
 /// # Errors
 ///
 /// [`AllocError`] if there is no memory.
 pub fn survey(alloc: Global, job: &Job, number: u64) -> Result<Finding, AllocError>
-    ensures { IfOk result (IsFinding job.now.rule job.now.profile (soup job.now.seed number)) }
+    ensures finding { IfOk result (IsFinding job.now.rule job.now.profile (soup job.now.seed number)) }
+    ensures few { IfOk result (λ finding. objects_in finding < 2 ^ 64) }
 {
     let pattern = soup(alloc, job, number)?;
     survey_pattern(alloc, &job.profile, &job.rule, pattern)
 }
 
-/// The finding of a pattern, of which no coordinate is over 1,000 in size.
+/// The finding of a pattern, of which no coordinate is over 1,000 in size. It has fewer than 2^64 objects.
 ///
 /// It takes time in proportion to the generations that are run and to the cells that live in them.
 ///
@@ -57,7 +58,8 @@ pub fn survey_pattern(
     pattern: Pattern,
 ) -> Result<Finding, AllocError>
     requires { lies_within 1000 pattern ≡ true }
-    ensures { IfOk result (IsFinding rule.now profile.now pattern) }
+    ensures finding { IfOk result (IsFinding rule.now profile.now pattern) }
+    ensures few { IfOk result (λ finding. objects_in finding < 2 ^ 64) }
 {
     let last = profile.limit() / profile.stride();
     let mut latest = pattern;
@@ -98,6 +100,7 @@ fn finding_at(
     requires { lies_within 101000 latest.now ≡ true }
     ensures settled { IfOk result (λ found. IfSome found (SettlesAt rule.now profile.now latest.now checkpoint)) }
     ensures moves { IfOk result (λ found. IfNone found (¬ IsAtRest rule.now profile.now latest.now)) }
+    ensures few { IfOk result (λ found. IfSome found (λ finding. objects_in finding < 2 ^ 64)) }
 {
     let Some(clusters) = clusters_at_rest(alloc, profile, rule, latest)? else {
         return Ok(None);

@@ -1,6 +1,7 @@
-ghost use Rattle.std.specs.Prelude.{◌≡◌, ◌+◌, ◌<◌, ◌≤◌, ◌^◌, ◌↔◌, ◌≢◌, [], ℕ, All, IfOk, IsTrue, List, OnOk, length, true, if◌then◌else◌};
+ghost use Rattle.std.specs.Prelude.{◌≡◌, ◌+◌, ◌<◌, ◌≤◌, ◌^◌, ◌↔◌, ◌≢◌, [], ℕ, All, IfOk, IsTrue, List, OnOk, length, sum, true, if◌then◌else◌};
 ghost use Rattle.std.specs.BTreeMap.{IsOrdered};
 ghost use Rattle.std.specs.Cmp.Lexicographic.{slice_cmp};
+ghost use Rattle.std.specs.Map.{values_of};
 ghost use Rattle.std.specs.Ordering.{nat_cmp};
 ghost use Rattle.std.specs.Prelude.{unwrap_or};
 ghost use Rattle.plane_core.specs.Generations.{lies_within};
@@ -57,7 +58,8 @@ impl Objects {
         requires some { All (λ cluster. cluster ≢ []) clusters.now }
         requires near { All (λ cluster. lies_within 101000 cluster ≡ true) clusters.now }
         requires back { All (ComesBack rule.now limit) clusters.now }
-        ensures { IfOk result (AreObjectsOf rule.now limit clusters.now) }
+        ensures objects { IfOk result (AreObjectsOf rule.now limit clusters.now) }
+        ensures number { IfOk result (λ objects. sum (values_of objects) ≡ length clusters.now) }
     {
         let mut counts = BTreeMap::new(alloc);
         for cluster in clusters {
@@ -108,6 +110,7 @@ fn count(counts: &mut BTreeMap<Apgcode, u64>, code: Apgcode) -> Result<(), Alloc
     requires some { CountsAreSome counts.old.entries }
     ensures counts { OnOk result ((c : List ℕ) → count_of counts.new.entries c ≡ count_of counts.old.entries c + (if is_code c code then 1 else 0)) }
     ensures some { OnOk result (CountsAreSome counts.new.entries) }
+    ensures number { OnOk result (sum (values_of counts.new.entries) ≡ sum (values_of counts.old.entries) + 1) }
 {
     let before = counts.get(&code).copied().unwrap_or(0);
     counts.insert(code, before + 1)?;

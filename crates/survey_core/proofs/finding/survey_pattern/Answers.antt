@@ -49,8 +49,8 @@ run_on-requires-clause-near c =
     ∙ within_later 1000 101000 c.args.rule.now c.args.pattern (c.loop-place.place * c.args.profile.now.stride) (omega arith) c.requires
 
 -- at rest for the first time
-pub returns-in-Some : goal.returns-in-Some
-returns-in-Some c =
+pub returns-in-Some-clause-finding : goal.returns-in-Some-clause-finding
+returns-in-Some-clause-finding c =
     let low : c.loop-place.place ≤ c.args.profile.now.limit / c.args.profile.now.stride =
     subst (λ (n : ℕ). c.loop-place.place ≤ n) (λ i. c.limit.ensures.limit i / c.stride.ensures.stride i) (omega arith) in
     let told : SettlesAt c.args.rule.now c.args.profile.now c.loop-place.latest
@@ -78,8 +78,8 @@ loop-place-preserved c =
           ((c.loop-place.place + 1) * c.args.profile.now.stride) next_place;
     }
 
-pub returns : goal.returns
-returns c =
+pub returns-clause-finding : goal.returns-clause-finding
+returns-clause-finding c =
     let last : c.loop-place.place ≡ c.args.profile.now.limit / c.args.profile.now.stride =
     subst (λ (n : ℕ). c.loop-place.place ≡ n) (λ i. c.limit.ensures.limit i / c.stride.ensures.stride i) (omega arith) in
     let same : c.stride-2.result ≡ c.args.profile.now.stride = c.stride-2.ensures.stride in

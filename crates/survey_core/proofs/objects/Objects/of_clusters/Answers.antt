@@ -21,4 +21,5 @@ loop-cluster-preserved c =
       (λ code. c.in_ok-count.ensures.counts code ∙ ap (λ n. n + (if is_code code c.in_ok-code.code then 1 else 0)) (c.loop-cluster.invariant.3 code)
           ∙ sym (count_by_more (is_code code) codes c.in_ok-code.code)),
       c.in_ok-count.ensures.some,
+      c.in_ok-count.ensures.number ∙ ap (λ n. n + 1) c.loop-cluster.invariant.5,
     )

@@ -1,5 +1,6 @@
-use Rattle.std.proofs.Common.{◌≡◌, ℕ, List, length, take}
+use Rattle.std.proofs.Common.{◌≡◌, ℕ, List, length, sum, take}
 use Rattle.std.specs.List.{AllZip, count_by}
+use Rattle.std.specs.Map.{values_of}
 use Rattle.code_core.specs.Names.{IsCode}
 use Rattle.survey_core.specs.Objects.{CountsAreSome, count_of, is_code}
 use Rattle.survey_core.proofs.objects.Objects.of_clusters.Given as goal
@@ -9,3 +10,4 @@ invariant-loop-cluster l = (codes : List (List ℕ)) × (AllZip (λ cluster code
     × (length codes ≡ l.cluster-index)
     × ((code : List ℕ) → count_of l.counts.entries code ≡ count_by (is_code code) codes)
     × CountsAreSome l.counts.entries
+    × (sum (values_of l.counts.entries) ≡ l.cluster-index)

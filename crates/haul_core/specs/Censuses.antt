@@ -1,0 +1,21 @@
+-- The census: what the taken soups left.
+use Rattle.std.specs.Prelude.{◌≡◌, ℕ, List, length, sum_by}
+use Rattle.survey_core.specs.declared.job.Job.{Job}
+use Rattle.haul_core.specs.declared.census.Census.{Census}
+use Rattle.haul_core.specs.declared.range.Range.{Range}
+use Rattle.haul_core.specs.Ranges.{size_of}
+use Rattle.haul_core.specs.Rows.{AreRowsOf}
+use Rattle.haul_core.specs.Totals.{AreSurveys, Survey, for_good, unsettled}
+
+-- the census of a job over the soups with these numbers, out of a set
+pub record IsCensus (job : Job) (ranges : List Range) (numbers : List ℕ) (census : Census) : Type 0 where
+  pub surveys : List Survey
+  pub surveyed : AreSurveys job numbers surveys
+  pub job_is : census.job ≡ job
+  pub set : census.ranges ≡ ranges
+  pub size : census.count ≡ size_of ranges
+  pub soups_are : census.soups ≡ length numbers
+  pub unsettled_are : census.unsettled ≡ unsettled surveys
+  pub for_good_are : census.for_good ≡ for_good surveys
+  pub rows_are : AreRowsOf surveys census.rows
+  pub objects_are : census.objects ≡ sum_by (λ row. row.total) census.rows

@@ -1,0 +1,44 @@
+-- What a haul keeps, beside what it shows: the totals over the soups that it has taken.
+use Rattle.std.specs.Prelude.{◌≡◌, ◌<◌, ◌^◌, ℕ, All, List, map, nat_eq, true}
+use Rattle.std.specs.List.{IsDistinct}
+use Rattle.survey_core.specs.Findings.{objects_in}
+use Rattle.haul_core.specs.declared.tally.Tally.{Tally}
+use Rattle.haul_core.specs.Books.{Held}
+use Rattle.haul_core.specs.Ranges.{AreBelow, AreNormal, is_in, number_bound, size_of}
+use Rattle.haul_core.specs.Reports.{IsWorker}
+use Rattle.haul_core.specs.Tallies.{tally_in}
+use Rattle.haul_core.specs.Totals.{AreSurveys, Survey, for_good, samples, total, unsettled}
+
+-- the numbers of the taken soups
+abbrev pub numbers_in : List (ℕ × ℕ) → List ℕ
+numbers_in taken = map (λ t. t.1) taken
+
+-- what a row has to say of a code
+abbrev pub tally_of : List Survey → List ℕ → Tally
+tally_of surveys code = record { total = total surveys code; samples = samples surveys code }
+
+-- what a haul keeps of its totals
+pub record Sums : Type 0 where
+  pub rows : List (List ℕ × Tally)
+  pub unsettled : ℕ
+  pub for_good : ℕ
+
+-- they are those of the surveys
+pub record AreSums (surveys : List Survey) (sums : Sums) : Type 0 where
+  pub rows : (code : List ℕ) → tally_in sums.rows code ≡ tally_of surveys code
+  pub unsettled_sum : sums.unsettled ≡ unsettled surveys
+  pub for_good_sum : sums.for_good ≡ for_good surveys
+  pub few : All (λ s. objects_in s.finding < 2 ^ 64) surveys
+
+-- what holds of a haul: what it shows, how many numbers its set has, the worker of each number, and its sums
+pub record Keeps (held : Held) (count : ℕ) (workers : List (ℕ × ℕ)) (sums : Sums) : Type 0 where
+  pub normal : AreNormal held.terms.ranges
+  pub below : AreBelow number_bound held.terms.ranges
+  pub size : count ≡ size_of held.terms.ranges
+  pub worker : IsWorker held.terms.workers
+  pub by_number : workers ≡ map (λ t. (t.1, t.0)) held.taken
+  pub within : All (λ t. is_in held.terms.ranges t.1 ≡ true) held.taken
+  pub distinct : IsDistinct nat_eq (numbers_in held.taken)
+  pub surveys : List Survey
+  pub surveyed : AreSurveys held.terms.job (numbers_in held.taken) surveys
+  pub sum : AreSums surveys sums

@@ -1,0 +1,13 @@
+pub mod BookSteps
+pub mod Books
+pub mod Censuses
+pub mod Jobs
+pub mod Keeping
+pub mod RangeSteps
+pub mod Ranges
+pub mod Reports
+pub mod RowSteps
+pub mod Rows
+pub mod Samples
+pub mod Tallies
+pub mod Totals

@@ -1,0 +1,26 @@
+-- Reports: what a worker says of a soup.
+use Rattle.std.specs.Prelude.{◌<◌, ◌≤◌, ◌^◌, ℕ}
+use Rattle.survey_core.specs.Findings.{IsFinding, objects_in}
+use Rattle.survey_core.specs.Soups.{soup}
+use Rattle.survey_core.specs.declared.finding.Finding.{Finding}
+use Rattle.survey_core.specs.declared.job.Job.{Job}
+use Rattle.haul_core.specs.Ranges.{number_bound}
+
+-- who surveyed which soup of a job, and what was found
+pub record Reported : Type 0 where
+  pub job : Job
+  pub worker : ℕ
+  pub number : ℕ
+  pub finding : Finding
+
+-- workers are numbered from 1 to 16: this project's choice
+pub record IsWorker (worker : ℕ) : Type 0 where
+  pub least : 1 ≤ worker
+  pub most : worker ≤ 16
+
+-- what is reported is the finding of the soup
+pub record IsReport (report : Reported) : Type 0 where
+  pub worker : IsWorker report.worker
+  pub number : report.number < number_bound
+  pub finding : IsFinding report.job.rule report.job.profile (soup report.job.seed report.number) report.finding
+  pub few : objects_in report.finding < 2 ^ 64

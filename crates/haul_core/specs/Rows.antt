@@ -1,0 +1,28 @@
+-- The rows of a census: one for each code that the taken soups left.
+use Rattle.std.specs.Prelude.{◌≡◌, ◌≤◌, ℕ, All, List, map, true}
+use Rattle.std.specs.Cmp.Lexicographic.{slice_cmp}
+use Rattle.std.specs.List.{list_any}
+use Rattle.std.specs.List.Sorted.{IsStrictlySortedBy}
+use Rattle.std.specs.Ordering.{nat_cmp}
+use Rattle.survey_core.specs.Objects.{is_code}
+use Rattle.haul_core.specs.declared.row.Row.{Row}
+use Rattle.haul_core.specs.Totals.{Survey, samples, total}
+
+abbrev pub codes_of : List Row → List (List ℕ)
+codes_of rows = map (λ row. row.code) rows
+
+-- the codes of the rows stand in ASCII order, each once
+abbrev pub AreInOrder : List Row → Type 0
+AreInOrder rows = IsStrictlySortedBy (slice_cmp nat_cmp) (codes_of rows)
+
+-- the row says of its code what the surveys do, and the soups left at least one object with it
+pub record IsRowOf (surveys : List Survey) (row : Row) : Type 0 where
+  pub some : 1 ≤ row.total
+  pub total_is : row.total ≡ total surveys row.code
+  pub samples_are : row.samples ≡ samples surveys row.code
+
+-- in ASCII order, a row for each code that the soups left, and no other
+pub record AreRowsOf (surveys : List Survey) (rows : List Row) : Type 0 where
+  pub in_order : AreInOrder rows
+  pub each : All (IsRowOf surveys) rows
+  pub whole : (code : List ℕ) → 1 ≤ total surveys code → list_any (is_code code) (codes_of rows) ≡ true

@@ -1,0 +1,22 @@
+-- Samples: the least numbers of a list.
+use Rattle.std.specs.Prelude.{◌≤◌, ℕ, List, [], ◌∷◌, take, nat_le, if◌then◌else◌}
+
+-- a number more, before the first that is no less
+abbrev pub with_number : ℕ → List ℕ → List ℕ
+with_number n [] = n ∷ []
+with_number n (x ∷ more) = if nat_le n x then n ∷ x ∷ more else x ∷ with_number n more
+
+-- the numbers in ascending order
+abbrev pub ascending : List ℕ → List ℕ
+ascending [] = []
+ascending (n ∷ more) = with_number n (ascending more)
+
+-- the least three of the numbers, ascending, or all if there are fewer
+abbrev pub least_three : List ℕ → List ℕ
+least_three numbers = take 3 (ascending numbers)
+
+-- no number is less than the one before
+abbrev pub IsAscending : List ℕ → Type 0
+IsAscending [] = Unit {0}
+IsAscending (x ∷ []) = Unit {0}
+IsAscending (x ∷ y ∷ more) = (x ≤ y) × IsAscending (y ∷ more)

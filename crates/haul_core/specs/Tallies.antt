@@ -1,0 +1,46 @@
+-- How totals are kept: a row for each code, in the order in which codes came.
+use Rattle.std.specs.Prelude.{◌≡◌, ◌+◌, ◌++◌, ℕ, All, IsSome, List, [], Option, None, Some, nat_eq, take, unwrap_or}
+use Rattle.std.specs.Cmp.Lexicographic.{pointwise}
+use Rattle.std.specs.Map.{lookup}
+use Rattle.survey_core.specs.Objects.{AreObjects, is_code}
+use Rattle.survey_core.specs.declared.finding.Finding.{Finding}
+use Rattle.survey_core.specs.declared.finding.Finding.TheVariants.{Settled, Unsettled}
+use Rattle.haul_core.specs.declared.tally.Tally.{Tally}
+use Rattle.haul_core.specs.Samples.{with_number}
+
+abbrev pub no_tally : Tally
+no_tally = record { total = 0; samples = [] }
+
+-- the row of a code, and what it has: nothing where there is no row
+abbrev pub row_of : List (List ℕ × Tally) → List ℕ → Option Tally
+row_of rows code = lookup (pointwise nat_eq code) rows
+
+abbrev pub HasRow : List (List ℕ × Tally) → List ℕ → Type 0
+HasRow rows code = IsSome (row_of rows code)
+
+abbrev pub tally_in : List (List ℕ × Tally) → List ℕ → Tally
+tally_in rows code = unwrap_or (row_of rows code) no_tally
+
+-- a tally after a soup with so many objects
+abbrev pub added : Option ℕ → ℕ → Tally → Tally
+added None number tally = tally
+added (Some count) number tally = record { total = tally.total + count; samples = take 3 (with_number number tally.samples) }
+
+-- some rows have come, with nothing in them
+pub record Extends (old new : List (List ℕ × Tally)) : Type 0 where
+  pub more : List (List ℕ × Tally)
+  pub is : new ≡ old ++ more
+  pub blank : All (λ row. row.1 ≡ no_tally) more
+
+-- how many objects a finding has of a code, if it has any
+abbrev pub found_in : List ℕ → Finding → Option ℕ
+found_in code (Settled checkpoint objects for_good) = lookup (is_code code) objects
+found_in code Unsettled = None
+
+abbrev pub HasRows : Finding → List (List ℕ × Tally) → Type 0
+HasRows (Settled checkpoint objects for_good) rows = All (λ object. HasRow rows object.0) objects
+HasRows Unsettled rows = Unit {0}
+
+abbrev pub HasLawfulObjects : Finding → Type 0
+HasLawfulObjects (Settled checkpoint objects for_good) = AreObjects objects
+HasLawfulObjects Unsettled = Unit {0}

@@ -1,0 +1,63 @@
+ghost use Rattle.std.specs.Prelude.{◌≡◌, ◌++◌, ◌∷◌, [], List, IfOk, OnErr, OnOk};
+ghost use Rattle.haul_core.specs.Books.{StandsFor, replies_to, reply_to};
+ghost use Rattle.haul_core.specs.BookSteps.{StandsForFront};
+ghost use Rattle.haul_core.specs.declared.arrival.Arrival.{Arrival as Arrived};
+
+use crate::arrival::{Arrival, Reply};
+use crate::haul::Haul;
+use crate::refusal::Refusal;
+use std::alloc::{AllocError, Global};
+
+/// Lets some arrivals come to a haul, one after another, and returns the replies in order.
+///
+/// Whatever arrived before, and in whatever order reports come, the haul takes each number of its set at most once, keeps
+/// each worker's reports in the order in which they were offered, and refuses doubles, strangers and everything after
+/// closing by name.
+///
+/// # Errors
+///
+/// [`AllocError`] if memory runs out. Some of the arrivals, from the first on, have come to the haul then, and no other.
+pub fn keep_book(
+    alloc: Global,
+    haul: &mut Haul,
+    arrivals: Vec<Arrival>,
+) -> Result<Vec<Reply>, AllocError>
+    ensures replies { (before : List Arrived) → StandsFor before haul.old
+        → IfOk result (λ replies. replies.items ≡ replies_to haul.old.terms before arrivals.items) }
+    ensures stands { (before : List Arrived) → StandsFor before haul.old
+        → OnOk result (StandsFor (before ++ arrivals.items) haul.new) }
+    ensures terms { haul.new.terms ≡ haul.old.terms }
+    ensures memory { (before : List Arrived) → StandsFor before haul.old
+        → OnErr result (StandsForFront before arrivals.items haul.new) }
+{
+    let mut replies = Vec::new(alloc);
+    for arrival in arrivals {
+        let reply = answer(haul, arrival)?;
+        replies.push(reply)?;
+    }
+    Ok(replies)
+}
+
+/// Lets one arrival come to a haul. If memory runs out nothing has come.
+fn answer(haul: &mut Haul, arrival: Arrival) -> Result<Reply, AllocError>
+    ensures reply { (before : List Arrived) → StandsFor before haul.old
+        → IfOk result (λ reply. reply ≡ reply_to haul.old.terms before arrival) }
+    ensures stands { (before : List Arrived) → StandsFor before haul.old
+        → OnOk result (StandsFor (before ++ arrival ∷ []) haul.new) }
+    ensures terms { haul.new.terms ≡ haul.old.terms }
+    ensures memory { OnErr result (haul.new ≡ haul.old) }
+{
+    match arrival {
+        Arrival::Offer(report) => match haul.offer(report) {
+            Ok(()) => Ok(Reply::Taken),
+            Err(refused) => match refused.reason {
+                Refusal::Memory => Err(AllocError),
+                reason => Ok(Reply::Refused(reason)),
+            },
+        },
+        Arrival::Closing => match haul.close() {
+            Ok(()) => Ok(Reply::NowClosed),
+            Err(_) => Ok(Reply::AlreadyClosed),
+        },
+    }
+}

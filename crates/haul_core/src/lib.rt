@@ -1,0 +1,25 @@
+//! Hauls: which soups of a job have been taken, by whom, and which objects they left.
+#![tactic(auto)]
+
+/// What arrives at a haul, and what is replied.
+pub mod arrival;
+/// A haul and any list of arrivals.
+pub mod book;
+/// What the taken soups left.
+pub mod census;
+/// Which soups of a job have been taken.
+pub mod haul;
+/// Sets of soup numbers.
+pub mod range;
+/// What a worker reports of a soup.
+pub mod report;
+/// The rows of a census.
+pub mod row;
+/// The least numbers of soups that have an object.
+pub mod samples;
+/// Why a report is refused.
+pub mod refusal;
+mod tally;
+
+#[cfg(test)]
+mod tests;

@@ -1,0 +1,43 @@
+ghost use Rattle.std.specs.Prelude.{◌≡◌};
+ghost use Rattle.haul_core.specs.Jobs.{same_job};
+
+use crate::report::Report;
+use survey_core::job::Job;
+use thiserror::Error;
+
+/// Why a report is refused.
+#[derive(Clone, Copy, Debug, PartialEq, Eq, Error)]
+pub enum Refusal {
+    /// The haul is closed.
+    #[error("closed")]
+    Closed,
+    /// The report is of another job.
+    #[error("other job")]
+    OtherJob,
+    /// The haul has fewer workers.
+    #[error("unknown worker")]
+    UnknownWorker,
+    /// The number is not in the haul's set.
+    #[error("out of range")]
+    OutOfRange,
+    /// A report of this soup was taken before, from this worker.
+    #[error("double of a report by {worker}")]
+    Double { worker: u8 },
+    /// Memory ran out.
+    #[error("out of memory")]
+    Memory,
+}
+
+/// A report that was not taken, and why.
+#[derive(Debug, Drop)]
+pub struct Refused {
+    pub report: Report,
+    pub reason: Refusal,
+}
+
+/// Whether the two jobs are the same.
+pub(crate) fn is_same_job(job: &Job, other: &Job) -> bool
+    ensures { result ≡ same_job job.now other.now }
+{
+    *job == *other
+}

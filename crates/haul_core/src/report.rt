@@ -1,0 +1,116 @@
+ghost use Rattle.std.specs.Prelude.{◌≡◌, ◌<◌, ◌↔◌, IfOk, IsErrOf, IsTrue};
+ghost use Rattle.haul_core.specs.Ranges.{number_bound};
+ghost use Rattle.haul_core.specs.Reports.{IsReport, IsWorker};
+ghost use Rattle.haul_core.specs.declared.report.ReportError.TheVariants.{BadWorker, Memory};
+
+use std::alloc::{AllocError, Global};
+use std::marker::Model;
+use survey_core::finding::{Finding, survey};
+use survey_core::job::Job;
+use thiserror::Error;
+
+/// Why no report was made.
+#[derive(Clone, Copy, Debug, PartialEq, Eq, Error)]
+pub enum ReportError {
+    /// The worker is not 1 to 16.
+    #[error("bad worker")]
+    BadWorker,
+    /// Memory ran out.
+    #[error("out of memory")]
+    Memory,
+}
+
+impl From<AllocError> for ReportError {
+    ghost from_gives = { λ _ e. e ≡ Memory };
+
+    fn from(_e: AllocError) -> ReportError {
+        ReportError::Memory
+    }
+}
+
+/// What a worker reports of a soup: the job, the worker, the soup's number, and its finding.
+///
+/// Whatever made a report, its finding is the one that its job and number have by definition.
+#[derive(Debug, Drop)]
+pub struct Report {
+    job: Job,
+    worker: u8,
+    number: u64,
+    finding: Finding,
+}
+
+impl Model for Report {
+    ghost use Rattle.haul_core.specs.Reports.{IsReport, Reported};
+
+    ghost Value = { Reported };
+
+    ghost view = { λ r. record { job = r.job; worker = r.worker; number = r.number; finding = r.finding } };
+
+    ghost invariant = { λ r. IsReport (record { job = r.job; worker = r.worker; number = r.number; finding = r.finding }) };
+}
+
+impl Report {
+    /// Surveys the soup with this number, which is below 2^40, for this worker.
+    ///
+    /// # Errors
+    ///
+    /// - [`ReportError::BadWorker`] if the worker is not 1 to 16.
+    /// - [`ReportError::Memory`] if memory runs out.
+    pub fn make(alloc: Global, job: &Job, worker: u8, number: u64) -> Result<Report, ReportError>
+        requires { number < number_bound }
+        ensures job { IfOk result (λ report. report.job ≡ job.now) }
+        ensures worker { IfOk result (λ report. report.worker ≡ worker) }
+        ensures number { IfOk result (λ report. report.number ≡ number) }
+        ensures report { IfOk result IsReport }
+        ensures bad_worker { IsErrOf result BadWorker ↔ ¬ IsWorker worker }
+    {
+        if !is_worker(worker) {
+            return Err(ReportError::BadWorker);
+        }
+        let finding = survey(alloc, job, number)?;
+        Ok(Report {
+            job: *job,
+            worker,
+            number,
+            finding,
+        })
+    }
+
+    /// The job.
+    pub fn job(&self) -> Job
+        ensures { result ≡ self.now.job }
+    {
+        self.job
+    }
+
+    /// The worker, 1 to 16.
+    pub fn worker(&self) -> u8
+        ensures worker { result ≡ self.now.worker }
+        ensures report { IsReport self.now }
+    {
+        self.worker
+    }
+
+    /// The number of the soup, below 2^40.
+    pub fn number(&self) -> u64
+        ensures number { result ≡ self.now.number }
+        ensures report { IsReport self.now }
+    {
+        self.number
+    }
+
+    /// The finding of the soup.
+    pub fn finding(&self) -> &Finding
+        ensures finding { result.now ≡ self.now.finding }
+        ensures report { IsReport self.now }
+    {
+        &self.finding
+    }
+}
+
+/// Whether a worker may have this number.
+pub(crate) fn is_worker(worker: u8) -> bool
+    ensures { IsTrue result ↔ IsWorker worker }
+{
+    1 <= worker && worker <= 16
+}

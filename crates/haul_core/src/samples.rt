@@ -1,0 +1,94 @@
+ghost use Rattle.std.specs.Prelude.{◌≡◌, ◌≤◌, ◌++◌, ◌∷◌, [], take};
+ghost use Rattle.haul_core.specs.Samples.{IsAscending, with_number};
+
+use std::marker::Model;
+
+/// The most samples of a code.
+pub const MOST_SAMPLES: usize = 3;
+
+/// The least three numbers of soups that have an object, ascending, or all if there are fewer.
+#[derive(Debug, Drop)]
+pub struct Samples {
+    numbers: [u64; 3],
+    count: usize,
+}
+
+impl Model for Samples {
+    ghost use Rattle.std.specs.Prelude.{◌≤◌, ℕ, List, take};
+    ghost use Rattle.haul_core.specs.Samples.{IsAscending};
+
+    ghost Value = { List ℕ };
+
+    ghost view = { λ s. take s.count s.numbers };
+
+    ghost invariant = { λ s. (s.count ≤ 3) × IsAscending (take s.count s.numbers) };
+}
+
+impl Samples {
+    /// The numbers, ascending.
+    pub fn as_slice(&self) -> &[u64]
+        ensures { result.now ≡ self.now }
+    {
+        let Samples { numbers, count } = self;
+        &numbers[..*count]
+    }
+
+    /// No number.
+    pub(crate) fn none() -> Samples
+        ensures { result ≡ [] }
+    {
+        Samples {
+            numbers: [0; 3],
+            count: 0,
+        }
+    }
+
+    /// Equal samples.
+    pub(crate) fn copy(&self) -> Samples
+        ensures { result ≡ self.now }
+    {
+        let Samples { numbers, count } = self;
+        Samples {
+            numbers: *numbers,
+            count: *count,
+        }
+    }
+
+    /// The least three of these numbers and one more: each number finds its place among those that are kept, and the
+    /// greatest falls out if there are four.
+    pub(crate) fn with_number(&self, number: u64) -> Samples
+        ensures { result ≡ take 3 (with_number number self.now) }
+    {
+        let Samples { numbers, count } = self;
+        let mut numbers = *numbers;
+        let left = put(&mut numbers, *count, number);
+        if *count == MOST_SAMPLES {
+            return Samples {
+                numbers,
+                count: MOST_SAMPLES,
+            };
+        }
+        numbers[*count] = left;
+        Samples {
+            numbers,
+            count: *count + 1,
+        }
+    }
+}
+
+/// Puts a number in its place among the first `count`, and returns the one that then goes last.
+fn put(numbers: &mut [u64; 3], count: usize, number: u64) -> u64
+    requires few { count ≤ 3 }
+    requires ascending { IsAscending (take count numbers.old) }
+    ensures { take count numbers.new ++ result ∷ [] ≡ with_number number (take count numbers.old) }
+{
+    let mut left = number;
+    for place in 0..count {
+        let kept = numbers[place];
+        if left <= kept {
+            numbers[place] = left;
+            left = kept;
+        }
+    }
+    left
+}
