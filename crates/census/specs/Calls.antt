@@ -42,8 +42,8 @@ pub record IsNumberFromTo (least most : ℕ) (n : Text) : Type 0 where
 abbrev pub Names : ℕ → ℕ → ℕ → ℕ → Text → Option Request
 Names p h k t rule = Some (Name (record { period = p; horizon = h; stride = k; limit = t }) rule)
 
--- `name` alone, with each option alone, in the next word or after `=`, and with all; each number lies in its range, and no
--- option stands twice
+-- `name` alone, with each option alone in the next word, with `--rule` after `=`, and with all in this order; each number
+-- lies in its range, and `--rule` stands once
 pub record AsksToName : Type 0 where
   pub alone : (program : Text) → asked_by (program ∷ codes "name" ∷ []) ≡ Names 64 512 101 30300 (codes "b3s23")
   pub period : (program n : Text) → IsNumberFromTo 1 64 n

@@ -43,8 +43,8 @@ IsFront (Some xs) None text = ⊥
 IsFront (Some xs) (Some ys) text = (rest : List ℕ) × (ys ++ rest ≡ xs ++ text)
 
 -- A complaint may end a request: a refusal if that is right for it, memory that runs out, or a stream that fails. The writer
--- holds nothing of it, or a front of the right text where memory ran out or a write failed. Memory hides a refusal only until
--- the input is read, and only a text is written.
+-- holds nothing of it, or a front of the right text where memory ran out or a write failed. Memory hides a refusal only if
+-- the input is looked at, and only a text is written.
 abbrev pub MayEnd : Request → List ℕ → Option (List ℕ) → Option (List ℕ) → Complaint → Type 0
 MayEnd request bytes before after (Refused refusal) = right_for request bytes (Err (Refused refusal)) × IsFront before after []
 MayEnd request bytes before after OutOfMemory =

@@ -52,7 +52,7 @@ HasFrontOfRight right output = (text : List ℕ) × right (Ok text) × HasFront 
 
 -- What stands on standard output after an outcome: the text of a right answer if all was done, a front of it if memory
 -- ran out or a write failed, and else nothing. A refusal is a right answer. Only a text is written, only an input that is
--- read can fail to be, and memory that runs out hides a refusal only until the input is read.
+-- read can fail to be, and memory that runs out hides a refusal only if the input is looked at.
 abbrev pub Reaches : Bool → Right → Outcome → Stream → Type 0
 Reaches reads right (Ok _) output = HasRight right output × (output.failed ≡ false)
 Reaches reads right (Err OutOfMemory) output =

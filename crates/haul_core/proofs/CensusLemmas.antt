@@ -29,14 +29,14 @@ row_before : (rows : List (List ℕ × Tally)) (i : ℕ) (d : List ℕ × Tally)
     → row_of (take i rows) (get_or rows i d).0 ≡ None
 row_before rows i d distinct low =
     lookup_none (pointwise nat_eq (get_or rows i d).0) (take i rows) (λ k e lower.
-        let long : k < i = omega (arith, length-take-le i rows (omega arith)) in
-        let keys : length (keys_of rows) ≡ length rows = length-map rows (λ o. o.0) in
-        let apart = apart_from_distinct (pointwise nat_eq) (keys_of rows) k i d.0 distinct long (omega arith) in
-        let at_k : get_or (keys_of rows) k d.0 ≡ (get_or (take i rows) k e).0 =
-        get_or-map (λ o. o.0) rows k d d.0 (omega arith) ∙ ap (λ (o : List ℕ × Tally). o.0) (get_or_default rows k d e (omega arith) ∙ sym (get_or-take i rows k e long)) in
-        let at_i : get_or (keys_of rows) i d.0 ≡ (get_or rows i d).0 = get_or-map (λ o. o.0) rows i d d.0 low in
-        nat_list_eq_equiv.symm (get_or rows i d).0 (get_or (take i rows) k e).0
-        ∙ sym (λ j. pointwise nat_eq (at_k j) (at_i j)) ∙ apart)
+    let long : k < i = omega (arith, length-take-le i rows (omega arith)) in
+    let keys : length (keys_of rows) ≡ length rows = length-map rows (λ o. o.0) in
+    let apart = apart_from_distinct (pointwise nat_eq) (keys_of rows) k i d.0 distinct long (omega arith) in
+    let at_k : get_or (keys_of rows) k d.0 ≡ (get_or (take i rows) k e).0 =
+    get_or-map (λ o. o.0) rows k d d.0 (omega arith) ∙ ap (λ (o : List ℕ × Tally). o.0) (get_or_default rows k d e (omega arith) ∙ sym (get_or-take i rows k e long)) in
+    let at_i : get_or (keys_of rows) i d.0 ≡ (get_or rows i d).0 = get_or-map (λ o. o.0) rows i d d.0 low in
+    nat_list_eq_equiv.symm (get_or rows i d).0 (get_or (take i rows) k e).0
+    ∙ sym (λ j. pointwise nat_eq (at_k j) (at_i j)) ∙ apart)
 
 pub got : {X : Type 0} (xs : List X) (i : ℕ) (x d : X) → slice_get xs i ≡ Some x → get_or xs i d ≡ x
 got [] i x d h = let bad : None ≡ Some x = h in absurd (cc)
@@ -71,7 +71,7 @@ kept_more rows kept newer i d distinct low before new code = go (cases_Bool (is_
         new code ∙ ap (λ (b : Bool). cond b (with_objects (Some e.1)) (lookup (is_code code) kept)) same ∙ ap with_objects (sym hit)
     go (inr other) =
         let apart : pointwise nat_eq code e.0 ≡ false = code_apart code e.0 (λ is. false≢true (sym other
-            ∙ subst (λ (c : List ℕ). is_code e.0 c ≡ true) (sym is) ((eq_by_cmp_equiv nat_list_cmp_total).refl e.0))) in
+        ∙ subst (λ (c : List ℕ). is_code e.0 c ≡ true) (sym is) ((eq_by_cmp_equiv nat_list_cmp_total).refl e.0))) in
         let miss : row_of (take (i + 1) rows) code ≡ row_of (take i rows) code =
         found code ∙ ap (λ (b : Bool). option_or (row_of (take i rows) code) (cond b (Some e.1) None)) apart ∙ or_none (row_of (take i rows) code) in
         new code ∙ ap (λ (b : Bool). cond b (with_objects (Some e.1)) (lookup (is_code code) kept)) other ∙ before code ∙ ap with_objects (sym miss)
@@ -86,7 +86,7 @@ kept_inserted rows kept newer i code tally put distinct low at some same new bef
     let e : get_or rows i (code, tally) ≡ (code, tally) = got rows i (code, tally) (code, tally) at in
     kept_more rows kept newer i (code, tally) distinct low before
     (subst (λ (o : List ℕ × Tally). (q : List ℕ) → lookup (is_code q) newer ≡ cond (is_code o.0 q) (with_objects (Some o.1)) (lookup (is_code q) kept)) (sym e)
-        (λ q. new q ∙ ap (λ (o : Option Tally). cond (is_code code q) o (lookup (is_code q) kept)) (ap Some same ∙ sym (with_some tally some))))
+    (λ q. new q ∙ ap (λ (o : Option Tally). cond (is_code code q) o (lookup (is_code q) kept)) (ap Some same ∙ sym (with_some tally some))))
 
 -- one without is left out
 pub kept_skipped : (rows kept : List (List ℕ × Tally)) (i : ℕ) (code : List ℕ) (tally : Tally) → IsDistinct (pointwise nat_eq) (keys_of rows) → i < length rows
@@ -97,7 +97,7 @@ kept_skipped rows kept i code tally distinct low at none before =
     let absent : row_of (take i rows) code ≡ None = subst (λ (o : List ℕ × Tally). row_of (take i rows) o.0 ≡ None) e (row_before rows i (code, tally) distinct low) in
     kept_more rows kept kept i (code, tally) distinct low before
     (subst (λ (o : List ℕ × Tally). (q : List ℕ) → lookup (is_code q) kept ≡ cond (is_code o.0 q) (with_objects (Some o.1)) (lookup (is_code q) kept)) (sym e)
-        (λ q. go q (cases_Bool (is_code code q)) absent))
+    (λ q. go q (cases_Bool (is_code code q)) absent))
   where
     go : (q : List ℕ) → (is_code code q ≡ true) ⊎ (is_code code q ≡ false) → row_of (take i rows) code ≡ None
         → lookup (is_code q) kept ≡ cond (is_code code q) (with_objects (Some tally)) (lookup (is_code q) kept)

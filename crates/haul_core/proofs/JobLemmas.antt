@@ -46,8 +46,8 @@ pub fields_decide : (a b : Job) → Decides (same_fields a b) (a ≡ b)
 fields_decide a b =
     Decides-like (same_fields a b)
     (λ e. let seeds : a.seed ≡ b.seed = sym (take_at a.seed (replicate (most_bytes - length a.seed) 0) (length a.seed) refl)
-        ∙ (λ i. take (e.0.1 i) (e.0.0 i)) ∙ take_at b.seed (replicate (most_bytes - length b.seed) 0) (length b.seed) refl in
-        λ i. record { seed = seeds i; profile = e.1.0 i; rule = e.1.1 i })
+    ∙ (λ i. take (e.0.1 i) (e.0.0 i)) ∙ take_at b.seed (replicate (most_bytes - length b.seed) 0) (length b.seed) refl in
+    λ i. record { seed = seeds i; profile = e.1.0 i; rule = e.1.1 i })
     (λ e. ((ap (λ (j : Job). padded j.seed) e, ap (λ (j : Job). length j.seed) e), (ap (λ (j : Job). j.profile) e, ap (λ (j : Job). j.rule) e)))
     (Decides-and _ _ (Decides-and _ _ (pointwise_decides Decides-eqb (padded a.seed) (padded b.seed)) (Decides-eqb (length a.seed) (length b.seed)))
     (Decides-and _ _ (profiles_decide a.profile b.profile) (rules_decide a.rule b.rule)))

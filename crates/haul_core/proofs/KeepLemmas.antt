@@ -109,8 +109,15 @@ same_length held count workers sums k =
 pub keeps_extended : (held : Held) (count : ℕ) (workers : List (ℕ × ℕ)) (old new : Sums) → Extends old.rows new.rows → new.unsettled ≡ old.unsettled
     → new.for_good ≡ old.for_good → Keeps held count workers old → Keeps held count workers new
 keeps_extended held count workers old new x u g k = record {
-  normal = k.normal; below = k.below; size = k.size; worker = k.worker; by_number = k.by_number; within = k.within; distinct = k.distinct;
-  surveys = k.surveys; surveyed = k.surveyed;
+  normal = k.normal;
+  below = k.below;
+  size = k.size;
+  worker = k.worker;
+  by_number = k.by_number;
+  within = k.within;
+  distinct = k.distinct;
+  surveys = k.surveys;
+  surveyed = k.surveyed;
   sum = record {
     rows = λ code. tally-Extends old.rows new.rows x code ∙ k.sum.rows code;
     unsettled_sum = u ∙ k.sum.unsettled_sum;
@@ -142,7 +149,10 @@ keeps_more terms closed taken count workers old new r is lawful e rows u g k =
     let job : terms.job ≡ r.job = (jobs_decide terms.job r.job).0 h.own_job in
     let survey : Survey = record { number = r.number; finding = r.finding } in
     record {
-      normal = k.normal; below = k.below; size = k.size; worker = k.worker;
+      normal = k.normal;
+      below = k.below;
+      size = k.size;
+      worker = k.worker;
       by_number = ap (λ (ws : List (ℕ × ℕ)). ws ++ (r.number, r.worker) ∷ []) k.by_number ∙ sym (map_push (λ (t : ℕ × ℕ). (t.1, t.0)) taken (entry r));
       within = All-push (λ t. is_in terms.ranges t.1 ≡ true) taken (entry r) k.within h.in_set;
       distinct = subst (IsDistinct nat_eq) (sym (map_push (λ (t : ℕ × ℕ). t.1) taken (entry r)))
@@ -212,7 +222,11 @@ pub keeps_none : (job : Job) (ranges : List Range) (workers count : ℕ) (taken 
 keeps_none job ranges workers count taken numbers sums normal below size worker t n rows u g =
     subst (λ (ts : List (ℕ × ℕ)). Keeps (record { terms = record { job = job; ranges = ranges; workers = workers }; closed = false; taken = ts }) count numbers sums) (sym t)
     (record {
-      normal = normal; below = below; size = size; worker = worker; by_number = n;
+      normal = normal;
+      below = below;
+      size = size;
+      worker = worker;
+      by_number = n;
       within = All-nil (λ t. is_in ranges t.1 ≡ true);
       distinct = distinct_none;
       surveys = [];

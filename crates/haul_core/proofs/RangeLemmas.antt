@@ -148,7 +148,12 @@ joining_gap all done a r rest apart j =
 
 pub joining_start : (a : Range) (rest : List Range) → Ascending (a ∷ rest) → AreBelow number_bound (a ∷ rest) → Joining (a ∷ rest) [] a rest
 joining_start a rest asc below = record {
-  normal = (asc.0, tt, tt); ascending = asc; same = λ n. refl; size = refl; done_below = All-nil (λ x. end_of x ≤ number_bound); below = below;
+  normal = (asc.0, tt, tt);
+  ascending = asc;
+  same = λ n. refl;
+  size = refl;
+  done_below = All-nil (λ x. end_of x ≤ number_bound);
+  below = below;
 }
 
 -- ---- the ranges in ascending order
@@ -195,24 +200,37 @@ ascending_from (r ∷ s ∷ more) few up some =
     let own : 1 ≤ r.count = All-head (λ r. 1 ≤ r.count) r (s ∷ more) some in
     let next : 1 ≤ s.count = All-head (λ r. 1 ≤ r.count) s more (All-tail (λ r. 1 ≤ r.count) r (s ∷ more) some) in
     let after : end_of r ≤ s.first = elim (cases_lt s.first (end_of r)) [
-      | inl low ↦ absurd (omega (arith, few s.first, count_hit (is_in_range s.first) r (s ∷ more) (in_range s.first r first low),
-          count_hit (is_in_range s.first) s more (in_range s.first s (omega arith) (omega arith))))
+      | inl low ↦ absurd (omega (
+        arith,
+        few s.first,
+        count_hit (is_in_range s.first) r (s ∷ more) (in_range s.first r first low),
+        count_hit (is_in_range s.first) s more (in_range s.first s (omega arith) (omega arith)),
+      ))
       | inr high ↦ high
-    ] in
-    (own, after, ascending_from (s ∷ more)
-        (λ n. omega (arith, few n, sum_by-cons (λ y. cond {A = ℕ} (is_in_range n y) 1 0) r (s ∷ more)))
-        (IsNonDecreasingBy-drop (λ r. r.first) 1 (r ∷ s ∷ more) up) (All-tail (λ r. 1 ≤ r.count) r (s ∷ more) some))
+    ] in (
+      own,
+      after,
+      ascending_from (s ∷ more)
+          (λ n. omega (arith, few n, sum_by-cons (λ y. cond {A = ℕ} (is_in_range n y) 1 0) r (s ∷ more)))
+          (IsNonDecreasingBy-drop (λ r. r.first) 1 (r ∷ s ∷ more) up) (All-tail (λ r. 1 ≤ r.count) r (s ∷ more) some),
+    )
 
 pub ascending_of : (ranges ordered : List Range) → IsPermutation (filter has_numbers ranges) ordered → IsNonDecreasingBy (λ r. r.first) ordered → ¬ Overlap ranges → Ascending ordered
 ascending_of ranges ordered same up apart =
     ascending_from ordered (λ n. elim (cases_lt (count_by (is_in_range n) ordered) 2) [
       | inl few ↦ omega arith
-      | inr many ↦ absurd (apart (n, omega (arith, count_some n ranges,
-          sum_by-IsPermutation (λ y. cond {A = ℕ} (is_in_range n y) 1 0) (filter has_numbers ranges) ordered same)))
+      | inr many ↦ absurd (apart (
+        n,
+        omega (
+          arith,
+          count_some n ranges,
+          sum_by-IsPermutation (λ y. cond {A = ℕ} (is_in_range n y) 1 0) (filter has_numbers ranges) ordered same,
+        ),
+      ))
     ]) up
     (All-permutation (λ r. 1 ≤ r.count) (filter has_numbers ranges) ordered same
     (All-weaker (λ r. has_numbers r ≡ true) (λ r. 1 ≤ r.count) (λ r h. let some : 0 < r.count = ltb-true 0 r.count h in omega arith)
-        (filter has_numbers ranges) (filter_passes has_numbers ranges)))
+    (filter has_numbers ranges) (filter_passes has_numbers ranges)))
 
 pub below_of : (ranges ordered : List Range) → IsPermutation (filter has_numbers ranges) ordered → AreBelow number_bound ranges → AreBelow number_bound ordered
 below_of ranges ordered same below =

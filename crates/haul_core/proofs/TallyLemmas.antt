@@ -46,7 +46,7 @@ row_written {X} (e ∷ rows) zero w code low hit before q = go (cases_Bool (poin
         ∙ sym (ap (λ (b : Bool). cond b (Some w) (cond (pointwise nat_eq q e.0) (Some e.1) (lookup (pointwise nat_eq q) rows))) own)
     go (inr other) =
         let apart : pointwise nat_eq code q ≡ false = code_apart code q (λ same. false≢true (sym other
-            ∙ subst (λ (k : List ℕ). pointwise nat_eq k e.0 ≡ true) same hit)) in
+        ∙ subst (λ (k : List ℕ). pointwise nat_eq k e.0 ≡ true) same hit)) in
         ap (λ (b : Bool). cond b (Some w) (lookup (pointwise nat_eq q) rows)) other
         ∙ sym (ap (λ (b : Bool). cond b (Some w) (cond (pointwise nat_eq q e.0) (Some e.1) (lookup (pointwise nat_eq q) rows))) apart
         ∙ ap (λ (b : Bool). cond b (Some e.1) (lookup (pointwise nat_eq q) rows)) other)
@@ -181,15 +181,15 @@ pub not_before : (objects : List (List ℕ × ℕ)) (i : ℕ) (d : List ℕ × �
     → lookup (is_code (get_or objects i d).0) (take i objects) ≡ None
 not_before objects i d lawful low =
     lookup_none (is_code (get_or objects i d).0) (take i objects) (λ k e lower.
-        let long : k < i = omega (arith, length-take-le i objects (omega arith)) in
-        let keys : length (keys_of objects) ≡ length objects = length-map objects (λ o. o.0) in
-        let apart : is_eq (slice_cmp nat_cmp (get_or (keys_of objects) k d.0) (get_or (keys_of objects) i d.0)) ≡ false =
-        ap is_eq (Less-from_sorted (slice_cmp nat_cmp) (keys_of objects) k i d.0 lawful.in_order long (omega arith)) in
-        let at_k : get_or (keys_of objects) k d.0 ≡ (get_or (take i objects) k e).0 =
-        get_or-map (λ o. o.0) objects k d d.0 (omega arith) ∙ ap (λ (o : List ℕ × ℕ). o.0) (get_or_default objects k d e (omega arith) ∙ sym (get_or-take i objects k e long)) in
-        let at_i : get_or (keys_of objects) i d.0 ≡ (get_or objects i d).0 = get_or-map (λ o. o.0) objects i d d.0 low in
-        (eq_by_cmp_equiv nat_list_cmp_total).symm (get_or objects i d).0 (get_or (take i objects) k e).0
-        ∙ sym (λ j. is_code (at_k j) (at_i j)) ∙ apart)
+    let long : k < i = omega (arith, length-take-le i objects (omega arith)) in
+    let keys : length (keys_of objects) ≡ length objects = length-map objects (λ o. o.0) in
+    let apart : is_eq (slice_cmp nat_cmp (get_or (keys_of objects) k d.0) (get_or (keys_of objects) i d.0)) ≡ false =
+    ap is_eq (Less-from_sorted (slice_cmp nat_cmp) (keys_of objects) k i d.0 lawful.in_order long (omega arith)) in
+    let at_k : get_or (keys_of objects) k d.0 ≡ (get_or (take i objects) k e).0 =
+    get_or-map (λ o. o.0) objects k d d.0 (omega arith) ∙ ap (λ (o : List ℕ × ℕ). o.0) (get_or_default objects k d e (omega arith) ∙ sym (get_or-take i objects k e long)) in
+    let at_i : get_or (keys_of objects) i d.0 ≡ (get_or objects i d).0 = get_or-map (λ o. o.0) objects i d d.0 low in
+    (eq_by_cmp_equiv nat_list_cmp_total).symm (get_or objects i d).0 (get_or (take i objects) k e).0
+    ∙ sym (λ j. is_code (at_k j) (at_i j)) ∙ apart)
 
 pub record Adding (old new : List (List ℕ × Tally)) (objects : List (List ℕ × ℕ)) (number i : ℕ) : Type 0 where
   pub tallies : (code : List ℕ) → tally_in new code ≡ added (lookup (is_code code) (take i objects)) number (tally_in old code)

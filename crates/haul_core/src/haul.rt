@@ -94,12 +94,7 @@ impl Haul {
     /// - [`OpenError::BadRange`] if a range goes past 2^40, or the ranges have over 2^24 numbers together.
     /// - [`OpenError::Overlap`] if two ranges share a number.
     /// - [`OpenError::Memory`] if memory runs out.
-    pub fn open(
-        alloc: Global,
-        job: Job,
-        ranges: &[Range],
-        workers: u8,
-    ) -> Result<Haul, OpenError>
+    pub fn open(alloc: Global, job: Job, ranges: &[Range], workers: u8) -> Result<Haul, OpenError>
         // What was handed in, and nothing taken.
         ensures job { IfOk result (λ haul. haul.terms.job ≡ job) }
         ensures ranges { IfOk result (λ haul. IsNormalForm ranges.now haul.terms.ranges) }

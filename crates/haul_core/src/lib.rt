@@ -20,6 +20,5 @@ pub mod samples;
 /// Why a report is refused.
 pub mod refusal;
 mod tally;
-
 #[cfg(test)]
 mod tests;

@@ -83,7 +83,9 @@ impl Totals {
     {
         match finding {
             Finding::Settled {
-                objects, for_good, ..
+                objects,
+                for_good,
+                ..
             } => {
                 add(&mut self.rows, objects.as_slice(), number);
                 self.for_good += u64::from(*for_good);

@@ -27,12 +27,7 @@ fn small() -> Result<Profile, Fail> {
 
 /// An offer of a report by this worker, of the soup with this number.
 fn offer(alloc: Global, job: &Job, worker: u8, number: u32) -> Result<Arrival, Fail> {
-    Ok(Arrival::Offer(Report::make(
-        alloc,
-        job,
-        worker,
-        u64::from(number),
-    )?))
+    Ok(Arrival::Offer(Report::make(alloc, job, worker, u64::from(number))?))
 }
 
 /// What arrives, one text for each: `1 3` is an offer of soup 3 by worker 1, and `close` a closing.
@@ -54,6 +49,9 @@ fn refuses_other_jobs(rt: HostRuntime) -> Result<(), Fail> {
     let mut haul = Haul::open(alloc, job("1", small()?)?, &[range], 1)?;
     let arriving = arrivals(alloc, &job("12", small()?)?, &[(1, 3)])?;
     let replies = keep_book(alloc, &mut haul, arriving)?;
-    assert_eq!(rt; replies.as_slice(), [Reply::Refused(Refusal::OtherJob)].as_slice());
+    assert_eq!(rt;
+        replies.as_slice(),
+        [Reply::Refused(Refusal::OtherJob)].as_slice()
+    );
     Ok(())
 }

@@ -254,8 +254,8 @@ fn all_cells(alloc: Global, patterns: &[Pattern]) -> Result<Vec<Cell>, AllocErro
     Ok(cells)
 }
 
-/// The laws of patterns at rest: the empty pattern is at rest, and a pattern whose objects stay for good is at rest in
-/// every later generation, and comes back after the least common multiple of their periods.
+/// The laws of patterns at rest: the empty pattern is at rest, and a pattern whose objects stay for good keeps them apart
+/// in every later generation, and comes back after the least common multiple of their periods.
 #[tactic(auto, using(crate::proofs::ForGoodLemmas::empty_is_at_rest))]
 pub fn at_rest_for_good()
     ensures empty { EmptyIsAtRest }

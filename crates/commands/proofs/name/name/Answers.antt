@@ -75,7 +75,7 @@ returns-in_err-put_finding-clause-reached g c =
     let finding = c.in_ok-finding.finding in
     let profiled = sym c.in_ok-profile.ensures in
     let ruled : rule_named text ≡ Ok rule = rw (← c.in_ok-rule.ensures.exact) refl in
-    let right = right_finding c.args.profile text read.0 profile rule c.in_ok-pattern.pattern finding profiled ruled read.2 c.in_ok-finding.ensures in (
+    let right = right_finding c.args.profile text read.0 profile rule c.in_ok-pattern.pattern finding profiled ruled read.2 c.in_ok-finding.ensures.finding in (
       read.0,
       read.1,
       rw (err_of _ _ c.from_residual-in_err-put_finding.ensures.1)

@@ -24,9 +24,9 @@ pub loop-range-preserved : goal.loop-range-preserved
 loop-range-preserved c = elim c.if-latest-range.branch [
   | then-latest-range w ↦
       rw (w.joined-is, w.latest-is) (touch_at c.args.ascending.now c.loop-range.joined.items c.loop-range.latest c.in-Some.more.now c.loop-range.range-index
-          (record { first = 0; count = 0 }) c.loop-range-test.true w.if-latest-range.true c.loop-range.invariant)
+      (record { first = 0; count = 0 }) c.loop-range-test.true w.if-latest-range.true c.loop-range.invariant)
   | else-latest-range+in_ok-push w ↦
       rw (w.joined-is, w.latest-is, w.in_ok-push.ensures.items)
-          (gap_at c.args.ascending.now c.loop-range.joined.items c.loop-range.latest c.in-Some.more.now c.loop-range.range-index
-          (record { first = 0; count = 0 }) c.loop-range-test.true (λ e. w.if-latest-range.false e) c.loop-range.invariant)
+      (gap_at c.args.ascending.now c.loop-range.joined.items c.loop-range.latest c.in-Some.more.now c.loop-range.range-index
+      (record { first = 0; count = 0 }) c.loop-range-test.true (λ e. w.if-latest-range.false e) c.loop-range.invariant)
 ]

@@ -14,8 +14,8 @@ loop-index-preserved c =
           (kept_inserted c.args.tallies.now.entries c.loop-index.kept.entries w.insert.new.self.entries c.loop-index.index w.in-Some.code.now w.in-Some.tally.now
           w.copy-then-tally-gt0.result c.len-index-end.ensures.unique low (sym w.in-Some.ensures.entry) w.if-tally-gt0.true w.copy-then-tally-gt0.ensures
           (subst (λ (k : List ℕ). (q : List ℕ) → lookup (is_code q) w.insert.new.self.entries
-              ≡ cond (is_code k q) (Some w.copy-then-tally-gt0.result) (lookup (is_code q) c.loop-index.kept.entries))
-              w.in_ok-code.ensures w.in_ok-insert.ensures.updates.0)
+          ≡ cond (is_code k q) (Some w.copy-then-tally-gt0.result) (lookup (is_code q) c.loop-index.kept.entries))
+          w.in_ok-code.ensures w.in_ok-insert.ensures.updates.0)
           c.loop-index.invariant)
       | in-Some+else-tally-gt0 w ↦ rw w.kept-is
           (kept_skipped c.args.tallies.now.entries c.loop-index.kept.entries c.loop-index.index w.in-Some.code.now w.in-Some.tally.now

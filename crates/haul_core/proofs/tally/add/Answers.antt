@@ -22,7 +22,7 @@ loop-object-preserved c =
     adding_more c.args.rows.now.entries c.loop-object.rows.entries c.add_one.new.rows.entries c.args.objects.now c.args.number c.loop-object.object-index
     c.object-item.result c.requires.lawful c.loop-object-test.true c.loop-object.invariant
     (subst (λ (object : List ℕ × ℕ). tally_in c.add_one.new.rows.entries object.0 ≡ added (Some object.1) c.args.number (tally_in c.loop-object.rows.entries object.0))
-        c.object-item.is c.add_one.ensures.tally)
+    c.object-item.is c.add_one.ensures.tally)
     (subst (λ (object : List ℕ × ℕ). (other : List ℕ) → other ≢ object.0 → tally_in c.add_one.new.rows.entries other ≡ tally_in c.loop-object.rows.entries other)
-        c.object-item.is c.add_one.ensures.others)
+    c.object-item.is c.add_one.ensures.others)
     c.add_one.ensures.rows

@@ -24,8 +24,14 @@ returns c =
     let k = c.self.invariant in
     let h = c.self.inside in
     let census : Census = record {
-      job = h.job; ranges = c.in_ok-copy.field-0; count = h.count; soups = c.len.result; unsettled = h.totals.unsettled; for_good = h.totals.for_good;
-      objects = c.sum_of_totals-objects.result; rows = c.in_ok-rows.rows;
+      job = h.job;
+      ranges = c.in_ok-copy.field-0;
+      count = h.count;
+      soups = c.len.result;
+      unsettled = h.totals.unsettled;
+      for_good = h.totals.for_good;
+      objects = c.sum_of_totals-objects.result;
+      rows = c.in_ok-rows.rows;
     } in
     subst (λ (held : Held). IsCensus held.terms.job held.terms.ranges (numbers_in held.taken) census) c.self.view_is
     (record {

@@ -86,7 +86,7 @@ invariant_of-self-2 c =
     (keeps_more terms h.closed c.make_room.new.taken.items h.count c.make_room.new.worker_of.entries old new c.args.report c.worker.ensures.report
     (lawful_of _ _ _ c.args.report.finding c.worker.ensures.report.finding) refused
     (λ code. c.add.ensures.rows code
-        ∙ (λ i. added (found_in code (c.finding.ensures.finding i)) (c.number-2.ensures.number i) (tally_in c.make_room.new.totals.rows.entries code)))
+    ∙ (λ i. added (found_in code (c.finding.ensures.finding i)) (c.number-2.ensures.number i) (tally_in c.make_room.new.totals.rows.entries code)))
     (c.add.ensures.unsettled ∙ ap (λ f. c.make_room.new.totals.unsettled + (if is_unsettled f then 1 else 0)) c.finding.ensures.finding)
     (c.add.ensures.for_good ∙ ap (λ f. c.make_room.new.totals.for_good + (if is_for_good f then 1 else 0)) c.finding.ensures.finding) mid)
 
@@ -103,5 +103,5 @@ returns-clause-stands c = λ arrivals s answered.
     let refused : refusal_at (record { terms = record { job = h.job; ranges = h.ranges; workers = h.workers }; closed = h.closed; taken = h.taken.items }) c.args.report ≡ None =
     ap (λ (held : Held). refusal_at held c.args.report) c.self.view_is ∙ sym c.refusal.ensures ∙ c.in_default.is in
     subst (λ (ts : List (ℕ × ℕ)). StandsFor (arrivals ++ Offer c.args.report ∷ [])
-        (record { terms = record { job = h.job; ranges = h.ranges; workers = h.workers }; closed = h.closed; taken = ts })) (sym entries)
+    (record { terms = record { job = h.job; ranges = h.ranges; workers = h.workers }; closed = h.closed; taken = ts })) (sym entries)
     (stands_taken arrivals (record { terms = record { job = h.job; ranges = h.ranges; workers = h.workers }; closed = h.closed; taken = h.taken.items }) c.args.report own refused)
