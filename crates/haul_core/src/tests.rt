@@ -1,9 +1,10 @@
 use crate::arrival::{Arrival, Reply};
 use crate::book::keep_book;
+use crate::census::Census;
 use crate::haul::Haul;
 use crate::range::Range;
 use crate::refusal::Refusal;
-use crate::report::Report;
+use crate::report::{Report, ReportError};
 use plane_core::rule::Rule;
 use std::alloc::Global;
 use std::test::Fail;
@@ -30,7 +31,7 @@ fn offer(alloc: Global, job: &Job, worker: u8, number: u32) -> Result<Arrival, F
     Ok(Arrival::Offer(Report::make(alloc, job, worker, u64::from(number))?))
 }
 
-/// What arrives, one text for each: `1 3` is an offer of soup 3 by worker 1, and `close` a closing.
+/// An offer for each pair: the worker, and the number of the soup.
 fn arrivals(alloc: Global, job: &Job, offers: &[(u8, u32)]) -> Result<Vec<Arrival>, Fail> {
     let mut arrivals = Vec::new(alloc);
     for offered in offers {
@@ -53,5 +54,85 @@ fn refuses_other_jobs(rt: HostRuntime) -> Result<(), Fail> {
         replies.as_slice(),
         [Reply::Refused(Refusal::OtherJob)].as_slice()
     );
+    Ok(())
+}
+
+/// Lets this arrive at the haul, and writes the reply at the end of a text.
+fn note(alloc: Global, haul: &mut Haul, arrival: Arrival, text: &mut String) -> Result<(), Fail> {
+    let mut arriving = Vec::new(alloc);
+    arriving.push(arrival)?;
+    for reply in keep_book(alloc, haul, arriving)?.as_slice() {
+        let reply = format!(in alloc; "{reply:?}\n")?;
+        text.push_str(reply.as_str())?;
+    }
+    Ok(())
+}
+
+/// The sums and rows of a census, a line each.
+fn lines(alloc: Global, census: &Census) -> Result<String, Fail> {
+    let mut text = format!(in alloc;
+        "{} of {}, {} unsettled, {} for good, {} objects\n",
+        census.soups, census.count, census.unsettled, census.for_good, census.objects
+    )?;
+    for row in census.rows.as_slice() {
+        let line = format!(in alloc; "{} {}", row.code.text(), row.total)?;
+        text.push_str(line.as_str())?;
+        for number in row.samples.as_slice() {
+            let sample = format!(in alloc; " {number}")?;
+            text.push_str(sample.as_str())?;
+        }
+        text.push_str("\n")?;
+    }
+    Ok(text)
+}
+
+fn range(first: u64, count: u64) -> Range {
+    Range { first, count }
+}
+
+#[test]
+fn refuses_workers(rt: HostRuntime) -> Result<(), Fail> {
+    let job = job("", small()?)?;
+    assert!(rt; Report::make(rt.alloc(), &job, 0, 0).err() == Some(ReportError::BadWorker));
+    assert!(rt; Report::make(rt.alloc(), &job, 17, 0).err() == Some(ReportError::BadWorker));
+    Ok(())
+}
+
+/// Whether a line is one of the text's.
+fn has_line(text: &str, line: &str) -> bool {
+    for own in text.lines() {
+        if own == line {
+            return true;
+        }
+    }
+    false
+}
+
+// The census of soups 0 to 39 of the empty seed under the standard profile, by a program in another language, written from
+// the definitions alone: its sums, and of some codes the total and the samples. The soups come in another order, from three
+// workers.
+#[test]
+fn counts_what_forty_soups_leave(rt: HostRuntime) -> Result<(), Fail> {
+    let alloc = rt.alloc();
+    let job = job("", Profile::standard())?;
+    let mut haul = Haul::open(alloc, job, &[range(0, 40)], 3)?;
+    let mut text = String::new(alloc);
+    for place in 0..40u32 {
+        let worker = 1 + (place % 3) as u8;
+        let number = (place * 7 + 3) % 40;
+        note(
+            alloc,
+            &mut haul,
+            offer(alloc, &job, worker, number)?,
+            &mut text,
+        )?;
+    }
+    let census = lines(alloc, &haul.census()?)?;
+    let text = census.as_str();
+    assert!(rt; has_line(text, "40 of 40, 0 unsettled, 14 for good, 796 objects"));
+    assert!(rt; has_line(text, "xp2_1110s 5 2 12 27"));
+    assert!(rt; has_line(text, "xp2_7 111 1 2 3"));
+    assert!(rt; has_line(text, "xp2_33ws 2 21 29"));
+    assert!(rt; has_line(text, "xq4_153 91 1 4 5"));
     Ok(())
 }
