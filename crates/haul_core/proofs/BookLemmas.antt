@@ -1,5 +1,6 @@
 -- The book, one arrival at a time.
-use Rattle.std.proofs.Common.{◌≡◌, ◌≢◌, ◌∙◌, ◌&&◌, ◌||◌, ◌==◌, ℕ, Bool, true, false, cond, not, nat_eq, nat_le, nat_lt, List, [], ◌∷◌, ◌++◌, Option, None, Some, ap, sym, subst, refl, inl, inr, ◌⊎◌, filter, map, option_map, if◌then◌else◌, Result, Ok, Err}
+use Rattle.std.proofs.Common.{◌≡◌, ◌≢◌, ◌∙◌, ◌&&◌, ◌||◌, ◌==◌, ℕ, Bool, true, false, cond, not, nat_eq, nat_le, nat_lt, List, [], ◌∷◌}
+use Rattle.std.proofs.Common.{◌++◌, Option, None, Some, ap, sym, subst, refl, inl, inr, ◌⊎◌, filter, map, option_map, if◌then◌else◌, Result, Ok, Err}
 use Rattle.std.specs.List.{find, list_any}
 use Rattle.std.specs.Iterator.{Yields}
 use Rattle.std.specs.Map.{lookup}
@@ -15,7 +16,8 @@ use Rattle.haul_core.specs.declared.arrival.Arrival.TheVariants.{Closing, Offer}
 use Rattle.haul_core.specs.declared.refusal.Refusal.{Refusal}
 use Rattle.haul_core.specs.declared.refusal.Refusal.TheVariants.{Closed, Double, OtherJob, OutOfRange, UnknownWorker}
 use Rattle.haul_core.specs.BookSteps.{refusal_at, worker_in}
-use Rattle.haul_core.specs.Books.{Held, StandsFor, Terms, double, eligible, entry, first_of_each, first_worker, has_closing, has_number, is_closing, is_lawful, offered, refusal_of, replies_to, reply_to, taken_of}
+use Rattle.haul_core.specs.Books.{Held, StandsFor, Terms, double, eligible, entry, first_of_each, first_worker}
+use Rattle.haul_core.specs.Books.{has_closing, has_number, is_closing, is_lawful, offered, refusal_of, replies_to, reply_to, taken_of}
 use Rattle.haul_core.specs.declared.arrival.Reply.{Reply}
 use Rattle.haul_core.specs.Jobs.{same_job}
 use Rattle.haul_core.specs.Ranges.{is_in}
@@ -90,7 +92,8 @@ pub first_new : (rs : List Reported) (r : Reported) → find (has_number r.numbe
 first_new [] r h = refl
 first_new (s ∷ rs) r h = go (λ rest. first_new rs r rest) (cases_Bool (has_number r.number s))
   where
-    go : (find (has_number r.number) rs ≡ None → first_of_each (rs ++ r ∷ []) ≡ first_of_each rs ++ r ∷ []) → (has_number r.number s ≡ true) ⊎ (has_number r.number s ≡ false) → s ∷ filter (λ t. not (has_number s.number t)) (first_of_each (rs ++ r ∷ []))
+    go : (find (has_number r.number) rs ≡ None → first_of_each (rs ++ r ∷ []) ≡ first_of_each rs ++ r ∷ [])
+        → (has_number r.number s ≡ true) ⊎ (has_number r.number s ≡ false) → s ∷ filter (λ t. not (has_number s.number t)) (first_of_each (rs ++ r ∷ []))
         ≡ (s ∷ filter (λ t. not (has_number s.number t)) (first_of_each rs)) ++ r ∷ []
     go more (inl same) = let bad : Some s ≡ None = sym (ap (λ (b : Bool). cond b (Some s) (find (has_number r.number) rs)) same) ∙ h in absurd (cc)
     go more (inr apart) =
@@ -106,19 +109,24 @@ pub first_old : (rs : List Reported) (r s : Reported) → find (has_number r.num
 first_old [] r s h = cc
 first_old (x ∷ rs) r s h = go (λ y found. first_old rs r y found) (cases_Bool (has_number r.number x))
   where
-    dropped : (ys zs : List Reported) → zs ≡ ys ++ r ∷ [] → has_number x.number r ≡ true → filter (λ t. not (has_number x.number t)) zs ≡ filter (λ t. not (has_number x.number t)) ys
+    dropped : (ys zs : List Reported) → zs ≡ ys ++ r ∷ [] → has_number x.number r ≡ true
+        → filter (λ t. not (has_number x.number t)) zs ≡ filter (λ t. not (has_number x.number t)) ys
     dropped ys zs e same =
         ap (filter (λ t. not (has_number x.number t))) e ∙ filter-append (λ t. not (has_number x.number t)) ys (r ∷ [])
-        ∙ ap (λ (b : Bool). filter (λ t. not (has_number x.number t)) ys ++ cond (not b) (r ∷ []) []) same ∙ append-nil (filter (λ t. not (has_number x.number t)) ys)
+        ∙ ap (λ (b : Bool). filter (λ t. not (has_number x.number t)) ys ++ cond (not b) (r ∷ []) []) same
+        ∙ append-nil (filter (λ t. not (has_number x.number t)) ys)
 
-    tail : ((y : Reported) → find (has_number r.number) rs ≡ Some y → first_of_each (rs ++ r ∷ []) ≡ first_of_each rs) → (o : Option Reported) → find (has_number r.number) rs ≡ o → has_number x.number r ≡ true
+    tail : ((y : Reported) → find (has_number r.number) rs ≡ Some y → first_of_each (rs ++ r ∷ []) ≡ first_of_each rs) → (o : Option Reported)
+        → find (has_number r.number) rs ≡ o → has_number x.number r ≡ true
         → filter (λ t. not (has_number x.number t)) (first_of_each (rs ++ r ∷ [])) ≡ filter (λ t. not (has_number x.number t)) (first_of_each rs)
     tail more None e same = dropped (first_of_each rs) (first_of_each (rs ++ r ∷ [])) (first_new rs r e) same
     tail more (Some y) e same = ap (filter (λ t. not (has_number x.number t))) (more y e)
 
-    go : ((y : Reported) → find (has_number r.number) rs ≡ Some y → first_of_each (rs ++ r ∷ []) ≡ first_of_each rs) → (has_number r.number x ≡ true) ⊎ (has_number r.number x ≡ false) → x ∷ filter (λ t. not (has_number x.number t)) (first_of_each (rs ++ r ∷ []))
+    go : ((y : Reported) → find (has_number r.number) rs ≡ Some y → first_of_each (rs ++ r ∷ []) ≡ first_of_each rs)
+        → (has_number r.number x ≡ true) ⊎ (has_number r.number x ≡ false) → x ∷ filter (λ t. not (has_number x.number t)) (first_of_each (rs ++ r ∷ []))
         ≡ x ∷ filter (λ t. not (has_number x.number t)) (first_of_each rs)
-    go more (inl same) = ap (λ (xs : List Reported). x ∷ xs) (tail more (find (has_number r.number) rs) refl (eq-eqb x.number r.number (sym (eqb-true r.number x.number same))))
+    go more (inl same) =
+        ap (λ (xs : List Reported). x ∷ xs) (tail more (find (has_number r.number) rs) refl (eq-eqb x.number r.number (sym (eqb-true r.number x.number same))))
     go more (inr apart) =
         let rest : find (has_number r.number) rs ≡ Some s = sym (ap (λ (b : Bool). cond b (Some x) (find (has_number r.number) rs)) apart) ∙ h in
         ap (λ (xs : List Reported). x ∷ filter (λ t. not (has_number x.number t)) xs) (more s rest)
@@ -159,7 +167,8 @@ pub data Why (closed job over inside : Bool) (worker : Option ℕ) : Type 0 wher
   Unlawful : closed ≡ false → (job && (not over && inside)) ≡ false → Why closed job over inside worker
   Was_taken : closed ≡ false → (w : ℕ) → worker ≡ Some w → Why closed job over inside worker
 
-pub why : (closed job over inside : Bool) (worker : Option ℕ) (reason : Refusal) → refuses closed job over inside worker ≡ Some reason → Why closed job over inside worker
+pub why : (closed job over inside : Bool) (worker : Option ℕ) (reason : Refusal) → refuses closed job over inside worker ≡ Some reason
+    → Why closed job over inside worker
 why true job over inside worker reason e = Was_closed refl
 why false false over inside worker reason e = Unlawful refl refl
 why false true true inside worker reason e = Unlawful refl refl
@@ -174,7 +183,8 @@ le_not_lt a b = go (cases_Bool (nat_le a b))
     go (inl le) = le ∙ sym (ap not (le-ltb b a (leb-true a b le)))
     go (inr gt) = gt ∙ sym (ap not (lt-ltb b a (leb-false a b gt)))
 
-lawful_is : (terms : Terms) (r : Reported) → is_lawful terms r ≡ (same_job terms.job r.job && (not (nat_lt terms.workers r.worker) && is_in terms.ranges r.number))
+lawful_is : (terms : Terms) (r : Reported)
+    → is_lawful terms r ≡ (same_job terms.job r.job && (not (nat_lt terms.workers r.worker) && is_in terms.ranges r.number))
 lawful_is terms r = ap (λ (b : Bool). same_job terms.job r.job && (b && is_in terms.ranges r.number)) (le_not_lt r.worker terms.workers)
 
 -- a refused offer leaves what is taken
@@ -183,12 +193,14 @@ pub refused_leaves : (terms : Terms) (arrivals : List Arrival) (r : Reported) (r
 refused_leaves terms arrivals r reason e = go (why (has_closing arrivals) (same_job terms.job r.job) (nat_lt terms.workers r.worker)
     (is_in terms.ranges r.number) (first_worker r.number (eligible terms arrivals)) reason e)
   where
-    lawful_go : has_closing arrivals ≡ false → (s : Reported) → find (has_number r.number) (eligible terms arrivals) ≡ Some s → (is_lawful terms r ≡ true) ⊎ (is_lawful terms r ≡ false)
+    lawful_go : has_closing arrivals ≡ false → (s : Reported) → find (has_number r.number) (eligible terms arrivals) ≡ Some s
+        → (is_lawful terms r ≡ true) ⊎ (is_lawful terms r ≡ false)
         → first_of_each (eligible terms (arrivals ++ Offer r ∷ [])) ≡ first_of_each (eligible terms arrivals)
     lawful_go before s found (inl lawful) = ap first_of_each (eligible_lawful terms arrivals r before lawful) ∙ first_old (eligible terms arrivals) r s found
     lawful_go before s found (inr unlawful) = ap first_of_each (eligible_unlawful terms arrivals r before unlawful)
 
-    found_go : has_closing arrivals ≡ false → (w : ℕ) (o : Option Reported) → find (has_number r.number) (eligible terms arrivals) ≡ o → option_map (λ s. s.worker) o ≡ Some w
+    found_go : has_closing arrivals ≡ false → (w : ℕ) (o : Option Reported) → find (has_number r.number) (eligible terms arrivals) ≡ o
+        → option_map (λ s. s.worker) o ≡ Some w
         → taken_of terms (arrivals ++ Offer r ∷ []) ≡ taken_of terms arrivals
     found_go before w None found is = absurd (cc)
     found_go before w (Some s) found is = ap (map entry) (lawful_go before s found (cases_Bool (is_lawful terms r)))
@@ -196,7 +208,8 @@ refused_leaves terms arrivals r reason e = go (why (has_closing arrivals) (same_
     go : Why (has_closing arrivals) (same_job terms.job r.job) (nat_lt terms.workers r.worker) (is_in terms.ranges r.number) (first_worker r.number (eligible terms arrivals))
         → taken_of terms (arrivals ++ Offer r ∷ []) ≡ taken_of terms arrivals
     go (Was_closed closed) = ap (λ (rs : List Reported). map entry (first_of_each (filter (is_lawful terms) rs))) (offered_closed arrivals (Offer r) closed)
-    go (Unlawful before unlawful) = ap (λ (rs : List Reported). map entry (first_of_each rs)) (eligible_unlawful terms arrivals r before (lawful_is terms r ∙ unlawful))
+    go (Unlawful before unlawful) =
+        ap (λ (rs : List Reported). map entry (first_of_each rs)) (eligible_unlawful terms arrivals r before (lawful_is terms r ∙ unlawful))
     go (Was_taken before w is) = found_go before w (find (has_number r.number) (eligible terms arrivals)) refl is
 
 -- an offer that isn't refused is taken
@@ -265,17 +278,20 @@ stands_closed arrivals held s = record {
 
 -- ---- a list of arrivals
 
-pub replies_push : (terms : Terms) (before xs : List Arrival) (a : Arrival) → replies_to terms before (xs ++ a ∷ []) ≡ replies_to terms before xs ++ reply_to terms (before ++ xs) a ∷ []
+pub replies_push : (terms : Terms) (before xs : List Arrival) (a : Arrival)
+    → replies_to terms before (xs ++ a ∷ []) ≡ replies_to terms before xs ++ reply_to terms (before ++ xs) a ∷ []
 replies_push terms before [] a = ap (λ (b : List Arrival). reply_to terms b a ∷ []) (sym (append-nil before))
 replies_push terms before (x ∷ xs) a =
     ap (λ (rs : List Reply). reply_to terms before x ∷ rs)
-    (replies_push terms (before ++ x ∷ []) xs a ∙ ap (λ (b : List Arrival). replies_to terms (before ++ x ∷ []) xs ++ reply_to terms b a ∷ []) (append_assoc before (x ∷ []) xs))
+    (replies_push terms (before ++ x ∷ []) xs a
+    ∙ ap (λ (b : List Arrival). replies_to terms (before ++ x ∷ []) xs ++ reply_to terms b a ∷ []) (append_assoc before (x ∷ []) xs))
 
 pub on_err_from : {T E P : Type 0} (r : Result T E) → P → OnErr r P
 on_err_from (Ok x) p = tt
 on_err_from (Err e) p = p
 
 -- what the iterator of a vector has given is a front of its items
-pub taken_front : {X A : Type 0} (s : IntoIter X A) (xs : List X) (t : IntoIter X A) → Yields into_iter_steps s xs t → into_iter_items s ≡ xs ++ into_iter_items t
+pub taken_front : {X A : Type 0} (s : IntoIter X A) (xs : List X) (t : IntoIter X A) → Yields into_iter_steps s xs t
+    → into_iter_items s ≡ xs ++ into_iter_items t
 taken_front s [] t y = ap into_iter_items y
 taken_front s (x ∷ xs) t y = y.1.0 ∙ ap (λ ys. x ∷ ys) (taken_front y.0 xs t y.2)

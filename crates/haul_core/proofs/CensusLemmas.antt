@@ -1,5 +1,7 @@
 -- The rows of a census, from the tallies.
-use Rattle.std.proofs.Common.{◌≡◌, ◌≢◌, ◌∙◌, ◌||◌, ◌+◌, ◌*◌, ◌^◌, ◌<◌, ◌≤◌, ℕ, zero, suc, Bool, true, false, cond, nat_eq, nat_lt, List, [], ◌∷◌, ◌++◌, Option, None, Some, IsSome, ap, sym, subst, refl, arith, inl, inr, ◌⊎◌, map, take, length, get_or, count_by, sum, sum_by, unwrap_or, is_some, zero-add}
+use Rattle.std.proofs.Common.{◌≡◌, ◌≢◌, ◌∙◌, ◌||◌, ◌+◌, ◌*◌, ◌^◌, ◌<◌, ◌≤◌, ℕ, zero, suc, Bool, true, false, cond, nat_eq, nat_lt, List, [], ◌∷◌, ◌++◌}
+use Rattle.std.proofs.Common.{Option, None, Some, IsSome, ap, sym, subst, refl, arith, inl, inr}
+use Rattle.std.proofs.Common.{◌⊎◌, map, take, length, get_or, count_by, sum, sum_by, unwrap_or, is_some, zero-add}
 use Rattle.std.specs.BTreeMap.{BTreeMap, IsOrdered}
 use Rattle.std.specs.Cmp.{eq_by_cmp_equiv}
 use Rattle.std.specs.Cmp.Lexicographic.{nat_list_cmp_total, nat_list_eq_equiv, pointwise, slice_cmp}
@@ -33,7 +35,8 @@ row_before rows i d distinct low =
     let keys : length (keys_of rows) ≡ length rows = length-map rows (λ o. o.0) in
     let apart = apart_from_distinct (pointwise nat_eq) (keys_of rows) k i d.0 distinct long (omega arith) in
     let at_k : get_or (keys_of rows) k d.0 ≡ (get_or (take i rows) k e).0 =
-    get_or-map (λ o. o.0) rows k d d.0 (omega arith) ∙ ap (λ (o : List ℕ × Tally). o.0) (get_or_default rows k d e (omega arith) ∙ sym (get_or-take i rows k e long)) in
+    get_or-map (λ o. o.0) rows k d d.0 (omega arith) ∙ ap (λ (o : List ℕ × Tally). o.0) (get_or_default rows k d e (omega arith)
+    ∙ sym (get_or-take i rows k e long)) in
     let at_i : get_or (keys_of rows) i d.0 ≡ (get_or rows i d).0 = get_or-map (λ o. o.0) rows i d d.0 low in
     nat_list_eq_equiv.symm (get_or rows i d).0 (get_or (take i rows) k e).0
     ∙ sym (λ j. pointwise nat_eq (at_k j) (at_i j)) ∙ apart)
@@ -49,7 +52,8 @@ with_some tally h = ap (λ (b : Bool). cond b (Some tally) None) (lt-ltb 0 tally
 with_none : (tally : Tally) → tally.total ≤ 0 → with_objects (Some tally) ≡ None
 with_none tally h = ap (λ (b : Bool). cond b (Some tally) None) (le-ltb 0 tally.total h)
 
-pub kept_more : (rows : List (List ℕ × Tally)) (kept newer : List (List ℕ × Tally)) (i : ℕ) (d : List ℕ × Tally) → IsDistinct (pointwise nat_eq) (keys_of rows) → i < length rows
+pub kept_more : (rows : List (List ℕ × Tally)) (kept newer : List (List ℕ × Tally)) (i : ℕ) (d : List ℕ × Tally)
+    → IsDistinct (pointwise nat_eq) (keys_of rows) → i < length rows
     → ((code : List ℕ) → lookup (is_code code) kept ≡ with_objects (row_of (take i rows) code))
     → ((code : List ℕ) → lookup (is_code code) newer ≡ cond (is_code (get_or rows i d).0 code) (with_objects (Some (get_or rows i d).1)) (lookup (is_code code) kept))
     → (code : List ℕ) → lookup (is_code code) newer ≡ with_objects (row_of (take (i + 1) rows) code)
@@ -77,7 +81,8 @@ kept_more rows kept newer i d distinct low before new code = go (cases_Bool (is_
         new code ∙ ap (λ (b : Bool). cond b (with_objects (Some e.1)) (lookup (is_code code) kept)) other ∙ before code ∙ ap with_objects (sym miss)
 
 -- a tally with an object goes into the map
-pub kept_inserted : (rows kept newer : List (List ℕ × Tally)) (i : ℕ) (code : List ℕ) (tally put : Tally) → IsDistinct (pointwise nat_eq) (keys_of rows) → i < length rows
+pub kept_inserted : (rows kept newer : List (List ℕ × Tally)) (i : ℕ) (code : List ℕ) (tally put : Tally)
+    → IsDistinct (pointwise nat_eq) (keys_of rows) → i < length rows
     → slice_get rows i ≡ Some (code, tally) → 0 < tally.total → put ≡ tally
     → ((q : List ℕ) → lookup (is_code q) newer ≡ cond (is_code code q) (Some put) (lookup (is_code q) kept))
     → ((q : List ℕ) → lookup (is_code q) kept ≡ with_objects (row_of (take i rows) q))
@@ -85,16 +90,19 @@ pub kept_inserted : (rows kept newer : List (List ℕ × Tally)) (i : ℕ) (code
 kept_inserted rows kept newer i code tally put distinct low at some same new before =
     let e : get_or rows i (code, tally) ≡ (code, tally) = got rows i (code, tally) (code, tally) at in
     kept_more rows kept newer i (code, tally) distinct low before
-    (subst (λ (o : List ℕ × Tally). (q : List ℕ) → lookup (is_code q) newer ≡ cond (is_code o.0 q) (with_objects (Some o.1)) (lookup (is_code q) kept)) (sym e)
+    (subst (λ (o : List ℕ × Tally). (q : List ℕ)
+    → lookup (is_code q) newer ≡ cond (is_code o.0 q) (with_objects (Some o.1)) (lookup (is_code q) kept)) (sym e)
     (λ q. new q ∙ ap (λ (o : Option Tally). cond (is_code code q) o (lookup (is_code q) kept)) (ap Some same ∙ sym (with_some tally some))))
 
 -- one without is left out
-pub kept_skipped : (rows kept : List (List ℕ × Tally)) (i : ℕ) (code : List ℕ) (tally : Tally) → IsDistinct (pointwise nat_eq) (keys_of rows) → i < length rows
+pub kept_skipped : (rows kept : List (List ℕ × Tally)) (i : ℕ) (code : List ℕ) (tally : Tally) → IsDistinct (pointwise nat_eq) (keys_of rows)
+    → i < length rows
     → slice_get rows i ≡ Some (code, tally) → tally.total ≤ 0 → ((q : List ℕ) → lookup (is_code q) kept ≡ with_objects (row_of (take i rows) q))
     → (q : List ℕ) → lookup (is_code q) kept ≡ with_objects (row_of (take (i + 1) rows) q)
 kept_skipped rows kept i code tally distinct low at none before =
     let e : get_or rows i (code, tally) ≡ (code, tally) = got rows i (code, tally) (code, tally) at in
-    let absent : row_of (take i rows) code ≡ None = subst (λ (o : List ℕ × Tally). row_of (take i rows) o.0 ≡ None) e (row_before rows i (code, tally) distinct low) in
+    let absent : row_of (take i rows) code ≡ None =
+    subst (λ (o : List ℕ × Tally). row_of (take i rows) o.0 ≡ None) e (row_before rows i (code, tally) distinct low) in
     kept_more rows kept kept i (code, tally) distinct low before
     (subst (λ (o : List ℕ × Tally). (q : List ℕ) → lookup (is_code q) kept ≡ cond (is_code o.0 q) (with_objects (Some o.1)) (lookup (is_code q) kept)) (sym e)
     (λ q. go q (cases_Bool (is_code code q)) absent))
@@ -113,15 +121,21 @@ codes_from : (entries : List (List ℕ × Tally)) → codes_of (map (λ entry. r
 codes_from [] = refl
 codes_from (e ∷ es) = ap (λ (cs : List (List ℕ)). e.0 ∷ cs) (codes_from es)
 
-pub in_order_from : (kept : BTreeMap (List ℕ) Tally) (rows : List Row) → IsOrdered (slice_cmp nat_cmp) kept → rows ≡ map (λ entry. row_from entry.0 entry.1) kept.entries → AreInOrder rows
+pub in_order_from : (kept : BTreeMap (List ℕ) Tally) (rows : List Row) → IsOrdered (slice_cmp nat_cmp) kept
+    → rows ≡ map (λ entry. row_from entry.0 entry.1) kept.entries → AreInOrder rows
 in_order_from kept rows ordered is = subst (IsStrictlySortedBy (slice_cmp nat_cmp)) (sym (ap codes_of is ∙ codes_from kept.entries)) ordered
 
 pub rows_from : (tallies : List (List ℕ × Tally)) (kept : BTreeMap (List ℕ) Tally) (rows : List Row) → IsOrdered (slice_cmp nat_cmp) kept
-    → rows ≡ map (λ entry. row_from entry.0 entry.1) kept.entries → ((q : List ℕ) → lookup (is_code q) kept.entries ≡ with_objects (row_of tallies q)) → AreRowsFrom tallies rows
+    → rows ≡ map (λ entry. row_from entry.0 entry.1) kept.entries → ((q : List ℕ) → lookup (is_code q) kept.entries ≡ with_objects (row_of tallies q))
+    → AreRowsFrom tallies rows
 rows_from tallies kept rows ordered is found = record {
   in_order = in_order_from kept rows ordered is;
   each = subst (All (λ row. with_objects (row_of tallies row.code) ≡ Some (record { total = row.total; samples = row.samples }))) (sym is)
-      (All-map (λ row. with_objects (row_of tallies row.code) ≡ Some (record { total = row.total; samples = row.samples })) (λ entry. row_from entry.0 entry.1) kept.entries
+      (All-map (λ row. with_objects (row_of tallies row.code) ≡ Some (record {
+        total = row.total;
+        samples =
+            row.samples;
+      })) (λ entry. row_from entry.0 entry.1) kept.entries
       (λ k d low. sym (found (get_or kept.entries k d).0) ∙ All-found nat_list_cmp_total kept ordered k d low));
   whole = λ code some. subst (λ (cs : List (List ℕ)). list_any (is_code code) cs ≡ true) (sym (ap codes_of is ∙ codes_from kept.entries))
       (sym (is_some-lookup (is_code code) kept.entries) ∙ ap is_some (found code) ∙ some);

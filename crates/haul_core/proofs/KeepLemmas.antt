@@ -1,5 +1,7 @@
 -- What a haul keeps, one report at a time.
-use Rattle.std.proofs.Common.{◌≡◌, ◌∙◌, ◌+◌, ◌*◌, ◌-◌, ◌^◌, ◌<◌, ◌≤◌, ℕ, zero, suc, Bool, true, false, cond, nat_eq, nat_le, nat_lt, ◌||◌, List, [], ◌∷◌, ◌++◌, Option, None, Some, ap, sym, subst, refl, arith, inl, inr, ◌⊎◌, filter, map, take, length, IfSome, count_by, sum, sum_by, unwrap_or, if◌then◌else◌, add-zero}
+use Rattle.std.proofs.Common.{◌≡◌, ◌∙◌, ◌+◌, ◌*◌, ◌-◌, ◌^◌, ◌<◌, ◌≤◌, ℕ, zero, suc, Bool, true, false, cond, nat_eq, nat_le, nat_lt, ◌||◌, List, [], ◌∷◌}
+use Rattle.std.proofs.Common.{◌++◌, Option, None, Some, ap, sym, subst, refl, arith, inl, inr}
+use Rattle.std.proofs.Common.{◌⊎◌, filter, map, take, length, IfSome, count_by, sum, sum_by, unwrap_or, if◌then◌else◌, add-zero}
 use Rattle.std.specs.List.{All, IsDistinct, list_any}
 use Rattle.std.specs.Map.{lookup, values_of}
 use Rattle.std.specs.Cmp.{nat_eq_equiv}
@@ -62,7 +64,8 @@ tally_more surveys s code lawful = go (found_in code s.finding) (found_some code
         → map (λ (s : Survey). s.number) (filter (has_object code) (surveys ++ s ∷ [])) ≡ map (λ (s : Survey). s.number) (filter (has_object code) surveys) ++ cond b (s.number ∷ []) []
     with_samples true e =
         ap (map (λ (s : Survey). s.number)) (filter-append (has_object code) surveys (s ∷ [])
-        ∙ ap (λ (b : Bool). filter (has_object code) surveys ++ cond b (s ∷ []) []) e) ∙ map_push (λ (s : Survey). s.number) (filter (has_object code) surveys) s
+        ∙ ap (λ (b : Bool). filter (has_object code) surveys ++ cond b (s ∷ []) []) e)
+        ∙ map_push (λ (s : Survey). s.number) (filter (has_object code) surveys) s
     with_samples false e =
         ap (map (λ (s : Survey). s.number)) (filter-append (has_object code) surveys (s ∷ [])
         ∙ ap (λ (b : Bool). filter (has_object code) surveys ++ cond b (s ∷ []) []) e ∙ append-nil (filter (has_object code) surveys))
@@ -180,7 +183,8 @@ pub record HasRoom (sums : Sums) : Type 0 where
   pub unsettled_room : sums.unsettled + 1 < 2 ^ 64
   pub for_good_room : sums.for_good + 1 < 2 ^ 64
 
-pub has_room : (held : Held) (count : ℕ) (workers : List (ℕ × ℕ)) (sums : Sums) → length held.taken + 1 < 2 ^ 64 → Keeps held count workers sums → HasRoom sums
+pub has_room : (held : Held) (count : ℕ) (workers : List (ℕ × ℕ)) (sums : Sums) → length held.taken + 1 < 2 ^ 64 → Keeps held count workers sums
+    → HasRoom sums
 has_room held count workers sums short k =
     let long : length k.surveys ≡ length held.taken = same_length held count workers sums k in
     record {
@@ -211,16 +215,23 @@ keeps_noted terms closed taken new_taken count workers new_workers sums t w r et
     (sym (ew ∙ ap (λ (x : ℕ × ℕ). workers ++ x ∷ []) ew')) k)
 
 -- the objects of a finding are lawful
-pub lawful_of : (rule : Numbers) (profile : Settling) (cells : List Cell) (finding : Finding) → IsFinding rule profile cells finding → HasLawfulObjects finding
+pub lawful_of : (rule : Numbers) (profile : Settling) (cells : List Cell) (finding : Finding) → IsFinding rule profile cells finding
+    → HasLawfulObjects finding
 lawful_of rule profile cells (Settled t objects good) h = h.2.counted.lawful
 lawful_of rule profile cells Unsettled h = tt
 
 -- a haul that was just opened
-pub keeps_none : (job : Job) (ranges : List Range) (workers count : ℕ) (taken numbers : List (ℕ × ℕ)) (sums : Sums) → AreNormal ranges → AreBelow number_bound ranges
+pub keeps_none : (job : Job) (ranges : List Range) (workers count : ℕ) (taken numbers : List (ℕ × ℕ)) (sums : Sums) → AreNormal ranges
+    → AreBelow number_bound ranges
     → count ≡ size_of ranges → IsWorker workers → taken ≡ [] → numbers ≡ [] → sums.rows ≡ [] → sums.unsettled ≡ 0 → sums.for_good ≡ 0
     → Keeps (record { terms = record { job = job; ranges = ranges; workers = workers }; closed = false; taken = taken }) count numbers sums
 keeps_none job ranges workers count taken numbers sums normal below size worker t n rows u g =
-    subst (λ (ts : List (ℕ × ℕ)). Keeps (record { terms = record { job = job; ranges = ranges; workers = workers }; closed = false; taken = ts }) count numbers sums) (sym t)
+    subst (λ (ts : List (ℕ × ℕ)). Keeps (record {
+      terms = record { job = job; ranges = ranges; workers = workers };
+      closed = false;
+      taken =
+          ts;
+    }) count numbers sums) (sym t)
     (record {
       normal = normal;
       below = below;

@@ -1,5 +1,6 @@
 -- Ranges that share a number, and ranges in normal form.
-use Rattle.std.proofs.Common.{◌≡◌, ◌∙◌, ◌+◌, ◌<◌, ◌≤◌, ℕ, Bool, true, false, List, [], ◌∷◌, ◌++◌, ap, sym, subst, refl, arith, max, min, cond, count_by, inl, inr, length, drop, take, get_or, ◌||◌, ◌≢◌, zero-add}
+use Rattle.std.proofs.Common.{◌≡◌, ◌∙◌, ◌+◌, ◌<◌, ◌≤◌, ℕ, Bool, true, false, List, [], ◌∷◌, ◌++◌, ap, sym}
+use Rattle.std.proofs.Common.{subst, refl, arith, max, min, cond, count_by, inl, inr, length, drop, take, get_or, ◌||◌, ◌≢◌, zero-add}
 use Rattle.std.proofs.lemmas.Bool.{and_from, and_parts, cases_Bool, cases_lt, false≢true, ltb-false, ltb-true, lt-ltb, leb-true, le-leb, or_parts}
 use Rattle.std.proofs.lemmas.Bool.Decides.{nat_tests}
 use Rattle.std.proofs.lemmas.List.{append_assoc, drop_more}
@@ -62,7 +63,8 @@ unmet n r (x ∷ xs) h is = elim (cases_Bool (is_in_range n x)) [
   | inr miss ↦ count_miss (is_in_range n) x xs miss ∙ unmet n r xs (or_parts _ _ h).1 is
 ]
 
-pub overlap_met : (ranges : List Range) (i : ℕ) (d : Range) → i < length ranges → list_any (shares (get_or ranges i d)) (take i ranges) ≡ true → Overlap ranges
+pub overlap_met : (ranges : List Range) (i : ℕ) (d : Range) → i < length ranges → list_any (shares (get_or ranges i d)) (take i ranges) ≡ true
+    → Overlap ranges
 overlap_met ranges i d low h =
     let m = met (get_or ranges i d) (take i ranges) h in
     let n : ℕ = m.0 in
@@ -107,18 +109,21 @@ or_assoc : (a b c : Bool) → ((a || b) || c) ≡ (a || (b || c))
 or_assoc true b c = refl
 or_assoc false b c = refl
 
-in_joined : (n : ℕ) (done : List Range) (a r : Range) (rest : List Range) → end_of a ≡ r.first → is_in (done ++ grown a r ∷ rest) n ≡ is_in (done ++ a ∷ r ∷ rest) n
+in_joined : (n : ℕ) (done : List Range) (a r : Range) (rest : List Range) → end_of a ≡ r.first
+    → is_in (done ++ grown a r ∷ rest) n ≡ is_in (done ++ a ∷ r ∷ rest) n
 in_joined n [] a r rest e = ap (λ (b : Bool). b || is_in rest n) (in_grown n a r e) ∙ or_assoc (is_in_range n a) (is_in_range n r) (is_in rest n)
 in_joined n (x ∷ more) a r rest e = ap (λ (b : Bool). is_in_range n x || b) (in_joined n more a r rest e)
 
 size_joined : (done : List Range) (a r : Range) (rest : List Range) → size_of (done ++ grown a r ∷ rest) ≡ size_of (done ++ a ∷ r ∷ rest)
-size_joined [] a r rest = omega (arith, sum_by-cons (λ (x : Range). x.count) (grown a r) rest, sum_by-cons (λ (x : Range). x.count) a (r ∷ rest), sum_by-cons (λ (x : Range). x.count) r rest)
+size_joined [] a r rest =
+    omega (arith, sum_by-cons (λ (x : Range). x.count) (grown a r) rest, sum_by-cons (λ (x : Range). x.count) a (r ∷ rest), sum_by-cons (λ (x : Range). x.count) r rest)
 size_joined (x ∷ more) a r rest =
     sum_by-cons (λ (x : Range). x.count) x (more ++ grown a r ∷ rest) ∙ ap (λ (n : ℕ). x.count + n) (size_joined more a r rest)
     ∙ sym (sum_by-cons (λ (x : Range). x.count) x (more ++ a ∷ r ∷ rest))
 
 -- the next range touches the latest
-pub joining_touch : (all done : List Range) (a r : Range) (rest : List Range) → end_of a ≡ r.first → Joining all done a (r ∷ rest) → Joining all done (grown a r) rest
+pub joining_touch : (all done : List Range) (a r : Range) (rest : List Range) → end_of a ≡ r.first → Joining all done a (r ∷ rest)
+    → Joining all done (grown a r) rest
 joining_touch all done a r rest e j =
     let end : end_of r ≡ end_of (grown a r) = omega arith in
     record {
@@ -133,7 +138,8 @@ joining_touch all done a r rest e j =
     }
 
 -- a gap comes before the next range
-pub joining_gap : (all done : List Range) (a r : Range) (rest : List Range) → end_of a ≢ r.first → Joining all done a (r ∷ rest) → Joining all (done ++ a ∷ []) r rest
+pub joining_gap : (all done : List Range) (a r : Range) (rest : List Range) → end_of a ≢ r.first → Joining all done a (r ∷ rest)
+    → Joining all (done ++ a ∷ []) r rest
 joining_gap all done a r rest apart j =
     let goes : end_of a ≤ r.first = j.ascending.1 in
     let same : (done ++ a ∷ []) ++ r ∷ rest ≡ done ++ a ∷ r ∷ rest = append_assoc done (a ∷ []) (r ∷ rest) in
@@ -171,7 +177,8 @@ pub is_in-some : (n : ℕ) (rs : List Range) → is_in (filter has_numbers rs) n
 is_in-some n [] = refl
 is_in-some n (r ∷ more) = go (has_numbers r) refl (is_in-some n more)
   where
-    go : (b : Bool) → has_numbers r ≡ b → is_in (filter has_numbers more) n ≡ is_in more n → is_in (cond b (r ∷ filter has_numbers more) (filter has_numbers more)) n ≡ (is_in_range n r || is_in more n)
+    go : (b : Bool) → has_numbers r ≡ b → is_in (filter has_numbers more) n ≡ is_in more n
+        → is_in (cond b (r ∷ filter has_numbers more) (filter has_numbers more)) n ≡ (is_in_range n r || is_in more n)
     go true e same = ap (λ (b : Bool). is_in_range n r || b) same
     go false e same = same ∙ ap (λ (b : Bool). b || is_in more n) (sym (in_empty n r e))
 
@@ -179,7 +186,8 @@ pub size_of-some : (rs : List Range) → size_of (filter has_numbers rs) ≡ siz
 size_of-some [] = refl
 size_of-some (r ∷ more) = go (has_numbers r) refl (size_of-some more) ∙ sym (sum_by-cons (λ (x : Range). x.count) r more)
   where
-    go : (b : Bool) → has_numbers r ≡ b → size_of (filter has_numbers more) ≡ size_of more → size_of (cond b (r ∷ filter has_numbers more) (filter has_numbers more)) ≡ r.count + size_of more
+    go : (b : Bool) → has_numbers r ≡ b → size_of (filter has_numbers more) ≡ size_of more
+        → size_of (cond b (r ∷ filter has_numbers more) (filter has_numbers more)) ≡ r.count + size_of more
     go true e same = sum_by-cons (λ (x : Range). x.count) r (filter has_numbers more) ∙ ap (λ (n : ℕ). r.count + n) same
     go false e same = let none : r.count ≤ 0 = ltb-false 0 r.count e in omega arith
 
@@ -189,10 +197,16 @@ count_some n (r ∷ more) = go (has_numbers r) (count_some n more)
   where
     go : (b : Bool) → count_by (is_in_range n) (filter has_numbers more) ≤ count_by (is_in_range n) more
         → count_by (is_in_range n) (cond b (r ∷ filter has_numbers more) (filter has_numbers more)) ≤ count_by (is_in_range n) (r ∷ more)
-    go true low = omega (arith, sum_by-cons (λ y. cond {A = ℕ} (is_in_range n y) 1 0) r (filter has_numbers more), sum_by-cons (λ y. cond {A = ℕ} (is_in_range n y) 1 0) r more)
+    go true low = omega (
+      arith,
+      sum_by-cons (λ y. cond {A = ℕ} (is_in_range n y) 1 0) r (filter has_numbers more),
+      sum_by-cons (λ y. cond {A =
+          ℕ} (is_in_range n y) 1 0) r more,
+    )
     go false low = omega (arith, sum_by-cons (λ y. cond {A = ℕ} (is_in_range n y) 1 0) r more)
 
-ascending_from : (rs : List Range) → ((n : ℕ) → count_by (is_in_range n) rs ≤ 1) → IsNonDecreasingBy (λ r. r.first) rs → All (λ r. 1 ≤ r.count) rs → Ascending rs
+ascending_from : (rs : List Range) → ((n : ℕ) → count_by (is_in_range n) rs ≤ 1) → IsNonDecreasingBy (λ r. r.first) rs → All (λ r. 1 ≤ r.count) rs
+    → Ascending rs
 ascending_from [] few up some = tt
 ascending_from (r ∷ []) few up some = (All-head (λ r. 1 ≤ r.count) r [] some, tt, tt)
 ascending_from (r ∷ s ∷ more) few up some =
@@ -215,7 +229,8 @@ ascending_from (r ∷ s ∷ more) few up some =
           (IsNonDecreasingBy-drop (λ r. r.first) 1 (r ∷ s ∷ more) up) (All-tail (λ r. 1 ≤ r.count) r (s ∷ more) some),
     )
 
-pub ascending_of : (ranges ordered : List Range) → IsPermutation (filter has_numbers ranges) ordered → IsNonDecreasingBy (λ r. r.first) ordered → ¬ Overlap ranges → Ascending ordered
+pub ascending_of : (ranges ordered : List Range) → IsPermutation (filter has_numbers ranges) ordered → IsNonDecreasingBy (λ r. r.first) ordered
+    → ¬ Overlap ranges → Ascending ordered
 ascending_of ranges ordered same up apart =
     ascending_from ordered (λ n. elim (cases_lt (count_by (is_in_range n) ordered) 2) [
       | inl few ↦ omega arith
@@ -232,11 +247,13 @@ ascending_of ranges ordered same up apart =
     (All-weaker (λ r. has_numbers r ≡ true) (λ r. 1 ≤ r.count) (λ r h. let some : 0 < r.count = ltb-true 0 r.count h in omega arith)
     (filter has_numbers ranges) (filter_passes has_numbers ranges)))
 
-pub below_of : (ranges ordered : List Range) → IsPermutation (filter has_numbers ranges) ordered → AreBelow number_bound ranges → AreBelow number_bound ordered
+pub below_of : (ranges ordered : List Range) → IsPermutation (filter has_numbers ranges) ordered → AreBelow number_bound ranges
+    → AreBelow number_bound ordered
 below_of ranges ordered same below =
     All-permutation (λ r. end_of r ≤ number_bound) (filter has_numbers ranges) ordered same (All-filter has_numbers (λ r. end_of r ≤ number_bound) ranges below)
 
-pub form_of : (ranges ordered joined : List Range) → IsPermutation (filter has_numbers ranges) ordered → IsNormalForm ordered joined → IsNormalForm ranges joined
+pub form_of : (ranges ordered joined : List Range) → IsPermutation (filter has_numbers ranges) ordered → IsNormalForm ordered joined
+    → IsNormalForm ranges joined
 form_of ranges ordered joined same form = record {
   normal_form = form.normal_form;
   same = λ n. form.same n ∙ sym (list_any-IsPermutation (is_in_range n) (filter has_numbers ranges) ordered same) ∙ is_in-some n ranges;
@@ -254,15 +271,18 @@ next_below all done latest r rest j = All-head (λ x. end_of x ≤ number_bound)
 -- the same, range by range of a slice
 pub touch_at : (all done : List Range) (latest : Range) (more : List Range) (i : ℕ) (d : Range) → i < length more → end_of latest ≡ (get_or more i d).first
     → Joining all done latest (drop i more) → Joining all done (grown latest (get_or more i d)) (drop (i + 1) more)
-touch_at all done latest more i d low e j = joining_touch all done latest (get_or more i d) (drop (i + 1) more) e (subst (λ (rest : List Range). Joining all done latest rest) (drop_more more i d low) j)
+touch_at all done latest more i d low e j =
+    joining_touch all done latest (get_or more i d) (drop (i + 1) more) e (subst (λ (rest : List Range). Joining all done latest rest) (drop_more more i d low) j)
 
 pub gap_at : (all done : List Range) (latest : Range) (more : List Range) (i : ℕ) (d : Range) → i < length more → end_of latest ≢ (get_or more i d).first
     → Joining all done latest (drop i more) → Joining all (done ++ latest ∷ []) (get_or more i d) (drop (i + 1) more)
-gap_at all done latest more i d low e j = joining_gap all done latest (get_or more i d) (drop (i + 1) more) e (subst (λ (rest : List Range). Joining all done latest rest) (drop_more more i d low) j)
+gap_at all done latest more i d low e j =
+    joining_gap all done latest (get_or more i d) (drop (i + 1) more) e (subst (λ (rest : List Range). Joining all done latest rest) (drop_more more i d low) j)
 
 pub next_below_at : (all done : List Range) (latest : Range) (more : List Range) (i : ℕ) (d : Range) → i < length more
     → Joining all done latest (drop i more) → end_of (get_or more i d) ≤ number_bound
-next_below_at all done latest more i d low j = next_below all done latest (get_or more i d) (drop (i + 1) more) (subst (λ (rest : List Range). Joining all done latest rest) (drop_more more i d low) j)
+next_below_at all done latest more i d low j =
+    next_below all done latest (get_or more i d) (drop (i + 1) more) (subst (λ (rest : List Range). Joining all done latest rest) (drop_more more i d low) j)
 
 pub start_from : (all : List Range) (a : Range) (rest : List Range) → all ≡ a ∷ rest → Ascending all → AreBelow number_bound all → Joining all [] a rest
 start_from all a rest e asc below =

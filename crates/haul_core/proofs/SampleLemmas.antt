@@ -1,7 +1,9 @@
 -- The least three of some numbers, kept while numbers come.
-use Rattle.std.proofs.Common.{◌≡◌, ◌∙◌, ◌+◌, ◌<◌, ◌≤◌, ℕ, zero, suc, Bool, true, false, cond, nat_le, List, [], ◌∷◌, ◌++◌, ap, sym, subst, refl, arith, length, take, drop, get_or, set, inl, inr, ◌⊎◌, add-zero}
+use Rattle.std.proofs.Common.{◌≡◌, ◌∙◌, ◌+◌, ◌<◌, ◌≤◌, ℕ, zero, suc, Bool, true, false, cond, nat_le, List, []}
+use Rattle.std.proofs.Common.{◌∷◌, ◌++◌, ap, sym, subst, refl, arith, length, take, drop, get_or, set, inl, inr, ◌⊎◌, add-zero}
 use Rattle.std.proofs.lemmas.Bool.{cases_lt, cases_order, le-leb, lt-leb}
-use Rattle.std.proofs.lemmas.List.{append_assoc, drop-drop, drop-set-lt, drop_all, drop_more, get_or-drop, get_or-take, length-set, length-take-le, take-take, take_more, take_more_set}
+use Rattle.std.proofs.lemmas.List.{append_assoc, drop-drop, drop-set-lt, drop_all, drop_more, get_or-drop}
+use Rattle.std.proofs.lemmas.List.{get_or-take, length-set, length-take-le, take-take, take_more, take_more_set}
 use Rattle.haul_core.specs.Samples.{IsAscending, ascending, least_three, with_number}
 
 with_least : (n x : ℕ) (more : List ℕ) → n ≤ x → with_number n (x ∷ more) ≡ n ∷ x ∷ more
@@ -14,37 +16,6 @@ with_greater n x more h = ap (λ (b : Bool). cond b (n ∷ x ∷ more) (x ∷ wi
 pub with_first : (x : ℕ) (more : List ℕ) → IsAscending (x ∷ more) → with_number x more ≡ x ∷ more
 with_first x [] h = refl
 with_first x (y ∷ more) h = with_least x y more h.0
-
--- ---- what is kept stays ascending
-
-pub ascending_with : (n : ℕ) (xs : List ℕ) → IsAscending xs → IsAscending (with_number n xs)
-ascending_with n [] h = tt
-ascending_with n (x ∷ []) h = elim (cases_lt x n) [
-  | inl more ↦ subst IsAscending (sym (with_greater n x [] more)) (omega arith, tt)
-  | inr least ↦ subst IsAscending (sym (with_least n x [] least)) (least, tt)
-]
-ascending_with n (x ∷ y ∷ more) h = go (ascending_with n (y ∷ more) h.1) (cases_lt x n)
-  where
-    next : x < n → IsAscending (with_number n (y ∷ more)) → IsAscending (x ∷ with_number n (y ∷ more))
-    next low rest = elim (cases_lt y n) [
-      | inl after ↦ subst (λ (zs : List ℕ). IsAscending (x ∷ zs)) (sym (with_greater n y more after)) (h.0, subst IsAscending (with_greater n y more after) rest)
-      | inr before ↦ subst (λ (zs : List ℕ). IsAscending (x ∷ zs)) (sym (with_least n y more before)) (omega arith, subst IsAscending (with_least n y more before) rest)
-    ]
-
-    go : IsAscending (with_number n (y ∷ more)) → (x < n) ⊎ (n ≤ x) → IsAscending (with_number n (x ∷ y ∷ more))
-    go rest (inl low) = subst IsAscending (sym (with_greater n x (y ∷ more) low)) (next low rest)
-    go rest (inr least) = subst IsAscending (sym (with_least n x (y ∷ more) least)) (least, h)
-
-take_nil : (k : ℕ) → take {A = ℕ} k [] ≡ []
-take_nil zero = refl
-take_nil (suc k) = refl
-
-pub ascending_take : (k : ℕ) (xs : List ℕ) → IsAscending xs → IsAscending (take k xs)
-ascending_take zero xs h = tt
-ascending_take (suc k) [] h = tt
-ascending_take (suc k) (x ∷ []) h = subst (λ (ys : List ℕ). IsAscending (x ∷ ys)) (sym (take_nil k)) tt
-ascending_take (suc zero) (x ∷ y ∷ more) h = tt
-ascending_take (suc (suc k)) (x ∷ y ∷ more) h = (h.0, ascending_take (suc k) (y ∷ more) h.1)
 
 -- ---- the least k of the numbers so far are enough
 
@@ -71,11 +42,9 @@ ascending_tail : (x : ℕ) (xs : List ℕ) → IsAscending (x ∷ xs) → IsAsce
 ascending_tail x [] h = tt
 ascending_tail x (y ∷ ys) h = h.1
 
-pub putting_start : (old : List ℕ) (count number : ℕ) → IsAscending (take count old) → Putting old count number old number 0
-putting_start old count number h = record { long = refl; done = refl; rest = refl; ascending = h }
-
 -- the number at the place, in the list as it was
-next_old : (old : List ℕ) (count number : ℕ) (numbers : List ℕ) (left place : ℕ) → count ≤ length old → place < count → Putting old count number numbers left place
+next_old : (old : List ℕ) (count number : ℕ) (numbers : List ℕ) (left place : ℕ) → count ≤ length old → place < count
+    → Putting old count number numbers left place
     → drop place (take count old) ≡ get_or numbers place 0 ∷ drop (place + 1) (take count old)
 next_old old count number numbers left place few low p =
     let long : length (take count old) ≡ count = length-take-le count old few in
@@ -125,11 +94,6 @@ putting_high old count number numbers left place few low h p =
       rest = rest_more numbers old place p.rest;
       ascending = ascending_tail kept rest up;
     }
-
-pub putting_end : (old : List ℕ) (count number : ℕ) (numbers : List ℕ) (left : ℕ) → count ≤ length old → Putting old count number numbers left count
-    → take count numbers ++ left ∷ [] ≡ with_number number (take count old)
-putting_end old count number numbers left few p =
-    ap (λ (xs : List ℕ). take count numbers ++ with_number left xs) (sym (drop_all count (take count old) (omega (arith, length-take-le count old few)))) ∙ p.done
 
 -- ---- the order in which numbers come doesn't matter
 

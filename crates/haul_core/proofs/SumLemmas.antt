@@ -1,5 +1,6 @@
 -- The rows of a census are those of the surveys, and their sum stays small.
-use Rattle.std.proofs.Common.{◌≡◌, ◌∙◌, ◌+◌, ◌*◌, ◌^◌, ◌<◌, ◌≤◌, ℕ, Bool, true, false, cond, nat_eq, nat_lt, List, [], ◌∷◌, Option, None, Some, IsSome, ap, sym, subst, refl, arith, inl, inr, ◌⊎◌, map, length, count_by, sum, sum_by, unwrap_or, zero-add}
+use Rattle.std.proofs.Common.{◌≡◌, ◌∙◌, ◌+◌, ◌*◌, ◌^◌, ◌<◌, ◌≤◌, ℕ, Bool, true, false, cond, nat_eq, nat_lt, List, [], ◌∷◌, Option}
+use Rattle.std.proofs.Common.{None, Some, IsSome, ap, sym, subst, refl, arith, inl, inr, ◌⊎◌, map, length, count_by, sum, sum_by, unwrap_or, zero-add}
 use Rattle.std.specs.Cmp.{eq_by_cmp_equiv}
 use Rattle.std.specs.Cmp.Lexicographic.{nat_list_cmp_total, slice_cmp}
 use Rattle.std.specs.List.{All, AllByRecursion, IsDistinct}
@@ -54,7 +55,8 @@ rows_of_surveys tallies surveys rows from same = record {
 
     found : (code : List ℕ) (o : Option Tally) → row_of tallies code ≡ o → 1 ≤ total surveys code → IsSome (with_objects (row_of tallies code))
     found code None e some =
-        let none : 0 ≡ total surveys code = ap (λ (t : Tally). t.total) (sym (ap (λ (o : Option Tally). unwrap_or o no_tally) e) ∙ same code) in absurd (omega arith)
+        let none : 0 ≡ total surveys code = ap (λ (t : Tally). t.total) (sym (ap (λ (o : Option Tally). unwrap_or o no_tally) e)
+        ∙ same code) in absurd (omega arith)
     found code (Some t) e some =
         let is : t.total ≡ total surveys code = ap (λ (t : Tally). t.total) (sym (ap (λ (o : Option Tally). unwrap_or o no_tally) e) ∙ same code) in
         subst (λ (o : Option Tally). IsSome (with_objects o)) (sym e) (subst (λ (b : Bool). IsSome (cond b (Some t) None)) (sym (lt-ltb 0 t.total (omega arith))) refl)
@@ -75,13 +77,16 @@ unweighed c k n (y ∷ ys) same apart =
     sum_by-cons (λ code. cond (is_code code k) n 0) y ys ∙ ap (λ (b : Bool). cond b n 0 + sum_by (λ code. cond (is_code code k) n 0) ys) other
     ∙ zero-add (sum_by (λ code. cond (is_code code k) n 0) ys) ∙ unweighed c k n ys same apart.1
 
-weighed : (k : List ℕ) (n : ℕ) (codes : List (List ℕ)) → IsDistinct (eq_by_cmp (slice_cmp nat_cmp)) codes → sum_by (λ code. cond (is_code code k) n 0) codes ≤ n
+weighed : (k : List ℕ) (n : ℕ) (codes : List (List ℕ)) → IsDistinct (eq_by_cmp (slice_cmp nat_cmp)) codes
+    → sum_by (λ code. cond (is_code code k) n 0) codes ≤ n
 weighed k n [] distinct = omega arith
 weighed k n (c ∷ cs) distinct = go (cases_Bool (is_code c k)) (weighed k n cs (IsDistinct-tail (eq_by_cmp (slice_cmp nat_cmp)) c cs distinct))
   where
-    go : (is_code c k ≡ true) ⊎ (is_code c k ≡ false) → sum_by (λ code. cond (is_code code k) n 0) cs ≤ n → sum_by (λ code. cond (is_code code k) n 0) (c ∷ cs) ≤ n
+    go : (is_code c k ≡ true) ⊎ (is_code c k ≡ false) → sum_by (λ code. cond (is_code code k) n 0) cs ≤ n
+        → sum_by (λ code. cond (is_code code k) n 0) (c ∷ cs) ≤ n
     go (inl same) rest =
-        let none : sum_by (λ code. cond (is_code code k) n 0) cs ≡ 0 = unweighed c k n cs same (IsDistinct-head (eq_by_cmp (slice_cmp nat_cmp)) c cs distinct) in
+        let none : sum_by (λ code. cond (is_code code k) n 0) cs ≡ 0 =
+        unweighed c k n cs same (IsDistinct-head (eq_by_cmp (slice_cmp nat_cmp)) c cs distinct) in
         let whole : sum_by (λ code. cond (is_code code k) n 0) (c ∷ cs) ≡ n + sum_by (λ code. cond (is_code code k) n 0) cs =
         sum_by-cons (λ code. cond (is_code code k) n 0) c cs ∙ ap (λ (b : Bool). cond b n 0 + sum_by (λ code. cond (is_code code k) n 0) cs) same in
         omega arith
@@ -118,7 +123,8 @@ counted_once codes (o ∷ os) distinct =
     le_sums : {x y z n s t : ℕ} → x ≤ y + z → y ≤ n → z ≤ s → t ≡ n + s → x ≤ t
     le_sums a b c e = omega arith
 
-objects_counted : (codes : List (List ℕ)) (finding : Finding) → IsDistinct (eq_by_cmp (slice_cmp nat_cmp)) codes → sum_by (λ code. count_in code finding) codes ≤ objects_in finding
+objects_counted : (codes : List (List ℕ)) (finding : Finding) → IsDistinct (eq_by_cmp (slice_cmp nat_cmp)) codes
+    → sum_by (λ code. count_in code finding) codes ≤ objects_in finding
 objects_counted codes (Settled t objects good) distinct = counted_once codes objects distinct
 objects_counted codes Unsettled distinct = omega (arith, zeros codes)
 
@@ -151,7 +157,8 @@ rows_summed surveys (row ∷ rows) each =
     ∙ (λ i. first.total_is i + rows_summed surveys rows (All-tail (IsRowOf surveys) row rows each) i)
     ∙ sym (sum_by-cons (total surveys) row.code (codes_of rows))
 
-pub sum_small : (surveys : List Survey) (rows : List Row) → AreRowsOf surveys rows → All (λ s. objects_in s.finding < 2 ^ 64) surveys → length surveys + 1 ≤ 2 ^ 64
+pub sum_small : (surveys : List Survey) (rows : List Row) → AreRowsOf surveys rows → All (λ s. objects_in s.finding < 2 ^ 64) surveys
+    → length surveys + 1 ≤ 2 ^ 64
     → sum_by (λ row. row.total) rows < 2 ^ 128
 sum_small surveys rows are few short =
     let distinct : IsDistinct (eq_by_cmp (slice_cmp nat_cmp)) (codes_of rows) = IsDistinct-from_sorted (slice_cmp nat_cmp) (codes_of rows) are.in_order in

@@ -1,5 +1,7 @@
 -- Rows of codes: how they are found and changed, and that rows with nothing in them change no total.
-use Rattle.std.proofs.Common.{◌≡◌, ◌≢◌, ◌∙◌, ◌+◌, ◌<◌, ◌≤◌, ◌^◌, ℕ, zero, suc, Bool, true, false, cond, List, [], ◌∷◌, ◌++◌, Option, None, Some, IsSome, ap, sym, subst, refl, arith, inl, inr, length, take, get_or, nat_eq, unwrap_or, is_some, ◌⊎◌, Result, Ok, Err, is_ok}
+use Rattle.std.proofs.Common.{◌≡◌, ◌≢◌, ◌∙◌, ◌+◌, ◌<◌, ◌≤◌, ◌^◌, ℕ, zero, suc, Bool, true, false, cond, List, [], ◌∷◌, ◌++◌, Option, None}
+use Rattle.std.proofs.Common.{Some, IsSome, ap, sym, subst, refl, arith, inl, inr, length}
+use Rattle.std.proofs.Common.{take, get_or, nat_eq, unwrap_or, is_some, ◌⊎◌, Result, Ok, Err, is_ok}
 use Rattle.std.specs.Result.{OnOk}
 use Rattle.std.specs.Cmp.{Equal-is, both_ways, eq_by_cmp_equiv}
 use Rattle.std.specs.Cmp.Lexicographic.{bytes_decides, nat_list_cmp_total, pointwise, slice_cmp}
@@ -83,7 +85,8 @@ blank_tally [] code blank = refl
 blank_tally (row ∷ more) code blank =
     go (pointwise nat_eq code row.0) (All-head (λ r. r.1 ≡ no_tally) row more blank) (blank_tally more code (All-tail (λ r. r.1 ≡ no_tally) row more blank))
   where
-    go : (b : Bool) → row.1 ≡ no_tally → tally_in more code ≡ no_tally → unwrap_or (cond b (Some row.1) (lookup (pointwise nat_eq code) more)) no_tally ≡ no_tally
+    go : (b : Bool) → row.1 ≡ no_tally → tally_in more code ≡ no_tally
+        → unwrap_or (cond b (Some row.1) (lookup (pointwise nat_eq code) more)) no_tally ≡ no_tally
     go true first rest = first
     go false first rest = rest
 
@@ -99,15 +102,13 @@ tally-Extends old new x code =
 
 pub HasRow-Extends : (old new : List (List ℕ × Tally)) → Extends old new → (code : List ℕ) → HasRow old code → HasRow new code
 HasRow-Extends old new x code h =
-    subst (λ (o : Option Tally). IsSome o) (sym (ap (λ (rows : List (List ℕ × Tally)). row_of rows code) x.is ∙ lookup_append (pointwise nat_eq code) old x.more))
+    subst (λ (o : Option Tally). IsSome o) (sym (ap (λ (rows : List (List ℕ × Tally)). row_of rows code) x.is
+    ∙ lookup_append (pointwise nat_eq code) old x.more))
     (go (row_of old code) h)
   where
     go : (o : Option Tally) → IsSome o → IsSome (option_or o (row_of x.more code))
     go None is = absurd (false≢true is)
     go (Some tally) is = refl
-
-pub Extends-nothing : (rows : List (List ℕ × Tally)) → Extends rows rows
-Extends-nothing rows = record { more = []; is = sym (append-nil rows); blank = All-nil (λ row. row.1 ≡ no_tally) }
 
 pub Extends-then : (a b c : List (List ℕ × Tally)) → Extends a b → Extends b c → Extends a c
 Extends-then a b c x y = record {
@@ -128,9 +129,6 @@ pub rows_more : (old new : List (List ℕ × Tally)) (objects : List (List ℕ �
 rows_more old new objects i d x low before here =
     All-more (λ object. HasRow new object.0) objects i d low
     (All-weaker (λ object. HasRow old object.0) (λ object. HasRow new object.0) (λ object h. HasRow-Extends old new x object.0 h) (take i objects) before) here
-
-pub cut_back : (old new : List (List ℕ × Tally)) (n : ℕ) → n ≡ length old → Extends old new → take n new ≡ old
-cut_back old new n e x = ap (take n) x.is ∙ take_at old x.more n (sym e)
 
 -- ---- the objects with one code are added
 
@@ -174,7 +172,8 @@ is_code-same a b = both_ways (is_code a b) (pointwise nat_eq a b)
 pub lookup_none : {X : Type 0} (test : List ℕ → Bool) (xs : List (List ℕ × X)) → All (λ x. test x.0 ≡ false) xs → lookup test xs ≡ None
 lookup_none test [] h = refl
 lookup_none {X} test (x ∷ xs) h =
-    ap (λ (b : Bool). cond b (Some x.1) (lookup test xs)) (All-head (λ e. test e.0 ≡ false) x xs h) ∙ lookup_none test xs (All-tail (λ e. test e.0 ≡ false) x xs h)
+    ap (λ (b : Bool). cond b (Some x.1) (lookup test xs)) (All-head (λ e. test e.0 ≡ false) x xs h)
+    ∙ lookup_none test xs (All-tail (λ e. test e.0 ≡ false) x xs h)
 
 -- a code stands once
 pub not_before : (objects : List (List ℕ × ℕ)) (i : ℕ) (d : List ℕ × ℕ) → AreObjects objects → i < length objects
@@ -186,7 +185,8 @@ not_before objects i d lawful low =
     let apart : is_eq (slice_cmp nat_cmp (get_or (keys_of objects) k d.0) (get_or (keys_of objects) i d.0)) ≡ false =
     ap is_eq (Less-from_sorted (slice_cmp nat_cmp) (keys_of objects) k i d.0 lawful.in_order long (omega arith)) in
     let at_k : get_or (keys_of objects) k d.0 ≡ (get_or (take i objects) k e).0 =
-    get_or-map (λ o. o.0) objects k d d.0 (omega arith) ∙ ap (λ (o : List ℕ × ℕ). o.0) (get_or_default objects k d e (omega arith) ∙ sym (get_or-take i objects k e long)) in
+    get_or-map (λ o. o.0) objects k d d.0 (omega arith) ∙ ap (λ (o : List ℕ × ℕ). o.0) (get_or_default objects k d e (omega arith)
+    ∙ sym (get_or-take i objects k e long)) in
     let at_i : get_or (keys_of objects) i d.0 ≡ (get_or objects i d).0 = get_or-map (λ o. o.0) objects i d d.0 low in
     (eq_by_cmp_equiv nat_list_cmp_total).symm (get_or objects i d).0 (get_or (take i objects) k e).0
     ∙ sym (λ j. is_code (at_k j) (at_i j)) ∙ apart)
@@ -205,7 +205,8 @@ pub or_none : {X : Type 0} (o : Option X) → option_or o None ≡ o
 or_none None = refl
 or_none (Some x) = refl
 
-pub adding_more : (old new newer : List (List ℕ × Tally)) (objects : List (List ℕ × ℕ)) (number i : ℕ) (d : List ℕ × ℕ) → AreObjects objects → i < length objects
+pub adding_more : (old new newer : List (List ℕ × Tally)) (objects : List (List ℕ × ℕ)) (number i : ℕ) (d : List ℕ × ℕ) → AreObjects objects
+    → i < length objects
     → Adding old new objects number i
     → tally_in newer (get_or objects i d).0 ≡ added (Some (get_or objects i d).1) number (tally_in new (get_or objects i d).0)
     → ((other : List ℕ) → other ≢ (get_or objects i d).0 → tally_in newer other ≡ tally_in new other)
@@ -229,10 +230,12 @@ adding_more old new newer objects number i d lawful low a here others rows = rec
         found o.0 ∙ ap (λ (r : Option ℕ). option_or r (cond (is_code o.0 o.0) (Some o.1) None)) (not_before objects i d lawful low)
         ∙ ap (λ (b : Bool). cond b (Some o.1) None) ((eq_by_cmp_equiv nat_list_cmp_total).refl o.0) in
         subst (λ (c : List ℕ). tally_in newer c ≡ added (lookup (is_code c) (take (i + 1) objects)) number (tally_in old c)) (sym is)
-        (here ∙ ap (added (Some o.1) number) (adding_next old new objects number i d lawful low a) ∙ ap (λ (r : Option ℕ). added r number (tally_in old o.0)) (sym hit))
+        (here ∙ ap (added (Some o.1) number) (adding_next old new objects number i d lawful low a)
+        ∙ ap (λ (r : Option ℕ). added r number (tally_in old o.0)) (sym hit))
     go code (inr other) =
         let miss : lookup (is_code code) (take (i + 1) objects) ≡ lookup (is_code code) (take i objects) =
-        found code ∙ ap (λ (b : Bool). option_or (lookup (is_code code) (take i objects)) (cond b (Some o.1) None)) other ∙ or_none (lookup (is_code code) (take i objects)) in
+        found code ∙ ap (λ (b : Bool). option_or (lookup (is_code code) (take i objects)) (cond b (Some o.1) None)) other
+        ∙ or_none (lookup (is_code code) (take i objects)) in
         others code (λ e. false≢true (sym other ∙ subst (λ (c : List ℕ). is_code code c ≡ true) e ((eq_by_cmp_equiv nat_list_cmp_total).refl code)))
         ∙ a.tallies code ∙ ap (λ (r : Option ℕ). added r number (tally_in old code)) (sym miss)
 

@@ -19,10 +19,6 @@ is_in ranges n = list_any (is_in_range n) ranges
 abbrev pub size_of : List Range → ℕ
 size_of ranges = sum_by (λ r. r.count) ranges
 
--- the numbers of the ranges, range by range
-abbrev pub numbers_of : List Range → List ℕ
-numbers_of ranges = flat_map (λ r. range_with_len r.first r.count) ranges
-
 -- some number stands in two of the ranges
 abbrev pub Overlap : List Range → Type 0
 Overlap ranges = (n : ℕ) × (2 ≤ count_by (is_in_range n) ranges)
@@ -58,7 +54,3 @@ AreNormal (r ∷ more) = (1 ≤ r.count) × BeginAfter (end_of r) more × AreNor
 pub record IsNormalForm (ranges normal : List Range) : Type 0 where
   pub normal_form : AreNormal normal
   pub same : (n : ℕ) → is_in normal n ≡ is_in ranges n
-
--- a set has one normal form
-abbrev pub OneNormalForm : Type 0
-OneNormalForm = (a b : List Range) → AreNormal a → AreNormal b → ((n : ℕ) → is_in a n ≡ is_in b n) → a ≡ b

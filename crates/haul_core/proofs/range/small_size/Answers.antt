@@ -9,7 +9,8 @@ pub loop-range-preserved : goal.loop-range-preserved
 loop-range-preserved c =
     let none : Range = record { first = 0; count = 0 } in
     record {
-      size = ap (λ n. n + (get_or c.args.ranges.now c.loop-range.range-index none).count) c.loop-range.invariant.size ∙ sym (sum_by_more (λ (r : Range). r.count) c.args.ranges.now c.loop-range.range-index none c.loop-range-test.true);
+      size = ap (λ n. n + (get_or c.args.ranges.now c.loop-range.range-index none).count) c.loop-range.invariant.size
+          ∙ sym (sum_by_more (λ (r : Range). r.count) c.args.ranges.now c.loop-range.range-index none c.loop-range-test.true);
       few = let few = c.loop-range.invariant.few in omega arith;
       below = All-more (λ r. end_of r ≤ number_bound) c.args.ranges.now c.loop-range.range-index none c.loop-range-test.true c.loop-range.invariant.below
           (c.is_below-below.ensures.0 c.if-not-below.false);

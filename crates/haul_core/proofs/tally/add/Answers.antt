@@ -13,7 +13,8 @@ add_one-requires-clause-room c =
     let same = subst (λ (object : List ℕ × ℕ). tally_in c.loop-object.rows.entries object.0 ≡ tally_in c.args.rows.now.entries object.0) (sym c.object-item.is)
     (adding_next c.args.rows.now.entries c.loop-object.rows.entries c.args.objects.now c.args.number c.loop-object.object-index
     c.object-item.result c.requires.lawful c.loop-object-test.true c.loop-object.invariant) in
-    let total : (tally_in c.loop-object.rows.entries c.object-item.result.0).total ≡ (tally_in c.args.rows.now.entries c.object-item.result.0).total = ap (λ t. t.total) same in
+    let total : (tally_in c.loop-object.rows.entries c.object-item.result.0).total ≡ (tally_in c.args.rows.now.entries c.object-item.result.0).total =
+    ap (λ t. t.total) same in
     let room = c.requires.room c.object-item.result.0 in
     omega arith
 
@@ -23,6 +24,7 @@ loop-object-preserved c =
     c.object-item.result c.requires.lawful c.loop-object-test.true c.loop-object.invariant
     (subst (λ (object : List ℕ × ℕ). tally_in c.add_one.new.rows.entries object.0 ≡ added (Some object.1) c.args.number (tally_in c.loop-object.rows.entries object.0))
     c.object-item.is c.add_one.ensures.tally)
-    (subst (λ (object : List ℕ × ℕ). (other : List ℕ) → other ≢ object.0 → tally_in c.add_one.new.rows.entries other ≡ tally_in c.loop-object.rows.entries other)
+    (subst (λ (object : List ℕ × ℕ). (other : List ℕ) → other ≢ object.0
+    → tally_in c.add_one.new.rows.entries other ≡ tally_in c.loop-object.rows.entries other)
     c.object-item.is c.add_one.ensures.others)
     c.add_one.ensures.rows

@@ -13,10 +13,13 @@ written c = tally_written c.args.rows.now.entries c.in-Some.index c.args.count c
     (sym c.in-Some.ensures.index) (sym c.in-Some.ensures.value ∙ c.index.ensures) c.with-tally.ensures
 
 pub returns-clause-tally : goal.returns-clause-tally
-returns-clause-tally c = at_code c.args.rows.now.entries (set_value_at c.args.rows.now.entries c.in-Some.index c.with-tally.result) c.args.code.now _ (written c)
+returns-clause-tally c =
+    at_code c.args.rows.now.entries (set_value_at c.args.rows.now.entries c.in-Some.index c.with-tally.result) c.args.code.now _ (written c)
 
 pub returns-clause-others : goal.returns-clause-others
-returns-clause-others c = at_others c.args.rows.now.entries (set_value_at c.args.rows.now.entries c.in-Some.index c.with-tally.result) c.args.code.now _ (written c)
+returns-clause-others c =
+    at_others c.args.rows.now.entries (set_value_at c.args.rows.now.entries c.in-Some.index c.with-tally.result) c.args.code.now _ (written c)
 
 pub returns-clause-rows : goal.returns-clause-rows
-returns-clause-rows c = rows_stay c.args.rows.now.entries (set_value_at c.args.rows.now.entries c.in-Some.index c.with-tally.result) c.args.code.now _ (written c)
+returns-clause-rows c =
+    rows_stay c.args.rows.now.entries (set_value_at c.args.rows.now.entries c.in-Some.index c.with-tally.result) c.args.code.now _ (written c)

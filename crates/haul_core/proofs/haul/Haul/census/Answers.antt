@@ -13,7 +13,8 @@ use Rattle.haul_core.proofs.haul.Haul.census.Goals as goal
 pub sum_of_totals-objects-requires : goal.sum_of_totals-objects-requires
 sum_of_totals-objects-requires c =
     let k = c.self.invariant in
-    let rows : AreRowsOf k.surveys c.in_ok-rows.rows = rows_of_surveys c.self.inside.totals.rows.entries k.surveys c.in_ok-rows.rows c.in_ok-rows.ensures k.sum.rows in
+    let rows : AreRowsOf k.surveys c.in_ok-rows.rows =
+    rows_of_surveys c.self.inside.totals.rows.entries k.surveys c.in_ok-rows.rows c.in_ok-rows.ensures k.sum.rows in
     let long : length k.surveys ≡ length c.self.inside.taken.items = same_length _ _ _ _ k in
     let small : sum_by (λ row. row.total) c.in_ok-rows.rows < 2 ^ 128 =
     sum_small k.surveys c.in_ok-rows.rows rows k.sum.few (omega (arith, c.self.inside.taken.ok.0, c.self.inside.taken.small)) in

@@ -27,52 +27,82 @@ invariant_of-self c =
     c.make_room.ensures.taken c.make_room.ensures.workers c.make_room.ensures.extends c.make_room.ensures.unsettled c.make_room.ensures.for_good c.self.invariant
 
 pub returns-then-not-made-clause-reply : goal.returns-then-not-made-clause-reply
-returns-then-not-made-clause-reply c = λ arrivals s. inr (refl, same_refusal arrivals c.args.self.now c.args.report s ∙ sym c.refusal.ensures ∙ c.in_default.is)
+returns-then-not-made-clause-reply c = λ arrivals s. inr (
+  refl,
+  same_refusal arrivals c.args.self.now c.args.report s ∙ sym c.refusal.ensures
+      ∙ c.in_default.is,
+)
 
 pub add-requires-clause-room : goal.add-requires-clause-room
 add-requires-clause-room c =
     let h = c.self.inside in
     let terms : Terms = record { job = h.job; ranges = h.ranges; workers = h.workers } in
-    let old : Sums = record { rows = c.make_room.new.totals.rows.entries; unsettled = c.make_room.new.totals.unsettled; for_good = c.make_room.new.totals.for_good } in
+    let old : Sums = record {
+      rows = c.make_room.new.totals.rows.entries;
+      unsettled = c.make_room.new.totals.unsettled;
+      for_good =
+          c.make_room.new.totals.for_good;
+    } in
     let mid = keeps_mid terms h.closed h.taken.items c.make_room.new.taken.items h.count h.worker_of.entries c.make_room.new.worker_of.entries
     (record { rows = h.totals.rows.entries; unsettled = h.totals.unsettled; for_good = h.totals.for_good }) old
     c.make_room.ensures.taken c.make_room.ensures.workers c.make_room.ensures.extends c.make_room.ensures.unsettled c.make_room.ensures.for_good c.self.invariant in
     let held : Held = record { terms = terms; closed = h.closed; taken = c.make_room.new.taken.items } in
-    let more : length c.note.new.taken.items ≡ length c.make_room.new.taken.items + 1 = ap length c.note.ensures.taken ∙ length_push c.make_room.new.taken.items _ in
-    let room : HasRoom old = has_room held h.count c.make_room.new.worker_of.entries old (omega (arith, more, c.note.new.taken.ok.0, c.note.new.taken.small)) mid in
+    let more : length c.note.new.taken.items ≡ length c.make_room.new.taken.items + 1 = ap length c.note.ensures.taken
+    ∙ length_push c.make_room.new.taken.items _ in
+    let room : HasRoom old =
+    has_room held h.count c.make_room.new.worker_of.entries old (omega (arith, more, c.note.new.taken.ok.0, c.note.new.taken.small)) mid in
     room.rows
 
 pub add-requires-clause-unsettled : goal.add-requires-clause-unsettled
 add-requires-clause-unsettled c =
     let h = c.self.inside in
     let terms : Terms = record { job = h.job; ranges = h.ranges; workers = h.workers } in
-    let old : Sums = record { rows = c.make_room.new.totals.rows.entries; unsettled = c.make_room.new.totals.unsettled; for_good = c.make_room.new.totals.for_good } in
+    let old : Sums = record {
+      rows = c.make_room.new.totals.rows.entries;
+      unsettled = c.make_room.new.totals.unsettled;
+      for_good =
+          c.make_room.new.totals.for_good;
+    } in
     let mid = keeps_mid terms h.closed h.taken.items c.make_room.new.taken.items h.count h.worker_of.entries c.make_room.new.worker_of.entries
     (record { rows = h.totals.rows.entries; unsettled = h.totals.unsettled; for_good = h.totals.for_good }) old
     c.make_room.ensures.taken c.make_room.ensures.workers c.make_room.ensures.extends c.make_room.ensures.unsettled c.make_room.ensures.for_good c.self.invariant in
     let held : Held = record { terms = terms; closed = h.closed; taken = c.make_room.new.taken.items } in
-    let more : length c.note.new.taken.items ≡ length c.make_room.new.taken.items + 1 = ap length c.note.ensures.taken ∙ length_push c.make_room.new.taken.items _ in
-    let room : HasRoom old = has_room held h.count c.make_room.new.worker_of.entries old (omega (arith, more, c.note.new.taken.ok.0, c.note.new.taken.small)) mid in
+    let more : length c.note.new.taken.items ≡ length c.make_room.new.taken.items + 1 = ap length c.note.ensures.taken
+    ∙ length_push c.make_room.new.taken.items _ in
+    let room : HasRoom old =
+    has_room held h.count c.make_room.new.worker_of.entries old (omega (arith, more, c.note.new.taken.ok.0, c.note.new.taken.small)) mid in
     room.unsettled_room
 
 pub add-requires-clause-for_good : goal.add-requires-clause-for_good
 add-requires-clause-for_good c =
     let h = c.self.inside in
     let terms : Terms = record { job = h.job; ranges = h.ranges; workers = h.workers } in
-    let old : Sums = record { rows = c.make_room.new.totals.rows.entries; unsettled = c.make_room.new.totals.unsettled; for_good = c.make_room.new.totals.for_good } in
+    let old : Sums = record {
+      rows = c.make_room.new.totals.rows.entries;
+      unsettled = c.make_room.new.totals.unsettled;
+      for_good =
+          c.make_room.new.totals.for_good;
+    } in
     let mid = keeps_mid terms h.closed h.taken.items c.make_room.new.taken.items h.count h.worker_of.entries c.make_room.new.worker_of.entries
     (record { rows = h.totals.rows.entries; unsettled = h.totals.unsettled; for_good = h.totals.for_good }) old
     c.make_room.ensures.taken c.make_room.ensures.workers c.make_room.ensures.extends c.make_room.ensures.unsettled c.make_room.ensures.for_good c.self.invariant in
     let held : Held = record { terms = terms; closed = h.closed; taken = c.make_room.new.taken.items } in
-    let more : length c.note.new.taken.items ≡ length c.make_room.new.taken.items + 1 = ap length c.note.ensures.taken ∙ length_push c.make_room.new.taken.items _ in
-    let room : HasRoom old = has_room held h.count c.make_room.new.worker_of.entries old (omega (arith, more, c.note.new.taken.ok.0, c.note.new.taken.small)) mid in
+    let more : length c.note.new.taken.items ≡ length c.make_room.new.taken.items + 1 = ap length c.note.ensures.taken
+    ∙ length_push c.make_room.new.taken.items _ in
+    let room : HasRoom old =
+    has_room held h.count c.make_room.new.worker_of.entries old (omega (arith, more, c.note.new.taken.ok.0, c.note.new.taken.small)) mid in
     room.for_good_room
 
 pub invariant_of-self-2 : goal.invariant_of-self-2
 invariant_of-self-2 c =
     let h = c.self.inside in
     let terms : Terms = record { job = h.job; ranges = h.ranges; workers = h.workers } in
-    let old : Sums = record { rows = c.make_room.new.totals.rows.entries; unsettled = c.make_room.new.totals.unsettled; for_good = c.make_room.new.totals.for_good } in
+    let old : Sums = record {
+      rows = c.make_room.new.totals.rows.entries;
+      unsettled = c.make_room.new.totals.unsettled;
+      for_good =
+          c.make_room.new.totals.for_good;
+    } in
     let new : Sums = record { rows = c.add.new.self.rows.entries; unsettled = c.add.new.self.unsettled; for_good = c.add.new.self.for_good } in
     let mid = keeps_mid terms h.closed h.taken.items c.make_room.new.taken.items h.count h.worker_of.entries c.make_room.new.worker_of.entries
     (record { rows = h.totals.rows.entries; unsettled = h.totals.unsettled; for_good = h.totals.for_good }) old
@@ -98,10 +128,25 @@ returns-clause-stands c = λ arrivals s answered.
     let h = c.self.inside in
     let entries : c.note.new.taken.items ≡ h.taken.items ++ entry c.args.report ∷ [] =
     c.note.ensures.taken ∙ (λ i. c.make_room.ensures.taken i ++ (c.worker.ensures.worker i, c.number.ensures.number i) ∷ []) in
-    let own : StandsFor arrivals (record { terms = record { job = h.job; ranges = h.ranges; workers = h.workers }; closed = h.closed; taken = h.taken.items }) =
+    let own : StandsFor arrivals (record {
+      terms = record { job = h.job; ranges = h.ranges; workers = h.workers };
+      closed = h.closed;
+      taken =
+          h.taken.items;
+    }) =
     subst (StandsFor arrivals) (sym c.self.view_is) s in
-    let refused : refusal_at (record { terms = record { job = h.job; ranges = h.ranges; workers = h.workers }; closed = h.closed; taken = h.taken.items }) c.args.report ≡ None =
+    let refused : refusal_at (record {
+      terms = record { job = h.job; ranges = h.ranges; workers = h.workers };
+      closed = h.closed;
+      taken =
+          h.taken.items;
+    }) c.args.report ≡ None =
     ap (λ (held : Held). refusal_at held c.args.report) c.self.view_is ∙ sym c.refusal.ensures ∙ c.in_default.is in
     subst (λ (ts : List (ℕ × ℕ)). StandsFor (arrivals ++ Offer c.args.report ∷ [])
     (record { terms = record { job = h.job; ranges = h.ranges; workers = h.workers }; closed = h.closed; taken = ts })) (sym entries)
-    (stands_taken arrivals (record { terms = record { job = h.job; ranges = h.ranges; workers = h.workers }; closed = h.closed; taken = h.taken.items }) c.args.report own refused)
+    (stands_taken arrivals (record {
+      terms = record { job = h.job; ranges = h.ranges; workers = h.workers };
+      closed = h.closed;
+      taken =
+          h.taken.items;
+    }) c.args.report own refused)

@@ -21,4 +21,5 @@ returns-clause-form c =
 
 pub returns-clause-size : goal.returns-clause-size
 returns-clause-size c =
-    c.in_ok-ranges.ensures.size ∙ (λ i. size_of (c.as_slice.ensures.value i)) ∙ size_of_ordered c.args.ranges.now c.in_ok-ascending.ascending.items c.in_ok-ascending.ensures.same
+    c.in_ok-ranges.ensures.size ∙ (λ i. size_of (c.as_slice.ensures.value i))
+    ∙ size_of_ordered c.args.ranges.now c.in_ok-ascending.ascending.items c.in_ok-ascending.ensures.same
