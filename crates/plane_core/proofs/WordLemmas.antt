@@ -9,7 +9,7 @@ use Rattle.std.proofs.lemmas.Nat.Bits.{bit_at-lt, bit_at_above, bit_at_cat_low, 
 use Rattle.plane_core.specs.Rules.{Numbers, is_birth, is_survival}
 use Rattle.plane_core.specs.Tallies.{lives_by}
 use Rattle.plane_core.specs.declared.word.Row.{Row}
-use Rattle.plane_core.specs.Words.{west_of, east_of, one_if, row_count, block_count}
+use Rattle.plane_core.specs.Words.{west_of, east_of, one_if, row_count, block_count, life}
 
 -- ---- moved by a place
 
@@ -169,3 +169,36 @@ row_count-small row i = omega (arith, west row.before row.here i, bit_at-lt row.
 
 pub block_count-small : (above here below : Row) (i : ℕ) → block_count above here below i ≤ 9
 block_count-small above here below i = omega (arith, row_count-small above i, row_count-small here i, row_count-small below i)
+
+-- ---- Life
+
+-- the answers of Life by the digits of a sum: three, or four around a live cell
+pub life_digits : (a b c d t : ℕ) → a < 2 → b < 2 → c < 2 → d < 2 → t < 2 → a + 2 * b + 4 * c + 8 * d ≤ 9
+    → cond (c == 1) (cond (max a b == 1) 0 t) (min a b) ≡ one_if (lives_by life (a + 2 * b + 4 * c + 8 * d) (t == 1))
+life_digits (suc (suc a)) b c d t p q r s u small = absurd (omega arith)
+life_digits a (suc (suc b)) c d t p q r s u small = absurd (omega arith)
+life_digits a b (suc (suc c)) d t p q r s u small = absurd (omega arith)
+life_digits a b c (suc (suc d)) t p q r s u small = absurd (omega arith)
+life_digits a b c d (suc (suc t)) p q r s u small = absurd (omega arith)
+life_digits zero zero zero zero zero p q r s u small = refl
+life_digits zero zero zero zero (suc zero) p q r s u small = refl
+life_digits (suc zero) zero zero zero zero p q r s u small = refl
+life_digits (suc zero) zero zero zero (suc zero) p q r s u small = refl
+life_digits zero (suc zero) zero zero zero p q r s u small = refl
+life_digits zero (suc zero) zero zero (suc zero) p q r s u small = refl
+life_digits (suc zero) (suc zero) zero zero zero p q r s u small = refl
+life_digits (suc zero) (suc zero) zero zero (suc zero) p q r s u small = refl
+life_digits zero zero (suc zero) zero zero p q r s u small = refl
+life_digits zero zero (suc zero) zero (suc zero) p q r s u small = refl
+life_digits (suc zero) zero (suc zero) zero zero p q r s u small = refl
+life_digits (suc zero) zero (suc zero) zero (suc zero) p q r s u small = refl
+life_digits zero (suc zero) (suc zero) zero zero p q r s u small = refl
+life_digits zero (suc zero) (suc zero) zero (suc zero) p q r s u small = refl
+life_digits (suc zero) (suc zero) (suc zero) zero zero p q r s u small = refl
+life_digits (suc zero) (suc zero) (suc zero) zero (suc zero) p q r s u small = refl
+life_digits zero zero zero (suc zero) zero p q r s u small = refl
+life_digits zero zero zero (suc zero) (suc zero) p q r s u small = refl
+life_digits (suc zero) zero zero (suc zero) zero p q r s u small = refl
+life_digits (suc zero) zero zero (suc zero) (suc zero) p q r s u small = refl
+life_digits a (suc zero) c (suc zero) t p q r s u small = absurd (omega arith)
+life_digits a zero (suc zero) (suc zero) t p q r s u small = absurd (omega arith)

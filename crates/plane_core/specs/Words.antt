@@ -1,5 +1,5 @@
 -- Words of 64 cells of a row: bit i of a word is 1 if the cell in its column i is alive. Columns count from the left, from 0.
-use Rattle.std.specs.Prelude.{◌≡◌, ◌==◌, ◌+◌, ◌<◌, ℕ, zero, suc, Bool, if◌then◌else◌}
+use Rattle.std.specs.Prelude.{◌≡◌, ◌==◌, ◌+◌, ◌<◌, ℕ, zero, suc, Bool, true, false, [], ◌∷◌, if◌then◌else◌}
 use Rattle.std.specs.Int.{bit_at}
 use Rattle.plane_core.specs.declared.word.Row.{Row}
 use Rattle.plane_core.specs.Rules.{Numbers}
@@ -30,3 +30,10 @@ block_count above here below i = row_count above i + row_count here i + row_coun
 abbrev pub IsNextWord : Numbers → Row → Row → Row → ℕ → Type 0
 IsNextWord rule above here below word =
     (i : ℕ) → i < 64 → bit_at word i ≡ one_if (lives_by rule (block_count above here below i) (bit_at here.here i == 1))
+
+-- Conway's Life: birth for 3 neighbours, survival for 2 or 3
+abbrev pub life : Numbers
+life = record {
+  births = false ∷ false ∷ true ∷ false ∷ false ∷ false ∷ false ∷ false ∷ [];
+  survivals = false ∷ false ∷ true ∷ true ∷ false ∷ false ∷ false ∷ false ∷ false ∷ [];
+}

@@ -3,11 +3,11 @@
 //! The live cells of a block of nine are added up in binary digits, each digit a word: first the three cells of each
 //! column, then three such columns. The rule's answer for each of the sums 0 to 9 is a word too, all ones or 0, and the
 //! digits choose between them. So no branch depends on a cell or on the rule.
-ghost use Rattle.std.specs.Prelude.{◌≡◌, ◌==◌, ◌+◌, ◌-◌, ◌*◌, ◌<◌, ◌≤◌, ℕ, if◌then◌else◌, length, slice_index};
+ghost use Rattle.std.specs.Prelude.{◌≡◌, ◌==◌, ◌+◌, ◌-◌, ◌*◌, ◌<◌, ◌≤◌, IsTrue, true, ℕ, if◌then◌else◌, length, slice_index};
 ghost use Rattle.std.specs.Int.{bit_at};
 ghost use Rattle.plane_core.specs.Rules.{Numbers, is_birth, is_survival};
 ghost use Rattle.plane_core.specs.Tallies.{lives_by};
-ghost use Rattle.plane_core.specs.Words.{IsNextWord, block_count, one_if, west_of, east_of};
+ghost use Rattle.plane_core.specs.Words.{IsNextWord, block_count, one_if, west_of, east_of, life};
 
 use crate::rule::Rule;
 
@@ -36,12 +36,14 @@ struct FourDigits {
 }
 
 /// The answers of a rule as words, all ones or 0: whether a cell is alive next, where the block of nine has n live cells,
-/// for n from 0 to 9.
+/// for n from 0 to 9. Life, the rule that is run most, is answered by fewer operations.
 #[derive(Clone, Copy)]
 pub(crate) struct Answers {
     rule: Rule,
+    is_life: bool,
     dead: [u64; 10],
     alive: [u64; 10],
+    ghost life: { is_life ≡ true → rule ≡ life },
     ghost dead_right: { (n i : ℕ) → n < 10 → i < 64 → bit_at (slice_index dead n) i ≡ one_if (is_birth rule n) },
     ghost alive_right: { (n i : ℕ) → n < 10 → i < 64 → bit_at (slice_index alive n) i ≡ one_if (is_survival rule (n - 1)) },
 }
@@ -59,6 +61,7 @@ impl Answers {
         }
         Answers {
             rule: *rule,
+            is_life: is_life(rule),
             dead,
             alive,
         }
@@ -69,6 +72,9 @@ impl Answers {
         ensures { IsNextWord self.now.rule above here below result }
     {
         let digits = block_sum(above, here, below);
+        if self.is_life {
+            return life_at_nine(digits, here.here);
+        }
         self.at_nine(digits, here.here)
     }
 
@@ -113,6 +119,22 @@ impl Answers {
     {
         choice(here, self.alive[n], self.dead[n])
     }
+}
+
+/// Whether the rule is Life.
+fn is_life(rule: &Rule) -> bool
+    ensures { IsTrue result → rule.now ≡ life }
+{
+    *rule == Rule::life()
+}
+
+/// The answer of Life for the sums 0 to 9: alive for three, and for four if the cell was alive.
+fn life_at_nine(digits: FourDigits, here: u64) -> u64
+    ensures { (i : ℕ) → i < 64 → bit_at digits.ones i + 2 * bit_at digits.twos i + 4 * bit_at digits.fours i + 8 * bit_at digits.eights i ≤ 9
+        → bit_at result i ≡ one_if (lives_by life (bit_at digits.ones i + 2 * bit_at digits.twos i + 4 * bit_at digits.fours i + 8 * bit_at digits.eights i) (bit_at here i == 1)) }
+{
+    let four = choice(digits.ones | digits.twos, 0, here);
+    choice(digits.fours, four, digits.ones & digits.twos)
 }
 
 /// The sum of three bits, at each place.
