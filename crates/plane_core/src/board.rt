@@ -72,6 +72,19 @@ impl Layout {
         Some(at)
     }
 
+    /// A layout round the pattern for one generation, if there are no more blocks than cells.
+    pub(crate) fn for_a_step(pattern: &Pattern) -> Option<Layout>
+        ensures laid { IfSome result IsLaid }
+        ensures room { IfSome result (λ at. HasRoom at 1 pattern.now) }
+        ensures inside { OnSome result (lies_within (plane_bound - 1) pattern.now ≡ true) }
+    {
+        let at = Layout::round(pattern, 1)?;
+        if at.grid().count > pattern.population() {
+            return None;
+        }
+        Some(at)
+    }
+
     /// A layout round the box, with so many columns and rows more on each side inside the outer blocks.
     fn round_box(bounds: Bounds, margin: u32) -> Layout
         requires margin { margin ≤ 1000 }

@@ -40,7 +40,8 @@ impl From<AllocError> for StepError {
 impl Pattern {
     /// The next generation under the rule.
     ///
-    /// It takes time and memory in proportion to the population.
+    /// It takes time and memory in proportion to the population: on a board if that has no more blocks than there are
+    /// cells, and else cell by cell.
     ///
     /// # Errors
     ///
@@ -56,6 +57,26 @@ impl Pattern {
         if touches(self.cells()) {
             return Err(StepError::Edge);
         }
+        let pattern = self.next(alloc, rule)?;
+        Ok(pattern)
+    }
+
+    /// The next generation: on a board if one is worth it, and else cell by cell.
+    fn next(&self, alloc: Global, rule: &Rule) -> Result<Pattern, AllocError>
+        requires { touches_edge self.now ≡ false }
+        ensures { IfOk result (λ pattern. pattern ≡ next rule.now self.now) }
+    {
+        match Layout::for_a_step(self) {
+            Some(at) => self.run_on(alloc, rule, at, 1),
+            None => self.counted(alloc, rule),
+        }
+    }
+
+    /// The next generation, counted cell by cell.
+    fn counted(&self, alloc: Global, rule: &Rule) -> Result<Pattern, AllocError>
+        requires { touches_edge self.now ≡ false }
+        ensures { IfOk result (λ pattern. pattern ≡ next rule.now self.now) }
+    {
         let blocks = tally::blocks(alloc, self.cells())?;
         let cells = tally::selected(alloc, rule, blocks.as_slice())?;
         Ok(Pattern::from_ordered(cells))

@@ -1,37 +1,9 @@
-use Rattle.std.proofs.Common.{◌≡◌, ◌∙◌, ap, List, false, rules, filter}
+use Rattle.std.proofs.Common.{◌∙◌, ap, List}
 use Rattle.plane_core.specs.declared.cell.Cell.{Cell}
-use Rattle.plane_core.specs.declared.tally.Tally.{Tally}
 use Rattle.plane_core.specs.Cells.{has}
-use Rattle.plane_core.specs.Generations.{next, touches_edge}
-use Rattle.plane_core.specs.Tallies.{cells_of, tally_lives}
-use Rattle.plane_core.proofs.GenerationLemmas.{selected-next, is_pattern-next, has-next}
+use Rattle.plane_core.proofs.GenerationLemmas.{has-next}
 use Rattle.plane_core.proofs.pattern.Pattern.step.Goals as goal
-
--- what was selected is the next generation
-selected : (c : goal.In_ok-cells) → c.in_ok-cells.cells.items ≡ next c.args.rule.now c.args.self.now
-selected c =
-    c.in_ok-cells.ensures
-    ∙ ap (λ (ts : List Tally). cells_of (filter (tally_lives c.args.rule.now) ts)) c.as_slice.ensures.value
-    ∙ selected-next c.args.rule.now c.args.self.now c.in_ok-blocks.blocks.items (rw c.cells-2.ensures.cells at c.in_ok-blocks.ensures)
-
-pub from_ordered-requires : goal.from_ordered-requires
-from_ordered-requires c =
-    let inside : touches_edge c.args.self.now ≡ false = search rules in
-    rw (selected c) (is_pattern-next c.args.rule.now c.args.self.now c.cells.ensures.pattern inside)
-
-pub returns-clause-next : goal.returns-clause-next
-returns-clause-next c =
-    c.from_ordered.ensures
-    ∙ c.in_ok-cells.ensures
-    ∙ ap (λ (ts : List Tally). cells_of (filter (tally_lives c.args.rule.now) ts)) c.as_slice.ensures.value
-    ∙ selected-next c.args.rule.now c.args.self.now c.in_ok-blocks.blocks.items (rw c.cells-2.ensures.cells at c.in_ok-blocks.ensures)
 
 pub returns-clause-every_cell : goal.returns-clause-every_cell
 returns-clause-every_cell c = λ x.
-    ap (λ (cells : List Cell). has cells x) (
-    c.from_ordered.ensures
-    ∙ c.in_ok-cells.ensures
-    ∙ ap (λ (ts : List Tally). cells_of (filter (tally_lives c.args.rule.now) ts)) c.as_slice.ensures.value
-    ∙ selected-next c.args.rule.now c.args.self.now c.in_ok-blocks.blocks.items (rw c.cells-2.ensures.cells at c.in_ok-blocks.ensures)
-    )
-    ∙ has-next c.args.rule.now c.args.self.now x
+    ap (λ (cells : List Cell). has cells x) c.in_ok-pattern.ensures ∙ has-next c.args.rule.now c.args.self.now x
