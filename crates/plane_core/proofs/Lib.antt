@@ -16,6 +16,7 @@ pub mod MergeLemmas
 pub mod NeighbourLemmas
 pub mod OrientationLemmas
 pub mod OutLemmas
+pub mod PartLemmas
 pub mod PlacementLemmas
 pub mod PlaintextBox
 pub mod PlaintextCells

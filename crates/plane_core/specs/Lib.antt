@@ -7,6 +7,7 @@ pub mod Generations
 pub mod Layouts
 pub mod Orientations
 pub mod Out
+pub mod Parts
 pub mod Plaintext
 pub mod PlaintextPlaces
 pub mod PlaintextWalk

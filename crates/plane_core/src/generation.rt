@@ -1,13 +1,15 @@
-ghost use Rattle.std.specs.Prelude.{◌≡◌, ◌≢◌, ℕ, ◌+◌, ◌-◌, ◌<◌, ◌≤◌, true, false, IfOk, IfErr, OnOk, IsErrOf};
+ghost use Rattle.std.specs.Prelude.{◌≡◌, ◌≢◌, ℕ, ◌+◌, ◌-◌, ◌<◌, ◌≤◌, true, false, IfOk, IfErr, IfSome, OnOk, IsErrOf};
 ghost use Rattle.plane_core.specs.Cells.{has, plane_bound};
 ghost use Rattle.plane_core.specs.Generations.{next, after, lives, touches_edge, lies_within, NextMoved, NextTurned, SpeedFromOrigin, SpeedOfLight};
 ghost use Rattle.plane_core.specs.Layouts.{HasRoom, IsLaid};
+ghost use Rattle.plane_core.specs.Parts.{HasRun};
 ghost use Rattle.plane_core.specs.Refusals.{RefusesStep};
 ghost use Rattle.plane_core.specs.declared.cell.Cell.{Cell};
 ghost use Rattle.plane_core.specs.declared.generation.StepError.TheVariants.{Memory};
 
 use crate::board::{self, Layout};
 use crate::cell::Cell;
+use crate::parts::Cut;
 use crate::pattern::Pattern;
 use crate::rule::Rule;
 use crate::tally;
@@ -28,6 +30,9 @@ pub enum StepError {
 /// The most generations on one board. Then the pattern is read back and a board is laid out anew, so that it is no wider
 /// than the pattern for long.
 const STRETCH: u32 = 128;
+
+/// The most cuts that lead to a part of a pattern. Each is near the middle, so there may be very many parts.
+const CUTS: u32 = 40;
 
 impl From<AllocError> for StepError {
     ghost from_gives = { λ _ e. e ≡ Memory };
@@ -113,7 +118,7 @@ impl Pattern {
         Ok(pattern)
     }
 
-    /// The pattern some generations later, at most so many: on a board if one is worth it, and else after one step.
+    /// The pattern some generations later, at most so many: on boards if they are worth it, and else after one step.
     fn stretch(&self, alloc: Global, rule: &Rule, most: u32) -> Result<Stretch, StepError>
         requires { 0 < most }
         ensures some { IfOk result (λ stretch. 0 < stretch.count) }
@@ -123,16 +128,60 @@ impl Pattern {
         ensures edge { IsErrOf result StepError.Edge → touches_edge self.now ≡ true }
     {
         let count = most.min(STRETCH);
-        match Layout::round(self, count) {
-            Some(at) => {
-                let pattern = self.run_on(alloc, rule, at, count)?;
-                Ok(Stretch { pattern, count })
-            }
+        match self.run_in_parts(alloc, rule, count, CUTS)? {
+            Some(pattern) => Ok(Stretch { pattern, count }),
             None => {
                 let pattern = self.step(alloc, rule)?;
                 Ok(Stretch { pattern, count: 1 })
             }
         }
+    }
+
+    /// The pattern after so many generations, each part that lies far from the others on a board of its own. It is `None`
+    /// if a board isn't worth it for some part. At most so many cuts lead to a part.
+    fn run_in_parts(
+        &self,
+        alloc: Global,
+        rule: &Rule,
+        generations: u32,
+        cuts: u32,
+    ) -> Result<Option<Pattern>, AllocError>
+        requires { generations ≤ 1000 }
+        ensures { IfOk result (λ ran. IfSome ran (HasRun rule.now self.now generations)) }
+    {
+        if cuts == 0 {
+            return self.run_whole(alloc, rule, generations);
+        }
+        let Some(cut) = Cut::find(alloc, self, 2 * generations)? else {
+            return self.run_whole(alloc, rule, generations);
+        };
+        let before = cut.side(alloc, self, true)?;
+        let Some(before) = before.run_in_parts(alloc, rule, generations, cuts - 1)? else {
+            return Ok(None);
+        };
+        let past = cut.side(alloc, self, false)?;
+        let Some(past) = past.run_in_parts(alloc, rule, generations, cuts - 1)? else {
+            return Ok(None);
+        };
+        let whole = before.united(alloc, &past)?;
+        Ok(Some(whole))
+    }
+
+    /// The pattern after so many generations on one board, if one is worth it.
+    fn run_whole(
+        &self,
+        alloc: Global,
+        rule: &Rule,
+        generations: u32,
+    ) -> Result<Option<Pattern>, AllocError>
+        requires { generations ≤ 1000 }
+        ensures { IfOk result (λ ran. IfSome ran (HasRun rule.now self.now generations)) }
+    {
+        let Some(at) = Layout::round(self, generations) else {
+            return Ok(None);
+        };
+        let pattern = self.run_on(alloc, rule, at, generations)?;
+        Ok(Some(pattern))
     }
 
     /// The pattern after so many generations, on a board with room for them.

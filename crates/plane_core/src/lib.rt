@@ -20,6 +20,7 @@ pub mod generation;
 pub mod orientation;
 /// A writer that remembers that it failed.
 pub mod output;
+mod parts;
 /// Patterns: finite sets of cells.
 pub mod pattern;
 /// Patterns moved on the plane.

@@ -93,6 +93,10 @@ fn main(rt: HostRuntime) -> io::Result<()> {
     let times = words.get(2).and_then(|word| word.as_str().parse().ok());
     let times = times.unwrap_or(1);
     match words.get(1).map(|word| word.as_str()) {
+        Some("run") => match pattern.run(alloc, &Rule::life(), times) {
+            Ok(later) => println!(rt; "{}", later.population()),
+            Err(error) => println!(rt; "{error}"),
+        },
         Some("names") => find_names(&rt, &pattern, times),
         Some("surveys") => match Seed::new("") {
             Ok(seed) => survey_soups(&rt, seed, times),

@@ -1,10 +1,8 @@
-use Rattle.std.proofs.Common.{◌≡◌, ◌∙◌, ap, List, false, rules, filter}
-use Rattle.plane_core.specs.declared.cell.Cell.{Cell}
+use Rattle.std.proofs.Common.{◌≡◌, ◌∙◌, ap, List, filter}
 use Rattle.plane_core.specs.declared.tally.Tally.{Tally}
-use Rattle.plane_core.specs.Cells.{has}
-use Rattle.plane_core.specs.Generations.{next, touches_edge}
+use Rattle.plane_core.specs.Generations.{next}
 use Rattle.plane_core.specs.Tallies.{cells_of, tally_lives}
-use Rattle.plane_core.proofs.GenerationLemmas.{selected-next, is_pattern-next, has-next}
+use Rattle.plane_core.proofs.GenerationLemmas.{selected-next, is_pattern-next}
 use Rattle.plane_core.proofs.pattern.Pattern.counted.Goals as goal
 
 -- what was selected is the next generation

@@ -2,13 +2,15 @@ use Rattle.std.proofs.Common.{◌≡◌, ◌-◌, ◌∙◌, ap, arith, List, �
 use Rattle.plane_core.specs.declared.cell.Cell.{Cell}
 use Rattle.plane_core.specs.Cells.{plane_bound}
 use Rattle.plane_core.specs.Generations.{after, next, touches_edge}
+use Rattle.plane_core.specs.Parts.{HasRun}
 use Rattle.plane_core.proofs.GenerationLemmas.{after-none, after-more}
 use Rattle.plane_core.proofs.SpeedLemmas.{run_inside}
 use Rattle.plane_core.proofs.pattern.Pattern.stretch.Goals as goal
 
-pub returns-in_ok-pattern-in-Some-clause-inside : goal.returns-in_ok-pattern-in-Some-clause-inside
-returns-in_ok-pattern-in-Some-clause-inside c g low =
-    run_inside c.args.rule.now c.args.self.now (plane_bound - c.min-count.result) g c.min-count.result c.in-Some.ensures.inside (omega arith) low
+pub returns-in-Some-clause-inside : goal.returns-in-Some-clause-inside
+returns-in-Some-clause-inside c g low =
+    let ran : HasRun c.args.rule.now c.args.self.now c.min-count.result c.in-Some.pattern = rw c.in-Some.is at c.in_ok-pattern.ensures in
+    run_inside c.args.rule.now c.args.self.now (plane_bound - c.min-count.result) g c.min-count.result ran.inside (omega arith) low
 
 pub returns-in_ok-pattern-in-None-clause-after : goal.returns-in_ok-pattern-in-None-clause-after
 returns-in_ok-pattern-in-None-clause-after c =

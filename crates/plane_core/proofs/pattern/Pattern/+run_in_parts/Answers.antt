@@ -1,0 +1,18 @@
+use Rattle.std.proofs.Common.{◌*◌, subst, List}
+use Rattle.plane_core.specs.declared.cell.Cell.{Cell}
+use Rattle.plane_core.specs.Parts.{HasRun, IsCut}
+use Rattle.plane_core.proofs.PartLemmas.{run_from_parts}
+use Rattle.plane_core.proofs.pattern.Pattern.+run_in_parts.Goals as goal
+
+pub returns : goal.returns
+returns t c =
+    let rule = c.args.rule.now in
+    let S = c.args.self.now in
+    let n = c.args.generations in
+    let cut = c.in-Some.cut in
+    let is_cut : IsCut (2 * n) S cut = rw c.in-Some.is at c.in_ok-cut.ensures in
+    let one = rw c.in-Some-2.is at c.in_ok-before-2.ensures in
+    let other = rw c.in-Some-3.is at c.in_ok-past-2.ensures in
+    run_from_parts rule S cut n c.in-Some-2.before c.in-Some-3.past c.in_ok-whole.whole is_cut
+    (subst (λ (T : List Cell). HasRun rule T n c.in-Some-2.before) c.in_ok-before.ensures one)
+    (subst (λ (T : List Cell). HasRun rule T n c.in-Some-3.past) c.in_ok-past.ensures other) c.in_ok-whole.ensures

@@ -1,0 +1,237 @@
+//! A pattern in parts that lie so far apart that they don't meet for some generations: each runs as if it were alone.
+//!
+//! A line between two columns, or two rows, cuts a pattern in two if there is an empty band before it that is wide
+//! enough. Each part is cut again as long as there is such a band. So a spaceship that has left costs no more than a
+//! board of its own.
+ghost use Rattle.std.specs.Prelude.{◌≡◌, ◌<◌, ◌^◌, ◌++◌, ◌+ℤ◌, IfOk, IfSome, pos};
+ghost use Rattle.std.specs.List.{list_all};
+ghost use Rattle.plane_core.specs.Cells.{set_of};
+ghost use Rattle.plane_core.specs.Parts.{IsCut, is_before, is_on_side, leaves_band, place_on, side};
+
+use crate::bounds::Bounds;
+use crate::cell::{BOUND, Cell};
+use crate::pattern::{Pattern, in_order};
+use std::alloc::{AllocError, Global};
+
+/// Which way a pattern is cut: between two columns, or between two rows.
+#[derive(Clone, Copy)]
+pub(crate) enum Axis {
+    Columns,
+    Rows,
+}
+
+/// A line before a column, or above a row.
+#[derive(Clone, Copy)]
+pub(crate) struct Cut {
+    axis: Axis,
+    at: i64,
+}
+
+impl Axis {
+    /// The number of a cell's column, or of its row.
+    fn place(self, cell: Cell) -> i32
+        ensures { result ≡ place_on self cell }
+    {
+        match self {
+            Axis::Columns => cell.x,
+            Axis::Rows => cell.y,
+        }
+    }
+
+    /// The first column or row of a box, and the last.
+    fn sides(self, bounds: Bounds) -> (i32, i32) {
+        match self {
+            Axis::Columns => (bounds.left, bounds.right),
+            Axis::Rows => (bounds.top, bounds.bottom),
+        }
+    }
+}
+
+impl Cut {
+    /// A line that cuts the pattern in two, with an empty band of so many columns or rows before it, if one is found.
+    pub(crate) fn find(
+        alloc: Global,
+        pattern: &Pattern,
+        band: u32,
+    ) -> Result<Option<Cut>, AllocError>
+        ensures { IfOk result (λ found. IfSome found (IsCut band pattern.now)) }
+    {
+        match Cut::along(alloc, Axis::Rows, pattern, band)? {
+            Some(cut) => Ok(Some(cut)),
+            None => Cut::along(alloc, Axis::Columns, pattern, band),
+        }
+    }
+
+    /// Such a line, if one is found this way. It is guessed from which strips of 64 have a cell, and then tested.
+    fn along(
+        alloc: Global,
+        axis: Axis,
+        pattern: &Pattern,
+        band: u32,
+    ) -> Result<Option<Cut>, AllocError>
+        ensures { IfOk result (λ found. IfSome found (IsCut band pattern.now)) }
+    {
+        let Some(bounds) = pattern.bounds() else {
+            return Ok(None);
+        };
+        let (low, high) = axis.sides(bounds);
+        let strips = occupied_strips(alloc, axis, low, high, pattern.cells())?;
+        let Some(strip) = gap_end(strips.as_slice(), band as usize / 64 + 1) else {
+            return Ok(None);
+        };
+        let at = i64::from(low) + 64 * strip.min(BOUND as usize) as i64;
+        let cut = Cut { axis, at };
+        Ok(cut.if_it_leaves_a_band(band, pattern))
+    }
+
+    /// The line, if no cell lies in the band of so many columns or rows before it.
+    fn if_it_leaves_a_band(self, band: u32, pattern: &Pattern) -> Option<Cut>
+        ensures { IfSome result (IsCut band pattern.now) }
+    {
+        if self.leaves_band(band, pattern.cells()) {
+            Some(self)
+        } else {
+            None
+        }
+    }
+
+    /// Whether the cell lies before the line.
+    fn is_before(self, cell: Cell) -> bool
+        ensures { result ≡ is_before self cell }
+    {
+        i64::from(self.axis.place(cell)) < self.at
+    }
+
+    /// Whether the cell lies before the line, or past it.
+    fn is_on_side(self, before: bool, cell: Cell) -> bool
+        ensures { result ≡ is_on_side self before cell }
+    {
+        if before {
+            self.is_before(cell)
+        } else {
+            !self.is_before(cell)
+        }
+    }
+
+    /// Whether the cell lies past the line, or before the band of so many columns or rows before it.
+    fn leaves_band_at(self, band: u32, cell: Cell) -> bool
+        ensures { result ≡ leaves_band self band cell }
+    {
+        !self.is_before(cell) || past_band(self.axis.place(cell), band) < self.at
+    }
+
+    /// Whether no cell lies in the band of so many columns or rows before the line.
+    fn leaves_band(self, band: u32, cells: &[Cell]) -> bool
+        ensures { result ≡ list_all (leaves_band self band) cells.now }
+    {
+        cells.iter().all(|cell| self.leaves_band_at(band, *cell))
+    }
+
+    /// The cells of a pattern that lie before the line, or those past it.
+    pub(crate) fn side(
+        self,
+        alloc: Global,
+        pattern: &Pattern,
+        before: bool,
+    ) -> Result<Pattern, AllocError>
+        ensures { IfOk result (λ part. part ≡ side self before pattern.now) }
+    {
+        let cells = self.cells_of_side(alloc, pattern.cells(), before)?;
+        Ok(Pattern::from_ordered(cells))
+    }
+
+    /// Those of the cells that lie before the line, or those past it.
+    fn cells_of_side(
+        self,
+        alloc: Global,
+        cells: &[Cell],
+        before: bool,
+    ) -> Result<Vec<Cell>, AllocError>
+        ensures { IfOk result (λ part. part.items ≡ side self before cells.now) }
+    {
+        let mut part = Vec::new(alloc);
+        for cell in cells {
+            if self.is_on_side(before, *cell) {
+                part.push(*cell)?;
+            }
+        }
+        Ok(part)
+    }
+}
+
+/// The column or row so many further on.
+fn past_band(place: i32, band: u32) -> i64
+    ensures { result ≡ place +ℤ pos band }
+{
+    i64::from(place) + i64::from(band)
+}
+
+/// Which strips of 64 columns, or rows, have a cell, from the first column or row to the last.
+fn occupied_strips(
+    alloc: Global,
+    axis: Axis,
+    low: i32,
+    high: i32,
+    cells: &[Cell],
+) -> Result<Vec<bool>, AllocError> {
+    let mut strips = vec![in alloc; false; strip_of(low, high) + 1]?;
+    for cell in cells {
+        let strip = strip_of(low, axis.place(*cell));
+        if let Some(occupied) = strips.as_mut_slice().get_mut(strip) {
+            *occupied = true;
+        }
+    }
+    Ok(strips)
+}
+
+/// In which strip a column or row lies, if strips begin with this one.
+fn strip_of(low: i32, place: i32) -> usize
+    ensures { result < 2 ^ 32 }
+{
+    (i64::from(place) - i64::from(low)).unsigned_abs() as usize / 64
+}
+
+/// The strip that ends a gap of at least so many empty ones: of such strips, one in the middle.
+fn gap_end(strips: &[bool], width: usize) -> Option<usize> {
+    let middle = strips.len() / 2;
+    let mut empty = 0usize;
+    let mut best = None;
+    for (i, occupied) in strips.iter().enumerate() {
+        if !*occupied {
+            empty = empty.saturating_add(1);
+        } else {
+            if empty >= width {
+                best = Some(nearer(best, i, middle));
+            }
+            empty = 0;
+        }
+    }
+    best
+}
+
+/// The one of two places that lies nearer to the middle.
+fn nearer(best: Option<usize>, i: usize, middle: usize) -> usize {
+    match best {
+        Some(best) if best.abs_diff(middle) <= i.abs_diff(middle) => best,
+        _ => i,
+    }
+}
+
+impl Pattern {
+    /// The cells of both patterns.
+    pub(crate) fn united(&self, alloc: Global, other: &Pattern) -> Result<Pattern, AllocError>
+        ensures { IfOk result (λ whole. whole ≡ set_of (self.now ++ other.now)) }
+    {
+        let cells = joined(alloc, self.cells(), other.cells())?;
+        Ok(Pattern::from_ordered(in_order(cells)))
+    }
+}
+
+/// The cells of both lists.
+fn joined(alloc: Global, one: &[Cell], other: &[Cell]) -> Result<Vec<Cell>, AllocError>
+    ensures { IfOk result (λ cells. cells.items ≡ one.now ++ other.now) }
+{
+    let mut cells = Vec::from_slice(alloc, one)?;
+    cells.extend_from_slice(other)?;
+    Ok(cells)
+}
