@@ -1,17 +1,21 @@
 -- A generation of a board, in terms of its list of words.
 use Rattle.std.proofs.Common.{◌≡◌, ◌≢◌, ◌==◌, ◌+◌, ◌-◌, ◌*◌, ◌/◌, ◌%◌, ◌^◌, ◌<◌, ◌≤◌, ℕ, zero, suc, Bool}
 use Rattle.std.proofs.Common.{true, false, cond, List, length, nat_lt, arith, refl, ap, ◌∙◌, sym, subst, inl, inr, ◌⊎◌}
-use Rattle.std.proofs.Common.{get_or, set, get_or-set_same, get_or-set_other, bit_and, bit_or, bit_xor, w64, slice_index}
+use Rattle.std.proofs.Common.{get_or, set, get_or-set_same, get_or-set_other, bit_or, bit_xor, w64, slice_index}
 use Rattle.std.specs.Int.{bit_at}
 use Rattle.std.proofs.lemmas.Bool.{eqb-true, eqb-false, ltb-true, ltb-false}
-use Rattle.std.proofs.lemmas.Nat.Bits.{bit_at-zero, bit_at-lt, bit_at_xor, bit_at_set_same, bit_at_set_other, bit_at_or, same_from_bits, shr_and_one}
+use Rattle.std.proofs.lemmas.Nat.Bits.{bit_at-zero, bit_at-lt, bit_at_xor, bit_at_set_same, bit_at_set_other, bit_at_or, same_from_bits}
+use Rattle.std.proofs.lemmas.Nat.Bits.{bit_at_above, bit_at_cat_high, bit_at-trailing_zeros}
+use Rattle.std.proofs.lemmas.Nat.{div-add-mod', pow_pos}
+use Rattle.std.proofs.Math.Nat.{div-le_self, mod-lt}
+use Rattle.std.specs.Int.{trailing_zeros}
 use Rattle.plane_core.specs.declared.word.Row.{Row}
 use Rattle.plane_core.specs.declared.blocks.Changes.{Changes}
 use Rattle.plane_core.specs.declared.blocks.Grid.{Grid}
 use Rattle.plane_core.specs.Rules.{Numbers}
 use Rattle.plane_core.specs.Tallies.{lives_by}
 use Rattle.plane_core.specs.Words.{one_if, west_of, row_count, IsNextWord}
-use Rattle.plane_core.specs.Boards.{row_at, IsClear, IsGoing, IsInner, IsNext, IsNextAt, IsQuiet, IsRight, IsStill, IsUnmarked, IsWritten, TellsChanges}
+use Rattle.plane_core.specs.Boards.{row_at, AreNoMarks, IsClear, IsGoing, IsInner, IsNext, IsNextAt, IsNextMark, IsQuiet, IsRight, IsStill, IsUnmarked, IsWritten, TellsChanges}
 
 -- ---- marks
 
@@ -280,20 +284,48 @@ flag_of todo w b flags is low none =
 pub not_one : (n : ℕ) → n < 2 → (n == 1) ≡ false → n ≡ 0
 not_one n low e = let apart = eqb-false n 1 e in omega arith
 
--- what the test of a flag says where it fails
-pub unmarked_bit : (flags b : ℕ) → (bit_and (flags / 2 ^ b) 1 == 1) ≡ false → bit_at flags b ≡ 0
-unmarked_bit flags b e = not_one (bit_at flags b) (bit_at-lt flags b) (ap (λ (n : ℕ). n == 1) (sym (shr_and_one flags b)) ∙ e)
+-- a bit of a word is one of the word moved down
+moved_down : (n k i : ℕ) → k ≤ i → bit_at n i ≡ bit_at (n / 2 ^ k) (i - k)
+moved_down n k i low =
+    ap (λ (m : ℕ). bit_at m i) (sym (div-add-mod' n (2 ^ k))) ∙ bit_at_cat_high (n / 2 ^ k) k (n % 2 ^ k) i (mod-lt n (pow_pos k)) low
 
--- a word of flags that is 0 passes over its 64 blocks
-pub going_skip_group : (rule : Numbers) (grid : Grid) (w : ℕ) (now old new first marks todo : List ℕ) → IsRight rule grid now old todo
-    → slice_index todo w ≡ 0 → IsGoing rule grid (64 * w) now old new first marks → IsGoing rule grid (64 * w + 64) now old new first marks
-going_skip_group rule grid w now old new first marks todo right none going =
-    going_skip rule grid (64 * w) (64 * w + 64) now old new first marks todo (omega arith) right (λ k low high inner. clear k low high) going
+pub next_mark_is : (flags from : ℕ) → flags < 2 ^ 64 → 0 < flags / 2 ^ from
+    → IsNextMark flags from (from + trailing_zeros w64 (flags / 2 ^ from))
+next_mark_is flags from small some = record {
+  low = omega arith;
+  high = inside (less_or_not (from + place) 64);
+  none = λ b l h. moved_down flags from b l ∙ found.2 (b - from) (omega arith);
+}
   where
-    clear : (k : ℕ) → 64 * w ≤ k → k < 64 * w + 64 → IsClear todo k
-    clear k low high =
-        let word : k / 64 ≡ w = omega arith in
-        ap (λ (n : ℕ). bit_at (slice_index todo n) (k % 64)) word ∙ ap (λ (n : ℕ). bit_at n (k % 64)) none ∙ bit_at-zero (k % 64)
+    place : ℕ
+    place = trailing_zeros w64 (flags / 2 ^ from)
+
+    found : (place < 64) × (bit_at (flags / 2 ^ from) place ≡ 1) × ((i : ℕ) → i < place → bit_at (flags / 2 ^ from) i ≡ 0)
+    found = bit_at-trailing_zeros w64 (flags / 2 ^ from) some (omega (arith, div-le_self flags (2 ^ from)))
+
+    inside : (from + place < 64) ⊎ (64 ≤ from + place) → from + place < 64
+    inside (inl early) = early
+    inside (inr past) =
+        let none = bit_at_above flags 64 (from + place) small past in
+        let is = moved_down flags from (from + place) (omega arith) in
+        let at : from + place - from ≡ place = omega arith in
+        let same = ap (λ (n : ℕ). bit_at (flags / 2 ^ from) n) at in
+        absurd (omega (arith, none, is, same, found.1))
+
+pub no_more_marks : (flags from : ℕ) → flags / 2 ^ from ≡ 0 → AreNoMarks flags from 64
+no_more_marks flags from none b low high = moved_down flags from b low ∙ ap (λ (n : ℕ). bit_at n (b - from)) none ∙ bit_at-zero (b - from)
+
+-- blocks between two places of a word of flags that has no marks there are passed over
+pub going_skip_marks : (rule : Numbers) (grid : Grid) (w from to flags : ℕ) (now old new first marks todo : List ℕ) → IsRight rule grid now old todo
+    → slice_index todo w ≡ flags → from ≤ to → to ≤ 64 → AreNoMarks flags from to
+    → IsGoing rule grid (64 * w + from) now old new first marks → IsGoing rule grid (64 * w + to) now old new first marks
+going_skip_marks rule grid w from to flags now old new first marks todo right is low high none going =
+    going_skip rule grid (64 * w + from) (64 * w + to) now old new first marks todo (omega arith) right (λ k l h inner. clear k l h) going
+  where
+    clear : (k : ℕ) → 64 * w + from ≤ k → k < 64 * w + to → IsClear todo k
+    clear k l h =
+        let at : 64 * w + (k - 64 * w) ≡ k = omega arith in
+        subst (λ (n : ℕ). IsClear todo n) at (flag_of todo w (k - 64 * w) flags is (omega arith) (none (k - 64 * w) (omega arith) (omega arith)))
 
 -- a block that isn't marked, or isn't an inner one
 pub going_skip_one : (rule : Numbers) (grid : Grid) (j : ℕ) (now old new first marks todo : List ℕ) → IsRight rule grid now old todo

@@ -34,6 +34,16 @@ IsNext rule grid now later = (i : ℕ) → IsInner grid (i / 16) → IsNextAt ru
 abbrev pub IsClear : List ℕ → ℕ → Type 0
 IsClear flags k = bit_at (slice_index flags (k / 64)) (k % 64) ≡ 0
 
+-- in a word of flags, there is no mark between two places
+abbrev pub AreNoMarks : ℕ → ℕ → ℕ → Type 0
+AreNoMarks flags from to = (b : ℕ) → from ≤ b → b < to → bit_at flags b ≡ 0
+
+-- and the first mark from a place on
+pub record IsNextMark (flags from place : ℕ) : Type 0 where
+  pub low : from ≤ place
+  pub high : place < 64
+  pub none : AreNoMarks flags from place
+
 -- where a block isn't marked, its words in `last` are already those of the next generation
 abbrev pub IsRight : Numbers → Grid → List ℕ → List ℕ → List ℕ → Type 0
 IsRight rule grid now last todo = (i : ℕ) → IsInner grid (i / 16) → IsClear todo (i / 16) → IsNextAt rule grid now i (slice_index last i)

@@ -5,9 +5,9 @@
 //! round it, what it was two generations ago will be what it was one generation ago: `last` has it already. So only
 //! blocks with a change in them or on their ring are marked for the next turn. Each change marks its own block; one in
 //! the top or bottom row marks the block above or below too, and one in the first or last column those to that side.
-ghost use Rattle.std.specs.Prelude.{◌≡◌, ◌≢◌, ◌==◌, ◌+◌, ◌-◌, ◌*◌, ◌/◌, ◌%◌, ◌^◌, ◌<◌, ◌≤◌, ◌↔◌, IsTrue, false, ℕ, List, length, slice_index};
+ghost use Rattle.std.specs.Prelude.{◌≡◌, ◌≢◌, ◌==◌, ◌+◌, ◌-◌, ◌*◌, ◌/◌, ◌%◌, ◌^◌, ◌<◌, ◌≤◌, ◌↔◌, IfNone, IfSome, IsTrue, ℕ, List, length, slice_index};
 ghost use Rattle.std.specs.Int.{bit_at};
-ghost use Rattle.plane_core.specs.Boards.{IsBeside, IsClear, IsFar, IsGoing, IsInner, IsNext, IsNextAt, IsRight, IsStill, IsUnmarked, IsWritten, KeepsMarks, KeepsOuter, TellsChanges, row_at};
+ghost use Rattle.plane_core.specs.Boards.{AreNoMarks, IsBeside, IsClear, IsFar, IsGoing, IsInner, IsNext, IsNextAt, IsNextMark, IsRight, IsStill, IsUnmarked, IsWritten, KeepsMarks, KeepsOuter, TellsChanges, row_at};
 
 use crate::word::{Answers, Row};
 
@@ -146,31 +146,43 @@ fn step_block(answers: &Answers, grid: Grid, now: &[u64], last: &mut [u64], j: u
     }
 }
 
-/// Does block j if it is marked: writes it, and marks what its changes concern. An outer block stays as it is.
-fn step_marked(
+/// Does block j: writes it, and marks what its changes concern. An outer block stays as it is.
+fn step_one(
     answers: &Answers,
     grid: Grid,
     now: &[u64],
     last: &mut [u64],
     marks: &mut [u64],
     j: usize,
-    marked: bool,
 )
     requires long { length last.old ≡ length now.now }
     requires size { length now.now ≡ 16 * grid.count }
     requires flags { grid.count ≤ 64 * length marks.old }
-    ensures { (old first todo : List ℕ) → (marked ≡ false → IsClear todo j) → IsRight answers.now.rule grid now.now old todo
+    ensures { (old first todo : List ℕ) → IsRight answers.now.rule grid now.now old todo
         → IsGoing answers.now.rule grid j now.now old last.old first marks.old
         → IsGoing answers.now.rule grid (j + 1) now.now old last.new first marks.new }
 {
-    if !marked {
-        return;
-    }
     if !grid.is_inner(j) {
         return;
     }
     let changes = step_block(answers, grid, now, last, j);
     mark_changes(marks, grid, j, changes);
+}
+
+/// The first mark in a word of flags, from this place on.
+fn next_mark(flags: u64, from: usize) -> Option<usize>
+    requires { from ≤ 64 }
+    ensures some { IfSome result (IsNextMark flags from) }
+    ensures none { IfNone result (AreNoMarks flags from 64) }
+{
+    if from == 64 {
+        return None;
+    }
+    let rest = flags >> from;
+    if rest == 0 {
+        return None;
+    }
+    Some(from + rest.trailing_zeros() as usize)
 }
 
 /// Does the marked ones of 64 blocks, of which w times 64 come before.
@@ -191,12 +203,10 @@ fn step_group(
         → IsGoing answers.now.rule grid (64 * w) now.now old last.old first marks.old
         → IsGoing answers.now.rule grid (64 * w + 64) now.now old last.new first marks.new }
 {
-    if flags == 0 {
-        return;
-    }
-    for b in 0..64 {
-        let marked = flags >> b & 1 == 1;
-        step_marked(answers, grid, now, last, marks, 64 * w + b, marked);
+    let mut done = 0;
+    while let Some(b) = next_mark(flags, done) {
+        step_one(answers, grid, now, last, marks, 64 * w + b);
+        done = b + 1;
     }
 }
 
