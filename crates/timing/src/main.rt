@@ -1,14 +1,16 @@
 //! Names a plaintext pattern from standard input, or finds its clusters, as often as its words say, or surveys soups: a
 //! program for `bench/run` to time. `timing clusters N` prints how many clusters there are, `timing names N` the name,
-//! and `timing surveys N` how many of the soups 0 to N - 1 settle; it doesn't look at its input.
+//! `timing surveys N` how many of the soups 0 to N - 1 settle, and `timing gliders N` the population of two far gliders
+//! after N generations; the last two don't look at their input.
 #![tactic(auto)]
 
 ghost use Rattle.std.specs.Prelude.{◌≡◌, IfOk, List, length};
 ghost use Rattle.plane_core.specs.Clusters.{AreClusters};
-ghost use Rattle.plane_core.specs.declared.cell.Cell.{Cell};
+ghost use Rattle.plane_core.specs.declared.cell.Cell.{Cell as Place};
 
 use code_core::apgcode::Apgcode;
 use code_core::name::name;
+use plane_core::cell::Cell;
 use plane_core::clusters::clusters_are_determined;
 use plane_core::generation::StepError;
 use plane_core::pattern::Pattern;
@@ -23,7 +25,7 @@ use survey_core::seed::Seed;
 
 /// How many clusters the pattern has.
 fn cluster_count(alloc: Global, pattern: &Pattern) -> Result<usize, AllocError>
-    ensures { IfOk result (λ count. (clusters : List (List Cell)) → AreClusters pattern.now clusters → count ≡ length clusters) }
+    ensures { IfOk result (λ count. (clusters : List (List Place)) → AreClusters pattern.now clusters → count ≡ length clusters) }
 {
     clusters_are_determined();
     let clusters = pattern.clusters(alloc)?;
@@ -56,6 +58,29 @@ fn find_names(rt: &HostRuntime, pattern: &Pattern, times: u32) -> io::Result<()>
     match found {
         Ok(Some(code)) => println!(rt; "{}", code.text()),
         Ok(None) => println!(rt; "no name"),
+        Err(error) => println!(rt; "{error}"),
+    }
+}
+
+/// The cells of two gliders that lie 100,000 columns apart and fly the same way.
+fn two_gliders(alloc: Global) -> Result<Vec<Cell>, AllocError> {
+    let mut cells = Vec::new(alloc);
+    for left in [0, 100_000] {
+        for (x, y) in [(1, 0), (2, 1), (0, 2), (1, 2), (2, 2)] {
+            cells.push(Cell { y, x: left + x })?;
+        }
+    }
+    Ok(cells)
+}
+
+/// Runs two far gliders for so many generations of Life, and prints their population.
+fn fly_gliders(rt: &HostRuntime, generations: u32) -> io::Result<()> {
+    let cells = two_gliders(rt.alloc())?;
+    let Ok(gliders) = Pattern::from_cells(rt.alloc(), cells.as_slice()) else {
+        return println!(rt; "no gliders");
+    };
+    match gliders.run(rt.alloc(), &Rule::life(), generations) {
+        Ok(later) => println!(rt; "{}", later.population()),
         Err(error) => println!(rt; "{error}"),
     }
 }
@@ -93,10 +118,7 @@ fn main(rt: HostRuntime) -> io::Result<()> {
     let times = words.get(2).and_then(|word| word.as_str().parse().ok());
     let times = times.unwrap_or(1);
     match words.get(1).map(|word| word.as_str()) {
-        Some("run") => match pattern.run(alloc, &Rule::life(), times) {
-            Ok(later) => println!(rt; "{}", later.population()),
-            Err(error) => println!(rt; "{error}"),
-        },
+        Some("gliders") => fly_gliders(&rt, times),
         Some("names") => find_names(&rt, &pattern, times),
         Some("surveys") => match Seed::new("") {
             Ok(seed) => survey_soups(&rt, seed, times),
