@@ -9,6 +9,8 @@ pub mod book;
 pub mod census;
 /// Which soups of a job have been taken.
 pub mod haul;
+/// What a census says, as text.
+pub mod haul_text;
 /// Sets of soup numbers.
 pub mod range;
 /// What a worker reports of a soup.
