@@ -2,6 +2,7 @@ mod BookLemmas
 mod CensusLemmas
 mod JobLemmas
 mod KeepLemmas
+mod MissingLemmas
 mod RangeLemmas
 mod SampleLemmas
 mod SumLemmas

@@ -4,6 +4,8 @@ pub mod Censuses
 pub mod HaulTexts
 pub mod Jobs
 pub mod Keeping
+pub mod Missing
+pub mod MissingSteps
 pub mod RangeSteps
 pub mod Ranges
 pub mod Reports
