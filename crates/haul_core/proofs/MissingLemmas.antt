@@ -1,6 +1,6 @@
 -- Which numbers are taken, by counting.
 use Rattle.std.proofs.Common.{◌≡◌, ◌∙◌, ◌+◌, ◌-◌, ◌<◌, ◌≤◌, ℕ, zero, suc, Bool, true, false, cond, not, nat_eq, nat_le, nat_lt, ◌&&◌, ◌||◌, List, [], ◌∷◌, ◌++◌}
-use Rattle.std.proofs.Common.{ap, sym, subst, refl, arith, append_assoc, inl, inr, ◌⊎◌, count_by, filter, length, map, sum_by, zero-add}
+use Rattle.std.proofs.Common.{ap, sym, subst, refl, arith, append_assoc, inl, inr, count_by, filter, length, map, zero-add}
 use Rattle.std.specs.Cmp.{nat_eq_equiv}
 use Rattle.std.specs.Cmp.{both_ways as both_true}
 use Rattle.std.specs.List.{All, AllByRecursion, IsDistinct, list_any, range_with_len}
@@ -11,7 +11,7 @@ use Rattle.std.proofs.lemmas.Bool.Decides.{nat_tests}
 use Rattle.std.proofs.lemmas.List.{length-append, length-map}
 use Rattle.std.proofs.lemmas.List.Elements.{All-head, All-tail, filter_agree}
 use Rattle.std.proofs.lemmas.List.FromFn.{length-range_with_len}
-use Rattle.std.proofs.lemmas.List.Sums.{count_by-le-length, length-filter, sum_by-append, sum_by-cons}
+use Rattle.std.proofs.lemmas.List.Sums.{count_by-le-length, sum_by-append, sum_by-cons}
 use Rattle.std.proofs.lemmas.Map.Keys.{IsDistinct-head, IsDistinct-tail}
 use Rattle.std.proofs.lemmas.Map.Made.{is_some-lookup}
 use Rattle.haul_core.specs.declared.range.Range.{Range}

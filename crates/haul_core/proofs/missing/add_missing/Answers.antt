@@ -1,4 +1,4 @@
-use Rattle.std.proofs.Common.{◌≡◌, ◌∙◌, ◌+◌, ◌++◌, ℕ, List, Bool, true, false, ap, sym, is_some, nat_eq}
+use Rattle.std.proofs.Common.{◌≡◌, ◌∙◌, ◌++◌, ℕ, List, true, false, ap, sym, is_some, nat_eq}
 use Rattle.std.specs.Map.{lookup}
 use Rattle.haul_core.specs.Ranges.{end_of}
 use Rattle.haul_core.proofs.MissingLemmas.{adds_no, adds_yes}
