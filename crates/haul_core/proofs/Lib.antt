@@ -2,8 +2,12 @@ mod BookLemmas
 mod CensusLemmas
 mod JobLemmas
 mod KeepLemmas
+mod LawLemmas
 mod MissingLemmas
+mod NormalLemmas
+mod NumberLemmas
 mod RangeLemmas
+mod RowLemmas
 mod SampleLemmas
 mod SumLemmas
 mod TallyLemmas

@@ -72,7 +72,7 @@ counted_range n a (suc k) = elim (cases_Bool (nat_eq n a)) [
 ]
 
 -- a number before the ranges is in none
-none_before : (n place : ℕ) (ranges : List Range) → n ≤ place → BeginAfter place ranges → AreNormal ranges → is_in ranges n ≡ false
+pub none_before : (n place : ℕ) (ranges : List Range) → n ≤ place → BeginAfter place ranges → AreNormal ranges → is_in ranges n ≡ false
 none_before n place [] low begin normal = refl
 none_before n place (r ∷ more) low begin normal =
     let out : is_in_range n r ≡ false = grind (arith, nat_tests) in

@@ -11,6 +11,8 @@ pub mod census;
 pub mod haul;
 /// What a census says, as text.
 pub mod haul_text;
+/// Laws of sets of numbers and of haul texts.
+pub mod laws;
 mod missing;
 /// Sets of soup numbers.
 pub mod range;
