@@ -1,6 +1,6 @@
 -- Censuses over the same soups are one, and so are their texts.
-use Rattle.std.proofs.Common.{◌≡◌, ◌∙◌, ◌+◌, ◌<◌, ℕ, Bool, true, false, cond, nat_eq, nat_le, List, [], ◌∷◌, ◌||◌, ap, sym, subst, refl, inl, inr}
-use Rattle.std.proofs.Common.{count_by, filter, get_or, length, map, sum_by}
+use Rattle.std.proofs.Common.{◌≡◌, ◌∙◌, ◌+◌, ◌<◌, ℕ, Bool, true, false, cond, nat_eq, List, [], ◌∷◌, ◌||◌, ap, sym, subst, refl, inl, inr}
+use Rattle.std.proofs.Common.{count_by, filter, get_or, map, sum_by}
 use Rattle.std.specs.Cmp.{nat_eq_equiv}
 use Rattle.std.specs.List.{All, list_any}
 use Rattle.std.proofs.lemmas.Bool.{cases_Bool, eqb-true, false≢true}

@@ -1,6 +1,6 @@
 -- Lists of the same numbers, in any order.
 use Rattle.std.proofs.Common.{◌≡◌, ◌∙◌, ◌+◌, ◌<◌, ◌≤◌, ℕ, Bool, true, false, cond, nat_eq, nat_le, List, [], ◌∷◌, ap, sym, subst, refl, arith, inl, inr}
-use Rattle.std.proofs.Common.{◌⊎◌, ◌||◌, count_by, filter, length, sum_by, take}
+use Rattle.std.proofs.Common.{◌⊎◌, ◌||◌, filter, length, sum_by, take}
 use Rattle.std.specs.Cmp.{nat_eq_equiv}
 use Rattle.std.specs.List.{AllByRecursion, list_any}
 use Rattle.std.proofs.lemmas.Bool.{cases_lt, cases_order, le-leb, ne_eqb}

@@ -1,5 +1,5 @@
 -- The rows of a census are determined by the totals and the samples.
-use Rattle.std.proofs.Common.{◌≡◌, ◌∙◌, ◌≤◌, Bool, true, false, List, [], ◌∷◌, ◌||◌, ℕ, ap, sym, subst, refl, arith, inl, inr, map, nat_le}
+use Rattle.std.proofs.Common.{◌≡◌, ◌∙◌, ◌≤◌, Bool, true, false, List, [], ◌∷◌, ◌||◌, ℕ, ap, sym, subst, refl, inl, inr, map, nat_le}
 use Rattle.std.specs.Cmp.{both_ways as both_true, tied_itself}
 use Rattle.std.specs.Cmp.Lexicographic.{nat_list_cmp_total, slice_cmp}
 use Rattle.std.specs.List.{All, AllByRecursion, list_any}
@@ -80,7 +80,8 @@ known surveys (row ∷ rows) each code h = elim (cases_Bool (is_code code row.co
       let is : IsRowOf surveys row = All-head (IsRowOf surveys) row rows each in
       let here : code ≡ row.code = one_code code row.code hit in
       subst (λ (n : ℕ). 1 ≤ n) (is.total_is ∙ ap (total surveys) (sym here)) is.some
-  | inr miss ↦ known surveys rows (All-tail (IsRowOf surveys) row rows each) code (sym (ap (λ (b : Bool). b || list_any (is_code code) (codes_of rows)) miss) ∙ h)
+  | inr miss ↦ known surveys rows (All-tail (IsRowOf surveys) row rows each) code
+      (sym (ap (λ (b : Bool). b || list_any (is_code code) (codes_of rows)) miss) ∙ h)
 ]
 
 has_row : (surveys : List Survey) (rows : List Row) → AreRowsOf surveys rows → (code : List ℕ)
