@@ -3,6 +3,7 @@ pub mod Books
 pub mod Censuses
 pub mod Jobs
 pub mod Keeping
+pub mod RangeLists
 pub mod RangeSteps
 pub mod Ranges
 pub mod Reports
