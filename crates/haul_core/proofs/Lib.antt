@@ -1,7 +1,11 @@
 mod BookLemmas
 mod CensusLemmas
+mod CutLemmas
+mod DecimalLemmas
+mod FaultLemmas
 mod JobLemmas
 mod KeepLemmas
+mod ListLemmas
 mod RangeLemmas
 mod SampleLemmas
 mod SumLemmas

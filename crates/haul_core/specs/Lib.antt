@@ -3,6 +3,7 @@ pub mod Books
 pub mod Censuses
 pub mod Jobs
 pub mod Keeping
+pub mod RangeListSteps
 pub mod RangeLists
 pub mod RangeSteps
 pub mod Ranges
