@@ -4,6 +4,7 @@ mod CutLemmas
 mod DecimalLemmas
 mod FaultLemmas
 mod JobLemmas
+mod JoinedSamples
 mod KeepLemmas
 mod ListLemmas
 mod NormalLemmas
