@@ -1,8 +1,13 @@
 mod BookLemmas
 mod CensusLemmas
+mod CutLemmas
+mod DecimalLemmas
+mod FaultLemmas
 mod JobLemmas
+mod JoinedSamples
 mod KeepLemmas
 mod LawLemmas
+mod ListLemmas
 mod MissingLemmas
 mod NormalLemmas
 mod NumberLemmas

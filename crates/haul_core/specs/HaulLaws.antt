@@ -1,4 +1,4 @@
--- Laws of sets of numbers, and of the texts of hauls.
+-- Laws of haul texts: they don't depend on the order in which the soups came.
 use Rattle.std.specs.Prelude.{◌≡◌, ℕ, List, count_by, nat_eq}
 use Rattle.survey_core.specs.declared.job.Job.{Job}
 use Rattle.haul_core.specs.declared.census.Census.{Census}
@@ -11,10 +11,6 @@ use Rattle.haul_core.specs.Ranges.{AreNormal, is_in}
 -- the ranges give one set
 abbrev pub GiveOneSet : List Range → List Range → Type 0
 GiveOneSet ranges others = (n : ℕ) → is_in ranges n ≡ is_in others n
-
--- a set has one normal form
-abbrev pub NormalFormsAreDetermined : Type 0
-NormalFormsAreDetermined = (ranges others : List Range) → AreNormal ranges → AreNormal others → GiveOneSet ranges others → ranges ≡ others
 
 -- the same numbers, each as often, in any order
 abbrev pub AreSameNumbers : List ℕ → List ℕ → Type 0

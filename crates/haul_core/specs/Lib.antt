@@ -7,6 +7,8 @@ pub mod Jobs
 pub mod Keeping
 pub mod Missing
 pub mod MissingSteps
+pub mod RangeListSteps
+pub mod RangeLists
 pub mod RangeSteps
 pub mod Ranges
 pub mod Reports

@@ -11,11 +11,13 @@ pub mod census;
 pub mod haul;
 /// What a census says, as text.
 pub mod haul_text;
-/// Laws of sets of numbers and of haul texts.
+/// Laws of haul texts.
 pub mod laws;
 mod missing;
 /// Sets of soup numbers.
 pub mod range;
+/// Lists of ranges as texts.
+pub mod range_list;
 /// What a worker reports of a soup.
 pub mod report;
 /// The rows of a census.
