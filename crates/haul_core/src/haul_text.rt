@@ -1,5 +1,6 @@
 ghost use Rattle.std.specs.Prelude.{◌≡◌, false, flat_map, map};
 ghost use Rattle.plane_core.specs.Out.{Writes};
+ghost use Rattle.haul_core.specs.HaulLaws.{CompleteHaulsPrintTheSame, SameSoupsPrintTheSame};
 ghost use Rattle.haul_core.specs.HaulTexts.{ended, haul_text, head_lines, line_of, profile_line, range_line, range_lines};
 ghost use Rattle.haul_core.specs.HaulTexts.{sample_line, sample_lines, spaced, sum_lines, text_of, total_line, total_lines};
 
@@ -9,6 +10,7 @@ use crate::row::Row;
 use itoa::{Buffer, Integer};
 use plane_core::output::{Out, WriteError};
 use std::io::Write;
+use survey_core::finding::findings_are_determined;
 use survey_core::job::Job;
 use survey_core::profile::Profile;
 
@@ -29,6 +31,15 @@ pub fn write_haul<W: Write>(census: &Census, out: &mut Out<W>) -> Result<(), Wri
     put_sums(out, census)?;
     put_totals(out, census.rows.as_slice())?;
     put_samples(out, census.rows.as_slice())
+}
+
+/// The laws that the text doesn't depend on the order in which the soups came: censuses of one job and set have the same
+/// text if they are over the same soups, as those of complete hauls are.
+pub fn complete_hauls_print_the_same()
+    ensures same { SameSoupsPrintTheSame }
+    ensures complete { CompleteHaulsPrintTheSame }
+{
+    findings_are_determined();
 }
 
 /// Writes what was surveyed, and how.
@@ -189,3 +200,6 @@ fn put_number<W: Write, N: Integer>(out: &mut Out<W>, number: N) -> Result<(), W
     out.put(b" ")?;
     out.put(buffer.format(number).as_bytes())
 }
+
+#[cfg(test)]
+mod tests;

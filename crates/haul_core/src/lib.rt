@@ -11,8 +11,6 @@ pub mod census;
 pub mod haul;
 /// What a census says, as text.
 pub mod haul_text;
-/// Laws of haul texts.
-pub mod laws;
 mod missing;
 /// Sets of soup numbers.
 pub mod range;
