@@ -1,18 +1,21 @@
 -- Which numbers are taken, by counting.
 use Rattle.std.proofs.Common.{◌≡◌, ◌∙◌, ◌+◌, ◌-◌, ◌<◌, ◌≤◌, ℕ, zero, suc, Bool, true, false, cond, not, nat_eq, nat_le, nat_lt, ◌&&◌, ◌||◌, List, [], ◌∷◌, ◌++◌}
 use Rattle.std.proofs.Common.{ap, sym, subst, refl, arith, append_assoc, inl, inr, count_by, filter, length, map, zero-add}
-use Rattle.std.specs.Cmp.{nat_eq_equiv}
-use Rattle.std.specs.Cmp.{both_ways as both_true}
+use Rattle.std.specs.Cmp.{both_ways as both_true, nat_cmp_is, nat_eq_equiv}
 use Rattle.std.specs.List.{All, AllByRecursion, IsDistinct, list_any, range_with_len}
+use Rattle.std.specs.List.Sorted.{IsStrictlyIncreasing, IsStrictlySortedBy}
 use Rattle.std.specs.Map.{keys_of, lookup}
 use Rattle.std.specs.Option.{is_some}
+use Rattle.std.specs.Ordering.{nat_cmp}
+use Rattle.std.specs.declared.cmp.Ordering.TheVariants.{Less}
 use Rattle.std.proofs.lemmas.Bool.{cases_Bool, eq-eqb, eqb-true, false≢true}
 use Rattle.std.proofs.lemmas.Bool.Decides.{nat_tests}
 use Rattle.std.proofs.lemmas.List.{length-append, length-map}
 use Rattle.std.proofs.lemmas.List.Elements.{All-head, All-tail, filter_agree}
 use Rattle.std.proofs.lemmas.List.FromFn.{length-range_with_len}
+use Rattle.std.proofs.lemmas.List.Kept.{IsStrictlyIncreasing-filter}
 use Rattle.std.proofs.lemmas.List.Sums.{count_by-le-length, sum_by-append, sum_by-cons}
-use Rattle.std.proofs.lemmas.Map.Keys.{IsDistinct-head, IsDistinct-tail}
+use Rattle.std.proofs.lemmas.Map.Keys.{IsDistinct-head, IsDistinct-tail, IsStrictlyIncreasing-from_sorted}
 use Rattle.std.proofs.lemmas.Map.Made.{is_some-lookup}
 use Rattle.haul_core.specs.declared.range.Range.{Range}
 use Rattle.haul_core.specs.Keeping.{numbers_in}
@@ -227,6 +230,55 @@ all_taken ranges taken within distinct complete n =
     ∙ ap (λ (b : Bool). cond {A = ℕ} b 1 0) (both_true (is_taken taken n) (is_in ranges n) (taken_in ranges taken within n) (complete n))
 
 -- ---- the list of those that are missing
+
+less : (x y : ℕ) → x < y → nat_cmp x y ≡ Less
+less x y h = sym (nat_cmp_is x y Less h)
+
+before_range : (p a k : ℕ) → p < a → AllByRecursion (λ y. nat_cmp p y ≡ Less) (range_with_len a k)
+before_range p a zero low = tt
+before_range p a (suc k) low = (less p a low, before_range p (a + 1) k (omega arith))
+
+all_append : (P : ℕ → Type 0) (xs ys : List ℕ) → AllByRecursion P xs → AllByRecursion P ys → AllByRecursion P (xs ++ ys)
+all_append P [] ys h k = k
+all_append P (x ∷ xs) ys h k = (h.0, all_append P xs ys h.1 k)
+
+sorted_append : (xs ys : List ℕ) → IsStrictlySortedBy nat_cmp xs → IsStrictlySortedBy nat_cmp ys
+    → AllByRecursion (λ x. AllByRecursion (λ y. nat_cmp x y ≡ Less) ys) xs → IsStrictlySortedBy nat_cmp (xs ++ ys)
+unfolding IsStrictlySortedBy
+sorted_append [] ys h k across = k
+sorted_append (x ∷ xs) ys h k across =
+    (all_append (λ y. nat_cmp x y ≡ Less) xs ys h.0 across.0, sorted_append xs ys h.1 k across.1)
+
+before_ranges : (p place : ℕ) (ranges : List Range) → p ≤ place → BeginAfter place ranges → AreNormal ranges
+    → AllByRecursion (λ y. nat_cmp p y ≡ Less) (numbers_of ranges)
+before_ranges p place [] low begin normal = tt
+before_ranges p place (r ∷ more) low begin normal =
+    let first : p < r.first = omega (arith, begin) in
+    all_append (λ y. nat_cmp p y ≡ Less) (numbers_of_range r) (numbers_of more) (before_range p r.first r.count first)
+    (before_ranges p (end_of r) more (omega arith) normal.1 normal.2)
+
+sorted_range : (a k : ℕ) → IsStrictlySortedBy nat_cmp (range_with_len a k)
+unfolding IsStrictlySortedBy
+sorted_range a zero = tt
+sorted_range a (suc k) = (before_range a (a + 1) k (omega arith), sorted_range (a + 1) k)
+
+range_before : (a k place : ℕ) (ranges : List Range) → a + k ≤ place → BeginAfter place ranges → AreNormal ranges
+    → AllByRecursion (λ x. AllByRecursion (λ y. nat_cmp x y ≡ Less) (numbers_of ranges)) (range_with_len a k)
+range_before a zero place ranges low begin normal = tt
+range_before a (suc k) place ranges low begin normal =
+    (before_ranges a place ranges (omega arith) begin normal, range_before (a + 1) k place ranges (omega arith) begin normal)
+
+sorted_numbers : (ranges : List Range) → AreNormal ranges → IsStrictlySortedBy nat_cmp (numbers_of ranges)
+unfolding IsStrictlySortedBy
+sorted_numbers [] normal = tt
+sorted_numbers (r ∷ more) normal =
+    sorted_append (numbers_of_range r) (numbers_of more) (sorted_range r.first r.count) (sorted_numbers more normal.2)
+    (range_before r.first r.count (end_of r) more (omega arith) normal.1 normal.2)
+
+pub missing_ascends : (ranges : List Range) (taken : List (ℕ × ℕ)) → AreNormal ranges → IsStrictlyIncreasing (missing_of ranges taken)
+missing_ascends ranges taken normal =
+    IsStrictlyIncreasing-filter (λ n. not (is_taken taken n)) (numbers_of ranges)
+    (IsStrictlyIncreasing-from_sorted (numbers_of ranges) (sorted_numbers ranges normal))
 
 keys_turned : (taken : List (ℕ × ℕ)) → keys_of (map (λ t. (t.1, t.0)) taken) ≡ numbers_in taken
 keys_turned [] = refl

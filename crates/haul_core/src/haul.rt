@@ -1,4 +1,5 @@
 ghost use Rattle.std.specs.Prelude.{◌≡◌, ◌⊎◌, ◌↔◌, ◌<◌, ◌≤◌, ◌+◌, ◌^◌, ◌++◌, ◌∷◌, [], ℕ, List, Option, None, Some, IfErr, IfOk, IsErrOf, IsTrue, OnErr, OnOk, false, length, true, vec_len, vec_capacity, nat_eq, is_err};
+ghost use Rattle.std.specs.List.Sorted.{IsStrictlyIncreasing};
 ghost use Rattle.indexmap.specs.IndexMap.{get, spare};
 ghost use Rattle.haul_core.specs.Books.{IsReply, StandsFor, has_closing, refusal_of};
 ghost use Rattle.haul_core.specs.BookSteps.{refusal_at, reply_of, IsAnswered};
@@ -204,7 +205,8 @@ impl Haul {
     ///
     /// [`AllocError`] if memory runs out.
     pub fn missing(&self) -> Result<Vec<u64>, AllocError>
-        ensures { IfOk result (λ missing. missing.items ≡ missing_of self.now.terms.ranges self.now.taken) }
+        ensures missing { IfOk result (λ missing. missing.items ≡ missing_of self.now.terms.ranges self.now.taken) }
+        ensures ascending { IfOk result (λ missing. IsStrictlyIncreasing missing.items) }
     {
         let Haul {
             alloc,
