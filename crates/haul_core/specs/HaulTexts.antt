@@ -7,6 +7,7 @@ use Rattle.haul_core.specs.declared.census.Census.{Census}
 use Rattle.haul_core.specs.declared.range.Range.{Range}
 use Rattle.haul_core.specs.declared.row.Row.{Row}
 
+-- a word with a space before it
 abbrev pub spaced : List ℕ → List ℕ
 spaced word = codes " " ++ word
 
@@ -36,11 +37,12 @@ head_lines job =
 abbrev pub range_line : Range → List ℕ
 range_line range = numbered (codes "@RANGE") (range.first ∷ range.count ∷ [])
 
--- a line for each range; one of no number stands for none
+-- a line for each range; if there is none, that of an empty range alone
 abbrev pub range_lines : List Range → List (List ℕ)
 range_lines [] = range_line (record { first = 0; count = 0 }) ∷ []
 range_lines (range ∷ more) = map range_line (range ∷ more)
 
+-- how many soups and objects there are
 unfoldable pub sum_lines : Census → List (List ℕ)
 sum_lines census =
     numbered (codes "@NUM_SOUPS") (census.soups ∷ [])
@@ -57,14 +59,15 @@ total_line row = numbered row.code (row.total ∷ [])
 abbrev pub sample_line : Row → List ℕ
 sample_line row = numbered row.code row.samples
 
--- two tables, each after an empty line and a title
+-- the table of totals: an empty line, the title, and a line for each code
 unfoldable pub total_lines : List Row → List (List ℕ)
 total_lines rows = [] ∷ codes "@CENSUS TABLE" ∷ map total_line rows
 
+-- the table of samples
 unfoldable pub sample_lines : List Row → List (List ℕ)
 sample_lines rows = [] ∷ codes "@SAMPLE_SOUPIDS" ∷ map sample_line rows
 
--- each line ends with a line feed
+-- a line with the line feed that ends it
 abbrev pub ended : List ℕ → List ℕ
 ended line = line ++ codes "\n"
 
