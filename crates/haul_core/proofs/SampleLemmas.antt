@@ -6,10 +6,10 @@ use Rattle.std.proofs.lemmas.List.{append_assoc, drop-drop, drop-set-lt, drop_al
 use Rattle.std.proofs.lemmas.List.{get_or-take, length-set, length-take-le, take-take, take_more, take_more_set}
 use Rattle.haul_core.specs.Samples.{IsAscending, ascending, least_three, with_number}
 
-with_least : (n x : ℕ) (more : List ℕ) → n ≤ x → with_number n (x ∷ more) ≡ n ∷ x ∷ more
+pub with_least : (n x : ℕ) (more : List ℕ) → n ≤ x → with_number n (x ∷ more) ≡ n ∷ x ∷ more
 with_least n x more h = ap (λ (b : Bool). cond b (n ∷ x ∷ more) (x ∷ with_number n more)) (le-leb n x h)
 
-with_greater : (n x : ℕ) (more : List ℕ) → x < n → with_number n (x ∷ more) ≡ x ∷ with_number n more
+pub with_greater : (n x : ℕ) (more : List ℕ) → x < n → with_number n (x ∷ more) ≡ x ∷ with_number n more
 with_greater n x more h = ap (λ (b : Bool). cond b (n ∷ x ∷ more) (x ∷ with_number n more)) (lt-leb n x h)
 
 -- the first of ascending numbers goes before the others

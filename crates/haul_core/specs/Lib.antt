@@ -1,8 +1,14 @@
 pub mod BookSteps
 pub mod Books
 pub mod Censuses
+pub mod HaulLaws
+pub mod HaulTexts
 pub mod Jobs
 pub mod Keeping
+pub mod Missing
+pub mod MissingSteps
+pub mod RangeListSteps
+pub mod RangeLists
 pub mod RangeSteps
 pub mod Ranges
 pub mod Reports

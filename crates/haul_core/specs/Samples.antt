@@ -20,3 +20,8 @@ abbrev pub IsAscending : List ℕ → Type 0
 IsAscending [] = Unit {0}
 IsAscending (x ∷ []) = Unit {0}
 IsAscending (x ∷ y ∷ more) = (x ≤ y) × IsAscending (y ∷ more)
+
+-- more numbers, of which the least three are kept after each
+abbrev pub with_each : List ℕ → List ℕ → List ℕ
+with_each xs [] = xs
+with_each xs (n ∷ more) = with_each (take 3 (with_number n xs)) more

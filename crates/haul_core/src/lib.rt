@@ -9,8 +9,13 @@ pub mod book;
 pub mod census;
 /// Which soups of a job have been taken.
 pub mod haul;
+/// What a census says, as text.
+pub mod haul_text;
+mod missing;
 /// Sets of soup numbers.
 pub mod range;
+/// Lists of ranges as texts.
+pub mod range_list;
 /// What a worker reports of a soup.
 pub mod report;
 /// The rows of a census.

@@ -1,5 +1,5 @@
 ghost use Rattle.std.specs.Prelude.{◌≡◌, ◌≤◌, ◌++◌, ◌∷◌, [], take};
-ghost use Rattle.haul_core.specs.Samples.{IsAscending, with_number};
+ghost use Rattle.haul_core.specs.Samples.{IsAscending, with_each, with_number};
 
 use std::marker::Model;
 
@@ -52,6 +52,17 @@ impl Samples {
             numbers: *numbers,
             count: *count,
         }
+    }
+
+    /// The least three of these numbers and those of the other samples.
+    pub(crate) fn with_all(&self, other: &Samples) -> Samples
+        ensures { result ≡ with_each self.now other.now }
+    {
+        let mut least = self.copy();
+        for number in other.as_slice() {
+            least = least.with_number(*number);
+        }
+        least
     }
 
     /// The least three of these numbers and one more: each number finds its place among those that are kept, and the

@@ -3,6 +3,7 @@ use crate::book::keep_book;
 use crate::census::Census;
 use crate::haul::Haul;
 use crate::range::Range;
+use crate::range_list::ListError;
 use crate::refusal::Refusal;
 use crate::report::{Report, ReportError};
 use plane_core::rule::Rule;
@@ -134,5 +135,55 @@ fn counts_what_forty_soups_leave(rt: HostRuntime) -> Result<(), Fail> {
     assert!(rt; has_line(text, "xp2_7 111 1 2 3"));
     assert!(rt; has_line(text, "xp2_33ws 2 21 29"));
     assert!(rt; has_line(text, "xq4_153 91 1 4 5"));
+    Ok(())
+}
+
+// What doesn't stand in a list of ranges: an end, a byte and a number, each where the first fault is.
+#[test]
+fn names_the_first_fault_of_a_list(rt: HostRuntime) {
+    let cases = [
+        ("1", 1),
+        ("2+2,", 4),
+        ("01+2", 1),
+        ("00+2", 1),
+        ("1+02", 3),
+        ("+1", 0),
+        ("1++2", 2),
+        ("1+2;3+1", 3),
+        ("1+2,,3+1", 4),
+        (" 1+2", 0),
+        ("18446744073709551616+1", 0),
+        ("1+2,3+18446744073709551616x", 6),
+        ("99999999999999999999x", 0),
+    ];
+    for (text, place) in cases {
+        assert_eq!(rt;
+            Range::read_list(rt.alloc(), text).err(),
+            Some(ListError::BadList { place }),
+            "{text}"
+        );
+    }
+}
+
+#[test]
+fn reads_lists_of_ranges(rt: HostRuntime) -> Result<(), Fail> {
+    let read = Range::read_list(rt.alloc(), "0+4,10+2,18446744073709551615+0")?;
+    let ranges = [range(0, 4), range(10, 2), range(u64::MAX, 0)];
+    assert!(rt; read.as_slice() == ranges.as_slice());
+    let none = Range::read_list(rt.alloc(), "")?;
+    assert!(rt; none.is_empty());
+    Ok(())
+}
+
+// A list of 10,000 ranges, each of one number.
+#[test]
+fn reads_a_long_list(rt: HostRuntime) -> Result<(), Fail> {
+    let mut text = String::new(rt.alloc());
+    text.push_str("0+1")?;
+    for _ in 1..10_000 {
+        text.push_str(",0+1")?;
+    }
+    let read = Range::read_list(rt.alloc(), text.as_str())?;
+    assert!(rt; read.len() == 10_000);
     Ok(())
 }

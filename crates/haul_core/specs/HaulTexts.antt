@@ -1,0 +1,84 @@
+-- The haul text: what a census says, line by line.
+use Rattle.std.specs.Prelude.{◌++◌, ℕ, List, [], ◌∷◌, codes, decimal, flat_map, map}
+use Rattle.plane_core.specs.Rules.{rule_text}
+use Rattle.survey_core.specs.Profiles.{Settling}
+use Rattle.survey_core.specs.declared.job.Job.{Job}
+use Rattle.haul_core.specs.declared.census.Census.{Census}
+use Rattle.haul_core.specs.declared.range.Range.{Range}
+use Rattle.haul_core.specs.declared.row.Row.{Row}
+
+-- a word with a space before it
+abbrev pub spaced : List ℕ → List ℕ
+spaced word = codes " " ++ word
+
+-- a line of words, with a space before each but the first
+unfoldable pub line_of : List ℕ → List (List ℕ) → List ℕ
+line_of first more = first ++ flat_map spaced more
+
+-- a line of a word and numbers in decimal
+abbrev pub numbered : List ℕ → List ℕ → List ℕ
+numbered word numbers = line_of word (map decimal numbers)
+
+-- the four numbers of a profile
+abbrev pub profile_line : Settling → List ℕ
+profile_line p = numbered (codes "@PROFILE") (p.period ∷ p.horizon ∷ p.stride ∷ p.limit ∷ [])
+
+-- what was surveyed, and how
+unfoldable pub head_lines : Job → List (List ℕ)
+head_lines job =
+    codes "@VERSION 2"
+    ∷ (codes "@ROOT seed=" ++ job.seed)
+    ∷ (codes "@RULE " ++ rule_text job.rule)
+    ∷ codes "@SYMMETRY C1"
+    ∷ profile_line job.profile
+    ∷ []
+
+-- the first number of a range, and how many there are
+abbrev pub range_line : Range → List ℕ
+range_line range = numbered (codes "@RANGE") (range.first ∷ range.count ∷ [])
+
+-- a line for each range; if there is none, that of an empty range alone
+abbrev pub range_lines : List Range → List (List ℕ)
+range_lines [] = range_line (record { first = 0; count = 0 }) ∷ []
+range_lines (range ∷ more) = map range_line (range ∷ more)
+
+-- how many soups and objects there are
+unfoldable pub sum_lines : Census → List (List ℕ)
+sum_lines census =
+    numbered (codes "@NUM_SOUPS") (census.soups ∷ [])
+    ∷ numbered (codes "@NUM_UNSETTLED") (census.unsettled ∷ [])
+    ∷ numbered (codes "@NUM_FOR_GOOD") (census.for_good ∷ [])
+    ∷ numbered (codes "@NUM_OBJECTS") (census.objects ∷ [])
+    ∷ []
+
+-- a code and how many objects have it
+abbrev pub total_line : Row → List ℕ
+total_line row = numbered row.code (row.total ∷ [])
+
+-- a code and the least numbers of soups that left one
+abbrev pub sample_line : Row → List ℕ
+sample_line row = numbered row.code row.samples
+
+-- the table of totals: an empty line, the title, and a line for each code
+unfoldable pub total_lines : List Row → List (List ℕ)
+total_lines rows = [] ∷ codes "@CENSUS TABLE" ∷ map total_line rows
+
+-- the table of samples
+unfoldable pub sample_lines : List Row → List (List ℕ)
+sample_lines rows = [] ∷ codes "@SAMPLE_SOUPIDS" ∷ map sample_line rows
+
+-- a line with the line feed that ends it
+abbrev pub ended : List ℕ → List ℕ
+ended line = line ++ codes "\n"
+
+-- the text that the lines make
+unfoldable pub text_of : List (List ℕ) → List ℕ
+text_of lines = flat_map ended lines
+
+-- the lines of a census, from the first to the last
+unfoldable pub haul_lines : Census → List (List ℕ)
+haul_lines census =
+    head_lines census.job ++ (range_lines census.ranges ++ (sum_lines census ++ (total_lines census.rows ++ sample_lines census.rows)))
+
+abbrev pub haul_text : Census → List ℕ
+haul_text census = text_of (haul_lines census)

@@ -1,0 +1,205 @@
+ghost use Rattle.std.specs.Prelude.{◌≡◌, false, flat_map, map};
+ghost use Rattle.plane_core.specs.Out.{Writes};
+ghost use Rattle.haul_core.specs.HaulLaws.{CompleteHaulsPrintTheSame, SameSoupsPrintTheSame};
+ghost use Rattle.haul_core.specs.HaulTexts.{ended, haul_text, head_lines, line_of, profile_line, range_line, range_lines};
+ghost use Rattle.haul_core.specs.HaulTexts.{sample_line, sample_lines, spaced, sum_lines, text_of, total_line, total_lines};
+
+use crate::census::Census;
+use crate::range::Range;
+use crate::row::Row;
+use itoa::{Buffer, Integer};
+use plane_core::output::{Out, WriteError};
+use std::io::Write;
+use survey_core::finding::findings_are_determined;
+use survey_core::job::Job;
+use survey_core::profile::Profile;
+
+/// Writes the haul text of a census: the job, the set of soup numbers, the sums, and two lines for each code, one with how
+/// many objects have it and one with its samples. The `Out` must not have failed.
+///
+/// It takes no memory. Each word and number is a write, so the writer should be buffered, as by a `BufWriter`.
+///
+/// # Errors
+///
+/// [`WriteError`] if a write fails or takes no byte. The front of the text may have been written by then.
+pub fn write_haul<W: Write>(census: &Census, out: &mut Out<W>) -> Result<(), WriteError>
+    requires { out.old.failed ≡ false }
+    ensures { Writes W.contents out.old out.new result (haul_text census.now) }
+{
+    put_head(out, &census.job)?;
+    put_ranges(out, census.ranges.as_slice())?;
+    put_sums(out, census)?;
+    put_totals(out, census.rows.as_slice())?;
+    put_samples(out, census.rows.as_slice())
+}
+
+/// The laws that the text doesn't depend on the order in which the soups came: censuses of one job and set have the same
+/// text if they are over the same soups, as those of complete hauls are.
+pub fn complete_hauls_print_the_same()
+    ensures same { SameSoupsPrintTheSame }
+    ensures complete { CompleteHaulsPrintTheSame }
+{
+    findings_are_determined();
+}
+
+/// Writes what was surveyed, and how.
+fn put_head<W: Write>(out: &mut Out<W>, job: &Job) -> Result<(), WriteError>
+    requires { out.old.failed ≡ false }
+    ensures { Writes W.contents out.old out.new result (text_of (head_lines job.now)) }
+{
+    out.put(b"@VERSION 2\n@ROOT seed=")?;
+    out.put(job.seed.bytes())?;
+    out.put(b"\n@RULE ")?;
+    job.rule.write_text(out)?;
+    out.put(b"\n@SYMMETRY C1\n")?;
+    put_profile(out, &job.profile)
+}
+
+/// Writes the line of a profile.
+fn put_profile<W: Write>(out: &mut Out<W>, profile: &Profile) -> Result<(), WriteError>
+    requires { out.old.failed ≡ false }
+    ensures { Writes W.contents out.old out.new result (ended (profile_line profile.now)) }
+{
+    let numbers = [
+        profile.period(),
+        profile.horizon(),
+        profile.stride(),
+        profile.limit(),
+    ];
+    put_line(out, b"@PROFILE", &numbers)
+}
+
+/// Writes the lines of the ranges.
+fn put_ranges<W: Write>(out: &mut Out<W>, ranges: &[Range]) -> Result<(), WriteError>
+    requires { out.old.failed ≡ false }
+    ensures { Writes W.contents out.old out.new result (text_of (range_lines ranges.now)) }
+{
+    if ranges.is_empty() {
+        return put_range(out, &Range { first: 0, count: 0 });
+    }
+    put_each_range(out, ranges)
+}
+
+/// Writes a line for each range.
+fn put_each_range<W: Write>(out: &mut Out<W>, ranges: &[Range]) -> Result<(), WriteError>
+    requires { out.old.failed ≡ false }
+    ensures { Writes W.contents out.old out.new result (flat_map (λ range. ended (range_line range)) ranges.now) }
+{
+    for range in ranges {
+        put_range(out, range)?;
+    }
+    Ok(())
+}
+
+/// Writes the line of a range.
+fn put_range<W: Write>(out: &mut Out<W>, range: &Range) -> Result<(), WriteError>
+    requires { out.old.failed ≡ false }
+    ensures { Writes W.contents out.old out.new result (ended (range_line range.now)) }
+{
+    put_line(out, b"@RANGE", &[range.first, range.count])
+}
+
+/// Writes the sums.
+fn put_sums<W: Write>(out: &mut Out<W>, census: &Census) -> Result<(), WriteError>
+    requires { out.old.failed ≡ false }
+    ensures { Writes W.contents out.old out.new result (text_of (sum_lines census.now)) }
+{
+    put_line(out, b"@NUM_SOUPS", &[census.soups])?;
+    put_line(out, b"@NUM_UNSETTLED", &[census.unsettled])?;
+    put_line(out, b"@NUM_FOR_GOOD", &[census.for_good])?;
+    put_line(out, b"@NUM_OBJECTS", &[census.objects])
+}
+
+/// Writes the table of totals.
+fn put_totals<W: Write>(out: &mut Out<W>, rows: &[Row]) -> Result<(), WriteError>
+    requires { out.old.failed ≡ false }
+    ensures { Writes W.contents out.old out.new result (text_of (total_lines rows.now)) }
+{
+    out.put(b"\n@CENSUS TABLE\n")?;
+    put_each_total(out, rows)
+}
+
+/// Writes a line for each row, with its total.
+fn put_each_total<W: Write>(out: &mut Out<W>, rows: &[Row]) -> Result<(), WriteError>
+    requires { out.old.failed ≡ false }
+    ensures { Writes W.contents out.old out.new result (flat_map (λ row. ended (total_line row)) rows.now) }
+{
+    for row in rows {
+        put_total(out, row)?;
+    }
+    Ok(())
+}
+
+/// Writes a code and its total.
+fn put_total<W: Write>(out: &mut Out<W>, row: &Row) -> Result<(), WriteError>
+    requires { out.old.failed ≡ false }
+    ensures { Writes W.contents out.old out.new result (ended (total_line row.now)) }
+{
+    put_line(out, row.code.text().as_bytes(), &[row.total])
+}
+
+/// Writes the table of samples.
+fn put_samples<W: Write>(out: &mut Out<W>, rows: &[Row]) -> Result<(), WriteError>
+    requires { out.old.failed ≡ false }
+    ensures { Writes W.contents out.old out.new result (text_of (sample_lines rows.now)) }
+{
+    out.put(b"\n@SAMPLE_SOUPIDS\n")?;
+    put_each_sample(out, rows)
+}
+
+/// Writes a line for each row, with its samples.
+fn put_each_sample<W: Write>(out: &mut Out<W>, rows: &[Row]) -> Result<(), WriteError>
+    requires { out.old.failed ≡ false }
+    ensures { Writes W.contents out.old out.new result (flat_map (λ row. ended (sample_line row)) rows.now) }
+{
+    for row in rows {
+        put_sample(out, row)?;
+    }
+    Ok(())
+}
+
+/// Writes a code and its samples.
+fn put_sample<W: Write>(out: &mut Out<W>, row: &Row) -> Result<(), WriteError>
+    requires { out.old.failed ≡ false }
+    ensures { Writes W.contents out.old out.new result (ended (sample_line row.now)) }
+{
+    put_line(out, row.code.text().as_bytes(), row.samples.as_slice())
+}
+
+/// Writes a line: a word and numbers.
+fn put_line<W: Write, N: Integer>(
+    out: &mut Out<W>,
+    word: &[u8],
+    numbers: &[N],
+) -> Result<(), WriteError>
+    requires { out.old.failed ≡ false }
+    ensures { Writes W.contents out.old out.new result (ended (line_of word.now (map N.text numbers.now))) }
+{
+    out.put(word)?;
+    put_numbers(out, numbers)?;
+    out.put(b"\n")
+}
+
+/// Writes numbers in decimal, with a space before each.
+fn put_numbers<W: Write, N: Integer>(out: &mut Out<W>, numbers: &[N]) -> Result<(), WriteError>
+    requires { out.old.failed ≡ false }
+    ensures { Writes W.contents out.old out.new result (flat_map (λ n. spaced (N.text n)) numbers.now) }
+{
+    for number in numbers {
+        put_number(out, *number)?;
+    }
+    Ok(())
+}
+
+/// Writes a number in decimal, with a space before it.
+fn put_number<W: Write, N: Integer>(out: &mut Out<W>, number: N) -> Result<(), WriteError>
+    requires { out.old.failed ≡ false }
+    ensures { Writes W.contents out.old out.new result (spaced (N.text number)) }
+{
+    let mut buffer = Buffer::new();
+    out.put(b" ")?;
+    out.put(buffer.format(number).as_bytes())
+}
+
+#[cfg(test)]
+mod tests;
