@@ -4,7 +4,9 @@ mod CutLemmas
 mod DecimalLemmas
 mod FaultLemmas
 mod JobLemmas
+mod JoinLemmas
 mod JoinedSamples
+mod JoinedTallies
 mod KeepLemmas
 mod ListLemmas
 mod NormalLemmas
@@ -12,3 +14,4 @@ mod RangeLemmas
 mod SampleLemmas
 mod SumLemmas
 mod TallyLemmas
+mod UnionLemmas

@@ -2,6 +2,7 @@ pub mod BookSteps
 pub mod Books
 pub mod Censuses
 pub mod Jobs
+pub mod Joins
 pub mod Keeping
 pub mod RangeListSteps
 pub mod RangeLists
