@@ -12,6 +12,7 @@ mod ListLemmas
 mod NormalLemmas
 mod RangeLemmas
 mod SampleLemmas
+mod StandLemmas
 mod SumLemmas
 mod TallyLemmas
 mod UnionLemmas

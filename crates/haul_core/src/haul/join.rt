@@ -43,8 +43,13 @@ impl Haul {
     /// - [`JoinFault::Overlap`] if a number is in both sets.
     /// - [`JoinFault::Memory`] if memory runs out.
     pub fn join(self, other: Haul) -> Result<Haul, (Haul, Haul, JoinFault)>
+        // One haul of both, and what stands for it.
         ensures can { OnOk result (CanJoin self other) }
         ensures joined { IfOk result (IsJoined self other) }
+        ensures stands { (before after : List Arrival) → StandsFor before self → StandsFor after other
+            → IfOk result (StandsFor (joined_arrivals self.terms before other.terms after)) }
+
+        // Which error it is, and what comes back.
         ensures fault { IfErr result (λ refused. Hinders self other refused.2) }
         ensures kept { IfErr result (λ refused. (refused.0 ≡ self) × (refused.1 ≡ other)) }
     {
