@@ -1,11 +1,11 @@
 -- Two hauls as one.
-use Rattle.std.proofs.Common.{◌≡◌, ◌≢◌, ◌∙◌, ◌+◌, ◌*◌, ◌^◌, ◌<◌, ◌≤◌, ◌||◌, ◌⊎◌, ◌++◌, inl, inr, ℕ, zero, suc, Bool, true, false, cond, not, List, [], ◌∷◌, Option, None, Some}
-use Rattle.std.proofs.Common.{ap, sym, refl, subst, arith, rules, map, filter, take, get_or, length, length-append, max, nat_eq, count_by, sum_by, zero-add}
+use Rattle.std.proofs.Common.{◌≡◌, ◌∙◌, ◌+◌, ◌^◌, ◌<◌, ◌≤◌, ◌||◌, ◌++◌, ℕ, zero, suc, Bool, true, false, cond, List, [], ◌∷◌}
+use Rattle.std.proofs.Common.{None, Some}
+use Rattle.std.proofs.Common.{ap, sym, refl, subst, arith, rules, map, filter, take, get_or, length, length-append, max, nat_eq, zero-add}
 use Rattle.std.specs.Cmp.{nat_eq_equiv}
-use Rattle.std.specs.List.{All, AllByRecursion, IsDistinct, list_any}
+use Rattle.std.specs.List.{All, AllByRecursion, IsDistinct}
 use Rattle.std.specs.Map.{lookup}
-use Rattle.std.proofs.lemmas.Bool.{false≢true}
-use Rattle.std.proofs.lemmas.List.{append_assoc, map-append, map_push, take_more}
+use Rattle.std.proofs.lemmas.List.{map-append, map_push, take_more}
 use Rattle.std.proofs.lemmas.List.Elements.{All-append, All-head, All-tail, All-weaker, filter-append}
 use Rattle.std.proofs.lemmas.List.Folds.{list_any-append}
 use Rattle.std.proofs.lemmas.List.Sums.{count_by-le-length, sum_by-append, sum_by-cons}
@@ -14,11 +14,11 @@ use Rattle.survey_core.specs.Soups.{soup}
 use Rattle.survey_core.specs.declared.job.Job.{Job}
 use Rattle.haul_core.specs.declared.range.Range.{Range}
 use Rattle.haul_core.specs.declared.tally.Tally.{Tally}
-use Rattle.haul_core.specs.Books.{Held, Terms}
-use Rattle.haul_core.specs.Joins.{CanJoin, IsJoined}
+use Rattle.haul_core.specs.Books.{Held}
+use Rattle.haul_core.specs.Joins.{CanJoin}
 use Rattle.haul_core.specs.Keeping.{Keeps, Sums, numbers_in, tally_of}
 use Rattle.haul_core.specs.Ranges.{AreBelow, AreNormal, BeginAfter, IsNormalForm, ShareNumber, end_of, is_in, is_in_range, number_bound, size_of}
-use Rattle.haul_core.specs.Samples.{ascending, least_three, with_each}
+use Rattle.haul_core.specs.Samples.{least_three, with_each}
 use Rattle.haul_core.specs.Tallies.{no_tally, tally_in, together}
 use Rattle.haul_core.specs.Totals.{Survey, count_in, has_object, is_for_good, is_unsettled, samples, total}
 use Rattle.haul_core.proofs.JobLemmas.{jobs_decide}
@@ -91,15 +91,20 @@ other_number a b n (t ∷ ts) apart first h =
     go false e = e
     go true e =
         let same : n ≡ t.1 = grind (arith, e) in
-        absurd (apart (record { number = n; first = first;
-            second = subst (λ (m : ℕ). is_in b m ≡ true) (sym same) (All-head (λ t. is_in b t.1 ≡ true) t ts h) }))
+        absurd (apart (record {
+          number = n;
+          first = first;
+          second = subst (λ (m : ℕ). is_in b m ≡ true) (sym same) (All-head (λ t. is_in b t.1 ≡ true) t ts h);
+        }))
 
-other_numbers : (a b : List Range) (taken others : List (ℕ × ℕ)) → ¬ ShareNumber a b → All (λ t. is_in a t.1 ≡ true) taken → All (λ t. is_in b t.1 ≡ true) others
+other_numbers : (a b : List Range) (taken others : List (ℕ × ℕ)) → ¬ ShareNumber a b → All (λ t. is_in a t.1 ≡ true) taken
+    → All (λ t. is_in b t.1 ≡ true) others
     → AllByRecursion (λ n. AllByRecursion (λ m. nat_eq n m ≡ false) (numbers_in others)) (numbers_in taken)
 other_numbers a b [] others apart h k = tt
-other_numbers a b (t ∷ ts) others apart h k =
-    (other_number a b t.1 others apart (All-head (λ t. is_in a t.1 ≡ true) t ts h) k,
-     other_numbers a b ts others apart (All-tail (λ t. is_in a t.1 ≡ true) t ts h) k)
+other_numbers a b (t ∷ ts) others apart h k = (
+  other_number a b t.1 others apart (All-head (λ t. is_in a t.1 ≡ true) t ts h) k,
+  other_numbers a b ts others apart (All-tail (λ t. is_in a t.1 ≡ true) t ts h) k,
+)
 
 -- the numbers of both differ
 pub distinct_both : (a b : List Range) (taken others : List (ℕ × ℕ)) → ¬ ShareNumber a b → All (λ t. is_in a t.1 ≡ true) taken
@@ -116,12 +121,15 @@ tally_both sa sb code = λ i. record { total = sum i; samples = least i }
   where
     numbers : List Survey → List ℕ
     numbers surveys = map (λ (s : Survey). s.number) (filter (has_object code) surveys)
+
     sum : total (sa ++ sb) code ≡ (0 + total sa code) + total sb code
     sum = sum_by-append (λ s. count_in code s.finding) sa sb ∙ ap (λ (n : ℕ). n + total sb code) (sym (zero-add (total sa code)))
+
     cut : map (λ (s : Survey). s.number) (filter (has_object code) (sa ++ sb))
         ≡ map (λ (s : Survey). s.number) (filter (has_object code) sa) ++ map (λ (s : Survey). s.number) (filter (has_object code) sb)
     cut = ap (map (λ (s : Survey). s.number)) (filter-append (has_object code) sa sb)
         ∙ map-append (λ (s : Survey). s.number) (filter (has_object code) sa) (filter (has_object code) sb)
+
     least : samples (sa ++ sb) code ≡ with_each (with_each [] (samples sa code)) (samples sb code)
     least = ap least_three cut
         ∙ sym (ap (λ (t : List ℕ). with_each t (samples sb code)) (least_of_both [] (map (λ (s : Survey). s.number) (filter (has_object code) sa)))
@@ -144,14 +152,24 @@ module _ (a b : Held) (ca cb : ℕ) (wa wb : List (ℕ × ℕ)) (sa sb : Sums) (
             let long = length-append ka.surveys kb.surveys in
             let most = total_small (ka.surveys ++ kb.surveys) code few (omega arith) in
             let sum : total (ka.surveys ++ kb.surveys) code ≡ total ka.surveys code + total kb.surveys code =
-                sum_by-append (λ s. count_in code s.finding) ka.surveys kb.surveys in
+            sum_by-append (λ s. count_in code s.finding) ka.surveys kb.surveys in
             let first : (tally_in sa.rows code).total ≡ total ka.surveys code = ap (λ (t : Tally). t.total) (ka.sum.rows code) in
             let second : (tally_in sb.rows code).total ≡ total kb.surveys code = ap (λ (t : Tally). t.total) (kb.sum.rows code) in
             omega arith;
-        unsettled_room = omega (arith, ka.sum.unsettled_sum, kb.sum.unsettled_sum, count_by-le-length (λ s. is_unsettled s.finding) ka.surveys,
-            count_by-le-length (λ s. is_unsettled s.finding) kb.surveys);
-        for_good_room = omega (arith, ka.sum.for_good_sum, kb.sum.for_good_sum, count_by-le-length (λ s. is_for_good s.finding) ka.surveys,
-            count_by-le-length (λ s. is_for_good s.finding) kb.surveys);
+        unsettled_room = omega (
+          arith,
+          ka.sum.unsettled_sum,
+          kb.sum.unsettled_sum,
+          count_by-le-length (λ s. is_unsettled s.finding) ka.surveys,
+          count_by-le-length (λ s. is_unsettled s.finding) kb.surveys,
+        );
+        for_good_room = omega (
+          arith,
+          ka.sum.for_good_sum,
+          kb.sum.for_good_sum,
+          count_by-le-length (λ s. is_for_good s.finding) ka.surveys,
+          count_by-le-length (λ s. is_for_good s.finding) kb.surveys,
+        );
       }
 
   pub keeps_joined : (ranges : List Range) (workers : ℕ) (taken by : List (ℕ × ℕ)) (sums : Sums) → CanJoin a b
@@ -199,8 +217,10 @@ module _ (a b : Held) (ca cb : ℕ) (wa wb : List (ℕ × ℕ)) (sa sb : Sums) (
     where
       either : (m : ℕ) → is_in ranges m ≡ (is_in a.terms.ranges m || is_in b.terms.ranges m)
       either m = form.same m ∙ list_any-append (is_in_range m) a.terms.ranges b.terms.ranges
+
       in_first : (m : ℕ) → is_in a.terms.ranges m ≡ true → is_in ranges m ≡ true
       in_first m h = let e = either m in search (rules)
+
       in_second : (m : ℕ) → is_in b.terms.ranges m ≡ true → is_in ranges m ≡ true
       in_second m h = let e = either m in go (is_in a.terms.ranges m) refl
         where

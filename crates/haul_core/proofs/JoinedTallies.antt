@@ -1,9 +1,10 @@
 -- Rows of two totals added up.
-use Rattle.std.proofs.Common.{◌≡◌, ◌≢◌, ◌∙◌, ◌+◌, ◌<◌, ℕ, suc, Bool, true, false, cond, List, [], ◌∷◌, ◌++◌, Option, None, Some, ap, sym, subst, refl, arith, inl, inr, ◌⊎◌}
+use Rattle.std.proofs.Common.{◌≡◌, ◌≢◌, ◌∙◌, ◌+◌, ◌<◌, ℕ, Bool, true, false, cond, List, [], ◌∷◌, Option, None, Some, ap, sym, subst}
+use Rattle.std.proofs.Common.{inl, inr, ◌⊎◌}
 use Rattle.std.proofs.Common.{take, drop, get_or, length, nat_eq, unwrap_or, add-zero}
 use Rattle.std.specs.Cmp.Lexicographic.{pointwise}
 use Rattle.std.specs.List.{IsDistinct, position}
-use Rattle.std.specs.Map.{keys_of, lookup}
+use Rattle.std.specs.Map.{keys_of}
 use Rattle.std.specs.Option.{option_or}
 use Rattle.std.specs.Prelude.{slice_get}
 use Rattle.std.proofs.lemmas.Bool.{cases_Bool, false≢true}
@@ -13,7 +14,7 @@ use Rattle.indexmap.specs.IndexMap.{set_value_at}
 use Rattle.haul_core.specs.declared.tally.Tally.{Tally}
 use Rattle.haul_core.specs.Tallies.{no_tally, row_of, tally_in, together}
 use Rattle.haul_core.proofs.CensusLemmas.{got, row_before}
-use Rattle.haul_core.proofs.TallyLemmas.{code_apart, code_itself, code_same, lookup_append, or_none, row_written}
+use Rattle.haul_core.proofs.TallyLemmas.{code_itself, code_same, lookup_append, or_none, row_written}
 
 -- a tally is written over that of a code
 pub tally_set : (rows : List (List ℕ × Tally)) (i : ℕ) (before tally other : Tally) (code : List ℕ)
@@ -78,6 +79,6 @@ module _ (old new others : List (List ℕ × Tally)) (i : ℕ) (code : List ℕ)
           (written ∙ (λ j. together (next_total j) (sym here j)))
       go (inr other) =
           let miss : row_of (take (i + 1) others) q ≡ row_of (take i others) q =
-              found q ∙ ap (λ (b : Bool). option_or (row_of (take i others) q) (cond b (Some tally) None)) other ∙ or_none (row_of (take i others) q) in
+          found q ∙ ap (λ (b : Bool). option_or (row_of (take i others) q) (cond b (Some tally) None)) other ∙ or_none (row_of (take i others) q) in
           others_stay q (λ e. false≢true (sym other ∙ subst (λ (c : List ℕ). pointwise nat_eq c code ≡ true) (sym e) (code_itself code)))
           ∙ a q ∙ ap (λ (o : Option Tally). together (tally_in old q) (unwrap_or o no_tally)) (sym miss)

@@ -1,15 +1,16 @@
 -- What stands for a joined haul.
-use Rattle.std.proofs.Common.{◌≡◌, ◌∙◌, ◌≤◌, ◌&&◌, ◌||◌, ◌==◌, ◌++◌, ℕ, Bool, true, false, not, max, nat_le, List, [], ◌∷◌, ap, sym, refl, subst, arith, rules, map, filter, if◌then◌else◌}
-use Rattle.std.specs.List.{All, list_any}
-use Rattle.std.proofs.lemmas.Bool.{and_from, and_parts, false≢true, le-leb, leb-true}
+use Rattle.std.proofs.Common.{◌≡◌, ◌∙◌, ◌≤◌, ◌||◌, ◌++◌, ℕ, Bool, true, false, not, nat_le, List, [], ◌∷◌, ap, sym, refl, subst, arith}
+use Rattle.std.proofs.Common.{rules, map, filter, if◌then◌else◌}
+use Rattle.std.specs.List.{All}
+use Rattle.std.proofs.lemmas.Bool.{and_from, and_parts, le-leb, leb-true}
 use Rattle.std.proofs.lemmas.List.{append-nil, map-append}
-use Rattle.std.proofs.lemmas.List.Elements.{All-append, All-cons, All-filter, All-head, All-nil, All-tail, All-weaker, filter_passes}
+use Rattle.std.proofs.lemmas.List.Elements.{All-append, All-cons, All-filter, All-head, All-tail, All-weaker, filter_passes}
 use Rattle.std.proofs.lemmas.List.Folds.{list_any-append}
 use Rattle.survey_core.specs.declared.job.Job.{Job}
 use Rattle.haul_core.specs.declared.arrival.Arrival.{Arrival}
 use Rattle.haul_core.specs.declared.arrival.Arrival.TheVariants.{Closing, Offer}
 use Rattle.haul_core.specs.declared.range.Range.{Range}
-use Rattle.haul_core.specs.Books.{Held, StandsFor, Terms, eligible, entry, first_of_each, has_closing, has_number, is_closing, is_lawful, offered, taken_of}
+use Rattle.haul_core.specs.Books.{Held, StandsFor, Terms, eligible, entry, first_of_each, has_closing, has_number, is_lawful, offered, taken_of}
 use Rattle.haul_core.specs.Jobs.{same_job}
 use Rattle.haul_core.specs.Joins.{CanJoin, IsJoined, joined_arrivals, taken_offers}
 use Rattle.haul_core.specs.Ranges.{ShareNumber, is_in, is_in_range}
@@ -48,10 +49,11 @@ not_true false h = refl
 differ-first : (rs : List Reported) → Differ (first_of_each rs)
 differ-first [] = tt
 differ-first (r ∷ rs) =
-    let p : Reported → Bool = (λ s. not (has_number r.number s)) in
-    (All-weaker (λ s. p s ≡ true) (λ s. has_number r.number s ≡ false) (λ s h. not_false (has_number r.number s) h) (filter p (first_of_each rs))
-        (filter_passes p (first_of_each rs)),
-     differ-filter p (first_of_each rs) (differ-first rs))
+    let p : Reported → Bool = (λ s. not (has_number r.number s)) in (
+      All-weaker (λ s. p s ≡ true) (λ s. has_number r.number s ≡ false) (λ s h. not_false (has_number r.number s) h) (filter p (first_of_each rs))
+          (filter_passes p (first_of_each rs)),
+      differ-filter p (first_of_each rs) (differ-first rs),
+    )
 
 filter_same : (p : Reported → Bool) (rs : List Reported) → All (λ s. p s ≡ true) rs → filter p rs ≡ rs
 filter_same p [] h = refl
@@ -71,17 +73,21 @@ first_same (r ∷ rs) h =
 differ-append : (a b : List Range) (xs ys : List Reported) → ¬ ShareNumber a b → All (λ r. is_in a r.number ≡ true) xs → All (λ r. is_in b r.number ≡ true) ys
     → Differ xs → Differ ys → Differ (xs ++ ys)
 differ-append a b [] ys apart h k d e = e
-differ-append a b (x ∷ xs) ys apart h k d e =
-    (All-append (λ s. has_number x.number s ≡ false) xs ys d.0
-        (All-weaker (λ r. is_in b r.number ≡ true) (λ s. has_number x.number s ≡ false) (λ s inside. go s inside (has_number x.number s) refl) ys k),
-     differ-append a b xs ys apart (All-tail (λ r. is_in a r.number ≡ true) x xs h) k d.1 e)
+differ-append a b (x ∷ xs) ys apart h k d e = (
+  All-append (λ s. has_number x.number s ≡ false) xs ys d.0
+      (All-weaker (λ r. is_in b r.number ≡ true) (λ s. has_number x.number s ≡ false) (λ s inside. go s inside (has_number x.number s) refl) ys k),
+  differ-append a b xs ys apart (All-tail (λ r. is_in a r.number ≡ true) x xs h) k d.1 e,
+)
   where
     go : (s : Reported) → is_in b s.number ≡ true → (t : Bool) → has_number x.number s ≡ t → has_number x.number s ≡ false
     go s inside false f = f
     go s inside true f =
         let same : x.number ≡ s.number = grind (arith, f) in
-        absurd (apart (record { number = x.number; first = All-head (λ r. is_in a r.number ≡ true) x xs h;
-            second = subst (λ (n : ℕ). is_in b n ≡ true) (sym same) inside }))
+        absurd (apart (record {
+          number = x.number;
+          first = All-head (λ r. is_in a r.number ≡ true) x xs h;
+          second = subst (λ (n : ℕ). is_in b n ≡ true) (sym same) inside;
+        }))
 
 all-first : (P : Reported → Type 0) (rs : List Reported) → All P rs → All P (first_of_each rs)
 all-first P [] h = h
@@ -130,26 +136,34 @@ module _ (a b j : Held) (can : CanJoin a b) (is : IsJoined a b j) where
     where
       xs : List Reported
       xs = reports a.terms before
+
       ys : List Reported
       ys = reports b.terms after
+
       arrivals : List Arrival
       arrivals = joined_arrivals a.terms before b.terms after
+
       came : offered arrivals ≡ xs ++ ys
       came = offered-offers xs (taken_offers b.terms after ++ Closing ∷ [])
           ∙ ap (λ (rs : List Reported). xs ++ rs) (offered-offers ys (Closing ∷ []) ∙ append-nil ys)
+
       lawful : All (λ r. is_lawful j.terms r ≡ true) (xs ++ ys)
       lawful = All-append (λ r. is_lawful j.terms r ≡ true) xs ys
           (All-weaker (λ r. is_lawful a.terms r ≡ true) (λ r. is_lawful j.terms r ≡ true) lawful_first xs (reports_lawful a.terms before))
           (All-weaker (λ r. is_lawful b.terms r ≡ true) (λ r. is_lawful j.terms r ≡ true) lawful_second ys (reports_lawful b.terms after))
+
       differ : Differ (xs ++ ys)
       differ = differ-append a.terms.ranges b.terms.ranges xs ys can.apart
           (All-weaker (λ r. is_lawful a.terms r ≡ true) (λ r. is_in a.terms.ranges r.number ≡ true) (in_set a.terms) xs (reports_lawful a.terms before))
           (All-weaker (λ r. is_lawful b.terms r ≡ true) (λ r. is_in b.terms.ranges r.number ≡ true) (in_set b.terms) ys (reports_lawful b.terms after))
           (differ-first (eligible a.terms before)) (differ-first (eligible b.terms after))
+
       all : reports j.terms arrivals ≡ xs ++ ys
       all = ap (λ (rs : List Reported). first_of_each (filter (is_lawful j.terms) rs)) came
           ∙ ap first_of_each (filter_same (is_lawful j.terms) (xs ++ ys) lawful) ∙ first_same (xs ++ ys) differ
+
       taken : j.taken ≡ taken_of j.terms arrivals
       taken = is.taken ∙ (λ i. s.taken i ++ t.taken i) ∙ sym (ap (map entry) all ∙ map-append entry xs ys)
+
       closed : j.closed ≡ has_closing arrivals
       closed = is.closed ∙ sym (closing-offers xs (taken_offers b.terms after ++ Closing ∷ []) ∙ closing-offers ys (Closing ∷ []))

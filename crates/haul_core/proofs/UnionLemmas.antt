@@ -1,7 +1,8 @@
 -- Two sets in normal form, which share no number or do.
-use Rattle.std.proofs.Common.{◌≡◌, ◌∙◌, ◌+◌, ◌<◌, ◌≤◌, ◌||◌, ◌⊎◌, ◌++◌, inl, inr, ℕ, zero, suc, Bool, true, false, cond, List, [], ◌∷◌, ap, sym, refl, subst, arith, count_by, length, take, get_or, rules, zero-add}
+use Rattle.std.proofs.Common.{◌≡◌, ◌∙◌, ◌+◌, ◌<◌, ◌≤◌, ◌||◌, ◌++◌, ℕ, zero, suc, Bool, true, false, List, [], ◌∷◌, ap, sym, refl}
+use Rattle.std.proofs.Common.{arith, count_by, length, take, get_or, rules, zero-add}
 use Rattle.std.specs.List.{list_any}
-use Rattle.std.proofs.lemmas.Bool.{cases_Bool, false≢true}
+use Rattle.std.proofs.lemmas.Bool.{false≢true}
 use Rattle.std.proofs.lemmas.List.{take_more}
 use Rattle.std.proofs.lemmas.List.Folds.{list_any-append}
 use Rattle.haul_core.specs.declared.range.Range.{Range}
@@ -90,6 +91,7 @@ apart_more d a b i low apart none s = go (is_in_range s.number (get_or b i d)) r
     cut : is_in (take (i + 1) b) s.number ≡ (is_in (take i b) s.number || (is_in_range s.number (get_or b i d) || false))
     cut = ap (λ (rs : List Range). is_in rs s.number) (take_more b i d low)
         ∙ list_any-append (is_in_range s.number) (take i b) (get_or b i d ∷ [])
+
     go : (t : Bool) → is_in_range s.number (get_or b i d) ≡ t → ⊥
     go true e =
         let c = unmet s.number (get_or b i d) a none e in

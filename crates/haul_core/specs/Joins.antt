@@ -1,5 +1,5 @@
 -- Joined hauls: two closed hauls of one job, whose sets share no number, as one.
-use Rattle.std.specs.Prelude.{◌≡◌, ◌++◌, ℕ, true, false, List, [], ◌∷◌, map, max}
+use Rattle.std.specs.Prelude.{◌≡◌, ◌++◌, true, false, List, [], ◌∷◌, map, max}
 use Rattle.haul_core.specs.declared.arrival.Arrival.{Arrival}
 use Rattle.haul_core.specs.declared.arrival.Arrival.TheVariants.{Closing, Offer}
 use Rattle.haul_core.specs.declared.haul.join.JoinFault.{JoinFault}

@@ -1,6 +1,6 @@
-use Rattle.std.proofs.Common.{◌≡◌, ◌∙◌, ◌+◌, ◌<◌, ◌^◌, ap, arith, subst, sym, ℕ}
+use Rattle.std.proofs.Common.{◌∙◌, ◌+◌, ◌<◌, ◌^◌, ap, subst, sym}
 use Rattle.haul_core.specs.declared.tally.Tally.{Tally}
-use Rattle.haul_core.specs.Tallies.{tally_in, together}
+use Rattle.haul_core.specs.Tallies.{together}
 use Rattle.haul_core.proofs.TallyLemmas.{tally-Extends}
 use Rattle.haul_core.proofs.tally.add_row.Goals as goal
 

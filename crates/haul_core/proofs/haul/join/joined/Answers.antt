@@ -1,9 +1,9 @@
-use Rattle.std.proofs.Common.{◌≡◌, ◌∙◌, ◌+◌, ◌<◌, ◌≤◌, ◌++◌, ◌^◌, ap, arith, length, length-append, nat_eq, refl, rules, subst, sym, List, ℕ, map, true}
+use Rattle.std.proofs.Common.{◌≡◌, ◌∙◌, ◌++◌, ap, arith, length, length-append, nat_eq, refl, rules, subst, sym, List, ℕ, map, true}
 use Rattle.std.specs.List.{IsDistinct}
 use Rattle.haul_core.specs.Books.{Held}
 use Rattle.haul_core.specs.Joins.{CanJoin, IsJoined}
 use Rattle.haul_core.specs.Keeping.{numbers_in}
-use Rattle.haul_core.specs.Ranges.{number_bound, size_of}
+use Rattle.haul_core.specs.Ranges.{number_bound}
 use Rattle.haul_core.proofs.JoinLemmas.{distinct_both, have_room, keeps_joined, size_below}
 use Rattle.haul_core.proofs.haul.join.joined.Goals as goal
 
@@ -28,9 +28,9 @@ joined-requires-clause-room c =
     let all : c.extend_from_slice.new.self.items ≡ a.taken ++ b.taken = search rules in
     let sum = ap length all ∙ length-append a.taken b.taken in
     let room = have_room a b f.count s.count f.worker_of.entries s.worker_of.entries
-        (record { rows = f.totals.rows.entries; unsettled = f.totals.unsettled; for_good = f.totals.for_good })
-        (record { rows = s.totals.rows.entries; unsettled = s.totals.unsettled; for_good = s.totals.for_good }) c.first.invariant c.second.invariant
-        (omega (arith, sum, c.extend_from_slice.new.self.ok.0, c.extend_from_slice.new.self.small)) in
+    (record { rows = f.totals.rows.entries; unsettled = f.totals.unsettled; for_good = f.totals.for_good })
+    (record { rows = s.totals.rows.entries; unsettled = s.totals.unsettled; for_good = s.totals.for_good }) c.first.invariant c.second.invariant
+    (omega (arith, sum, c.extend_from_slice.new.self.ok.0, c.extend_from_slice.new.self.small)) in
     room.rows
 
 pub joined-requires-clause-unsettled : goal.joined-requires-clause-unsettled
@@ -42,9 +42,9 @@ joined-requires-clause-unsettled c =
     let all : c.extend_from_slice.new.self.items ≡ a.taken ++ b.taken = search rules in
     let sum = ap length all ∙ length-append a.taken b.taken in
     let room = have_room a b f.count s.count f.worker_of.entries s.worker_of.entries
-        (record { rows = f.totals.rows.entries; unsettled = f.totals.unsettled; for_good = f.totals.for_good })
-        (record { rows = s.totals.rows.entries; unsettled = s.totals.unsettled; for_good = s.totals.for_good }) c.first.invariant c.second.invariant
-        (omega (arith, sum, c.extend_from_slice.new.self.ok.0, c.extend_from_slice.new.self.small)) in
+    (record { rows = f.totals.rows.entries; unsettled = f.totals.unsettled; for_good = f.totals.for_good })
+    (record { rows = s.totals.rows.entries; unsettled = s.totals.unsettled; for_good = s.totals.for_good }) c.first.invariant c.second.invariant
+    (omega (arith, sum, c.extend_from_slice.new.self.ok.0, c.extend_from_slice.new.self.small)) in
     room.unsettled_room
 
 pub joined-requires-clause-for_good : goal.joined-requires-clause-for_good
@@ -56,9 +56,9 @@ joined-requires-clause-for_good c =
     let all : c.extend_from_slice.new.self.items ≡ a.taken ++ b.taken = search rules in
     let sum = ap length all ∙ length-append a.taken b.taken in
     let room = have_room a b f.count s.count f.worker_of.entries s.worker_of.entries
-        (record { rows = f.totals.rows.entries; unsettled = f.totals.unsettled; for_good = f.totals.for_good })
-        (record { rows = s.totals.rows.entries; unsettled = s.totals.unsettled; for_good = s.totals.for_good }) c.first.invariant c.second.invariant
-        (omega (arith, sum, c.extend_from_slice.new.self.ok.0, c.extend_from_slice.new.self.small)) in
+    (record { rows = f.totals.rows.entries; unsettled = f.totals.unsettled; for_good = f.totals.for_good })
+    (record { rows = s.totals.rows.entries; unsettled = s.totals.unsettled; for_good = s.totals.for_good }) c.first.invariant c.second.invariant
+    (omega (arith, sum, c.extend_from_slice.new.self.ok.0, c.extend_from_slice.new.self.small)) in
     room.for_good_room
 
 pub overflow_add-result : goal.overflow_add-result
@@ -74,8 +74,8 @@ invariant_of-result c =
     let b : Held = record { terms = record { job = s.job; ranges = s.ranges; workers = s.workers }; closed = s.closed; taken = s.taken.items } in
     let can : CanJoin a b = subst (λ (h : Held). CanJoin h b) (sym c.first.view_is) (subst (CanJoin c.args.first.now) (sym c.second.view_is) c.requires) in
     let all : c.extend_from_slice.new.self.items ≡ a.taken ++ b.taken =
-        c.in_ok-extend_from_slice.ensures.items
-        ∙ (λ i. (c.in_ok-taken.ensures.items ∙ c.as_slice.ensures.value) i ++ c.as_slice-2.ensures.value i) in
+    c.in_ok-extend_from_slice.ensures.items
+    ∙ (λ i. (c.in_ok-taken.ensures.items ∙ c.as_slice.ensures.value) i ++ c.as_slice-2.ensures.value i) in
     keeps_joined a b f.count s.count f.worker_of.entries s.worker_of.entries
     (record { rows = f.totals.rows.entries; unsettled = f.totals.unsettled; for_good = f.totals.for_good })
     (record { rows = s.totals.rows.entries; unsettled = s.totals.unsettled; for_good = s.totals.for_good }) c.first.invariant c.second.invariant
@@ -92,8 +92,8 @@ returns c =
     let a : Held = record { terms = record { job = f.job; ranges = f.ranges; workers = f.workers }; closed = f.closed; taken = f.taken.items } in
     let b : Held = record { terms = record { job = s.job; ranges = s.ranges; workers = s.workers }; closed = s.closed; taken = s.taken.items } in
     let all : c.extend_from_slice.new.self.items ≡ a.taken ++ b.taken =
-        c.in_ok-extend_from_slice.ensures.items
-        ∙ (λ i. (c.in_ok-taken.ensures.items ∙ c.as_slice.ensures.value) i ++ c.as_slice-2.ensures.value i) in
+    c.in_ok-extend_from_slice.ensures.items
+    ∙ (λ i. (c.in_ok-taken.ensures.items ∙ c.as_slice.ensures.value) i ++ c.as_slice-2.ensures.value i) in
     let joined : Held = record {
       terms = record { job = f.job; ranges = c.in_ok-ranges.ranges; workers = c.max.result };
       closed = true;

@@ -1,6 +1,4 @@
-use Rattle.std.proofs.Common.{◌≡◌, ◌∙◌, ◌<◌, arith, ap, length, sym, subst, rules, refl, true, false}
-use Rattle.std.specs.List.{list_any}
-use Rattle.haul_core.specs.Ranges.{shares}
+use Rattle.std.proofs.Common.{◌<◌, arith, length, rules, refl}
 use Rattle.haul_core.proofs.UnionLemmas.{apart_more, shared_by}
 use Rattle.haul_core.proofs.range.Ranges.share_number.Goals as goal
 

@@ -1,4 +1,4 @@
-use Rattle.std.proofs.Common.{◌≡◌, ◌∙◌, ◌++◌, List, subst, sym, rules}
+use Rattle.std.proofs.Common.{◌≡◌, ◌++◌, List, subst, sym, rules}
 use Rattle.haul_core.specs.Ranges.{Overlap}
 use Rattle.haul_core.specs.declared.range.Range.{Range}
 use Rattle.haul_core.proofs.UnionLemmas.{apart_sets}
