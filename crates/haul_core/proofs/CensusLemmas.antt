@@ -27,7 +27,7 @@ use Rattle.haul_core.proofs.TallyLemmas.{code_apart, code_itself, code_same, is_
 -- ---- the tallies with objects, one after another
 
 -- a code stands once among the rows
-row_before : (rows : List (List ℕ × Tally)) (i : ℕ) (d : List ℕ × Tally) → IsDistinct (pointwise nat_eq) (keys_of rows) → i < length rows
+pub row_before : (rows : List (List ℕ × Tally)) (i : ℕ) (d : List ℕ × Tally) → IsDistinct (pointwise nat_eq) (keys_of rows) → i < length rows
     → row_of (take i rows) (get_or rows i d).0 ≡ None
 row_before rows i d distinct low =
     lookup_none (pointwise nat_eq (get_or rows i d).0) (take i rows) (λ k e lower.

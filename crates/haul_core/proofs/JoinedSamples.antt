@@ -1,7 +1,7 @@
 -- The least three of two lists are those of the least three of each.
-use Rattle.std.proofs.Common.{◌≡◌, ◌∙◌, ◌≤◌, ◌<◌, ◌++◌, ℕ, zero, suc, List, [], ◌∷◌, take, drop, get_or, length, ap, sym, refl, arith, subst, inl, inr, ◌⊎◌}
+use Rattle.std.proofs.Common.{◌≡◌, ◌∙◌, ◌≤◌, ◌<◌, ◌++◌, ℕ, zero, suc, List, [], ◌∷◌, take, ap, sym, refl, arith, subst, inl, inr, ◌⊎◌}
 use Rattle.std.proofs.lemmas.Bool.{cases_lt}
-use Rattle.std.proofs.lemmas.List.{append_assoc, append-nil, drop_more, take-take}
+use Rattle.std.proofs.lemmas.List.{append_assoc, append-nil}
 use Rattle.haul_core.specs.Samples.{IsAscending, ascending, least_three, with_each, with_number}
 use Rattle.haul_core.proofs.SampleLemmas.{ascending_push, take_with, with_first, with_greater, with_least}
 

@@ -4,7 +4,9 @@ mod CutLemmas
 mod DecimalLemmas
 mod FaultLemmas
 mod JobLemmas
+mod JoinLemmas
 mod JoinedSamples
+mod JoinedTallies
 mod KeepLemmas
 mod LawLemmas
 mod ListLemmas
@@ -14,6 +16,8 @@ mod NumberLemmas
 mod RangeLemmas
 mod RowLemmas
 mod SampleLemmas
+mod StandLemmas
 mod SumLemmas
 mod TallyLemmas
 mod TextLemmas
+mod UnionLemmas

@@ -6,7 +6,7 @@ use Rattle.haul_core.specs.Ranges.{AreNormal, BeginAfter, OneNormalForm, end_of,
 use Rattle.haul_core.proofs.RangeLemmas.{end_of_in, first_of_in, in_range}
 
 -- the numbers of ranges in normal form come after what they begin after
-after : (place n : ℕ) (rs : List Range) → AreNormal rs → BeginAfter place rs → is_in rs n ≡ true → place < n
+pub after : (place n : ℕ) (rs : List Range) → AreNormal rs → BeginAfter place rs → is_in rs n ≡ true → place < n
 after place n [] h k is = absurd (cc)
 after place n (r ∷ rs) h k is = go (is_in_range n r) refl (after (end_of r) n rs h.2 h.1)
   where

@@ -4,6 +4,7 @@ pub mod Censuses
 pub mod HaulLaws
 pub mod HaulTexts
 pub mod Jobs
+pub mod Joins
 pub mod Keeping
 pub mod Missing
 pub mod MissingSteps

@@ -1,5 +1,5 @@
 -- Sets of soup numbers, given by ranges.
-use Rattle.std.specs.Prelude.{◌≡◌, ◌+◌, ◌<◌, ◌≤◌, ◌^◌, ◌&&◌, ℕ, Bool, List, [], ◌∷◌, count_by, nat_le, nat_lt, max, min, sum_by}
+use Rattle.std.specs.Prelude.{◌≡◌, ◌+◌, ◌<◌, ◌≤◌, ◌^◌, ◌&&◌, ℕ, Bool, true, List, [], ◌∷◌, count_by, nat_le, nat_lt, max, min, sum_by}
 use Rattle.std.specs.List.{All, list_any}
 use Rattle.haul_core.specs.declared.range.Range.{Range}
 
@@ -22,6 +22,12 @@ size_of ranges = sum_by (λ r. r.count) ranges
 -- some number stands in two of the ranges
 abbrev pub Overlap : List Range → Type 0
 Overlap ranges = (n : ℕ) × (2 ≤ count_by (is_in_range n) ranges)
+
+-- some number is in both sets
+pub record ShareNumber (a b : List Range) : Type 0 where
+  pub number : ℕ
+  pub first : is_in a number ≡ true
+  pub second : is_in b number ≡ true
 
 -- the two ranges have a number in common: the greater of their first numbers comes before both ends
 abbrev pub shares : Range → Range → Bool

@@ -6,7 +6,7 @@ use Rattle.survey_core.specs.Objects.{AreObjects, is_code}
 use Rattle.survey_core.specs.declared.finding.Finding.{Finding}
 use Rattle.survey_core.specs.declared.finding.Finding.TheVariants.{Settled, Unsettled}
 use Rattle.haul_core.specs.declared.tally.Tally.{Tally}
-use Rattle.haul_core.specs.Samples.{with_number}
+use Rattle.haul_core.specs.Samples.{with_each, with_number}
 
 abbrev pub no_tally : Tally
 no_tally = record { total = 0; samples = [] }
@@ -25,6 +25,10 @@ tally_in rows code = unwrap_or (row_of rows code) no_tally
 abbrev pub added : Option ℕ → ℕ → Tally → Tally
 added None number tally = tally
 added (Some count) number tally = record { total = tally.total + count; samples = take 3 (with_number number tally.samples) }
+
+-- two tallies as one
+abbrev pub together : Tally → Tally → Tally
+together t u = record { total = t.total + u.total; samples = with_each t.samples u.samples }
 
 -- some rows have come, with nothing in them
 pub record Extends (old new : List (List ℕ × Tally)) : Type 0 where

@@ -14,6 +14,9 @@ ghost use Rattle.haul_core.specs.declared.arrival.Arrival.TheVariants as arrival
 ghost use Rattle.haul_core.specs.declared.haul.OpenError.TheVariants.{BadRange, BadWorkers, Memory};
 ghost use Rattle.haul_core.specs.declared.haul.OpenError.TheVariants.{Overlap as SharedNumber};
 
+/// How two hauls are joined.
+pub mod join;
+
 use crate::census::Census;
 use crate::missing::missing;
 use crate::range::{Range, Ranges, overlap, small_size};

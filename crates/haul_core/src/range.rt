@@ -2,7 +2,7 @@ ghost use Rattle.std.specs.Prelude.{◌≡◌, ◌↔◌, ◌≤◌, ◌+◌, �
 ghost use Rattle.std.specs.List.{filter, list_any};
 ghost use Rattle.std.specs.List.Sorted.{IsNonDecreasingBy, IsPermutation};
 ghost use Rattle.haul_core.specs.RangeSteps.{Ascending, has_numbers};
-ghost use Rattle.haul_core.specs.Ranges.{AreBelow, AreNormal, AreSmall, IsNormalForm, OneNormalForm, Overlap, end_of, is_in, is_in_range, number_bound, shares, size_of};
+ghost use Rattle.haul_core.specs.Ranges.{AreBelow, AreNormal, AreSmall, IsNormalForm, OneNormalForm, Overlap, ShareNumber, end_of, is_in, is_in_range, number_bound, shares, size_of};
 
 use std::alloc::{AllocError, Global};
 use std::marker::Model;
@@ -98,6 +98,31 @@ impl Ranges {
         let ascending = ascending(alloc, ranges)?;
         let ranges = joined(alloc, ascending.as_slice())?;
         Ok(Ranges { ranges })
+    }
+
+    /// The normal form of the numbers of both, which share none.
+    pub(crate) fn union(&self, alloc: Global, other: &Ranges) -> Result<Ranges, AllocError>
+        requires apart { ¬ ShareNumber self.now other.now }
+        ensures form { IfOk result (IsNormalForm (self.now ++ other.now)) }
+        ensures size { IfOk result (λ union. size_of union ≡ size_of self.now + size_of other.now) }
+        ensures below { IfOk result (AreBelow number_bound) }
+    {
+        let mut both = Vec::from_slice(alloc, self.as_slice())?;
+        both.extend_from_slice(other.as_slice())?;
+        Ranges::normal_form(alloc, both.as_slice())
+    }
+
+    /// Whether a number is in both sets.
+    pub(crate) fn share_number(&self, other: &Ranges) -> bool
+        ensures { IsTrue result ↔ ShareNumber self.now other.now }
+    {
+        let ranges = self.as_slice();
+        for range in other.as_slice() {
+            if shares_any(*range, ranges) {
+                return true;
+            }
+        }
+        false
     }
 
     /// Equal ranges.

@@ -8,10 +8,10 @@
 //! add            xs4_33  9 | xp2_7  5 | xq4_153  1
 //! ```
 
-ghost use Rattle.std.specs.Prelude.{◌≡◌, ◌≢◌, ◌+◌, ◌<◌, ◌≤◌, ◌^◌, [], ℕ, Some, List, All, OnErr, OnOk, if◌then◌else◌};
+ghost use Rattle.std.specs.Prelude.{◌≡◌, ◌≢◌, ◌+◌, ◌<◌, ◌≤◌, ◌^◌, [], ℕ, Some, List, All, IfOk, OnErr, OnOk, if◌then◌else◌};
 ghost use Rattle.std.specs.Map.{lookup};
 ghost use Rattle.survey_core.specs.Objects.{AreObjects, is_code};
-ghost use Rattle.haul_core.specs.Tallies.{Extends, HasLawfulObjects, HasRow, HasRows, added, found_in, tally_in};
+ghost use Rattle.haul_core.specs.Tallies.{Extends, HasLawfulObjects, HasRow, HasRows, added, found_in, no_tally, tally_in, together};
 ghost use Rattle.haul_core.specs.Totals.{is_for_good, is_unsettled};
 
 use crate::samples::Samples;
@@ -69,6 +69,27 @@ impl Totals {
         }
     }
 
+    /// The totals over the soups of both.
+    pub(crate) fn joined(&self, alloc: Global, other: &Totals) -> Result<Totals, AllocError>
+        requires room { (code : List ℕ)
+            → (tally_in self.now.rows.entries code).total + (tally_in other.now.rows.entries code).total < 2 ^ 128 }
+        requires unsettled { self.now.unsettled + other.now.unsettled < 2 ^ 64 }
+        requires for_good { self.now.for_good + other.now.for_good < 2 ^ 64 }
+        ensures rows { IfOk result (λ totals. (code : List ℕ) → tally_in totals.rows.entries code
+            ≡ together (together no_tally (tally_in self.now.rows.entries code)) (tally_in other.now.rows.entries code)) }
+        ensures unsettled { IfOk result (λ totals. totals.unsettled ≡ self.now.unsettled + other.now.unsettled) }
+        ensures for_good { IfOk result (λ totals. totals.for_good ≡ self.now.for_good + other.now.for_good) }
+    {
+        let mut rows = IndexMap::new(alloc);
+        add_rows(alloc, &mut rows, &self.rows)?;
+        add_rows(alloc, &mut rows, &other.rows)?;
+        Ok(Totals {
+            rows,
+            unsettled: self.unsettled + other.unsettled,
+            for_good: self.for_good + other.for_good,
+        })
+    }
+
     /// Adds a soup with its finding, each of whose codes has a row.
     pub(crate) fn add(&mut self, finding: &Finding, number: u64)
         requires rows { HasRows finding.now self.old.rows.entries }
@@ -107,6 +128,18 @@ impl Tally {
         }
     }
 
+    /// This tally and another as one.
+    fn joined(&self, other: &Tally) -> Tally
+        requires { self.now.total + other.now.total < 2 ^ 128 }
+        ensures { result ≡ together self.now other.now }
+    {
+        let Tally { total, samples } = self;
+        Tally {
+            total: *total + other.total,
+            samples: samples.with_all(&other.samples),
+        }
+    }
+
     /// The tally after one soup more, with so many objects.
     fn with(&self, count: u64, number: u64) -> Tally
         requires { self.now.total + count < 2 ^ 128 }
@@ -118,6 +151,54 @@ impl Tally {
             samples: samples.with_number(number),
         }
     }
+}
+
+/// Adds the rows of other totals. If there is no memory some of them are added.
+fn add_rows(
+    alloc: Global,
+    rows: &mut IndexMap<Apgcode, Tally>,
+    others: &IndexMap<Apgcode, Tally>,
+) -> Result<(), AllocError>
+    requires { (code : List ℕ) → (tally_in rows.old.entries code).total + (tally_in others.now.entries code).total < 2 ^ 128 }
+    ensures { OnOk result ((code : List ℕ) → tally_in rows.new.entries code
+        ≡ together (tally_in rows.old.entries code) (tally_in others.now.entries code)) }
+{
+    for index in 0..others.len() {
+        if let Some((code, tally)) = others.get_index(index) {
+            add_row(alloc, rows, code, tally)?;
+        }
+    }
+    Ok(())
+}
+
+/// Adds what another row has of its code.
+fn add_row(
+    alloc: Global,
+    rows: &mut IndexMap<Apgcode, Tally>,
+    code: &Apgcode,
+    tally: &Tally,
+) -> Result<(), AllocError>
+    requires { (tally_in rows.old.entries code.now).total + tally.now.total < 2 ^ 128 }
+    ensures tally { OnOk result (tally_in rows.new.entries code.now ≡ together (tally_in rows.old.entries code.now) tally.now) }
+    ensures others { OnOk result ((other : List ℕ) → other ≢ code.now → tally_in rows.new.entries other ≡ tally_in rows.old.entries other) }
+{
+    make_row(alloc, rows, code)?;
+    put_together(rows, code, tally);
+    Ok(())
+}
+
+/// Adds to the row of a code what another has. It has a row.
+fn put_together(rows: &mut IndexMap<Apgcode, Tally>, code: &Apgcode, tally: &Tally)
+    requires row { HasRow rows.old.entries code.now }
+    requires room { (tally_in rows.old.entries code.now).total + tally.now.total < 2 ^ 128 }
+    ensures tally { tally_in rows.new.entries code.now ≡ together (tally_in rows.old.entries code.now) tally.now }
+    ensures others { (other : List ℕ) → other ≢ code.now → tally_in rows.new.entries other ≡ tally_in rows.old.entries other }
+{
+    let Some(index) = rows.get_index_of(code) else {
+        return;
+    };
+    let joined = rows[index].joined(tally);
+    rows[index] = joined;
 }
 
 /// Makes a row for each code that has none. If there is no memory the rows are as they were.

@@ -1,0 +1,117 @@
+//! How two hauls are joined: the joined haul is made beside them, so that nothing has changed if memory runs out.
+
+ghost use Rattle.std.specs.Prelude.{◌≡◌, ◌++◌, List, IfErr, IfNone, IfOk, IfSome, OnOk, map, nat_eq};
+ghost use Rattle.std.specs.List.{IsDistinct};
+ghost use Rattle.haul_core.specs.Books.{StandsFor};
+ghost use Rattle.haul_core.specs.Joins.{CanJoin, Hinders, IsJoined, joined_arrivals};
+ghost use Rattle.haul_core.specs.Keeping.{numbers_in};
+ghost use Rattle.haul_core.specs.declared.arrival.Arrival.{Arrival};
+
+use crate::haul::Haul;
+use crate::refusal::is_same_job;
+use indexmap::IndexMap;
+use std::alloc::{AllocError, Global};
+use thiserror::Error;
+
+/// Why two hauls were not joined.
+#[derive(Clone, Copy, Debug, PartialEq, Eq, Error)]
+pub enum JoinFault {
+    /// One of them is not closed.
+    #[error("open")]
+    Open,
+    /// They are of different jobs.
+    #[error("other job")]
+    OtherJob,
+    /// A number is in both sets.
+    #[error("ranges overlap")]
+    Overlap,
+    /// Memory ran out.
+    #[error("out of memory")]
+    Memory,
+}
+
+impl Haul {
+    /// The two hauls as one. It is closed, and has taken what the first has and then what the second has. It has as many
+    /// workers as the one that has more, and may have more than 2^24 numbers.
+    ///
+    /// # Errors
+    ///
+    /// Both hauls, as they were, and the first of these that holds:
+    ///
+    /// - [`JoinFault::Open`] if one of them is not closed.
+    /// - [`JoinFault::OtherJob`] if they are of different jobs.
+    /// - [`JoinFault::Overlap`] if a number is in both sets.
+    /// - [`JoinFault::Memory`] if memory runs out.
+    pub fn join(self, other: Haul) -> Result<Haul, (Haul, Haul, JoinFault)>
+        // One haul of both, and what stands for it.
+        ensures can { OnOk result (CanJoin self other) }
+        ensures joined { IfOk result (IsJoined self other) }
+        ensures stands { (before after : List Arrival) → StandsFor before self → StandsFor after other
+            → IfOk result (StandsFor (joined_arrivals self.terms before other.terms after)) }
+
+        // Which error it is, and what comes back.
+        ensures fault { IfErr result (λ refused. Hinders self other refused.2) }
+        ensures kept { IfErr result (λ refused. (refused.0 ≡ self) × (refused.1 ≡ other)) }
+    {
+        if let Some(fault) = fault(&self, &other) {
+            return Err((self, other, fault));
+        }
+        match joined(&self, &other) {
+            Ok(joined) => Ok(joined),
+            Err(_) => Err((self, other, JoinFault::Memory)),
+        }
+    }
+}
+
+/// Why the hauls can't be joined, if they can't, apart from memory.
+fn fault(first: &Haul, second: &Haul) -> Option<JoinFault>
+    ensures some { IfSome result (Hinders first.now second.now) }
+    ensures none { IfNone result (CanJoin first.now second.now) }
+{
+    if !first.closed || !second.closed {
+        return Some(JoinFault::Open);
+    }
+    if !is_same_job(&first.job, &second.job) {
+        return Some(JoinFault::OtherJob);
+    }
+    if first.ranges.share_number(&second.ranges) {
+        return Some(JoinFault::Overlap);
+    }
+    None
+}
+
+/// The two hauls as one.
+fn joined(first: &Haul, second: &Haul) -> Result<Haul, AllocError>
+    requires { CanJoin first.now second.now }
+    ensures { IfOk result (IsJoined first.now second.now) }
+{
+    let alloc = first.alloc;
+    let ranges = first.ranges.union(alloc, &second.ranges)?;
+    let mut taken = Vec::from_slice(alloc, first.taken.as_slice())?;
+    taken.extend_from_slice(second.taken.as_slice())?;
+    let worker_of = by_number(alloc, taken.as_slice())?;
+    let totals = first.totals.joined(alloc, &second.totals)?;
+    Ok(Haul {
+        alloc,
+        job: first.job,
+        ranges,
+        count: first.count + second.count,
+        workers: first.workers.max(second.workers),
+        closed: true,
+        taken,
+        worker_of,
+        totals,
+    })
+}
+
+/// The worker of each number.
+fn by_number(alloc: Global, taken: &[(u8, u64)]) -> Result<IndexMap<u64, u8>, AllocError>
+    requires { IsDistinct nat_eq (numbers_in taken.now) }
+    ensures { IfOk result (λ worker_of. worker_of.entries ≡ map (λ t. (t.1, t.0)) taken.now) }
+{
+    let mut worker_of = IndexMap::new(alloc);
+    for entry in taken {
+        worker_of.insert(entry.1, entry.0)?;
+    }
+    Ok(worker_of)
+}
