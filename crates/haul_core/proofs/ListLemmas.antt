@@ -1,7 +1,7 @@
 -- The ranges of a text one after another, and the first fault.
-use Rattle.std.proofs.Common.{◌≡◌, ◌≢◌, ◌<◌, ◌+◌, ◌-◌, ◌++◌, ◌⊎◌, inl, inr, ℕ, suc, Bool, true, false, List, [], ◌∷◌, Option, Some, None, length, map}
+use Rattle.std.proofs.Common.{◌≡◌, ◌≢◌, ◌+◌, ◌-◌, ◌++◌, ◌⊎◌, inl, inr, ℕ, Bool, true, false, List, [], ◌∷◌, Option, Some, None, length, map}
 use Rattle.std.proofs.Common.{decimal, refl, sym, ◌∙◌, ap, subst, arith}
-use Rattle.std.proofs.Common.{append_assoc, append-nil, length-append}
+use Rattle.std.proofs.Common.{append_assoc, append-nil}
 use Rattle.std.proofs.lemmas.Fmt.{decimal_injective}
 use Rattle.std.proofs.lemmas.List.Elements.{All-nil, All-push, recursion_from_All}
 use Rattle.std.specs.List.{AllByRecursion}
@@ -74,10 +74,6 @@ no_first text rest rs words s some none = go (has_digit rest) refl
     go : (d : Bool) → has_digit rest ≡ d → IsFaulty text (length text - length rest)
     go false h = wrong text front rest whole b (refused_after rs [] rest words (λ e. some (whole ∙ e)) (refused_first rest h))
     go true h = (inr (large_at text front rest whole b apart (none h)), refused_large text rest rs words s (none h))
-
-front_some : (front there : List ℕ) (n : ℕ) → length front ≡ suc n → front ++ there ≢ []
-front_some [] there n h e = absurd (omega arith)
-front_some (a ∷ front) there n h e = absurd (cc)
 
 no_plus : (text rest there : List ℕ) (rs : List Range) → AreWords rs → text ≡ opening rs ++ rest → text ≢ [] → LacksPlus rest there
     → IsFaulty text (length text - length there)
@@ -168,13 +164,6 @@ passed_more text ranges here r (Some rest) p h = record {
 abbrev pub left_of : Option (List ℕ) → ℕ
 left_of None = 0
 left_of (Some rest) = 1 + length rest
-
-pub passes_shorter : (here : List ℕ) (r : Range) (next : Option (List ℕ)) → Passes here r next → left_of next < left_of (Some here)
-passes_shorter here r None h = omega arith
-passes_shorter here r (Some rest) h = omega (arith, ap length h.spelled, length-append (pair_text (written r)) (44 ∷ rest))
-
-pub passed_whole : (text : List ℕ) (ranges : List Range) → Passed text ranges None → IsListText text
-passed_whole text ranges p = record { ranges = ranges; words = p.words; spelled = p.passed }
 
 -- a list has one text, and a text one list
 written-injective : (r s : Range) → IsWord r → IsWord s → written r ≡ written s → r ≡ s

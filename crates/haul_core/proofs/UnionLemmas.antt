@@ -80,9 +80,6 @@ counted_in n (r ∷ rs) h = go (is_in_range n r) refl (counted_in n rs)
         let more = rest there in
         omega arith
 
-pub apart_none : (a b : List Range) → ¬ ShareNumber a (take 0 b)
-apart_none a b s = let second : is_in [] s.number ≡ true = s.second in absurd (false≢true second)
-
 -- one range more that has no number in common with the other set
 pub apart_more : (d : Range) (a b : List Range) (i : ℕ) → i < length b → ¬ ShareNumber a (take i b) → list_any (shares (get_or b i d)) a ≡ false
     → ¬ ShareNumber a (take (i + 1) b)

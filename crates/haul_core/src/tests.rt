@@ -2,6 +2,7 @@ use crate::arrival::{Arrival, Reply};
 use crate::book::keep_book;
 use crate::census::Census;
 use crate::haul::Haul;
+use crate::haul::join::JoinFault;
 use crate::range::Range;
 use crate::range_list::ListError;
 use crate::refusal::Refusal;
@@ -185,5 +186,69 @@ fn reads_a_long_list(rt: HostRuntime) -> Result<(), Fail> {
     }
     let read = Range::read_list(rt.alloc(), text.as_str())?;
     assert!(rt; read.len() == 10_000);
+    Ok(())
+}
+
+/// A closed haul of this range that was offered one report.
+fn closed_haul(
+    alloc: Global,
+    job: &Job,
+    range: Range,
+    workers: u8,
+    offered: (u8, u32),
+) -> Result<Haul, Fail> {
+    let mut haul = Haul::open(alloc, *job, &[range], workers)?;
+    keep_book(alloc, &mut haul, arrivals(alloc, job, &[offered])?)?;
+    haul.close()?;
+    Ok(haul)
+}
+
+#[test]
+fn joins_two_hauls(rt: HostRuntime) -> Result<(), Fail> {
+    let job = job("", small()?)?;
+    let first = closed_haul(rt.alloc(), &job, range(0, 1), 1, (1, 0))?;
+    let second = closed_haul(rt.alloc(), &job, range(2, 2), 2, (2, 3))?;
+    let joined = first.join(second).ok().expect(&rt, "a joined haul");
+    assert!(rt; joined.workers() == 2);
+    assert!(rt; joined.count() == 3);
+    assert!(rt; joined.taken() == [(1, 0), (2, 3)].as_slice());
+    assert!(rt; joined.ranges() == [range(0, 1), range(2, 2)].as_slice());
+    assert!(rt; joined.census()?.unsettled == 2);
+    Ok(())
+}
+
+/// Why two hauls are not joined, if they aren't.
+fn fault_of(first: Haul, second: Haul) -> Option<JoinFault> {
+    match first.join(second) {
+        Ok(_) => None,
+        Err((_, _, fault)) => Some(fault),
+    }
+}
+
+#[test]
+fn joins_no_open_haul(rt: HostRuntime) -> Result<(), Fail> {
+    let first = closed_haul(rt.alloc(), &job("", small()?)?, range(0, 1), 1, (1, 0))?;
+    let open = Haul::open(rt.alloc(), job("x", small()?)?, &[range(2, 2)], 1)?;
+    assert!(rt; fault_of(first, open) == Some(JoinFault::Open));
+    Ok(())
+}
+
+#[test]
+fn joins_no_other_job(rt: HostRuntime) -> Result<(), Fail> {
+    let first = closed_haul(rt.alloc(), &job("", small()?)?, range(0, 1), 1, (1, 0))?;
+    let other = closed_haul(rt.alloc(), &job("x", small()?)?, range(2, 2), 1, (1, 2))?;
+    assert!(rt; fault_of(first, other) == Some(JoinFault::OtherJob));
+    Ok(())
+}
+
+#[test]
+fn joins_no_equal_haul(rt: HostRuntime) -> Result<(), Fail> {
+    let job = job("", small()?)?;
+    let first = closed_haul(rt.alloc(), &job, range(0, 1), 1, (1, 0))?;
+    let second = closed_haul(rt.alloc(), &job, range(0, 1), 1, (1, 0))?;
+    assert!(rt; fault_of(first, second) == Some(JoinFault::Overlap));
+    let nothing = closed_haul(rt.alloc(), &job, range(0, 0), 1, (1, 0))?;
+    let none = closed_haul(rt.alloc(), &job, range(0, 0), 1, (1, 0))?;
+    assert!(rt; fault_of(nothing, none).is_none());
     Ok(())
 }
