@@ -13,6 +13,8 @@ pub mod haul;
 pub mod haul_text;
 /// Sets of soup numbers.
 pub mod range;
+/// Lists of ranges as texts.
+pub mod range_list;
 /// What a worker reports of a soup.
 pub mod report;
 /// The rows of a census.
