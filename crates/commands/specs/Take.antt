@@ -5,13 +5,14 @@ use Rattle.haul_core.specs.declared.census.Census.{Census}
 use Rattle.haul_core.specs.declared.range.Range.{Range}
 use Rattle.haul_core.specs.Censuses.{IsCensus}
 use Rattle.haul_core.specs.HaulTexts.{haul_text}
+use Rattle.haul_core.specs.RangeLists.{IsFirstFault, IsListText}
 use Rattle.haul_core.specs.Ranges.{AreSmall, IsNormalForm, Overlap, is_in}
 use Rattle.commands.specs.declared.complaint.Complaint.TheVariants.{Refused}
 use Rattle.commands.specs.declared.profile.ProfileNumbers.{ProfileNumbers}
-use Rattle.commands.specs.declared.refusal.Refusal.TheVariants.{RangeTooLarge, RangesOverlap}
+use Rattle.commands.specs.declared.refusal.Refusal.TheVariants.{BadList, RangeTooLarge, RangesOverlap}
 use Rattle.commands.specs.declared.soup_set.SoupSet.{SoupSet}
 use Rattle.commands.specs.Answers.{Answer, Right, given_right, only}
-use Rattle.commands.specs.SoupSets.{job_named, ranges_named}
+use Rattle.commands.specs.SoupSets.{AreRangesOf, job_named}
 
 -- each number of the set that the ranges give stands among the numbers once, and no other number does
 abbrev pub AreNumbersOf : List Range → List ℕ → Type 0
@@ -27,13 +28,15 @@ pub record TellsAll (job : Job) (ranges : List Range) (answer : Answer) : Type 0
   pub counted : IsCensus job normal numbers census
   pub told : only (Ok (haul_text census)) answer
 
--- which answer is right for a set: ranges that are too large for a haul are refused first, and then ranges that share a number
-pub data IsHaulOf (job : Job) (ranges : List Range) (answer : Answer) : Type 0 where
-  Too_large : ¬ AreSmall ranges → only (Err (Refused RangeTooLarge)) answer → IsHaulOf job ranges answer
-  Overlapping : AreSmall ranges → Overlap ranges → only (Err (Refused RangesOverlap)) answer → IsHaulOf job ranges answer
-  Complete : AreSmall ranges → ¬ Overlap ranges → TellsAll job ranges answer → IsHaulOf job ranges answer
+-- Which answer is right for a set: its list is refused first, then ranges that are too large for a haul, and then ranges that
+-- share a number.
+pub data IsHaulOf (job : Job) (set : SoupSet) (answer : Answer) : Type 0 where
+  Bad_list : ¬ IsListText set.also → (place : ℕ) → IsFirstFault set.also place → only (Err (Refused (BadList place))) answer → IsHaulOf job set answer
+  Too_large : (ranges : List Range) → AreRangesOf set ranges → ¬ AreSmall ranges → only (Err (Refused RangeTooLarge)) answer → IsHaulOf job set answer
+  Overlapping : (ranges : List Range) → AreRangesOf set ranges → AreSmall ranges → Overlap ranges → only (Err (Refused RangesOverlap)) answer
+      → IsHaulOf job set answer
+  Complete : (ranges : List Range) → AreRangesOf set ranges → AreSmall ranges → ¬ Overlap ranges → TellsAll job ranges answer → IsHaulOf job set answer
 
--- the census of the complete haul; what makes up its job is looked at first, and then its range list
+-- the census of the complete haul; what makes up its job is looked at first
 abbrev pub take_right : SoupSet → ProfileNumbers → List ℕ → Right
-take_right set numbers rule_text =
-    given_right (job_named set numbers rule_text) (λ job. given_right (ranges_named set) (IsHaulOf job))
+take_right set numbers rule_text = given_right (job_named set numbers rule_text) (λ job. IsHaulOf job set)

@@ -4,12 +4,22 @@ use Rattle.std.specs.List.{range_with_len}
 use Rattle.survey_core.specs.declared.job.Job.{Job}
 use Rattle.haul_core.specs.declared.arrival.Arrival.TheVariants.{Offer}
 use Rattle.haul_core.specs.declared.range.Range.{Range}
+use Rattle.haul_core.specs.declared.range_list.ListError.{ListError}
+use Rattle.haul_core.specs.declared.range_list.ListError.TheVariants as list_error
 use Rattle.haul_core.specs.Books.{Held, StandsFor}
 use Rattle.haul_core.specs.Ranges.{AreSmall, IsNormalForm, Overlap}
 use Rattle.haul_core.specs.Reports.{Reported}
 use Rattle.commands.specs.declared.complaint.Complaint.{Complaint}
 use Rattle.commands.specs.declared.complaint.Complaint.TheVariants.{Refused, OutOfMemory, ReadFailed, WriteFailed}
+use Rattle.commands.specs.declared.refusal.Refusal.TheVariants.{BadList}
+use Rattle.commands.specs.declared.soup_set.SoupSet.{SoupSet}
 use Rattle.commands.specs.Answers.{NeedsMemory, Right}
+use Rattle.commands.specs.SoupSets.{AreRangesOf}
+
+-- the complaint about a call that reads a range list
+abbrev pub list_complaint : ListError → Complaint
+list_complaint (list_error.BadList place) = Refused (BadList place)
+list_complaint list_error.Memory = OutOfMemory
 
 -- a complaint that ends a command before it writes: a refusal if that is right, or memory that ran out
 abbrev pub Stops : Right → Complaint → Type 0
@@ -18,8 +28,10 @@ Stops right OutOfMemory = (complaint : Complaint) → right (Err complaint) → 
 Stops right ReadFailed = ⊥
 Stops right WriteFailed = ⊥
 
--- a haul of a job over some ranges, for one worker, to which nothing has come
-pub record IsOpened (job : Job) (ranges : List Range) (held : Held) : Type 0 where
+-- a haul of a job over the ranges of a set, for one worker, to which nothing has come
+pub record IsOpened (job : Job) (set : SoupSet) (held : Held) : Type 0 where
+  pub ranges : List Range
+  pub named : AreRangesOf set ranges
   pub small : AreSmall ranges
   pub apart : ¬ Overlap ranges
   pub form : IsNormalForm ranges held.terms.ranges

@@ -1,12 +1,11 @@
-ghost use Rattle.std.specs.Prelude.{◌≡◌, ◌×◌, ◌++◌, ◌∷◌, ◌≤◌, [], ℕ, List, IfErr, IfOk, OnOk, Err, Ok, false};
+ghost use Rattle.std.specs.Prelude.{◌≡◌, ◌++◌, ◌∷◌, ◌<◌, ◌≤◌, [], ℕ, List, IfErr, IfOk, OnOk, Err, Ok, false};
 ghost use Rattle.haul_core.specs.Books.{StandsFor};
 ghost use Rattle.haul_core.specs.HaulTexts.{haul_text};
 ghost use Rattle.haul_core.specs.Ranges.{AreBelow, end_of, number_bound};
-ghost use Rattle.haul_core.specs.declared.range.Range.{Range as Numbers};
-ghost use Rattle.commands.specs.Answers.{Ends, Reaches, given_right};
+ghost use Rattle.commands.specs.Answers.{Ends, Reaches};
 ghost use Rattle.commands.specs.Complaints.{status_of};
 ghost use Rattle.commands.specs.Profiles.{AreInRange};
-ghost use Rattle.commands.specs.SoupSets.{job_named, ranges_named};
+ghost use Rattle.commands.specs.SoupSets.{AreRangesOf, job_named};
 ghost use Rattle.commands.specs.Streams.{stream};
 ghost use Rattle.commands.specs.Take.{IsHaulOf, take_right};
 ghost use Rattle.commands.specs.TakeSteps.{IsOffered, IsOpened, Stops, numbers_in_range, numbers_of};
@@ -27,6 +26,9 @@ use std::alloc::{AllocError, Global};
 use std::io::Write;
 use survey_core::job::Job;
 use survey_core::seed::Seed;
+
+/// The only worker.
+const WORKER: u8 = 1;
 
 /// Surveys all soups of a set, under a profile and the rule of a text, and writes the haul text of what they left.
 ///
@@ -115,8 +117,8 @@ fn job(set: &SoupSet<'_>, profile: ProfileNumbers, rule_text: &str) -> Result<Jo
 
 /// A haul over the ranges of a set, for one worker.
 fn open_haul(alloc: Global, job: Job, set: &SoupSet<'_>) -> Result<Haul, Complaint>
-    ensures opened { IfOk result (λ haul. (ranges : List Numbers) × (ranges_named set.now ≡ Ok ranges) × IsOpened job ranges haul) }
-    ensures stops { IfErr result (Stops (given_right (ranges_named set.now) (IsHaulOf job))) }
+    ensures opened { IfOk result (IsOpened job set.now) }
+    ensures stops { IfErr result (Stops (IsHaulOf job set.now)) }
 {
     let ranges = ranges_of(alloc, set)?;
     match Haul::open(alloc, job, ranges.as_slice(), WORKER) {
@@ -130,14 +132,15 @@ fn open_haul(alloc: Global, job: Job, set: &SoupSet<'_>) -> Result<Haul, Complai
 
 /// The ranges of a set.
 fn ranges_of(alloc: Global, set: &SoupSet<'_>) -> Result<Vec<Range>, Complaint>
-    ensures named { IfOk result (λ ranges. ranges_named set.now ≡ Ok ranges.items) }
-    ensures stops { (right : List Numbers → Right) → IfErr result (Stops (given_right (ranges_named set.now) right)) }
+    ensures named { IfOk result (λ ranges. AreRangesOf set.now ranges.items) }
+    ensures stops { (job : Job) → IfErr result (Stops (IsHaulOf job set.now)) }
 {
     let mut ranges = Range::read_list(alloc, set.also.as_str())?;
-    ranges.push(Range {
+    let own = Range {
         first: set.first,
         count: set.count,
-    })?;
+    };
+    ranges.extend_from_slice(&[own])?;
     Ok(ranges)
 }
 
