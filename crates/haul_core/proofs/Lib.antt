@@ -6,3 +6,4 @@ mod RangeLemmas
 mod SampleLemmas
 mod SumLemmas
 mod TallyLemmas
+mod TextLemmas

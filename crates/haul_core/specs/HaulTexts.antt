@@ -19,7 +19,7 @@ abbrev pub numbered : List ℕ → List ℕ → List ℕ
 numbered word numbers = line_of word (map decimal numbers)
 
 -- the four numbers of a profile
-unfoldable pub profile_line : Settling → List ℕ
+abbrev pub profile_line : Settling → List ℕ
 profile_line p = numbered (codes "@PROFILE") (p.period ∷ p.horizon ∷ p.stride ∷ p.limit ∷ [])
 
 -- what was surveyed, and how
@@ -33,7 +33,7 @@ head_lines job =
     ∷ []
 
 -- the first number of a range, and how many there are
-unfoldable pub range_line : Range → List ℕ
+abbrev pub range_line : Range → List ℕ
 range_line range = numbered (codes "@RANGE") (range.first ∷ range.count ∷ [])
 
 -- a line for each range; one of no number stands for none

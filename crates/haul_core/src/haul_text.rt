@@ -1,6 +1,7 @@
 ghost use Rattle.std.specs.Prelude.{◌≡◌, false, flat_map, map};
 ghost use Rattle.plane_core.specs.Out.{Writes};
-ghost use Rattle.haul_core.specs.HaulTexts.{ended, haul_text, head_lines, line_of, profile_line, range_line, range_lines, sample_line, sample_lines, spaced, sum_lines, text_of, total_line, total_lines};
+ghost use Rattle.haul_core.specs.HaulTexts.{ended, haul_text, head_lines, line_of, profile_line, range_line, range_lines};
+ghost use Rattle.haul_core.specs.HaulTexts.{sample_line, sample_lines, spaced, sum_lines, text_of, total_line, total_lines};
 
 use crate::census::Census;
 use crate::range::Range;
@@ -71,7 +72,7 @@ fn put_ranges<W: Write>(out: &mut Out<W>, ranges: &[Range]) -> Result<(), WriteE
 /// Writes a line for each range.
 fn put_each_range<W: Write>(out: &mut Out<W>, ranges: &[Range]) -> Result<(), WriteError>
     requires { out.old.failed ≡ false }
-    ensures { Writes W.contents out.old out.new result (text_of (map range_line ranges.now)) }
+    ensures { Writes W.contents out.old out.new result (flat_map (λ range. ended (range_line range)) ranges.now) }
 {
     for range in ranges {
         put_range(out, range)?;
@@ -110,7 +111,7 @@ fn put_totals<W: Write>(out: &mut Out<W>, rows: &[Row]) -> Result<(), WriteError
 /// Writes a line for each row, with its total.
 fn put_each_total<W: Write>(out: &mut Out<W>, rows: &[Row]) -> Result<(), WriteError>
     requires { out.old.failed ≡ false }
-    ensures { Writes W.contents out.old out.new result (text_of (map total_line rows.now)) }
+    ensures { Writes W.contents out.old out.new result (flat_map (λ row. ended (total_line row)) rows.now) }
 {
     for row in rows {
         put_total(out, row)?;
@@ -138,7 +139,7 @@ fn put_samples<W: Write>(out: &mut Out<W>, rows: &[Row]) -> Result<(), WriteErro
 /// Writes a line for each row, with its samples.
 fn put_each_sample<W: Write>(out: &mut Out<W>, rows: &[Row]) -> Result<(), WriteError>
     requires { out.old.failed ≡ false }
-    ensures { Writes W.contents out.old out.new result (text_of (map sample_line rows.now)) }
+    ensures { Writes W.contents out.old out.new result (flat_map (λ row. ended (sample_line row)) rows.now) }
 {
     for row in rows {
         put_sample(out, row)?;
@@ -171,7 +172,7 @@ fn put_line<W: Write, N: Integer>(
 /// Writes numbers in decimal, with a space before each.
 fn put_numbers<W: Write, N: Integer>(out: &mut Out<W>, numbers: &[N]) -> Result<(), WriteError>
     requires { out.old.failed ≡ false }
-    ensures { Writes W.contents out.old out.new result (flat_map spaced (map N.text numbers.now)) }
+    ensures { Writes W.contents out.old out.new result (flat_map (λ n. spaced (N.text n)) numbers.now) }
 {
     for number in numbers {
         put_number(out, *number)?;

@@ -1,0 +1,123 @@
+-- Lines of a text, written one after another.
+use Rattle.std.proofs.Common.{◌≡◌, ◌∙◌, ◌+◌, ◌<◌, ◌==◌, arith, ℕ, true, false, List, [], ◌∷◌, ◌++◌, ap, sym, append_assoc, codes, drop, flat_map}
+use Rattle.std.proofs.Common.{get_or, length, map}
+use Rattle.std.proofs.lemmas.Bool.{eqb-true, false≢true}
+use Rattle.std.proofs.lemmas.Grind.{flat_map-append}
+use Rattle.std.proofs.lemmas.List.{append-nil, drop_more}
+use Rattle.std.proofs.lemmas.List.Folds.{flat_map-map}
+use Rattle.plane_core.specs.Rules.{rule_text}
+use Rattle.survey_core.specs.declared.job.Job.{Job}
+use Rattle.haul_core.specs.declared.census.Census.{Census}
+use Rattle.haul_core.specs.declared.range.Range.{Range}
+use Rattle.haul_core.specs.declared.row.Row.{Row}
+use Rattle.haul_core.specs.HaulTexts.{ended, haul_lines, haul_text, head_lines, line_of, numbered, profile_line, range_line, range_lines, sample_line}
+use Rattle.haul_core.specs.HaulTexts.{sample_lines, spaced, sum_lines, text_of, total_line, total_lines}
+
+-- the text of what is left begins with that of the next item
+pub text_more : {A : Type 0} (text : A → List ℕ) (xs : List A) (i : ℕ) (x : A) (whole front : List ℕ) → i < length xs → x ≡ get_or xs i x
+    → whole ≡ front ++ flat_map text (drop i xs) → whole ≡ (front ++ text x) ++ flat_map text (drop (i + 1) xs)
+text_more text xs i x whole front more here is =
+    let next = drop_more xs i x more ∙ ap (λ y. y ∷ drop (i + 1) xs) (sym here) in
+    is ∙ ap (λ rest. front ++ flat_map text rest) next ∙ sym (append_assoc front (text x) (flat_map text (drop (i + 1) xs)))
+
+-- the same with the item at its place
+pub text_more_at : {A : Type 0} (text : A → List ℕ) (xs : List A) (i : ℕ) (d : A) (whole front : List ℕ) → i < length xs
+    → whole ≡ front ++ flat_map text (drop i xs) → whole ≡ (front ++ text (get_or xs i d)) ++ flat_map text (drop (i + 1) xs)
+text_more_at text xs i d whole front more is =
+    is ∙ ap (λ rest. front ++ flat_map text rest) (drop_more xs i d more) ∙ sym (append_assoc front (text (get_or xs i d)) (flat_map text (drop (i + 1) xs)))
+
+-- a word and numbers, ended
+pub line_spelled : {A : Type 0} (text : A → List ℕ) (word : List ℕ) (numbers : List A)
+    → word ++ (flat_map (λ n. spaced (text n)) numbers ++ codes "\n") ≡ ended (line_of word (map text numbers))
+unfolding line_of
+line_spelled text word numbers =
+    sym (append_assoc word (flat_map (λ n. spaced (text n)) numbers) (codes "\n"))
+    ∙ ap (λ rest. (word ++ rest) ++ codes "\n") (sym (flat_map-map spaced text numbers))
+
+-- ---- the head
+
+-- what stands after the rule, and after the seed
+abbrev pub after_rule : Job → List ℕ
+after_rule job = codes "\n@SYMMETRY C1\n" ++ ended (profile_line job.profile)
+
+abbrev pub after_seed : Job → List ℕ
+after_seed job = codes "\n@RULE " ++ (rule_text job.rule ++ after_rule job)
+
+pub head_spelled : (job : Job) → codes "@VERSION 2\n@ROOT seed=" ++ (job.seed ++ after_seed job) ≡ text_of (head_lines job)
+unfolding text_of head_lines
+head_spelled job =
+    let rest : List ℕ = codes "@SYMMETRY C1\n" ++ (ended (profile_line job.profile) ++ []) in
+    ap (λ (last : List ℕ). codes "@VERSION 2\n@ROOT seed=" ++ (job.seed ++ (codes "\n@RULE " ++ (rule_text job.rule ++ (codes "\n@SYMMETRY C1\n" ++ last)))))
+    (sym (append-nil (ended (profile_line job.profile))))
+    ∙ ap (λ (more : List ℕ). codes "@VERSION 2\n@ROOT seed=" ++ (job.seed ++ (codes "\n@RULE " ++ more)))
+    (sym (append_assoc (rule_text job.rule) (codes "\n") rest))
+    ∙ ap (λ (more : List ℕ). codes "@VERSION 2\n@ROOT seed=" ++ more)
+    (sym (append_assoc job.seed (codes "\n") (codes "@RULE " ++ ((rule_text job.rule ++ codes "\n") ++ rest))))
+
+-- ---- the ranges
+
+pub none_spelled : (ranges : List Range) → (length ranges == 0) ≡ true → ended (range_line (record { first = 0; count = 0 })) ≡ text_of (range_lines ranges)
+unfolding text_of
+none_spelled [] h = sym (append-nil (ended (range_line (record { first = 0; count = 0 }))))
+none_spelled (range ∷ more) h = let none : length (range ∷ more) ≡ 0 = eqb-true _ _ h in absurd (omega arith)
+
+pub some_spelled : (ranges : List Range) → (length ranges == 0) ≡ false
+    → flat_map (λ range. ended (range_line range)) ranges ≡ text_of (range_lines ranges)
+unfolding text_of
+some_spelled [] h = absurd (false≢true (sym h))
+some_spelled (range ∷ more) h = sym (flat_map-map ended range_line (range ∷ more))
+
+-- ---- the sums
+
+abbrev pub sum_line : List ℕ → ℕ → List ℕ
+sum_line word n = ended (numbered word (n ∷ []))
+
+abbrev pub after_for_good : Census → List ℕ
+after_for_good census = sum_line (codes "@NUM_OBJECTS") census.objects
+
+abbrev pub after_unsettled : Census → List ℕ
+after_unsettled census = sum_line (codes "@NUM_FOR_GOOD") census.for_good ++ after_for_good census
+
+abbrev pub after_soups : Census → List ℕ
+after_soups census = sum_line (codes "@NUM_UNSETTLED") census.unsettled ++ after_unsettled census
+
+pub sums_spelled : (census : Census) → sum_line (codes "@NUM_SOUPS") census.soups ++ after_soups census ≡ text_of (sum_lines census)
+unfolding text_of sum_lines
+sums_spelled census =
+    ap (λ (rest : List ℕ). sum_line (codes "@NUM_SOUPS") census.soups ++ (sum_line (codes "@NUM_UNSETTLED") census.unsettled
+    ++ (sum_line (codes "@NUM_FOR_GOOD") census.for_good ++ rest))) (sym (append-nil (sum_line (codes "@NUM_OBJECTS") census.objects)))
+
+-- ---- the tables
+
+pub totals_spelled : (rows : List Row) → codes "\n@CENSUS TABLE\n" ++ flat_map (λ row. ended (total_line row)) rows ≡ text_of (total_lines rows)
+unfolding text_of total_lines
+totals_spelled rows = ap (λ (rest : List ℕ). codes "\n@CENSUS TABLE\n" ++ rest) (sym (flat_map-map ended total_line rows))
+
+pub samples_spelled : (rows : List Row) → codes "\n@SAMPLE_SOUPIDS\n" ++ flat_map (λ row. ended (sample_line row)) rows ≡ text_of (sample_lines rows)
+unfolding text_of sample_lines
+samples_spelled rows = ap (λ (rest : List ℕ). codes "\n@SAMPLE_SOUPIDS\n" ++ rest) (sym (flat_map-map ended sample_line rows))
+
+-- ---- the whole text
+
+text_append : (lines more : List (List ℕ)) → text_of (lines ++ more) ≡ text_of lines ++ text_of more
+unfolding text_of
+text_append lines more = flat_map-append ended lines more
+
+abbrev pub after_sums : Census → List ℕ
+after_sums census = text_of (total_lines census.rows) ++ text_of (sample_lines census.rows)
+
+abbrev pub after_ranges : Census → List ℕ
+after_ranges census = text_of (sum_lines census) ++ after_sums census
+
+abbrev pub after_head : Census → List ℕ
+after_head census = text_of (range_lines census.ranges) ++ after_ranges census
+
+pub haul_spelled : (census : Census) → text_of (head_lines census.job) ++ after_head census ≡ haul_text census
+unfolding haul_lines
+haul_spelled census =
+    let tables : List (List ℕ) = total_lines census.rows ++ sample_lines census.rows in
+    let below : List (List ℕ) = sum_lines census ++ tables in
+    sym (text_append (head_lines census.job) (range_lines census.ranges ++ below)
+    ∙ ap (λ (rest : List ℕ). text_of (head_lines census.job) ++ rest) (text_append (range_lines census.ranges) below
+    ∙ ap (λ (rest : List ℕ). text_of (range_lines census.ranges) ++ rest) (text_append (sum_lines census) tables
+    ∙ ap (λ (rest : List ℕ). text_of (sum_lines census) ++ rest) (text_append (total_lines census.rows) (sample_lines census.rows)))))
