@@ -180,6 +180,9 @@ fn take_soup(alloc: Global, haul: &mut Haul, number: u64) -> Result<(), AllocErr
     let Ok(report) = Report::make(alloc, &haul.job(), WORKER, number) else {
         return Err(AllocError);
     };
-    // The haul is open, and takes each number of its set once: only memory can be missing.
-    haul.offer(report).map_err(|_| AllocError)
+    match haul.offer(report) {
+        Ok(()) => Ok(()),
+        // The haul is open, and each number of its set is offered once: only memory can be missing.
+        Err(_) => Err(AllocError),
+    }
 }
