@@ -6,6 +6,7 @@ mod FaultLemmas
 mod JobLemmas
 mod KeepLemmas
 mod ListLemmas
+mod NormalLemmas
 mod RangeLemmas
 mod SampleLemmas
 mod SumLemmas
