@@ -1,7 +1,12 @@
 mod BookLemmas
 mod CensusLemmas
+mod CutLemmas
+mod DecimalLemmas
+mod FaultLemmas
 mod JobLemmas
 mod KeepLemmas
+mod ListLemmas
+mod NormalLemmas
 mod RangeLemmas
 mod SampleLemmas
 mod SumLemmas

@@ -4,6 +4,7 @@ pub mod Censuses
 pub mod HaulTexts
 pub mod Jobs
 pub mod Keeping
+pub mod RangeListSteps
 pub mod RangeLists
 pub mod RangeSteps
 pub mod Ranges

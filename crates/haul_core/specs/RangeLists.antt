@@ -56,6 +56,14 @@ pub record BeginsLongList (text : List ℕ) : Type 0 where
   pub decimals : All (λ w. IsDecimal w.first × IsDecimal w.count) ranges
   pub spelled : joined ranges ≡ text ++ rest
 
+-- a decimal of 2^64 or more begins the text
+pub record BeginsLargeDecimal (text : List ℕ) : Type 0 where
+  pub number : List ℕ
+  pub rest : List ℕ
+  pub is_decimal : IsDecimal number
+  pub large : 2 ^ 64 ≤ digits_value 10 number
+  pub spelled : text ≡ number ++ rest
+
 -- What stands before the place begins a list. With the byte there it doesn't, whatever the size of numbers; or the text ends there too early.
 pub record IsBadByte (text : List ℕ) (place : ℕ) : Type 0 where
   pub within : place ≤ length text
@@ -67,11 +75,7 @@ pub record IsBadByte (text : List ℕ) (place : ℕ) : Type 0 where
 pub record IsLargeDecimal (text : List ℕ) (place : ℕ) : Type 0 where
   pub before : BeginsList (take place text)
   pub apart : 1 ≤ place → is_ascii_digit (slice_index text (place - 1)) ≡ false
-  pub number : List ℕ
-  pub rest : List ℕ
-  pub there : drop place text ≡ number ++ rest
-  pub is_decimal : IsDecimal number
-  pub large : 2 ^ 64 ≤ digits_value 10 number
+  pub there : BeginsLargeDecimal (drop place text)
 
 -- The first fault from the left: all that stands before the place is right.
 abbrev pub IsFirstFault : List ℕ → ℕ → Type 0

@@ -1,6 +1,6 @@
 -- Sets of soup numbers, given by ranges.
-use Rattle.std.specs.Prelude.{◌≡◌, ◌+◌, ◌<◌, ◌≤◌, ◌^◌, ◌&&◌, ℕ, Bool, List, [], ◌∷◌, count_by, nat_le, nat_lt, max, min, sum_by, flat_map}
-use Rattle.std.specs.List.{All, list_any, range_with_len}
+use Rattle.std.specs.Prelude.{◌≡◌, ◌+◌, ◌<◌, ◌≤◌, ◌^◌, ◌&&◌, ℕ, Bool, List, [], ◌∷◌, count_by, nat_le, nat_lt, max, min, sum_by}
+use Rattle.std.specs.List.{All, list_any}
 use Rattle.haul_core.specs.declared.range.Range.{Range}
 
 -- the first number after a range
@@ -54,3 +54,7 @@ AreNormal (r ∷ more) = (1 ≤ r.count) × BeginAfter (end_of r) more × AreNor
 pub record IsNormalForm (ranges normal : List Range) : Type 0 where
   pub normal_form : AreNormal normal
   pub same : (n : ℕ) → is_in normal n ≡ is_in ranges n
+
+-- a set has one normal form: ranges in normal form that give the same set are the same list
+abbrev pub OneNormalForm : Type 0
+OneNormalForm = (a b : List Range) → AreNormal a → AreNormal b → ((n : ℕ) → is_in a n ≡ is_in b n) → a ≡ b

@@ -2,7 +2,7 @@ ghost use Rattle.std.specs.Prelude.{◌≡◌, ◌↔◌, ◌≤◌, ◌+◌, �
 ghost use Rattle.std.specs.List.{filter, list_any};
 ghost use Rattle.std.specs.List.Sorted.{IsNonDecreasingBy, IsPermutation};
 ghost use Rattle.haul_core.specs.RangeSteps.{Ascending, has_numbers};
-ghost use Rattle.haul_core.specs.Ranges.{AreBelow, AreNormal, AreSmall, IsNormalForm, Overlap, end_of, is_in, is_in_range, number_bound, shares, size_of};
+ghost use Rattle.haul_core.specs.Ranges.{AreBelow, AreNormal, AreSmall, IsNormalForm, OneNormalForm, Overlap, end_of, is_in, is_in_range, number_bound, shares, size_of};
 
 use std::alloc::{AllocError, Global};
 use std::marker::Model;
@@ -109,6 +109,12 @@ impl Ranges {
         Ok(Ranges { ranges })
     }
 }
+
+/// The law that a set has one normal form: ranges in normal form that give the same set are the same list.
+#[tactic(auto, using(crate::proofs::NormalLemmas::normal_forms))]
+pub fn one_normal_form()
+    ensures { OneNormalForm }
+{}
 
 /// How many numbers the ranges have together, if none goes past 2^40 and they have at most 2^24.
 pub(crate) fn small_size(ranges: &[Range]) -> Option<u64>

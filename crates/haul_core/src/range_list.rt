@@ -5,13 +5,14 @@
 //!     ^        the rest, where the next range begins
 //! ```
 
-ghost use Rattle.std.specs.Prelude.{◌≡◌, ◌≤◌, ◌<◌, ◌^◌, ◌++◌, ◌∷◌, [], ℕ, List, IfErr, IfNone, IfOk, IfSome, IsErrOf, MatchResult, length};
-ghost use Rattle.haul_core.specs.RangeLists.{AreWords, IsFirstFault, IsListText, list_text};
+ghost use Rattle.std.specs.Prelude.{◌≡◌, ◌≢◌, ◌⊎◌, ◌≤◌, ◌+◌, ◌*◌, ◌^◌, ◌∷◌, [], ℕ, List, false, option_map, IfErr, IfNone, IfOk, IfSome, IsErrOf, MatchResult};
+ghost use Rattle.haul_core.specs.RangeListSteps.{BeginsDecimal, BeginsNoDecimal, BeginsRange, IsNoRange, LacksComma, Passes, Starts, has_digit};
+ghost use Rattle.haul_core.specs.RangeLists.{AreWords, BeginsLargeDecimal, IsFirstFault, IsListText, list_text};
 ghost use Rattle.haul_core.specs.declared.range.Range.{Range as Numbers};
 ghost use Rattle.haul_core.specs.declared.range_list.ListError.TheVariants.{BadList, Memory};
 
 use crate::range::Range;
-use std::alloc::{AllocError, AllocFailed, Global};
+use std::alloc::{AllocError, Global};
 use thiserror::Error;
 
 /// Why a text is not read as a list of ranges.
@@ -63,8 +64,10 @@ impl Range {
 }
 
 /// The place of the first fault of a text, if it is not that of a list of ranges.
+#[tactic(auto, using(crate::proofs::ListLemmas::passed_first))]
 fn fault_in(text: &[u8]) -> Option<usize>
     ensures fault { IfSome result (IsFirstFault text.now) }
+    ensures refused { IfSome result (λ _. ¬ IsListText text.now) }
     ensures none { IfNone result (IsListText text.now) }
 {
     let mut rest = unless_empty(text);
@@ -78,9 +81,11 @@ fn fault_in(text: &[u8]) -> Option<usize>
 }
 
 /// The ranges of a text that has no fault.
+#[tactic(auto, using(crate::proofs::ListLemmas::passed_first))]
 fn ranges_in(alloc: Global, text: &[u8]) -> Result<Vec<Range>, AllocError>
     requires { IsListText text.now }
-    ensures { IfOk result (λ read. list_text read.items ≡ text.now) }
+    ensures words { IfOk result (λ read. AreWords read.items) }
+    ensures text { IfOk result (λ read. list_text read.items ≡ text.now) }
 {
     let mut ranges = Vec::new(alloc);
     let mut rest = unless_empty(text);
@@ -97,13 +102,18 @@ fn ranges_in(alloc: Global, text: &[u8]) -> Result<Vec<Range>, AllocError>
 }
 
 /// Where the first range begins, if there is one.
-fn unless_empty(text: &[u8]) -> Option<&[u8]> {
+fn unless_empty(text: &[u8]) -> Option<&[u8]>
+    ensures { Starts text.now (option_map (λ rest. rest.now) result) }
+{
     if text.is_empty() { None } else { Some(text) }
 }
 
 /// The range at the front of a text, and where the next one begins if a comma follows. If no range stands there, or
 /// neither the end nor a comma after it, the answer is the text from the fault on.
-fn next_range(text: &[u8]) -> Result<(Range, Option<&[u8]>), &[u8]> {
+fn next_range(text: &[u8]) -> Result<(Range, Option<&[u8]>), &[u8]>
+    ensures ok { IfOk result (λ next. Passes text.now next.0 (option_map (λ rest. rest.now) next.1)) }
+    ensures err { IfErr result (λ rest. IsNoRange text.now rest.now ⊎ LacksComma text.now rest.now) }
+{
     let (range, rest) = first_range(text)?;
     match rest {
         [] => Ok((range, None)),
@@ -113,7 +123,10 @@ fn next_range(text: &[u8]) -> Result<(Range, Option<&[u8]>), &[u8]> {
 }
 
 /// The range at the front of a text and the text after it, or the text from the fault on.
-fn first_range(text: &[u8]) -> Result<(Range, &[u8]), &[u8]> {
+fn first_range(text: &[u8]) -> Result<(Range, &[u8]), &[u8]>
+    ensures ok { IfOk result (λ first. BeginsRange text.now first.0 first.1.now) }
+    ensures err { IfErr result (λ rest. IsNoRange text.now rest.now) }
+{
     let Some((first, rest)) = first_decimal(text) else {
         return Err(text);
     };
@@ -128,13 +141,55 @@ fn first_range(text: &[u8]) -> Result<(Range, &[u8]), &[u8]> {
 
 /// The decimal at the front of a text and the text after it. There is none if no digit stands there, or if the number is
 /// 2^64 or more. After a `0` the decimal ends.
-fn first_decimal(text: &[u8]) -> Option<(u64, &[u8])> {
-    let (digit, rest) = text.split_first()?;
-    if !digit.is_ascii_digit() {
-        return None;
-    }
-    if *digit == b'0' {
+#[tactic(auto, using(crate::proofs::DecimalLemmas::begins_zero))]
+fn first_decimal(text: &[u8]) -> Option<(u64, &[u8])>
+    ensures some { IfSome result (λ first. BeginsDecimal text.now first.0 first.1.now) }
+    ensures none { IfNone result (BeginsNoDecimal text.now) }
+{
+    let (digit, rest) = first_digit(text)?;
+    if digit == 0 {
         return Some((0, rest));
     }
-    more_digits(digit - b'0', rest)
+    more_digits(digit, rest)
+}
+
+/// The decimal of a first digit that isn't 0 and of those at the front of a text, and the text after them. There is none
+/// if the number is 2^64 or more.
+#[tactic(auto, using(crate::proofs::DecimalLemmas::reading_first, crate::proofs::DecimalLemmas::reading_done))]
+fn more_digits(first: u8, text: &[u8]) -> Option<(u64, &[u8])>
+    requires least { 1 ≤ first }
+    requires most { first ≤ 9 }
+    ensures some { IfSome result (λ read. BeginsDecimal ((48 + first) ∷ text.now) read.0 read.1.now) }
+    ensures none { IfNone result (BeginsLargeDecimal ((48 + first) ∷ text.now)) }
+{
+    let mut number = u64::from(first);
+    let mut rest = text;
+    while let Some((digit, more)) = first_digit(rest) {
+        number = with_digit(number, digit)?;
+        rest = more;
+    }
+    Some((number, rest))
+}
+
+/// The number with a digit more at its end, if it is below 2^64.
+fn with_digit(number: u64, digit: u8) -> Option<u64>
+    requires { digit ≤ 9 }
+    ensures some { IfSome result (λ more. more ≡ 10 * number + digit) }
+    ensures none { IfNone result (2 ^ 64 ≤ 10 * number + digit) }
+{
+    number.checked_mul(10)?.checked_add(u64::from(digit))
+}
+
+/// The digit at the front of a text, and the text after it.
+fn first_digit(text: &[u8]) -> Option<(u8, &[u8])>
+    ensures some { IfSome result (λ first. text.now ≡ (48 + first.0) ∷ first.1.now) }
+    ensures digit { IfSome result (λ first. first.0 ≤ 9) }
+    ensures none { IfNone result (has_digit text.now ≡ false) }
+{
+    let (byte, rest) = text.split_first()?;
+    if byte.is_ascii_digit() {
+        Some((*byte - b'0', rest))
+    } else {
+        None
+    }
 }

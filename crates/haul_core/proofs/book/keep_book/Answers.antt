@@ -2,8 +2,7 @@ use Rattle.std.proofs.Common.{◌≡◌, ◌∙◌, ◌++◌, ◌∷◌, [], ap,
 use Rattle.std.proofs.lemmas.List.{append_assoc}
 use Rattle.std.specs.Vec.Iter.{into_iter_items}
 use Rattle.haul_core.specs.declared.arrival.Arrival.{Arrival}
-use Rattle.haul_core.specs.declared.arrival.Reply.{Reply}
-use Rattle.haul_core.specs.Books.{Held, StandsFor, Terms, replies_to, reply_to}
+use Rattle.haul_core.specs.Books.{StandsFor, Terms, reply_to}
 use Rattle.haul_core.proofs.BookLemmas.{on_err_from, replies_push, taken_front}
 use Rattle.haul_core.proofs.book.keep_book.Goals as goal
 
