@@ -12,7 +12,7 @@ use Rattle.commands.specs.TakeSteps.{numbers_in_range, numbers_of}
 
 -- one number more of a range
 pub range_more : (a n j : ℕ) → a + n ≡ j → range_with_len a (n + 1) ≡ range_with_len a n ++ j ∷ []
-range_more a zero j e = ap (λ (m : ℕ). m ∷ []) e
+range_more a zero j e = let is : a ≡ j = omega arith in ap (λ (m : ℕ). m ∷ []) is
 range_more a (suc n) j e = ap (λ (more : List ℕ). a ∷ more) (range_more (a + 1) n j (omega arith))
 
 pub count_cons : (n x : ℕ) (xs : List ℕ) → count_by (nat_eq n) (x ∷ xs) ≡ cond {A = ℕ} (nat_eq n x) 1 0 + count_by (nat_eq n) xs

@@ -3,7 +3,7 @@ use Rattle.std.proofs.Common.{◌≡◌, ◌∙◌, ◌+◌, ◌-◌, ◌<◌, �
 use Rattle.std.proofs.Common.{List, [], ◌∷◌, ◌++◌, Option, Some, None, Result, Ok, Err, ap, sym, subst, refl, arith, filter, length, map, take, drop, get_or, append_assoc}
 use Rattle.std.proofs.lemmas.Bool.{and_from, cases_Bool, eq-eqb, eqb-true, false≢true, leb-false, leb-true, le-leb}
 use Rattle.std.proofs.lemmas.List.{append-nil, map-append, map_push}
-use Rattle.std.proofs.lemmas.List.Elements.{All-head, All-push, All-tail}
+use Rattle.std.proofs.lemmas.List.Elements.{All-head, All-nil, All-push, All-tail}
 use Rattle.std.specs.Bool.{beq}
 use Rattle.std.specs.Cmp.Lexicographic.{pointwise}
 use Rattle.std.specs.List.{All, range_with_len}
@@ -74,7 +74,29 @@ Stops_given set numbers rule_text job OutOfMemory named stops = λ complaint rig
 Stops_given set numbers rule_text job ReadFailed named stops = absurd stops
 Stops_given set numbers rule_text job WriteFailed named stops = absurd stops
 
+-- what makes up the job is refused
+pub Stops_job : (set : SoupSet) (numbers : ProfileNumbers) (rule_text : List ℕ) (complaint : Complaint) → job_named set numbers rule_text ≡ Err complaint
+    → Stops (take_right set numbers rule_text) complaint
+Stops_job set numbers rule_text complaint refused = ?
+
+-- what is right for the job is right
+pub right_given : (set : SoupSet) (numbers : ProfileNumbers) (rule_text : List ℕ) (job : Job) (text : List ℕ) → job_named set numbers rule_text ≡ Ok job
+    → IsHaulOf job set (Ok text) → take_right set numbers rule_text (Ok text)
+right_given set numbers rule_text job text named right = rw named right
+
+-- memory that runs out over a haul that was opened stops the command
+pub Stops_memory : (set : SoupSet) (numbers : ProfileNumbers) (rule_text : List ℕ) (job : Job) (held : Held) → job_named set numbers rule_text ≡ Ok job
+    → IsOpened job set held → Stops (take_right set numbers rule_text) OutOfMemory
+Stops_memory set numbers rule_text job held named opened =
+    let of = opened.named in
+    Stops_given set numbers rule_text job OutOfMemory named
+    (λ complaint right. needs_memory job set complaint (record { ranges = of.listed; words = of.words; spelled = of.spelled }) right)
+
 -- ---- a haul that was opened
+
+-- nothing was offered yet
+pub offered_none : (held : Held) → StandsFor [] held → IsOffered [] held
+offered_none held stands = record { reports = []; own = All-nil (IsOwn held.terms.job); numbers_are = refl; stands = stands }
 
 -- ranges that can't be too large are small enough
 pub small_from : (ranges : List Range) → ((AreSmall ranges → ⊥) → ⊥) → AreSmall ranges
@@ -119,9 +141,12 @@ offered_all : (reports : List Reported) → offered (map Offer reports ++ Closin
 offered_all [] = refl
 offered_all (r ∷ more) = ap (λ (rs : List Reported). r ∷ rs) (offered_all more)
 
+itself : (n : ℕ) → nat_eq n n ≡ true
+itself n = eq-eqb n n refl
+
 same_numbers : (xs : List ℕ) → pointwise nat_eq xs xs ≡ true
 same_numbers [] = refl
-same_numbers (x ∷ xs) = and_from _ _ (eq-eqb x x refl) (same_numbers xs)
+same_numbers (x ∷ xs) = and_from _ _ (itself x) (same_numbers xs)
 
 same_tests : (xs : List Bool) → pointwise beq xs xs ≡ true
 same_tests [] = refl
@@ -130,8 +155,9 @@ same_tests (false ∷ xs) = same_tests xs
 
 same_job_itself : (job : Job) → same_job job job ≡ true
 same_job_itself job =
-    and_from _ _ (same_numbers job.seed) (and_from _ _ (and_from _ _ (eq-eqb _ _ refl) (and_from _ _ (eq-eqb _ _ refl) (and_from _ _ (eq-eqb _ _ refl) (eq-eqb _ _ refl))))
-    (and_from _ _ (same_tests job.rule.births) (same_tests job.rule.survivals)))
+    let p = job.profile in
+    let profile = and_from _ _ (itself p.period) (and_from _ _ (itself p.horizon) (and_from _ _ (itself p.stride) (itself p.limit))) in
+    and_from _ _ (same_numbers job.seed) (and_from _ _ profile (and_from _ _ (same_tests job.rule.births) (same_tests job.rule.survivals)))
 
 lawful_own : (terms : Terms) (r : Reported) → terms.workers ≡ 1 → IsOwn terms.job r → is_in terms.ranges r.number ≡ true → is_lawful terms r ≡ true
 lawful_own terms r alone own inside =

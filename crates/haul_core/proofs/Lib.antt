@@ -7,6 +7,7 @@ mod JobLemmas
 mod KeepLemmas
 mod ListLemmas
 mod NormalLemmas
+mod MissingLemmas
 mod RangeLemmas
 mod SampleLemmas
 mod SumLemmas

@@ -1,9 +1,10 @@
-ghost use Rattle.std.specs.Prelude.{◌≡◌, ◌⊎◌, ◌↔◌, ◌<◌, ◌≤◌, ◌+◌, ◌^◌, ◌++◌, ◌∷◌, [], ℕ, List, Option, None, Some, IfErr, IfOk, IsErrOf, OnErr, OnOk, false, true, vec_len, vec_capacity, nat_eq, is_err};
+ghost use Rattle.std.specs.Prelude.{◌≡◌, ◌⊎◌, ◌↔◌, ◌<◌, ◌≤◌, ◌+◌, ◌^◌, ◌++◌, ◌∷◌, [], ℕ, List, Option, None, Some, IfErr, IfOk, IsErrOf, IsTrue, OnErr, OnOk, false, length, true, vec_len, vec_capacity, nat_eq, is_err};
 ghost use Rattle.indexmap.specs.IndexMap.{get, spare};
 ghost use Rattle.haul_core.specs.Books.{IsReply, StandsFor, has_closing, refusal_of};
 ghost use Rattle.haul_core.specs.BookSteps.{refusal_at, reply_of, IsAnswered};
 ghost use Rattle.haul_core.specs.Censuses.{IsCensus};
 ghost use Rattle.haul_core.specs.Keeping.{numbers_in};
+ghost use Rattle.haul_core.specs.Missing.{AreAll, IsComplete, missing_of};
 ghost use Rattle.haul_core.specs.Ranges.{AreNormal, AreSmall, IsNormalForm, Overlap, size_of};
 ghost use Rattle.haul_core.specs.Reports.{IsWorker};
 ghost use Rattle.haul_core.specs.Tallies.{Extends, HasRows};
@@ -13,6 +14,7 @@ ghost use Rattle.haul_core.specs.declared.haul.OpenError.TheVariants.{BadRange, 
 ghost use Rattle.haul_core.specs.declared.haul.OpenError.TheVariants.{Overlap as SharedNumber};
 
 use crate::census::Census;
+use crate::missing::missing;
 use crate::range::{Range, Ranges, overlap, small_size};
 use crate::refusal::{Refusal, Refused, is_same_job};
 use crate::report::{Report, is_worker};
@@ -194,6 +196,40 @@ impl Haul {
     {
         let Haul { taken, .. } = self;
         taken.as_slice()
+    }
+
+    /// The numbers of the set that haven't been taken, ascending.
+    ///
+    /// # Errors
+    ///
+    /// [`AllocError`] if memory runs out.
+    pub fn missing(&self) -> Result<Vec<u64>, AllocError>
+        ensures { IfOk result (λ missing. missing.items ≡ missing_of self.now.terms.ranges self.now.taken) }
+    {
+        let Haul {
+            alloc,
+            ranges,
+            worker_of,
+            ..
+        } = self;
+        missing(*alloc, ranges.as_slice(), worker_of)
+    }
+
+    /// How many numbers of the set haven't been taken. It takes the same time for any set.
+    pub fn missing_count(&self) -> u64
+        ensures { result ≡ length (missing_of self.now.terms.ranges self.now.taken) }
+    {
+        let Haul { count, taken, .. } = self;
+        *count - taken.len() as u64
+    }
+
+    /// Whether each number of the set has been taken.
+    pub fn is_complete(&self) -> bool
+        ensures complete { IsTrue result ↔ IsComplete self.now.terms.ranges self.now.taken }
+        ensures all { IsTrue result → AreAll self.now.terms.ranges (numbers_in self.now.taken) }
+    {
+        let Haul { count, taken, .. } = self;
+        *count == taken.len() as u64
     }
 
     /// What the taken soups left, whether the haul is open or closed.

@@ -11,6 +11,7 @@ pub mod census;
 pub mod haul;
 /// What a census says, as text.
 pub mod haul_text;
+mod missing;
 /// Sets of soup numbers.
 pub mod range;
 /// Lists of ranges as texts.

@@ -15,12 +15,12 @@ returns-in_err-ranges-clause-stops c = rw (err_of _ _ c.from_residual.ensures.1)
 pub returns-in-Ok-clause-opened : goal.returns-in-Ok-clause-opened
 returns-in-Ok-clause-opened c =
     let told = c.in-Ok.ensures in
-    let small = small_from c.as_slice.result.now (λ large. told.bad_range.1 (one_worker, large)) in
+    let small = small_from c.as_slice.result.now (λ large. let bad = told.bad_range.1 (one_worker, large) in cc) in
     record {
       ranges = c.as_slice.result.now;
       named = subst (AreRangesOf c.args.set.now) (sym c.as_slice.ensures.value) c.in_ok-ranges.ensures.named;
       small = small;
-      apart = λ overlap. told.overlap.1 (one_worker, small, overlap);
+      apart = λ overlap. let bad = told.overlap.1 (one_worker, small, overlap) in cc;
       form = told.ranges;
       job_is = told.job;
       one_worker = told.workers;

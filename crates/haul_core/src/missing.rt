@@ -1,0 +1,42 @@
+ghost use Rattle.std.specs.Prelude.{◌≡◌, ◌≤◌, ◌++◌, IfOk, OnOk, filter};
+ghost use Rattle.haul_core.specs.Missing.{numbers_of, numbers_of_range};
+ghost use Rattle.haul_core.specs.MissingSteps.{has_no_worker};
+ghost use Rattle.haul_core.specs.Ranges.{AreBelow, end_of, number_bound};
+
+use crate::range::Range;
+use indexmap::IndexMap;
+use std::alloc::{AllocError, Global};
+
+/// The numbers of the ranges that have no worker, in the order of the ranges.
+pub(crate) fn missing(
+    alloc: Global,
+    ranges: &[Range],
+    worker_of: &IndexMap<u64, u8>,
+) -> Result<Vec<u64>, AllocError>
+    requires { AreBelow number_bound ranges.now }
+    ensures { IfOk result (λ missing. missing.items ≡ filter (has_no_worker worker_of.now.entries) (numbers_of ranges.now)) }
+{
+    let mut missing = Vec::new(alloc);
+    for range in ranges {
+        add_missing(&mut missing, range, worker_of)?;
+    }
+    Ok(missing)
+}
+
+/// Adds the numbers of a range that have no worker.
+fn add_missing(
+    missing: &mut Vec<u64>,
+    range: &Range,
+    worker_of: &IndexMap<u64, u8>,
+) -> Result<(), AllocError>
+    requires { end_of range.now ≤ number_bound }
+    ensures { OnOk result (missing.new.items
+        ≡ missing.old.items ++ filter (has_no_worker worker_of.now.entries) (numbers_of_range range.now)) }
+{
+    for number in range.first..range.first + range.count {
+        if !worker_of.contains_key(&number) {
+            missing.push(number)?;
+        }
+    }
+    Ok(())
+}
