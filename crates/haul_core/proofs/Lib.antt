@@ -6,8 +6,8 @@ mod FaultLemmas
 mod JobLemmas
 mod KeepLemmas
 mod ListLemmas
-mod NormalLemmas
 mod MissingLemmas
+mod NormalLemmas
 mod RangeLemmas
 mod SampleLemmas
 mod SumLemmas

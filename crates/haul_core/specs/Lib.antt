@@ -4,13 +4,10 @@ pub mod Censuses
 pub mod HaulTexts
 pub mod Jobs
 pub mod Keeping
-<<<<<<< HEAD
-pub mod RangeListSteps
-pub mod RangeLists
-=======
 pub mod Missing
 pub mod MissingSteps
->>>>>>> haul-text
+pub mod RangeListSteps
+pub mod RangeLists
 pub mod RangeSteps
 pub mod Ranges
 pub mod Reports
