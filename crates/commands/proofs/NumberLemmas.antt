@@ -1,7 +1,8 @@
 -- The numbers of ranges, one by one.
-use Rattle.std.proofs.Common.{◌≡◌, ◌∙◌, ◌+◌, ◌-◌, ◌<◌, ◌≤◌, ◌&&◌, ◌||◌, ◌⊎◌, ℕ, zero, suc, Bool, true, false, cond, count_by, flat_map, inl, inr, nat_eq, nat_le, nat_lt}
-use Rattle.std.proofs.Common.{List, [], ◌∷◌, ◌++◌, add_assoc, ap, sym, refl, arith, zero-add}
-use Rattle.std.proofs.lemmas.Bool.{and_from, and_parts, cases_Bool, eq-eqb, eqb-true, false≢true, leb-false, leb-true, le-leb, ltb-false, ltb-true, lt-ltb, ne_eqb}
+use Rattle.std.proofs.Common.{◌≡◌, ◌∙◌, ◌+◌, ◌-◌, ◌<◌, ◌≤◌, ◌&&◌, ◌||◌, ◌⊎◌, ℕ, zero, suc, Bool, true, false, cond, count_by, inl, inr}
+use Rattle.std.proofs.Common.{nat_eq, nat_le, nat_lt, List, [], ◌∷◌, ◌++◌, add-one, add-zero, ap, sym, refl, arith, zero-add}
+use Rattle.std.proofs.lemmas.Bool.{and_from, and_parts, cases_Bool, eq-eqb, eqb-true, false≢true, leb-false, leb-true, le-leb}
+use Rattle.std.proofs.lemmas.Bool.{ltb-false, ltb-true, lt-ltb, ne_eqb}
 use Rattle.std.proofs.lemmas.List.Elements.{All-cons, All-head, All-nil, All-tail}
 use Rattle.std.proofs.lemmas.List.Sums.{sum_by-append, sum_by-cons}
 use Rattle.std.specs.List.{range_with_len}
@@ -10,10 +11,13 @@ use Rattle.haul_core.specs.Ranges.{AreBelow, AreNormal, BeginAfter, IsNormalForm
 use Rattle.commands.specs.Take.{AreNumbersOf}
 use Rattle.commands.specs.TakeSteps.{numbers_in_range, numbers_of}
 
+range_push : (a n : ℕ) → range_with_len a (suc n) ≡ range_with_len a n ++ (a + n) ∷ []
+range_push a zero = ap (λ (k : ℕ). k ∷ []) (sym (add-zero a))
+range_push a (suc n) = ap (λ (more : List ℕ). a ∷ more) (range_push (a + 1) n ∙ ap (λ (k : ℕ). range_with_len (a + 1) n ++ k ∷ []) (omega arith))
+
 -- one number more of a range
 pub range_more : (a n j : ℕ) → a + n ≡ j → range_with_len a (n + 1) ≡ range_with_len a n ++ j ∷ []
-range_more a zero j e = let is : a ≡ j = omega arith in ap (λ (m : ℕ). m ∷ []) is
-range_more a (suc n) j e = ap (λ (more : List ℕ). a ∷ more) (range_more (a + 1) n j (omega arith))
+range_more a n j e = ap (range_with_len a) (add-one n) ∙ range_push a n ∙ ap (λ (k : ℕ). range_with_len a n ++ k ∷ []) e
 
 pub count_cons : (n x : ℕ) (xs : List ℕ) → count_by (nat_eq n) (x ∷ xs) ≡ cond {A = ℕ} (nat_eq n x) 1 0 + count_by (nat_eq n) xs
 count_cons n x xs = sum_by-cons (λ y. cond {A = ℕ} (nat_eq n y) 1 0) x xs

@@ -1,14 +1,21 @@
 -- From the steps of `take` to a right answer.
 use Rattle.std.proofs.Common.{◌≡◌, ◌∙◌, ◌+◌, ◌-◌, ◌<◌, ◌≤◌, ◌^◌, ◌&&◌, ◌⊎◌, ℕ, Bool, true, false, cond, count_by, inl, inr, nat_eq, nat_le, nat_lt, not}
-use Rattle.std.proofs.Common.{List, [], ◌∷◌, ◌++◌, Option, Some, None, Result, Ok, Err, ap, sym, subst, refl, arith, filter, length, map, take, drop, get_or, append_assoc}
+use Rattle.std.proofs.Common.{List, [], ◌∷◌, ◌++◌, Result, Ok, Err, ap, sym, subst, refl, arith, filter, map, append_assoc}
 use Rattle.std.proofs.lemmas.Bool.{and_from, cases_Bool, eq-eqb, eqb-true, false≢true, leb-false, leb-true, le-leb}
 use Rattle.std.proofs.lemmas.List.{append-nil, map-append, map_push}
 use Rattle.std.proofs.lemmas.List.Elements.{All-head, All-nil, All-push, All-tail}
 use Rattle.std.specs.Bool.{beq}
 use Rattle.std.specs.Cmp.Lexicographic.{pointwise}
 use Rattle.std.specs.List.{All, range_with_len}
-use Rattle.std.specs.Result.{IsErrOf, MatchResult}
+use Rattle.std.specs.Result.{result_map_both}
+use Rattle.plane_core.specs.declared.rule.RuleError.{RuleError}
+use Rattle.plane_core.specs.declared.rule.RuleError.TheVariants as rule_error
+use Rattle.plane_core.specs.Rules.{Numbers, rule_read}
 use Rattle.survey_core.specs.declared.job.Job.{Job}
+use Rattle.survey_core.specs.declared.seed.SeedError.{SeedError}
+use Rattle.survey_core.specs.declared.seed.SeedError.TheVariants as seed_error
+use Rattle.survey_core.specs.Profiles.{Settling}
+use Rattle.survey_core.specs.Seeds.{seed_read}
 use Rattle.haul_core.specs.declared.arrival.Arrival.{Arrival}
 use Rattle.haul_core.specs.declared.arrival.Arrival.TheVariants.{Closing, Offer}
 use Rattle.haul_core.specs.declared.census.Census.{Census}
@@ -26,9 +33,13 @@ use Rattle.haul_core.specs.Reports.{Reported}
 use Rattle.commands.specs.declared.complaint.Complaint.{Complaint}
 use Rattle.commands.specs.declared.complaint.Complaint.TheVariants.{Refused, OutOfMemory, ReadFailed, WriteFailed}
 use Rattle.commands.specs.declared.profile.ProfileNumbers.{ProfileNumbers}
-use Rattle.commands.specs.declared.refusal.Refusal.TheVariants.{BadList, RangeTooLarge, RangesOverlap}
+use Rattle.commands.specs.declared.refusal.Refusal.TheVariants.{BadList, BadRule, BirthZero, HorizonBelowPeriod, RangeTooLarge, RangesOverlap}
+use Rattle.commands.specs.declared.refusal.Refusal.TheVariants.{SeedBadByte, SeedTooLong}
 use Rattle.commands.specs.declared.soup_set.SoupSet.{SoupSet}
-use Rattle.commands.specs.Answers.{NeedsMemory, Reaches, Right, text_of}
+use Rattle.commands.specs.Answers.{NeedsMemory, Reaches, Right, given, text_of}
+use Rattle.commands.specs.Inputs.{rule_complaint, rule_named}
+use Rattle.commands.specs.Profiles.{profile_named, settling}
+use Rattle.commands.specs.Soup.{seed_complaint, seed_named}
 use Rattle.commands.specs.SoupSets.{AreRangesOf, job_named}
 use Rattle.commands.specs.Streams.{Stream, Has}
 use Rattle.commands.specs.Take.{AreNumbersOf, IsHaulOf, TellsAll, take_right, Bad_list, Complete, Overlapping, Too_large}
@@ -54,7 +65,8 @@ pub Stops_list : (job : Job) (set : SoupSet) (text : List ℕ) (error : ListErro
     → ((place : ℕ) → error ≡ list_error.BadList place → IsFirstFault text place) → (error ≡ list_error.Memory → IsListText text)
     → Stops (IsHaulOf job set) (list_complaint error)
 Stops_list job set text (list_error.BadList place) is complete fault memory =
-    let not_list : IsListText set.also → ⊥ = λ list. let bad : list_error.BadList place ≡ list_error.Memory = complete list.ranges list.words (list.spelled ∙ sym is) in cc in
+    let not_list : IsListText set.also → ⊥ =
+    λ list. let bad : list_error.BadList place ≡ list_error.Memory = complete list.ranges list.words (list.spelled ∙ sym is) in cc in
     Bad_list not_list place (subst (λ (t : List ℕ). IsFirstFault t place) is (fault place refl)) refl
 Stops_list job set text list_error.Memory is complete fault memory = λ complaint right. needs_memory job set complaint (subst IsListText is (memory refl)) right
 
@@ -74,10 +86,57 @@ Stops_given set numbers rule_text job OutOfMemory named stops = λ complaint rig
 Stops_given set numbers rule_text job ReadFailed named stops = absurd stops
 Stops_given set numbers rule_text job WriteFailed named stops = absurd stops
 
+abbrev IsRefusal : Complaint → Type 0
+IsRefusal (Refused refusal) = Unit {0}
+IsRefusal OutOfMemory = ⊥
+IsRefusal ReadFailed = ⊥
+IsRefusal WriteFailed = ⊥
+
+-- a seed, a profile or a rule is refused, and nothing else happens to them
+seed_refused : (answer : Result (List ℕ) SeedError) (complaint : Complaint) → result_map_both (λ seed. seed) seed_complaint answer ≡ Err complaint
+    → IsRefusal complaint
+seed_refused (Ok seed) complaint e = cc
+seed_refused (Err seed_error.TooLong) complaint e = let is : complaint ≡ Refused SeedTooLong = cc in subst IsRefusal (sym is) tt
+seed_refused (Err (seed_error.BadByte place)) complaint e = let is : complaint ≡ Refused (SeedBadByte place) = cc in subst IsRefusal (sym is) tt
+
+rule_refused : (answer : Result Numbers RuleError) (complaint : Complaint) → result_map_both (λ rule. rule) rule_complaint answer ≡ Err complaint
+    → IsRefusal complaint
+rule_refused (Ok rule) complaint e = cc
+rule_refused (Err (rule_error.BadRule place)) complaint e = let is : complaint ≡ Refused (BadRule place) = cc in subst IsRefusal (sym is) tt
+rule_refused (Err rule_error.BirthZero) complaint e = let is : complaint ≡ Refused BirthZero = cc in subst IsRefusal (sym is) tt
+
+profile_refused : (within : Bool) (profile : Settling) (complaint : Complaint)
+    → cond {A = Result Settling Complaint} within (Ok profile) (Err (Refused HorizonBelowPeriod)) ≡ Err complaint → IsRefusal complaint
+profile_refused true profile complaint e = cc
+profile_refused false profile complaint e = let is : complaint ≡ Refused HorizonBelowPeriod = cc in subst IsRefusal (sym is) tt
+
+given_refused : {A B : Type 0} (r : Result A Complaint) (next : A → Result B Complaint) (complaint : Complaint)
+    → ((c : Complaint) → r ≡ Err c → IsRefusal c) → ((x : A) (c : Complaint) → next x ≡ Err c → IsRefusal c) → given r next ≡ Err complaint
+    → IsRefusal complaint
+given_refused (Ok x) next complaint own more e = more x complaint e
+given_refused (Err c) next complaint own more e =
+    let is : c ≡ complaint = cc in
+    own complaint (ap Err is)
+
+job_refused : (set : SoupSet) (numbers : ProfileNumbers) (rule_text : List ℕ) (complaint : Complaint) → job_named set numbers rule_text ≡ Err complaint
+    → IsRefusal complaint
+job_refused set numbers rule_text complaint =
+    given_refused (seed_named set.seed) (λ seed. given (profile_named numbers) (λ profile. given (rule_named rule_text) (λ rule. job_of seed profile rule)))
+    complaint (λ c e. seed_refused (seed_read set.seed) c e)
+    (λ seed c. given_refused (profile_named numbers) (λ profile. given (rule_named rule_text) (λ rule. job_of seed profile rule)) c
+    (λ c e. profile_refused (nat_le numbers.period numbers.horizon) (settling numbers) c e)
+    (λ profile c. given_refused (rule_named rule_text) (λ rule. job_of seed profile rule) c (λ c e. rule_refused (rule_read rule_text) c e) (λ rule c e. cc)))
+  where
+    job_of : List ℕ → Settling → Numbers → Result Job Complaint
+    job_of seed profile rule = Ok (record { seed = seed; profile = profile; rule = rule })
+
 -- what makes up the job is refused
 pub Stops_job : (set : SoupSet) (numbers : ProfileNumbers) (rule_text : List ℕ) (complaint : Complaint) → job_named set numbers rule_text ≡ Err complaint
     → Stops (take_right set numbers rule_text) complaint
-Stops_job set numbers rule_text complaint refused = ?
+Stops_job set numbers rule_text (Refused refusal) refused = rw refused refl
+Stops_job set numbers rule_text OutOfMemory refused = absurd (job_refused set numbers rule_text OutOfMemory refused)
+Stops_job set numbers rule_text ReadFailed refused = absurd (job_refused set numbers rule_text ReadFailed refused)
+Stops_job set numbers rule_text WriteFailed refused = absurd (job_refused set numbers rule_text WriteFailed refused)
 
 -- what is right for the job is right
 pub right_given : (set : SoupSet) (numbers : ProfileNumbers) (rule_text : List ℕ) (job : Job) (text : List ℕ) → job_named set numbers rule_text ≡ Ok job
@@ -116,7 +175,8 @@ small_from ranges never = record {
 
 -- a report more
 pub offered_more : (old new : Held) (report : Reported) (n : ℕ) (numbers : List ℕ) → IsOffered numbers old → new.terms ≡ old.terms → IsOwn old.terms.job report
-    → report.number ≡ n → ((arrivals : List Arrival) → StandsFor arrivals old → StandsFor (arrivals ++ Offer report ∷ []) new) → IsOffered (numbers ++ n ∷ []) new
+    → report.number ≡ n → ((arrivals : List Arrival) → StandsFor arrivals old → StandsFor (arrivals ++ Offer report ∷ []) new)
+    → IsOffered (numbers ++ n ∷ []) new
 offered_more old new report n numbers h terms own is stands = record {
   reports = h.reports ++ report ∷ [];
   own = subst (λ (t : Terms). All (IsOwn t.job) (h.reports ++ report ∷ [])) (sym terms) (All-push (IsOwn old.terms.job) h.reports report h.own own);
