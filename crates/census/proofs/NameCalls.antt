@@ -1,5 +1,5 @@
 -- What the calls of `name` ask for.
-use Rattle.std.proofs.Common.{◌≡◌, ◌∙◌, ◌<◌, ◌≤◌, ◌++◌, ◌&&◌, ◌^◌, ℕ, pos, Bool, false, cond, Option, None, Some, List, [], ◌∷◌, codes}
+use Rattle.std.proofs.Common.{◌≡◌, ◌∙◌, ◌<◌, ◌≤◌, ◌++◌, ◌^◌, ℕ, pos, Bool, false, cond, Option, None, Some, List, [], ◌∷◌, codes}
 use Rattle.std.proofs.Common.{nat_le, refl, ap, ap₂, arith, option_and_then}
 use Rattle.std.proofs.lemmas.Bool.{le-leb}
 use Rattle.std.specs.Str.Parse.{IsNumeral, digits_value}
@@ -12,7 +12,6 @@ use Rattle.clap.specs.Lexer.{without_minus}
 use Rattle.clap.specs.ValueTests.{accepts}
 use Rattle.clap.specs.Walk.{Held, has_row, nothing_held, reacted}
 use Rattle.clap.specs.declared.builder.value_parser.ValueParser.TheVariants.{Signed}
-use Rattle.clap.specs.declared.error.kind.ErrorKind.{ErrorKind}
 use Rattle.clap.specs.declared.error.kind.ErrorKind.TheVariants.{ArgumentConflict, ValueValidation}
 use Rattle.clap.proofs.OnLiterals.{clap_on_literals}
 use Rattle.commands.specs.declared.request.Request.{Request}

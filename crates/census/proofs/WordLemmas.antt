@@ -14,9 +14,11 @@ use Rattle.clap.proofs.OnLiterals.{clap_on_literals}
 use Rattle.clap.proofs.WalkLemmas.{both, one_text-rows}
 use Rattle.commands.specs.declared.profile.ProfileNumbers.{ProfileNumbers}
 use Rattle.commands.specs.declared.request.Request.{Request}
-use Rattle.commands.specs.declared.request.Request.TheVariants.{Run, Name, Show, Soup}
+use Rattle.commands.specs.declared.request.Request.TheVariants.{Run, Name, Show, Soup, Take}
+use Rattle.commands.specs.declared.soup_set.SoupSet.{SoupSet}
 use Rattle.census.specs.Application.{census_app}
-use Rattle.census.specs.Words.{asked_by, asks_version, command_of, name_in, profile_in, request_in, number_in, number_of, run_in, show_in, soup_in}
+use Rattle.census.specs.Words.{asked_by, asks_version, command_of, name_in, profile_in, request_in, number_in, number_of, run_in, set_in, set_of_four}
+use Rattle.census.specs.Words.{show_in, soup_in, take_in}
 
 digits_pass : (ds : List ℕ) → AllDigits 10 ds → list_all (λ d. nat_lt (digit_value d) 10) ds ≡ true
 digits_pass [] h = refl
@@ -83,6 +85,18 @@ run_in-is rows n rule is_n is_rule = rw (is_n, is_rule) refl
 pub name_in-is : (rows : List Row) (profile : Option ProfileNumbers) (rule : Option Text) → profile ≡ profile_in rows → rule ≡ first_of (codes "rule") rows
     → name_in rows ≡ option_and_then (λ numbers. option_map (Name numbers) rule) profile
 name_in-is rows profile rule is_profile is_rule = rw (← is_profile, ← is_rule) refl
+
+-- a set of soups, from its four values
+pub set_in-is : (rows : List Row) (seed : Option Text) (first count : Option ℕ) (also : Option Text) → seed ≡ first_of (codes "seed") rows
+    → first ≡ number_in 1099511627776 (codes "first") rows → count ≡ number_in 16777216 (codes "count") rows → also ≡ first_of (codes "also") rows
+    → set_in rows ≡ set_of_four seed first count also
+set_in-is rows seed first count also is_seed is_first is_count is_also = sym (λ i. set_of_four (is_seed i) (is_first i) (is_count i) (is_also i))
+
+-- what `take` is asked for, from its three values
+pub take_in-is : (rows : List Row) (set : Option SoupSet) (profile : Option ProfileNumbers) (rule : Option Text) → set ≡ set_in rows → profile ≡ profile_in rows
+    → rule ≡ first_of (codes "rule") rows
+    → take_in rows ≡ option_and_then (λ soups. option_and_then (λ numbers. option_map (Take soups numbers) rule) profile) set
+take_in-is rows set profile rule is_set is_profile is_rule = rw (← is_set, ← is_profile, ← is_rule) refl
 
 -- what `soup` is asked for, from its two values
 pub soup_in-is : (rows : List Row) (n : Option ℕ) (seed : Option Text) → n ≡ number_in 1099511627775 (codes "N") rows → seed ≡ first_of (codes "seed") rows

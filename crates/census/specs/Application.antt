@@ -87,6 +87,55 @@ with_looks app = with_rule (with_rule app stride_argument) limit_argument
 abbrev pub name_shape : Shape
 name_shape = (with_rule (with_looks (with_rest (new_app (codes "name")))) rule_argument).top
 
+-- the option --first: a number up to 2^40, 0 by default
+abbrev pub first_argument : Rule
+first_argument = record (new_rule (codes "first")) {
+  long = Some (codes "first");
+  value_names = 1;
+  parser = Some (Unsigned 0 1099511627776);
+  defaults = codes "0" ∷ [];
+}
+
+-- the option --count: a number up to 2^24, which must be there
+abbrev pub count_argument : Rule
+count_argument = record (new_rule (codes "count")) {
+  long = Some (codes "count");
+  value_names = 1;
+  required = true;
+  parser = Some (Signed (pos 0) (pos 16777216));
+}
+
+-- the option --also, of which the default is the empty list
+abbrev pub also_argument : Rule
+also_argument = record (new_rule (codes "also")) {
+  long = Some (codes "also");
+  value_names = 1;
+  defaults = [] ∷ [];
+}
+
+-- the option --workers: 1 alone for now
+abbrev pub workers_argument : Rule
+workers_argument = record (new_rule (codes "workers")) {
+  long = Some (codes "workers");
+  value_names = 1;
+  parser = Some (Signed (pos 1) (pos 1));
+  defaults = codes "1" ∷ [];
+}
+
+-- a command with the options on which soups, and with those on how they are run
+abbrev pub with_first : App → App
+with_first app = with_rule (with_rule app seed_argument) first_argument
+
+abbrev pub with_count : App → App
+with_count app = with_rule (with_rule app count_argument) also_argument
+
+abbrev pub with_workers : App → App
+with_workers app = with_rule (with_rule app rule_argument) workers_argument
+
+-- `take`
+abbrev pub take_shape : Shape
+take_shape = (with_workers (with_looks (with_rest (with_count (with_first (new_app (codes "take"))))))).top
+
 -- a command must be named
 abbrev pub census_shape : Shape
 census_shape = record ((new_app (codes "census")).top) { subcommand_required = true }
@@ -95,6 +144,10 @@ census_shape = record ((new_app (codes "census")).top) { subcommand_required = t
 abbrev pub pattern_app : App
 pattern_app = with_subcommand (with_subcommand (record { top = census_shape; subs = [] }) run_shape) name_shape
 
+-- the same with those that print a pattern
+abbrev pub printing_app : App
+printing_app = with_subcommand (with_subcommand pattern_app show_shape) soup_shape
+
 -- the program
 abbrev pub census_app : App
-census_app = with_subcommand (with_subcommand pattern_app show_shape) soup_shape
+census_app = with_subcommand printing_app take_shape

@@ -3,7 +3,7 @@ use Rattle.std.specs.Prelude.{◌≡◌, ◌≢◌, ◌<◌, ◌≤◌, ◌++◌
 use Rattle.std.specs.Str.Parse.{IsNumeral, digits_value, starts_with_minus}
 use Rattle.clap.specs.Words.{Text}
 use Rattle.commands.specs.declared.request.Request.{Request}
-use Rattle.commands.specs.declared.request.Request.TheVariants.{Run, Name, Show, Soup, Version}
+use Rattle.commands.specs.declared.request.Request.TheVariants.{Run, Name, Show, Soup, Take, Version}
 use Rattle.census.specs.Words.{asked_by}
 
 -- digits of a number up to a limit
@@ -94,6 +94,45 @@ pub record AsksForSoup : Type 0 where
       → asked_by (program ∷ codes "soup" ∷ n ∷ codes "--seed" ∷ one ∷ codes "--seed" ∷ other ∷ []) ≡ None
   pub number_missing : (program : Text) → asked_by (program ∷ codes "soup" ∷ []) ≡ None
 
+-- `take` over these soups of a seed, with these further ranges, under the standard profile and this rule
+abbrev pub Takes : Text → ℕ → ℕ → Text → Text → Option Request
+Takes seed first count also rule =
+    Some (Take (record { seed = seed; first = first; count = count; also = also })
+    (record { period = 64; horizon = 512; stride = 101; limit = 30300 }) rule)
+
+-- `take --count C` alone, with each option after it alone in the next word, and with all in this order; each number lies in its
+-- range, there is one worker, and `--count` stands once
+pub record AsksToTake : Type 0 where
+  pub alone : (program c : Text) → IsNumberUpTo 16777216 c
+      → asked_by (program ∷ codes "take" ∷ codes "--count" ∷ c ∷ []) ≡ Takes [] 0 (digits_value 10 c) [] (codes "b3s23")
+  pub seed : (program c text : Text) → IsNumberUpTo 16777216 c → IsValue text
+      → asked_by (program ∷ codes "take" ∷ codes "--count" ∷ c ∷ codes "--seed" ∷ text ∷ []) ≡ Takes text 0 (digits_value 10 c) [] (codes "b3s23")
+  pub first : (program c n : Text) → IsNumberUpTo 16777216 c → IsNumberUpTo 1099511627776 n
+      → asked_by (program ∷ codes "take" ∷ codes "--count" ∷ c ∷ codes "--first" ∷ n ∷ [])
+      ≡ Takes [] (digits_value 10 n) (digits_value 10 c) [] (codes "b3s23")
+  pub also : (program c text : Text) → IsNumberUpTo 16777216 c → IsValue text
+      → asked_by (program ∷ codes "take" ∷ codes "--count" ∷ c ∷ codes "--also" ∷ text ∷ []) ≡ Takes [] 0 (digits_value 10 c) text (codes "b3s23")
+  pub workers : (program c n : Text) → IsNumberUpTo 16777216 c → IsNumberFromTo 1 1 n
+      → asked_by (program ∷ codes "take" ∷ codes "--count" ∷ c ∷ codes "--workers" ∷ n ∷ []) ≡ Takes [] 0 (digits_value 10 c) [] (codes "b3s23")
+  pub rule : (program c text : Text) → IsNumberUpTo 16777216 c → IsValue text
+      → asked_by (program ∷ codes "take" ∷ codes "--count" ∷ c ∷ codes "--rule" ∷ text ∷ []) ≡ Takes [] 0 (digits_value 10 c) [] text
+  pub profile : (program c p h k t : Text) → IsNumberUpTo 16777216 c → IsNumberFromTo 1 64 p → IsNumberUpTo 4096 h → IsNumberFromTo 1 10000 k
+      → IsNumberUpTo 100000 t
+      → asked_by (program ∷ codes "take" ∷ codes "--count" ∷ c ∷ codes "--period" ∷ p ∷ codes "--horizon" ∷ h ∷ codes "--stride" ∷ k ∷ codes "--limit" ∷ t
+      ∷ [])
+      ≡ Some (Take (record { seed = []; first = 0; count = digits_value 10 c; also = [] })
+      (record { period = digits_value 10 p; horizon = digits_value 10 h; stride = digits_value 10 k; limit = digits_value 10 t }) (codes "b3s23"))
+  pub too_many : (program c : Text) → IsNumeral 10 c → 16777216 < digits_value 10 c → asked_by (program ∷ codes "take" ∷ codes "--count" ∷ c ∷ []) ≡ None
+  pub too_far : (program c n : Text) → IsNumberUpTo 16777216 c → IsNumeral 10 n → 1099511627776 < digits_value 10 n
+      → asked_by (program ∷ codes "take" ∷ codes "--count" ∷ c ∷ codes "--first" ∷ n ∷ []) ≡ None
+  pub more_workers : (program c n : Text) → IsNumberUpTo 16777216 c → IsNumeral 10 n → 1 < digits_value 10 n
+      → asked_by (program ∷ codes "take" ∷ codes "--count" ∷ c ∷ codes "--workers" ∷ n ∷ []) ≡ None
+  pub no_worker : (program c n : Text) → IsNumberUpTo 16777216 c → IsNumeral 10 n → digits_value 10 n < 1
+      → asked_by (program ∷ codes "take" ∷ codes "--count" ∷ c ∷ codes "--workers" ∷ n ∷ []) ≡ None
+  pub count_twice : (program one other : Text) → IsNumberUpTo 16777216 one → IsNumberUpTo 16777216 other
+      → asked_by (program ∷ codes "take" ∷ codes "--count" ∷ one ∷ codes "--count" ∷ other ∷ []) ≡ None
+  pub count_missing : (program : Text) → asked_by (program ∷ codes "take" ∷ []) ≡ None
+
 -- `--version` alone
 abbrev pub AsksForVersion : Type 0
 AsksForVersion = (program : Text) → asked_by (program ∷ codes "--version" ∷ []) ≡ Some Version
@@ -102,10 +141,11 @@ AsksForVersion = (program : Text) → asked_by (program ∷ codes "--version" �
 pub record AsksForNothing : Type 0 where
   pub no_command : (program : Text) → asked_by (program ∷ []) ≡ None
   pub unknown : (program word : Text) (words : List Text) → IsValue word → word ≢ codes "run" → word ≢ codes "name" → word ≢ codes "show"
-      → word ≢ codes "soup" → word ≢ codes "help"
+      → word ≢ codes "soup" → word ≢ codes "take" → word ≢ codes "help"
       → asked_by (program ∷ word ∷ words) ≡ None
   pub help : (program : Text) → asked_by (program ∷ codes "--help" ∷ []) ≡ None
   pub run_help : (program : Text) → asked_by (program ∷ codes "run" ∷ codes "--help" ∷ []) ≡ None
   pub name_help : (program : Text) → asked_by (program ∷ codes "name" ∷ codes "--help" ∷ []) ≡ None
   pub show_help : (program : Text) → asked_by (program ∷ codes "show" ∷ codes "--help" ∷ []) ≡ None
   pub soup_help : (program : Text) → asked_by (program ∷ codes "soup" ∷ codes "--help" ∷ []) ≡ None
+  pub take_help : (program : Text) → asked_by (program ∷ codes "take" ∷ codes "--help" ∷ []) ≡ None

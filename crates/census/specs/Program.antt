@@ -5,7 +5,7 @@ use Rattle.plane_core.specs.Out.{Output}
 use Rattle.commands.specs.declared.complaint.Complaint.{Complaint}
 use Rattle.commands.specs.declared.complaint.Complaint.TheVariants.{Refused, OutOfMemory, ReadFailed, WriteFailed}
 use Rattle.commands.specs.declared.request.Request.{Request}
-use Rattle.commands.specs.Answers.{Answer, IsInput, text_of}
+use Rattle.commands.specs.Answers.{Answer, IsInput, NeedsMemory, text_of}
 use Rattle.commands.specs.Complaints.{line_of, status_of}
 use Rattle.commands.specs.Requests.{reads_input, right_for}
 use Rattle.commands.specs.Status.{exit_code}
@@ -44,11 +44,11 @@ IsFront (Some xs) (Some ys) text = (rest : List ℕ) × (ys ++ rest ≡ xs ++ te
 
 -- A complaint may end a request: a refusal if that is right for it, memory that runs out, or a stream that fails. The writer
 -- holds nothing of it, or a front of the right text where memory ran out or a write failed. Memory hides a refusal only if
--- the input is looked at, and only a text is written.
+-- the input is looked at or memory is needed for it, and only a text is written.
 abbrev pub MayEnd : Request → List ℕ → Option (List ℕ) → Option (List ℕ) → Complaint → Type 0
 MayEnd request bytes before after (Refused refusal) = right_for request bytes (Err (Refused refusal)) × IsFront before after []
 MayEnd request bytes before after OutOfMemory =
-    (reads_input request ≡ false → (complaint : Complaint) → ¬ right_for request bytes (Err complaint))
+    (reads_input request ≡ false → (complaint : Complaint) → right_for request bytes (Err complaint) → NeedsMemory complaint)
     × ((answer : Answer) → right_for request bytes answer → IsFront before after (text_of answer))
 MayEnd request bytes before after ReadFailed = (reads_input request ≡ true) × IsFront before after []
 MayEnd request bytes before after WriteFailed = (text : List ℕ) × right_for request bytes (Ok text) × IsFront before after text

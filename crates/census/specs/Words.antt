@@ -8,7 +8,8 @@ use Rattle.clap.specs.ValueTests.{is_numeral}
 use Rattle.commands.specs.declared.complaint.Complaint.TheVariants as complaint
 use Rattle.commands.specs.declared.profile.ProfileNumbers.{ProfileNumbers}
 use Rattle.commands.specs.declared.request.Request.{Request}
-use Rattle.commands.specs.declared.request.Request.TheVariants.{Run, Name, Show, Soup, Version}
+use Rattle.commands.specs.declared.request.Request.TheVariants.{Run, Name, Show, Soup, Take, Version}
+use Rattle.commands.specs.declared.soup_set.SoupSet.{SoupSet}
 use Rattle.commands.specs.declared.status.Status.{Status}
 use Rattle.commands.specs.declared.status.Status.TheVariants.{OutOfMemory}
 use Rattle.commands.specs.Complaints.{line_of}
@@ -56,6 +57,21 @@ show_in rows = option_map Show (first_of (codes "CODE") rows)
 abbrev pub soup_in : List Row → Option Request
 soup_in rows = option_and_then (λ n. option_map (λ seed. Soup seed n) (first_of (codes "seed") rows)) (number_in 1099511627775 (codes "N") rows)
 
+-- a set of soups, if all four of its parts are there
+abbrev pub set_of_four : Option Text → Option ℕ → Option ℕ → Option Text → Option SoupSet
+set_of_four (Some seed) (Some first) (Some count) (Some also) = Some (record { seed = seed; first = first; count = count; also = also })
+set_of_four _ _ _ _ = None
+
+-- a set of soups, with what was found for its options
+abbrev pub set_in : List Row → Option SoupSet
+set_in rows = set_of_four (first_of (codes "seed") rows) (number_in 1099511627776 (codes "first") rows) (number_in 16777216 (codes "count") rows)
+    (first_of (codes "also") rows)
+
+-- `take`, with what was found for its options
+abbrev pub take_in : List Row → Option Request
+take_in rows =
+    option_and_then (λ set. option_and_then (λ profile. option_map (Take set profile) (first_of (codes "rule") rows)) (profile_in rows)) (set_in rows)
+
 -- the command of this name, with its values
 abbrev pub request_in : Text × List Row → Option Request
 request_in found =
@@ -63,6 +79,7 @@ request_in found =
     else if bytes_eq found.0 (codes "show") then show_in found.1
     else if bytes_eq found.0 (codes "soup") then soup_in found.1
     else if bytes_eq found.0 (codes "name") then name_in found.1
+    else if bytes_eq found.0 (codes "take") then take_in found.1
     else None
 
 -- a request, if nothing is wrong with the words

@@ -1,7 +1,8 @@
 ghost use Rattle.std.specs.Prelude.{◌≡◌, false, IfOk};
 ghost use Rattle.clap.specs.Words.{app_of, rule_of, shape_of};
 ghost use Rattle.clap.specs.declared.builder.command.Command.TheViews.{out-Command as fields_of};
-ghost use Rattle.census.specs.Application.{census_app, pattern_app, code_argument, generations_argument, number_argument, rule_argument, run_shape, seed_argument, show_shape, soup_shape, name_shape, period_argument, horizon_argument, stride_argument, limit_argument, with_looks, with_rest};
+ghost use Rattle.census.specs.Application.{census_app, pattern_app, printing_app, code_argument, generations_argument, number_argument, rule_argument, run_shape, seed_argument, show_shape, soup_shape, name_shape, period_argument, horizon_argument, stride_argument, limit_argument, with_looks, with_rest};
+ghost use Rattle.census.specs.Application.{also_argument, count_argument, first_argument, take_shape, with_count, with_first, with_workers, workers_argument};
 
 use clap::builder::ValueParser;
 use clap::{Arg, Command, value_parser};
@@ -18,6 +19,13 @@ const LIFE: &str = "b3s23";
 pub fn census_command<'a>(alloc: Global) -> Result<Command<'a>, AllocError>
     ensures { IfOk result (λ command. app_of command ≡ census_app) }
 {
+    printing_commands(alloc)?.subcommand(take_command(alloc)?)
+}
+
+/// The program with the commands that read a pattern, and those that print one.
+fn printing_commands<'a>(alloc: Global) -> Result<Command<'a>, AllocError>
+    ensures { IfOk result (λ command. app_of command ≡ printing_app) }
+{
     pattern_commands(alloc)?
         .subcommand(show_command(alloc)?)?
         .subcommand(soup_command(alloc)?)
@@ -29,7 +37,8 @@ fn pattern_commands<'a>(alloc: Global) -> Result<Command<'a>, AllocError>
 {
     Command::new(alloc, "census")
         .about(
-            "Runs patterns of Conway's Game of Life and its kin, names and draws their objects, and makes soups",
+            "Runs patterns of Conway's Game of Life and its kin, names and draws their objects, makes soups, and counts what \
+             they leave",
         )
         .after_help("`census --version` prints the name and version.")
         .subcommand_required(true)
@@ -120,6 +129,53 @@ fn soup_command<'a>(alloc: Global) -> Result<Command<'a>, AllocError>
         .after_help("Example: census soup --seed abc 12")
         .arg(number_argument(alloc))?
         .arg(seed_argument(alloc))
+}
+
+fn take_command<'a>(alloc: Global) -> Result<Command<'a>, AllocError>
+    ensures shape { IfOk result (λ command. shape_of command ≡ take_shape) }
+    ensures local { IfOk result (λ command. (fields_of command).has_globals ≡ false) }
+{
+    let command = Command::new(alloc, "take")
+        .about("Runs soups until they have settled, and counts their objects")
+        .long_about(
+            "Runs soups until they have settled, and counts their objects. Prints the haul: for each apgcode how many objects \
+             have it, and the least three numbers of soups that left one.\n\n\
+             The soups are those of SEED with the numbers from FIRST on, COUNT of them, and those of the ranges in LIST. No \
+             two ranges may share a number. When a soup has settled is said as for `name`.",
+        )
+        .after_help("Example: census take --seed abc --count 100");
+    let command = with_count(alloc, with_first(alloc, command)?)?;
+    with_workers(alloc, with_looks(alloc, with_rest(alloc, command)?)?)
+}
+
+/// The command with the options on the seed and the first number.
+fn with_first<'a>(alloc: Global, command: Command<'a>) -> Result<Command<'a>, AllocError>
+    ensures app { IfOk result (λ new. app_of new ≡ with_first (app_of command.entry)) }
+    ensures local { (fields_of command.entry).has_globals ≡ false → IfOk result (λ new. (fields_of new).has_globals ≡ false) }
+{
+    command
+        .arg(seed_argument(alloc))?
+        .arg(first_argument(alloc))
+}
+
+/// The command with the options on how many soups, and on further ranges.
+fn with_count<'a>(alloc: Global, command: Command<'a>) -> Result<Command<'a>, AllocError>
+    ensures app { IfOk result (λ new. app_of new ≡ with_count (app_of command.entry)) }
+    ensures local { (fields_of command.entry).has_globals ≡ false → IfOk result (λ new. (fields_of new).has_globals ≡ false) }
+{
+    command
+        .arg(count_argument(alloc))?
+        .arg(also_argument(alloc))
+}
+
+/// The command with the options on the rule and the workers.
+fn with_workers<'a>(alloc: Global, command: Command<'a>) -> Result<Command<'a>, AllocError>
+    ensures app { IfOk result (λ new. app_of new ≡ with_workers (app_of command.entry)) }
+    ensures local { (fields_of command.entry).has_globals ≡ false → IfOk result (λ new. (fields_of new).has_globals ≡ false) }
+{
+    command
+        .arg(rule_argument(alloc))?
+        .arg(workers_argument(alloc))
 }
 
 fn code_argument<'a>(alloc: Global) -> Arg<'a>
@@ -222,4 +278,51 @@ fn seed_argument<'a>(alloc: Global) -> Arg<'a>
         .value_name("TEXT")
         .default_value("")
         .help("The seed: at most 64 visible ASCII characters")
+}
+
+fn first_argument<'a>(alloc: Global) -> Arg<'a>
+    ensures rule { rule_of result ≡ first_argument }
+    ensures local { result.global ≡ false }
+{
+    Arg::new(alloc, "first")
+        .long("first")
+        .value_name("FIRST")
+        .value_parser(ValueParser::unsigned(0, 1_099_511_627_776))
+        .default_value("0")
+        .help("The first number of a soup, from 0 to 1099511627776")
+}
+
+fn count_argument<'a>(alloc: Global) -> Arg<'a>
+    ensures rule { rule_of result ≡ count_argument }
+    ensures local { result.global ≡ false }
+{
+    Arg::new(alloc, "count")
+        .long("count")
+        .value_name("COUNT")
+        .required(true)
+        .value_parser(value_parser!(u32).range(0..=16_777_216))
+        .help("How many soups, from 0 to 16777216")
+}
+
+fn also_argument<'a>(alloc: Global) -> Arg<'a>
+    ensures rule { rule_of result ≡ also_argument }
+    ensures local { result.global ≡ false }
+{
+    Arg::new(alloc, "also")
+        .long("also")
+        .value_name("LIST")
+        .default_value("")
+        .help("Further ranges of numbers, as 100+20,500+1: the numbers 100 to 119, and 500")
+}
+
+fn workers_argument<'a>(alloc: Global) -> Arg<'a>
+    ensures rule { rule_of result ≡ workers_argument }
+    ensures local { result.global ≡ false }
+{
+    Arg::new(alloc, "workers")
+        .long("workers")
+        .value_name("WORKERS")
+        .value_parser(value_parser!(u32).range(1..=1))
+        .default_value("1")
+        .help("How many workers run soups at a time: 1. More come later")
 }

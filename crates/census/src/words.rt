@@ -3,8 +3,8 @@ ghost use Rattle.clap.specs.Words.{found_of, kind_of, rows_of, subcommand_rows_o
 ghost use Rattle.commands.specs.Profiles.{AreInRange};
 ghost use Rattle.commands.specs.Requests.{IsWithinLimits, reads_input};
 ghost use Rattle.commands.specs.Streams.{stream};
-ghost use Rattle.census.specs.Calls.{AsksForNothing, AsksForSoup, AsksForVersion, AsksToName, AsksToRun, AsksToShow};
-ghost use Rattle.census.specs.Words.{DoesWords, asked_by, asks_version, name_in, number_from, number_in, profile_in, request_in, run_in, show_in, soup_in};
+ghost use Rattle.census.specs.Calls.{AsksForNothing, AsksForSoup, AsksForVersion, AsksToName, AsksToRun, AsksToShow, AsksToTake};
+ghost use Rattle.census.specs.Words.{DoesWords, asked_by, asks_version, name_in, number_from, number_in, profile_in, request_in, run_in, set_in, show_in, soup_in, take_in};
 
 use crate::application::census_command;
 use clap::ArgMatches;
@@ -13,6 +13,7 @@ use commands::complaint::Complaint;
 use commands::profile::ProfileNumbers;
 use commands::request::{Request, do_request};
 use commands::run::GENERATION_LIMIT;
+use commands::soup_set::SoupSet;
 use commands::status::Status;
 use commands::word::Word;
 use plane_core::output::Out;
@@ -22,6 +23,12 @@ use std::io::{Read, Write};
 
 /// The greatest number of a soup: 2^40 - 1.
 const SOUP_LIMIT: u64 = 1_099_511_627_775;
+
+/// The greatest first number of a range: 2^40, after which only a range without a number can begin.
+const FIRST_LIMIT: u64 = 1_099_511_627_776;
+
+/// The most numbers of a haul: 2^24.
+const COUNT_LIMIT: u32 = 16_777_216;
 
 /// Why words give no request.
 #[derive(Debug, Drop)]
@@ -126,6 +133,12 @@ pub fn asks_for_soup()
     ensures { AsksForSoup }
 {}
 
+/// A law of all words: what the calls of `take` ask for.
+#[tactic(auto, using(crate::proofs::TakeCalls::asks_to_take))]
+pub fn asks_to_take()
+    ensures { AsksToTake }
+{}
+
 /// A law of all words: what `--version` asks for.
 #[tactic(auto, using(crate::proofs::CallLemmas::asks_for_version))]
 pub fn asks_for_version()
@@ -158,6 +171,7 @@ fn request_in<'a>(matches: &ArgMatches<'a>) -> Option<Request<'a>>
         Some(("name", found)) => name_in(found),
         Some(("show", found)) => show_in(found),
         Some(("soup", found)) => soup_in(found),
+        Some(("take", found)) => take_in(found),
         _ => None,
     }
 }
@@ -228,6 +242,38 @@ fn soup_in<'a>(found: &ArgMatches<'a>) -> Option<Request<'a>>
     Some(Request::Soup {
         seed: Word::new(seed),
         number,
+    })
+}
+
+/// `take` with the values of its options.
+fn take_in<'a>(found: &ArgMatches<'a>) -> Option<Request<'a>>
+    ensures request { result ≡ take_in (rows_of (found_of found.now)) }
+    ensures limits { IfSome result IsWithinLimits }
+{
+    // `clap` has seen to it that there is one worker.
+    let set = set_in(found)?;
+    let profile = profile_in(found)?;
+    let rule = found.get_str("rule")?;
+    Some(Request::Take {
+        set,
+        profile,
+        rule: Word::new(rule),
+    })
+}
+
+/// The set of soups.
+fn set_in<'a>(found: &ArgMatches<'a>) -> Option<SoupSet<'a>>
+    ensures { result ≡ set_in (rows_of (found_of found.now)) }
+{
+    let seed = found.get_str("seed")?;
+    let first = large_number_in(found, "first", FIRST_LIMIT)?;
+    let count = number_in(found, "count", COUNT_LIMIT)?;
+    let also = found.get_str("also")?;
+    Some(SoupSet {
+        seed: Word::new(seed),
+        first,
+        count: u64::from(count),
+        also: Word::new(also),
     })
 }
 

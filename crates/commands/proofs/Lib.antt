@@ -1,3 +1,5 @@
 pub mod AnswerLemmas
 pub mod NameLemmas
+pub mod NumberLemmas
 pub mod ShowLemmas
+pub mod TakeLemmas

@@ -45,6 +45,6 @@ Reaches_text word text (Fault (ShortRun place)) output is faults nothing =
     (show_answer-fault word text (ShortRun place) is ((faults (ShortRun place)).0 refl), nothing)
 Reaches_text word text (Fault Empty) output is faults nothing = (show_answer-fault word text Empty is ((faults Empty).0 refl), nothing)
 Reaches_text word text Memory output is faults nothing = (
-  λ unread complaint refused. faultless_refused word complaint (show_answer-faultless word text is faults) refused,
+  λ unread complaint refused. absurd (faultless_refused word complaint (show_answer-faultless word text is faults) refused),
   λ answer told. ([], text_of answer, refl, nothing),
 )

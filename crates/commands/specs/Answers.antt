@@ -3,6 +3,7 @@ use Rattle.std.specs.Prelude.{◌≡◌, ℕ, Bool, true, false, List, [], Optio
 use Rattle.std.specs.Result.{result_unwrap_or}
 use Rattle.commands.specs.declared.complaint.Complaint.{Complaint}
 use Rattle.commands.specs.declared.complaint.Complaint.TheVariants.{Refused, OutOfMemory, ReadFailed, WriteFailed}
+use Rattle.commands.specs.declared.refusal.Refusal.TheVariants.{RangeTooLarge, RangesOverlap}
 use Rattle.commands.specs.declared.status.Status.{Status}
 use Rattle.commands.specs.declared.status.Status.TheVariants.{Done}
 use Rattle.commands.specs.Complaints.{line_of, status_of}
@@ -50,13 +51,20 @@ HasRight right output = (text : List ℕ) × right (Ok text) × Has output text
 abbrev pub HasFrontOfRight : Right → Stream → Type 0
 HasFrontOfRight right output = (text : List ℕ) × right (Ok text) × HasFront output text
 
+-- the refusals for which memory is needed: ranges have to be kept to be looked at together
+abbrev pub NeedsMemory : Complaint → Type 0
+NeedsMemory (Refused RangeTooLarge) = Unit {0}
+NeedsMemory (Refused RangesOverlap) = Unit {0}
+NeedsMemory _ = ⊥
+
 -- What stands on standard output after an outcome: the text of a right answer if all was done, a front of it if memory
 -- ran out or a write failed, and else nothing. A refusal is a right answer. Only a text is written, only an input that is
--- read can fail to be, and memory that runs out hides a refusal only if the input is looked at.
+-- read can fail to be, and memory that runs out hides a refusal only if the input is looked at, or memory is needed for it.
 abbrev pub Reaches : Bool → Right → Outcome → Stream → Type 0
 Reaches reads right (Ok _) output = HasRight right output × (output.failed ≡ false)
 Reaches reads right (Err OutOfMemory) output =
-    (reads ≡ false → (complaint : Complaint) → ¬ right (Err complaint)) × ((answer : Answer) → right answer → HasFront output (text_of answer))
+    (reads ≡ false → (complaint : Complaint) → right (Err complaint) → NeedsMemory complaint)
+    × ((answer : Answer) → right answer → HasFront output (text_of answer))
 Reaches reads right (Err ReadFailed) output = (reads ≡ true) × Has output []
 Reaches reads right (Err WriteFailed) output = HasFrontOfRight right output × (output.failed ≡ true)
 Reaches reads right (Err (Refused refusal)) output = right (Err (Refused refusal)) × Has output []

@@ -5,6 +5,7 @@ use Rattle.commands.specs.declared.complaint.Complaint.TheVariants.{Refused, Out
 use Rattle.commands.specs.declared.refusal.Refusal.{Refusal}
 use Rattle.commands.specs.declared.refusal.Refusal.TheVariants.{BadByte, PatternTooLarge, BadRule, BirthZero, NotACode, CodeTooLong, CodeBadByte}
 use Rattle.commands.specs.declared.refusal.Refusal.TheVariants.{CodeShortRun, CodeEmpty, SeedTooLong, SeedBadByte, HorizonBelowPeriod}
+use Rattle.commands.specs.declared.refusal.Refusal.TheVariants.{BadList, RangeTooLarge, RangesOverlap}
 use Rattle.commands.specs.declared.status.Status.{Status}
 use Rattle.commands.specs.declared.status.Status.TheVariants as status
 
@@ -22,6 +23,9 @@ refusal_line CodeEmpty = codes "census: code without a live cell\n"
 refusal_line SeedTooLong = codes "census: seed longer than 64 bytes\n"
 refusal_line (SeedBadByte place) = codes "census: bad byte in seed at " ++ decimal place ++ codes "\n"
 refusal_line HorizonBelowPeriod = codes "census: horizon below period\n"
+refusal_line (BadList place) = codes "census: bad range list at " ++ decimal place ++ codes "\n"
+refusal_line RangeTooLarge = codes "census: range too large\n"
+refusal_line RangesOverlap = codes "census: ranges overlap\n"
 
 -- the line of a complaint
 abbrev pub line_of : Complaint → List ℕ

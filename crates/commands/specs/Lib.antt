@@ -7,6 +7,9 @@ pub mod Requests
 pub mod Run
 pub mod Show
 pub mod Soup
+pub mod SoupSets
 pub mod Status
 pub mod Streams
+pub mod Take
+pub mod TakeSteps
 pub mod Version

@@ -1,7 +1,7 @@
 -- What a request asks for, and how doing it may end.
 use Rattle.std.specs.Prelude.{◌<◌, ◌≤◌, ◌^◌, ◌&&◌, ℕ, Bool, false, List, Option, is_ok}
 use Rattle.commands.specs.declared.request.Request.{Request}
-use Rattle.commands.specs.declared.request.Request.TheVariants.{Run, Name, Show, Soup, Version}
+use Rattle.commands.specs.declared.request.Request.TheVariants.{Run, Name, Show, Soup, Take, Version}
 use Rattle.commands.specs.declared.status.Status.{Status}
 use Rattle.commands.specs.Answers.{Ends, IsInput, Right, only}
 use Rattle.commands.specs.Inputs.{rule_named}
@@ -11,6 +11,7 @@ use Rattle.commands.specs.Run.{run_answer}
 use Rattle.commands.specs.Show.{show_answer}
 use Rattle.commands.specs.Soup.{soup_answer}
 use Rattle.commands.specs.Streams.{Stream}
+use Rattle.commands.specs.Take.{take_right}
 use Rattle.commands.specs.Version.{version_answer}
 
 -- the numbers of a request are within their limits: at most 100,000 generations, numbers of profiles each in its range, and
@@ -20,6 +21,7 @@ IsWithinLimits (Run generations rule) = generations ≤ 100000
 IsWithinLimits (Name profile rule) = AreInRange profile
 IsWithinLimits (Show code) = Unit {0}
 IsWithinLimits (Soup seed number) = number < 2 ^ 40
+IsWithinLimits (Take set profile rule) = AreInRange profile
 IsWithinLimits Version = Unit {0}
 
 -- the command looks at its input: `run` does, if its rule is one, and `name`, if its profile is one too
@@ -28,14 +30,17 @@ reads_input (Run generations rule) = is_ok (rule_named rule)
 reads_input (Name profile rule) = is_ok (profile_named profile) && is_ok (rule_named rule)
 reads_input (Show code) = false
 reads_input (Soup seed number) = false
+reads_input (Take set profile rule) = false
 reads_input Version = false
 
--- which answers are right for a request, on an input: the finding of `name` is said by a relation, and the others compute
+-- which answers are right for a request, on an input: the finding of `name` and the haul of `take` are said
+-- by relations, and the others compute
 abbrev pub right_for : Request → List ℕ → Right
 right_for (Run generations rule) bytes = only (run_answer rule generations bytes)
 right_for (Name profile rule) bytes = name_right profile rule bytes
 right_for (Show code) bytes = only (show_answer code)
 right_for (Soup seed number) bytes = only (soup_answer seed number)
+right_for (Take set profile rule) bytes = take_right set profile rule
 right_for Version bytes = only version_answer
 
 -- a request was done on an input, and ended well

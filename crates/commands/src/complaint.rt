@@ -7,6 +7,7 @@ use crate::input::InputFault;
 use crate::refusal::Refusal;
 use crate::status::Status;
 use code_core::reader::{WechslerError, WechslerFault};
+use haul_core::range_list::ListError;
 use plane_core::output::{Out, WriteError};
 use plane_core::plaintext::{PlaintextError, PlaintextFault};
 use plane_core::rule::RuleError;
@@ -130,6 +131,19 @@ impl From<SeedError> for Complaint {
             SeedError::TooLong => Refusal::SeedTooLong,
             SeedError::BadByte { place } => Refusal::SeedBadByte { place },
         })
+    }
+}
+
+impl From<ListError> for Complaint {
+    ghost use Rattle.commands.specs.TakeSteps.{list_complaint};
+
+    ghost from_gives = { λ error complaint. complaint ≡ list_complaint error };
+
+    fn from(error: ListError) -> Complaint {
+        match error {
+            ListError::BadList { place } => Complaint::Refused(Refusal::BadList { place }),
+            ListError::Memory => Complaint::OutOfMemory,
+        }
     }
 }
 

@@ -24,8 +24,12 @@ pub mod run;
 pub mod show;
 /// `soup`: a random start pattern.
 pub mod soup;
+/// Sets of soups, as words ask for them.
+pub mod soup_set;
 /// How a command ended, as a shell sees it.
 pub mod status;
+/// `take`: the haul of a set of soups.
+pub mod take;
 #[cfg(test)]
 mod tests;
 /// `--version`: the program's name and version.

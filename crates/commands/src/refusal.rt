@@ -33,6 +33,12 @@ pub enum Refusal {
     SeedBadByte { place: usize },
     /// A profile whose horizon is below its period.
     HorizonBelowPeriod,
+    /// A range list whose byte at this place, counted from 0, can't stand there, or that ends there too early.
+    BadList { place: usize },
+    /// Ranges of which one goes past 2^40, or that have over 2^24 numbers together.
+    RangeTooLarge,
+    /// Ranges of which two share a number.
+    RangesOverlap,
 }
 
 impl Refusal {
@@ -66,6 +72,11 @@ impl Refusal {
                 put_numbered(errors, b"census: bad byte in seed at ", place)
             }
             Refusal::HorizonBelowPeriod => errors.put(b"census: horizon below period\n"),
+            Refusal::BadList { place } => {
+                put_numbered(errors, b"census: bad range list at ", place)
+            }
+            Refusal::RangeTooLarge => errors.put(b"census: range too large\n"),
+            Refusal::RangesOverlap => errors.put(b"census: ranges overlap\n"),
         }
     }
 }

@@ -7,7 +7,9 @@ use crate::profile::ProfileNumbers;
 use crate::run::do_run;
 use crate::show::do_show;
 use crate::soup::do_soup;
+use crate::soup_set::SoupSet;
 use crate::status::Status;
+use crate::take::do_take;
 use crate::version::do_version;
 use crate::word::Word;
 use plane_core::output::Out;
@@ -36,6 +38,12 @@ pub enum Request<'a> {
         seed: Word<'a>,
         number: u64,
     },
+    /// The haul of all soups of a set, under a profile, of which each number is in its range, and the rule of a text.
+    Take {
+        set: SoupSet<'a>,
+        profile: ProfileNumbers,
+        rule: Word<'a>,
+    },
     /// The program's name and version.
     Version,
 }
@@ -47,7 +55,8 @@ pub enum Request<'a> {
 ///
 /// # Errors
 ///
-/// Those of the request's own function: [`do_run`], [`do_name`], [`do_show`], [`do_soup`] or [`do_version`].
+/// Those of the request's own function: [`do_run`], [`do_name`], [`do_show`], [`do_soup`], [`do_take`] or
+/// [`do_version`].
 pub fn do_request<R: Read, W: Write, E: Write>(
     alloc: Global,
     request: &Request<'_>,
@@ -73,6 +82,9 @@ pub fn do_request<R: Read, W: Write, E: Write>(
         }
         Request::Show { code } => do_show(alloc, code.as_str(), output, errors),
         Request::Soup { seed, number } => { do_soup(alloc, seed.as_str(), *number, output, errors) }
+        Request::Take { set, profile, rule } => {
+            do_take(alloc, set, *profile, rule.as_str(), output, errors)
+        }
         Request::Version => do_version(output, errors),
     }
 }

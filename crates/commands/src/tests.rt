@@ -14,6 +14,7 @@ use std::test::Fail;
 mod name;
 mod show;
 mod soup;
+mod take;
 
 const BLINKER: &[u8] = b"OOO\n";
 

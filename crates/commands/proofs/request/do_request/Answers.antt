@@ -27,3 +27,11 @@ returns-in-Soup-clause-ends g c =
 
 pub returns-in-Soup-clause-command : goal.returns-in-Soup-clause-command
 returns-in-Soup-clause-command g c = Ends-command c.do_soup.ensures.ends
+
+pub returns-in-Take-clause-ends : goal.returns-in-Take-clause-ends
+returns-in-Take-clause-ends g c =
+    let some = some_input (g.R.Read.remaining c.args.input.now) in
+    rw (c.in-Take.is, ← c.as_str-in-Take.ensures) (record { bytes = some.0; input = some.1; ends = c.do_take.ensures.ends })
+
+pub returns-in-Take-clause-command : goal.returns-in-Take-clause-command
+returns-in-Take-clause-command g c = Ends-command c.do_take.ensures.ends

@@ -1,0 +1,38 @@
+use Rattle.std.proofs.Common.{◌≡◌, ◌≤◌, arith, refl, sym, subst}
+use Rattle.haul_core.specs.Reports.{IsWorker}
+use Rattle.commands.specs.SoupSets.{AreRangesOf}
+use Rattle.commands.specs.Take.{Overlapping, Too_large}
+use Rattle.commands.proofs.AnswerLemmas.{err_of}
+use Rattle.commands.proofs.TakeLemmas.{small_from}
+use Rattle.commands.proofs.take.open_haul.Goals as goal
+
+one_worker : IsWorker 1
+one_worker = record { least = omega arith; most = omega arith }
+
+pub returns-in_err-ranges-clause-stops : goal.returns-in_err-ranges-clause-stops
+returns-in_err-ranges-clause-stops c = rw (err_of _ _ c.from_residual.ensures.1) (c.in_err-ranges.ensures.stops c.args.job)
+
+pub returns-in-Ok-clause-opened : goal.returns-in-Ok-clause-opened
+returns-in-Ok-clause-opened c =
+    let told = c.in-Ok.ensures in
+    let small = small_from c.as_slice.result.now (λ large. let bad = told.bad_range.1 (one_worker, large) in cc) in
+    record {
+      ranges = c.as_slice.result.now;
+      named = subst (AreRangesOf c.args.set.now) (sym c.as_slice.ensures.value) c.in_ok-ranges.ensures.named;
+      small = small;
+      apart = λ overlap. let bad = told.overlap.1 (one_worker, small, overlap) in cc;
+      form = told.ranges;
+      job_is = told.job;
+      one_worker = told.workers;
+      stands = told.stands;
+    }
+
+pub returns-in-Err-BadRange-clause-stops : goal.returns-in-Err-BadRange-clause-stops
+returns-in-Err-BadRange-clause-stops c =
+    let told = (rw c.in-Err-BadRange.field-0-is at c.in-Err-BadRange.ensures.bad_range).0 refl in
+    Too_large c.as_slice.result.now (subst (AreRangesOf c.args.set.now) (sym c.as_slice.ensures.value) c.in_ok-ranges.ensures.named) told.1 refl
+
+pub returns-in-Err-Overlap-clause-stops : goal.returns-in-Err-Overlap-clause-stops
+returns-in-Err-Overlap-clause-stops c =
+    let told = (rw c.in-Err-Overlap.field-0-is at c.in-Err-Overlap.ensures.overlap).0 refl in
+    Overlapping c.as_slice.result.now (subst (AreRangesOf c.args.set.now) (sym c.as_slice.ensures.value) c.in_ok-ranges.ensures.named) told.1 told.2 refl

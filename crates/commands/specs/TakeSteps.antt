@@ -1,0 +1,60 @@
+-- How a haul is made complete, a step at a time.
+use Rattle.std.specs.Prelude.{◌≡◌, ℕ, All, List, [], ◌∷◌, Ok, Err, flat_map, map}
+use Rattle.std.specs.List.{range_with_len}
+use Rattle.survey_core.specs.declared.job.Job.{Job}
+use Rattle.haul_core.specs.declared.arrival.Arrival.TheVariants.{Offer}
+use Rattle.haul_core.specs.declared.range.Range.{Range}
+use Rattle.haul_core.specs.declared.range_list.ListError.{ListError}
+use Rattle.haul_core.specs.declared.range_list.ListError.TheVariants as list_error
+use Rattle.haul_core.specs.Books.{Held, StandsFor}
+use Rattle.haul_core.specs.Ranges.{AreSmall, IsNormalForm, Overlap}
+use Rattle.haul_core.specs.Reports.{Reported}
+use Rattle.commands.specs.declared.complaint.Complaint.{Complaint}
+use Rattle.commands.specs.declared.complaint.Complaint.TheVariants.{Refused, OutOfMemory, ReadFailed, WriteFailed}
+use Rattle.commands.specs.declared.refusal.Refusal.TheVariants.{BadList}
+use Rattle.commands.specs.declared.soup_set.SoupSet.{SoupSet}
+use Rattle.commands.specs.Answers.{NeedsMemory, Right}
+use Rattle.commands.specs.SoupSets.{AreRangesOf}
+
+-- the complaint about a call that reads a range list
+abbrev pub list_complaint : ListError → Complaint
+list_complaint (list_error.BadList place) = Refused (BadList place)
+list_complaint list_error.Memory = OutOfMemory
+
+-- a complaint that ends a command before it writes: a refusal if that is right, or memory that ran out
+abbrev pub Stops : Right → Complaint → Type 0
+Stops right (Refused refusal) = right (Err (Refused refusal))
+Stops right OutOfMemory = (complaint : Complaint) → right (Err complaint) → NeedsMemory complaint
+Stops right ReadFailed = ⊥
+Stops right WriteFailed = ⊥
+
+-- a haul of a job over the ranges of a set, for one worker, to which nothing has come
+pub record IsOpened (job : Job) (set : SoupSet) (held : Held) : Type 0 where
+  pub ranges : List Range
+  pub named : AreRangesOf set ranges
+  pub small : AreSmall ranges
+  pub apart : ¬ Overlap ranges
+  pub form : IsNormalForm ranges held.terms.ranges
+  pub job_is : held.terms.job ≡ job
+  pub one_worker : held.terms.workers ≡ 1
+  pub stands : StandsFor [] held
+
+-- the report is the only worker's, on a soup of the haul's job
+pub record IsOwn (job : Job) (report : Reported) : Type 0 where
+  pub job_is : report.job ≡ job
+  pub worker_is : report.worker ≡ 1
+
+-- a report on each of the numbers was offered, in this order, and nothing else has come
+pub record IsOffered (numbers : List ℕ) (held : Held) : Type 0 where
+  pub reports : List Reported
+  pub own : All (IsOwn held.terms.job) reports
+  pub numbers_are : map (λ r. r.number) reports ≡ numbers
+  pub stands : StandsFor (map Offer reports) held
+
+-- the numbers of a range, ascending
+abbrev pub numbers_in_range : Range → List ℕ
+numbers_in_range range = range_with_len range.first range.count
+
+-- the numbers of some ranges, range by range
+abbrev pub numbers_of : List Range → List ℕ
+numbers_of ranges = flat_map numbers_in_range ranges
