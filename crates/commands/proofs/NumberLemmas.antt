@@ -1,13 +1,12 @@
 -- The numbers of ranges, one by one.
 use Rattle.std.proofs.Common.{◌≡◌, ◌∙◌, ◌+◌, ◌-◌, ◌<◌, ◌≤◌, ◌&&◌, ◌||◌, ◌⊎◌, ℕ, zero, suc, Bool, true, false, cond, count_by, inl, inr}
 use Rattle.std.proofs.Common.{nat_eq, nat_le, nat_lt, List, [], ◌∷◌, ◌++◌, add-one, add-zero, ap, sym, refl, arith, zero-add}
-use Rattle.std.proofs.lemmas.Bool.{and_from, and_parts, cases_Bool, eq-eqb, eqb-true, false≢true, leb-false, leb-true, le-leb}
-use Rattle.std.proofs.lemmas.Bool.{ltb-false, ltb-true, lt-ltb, ne_eqb}
-use Rattle.std.proofs.lemmas.List.Elements.{All-cons, All-head, All-nil, All-tail}
+use Rattle.std.proofs.lemmas.Bool.{and_from, and_parts, cases_Bool, eq-eqb, eqb-true, false≢true, leb-false, leb-true}
+use Rattle.std.proofs.lemmas.Bool.{ltb-false, ltb-true, ne_eqb}
 use Rattle.std.proofs.lemmas.List.Sums.{sum_by-append, sum_by-cons}
 use Rattle.std.specs.List.{range_with_len}
 use Rattle.haul_core.specs.declared.range.Range.{Range}
-use Rattle.haul_core.specs.Ranges.{AreBelow, AreNormal, BeginAfter, IsNormalForm, end_of, is_in, is_in_range}
+use Rattle.haul_core.specs.Ranges.{AreNormal, BeginAfter, IsNormalForm, end_of, is_in, is_in_range}
 use Rattle.commands.specs.Take.{AreNumbersOf}
 use Rattle.commands.specs.TakeSteps.{numbers_in_range, numbers_of}
 
@@ -106,36 +105,3 @@ count_normal n (r ∷ more) normal = go (cases_Bool (is_in_range n r)) (cases_Bo
 -- the numbers of a normal form are those of the ranges
 pub numbers_of_form : (ranges normal : List Range) → IsNormalForm ranges normal → AreNumbersOf ranges (numbers_of normal)
 numbers_of_form ranges normal form = λ n. count_normal n normal form.normal_form ∙ ap (λ (b : Bool). cond {A = ℕ} b 1 0) (form.same n)
-
--- ---- a normal form goes no further than the ranges
-
-below_in : (bound n : ℕ) (rs : List Range) → AreBelow bound rs → is_in rs n ≡ true → n < bound
-below_in bound n [] below is = absurd (false≢true is)
-below_in bound n (r ∷ more) below is =
-    go (cases_Bool (is_in_range n r)) (below_in bound n more (All-tail (λ x. end_of x ≤ bound) r more below))
-  where
-    go : (is_in_range n r ≡ true) ⊎ (is_in_range n r ≡ false) → (is_in more n ≡ true → n < bound) → n < bound
-    go (inl here) rest =
-        let high : n < end_of r = ltb-true _ _ (and_parts _ _ here).1 in
-        let most : end_of r ≤ bound = All-head (λ x. end_of x ≤ bound) r more below in
-        omega arith
-    go (inr elsewhere) rest = rest (sym (ap (λ (b : Bool). b || is_in more n) elsewhere) ∙ is)
-
-below_from : (bound : ℕ) (rs : List Range) → AreNormal rs → ((n : ℕ) → is_in rs n ≡ true → n < bound) → AreBelow bound rs
-below_from bound [] normal all = All-nil (λ x. end_of x ≤ bound)
-below_from bound (r ∷ more) normal all =
-    let last : ℕ = end_of r - 1 in
-    let some : 1 ≤ r.count = normal.0 in
-    let here : is_in_range last r ≡ true = and_from _ _ (le-leb r.first last (omega arith)) (lt-ltb last (end_of r) (omega arith)) in
-    let low : last < bound = all last (ap (λ (b : Bool). b || is_in more last) here) in
-    All-cons (λ x. end_of x ≤ bound) r more (omega arith) (below_from bound more normal.2 (λ n is. all n (or_more n is)))
-  where
-    or_more : (n : ℕ) → is_in more n ≡ true → (is_in_range n r || is_in more n) ≡ true
-    or_more n is = go (is_in_range n r)
-      where
-        go : (b : Bool) → (b || is_in more n) ≡ true
-        go true = refl
-        go false = is
-
-pub normal_below : (bound : ℕ) (ranges normal : List Range) → AreBelow bound ranges → IsNormalForm ranges normal → AreBelow bound normal
-normal_below bound ranges normal below form = below_from bound normal form.normal_form (λ n is. below_in bound n ranges below (sym (form.same n) ∙ is))

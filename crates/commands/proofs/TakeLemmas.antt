@@ -1,8 +1,8 @@
 -- From the steps of `take` to a right answer.
-use Rattle.std.proofs.Common.{◌≡◌, ◌∙◌, ◌+◌, ◌-◌, ◌<◌, ◌≤◌, ◌^◌, ◌&&◌, ◌⊎◌, ℕ, Bool, true, false, cond, count_by, inl, inr, nat_eq, nat_le, nat_lt, not}
+use Rattle.std.proofs.Common.{◌≡◌, ◌∙◌, ◌+◌, ◌-◌, ◌≤◌, ◌⊎◌, ℕ, Bool, true, false, cond, count_by, inl, inr, nat_eq, nat_le, not}
 use Rattle.std.proofs.Common.{List, [], ◌∷◌, ◌++◌, Result, Ok, Err, ap, sym, subst, refl, arith, filter, map, append_assoc}
-use Rattle.std.proofs.lemmas.Bool.{and_from, cases_Bool, eq-eqb, eqb-true, false≢true, leb-false, leb-true, le-leb}
-use Rattle.std.proofs.lemmas.List.{append-nil, map-append, map_push}
+use Rattle.std.proofs.lemmas.Bool.{and_from, cases_Bool, eq-eqb, leb-false, leb-true, le-leb}
+use Rattle.std.proofs.lemmas.List.{map_push}
 use Rattle.std.proofs.lemmas.List.Elements.{All-head, All-nil, All-push, All-tail}
 use Rattle.std.specs.Bool.{beq}
 use Rattle.std.specs.Cmp.Lexicographic.{pointwise}
@@ -22,13 +22,13 @@ use Rattle.haul_core.specs.declared.census.Census.{Census}
 use Rattle.haul_core.specs.declared.range.Range.{Range}
 use Rattle.haul_core.specs.declared.range_list.ListError.{ListError}
 use Rattle.haul_core.specs.declared.range_list.ListError.TheVariants as list_error
-use Rattle.haul_core.specs.Books.{Held, StandsFor, Terms, eligible, entry, first_of_each, has_number, is_lawful, offered, taken_of}
+use Rattle.haul_core.specs.Books.{Held, StandsFor, Terms, entry, first_of_each, has_number, is_lawful, offered, taken_of}
 use Rattle.haul_core.specs.Censuses.{IsCensus}
 use Rattle.haul_core.specs.HaulTexts.{haul_text}
 use Rattle.haul_core.specs.Jobs.{same_job}
 use Rattle.haul_core.specs.Keeping.{numbers_in}
 use Rattle.haul_core.specs.RangeLists.{AreWords, IsFirstFault, IsListText, list_text}
-use Rattle.haul_core.specs.Ranges.{AreBelow, AreSmall, IsNormalForm, Overlap, end_of, is_in, number_bound, size_of}
+use Rattle.haul_core.specs.Ranges.{AreSmall, IsNormalForm, Overlap, is_in}
 use Rattle.haul_core.specs.Reports.{Reported}
 use Rattle.commands.specs.declared.complaint.Complaint.{Complaint}
 use Rattle.commands.specs.declared.complaint.Complaint.TheVariants.{Refused, OutOfMemory, ReadFailed, WriteFailed}
@@ -40,11 +40,11 @@ use Rattle.commands.specs.Answers.{NeedsMemory, Reaches, Right, given, text_of}
 use Rattle.commands.specs.Inputs.{rule_complaint, rule_named}
 use Rattle.commands.specs.Profiles.{profile_named, settling}
 use Rattle.commands.specs.Soup.{seed_complaint, seed_named}
-use Rattle.commands.specs.SoupSets.{AreRangesOf, job_named}
+use Rattle.commands.specs.SoupSets.{job_named}
 use Rattle.commands.specs.Streams.{Stream, Has}
-use Rattle.commands.specs.Take.{AreNumbersOf, IsHaulOf, TellsAll, take_right, Bad_list, Complete, Overlapping, Too_large}
+use Rattle.commands.specs.Take.{IsHaulOf, take_right, Bad_list, Complete, Overlapping, Too_large}
 use Rattle.commands.specs.TakeSteps.{IsOffered, IsOpened, IsOwn, Stops, list_complaint, numbers_of}
-use Rattle.commands.proofs.NumberLemmas.{count_cons, count_other, count_same, normal_below, numbers_of_form, range_more}
+use Rattle.commands.proofs.NumberLemmas.{count_cons, count_other, count_same, numbers_of_form, range_more}
 
 -- ---- refusals
 

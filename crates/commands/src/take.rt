@@ -1,8 +1,6 @@
-ghost use Rattle.std.specs.Prelude.{◌≡◌, ◌++◌, ◌∷◌, ◌<◌, ◌≤◌, ◌^◌, [], ℕ, List, IfErr, IfOk, OnOk, Err, Ok, false};
-ghost use Rattle.haul_core.specs.Books.{StandsFor};
+ghost use Rattle.std.specs.Prelude.{◌≡◌, ◌++◌, ◌∷◌, ◌<◌, ◌≤◌, [], ℕ, List, IfErr, IfOk, OnOk, Err, Ok, false};
 ghost use Rattle.haul_core.specs.HaulTexts.{haul_text};
-ghost use Rattle.haul_core.specs.RangeLists.{AreWords};
-ghost use Rattle.haul_core.specs.Ranges.{AreBelow, end_of, number_bound};
+ghost use Rattle.haul_core.specs.Ranges.{end_of, number_bound};
 ghost use Rattle.commands.specs.Answers.{Ends, Reaches};
 ghost use Rattle.commands.specs.Complaints.{status_of};
 ghost use Rattle.commands.specs.Profiles.{AreInRange};
@@ -137,7 +135,6 @@ fn ranges_of(alloc: Global, set: &SoupSet<'_>) -> Result<Vec<Range>, Complaint>
     ensures stops { (job : Job) → IfErr result (Stops (IsHaulOf job set.now)) }
 {
     let mut ranges = Range::read_list(alloc, set.also.as_str())?;
-    are_words(ranges.as_slice());
     let own = Range {
         first: set.first,
         count: set.count,
@@ -146,24 +143,8 @@ fn ranges_of(alloc: Global, set: &SoupSet<'_>) -> Result<Vec<Range>, Complaint>
     Ok(ranges)
 }
 
-/// A law: the numbers of ranges have 64 bits.
-fn are_words(ranges: &[Range])
-    ensures { AreWords ranges.now }
-{
-    for range in ranges {
-        is_word(*range);
-    }
-}
-
-/// A law: the numbers of a range have 64 bits.
-fn is_word(range: Range)
-    ensures first { range.first < 2 ^ 64 }
-    ensures count { range.count < 2 ^ 64 }
-{}
-
 /// Surveys each soup of the haul's set and offers the reports.
 fn take_all(alloc: Global, haul: &mut Haul) -> Result<(), AllocError>
-    requires { AreBelow number_bound haul.old.terms.ranges }
     ensures terms { haul.new.terms ≡ haul.old.terms }
     ensures offered { IsOffered [] haul.old → OnOk result (IsOffered (numbers_of haul.old.terms.ranges) haul.new) }
 {

@@ -29,10 +29,10 @@ use Rattle.haul_core.proofs.RowLemmas.{same_rows}
 
 -- ---- what is found of a number
 
-abbrev IsFound : Job → ℕ → Finding → Type 0
+abbrev pub IsFound : Job → ℕ → Finding → Type 0
 IsFound job n finding = IsFinding job.rule job.profile (soup job.seed n) finding
 
-abbrev numbers_of_surveys : List Survey → List ℕ
+abbrev pub numbers_of_surveys : List Survey → List ℕ
 numbers_of_surveys surveys = map (λ s. s.number) surveys
 
 abbrev finding_at : List Survey → ℕ → Finding

@@ -6,6 +6,7 @@ mod FaultLemmas
 mod JobLemmas
 mod JoinLemmas
 mod JoinedSamples
+mod JoinedSums
 mod JoinedTallies
 mod KeepLemmas
 mod LawLemmas

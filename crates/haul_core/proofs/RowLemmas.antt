@@ -20,7 +20,7 @@ use Rattle.haul_core.proofs.TallyLemmas.{code_same, is_code-same}
 abbrev code_cmp : List ℕ → List ℕ → Ordering
 code_cmp a b = slice_cmp nat_cmp a b
 
-one_code : (a b : List ℕ) → is_code a b ≡ true → a ≡ b
+pub one_code : (a b : List ℕ) → is_code a b ≡ true → a ≡ b
 one_code a b h = code_same a b (sym (is_code-same a b) ∙ h)
 
 -- a code before those of a list isn't among them
@@ -40,7 +40,7 @@ both_false : {b d : Bool} → b ≡ false → b ≡ d → d ≡ true → ⊥
 both_false e same h = false≢true (sym e ∙ same ∙ h)
 
 -- lists of codes in order with the same members are one
-one_order : (xs ys : List (List ℕ)) → IsStrictlySortedBy (slice_cmp nat_cmp) xs → IsStrictlySortedBy (slice_cmp nat_cmp) ys
+pub one_order : (xs ys : List (List ℕ)) → IsStrictlySortedBy (slice_cmp nat_cmp) xs → IsStrictlySortedBy (slice_cmp nat_cmp) ys
     → ((code : List ℕ) → list_any (is_code code) xs ≡ list_any (is_code code) ys) → xs ≡ ys
 unfolding IsStrictlySortedBy
 one_order [] [] h k same = refl
@@ -84,7 +84,7 @@ known surveys (row ∷ rows) each code h = elim (cases_Bool (is_code code row.co
       (sym (ap (λ (b : Bool). b || list_any (is_code code) (codes_of rows)) miss) ∙ h)
 ]
 
-has_row : (surveys : List Survey) (rows : List Row) → AreRowsOf surveys rows → (code : List ℕ)
+pub has_row : (surveys : List Survey) (rows : List Row) → AreRowsOf surveys rows → (code : List ℕ)
     → list_any (is_code code) (codes_of rows) ≡ nat_le 1 (total surveys code)
 has_row surveys rows are code =
     both_true (list_any (is_code code) (codes_of rows)) (nat_le 1 (total surveys code))

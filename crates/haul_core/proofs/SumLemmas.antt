@@ -149,7 +149,7 @@ totals_counted codes (s ∷ ss) distinct =
     le_sums : {x y z n r t : ℕ} → x ≡ y + z → y ≤ n → z ≤ r → t ≡ n + r → x ≤ t
     le_sums a b c e = omega arith
 
-rows_summed : (surveys : List Survey) (rows : List Row) → All (IsRowOf surveys) rows → sum_by (λ row. row.total) rows ≡ sum_by (total surveys) (codes_of rows)
+pub rows_summed : (surveys : List Survey) (rows : List Row) → All (IsRowOf surveys) rows → sum_by (λ row. row.total) rows ≡ sum_by (total surveys) (codes_of rows)
 rows_summed surveys [] each = refl
 rows_summed surveys (row ∷ rows) each =
     let first : IsRowOf surveys row = All-head (IsRowOf surveys) row rows each in

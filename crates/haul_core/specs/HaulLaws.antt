@@ -1,8 +1,11 @@
--- Laws of haul texts: they don't depend on the order in which the soups came.
-use Rattle.std.specs.Prelude.{◌≡◌, ℕ, List, count_by, nat_eq}
+-- Laws of censuses: their texts don't depend on the order in which the soups came, and joined hauls add up.
+use Rattle.std.specs.Prelude.{◌≡◌, ◌+◌, ◌++◌, ℕ, List, count_by, nat_eq, option_map, unwrap_or}
+use Rattle.std.specs.List.{find}
+use Rattle.survey_core.specs.Objects.{is_code}
 use Rattle.survey_core.specs.declared.job.Job.{Job}
 use Rattle.haul_core.specs.declared.census.Census.{Census}
 use Rattle.haul_core.specs.declared.range.Range.{Range}
+use Rattle.haul_core.specs.declared.row.Row.{Row}
 use Rattle.haul_core.specs.Censuses.{IsCensus}
 use Rattle.haul_core.specs.HaulTexts.{haul_text}
 use Rattle.haul_core.specs.Missing.{AreAll}
@@ -27,3 +30,20 @@ abbrev pub CompleteHaulsPrintTheSame : Type 0
 CompleteHaulsPrintTheSame = (job : Job) (ranges others : List Range) (numbers more : List ℕ) (one other : Census)
     → AreNormal ranges → AreNormal others → GiveOneSet ranges others → AreAll ranges numbers → AreAll others more
     → IsCensus job ranges numbers one → IsCensus job others more other → haul_text one ≡ haul_text other
+
+-- the total in the row of a code: 0 where there is no row
+abbrev pub total_in : List Row → List ℕ → ℕ
+total_in rows code = unwrap_or (option_map (λ row. row.total) (find (λ row. is_code code row.code) rows)) 0
+
+-- each sum of a census is what two others have together
+pub record AddUp (one other both : Census) : Type 0 where
+  pub soups : both.soups ≡ one.soups + other.soups
+  pub unsettled : both.unsettled ≡ one.unsettled + other.unsettled
+  pub for_good : both.for_good ≡ one.for_good + other.for_good
+  pub objects : both.objects ≡ one.objects + other.objects
+  pub totals : (code : List ℕ) → total_in both.rows code ≡ total_in one.rows code + total_in other.rows code
+
+-- the census of a joined haul, over the soups of two of one job, has the sums of theirs
+abbrev pub JoinedHaulsAddUp : Type 0
+JoinedHaulsAddUp = (job : Job) (ranges others all : List Range) (numbers more : List ℕ) (one other both : Census)
+    → IsCensus job ranges numbers one → IsCensus job others more other → IsCensus job all (numbers ++ more) both → AddUp one other both

@@ -6,7 +6,7 @@ ghost use Rattle.haul_core.specs.BookSteps.{refusal_at, reply_of, IsAnswered};
 ghost use Rattle.haul_core.specs.Censuses.{IsCensus};
 ghost use Rattle.haul_core.specs.Keeping.{numbers_in};
 ghost use Rattle.haul_core.specs.Missing.{AreAll, IsComplete, missing_of};
-ghost use Rattle.haul_core.specs.Ranges.{AreNormal, AreSmall, IsNormalForm, Overlap, size_of};
+ghost use Rattle.haul_core.specs.Ranges.{AreBelow, AreNormal, AreSmall, IsNormalForm, Overlap, number_bound, size_of};
 ghost use Rattle.haul_core.specs.Reports.{IsWorker};
 ghost use Rattle.haul_core.specs.Tallies.{Extends, HasRows};
 ghost use Rattle.haul_core.specs.declared.arrival.Arrival.{Arrival};
@@ -182,6 +182,7 @@ impl Haul {
     pub fn ranges(&self) -> &[Range]
         ensures ranges { result.now ≡ self.now.terms.ranges }
         ensures normal { AreNormal self.now.terms.ranges }
+        ensures below { AreBelow number_bound self.now.terms.ranges }
     {
         let Haul { ranges, .. } = self;
         ranges.as_slice()
@@ -281,6 +282,7 @@ impl Haul {
             → IsReply (reply_of result) (refusal_of self.old.terms arrivals report) }
         ensures stands { (arrivals : List Arrival) → StandsFor arrivals self.old → IsAnswered (reply_of result)
             → StandsFor (arrivals ++ arrival.Offer report ∷ []) self.new }
+        ensures taken { OnOk result (self.new.taken ≡ self.old.taken ++ (report.worker, report.number) ∷ []) }
         ensures terms { self.new.terms ≡ self.old.terms }
         ensures kept { OnErr result (self.new ≡ self.old) }
         ensures report { IfErr result (λ refused. refused.report ≡ report) }

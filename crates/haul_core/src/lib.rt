@@ -12,6 +12,8 @@ pub mod haul;
 /// What a census says, as text.
 pub mod haul_text;
 mod missing;
+#[cfg(test)]
+mod plain_book;
 /// Sets of soup numbers.
 pub mod range;
 /// Lists of ranges as texts.

@@ -46,6 +46,7 @@ impl Range {
     /// - [`ListError::Memory`] if memory runs out.
     pub fn read_list(alloc: Global, text: &str) -> Result<Vec<Range>, ListError>
         // What is read has the text as its one text, and each list of ranges is read from its text.
+        ensures words { IfOk result (λ read. AreWords read.items) }
         ensures ranges { IfOk result (λ read. list_text read.items ≡ text.now) }
         ensures complete { (ranges : List Numbers) → AreWords ranges → list_text ranges ≡ text.now
             → MatchResult result (λ read. read.items ≡ ranges) (λ error. error ≡ Memory) }

@@ -1,7 +1,9 @@
 //! Names a plaintext pattern from standard input, or finds its clusters, as often as its words say, or surveys soups: a
 //! program for `bench/run` to time. `timing clusters N` prints how many clusters there are, `timing names N` the name,
 //! `timing surveys N` how many of the soups 0 to N - 1 settle, and `timing gliders N` the population of two far gliders
-//! after N generations; the last two don't look at their input.
+//! after N generations. `timing reports N` makes reports of N soups, under a profile that makes a survey cheap, and
+//! prints how many; `timing offers N` offers N such reports to a haul, then a thousand more, and prints how many it
+//! has taken and the microseconds of the thousand. All but the first two don't look at their input.
 #![tactic(auto)]
 
 ghost use Rattle.std.specs.Prelude.{◌≡◌, IfOk, List, length};
@@ -10,6 +12,9 @@ ghost use Rattle.plane_core.specs.declared.cell.Cell.{Cell as Place};
 
 use code_core::apgcode::Apgcode;
 use code_core::name::name;
+use haul_core::haul::{Haul, OpenError};
+use haul_core::range::Range;
+use haul_core::report::Report;
 use plane_core::cell::Cell;
 use plane_core::clusters::clusters_are_determined;
 use plane_core::generation::StepError;
@@ -18,6 +23,7 @@ use plane_core::rule::Rule;
 use std::alloc::{AllocError, Global};
 use std::env;
 use std::io::{self, Read};
+use std::time::Instant;
 use survey_core::finding::{Finding, survey};
 use survey_core::job::Job;
 use survey_core::profile::Profile;
@@ -107,6 +113,86 @@ fn survey_soups(rt: &HostRuntime, seed: Seed, soups: u32) -> io::Result<()> {
     println!(rt; "{settled}")
 }
 
+/// How many offers are timed.
+const TIMED: u32 = 1000;
+
+/// A job under whose profile a soup is settled only if it is a still life at once.
+fn cheap_job(seed: Seed) -> Option<Job> {
+    let profile = Profile::new(1, 1, 1, 0).ok()?;
+    Some(Job {
+        seed,
+        profile,
+        rule: Rule::life(),
+    })
+}
+
+/// Reports of the soups from a number on, up to another.
+fn reports(alloc: Global, job: &Job, from: u32, to: u32) -> Result<Vec<Report>, AllocError> {
+    let mut reports = Vec::new(alloc);
+    for number in from..to {
+        // Worker 1 may report, so only memory can be missing.
+        let Ok(report) = Report::make(alloc, job, 1, u64::from(number)) else {
+            return Err(AllocError);
+        };
+        reports.push(report)?;
+    }
+    Ok(reports)
+}
+
+/// A haul of the first soups that has taken none.
+fn open_haul(alloc: Global, job: Job, soups: u32) -> Result<Haul, OpenError> {
+    let range = Range {
+        first: 0,
+        count: u64::from(soups),
+    };
+    Haul::open(alloc, job, &[range], 1)
+}
+
+/// Offers the reports one after another.
+fn offer_each(haul: &mut Haul, reports: Vec<Report>) {
+    for report in reports {
+        // A report that is refused is not counted.
+        let _ = haul.offer(report);
+    }
+}
+
+/// Makes so many reports, and prints how many there are.
+fn make_reports(rt: &HostRuntime, job: &Job, count: u32) -> io::Result<()> {
+    match reports(rt.alloc(), job, 0, count) {
+        Ok(reports) => println!(rt; "{}", reports.len()),
+        Err(error) => println!(rt; "{error}"),
+    }
+}
+
+/// Offers so many reports to a haul, and then times some more.
+fn offer_reports(rt: &HostRuntime, job: Job, count: u32) -> io::Result<()> {
+    let all = count.saturating_add(TIMED);
+    let Ok(first) = reports(rt.alloc(), &job, 0, count) else {
+        return println!(rt; "no reports");
+    };
+    let Ok(more) = reports(rt.alloc(), &job, count, all) else {
+        return println!(rt; "no reports");
+    };
+    let Ok(mut haul) = open_haul(rt.alloc(), job, all) else {
+        return println!(rt; "no haul");
+    };
+    offer_each(&mut haul, first);
+    let start = Instant::now(rt)?;
+    offer_each(&mut haul, more);
+    let taken = start.elapsed(rt)?;
+    println!(rt; "{} {}", haul.taken().len(), taken.as_micros())
+}
+
+/// Makes reports, or offers them.
+fn time_reports(rt: &HostRuntime, offered: bool, count: u32) -> io::Result<()> {
+    let job = Seed::new("").ok().and_then(cheap_job);
+    match job {
+        None => println!(rt; "no job"),
+        Some(job) if offered => offer_reports(rt, job, count),
+        Some(job) => make_reports(rt, &job, count),
+    }
+}
+
 fn main(rt: HostRuntime) -> io::Result<()> {
     let alloc = rt.alloc();
     let words: Vec<String> = env::args(&rt)?.collect(alloc)?;
@@ -120,6 +206,8 @@ fn main(rt: HostRuntime) -> io::Result<()> {
     match words.get(1).map(|word| word.as_str()) {
         Some("gliders") => fly_gliders(&rt, times),
         Some("names") => find_names(&rt, &pattern, times),
+        Some("offers") => time_reports(&rt, true, times),
+        Some("reports") => time_reports(&rt, false, times),
         Some("surveys") => match Seed::new("") {
             Ok(seed) => survey_soups(&rt, seed, times),
             Err(error) => println!(rt; "{error}"),

@@ -3,6 +3,7 @@
 ghost use Rattle.std.specs.Prelude.{◌≡◌, ◌++◌, List, IfErr, IfNone, IfOk, IfSome, OnOk, map, nat_eq};
 ghost use Rattle.std.specs.List.{IsDistinct};
 ghost use Rattle.haul_core.specs.Books.{StandsFor};
+ghost use Rattle.haul_core.specs.HaulLaws.{JoinedHaulsAddUp};
 ghost use Rattle.haul_core.specs.Joins.{CanJoin, Hinders, IsJoined, joined_arrivals};
 ghost use Rattle.haul_core.specs.Keeping.{numbers_in};
 ghost use Rattle.haul_core.specs.declared.arrival.Arrival.{Arrival};
@@ -11,6 +12,7 @@ use crate::haul::Haul;
 use crate::refusal::is_same_job;
 use indexmap::IndexMap;
 use std::alloc::{AllocError, Global};
+use survey_core::finding::findings_are_determined;
 use thiserror::Error;
 
 /// Why two hauls were not joined.
@@ -61,6 +63,14 @@ impl Haul {
             Err(_) => Err((self, other, JoinFault::Memory)),
         }
     }
+}
+
+/// The law that the census of a joined haul has the sums of the two censuses: of soups, of unsettled ones, of those that
+/// stay for good, of objects, and of the total of each code.
+pub fn joined_hauls_add_up()
+    ensures { JoinedHaulsAddUp }
+{
+    findings_are_determined();
 }
 
 /// Why the hauls can't be joined, if they can't, apart from memory.

@@ -1,8 +1,6 @@
-use Rattle.std.proofs.Common.{◌≡◌, ◌∙◌, sym, refl, subst}
-use Rattle.haul_core.specs.Ranges.{AreBelow, number_bound}
+use Rattle.std.proofs.Common.{sym}
 use Rattle.haul_core.specs.HaulTexts.{haul_text}
 use Rattle.commands.proofs.AnswerLemmas.{err_of}
-use Rattle.commands.proofs.NumberLemmas.{normal_below}
 use Rattle.commands.proofs.TakeLemmas.{complete_right, offered_none, right_given, Stops_given, Stops_job, Stops_memory}
 use Rattle.commands.proofs.take.census_of.Goals as goal
 
@@ -16,11 +14,6 @@ returns-in_err-haul-clause-stops c =
     rw (err_of _ _ c.from_residual-in_err-haul.ensures.1)
     (Stops_given c.args.set.now c.args.profile c.args.rule_text.now c.in_ok-job.job c.in_err-haul.field-0.0 (sym c.in_ok-job.ensures)
     c.in_err-haul.ensures.stops)
-
-pub take_all-requires : goal.take_all-requires
-take_all-requires c =
-    let opened = c.in_ok-haul.ensures.opened in
-    normal_below number_bound opened.ranges c.in_ok-haul.haul.terms.ranges opened.small.below opened.form
 
 pub returns-in_err-take_all-clause-stops : goal.returns-in_err-take_all-clause-stops
 returns-in_err-take_all-clause-stops c =

@@ -1,7 +1,4 @@
-use Rattle.std.proofs.Common.{◌∙◌, ◌++◌, ◌∷◌, [], List, Err, ap, sym}
-use Rattle.haul_core.specs.declared.range.Range.{Range}
-use Rattle.haul_core.specs.RangeLists.{list_text}
-use Rattle.commands.specs.SoupSets.{own_range}
+use Rattle.std.proofs.Common.{◌∙◌, Err, ap}
 use Rattle.commands.proofs.AnswerLemmas.{err_of}
 use Rattle.commands.proofs.TakeLemmas.{needs_memory, Stops_list}
 use Rattle.commands.proofs.take.ranges_of.Goals as goal
@@ -18,15 +15,15 @@ returns-in_err-extend_from_slice-clause-stops c =
     λ job. rw (err_of _ _ c.from_residual-in_err-extend_from_slice.ensures.1)
     (λ complaint right. needs_memory job c.args.set.now complaint
     (record {
-      ranges = c.as_slice.result.now;
-      words = c.are_words.ensures;
-      spelled = ap list_text c.as_slice.ensures.value ∙ c.in_ok-ranges.ensures.ranges ∙ c.as_str.ensures;
+      ranges = c.in_ok-ranges.ranges.items;
+      words = c.in_ok-ranges.ensures.words;
+      spelled = c.in_ok-ranges.ensures.ranges ∙ c.as_str.ensures;
     }) right)
 
 pub returns-clause-named : goal.returns-clause-named
 returns-clause-named c = record {
-  listed = c.as_slice.result.now;
-  words = c.are_words.ensures;
-  spelled = ap list_text c.as_slice.ensures.value ∙ c.in_ok-ranges.ensures.ranges ∙ c.as_str.ensures;
-  all = c.in_ok-extend_from_slice.ensures.items ∙ ap (λ (xs : List Range). xs ++ own_range c.args.set.now ∷ []) (sym c.as_slice.ensures.value);
+  listed = c.in_ok-ranges.ranges.items;
+  words = c.in_ok-ranges.ensures.words;
+  spelled = c.in_ok-ranges.ensures.ranges ∙ c.as_str.ensures;
+  all = c.in_ok-extend_from_slice.ensures.items;
 }

@@ -1,0 +1,159 @@
+-- The census of a joined haul has the sums of the two censuses.
+use Rattle.std.proofs.Common.{◌≡◌, ◌∙◌, ◌+◌, ◌++◌, ◌≤◌, ℕ, zero, suc, Bool, true, false, cond, List, [], ◌∷◌, ◌||◌, ◌&&◌}
+use Rattle.std.proofs.Common.{◌⊎◌, Some, ap, sym, subst, refl, arith, drop, filter, get_or, map, nat_le, option_map, sum_by, unwrap_or, inl, inr, zero-add}
+use Rattle.std.specs.Cmp.Lexicographic.{slice_cmp}
+use Rattle.std.specs.List.{All, find, list_any}
+use Rattle.std.specs.Ordering.{nat_cmp}
+use Rattle.std.proofs.lemmas.Bool.{cases_Bool, le-leb, leb-true, false≢true}
+use Rattle.std.proofs.lemmas.List.{length-append, map-append}
+use Rattle.std.proofs.lemmas.List.Elements.{All-append, All-head, All-tail}
+use Rattle.std.proofs.lemmas.List.Kept.{IsStrictlySortedBy-filter}
+use Rattle.std.proofs.lemmas.List.Sums.{sum_by-append, sum_by-cons}
+use Rattle.std.proofs.lemmas.Map.Views.{any-filter_same}
+use Rattle.survey_core.specs.FindingLaws.{FindingsAreDetermined}
+use Rattle.survey_core.specs.Objects.{is_code}
+use Rattle.survey_core.specs.Soups.{soup}
+use Rattle.survey_core.specs.declared.job.Job.{Job}
+use Rattle.haul_core.specs.declared.row.Row.{Row}
+use Rattle.haul_core.specs.HaulLaws.{JoinedHaulsAddUp, total_in}
+use Rattle.haul_core.specs.Rows.{AreRowsOf, IsRowOf, codes_of}
+use Rattle.haul_core.specs.Totals.{AreSurveys, Survey, count_in, for_good, is_for_good, is_unsettled, total, unsettled}
+use Rattle.haul_core.proofs.LawLemmas.{IsFound, numbers_of_surveys}
+use Rattle.haul_core.proofs.RowLemmas.{has_row, one_code, one_order}
+use Rattle.haul_core.proofs.SumLemmas.{rows_summed}
+
+-- surveys of one list of numbers are one list
+one_list : (job : Job) → FindingsAreDetermined → (surveys others : List Survey) → numbers_of_surveys surveys ≡ numbers_of_surveys others
+    → All (λ s. IsFound job s.number s.finding) surveys → All (λ s. IsFound job s.number s.finding) others → surveys ≡ others
+one_list job law [] [] same each were = refl
+one_list job law [] (t ∷ ts) same each were = absurd (cc)
+one_list job law (s ∷ ss) [] same each were = absurd (cc)
+one_list job law (s ∷ ss) (t ∷ ts) same each were =
+    let number : s.number ≡ t.number = ap (λ (ns : List ℕ). get_or ns 0 0) same in
+    let rest : numbers_of_surveys ss ≡ numbers_of_surveys ts = ap (λ (ns : List ℕ). drop 1 ns) same in
+    let own : IsFound job s.number s.finding = All-head (λ s. IsFound job s.number s.finding) s ss each in
+    let other : IsFound job s.number t.finding =
+    subst (λ (n : ℕ). IsFound job n t.finding) (sym number) (All-head (λ s. IsFound job s.number s.finding) t ts were) in
+    let more : ss ≡ ts = one_list job law ss ts rest (All-tail (λ s. IsFound job s.number s.finding) s ss each)
+    (All-tail (λ s. IsFound job s.number s.finding) t ts were) in
+    λ i. record { number = number i; finding = law job.rule job.profile (soup job.seed s.number) s.finding t.finding own other i } ∷ more i
+
+both_lists : (job : Job) (numbers more : List ℕ) (surveys others : List Survey) → AreSurveys job numbers surveys → AreSurveys job more others
+    → AreSurveys job (numbers ++ more) (surveys ++ others)
+both_lists job numbers more surveys others are were =
+    record {
+      each = map-append (λ (s : Survey). s.number) surveys others ∙ (λ i. are.each i ++ were.each i);
+      findings = All-append (λ s. IsFound job s.number s.finding) surveys others are.findings were.findings;
+    }
+
+-- ---- the total in a row
+
+at_least_one : (n : ℕ) → cond {A = ℕ} (nat_le 1 n) n 0 ≡ n
+at_least_one zero = refl
+at_least_one (suc n) = ap (λ (b : Bool). cond {A = ℕ} b (suc n) 0) (le-leb 1 (suc n) (omega arith))
+
+told : (surveys : List Survey) (rows : List Row) (code : List ℕ) → All (IsRowOf surveys) rows
+    → total_in rows code ≡ cond {A = ℕ} (list_any (is_code code) (codes_of rows)) (total surveys code) 0
+told surveys [] code each = refl
+told surveys (row ∷ rows) code each =
+    let is : IsRowOf surveys row = All-head (IsRowOf surveys) row rows each in
+    go (is_code code row.code) (λ h. is.total_is ∙ ap (total surveys) (sym (one_code code row.code h)))
+    (told surveys rows code (All-tail (IsRowOf surveys) row rows each))
+  where
+    go : (b : Bool) → (b ≡ true → row.total ≡ total surveys code)
+        → total_in rows code ≡ cond {A = ℕ} (list_any (is_code code) (codes_of rows)) (total surveys code) 0
+        → unwrap_or (option_map (λ (r : Row). r.total) (cond b (Some row) (find (λ r. is_code code r.code) rows))) 0
+        ≡ cond {A = ℕ} (b || list_any (is_code code) (codes_of rows)) (total surveys code) 0
+    go true here ih = here refl
+    go false here ih = ih
+
+row_total : (surveys : List Survey) (rows : List Row) → AreRowsOf surveys rows → (code : List ℕ) → total_in rows code ≡ total surveys code
+row_total surveys rows are code =
+    told surveys rows code are.each ∙ ap (λ (b : Bool). cond {A = ℕ} b (total surveys code) 0) (has_row surveys rows are code)
+    ∙ at_least_one (total surveys code)
+
+-- ---- the sum of all totals, over the codes of a census with more soups
+
+no_object : (n : ℕ) → nat_le 1 n ≡ false → 0 ≡ n
+no_object zero none = refl
+no_object (suc n) none = absurd (false≢true (sym none ∙ le-leb 1 (suc n) (omega arith)))
+
+sum_left : {X : Type 0} (f : X → ℕ) (xs : List X) → sum_by f (filter (λ x. nat_le 1 (f x)) xs) ≡ sum_by f xs
+sum_left f [] = refl
+sum_left {X} f (x ∷ xs) = go (cases_Bool (nat_le 1 (f x))) (sum_left f xs)
+  where
+    left : List X
+    left = filter (λ x. nat_le 1 (f x)) xs
+
+    go : (nat_le 1 (f x) ≡ true) ⊎ (nat_le 1 (f x) ≡ false) → sum_by f left ≡ sum_by f xs
+        → sum_by f (cond (nat_le 1 (f x)) (x ∷ left) left) ≡ sum_by f (x ∷ xs)
+    go (inl some) rest =
+        ap (λ (b : Bool). sum_by f (cond b (x ∷ left) left)) some ∙ sum_by-cons f x left ∙ ap (λ (n : ℕ). f x + n) rest ∙ sym (sum_by-cons f x xs)
+    go (inr none) rest =
+        ap (λ (b : Bool). sum_by f (cond b (x ∷ left) left)) none ∙ rest ∙ sym (zero-add (sum_by f xs))
+        ∙ ap (λ (n : ℕ). n + sum_by f xs) (no_object (f x) none) ∙ sym (sum_by-cons f x xs)
+
+both_known : (b c : Bool) → (b ≡ true → c ≡ true) → (b && c) ≡ b
+both_known true c h = h refl
+both_known false c h = refl
+
+-- the codes of the wider census that have an object here are those of the rows here
+rows_within : (surveys wider : List Survey) (rows more : List Row) → AreRowsOf surveys rows → AreRowsOf wider more
+    → ((code : List ℕ) → total surveys code ≤ total wider code) → sum_by (λ row. row.total) rows ≡ sum_by (total surveys) (codes_of more)
+rows_within surveys wider rows more are were less =
+    let some : List ℕ → Bool = λ code. nat_le 1 (total surveys code) in
+    let there : (code : List ℕ) → some code ≡ true → list_any (is_code code) (codes_of more) ≡ true =
+    λ code h. were.whole code (least_of (leb-true 1 (total surveys code) h) (less code)) in
+    let codes : codes_of rows ≡ filter some (codes_of more) =
+    one_order (codes_of rows) (filter some (codes_of more)) are.in_order (IsStrictlySortedBy-filter (slice_cmp nat_cmp) some (codes_of more) were.in_order)
+    (λ code. has_row surveys rows are code
+    ∙ sym (any-filter_same (is_code code) some (some code) (λ k same. ap some (sym (one_code code k same))) (codes_of more)
+    ∙ both_known (some code) (list_any (is_code code) (codes_of more)) (there code))) in
+    rows_summed surveys rows are.each ∙ ap (sum_by (total surveys)) codes ∙ sum_left (total surveys) (codes_of more)
+  where
+    least_of : {n m : ℕ} → 1 ≤ n → n ≤ m → 1 ≤ m
+    least_of h k = omega arith
+
+sum_of_two : {X : Type 0} (f g h : X → ℕ) (xs : List X) → ((x : X) → h x ≡ f x + g x) → sum_by h xs ≡ sum_by f xs + sum_by g xs
+sum_of_two f g h [] each = refl
+sum_of_two f g h (x ∷ xs) each =
+    let here : h x ≡ f x + g x = each x in
+    let rest : sum_by h xs ≡ sum_by f xs + sum_by g xs = sum_of_two f g h xs each in
+    let of_f : sum_by f (x ∷ xs) ≡ f x + sum_by f xs = sum_by-cons f x xs in
+    let of_g : sum_by g (x ∷ xs) ≡ g x + sum_by g xs = sum_by-cons g x xs in
+    let of_h : sum_by h (x ∷ xs) ≡ h x + sum_by h xs = sum_by-cons h x xs in
+    omega arith
+
+-- ---- the law
+
+pub add_up : FindingsAreDetermined → JoinedHaulsAddUp
+add_up law job ranges others all numbers more one other both h k b =
+    let lists : AreSurveys job (numbers ++ more) (h.surveys ++ k.surveys) = both_lists job numbers more h.surveys k.surveys h.surveyed k.surveyed in
+    let same : b.surveys ≡ h.surveys ++ k.surveys =
+    one_list job law b.surveys (h.surveys ++ k.surveys) (b.surveyed.each ∙ sym lists.each) b.surveyed.findings lists.findings in
+    let sums : (g : Survey → ℕ) → sum_by g b.surveys ≡ sum_by g h.surveys + sum_by g k.surveys =
+    λ g. ap (sum_by g) same ∙ sum_by-append g h.surveys k.surveys in
+    let totals : (code : List ℕ) → total b.surveys code ≡ total h.surveys code + total k.surveys code = λ code. sums (λ s. count_in code s.finding) in
+    let loose : unsettled b.surveys ≡ unsettled h.surveys + unsettled k.surveys = sums (λ s. cond {A = ℕ} (is_unsettled s.finding) 1 0) in
+    let good : for_good b.surveys ≡ for_good h.surveys + for_good k.surveys = sums (λ s. cond {A = ℕ} (is_for_good s.finding) 1 0) in
+    let first : one.objects ≡ sum_by (total h.surveys) (codes_of both.rows) =
+    h.objects_are ∙ rows_within h.surveys b.surveys one.rows both.rows h.rows_are b.rows_are
+    (λ code. part (total b.surveys code) (total h.surveys code) (total k.surveys code) (totals code)) in
+    let second : other.objects ≡ sum_by (total k.surveys) (codes_of both.rows) =
+    k.objects_are ∙ rows_within k.surveys b.surveys other.rows both.rows k.rows_are b.rows_are
+    (λ code. rest (total b.surveys code) (total h.surveys code) (total k.surveys code) (totals code)) in
+    record {
+      soups = b.soups_are ∙ length-append numbers more ∙ (λ i. sym h.soups_are i + sym k.soups_are i);
+      unsettled = b.unsettled_are ∙ loose ∙ (λ i. sym h.unsettled_are i + sym k.unsettled_are i);
+      for_good = b.for_good_are ∙ good ∙ (λ i. sym h.for_good_are i + sym k.for_good_are i);
+      objects = b.objects_are ∙ rows_summed b.surveys both.rows b.rows_are.each
+          ∙ sum_of_two (total h.surveys) (total k.surveys) (total b.surveys) (codes_of both.rows) totals ∙ (λ i. sym first i + sym second i);
+      totals = λ code. row_total b.surveys both.rows b.rows_are code ∙ totals code
+          ∙ (λ i. sym (row_total h.surveys one.rows h.rows_are code) i + sym (row_total k.surveys other.rows k.rows_are code) i);
+    }
+  where
+    part : (a b c : ℕ) → a ≡ b + c → b ≤ a
+    part a b c e = omega arith
+
+    rest : (a b c : ℕ) → a ≡ b + c → c ≤ a
+    rest a b c e = omega arith
