@@ -14,6 +14,7 @@ mod MissingLemmas
 mod NormalLemmas
 mod NumberLemmas
 mod RangeLemmas
+mod ReportLemmas
 mod RowLemmas
 mod SampleLemmas
 mod StandLemmas

@@ -12,6 +12,7 @@ pub mod RangeListSteps
 pub mod RangeLists
 pub mod RangeSteps
 pub mod Ranges
+pub mod ReportLines
 pub mod Reports
 pub mod RowSteps
 pub mod Rows

@@ -18,6 +18,8 @@ pub mod range;
 pub mod range_list;
 /// What a worker reports of a soup.
 pub mod report;
+/// Reports as lines of text.
+pub mod report_line;
 /// The rows of a census.
 pub mod row;
 /// The least numbers of soups that have an object.
