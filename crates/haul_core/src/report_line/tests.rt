@@ -7,7 +7,7 @@ use std::test::Fail;
 use survey_core::job::Job;
 use survey_core::seed::Seed;
 
-/// Reports of a worker of soups of Life with the empty seed.
+/// The report of a worker of a soup of Life with the empty seed.
 fn report(alloc: Global, profile: Profile, worker: u8, number: u32) -> Result<Report, Fail> {
     let job = Job {
         seed: Seed::new("")?,
@@ -26,14 +26,33 @@ const UNSETTLED: &str = "report 2 rule=b3s23 profile=1,1,1,0 seed= worker=2 soup
 report 2 rule=b3s23 profile=1,1,1,0 seed= worker=2 soup=1 unsettled
 ";
 
+/// The lines of the soups with so many numbers from the first on, found by this worker.
+fn lines(
+    alloc: Global,
+    profile: Profile,
+    worker: u8,
+    first: u32,
+    count: u32,
+) -> Result<Vec<u8>, Fail> {
+    let mut text = Vec::new(alloc);
+    for place in 0..count {
+        let line = line(alloc, profile, worker, first.saturating_add(place))?;
+        text.extend_from_slice(line.as_slice())?;
+    }
+    Ok(text)
+}
+
+/// The line of one soup.
+fn line(alloc: Global, profile: Profile, worker: u8, number: u32) -> Result<Vec<u8>, Fail> {
+    let mut out = Out::new(Vec::new(alloc));
+    write_report_line(&report(alloc, profile, worker, number)?, &mut out)?;
+    Ok(out.into_inner())
+}
+
 #[test]
 fn writes_two_unsettled_soups(rt: HostRuntime) -> Result<(), Fail> {
-    let alloc = rt.alloc();
-    let mut out = Out::new(Vec::new(alloc));
-    for number in 0..2 {
-        write_report_line(&report(alloc, small()?, 2, number)?, &mut out)?;
-    }
-    assert_eq!(rt; out.into_inner().as_slice(), UNSETTLED.as_bytes());
+    let text = lines(rt.alloc(), small()?, 2, 0, 2)?;
+    assert_eq!(rt; text.as_slice(), UNSETTLED.as_bytes());
     Ok(())
 }
 
@@ -41,12 +60,8 @@ fn writes_two_unsettled_soups(rt: HostRuntime) -> Result<(), Fail> {
 // definitions alone.
 #[test]
 fn writes_what_twenty_soups_leave(rt: HostRuntime) -> Result<(), Fail> {
-    let alloc = rt.alloc();
-    let mut out = Out::new(Vec::new(alloc));
-    for number in 100..120 {
-        write_report_line(&report(alloc, Profile::standard(), 3, number)?, &mut out)?;
-    }
-    assert_eq!(rt; out.into_inner().as_slice(), TWENTY.as_bytes());
+    let text = lines(rt.alloc(), Profile::standard(), 3, 100, 20)?;
+    assert!(rt; text.as_slice() == TWENTY.as_bytes());
     Ok(())
 }
 
