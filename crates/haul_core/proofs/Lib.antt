@@ -3,6 +3,7 @@ mod CensusLemmas
 mod CutLemmas
 mod DecimalLemmas
 mod FaultLemmas
+mod FieldLemmas
 mod JobLemmas
 mod JoinLemmas
 mod JoinedSamples

@@ -1,6 +1,7 @@
 pub mod BookSteps
 pub mod Books
 pub mod Censuses
+pub mod FieldSteps
 pub mod HaulLaws
 pub mod HaulTexts
 pub mod Jobs

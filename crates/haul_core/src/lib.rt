@@ -7,6 +7,7 @@ pub mod arrival;
 pub mod book;
 /// What the taken soups left.
 pub mod census;
+mod field;
 /// Which soups of a job have been taken.
 pub mod haul;
 /// What a census says, as text.
