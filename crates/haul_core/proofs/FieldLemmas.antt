@@ -1,6 +1,6 @@
 -- Why the text of a field is what it is read as, and nothing else.
 use Rattle.std.proofs.Common.{◌≡◌, ◌≢◌, ◌∙◌, ◌+◌, ◌<◌, ◌≤◌, ◌^◌, ◌++◌, ◌==◌, ◌-◌, ◌||◌, ◌&&◌, ◌∷◌, ℕ, zero, suc, Bool, true, false, not, List, [], ap, sym, refl, decimal, length, arith, append-nil}
-use Rattle.std.proofs.Common.{IsTrue, inl, inr, Option, Ok, Err, if◌then◌else◌, nat_le, cond, drop, take, nat_lt, position, None, Some}
+use Rattle.std.proofs.Common.{IsTrue, codes, inl, inr, Option, Ok, Err, if◌then◌else◌, nat_le, cond, drop, take, nat_lt, position, None, Some}
 use Rattle.std.proofs.lemmas.Bool.{eqb-true, leb-true, ltb-false, ltb-true}
 use Rattle.std.proofs.lemmas.Fmt.{decimal_injective}
 use Rattle.std.proofs.lemmas.List.{append_cancel_left, take_rest}
@@ -12,6 +12,7 @@ use Rattle.plane_core.specs.Rules.{IsRule, Numbers, digits, rule_text}
 use Rattle.survey_core.specs.Seeds.{IsSeed, is_invisible, is_visible, seed_read, seed_with_fault}
 use Rattle.survey_core.specs.declared.seed.SeedError.TheVariants.{TooLong}
 use Rattle.haul_core.specs.FieldSteps.{IsNumber, IsVersion, Lacks, Tells}
+use Rattle.haul_core.specs.ReportLines.{mark_field}
 use Rattle.haul_core.specs.RangeListSteps.{BeginsDecimal, BeginsNoDecimal, has_digit}
 use Rattle.haul_core.proofs.CutLemmas.{Ends, cut}
 use Rattle.haul_core.proofs.DecimalLemmas.{IsDecimal-decimal}
@@ -170,3 +171,9 @@ not_from_to false e h l m = let found : false ≡ true = h (l, m) in absurd (cc)
 pub version_bounds : (v : ℕ) → IsVersion v → 1 ≤ v × v ≤ 2
 version_bounds v (inl e) = (omega arith, omega arith)
 version_bounds v (inr e) = (omega arith, omega arith)
+
+-- a field that is neither mark
+pub two_marks : (field : List ℕ) (for_good : Bool) → field ≢ codes "good=yes" → field ≢ codes "good=no" → field ≢ mark_field for_good
+unfolding mark_field
+two_marks field true y n e = y e
+two_marks field false y n e = n e

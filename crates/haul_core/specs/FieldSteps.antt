@@ -1,5 +1,5 @@
 -- How the fields of a report line are cut out and read.
-use Rattle.std.specs.Prelude.{◌≡◌, ◌≢◌, ◌<◌, ◌^◌, ◌==◌, ◌⊎◌, ◌++◌, ℕ, false, List, ◌∷◌, Option, None, Some}
+use Rattle.std.specs.Prelude.{◌≡◌, ◌≢◌, ◌<◌, ◌^◌, ◌==◌, ◌⊎◌, ◌++◌, ℕ, Bool, false, List, ◌∷◌, Option, None, Some}
 use Rattle.std.specs.List.{list_any}
 
 abbrev pub Lacks : ℕ → List ℕ → Type 0
@@ -20,3 +20,7 @@ IsNumber n = n < 2 ^ 64
 
 abbrev pub IsVersion : ℕ → Type 0
 IsVersion n = (n ≡ 1) ⊎ (n ≡ 2)
+
+-- both marks may be told
+abbrev pub IsAnyMark : Bool → Type 0
+IsAnyMark for_good = Unit {0}

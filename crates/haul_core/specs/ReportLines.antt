@@ -78,11 +78,15 @@ head_fields claim =
     ∷ (codes "soup=" ++ decimal claim.number)
     ∷ []
 
--- whether the objects stay for good, if the line says so
+-- whether the objects stay for good
+unfoldable pub mark_field : Bool → List ℕ
+mark_field true = codes "good=yes"
+mark_field false = codes "good=no"
+
+-- the mark, if the line has one
 unfoldable pub mark_fields : Option Bool → List (List ℕ)
 mark_fields None = []
-mark_fields (Some true) = codes "good=yes" ∷ []
-mark_fields (Some false) = codes "good=no" ∷ []
+mark_fields (Some for_good) = mark_field for_good ∷ []
 
 -- a code and how many objects have it
 abbrev pub count_field : (List ℕ × ℕ) → List ℕ

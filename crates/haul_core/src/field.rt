@@ -2,10 +2,9 @@
 
 ghost use Rattle.std.specs.Prelude.{◌≡◌, ◌≢◌, ◌↔◌, ◌<◌, ◌≤◌, ◌^◌, ◌++◌, ◌==◌, ℕ, IsTrue, List, MatchOption, codes, decimal, option_map, position};
 ghost use Rattle.plane_core.specs.Rules.{IsRule, rule_text};
-ghost use Rattle.survey_core.specs.Profiles.{IsProfile};
 ghost use Rattle.survey_core.specs.Seeds.{IsSeed};
-ghost use Rattle.haul_core.specs.FieldSteps.{Cuts, IsNumber, IsVersion, Tells};
-ghost use Rattle.haul_core.specs.ReportLines.{profile_field};
+ghost use Rattle.haul_core.specs.FieldSteps.{Cuts, IsAnyMark, IsNumber, IsVersion, Tells};
+ghost use Rattle.haul_core.specs.ReportLines.{mark_field};
 ghost use Rattle.haul_core.specs.Reports.{IsWorker};
 
 use crate::range_list::first_decimal;
@@ -134,5 +133,17 @@ fn seed_of(text: &[u8]) -> Option<Seed>
     match Seed::new(text) {
         Ok(seed) => Some(seed),
         Err(_) => None,
+    }
+}
+
+/// Whether objects stay for good, as a field says.
+#[tactic(auto, unfolding(crate::specs::ReportLines::mark_field), using(crate::proofs::FieldLemmas::two_marks))]
+pub(crate) fn mark_in(field: &[u8]) -> Option<bool>
+    ensures { Tells IsAnyMark mark_field field.now result }
+{
+    match field {
+        b"good=yes" => Some(true),
+        b"good=no" => Some(false),
+        _ => None,
     }
 }

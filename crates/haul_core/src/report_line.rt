@@ -91,7 +91,7 @@ fn put_settled<W: Write>(
 }
 
 /// Writes whether objects stay for good, with a space before it.
-#[tactic(auto, unfolding(crate::specs::ReportLines::mark_fields))]
+#[tactic(auto, unfolding(crate::specs::ReportLines::mark_field, crate::specs::ReportLines::mark_fields))]
 fn put_mark<W: Write>(out: &mut Out<W>, for_good: bool) -> Result<(), WriteError>
     requires { out.old.failed ≡ false }
     ensures { Writes W.contents out.old out.new result (flat_map spaced (mark_fields (Some for_good))) }
