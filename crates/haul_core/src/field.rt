@@ -1,7 +1,9 @@
 //! Pieces of a report line: a text is cut at a byte, and each field is read from its whole text.
 
 ghost use Rattle.std.specs.Prelude.{◌≡◌, ◌≢◌, ◌↔◌, ◌<◌, ◌≤◌, ◌^◌, ◌++◌, ◌==◌, ℕ, IsTrue, List, MatchOption, codes, decimal, option_map, position};
+ghost use Rattle.std.specs.List.{list_all};
 ghost use Rattle.plane_core.specs.Rules.{IsRule, rule_text};
+ghost use Rattle.code_core.specs.Apgcodes.{HasCodeShape, is_code_byte};
 ghost use Rattle.survey_core.specs.Seeds.{IsSeed};
 ghost use Rattle.haul_core.specs.FieldSteps.{Cuts, IsAnyMark, IsNumber, IsVersion, Tells};
 ghost use Rattle.haul_core.specs.ReportLines.{mark_field};
@@ -146,4 +148,27 @@ pub(crate) fn mark_in(field: &[u8]) -> Option<bool>
         b"good=no" => Some(false),
         _ => None,
     }
+}
+
+/// Whether a text is a code that a field may name: 1 to 400 bytes, each one of `a` to `z`, `0` to `9` and `_`.
+pub(crate) fn is_code(text: &[u8]) -> bool
+    ensures { IsTrue result ↔ HasCodeShape text.now }
+{
+    let length = text.len();
+    1 <= length && length <= 400 && are_code_bytes(text)
+}
+
+/// Whether all bytes may stand in a code.
+fn are_code_bytes(text: &[u8]) -> bool
+    ensures { result ≡ list_all is_code_byte text.now }
+{
+    text.iter().all(|byte| is_code_byte(*byte))
+}
+
+/// Whether the byte may stand in a code.
+#[tactic(auto, unfolding(code_core::specs::Tokens::is_character))]
+fn is_code_byte(byte: u8) -> bool
+    ensures { result ≡ is_code_byte byte }
+{
+    byte.is_ascii_digit() || byte.is_ascii_lowercase() || byte == b'_'
 }
