@@ -104,7 +104,7 @@ refused_after ranges front there words some refused = λ qs each x same s.
     go qs x same s [] each t some = some refl
     go qs x same s (w ∷ ws) each t some = refused w ws each.0 x same (sym (joined-cons w ws) ∙ t)
 
-first_digit : (d x : List ℕ) → IsDecimal d → has_digit (d ++ x) ≡ true
+pub first_digit : (d x : List ℕ) → IsDecimal d → has_digit (d ++ x) ≡ true
 first_digit [] x h = absurd (let s = h.some in omega arith)
 first_digit (a ∷ d) x h = let s = h.digits in search (rules)
 
@@ -119,7 +119,7 @@ refused_first there none = λ w ws each x same s.
     let f = same_digit there x same in
     absurd (cc)
 
-zero_first : (n : ℕ) → n ≡ 0 → slice_index (decimal n) 0 ≡ 48
+pub zero_first : (n : ℕ) → n ≡ 0 → slice_index (decimal n) 0 ≡ 48
 zero_first n z = ap (λ (m : ℕ). slice_index (decimal m) 0) z ∙ ap (λ (t : List ℕ). slice_index t 0) (decimal_digit 0 (omega arith))
 
 -- the decimal ends before the text, and before each that has the same byte in front
@@ -176,7 +176,7 @@ all_digits_front (a ∷ d) (b ∷ e) x y digits none s =
     λ i. same i ∷ more i
 
 -- a decimal of 64 bits doesn't begin with one of 2^64 or more
-small_decimal : (n : ℕ) (x there : List ℕ) → n < 2 ^ 64 → has_digit x ≡ false → BeginsLargeDecimal there → decimal n ++ x ≢ there
+pub small_decimal : (n : ℕ) (x there : List ℕ) → n < 2 ^ 64 → has_digit x ≡ false → BeginsLargeDecimal there → decimal n ++ x ≢ there
 small_decimal n x there word none b s =
     let front = all_digits_front (decimal n) b.number x b.rest b.is_decimal.digits none (s ∙ b.spelled) in
     let less = digits_value-take-le 10 (decimal n) (length b.number) (omega arith) in

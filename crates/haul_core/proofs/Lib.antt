@@ -3,6 +3,7 @@ mod CensusLemmas
 mod CutLemmas
 mod DecimalLemmas
 mod FaultLemmas
+mod FieldLemmas
 mod JobLemmas
 mod JoinLemmas
 mod JoinedSamples
@@ -15,6 +16,7 @@ mod MissingLemmas
 mod NormalLemmas
 mod NumberLemmas
 mod RangeLemmas
+mod ReportLemmas
 mod RowLemmas
 mod SampleLemmas
 mod StandLemmas

@@ -1,6 +1,8 @@
 pub mod BookSteps
 pub mod Books
 pub mod Censuses
+pub mod Claims
+pub mod FieldSteps
 pub mod HaulLaws
 pub mod HaulTexts
 pub mod Jobs
@@ -12,6 +14,7 @@ pub mod RangeListSteps
 pub mod RangeLists
 pub mod RangeSteps
 pub mod Ranges
+pub mod ReportLines
 pub mod Reports
 pub mod RowSteps
 pub mod Rows

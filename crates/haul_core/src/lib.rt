@@ -7,6 +7,7 @@ pub mod arrival;
 pub mod book;
 /// What the taken soups left.
 pub mod census;
+mod field;
 /// Which soups of a job have been taken.
 pub mod haul;
 /// What a census says, as text.
@@ -20,6 +21,8 @@ pub mod range;
 pub mod range_list;
 /// What a worker reports of a soup.
 pub mod report;
+/// Reports as lines of text.
+pub mod report_line;
 /// The rows of a census.
 pub mod row;
 /// The least numbers of soups that have an object.

@@ -143,7 +143,7 @@ fn first_range(text: &[u8]) -> Result<(Range, &[u8]), &[u8]>
 /// The decimal at the front of a text and the text after it. There is none if no digit stands there, or if the number is
 /// 2^64 or more. After a `0` the decimal ends.
 #[tactic(auto, using(crate::proofs::DecimalLemmas::begins_zero))]
-fn first_decimal(text: &[u8]) -> Option<(u64, &[u8])>
+pub(crate) fn first_decimal(text: &[u8]) -> Option<(u64, &[u8])>
     ensures some { IfSome result (λ first. BeginsDecimal text.now first.0 first.1.now) }
     ensures none { IfNone result (BeginsNoDecimal text.now) }
 {

@@ -1,0 +1,51 @@
+-- Which lines are those of claims, and where the first fault of any other line is.
+use Rattle.std.specs.Prelude.{◌≡◌, ◌⊎◌, ◌++◌, ℕ, List, [], ◌∷◌, codes, flat_map, length}
+use Rattle.haul_core.specs.FieldSteps.{Lacks}
+use Rattle.haul_core.specs.HaulTexts.{line_of}
+use Rattle.haul_core.specs.RangeListSteps.{has_byte}
+use Rattle.haul_core.specs.ReportLines.{Claimed, IsClaim, claim_line, found_fields, head_fields}
+
+-- the bytes are the line of a lawful claim
+pub record IsClaimLine (line : List ℕ) : Type 0 where
+  pub claim : Claimed
+  pub lawful : IsClaim claim
+  pub spelled : claim_line claim ≡ line
+
+-- all fields of a claim's line
+abbrev pub fields_of : Claimed → List (List ℕ)
+fields_of claim = codes "report" ∷ (head_fields claim ++ found_fields claim.found)
+
+-- these are the first fields of some lawful claim
+pub record BeginClaim (fields : List (List ℕ)) : Type 0 where
+  pub claim : Claimed
+  pub lawful : IsClaim claim
+  pub more : List (List ℕ)
+  pub spelled : fields_of claim ≡ fields ++ more
+
+-- fields with a space after each
+abbrev pub followed : List (List ℕ) → List ℕ
+followed fields = flat_map (λ field. field ++ codes " ") fields
+
+-- A field begins at the place, and ends at the next space (32) or with the line. Those before it begin a claim, and with it they don't.
+pub record IsBadField (line : List ℕ) (place : ℕ) : Type 0 where
+  pub before : List (List ℕ)
+  pub field : List ℕ
+  pub rest : List ℕ
+  pub spelled : line ≡ followed before ++ (field ++ rest)
+  pub whole : Lacks 32 field × ((rest ≡ []) ⊎ has_byte 32 rest)
+  pub begins : BeginClaim before
+  pub there : ¬ BeginClaim (before ++ field ∷ [])
+  pub is : place ≡ length (followed before)
+
+-- The fields of the whole line begin a claim, and a field is missing after them: the place is the line's length.
+pub record LacksField (line : List ℕ) (place : ℕ) : Type 0 where
+  pub first : List ℕ
+  pub more : List (List ℕ)
+  pub spelled : line ≡ line_of first more
+  pub begins : BeginClaim (first ∷ more)
+  pub short : ¬ IsClaimLine line
+  pub is : place ≡ length line
+
+-- the first fault of a line from the left
+abbrev pub IsFirstFaultOf : List ℕ → ℕ → Type 0
+IsFirstFaultOf line place = IsBadField line place ⊎ LacksField line place

@@ -1,0 +1,174 @@
+//! Pieces of a report line: a text is cut at a byte, and each field is read from its whole text.
+
+ghost use Rattle.std.specs.Prelude.{◌≡◌, ◌≢◌, ◌↔◌, ◌<◌, ◌≤◌, ◌^◌, ◌++◌, ◌==◌, ℕ, IsTrue, List, MatchOption, codes, decimal, option_map, position};
+ghost use Rattle.std.specs.List.{list_all};
+ghost use Rattle.plane_core.specs.Rules.{IsRule, rule_text};
+ghost use Rattle.code_core.specs.Apgcodes.{HasCodeShape, is_code_byte};
+ghost use Rattle.survey_core.specs.Seeds.{IsSeed};
+ghost use Rattle.haul_core.specs.FieldSteps.{Cuts, IsAnyMark, IsNumber, IsVersion, Tells};
+ghost use Rattle.haul_core.specs.ReportLines.{mark_field};
+ghost use Rattle.haul_core.specs.Reports.{IsWorker};
+
+use crate::range_list::first_decimal;
+use plane_core::rule::Rule;
+use survey_core::seed::Seed;
+
+/// The front of a text up to the first such byte, and the text after the byte, if there is one.
+pub(crate) fn cut_at(byte: u8, text: &[u8]) -> (&[u8], Option<&[u8]>)
+    ensures { Cuts byte text.now result.0.now (option_map (λ rest. rest.now) result.1) }
+{
+    match place_of(byte, text) {
+        Some(place) => (&text[..place], Some(&text[place + 1..])),
+        None => (text, None),
+    }
+}
+
+/// The first place of a byte in a text.
+fn place_of(byte: u8, text: &[u8]) -> Option<usize>
+    ensures { result ≡ position (λ b. b == byte) text.now }
+{
+    text.iter().position(|own| *own == byte)
+}
+
+/// The number below 2^64 whose decimal the text is.
+#[tactic(auto, using(crate::proofs::FieldLemmas::whole_decimal, crate::proofs::FieldLemmas::no_decimal, crate::proofs::FieldLemmas::longer_decimal))]
+pub(crate) fn number_in(text: &[u8]) -> Option<u64>
+    ensures { Tells IsNumber decimal text.now result }
+{
+    let (number, rest) = first_decimal(text)?;
+    if rest.is_empty() { Some(number) } else { None }
+}
+
+/// The number below 2^64 whose decimal stands after a word.
+pub(crate) fn number_after(word: &[u8], field: &[u8]) -> Option<u64>
+    ensures { Tells IsNumber (λ n. word.now ++ decimal n) field.now result }
+{
+    number_in(after(word, field)?)
+}
+
+/// What stands after a word at the front of a field, if it stands there.
+fn after<'a>(word: &[u8], field: &'a [u8]) -> Option<&'a [u8]>
+    ensures { MatchOption result ((rest : List ℕ) → field.now ≢ word.now ++ rest) (λ rest. field.now ≡ word.now ++ rest.now) }
+{
+    field.strip_prefix(word)
+}
+
+/// The worker that a field names.
+pub(crate) fn worker_in(field: &[u8]) -> Option<u8>
+    ensures { Tells IsWorker (λ n. codes "worker=" ++ decimal n) field.now result }
+{
+    let number = number_after(b"worker=", field)?;
+    let known = is_from_to(1, 16, number);
+    if known { Some(number as u8) } else { None }
+}
+
+/// The version that a field names.
+pub(crate) fn version_in(field: &[u8]) -> Option<u8>
+    ensures { Tells IsVersion decimal field.now result }
+{
+    let number = number_in(field)?;
+    let known = is_from_to(1, 2, number);
+    if known { Some(number as u8) } else { None }
+}
+
+/// Whether n is one of the numbers from the least to the most.
+fn is_from_to(least: u64, most: u64, n: u64) -> bool
+    ensures { IsTrue result ↔ (least ≤ n × n ≤ most) }
+{
+    least <= n && n <= most
+}
+
+/// The number of a soup that a field names.
+pub(crate) fn soup_in(field: &[u8]) -> Option<u64>
+    ensures { Tells (λ n. n < 2 ^ 40) (λ n. codes "soup=" ++ decimal n) field.now result }
+{
+    let number = number_after(b"soup=", field)?;
+    if number < 1 << 40 { Some(number) } else { None }
+}
+
+/// The checkpoint that a field names.
+pub(crate) fn checkpoint_in(field: &[u8]) -> Option<u32>
+    ensures { Tells (λ n. n ≤ 100000) (λ n. codes "at=" ++ decimal n) field.now result }
+{
+    let number = number_after(b"at=", field)?;
+    if number <= 100_000 {
+        Some(number as u32)
+    } else {
+        None
+    }
+}
+
+/// The rule that a field names.
+pub(crate) fn rule_in(field: &[u8]) -> Option<Rule>
+    ensures { Tells IsRule (λ rule. codes "rule=" ++ rule_text rule) field.now result }
+{
+    rule_of(after(b"rule=", field)?)
+}
+
+/// The rule whose text the bytes are.
+fn rule_of(text: &[u8]) -> Option<Rule>
+    ensures { Tells IsRule rule_text text.now result }
+{
+    let Ok(text) = std::str::from_utf8(text) else {
+        return None;
+    };
+    match Rule::read(text) {
+        Ok(rule) => Some(rule),
+        Err(_) => None,
+    }
+}
+
+/// The seed that a field names.
+pub(crate) fn seed_in(field: &[u8]) -> Option<Seed>
+    ensures { Tells IsSeed (λ seed. codes "seed=" ++ seed) field.now result }
+{
+    seed_of(after(b"seed=", field)?)
+}
+
+/// The seed whose bytes these are.
+fn seed_of(text: &[u8]) -> Option<Seed>
+    ensures { Tells IsSeed (λ seed. seed) text.now result }
+{
+    let Ok(text) = std::str::from_utf8(text) else {
+        return None;
+    };
+    match Seed::new(text) {
+        Ok(seed) => Some(seed),
+        Err(_) => None,
+    }
+}
+
+/// Whether objects stay for good, as a field says.
+#[tactic(auto, unfolding(crate::specs::ReportLines::mark_field), using(crate::proofs::FieldLemmas::two_marks))]
+pub(crate) fn mark_in(field: &[u8]) -> Option<bool>
+    ensures { Tells IsAnyMark mark_field field.now result }
+{
+    match field {
+        b"good=yes" => Some(true),
+        b"good=no" => Some(false),
+        _ => None,
+    }
+}
+
+/// Whether a text is a code that a field may name: 1 to 400 bytes, each one of `a` to `z`, `0` to `9` and `_`.
+pub(crate) fn is_code(text: &[u8]) -> bool
+    ensures { IsTrue result ↔ HasCodeShape text.now }
+{
+    let length = text.len();
+    1 <= length && length <= 400 && are_code_bytes(text)
+}
+
+/// Whether all bytes may stand in a code.
+fn are_code_bytes(text: &[u8]) -> bool
+    ensures { result ≡ list_all is_code_byte text.now }
+{
+    text.iter().all(|byte| is_code_byte(*byte))
+}
+
+/// Whether the byte may stand in a code.
+#[tactic(auto, unfolding(code_core::specs::Tokens::is_character))]
+fn is_code_byte(byte: u8) -> bool
+    ensures { result ≡ is_code_byte byte }
+{
+    byte.is_ascii_digit() || byte.is_ascii_lowercase() || byte == b'_'
+}

@@ -1,0 +1,142 @@
+//! Report lines, by which workers on other machines say what they found.
+//!
+//! ```text
+//! report 2 rule=b3s23 profile=64,512,101,30300 seed= worker=1 soup=5 at=404 good=no xp2_7*3 xs4_33*2
+//! ```
+
+ghost use Rattle.std.specs.Prelude.{◌≡◌, ◌++◌, ℕ, List, Some, codes, false, flat_map};
+ghost use Rattle.plane_core.specs.Out.{Writes};
+ghost use Rattle.haul_core.specs.HaulTexts.{line_of, spaced};
+ghost use Rattle.haul_core.specs.ReportLines.{claim_of, count_field, found_fields, head_fields, mark_fields, profile_field, report_text, told_in};
+
+use crate::report::Report;
+use code_core::apgcode::Apgcode;
+use itoa::{Buffer, Integer};
+use plane_core::output::{Out, WriteError};
+use std::io::Write;
+use survey_core::finding::Finding;
+use survey_core::objects::Objects;
+use survey_core::profile::Profile;
+
+/// Writes the line of a report, in version 2, with the line feed that ends it. The `Out` must not have failed.
+///
+/// It takes no memory. Each word and number is a write, so the writer should be buffered, as by a `BufWriter`.
+///
+/// # Errors
+///
+/// [`WriteError`] if a write fails or takes no byte. The front of the line may have been written by then.
+pub fn write_report_line<W: Write>(report: &Report, out: &mut Out<W>) -> Result<(), WriteError>
+    requires { out.old.failed ≡ false }
+    ensures { Writes W.contents out.old out.new result (report_text report.now) }
+{
+    put_head(out, report)?;
+    put_finding(out, report.finding())?;
+    out.put(b"\n")
+}
+
+/// Writes the fields before the finding.
+fn put_head<W: Write>(out: &mut Out<W>, report: &Report) -> Result<(), WriteError>
+    requires { out.old.failed ≡ false }
+    ensures { Writes W.contents out.old out.new result (line_of (codes "report") (head_fields (claim_of 2 report.now))) }
+{
+    let job = report.job();
+    out.put(b"report 2 rule=")?;
+    job.rule.write_text(out)?;
+    put_profile(out, &job.profile)?;
+    out.put(b" seed=")?;
+    out.put(job.seed.bytes())?;
+    put_number(out, b" worker=", report.worker())?;
+    put_number(out, b" soup=", report.number())
+}
+
+/// Writes the field of a profile, with a space before it.
+fn put_profile<W: Write>(out: &mut Out<W>, profile: &Profile) -> Result<(), WriteError>
+    requires { out.old.failed ≡ false }
+    ensures { Writes W.contents out.old out.new result (spaced (profile_field profile.now)) }
+{
+    put_number(out, b" profile=", profile.period())?;
+    put_number(out, b",", profile.horizon())?;
+    put_number(out, b",", profile.stride())?;
+    put_number(out, b",", profile.limit())
+}
+
+/// Writes the fields of a finding, with a space before each.
+fn put_finding<W: Write>(out: &mut Out<W>, finding: &Finding) -> Result<(), WriteError>
+    requires { out.old.failed ≡ false }
+    ensures { Writes W.contents out.old out.new result (flat_map spaced (found_fields (told_in 2 finding.now))) }
+{
+    match finding {
+        Finding::Settled {
+            checkpoint,
+            objects,
+            for_good,
+        } => put_settled(out, *checkpoint, objects, *for_good),
+        Finding::Unsettled => out.put(b" unsettled"),
+    }
+}
+
+/// Writes the fields of a soup that settled, with a space before each.
+fn put_settled<W: Write>(
+    out: &mut Out<W>,
+    checkpoint: u32,
+    objects: &Objects,
+    for_good: bool,
+) -> Result<(), WriteError>
+    requires { out.old.failed ≡ false }
+    ensures { Writes W.contents out.old out.new result (flat_map spaced (found_fields (Some (record { checkpoint = checkpoint; for_good = Some for_good; counts = objects.now })))) }
+{
+    put_number(out, b" at=", checkpoint)?;
+    put_mark(out, for_good)?;
+    put_counts(out, objects.as_slice())
+}
+
+/// Writes whether objects stay for good, with a space before it.
+#[tactic(auto, unfolding(crate::specs::ReportLines::mark_field, crate::specs::ReportLines::mark_fields))]
+fn put_mark<W: Write>(out: &mut Out<W>, for_good: bool) -> Result<(), WriteError>
+    requires { out.old.failed ≡ false }
+    ensures { Writes W.contents out.old out.new result (flat_map spaced (mark_fields (Some for_good))) }
+{
+    if for_good {
+        out.put(b" good=yes")
+    } else {
+        out.put(b" good=no")
+    }
+}
+
+/// Writes a field for each code, with a space before each.
+fn put_counts<W: Write>(out: &mut Out<W>, counts: &[(Apgcode, u64)]) -> Result<(), WriteError>
+    requires { out.old.failed ≡ false }
+    ensures { Writes W.contents out.old out.new result (flat_map (λ object. spaced (count_field object)) counts.now) }
+{
+    for object in counts {
+        put_count(out, object)?;
+    }
+    Ok(())
+}
+
+/// Writes a code and how many objects have it, with a space before them.
+fn put_count<W: Write>(out: &mut Out<W>, object: &(Apgcode, u64)) -> Result<(), WriteError>
+    requires { out.old.failed ≡ false }
+    ensures { Writes W.contents out.old out.new result (spaced (count_field object.now)) }
+{
+    out.put(b" ")?;
+    out.put(object.0.text().as_bytes())?;
+    put_number(out, b"*", object.1)
+}
+
+/// Writes a word and a number in decimal right after it.
+fn put_number<W: Write, N: Integer>(
+    out: &mut Out<W>,
+    word: &[u8],
+    number: N,
+) -> Result<(), WriteError>
+    requires { out.old.failed ≡ false }
+    ensures { Writes W.contents out.old out.new result (word.now ++ N.text number) }
+{
+    let mut buffer = Buffer::new();
+    out.put(word)?;
+    out.put(buffer.format(number).as_bytes())
+}
+
+#[cfg(test)]
+mod tests;
