@@ -1,2 +1,3 @@
+mod BeltLemmas
 mod SumLemmas
 mod TicketLemmas

@@ -1,5 +1,7 @@
 //! The crew: one to sixteen workers that take the soups of one haul together, with no lock.
 #![tactic(auto)]
 
+/// A queue from several senders to one receiver.
+pub mod belt;
 /// Numbers that threads draw, each once.
 pub mod tickets;
