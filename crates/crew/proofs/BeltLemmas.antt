@@ -1,9 +1,9 @@
 -- Each atomic step keeps the rule of the belt.
 use Rattle.std.proofs.Common.{◌≡◌, ◌≢◌, ◌<◌, ◌≤◌, ◌+◌, ◌⊎◌, ℕ, zero, suc, Bool, true, false, true≢false, cond, nat_eq, List, [], ◌∷◌, ◌++◌, All}
-use Rattle.std.proofs.Common.{set, count_by, filter, map, sym, refl, ap, ◌∙◌, subst, arith, append_assoc, append-nil, inl, inr, ⊎_elim, get_or, length, length-append}
+use Rattle.std.proofs.Common.{set, count_by, drop, filter, map, sym, refl, ap, ◌∙◌, subst, arith, append_assoc, append-nil, inl, inr, ⊎_elim, get_or, length, length-append}
 use Rattle.std.specs.List.{sum_by}
 use Rattle.std.proofs.lemmas.Bool.{eq-eqb, ne_eqb}
-use Rattle.std.proofs.lemmas.List.Elements.{All-append, All-cons, All-head, All-nil, filter-append}
+use Rattle.std.proofs.lemmas.List.Elements.{All-append, All-cons, All-head, All-nil, All-tail, filter-append}
 use Rattle.std.proofs.lemmas.List.{map-append}
 use Rattle.std.proofs.lemmas.List.Sums.{sum_by-append, sum_by-cons, sum_by_push}
 use Rattle.crossbeam_queue.specs.Fifo.{Forks, Learns, Merges, Pops, Pushes}
@@ -15,8 +15,8 @@ use lib.ListN.{get_elem?}
 use Rattle.std.proofs.Common.{add-zero}
 use Rattle.std.specs.List.{range_with_len}
 use Rattle.atomic_table.specs.Seated.{TableId}
-use Rattle.crew.specs.Belts.{notes_of, silent}
-use Rattle.crew.specs.BeltRule.{Delivers, Gets, Holds, IsFront, Puts, Tells, both_shares, first_notes, first_share, new_sender, owners, owns, receives, share, spent_share, with_sender}
+use Rattle.crew.specs.Belts.{IsWhole, Presented, left_of, notes_of, silent}
+use Rattle.crew.specs.BeltRule.{Delivers, Gets, Holds, IsFront, Puts, Tells, both_shares, entry_of, first_notes, first_share, left_over, new_sender, owners, owns, receives, share, spent_share, with_sender, with_senders}
 use Rattle.crew.specs.declared.belt.Share.{Share}
 use Rattle.crew.proofs.SumLemmas.{each_push, each_set, sum_at, sum_set, sum_two}
 
@@ -266,3 +266,52 @@ module _ {N : Type 0} where
               }) j y e)
             (record { senders = All-nil (λ (e : ℕ × List N). e.1 ≡ notes_of e.0 all); got_is = λ t. absurd (off t); unmade = λ t. absurd (off t) })
       }
+
+  pub taken_more : (left old : List (Presented N)) (s : Presented N) (v w target : Share N) → old ≡ left ++ s ∷ [] → w ≡ with_senders (s ∷ []) v
+      → with_senders old v ≡ target → with_senders left w ≡ target
+  taken_more left old s v w target is one so_far =
+      ap (λ (u : Share N). with_senders left u) one
+      ∙ ap (λ (l : List (ℕ × List N)). share l v.receives v.made v.got)
+        (sym (append_assoc (map entry_of left) (entry_of s ∷ []) v.senders)
+          ∙ ap (λ (l : List (ℕ × List N)). l ++ v.senders) (sym (map-append entry_of left (s ∷ [])))
+          ∙ ap (λ (l : List (Presented N)). map entry_of l ++ v.senders) (sym is))
+      ∙ so_far
+
+  drop_front : (front more : List N) → drop (length front) (front ++ more) ≡ more
+  drop_front [] more = refl
+  drop_front (x ∷ xs) more = drop_front xs more
+
+  -- the passes that are handed back, with what the rule tells of them
+  pub told : (passes : List (Presented N)) (v : Share N) (items : List (ℕ × N)) → v.senders ≡ [] → Tells (with_senders passes v) items
+      → All (λ (p : Presented N). IsFront (notes_of p.number v.got) p.notes) passes
+  told passes v items none tells = go passes (subst (λ (l : List (ℕ × List N)). All (λ (e : ℕ × List N). e.1 ≡ notes_of e.0 (v.got ++ items)) l)
+        (ap (λ (l : List (ℕ × List N)). map entry_of passes ++ l) none ∙ append-nil (map entry_of passes)) tells)
+    where
+      go : (passes : List (Presented N)) → All (λ (e : ℕ × List N). e.1 ≡ notes_of e.0 (v.got ++ items)) (map entry_of passes)
+          → All (λ (p : Presented N). IsFront (notes_of p.number v.got) p.notes) passes
+      go [] all = All-nil (λ (p : Presented N). IsFront (notes_of p.number v.got) p.notes)
+      go (p ∷ ps) all =
+          All-cons (λ (p : Presented N). IsFront (notes_of p.number v.got) p.notes) p ps
+          (notes_of p.number items, All-head (λ (e : ℕ × List N). e.1 ≡ notes_of e.0 (v.got ++ items)) (entry_of p) (map entry_of ps) all ∙ notes-append p.number v.got items)
+          (go ps (All-tail (λ (e : ℕ × List N). e.1 ≡ notes_of e.0 (v.got ++ items)) (entry_of p) (map entry_of ps) all))
+
+  pub whole : (got : List (ℕ × N)) (passes : List (Presented N)) → All (λ (p : Presented N). IsFront (notes_of p.number got) p.notes) passes → All (IsWhole got) passes
+  whole got passes fronts k z lt =
+      let p = get_or passes k z in
+      let f = fronts k z lt in
+      let front = notes_of p.number got in
+      ap (λ (l : List N). front ++ l) (ap (λ (l : List N). drop (length front) l) f.1 ∙ drop_front front f.0) ∙ sym f.1
+
+  -- what is seen of the rest, and what it keeps
+  pub seen_rest : (passes : List (Presented N)) (v : Share N) → v.senders ≡ [] → map (left_over v.got) (with_senders passes v).senders ≡ map (left_of v.got) passes
+  seen_rest passes v none =
+      ap (λ (l : List (ℕ × List N)). map (left_over v.got) l) (ap (λ (l : List (ℕ × List N)). map entry_of passes ++ l) none ∙ append-nil (map entry_of passes)) ∙ go passes
+    where
+      go : (passes : List (Presented N)) → map (left_over v.got) (map entry_of passes) ≡ map (left_of v.got) passes
+      go [] = refl
+      go (p ∷ ps) = λ i. left_of v.got p ∷ go ps i
+
+  pub fronts_kept : (v : Share N) (items : List (ℕ × N)) → Tells v items → All (λ (e : ℕ × List N). IsFront (notes_of e.0 v.got) e.1) v.senders
+  fronts_kept v items tells k z lt =
+      let e = get_or v.senders k z in
+      (notes_of e.0 items, tells k z lt ∙ notes-append e.0 v.got items)

@@ -1,9 +1,9 @@
 -- The rule of the belt's queue. It holds between any two atomic steps, whatever the threads do.
-use Rattle.std.specs.Prelude.{◌≡◌, ◌<◌, ◌≤◌, ◌+◌, ◌++◌, ◌⊎◌, ℕ, Bool, true, false, List, [], ◌∷◌, All, count_by, cond, nat_eq}
+use Rattle.std.specs.Prelude.{◌≡◌, ◌<◌, ◌≤◌, ◌+◌, ◌++◌, ◌⊎◌, ℕ, Bool, true, false, List, [], ◌∷◌, All, count_by, cond, drop, length, map, nat_eq}
 use Rattle.std.specs.List.{sum_by}
 use mathlib.Core.Option.{some}
 use lib.ListN.{get_elem?}
-use Rattle.crew.specs.Belts.{notes_of}
+use Rattle.crew.specs.Belts.{Presented, notes_of}
 use Rattle.crew.specs.declared.belt.Share.{Share}
 
 module _ {N : Type 0} where
@@ -27,6 +27,14 @@ module _ {N : Type 0} where
   -- a pass that took another in
   abbrev pub both_shares : Share N → Share N → Share N
   both_shares v w = share (w.senders ++ v.senders) v.receives v.made v.got
+
+  -- number and notes of a sender's pass
+  abbrev pub entry_of : Presented N → ℕ × List N
+  entry_of pass = (pass.number, pass.notes)
+
+  -- the receiver that took in these passes
+  abbrev pub with_senders : List (Presented N) → Share N → Share N
+  with_senders passes v = share (map entry_of passes ++ v.senders) v.receives v.made v.got
 
   abbrev pub first_notes : List (ℕ × List N) → List N
   first_notes [] = []
@@ -68,6 +76,10 @@ module _ {N : Type 0} where
     pub got : w ≡ share v.senders v.receives v.made (v.got ++ x ∷ [])
     pub made : (1 ≤ x.0) × (x.0 ≤ v.made)
     pub fronts : All (λ e. IsFront (notes_of e.0 (v.got ++ x ∷ [])) e.1) v.senders
+
+  -- what is left of an entry once these were got
+  abbrev pub left_over : List (ℕ × N) → ℕ × List N → ℕ × List N
+  left_over got e = (e.0, drop (length (notes_of e.0 got)) e.1)
 
   -- what the queue holds is what was presented and not got
   abbrev pub Tells : Share N → List (ℕ × N) → Type 0

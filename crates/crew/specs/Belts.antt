@@ -1,5 +1,5 @@
 -- A belt: notes of several senders, for one receiver, each sender's in its order.
-use Rattle.std.specs.Prelude.{◌≡◌, ◌≤◌, ℕ, List, [], ◌∷◌, ◌++◌, filter, map, nat_eq, if◌then◌else◌}
+use Rattle.std.specs.Prelude.{◌≡◌, ◌≤◌, ℕ, List, [], ◌∷◌, ◌++◌, drop, filter, length, map, nat_eq, if◌then◌else◌}
 use Rattle.atomic_table.specs.Seated.{TableId}
 
 -- a belt: what tells it from any other, and how many senders were made for it
@@ -41,3 +41,11 @@ module _ {N : Type 0} where
     pub some_worker : (1 ≤ sender) × (sender ≤ old.belt.workers)
     pub belt : new.belt ≡ old.belt
     pub got : new.got ≡ old.got ++ (sender, note) ∷ []
+
+  -- what is left of a sender's notes once these were got: the sender's number, and the notes
+  abbrev pub left_of : List (ℕ × N) → Presented N → ℕ × List N
+  left_of got pass = (pass.number, drop (length (notes_of pass.number got)) pass.notes)
+
+  -- the notes that were got of the sender, and those that are left of it, are the notes that it presented, in its order
+  abbrev pub IsWhole : List (ℕ × N) → Presented N → Type 0
+  IsWhole got pass = notes_of pass.number got ++ drop (length (notes_of pass.number got)) pass.notes ≡ pass.notes

@@ -8,8 +8,8 @@
 ghost use Rattle.std.specs.Prelude.{◌≡◌, ◌<◌, ◌≤◌, ◌+◌, ◌∷◌, [], All, IfOk, IfSome, IfErr, OnOk, MatchResult, MatchOption, length, map, vec_capacity, true};
 ghost use Rattle.std.specs.List.{range_with_len};
 ghost use Rattle.crossbeam_queue.specs.Passes.{IsPassOf, IsSamePass, view};
-ghost use Rattle.crew.specs.Belts.{GotOne, Line, deaf, silent, with_note};
-ghost use Rattle.crew.specs.BeltRule.{first_share, share};
+ghost use Rattle.crew.specs.Belts.{GotOne, IsWhole, deaf, left_of, silent, with_note};
+ghost use Rattle.crew.specs.BeltRule.{first_share, share, with_senders};
 
 use crossbeam_queue::protocol::{Join, Lesson, Outcome, Protocol, Split};
 use crossbeam_queue::{Pass, RuledArrayQueue};
@@ -132,6 +132,26 @@ impl<N> Model for ReceiverPass<N> {
     ghost invariant = { λ r. (r.pass.me.0.client.receives ≡ true) × (r.pass.me.0.client.senders ≡ []) × (r.pass.me.1 ≡ []) };
 }
 
+/// What is left on a belt. Contracts see one list for each sender's pass that was handed back: its number, and the notes of
+/// it that are left, in order.
+#[derive(Drop)]
+pub struct Rest<N: Drop> {
+    queue: Queue<N>,
+    pass: Pass<(u8, N), Share<N>>,
+}
+
+impl<N: Drop> Model for Rest<N> {
+    ghost use Rattle.std.specs.Prelude.{◌≡◌, ℕ, List, All, [], map, true};
+    ghost use Rattle.crew.specs.Belts.{notes_of};
+    ghost use Rattle.crew.specs.BeltRule.{IsFront, left_over};
+
+    ghost Value = { List (ℕ × List N) };
+
+    ghost view = { λ r. map (left_over r.pass.me.0.client.got) r.pass.me.0.client.senders };
+
+    ghost invariant = { λ r. (r.pass.table_id ≡ r.queue.table.shared.table_id) × (r.pass.me.1 ≡ []) × (r.pass.me.0.client.receives ≡ true) × All (λ e. IsFront (notes_of e.0 r.pass.me.0.client.got) e.1) r.pass.me.0.client.senders };
+}
+
 impl<N: Drop> Belt<N> {
     /// A belt with room for so many notes, and the passes: one for each sender, numbered from 1 on, and the receiver's.
     ///
@@ -182,6 +202,20 @@ impl<N: Drop> Belt<N> {
             thread::yield_now();
         }
         unreachable!()
+    }
+
+    /// Ends the belt: what is left on it of the senders whose passes are handed back.
+    pub fn gather(self, senders: Vec<SenderPass<N>>, receiver: ReceiverPass<N>) -> Rest<N>
+        requires senders { All (λ s. s.belt ≡ self.name) senders.items }
+        requires receiver { receiver.belt ≡ self }
+        ensures left { result ≡ map (left_of receiver.got) senders.items }
+        ensures whole { All (IsWhole receiver.got) senders.items }
+    {
+        let Belt { queue, .. } = self;
+        let ReceiverPass { mut pass } = receiver;
+        take_in(&queue, &mut pass, senders);
+        queue.learn_as::<Get>(&mut pass);
+        Rest { queue, pass }
     }
 
     /// Presents a note if there is room.
@@ -246,4 +280,35 @@ fn make_sender<N: Drop>(
         pass: sender,
         number: made + 1,
     }
+}
+
+/// Takes in the passes of senders.
+fn take_in<N: Drop>(
+    queue: &Queue<N>,
+    pass: &mut Pass<(u8, N), Share<N>>,
+    mut senders: Vec<SenderPass<N>>,
+)
+    requires queue { IsPassOf queue.now pass.old }
+    requires senders { All (λ s. s.belt ≡ queue.now.table.shared.table_id) senders.items }
+    ensures queue { IsSamePass pass.old pass.new }
+    ensures taken { view pass.new ≡ with_senders senders.items (view pass.old) }
+{
+    while let Some(sender) = senders.pop() {
+        take_in_one(queue, pass, sender);
+    }
+}
+
+/// Takes in the pass of one sender.
+fn take_in_one<N: Drop>(
+    queue: &Queue<N>,
+    pass: &mut Pass<(u8, N), Share<N>>,
+    sender: SenderPass<N>,
+)
+    requires queue { IsPassOf queue.now pass.old }
+    requires sender { sender.belt ≡ queue.now.table.shared.table_id }
+    ensures queue { IsSamePass pass.old pass.new }
+    ensures taken { view pass.new ≡ with_senders (sender ∷ []) (view pass.old) }
+{
+    let SenderPass { pass: other, .. } = sender;
+    queue.absorb::<TakeIn>(pass, other);
 }
