@@ -1,7 +1,6 @@
 -- Each atomic step keeps the rule of the belt.
 use Rattle.std.proofs.Common.{◌≡◌, ◌≢◌, ◌<◌, ◌≤◌, ◌+◌, ◌⊎◌, ℕ, zero, suc, Bool, true, false, true≢false, cond, nat_eq, List, [], ◌∷◌, ◌++◌, All}
 use Rattle.std.proofs.Common.{set, count_by, drop, filter, map, sym, refl, ap, ◌∙◌, subst, arith, append_assoc, append-nil, inl, inr, ⊎_elim, get_or, length, length-append}
-use Rattle.std.specs.List.{sum_by}
 use Rattle.std.proofs.lemmas.Bool.{eq-eqb, ne_eqb}
 use Rattle.std.proofs.lemmas.List.Elements.{All-append, All-cons, All-head, All-nil, All-tail, filter-append}
 use Rattle.std.proofs.lemmas.List.{map-append}
@@ -41,7 +40,7 @@ module _ {N : Type 0} where
     got = [];
     one_sender = λ p. omega arith;
     one_receiver = omega arith;
-    holds = first_holds
+    holds = first_holds;
   }
     where
       first_holds : (j : ℕ) (v : Share N) → get_elem? (first_share {N = N} ∷ []) j ≡ some v → Holds {N = N} [] [] (owners {N = N} (first_share {N = N} ∷ [])) v
@@ -96,18 +95,18 @@ module _ {N : Type 0} where
       let same : (q : ℕ) → owns q w ≡ owns q v = λ q. sym (ap (λ (l : List (ℕ × List N)). count_by (λ (e : ℕ × List N). nat_eq q e.0) l) is) in
       let owned : (q : ℕ) → owners (set views id w) q ≡ owners views q = λ q. (let s = sum_set (owns q) views id v w at in let o = same q in omega arith) in
       let has : owns p v ≡ 1 =
-          (let a = same p in let b = is_one p p refl in
-            let c = sum_by-cons (λ (e : ℕ × List N). cond {A = ℕ} (nat_eq p e.0) 1 0) (p, first_notes v.senders ++ note ∷ []) [] in omega arith) in
+      (let a = same p in let b = is_one p p refl in
+      let c = sum_by-cons (λ (e : ℕ × List N). cond {A = ℕ} (nat_eq p e.0) 1 0) (p, first_notes v.senders ++ note ∷ []) [] in omega arith) in
       let present : 1 ≤ owners views p = (let s = sum_at (owns p) views id v at in omega arith) in
       let first : first_notes v.senders ≡ notes_of p all =
-          All-head (λ (e : ℕ × List N). e.1 ≡ notes_of e.0 all) (p, first_notes v.senders) []
-          (subst (All (λ (e : ℕ × List N). e.1 ≡ notes_of e.0 all)) is mine.senders) in
+      All-head (λ (e : ℕ × List N). e.1 ≡ notes_of e.0 all) (p, first_notes v.senders) []
+      (subst (All (λ (e : ℕ × List N). e.1 ≡ notes_of e.0 all)) is mine.senders) in
       let unmade : (u : Share N) → Holds all d.got (owners views) u → u.receives ≡ true → (q : ℕ) → (q ≡ 0) ⊎ (u.made < q)
-              → (notes_of q (all ++ (p, note) ∷ []) ≡ []) × (owners (set views id w) q ≡ 0) =
-          λ u h r q un. (
-            notes_keep p q note all (λ e. let b : owners views p ≡ 0 = subst (λ (k : ℕ). owners views k ≡ 0) e (h.unmade r q un).1 in omega arith) ∙ (h.unmade r q un).0,
-            owned q ∙ (h.unmade r q un).1,
-          ) in (
+      → (notes_of q (all ++ (p, note) ∷ []) ≡ []) × (owners (set views id w) q ≡ 0) =
+      λ u h r q un. (
+        notes_keep p q note all (λ e. let b : owners views p ≡ 0 = subst (λ (k : ℕ). owners views k ≡ 0) e (h.unmade r q un).1 in omega arith) ∙ (h.unmade r q un).0,
+        owned q ∙ (h.unmade r q un).1,
+      ) in (
         w,
         record {
           got = d.got;
@@ -115,21 +114,21 @@ module _ {N : Type 0} where
           one_receiver = let s = sum_set receives views id v w at in let b = d.one_receiver in omega arith;
           holds = each_set (Holds (d.got ++ (items ++ (p, note) ∷ [])) d.got (owners (set views id w))) views id w
               (λ j u apart e.
-                let h = d.holds j u e in
-                let others : All (λ (e : ℕ × List N). e.0 ≢ p) u.senders =
-                    unowned p u.senders (let s = sum_two (owns p) views j id u v apart e at in let b = d.one_sender p in omega arith) in
-                subst (λ (l : List (ℕ × N)). Holds l d.got (owners (set views id w)) u) more (record {
-                  senders = λ k z lt. h.senders k z lt ∙ sym (notes_keep p (get_or u.senders k z).0 note all (others k z lt));
-                  got_is = h.got_is;
-                  unmade = unmade u h
-                }))
+              let h = d.holds j u e in
+              let others : All (λ (e : ℕ × List N). e.0 ≢ p) u.senders =
+              unowned p u.senders (let s = sum_two (owns p) views j id u v apart e at in let b = d.one_sender p in omega arith) in
+              subst (λ (l : List (ℕ × N)). Holds l d.got (owners (set views id w)) u) more (record {
+                senders = λ k z lt. h.senders k z lt ∙ sym (notes_keep p (get_or u.senders k z).0 note all (others k z lt));
+                got_is = h.got_is;
+                unmade = unmade u h;
+              }))
               (subst (λ (l : List (ℕ × N)). Holds l d.got (owners (set views id w)) w) more (record {
                 senders = All-cons (λ (e : ℕ × List N). e.1 ≡ notes_of e.0 (all ++ (p, note) ∷ [])) (p, first_notes v.senders ++ note ∷ []) []
                     (ap (λ (l : List N). l ++ note ∷ []) first ∙ sym (notes_grow p note all))
                     (All-nil (λ (e : ℕ × List N). e.1 ≡ notes_of e.0 (all ++ (p, note) ∷ [])));
                 got_is = mine.got_is;
-                unmade = unmade v mine
-              }))
+                unmade = unmade v mine;
+              }));
         },
         refl,
       )
@@ -142,9 +141,9 @@ module _ {N : Type 0} where
       let mine = d.holds id v at in
       let owned : (q : ℕ) → owners (set views id w) q ≡ owners views q = λ q. (let s = sum_set (owns q) views id v w at in omega arith) in
       let there : (q : ℕ) → q ≡ x.0 → notes_of q (d.got ++ (x ∷ items)) ≢ [] =
-          λ q e none. (let a : length (notes_of q d.got ++ (x.1 ∷ notes_of q items)) ≡ 0 =
-              ap length (ap (λ (l : List N). notes_of q d.got ++ l) (sym (notes_first x.0 q x.1 items e)) ∙ sym (notes-append q d.got (x ∷ items)) ∙ none) in
-            omega (arith, length-append (notes_of q d.got) (x.1 ∷ notes_of q items))) in
+      λ q e none. (let a : length (notes_of q d.got ++ (x.1 ∷ notes_of q items)) ≡ 0 =
+      ap length (ap (λ (l : List N). notes_of q d.got ++ l) (sym (notes_first x.0 q x.1 items e)) ∙ sym (notes-append q d.got (x ∷ items)) ∙ none) in
+      omega (arith, length-append (notes_of q d.got) (x.1 ∷ notes_of q items))) in
       let is_got : v.got ≡ d.got = mine.got_is may in (
         w,
         record {
@@ -153,19 +152,19 @@ module _ {N : Type 0} where
           one_receiver = let s = sum_set receives views id v w at in let b = d.one_receiver in omega arith;
           holds = each_set (Holds (got ++ items) got (owners (set views id w))) views id w
               (λ j u apart e.
-                let h = d.holds j u e in
-                let no : u.receives ≡ true → ⊥ =
-                    λ r. (let s = sum_two receives views j id u v apart e at in let a = receives_one u r in let b = receives_one v may in let c = d.one_receiver in omega arith) in
-                record {
-                  senders = subst (λ (l : List (ℕ × N)). All (λ (e : ℕ × List N). e.1 ≡ notes_of e.0 l) u.senders) same h.senders;
-                  got_is = λ r. absurd (no r);
-                  unmade = λ r. absurd (no r)
-                })
+              let h = d.holds j u e in
+              let no : u.receives ≡ true → ⊥ =
+              λ r. (let s = sum_two receives views j id u v apart e at in let a = receives_one u r in let b = receives_one v may in let c = d.one_receiver in omega arith) in
+              record {
+                senders = subst (λ (l : List (ℕ × N)). All (λ (e : ℕ × List N). e.1 ≡ notes_of e.0 l) u.senders) same h.senders;
+                got_is = λ r. absurd (no r);
+                unmade = λ r. absurd (no r);
+              })
               (record {
                 senders = subst (λ (l : List (ℕ × N)). All (λ (e : ℕ × List N). e.1 ≡ notes_of e.0 l) v.senders) same mine.senders;
                 got_is = λ r. ap (λ (l : List (ℕ × N)). l ++ x ∷ []) (mine.got_is r);
-                unmade = λ r q un. (ap (notes_of q) (sym same) ∙ (mine.unmade r q un).0, owned q ∙ (mine.unmade r q un).1)
-              })
+                unmade = λ r q un. (ap (notes_of q) (sym same) ∙ (mine.unmade r q un).0, owned q ∙ (mine.unmade r q un).1);
+              });
         },
         record {
           got = refl;
@@ -174,9 +173,10 @@ module _ {N : Type 0} where
             elim (dec_le x.0 v.made) [ yes h ↦ h | no h ↦ absurd (there x.0 refl (mine.unmade may x.0 (inr (omega arith))).0) ],
           );
           fronts = λ k z lt.
-              let q : ℕ = (get_or v.senders k z).0 in
-              (notes_of q items,
-                mine.senders k z lt ∙ ap (notes_of q) (same ∙ ap (λ (l : List (ℕ × N)). (l ++ x ∷ []) ++ items) (sym is_got)) ∙ notes-append q (v.got ++ x ∷ []) items)
+              let q : ℕ = (get_or v.senders k z).0 in (
+                notes_of q items,
+                mine.senders k z lt ∙ ap (notes_of q) (same ∙ ap (λ (l : List (ℕ × N)). (l ++ x ∷ []) ++ items) (sym is_got)) ∙ notes-append q (v.got ++ x ∷ []) items,
+              );
         },
       )
 
@@ -195,7 +195,7 @@ module _ {N : Type 0} where
       let mine = d.holds id v at in
       let unused : (notes_of k all ≡ []) × (owners views k ≡ 0) = mine.unmade may k (inr (omega arith)) in
       let owned : (q : ℕ) → owners (vs ++ r ∷ []) q ≡ owners views q + cond {A = ℕ} (nat_eq q k) 1 0 =
-          λ q. (let s = sum_set (owns q) views id v l at in let t = sum_by_push (owns q) vs r in omega arith) in
+      λ q. (let s = sum_set (owns q) views id v l at in let t = sum_by_push (owns q) vs r in omega arith) in
       let not_one : (q : ℕ) → q ≢ k → owners (vs ++ r ∷ []) q ≡ owners views q = λ q ne. (let a = owned q in let b = is_none q k ne in omega arith) in
       record {
         got = d.got;
@@ -206,23 +206,23 @@ module _ {N : Type 0} where
             let s = sum_set receives views id v l at in let t = sum_by_push receives vs r in let b = d.one_receiver in omega arith;
         holds = each_push (Holds all d.got (owners (vs ++ r ∷ []))) vs r
             (each_set (Holds all d.got (owners (vs ++ r ∷ []))) views id l
-              (λ j u apart e.
-                let h = d.holds j u e in
-                let no : u.receives ≡ true → ⊥ =
-                    λ t. (let s = sum_two receives views j id u v apart e at in let a = receives_one u t in let b = receives_one v may in let c = d.one_receiver in omega arith) in
-                record { senders = h.senders; got_is = h.got_is; unmade = λ t. absurd (no t) })
-              (record {
-                senders = mine.senders;
-                got_is = mine.got_is;
-                unmade = λ _ q un.
-                    let m = mine.unmade may q (⊎_elim (λ z. inl z) (λ lt. inr (omega arith)) un) in
-                    (m.0, not_one q (λ e. ⊎_elim (λ z. omega arith) (λ lt. omega arith) un) ∙ m.1)
-              }))
+            (λ j u apart e.
+            let h = d.holds j u e in
+            let no : u.receives ≡ true → ⊥ =
+            λ t. (let s = sum_two receives views j id u v apart e at in let a = receives_one u t in let b = receives_one v may in let c = d.one_receiver in omega arith) in
+            record { senders = h.senders; got_is = h.got_is; unmade = λ t. absurd (no t) })
+            (record {
+              senders = mine.senders;
+              got_is = mine.got_is;
+              unmade = λ _ q un.
+                  let m = mine.unmade may q (⊎_elim (λ z. inl z) (λ lt. inr (omega arith)) un) in
+                  (m.0, not_one q (λ e. ⊎_elim (λ z. omega arith) (λ lt. omega arith) un) ∙ m.1);
+            }))
             (record {
               senders = All-cons (λ (e : ℕ × List N). e.1 ≡ notes_of e.0 all) (k, []) [] (sym unused.0) (All-nil (λ (e : ℕ × List N). e.1 ≡ notes_of e.0 all));
               got_is = λ t. absurd (off t);
-              unmade = λ t. absurd (off t)
-            })
+              unmade = λ t. absurd (off t);
+            });
       }
 
   -- the passes made so far, and one more
@@ -244,12 +244,12 @@ module _ {N : Type 0} where
       let end : List (Share N) = set vs other spent_share in
       let all : List (ℕ × N) = d.got ++ items in
       let was : get_elem? views other ≡ some u =
-          ⊎_elim (λ (x : (other ≡ id) × (b ≡ u)). absurd (apart x.0)) (λ (x : (other ≢ id) × (get_elem? views other ≡ some u)). x.1) (at_set views id other b u there) in
+      ⊎_elim (λ (x : (other ≡ id) × (b ≡ u)). absurd (apart x.0)) (λ (x : (other ≢ id) × (get_elem? views other ≡ some u)). x.1) (at_set views id other b u there) in
       let mine = d.holds id v at in
       let theirs = d.holds other u was in
       let owned : (q : ℕ) → owners end q ≡ owners views q =
-          λ q. (let s = sum_set (owns q) views id v b at in let t = sum_set (owns q) vs other u spent_share there in
-            let a = sum_by-append (λ (e : ℕ × List N). cond {A = ℕ} (nat_eq q e.0) 1 0) u.senders v.senders in omega arith) in
+      λ q. (let s = sum_set (owns q) views id v b at in let t = sum_set (owns q) vs other u spent_share there in
+      let a = sum_by-append (λ (e : ℕ × List N). cond {A = ℕ} (nat_eq q e.0) 1 0) u.senders v.senders in omega arith) in
       record {
         got = d.got;
         one_sender = λ q. let a = owned q in let c = d.one_sender q in omega arith;
@@ -257,14 +257,14 @@ module _ {N : Type 0} where
             let s = sum_set receives views id v b at in let t = sum_set receives vs other u spent_share there in let c = d.one_receiver in omega arith;
         holds = each_set (Holds all d.got (owners end)) vs other spent_share
             (λ j y _ e. each_set (Holds all d.got (owners end)) views id b
-              (λ i z _ f. let h = d.holds i z f in
-                record { senders = h.senders; got_is = h.got_is; unmade = λ r q un. ((h.unmade r q un).0, owned q ∙ (h.unmade r q un).1) })
-              (record {
-                senders = All-append (λ (e : ℕ × List N). e.1 ≡ notes_of e.0 all) u.senders v.senders theirs.senders mine.senders;
-                got_is = mine.got_is;
-                unmade = λ r q un. ((mine.unmade r q un).0, owned q ∙ (mine.unmade r q un).1)
-              }) j y e)
-            (record { senders = All-nil (λ (e : ℕ × List N). e.1 ≡ notes_of e.0 all); got_is = λ t. absurd (off t); unmade = λ t. absurd (off t) })
+            (λ i z _ f. let h = d.holds i z f in
+            record { senders = h.senders; got_is = h.got_is; unmade = λ r q un. ((h.unmade r q un).0, owned q ∙ (h.unmade r q un).1) })
+            (record {
+              senders = All-append (λ (e : ℕ × List N). e.1 ≡ notes_of e.0 all) u.senders v.senders theirs.senders mine.senders;
+              got_is = mine.got_is;
+              unmade = λ r q un. ((mine.unmade r q un).0, owned q ∙ (mine.unmade r q un).1);
+            }) j y e)
+            (record { senders = All-nil (λ (e : ℕ × List N). e.1 ≡ notes_of e.0 all); got_is = λ t. absurd (off t); unmade = λ t. absurd (off t) });
       }
 
   pub taken_more : (left old : List (Presented N)) (s : Presented N) (v w target : Share N) → old ≡ left ++ s ∷ [] → w ≡ with_senders (s ∷ []) v
@@ -272,9 +272,9 @@ module _ {N : Type 0} where
   taken_more left old s v w target is one so_far =
       ap (λ (u : Share N). with_senders left u) one
       ∙ ap (λ (l : List (ℕ × List N)). share l v.receives v.made v.got)
-        (sym (append_assoc (map entry_of left) (entry_of s ∷ []) v.senders)
-          ∙ ap (λ (l : List (ℕ × List N)). l ++ v.senders) (sym (map-append entry_of left (s ∷ [])))
-          ∙ ap (λ (l : List (Presented N)). map entry_of l ++ v.senders) (sym is))
+      (sym (append_assoc (map entry_of left) (entry_of s ∷ []) v.senders)
+      ∙ ap (λ (l : List (ℕ × List N)). l ++ v.senders) (sym (map-append entry_of left (s ∷ [])))
+      ∙ ap (λ (l : List (Presented N)). map entry_of l ++ v.senders) (sym is))
       ∙ so_far
 
   drop_front : (front more : List N) → drop (length front) (front ++ more) ≡ more
@@ -285,7 +285,7 @@ module _ {N : Type 0} where
   pub told : (passes : List (Presented N)) (v : Share N) (items : List (ℕ × N)) → v.senders ≡ [] → Tells (with_senders passes v) items
       → All (λ (p : Presented N). IsFront (notes_of p.number v.got) p.notes) passes
   told passes v items none tells = go passes (subst (λ (l : List (ℕ × List N)). All (λ (e : ℕ × List N). e.1 ≡ notes_of e.0 (v.got ++ items)) l)
-        (ap (λ (l : List (ℕ × List N)). map entry_of passes ++ l) none ∙ append-nil (map entry_of passes)) tells)
+      (ap (λ (l : List (ℕ × List N)). map entry_of passes ++ l) none ∙ append-nil (map entry_of passes)) tells)
     where
       go : (passes : List (Presented N)) → All (λ (e : ℕ × List N). e.1 ≡ notes_of e.0 (v.got ++ items)) (map entry_of passes)
           → All (λ (p : Presented N). IsFront (notes_of p.number v.got) p.notes) passes

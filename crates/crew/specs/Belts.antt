@@ -1,5 +1,5 @@
 -- A belt: notes of several senders, for one receiver, each sender's in its order.
-use Rattle.std.specs.Prelude.{◌≡◌, ◌≤◌, ℕ, List, [], ◌∷◌, ◌++◌, drop, filter, length, map, nat_eq, if◌then◌else◌}
+use Rattle.std.specs.Prelude.{◌≡◌, ◌≤◌, ℕ, List, [], ◌∷◌, ◌++◌, drop, filter, length, map, nat_eq}
 use Rattle.atomic_table.specs.Seated.{TableId}
 
 -- a belt: what tells it from any other, and how many senders were made for it

@@ -223,7 +223,10 @@ impl<N: Drop> Belt<N> {
         requires { pass.old.belt ≡ self.now.name }
         ensures { MatchResult result (λ _. pass.new ≡ with_note note pass.old) (λ back. (back ≡ note) × (pass.new ≡ pass.old)) }
     {
-        match self.queue.try_push_as::<Put>(&mut pass.pass, (pass.number, note)) {
+        match self
+            .queue
+            .try_push_as::<Put>(&mut pass.pass, (pass.number, note))
+        {
             Ok(()) => Ok(()),
             Err((_, back)) => Err(back),
         }
@@ -299,11 +302,7 @@ fn take_in<N: Drop>(
 }
 
 /// Takes in the pass of one sender.
-fn take_in_one<N: Drop>(
-    queue: &Queue<N>,
-    pass: &mut Pass<(u8, N), Share<N>>,
-    sender: SenderPass<N>,
-)
+fn take_in_one<N: Drop>(queue: &Queue<N>, pass: &mut Pass<(u8, N), Share<N>>, sender: SenderPass<N>)
     requires queue { IsPassOf queue.now pass.old }
     requires sender { sender.belt ≡ queue.now.table.shared.table_id }
     ensures queue { IsSamePass pass.old pass.new }
