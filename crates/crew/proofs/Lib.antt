@@ -1,0 +1,3 @@
+mod BeltLemmas
+mod SumLemmas
+mod TicketLemmas

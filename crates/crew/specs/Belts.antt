@@ -1,0 +1,51 @@
+-- A belt: notes of several senders, for one receiver, each sender's in its order.
+use Rattle.std.specs.Prelude.{◌≡◌, ◌≤◌, ℕ, List, [], ◌∷◌, ◌++◌, drop, filter, length, map, nat_eq}
+use Rattle.atomic_table.specs.Seated.{TableId}
+
+-- a belt: what tells it from any other, and how many senders were made for it
+pub record Line : Type 0 where
+  pub name : TableId
+  pub workers : ℕ
+
+-- what a sender's pass is seen as: its belt, its number, and the notes that it presented, in order
+pub record Presented (N : Type 0) : Type 0 where
+  pub belt : TableId
+  pub number : ℕ
+  pub notes : List N
+
+-- what the receiver's pass is seen as: its belt, and the notes that it got, each with its sender's number, in order
+pub record Received (N : Type 0) : Type 0 where
+  pub belt : Line
+  pub got : List (ℕ × N)
+
+module _ {N : Type 0} where
+  -- the notes of one sender, in order
+  abbrev pub notes_of : ℕ → List (ℕ × N) → List N
+  notes_of sender got = map (λ m. m.1) (filter (λ m. nat_eq sender m.0) got)
+
+  -- a sender's pass that has presented nothing
+  abbrev pub silent : TableId → ℕ → Presented N
+  silent name number = record { belt = name; number = number; notes = [] }
+
+  -- the receiver's pass that has got nothing
+  abbrev pub deaf : Line → Received N
+  deaf belt = record { belt = belt; got = [] }
+
+  -- the sender's pass after it presented a note
+  abbrev pub with_note : N → Presented N → Presented N
+  with_note note pass = record { belt = pass.belt; number = pass.number; notes = pass.notes ++ note ∷ [] }
+
+  -- the receiver's pass after it got a note, which some sender presented
+  pub record GotOne (old new : Received N) (note : N) : Type 0 where
+    pub sender : ℕ
+    pub some_worker : (1 ≤ sender) × (sender ≤ old.belt.workers)
+    pub belt : new.belt ≡ old.belt
+    pub got : new.got ≡ old.got ++ (sender, note) ∷ []
+
+  -- what is left of a sender's notes once these were got: the sender's number, and the notes
+  abbrev pub left_of : List (ℕ × N) → Presented N → ℕ × List N
+  left_of got pass = (pass.number, drop (length (notes_of pass.number got)) pass.notes)
+
+  -- the notes that were got of the sender, and those that are left of it, are the notes that it presented, in its order
+  abbrev pub IsWhole : List (ℕ × N) → Presented N → Type 0
+  IsWhole got pass = notes_of pass.number got ++ drop (length (notes_of pass.number got)) pass.notes ≡ pass.notes
