@@ -1,6 +1,7 @@
 -- Each atomic step keeps the rule of the belt.
 use Rattle.std.proofs.Common.{◌≡◌, ◌≢◌, ◌<◌, ◌≤◌, ◌+◌, ◌⊎◌, ℕ, zero, suc, Bool, true, false, true≢false, cond, nat_eq, List, [], ◌∷◌, ◌++◌, All}
-use Rattle.std.proofs.Common.{set, count_by, drop, filter, map, sym, refl, ap, ◌∙◌, subst, arith, append_assoc, append-nil, inl, inr, ⊎_elim, get_or, length, length-append}
+use Rattle.std.proofs.Common.{set, count_by, drop, filter, map, sym, refl, ap, ◌∙◌, subst, arith, append_assoc, append-nil, inl, inr, ⊎_elim, get_or}
+use Rattle.std.proofs.Common.{length, length-append}
 use Rattle.std.proofs.lemmas.Bool.{eq-eqb, ne_eqb}
 use Rattle.std.proofs.lemmas.List.Elements.{All-append, All-cons, All-head, All-nil, All-tail, filter-append}
 use Rattle.std.proofs.lemmas.List.{map-append}
@@ -15,7 +16,8 @@ use Rattle.std.proofs.Common.{add-zero}
 use Rattle.std.specs.List.{range_with_len}
 use Rattle.atomic_table.specs.Seated.{TableId}
 use Rattle.crew.specs.Belts.{IsWhole, Presented, left_of, notes_of, silent}
-use Rattle.crew.specs.BeltRule.{Delivers, Gets, Holds, IsFront, Puts, Tells, both_shares, entry_of, first_notes, first_share, left_over, new_sender, owners, owns, receives, share, spent_share, with_sender, with_senders}
+use Rattle.crew.specs.BeltRule.{Delivers, Gets, Holds, IsFront, Puts, Tells, both_shares, entry_of, first_notes, first_share, left_over, new_sender}
+use Rattle.crew.specs.BeltRule.{owners, owns, receives, share, spent_share, with_sender, with_senders}
 use Rattle.crew.specs.declared.belt.Share.{Share}
 use Rattle.crew.proofs.SumLemmas.{each_push, each_set, sum_at, sum_set, sum_two}
 
@@ -104,7 +106,8 @@ module _ {N : Type 0} where
       let unmade : (u : Share N) → Holds all d.got (owners views) u → u.receives ≡ true → (q : ℕ) → (q ≡ 0) ⊎ (u.made < q)
       → (notes_of q (all ++ (p, note) ∷ []) ≡ []) × (owners (set views id w) q ≡ 0) =
       λ u h r q un. (
-        notes_keep p q note all (λ e. let b : owners views p ≡ 0 = subst (λ (k : ℕ). owners views k ≡ 0) e (h.unmade r q un).1 in omega arith) ∙ (h.unmade r q un).0,
+        notes_keep p q note all (λ e. let b : owners views p ≡ 0 = subst (λ (k : ℕ). owners views k ≡ 0) e (h.unmade r q un).1 in omega arith)
+            ∙ (h.unmade r q un).0,
         owned q ∙ (h.unmade r q un).1,
       ) in (
         w,
@@ -175,7 +178,8 @@ module _ {N : Type 0} where
           fronts = λ k z lt.
               let q : ℕ = (get_or v.senders k z).0 in (
                 notes_of q items,
-                mine.senders k z lt ∙ ap (notes_of q) (same ∙ ap (λ (l : List (ℕ × N)). (l ++ x ∷ []) ++ items) (sym is_got)) ∙ notes-append q (v.got ++ x ∷ []) items,
+                mine.senders k z lt ∙ ap (notes_of q) (same ∙ ap (λ (l : List (ℕ × N)). (l ++ x ∷ []) ++ items) (sym is_got))
+                    ∙ notes-append q (v.got ++ x ∷ []) items,
               );
         },
       )
@@ -226,7 +230,8 @@ module _ {N : Type 0} where
       }
 
   -- the passes made so far, and one more
-  pub senders_more : (name : TableId) (n : ℕ) → map (silent {N = N} name) (range_with_len 1 n) ++ silent {N = N} name (n + 1) ∷ [] ≡ map (silent {N = N} name) (range_with_len 1 (n + 1))
+  pub senders_more : (name : TableId) (n : ℕ)
+      → map (silent {N = N} name) (range_with_len 1 n) ++ silent {N = N} name (n + 1) ∷ [] ≡ map (silent {N = N} name) (range_with_len 1 (n + 1))
   senders_more name n =
       ap (λ (m : ℕ). map (silent {N = N} name) (range_with_len 1 n) ++ silent {N = N} name m ∷ []) (let e : n + 1 ≡ 1 + n = omega arith in e)
       ∙ sym (map-append (silent {N = N} name) (range_with_len 1 n) ((1 + n) ∷ []))
@@ -244,7 +249,8 @@ module _ {N : Type 0} where
       let end : List (Share N) = set vs other spent_share in
       let all : List (ℕ × N) = d.got ++ items in
       let was : get_elem? views other ≡ some u =
-      ⊎_elim (λ (x : (other ≡ id) × (b ≡ u)). absurd (apart x.0)) (λ (x : (other ≢ id) × (get_elem? views other ≡ some u)). x.1) (at_set views id other b u there) in
+      ⊎_elim (λ (x : (other ≡ id) × (b ≡ u)). absurd (apart x.0)) (λ (x : (other ≢ id) × (get_elem? views other ≡ some u)). x.1)
+      (at_set views id other b u there) in
       let mine = d.holds id v at in
       let theirs = d.holds other u was in
       let owned : (q : ℕ) → owners end q ≡ owners views q =
@@ -291,11 +297,15 @@ module _ {N : Type 0} where
           → All (λ (p : Presented N). IsFront (notes_of p.number v.got) p.notes) passes
       go [] all = All-nil (λ (p : Presented N). IsFront (notes_of p.number v.got) p.notes)
       go (p ∷ ps) all =
-          All-cons (λ (p : Presented N). IsFront (notes_of p.number v.got) p.notes) p ps
-          (notes_of p.number items, All-head (λ (e : ℕ × List N). e.1 ≡ notes_of e.0 (v.got ++ items)) (entry_of p) (map entry_of ps) all ∙ notes-append p.number v.got items)
+          All-cons (λ (p : Presented N). IsFront (notes_of p.number v.got) p.notes) p ps (
+            notes_of p.number items,
+            All-head (λ (e : ℕ × List N). e.1 ≡ notes_of e.0 (v.got ++ items)) (entry_of p) (map entry_of ps) all
+                ∙ notes-append p.number v.got items,
+          )
           (go ps (All-tail (λ (e : ℕ × List N). e.1 ≡ notes_of e.0 (v.got ++ items)) (entry_of p) (map entry_of ps) all))
 
-  pub whole : (got : List (ℕ × N)) (passes : List (Presented N)) → All (λ (p : Presented N). IsFront (notes_of p.number got) p.notes) passes → All (IsWhole got) passes
+  pub whole : (got : List (ℕ × N)) (passes : List (Presented N)) → All (λ (p : Presented N). IsFront (notes_of p.number got) p.notes) passes
+      → All (IsWhole got) passes
   whole got passes fronts k z lt =
       let p = get_or passes k z in
       let f = fronts k z lt in
@@ -303,9 +313,11 @@ module _ {N : Type 0} where
       ap (λ (l : List N). front ++ l) (ap (λ (l : List N). drop (length front) l) f.1 ∙ drop_front front f.0) ∙ sym f.1
 
   -- what is seen of the rest, and what it keeps
-  pub seen_rest : (passes : List (Presented N)) (v : Share N) → v.senders ≡ [] → map (left_over v.got) (with_senders passes v).senders ≡ map (left_of v.got) passes
+  pub seen_rest : (passes : List (Presented N)) (v : Share N) → v.senders ≡ []
+      → map (left_over v.got) (with_senders passes v).senders ≡ map (left_of v.got) passes
   seen_rest passes v none =
-      ap (λ (l : List (ℕ × List N)). map (left_over v.got) l) (ap (λ (l : List (ℕ × List N)). map entry_of passes ++ l) none ∙ append-nil (map entry_of passes)) ∙ go passes
+      ap (λ (l : List (ℕ × List N)). map (left_over v.got) l) (ap (λ (l : List (ℕ × List N)). map entry_of passes ++ l) none
+      ∙ append-nil (map entry_of passes)) ∙ go passes
     where
       go : (passes : List (Presented N)) → map (left_over v.got) (map entry_of passes) ≡ map (left_of v.got) passes
       go [] = refl

@@ -18,7 +18,8 @@ use Rattle.std.proofs.Common.{append_assoc, append-nil, length-append}
 use Rattle.std.specs.Prelude.{if◌then◌else◌}
 use Rattle.std.proofs.lemmas.Grind.{flat_map-append}
 use Rattle.crew.specs.Tickets.{Drawn, how_many_heard, numbers_of, once_below}
-use Rattle.crew.specs.TicketRule.{Draws, Ends, Fits, Gathers, IsLawful, Joining, both_hands, first_hand, hand_marked, hand_with, kept_part, new_part, series_of, spent_hand}
+use Rattle.crew.specs.TicketRule.{Draws, Ends, Fits, Gathers, IsLawful, Joining, both_hands, first_hand, hand_marked, hand_with, kept_part, new_part}
+use Rattle.crew.specs.TicketRule.{series_of, spent_hand}
 use Rattle.crew.specs.declared.tickets.Hand.{Hand}
 use Rattle.crew.specs.declared.tickets.Issue.{Issue}
 use Rattle.crew.proofs.SumLemmas.{each_push, each_set, sum_alone, sum_at, sum_below, sum_set}
@@ -259,10 +260,12 @@ joins issue id v other w s h at apart there =
     sum_by_append_times n xs ys = sum_by-append (λ y. one_if n y) xs ys
 
     was : (other id : ℕ) (b w : Hand) (views : List Hand) → ¬ (other ≡ id) → get_elem? (set views id b) other ≡ some w → get_elem? views other ≡ some w
-    was other id b w views apart there = ⊎_elim (λ (x : (other ≡ id) × (b ≡ w)). absurd (apart x.0)) (λ (x : (other ≢ id) × (get_elem? views other ≡ some w)). x.1) (at_set views id other b w there)
+    was other id b w views apart there = ⊎_elim (λ (x : (other ≡ id) × (b ≡ w)). absurd (apart x.0)) (λ (x : (other ≢ id) ×
+        (get_elem? views other ≡ some w)). x.1) (at_set views id other b w there)
 
 -- what the last state tells the kept pass
-pub closes : (issue : Issue) (id : ℕ) (v : Hand) (s : State (Unit {0}) Hand) (word : ℕ) → IsLawful issue s → get_elem? s.views id ≡ some v → get_elem? s.words 0 ≡ some word
+pub closes : (issue : Issue) (id : ℕ) (v : Hand) (s : State (Unit {0}) Hand) (word : ℕ) → IsLawful issue s → get_elem? s.views id ≡ some v
+    → get_elem? s.words 0 ≡ some word
     → Ends issue v (min word issue.count)
 closes issue id v s word h at is =
     let same : h.word ≡ word = some-injective h.word word (ap (λ (l : List ℕ). get_elem? l 0) (sym h.words) ∙ is) in
@@ -293,7 +296,8 @@ joining_more all left old p before now w j is shares marks numbers = record {
   numbers =
       sym (append_assoc (numbers_of left) w.numbers now.numbers)
       ∙ ap (λ (l : List ℕ). (numbers_of left ++ l) ++ now.numbers) numbers
-      ∙ ap (λ (l : List ℕ). l ++ now.numbers) (sym (ap numbers_of is ∙ flat_map-append (λ (q : Drawn). q.numbers) left (p ∷ []) ∙ ap (λ (l : List ℕ). numbers_of left ++ l) (append-nil p.numbers)))
+      ∙ ap (λ (l : List ℕ). l ++ now.numbers) (sym (ap numbers_of is ∙ flat_map-append (λ (q : Drawn). q.numbers) left (p ∷ [])
+      ∙ ap (λ (l : List ℕ). numbers_of left ++ l) (append-nil p.numbers)))
       ∙ j.numbers;
 }
 

@@ -15,6 +15,7 @@ loop-sender-preserved g c =
       c.take_in_one.ensures.queue.2 ∙ so_far.2,
       (All-pop (λ (s : Presented g.row.N.Denot). s.belt ≡ c.args.queue.now.table.shared.table_id) c.loop-sender.senders.items left (Some c.in-Some.sender)
           c.in-Some.ensures.items so_far.3).0,
-      taken_more left c.loop-sender.senders.items c.in-Some.sender (view c.loop-sender.pass) (view c.take_in_one.new.pass) (with_senders c.args.senders.items (view c.args.pass.now))
+      taken_more left c.loop-sender.senders.items c.in-Some.sender (view c.loop-sender.pass) (view c.take_in_one.new.pass)
+          (with_senders c.args.senders.items (view c.args.pass.now))
           c.in-Some.ensures.items c.take_in_one.ensures.taken so_far.4,
     )

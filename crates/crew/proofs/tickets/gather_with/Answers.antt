@@ -13,7 +13,8 @@ returns-clause-gathers c =
     let m = min c.word-word.result table.key.count in
     let same : m ≡ c.min.result = ap (λ (n : ℕ). min c.word-word.result n) (sym c.tickets.invariant.0) ∙ sym c.min.ensures in
     let pass : Drawn = record { series = series_of first.seat.table_id first.seat.me.0.issue; numbers = first.seat.me.0.numbers; heard_none = first.heard_none } in
-    let whole = gathers table.key table.table_id left pass first.seat.me.0 c.join_all.new.seat.me.0 m c.first.invariant.0 c.first.invariant.1 (λ i. first.seat.me.0.numbers)
+    let whole = gathers table.key table.table_id left pass first.seat.me.0 c.join_all.new.seat.me.0 m c.first.invariant.0 c.first.invariant.1
+    (λ i. first.seat.me.0.numbers)
     c.join_all.ensures.joined ends in
     let named : series_of table.table_id table.key ≡ c.args.tickets =
     (λ i. record { name = table.table_id; count = sym c.tickets.invariant.0 i; passes = table.key.passes }) ∙ c.tickets.view_is in
