@@ -301,16 +301,6 @@ adds_next workers place end low =
     let more : end - place ≡ suc (end - (place + 1)) = omega arith in
     ap (λ (k : ℕ). filter (has_no_worker workers) (range_with_len place k)) more
 
-pub adds_start : (workers : List (ℕ × ℕ)) (r : Range) → adds workers r.first (end_of r) ≡ filter (has_no_worker workers) (numbers_of_range r)
-adds_start workers r =
-    let whole : end_of r - r.first ≡ r.count = omega arith in
-    ap (λ (k : ℕ). filter (has_no_worker workers) (range_with_len r.first k)) whole
-
-pub adds_end : (workers : List (ℕ × ℕ)) (place end : ℕ) → end ≤ place → adds workers place end ≡ []
-adds_end workers place end past =
-    let none : end - place ≡ 0 = omega arith in
-    ap (λ (k : ℕ). filter (has_no_worker workers) (range_with_len place k)) none
-
 pub adds_yes : (workers : List (ℕ × ℕ)) (missing : List ℕ) (place end : ℕ) → place < end → is_some (lookup (nat_eq place) workers) ≡ false
     → (missing ++ place ∷ []) ++ adds workers (place + 1) end ≡ missing ++ adds workers place end
 adds_yes workers missing place end low none =
