@@ -1,4 +1,6 @@
 pub mod AnswerLemmas
+pub mod GatherLemmas
+pub mod LineLemmas
 pub mod NameLemmas
 pub mod NumberLemmas
 pub mod ShowLemmas

@@ -1,5 +1,7 @@
 pub mod Answers
 pub mod Complaints
+pub mod GatherSteps
+pub mod GatheredLines
 pub mod Inputs
 pub mod Name
 pub mod Profiles

@@ -6,8 +6,14 @@
 
 /// Why a command did not do all that was asked, and the line on standard error that says so.
 pub mod complaint;
+/// `gather`: the haul of report lines.
+mod gather;
 /// Inputs, read whole.
 mod input;
+/// Why a report line was not taken.
+pub mod line_fault;
+/// Inputs, read line by line.
+mod lines;
 /// `name`: what becomes of a pattern, and of which objects it then consists.
 pub mod name;
 /// Output that is buffered until a command has ended.

@@ -1,0 +1,88 @@
+-- Report lines as an input: its lines, what each of them says, and what becomes of it at a haul.
+use Rattle.std.specs.Prelude.{◌≡◌, ◌≢◌, ◌==◌, ◌++◌, ℕ, suc, List, [], ◌∷◌, Option, None, Some, Result, Ok, Err, codes, decimal, length, if◌then◌else◌}
+use Rattle.survey_core.specs.Findings.{IsFinding}
+use Rattle.survey_core.specs.Soups.{soup}
+use Rattle.survey_core.specs.declared.finding.Finding.{Finding}
+use Rattle.survey_core.specs.declared.job.Job.{Job}
+use Rattle.haul_core.specs.declared.arrival.Arrival.{Arrival}
+use Rattle.haul_core.specs.declared.arrival.Arrival.TheVariants.{Offer}
+use Rattle.haul_core.specs.declared.refusal.Refusal.{Refusal}
+use Rattle.haul_core.specs.declared.refusal.Refusal.TheVariants as refusal
+use Rattle.haul_core.specs.Books.{Terms, refusal_of}
+use Rattle.haul_core.specs.Claims.{IsFirstFaultOf}
+use Rattle.haul_core.specs.ReportLines.{Claimed, IsClaim, claim_line, claim_of, told_in}
+use Rattle.haul_core.specs.Reports.{IsReport, Reported}
+use Rattle.commands.specs.declared.line_fault.LineFault.{LineFault}
+use Rattle.commands.specs.declared.line_fault.LineFault.TheVariants.{BadLine, OtherJob, Disagrees, UnknownWorker, OutOfRange, Double}
+
+-- a byte at the front of the first of some lines
+abbrev pub begun_with : ℕ → List (List ℕ) → List (List ℕ)
+begun_with byte [] = (byte ∷ []) ∷ []
+begun_with byte (line ∷ more) = (byte ∷ line) ∷ more
+
+-- the lines of an input: a line feed (10) ends a line, and the last may lack it
+abbrev pub lines_of : List ℕ → List (List ℕ)
+lines_of [] = []
+lines_of (byte ∷ more) = if byte == 10 then [] ∷ lines_of more else begun_with byte (lines_of more)
+
+-- a line says what this lawful claim says
+pub record Claims (line : List ℕ) (claim : Claimed) : Type 0 where
+  pub lawful : IsClaim claim
+  pub spelled : claim_line claim ≡ line
+
+-- a claim is wrong: none of the findings of its soup is as its version tells it
+abbrev pub IsWrong : Claimed → Type 0
+IsWrong claim = (finding : Finding) → IsFinding claim.job.rule claim.job.profile (soup claim.job.seed claim.number) finding
+    → claim.found ≢ told_in claim.version finding
+
+-- a line says what a report says, in one of the versions
+pub record Says (line : List ℕ) (report : Reported) : Type 0 where
+  pub report_is : IsReport report
+  pub version : ℕ
+  pub lawful : IsClaim (claim_of version report)
+  pub spelled : claim_line (claim_of version report) ≡ line
+
+-- A line is a report of the job, or there is a fault: it is no claim's line, its claim is one of another job, or it is wrong.
+abbrev pub IsChecked : Job → List ℕ → Result Reported LineFault → Type 0
+IsChecked job line (Ok report) = Says line report × (report.job ≡ job)
+IsChecked job line (Err (BadLine place)) = IsFirstFaultOf line place
+IsChecked job line (Err OtherJob) = (claim : Claimed) × Claims line claim × (claim.job ≢ job)
+IsChecked job line (Err Disagrees) = (claim : Claimed) × Claims line claim × (claim.job ≡ job) × IsWrong claim
+IsChecked job line (Err _) = ⊥
+
+-- what is told of a report that a haul refuses; a haul that is open refuses no report of its job in other ways
+abbrev pub offer_fault : Reported → Option Refusal → Option LineFault
+offer_fault report (Some refusal.UnknownWorker) = Some (UnknownWorker report.worker)
+offer_fault report (Some refusal.OutOfRange) = Some (OutOfRange report.number)
+offer_fault report (Some (refusal.Double worker)) = Some (Double report.number worker)
+offer_fault report _ = None
+
+-- What becomes of a line after some arrivals: what arrives by it, and the fault that is told of it, if there is one.
+pub data Meets (terms : Terms) (before : List Arrival) (line : List ℕ) : List Arrival → Option LineFault → Type 0 where
+  Faulty : (fault : LineFault) → IsChecked terms.job line (Err fault) → Meets terms before line [] (Some fault)
+  Offered : (report : Reported) → IsChecked terms.job line (Ok report)
+      → Meets terms before line (Offer report ∷ []) (offer_fault report (refusal_of terms before report))
+
+-- the words on a fault
+abbrev pub fault_words : LineFault → List ℕ
+fault_words (BadLine place) = codes "bad line at " ++ decimal place
+fault_words OtherJob = codes "other job"
+fault_words Disagrees = codes "disagrees"
+fault_words (UnknownWorker worker) = codes "unknown worker " ++ decimal worker
+fault_words (OutOfRange number) = codes "out of range " ++ decimal number
+fault_words (Double number worker) = codes "double of " ++ (decimal number ++ (codes " by " ++ decimal worker))
+
+-- what is told of line `number`, counted from 1
+abbrev pub fault_line : ℕ → LineFault → List ℕ
+fault_line number fault = codes "line " ++ (decimal number ++ (codes ": " ++ (fault_words fault ++ codes "\n")))
+
+abbrev pub told_of : ℕ → Option LineFault → List ℕ
+told_of number None = []
+told_of number (Some fault) = fault_line number fault
+
+-- Lines one after another, at a haul to which nothing has come: what arrives, and what is told of them.
+pub data Gathered (terms : Terms) : List (List ℕ) → List Arrival → List ℕ → Type 0 where
+  Start : Gathered terms [] [] []
+  Next : (lines : List (List ℕ)) (before : List Arrival) (told : List ℕ) (line : List ℕ) (arrived : List Arrival) (fault : Option LineFault)
+      → Gathered terms lines before told → Meets terms before line arrived fault
+      → Gathered terms (lines ++ line ∷ []) (before ++ arrived) (told ++ told_of (suc (length lines)) fault)

@@ -1,0 +1,82 @@
+ghost use Rattle.std.specs.Prelude.{◌≡◌, ◌++◌, codes, decimal, false};
+ghost use Rattle.plane_core.specs.Out.{Writes};
+ghost use Rattle.commands.specs.GatheredLines.{fault_line, fault_words};
+
+use crate::output::put_decimal;
+use plane_core::output::{Out, WriteError};
+use std::io::Write;
+
+/// Why a report line was not taken.
+#[derive(Clone, Copy, Debug, PartialEq, Eq)]
+pub enum LineFault {
+    /// It is the line of no claim. The place is the offset, in bytes from 0, of the first field that can't stand there.
+    BadLine { place: usize },
+    /// It speaks of another job.
+    OtherJob,
+    /// Its finding is not that of its soup.
+    Disagrees,
+    /// The haul has fewer workers.
+    UnknownWorker { worker: u8 },
+    /// The number of its soup is not in the haul's set.
+    OutOfRange { number: u64 },
+    /// The soup was taken before, from this worker.
+    Double { number: u64, worker: u8 },
+}
+
+impl LineFault {
+    /// Writes the line that tells the fault of a line, which is counted from 1. It takes no memory.
+    ///
+    /// # Errors
+    ///
+    /// [`WriteError`] if a write fails.
+    pub(crate) fn write_line<E: Write>(
+        self,
+        number: u64,
+        errors: &mut Out<E>,
+    ) -> Result<(), WriteError>
+        requires { errors.old.failed ≡ false }
+        ensures { Writes E.contents errors.old errors.new result (fault_line number self) }
+    {
+        errors.put(b"line ")?;
+        put_decimal(errors, number)?;
+        errors.put(b": ")?;
+        self.write_words(errors)?;
+        errors.put(b"\n")
+    }
+
+    /// Writes the words on the fault.
+    fn write_words<E: Write>(self, errors: &mut Out<E>) -> Result<(), WriteError>
+        requires { errors.old.failed ≡ false }
+        ensures { Writes E.contents errors.old errors.new result (fault_words self) }
+    {
+        match self {
+            LineFault::BadLine { place } => put_numbered(errors, b"bad line at ", place as u64),
+            LineFault::OtherJob => errors.put(b"other job"),
+            LineFault::Disagrees => errors.put(b"disagrees"),
+            LineFault::UnknownWorker { worker } => {
+                put_numbered(errors, b"unknown worker ", u64::from(worker))
+            }
+            LineFault::OutOfRange { number } => put_numbered(errors, b"out of range ", number),
+            LineFault::Double { number, worker } => put_double(errors, number, worker),
+        }
+    }
+}
+
+/// Writes words that end with a number.
+fn put_numbered<E: Write>(errors: &mut Out<E>, front: &[u8], number: u64) -> Result<(), WriteError>
+    requires { errors.old.failed ≡ false }
+    ensures { Writes E.contents errors.old errors.new result (front.now ++ decimal number) }
+{
+    errors.put(front)?;
+    put_decimal(errors, number)
+}
+
+/// Writes which soup was taken before, and from whom.
+fn put_double<E: Write>(errors: &mut Out<E>, number: u64, worker: u8) -> Result<(), WriteError>
+    requires { errors.old.failed ≡ false }
+    ensures { Writes E.contents errors.old errors.new result (codes "double of " ++ (decimal number ++ (codes " by " ++ decimal worker))) }
+{
+    errors.put(b"double of ")?;
+    put_decimal(errors, number)?;
+    put_numbered(errors, b" by ", u64::from(worker))
+}
