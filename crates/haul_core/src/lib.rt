@@ -7,8 +7,6 @@ pub mod arrival;
 pub mod book;
 /// What the taken soups left.
 pub mod census;
-/// What a report line says.
-pub mod claim;
 mod field;
 /// Which soups of a job have been taken.
 pub mod haul;
