@@ -1,5 +1,6 @@
 mod BookLemmas
 mod CensusLemmas
+mod CountLemmas
 mod CutLemmas
 mod DecimalLemmas
 mod FaultLemmas
@@ -19,6 +20,7 @@ mod RangeLemmas
 mod ReportLemmas
 mod RowLemmas
 mod SampleLemmas
+mod SpaceLemmas
 mod StandLemmas
 mod SumLemmas
 mod TallyLemmas
