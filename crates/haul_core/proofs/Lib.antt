@@ -1,5 +1,6 @@
 mod BookLemmas
 mod CensusLemmas
+mod CheckLemmas
 mod CountLemmas
 mod CountedLemmas
 mod CutLemmas

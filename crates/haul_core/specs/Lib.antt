@@ -1,6 +1,7 @@
 pub mod BookSteps
 pub mod Books
 pub mod Censuses
+pub mod ClaimChecks
 pub mod ClaimSteps
 pub mod Claims
 pub mod FieldSteps

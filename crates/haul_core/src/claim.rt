@@ -8,7 +8,7 @@ use std::marker::Model;
 use survey_core::job::Job;
 
 // claims against findings
-//pub mod check;
+pub mod check;
 /// Claims from lines.
 pub mod line;
 
