@@ -11,7 +11,7 @@ use Rattle.std.specs.Str.{IsAscii, IsUtf8}
 use Rattle.plane_core.specs.Rules.{IsRule, Numbers, digits, rule_text}
 use Rattle.survey_core.specs.Seeds.{IsSeed, is_invisible, is_visible, seed_read, seed_with_fault}
 use Rattle.survey_core.specs.declared.seed.SeedError.TheVariants.{TooLong}
-use Rattle.haul_core.specs.FieldSteps.{IsNumber, IsVersion, Lacks, Tells}
+use Rattle.haul_core.specs.FieldSteps.{IsNumber, IsSmall, IsState, IsVersion, Lacks, Tells, state_field}
 use Rattle.haul_core.specs.ReportLines.{mark_field}
 use Rattle.haul_core.specs.RangeListSteps.{BeginsDecimal, BeginsNoDecimal, has_digit}
 use Rattle.haul_core.proofs.CutLemmas.{Ends, cut}
@@ -177,3 +177,9 @@ pub two_marks : (field : List ℕ) (for_good : Bool) → field ≢ codes "good=y
 unfolding mark_field
 two_marks field true y n e = y e
 two_marks field false y n e = n e
+
+-- a field that says neither
+pub no_state : (field : List ℕ) (state : Option ℕ) → field ≢ codes "unsettled" → ((n : ℕ) → IsSmall n → field ≢ codes "at=" ++ decimal n) → IsState state
+    → field ≢ state_field state
+no_state field None u n h e = u e
+no_state field (Some checkpoint) u n h e = n checkpoint h e

@@ -1,6 +1,7 @@
 -- How the fields of a report line are cut out and read.
-use Rattle.std.specs.Prelude.{◌≡◌, ◌≢◌, ◌<◌, ◌^◌, ◌==◌, ◌⊎◌, ◌++◌, ℕ, Bool, false, List, ◌∷◌, Option, None, Some}
+use Rattle.std.specs.Prelude.{◌≡◌, ◌≢◌, ◌<◌, ◌≤◌, ◌^◌, ◌==◌, ◌⊎◌, ◌++◌, ℕ, Bool, false, List, ◌∷◌, Option, None, Some, codes, decimal}
 use Rattle.std.specs.List.{list_any}
+use Rattle.survey_core.specs.Profiles.{Settling}
 
 abbrev pub Lacks : ℕ → List ℕ → Type 0
 Lacks byte text = list_any (λ b. b == byte) text ≡ false
@@ -24,3 +25,25 @@ IsVersion n = (n ≡ 1) ⊎ (n ≡ 2)
 -- both marks may be told
 abbrev pub IsAnyMark : Bool → Type 0
 IsAnyMark for_good = Unit {0}
+
+-- the numbers that a profile and a checkpoint are made of
+abbrev pub IsSmall : ℕ → Type 0
+IsSmall n = n ≤ 100000
+
+-- a number with a `,` (44) after it begins the text; or no such number does
+abbrev pub BeginsNumber : List ℕ → Option (ℕ × List ℕ) → Type 0
+BeginsNumber text None = (n : ℕ) (rest : List ℕ) → IsSmall n → text ≢ decimal n ++ 44 ∷ rest
+BeginsNumber text (Some first) = IsSmall first.0 × (text ≡ decimal first.0 ++ 44 ∷ first.1)
+
+-- the four numbers of a profile, with a `,` between each two
+abbrev pub numbers_text : Settling → List ℕ
+numbers_text p = decimal p.period ++ 44 ∷ (decimal p.horizon ++ 44 ∷ (decimal p.stride ++ 44 ∷ decimal p.limit))
+
+-- what a line says of a soup after `soup=`: that it didn't settle, or when it did
+abbrev pub state_field : Option ℕ → List ℕ
+state_field None = codes "unsettled"
+state_field (Some checkpoint) = codes "at=" ++ decimal checkpoint
+
+abbrev pub IsState : Option ℕ → Type 0
+IsState None = Unit {0}
+IsState (Some checkpoint) = IsSmall checkpoint

@@ -1,6 +1,8 @@
 pub mod BookSteps
 pub mod Books
 pub mod Censuses
+pub mod ClaimChecks
+pub mod ClaimSteps
 pub mod Claims
 pub mod FieldSteps
 pub mod HaulLaws

@@ -5,12 +5,14 @@ ghost use Rattle.std.specs.List.{list_all};
 ghost use Rattle.plane_core.specs.Rules.{IsRule, rule_text};
 ghost use Rattle.code_core.specs.Apgcodes.{HasCodeShape, is_code_byte};
 ghost use Rattle.survey_core.specs.Seeds.{IsSeed};
-ghost use Rattle.haul_core.specs.FieldSteps.{Cuts, IsAnyMark, IsNumber, IsVersion, Tells};
-ghost use Rattle.haul_core.specs.ReportLines.{mark_field};
+ghost use Rattle.haul_core.specs.FieldSteps.{BeginsNumber, Cuts, IsAnyMark, IsNumber, IsSmall, IsState, IsVersion, Tells, numbers_text, state_field};
+ghost use Rattle.survey_core.specs.Profiles.{IsProfile};
+ghost use Rattle.haul_core.specs.ReportLines.{IsCount, count_field, mark_field, profile_field};
 ghost use Rattle.haul_core.specs.Reports.{IsWorker};
 
 use crate::range_list::first_decimal;
 use plane_core::rule::Rule;
+use survey_core::profile::Profile;
 use survey_core::seed::Seed;
 
 /// The front of a text up to the first such byte, and the text after the byte, if there is one.
@@ -96,6 +98,78 @@ pub(crate) fn checkpoint_in(field: &[u8]) -> Option<u32>
     } else {
         None
     }
+}
+
+/// What a field says of a soup: that it didn't settle, or at which checkpoint it did.
+#[tactic(auto, using(crate::proofs::FieldLemmas::no_state))]
+pub(crate) fn state_in(field: &[u8]) -> Option<Option<u32>>
+    ensures { Tells IsState state_field field.now result }
+{
+    match field {
+        b"unsettled" => Some(None),
+        _ => Some(Some(checkpoint_in(field)?)),
+    }
+}
+
+/// The profile that a field names.
+pub(crate) fn profile_in(field: &[u8]) -> Option<Profile>
+    ensures { Tells IsProfile profile_field field.now result }
+{
+    profile_of(after(b"profile=", field)?)
+}
+
+/// The profile whose four numbers these are.
+fn profile_of(text: &[u8]) -> Option<Profile>
+    ensures { Tells IsProfile numbers_text text.now result }
+{
+    let (period, rest) = first_number(text)?;
+    let (horizon, rest) = first_number(rest)?;
+    let (stride, rest) = first_number(rest)?;
+    let limit = small_number_in(rest)?;
+    match Profile::new(period, horizon, stride, limit) {
+        Ok(profile) => Some(profile),
+        Err(_) => None,
+    }
+}
+
+/// The number up to 100,000 at the front of a text, and the text after the comma that follows it.
+fn first_number(text: &[u8]) -> Option<(u32, &[u8])>
+    ensures { BeginsNumber text.now (option_map (λ first. (first.0, first.1.now)) result) }
+{
+    let (front, Some(rest)) = cut_at(b',', text) else {
+        return None;
+    };
+    let number = small_number_in(front)?;
+    Some((number, rest))
+}
+
+/// The number up to 100,000 whose decimal the text is.
+fn small_number_in(text: &[u8]) -> Option<u32>
+    ensures { Tells IsSmall decimal text.now result }
+{
+    let number = number_in(text)?;
+    if number <= 100_000 {
+        Some(number as u32)
+    } else {
+        None
+    }
+}
+
+/// The code that a field names, and how many objects have it.
+pub(crate) fn count_in(field: &[u8]) -> Option<(&[u8], u64)>
+    ensures { Tells IsCount count_field field.now (option_map (λ object. (object.0.now, object.1)) result) }
+{
+    let (code, Some(text)) = cut_at(b'*', field) else {
+        return None;
+    };
+    if !is_code(code) {
+        return None;
+    }
+    let count = number_in(text)?;
+    if count == 0 {
+        return None;
+    }
+    Some((code, count))
 }
 
 /// The rule that a field names.

@@ -7,7 +7,12 @@ pub mod arrival;
 pub mod book;
 /// What the taken soups left.
 pub mod census;
+/// Claims: what report lines say.
+pub mod claim;
+/// The codes of claims.
+pub mod code;
 mod field;
+mod front;
 /// Which soups of a job have been taken.
 pub mod haul;
 /// What a census says, as text.

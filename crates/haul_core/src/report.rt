@@ -106,6 +106,13 @@ impl Report {
     {
         &self.finding
     }
+
+    /// Gives the finding up.
+    pub(crate) fn into_finding(self) -> Finding
+        ensures { result ≡ self.finding }
+    {
+        self.finding
+    }
 }
 
 /// Whether a worker may have this number.

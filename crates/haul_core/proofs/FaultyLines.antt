@@ -1,0 +1,166 @@
+-- Where a line stops being that of a claim: a field that may not stand there, or none.
+use Rattle.std.proofs.Common.{◌≡◌, ◌≢◌, ◌∙◌, ◌+◌, ◌-◌, ◌<◌, ◌≤◌, ◌++◌, ◌==◌, ◌⊎◌, ◌∷◌, ℕ, List, Option, [], Some, None, ap, sym, refl, length, arith, append-nil}
+use Rattle.std.proofs.Common.{append_assoc, codes, cond, drop, flat_map, get_or, inl, inr, length-append, rules, subst, take, true, false, Bool}
+use Rattle.std.proofs.lemmas.List.{length-take-le, take-append-drop}
+use Rattle.std.proofs.lemmas.Bool.{eqb-true, or_from}
+use Rattle.std.proofs.Math.ListN.{get_or-append}
+use Rattle.std.proofs.Math.Seq.{get_or-append_seam}
+use Rattle.haul_core.specs.ClaimSteps.{Follows, HasFilled, HasHead, IsHead, IsLineOf, claimed, head_of}
+use Rattle.haul_core.specs.Claims.{BeginClaim, IsClaimLine, IsFirstFaultOf, fields_of, followed}
+use Rattle.haul_core.specs.FieldSteps.{Cuts, Lacks}
+use Rattle.haul_core.specs.HaulTexts.{line_of, spaced}
+use Rattle.haul_core.specs.RangeListSteps.{has_byte}
+use Rattle.haul_core.specs.ReportLines.{Claimed, IsClaim, Told, found_fields, head_fields}
+use Rattle.haul_core.specs.declared.front.Front.{Front}
+use Rattle.haul_core.proofs.SpaceLemmas.{claim_line-lined, fields_lack, begin_spaceless, followed-cons, line_of-lined, lined, one_cut}
+
+-- ---- a field more
+
+spaced_last : (before : List (List ℕ)) (field : List ℕ) → 32 ∷ (followed before ++ field) ≡ flat_map spaced (before ++ field ∷ [])
+spaced_last [] field = ap (λ (t : List ℕ). 32 ∷ t) (sym (append-nil field))
+spaced_last (b ∷ before) field =
+    ap (λ (t : List ℕ). 32 ∷ t) (followed-cons b before field) ∙ ap (λ (t : List ℕ). 32 ∷ (b ++ t)) (spaced_last before field)
+
+lined_last : (before : List (List ℕ)) (field : List ℕ) → IsLineOf (before ++ field ∷ []) (followed before ++ field)
+unfolding line_of
+lined_last [] field = sym (append-nil field)
+lined_last (b ∷ before) field = followed-cons b before field ∙ ap (λ (t : List ℕ). b ++ t) (spaced_last before field)
+
+followed_last : (before : List (List ℕ)) (field rest : List ℕ) → followed before ++ (field ++ 32 ∷ rest) ≡ followed (before ++ field ∷ []) ++ rest
+followed_last [] field rest = sym (followed-cons field [] rest)
+followed_last (b ∷ before) field rest =
+    followed-cons b before (field ++ 32 ∷ rest) ∙ ap (λ (t : List ℕ). b ++ 32 ∷ t) (followed_last before field rest)
+    ∙ sym (followed-cons b (before ++ field ∷ []) rest)
+
+-- past the next field
+pub follows_more : (line : List ℕ) (before : List (List ℕ)) (here field : List ℕ) (more : Option (List ℕ)) → Follows line before (Some here) → Cuts 32 here field more
+    → Follows line (before ++ field ∷ []) more
+follows_more line before here field None f c =
+    subst (IsLineOf (before ++ field ∷ [])) (sym (f ∙ ap (λ (t : List ℕ). followed before ++ t) c.0)) (lined_last before field)
+follows_more line before here field (Some rest) f c =
+    f ∙ ap (λ (t : List ℕ). followed before ++ t) c.0 ∙ followed_last before field rest
+
+-- ---- faults
+
+abbrev pub rest_of : Option (List ℕ) → List ℕ
+rest_of None = []
+rest_of (Some more) = 32 ∷ more
+
+whole_cut : (here field : List ℕ) (more : Option (List ℕ)) → Cuts 32 here field more → (here ≡ field ++ rest_of more) × Lacks 32 field
+whole_cut here field None c = (c.0 ∙ sym (append-nil field), c.1)
+whole_cut here field (Some more) c = c
+
+ends : (more : Option (List ℕ)) → (rest_of more ≡ []) ⊎ has_byte 32 (rest_of more)
+ends None = inl refl
+ends (Some more) = inr refl
+
+-- a field that no lawful claim has there
+pub bad_at : (line : List ℕ) (before : List (List ℕ)) (here field : List ℕ) (more : Option (List ℕ)) → Follows line before (Some here) → Cuts 32 here field more
+    → BeginClaim before → ((claim : Claimed) → IsClaim claim → (rest : List (List ℕ)) → fields_of claim ≡ before ++ field ∷ rest → ⊥)
+    → IsFirstFaultOf line (length line - length here)
+bad_at line before here field more f c b none =
+    let w = whole_cut here field more c in
+    inl (record {
+      before = before;
+      field = field;
+      rest = rest_of more;
+      spelled = f ∙ ap (λ (t : List ℕ). followed before ++ t) w.0;
+      whole = (w.1, ends more);
+      begins = b;
+      there = λ own. none own.claim own.lawful own.more (own.spelled ∙ append_assoc before (field ∷ []) own.more);
+      is = omega (arith, ap length f, length-append (followed before) here);
+    })
+
+-- a field is missing
+pub lacks_at : (line : List ℕ) (before : List (List ℕ)) (there : List ℕ) → Follows line before None → there ≡ [] → BeginClaim before
+    → ((claim : Claimed) → IsClaim claim → fields_of claim ≢ before) → IsFirstFaultOf line (length line - length there)
+lacks_at line [] there f e b none = absurd f
+lacks_at line (first ∷ more) there f e b none = inr (record {
+  first = first;
+  more = more;
+  spelled = f;
+  begins = b;
+  short = λ own.
+      let same = one_cut (codes "report") first (head_fields own.claim ++ found_fields own.claim.found) more (fields_lack own.claim own.lawful)
+      (begin_spaceless (first ∷ more) b) (sym (claim_line-lined own.claim) ∙ own.spelled ∙ f ∙ line_of-lined first more) in
+      none own.claim own.lawful same;
+  is = omega (arith, ap length e);
+})
+
+-- each text is cut somewhere
+record IsCut (text : List ℕ) : Type 0 where
+  front : List ℕ
+  rest : Option (List ℕ)
+  cut : Cuts 32 text front rest
+
+cut_anywhere : (text : List ℕ) → IsCut text
+cut_anywhere [] = record { front = []; rest = None; cut = (refl, refl) }
+cut_anywhere (b ∷ text) = go (b == 32) refl (cut_anywhere text)
+  where
+    go : (t : Bool) → (b == 32) ≡ t → IsCut text → IsCut (b ∷ text)
+    go true e c = record { front = []; rest = Some text; cut = (ap (λ (x : ℕ). x ∷ text) (eqb-true b 32 e), refl) }
+    go false e c = more c.front c.rest c.cut
+      where
+        more : (front : List ℕ) (rest : Option (List ℕ)) → Cuts 32 text front rest → IsCut (b ∷ text)
+        more front None k = record { front = b ∷ front; rest = None; cut = (ap (λ (t : List ℕ). b ∷ t) k.0, or_from _ _ e k.1) }
+        more front (Some rest) k = record { front = b ∷ front; rest = Some rest; cut = (ap (λ (t : List ℕ). b ∷ t) k.0, or_from _ _ e k.1) }
+
+-- nothing may follow
+pub over_at : (line : List ℕ) (before : List (List ℕ)) (here : List ℕ) → Follows line before (Some here) → BeginClaim before
+    → ((claim : Claimed) → IsClaim claim → (field : List ℕ) (rest : List (List ℕ)) → fields_of claim ≡ before ++ field ∷ rest → ⊥)
+    → IsFirstFaultOf line (length line - length here)
+over_at line before here f b none =
+    let c = cut_anywhere here in
+    bad_at line before here c.front c.rest f c.cut b (λ claim lawful rest. none claim lawful c.front rest)
+
+-- ---- the head
+
+-- so many fields of a lawful claim begin one
+pub begin_head : (place : ℕ) (claim : Claimed) → IsClaim claim → BeginClaim (take place (head_of claim))
+begin_head place claim lawful = record {
+  claim = claim;
+  lawful = lawful;
+  more = drop place (head_of claim) ++ found_fields claim.found;
+  spelled = ap (λ (t : List (List ℕ)). t ++ found_fields claim.found) (sym (take-append-drop place (head_of claim)))
+      ∙ append_assoc (take place (head_of claim)) (drop place (head_of claim)) (found_fields claim.found);
+}
+
+head_length : (claim : Claimed) → length (head_of claim) ≡ 7
+unfolding head_fields
+head_length claim = refl
+
+-- a field of the head that no lawful claim has at this place
+pub head_bad : (line : List ℕ) (place : ℕ) (head : Front) (here field : List ℕ) (more : Option (List ℕ)) → place < 7 → HasHead line place head (Some here)
+    → Cuts 32 here field more → ((claim : Claimed) → IsClaim claim → get_or (head_of claim) place [] ≢ field) → IsFirstFaultOf line (length line - length here)
+head_bad line place head here field more within h c none =
+    let own = claimed head [] in
+    let front = take place (head_of own) in
+    let count : length front ≡ place = omega (arith, length-take-le place (head_of own) (omega (arith, head_length own))) in
+    bad_at line front here field more h.follows c (begin_head place own h.head.lawful) (λ claim lawful rest e.
+    none claim lawful (sym (get_or-append (head_of claim) (found_fields claim.found) [] place (omega (arith, head_length claim)))
+    ∙ ap (λ (t : List (List ℕ)). get_or t place []) e
+    ∙ ap (λ (k : ℕ). get_or (front ++ field ∷ rest) k []) (sym count) ∙ get_or-append_seam front field rest []))
+
+pub some_found : (found : Option Told) → length (found_fields found) ≤ 0 → ⊥
+unfolding found_fields
+some_found None h = absurd (omega arith)
+some_found (Some told) h = absurd (omega arith)
+
+-- the line ends within the head
+pub head_lacks : (line : List ℕ) (place : ℕ) (head : Front) (there : List ℕ) → place ≤ 7 → HasHead line place head None → there ≡ []
+    → IsFirstFaultOf line (length line - length there)
+head_lacks line place head there within h e =
+    let own = claimed head [] in
+    lacks_at line (take place (head_of own)) there h.follows e (begin_head place own h.head.lawful) (λ claim lawful f.
+    let n = ap length f in
+    some_found claim.found (omega (arith, head_length claim, head_length own, length-append (head_of claim) (found_fields claim.found),
+        length-take-le place (head_of own) (omega (arith, head_length own)))))
+
+-- a field of the head more
+pub head_more : (line : List ℕ) (place : ℕ) (head next : Front) (here field : List ℕ) (more : Option (List ℕ)) → HasHead line place head (Some here)
+    → Cuts 32 here field more → HasFilled place head next field → HasHead line (place + 1) next more
+head_more line place head next here field more h c f = record {
+  head = record { lawful = f.lawful; none = f.none };
+  follows = subst (λ (fields : List (List ℕ)). Follows line fields more) (sym f.spelled)
+      (follows_more line (take place (head_of (claimed head []))) here field more h.follows c);
+}

@@ -1,0 +1,196 @@
+-- What a line says of the soup: that it didn't settle, or when it did, and in version 2 the mark.
+use Rattle.std.proofs.Common.{◌≡◌, ◌≢◌, ◌∙◌, ◌==◌, ◌-◌, ◌≤◌, ◌++◌, ◌⊎◌, ◌∷◌, ℕ, Bool, List, Option, [], Some, None, ap, sym, refl, length, arith, append-nil}
+use Rattle.std.proofs.Common.{append_assoc, codes, decimal, get_or, inl, inr, length-append, map, subst, take, true, false}
+use Rattle.std.proofs.lemmas.Fmt.{decimal_injective}
+use Rattle.std.proofs.lemmas.List.Elements.{All-nil}
+use Rattle.std.specs.List.Sorted.{IsStrictlySortedBy}
+use Rattle.haul_core.specs.ClaimSteps.{Follows, HasFront, HasHead, IsHead, claimed, head_of, told_of}
+use Rattle.haul_core.specs.Claims.{BeginClaim, IsFirstFaultOf, fields_of}
+use Rattle.haul_core.specs.FieldSteps.{Cuts, IsAnyMark, IsState, Tells, state_field}
+use Rattle.haul_core.specs.ReportLines.{Claimed, IsClaim, IsCount, IsFound, IsMark, Told, count_field, found_fields, head_fields, mark_field, mark_fields}
+use Rattle.haul_core.specs.declared.front.Front.{Front}
+use Rattle.haul_core.specs.declared.front.Rested.{Rested}
+use Rattle.haul_core.proofs.FaultyLines.{bad_at, begin_head, follows_more, head_lacks, lacks_at, over_at}
+use Rattle.haul_core.proofs.SpaceLemmas.{version_small}
+
+whole_head : (claim : Claimed) → take 7 (head_of claim) ≡ head_of claim
+unfolding head_fields
+whole_head claim = refl
+
+-- two claims whose fields begin with the head of one
+pub cut_head : (c d : Claimed) (ys : List (List ℕ)) → fields_of c ≡ head_of d ++ ys → (decimal c.version ≡ decimal d.version) × (found_fields c.found ≡ ys)
+unfolding head_fields
+cut_head c d ys e = (cc, cc)
+
+pub same_version : (c d : Claimed) → IsClaim c → IsClaim d → decimal c.version ≡ decimal d.version → c.version ≡ d.version
+same_version c d h k e = decimal_injective c.version d.version (version_small c h) (version_small d k) e
+
+-- ---- the state
+
+follows_head : (line : List ℕ) (head : Front) (rest : Option (List ℕ)) → HasHead line 7 head rest → Follows line (head_of (claimed head [])) rest
+follows_head line head rest h = subst (λ (fields : List (List ℕ)). Follows line fields rest) (whole_head (claimed head [])) h.follows
+
+begin_state : (head : Front) → IsHead head → BeginClaim (head_of (claimed head []))
+begin_state head h = subst BeginClaim (whole_head (claimed head [])) (begin_head 7 (claimed head []) h.lawful)
+
+pub state_more : (line : List ℕ) (head : Front) (here field text : List ℕ) (more : Option (List ℕ)) → HasHead line 7 head (Some here) → Cuts 32 here field more
+    → field ≡ text → Follows line (head_of (claimed head []) ++ text ∷ []) more
+state_more line head here field text more h c e =
+    subst (λ (t : List ℕ). Follows line (head_of (claimed head []) ++ t ∷ []) more) e
+    (follows_more line (head_of (claimed head [])) here field more (follows_head line head (Some here) h) c)
+
+state_of : (version : ℕ) (found : Option Told) (field : List ℕ) (rest : List (List ℕ)) → IsFound version found → found_fields found ≡ field ∷ rest
+    → (state : Option ℕ) × (IsState state × (field ≡ state_field state))
+unfolding found_fields
+state_of version None field rest h e = (None, (tt, cc))
+state_of version (Some told) field rest h e = (Some told.checkpoint, (h.checkpoint, cc))
+
+pub state_bad : (line : List ℕ) (head : Front) (here field : List ℕ) (more : Option (List ℕ)) → HasHead line 7 head (Some here) → Cuts 32 here field more
+    → ((state : Option ℕ) → IsState state → field ≢ state_field state) → IsFirstFaultOf line (length line - length here)
+state_bad line head here field more h c none =
+    bad_at line (head_of (claimed head [])) here field more (follows_head line head (Some here) h) c (begin_state head h.head) (λ claim lawful rest e.
+    let s = state_of claim.version claim.found field rest lawful.found (cut_head claim (claimed head []) (field ∷ rest) e).1 in
+    none s.0 s.1.0 s.1.1)
+
+-- ---- a soup that didn't settle
+
+found_none : (settled : Option Rested) → settled ≡ None → found_fields (told_of settled []) ≡ codes "unsettled" ∷ []
+unfolding found_fields
+found_none None e = refl
+found_none (Some rested) e = absurd (cc)
+
+unsettled_fields : (head : Front) → IsHead head → fields_of (claimed head []) ≡ head_of (claimed head []) ++ codes "unsettled" ∷ []
+unsettled_fields head h = ap (λ (t : List (List ℕ)). head_of (claimed head []) ++ t) (found_none head.settled h.none)
+
+pub unsettled_front : (line : List ℕ) (head : Front) → IsHead head → Follows line (head_of (claimed head []) ++ codes "unsettled" ∷ []) None
+    → HasFront line head None
+unsettled_front line head h f = record {
+  lawful = h.lawful;
+  follows = subst (λ (fields : List (List ℕ)). Follows line fields None) (sym (unsettled_fields head h)) f;
+  settled = λ here e. absurd (cc);
+}
+
+pub at_other : (checkpoint : ℕ) → codes "at=" ++ decimal checkpoint ≢ codes "unsettled"
+at_other checkpoint e = let h : (97 == 117) ≡ true = ap (λ (t : List ℕ). get_or t 0 0 == 117) e in absurd (cc)
+
+nothing_after : (found : Option Told) (field : List ℕ) (rest : List (List ℕ)) → found_fields found ≡ codes "unsettled" ∷ field ∷ rest → ⊥
+unfolding found_fields
+nothing_after None field rest e = absurd (cc)
+nothing_after (Some told) field rest e = at_other told.checkpoint (let h : codes "at=" ++ decimal told.checkpoint ≡ codes "unsettled" = cc in h)
+
+pub unsettled_over : (line : List ℕ) (head : Front) (there : List ℕ) → IsHead head → Follows line (head_of (claimed head []) ++ codes "unsettled" ∷ []) (Some there)
+    → IsFirstFaultOf line (length line - length there)
+unsettled_over line head there h f =
+    let own = claimed head [] in
+    let begin : BeginClaim (head_of own ++ codes "unsettled" ∷ []) = record {
+      claim = own;
+      lawful = h.lawful;
+      more = [];
+      spelled = unsettled_fields head h ∙ sym (append-nil (head_of own ++ codes "unsettled" ∷ []));
+    } in
+    over_at line (head_of own ++ codes "unsettled" ∷ []) there f begin (λ claim lawful field rest e.
+    nothing_after claim.found field rest
+        (cut_head claim own (codes "unsettled" ∷ field ∷ rest) (e ∙ append_assoc (head_of own) (codes "unsettled" ∷ []) (field ∷ rest))).1)
+
+-- ---- a soup that settled
+
+abbrev pub at_field : ℕ → List ℕ
+at_field checkpoint = codes "at=" ++ decimal checkpoint
+
+-- the front with this state
+abbrev pub rested : Front → ℕ → Option Bool → Front
+rested head checkpoint for_good = record head { settled = Some (record { checkpoint = checkpoint; for_good = for_good }) }
+
+rested_lawful : (head : Front) (checkpoint : ℕ) (for_good : Option Bool) → IsHead head → checkpoint ≤ 100000 → IsMark head.version for_good
+    → IsClaim (claimed (rested head checkpoint for_good) [])
+unfolding IsStrictlySortedBy
+rested_lawful head checkpoint for_good h most mark = record {
+  version = h.lawful.version; rule = h.lawful.rule; profile = h.lawful.profile; seed = h.lawful.seed; worker = h.lawful.worker; number = h.lawful.number;
+  found = record { checkpoint = most; mark = mark; counts = All-nil IsCount; in_order = tt };
+}
+
+rested_fields : (head : Front) (checkpoint : ℕ) (for_good : Option Bool)
+    → fields_of (claimed (rested head checkpoint for_good) []) ≡ head_of (claimed head []) ++ at_field checkpoint ∷ mark_fields for_good
+unfolding head_fields found_fields
+rested_fields head checkpoint for_good =
+    ap (λ (t : List (List ℕ)). head_of (claimed head []) ++ at_field checkpoint ∷ t) (append-nil (mark_fields for_good))
+
+is_settled : (line : List ℕ) (head : Front) (checkpoint : ℕ) (for_good : Option Bool) (rest : Option (List ℕ)) → IsHead head → checkpoint ≤ 100000
+    → IsMark head.version for_good → Follows line (head_of (claimed head []) ++ at_field checkpoint ∷ mark_fields for_good) rest
+    → HasFront line (rested head checkpoint for_good) rest
+is_settled line head checkpoint for_good rest h most mark f = record {
+  lawful = rested_lawful head checkpoint for_good h most mark;
+  follows = subst (λ (fields : List (List ℕ)). Follows line fields rest) (sym (rested_fields head checkpoint for_good)) f;
+  settled = λ here e g. absurd (cc);
+}
+
+-- version 1 has no mark
+pub settled_first : (line : List ℕ) (head front : Front) (checkpoint : ℕ) (rest : Option (List ℕ)) → IsHead head → checkpoint ≤ 100000 → head.version ≡ 1
+    → Follows line (head_of (claimed head []) ++ at_field checkpoint ∷ []) rest → front ≡ rested head checkpoint None → HasFront line front rest
+unfolding mark_fields
+settled_first line head front checkpoint rest h most one f e =
+    subst (λ (r : Front). HasFront line r rest) (sym e) (is_settled line head checkpoint None rest h most one f)
+
+pub is_second : (head : Front) → IsHead head → head.version ≢ 1 → head.version ≡ 2
+is_second head h n = go h.lawful.version
+  where
+    go : (head.version ≡ 1) ⊎ (head.version ≡ 2) → head.version ≡ 2
+    go (inl e) = absurd (n e)
+    go (inr e) = e
+
+-- version 2 has one
+pub settled_second : (line : List ℕ) (head front : Front) (checkpoint : ℕ) (here field : List ℕ) (for_good : Bool) (more : Option (List ℕ)) → IsHead head
+    → checkpoint ≤ 100000 → head.version ≢ 1 → Follows line (head_of (claimed head []) ++ at_field checkpoint ∷ []) (Some here) → Cuts 32 here field more
+    → field ≡ mark_field for_good → front ≡ rested head checkpoint (Some for_good) → HasFront line front more
+unfolding mark_fields
+settled_second line head front checkpoint here field for_good more h most n f c e g =
+    let own = claimed head [] in
+    let k : Follows line ((head_of own ++ at_field checkpoint ∷ []) ++ mark_field for_good ∷ []) more =
+    subst (λ (t : List ℕ). Follows line ((head_of own ++ at_field checkpoint ∷ []) ++ t ∷ []) more) e
+    (follows_more line (head_of own ++ at_field checkpoint ∷ []) here field more f c) in
+    subst (λ (r : Front). HasFront line r more) (sym g) (is_settled line head checkpoint (Some for_good) more h most (is_second head h n)
+    (subst (λ (fields : List (List ℕ)). Follows line fields more) (append_assoc (head_of own) (at_field checkpoint ∷ []) (mark_field for_good ∷ [])) k))
+
+begin_mark : (head : Front) (checkpoint : ℕ) → IsHead head → checkpoint ≤ 100000 → head.version ≡ 2
+    → BeginClaim (head_of (claimed head []) ++ at_field checkpoint ∷ [])
+unfolding mark_fields
+begin_mark head checkpoint h most two = record {
+  claim = claimed (rested head checkpoint (Some false)) [];
+  lawful = rested_lawful head checkpoint (Some false) h most two;
+  more = mark_field false ∷ [];
+  spelled = rested_fields head checkpoint (Some false)
+      ∙ sym (append_assoc (head_of (claimed head [])) (at_field checkpoint ∷ []) (mark_field false ∷ []));
+}
+
+-- a mark stands after the checkpoint in version 2
+marked : (version : ℕ) (found : Option Told) (checkpoint : ℕ) (rest : List (List ℕ)) → version ≡ 2 → IsFound version found
+    → found_fields found ≡ at_field checkpoint ∷ rest → (for_good : Bool) × ((more : List (List ℕ)) × (rest ≡ mark_field for_good ∷ more))
+unfolding found_fields mark_fields
+marked version None checkpoint rest two h e = absurd (at_other checkpoint (let h : codes "at=" ++ decimal checkpoint ≡ codes "unsettled" = cc in h))
+marked version (Some told) checkpoint rest two h e = go told.for_good h.mark (let t : mark_fields told.for_good ++ map count_field told.counts ≡ rest = cc in t)
+  where
+    go : (for_good : Option Bool) → IsMark version for_good → mark_fields for_good ++ map count_field told.counts ≡ rest
+        → (for_good : Bool) × ((more : List (List ℕ)) × (rest ≡ mark_field for_good ∷ more))
+    go None one t = absurd (omega arith)
+    go (Some for_good) two t = (for_good, (map count_field told.counts, sym t))
+
+pub mark_lacks : (line : List ℕ) (head : Front) (checkpoint : ℕ) (there : List ℕ) → IsHead head → checkpoint ≤ 100000 → head.version ≢ 1
+    → Follows line (head_of (claimed head []) ++ at_field checkpoint ∷ []) None → there ≡ [] → IsFirstFaultOf line (length line - length there)
+mark_lacks line head checkpoint there h most n f e =
+    let own = claimed head [] in
+    let two = is_second head h n in
+    lacks_at line (head_of own ++ at_field checkpoint ∷ []) there f e (begin_mark head checkpoint h most two) (λ claim lawful g.
+    let c = cut_head claim own (at_field checkpoint ∷ []) g in
+    let m = marked claim.version claim.found checkpoint [] (same_version claim own lawful h.lawful c.0 ∙ two) lawful.found c.1 in
+    absurd (let t = m.1.1 in cc))
+
+pub mark_bad : (line : List ℕ) (head : Front) (checkpoint : ℕ) (here field : List ℕ) (more : Option (List ℕ)) → IsHead head → checkpoint ≤ 100000 → head.version ≢ 1
+    → Follows line (head_of (claimed head []) ++ at_field checkpoint ∷ []) (Some here) → Cuts 32 here field more
+    → ((for_good : Bool) → IsAnyMark for_good → field ≢ mark_field for_good) → IsFirstFaultOf line (length line - length here)
+mark_bad line head checkpoint here field more h most n f c none =
+    let own = claimed head [] in
+    let two = is_second head h n in
+    bad_at line (head_of own ++ at_field checkpoint ∷ []) here field more f c (begin_mark head checkpoint h most two) (λ claim lawful rest g.
+    let k = cut_head claim own (at_field checkpoint ∷ field ∷ rest) (g ∙ append_assoc (head_of own) (at_field checkpoint ∷ []) (field ∷ rest)) in
+    let m = marked claim.version claim.found checkpoint (field ∷ rest) (same_version claim own lawful h.lawful k.0 ∙ two) lawful.found k.1 in
+    none m.0 tt (let t = m.1.1 in cc))

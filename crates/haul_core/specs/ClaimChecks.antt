@@ -1,0 +1,31 @@
+-- What becomes of a claim that is checked: it is compared with the finding that its soup has by definition.
+use Rattle.std.specs.Prelude.{◌≡◌, true, false}
+use Rattle.survey_core.specs.Findings.{IsFinding}
+use Rattle.survey_core.specs.Soups.{soup}
+use Rattle.survey_core.specs.declared.finding.Finding.{Finding}
+use Rattle.survey_core.specs.declared.job.Job.{Job}
+use Rattle.haul_core.specs.declared.claim.check.CheckFault.{CheckFault}
+use Rattle.haul_core.specs.declared.claim.check.CheckFault.TheVariants.{Disagrees, Memory, OtherJob}
+use Rattle.haul_core.specs.Jobs.{same_job}
+use Rattle.haul_core.specs.ReportLines.{Claimed, claim_of, told_in}
+use Rattle.haul_core.specs.Reports.{IsReport, Reported}
+
+-- the claim says of the soup what the finding does, in the words of the claim's version: version 1 has no mark
+abbrev pub Agrees : Claimed → Finding → Type 0
+Agrees claim finding = told_in claim.version finding ≡ claim.found
+
+-- the finding of the soup that the claim is about
+abbrev pub IsFoundFor : Claimed → Finding → Type 0
+IsFoundFor claim finding = IsFinding claim.job.rule claim.job.profile (soup claim.job.seed claim.number) finding
+
+-- the report of a claim of this job that is right
+pub record IsConfirmed (claim : Claimed) (job : Job) (report : Reported) : Type 0 where
+  pub same : same_job claim.job job ≡ true
+  pub lawful : IsReport report
+  pub says : claim_of claim.version report ≡ claim
+
+-- when each fault comes
+abbrev pub Fails : Claimed → Job → CheckFault → Type 0
+Fails claim job OtherJob = same_job claim.job job ≡ false
+Fails claim job (Disagrees found) = (same_job claim.job job ≡ true) × (IsFoundFor claim found × ¬ Agrees claim found)
+Fails claim job Memory = same_job claim.job job ≡ true
