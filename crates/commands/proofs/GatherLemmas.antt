@@ -1,24 +1,23 @@
 -- From the steps of `gather` to what became of each line.
 use Rattle.std.proofs.Common.{◌≡◌, ◌≢◌, ◌+◌, ◌-◌, ◌≤◌, ◌∙◌, ◌++◌, ◌⊎◌, ◌<◌, ℕ, suc, inl, inr, Bool, true, false, IfSome, length-append, List, [], ◌∷◌, Option, None, Some, Result, Ok, Err, IfOk, ap, append-nil, append_assoc, arith, length, refl, subst, sym}
-use Rattle.survey_core.specs.Findings.{IsFinding}
 use Rattle.survey_core.specs.FindingLaws.{FindingsAreDetermined}
 use Rattle.survey_core.specs.Soups.{soup}
 use Rattle.survey_core.specs.declared.finding.Finding.{Finding}
-use Rattle.survey_core.specs.declared.job.Job.{Job}
 use Rattle.haul_core.specs.declared.arrival.Arrival.{Arrival}
 use Rattle.haul_core.specs.declared.arrival.Arrival.TheVariants.{Offer}
 use Rattle.haul_core.specs.declared.refusal.Refusal.{Refusal}
 use Rattle.haul_core.specs.declared.refusal.Refusal.TheVariants as refusal
 use Rattle.haul_core.specs.Books.{Held, IsReply, StandsFor, Terms, refusal_of}
-use Rattle.haul_core.specs.ReportLines.{Claimed, IsClaim, claim_line, told_in}
+use Rattle.haul_core.specs.ClaimChecks.{Agrees, IsFoundFor}
+use Rattle.haul_core.specs.ReportLines.{Claimed, told_in}
 use Rattle.haul_core.specs.Reports.{Reported}
 use Rattle.commands.specs.declared.line_fault.LineFault.{LineFault}
 use Rattle.std.proofs.KnownBytes.{Consumes-nil, Consumes-trans}
 use Rattle.std.proofs.lemmas.List.Elements.{All-nil}
 use Rattle.std.specs.Io.KnownBytes.{Appends, Consumes, IsAtEnd}
 use Rattle.plane_core.proofs.OutLemmas.{Appends-append, Appends-nil}
-use Rattle.commands.specs.GatherSteps.{GoesOn, HasGathered, HasGatheredAll, HasMet, IsMetBy, IsOneLine, with_feed}
-use Rattle.commands.proofs.LineLemmas.{all_read, ended_more, lines_bare, lines_ended}
+use Rattle.commands.specs.GatherSteps.{GoesOn, HasBegun, HasGathered, HasGatheredAll, HasMet, IsMetBy, IsOneLine, with_feed}
+use Rattle.commands.proofs.LineLemmas.{all_read, ended_more, lines_bare, lines_ended, rest_of}
 use Rattle.commands.specs.GatheredLines.{Claims, Faulty, Gathered, IsChecked, IsWrong, Meets, Next, Offered, Start, offer_fault, told_of}
 
 -- nothing arrives by a line with a fault
@@ -57,12 +56,10 @@ refused_told terms line held arrivals report reason (Ok fault) is reply memory t
 refused_told terms line held arrivals report reason (Err e) is reply memory told stands = tt
 
 -- a claim that one finding of its soup contradicts is wrong, since there is no other
-pub wrong : FindingsAreDetermined → (claim : Claimed) (job : Job) (found : Finding) → claim.job ≡ job
-    → IsFinding job.rule job.profile (soup job.seed claim.number) found → claim.found ≢ told_in claim.version found → IsWrong claim
-wrong unique claim job found same is differs finding right agrees =
-    let P : Job → Type 0 = λ j. IsFinding j.rule j.profile (soup j.seed claim.number) found in
-    let own = subst P (sym same) is in
-    differs (agrees ∙ ap (told_in claim.version) (unique claim.job.rule claim.job.profile (soup claim.job.seed claim.number) finding found right own))
+pub wrong : FindingsAreDetermined → (claim : Claimed) (found : Finding) → IsFoundFor claim found → ¬ Agrees claim found → IsWrong claim
+wrong unique claim found is differs finding right agrees =
+    let same = unique claim.job.rule claim.job.profile (soup claim.job.seed claim.number) found finding is right in
+    differs (ap (told_in claim.version) same ∙ agrees)
 
 -- one line more that has come to the haul
 pub met_more : (terms : Terms) (lines : List (List ℕ)) (line told : List ℕ) (old new : Held) (before : ℕ) (fault : Option LineFault)
@@ -134,3 +131,19 @@ goes_on known left new before after later count held next line false gathered co
 pub no_fault : (fault : Option LineFault) → ((x : LineFault) → fault ≢ Some x) → fault ≡ None
 no_fault None not = refl
 no_fault (Some x) not = absurd (not x refl)
+
+-- what has come so far is a beginning
+pub begun : (known left before after : Option (List ℕ)) (count : ℕ) (held : Held) (terms : Terms) → HasGathered known left before after count held
+    → held.terms ≡ terms → HasBegun terms known before after
+begun known left before after count held terms gathered same = record {
+  read = gathered.read;
+  rest = rest_of known left gathered.read gathered.consumed;
+  lines = gathered.lines;
+  ended = gathered.ended;
+  arrivals = gathered.met.arrivals;
+  told = gathered.told;
+  gathered =
+      let P : Terms → Type 0 = λ t. Gathered t gathered.lines gathered.met.arrivals gathered.told in
+      subst P same gathered.met.gathered;
+  written = gathered.written;
+}

@@ -118,3 +118,9 @@ no_bytes (x ∷ xs) none = let long : length (x ∷ xs) ≡ 0 = eqb-true _ _ non
 pub some_bytes : (line : List ℕ) → (length line == 0) ≡ false → 0 < length line
 some_bytes [] some = cc
 some_bytes (x ∷ xs) some = omega arith
+
+-- what was read is a front of the input
+pub rest_of : (known left : Option (List ℕ)) (read : List ℕ) → Consumes known left read → IfSome known (λ bytes. (more : List ℕ) × (bytes ≡ read ++ more))
+rest_of None left read consumed = tt
+rest_of (Some bytes) None read consumed = absurd consumed
+rest_of (Some bytes) (Some more) read consumed = (more, consumed)

@@ -1,5 +1,5 @@
 -- How report lines are gathered, a line at a time.
-use Rattle.std.specs.Prelude.{◌≡◌, ◌≢◌, ◌++◌, ℕ, Bool, true, false, List, [], ◌∷◌, All, Option, flat_map, length}
+use Rattle.std.specs.Prelude.{◌≡◌, ◌≢◌, ◌++◌, ℕ, Bool, true, false, List, [], ◌∷◌, All, IfSome, Option, flat_map, length}
 use Rattle.std.specs.Io.KnownBytes.{Appends, Consumes}
 use Rattle.haul_core.specs.declared.arrival.Arrival.{Arrival}
 use Rattle.haul_core.specs.Books.{Held, StandsFor, Terms}
@@ -41,6 +41,17 @@ pub record HasGathered (known left before after : Option (List ℕ)) (count : �
   pub ended : AreEnded read lines
   pub count_is : count ≡ length lines
   pub met : HasMet held.terms lines held told
+  pub written : Appends before after told
+
+-- The first lines of an input have come to a haul, and standard error has what is told of them.
+pub record HasBegun (terms : Terms) (known before after : Option (List ℕ)) : Type 0 where
+  pub read : List ℕ
+  pub rest : IfSome known (λ bytes. (more : List ℕ) × (bytes ≡ read ++ more))
+  pub lines : List (List ℕ)
+  pub ended : AreEnded read lines
+  pub arrivals : List Arrival
+  pub told : List ℕ
+  pub gathered : Gathered terms lines arrivals told
   pub written : Appends before after told
 
 -- All lines of the input have come to the haul, and standard error has what is told of them.

@@ -1,7 +1,5 @@
 -- Report lines as an input: its lines, what each of them says, and what becomes of it at a haul.
-use Rattle.std.specs.Prelude.{◌≡◌, ◌≢◌, ◌==◌, ◌++◌, ℕ, suc, List, [], ◌∷◌, Option, None, Some, Result, Ok, Err, codes, decimal, length, if◌then◌else◌}
-use Rattle.survey_core.specs.Findings.{IsFinding}
-use Rattle.survey_core.specs.Soups.{soup}
+use Rattle.std.specs.Prelude.{◌≡◌, ◌==◌, ◌++◌, ℕ, suc, true, false, List, [], ◌∷◌, Option, None, Some, Result, Ok, Err, codes, decimal, length, if◌then◌else◌}
 use Rattle.survey_core.specs.declared.finding.Finding.{Finding}
 use Rattle.survey_core.specs.declared.job.Job.{Job}
 use Rattle.haul_core.specs.declared.arrival.Arrival.{Arrival}
@@ -9,9 +7,11 @@ use Rattle.haul_core.specs.declared.arrival.Arrival.TheVariants.{Offer}
 use Rattle.haul_core.specs.declared.refusal.Refusal.{Refusal}
 use Rattle.haul_core.specs.declared.refusal.Refusal.TheVariants as refusal
 use Rattle.haul_core.specs.Books.{Terms, refusal_of}
+use Rattle.haul_core.specs.ClaimChecks.{Agrees, IsConfirmed, IsFoundFor}
 use Rattle.haul_core.specs.Claims.{IsFirstFaultOf}
-use Rattle.haul_core.specs.ReportLines.{Claimed, IsClaim, claim_line, claim_of, told_in}
-use Rattle.haul_core.specs.Reports.{IsReport, Reported}
+use Rattle.haul_core.specs.Jobs.{same_job}
+use Rattle.haul_core.specs.ReportLines.{Claimed, IsClaim, claim_line}
+use Rattle.haul_core.specs.Reports.{Reported}
 use Rattle.commands.specs.declared.line_fault.LineFault.{LineFault}
 use Rattle.commands.specs.declared.line_fault.LineFault.TheVariants.{BadLine, OtherJob, Disagrees, UnknownWorker, OutOfRange, Double}
 
@@ -30,24 +30,16 @@ pub record Claims (line : List ℕ) (claim : Claimed) : Type 0 where
   pub lawful : IsClaim claim
   pub spelled : claim_line claim ≡ line
 
--- a claim is wrong: none of the findings of its soup is as its version tells it
+-- a claim is wrong: it agrees with no finding of its soup
 abbrev pub IsWrong : Claimed → Type 0
-IsWrong claim = (finding : Finding) → IsFinding claim.job.rule claim.job.profile (soup claim.job.seed claim.number) finding
-    → claim.found ≢ told_in claim.version finding
+IsWrong claim = (finding : Finding) → IsFoundFor claim finding → ¬ Agrees claim finding
 
--- a line says what a report says, in one of the versions
-pub record Says (line : List ℕ) (report : Reported) : Type 0 where
-  pub report_is : IsReport report
-  pub version : ℕ
-  pub lawful : IsClaim (claim_of version report)
-  pub spelled : claim_line (claim_of version report) ≡ line
-
--- A line is a report of the job, or there is a fault: it is no claim's line, its claim is one of another job, or it is wrong.
+-- A line is a report of the job, or there is a fault: it is no claim's line, its claim is of another job, or it is wrong.
 abbrev pub IsChecked : Job → List ℕ → Result Reported LineFault → Type 0
-IsChecked job line (Ok report) = Says line report × (report.job ≡ job)
+IsChecked job line (Ok report) = (claim : Claimed) × Claims line claim × IsConfirmed claim job report
 IsChecked job line (Err (BadLine place)) = IsFirstFaultOf line place
-IsChecked job line (Err OtherJob) = (claim : Claimed) × Claims line claim × (claim.job ≢ job)
-IsChecked job line (Err Disagrees) = (claim : Claimed) × Claims line claim × (claim.job ≡ job) × IsWrong claim
+IsChecked job line (Err OtherJob) = (claim : Claimed) × Claims line claim × (same_job claim.job job ≡ false)
+IsChecked job line (Err Disagrees) = (claim : Claimed) × Claims line claim × (same_job claim.job job ≡ true) × IsWrong claim
 IsChecked job line (Err _) = ⊥
 
 -- what is told of a report that a haul refuses; a haul that is open refuses no report of its job in other ways

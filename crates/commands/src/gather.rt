@@ -1,7 +1,7 @@
 ghost use Rattle.std.specs.Prelude.{◌≡◌, ◌≢◌, ◌<◌, ◌+◌, ◌^◌, ◌++◌, ◌∷◌, [], ℕ, List, Option, Some, IfErr, IfOk, OnOk, false, length};
 ghost use Rattle.haul_core.specs.Books.{StandsFor, has_closing};
 ghost use Rattle.haul_core.specs.declared.arrival.Arrival.{Arrival};
-ghost use Rattle.commands.specs.GatherSteps.{GoesOn, HasGathered, HasGatheredAll, HasMet, IsMetBy};
+ghost use Rattle.commands.specs.GatherSteps.{GoesOn, HasBegun, HasGathered, HasGatheredAll, HasMet, IsMetBy};
 ghost use Rattle.commands.specs.GatheredLines.{IsChecked, Meets, offer_fault};
 ghost use Rattle.commands.specs.declared.complaint.Complaint.TheVariants.{WriteFailed};
 ghost use Rattle.haul_core.specs.Reports.{Reported};
@@ -10,7 +10,9 @@ ghost use Rattle.haul_core.specs.declared.refusal.Refusal.TheVariants as refusal
 use crate::complaint::Complaint;
 use crate::line_fault::LineFault;
 use crate::lines::read_line;
-use haul_core::claim::{CheckFault, Claim, LineError};
+use haul_core::claim::Claim;
+use haul_core::claim::check::CheckFault;
+use haul_core::claim::line::LineError;
 use haul_core::haul::Haul;
 use haul_core::refusal::Refusal;
 use haul_core::report::Report;
@@ -34,6 +36,8 @@ fn gather_lines<R: BufRead, E: Write>(
     ensures terms { haul.new.terms ≡ haul.old.terms }
     ensures gathered { StandsFor [] haul.old → OnOk result (HasGatheredAll (R.remaining input.old)
         (E.contents errors.old.writer) (E.contents errors.new.writer) haul.new) }
+    ensures begun { StandsFor [] haul.old → IfErr result (λ complaint. complaint ≢ WriteFailed
+        → HasBegun haul.old.terms (R.remaining input.old) (E.contents errors.old.writer) (E.contents errors.new.writer)) }
     ensures fine { OnOk result (errors.new.failed ≡ false) }
     ensures failed { IfErr result (λ complaint. complaint ≢ WriteFailed → errors.new.failed ≡ false) }
 {
@@ -69,7 +73,7 @@ fn gather_line<R: BufRead, E: Write>(
         → HasGathered known (R.remaining input.old) first (E.contents errors.old.writer) before haul.old
         → IfOk result (GoesOn known (R.remaining input.new) first (E.contents errors.new.writer) (before + 1) haul.new) }
     ensures fine { OnOk result (errors.new.failed ≡ false) }
-    ensures failed { IfErr result (λ complaint. complaint ≢ WriteFailed → errors.new.failed ≡ false) }
+    ensures kept { IfErr result (λ complaint. complaint ≢ WriteFailed → errors.new ≡ errors.old) }
 {
     let more = read_line(input, line)?;
     let line = line.as_slice();
@@ -94,7 +98,7 @@ fn meet_line<E: Write>(
     ensures met { (lines : List (List ℕ)) (told : List ℕ) → before ≡ length lines → HasMet haul.old.terms lines haul.old told
         → OnOk result (IsMetBy haul.old.terms lines line.now haul.new told (E.contents errors.old.writer) (E.contents errors.new.writer)) }
     ensures fine { OnOk result (errors.new.failed ≡ false) }
-    ensures failed { IfErr result (λ complaint. complaint ≢ WriteFailed → errors.new.failed ≡ false) }
+    ensures kept { IfErr result (λ complaint. complaint ≢ WriteFailed → errors.new ≡ errors.old) }
 {
     if let Some(fault) = meet(alloc, line, haul)? {
         fault.write_line(before + 1, errors)?;
