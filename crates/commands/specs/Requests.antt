@@ -21,7 +21,7 @@ IsWithinLimits (Run generations rule) = generations ≤ 100000
 IsWithinLimits (Name profile rule) = AreInRange profile
 IsWithinLimits (Show code) = Unit {0}
 IsWithinLimits (Soup seed number) = number < 2 ^ 40
-IsWithinLimits (Take set profile rule) = AreInRange profile
+IsWithinLimits (Take set profile rule progress) = AreInRange profile
 IsWithinLimits Version = Unit {0}
 
 -- the command looks at its input: `run` does, if its rule is one, and `name`, if its profile is one too
@@ -30,7 +30,7 @@ reads_input (Run generations rule) = is_ok (rule_named rule)
 reads_input (Name profile rule) = is_ok (profile_named profile) && is_ok (rule_named rule)
 reads_input (Show code) = false
 reads_input (Soup seed number) = false
-reads_input (Take set profile rule) = false
+reads_input (Take set profile rule progress) = false
 reads_input Version = false
 
 -- which answers are right for a request, on an input: the finding of `name` and the haul of `take` are said
@@ -40,7 +40,7 @@ right_for (Run generations rule) bytes = only (run_answer rule generations bytes
 right_for (Name profile rule) bytes = name_right profile rule bytes
 right_for (Show code) bytes = only (show_answer code)
 right_for (Soup seed number) bytes = only (soup_answer seed number)
-right_for (Take set profile rule) bytes = take_right set profile rule
+right_for (Take set profile rule progress) bytes = take_right set profile rule
 right_for Version bytes = only version_answer
 
 -- a request was done on an input, and ended well

@@ -14,6 +14,8 @@ pub mod name;
 pub mod output;
 /// Profiles, as words ask for them.
 pub mod profile;
+/// The line that says how far a haul has come.
+pub mod progress;
 /// Why a text was refused, and its line.
 pub mod refusal;
 /// Commands with their values.
