@@ -38,3 +38,5 @@ mod tests;
 pub mod version;
 /// Words of the command line.
 pub mod word;
+/// `work`: the report lines of a set of soups.
+pub mod work;

@@ -13,6 +13,7 @@ use crate::status::Status;
 use crate::take::do_take;
 use crate::version::do_version;
 use crate::word::Word;
+use crate::work::do_work;
 use plane_core::output::Out;
 use std::alloc::Global;
 use std::io::{Read, Write};
@@ -48,6 +49,14 @@ pub enum Request<'a> {
         rule: Word<'a>,
         progress: bool,
     },
+    /// The report lines of this worker, 1 to 16, for all soups of a set, under a profile, of which each number is in its range,
+    /// and the rule of a text.
+    Work {
+        set: SoupSet<'a>,
+        worker: u8,
+        profile: ProfileNumbers,
+        rule: Word<'a>,
+    },
     /// The program's name and version.
     Version,
 }
@@ -60,8 +69,8 @@ pub enum Request<'a> {
 ///
 /// # Errors
 ///
-/// Those of the request's own function: [`do_run`], [`do_name`], [`do_show`], [`do_soup`], [`do_take`] or
-/// [`do_version`].
+/// Those of the request's own function: [`do_run`], [`do_name`], [`do_show`], [`do_soup`], [`do_take`],
+/// [`do_work`] or [`do_version`].
 pub fn do_request<R: Read, W: Write, E: Write, P: Write, C: Clock>(
     alloc: Global,
     request: &Request<'_>,
@@ -96,6 +105,9 @@ pub fn do_request<R: Read, W: Write, E: Write, P: Write, C: Clock>(
         } => {
             line.ask(*progress);
             do_take(alloc, set, *profile, rule.as_str(), output, errors, line)
+        }
+        Request::Work { set, worker, profile, rule } => {
+            do_work(alloc, set, *worker, *profile, rule.as_str(), output, errors)
         }
         Request::Version => do_version(output, errors),
     }

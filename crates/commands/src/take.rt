@@ -1,4 +1,4 @@
-ghost use Rattle.std.specs.Prelude.{◌≡◌, ◌++◌, ◌∷◌, ◌<◌, ◌≤◌, [], ℕ, List, IfErr, IfOk, OnOk, Err, Ok, false};
+ghost use Rattle.std.specs.Prelude.{◌≡◌, ◌++◌, ◌∷◌, ◌<◌, ◌≤◌, [], ℕ, List, IfErr, IfOk, OnOk, Err, Ok, false, true};
 ghost use Rattle.haul_core.specs.HaulTexts.{haul_text};
 ghost use Rattle.haul_core.specs.Ranges.{end_of, number_bound};
 ghost use Rattle.commands.specs.Answers.{Ends, Reaches};
@@ -6,8 +6,8 @@ ghost use Rattle.commands.specs.Complaints.{status_of};
 ghost use Rattle.commands.specs.Profiles.{AreInRange};
 ghost use Rattle.commands.specs.SoupSets.{AreRangesOf, job_named};
 ghost use Rattle.commands.specs.Streams.{stream};
-ghost use Rattle.commands.specs.Take.{IsHaulOf, take_right};
-ghost use Rattle.commands.specs.TakeSteps.{IsOffered, IsOpened, Stops, numbers_in_range, numbers_of};
+ghost use Rattle.commands.specs.Take.{take_right};
+ghost use Rattle.commands.specs.TakeSteps.{IsOffered, IsOpened, Stops, StopsSet, numbers_in_range, numbers_of};
 
 use crate::complaint::Complaint;
 use crate::profile::ProfileNumbers;
@@ -54,7 +54,7 @@ pub fn do_take<W: Write, E: Write, H: Watch>(
     requires profile { AreInRange profile }
     requires output { output.old.failed ≡ false }
     requires errors { errors.old.failed ≡ false }
-    ensures ends { Ends false (take_right set.now profile rule_text.now) result
+    ensures ends { Ends false true (take_right set.now profile rule_text.now) result
         (stream W.contents output.old output.new) (stream E.contents errors.old errors.new) }
     ensures untouched { result ≡ Status.Refused → output.new ≡ output.old }
     ensures no_memory { result ≡ Status.OutOfMemory → output.new ≡ output.old }
@@ -75,7 +75,7 @@ fn take<W: Write, H: Watch>(
 ) -> Result<(), Complaint>
     requires profile { AreInRange profile }
     requires output { output.old.failed ≡ false }
-    ensures reached { Reaches false (take_right set.now profile rule_text.now) result (stream W.contents output.old output.new) }
+    ensures reached { Reaches false true (take_right set.now profile rule_text.now) result (stream W.contents output.old output.new) }
     ensures untouched { IfErr result (λ complaint. status_of complaint ≡ Status.Refused → output.new ≡ output.old) }
     ensures no_memory { IfErr result (λ complaint. complaint ≡ Complaint.OutOfMemory → output.new ≡ output.old) }
 {
@@ -105,7 +105,7 @@ fn census_of<H: Watch>(
 }
 
 /// The job that the texts and numbers make.
-fn job(set: &SoupSet<'_>, profile: ProfileNumbers, rule_text: &str) -> Result<Job, Complaint>
+pub(crate) fn job(set: &SoupSet<'_>, profile: ProfileNumbers, rule_text: &str) -> Result<Job, Complaint>
     requires { AreInRange profile }
     ensures { result ≡ job_named set.now profile rule_text.now }
 {
@@ -120,9 +120,9 @@ fn job(set: &SoupSet<'_>, profile: ProfileNumbers, rule_text: &str) -> Result<Jo
 }
 
 /// A haul over the ranges of a set, for one worker.
-fn open_haul(alloc: Global, job: Job, set: &SoupSet<'_>) -> Result<Haul, Complaint>
+pub(crate) fn open_haul(alloc: Global, job: Job, set: &SoupSet<'_>) -> Result<Haul, Complaint>
     ensures opened { IfOk result (IsOpened job set.now) }
-    ensures stops { IfErr result (Stops (IsHaulOf job set.now)) }
+    ensures stops { IfErr result (StopsSet set.now) }
 {
     let ranges = ranges_of(alloc, set)?;
     match Haul::open(alloc, job, ranges.as_slice(), WORKER) {
@@ -137,7 +137,8 @@ fn open_haul(alloc: Global, job: Job, set: &SoupSet<'_>) -> Result<Haul, Complai
 /// The ranges of a set.
 fn ranges_of(alloc: Global, set: &SoupSet<'_>) -> Result<Vec<Range>, Complaint>
     ensures named { IfOk result (λ ranges. AreRangesOf set.now ranges.items) }
-    ensures stops { (job : Job) → IfErr result (Stops (IsHaulOf job set.now)) }
+    ensures only { IfOk result (λ ranges. (others : List Range) → AreRangesOf set.now others → others ≡ ranges.items) }
+    ensures stops { IfErr result (StopsSet set.now) }
 {
     let mut ranges = Range::read_list(alloc, set.also.as_str())?;
     let own = Range {
