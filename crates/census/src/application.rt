@@ -2,10 +2,11 @@ ghost use Rattle.std.specs.Prelude.{◌≡◌, false, IfOk};
 ghost use Rattle.clap.specs.Words.{app_of, rule_of, shape_of};
 ghost use Rattle.clap.specs.declared.builder.command.Command.TheViews.{out-Command as fields_of};
 ghost use Rattle.census.specs.Application.{census_app, pattern_app, printing_app, code_argument, generations_argument, number_argument, rule_argument, run_shape, seed_argument, show_shape, soup_shape, name_shape, period_argument, horizon_argument, stride_argument, limit_argument, with_looks, with_rest};
-ghost use Rattle.census.specs.Application.{also_argument, count_argument, first_argument, take_shape, with_count, with_first, with_workers, workers_argument};
+ghost use Rattle.census.specs.Application.{also_argument, count_argument, first_argument, progress_argument, take_shape, with_count, with_first, with_workers};
+ghost use Rattle.census.specs.Application.{workers_argument};
 
 use clap::builder::ValueParser;
-use clap::{Arg, Command, value_parser};
+use clap::{Arg, ArgAction, Command, value_parser};
 use std::alloc::{AllocError, Global};
 
 /// The rule that is meant if none is given: Conway's Game of Life.
@@ -168,14 +169,15 @@ fn with_count<'a>(alloc: Global, command: Command<'a>) -> Result<Command<'a>, Al
         .arg(also_argument(alloc))
 }
 
-/// The command with the options on the rule and the workers.
+/// The command with the options on the rule and the workers, and that on the line of progress.
 fn with_workers<'a>(alloc: Global, command: Command<'a>) -> Result<Command<'a>, AllocError>
     ensures app { IfOk result (λ new. app_of new ≡ with_workers (app_of command.entry)) }
     ensures local { (fields_of command.entry).has_globals ≡ false → IfOk result (λ new. (fields_of new).has_globals ≡ false) }
 {
     command
         .arg(rule_argument(alloc))?
-        .arg(workers_argument(alloc))
+        .arg(workers_argument(alloc))?
+        .arg(progress_argument(alloc))
 }
 
 fn code_argument<'a>(alloc: Global) -> Arg<'a>
@@ -325,4 +327,16 @@ fn workers_argument<'a>(alloc: Global) -> Arg<'a>
         .value_parser(value_parser!(u32).range(1..=1))
         .default_value("1")
         .help("How many workers run soups at a time: 1. More come later")
+}
+
+fn progress_argument<'a>(alloc: Global) -> Arg<'a>
+    ensures rule { rule_of result ≡ progress_argument }
+    ensures local { result.global ≡ false }
+{
+    Arg::new(alloc, "progress")
+        .long("progress")
+        .action(ArgAction::SetTrue)
+        .help(
+            "Says on standard error how many soups are run, also if that is no terminal. The line is wiped at the end",
+        )
 }

@@ -7,3 +7,5 @@ pub mod belt;
 mod tests;
 /// Numbers that threads draw, each once.
 pub mod tickets;
+/// Who hears how far a haul has come.
+pub mod watch;
