@@ -17,8 +17,8 @@ use Rattle.std.proofs.lemmas.List.Elements.{All-nil}
 use Rattle.std.specs.Io.KnownBytes.{Appends, Consumes, IsAtEnd}
 use Rattle.plane_core.proofs.OutLemmas.{Appends-append, Appends-nil}
 use Rattle.commands.specs.GatherSteps.{GoesOn, HasBegun, HasGathered, HasGatheredAll, HasMet, IsMetBy, IsOneLine, with_feed}
-use Rattle.commands.proofs.LineLemmas.{all_read, ended_more, lines_bare, lines_ended, rest_of}
-use Rattle.commands.specs.GatheredLines.{Claims, Faulty, Gathered, IsChecked, IsWrong, Meets, Next, Offered, Start, offer_fault, told_of}
+use Rattle.commands.proofs.LineLemmas.{all_read, ended_more, lines_bare, lines_ended, all_lines, first_lines}
+use Rattle.commands.specs.GatheredLines.{Claims, lines_of, Faulty, Gathered, IsChecked, IsWrong, Meets, Next, Offered, Start, offer_fault, told_of}
 
 -- nothing arrives by a line with a fault
 pub faulty : {terms : Terms} {line : List ℕ} {fault : LineFault} {held : Held} (arrivals : List Arrival) → IsChecked terms.job line (Err fault)
@@ -136,10 +136,8 @@ no_fault (Some x) not = absurd (not x refl)
 pub begun : (known left before after : Option (List ℕ)) (count : ℕ) (held : Held) (terms : Terms) → HasGathered known left before after count held
     → held.terms ≡ terms → HasBegun terms known before after
 begun known left before after count held terms gathered same = record {
-  read = gathered.read;
-  rest = rest_of known left gathered.read gathered.consumed;
   lines = gathered.lines;
-  ended = gathered.ended;
+  first = first_lines known left gathered.read gathered.lines gathered.consumed gathered.ended;
   arrivals = gathered.met.arrivals;
   told = gathered.told;
   gathered =
@@ -147,3 +145,23 @@ begun known left before after count held terms gathered same = record {
       subst P same gathered.met.gathered;
   written = gathered.written;
 }
+
+-- and so is all that has come
+pub all_begun : (known before after : Option (List ℕ)) (held : Held) (terms : Terms) → HasGatheredAll known before after held → held.terms ≡ terms
+    → HasBegun terms known before after
+all_begun known before after held terms all same = record {
+  lines = lines_of all.bytes;
+  first = all_lines known all.bytes all.input;
+  arrivals = all.met.arrivals;
+  told = all.told;
+  gathered =
+      let P : Terms → Type 0 = λ t. Gathered t (lines_of all.bytes) all.met.arrivals all.told in
+      subst P same all.met.gathered;
+  written = all.written;
+}
+
+-- the same where there may be more lines, or none
+pub goes_begun : (known left before after : Option (List ℕ)) (count : ℕ) (held : Held) (terms : Terms) (more : Bool)
+    → GoesOn known left before after count held more → held.terms ≡ terms → HasBegun terms known before after
+goes_begun known left before after count held terms true gathered same = begun known left before after count held terms gathered same
+goes_begun known left before after count held terms false all same = all_begun known before after held terms all same

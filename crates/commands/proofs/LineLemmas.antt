@@ -119,8 +119,16 @@ pub some_bytes : (line : List ℕ) → (length line == 0) ≡ false → 0 < leng
 some_bytes [] some = cc
 some_bytes (x ∷ xs) some = omega arith
 
--- what was read is a front of the input
-pub rest_of : (known left : Option (List ℕ)) (read : List ℕ) → Consumes known left read → IfSome known (λ bytes. (more : List ℕ) × (bytes ≡ read ++ more))
-rest_of None left read consumed = tt
-rest_of (Some bytes) None read consumed = absurd consumed
-rest_of (Some bytes) (Some more) read consumed = (more, consumed)
+-- the lines that were read are the first of the input
+pub first_lines : (known left : Option (List ℕ)) (read : List ℕ) (lines : List (List ℕ)) → Consumes known left read → AreEnded read lines
+    → IfSome known (λ bytes. (more : List (List ℕ)) × (lines_of bytes ≡ lines ++ more))
+first_lines None left read lines consumed ended = tt
+first_lines (Some bytes) None read lines consumed ended = absurd consumed
+first_lines (Some bytes) (Some more) read lines consumed ended =
+    (lines_of more, ap lines_of (consumed ∙ ap (λ l. l ++ more) ended.spelled) ∙ ended_lines lines more ended.whole)
+
+-- and if all was read, they are all
+pub all_lines : (known : Option (List ℕ)) (read : List ℕ) → IsInput known read
+    → IfSome known (λ bytes. (more : List (List ℕ)) × (lines_of bytes ≡ lines_of read ++ more))
+all_lines None read input = tt
+all_lines (Some bytes) read input = ([], ap lines_of (sym input) ∙ sym (append-nil (lines_of read)))

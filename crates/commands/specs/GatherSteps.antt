@@ -45,10 +45,8 @@ pub record HasGathered (known left before after : Option (List ℕ)) (count : �
 
 -- The first lines of an input have come to a haul, and standard error has what is told of them.
 pub record HasBegun (terms : Terms) (known before after : Option (List ℕ)) : Type 0 where
-  pub read : List ℕ
-  pub rest : IfSome known (λ bytes. (more : List ℕ) × (bytes ≡ read ++ more))
   pub lines : List (List ℕ)
-  pub ended : AreEnded read lines
+  pub first : IfSome known (λ bytes. (more : List (List ℕ)) × (lines_of bytes ≡ lines ++ more))
   pub arrivals : List Arrival
   pub told : List ℕ
   pub gathered : Gathered terms lines arrivals told

@@ -47,7 +47,7 @@ fn gather_lines<R: BufRead, E: Write>(
         let more = gather_line(alloc, input, &mut line, before, haul, errors)?;
         read += line.len() as u64 + u64::from(more);
         if read > INPUT_LIMIT {
-            break;
+            return Err(Complaint::ReadFailed);
         }
         if !more {
             return Ok(());

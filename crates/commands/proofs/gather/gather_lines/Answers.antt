@@ -1,5 +1,5 @@
 use Rattle.std.proofs.Common.{arith, refl}
-use Rattle.commands.proofs.GatherLemmas.{none_gathered}
+use Rattle.commands.proofs.GatherLemmas.{begun, goes_begun, none_gathered}
 use Rattle.commands.proofs.gather.gather_lines.Goals as goal
 
 pub loop-before-init : goal.loop-before-init
@@ -9,3 +9,13 @@ loop-before-init g c = record {
   few = omega arith;
   gathered = none_gathered _ _ _;
 }
+
+pub returns-in_err-more-clause-begun : goal.returns-in_err-more-clause-begun
+returns-in_err-more-clause-begun g c stands = ?
+
+pub returns-then-read-gt-INPUT_LIMIT-clause-begun : goal.returns-then-read-gt-INPUT_LIMIT-clause-begun
+returns-then-read-gt-INPUT_LIMIT-clause-begun g c stands other = ?
+
+pub returns-clause-begun : goal.returns-clause-begun
+returns-clause-begun g c stands other =
+    begun _ _ _ _ _ _ _ (c.loop-before.invariant.gathered stands) c.loop-before.invariant.terms
