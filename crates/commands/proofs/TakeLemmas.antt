@@ -332,14 +332,14 @@ complete_right job set opened held closed census open_ terms offered_ closed_ter
       small = open_.small;
       apart = open_.apart;
       is_told = record {
-      numbers = numbers_of opened.terms.ranges;
-      all = numbers_of_form open_.ranges opened.terms.ranges open_.form;
-      normal = opened.terms.ranges;
-      form = open_.form;
-      census = census;
-      counted = subst (λ (ns : List ℕ). IsCensus job opened.terms.ranges ns census) numbers
-          (subst (λ (rs : List Range). IsCensus job rs (numbers_in closed.taken) census) ranges_are
-          (subst (λ (j : Job). IsCensus j closed.terms.ranges (numbers_in closed.taken) census) job_is is));
-      told = refl;
-    };
+        numbers = numbers_of opened.terms.ranges;
+        all = numbers_of_form open_.ranges opened.terms.ranges open_.form;
+        normal = opened.terms.ranges;
+        form = open_.form;
+        census = census;
+        counted = subst (λ (ns : List ℕ). IsCensus job opened.terms.ranges ns census) numbers
+            (subst (λ (rs : List Range). IsCensus job rs (numbers_in closed.taken) census) ranges_are
+            (subst (λ (j : Job). IsCensus j closed.terms.ranges (numbers_in closed.taken) census) job_is is));
+        told = refl;
+      };
     }

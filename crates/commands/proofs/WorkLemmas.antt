@@ -300,7 +300,7 @@ reaches_work determined one_form set worker numbers rule_text job held outcome o
     go (Err OutOfMemory) begun = (
       λ unread complaint is. absurd (never complaint is),
       λ answer is. front_of determined job worker (numbers_of held.terms.ranges) answer output (tells answer is)
-      (begun_whole job worker (numbers_of held.terms.ranges) output begun),
+          (begun_whole job worker (numbers_of held.terms.ranges) output begun),
     )
     go (Err WriteFailed) (begun, told) = (
       (never, λ text is. front_of determined job worker (numbers_of held.terms.ranges) (Ok text) output (tells (Ok text) is) begun),

@@ -106,9 +106,12 @@ pub fn do_request<R: Read, W: Write, E: Write, P: Write, C: Clock>(
             line.ask(*progress);
             do_take(alloc, set, *profile, rule.as_str(), output, errors, line)
         }
-        Request::Work { set, worker, profile, rule } => {
-            do_work(alloc, set, *worker, *profile, rule.as_str(), output, errors)
-        }
+        Request::Work {
+            set,
+            worker,
+            profile,
+            rule,
+        } => { do_work(alloc, set, *worker, *profile, rule.as_str(), output, errors) }
         Request::Version => do_version(output, errors),
     }
 }

@@ -105,7 +105,11 @@ fn census_of<H: Watch>(
 }
 
 /// The job that the texts and numbers make.
-pub(crate) fn job(set: &SoupSet<'_>, profile: ProfileNumbers, rule_text: &str) -> Result<Job, Complaint>
+pub(crate) fn job(
+    set: &SoupSet<'_>,
+    profile: ProfileNumbers,
+    rule_text: &str,
+) -> Result<Job, Complaint>
     requires { AreInRange profile }
     ensures { result ≡ job_named set.now profile rule_text.now }
 {
