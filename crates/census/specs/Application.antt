@@ -141,6 +141,23 @@ with_workers app = with_rule (with_rule (with_rule app rule_argument) workers_ar
 abbrev pub take_shape : Shape
 take_shape = (with_workers (with_looks (with_rest (with_count (with_first (new_app (codes "take"))))))).top
 
+-- the option --worker: a number from 1 to 16, which must be there
+abbrev pub worker_argument : Rule
+worker_argument = record (new_rule (codes "worker")) {
+  long = Some (codes "worker");
+  value_names = 1;
+  required = true;
+  parser = Some (Signed (pos 1) (pos 16));
+}
+
+-- a command with the options on the rule and on which worker it is
+abbrev pub with_worker : App → App
+with_worker app = with_rule (with_rule app rule_argument) worker_argument
+
+-- `work`
+abbrev pub work_shape : Shape
+work_shape = (with_worker (with_looks (with_rest (with_count (with_first (new_app (codes "work"))))))).top
+
 -- a command must be named
 abbrev pub census_shape : Shape
 census_shape = record ((new_app (codes "census")).top) { subcommand_required = true }
@@ -155,4 +172,4 @@ printing_app = with_subcommand (with_subcommand pattern_app show_shape) soup_sha
 
 -- the program
 abbrev pub census_app : App
-census_app = with_subcommand printing_app take_shape
+census_app = with_subcommand (with_subcommand printing_app take_shape) work_shape

@@ -9,7 +9,7 @@ use Rattle.clap.specs.ValueTests.{is_numeral}
 use Rattle.commands.specs.declared.complaint.Complaint.TheVariants as complaint
 use Rattle.commands.specs.declared.profile.ProfileNumbers.{ProfileNumbers}
 use Rattle.commands.specs.declared.request.Request.{Request}
-use Rattle.commands.specs.declared.request.Request.TheVariants.{Run, Name, Show, Soup, Take, Version}
+use Rattle.commands.specs.declared.request.Request.TheVariants.{Run, Name, Show, Soup, Take, Work, Version}
 use Rattle.commands.specs.declared.soup_set.SoupSet.{SoupSet}
 use Rattle.commands.specs.declared.status.Status.{Status}
 use Rattle.commands.specs.declared.status.Status.TheVariants.{OutOfMemory}
@@ -78,6 +78,11 @@ take_in rows =
     option_and_then (λ set. option_and_then (λ profile. option_map (λ rule. Take set profile rule (is_given (codes "progress") rows))
     (first_of (codes "rule") rows)) (profile_in rows)) (set_in rows)
 
+-- `work`, with what was found for its options
+abbrev pub work_in : List Row → Option Request
+work_in rows = option_and_then (λ set. option_and_then (λ worker. option_and_then (λ profile. option_map (Work set worker profile)
+    (first_of (codes "rule") rows)) (profile_in rows)) (number_from 1 16 (codes "worker") rows)) (set_in rows)
+
 -- the command of this name, with its values
 abbrev pub request_in : Text × List Row → Option Request
 request_in found =
@@ -86,6 +91,7 @@ request_in found =
     else if bytes_eq found.0 (codes "soup") then soup_in found.1
     else if bytes_eq found.0 (codes "name") then name_in found.1
     else if bytes_eq found.0 (codes "take") then take_in found.1
+    else if bytes_eq found.0 (codes "work") then work_in found.1
     else None
 
 -- a request, if nothing is wrong with the words

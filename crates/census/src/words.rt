@@ -4,7 +4,8 @@ ghost use Rattle.commands.specs.Profiles.{AreInRange};
 ghost use Rattle.commands.specs.Requests.{IsWithinLimits, reads_input};
 ghost use Rattle.commands.specs.Streams.{stream};
 ghost use Rattle.census.specs.Calls.{AsksForNothing, AsksForSoup, AsksForVersion, AsksToName, AsksToRun, AsksToShow, AsksToTake};
-ghost use Rattle.census.specs.Words.{DoesWords, asked_by, asks_version, is_given, name_in, number_from, number_in, profile_in, request_in, run_in, set_in, show_in, soup_in, take_in};
+ghost use Rattle.census.specs.WorkCalls.{AsksToWork};
+ghost use Rattle.census.specs.Words.{DoesWords, asked_by, asks_version, is_given, name_in, number_from, number_in, profile_in, request_in, run_in, set_in, show_in, soup_in, take_in, work_in};
 
 use crate::application::census_command;
 use clap::ArgMatches;
@@ -142,6 +143,12 @@ pub fn asks_to_take()
     ensures { AsksToTake }
 {}
 
+/// A law of all words: what the calls of `work` ask for.
+#[tactic(auto, using(crate::proofs::WorkCalls::asks_to_work))]
+pub fn asks_to_work()
+    ensures { AsksToWork }
+{}
+
 /// A law of all words: what `--version` asks for.
 #[tactic(auto, using(crate::proofs::CallLemmas::asks_for_version))]
 pub fn asks_for_version()
@@ -175,6 +182,7 @@ fn request_in<'a>(matches: &ArgMatches<'a>) -> Option<Request<'a>>
         Some(("show", found)) => show_in(found),
         Some(("soup", found)) => soup_in(found),
         Some(("take", found)) => take_in(found),
+        Some(("work", found)) => work_in(found),
         _ => None,
     }
 }
@@ -262,6 +270,23 @@ fn take_in<'a>(found: &ArgMatches<'a>) -> Option<Request<'a>>
         profile,
         rule: Word::new(rule),
         progress: is_given(found, "progress"),
+    })
+}
+
+/// `work` with the values of its options.
+fn work_in<'a>(found: &ArgMatches<'a>) -> Option<Request<'a>>
+    ensures request { result ≡ work_in (rows_of (found_of found.now)) }
+    ensures limits { IfSome result IsWithinLimits }
+{
+    let set = set_in(found)?;
+    let worker = number_from(found, "worker", 1, 16)?;
+    let profile = profile_in(found)?;
+    let rule = found.get_str("rule")?;
+    Some(Request::Work {
+        set,
+        worker: worker as u8,
+        profile,
+        rule: Word::new(rule),
     })
 }
 
