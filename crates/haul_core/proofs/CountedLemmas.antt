@@ -38,7 +38,7 @@ fields_more None counts object n = absurd (n refl)
 fields_more (Some rested) counts object n =
     ap (λ (t : List (List ℕ)). (codes "at=" ++ decimal rested.checkpoint) ∷ (mark_fields rested.for_good ++ t)) (map-append count_field counts (object ∷ []))
     ∙ ap (λ (t : List (List ℕ)). (codes "at=" ++ decimal rested.checkpoint) ∷ t)
-        (sym (append_assoc (mark_fields rested.for_good) (map count_field counts) (count_field object ∷ [])))
+    (sym (append_assoc (mark_fields rested.for_good) (map count_field counts) (count_field object ∷ [])))
 
 all_fields_more : (front : Front) (counts : Counts) (object : List ℕ × ℕ) → front.settled ≢ None
     → fields_of (claimed front (counts ++ object ∷ [])) ≡ fields_of (claimed front counts) ++ count_field object ∷ []
@@ -55,7 +55,12 @@ counted_more line front counts last here field more object h c k e =
     let own = h.lawful in
     record {
       lawful = record {
-        version = own.version; rule = own.rule; profile = own.profile; seed = own.seed; worker = own.worker; number = own.number;
+        version = own.version;
+        rule = own.rule;
+        profile = own.profile;
+        seed = own.seed;
+        worker = own.worker;
+        number = own.number;
         found = found_more front.version front.settled counts object n own.found after;
       };
       follows = subst (λ (fields : List (List ℕ)). Follows line fields more) (sym (all_fields_more front counts object n))

@@ -144,10 +144,11 @@ spaceless-front (f ∷ fs) gs h = (h.0, spaceless-front fs gs h.1)
 counts_lack : (counts : List (List ℕ × ℕ)) → AllByRecursion IsCount counts → AreSpaceless (map count_field counts)
 counts_lack [] h = tt
 counts_lack (o ∷ counts) h =
-    let word = h.0.word in
-    (lacks-append 32 o.0 (42 ∷ decimal o.1) (code_lacks_space o.0 h.0.code.bytes)
-        (lacks-cons 32 42 (decimal o.1) (λ e. absurd (omega arith)) (decimal_lacks 32 o.1 refl (omega arith))),
-        counts_lack counts h.1)
+    let word = h.0.word in (
+      lacks-append 32 o.0 (42 ∷ decimal o.1) (code_lacks_space o.0 h.0.code.bytes)
+          (lacks-cons 32 42 (decimal o.1) (λ e. absurd (omega arith)) (decimal_lacks 32 o.1 refl (omega arith))),
+      counts_lack counts h.1,
+    )
 
 mark_lacks : (for_good : Bool) → Lacks 32 (mark_field for_good)
 unfolding mark_field
@@ -163,9 +164,10 @@ found_lack : (version : ℕ) (found : Option Told) → IsFound version found →
 unfolding found_fields
 found_lack version None h = (refl, tt)
 found_lack version (Some told) h =
-    let most = h.checkpoint in
-    (lacks-append 32 (codes "at=") (decimal told.checkpoint) refl (decimal_lacks 32 told.checkpoint refl (omega arith)),
-        spaceless-append (mark_fields told.for_good) (map count_field told.counts) (marks_lack told.for_good) (counts_lack told.counts (recursion_from_All IsCount told.counts h.counts)))
+    let most = h.checkpoint in (
+      lacks-append 32 (codes "at=") (decimal told.checkpoint) refl (decimal_lacks 32 told.checkpoint refl (omega arith)),
+      spaceless-append (mark_fields told.for_good) (map count_field told.counts) (marks_lack told.for_good) (counts_lack told.counts (recursion_from_All IsCount told.counts h.counts)),
+    )
 
 -- the version is a small number
 pub version_small : (claim : Claimed) → IsClaim claim → claim.version < 2 ^ 64
@@ -179,14 +181,28 @@ pub fields_lack : (claim : Claimed) → IsClaim claim → AreSpaceless (fields_o
 unfolding head_fields
 fields_lack claim h =
     let worker = h.worker.most in
-    let number = h.number in
-    (refl, (decimal_lacks 32 claim.version refl (version_small claim h),
-        (lacks-append 32 (codes "rule=") (rule_text claim.job.rule) refl (rule_lacks claim.job.rule),
-        (profile_lacks claim.job.profile h.profile,
-        (lacks-append 32 (codes "seed=") claim.job.seed refl (seed_lacks claim.job.seed h.seed.visible),
-        (lacks-append 32 (codes "worker=") (decimal claim.worker) refl (decimal_lacks 32 claim.worker refl (omega arith)),
-        (lacks-append 32 (codes "soup=") (decimal claim.number) refl (decimal_lacks 32 claim.number refl (omega arith)),
-        found_lack claim.version claim.found h.found)))))))
+    let number = h.number in (
+      refl,
+      (
+        decimal_lacks 32 claim.version refl (version_small claim h),
+        (
+          lacks-append 32 (codes "rule=") (rule_text claim.job.rule) refl (rule_lacks claim.job.rule),
+          (
+            profile_lacks claim.job.profile h.profile,
+            (
+              lacks-append 32 (codes "seed=") claim.job.seed refl (seed_lacks claim.job.seed h.seed.visible),
+              (
+                lacks-append 32 (codes "worker=") (decimal claim.worker) refl (decimal_lacks 32 claim.worker refl (omega arith)),
+                (
+                  lacks-append 32 (codes "soup=") (decimal claim.number) refl (decimal_lacks 32 claim.number refl (omega arith)),
+                  found_lack claim.version claim.found h.found,
+                ),
+              ),
+            ),
+          ),
+        ),
+      ),
+    )
 
 -- ---- lines
 

@@ -90,7 +90,7 @@ unsettled_over line head there h f =
     } in
     over_at line (head_of own ++ codes "unsettled" ∷ []) there f begin (λ claim lawful field rest e.
     nothing_after claim.found field rest
-        (cut_head claim own (codes "unsettled" ∷ field ∷ rest) (e ∙ append_assoc (head_of own) (codes "unsettled" ∷ []) (field ∷ rest))).1)
+    (cut_head claim own (codes "unsettled" ∷ field ∷ rest) (e ∙ append_assoc (head_of own) (codes "unsettled" ∷ []) (field ∷ rest))).1)
 
 -- ---- a soup that settled
 
@@ -105,7 +105,12 @@ rested_lawful : (head : Front) (checkpoint : ℕ) (for_good : Option Bool) → I
     → IsClaim (claimed (rested head checkpoint for_good) [])
 unfolding IsStrictlySortedBy
 rested_lawful head checkpoint for_good h most mark = record {
-  version = h.lawful.version; rule = h.lawful.rule; profile = h.lawful.profile; seed = h.lawful.seed; worker = h.lawful.worker; number = h.lawful.number;
+  version = h.lawful.version;
+  rule = h.lawful.rule;
+  profile = h.lawful.profile;
+  seed = h.lawful.seed;
+  worker = h.lawful.worker;
+  number = h.lawful.number;
   found = record { checkpoint = most; mark = mark; counts = All-nil IsCount; in_order = tt };
 }
 
