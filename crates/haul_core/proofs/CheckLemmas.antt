@@ -32,7 +32,8 @@ pub record IsMade (claim : Claimed) (wanted : Job) (report : Reported) : Type 0 
 own_job : (claim : Claimed) (wanted : Job) (report : Reported) → IsMade claim wanted report → report.job ≡ claim.job
 own_job claim wanted report m = m.job ∙ sym ((jobs_decide claim.job wanted).0 m.same)
 
-pub confirmed : (claim : Claimed) (wanted : Job) (report : Reported) → IsMade claim wanted report → Agrees claim report.finding → IsConfirmed claim wanted report
+pub confirmed : (claim : Claimed) (wanted : Job) (report : Reported) → IsMade claim wanted report → Agrees claim report.finding
+    → IsConfirmed claim wanted report
 confirmed claim wanted report m a = record {
   same = m.same;
   lawful = m.lawful;

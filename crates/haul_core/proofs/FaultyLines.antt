@@ -33,7 +33,8 @@ followed_last (b ∷ before) field rest =
     ∙ sym (followed-cons b (before ++ field ∷ []) rest)
 
 -- past the next field
-pub follows_more : (line : List ℕ) (before : List (List ℕ)) (here field : List ℕ) (more : Option (List ℕ)) → Follows line before (Some here) → Cuts 32 here field more
+pub follows_more : (line : List ℕ) (before : List (List ℕ)) (here field : List ℕ) (more : Option (List ℕ)) → Follows line before (Some here)
+    → Cuts 32 here field more
     → Follows line (before ++ field ∷ []) more
 follows_more line before here field None f c =
     subst (IsLineOf (before ++ field ∷ [])) (sym (f ∙ ap (λ (t : List ℕ). followed before ++ t) c.0)) (lined_last before field)

@@ -17,7 +17,8 @@ nothing_found version (Some rested) e = absurd (cc)
 pub filled_word : (head : Front) (field : List ℕ) → IsHead head → field ≡ codes "report" → HasFilled 0 head head field
 filled_word head field h e = record { lawful = h.lawful; none = h.none; spelled = ap (λ (t : List ℕ). t ∷ []) (sym e) }
 
-pub filled_version : (head : Front) (field : List ℕ) (v : ℕ) → IsHead head → IsVersion v → field ≡ decimal v → HasFilled 1 head (record head { version = v }) field
+pub filled_version : (head : Front) (field : List ℕ) (v : ℕ) → IsHead head → IsVersion v → field ≡ decimal v
+    → HasFilled 1 head (record head { version = v }) field
 unfolding head_fields
 filled_version head field v h lawful e = record {
   lawful = record {

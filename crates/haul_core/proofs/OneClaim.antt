@@ -49,7 +49,8 @@ one_mark false false e = refl
 one_mark true false e = let h : false ≡ true = ap (λ (t : List ℕ). get_or t 5 0 == 110) e in absurd (cc)
 one_mark false true e = let h : true ≡ false = ap (λ (t : List ℕ). get_or t 5 0 == 110) e in absurd (cc)
 
-one_marks : (version : ℕ) (a b : Option Bool) (x y : List (List ℕ)) → IsMark version a → IsMark version b → mark_fields a ++ x ≡ mark_fields b ++ y → (a ≡ b) × (x ≡ y)
+one_marks : (version : ℕ) (a b : Option Bool) (x y : List (List ℕ)) → IsMark version a → IsMark version b → mark_fields a ++ x ≡ mark_fields b ++ y
+    → (a ≡ b) × (x ≡ y)
 unfolding mark_fields
 one_marks version None None x y h k e = (refl, e)
 one_marks version None (Some b) x y h k e = absurd (omega arith)

@@ -33,12 +33,19 @@ fn become_of(alloc: Global, profile: Profile, line: &[u8]) -> Result<Outcome, Fa
     let claim = Claim::read_line(alloc, line)?;
     match claim.check(alloc, &job(profile)?) {
         Ok(_) => Ok(Outcome::Report),
-        Err((_, CheckFault::OtherJob)) => Ok(Outcome::OtherJob),
-        Err((_, CheckFault::Disagrees { found })) => match found {
+        Err((_, fault)) => told(fault),
+    }
+}
+
+/// What this fault says.
+fn told(fault: CheckFault) -> Result<Outcome, Fail> {
+    match fault {
+        CheckFault::OtherJob => Ok(Outcome::OtherJob),
+        CheckFault::Disagrees { found } => match found {
             Finding::Unsettled => Ok(Outcome::FoundUnsettled),
             Finding::Settled { .. } => Ok(Outcome::FoundSettled),
         },
-        Err((_, CheckFault::Memory)) => Err(Fail::new("not read")),
+        CheckFault::Memory => Err(Fail::new("no memory")),
     }
 }
 

@@ -7,7 +7,8 @@ use Rattle.haul_core.proofs.claim.check.have_shape.Goals as goal
 
 pub loop-object-preserved : goal.loop-object-preserved
 loop-object-preserved c =
-    All-more (λ object. HasCodeShape object.0) c.args.objects.now c.loop-object.object-index c.object-item.result c.loop-object-test.true c.loop-object.invariant
+    All-more (λ object. HasCodeShape object.0) c.args.objects.now c.loop-object.object-index c.object-item.result
+    c.loop-object-test.true c.loop-object.invariant
     (subst (λ object. HasCodeShape object.0) c.object-item.is c.text.ensures.shape)
 
 pub returns : goal.returns
