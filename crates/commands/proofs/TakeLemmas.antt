@@ -166,7 +166,7 @@ listed set ranges of = record { ranges = of.listed; words = of.words; spelled = 
 
 -- memory that runs out over a haul that was opened stops the command
 pub Stops_memory : (set : SoupSet) (numbers : ProfileNumbers) (rule_text : List ℕ) (job : Job) (held : Held) → job_named set numbers rule_text ≡ Ok job
-    → IsOpened job set held → Stops (take_right set numbers rule_text) OutOfMemory
+    → IsOpened job set 1 held → Stops (take_right set numbers rule_text) OutOfMemory
 Stops_memory set numbers rule_text job held named opened =
     Stops_given set numbers rule_text TellsAll job OutOfMemory named (listed set opened.ranges opened.named)
 
@@ -314,13 +314,13 @@ taken_numbers ranges held closed alone form h terms closes =
     ∙ ap (λ (rs : List Reported). map entry (first_of_each (filter (is_lawful held.terms) rs))) (offered_all h.reports) ∙ ap (map entry) whole)
     ∙ numbers_in_entries h.reports ∙ h.numbers_are
 
-pub complete_right : (job : Job) (set : SoupSet) (opened held closed : Held) (census : Census) → IsOpened job set opened → held.terms ≡ opened.terms
+pub complete_right : (job : Job) (set : SoupSet) (opened held closed : Held) (census : Census) → IsOpened job set 1 opened → held.terms ≡ opened.terms
     → IsOffered (numbers_of opened.terms.ranges) held → closed.terms ≡ held.terms
     → ((arrivals : List Arrival) → StandsFor arrivals held → StandsFor (arrivals ++ Closing ∷ []) closed)
     → IsCensus closed.terms.job closed.terms.ranges (numbers_in closed.taken) census → right_for_set set (TellsAll job) (Ok (haul_text census))
 complete_right job set opened held closed census open_ terms offered_ closed_terms closes is =
     let same : closed.terms ≡ opened.terms = closed_terms ∙ terms in
-    let alone : held.terms.workers ≡ 1 = ap (λ (t : Terms). t.workers) terms ∙ open_.one_worker in
+    let alone : held.terms.workers ≡ 1 = ap (λ (t : Terms). t.workers) terms ∙ open_.workers_are in
     let form : IsNormalForm open_.ranges held.terms.ranges = subst (λ (t : Terms). IsNormalForm open_.ranges t.ranges) (sym terms) open_.form in
     let all_offered : IsOffered (numbers_of held.terms.ranges) held = subst (λ (t : Terms). IsOffered (numbers_of t.ranges) held) (sym terms) offered_ in
     let numbers = taken_numbers open_.ranges held closed alone form all_offered closed_terms closes ∙ ap (λ (t : Terms). numbers_of t.ranges) terms in

@@ -37,8 +37,8 @@ StopsSet set OutOfMemory = IsListText set.also
 StopsSet set ReadFailed = ⊥
 StopsSet set WriteFailed = ⊥
 
--- a haul of a job over the ranges of a set, for one worker, to which nothing has come
-pub record IsOpened (job : Job) (set : SoupSet) (held : Held) : Type 0 where
+-- a haul of a job over the ranges of a set, for so many workers, to which nothing has come
+pub record IsOpened (job : Job) (set : SoupSet) (workers : ℕ) (held : Held) : Type 0 where
   pub ranges : List Range
   pub named : AreRangesOf set ranges
   pub only : (others : List Range) → AreRangesOf set others → others ≡ ranges
@@ -46,7 +46,7 @@ pub record IsOpened (job : Job) (set : SoupSet) (held : Held) : Type 0 where
   pub apart : ¬ Overlap ranges
   pub form : IsNormalForm ranges held.terms.ranges
   pub job_is : held.terms.job ≡ job
-  pub one_worker : held.terms.workers ≡ 1
+  pub workers_are : held.terms.workers ≡ workers
   pub stands : StandsFor [] held
 
 -- the report is the only worker's, on a soup of the haul's job

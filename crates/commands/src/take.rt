@@ -1,6 +1,7 @@
 ghost use Rattle.std.specs.Prelude.{◌≡◌, ◌++◌, ◌∷◌, ◌<◌, ◌≤◌, [], ℕ, List, IfErr, IfOk, OnOk, Err, Ok, false, true};
 ghost use Rattle.haul_core.specs.HaulTexts.{haul_text};
 ghost use Rattle.haul_core.specs.Ranges.{end_of, number_bound};
+ghost use Rattle.haul_core.specs.Reports.{IsWorker};
 ghost use Rattle.commands.specs.Answers.{Ends, Reaches};
 ghost use Rattle.commands.specs.Complaints.{status_of};
 ghost use Rattle.commands.specs.Profiles.{AreInRange};
@@ -97,7 +98,7 @@ fn census_of<H: Watch>(
     ensures stops { IfErr result (Stops (take_right set.now profile rule_text.now)) }
 {
     let job = job(set, profile, rule_text)?;
-    let mut haul = open_haul(alloc, job, set)?;
+    let mut haul = open_haul(alloc, job, set, WORKER)?;
     complete(alloc, &mut haul, watch)?;
     let _ = haul.close();
     let census = haul.census()?;
@@ -123,13 +124,19 @@ pub(crate) fn job(
     })
 }
 
-/// A haul over the ranges of a set, for one worker.
-pub(crate) fn open_haul(alloc: Global, job: Job, set: &SoupSet<'_>) -> Result<Haul, Complaint>
-    ensures opened { IfOk result (IsOpened job set.now) }
+/// A haul over the ranges of a set, for so many workers, 1 to 16.
+pub(crate) fn open_haul(
+    alloc: Global,
+    job: Job,
+    set: &SoupSet<'_>,
+    workers: u8,
+) -> Result<Haul, Complaint>
+    requires { IsWorker workers }
+    ensures opened { IfOk result (IsOpened job set.now workers) }
     ensures stops { IfErr result (StopsSet set.now) }
 {
     let ranges = ranges_of(alloc, set)?;
-    match Haul::open(alloc, job, ranges.as_slice(), WORKER) {
+    match Haul::open(alloc, job, ranges.as_slice(), workers) {
         Ok(haul) => Ok(haul),
         Err(OpenError::BadWorkers) => unreachable!(),
         Err(OpenError::BadRange) => Err(Complaint::Refused(Refusal::RangeTooLarge)),
