@@ -16,7 +16,10 @@ use Rattle.std.proofs.KnownBytes.{Consumes-nil, Consumes-trans}
 use Rattle.std.proofs.lemmas.List.Elements.{All-nil}
 use Rattle.std.specs.Io.KnownBytes.{Appends, Consumes, IsAtEnd}
 use Rattle.plane_core.proofs.OutLemmas.{Appends-append, Appends-nil}
-use Rattle.commands.specs.GatherSteps.{GoesOn, HasBegun, HasGathered, HasGatheredAll, HasMet, IsMetBy, IsOneLine, with_feed}
+use Rattle.plane_core.specs.Out.{Output}
+use Rattle.commands.specs.declared.complaint.Complaint.{Complaint}
+use Rattle.commands.specs.declared.complaint.Complaint.TheVariants.{Refused, OutOfMemory, ReadFailed, WriteFailed}
+use Rattle.commands.specs.GatherSteps.{EndsLine, EndsLines, GoesOn, HasBegun, HasGathered, HasGatheredAll, HasMet, IsMetBy, IsOneLine, with_feed}
 use Rattle.commands.proofs.LineLemmas.{all_read, ended_more, lines_bare, lines_ended, all_lines, first_lines}
 use Rattle.commands.specs.GatheredLines.{Claims, lines_of, Faulty, Gathered, IsChecked, IsWrong, Meets, Next, Offered, Start, offer_fault, told_of}
 
@@ -165,3 +168,14 @@ pub goes_begun : (known left before after : Option (List ℕ)) (count : ℕ) (he
     → GoesOn known left before after count held more → held.terms ≡ terms → HasBegun terms known before after
 goes_begun known left before after count held terms true gathered same = begun known left before after count held terms gathered same
 goes_begun known left before after count held terms false all same = all_begun known before after held terms all same
+
+-- a complaint over a line, after all lines before it
+pub lines_ended_by : {V : Type 0} (contents : V → Option (List ℕ)) (known left before : Option (List ℕ)) (count : ℕ) (held : Held) (terms : Terms) (old new : Output V)
+    (complaint : Complaint) → HasGathered known left before (contents old.writer) count held → held.terms ≡ terms → old.failed ≡ false → EndsLine old new complaint
+    → EndsLines terms known before (contents new.writer) new.failed complaint
+lines_ended_by contents known left before count held terms old new OutOfMemory gathered same fine kept =
+    rw kept (begun known left before (contents old.writer) count held terms gathered same, fine)
+lines_ended_by contents known left before count held terms old new ReadFailed gathered same fine kept =
+    rw kept (begun known left before (contents old.writer) count held terms gathered same, fine)
+lines_ended_by contents known left before count held terms old new WriteFailed gathered same fine failed = failed
+lines_ended_by contents known left before count held terms old new (Refused refusal) gathered same fine none = absurd none

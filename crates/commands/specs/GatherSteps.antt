@@ -2,7 +2,10 @@
 use Rattle.std.specs.Prelude.{◌≡◌, ◌≢◌, ◌++◌, ℕ, Bool, true, false, List, [], ◌∷◌, All, IfSome, Option, flat_map, length}
 use Rattle.std.specs.Io.KnownBytes.{Appends, Consumes}
 use Rattle.haul_core.specs.declared.arrival.Arrival.{Arrival}
+use Rattle.plane_core.specs.Out.{Output}
 use Rattle.haul_core.specs.Books.{Held, StandsFor, Terms}
+use Rattle.commands.specs.declared.complaint.Complaint.{Complaint}
+use Rattle.commands.specs.declared.complaint.Complaint.TheVariants.{Refused, OutOfMemory, ReadFailed, WriteFailed}
 use Rattle.commands.specs.Answers.{IsInput}
 use Rattle.commands.specs.GatheredLines.{Gathered, lines_of}
 
@@ -64,3 +67,17 @@ pub record HasGatheredAll (known before after : Option (List ℕ)) (held : Held)
 abbrev pub GoesOn : (known left before after : Option (List ℕ)) (count : ℕ) (held : Held) → Bool → Type 0
 GoesOn known left before after count held true = HasGathered known left before after count held
 GoesOn known left before after count held false = HasGatheredAll known before after held
+
+-- what is left of the lines where a complaint ends them
+abbrev pub EndsLines : Terms → Option (List ℕ) → Option (List ℕ) → Option (List ℕ) → Bool → Complaint → Type 0
+EndsLines terms known before after failed OutOfMemory = HasBegun terms known before after × (failed ≡ false)
+EndsLines terms known before after failed ReadFailed = HasBegun terms known before after × (failed ≡ false)
+EndsLines terms known before after failed WriteFailed = failed ≡ true
+EndsLines terms known before after failed (Refused refusal) = ⊥
+
+-- a complaint over one line: nothing was written, or a write failed
+abbrev pub EndsLine : {V : Type 0} → Output V → Output V → Complaint → Type 0
+EndsLine old new OutOfMemory = new ≡ old
+EndsLine old new ReadFailed = new ≡ old
+EndsLine old new WriteFailed = new.failed ≡ true
+EndsLine old new (Refused refusal) = ⊥

@@ -1,5 +1,6 @@
 pub mod Answers
 pub mod Complaints
+pub mod Gather
 pub mod GatherSteps
 pub mod GatheredLines
 pub mod Inputs

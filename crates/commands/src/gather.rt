@@ -1,9 +1,8 @@
 ghost use Rattle.std.specs.Prelude.{◌≡◌, ◌≢◌, ◌<◌, ◌+◌, ◌^◌, ◌++◌, ◌∷◌, [], ℕ, List, Option, Some, IfErr, IfOk, OnOk, false, length};
 ghost use Rattle.haul_core.specs.Books.{StandsFor, has_closing};
 ghost use Rattle.haul_core.specs.declared.arrival.Arrival.{Arrival};
-ghost use Rattle.commands.specs.GatherSteps.{GoesOn, HasBegun, HasGathered, HasGatheredAll, HasMet, IsMetBy};
+ghost use Rattle.commands.specs.GatherSteps.{EndsLine, EndsLines, GoesOn, HasGathered, HasGatheredAll, HasMet, IsMetBy};
 ghost use Rattle.commands.specs.GatheredLines.{IsChecked, Meets, offer_fault};
-ghost use Rattle.commands.specs.declared.complaint.Complaint.TheVariants.{WriteFailed};
 ghost use Rattle.haul_core.specs.Reports.{Reported};
 ghost use Rattle.haul_core.specs.declared.refusal.Refusal.TheVariants as refusal;
 
@@ -36,10 +35,9 @@ fn gather_lines<R: BufRead, E: Write>(
     ensures terms { haul.new.terms ≡ haul.old.terms }
     ensures gathered { StandsFor [] haul.old → OnOk result (HasGatheredAll (R.remaining input.old)
         (E.contents errors.old.writer) (E.contents errors.new.writer) haul.new) }
-    ensures begun { StandsFor [] haul.old → IfErr result (λ complaint. complaint ≢ WriteFailed
-        → HasBegun haul.old.terms (R.remaining input.old) (E.contents errors.old.writer) (E.contents errors.new.writer)) }
+    ensures ended { StandsFor [] haul.old → IfErr result (EndsLines haul.old.terms (R.remaining input.old)
+        (E.contents errors.old.writer) (E.contents errors.new.writer) errors.new.failed) }
     ensures fine { OnOk result (errors.new.failed ≡ false) }
-    ensures failed { IfErr result (λ complaint. complaint ≢ WriteFailed → errors.new.failed ≡ false) }
 {
     let mut line = Vec::new(alloc);
     let mut read = 0u64;
@@ -73,7 +71,7 @@ fn gather_line<R: BufRead, E: Write>(
         → HasGathered known (R.remaining input.old) first (E.contents errors.old.writer) before haul.old
         → IfOk result (GoesOn known (R.remaining input.new) first (E.contents errors.new.writer) (before + 1) haul.new) }
     ensures fine { OnOk result (errors.new.failed ≡ false) }
-    ensures kept { IfErr result (λ complaint. complaint ≢ WriteFailed → errors.new ≡ errors.old) }
+    ensures ended { IfErr result (EndsLine errors.old errors.new) }
 {
     let more = read_line(input, line)?;
     let line = line.as_slice();
@@ -98,7 +96,7 @@ fn meet_line<E: Write>(
     ensures met { (lines : List (List ℕ)) (told : List ℕ) → before ≡ length lines → HasMet haul.old.terms lines haul.old told
         → OnOk result (IsMetBy haul.old.terms lines line.now haul.new told (E.contents errors.old.writer) (E.contents errors.new.writer)) }
     ensures fine { OnOk result (errors.new.failed ≡ false) }
-    ensures kept { IfErr result (λ complaint. complaint ≢ WriteFailed → errors.new ≡ errors.old) }
+    ensures ended { IfErr result (EndsLine errors.old errors.new) }
 {
     if let Some(fault) = meet(alloc, line, haul)? {
         fault.write_line(before + 1, errors)?;

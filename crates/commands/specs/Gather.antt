@@ -1,0 +1,112 @@
+-- What `census gather` is asked for, and how it ends.
+use Rattle.std.specs.Prelude.{◌≡◌, ◌⊎◌, ℕ, zero, suc, Bool, true, false, List, [], Option, Result, Ok, Err, IsOkAnd, MatchResult, codes, decimal, length, ◌++◌}
+use Rattle.haul_core.specs.declared.arrival.Arrival.{Arrival}
+use Rattle.haul_core.specs.declared.census.Census.{Census}
+use Rattle.haul_core.specs.declared.range.Range.{Range}
+use Rattle.haul_core.specs.Books.{Terms, taken_of}
+use Rattle.haul_core.specs.Censuses.{IsCensus}
+use Rattle.haul_core.specs.HaulTexts.{haul_text}
+use Rattle.haul_core.specs.Keeping.{numbers_in}
+use Rattle.haul_core.specs.Missing.{missing_of}
+use Rattle.haul_core.specs.Ranges.{AreSmall, IsNormalForm, Overlap}
+use Rattle.survey_core.specs.declared.job.Job.{Job}
+use Rattle.commands.specs.declared.complaint.Complaint.{Complaint}
+use Rattle.commands.specs.declared.complaint.Complaint.TheVariants.{Refused, OutOfMemory, ReadFailed, WriteFailed}
+use Rattle.commands.specs.declared.profile.ProfileNumbers.{ProfileNumbers}
+use Rattle.commands.specs.declared.soup_set.SoupSet.{SoupSet}
+use Rattle.commands.specs.declared.status.Status.{Status}
+use Rattle.commands.specs.declared.status.Status.TheVariants as statuses
+use Rattle.commands.specs.Complaints.{line_of, status_of}
+use Rattle.commands.specs.GatherSteps.{HasBegun}
+use Rattle.commands.specs.GatheredLines.{Gathered, lines_of}
+use Rattle.commands.specs.SoupSets.{AreRangesOf, IsRefused, job_named}
+use Rattle.commands.specs.Streams.{Stream, Has, HasFront, HasLine}
+
+-- what is gathered from an input: the haul text, what is told of lines that were not taken, and how many soups are missing
+pub record Gathering : Type 0 where
+  pub text : List ℕ
+  pub told : List ℕ
+  pub missing : ℕ
+
+-- The lines of the input come, in their order, to a haul of the job over the set, for so many workers. The haul text is that of the
+-- soups that it has taken then.
+pub record IsGathering (set : SoupSet) (workers : ℕ) (bytes : List ℕ) (gathering : Gathering) (job : Job) : Type 0 where
+  pub ranges : List Range
+  pub named : AreRangesOf set ranges
+  pub small : AreSmall ranges
+  pub apart : ¬ Overlap ranges
+  pub normal : List Range
+  pub form : IsNormalForm ranges normal
+  pub arrivals : List Arrival
+  pub gathered : Gathered (record { job = job; ranges = normal; workers = workers }) (lines_of bytes) arrivals gathering.told
+  pub taken : List (ℕ × ℕ)
+  pub taken_is : taken ≡ taken_of (record { job = job; ranges = normal; workers = workers }) arrivals
+  pub census : Census
+  pub counted : IsCensus job normal (numbers_in taken) census
+  pub text_is : gathering.text ≡ haul_text census
+  pub missing_is : gathering.missing ≡ length (missing_of normal taken)
+
+-- which gathering, or which complaint, is right for a set; what makes up its job is looked at first
+abbrev pub gather_right : SoupSet → ℕ → ProfileNumbers → List ℕ → List ℕ → Result Gathering Complaint → Type 0
+gather_right set workers numbers rule_text bytes (Ok gathering) = IsOkAnd (job_named set numbers rule_text) (IsGathering set workers bytes gathering)
+gather_right set workers numbers rule_text bytes (Err (Refused refusal)) =
+    MatchResult (job_named set numbers rule_text) (λ job. IsRefused set refusal) (λ complaint. complaint ≡ Refused refusal)
+gather_right set workers numbers rule_text bytes (Err _) = ⊥
+
+-- the whole text was written, and what is told of lines
+pub record IsPrinted (right : Result Gathering Complaint → Type 0) (missing : ℕ) (output errors : Stream) : Type 0 where
+  pub gathering : Gathering
+  pub is : right (Ok gathering)
+  pub missing_is : missing ≡ gathering.missing
+  pub text : Has output gathering.text
+  pub written : output.failed ≡ false
+  pub told : Has errors gathering.told
+  pub fine : errors.failed ≡ false
+
+-- nothing was written to standard output, and the first lines have come to a haul
+pub record IsStopped (known : Option (List ℕ)) (output errors : Stream) : Type 0 where
+  pub nothing : Has output []
+  pub terms : Terms
+  pub begun : HasBegun terms known errors.before errors.after
+  pub fine : errors.failed ≡ false
+
+-- the haul text wasn't written whole, or else a line on standard error
+pub record IsCut (right : Result Gathering Complaint → Type 0) (output errors : Stream) : Type 0 where
+  pub gathering : Gathering
+  pub is : right (Ok gathering)
+  pub text : HasFront output gathering.text
+  pub cut : output.failed ≡ true
+  pub told : Has errors gathering.told
+  pub fine : errors.failed ≡ false
+
+pub record IsUntold (output errors : Stream) : Type 0 where
+  pub nothing : Has output []
+  pub cut : errors.failed ≡ true
+
+-- What stands on the streams before the last line of standard error: how many soups are missing, or a complaint.
+abbrev pub Gathers : (Result Gathering Complaint → Type 0) → Option (List ℕ) → Result ℕ Complaint → Stream → Stream → Type 0
+Gathers right known (Ok missing) output errors = IsPrinted right missing output errors
+Gathers right known (Err (Refused refusal)) output errors = right (Err (Refused refusal)) × Has output [] × Has errors [] × (errors.failed ≡ false)
+Gathers right known (Err OutOfMemory) output errors = IsStopped known output errors
+Gathers right known (Err ReadFailed) output errors = IsStopped known output errors
+Gathers right known (Err WriteFailed) output errors = IsCut right output errors ⊎ IsUntold output errors
+
+-- the last line of standard error: none if all was taken
+abbrev pub last_line : Result ℕ Complaint → List ℕ
+last_line (Ok zero) = []
+last_line (Ok (suc n)) = codes "census: incomplete, " ++ (decimal (suc n) ++ codes " missing\n")
+last_line (Err complaint) = line_of complaint
+
+abbrev pub status_after : Result ℕ Complaint → Status
+status_after (Ok zero) = statuses.Done
+status_after (Ok (suc n)) = statuses.Incomplete
+status_after (Err complaint) = status_of complaint
+
+-- how gathering ends: `between` is standard error before its last line
+pub record EndsGather (right : Result Gathering Complaint → Type 0) (known : Option (List ℕ)) (status : Status) (output errors : Stream) : Type 0 where
+  pub outcome : Result ℕ Complaint
+  pub between : Stream
+  pub from : between.before ≡ errors.before
+  pub reached : Gathers right known outcome output between
+  pub last : HasLine (record { before = between.after; after = errors.after; failed = errors.failed }) (last_line outcome)
+  pub status_is : status ≡ status_after outcome
