@@ -1,4 +1,5 @@
 pub mod AnswerLemmas
+pub mod EndLemmas
 pub mod GatherLemmas
 pub mod LineLemmas
 pub mod NameLemmas

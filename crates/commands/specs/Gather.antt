@@ -1,6 +1,7 @@
 -- What `census gather` is asked for, and how it ends.
-use Rattle.std.specs.Prelude.{◌≡◌, ◌⊎◌, ℕ, zero, suc, Bool, true, false, List, [], Option, Result, Ok, Err, IsOkAnd, MatchResult, codes, decimal, length, ◌++◌}
+use Rattle.std.specs.Prelude.{◌≡◌, ◌⊎◌, ℕ, zero, suc, Bool, true, false, List, [], Option, Result, Ok, Err, IsOkAnd, MatchResult, codes, decimal, length, ◌++◌, ◌∷◌}
 use Rattle.haul_core.specs.declared.arrival.Arrival.{Arrival}
+use Rattle.haul_core.specs.declared.arrival.Arrival.TheVariants.{Closing}
 use Rattle.haul_core.specs.declared.census.Census.{Census}
 use Rattle.haul_core.specs.declared.range.Range.{Range}
 use Rattle.haul_core.specs.Books.{Terms, taken_of}
@@ -28,8 +29,11 @@ pub record Gathering : Type 0 where
   pub told : List ℕ
   pub missing : ℕ
 
--- The lines of the input come, in their order, to a haul of the job over the set, for so many workers. The haul text is that of the
--- soups that it has taken then.
+abbrev pub terms_of : Job → List Range → ℕ → Terms
+terms_of job ranges workers = record { job = job; ranges = ranges; workers = workers }
+
+-- The lines of the input come, in their order, to a haul of the job over the set, for so many workers, and then it is closed. The
+-- haul text is that of the soups that it has taken.
 pub record IsGathering (set : SoupSet) (workers : ℕ) (bytes : List ℕ) (gathering : Gathering) (job : Job) : Type 0 where
   pub ranges : List Range
   pub named : AreRangesOf set ranges
@@ -38,9 +42,9 @@ pub record IsGathering (set : SoupSet) (workers : ℕ) (bytes : List ℕ) (gathe
   pub normal : List Range
   pub form : IsNormalForm ranges normal
   pub arrivals : List Arrival
-  pub gathered : Gathered (record { job = job; ranges = normal; workers = workers }) (lines_of bytes) arrivals gathering.told
+  pub gathered : Gathered (terms_of job normal workers) (lines_of bytes) arrivals gathering.told
   pub taken : List (ℕ × ℕ)
-  pub taken_is : taken ≡ taken_of (record { job = job; ranges = normal; workers = workers }) arrivals
+  pub taken_is : taken ≡ taken_of (terms_of job normal workers) (arrivals ++ Closing ∷ [])
   pub census : Census
   pub counted : IsCensus job normal (numbers_in taken) census
   pub text_is : gathering.text ≡ haul_text census

@@ -1,25 +1,172 @@
-ghost use Rattle.std.specs.Prelude.{◌≡◌, ◌≢◌, ◌<◌, ◌+◌, ◌^◌, ◌++◌, ◌∷◌, [], ℕ, List, Option, Some, IfErr, IfOk, OnOk, false, length};
+ghost use Rattle.std.specs.Prelude.{◌≡◌, ◌≢◌, ◌<◌, Ok, Result, codes, decimal, ◌+◌, ◌^◌, ◌++◌, ◌∷◌, [], ℕ, List, Option, Some, IfErr, IfOk, OnOk, false, length};
+ghost use Rattle.plane_core.specs.Out.{Writes};
+ghost use Rattle.haul_core.specs.Reports.{IsWorker, Reported};
+ghost use Rattle.commands.specs.Answers.{IsInput};
+ghost use Rattle.commands.specs.Complaints.{line_of, status_of};
+ghost use Rattle.commands.specs.Gather.{EndsGather, Gathers, gather_right, last_line, status_after};
+ghost use Rattle.commands.specs.Profiles.{AreInRange};
+ghost use Rattle.commands.specs.Streams.{stream, HasLine};
+ghost use Rattle.commands.specs.declared.complaint.Complaint.{Complaint};
 ghost use Rattle.haul_core.specs.Books.{StandsFor, has_closing};
 ghost use Rattle.haul_core.specs.declared.arrival.Arrival.{Arrival};
 ghost use Rattle.commands.specs.GatherSteps.{EndsLine, EndsLines, GoesOn, HasGathered, HasGatheredAll, HasMet, IsMetBy};
 ghost use Rattle.commands.specs.GatheredLines.{IsChecked, Meets, offer_fault};
-ghost use Rattle.haul_core.specs.Reports.{Reported};
 ghost use Rattle.haul_core.specs.declared.refusal.Refusal.TheVariants as refusal;
 
 use crate::complaint::Complaint;
 use crate::line_fault::LineFault;
 use crate::lines::read_line;
+use crate::output::put_decimal;
+use crate::profile::ProfileNumbers;
+use crate::soup_set::SoupSet;
+use crate::status::Status;
+use crate::take::{job, open_haul};
 use haul_core::claim::Claim;
 use haul_core::claim::check::CheckFault;
 use haul_core::claim::line::LineError;
 use haul_core::haul::Haul;
+use haul_core::haul_text::write_haul;
 use haul_core::refusal::Refusal;
 use haul_core::report::Report;
-use plane_core::output::Out;
+use plane_core::output::{Out, WriteError};
 use std::alloc::{AllocError, Global};
-use std::io::{BufRead, Write};
+use std::io::{BufRead, BufReader, Read, Write};
 use survey_core::finding::findings_are_determined;
 use survey_core::job::Job;
+
+/// Reads report lines, checks each and offers it to a haul over a set, under a profile and the rule of a text, and writes the
+/// haul text of what was taken.
+///
+/// A line is ended by a line feed, which the last may lack. A line that is not taken is told on `errors`, by its number from 1
+/// on, and the next one is read. Each of the profile's numbers is in its range, there are 1 to 16 workers, and neither writer
+/// may have failed. What is refused is looked for in the order of [`do_take`](crate::take::do_take), before anything is read.
+/// One line is kept at a time, and the haul. `census gather` is this call over the standard streams.
+///
+/// # Errors
+///
+/// The status is `Incomplete` if soups are missing: then the haul was written, and a line on `errors` says how many. It is
+/// `Refused` as of `do_take`; `OutOfMemory`; or `Failed` if the input can't be read or is over 2^32 bytes long, or if the output
+/// or a line on a report line can't be written. With `Refused` and `OutOfMemory`, and after a failed read, nothing was written
+/// to the output. A failure to write the last line on `errors` is not reported.
+pub fn do_gather<R: Read, W: Write, E: Write>(
+    alloc: Global,
+    set: &SoupSet<'_>,
+    workers: u8,
+    profile: ProfileNumbers,
+    rule_text: &str,
+    input: &mut R,
+    output: &mut Out<W>,
+    errors: &mut Out<E>,
+) -> Status
+    requires workers { IsWorker workers }
+    requires profile { AreInRange profile }
+    requires output { output.old.failed ≡ false }
+    requires errors { errors.old.failed ≡ false }
+    ensures ends { (bytes : List ℕ) × IsInput (R.remaining input.old) bytes
+        × EndsGather (gather_right set.now workers profile rule_text.now bytes) (R.remaining input.old) result
+        (stream W.contents output.old output.new) (stream E.contents errors.old errors.new) }
+    ensures untouched { result ≡ Status.Refused → (input.new ≡ input.old) × (output.new ≡ output.old) }
+    ensures no_memory { result ≡ Status.OutOfMemory → output.new ≡ output.old }
+{
+    match gather(
+        alloc, set, workers, profile, rule_text, input, output, errors,
+    ) {
+        Ok(missing) => tell_missing(missing, errors),
+        Err(complaint) => tell_complaint(complaint, errors),
+    }
+}
+
+/// Writes how many soups are missing, if some are, and returns the status.
+fn tell_missing<E: Write>(missing: u64, errors: &mut Out<E>) -> Status
+    requires { errors.old.failed ≡ false }
+    ensures status { (outcome : Result ℕ Complaint) → outcome ≡ Ok missing → result ≡ status_after outcome }
+    ensures line { (outcome : Result ℕ Complaint) → outcome ≡ Ok missing
+        → HasLine (stream E.contents errors.old errors.new) (last_line outcome) }
+{
+    if missing == 0 {
+        return Status::Done;
+    }
+    let _ = put_missing(missing, errors);
+    Status::Incomplete
+}
+
+/// Writes how many soups are missing.
+fn put_missing<E: Write>(missing: u64, errors: &mut Out<E>) -> Result<(), WriteError>
+    requires { errors.old.failed ≡ false }
+    ensures { Writes E.contents errors.old errors.new result
+        (codes "census: incomplete, " ++ (decimal missing ++ codes " missing\n")) }
+{
+    errors.put(b"census: incomplete, ")?;
+    put_decimal(errors, missing)?;
+    errors.put(b" missing\n")
+}
+
+/// Writes the line of a complaint, unless a write failed before, and returns its status.
+fn tell_complaint<E: Write>(complaint: Complaint, errors: &mut Out<E>) -> Status
+    ensures status { result ≡ status_of complaint }
+    ensures line { HasLine (stream E.contents errors.old errors.new) (line_of complaint) }
+{
+    if errors.failed() {
+        return complaint.status();
+    }
+    complaint.tell(errors)
+}
+
+/// Reads and offers the lines, writes the haul text, and says how many soups are missing.
+fn gather<R: Read, W: Write, E: Write>(
+    alloc: Global,
+    set: &SoupSet<'_>,
+    workers: u8,
+    profile: ProfileNumbers,
+    rule_text: &str,
+    input: &mut R,
+    output: &mut Out<W>,
+    errors: &mut Out<E>,
+) -> Result<u64, Complaint>
+    requires workers { IsWorker workers }
+    requires profile { AreInRange profile }
+    requires output { output.old.failed ≡ false }
+    requires errors { errors.old.failed ≡ false }
+    ensures gathers { (bytes : List ℕ) × IsInput (R.remaining input.old) bytes
+        × Gathers (gather_right set.now workers profile rule_text.now bytes) (R.remaining input.old) result
+        (stream W.contents output.old output.new) (stream E.contents errors.old errors.new) }
+    ensures fine { OnOk result (errors.new.failed ≡ false) }
+    ensures untouched { IfErr result (λ complaint. status_of complaint ≡ Status.Refused
+        → (input.new ≡ input.old) × (output.new ≡ output.old)) }
+    ensures no_memory { IfErr result (λ complaint. complaint ≡ Complaint.OutOfMemory → output.new ≡ output.old) }
+{
+    let job = job(set, profile, rule_text)?;
+    let mut haul = open_haul(alloc, job, set, workers)?;
+    gather_input(alloc, input, &mut haul, errors)?;
+    let _ = haul.close();
+    let census = haul.census()?;
+    write_haul(&census, output)?;
+    Ok(haul.missing_count())
+}
+
+/// Reads the input through a buffer, and gathers its lines.
+fn gather_input<R: Read, E: Write>(
+    alloc: Global,
+    input: &mut R,
+    haul: &mut Haul,
+    errors: &mut Out<E>,
+) -> Result<(), Complaint>
+    requires { errors.old.failed ≡ false }
+    ensures terms { haul.new.terms ≡ haul.old.terms }
+    ensures gathered { StandsFor [] haul.old → OnOk result (HasGatheredAll (R.remaining input.old)
+        (E.contents errors.old.writer) (E.contents errors.new.writer) haul.new) }
+    ensures ended { StandsFor [] haul.old → IfErr result (EndsLines haul.old.terms (R.remaining input.old)
+        (E.contents errors.old.writer) (E.contents errors.new.writer) errors.new.failed) }
+    ensures fine { OnOk result (errors.new.failed ≡ false) }
+{
+    let Ok(mut buffered) = BufReader::with_capacity(alloc, READ_LENGTH, input) else {
+        return Err(Complaint::OutOfMemory);
+    };
+    gather_lines(alloc, &mut buffered, haul, errors)
+}
+
+/// How many bytes a read asks for.
+const READ_LENGTH: usize = 65_536;
 
 /// How many bytes of report lines are read at most: 2^32.
 const INPUT_LIMIT: u64 = 4_294_967_296;

@@ -7,7 +7,7 @@
 /// Why a command did not do all that was asked, and the line on standard error that says so.
 pub mod complaint;
 /// `gather`: the haul of report lines.
-mod gather;
+pub mod gather;
 /// Inputs, read whole.
 mod input;
 /// Why a report line was not taken.

@@ -1,0 +1,37 @@
+use Rattle.std.proofs.Common.{◌≡◌, inl, refl, rules, sym}
+use Rattle.std.proofs.KnownBytes.{Appends-nil}
+use Rattle.haul_core.specs.HaulTexts.{haul_text}
+use Rattle.commands.proofs.AnswerLemmas.{err_of, some_input}
+use Rattle.commands.proofs.EndLemmas.{gathering_right, gathers_job, gathers_lines, gathers_set, is_gathering}
+use Rattle.commands.proofs.GatherLemmas.{all_begun}
+use Rattle.commands.proofs.gather.gather.Goals as goal
+
+pub returns-in_err-job-clause-gathers : goal.returns-in_err-job-clause-gathers
+returns-in_err-job-clause-gathers g c =
+    let some = some_input (g.R.Read.remaining c.args.input.now) in (
+      some.0,
+      some.1,
+      rw (err_of _ _ c.from_residual.ensures.1)
+          (gathers_job c.args.set.now c.args.workers c.args.profile c.args.rule_text.now some.0 _ c.in_err-job.field-0.0 _ _ (sym c.in_err-job.ensures)
+          (Appends-nil _) (Appends-nil _) c.requires.errors),
+    )
+
+pub returns-in_err-haul-clause-gathers : goal.returns-in_err-haul-clause-gathers
+returns-in_err-haul-clause-gathers g c =
+    let some = some_input (g.R.Read.remaining c.args.input.now) in (
+      some.0,
+      some.1,
+      rw (err_of _ _ c.from_residual-in_err-haul.ensures.1)
+          (gathers_set c.args.set.now c.args.workers c.args.profile c.args.rule_text.now some.0 _ c.in_ok-job.job c.in_err-haul.field-0.0 _ _ (sym c.in_ok-job.ensures)
+          c.in_err-haul.ensures.stops (Appends-nil _) (Appends-nil _) c.requires.errors),
+    )
+
+pub returns-in_err-gather_input-clause-gathers : goal.returns-in_err-gather_input-clause-gathers
+returns-in_err-gather_input-clause-gathers g c =
+    let some = some_input (g.R.Read.remaining c.args.input.now) in (
+      some.0,
+      some.1,
+      rw (err_of _ _ c.from_residual-in_err-gather_input.ensures.1)
+          (gathers_lines c.args.set.now c.args.workers c.args.profile c.args.rule_text.now some.0 _ _ c.in_err-gather_input.field-0.0 _ _
+          (c.in_err-gather_input.ensures.ended c.in_ok-haul.ensures.opened.stands) (Appends-nil _)),
+    )
