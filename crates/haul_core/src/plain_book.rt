@@ -1,5 +1,8 @@
 //! A plain book, for tests: it keeps every arrival, and works out each answer afresh from all of them.
 
+/// The census, counted afresh.
+pub(crate) mod counts;
+
 use crate::arrival::Reply;
 use crate::range::Range;
 use crate::refusal::Refusal;

@@ -1,3 +1,4 @@
+use super::counts::{is_right, surveys};
 use super::*;
 use crate::arrival::Arrival;
 use crate::haul::Haul;
@@ -105,5 +106,82 @@ fn keeps_the_example(rt: HostRuntime) -> Result<(), Fail> {
     assert!(rt; haul.taken() == [(1, 3), (2, 0)].as_slice());
     let plain = taken(alloc, &ranges, 2, before.as_slice())?;
     assert!(rt; haul.taken() == plain.as_slice());
+    Ok(())
+}
+
+/// The next of a row of drawn numbers.
+fn draw(state: &mut u64) -> u32 {
+    *state = state
+        .wrapping_mul(6_364_136_223_846_793_005)
+        .wrapping_add(1_442_695_040_888_963_407);
+    (*state >> 33) as u32
+}
+
+/// A drawn arrival: a closing, or an offer of which each part may be wrong.
+fn drawn(state: &mut u64) -> Plain {
+    let kind = draw(state) % 12;
+    if kind == 0 {
+        return Plain::Closing;
+    }
+    Plain::Offer {
+        own: kind != 1,
+        worker: 1 + (draw(state) % 3) as u8,
+        number: draw(state) % 7,
+    }
+}
+
+/// The soups 0 to 2, 4 and 5.
+fn two_ranges() -> [Range; 2] {
+    [Range { first: 4, count: 2 }, Range { first: 0, count: 3 }]
+}
+
+/// Whether the haul has taken what the plain book has, and its census is the one that is counted afresh.
+fn agree_at_the_end(alloc: Global, haul: &Haul, before: &[Plain]) -> Result<bool, Fail> {
+    let taken = taken(alloc, &two_ranges(), haul.workers(), before)?;
+    let surveys = surveys(alloc, &haul.job(), taken.as_slice())?;
+    let census = haul.census()?;
+    Ok(haul.taken() == taken.as_slice() && is_right(alloc, surveys.as_slice(), &census)?)
+}
+
+/// Whether a haul of two workers and the plain book agree on a list of eight drawn arrivals.
+fn agree_on_a_list(alloc: Global, job: Job, other: &Job, state: &mut u64) -> Result<bool, Fail> {
+    let ranges = two_ranges();
+    let mut haul = Haul::open(alloc, job, &ranges, 2)?;
+    let mut before = Vec::new(alloc);
+    for _ in 0..8 {
+        let replied = both_reply(alloc, &mut haul, other, &ranges, &mut before, drawn(state))?;
+        if replied.is_none() {
+            return Ok(false);
+        }
+    }
+    agree_at_the_end(alloc, &haul, before.as_slice())
+}
+
+/// Whether they agree on so many drawn lists.
+fn agree_on_lists(alloc: Global, job: Job, other: &Job, lists: u32) -> Result<bool, Fail> {
+    let mut state = 1;
+    for _ in 0..lists {
+        if !agree_on_a_list(alloc, job, other, &mut state)? {
+            return Ok(false);
+        }
+    }
+    Ok(true)
+}
+
+#[test]
+fn agrees_on_drawn_lists(rt: HostRuntime) -> Result<(), Fail> {
+    let own = job("")?;
+    let other = job("x")?;
+    assert!(rt; agree_on_lists(rt.alloc(), own, &other, 300)?);
+    Ok(())
+}
+
+// Soups that settle, and leave objects to count.
+#[test]
+fn agrees_on_what_soups_leave(rt: HostRuntime) -> Result<(), Fail> {
+    let mut own = job("")?;
+    own.profile = Profile::standard();
+    let other = job("x")?;
+    assert!(rt; agree_on_lists(rt.alloc(), own, &other, 12)?);
     Ok(())
 }
