@@ -1,3 +1,4 @@
 mod BeltLemmas
+mod CrewLemmas
 mod SumLemmas
 mod TicketLemmas

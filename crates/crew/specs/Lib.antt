@@ -1,4 +1,5 @@
 pub mod BeltRule
 pub mod Belts
+pub mod Crews
 pub mod TicketRule
 pub mod Tickets

@@ -3,6 +3,12 @@
 
 /// A queue from several senders to one receiver.
 pub mod belt;
+/// The collector, which offers what it receives to a haul.
+pub mod collector;
+/// Gates, which may stop a worker.
+pub mod gate;
+/// What a worker says to the collector.
+pub mod note;
 #[cfg(test)]
 mod tests;
 /// Numbers that threads draw, each once.

@@ -284,6 +284,7 @@ impl Haul {
             → StandsFor (arrivals ++ arrival.Offer report ∷ []) self.new }
         ensures taken { OnOk result (self.new.taken ≡ self.old.taken ++ (report.worker, report.number) ∷ []) }
         ensures terms { self.new.terms ≡ self.old.terms }
+        ensures closed { self.new.closed ≡ self.old.closed }
         ensures kept { OnErr result (self.new ≡ self.old) }
         ensures report { IfErr result (λ refused. refused.report ≡ report) }
     {
