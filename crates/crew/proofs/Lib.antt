@@ -1,4 +1,5 @@
 mod BeltLemmas
 mod CrewLemmas
+mod ShiftLemmas
 mod SumLemmas
 mod TicketLemmas

@@ -1,5 +1,6 @@
 pub mod BeltRule
 pub mod Belts
 pub mod Crews
+pub mod Shifts
 pub mod TicketRule
 pub mod Tickets

@@ -115,6 +115,15 @@ impl<N> Model for SenderPass<N> {
     ghost invariant = { λ s. (s.pass.me.0.client.senders ≡ (s.number, first_notes s.pass.me.0.client.senders) ∷ []) × (s.pass.me.1 ≡ []) };
 }
 
+impl<N> SenderPass<N> {
+    /// The sender's number.
+    pub fn number(&self) -> u8
+        ensures { result ≡ self.now.number }
+    {
+        self.number
+    }
+}
+
 /// What the receiver receives notes with. Contracts see the notes that it got, each with its sender's number, in order.
 #[derive(Drop)]
 pub struct ReceiverPass<N> {

@@ -13,3 +13,5 @@ pub mod note;
 mod tests;
 /// Numbers that threads draw, each once.
 pub mod tickets;
+/// The workers, and the call that runs them.
+pub mod workers;
