@@ -1,6 +1,6 @@
 -- A worker's notes, one after another.
-use Rattle.std.proofs.Common.{◌≡◌, ◌<◌, ◌++◌, ◌∙◌, ℕ, All, List, [], ◌∷◌, ap, append-nil, arith, flat_map, get_or, length, map, refl, subst, sym}
-use Rattle.std.specs.Prelude.{AllPairs, Contains, slice_index}
+use Rattle.std.proofs.Common.{◌≡◌, ◌<◌, ◌++◌, ◌∙◌, ℕ, All, List, [], ◌∷◌, ap, append-nil, arith, flat_map, get_or, length, map, refl, subst, sym, ⊎_elim}
+use Rattle.std.specs.Prelude.{◌⊎◌, AllPairs, Contains, IfSome, Option, None, Some, slice_index}
 use Rattle.std.proofs.lemmas.Grind.{flat_map-append}
 use Rattle.std.proofs.lemmas.List.{map-append}
 use Rattle.std.proofs.lemmas.List.Elements.{All-nil, All-push}
@@ -9,7 +9,7 @@ use Rattle.atomic_table.specs.Seated.{TableId}
 use Rattle.haul_core.specs.Reports.{Reported}
 use Rattle.crew.specs.Belts.{Presented, silent, with_note}
 use Rattle.crew.specs.Crews.{report_in}
-use Rattle.crew.specs.Shifts.{HasReported, HasWorked, reported}
+use Rattle.crew.specs.Shifts.{AreBack, HasReported, HasWorked, Leaves, StopsAt, reported}
 use Rattle.crew.specs.declared.note.Note.{Note}
 use Rattle.crew.specs.declared.note.Note.TheVariants.{Done, Report}
 
@@ -74,3 +74,19 @@ worked_done name missing pass worker h =
         own = subst (λ (l : List Reported). All (λ (s : Reported). s.worker ≡ pass.number) l) (sym whole) h.1.own;
       },
     )
+
+-- a worker more that is back
+pub back_more : {may_stop : ℕ → ℕ → Type 0} {name : TableId} {missing : List ℕ} (passes all : List (Presented Note)) (pass : Presented Note)
+    (stopped now : Option ℕ) (worker : ℕ) (Stopped : Type 0) → AreBack may_stop name missing passes stopped
+    → Leaves may_stop name missing worker pass Stopped → all ≡ passes ++ pass ∷ []
+    → IfSome now (λ w. (stopped ≡ Some w) ⊎ (Stopped × (w ≡ pass.number))) → AreBack may_stop name missing all now
+back_more {may_stop} {name} {missing} passes all pass stopped now worker Stopped back leaves is told = record {
+  worked = subst (All (HasWorked name missing)) (sym is) (All-push (HasWorked name missing) passes pass back.worked leaves.worked);
+  stops = go now told;
+}
+  where
+    go : (o : Option ℕ) → IfSome o (λ w. (stopped ≡ Some w) ⊎ (Stopped × (w ≡ pass.number))) → IfSome o (StopsAt may_stop missing)
+    go None h = tt
+    go (Some w) h =
+        ⊎_elim (λ (same : stopped ≡ Some w). subst (λ (p : Option ℕ). IfSome p (StopsAt may_stop missing)) same back.stops)
+        (λ (x : Stopped × (w ≡ pass.number)). subst (StopsAt may_stop missing) (sym (x.1 ∙ leaves.number)) (leaves.stops x.0)) h

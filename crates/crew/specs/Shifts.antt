@@ -1,5 +1,5 @@
 -- What a worker of the crew reports.
-use Rattle.std.specs.Prelude.{◌≡◌, ◌<◌, ℕ, All, AllPairs, Contains, List, flat_map, length, map, slice_index}
+use Rattle.std.specs.Prelude.{◌≡◌, ◌<◌, ℕ, All, AllPairs, Contains, IfSome, List, Option, flat_map, length, map, slice_index}
 use Rattle.atomic_table.specs.Seated.{TableId}
 use Rattle.haul_core.specs.Reports.{Reported}
 use Rattle.crew.specs.Belts.{Presented}
@@ -26,3 +26,18 @@ HasWorked name missing pass = (places : List ℕ) × HasReported name pass.numbe
 -- the gate may stop the worker at a number that is missing
 abbrev pub StopsAt : (ℕ → ℕ → Type 0) → List ℕ → ℕ → Type 0
 StopsAt may_stop missing worker = (n : ℕ) × Contains missing n × may_stop worker n
+
+-- what a worker with this number leaves; `Stopped` says that its gate stopped it
+pub record Leaves (may_stop : ℕ → ℕ → Type 0) (name : TableId) (missing : List ℕ) (worker : ℕ) (pass : Presented Note) (Stopped : Type 0) : Type 0 where
+  pub number : pass.number ≡ worker
+  pub worked : HasWorked name missing pass
+  pub stops : Stopped → StopsAt may_stop missing worker
+
+-- what workers left that are back, and one whose gate stopped it
+pub record AreBack (may_stop : ℕ → ℕ → Type 0) (name : TableId) (missing : List ℕ) (passes : List (Presented Note)) (stopped : Option ℕ) : Type 0 where
+  pub worked : All (HasWorked name missing) passes
+  pub stops : IfSome stopped (StopsAt may_stop missing)
+
+-- the numbers of senders
+abbrev pub numbers_in : List (Presented Note) → List ℕ
+numbers_in passes = map (λ s. s.number) passes
