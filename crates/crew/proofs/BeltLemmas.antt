@@ -64,12 +64,12 @@ module _ {N : Type 0} where
       ap (λ (l : List (ℕ × N)). map (λ (m : ℕ × N). m.1) l) (filter-append (λ (m : ℕ × N). nat_eq p m.0) xs ys)
       ∙ map-append (λ (m : ℕ × N). m.1) (filter (λ (m : ℕ × N). nat_eq p m.0) xs) (filter (λ (m : ℕ × N). nat_eq p m.0) ys)
 
-  notes_first : (p q : ℕ) (note : N) (more : List (ℕ × N)) → q ≡ p → notes_of q ((p, note) ∷ more) ≡ note ∷ notes_of q more
+  pub notes_first : (p q : ℕ) (note : N) (more : List (ℕ × N)) → q ≡ p → notes_of q ((p, note) ∷ more) ≡ note ∷ notes_of q more
   notes_first p q note more e =
       ap (λ (b : Bool). map (λ (m : ℕ × N). m.1) (cond b ((p, note) ∷ filter (λ (m : ℕ × N). nat_eq q m.0) more) (filter (λ (m : ℕ × N). nat_eq q m.0) more)))
       (eq-eqb q p e)
 
-  notes_other : (p q : ℕ) (note : N) (more : List (ℕ × N)) → q ≢ p → notes_of q ((p, note) ∷ more) ≡ notes_of q more
+  pub notes_other : (p q : ℕ) (note : N) (more : List (ℕ × N)) → q ≢ p → notes_of q ((p, note) ∷ more) ≡ notes_of q more
   notes_other p q note more e =
       ap (λ (b : Bool). map (λ (m : ℕ × N). m.1) (cond b ((p, note) ∷ filter (λ (m : ℕ × N). nat_eq q m.0) more) (filter (λ (m : ℕ × N). nat_eq q m.0) more)))
       (ne_eqb q p e)

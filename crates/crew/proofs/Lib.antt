@@ -2,4 +2,5 @@ mod BeltLemmas
 mod CrewLemmas
 mod ShiftLemmas
 mod SumLemmas
+mod TakeLemmas
 mod TicketLemmas

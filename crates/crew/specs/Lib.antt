@@ -3,4 +3,5 @@ pub mod Belts
 pub mod Crews
 pub mod Shifts
 pub mod TicketRule
+pub mod Takes
 pub mod Tickets

@@ -39,5 +39,5 @@ pub record AreBack (may_stop : ℕ → ℕ → Type 0) (name : TableId) (missing
   pub stops : IfSome stopped (StopsAt may_stop missing)
 
 -- the numbers of senders
-abbrev pub numbers_in : List (Presented Note) → List ℕ
-numbers_in passes = map (λ s. s.number) passes
+abbrev pub sender_numbers : List (Presented Note) → List ℕ
+sender_numbers passes = map (λ s. s.number) passes
