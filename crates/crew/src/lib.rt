@@ -9,6 +9,7 @@ pub mod collector;
 pub mod gate;
 /// What a worker says to the collector.
 pub mod note;
+mod shift;
 #[cfg(test)]
 mod tests;
 /// Numbers that threads draw, each once.

@@ -4,28 +4,26 @@ ghost use Rattle.std.specs.List.{IsDistinct, range_with_len};
 ghost use Rattle.std.specs.List.Sorted.{IsStrictlyIncreasing};
 ghost use Rattle.haul_core.specs.Keeping.{numbers_in};
 ghost use Rattle.haul_core.specs.Missing.{IsComplete};
-ghost use Rattle.haul_core.specs.Ranges.{number_bound};
 ghost use Rattle.crew.specs.Belts.{IsWhole, deaf, silent};
 ghost use Rattle.crew.specs.Crews.{Collected};
-ghost use Rattle.crew.specs.Shifts.{AreBack, HasWorked, Leaves, StopsAt, sender_numbers};
+ghost use Rattle.crew.specs.Shifts.{AreBack, Leaves, StopsAt, sender_numbers};
 ghost use Rattle.crew.specs.Takes.{HasTaken, was_missing};
 ghost use Rattle.crew.specs.Tickets.{fresh};
 ghost use Rattle.crew.specs.declared.workers.CrewError.TheVariants as CrewError;
-ghost use Rattle.crew.specs.declared.workers.End.TheVariants as End;
+ghost use Rattle.crew.specs.declared.shift.End.TheVariants as End;
 
 use crate::belt::{Belt, ReceiverPass, SenderPass};
 use crate::collector::collect;
 use crate::gate::Gate;
 use crate::note::Note;
+use crate::shift::{End, Shift, Site, work};
 use crate::tickets::{Pass, Tickets};
 use haul_core::haul::Haul;
-use haul_core::report::Report;
 use std::alloc::{AllocError, Global};
 use std::sync::Wait;
 use std::sync::atomic::{AtomicU64, Ordering};
 use std::thread;
 use std::thread::{Promise, Scope, Threads};
-use survey_core::job::Job;
 use thiserror::Error;
 
 /// How many notes there is room for on the belt.
@@ -37,7 +35,7 @@ pub enum CrewError {
     /// The haul is closed.
     #[error("closed")]
     Closed,
-    /// The gate stopped a worker: the first of those that it stopped.
+    /// The gate stopped a worker: of those that it stopped, the one with the least number.
     #[error("worker {worker} was stopped")]
     Stopped { worker: u8 },
     /// Memory ran out, or a thread could not be started.
@@ -88,7 +86,7 @@ pub fn take<G: Gate + Sync, R: Threads + Wait + Sync>(
     }
 }
 
-/// Lets workers survey what is missing. Which of them was stopped first, if one was.
+/// Lets workers survey what is missing. Which of them was stopped, if one was: the one with the least number.
 #[tactic(auto, using(crate::proofs::TakeLemmas::taken_none))]
 fn take_missing<G: Gate + Sync, R: Threads + Wait + Sync>(
     alloc: Global,
@@ -123,100 +121,6 @@ fn take_missing<G: Gate + Sync, R: Threads + Wait + Sync>(
     end_crew(site, crew)
 }
 
-/// What all workers share.
-#[derive(Drop)]
-struct Site {
-    job: Job,
-    tickets: Tickets,
-    belt: Belt<Note>,
-    /// The numbers to be surveyed. A ticket is a place of this list.
-    missing: Vec<u64>,
-    /// The worker that was not started, if there is one.
-    called_off: AtomicU64,
-    ghost listed: { tickets.count ≡ vec_len missing },
-    ghost below: { All (λ n. n < number_bound) missing.items },
-}
-
-/// How a worker ended.
-#[derive(Clone, Copy, PartialEq, Eq)]
-enum End {
-    /// No number was left.
-    Drained,
-    /// Its gate stopped it.
-    Stopped,
-    /// Memory ran out, or the worker was not started.
-    OutOfMemory,
-}
-
-/// What a worker leaves.
-#[derive(Drop)]
-struct Shift {
-    sender: SenderPass<Note>,
-    end: End,
-}
-
-/// Surveys what is left, one number after another, until none is left, the gate stops the worker, or memory runs out. Each
-/// report is presented.
-#[tactic(auto, using(crate::proofs::ShiftLemmas::reported_none, crate::proofs::ShiftLemmas::reported_more))]
-fn survey_all<G: Gate, R: Wait>(
-    alloc: Global,
-    rt: &R,
-    site: &Site,
-    gate: &G,
-    pass: &mut Pass,
-    sender: &mut SenderPass<Note>,
-) -> End
-    requires pass { pass.old ≡ fresh site.now.tickets }
-    requires sender { sender.old ≡ silent site.now.belt.name sender.old.number }
-    ensures number { sender.new.number ≡ sender.old.number }
-    ensures worked { HasWorked site.now.belt.name site.now.missing.items sender.new }
-    ensures stopped { result ≡ End.Stopped → StopsAt (G.may_stop gate.now) site.now.missing.items sender.old.number }
-{
-    let worker = sender.number();
-    for _ in rt.forever() {
-        let Some(place) = site.tickets.draw(pass) else {
-            return End::Drained;
-        };
-        let number = site.missing[place as usize];
-        if gate.before(worker, number).is_err() {
-            return End::Stopped;
-        }
-        let Ok(report) = Report::make(alloc, &site.job, worker, number) else {
-            return End::OutOfMemory;
-        };
-        site.belt.present(rt, sender, Note::Report(report));
-    }
-    unreachable!()
-}
-
-/// A worker's whole shift. It ends with a note that says so, unless the worker was not started.
-#[tactic(auto, using(crate::proofs::ShiftLemmas::worked_none, crate::proofs::ShiftLemmas::worked_done))]
-fn work<G: Gate, R: Wait>(
-    alloc: Global,
-    rt: &R,
-    site: &Site,
-    gate: &G,
-    pass: Pass,
-    sender: SenderPass<Note>,
-) -> Shift
-    requires pass { pass ≡ fresh site.now.tickets }
-    requires sender { sender ≡ silent site.now.belt.name sender.number }
-    ensures number { result.sender.number ≡ sender.number }
-    ensures worked { HasWorked site.now.belt.name site.now.missing.items result.sender }
-    ensures stopped { result.end ≡ End.Stopped → StopsAt (G.may_stop gate.now) site.now.missing.items sender.number }
-{
-    let mut pass = pass;
-    let mut sender = sender;
-    let worker = sender.number();
-    if site.called_off.load(Ordering::SeqCst) == u64::from(worker) {
-        let end = End::OutOfMemory;
-        return Shift { sender, end };
-    }
-    let end = survey_all(alloc, rt, site, gate, &mut pass, &mut sender);
-    site.belt.present(rt, &mut sender, Note::Done { worker });
-    Shift { sender, end }
-}
-
 /// What a worker's thread promises.
 #[derive(Clone, Copy)]
 struct Duty<'s, G> {
@@ -235,7 +139,7 @@ struct Crew {
     haul: Haul,
     receiver: ReceiverPass<Note>,
     senders: Vec<SenderPass<Note>>,
-    /// The first worker that came back stopped.
+    /// The least worker that came back stopped.
     stopped: Option<u8>,
 }
 

@@ -1,6 +1,6 @@
 use Rattle.std.proofs.Common.{◌≡◌, Some, subst, sym}
 use Rattle.crew.specs.Shifts.{Leaves}
-use Rattle.crew.specs.declared.workers.End.TheVariants.{Stopped}
+use Rattle.crew.specs.declared.shift.End.TheVariants.{Stopped}
 use Rattle.std.proofs.lemmas.List.Elements.{All-pop}
 use Rattle.crew.specs.Belts.{Presented, silent}
 use Rattle.crew.specs.Tickets.{Drawn, fresh}
