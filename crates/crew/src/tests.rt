@@ -2,7 +2,7 @@ ghost use Rattle.std.specs.Prelude.{◌≡◌, ◌≤◌, IfOk};
 
 use crate::belt::Belt;
 use crate::gate::{Gate, OpenGate, Stop};
-use crate::tickets::{Tickets, TicketsError};
+use crate::tickets::{Pass, Tickets, TicketsError};
 use crate::workers::{CrewError, take};
 use haul_core::haul::Haul;
 use haul_core::range::Range;
@@ -11,7 +11,7 @@ use std::alloc::Global;
 use std::sync::Wait;
 use std::sync::atomic::{AtomicU64, Ordering};
 use std::test::Fail;
-use std::thread::Threads;
+use std::thread::{Threads, join};
 use survey_core::job::Job;
 use survey_core::profile::Profile;
 use survey_core::seed::Seed;
@@ -144,8 +144,10 @@ fn take_some<R: Threads + Wait + Sync>(
 {
     match take(alloc, rt, haul, 3, &turns_of(turns)) {
         Ok(haul) => (haul, None),
-        Err((haul, CrewError::Stopped { worker })) => (haul, Some(worker)),
-        Err((haul, _)) => (haul, None),
+        Err((haul, fault)) => match fault {
+            CrewError::Stopped { worker } => (haul, Some(worker)),
+            _ => (haul, None),
+        },
     }
 }
 
@@ -159,5 +161,42 @@ fn goes_on_after_a_stop(rt: HostRuntime) -> Result<(), Fail> {
     let (haul, stopped) = take_some(alloc, &rt, haul, 1);
     assert_eq!(rt; (stopped.is_some(), haul.missing_count()), (true, 2));
     assert!(rt; take(alloc, &rt, haul, 3, &OpenGate).is_ok());
+    Ok(())
+}
+
+/// How many numbers a pass draws until none is left.
+fn draw_all(tickets: &Tickets, mut pass: Pass) -> u64
+    requires { pass.series ≡ tickets.now }
+    ensures { result ≤ 1001 }
+{
+    for drawn in 0..1001 {
+        if tickets.draw(&mut pass).is_none() {
+            return drawn;
+        }
+    }
+    1001
+}
+
+#[test]
+fn draws_in_two_threads(rt: HostRuntime) -> Result<(), Fail> {
+    let (tickets, mut passes) = Tickets::open(rt.alloc(), 1000, 2)?;
+    let Some(b) = passes.pop() else {
+        panic!(rt; "no second pass")
+    };
+    let Some(a) = passes.pop() else {
+        panic!(rt; "no first pass")
+    };
+    let (first, second) = join(
+        &rt,
+        || -> u64
+            requires { a.series ≡ tickets }
+            ensures { result ≤ 1001 }
+        { draw_all(&tickets, a) },
+        || -> u64
+            requires { b.series ≡ tickets }
+            ensures { result ≤ 1001 }
+        { draw_all(&tickets, b) },
+    );
+    assert_eq!(rt; first + second, 1000);
     Ok(())
 }
