@@ -170,7 +170,8 @@ all_own Q (m ∷ ms) workers few each =
     (subst (All (Q w)) (ap reported (notes_first m.0 w m.1 ms same)) (each w le ge)))
     (λ apart. subst (All (Q w)) (ap reported (notes_other m.0 w m.1 ms apart)) (each w le ge))))
 
-pub all_reports : (Q : ℕ → Reported → Type 0) (P : Reported → Type 0) (got : List (ℕ × Note)) → ((m : ℕ × Note) → All (Q m.0) (report_in m.1) → All P (report_in m.1))
+pub all_reports : (Q : ℕ → Reported → Type 0) (P : Reported → Type 0) (got : List (ℕ × Note)) → ((m : ℕ × Note) → All (Q m.0) (report_in m.1)
+    → All P (report_in m.1))
     → All (λ m. All (Q m.0) (report_in m.1)) got → All P (reports_in got)
 all_reports Q P [] turn all = All-nil P
 all_reports Q P (m ∷ ms) turn all =
@@ -180,11 +181,13 @@ all_reports Q P (m ∷ ms) turn all =
 -- what is taken of a worker, were all its reports taken, is what was received of it
 by_yes : (w : ℕ) (t : ℕ × ℕ) (ts : List (ℕ × ℕ)) → w ≡ t.0 → taken_by w (t ∷ ts) ≡ t.1 ∷ taken_by w ts
 by_yes w t ts e =
-    ap (λ (b : Bool). map (λ (s : ℕ × ℕ). s.1) (cond b (t ∷ filter (λ (s : ℕ × ℕ). nat_eq w s.0) ts) (filter (λ (s : ℕ × ℕ). nat_eq w s.0) ts))) (eq-eqb w t.0 e)
+    ap (λ (b : Bool). map (λ (s : ℕ × ℕ). s.1) (cond b (t ∷ filter (λ (s : ℕ × ℕ). nat_eq w s.0) ts) (filter (λ (s : ℕ × ℕ). nat_eq w s.0) ts)))
+    (eq-eqb w t.0 e)
 
 by_no : (w : ℕ) (t : ℕ × ℕ) (ts : List (ℕ × ℕ)) → w ≢ t.0 → taken_by w (t ∷ ts) ≡ taken_by w ts
 by_no w t ts e =
-    ap (λ (b : Bool). map (λ (s : ℕ × ℕ). s.1) (cond b (t ∷ filter (λ (s : ℕ × ℕ). nat_eq w s.0) ts) (filter (λ (s : ℕ × ℕ). nat_eq w s.0) ts))) (ne_eqb w t.0 e)
+    ap (λ (b : Bool). map (λ (s : ℕ × ℕ). s.1) (cond b (t ∷ filter (λ (s : ℕ × ℕ). nat_eq w s.0) ts) (filter (λ (s : ℕ × ℕ). nat_eq w s.0) ts)))
+    (ne_eqb w t.0 e)
 
 taken_part : (w : ℕ) (part rs : List Reported) → IsPart part rs → IsPart (taken_by w (map entry part)) (taken_by w (map entry rs))
 taken_part w part [] p = ap (λ (l : List Reported). taken_by w (map entry l)) p
@@ -289,7 +292,8 @@ taken_none workers held = record {
 pub all_silent : (name : TableId) (numbers : List ℕ) → All (λ s. s ≡ silent {N = Note} name s.number) (map (silent {N = Note} name) numbers)
 all_silent name [] = All-nil (λ s. s ≡ silent {N = Note} name s.number)
 all_silent name (n ∷ ns) =
-    All-cons (λ (s : Presented Note). s ≡ silent {N = Note} name s.number) (silent {N = Note} name n) (map (silent {N = Note} name) ns) refl (all_silent name ns)
+    All-cons (λ (s : Presented Note). s ≡ silent {N = Note} name s.number) (silent {N = Note} name n) (map (silent {N =
+    Note} name) ns) refl (all_silent name ns)
 
 pub silent_numbers : (name : TableId) (numbers : List ℕ) → sender_numbers (map (silent {N = Note} name) numbers) ≡ numbers
 silent_numbers name [] = refl
@@ -305,11 +309,13 @@ pub belts_of : (name : TableId) (missing : List ℕ) (passes : List (Presented N
 belts_of name missing passes worked k d lt = (worked k d lt).1.belt
 
 pub crew_has_taken : {name : TableId} {started : ℕ} {before after : Received Note} {old mid : Held} {answered : Bool} (belt : Line) (new : Held) (workers : ℕ)
-    (missing : List ℕ) (passes first back : List (Presented Note)) → Collected started 0 before after old mid answered → before ≡ deaf belt → belt.workers ≡ workers
+    (missing : List ℕ) (passes first back : List (Presented Note)) → Collected started 0 before after old mid answered → before ≡ deaf belt
+    → belt.workers ≡ workers
     → missing ≡ was_missing old → IsStrictlyIncreasing missing → first ≡ map (silent name) (range_with_len 1 workers) → back ≡ []
     → sender_numbers passes ≡ sender_numbers back ++ sender_numbers first → All (HasWorked name missing) passes
     → All (IsWhole after.got) passes → new ≡ mid → IsDistinct nat_eq (numbers_in mid.taken) → HasTaken workers old new
-crew_has_taken {name} {started} {before} {after} {old} {mid} belt new workers missing passes first back c begun as_many listed up silents none numbers worked whole same
+crew_has_taken {name} {started} {before} {after} {old} {mid} belt new workers missing passes first back c begun as_many listed up silents none
+    numbers worked whole same
     distinct =
     let notes_are : after.got ≡ c.notes = c.got ∙ ap (λ (r : Received Note). r.got ++ c.notes) begun in
     let bound : before.belt.workers ≡ workers = ap (λ (r : Received Note). r.belt.workers) begun ∙ as_many in
@@ -319,7 +325,8 @@ crew_has_taken {name} {started} {before} {after} {old} {mid} belt new workers mi
     subst (HasTaken workers old) (sym same)
     (has_taken {name = name} old mid workers after.got passes
     (AllPairs-from_increasing (was_missing old) (subst IsStrictlyIncreasing listed up))
-    (numbers ∙ ap (λ (l : List (Presented Note)). sender_numbers l ++ sender_numbers first) none ∙ ap sender_numbers silents ∙ silent_numbers name (range_with_len 1 workers))
+    (numbers ∙ ap (λ (l : List (Presented Note)). sender_numbers l ++ sender_numbers first) none ∙ ap sender_numbers silents
+    ∙ silent_numbers name (range_with_len 1 workers))
     (subst (λ (l : List ℕ). All (HasWorked name l) passes) listed worked) whole few c.terms c.closed
     (c.taken.0, subst (λ (l : List (ℕ × Note)). IsPart c.taken.0 (reports_in l)) (sym notes_are) c.taken.1, c.taken.2) distinct)
 

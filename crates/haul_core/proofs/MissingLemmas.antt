@@ -330,4 +330,3 @@ below_numbers bound (r ∷ more) below =
 pub missing_below : (bound : ℕ) (ranges : List Range) (taken : List (ℕ × ℕ)) → AreBelow bound ranges → All (λ n. n < bound) (missing_of ranges taken)
 missing_below bound ranges taken below =
     All-filter (λ n. not (is_taken taken n)) (λ n. n < bound) (numbers_of ranges) (below_numbers bound ranges below)
-

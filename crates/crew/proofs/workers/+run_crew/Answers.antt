@@ -22,7 +22,8 @@ pub shift-shift-requires : goal.shift-shift-requires
 shift-shift-requires g t c κs within =
     let pass_is = (All-pop (λ (p : Drawn). p ≡ fresh c.args.site.now.tickets) c.args.passes.items c.pop-2.new.self.items (Some c.in-Some-pop.pass)
     c.in-Some-pop.ensures.items c.requires.passes).1 in
-    let sender_is = (All-pop (λ (s : Presented Note). s ≡ silent c.args.site.now.belt.name s.number) c.args.senders.items c.pop.new.self.items (Some c.in-Some.sender)
+    let sender_is = (All-pop (λ (s : Presented Note). s ≡ silent c.args.site.now.belt.name s.number) c.args.senders.items c.pop.new.self.items (Some
+    c.in-Some.sender)
     c.in-Some.ensures.items c.requires.senders).1 in (
       within.0,
       (

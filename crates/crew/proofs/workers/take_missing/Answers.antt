@@ -16,12 +16,14 @@ run_in_scope-crew-requires-clause-many g c κs within =
 
 pub run_in_scope-crew-requires-clause-few : goal.run_in_scope-crew-requires-clause-few
 run_in_scope-crew-requires-clause-few g c =
-    let many : length c.in-Ok.start.senders.items ≡ c.args.workers = ap length c.in-Ok.ensures.senders ∙ silent_length c.in-Ok.start.site.belt.name c.args.workers in
+    let many : length c.in-Ok.start.senders.items ≡ c.args.workers = ap length c.in-Ok.ensures.senders
+    ∙ silent_length c.in-Ok.start.site.belt.name c.args.workers in
     omega (arith, many, c.ranges.workers.fits)
 
 pub run_in_scope-crew-requires-clause-room : goal.run_in_scope-crew-requires-clause-room
 run_in_scope-crew-requires-clause-room g c =
-    let many : length c.in-Ok.start.senders.items ≡ c.args.workers = ap length c.in-Ok.ensures.senders ∙ silent_length c.in-Ok.start.site.belt.name c.args.workers in
+    let many : length c.in-Ok.start.senders.items ≡ c.args.workers = ap length c.in-Ok.ensures.senders
+    ∙ silent_length c.in-Ok.start.site.belt.name c.args.workers in
     let none : length c.in-Ok.start.back.items ≡ 0 = ap length c.in-Ok.ensures.back in
     omega (arith, many, none, c.in-Ok.ensures.room)
 
@@ -43,5 +45,6 @@ returns-clause-taken g c =
 
 pub returns-clause-stopped : goal.returns-clause-stopped
 returns-clause-stopped g c =
-    crew_stops (g.G.Gate.may_stop c.args.gate.now) c.in-Ok.start.site.missing.items _ c.run_in_scope-crew.result.stopped c.end_crew.result.1 c.run_in_scope-crew.ensures.back.stops
+    crew_stops (g.G.Gate.may_stop c.args.gate.now) c.in-Ok.start.site.missing.items _ c.run_in_scope-crew.result.stopped c.end_crew.result.1
+    c.run_in_scope-crew.ensures.back.stops
     c.in-Ok.ensures.missing c.end_crew.ensures.stopped
