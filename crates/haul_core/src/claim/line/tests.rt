@@ -16,63 +16,68 @@ fn fault(alloc: Global, head: &[u8], end: &[u8]) -> Result<Option<usize>, Fail> 
     }
 }
 
+/// A line's end, and where the line with it is wrong.
+type Case = (&'static [u8], usize);
+
+/// Whether lines of this head are wrong where these cases say.
+fn are_wrong_there(alloc: Global, head: &[u8], cases: &[Case]) -> Result<bool, Fail> {
+    for case in cases {
+        if fault(alloc, head, case.0)? != Some(case.1) {
+            return Ok(false);
+        }
+    }
+    Ok(true)
+}
+
+const ENDS: [Case; 8] = [
+    (b"", 57),
+    (b" unsettled\r", 58),
+    (b" unsettled x", 68),
+    (b" at=0 ", 63),
+    (b" at=0 xs4_33*18446744073709551616", 63),
+    (b" at=0 xs4_33*0", 63),
+    (b" at=0 xs4_33*01", 63),
+    (b" at=0 xs4_33*1 xs4_33*1", 72),
+];
+
 #[test]
 fn refuses_damaged_ends(rt: HostRuntime) -> Result<(), Fail> {
-    let alloc = rt.alloc();
-    assert_eq!(rt; fault(alloc, HEAD, b"")?, Some(57));
-    assert_eq!(rt; fault(alloc, HEAD, b" unsettled\r")?, Some(58));
-    assert_eq!(rt; fault(alloc, HEAD, b" unsettled x")?, Some(68));
-    assert_eq!(rt; fault(alloc, HEAD, b" at=0 ")?, Some(63));
-    assert_eq!(rt; fault(alloc, b"", b"")?, Some(0));
+    assert!(rt; are_wrong_there(rt.alloc(), HEAD, ENDS.as_slice())?);
     Ok(())
 }
 
-#[test]
-fn refuses_damaged_counts(rt: HostRuntime) -> Result<(), Fail> {
-    let alloc = rt.alloc();
-    assert_eq!(rt;
-        fault(alloc, HEAD, b" at=0 xs4_33*18446744073709551616")?,
-        Some(63)
-    );
-    assert_eq!(rt; fault(alloc, HEAD, b" at=0 xs4_33*0")?, Some(63));
-    assert_eq!(rt; fault(alloc, HEAD, b" at=0 xs4_33*1 xs4_33*1")?, Some(72));
-    assert_eq!(rt; fault(alloc, HEAD, b" at=0 xs4_33*1")?, None);
-    Ok(())
-}
+const HEADS: [Case; 7] = [
+    (b" worker=01 soup=0 unsettled", 42),
+    (b" worker=17 soup=0 unsettled", 42),
+    (b" worker=1 soup=1099511627776 unsettled", 51),
+    (b" wor", 42),
+    (b"", 41),
+    (b"  worker=1", 42),
+    (b" worker=1", 50),
+];
 
 #[test]
 fn refuses_damaged_heads(rt: HostRuntime) -> Result<(), Fail> {
-    let alloc = rt.alloc();
-    let front = b"report 1 rule=b3s23 profile=1,1,1,0 seed= ".as_slice();
-    assert_eq!(rt;
-        fault(alloc, front, b"worker=01 soup=0 unsettled")?,
-        Some(42)
-    );
-    assert_eq!(rt;
-        fault(alloc, front, b"worker=17 soup=0 unsettled")?,
-        Some(42)
-    );
-    assert_eq!(rt;
-        fault(alloc, front, b"worker=1 soup=1099511627776 unsettled")?,
-        Some(51)
-    );
-    assert_eq!(rt; fault(alloc, front, b"wor")?, Some(42));
-    assert_eq!(rt;
-        fault(alloc, b"report 1 rule=b3s23 profile=1,1,1,0 seed=", b"")?,
-        Some(41)
-    );
-    assert_eq!(rt; fault(alloc, b"report 3", b"")?, Some(7));
+    let front = b"report 1 rule=b3s23 profile=1,1,1,0 seed=".as_slice();
+    assert!(rt; are_wrong_there(rt.alloc(), front, HEADS.as_slice())?);
     Ok(())
 }
 
+const FIRSTS: [Case; 4] = [(b"", 0), (b"report", 6), (b"report 3 x", 7), (b"Report 1", 0)];
+
+#[test]
+fn refuses_other_lines(rt: HostRuntime) -> Result<(), Fail> {
+    assert!(rt; are_wrong_there(rt.alloc(), b"", FIRSTS.as_slice())?);
+    Ok(())
+}
+
+const MARKS: [Case; 3] = [(b" at=0", 62), (b" at=0 xs4_33*1", 63), (b" at=0 good=maybe", 63)];
+
 #[test]
 fn wants_the_mark_in_version_2(rt: HostRuntime) -> Result<(), Fail> {
-    let alloc = rt.alloc();
     let head = b"report 2 rule=b3s23 profile=1,1,1,0 seed= worker=1 soup=0".as_slice();
-    assert_eq!(rt; fault(alloc, head, b" at=0")?, Some(62));
-    assert_eq!(rt; fault(alloc, head, b" at=0 xs4_33*1")?, Some(63));
-    assert_eq!(rt; fault(alloc, head, b" at=0 good=yes")?, None);
-    assert_eq!(rt; fault(alloc, head, b" unsettled")?, None);
+    assert!(rt; are_wrong_there(rt.alloc(), head, MARKS.as_slice())?);
+    assert_eq!(rt; fault(rt.alloc(), head, b" at=0 good=yes")?, None);
     Ok(())
 }
 
