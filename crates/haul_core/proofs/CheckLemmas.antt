@@ -1,13 +1,22 @@
 -- A claim that says what was found becomes its one report.
-use Rattle.std.proofs.Common.{◌≡◌, ◌∙◌, ◌==◌, true, ap, sym, subst, refl}
+use Rattle.std.proofs.Common.{◌≡◌, ◌∙◌, ◌==◌, ◌+◌, ◌<◌, ◌≤◌, ◌^◌, ◌∷◌, [], ℕ, List, true, ap, arith, inr, sum, sym, subst, refl}
+use Rattle.std.proofs.lemmas.List.Elements.{All-from_recursion, recursion_from_All}
+use Rattle.std.proofs.lemmas.List.Sums.{sum_by-cons}
+use Rattle.std.specs.List.{AllByRecursion}
+use Rattle.std.specs.Map.{values_of}
+use Rattle.code_core.specs.Apgcodes.{HasCodeShape}
+use Rattle.plane_core.specs.Rules.{IsRule}
+use Rattle.survey_core.specs.Profiles.{IsProfile}
+use Rattle.survey_core.specs.Seeds.{IsSeed}
+use Rattle.survey_core.specs.declared.finding.Finding.TheVariants.{Settled, Unsettled}
 use Rattle.survey_core.specs.FindingLaws.{FindingsAreDetermined}
-use Rattle.survey_core.specs.Findings.{IsFinding}
+use Rattle.survey_core.specs.Findings.{IsFinding, objects_in}
 use Rattle.survey_core.specs.Soups.{soup}
 use Rattle.survey_core.specs.declared.finding.Finding.{Finding}
 use Rattle.survey_core.specs.declared.job.Job.{Job}
-use Rattle.haul_core.specs.ClaimChecks.{Agrees, IsConfirmed, IsFoundFor}
+use Rattle.haul_core.specs.ClaimChecks.{Agrees, HaveShape, IsConfirmed, IsFoundFor}
 use Rattle.haul_core.specs.Jobs.{same_job}
-use Rattle.haul_core.specs.ReportLines.{Claimed, claim_of, told_in}
+use Rattle.haul_core.specs.ReportLines.{Claimed, IsClaim, IsCount, IsFound, claim_of, told_in}
 use Rattle.haul_core.specs.Reports.{IsReport, Reported}
 use Rattle.haul_core.proofs.JobLemmas.{jobs_decide}
 
@@ -23,7 +32,8 @@ pub record IsMade (claim : Claimed) (wanted : Job) (report : Reported) : Type 0 
 own_job : (claim : Claimed) (wanted : Job) (report : Reported) → IsMade claim wanted report → report.job ≡ claim.job
 own_job claim wanted report m = m.job ∙ sym ((jobs_decide claim.job wanted).0 m.same)
 
-pub confirmed : (claim : Claimed) (wanted : Job) (report : Reported) → IsMade claim wanted report → Agrees claim report.finding → IsConfirmed claim wanted report
+pub confirmed : (claim : Claimed) (wanted : Job) (report : Reported) → IsMade claim wanted report → Agrees claim report.finding
+    → IsConfirmed claim wanted report
 confirmed claim wanted report m a = record {
   same = m.same;
   lawful = m.lawful;
@@ -53,3 +63,42 @@ pub agrees_if_confirmed : FindingsAreDetermined → (claim : Claimed) (wanted : 
     → IsConfirmed claim wanted report → Agrees claim made.finding
 agrees_if_confirmed determined claim wanted made report m k =
     ap (λ (r : Reported). told_in claim.version r.finding) (one_report determined claim wanted made report m k) ∙ ap (λ (c : Claimed). c.found) k.says
+
+-- ---- the claim of a report
+
+counts_of : (objects : List (List ℕ × ℕ)) → AllByRecursion (λ object. HasCodeShape object.0) objects → AllByRecursion (λ object. 1 ≤ object.1) objects
+    → sum (values_of objects) < 2 ^ 64 → AllByRecursion IsCount objects
+counts_of [] shape some few = tt
+counts_of (o ∷ objects) shape some few =
+    let parts : sum (values_of (o ∷ objects)) ≡ o.1 + sum (values_of objects) = sum_by-cons (λ (n : ℕ). n) o.1 (values_of objects) in
+    (record { code = shape.0; some = some.0; word = omega arith }, counts_of objects shape.1 some.1 (omega arith))
+
+found_lawful : (report : Reported) → IsReport report → IsProfile report.job.profile → (finding : Finding) → finding ≡ report.finding → HaveShape finding
+    → IsFinding report.job.rule report.job.profile (soup report.job.seed report.number) finding → objects_in finding < 2 ^ 64 → IsFound 2 (told_in 2 finding)
+found_lawful report h profile Unsettled e shape found few = tt
+found_lawful report h profile (Settled checkpoint objects for_good) e shape found few =
+    let within = found.0.within in
+    let limit = profile.limit in
+    let lawful = found.2.counted.lawful in
+    record {
+      checkpoint = omega arith;
+      mark = refl;
+      counts = All-from_recursion IsCount objects (counts_of objects (recursion_from_All (λ object. HasCodeShape object.0) objects shape)
+          (recursion_from_All (λ object. 1 ≤ object.1) objects lawful.some) few);
+      in_order = lawful.in_order;
+    }
+
+pub report_is_claim : (report : Reported) → IsReport report → IsRule report.job.rule → IsProfile report.job.profile → IsSeed report.job.seed
+    → HaveShape report.finding → IsClaim (claim_of 2 report)
+report_is_claim report h rule profile seed shape = record {
+  version = inr refl;
+  rule = rule;
+  profile = profile;
+  seed = seed;
+  worker = h.worker;
+  number = h.number;
+  found = found_lawful report h profile report.finding refl shape h.finding h.few;
+}
+
+pub report_is_confirmed : (report : Reported) → IsReport report → IsConfirmed (claim_of 2 report) report.job report
+report_is_confirmed report h = record { same = (jobs_decide report.job report.job).1 refl; lawful = h; says = refl }

@@ -29,7 +29,12 @@ found_more : (version : ℕ) (settled : Option Rested) (counts : Counts) (object
     → MayFollow (last_code counts) object → IsFound version (told_of settled (counts ++ object ∷ []))
 found_more version None counts object n h k = absurd (n refl)
 found_more version (Some rested) counts object n h k =
-    record { checkpoint = h.checkpoint; mark = h.mark; counts = All-push IsCount counts object h.counts k.0; in_order = ordered-push counts object h.in_order k.1 }
+    record {
+      checkpoint = h.checkpoint;
+      mark = h.mark;
+      counts = All-push IsCount counts object h.counts k.0;
+      in_order = ordered-push counts object h.in_order k.1;
+    }
 
 fields_more : (settled : Option Rested) (counts : Counts) (object : List ℕ × ℕ) → settled ≢ None
     → found_fields (told_of settled (counts ++ object ∷ [])) ≡ found_fields (told_of settled counts) ++ count_field object ∷ []
@@ -38,7 +43,7 @@ fields_more None counts object n = absurd (n refl)
 fields_more (Some rested) counts object n =
     ap (λ (t : List (List ℕ)). (codes "at=" ++ decimal rested.checkpoint) ∷ (mark_fields rested.for_good ++ t)) (map-append count_field counts (object ∷ []))
     ∙ ap (λ (t : List (List ℕ)). (codes "at=" ++ decimal rested.checkpoint) ∷ t)
-        (sym (append_assoc (mark_fields rested.for_good) (map count_field counts) (count_field object ∷ [])))
+    (sym (append_assoc (mark_fields rested.for_good) (map count_field counts) (count_field object ∷ [])))
 
 all_fields_more : (front : Front) (counts : Counts) (object : List ℕ × ℕ) → front.settled ≢ None
     → fields_of (claimed front (counts ++ object ∷ [])) ≡ fields_of (claimed front counts) ++ count_field object ∷ []
@@ -46,8 +51,8 @@ unfolding head_fields
 all_fields_more front counts object n =
     ap (λ (t : List (List ℕ)). head_of (claimed front counts) ++ t) (fields_more front.settled counts object n)
 
-pub counted_more : (line : List ℕ) (front : Front) (counts : Counts) (last : Option (List ℕ)) (here field : List ℕ) (more : Option (List ℕ)) (object : List ℕ × ℕ)
-    → HasCounts line front counts last (Some here) → Cuts 32 here field more → MayFollow last object → field ≡ count_field object
+pub counted_more : (line : List ℕ) (front : Front) (counts : Counts) (last : Option (List ℕ)) (here field : List ℕ) (more : Option (List ℕ))
+    → (object : List ℕ × ℕ) → HasCounts line front counts last (Some here) → Cuts 32 here field more → MayFollow last object → field ≡ count_field object
     → HasCounts line front (counts ++ object ∷ []) (Some object.0) more
 counted_more line front counts last here field more object h c k e =
     let n = h.settled here refl in
@@ -55,7 +60,12 @@ counted_more line front counts last here field more object h c k e =
     let own = h.lawful in
     record {
       lawful = record {
-        version = own.version; rule = own.rule; profile = own.profile; seed = own.seed; worker = own.worker; number = own.number;
+        version = own.version;
+        rule = own.rule;
+        profile = own.profile;
+        seed = own.seed;
+        worker = own.worker;
+        number = own.number;
         found = found_more front.version front.settled counts object n own.found after;
       };
       follows = subst (λ (fields : List (List ℕ)). Follows line fields more) (sym (all_fields_more front counts object n))
@@ -90,7 +100,8 @@ next_count (a ∷ counts) (o ∷ all) field rest h k e =
     let n = next_count counts all field rest h.1 k.1 (let f : map count_field all ≡ map count_field counts ++ field ∷ rest = cc in f) in
     record { object = n.object; more = n.more; whole = λ i. same i ∷ n.whole i; spelled = n.spelled }
 
-pub same_marks : (version : ℕ) (a b : Option Bool) (x y z : List (List ℕ)) → IsMark version a → IsMark version b → mark_fields a ++ x ≡ (mark_fields b ++ y) ++ z → x ≡ y ++ z
+pub same_marks : (version : ℕ) (a b : Option Bool) (x y z : List (List ℕ)) → IsMark version a → IsMark version b
+    → mark_fields a ++ x ≡ (mark_fields b ++ y) ++ z → x ≡ y ++ z
 unfolding mark_fields
 same_marks version None None x y z h k e = e
 same_marks version None (Some b) x y z h k e = absurd (omega arith)

@@ -33,7 +33,8 @@ followed_last (b ∷ before) field rest =
     ∙ sym (followed-cons b (before ++ field ∷ []) rest)
 
 -- past the next field
-pub follows_more : (line : List ℕ) (before : List (List ℕ)) (here field : List ℕ) (more : Option (List ℕ)) → Follows line before (Some here) → Cuts 32 here field more
+pub follows_more : (line : List ℕ) (before : List (List ℕ)) (here field : List ℕ) (more : Option (List ℕ)) → Follows line before (Some here)
+    → Cuts 32 here field more
     → Follows line (before ++ field ∷ []) more
 follows_more line before here field None f c =
     subst (IsLineOf (before ++ field ∷ [])) (sym (f ∙ ap (λ (t : List ℕ). followed before ++ t) c.0)) (lined_last before field)
@@ -153,8 +154,13 @@ head_lacks line place head there within h e =
     let own = claimed head [] in
     lacks_at line (take place (head_of own)) there h.follows e (begin_head place own h.head.lawful) (λ claim lawful f.
     let n = ap length f in
-    some_found claim.found (omega (arith, head_length claim, head_length own, length-append (head_of claim) (found_fields claim.found),
-        length-take-le place (head_of own) (omega (arith, head_length own)))))
+    some_found claim.found (omega (
+      arith,
+      head_length claim,
+      head_length own,
+      length-append (head_of claim) (found_fields claim.found),
+      length-take-le place (head_of own) (omega (arith, head_length own)),
+    )))
 
 -- a field of the head more
 pub head_more : (line : List ℕ) (place : ℕ) (head next : Front) (here field : List ℕ) (more : Option (List ℕ)) → HasHead line place head (Some here)

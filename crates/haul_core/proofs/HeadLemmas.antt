@@ -17,11 +17,17 @@ nothing_found version (Some rested) e = absurd (cc)
 pub filled_word : (head : Front) (field : List ℕ) → IsHead head → field ≡ codes "report" → HasFilled 0 head head field
 filled_word head field h e = record { lawful = h.lawful; none = h.none; spelled = ap (λ (t : List ℕ). t ∷ []) (sym e) }
 
-pub filled_version : (head : Front) (field : List ℕ) (v : ℕ) → IsHead head → IsVersion v → field ≡ decimal v → HasFilled 1 head (record head { version = v }) field
+pub filled_version : (head : Front) (field : List ℕ) (v : ℕ) → IsHead head → IsVersion v → field ≡ decimal v
+    → HasFilled 1 head (record head { version = v }) field
 unfolding head_fields
 filled_version head field v h lawful e = record {
   lawful = record {
-    version = lawful; rule = h.lawful.rule; profile = h.lawful.profile; seed = h.lawful.seed; worker = h.lawful.worker; number = h.lawful.number;
+    version = lawful;
+    rule = h.lawful.rule;
+    profile = h.lawful.profile;
+    seed = h.lawful.seed;
+    worker = h.lawful.worker;
+    number = h.lawful.number;
     found = nothing_found v head.settled h.none;
   };
   none = h.none;
@@ -33,7 +39,12 @@ pub filled_rule : (head : Front) (field : List ℕ) (rule : Numbers) → IsHead 
 unfolding head_fields
 filled_rule head field rule h lawful e = record {
   lawful = record {
-    version = h.lawful.version; rule = lawful; profile = h.lawful.profile; seed = h.lawful.seed; worker = h.lawful.worker; number = h.lawful.number;
+    version = h.lawful.version;
+    rule = lawful;
+    profile = h.lawful.profile;
+    seed = h.lawful.seed;
+    worker = h.lawful.worker;
+    number = h.lawful.number;
     found = h.lawful.found;
   };
   none = h.none;
@@ -45,7 +56,12 @@ pub filled_profile : (head : Front) (field : List ℕ) (profile : Settling) → 
 unfolding head_fields
 filled_profile head field profile h lawful e = record {
   lawful = record {
-    version = h.lawful.version; rule = h.lawful.rule; profile = lawful; seed = h.lawful.seed; worker = h.lawful.worker; number = h.lawful.number;
+    version = h.lawful.version;
+    rule = h.lawful.rule;
+    profile = lawful;
+    seed = h.lawful.seed;
+    worker = h.lawful.worker;
+    number = h.lawful.number;
     found = h.lawful.found;
   };
   none = h.none;
@@ -57,7 +73,12 @@ pub filled_seed : (head : Front) (field seed : List ℕ) → IsHead head → IsS
 unfolding head_fields
 filled_seed head field seed h lawful e = record {
   lawful = record {
-    version = h.lawful.version; rule = h.lawful.rule; profile = h.lawful.profile; seed = lawful; worker = h.lawful.worker; number = h.lawful.number;
+    version = h.lawful.version;
+    rule = h.lawful.rule;
+    profile = h.lawful.profile;
+    seed = lawful;
+    worker = h.lawful.worker;
+    number = h.lawful.number;
     found = h.lawful.found;
   };
   none = h.none;
@@ -70,13 +91,18 @@ pub filled_worker : (head : Front) (field : List ℕ) (worker : ℕ) → IsHead 
 unfolding head_fields
 filled_worker head field worker h lawful e = record {
   lawful = record {
-    version = h.lawful.version; rule = h.lawful.rule; profile = h.lawful.profile; seed = h.lawful.seed; worker = lawful; number = h.lawful.number;
+    version = h.lawful.version;
+    rule = h.lawful.rule;
+    profile = h.lawful.profile;
+    seed = h.lawful.seed;
+    worker = lawful;
+    number = h.lawful.number;
     found = h.lawful.found;
   };
   none = h.none;
   spelled =
       ap (λ (t : List ℕ). codes "report" ∷ decimal head.version ∷ (codes "rule=" ++ rule_text head.job.rule) ∷ profile_field head.job.profile
-          ∷ (codes "seed=" ++ head.job.seed) ∷ t ∷ []) (sym e);
+      ∷ (codes "seed=" ++ head.job.seed) ∷ t ∷ []) (sym e);
 }
 
 pub filled_number : (head : Front) (field : List ℕ) (number : ℕ) → IsHead head → number < 2 ^ 40 → field ≡ codes "soup=" ++ decimal number
@@ -84,11 +110,16 @@ pub filled_number : (head : Front) (field : List ℕ) (number : ℕ) → IsHead 
 unfolding head_fields
 filled_number head field number h lawful e = record {
   lawful = record {
-    version = h.lawful.version; rule = h.lawful.rule; profile = h.lawful.profile; seed = h.lawful.seed; worker = h.lawful.worker; number = lawful;
+    version = h.lawful.version;
+    rule = h.lawful.rule;
+    profile = h.lawful.profile;
+    seed = h.lawful.seed;
+    worker = h.lawful.worker;
+    number = lawful;
     found = h.lawful.found;
   };
   none = h.none;
   spelled =
       ap (λ (t : List ℕ). codes "report" ∷ decimal head.version ∷ (codes "rule=" ++ rule_text head.job.rule) ∷ profile_field head.job.profile
-          ∷ (codes "seed=" ++ head.job.seed) ∷ (codes "worker=" ++ decimal head.worker) ∷ t ∷ []) (sym e);
+      ∷ (codes "seed=" ++ head.job.seed) ∷ (codes "worker=" ++ decimal head.worker) ∷ t ∷ []) (sym e);
 }

@@ -26,9 +26,9 @@ one_profile p q h k e =
     let b = are_small q k in
     let t : numbers_text p ≡ numbers_text q = append_cancel_left (codes "profile=") (numbers_text p) (numbers_text q) e in
     let first = same_first (numbers_text p) (decimal p.horizon ++ 44 ∷ (decimal p.stride ++ 44 ∷ decimal p.limit))
-        (decimal q.horizon ++ 44 ∷ (decimal q.stride ++ 44 ∷ decimal q.limit)) p.period q.period a.period b.period refl t in
+    (decimal q.horizon ++ 44 ∷ (decimal q.stride ++ 44 ∷ decimal q.limit)) p.period q.period a.period b.period refl t in
     let second = same_first (decimal p.horizon ++ 44 ∷ (decimal p.stride ++ 44 ∷ decimal p.limit)) (decimal p.stride ++ 44 ∷ decimal p.limit)
-        (decimal q.stride ++ 44 ∷ decimal q.limit) p.horizon q.horizon a.horizon b.horizon refl first.1 in
+    (decimal q.stride ++ 44 ∷ decimal q.limit) p.horizon q.horizon a.horizon b.horizon refl first.1 in
     let third = same_first (decimal p.stride ++ 44 ∷ decimal p.limit) (decimal p.limit) (decimal q.limit) p.stride q.stride a.stride b.stride refl second.1 in
     let last = decimal_injective p.limit q.limit (let m = a.limit in omega arith) (let m = b.limit in omega arith) third.1 in
     λ i. record { period = first.0 i; horizon = second.0 i; stride = third.0 i; limit = last i }
@@ -49,7 +49,8 @@ one_mark false false e = refl
 one_mark true false e = let h : false ≡ true = ap (λ (t : List ℕ). get_or t 5 0 == 110) e in absurd (cc)
 one_mark false true e = let h : true ≡ false = ap (λ (t : List ℕ). get_or t 5 0 == 110) e in absurd (cc)
 
-one_marks : (version : ℕ) (a b : Option Bool) (x y : List (List ℕ)) → IsMark version a → IsMark version b → mark_fields a ++ x ≡ mark_fields b ++ y → (a ≡ b) × (x ≡ y)
+one_marks : (version : ℕ) (a b : Option Bool) (x y : List (List ℕ)) → IsMark version a → IsMark version b → mark_fields a ++ x ≡ mark_fields b ++ y
+    → (a ≡ b) × (x ≡ y)
 unfolding mark_fields
 one_marks version None None x y h k e = (refl, e)
 one_marks version None (Some b) x y h k e = absurd (omega arith)
@@ -66,7 +67,7 @@ one_found version (Some s) None h k e = absurd (at_other s.checkpoint (let f : c
 one_found version (Some s) (Some t) h k e =
     let at : codes "at=" ++ decimal s.checkpoint ≡ codes "at=" ++ decimal t.checkpoint = cc in
     let checkpoint = decimal_injective s.checkpoint t.checkpoint (let m = h.checkpoint in omega arith) (let m = k.checkpoint in omega arith)
-        (append_cancel_left (codes "at=") (decimal s.checkpoint) (decimal t.checkpoint) at) in
+    (append_cancel_left (codes "at=") (decimal s.checkpoint) (decimal t.checkpoint) at) in
     let rest : mark_fields s.for_good ++ map count_field s.counts ≡ mark_fields t.for_good ++ map count_field t.counts = cc in
     let marks = one_marks version s.for_good t.for_good (map count_field s.counts) (map count_field t.counts) h.mark k.mark rest in
     let counts = one_list s.counts t.counts (recursion_from_All IsCount s.counts h.counts) (recursion_from_All IsCount t.counts k.counts) marks.1 in
@@ -78,18 +79,18 @@ unfolding head_fields
 one_of_fields c d h k e =
     let version = same_version c d h k (let f : decimal c.version ≡ decimal d.version = cc in f) in
     let rule = one_rule c.job.rule d.job.rule h.rule k.rule (append_cancel_left (codes "rule=") (rule_text c.job.rule) (rule_text d.job.rule)
-        (let f : codes "rule=" ++ rule_text c.job.rule ≡ codes "rule=" ++ rule_text d.job.rule = cc in f)) in
+    (let f : codes "rule=" ++ rule_text c.job.rule ≡ codes "rule=" ++ rule_text d.job.rule = cc in f)) in
     let profile = one_profile c.job.profile d.job.profile h.profile k.profile (let f : profile_field c.job.profile ≡ profile_field d.job.profile = cc in f) in
     let seed : c.job.seed ≡ d.job.seed = append_cancel_left (codes "seed=") c.job.seed d.job.seed
-        (let f : codes "seed=" ++ c.job.seed ≡ codes "seed=" ++ d.job.seed = cc in f) in
+    (let f : codes "seed=" ++ c.job.seed ≡ codes "seed=" ++ d.job.seed = cc in f) in
     let worker = decimal_injective c.worker d.worker (let m = h.worker.most in omega arith) (let m = k.worker.most in omega arith)
-        (append_cancel_left (codes "worker=") (decimal c.worker) (decimal d.worker)
-        (let f : codes "worker=" ++ decimal c.worker ≡ codes "worker=" ++ decimal d.worker = cc in f)) in
+    (append_cancel_left (codes "worker=") (decimal c.worker) (decimal d.worker)
+    (let f : codes "worker=" ++ decimal c.worker ≡ codes "worker=" ++ decimal d.worker = cc in f)) in
     let number = decimal_injective c.number d.number (let m = h.number in omega arith) (let m = k.number in omega arith)
-        (append_cancel_left (codes "soup=") (decimal c.number) (decimal d.number)
-        (let f : codes "soup=" ++ decimal c.number ≡ codes "soup=" ++ decimal d.number = cc in f)) in
+    (append_cancel_left (codes "soup=") (decimal c.number) (decimal d.number)
+    (let f : codes "soup=" ++ decimal c.number ≡ codes "soup=" ++ decimal d.number = cc in f)) in
     let found = one_found d.version c.found d.found (subst (λ (n : ℕ). IsFound n c.found) version h.found) k.found
-        (let f : found_fields c.found ≡ found_fields d.found = cc in f) in
+    (let f : found_fields c.found ≡ found_fields d.found = cc in f) in
     λ i. record {
       version = version i;
       job = record { seed = seed i; profile = profile i; rule = rule i };

@@ -144,10 +144,11 @@ spaceless-front (f ∷ fs) gs h = (h.0, spaceless-front fs gs h.1)
 counts_lack : (counts : List (List ℕ × ℕ)) → AllByRecursion IsCount counts → AreSpaceless (map count_field counts)
 counts_lack [] h = tt
 counts_lack (o ∷ counts) h =
-    let word = h.0.word in
-    (lacks-append 32 o.0 (42 ∷ decimal o.1) (code_lacks_space o.0 h.0.code.bytes)
-        (lacks-cons 32 42 (decimal o.1) (λ e. absurd (omega arith)) (decimal_lacks 32 o.1 refl (omega arith))),
-        counts_lack counts h.1)
+    let word = h.0.word in (
+      lacks-append 32 o.0 (42 ∷ decimal o.1) (code_lacks_space o.0 h.0.code.bytes)
+          (lacks-cons 32 42 (decimal o.1) (λ e. absurd (omega arith)) (decimal_lacks 32 o.1 refl (omega arith))),
+      counts_lack counts h.1,
+    )
 
 mark_lacks : (for_good : Bool) → Lacks 32 (mark_field for_good)
 unfolding mark_field
@@ -163,9 +164,11 @@ found_lack : (version : ℕ) (found : Option Told) → IsFound version found →
 unfolding found_fields
 found_lack version None h = (refl, tt)
 found_lack version (Some told) h =
-    let most = h.checkpoint in
-    (lacks-append 32 (codes "at=") (decimal told.checkpoint) refl (decimal_lacks 32 told.checkpoint refl (omega arith)),
-        spaceless-append (mark_fields told.for_good) (map count_field told.counts) (marks_lack told.for_good) (counts_lack told.counts (recursion_from_All IsCount told.counts h.counts)))
+    let most = h.checkpoint in (
+      lacks-append 32 (codes "at=") (decimal told.checkpoint) refl (decimal_lacks 32 told.checkpoint refl (omega arith)),
+      spaceless-append (mark_fields told.for_good) (map count_field told.counts) (marks_lack told.for_good)
+          (counts_lack told.counts (recursion_from_All IsCount told.counts h.counts)),
+    )
 
 -- the version is a small number
 pub version_small : (claim : Claimed) → IsClaim claim → claim.version < 2 ^ 64
@@ -179,14 +182,28 @@ pub fields_lack : (claim : Claimed) → IsClaim claim → AreSpaceless (fields_o
 unfolding head_fields
 fields_lack claim h =
     let worker = h.worker.most in
-    let number = h.number in
-    (refl, (decimal_lacks 32 claim.version refl (version_small claim h),
-        (lacks-append 32 (codes "rule=") (rule_text claim.job.rule) refl (rule_lacks claim.job.rule),
-        (profile_lacks claim.job.profile h.profile,
-        (lacks-append 32 (codes "seed=") claim.job.seed refl (seed_lacks claim.job.seed h.seed.visible),
-        (lacks-append 32 (codes "worker=") (decimal claim.worker) refl (decimal_lacks 32 claim.worker refl (omega arith)),
-        (lacks-append 32 (codes "soup=") (decimal claim.number) refl (decimal_lacks 32 claim.number refl (omega arith)),
-        found_lack claim.version claim.found h.found)))))))
+    let number = h.number in (
+      refl,
+      (
+        decimal_lacks 32 claim.version refl (version_small claim h),
+        (
+          lacks-append 32 (codes "rule=") (rule_text claim.job.rule) refl (rule_lacks claim.job.rule),
+          (
+            profile_lacks claim.job.profile h.profile,
+            (
+              lacks-append 32 (codes "seed=") claim.job.seed refl (seed_lacks claim.job.seed h.seed.visible),
+              (
+                lacks-append 32 (codes "worker=") (decimal claim.worker) refl (decimal_lacks 32 claim.worker refl (omega arith)),
+                (
+                  lacks-append 32 (codes "soup=") (decimal claim.number) refl (decimal_lacks 32 claim.number refl (omega arith)),
+                  found_lack claim.version claim.found h.found,
+                ),
+              ),
+            ),
+          ),
+        ),
+      ),
+    )
 
 -- ---- lines
 
@@ -221,16 +238,19 @@ followed-cons b before x =
     append_assoc (b ++ 32 ∷ []) (followed before) x ∙ append_assoc b (32 ∷ []) (followed before ++ x)
 
 -- a line that begins with fields and then has this one has them in its list
-pub fields_begin : (before : List (List ℕ)) (g : List ℕ) (gs : List (List ℕ)) (field rest : List ℕ) → AreSpaceless (g ∷ gs) → AreSpaceless before → Lacks 32 field
+pub fields_begin : (before : List (List ℕ)) (g : List ℕ) (gs : List (List ℕ)) (field rest : List ℕ) → AreSpaceless (g ∷ gs) → AreSpaceless before
+    → Lacks 32 field
     → Stops 32 rest → lined (g ∷ gs) ≡ followed before ++ (field ++ rest) → (more : List (List ℕ)) × (g ∷ gs ≡ before ++ field ∷ more)
 fields_begin [] g gs field rest h k p q e =
     let c = cut_ends 32 g field (flat_map spaced gs) rest h.0 p (spaced-stops gs) q e in
     (gs, λ i. c.0 i ∷ gs)
 fields_begin (b ∷ before) g [] field rest h k p q e =
-    let c = cut_ends 32 g b [] (32 ∷ (followed before ++ (field ++ rest))) h.0 k.0 tt refl (e ∙ followed-cons b before (field ++ rest)) in
+    let c = cut_ends 32 g b [] (32 ∷ (followed before ++ (field ++ rest))) h.0 k.0 tt refl
+    (e ∙ followed-cons b before (field ++ rest)) in
     absurd (let t = c.1 in cc)
 fields_begin (b ∷ before) g (g' ∷ gs) field rest h k p q e =
-    let c = cut_ends 32 g b (flat_map spaced (g' ∷ gs)) (32 ∷ (followed before ++ (field ++ rest))) h.0 k.0 refl refl (e ∙ followed-cons b before (field ++ rest)) in
+    let c = cut_ends 32 g b (flat_map spaced (g' ∷ gs)) (32 ∷ (followed before ++ (field ++ rest))) h.0 k.0 refl refl
+    (e ∙ followed-cons b before (field ++ rest)) in
     let u : lined (g' ∷ gs) ≡ followed before ++ (field ++ rest) = (let t = c.1 in cc) in
     let m = fields_begin before g' gs field rest h.1 k.1 p q u in
     (m.0, λ i. c.0 i ∷ m.1 i)
@@ -243,7 +263,7 @@ pub line_of-lined : (f : List ℕ) (fs : List (List ℕ)) → line_of f fs ≡ l
 unfolding line_of
 line_of-lined f fs = refl
 
-stops_after : (rest : List ℕ) → (rest ≡ []) ⊎ has_byte 32 rest → Stops 32 rest
+pub stops_after : (rest : List ℕ) → (rest ≡ []) ⊎ has_byte 32 rest → Stops 32 rest
 stops_after [] h = tt
 stops_after (b ∷ rest) (inl e) = absurd (cc)
 stops_after (b ∷ rest) (inr e) = e
@@ -253,7 +273,8 @@ begin_spaceless before b = spaceless-front before b.more (subst AreSpaceless b.s
 
 no_bad_field : (line : List ℕ) (place : ℕ) → IsBadField line place → ¬ IsClaimLine line
 no_bad_field line place bad own =
-    let f = fields_begin bad.before (codes "report") (head_fields own.claim ++ found_fields own.claim.found) bad.field bad.rest (fields_lack own.claim own.lawful)
+    let f = fields_begin bad.before (codes "report") (head_fields own.claim ++ found_fields own.claim.found) bad.field bad.rest
+    (fields_lack own.claim own.lawful)
     (begin_spaceless bad.before bad.begins) bad.whole.0 (stops_after bad.rest bad.whole.1) (sym (claim_line-lined own.claim) ∙ own.spelled ∙ bad.spelled) in
     bad.there (record {
       claim = own.claim;

@@ -78,7 +78,8 @@ unfolding found_fields
 nothing_after None field rest e = absurd (cc)
 nothing_after (Some told) field rest e = at_other told.checkpoint (let h : codes "at=" ++ decimal told.checkpoint ≡ codes "unsettled" = cc in h)
 
-pub unsettled_over : (line : List ℕ) (head : Front) (there : List ℕ) → IsHead head → Follows line (head_of (claimed head []) ++ codes "unsettled" ∷ []) (Some there)
+pub unsettled_over : (line : List ℕ) (head : Front) (there : List ℕ) → IsHead head
+    → Follows line (head_of (claimed head []) ++ codes "unsettled" ∷ []) (Some there)
     → IsFirstFaultOf line (length line - length there)
 unsettled_over line head there h f =
     let own = claimed head [] in
@@ -90,7 +91,7 @@ unsettled_over line head there h f =
     } in
     over_at line (head_of own ++ codes "unsettled" ∷ []) there f begin (λ claim lawful field rest e.
     nothing_after claim.found field rest
-        (cut_head claim own (codes "unsettled" ∷ field ∷ rest) (e ∙ append_assoc (head_of own) (codes "unsettled" ∷ []) (field ∷ rest))).1)
+    (cut_head claim own (codes "unsettled" ∷ field ∷ rest) (e ∙ append_assoc (head_of own) (codes "unsettled" ∷ []) (field ∷ rest))).1)
 
 -- ---- a soup that settled
 
@@ -105,7 +106,12 @@ rested_lawful : (head : Front) (checkpoint : ℕ) (for_good : Option Bool) → I
     → IsClaim (claimed (rested head checkpoint for_good) [])
 unfolding IsStrictlySortedBy
 rested_lawful head checkpoint for_good h most mark = record {
-  version = h.lawful.version; rule = h.lawful.rule; profile = h.lawful.profile; seed = h.lawful.seed; worker = h.lawful.worker; number = h.lawful.number;
+  version = h.lawful.version;
+  rule = h.lawful.rule;
+  profile = h.lawful.profile;
+  seed = h.lawful.seed;
+  worker = h.lawful.worker;
+  number = h.lawful.number;
   found = record { checkpoint = most; mark = mark; counts = All-nil IsCount; in_order = tt };
 }
 
@@ -184,7 +190,8 @@ mark_lacks line head checkpoint there h most n f e =
     let m = marked claim.version claim.found checkpoint [] (same_version claim own lawful h.lawful c.0 ∙ two) lawful.found c.1 in
     absurd (let t = m.1.1 in cc))
 
-pub mark_bad : (line : List ℕ) (head : Front) (checkpoint : ℕ) (here field : List ℕ) (more : Option (List ℕ)) → IsHead head → checkpoint ≤ 100000 → head.version ≢ 1
+pub mark_bad : (line : List ℕ) (head : Front) (checkpoint : ℕ) (here field : List ℕ) (more : Option (List ℕ)) → IsHead head → checkpoint ≤ 100000
+    → head.version ≢ 1
     → Follows line (head_of (claimed head []) ++ at_field checkpoint ∷ []) (Some here) → Cuts 32 here field more
     → ((for_good : Bool) → IsAnyMark for_good → field ≢ mark_field for_good) → IsFirstFaultOf line (length line - length here)
 mark_bad line head checkpoint here field more h most n f c none =

@@ -1,8 +1,11 @@
 -- What becomes of a claim that is checked: it is compared with the finding that its soup has by definition.
 use Rattle.std.specs.Prelude.{◌≡◌, true, false}
+use Rattle.std.specs.List.{All}
+use Rattle.code_core.specs.Apgcodes.{HasCodeShape}
 use Rattle.survey_core.specs.Findings.{IsFinding}
 use Rattle.survey_core.specs.Soups.{soup}
 use Rattle.survey_core.specs.declared.finding.Finding.{Finding}
+use Rattle.survey_core.specs.declared.finding.Finding.TheVariants.{Settled, Unsettled}
 use Rattle.survey_core.specs.declared.job.Job.{Job}
 use Rattle.haul_core.specs.declared.claim.check.CheckFault.{CheckFault}
 use Rattle.haul_core.specs.declared.claim.check.CheckFault.TheVariants.{Disagrees, Memory, OtherJob}
@@ -29,3 +32,8 @@ abbrev pub Fails : Claimed → Job → CheckFault → Type 0
 Fails claim job OtherJob = same_job claim.job job ≡ false
 Fails claim job (Disagrees found) = (same_job claim.job job ≡ true) × (IsFoundFor claim found × ¬ Agrees claim found)
 Fails claim job Memory = same_job claim.job job ≡ true
+
+-- each code of a finding has the shape of one
+abbrev pub HaveShape : Finding → Type 0
+HaveShape (Settled checkpoint objects for_good) = All (λ object. HasCodeShape object.0) objects
+HaveShape Unsettled = Unit {0}

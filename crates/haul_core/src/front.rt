@@ -134,7 +134,11 @@ fn with_word(head: Front, field: &[u8]) -> Option<Front>
     requires { IsHead head }
     ensures { Fills 0 head field.now result }
 {
-    if field == b"report".as_slice() { Some(head) } else { None }
+    if field == b"report".as_slice() {
+        Some(head)
+    } else {
+        None
+    }
 }
 
 /// The head with the version that a field names.
@@ -162,7 +166,10 @@ fn with_profile(head: Front, field: &[u8]) -> Option<Front>
     ensures { Fills 3 head field.now result }
 {
     let profile = profile_in(field)?;
-    let job = Job { profile, ..head.job };
+    let job = Job {
+        profile,
+        ..head.job
+    };
     Some(Front { job, ..head })
 }
 

@@ -1,9 +1,10 @@
 //! How a claim is checked: the soup is surveyed, and what was found is compared with what the claim says.
 
-ghost use Rattle.std.specs.Prelude.{◌≡◌, ◌↔◌, IfErr, IfOk, IsTrue, Option, MatchResult, Some, None, List, ℕ, true, if◌then◌else◌, ◌==◌, Bool};
-ghost use Rattle.haul_core.specs.ClaimChecks.{Agrees, Fails, IsConfirmed};
+ghost use Rattle.std.specs.Prelude.{◌≡◌, ◌==◌, ◌↔◌, All, IfErr, IfOk, IsTrue, MatchResult, None, Some, if◌then◌else◌};
+ghost use Rattle.code_core.specs.Apgcodes.{HasCodeShape};
+ghost use Rattle.haul_core.specs.ClaimChecks.{Agrees, Fails, HaveShape, IsConfirmed};
 ghost use Rattle.haul_core.specs.ReportLines.{IsClaim, claim_of};
-ghost use Rattle.haul_core.specs.Reports.{IsReport, Reported};
+ghost use Rattle.haul_core.specs.Reports.{Reported};
 ghost use Rattle.haul_core.specs.declared.claim.check.CheckFault.TheVariants.{Memory as OutOfMemory};
 
 use crate::claim::{Claim, SettledClaim};
@@ -121,4 +122,37 @@ fn is_same_count(count: &(Code, u64), object: &(Apgcode, u64)) -> bool
     ensures { IsTrue result ↔ (count.now ≡ object.now) }
 {
     count.0.bytes() == object.0.text().as_bytes() && count.1 == object.1
+}
+
+/// The law that a report's line is that of a claim, and that the claim is found to be right: checking it gives the report
+/// back, if there is memory.
+#[tactic(auto, using(crate::proofs::CheckLemmas::report_is_claim, crate::proofs::CheckLemmas::report_is_confirmed))]
+pub fn reports_are_claims(report: &Report)
+    ensures claim { IsClaim (claim_of 2 report.now) }
+    ensures confirmed { IsConfirmed (claim_of 2 report.now) report.now.job report.now }
+{
+    let job = report.job();
+    job.rule.births(0);
+    job.profile.limit();
+    job.seed.bytes();
+    codes_have_shape(report.finding());
+}
+
+/// Each code of a finding has the shape of one.
+fn codes_have_shape(finding: &Finding)
+    ensures { HaveShape finding.now }
+{
+    match finding {
+        Finding::Settled { objects, .. } => have_shape(objects.as_slice()),
+        Finding::Unsettled => {}
+    }
+}
+
+/// Each of these codes has the shape of one.
+fn have_shape(objects: &[(Apgcode, u64)])
+    ensures { All (λ object. HasCodeShape object.0) objects.now }
+{
+    for object in objects {
+        object.0.text();
+    }
 }

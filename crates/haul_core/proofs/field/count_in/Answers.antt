@@ -28,7 +28,7 @@ returns-then-count-eq0 c =
     let same = same_count c.args.field.now c.cut_at.result.0.now c.in_default-Some.text.now a cut lawful e in
     let told = c.in_ok-count.ensures in
     let n : c.in_ok-count.count ≡ a.1 = one_number [] c.in_default-Some.text.now c.in_ok-count.count a.1 told.0 lawful.word
-        (sym (ap (λ r. r.now) c.in_default-Some.text-is) ∙ told.1) same.1 in
+    (sym (ap (λ r. r.now) c.in_default-Some.text-is) ∙ told.1) same.1 in
     let some = lawful.some in
     let zero = c.if-count-eq0.true in
     absurd (omega arith)

@@ -50,8 +50,13 @@ returns-else-agrees-clause-fault c =
       worker = c.in-Ok.ensures.worker ∙ ap (λ (k : Claimed). k.worker) c.self.view_is;
       number = c.in-Ok.ensures.number ∙ ap (λ (k : Claimed). k.number) c.self.view_is;
       lawful = c.in-Ok.ensures.report;
-    } in
-    (made.same, (subst (IsFoundFor c.args.self) (sym c.into_finding-found.ensures) (found_for c.args.self c.args.job.now c.in-Ok.report made), λ a.
-    let b = subst (Agrees c.args.self) c.into_finding-found.ensures a in
-    let yes : c.agrees-agrees.result ≡ true = c.agrees-agrees.ensures.1 (subst (Agrees c.args.self) (sym c.finding.ensures.finding) b) in
-    absurd (let no = c.if-agrees.false in cc)))
+    } in (
+      made.same,
+      (
+        subst (IsFoundFor c.args.self) (sym c.into_finding-found.ensures) (found_for c.args.self c.args.job.now c.in-Ok.report made),
+        λ a.
+            let b = subst (Agrees c.args.self) c.into_finding-found.ensures a in
+            let yes : c.agrees-agrees.result ≡ true = c.agrees-agrees.ensures.1 (subst (Agrees c.args.self) (sym c.finding.ensures.finding) b) in
+            absurd (let no = c.if-agrees.false in cc),
+      ),
+    )

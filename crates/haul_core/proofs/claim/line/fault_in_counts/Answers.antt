@@ -29,9 +29,12 @@ loop-rest-preserved c =
     let i = c.loop-rest.invariant in
     let h = subst (λ o. HasCounts c.args.line.now i.0 i.1 (option_map (λ r. r.now) c.loop-rest.last) (option_map (λ r. r.now) o)) c.in-Some.is i.2 in
     let told = c.in-Some-count_after.ensures in
-    let object : List ℕ × ℕ = (c.in-Some-count_after.code.now, c.in-Some-count_after.field-0-1) in
-    (i.0, i.1 ++ object ∷ [], counted_more c.args.line.now i.0 i.1 (option_map (λ r. r.now) c.loop-rest.last) c.in-Some.here.now c.cut_at.result.0.now
-    (option_map (λ r. r.now) c.cut_at.result.1) object h c.cut_at.ensures told.0 told.1)
+    let object : List ℕ × ℕ = (c.in-Some-count_after.code.now, c.in-Some-count_after.field-0-1) in (
+      i.0,
+      i.1 ++ object ∷ [],
+      counted_more c.args.line.now i.0 i.1 (option_map (λ r. r.now) c.loop-rest.last) c.in-Some.here.now c.cut_at.result.0.now
+          (option_map (λ r. r.now) c.cut_at.result.1) object h c.cut_at.ensures told.0 told.1,
+    )
 
 pub returns-clause-none : goal.returns-clause-none
 returns-clause-none c =
