@@ -406,6 +406,10 @@ asks-take_help : (program : Text) → asked_by (program ∷ codes "take" ∷ cod
 unfolding clap_on_literals
 asks-take_help program = refl
 
+asks-work_help : (program : Text) → asked_by (program ∷ codes "work" ∷ codes "--help" ∷ []) ≡ None
+unfolding clap_on_literals
+asks-work_help program = refl
+
 -- a value isn't `--version`
 no_version : (program word : Text) (words : List Text) → IsValue word → asks_version (program ∷ word ∷ words) ≡ false
 no_version program [] [] h = refl
@@ -424,10 +428,10 @@ or_else_first one two kind kinds is = ap (λ k. or_else k two) is
 
 -- a word in a command's place that is none
 asks-unknown : (program word : Text) (words : List Text) → IsValue word → word ≢ codes "run" → word ≢ codes "name" → word ≢ codes "show"
-    → word ≢ codes "soup" → word ≢ codes "take" → word ≢ codes "help"
+    → word ≢ codes "soup" → word ≢ codes "take" → word ≢ codes "work" → word ≢ codes "help"
     → asked_by (program ∷ word ∷ words) ≡ None
 unfolding clap_on_literals
-asks-unknown program word words is_value no_run no_name no_show no_soup no_take no_help =
+asks-unknown program word words is_value no_run no_name no_show no_soup no_take no_work no_help =
     let top = census_built.top in
     let names = names_of census_built in
     let plain = plain_word-is word is_value in
@@ -436,8 +440,9 @@ asks-unknown program word words is_value no_run no_name no_show no_soup no_take 
     let is_show : bytes_eq (codes "show") word ≡ false = not_named (codes "show") word no_show in
     let is_soup : bytes_eq (codes "soup") word ≡ false = not_named (codes "soup") word no_soup in
     let is_take : bytes_eq (codes "take") word ≡ false = not_named (codes "take") word no_take in
+    let is_work : bytes_eq (codes "work") word ≡ false = not_named (codes "work") word no_work in
     let is_help : bytes_eq (codes "help") word ≡ false = not_named (codes "help") word no_help in
-    let unnamed : subcommand_met names idle word ≡ None = rw (is_run, is_name, is_show, is_soup, is_take, is_help) refl in
+    let unnamed : subcommand_met names idle word ≡ None = rw (is_run, is_name, is_show, is_soup, is_take, is_work, is_help) refl in
     let met : subcommand_or_other top.rules (subcommand_met names idle word) idle 1 word nothing_held ≡ (nothing_held, value) =
     ap (λ o. subcommand_or_other top.rules o idle 1 word nothing_held) unnamed ∙ plain_word_met top.rules idle 1 word nothing_held plain in
     let no_flag = ap (λ o. other_fault top o word nothing_held) unnamed ∙ no_flag_fault top word nothing_held plain in
@@ -492,4 +497,5 @@ asks_for_nothing = record {
   show_help = asks-show_help;
   soup_help = asks-soup_help;
   take_help = asks-take_help;
+  work_help = asks-work_help;
 }

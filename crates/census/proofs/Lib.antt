@@ -5,3 +5,4 @@ pub mod ProgramLemmas
 pub mod TakeCalls
 pub mod UseLemmas
 pub mod WordLemmas
+pub mod WorkCalls

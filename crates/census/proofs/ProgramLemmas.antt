@@ -8,12 +8,12 @@ use Rattle.commands.specs.declared.complaint.Complaint.TheVariants.{Refused, Out
 use Rattle.commands.specs.declared.request.Request.{Request}
 use Rattle.commands.specs.declared.status.Status.{Status}
 use Rattle.commands.specs.declared.status.Status.TheVariants as statuses
-use Rattle.commands.specs.Answers.{Ends, HasRight, Outcome, Reaches, Right, Tells}
+use Rattle.commands.specs.Answers.{Ends, HasRight, LeavesFront, Outcome, Reaches, Right, Tells}
 use Rattle.commands.specs.Complaints.{line_of, status_of}
-use Rattle.commands.specs.Requests.{DoesRequest, reads_input, right_for}
+use Rattle.commands.specs.Requests.{DoesRequest, is_whole, reads_input, right_for}
 use Rattle.commands.specs.Status.{exit_code}
 use Rattle.commands.specs.Streams.{Stream, Has, HasLine}
-use Rattle.census.specs.Program.{Complains, IsDone, IsEndedBy, IsFront, MayEnd}
+use Rattle.census.specs.Program.{Complains, IsDone, IsEndedBy, IsFront, LeavesFrontOf, MayEnd}
 use Rattle.census.specs.Words.{DoesWords, asked_by}
 
 -- an empty buffer holds nothing back
@@ -44,10 +44,10 @@ status_of-done ReadFailed is = cc
 status_of-done WriteFailed is = cc
 
 -- a command that was done has a right text, and wrote it
-done_text : (reads : Bool) (right : Right) (output errors : Stream) → Ends reads right statuses.Done output errors → HasRight right output
-done_text reads right output errors ends = go ends.outcome ends.reached ends.told
+done_text : (reads whole : Bool) (right : Right) (output errors : Stream) → Ends reads whole right statuses.Done output errors → HasRight right output
+done_text reads whole right output errors ends = go ends.outcome ends.reached ends.told
   where
-    go : (outcome : Outcome) → Reaches reads right outcome output → Tells outcome statuses.Done errors → HasRight right output
+    go : (outcome : Outcome) → Reaches reads whole right outcome output → Tells outcome statuses.Done errors → HasRight right output
     go (Ok u) reached told = reached.0
     go (Err complaint) reached told = absurd (status_of-done complaint (sym told.0))
 
@@ -64,7 +64,7 @@ words_done words known before buffered below failed errors (inl does) kept = go 
     go : (asked : Option Request) → asked_by words ≡ asked → IsSomeAnd asked (DoesRequest known statuses.Done output errors) → IsDone words known before below
     go None is does = absurd does
     go (Some request) is does =
-        let wrote = done_text (reads_input request) (right_for request does.bytes) output errors does.ends in
+        let wrote = done_text (reads_input request) (is_whole request) (right_for request does.bytes) output errors does.ends in
         record {
           request = request;
           asked = is;
@@ -76,9 +76,28 @@ words_done words known before buffered below failed errors (inl does) kept = go 
               whole_sent before buffered below wrote.0 wrote.2 kept;
         }
 
+-- a front of a right text that is known is left, however the text was written
+known_left : (whole : Bool) (right : Right) (before below : Option (List ℕ)) (text : List ℕ) → right (Ok text) → IsFront before below text
+    → LeavesFrontOf whole right before below
+known_left true right before below text is front = (text, is, front)
+known_left false right before below text is front = inl (text, is, front)
+
+-- what a failed write left in the buffer, from below it
+front_left : (whole : Bool) (right : Right) (before buffered below : Option (List ℕ)) (held : List ℕ) (failed : Bool)
+    → LeavesFront whole right (record { before = append_known before []; after = buffered; failed = failed }) → Keeps buffered (append_known below held)
+    → LeavesFrontOf whole right before below
+front_left true right before buffered below held failed (text, is, (front, rest, parts, wrote)) kept =
+    (text, is, subst (IsFront before below) (sym parts) (front_sent before buffered below held front rest wrote kept))
+front_left false right before buffered below held failed (never, fronts) kept = inr (
+  never,
+  λ text is. let (front, rest, parts, wrote) = fronts text is in
+      subst (IsFront before below) (sym parts) (front_sent before buffered below held front rest wrote kept),
+)
+
 -- a complaint that ended a request is one that may
 ended_by : (request : Request) (bytes : List ℕ) (complaint : Complaint) (before buffered below : Option (List ℕ)) (held : List ℕ) (failed : Bool)
-    → Reaches (reads_input request) (right_for request bytes) (Err complaint) (record { before = append_known before []; after = buffered; failed = failed })
+    → Reaches (reads_input request) (is_whole request) (right_for request bytes) (Err complaint)
+    (record { before = append_known before []; after = buffered; failed = failed })
     → Keeps buffered (append_known below held) → MayEnd request bytes before below complaint
 ended_by request bytes (Refused refusal) before buffered below held failed reached kept =
     (reached.0, front_sent before buffered below held [] [] reached.1 kept)
@@ -89,8 +108,8 @@ ended_by request bytes OutOfMemory before buffered below held failed (may, front
 )
 ended_by request bytes ReadFailed before buffered below held failed reached kept =
     (reached.0, front_sent before buffered below held [] [] reached.1 kept)
-ended_by request bytes WriteFailed before buffered below held failed ((text, right, (front, rest, is, wrote)), told) kept =
-    (text, right, subst (IsFront before below) (sym is) (front_sent before buffered below held front rest wrote kept))
+ended_by request bytes WriteFailed before buffered below held failed (left, told) kept =
+    front_left (is_whole request) (right_for request bytes) before buffered below held failed left kept
 
 -- words that were not done, whatever is held back
 words_ended : (words : List Text) (known before buffered below : Option (List ℕ)) (held : List ℕ) (failed : Bool) (status : Status) (errors : Stream)
@@ -114,7 +133,7 @@ words_ended words known before buffered below held failed status errors (inl doe
     go None is does = absurd does
     go (Some request) is does = at does.ends.outcome does.ends.reached does.ends.told
       where
-        at : (outcome : Outcome) → Reaches (reads_input request) (right_for request does.bytes) outcome output → Tells outcome status errors
+        at : (outcome : Outcome) → Reaches (reads_input request) (is_whole request) (right_for request does.bytes) outcome output → Tells outcome status errors
             → Complains words known (exit_code status) before below errors
         at (Ok u) reached said = absurd (undone said.0)
         at (Err complaint) reached said =
@@ -143,10 +162,15 @@ words_unsent words known before buffered below held failed errors after (inl doe
         → Complains words known (exit_code statuses.Failed) before below after
     go None is does = absurd does
     go (Some request) is does =
-        let wrote = done_text (reads_input request) (right_for request does.bytes) output errors does.ends in
+        let wrote = done_text (reads_input request) (is_whole request) (right_for request does.bytes) output errors does.ends in
         let front : IsFront before below (wrote.0 ++ []) = front_sent before buffered below held wrote.0 [] wrote.2 kept in
         let by : IsSomeAnd (Some request) (IsEndedBy WriteFailed known before below) =
-        record { bytes = does.bytes; input = does.input; may = (wrote.0, wrote.1, subst (IsFront before below) (append-nil wrote.0) front) } in
+        record {
+          bytes = does.bytes;
+          input = does.input;
+          may = known_left (is_whole request) (right_for request does.bytes) before below wrote.0 wrote.1
+              (subst (IsFront before below) (append-nil wrote.0) front);
+        } in
         record {
           complaint = WriteFailed;
           code = refl;

@@ -10,7 +10,7 @@ use Rattle.clap.specs.Kinds.{or_else}
 use Rattle.clap.specs.Simple.{built_leaf, filled, inherited, marked_built, with_leaf_noted}
 use Rattle.clap.specs.Lexer.{without_minus}
 use Rattle.clap.specs.ValueTests.{accepts}
-use Rattle.clap.specs.Walk.{Held, has_row, nothing_held}
+use Rattle.clap.specs.Walk.{Held, has_row, nothing_held, reacted}
 use Rattle.clap.specs.declared.builder.value_parser.ValueParser.TheVariants.{Signed}
 use Rattle.clap.specs.declared.error.kind.ErrorKind.{ErrorKind}
 use Rattle.clap.specs.declared.error.kind.ErrorKind.TheVariants.{ArgumentConflict, ValueValidation}
@@ -20,11 +20,13 @@ use Rattle.commands.specs.declared.request.Request.{Request}
 use Rattle.commands.specs.declared.request.Request.TheVariants.{Take}
 use Rattle.census.specs.Application.{also_argument, census_app, count_argument, first_argument, horizon_argument, limit_argument}
 use Rattle.census.specs.Application.{period_argument, rule_argument, seed_argument, stride_argument, take_shape, workers_argument}
+use Rattle.census.specs.Application.{progress_argument}
 use Rattle.census.specs.Calls.{AsksToTake, IsNumberFromTo, IsNumberUpTo, IsValue, Takes}
 use Rattle.census.specs.Words.{all_four, asked_by, number_of, request_in, set_of_four}
 use Rattle.census.proofs.CallLemmas.{asks, asks_none, census_built}
 use Rattle.census.proofs.NumberLemmas.{large_accepted, large_read, large_refused, number_accepted, number_below, number_read, number_refused, numeral_plain}
 use Rattle.census.proofs.UseLemmas.{HasCommand, IsFirstUse, IsNamedBy, IsPlainWord, Reads, TakesOne, completed, leads_option, leads_then}
+use Rattle.census.proofs.UseLemmas.{IsFlag, reads_flag}
 use Rattle.census.proofs.UseLemmas.{level_refuses, nothing_holds, pending, plain_word-is, reads_option, reads_then, row_with}
 
 -- ---- `take` and its options, as `clap` builds them
@@ -61,6 +63,9 @@ limit_built = filled limit_argument
 
 abbrev rule_built : Rule
 rule_built = filled rule_argument
+
+abbrev progress_built : Rule
+progress_built = filled progress_argument
 
 has_take : HasCommand census_built (codes "take") built
 unfolding clap_on_literals
@@ -216,9 +221,12 @@ refuses_option program c v word a kind h named one plain refused =
 -- ---- what the values ask for
 
 -- the request of what was found for the options
+abbrev taken_with : Bool → Text → Option ℕ → Option ℕ → Text → Option ProfileNumbers → Text → Option Request
+taken_with progress seed first count also profile rule =
+    option_and_then (λ set. option_and_then (λ numbers. Some (Take set numbers rule progress)) profile) (set_of_four (Some seed) first count (Some also))
+
 abbrev taken : Text → Option ℕ → Option ℕ → Text → Option ProfileNumbers → Text → Option Request
-taken seed first count also profile rule =
-    option_and_then (λ set. option_and_then (λ numbers. Some (Take set numbers rule)) profile) (set_of_four (Some seed) first count (Some also))
+taken = taken_with false
 
 abbrev standard : Option ProfileNumbers
 standard = all_four (Some 64) (Some 512) (Some 101) (Some 30300)
@@ -268,6 +276,22 @@ asks-workers program c n h is_n =
     asks_option program c n (codes "--workers") workers_built h (workers_use n (count_row c ∷ []) refl is_n) workers_named (numeral_plain n is_n.numeral) refl
     ∙ ap (λ o. taken [] (Some 0) o [] standard (codes "b3s23")) (number_read 16777216 c h.0 h.1)
 
+asks-progress : (program c : Text) → IsNumberUpTo 16777216 c
+    → asked_by (program ∷ codes "take" ∷ codes "--count" ∷ c ∷ codes "--progress" ∷ [])
+    ≡ Some (Take (record { seed = []; first = 0; count = digits_value 10 c; also = [] })
+    (record { period = 64; horizon = 512; stride = 101; limit = 30300 }) (codes "b3s23") true)
+unfolding clap_on_literals
+asks-progress program c h =
+    let first = reads_count c h in
+    let flag : IsFlag built.rules progress_built
+    (count_row c ∷ []) = record { sets = refl; missing = refl; least = refl; most = refl; fresh = refl; accepted = refl } in
+    let second = reads_flag built (counted c) 1 (count_row c ∷ []) progress_built (codes "progress") (codes "--progress") first.holds flag refl refl refl in
+    let rows : List Row = count_row c ∷ row_with progress_built (codes "true") ∷ [] in
+    asks program (codes "take") (codes "--count" ∷ c ∷ codes "--progress" ∷ []) built (reacted built.rules progress_built [] (counted c)) 1 rows refl has_take
+    (reads_then built nothing_held (counted c) (reacted built.rules progress_built [] (counted c)) 1 1 1 (codes "--count" ∷ c ∷ []) (codes "--progress" ∷ [])
+    (count_row c ∷ []) rows first second) refl
+    ∙ ap (λ o. taken_with true [] (Some 0) o [] standard (codes "b3s23")) (number_read 16777216 c h.0 h.1)
+
 -- ---- the profile
 
 abbrev at_least : ℕ → Option ℕ → Option ℕ
@@ -305,7 +329,7 @@ asks-profile : (program c p h k t : Text) → IsNumberUpTo 16777216 c → IsNumb
     → asked_by (program ∷ codes "take" ∷ codes "--count" ∷ c ∷ codes "--period" ∷ p ∷ codes "--horizon" ∷ h ∷ codes "--stride" ∷ k ∷ codes "--limit" ∷ t
     ∷ [])
     ≡ Some (Take (record { seed = []; first = 0; count = digits_value 10 c; also = [] })
-    (record { period = digits_value 10 p; horizon = digits_value 10 h; stride = digits_value 10 k; limit = digits_value 10 t }) (codes "b3s23"))
+    (record { period = digits_value 10 p; horizon = digits_value 10 h; stride = digits_value 10 k; limit = digits_value 10 t }) (codes "b3s23") false)
 unfolding clap_on_literals
 asks-profile program c p h k t is_c is_p is_h is_k is_t =
     let rows : List Row =
@@ -372,6 +396,7 @@ asks_to_take = record {
   workers = asks-workers;
   rule = asks-rule;
   profile = asks-profile;
+  progress = asks-progress;
   too_many = asks-too_many;
   too_far = asks-too_far;
   more_workers = asks-more_workers;

@@ -1,6 +1,6 @@
 -- How `clap` walks the words of a call, for any command: a word at a time, and then a use of an argument at a time.
 use Rattle.std.proofs.Common.{◌≡◌, ◌∙◌, ◌++◌, ◌&&◌, ℕ, Bool, true, false, cond, Option, None, Some, List, [], ◌∷◌, is_some, option_and_then, not}
-use Rattle.std.proofs.Common.{refl, sym, ap, ap₂, subst, append-nil, append_assoc}
+use Rattle.std.proofs.Common.{codes, ◌==◌, refl, sym, ap, ap₂, subst, append-nil, append_assoc}
 use Rattle.std.specs.List.{find, fold}
 use Rattle.std.specs.Option.{option_map, option_map_or}
 use Rattle.std.specs.Str.{bytes_eq}
@@ -21,7 +21,7 @@ use Rattle.clap.specs.Walk.{Names, Step, Waiting, Walk, action_of, after_step, a
 use Rattle.clap.specs.Walk.{is_multiple, is_pending, long_or_other, most_values, next_position, nothing_held, option, plain_word, reacted, reading_by}
 use Rattle.clap.specs.Walk.{settled, short_or_plain, subcommand_met, subcommand_or_other, takes_several, takes_values, to_positional, trailing, used}
 use Rattle.clap.specs.Walk.{value, walk, walk_from, walked}
-use Rattle.clap.specs.declared.builder.action.ArgAction.TheVariants.{Set}
+use Rattle.clap.specs.declared.builder.action.ArgAction.TheVariants.{Set, SetTrue}
 use Rattle.clap.specs.declared.parser.matches.ValueSource.TheVariants.{CommandLine}
 
 -- ---- words that are no flag
@@ -170,6 +170,54 @@ reads_attached s h position rows a name v word holds first by_long takes no_dash
       holds = record {
         fine = refl;
         found = used_row s.rules a v (settled s.rules h).rows here ∙ ap (λ rs. rs ++ row_with a v ∷ []) holds.found;
+      };
+    }
+
+-- a flag, which is set by its name alone, for the first time
+pub record IsFlag (c : List Rule) (a : Rule) (rows : List Row) : Type 0 where
+  pub sets : action_of a ≡ SetTrue
+  pub missing : a.missing ≡ codes "true" ∷ []
+  pub least : (unwrap_or_range a.range).start_inclusive ≡ 0
+  pub most : most_values a ≡ 0
+  pub fresh : has_row a.id rows ≡ false
+  pub accepted : accepts a.ignore_case (parser_of_value a.parser) (codes "true") ≡ true
+
+flag_row : (c : List Rule) (a : Rule) (rows : List Row) → IsFlag c a rows → used a [] rows ≡ rows ++ row_with a (codes "true") ∷ []
+flag_row c a rows flag =
+    ap₂ (λ act vs. used_as act a.id (reading_by a) vs rows) flag.sets flag.missing
+    ∙ ap (λ rs. with_values a.id (reading_by a) CommandLine (codes "true" ∷ []) rs) (at_row_none a.id (λ _. []) [] rows flag.fresh ∙ append-nil rows)
+    ∙ at_row_none a.id (more_values CommandLine (codes "true" ∷ [])) (row_with a (codes "true") ∷ []) rows flag.fresh
+
+flag_fine : (c : List Rule) (again : Bool) (a : Rule) (rows : List Row) → IsFlag c a rows → use_fault again a [] rows ≡ []
+flag_fine c again a rows flag =
+    let range : range_kinds (unwrap_or_range a.range).start_inclusive (most_values a) 0 ≡ [] = ap₂ (λ l m. range_kinds l m 0) flag.least flag.most in
+    let sets : action_fault (action_of a) again a a.missing rows ≡ set_fault again a (codes "true" ∷ []) rows =
+    ap₂ (λ act vs. action_fault act again a vs rows) flag.sets flag.missing in
+    let repeated : repeat_fault again a.id rows ≡ [] = ap (λ b. cond {A = Kinds} (b && not again) (ArgumentConflict ∷ []) []) flag.fresh in
+    let values : values_fault a (codes "true" ∷ []) ≡ [] =
+    ap (λ b. or_else (cond {A = Kinds} b [] (refused_kind (parser_of_value a.parser) ∷ [])) []) flag.accepted in
+    ap₂ or_else range (sets ∙ ap₂ or_else repeated values)
+
+-- `--name` of a flag
+pub reads_flag : (s : Shape) (h : Held) (position : ℕ) (rows : List Row) (a : Rule) (name word : Text) → Holds s h rows → IsFlag s.rules a rows
+    → arg_by_long s.rules name ≡ Some a → bytes_eq word (45 ∷ 45 ∷ []) ≡ false → long_of word ≡ Some (name, None)
+    → Reads s h position (word ∷ []) (reacted s.rules a [] h) position (rows ++ row_with a (codes "true") ∷ [])
+unfolding walked walk_fault
+reads_flag s h position rows a name word holds flag by_long no_dashes is_long =
+    let here : IsFlag s.rules a (settled s.rules h).rows = subst (IsFlag s.rules a) (sym holds.found) flag in
+    let takes : takes_values a ≡ false = ap (λ n. not (n == 0)) flag.most in
+    let met : subcommand_or_other s.rules None idle position word h ≡ (reacted s.rules a [] h, next idle) =
+    rw (no_dashes, is_long, by_long, takes) refl in
+    let fine : other_fault s None word h ≡ [] =
+    rw (no_dashes, is_long, by_long, takes) (ap₂ or_else holds.fine (flag_fine s.rules s.args_override_self a (settled s.rules h).rows here)) in
+    record {
+      leads = record {
+        walks = ap (λ m. after_step s.rules word (at h position) m.0 m.1) met;
+        fine = ap (λ k. or_else k []) (ap₂ or_else fine (ap (λ m. step_fault s position m.0 m.1) met));
+      };
+      holds = record {
+        fine = refl;
+        found = flag_row s.rules a (settled s.rules h).rows here ∙ ap (λ rs. rs ++ row_with a (codes "true") ∷ []) holds.found;
       };
     }
 

@@ -14,11 +14,11 @@ use Rattle.clap.proofs.OnLiterals.{clap_on_literals}
 use Rattle.clap.proofs.WalkLemmas.{both, one_text-rows}
 use Rattle.commands.specs.declared.profile.ProfileNumbers.{ProfileNumbers}
 use Rattle.commands.specs.declared.request.Request.{Request}
-use Rattle.commands.specs.declared.request.Request.TheVariants.{Run, Name, Show, Soup, Take}
+use Rattle.commands.specs.declared.request.Request.TheVariants.{Run, Name, Show, Soup, Take, Work}
 use Rattle.commands.specs.declared.soup_set.SoupSet.{SoupSet}
 use Rattle.census.specs.Application.{census_app}
-use Rattle.census.specs.Words.{asked_by, asks_version, command_of, name_in, profile_in, request_in, number_in, number_of, run_in, set_in, set_of_four}
-use Rattle.census.specs.Words.{show_in, soup_in, take_in}
+use Rattle.census.specs.Words.{asked_by, asks_version, command_of, is_given, name_in, profile_in, request_in, number_in, number_of, run_in, set_in, set_of_four}
+use Rattle.census.specs.Words.{number_from, show_in, soup_in, take_in, work_in}
 
 digits_pass : (ds : List ℕ) → AllDigits 10 ds → list_all (λ d. nat_lt (digit_value d) 10) ds ≡ true
 digits_pass [] h = refl
@@ -95,8 +95,15 @@ set_in-is rows seed first count also is_seed is_first is_count is_also = sym (λ
 -- what `take` is asked for, from its three values
 pub take_in-is : (rows : List Row) (set : Option SoupSet) (profile : Option ProfileNumbers) (rule : Option Text) → set ≡ set_in rows → profile ≡ profile_in rows
     → rule ≡ first_of (codes "rule") rows
-    → take_in rows ≡ option_and_then (λ soups. option_and_then (λ numbers. option_map (Take soups numbers) rule) profile) set
+    → take_in rows ≡ option_and_then (λ soups. option_and_then (λ numbers. option_map (λ text. Take soups numbers text (is_given (codes "progress") rows)) rule)
+    profile) set
 take_in-is rows set profile rule is_set is_profile is_rule = rw (← is_set, ← is_profile, ← is_rule) refl
+
+-- what `work` is asked for, from its four values
+pub work_in-is : (rows : List Row) (set : Option SoupSet) (worker : Option ℕ) (profile : Option ProfileNumbers) (rule : Option Text) → set ≡ set_in rows
+    → worker ≡ number_from 1 16 (codes "worker") rows → profile ≡ profile_in rows → rule ≡ first_of (codes "rule") rows
+    → work_in rows ≡ option_and_then (λ soups. option_and_then (λ w. option_and_then (λ numbers. option_map (Work soups w numbers) rule) profile) worker) set
+work_in-is rows set worker profile rule is_set is_worker is_profile is_rule = rw (← is_set, ← is_worker, ← is_profile, ← is_rule) refl
 
 -- what `soup` is asked for, from its two values
 pub soup_in-is : (rows : List Row) (n : Option ℕ) (seed : Option Text) → n ≡ number_in 1099511627775 (codes "N") rows → seed ≡ first_of (codes "seed") rows

@@ -1,6 +1,7 @@
 -- The commands of the program and their arguments, as `clap` reads words by them.
 use Rattle.std.specs.Prelude.{codes, [], ◌∷◌, pos, true, Some}
 use Rattle.clap.specs.Words.{App, Rule, Shape, new_app, new_rule, with_rule, with_subcommand}
+use Rattle.clap.specs.declared.builder.action.ArgAction.TheVariants.{SetTrue}
 use Rattle.clap.specs.declared.builder.value_parser.ValueParser.TheVariants.{Signed, Unsigned}
 
 -- the argument N: a number from 0 to 100,000, which must be there
@@ -122,6 +123,10 @@ workers_argument = record (new_rule (codes "workers")) {
   defaults = codes "1" ∷ [];
 }
 
+-- the flag --progress, which takes no value
+abbrev pub progress_argument : Rule
+progress_argument = record (new_rule (codes "progress")) { long = Some (codes "progress"); action = Some SetTrue }
+
 -- a command with the options on which soups, and with those on how they are run
 abbrev pub with_first : App → App
 with_first app = with_rule (with_rule app seed_argument) first_argument
@@ -130,11 +135,28 @@ abbrev pub with_count : App → App
 with_count app = with_rule (with_rule app count_argument) also_argument
 
 abbrev pub with_workers : App → App
-with_workers app = with_rule (with_rule app rule_argument) workers_argument
+with_workers app = with_rule (with_rule (with_rule app rule_argument) workers_argument) progress_argument
 
 -- `take`
 abbrev pub take_shape : Shape
 take_shape = (with_workers (with_looks (with_rest (with_count (with_first (new_app (codes "take"))))))).top
+
+-- the option --worker: a number from 1 to 16, which must be there
+abbrev pub worker_argument : Rule
+worker_argument = record (new_rule (codes "worker")) {
+  long = Some (codes "worker");
+  value_names = 1;
+  required = true;
+  parser = Some (Signed (pos 1) (pos 16));
+}
+
+-- a command with the options on the rule and on which worker it is
+abbrev pub with_worker : App → App
+with_worker app = with_rule (with_rule app rule_argument) worker_argument
+
+-- `work`
+abbrev pub work_shape : Shape
+work_shape = (with_worker (with_looks (with_rest (with_count (with_first (new_app (codes "work"))))))).top
 
 -- a command must be named
 abbrev pub census_shape : Shape
@@ -150,4 +172,4 @@ printing_app = with_subcommand (with_subcommand pattern_app show_shape) soup_sha
 
 -- the program
 abbrev pub census_app : App
-census_app = with_subcommand printing_app take_shape
+census_app = with_subcommand (with_subcommand printing_app take_shape) work_shape

@@ -1,5 +1,5 @@
 -- Calls of the program, and what they ask for.
-use Rattle.std.specs.Prelude.{◌≡◌, ◌≢◌, ◌<◌, ◌≤◌, ◌++◌, ℕ, List, [], ◌∷◌, Option, None, Some, false, codes}
+use Rattle.std.specs.Prelude.{◌≡◌, ◌≢◌, ◌<◌, ◌≤◌, ◌++◌, ℕ, List, [], ◌∷◌, Option, None, Some, false, codes, true}
 use Rattle.std.specs.Str.Parse.{IsNumeral, digits_value, starts_with_minus}
 use Rattle.clap.specs.Words.{Text}
 use Rattle.commands.specs.declared.request.Request.{Request}
@@ -98,7 +98,7 @@ pub record AsksForSoup : Type 0 where
 abbrev pub Takes : Text → ℕ → ℕ → Text → Text → Option Request
 Takes seed first count also rule =
     Some (Take (record { seed = seed; first = first; count = count; also = also })
-    (record { period = 64; horizon = 512; stride = 101; limit = 30300 }) rule)
+    (record { period = 64; horizon = 512; stride = 101; limit = 30300 }) rule false)
 
 -- `take --count C` alone, with each option after it alone in the next word, and with all in this order; each number lies in its
 -- range, there is one worker, and `--count` stands once
@@ -121,7 +121,11 @@ pub record AsksToTake : Type 0 where
       → asked_by (program ∷ codes "take" ∷ codes "--count" ∷ c ∷ codes "--period" ∷ p ∷ codes "--horizon" ∷ h ∷ codes "--stride" ∷ k ∷ codes "--limit" ∷ t
       ∷ [])
       ≡ Some (Take (record { seed = []; first = 0; count = digits_value 10 c; also = [] })
-      (record { period = digits_value 10 p; horizon = digits_value 10 h; stride = digits_value 10 k; limit = digits_value 10 t }) (codes "b3s23"))
+      (record { period = digits_value 10 p; horizon = digits_value 10 h; stride = digits_value 10 k; limit = digits_value 10 t }) (codes "b3s23") false)
+  pub progress : (program c : Text) → IsNumberUpTo 16777216 c
+      → asked_by (program ∷ codes "take" ∷ codes "--count" ∷ c ∷ codes "--progress" ∷ [])
+      ≡ Some (Take (record { seed = []; first = 0; count = digits_value 10 c; also = [] })
+      (record { period = 64; horizon = 512; stride = 101; limit = 30300 }) (codes "b3s23") true)
   pub too_many : (program c : Text) → IsNumeral 10 c → 16777216 < digits_value 10 c → asked_by (program ∷ codes "take" ∷ codes "--count" ∷ c ∷ []) ≡ None
   pub too_far : (program c n : Text) → IsNumberUpTo 16777216 c → IsNumeral 10 n → 1099511627776 < digits_value 10 n
       → asked_by (program ∷ codes "take" ∷ codes "--count" ∷ c ∷ codes "--first" ∷ n ∷ []) ≡ None
@@ -141,7 +145,7 @@ AsksForVersion = (program : Text) → asked_by (program ∷ codes "--version" �
 pub record AsksForNothing : Type 0 where
   pub no_command : (program : Text) → asked_by (program ∷ []) ≡ None
   pub unknown : (program word : Text) (words : List Text) → IsValue word → word ≢ codes "run" → word ≢ codes "name" → word ≢ codes "show"
-      → word ≢ codes "soup" → word ≢ codes "take" → word ≢ codes "help"
+      → word ≢ codes "soup" → word ≢ codes "take" → word ≢ codes "work" → word ≢ codes "help"
       → asked_by (program ∷ word ∷ words) ≡ None
   pub help : (program : Text) → asked_by (program ∷ codes "--help" ∷ []) ≡ None
   pub run_help : (program : Text) → asked_by (program ∷ codes "run" ∷ codes "--help" ∷ []) ≡ None
@@ -149,3 +153,4 @@ pub record AsksForNothing : Type 0 where
   pub show_help : (program : Text) → asked_by (program ∷ codes "show" ∷ codes "--help" ∷ []) ≡ None
   pub soup_help : (program : Text) → asked_by (program ∷ codes "soup" ∷ codes "--help" ∷ []) ≡ None
   pub take_help : (program : Text) → asked_by (program ∷ codes "take" ∷ codes "--help" ∷ []) ≡ None
+  pub work_help : (program : Text) → asked_by (program ∷ codes "work" ∷ codes "--help" ∷ []) ≡ None

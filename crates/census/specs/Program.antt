@@ -1,13 +1,13 @@
 -- How the program ends, from its words to the bytes that it leaves.
-use Rattle.std.specs.Prelude.{◌≡◌, ◌++◌, ◌⊎◌, ℕ, true, false, List, [], Option, None, Some, Ok, Err, IsSomeAnd, ⊤, codes}
+use Rattle.std.specs.Prelude.{◌≡◌, ◌++◌, ◌⊎◌, ℕ, Bool, true, false, List, [], Option, None, Some, Ok, Err, IsSomeAnd, ⊤, codes}
 use Rattle.std.specs.Io.KnownBytes.{Appends}
 use Rattle.plane_core.specs.Out.{Output}
 use Rattle.commands.specs.declared.complaint.Complaint.{Complaint}
 use Rattle.commands.specs.declared.complaint.Complaint.TheVariants.{Refused, OutOfMemory, ReadFailed, WriteFailed}
 use Rattle.commands.specs.declared.request.Request.{Request}
-use Rattle.commands.specs.Answers.{Answer, IsInput, NeedsMemory, text_of}
+use Rattle.commands.specs.Answers.{Answer, IsInput, NeedsMemory, Right, text_of}
 use Rattle.commands.specs.Complaints.{line_of, status_of}
-use Rattle.commands.specs.Requests.{reads_input, right_for}
+use Rattle.commands.specs.Requests.{is_whole, reads_input, right_for}
 use Rattle.commands.specs.Status.{exit_code}
 use Rattle.commands.specs.Streams.{Stream, HasLine}
 use Rattle.clap.specs.Words.{Text}
@@ -42,6 +42,14 @@ IsFront None after text = ⊤
 IsFront (Some xs) None text = ⊥
 IsFront (Some xs) (Some ys) text = (rest : List ℕ) × (ys ++ rest ≡ xs ++ text)
 
+-- What the writer holds when a write failed: of a text that was whole before it was written, a front. Of one that is written as
+-- it is made, a front too, if it is known to its end; or else a front of each right text, and no complaint is right.
+abbrev pub LeavesFrontOf : Bool → Right → Option (List ℕ) → Option (List ℕ) → Type 0
+LeavesFrontOf true right before after = (text : List ℕ) × right (Ok text) × IsFront before after text
+LeavesFrontOf false right before after =
+    ((text : List ℕ) × right (Ok text) × IsFront before after text)
+    ⊎ (((complaint : Complaint) → right (Err complaint) → ⊥) × ((text : List ℕ) → right (Ok text) → IsFront before after text))
+
 -- A complaint may end a request: a refusal if that is right for it, memory that runs out, or a stream that fails. The writer
 -- holds nothing of it, or a front of the right text where memory ran out or a write failed. Memory hides a refusal only if
 -- the input is looked at or memory is needed for it, and only a text is written.
@@ -51,7 +59,7 @@ MayEnd request bytes before after OutOfMemory =
     (reads_input request ≡ false → (complaint : Complaint) → right_for request bytes (Err complaint) → NeedsMemory complaint)
     × ((answer : Answer) → right_for request bytes answer → IsFront before after (text_of answer))
 MayEnd request bytes before after ReadFailed = (reads_input request ≡ true) × IsFront before after []
-MayEnd request bytes before after WriteFailed = (text : List ℕ) × right_for request bytes (Ok text) × IsFront before after text
+MayEnd request bytes before after WriteFailed = LeavesFrontOf (is_whole request) (right_for request bytes) before after
 
 -- a request was ended by a complaint on an input
 pub record IsEndedBy (complaint : Complaint) (known before after : Option (List ℕ)) (request : Request) : Type 0 where

@@ -1,5 +1,6 @@
 -- What the words of a call of the program ask for.
 use Rattle.std.specs.Prelude.{◌≡◌, ◌&&◌, ◌⊎◌, ℕ, Bool, false, List, [], ◌∷◌, Option, None, Some, IsSomeAnd, option_map, option_and_then, codes}
+use Rattle.std.specs.Option.{option_map_or}
 use Rattle.std.specs.Prelude.{nat_le, if◌then◌else◌}
 use Rattle.std.specs.Str.{bytes_eq}
 use Rattle.std.specs.Str.Parse.{digits_value, without_leading_plus}
@@ -8,7 +9,7 @@ use Rattle.clap.specs.ValueTests.{is_numeral}
 use Rattle.commands.specs.declared.complaint.Complaint.TheVariants as complaint
 use Rattle.commands.specs.declared.profile.ProfileNumbers.{ProfileNumbers}
 use Rattle.commands.specs.declared.request.Request.{Request}
-use Rattle.commands.specs.declared.request.Request.TheVariants.{Run, Name, Show, Soup, Take, Version}
+use Rattle.commands.specs.declared.request.Request.TheVariants.{Run, Name, Show, Soup, Take, Work, Version}
 use Rattle.commands.specs.declared.soup_set.SoupSet.{SoupSet}
 use Rattle.commands.specs.declared.status.Status.{Status}
 use Rattle.commands.specs.declared.status.Status.TheVariants.{OutOfMemory}
@@ -30,6 +31,10 @@ number_in most id rows = option_and_then (number_of most) (one_of id rows)
 -- the same where the number has a least value too
 abbrev pub number_from : ℕ → ℕ → Text → List Row → Option ℕ
 number_from least most id rows = option_and_then (λ n. if nat_le least n then Some n else None) (number_in most id rows)
+
+-- whether a flag was given: then its value is `true`
+abbrev pub is_given : Text → List Row → Bool
+is_given id rows = option_map_or (λ text. bytes_eq text (codes "true")) (first_of id rows) false
 
 -- the numbers of a profile, if all four are there
 abbrev pub all_four : Option ℕ → Option ℕ → Option ℕ → Option ℕ → Option ProfileNumbers
@@ -70,7 +75,13 @@ set_in rows = set_of_four (first_of (codes "seed") rows) (number_in 109951162777
 -- `take`, with what was found for its options
 abbrev pub take_in : List Row → Option Request
 take_in rows =
-    option_and_then (λ set. option_and_then (λ profile. option_map (Take set profile) (first_of (codes "rule") rows)) (profile_in rows)) (set_in rows)
+    option_and_then (λ set. option_and_then (λ profile. option_map (λ rule. Take set profile rule (is_given (codes "progress") rows))
+    (first_of (codes "rule") rows)) (profile_in rows)) (set_in rows)
+
+-- `work`, with what was found for its options
+abbrev pub work_in : List Row → Option Request
+work_in rows = option_and_then (λ set. option_and_then (λ worker. option_and_then (λ profile. option_map (Work set worker profile)
+    (first_of (codes "rule") rows)) (profile_in rows)) (number_from 1 16 (codes "worker") rows)) (set_in rows)
 
 -- the command of this name, with its values
 abbrev pub request_in : Text × List Row → Option Request
@@ -80,6 +91,7 @@ request_in found =
     else if bytes_eq found.0 (codes "soup") then soup_in found.1
     else if bytes_eq found.0 (codes "name") then name_in found.1
     else if bytes_eq found.0 (codes "take") then take_in found.1
+    else if bytes_eq found.0 (codes "work") then work_in found.1
     else None
 
 -- a request, if nothing is wrong with the words

@@ -2,10 +2,11 @@ ghost use Rattle.std.specs.Prelude.{◌≡◌, false, IfOk};
 ghost use Rattle.clap.specs.Words.{app_of, rule_of, shape_of};
 ghost use Rattle.clap.specs.declared.builder.command.Command.TheViews.{out-Command as fields_of};
 ghost use Rattle.census.specs.Application.{census_app, pattern_app, printing_app, code_argument, generations_argument, number_argument, rule_argument, run_shape, seed_argument, show_shape, soup_shape, name_shape, period_argument, horizon_argument, stride_argument, limit_argument, with_looks, with_rest};
-ghost use Rattle.census.specs.Application.{also_argument, count_argument, first_argument, take_shape, with_count, with_first, with_workers, workers_argument};
+ghost use Rattle.census.specs.Application.{also_argument, count_argument, first_argument, progress_argument, take_shape, with_count, with_first, with_workers};
+ghost use Rattle.census.specs.Application.{with_worker, work_shape, worker_argument, workers_argument};
 
 use clap::builder::ValueParser;
-use clap::{Arg, Command, value_parser};
+use clap::{Arg, ArgAction, Command, value_parser};
 use std::alloc::{AllocError, Global};
 
 /// The rule that is meant if none is given: Conway's Game of Life.
@@ -19,7 +20,9 @@ const LIFE: &str = "b3s23";
 pub fn census_command<'a>(alloc: Global) -> Result<Command<'a>, AllocError>
     ensures { IfOk result (λ command. app_of command ≡ census_app) }
 {
-    printing_commands(alloc)?.subcommand(take_command(alloc)?)
+    printing_commands(alloc)?
+        .subcommand(take_command(alloc)?)?
+        .subcommand(work_command(alloc)?)
 }
 
 /// The program with the commands that read a pattern, and those that print one.
@@ -148,6 +151,22 @@ fn take_command<'a>(alloc: Global) -> Result<Command<'a>, AllocError>
     with_workers(alloc, with_looks(alloc, with_rest(alloc, command)?)?)
 }
 
+fn work_command<'a>(alloc: Global) -> Result<Command<'a>, AllocError>
+    ensures shape { IfOk result (λ command. shape_of command ≡ work_shape) }
+    ensures local { IfOk result (λ command. (fields_of command).has_globals ≡ false) }
+{
+    let command = Command::new(alloc, "work")
+        .about("Runs soups until they have settled, and prints a report line for each")
+        .long_about(
+            "Runs soups until they have settled, and prints what worker WORKER reports of each: a line for each soup, ascending \
+             by the soups' numbers. Each line is written as soon as it is made.\n\n\
+             The soups are said as for `take`, and when a soup has settled as for `name`.",
+        )
+        .after_help("Example: census work --worker 1 --seed abc --count 100 > one.lines");
+    let command = with_count(alloc, with_first(alloc, command)?)?;
+    with_worker(alloc, with_looks(alloc, with_rest(alloc, command)?)?)
+}
+
 /// The command with the options on the seed and the first number.
 fn with_first<'a>(alloc: Global, command: Command<'a>) -> Result<Command<'a>, AllocError>
     ensures app { IfOk result (λ new. app_of new ≡ with_first (app_of command.entry)) }
@@ -168,14 +187,25 @@ fn with_count<'a>(alloc: Global, command: Command<'a>) -> Result<Command<'a>, Al
         .arg(also_argument(alloc))
 }
 
-/// The command with the options on the rule and the workers.
+/// The command with the options on the rule and the workers, and that on the line of progress.
 fn with_workers<'a>(alloc: Global, command: Command<'a>) -> Result<Command<'a>, AllocError>
     ensures app { IfOk result (λ new. app_of new ≡ with_workers (app_of command.entry)) }
     ensures local { (fields_of command.entry).has_globals ≡ false → IfOk result (λ new. (fields_of new).has_globals ≡ false) }
 {
     command
         .arg(rule_argument(alloc))?
-        .arg(workers_argument(alloc))
+        .arg(workers_argument(alloc))?
+        .arg(progress_argument(alloc))
+}
+
+/// The command with the options on the rule and on which worker it is.
+fn with_worker<'a>(alloc: Global, command: Command<'a>) -> Result<Command<'a>, AllocError>
+    ensures app { IfOk result (λ new. app_of new ≡ with_worker (app_of command.entry)) }
+    ensures local { (fields_of command.entry).has_globals ≡ false → IfOk result (λ new. (fields_of new).has_globals ≡ false) }
+{
+    command
+        .arg(rule_argument(alloc))?
+        .arg(worker_argument(alloc))
 }
 
 fn code_argument<'a>(alloc: Global) -> Arg<'a>
@@ -325,4 +355,28 @@ fn workers_argument<'a>(alloc: Global) -> Arg<'a>
         .value_parser(value_parser!(u32).range(1..=1))
         .default_value("1")
         .help("How many workers run soups at a time: 1. More come later")
+}
+
+fn progress_argument<'a>(alloc: Global) -> Arg<'a>
+    ensures rule { rule_of result ≡ progress_argument }
+    ensures local { result.global ≡ false }
+{
+    Arg::new(alloc, "progress")
+        .long("progress")
+        .action(ArgAction::SetTrue)
+        .help(
+            "Says on standard error how many soups are run, also if that is no terminal. The line is wiped at the end",
+        )
+}
+
+fn worker_argument<'a>(alloc: Global) -> Arg<'a>
+    ensures rule { rule_of result ≡ worker_argument }
+    ensures local { result.global ≡ false }
+{
+    Arg::new(alloc, "worker")
+        .long("worker")
+        .value_name("WORKER")
+        .required(true)
+        .value_parser(value_parser!(u32).range(1..=16))
+        .help("The number of the worker that reports, from 1 to 16")
 }

@@ -12,13 +12,23 @@ mod program;
 mod tests;
 mod words;
 
+use commands::progress::Progress;
 use program::run_program;
-use std::io;
+use std::io::{self, IsTerminal};
 use std::process::ExitCode;
 
 fn main(rt: HostRuntime) -> ExitCode {
     let words = process_words(&rt);
-    let ended = run_program(rt.alloc(), words, &mut rt.stdin(), rt.stdout(), rt.stderr());
+    let errors = rt.stderr();
+    let mut line = Progress::new(rt.alloc(), rt.stderr(), &rt, errors.is_terminal());
+    let ended = run_program(
+        rt.alloc(),
+        words,
+        &mut rt.stdin(),
+        rt.stdout(),
+        errors,
+        &mut line,
+    );
     ExitCode::from(ended.code)
 }
 

@@ -11,10 +11,12 @@ ghost use Rattle.census.specs.Words.{asked_by};
 use crate::words::do_words;
 use commands::complaint::Complaint;
 use commands::output::send_buffered;
+use commands::progress::Progress;
 use commands::status::Status;
 use plane_core::output::Out;
 use std::alloc::Global;
 use std::io::{self, BufWriter, ErrorKind, Read, Write};
+use std::time::Clock;
 
 /// What the program leaves when it ends.
 #[derive(Drop)]
@@ -30,13 +32,15 @@ pub struct Ended<W: Write + Drop, E: Write + Drop> {
 /// What the program does, from its words to the number that the process ends with.
 ///
 /// The words are as `std::env::args` gives them: the first is the program's name, and words that are not UTF-8 are an
-/// error. Output goes through a buffer. With code 0, the whole text of what was asked for is with the writer below it.
-pub fn run_program<R: Read, W: Write + Drop, E: Write + Drop>(
+/// error. Output goes through a buffer. With code 0, the whole text of what was asked for is with the writer below it. How far a
+/// haul has come is said on `line`, which has a writer of its own, and nothing else depends on it.
+pub fn run_program<R: Read, W: Write + Drop, E: Write + Drop, P: Write, C: Clock>(
     alloc: Global,
     words: io::Result<Vec<String>>,
     input: &mut R,
     output: W,
     errors: E,
+    line: &mut Progress<P, C>,
 ) -> Ended<W, E>
     // Code 0: what the words ask for was done, and its whole text is with the writer.
     ensures done { result.code ≡ 0 → IsOkAnd words (λ list. IsSomeAnd result.output (λ writer.
@@ -67,7 +71,14 @@ pub fn run_program<R: Read, W: Write + Drop, E: Write + Drop>(
     let mut errors = Out::new(errors);
     match words {
         Ok(words) => {
-            let (status, output) = do_buffered(alloc, words.as_slice(), input, output, &mut errors);
+            let (status, output) = do_buffered(
+                alloc,
+                words.as_slice(),
+                input,
+                output,
+                &mut errors,
+                line,
+            );
             Ended {
                 code: status.exit_code(),
                 output,
@@ -87,12 +98,13 @@ pub fn run_program<R: Read, W: Write + Drop, E: Write + Drop>(
 
 /// Does what the words ask for, with its output through a buffer over this writer. Gives the writer back, or nothing if
 /// there is no memory for the buffer.
-fn do_buffered<R: Read, W: Write + Drop, E: Write>(
+fn do_buffered<R: Read, W: Write + Drop, E: Write, P: Write, C: Clock>(
     alloc: Global,
     words: &[String],
     input: &mut R,
     output: W,
     errors: &mut Out<E>,
+    line: &mut Progress<P, C>,
 ) -> (Status, Option<W>)
     requires { errors.old.failed ≡ false }
     ensures done { result.0 ≡ Status.Done → IsSomeAnd result.1 (λ writer.
@@ -111,7 +123,7 @@ fn do_buffered<R: Read, W: Write + Drop, E: Write>(
         return (Complaint::OutOfMemory.tell(errors), None);
     };
     let mut output = Out::new(buffered);
-    let status = do_words(alloc, words, input, &mut output, errors);
+    let status = do_words(alloc, words, input, &mut output, errors, line);
     let mut buffered = output.into_inner();
     let status = send_buffered(status, &mut buffered, errors);
     let (writer, _) = buffered.into_parts();

@@ -1,10 +1,12 @@
 use crate::program::{Ended, run_program};
 use crate::words::do_words;
+use commands::progress::Progress;
 use commands::status::Status;
 use plane_core::output::Out;
 use std::io::{self, ErrorKind, Read, Write};
 use std::process::Abort;
 use std::test::Fail;
+use std::time::{Clock, Duration};
 
 const BLINKER: &[u8] = b"OOO\n";
 
@@ -20,12 +22,39 @@ struct Left {
     errors: Vec<u8>,
 }
 
+/// A clock that stands still.
+#[derive(Drop)]
+struct Still;
+
+impl Clock for Still {
+    fn monotonic(&self) -> io::Result<Duration> {
+        Ok(Duration::from_millis(0))
+    }
+
+    fn since_1970(&self) -> io::Result<Duration> {
+        Ok(Duration::from_millis(0))
+    }
+}
+
+/// A line of progress that is shown only if it is asked for.
+fn no_line(rt: &impl AllocGlobal) -> Progress<Vec<u8>, Still> {
+    Progress::new(rt.alloc(), Vec::new(rt.alloc()), Still, false)
+}
+
 /// Does what the words ask for, with this input.
 fn left_by(rt: &impl AllocGlobal, words: &[&str], input: &[u8]) -> Left {
     let mut input = input;
     let mut output = Out::new(Vec::new(rt.alloc()));
     let mut errors = Out::new(Vec::new(rt.alloc()));
-    let status = do_words(rt.alloc(), words, &mut input, &mut output, &mut errors);
+    let mut line = no_line(rt);
+    let status = do_words(
+        rt.alloc(),
+        words,
+        &mut input,
+        &mut output,
+        &mut errors,
+        &mut line,
+    );
     Left {
         status,
         output: output.into_inner(),
@@ -219,6 +248,7 @@ fn taken_by<R: Abort + AllocGlobal>(
         &mut input,
         writer,
         Vec::new(rt.alloc()),
+        &mut no_line(rt),
     );
     assert_eq!(rt; ended.code, code, "{words:?}");
     assert_eq!(rt; ended.errors.into_inner().as_slice(), line, "{words:?}");
@@ -262,6 +292,7 @@ fn ended_by(rt: &impl AllocGlobal, words: io::Result<Vec<String>>) -> Ended<Vec<
         &mut NoReader,
         Vec::new(rt.alloc()),
         Vec::new(rt.alloc()),
+        &mut no_line(rt),
     )
 }
 

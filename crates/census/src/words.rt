@@ -4,13 +4,15 @@ ghost use Rattle.commands.specs.Profiles.{AreInRange};
 ghost use Rattle.commands.specs.Requests.{IsWithinLimits, reads_input};
 ghost use Rattle.commands.specs.Streams.{stream};
 ghost use Rattle.census.specs.Calls.{AsksForNothing, AsksForSoup, AsksForVersion, AsksToName, AsksToRun, AsksToShow, AsksToTake};
-ghost use Rattle.census.specs.Words.{DoesWords, asked_by, asks_version, name_in, number_from, number_in, profile_in, request_in, run_in, set_in, show_in, soup_in, take_in};
+ghost use Rattle.census.specs.WorkCalls.{AsksToWork};
+ghost use Rattle.census.specs.Words.{DoesWords, asked_by, asks_version, is_given, name_in, number_from, number_in, profile_in, request_in, run_in, set_in, show_in, soup_in, take_in, work_in};
 
 use crate::application::census_command;
 use clap::ArgMatches;
 use clap::error::ErrorKind;
 use commands::complaint::Complaint;
 use commands::profile::ProfileNumbers;
+use commands::progress::Progress;
 use commands::request::{Request, do_request};
 use commands::run::GENERATION_LIMIT;
 use commands::soup_set::SoupSet;
@@ -20,6 +22,7 @@ use plane_core::output::Out;
 use std::alloc::{AllocError, Global};
 use std::convert::AsStr;
 use std::io::{Read, Write};
+use std::time::Clock;
 
 /// The greatest number of a soup: 2^40 - 1.
 const SOUP_LIMIT: u64 = 1_099_511_627_775;
@@ -52,17 +55,18 @@ impl From<AllocError> for Unasked {
 /// Does what the words ask for, and returns how that ended. The first word is the program's name.
 ///
 /// Neither writer may have failed. Words that ask for nothing end with `Usage` and their text on `errors`; nothing is
-/// read then, and nothing is printed.
+/// read then, and nothing is printed. How far a haul has come is said on `line`.
 ///
 /// # Errors
 ///
 /// As of [`do_request`], or `OutOfMemory` if there is no memory to read the words.
-pub fn do_words<S: AsStr, R: Read, W: Write, E: Write>(
+pub fn do_words<S: AsStr, R: Read, W: Write, E: Write, P: Write, C: Clock>(
     alloc: Global,
     words: &[S],
     input: &mut R,
     output: &mut Out<W>,
     errors: &mut Out<E>,
+    line: &mut Progress<P, C>,
 ) -> Status
     requires output { output.old.failed ≡ false }
     requires errors { errors.old.failed ≡ false }
@@ -75,7 +79,7 @@ pub fn do_words<S: AsStr, R: Read, W: Write, E: Write>(
     ensures untouched { result ≡ Status.Refused → output.new ≡ output.old }
 {
     match request_of(alloc, words) {
-        Ok(request) => do_request(alloc, &request, input, output, errors),
+        Ok(request) => do_request(alloc, &request, input, output, errors, line),
         Err(Unasked::Usage(text)) => {
             let _ = errors.put(text.as_bytes());
             Status::Usage
@@ -139,6 +143,12 @@ pub fn asks_to_take()
     ensures { AsksToTake }
 {}
 
+/// A law of all words: what the calls of `work` ask for.
+#[tactic(auto, using(crate::proofs::WorkCalls::asks_to_work))]
+pub fn asks_to_work()
+    ensures { AsksToWork }
+{}
+
 /// A law of all words: what `--version` asks for.
 #[tactic(auto, using(crate::proofs::CallLemmas::asks_for_version))]
 pub fn asks_for_version()
@@ -172,6 +182,7 @@ fn request_in<'a>(matches: &ArgMatches<'a>) -> Option<Request<'a>>
         Some(("show", found)) => show_in(found),
         Some(("soup", found)) => soup_in(found),
         Some(("take", found)) => take_in(found),
+        Some(("work", found)) => work_in(found),
         _ => None,
     }
 }
@@ -258,6 +269,24 @@ fn take_in<'a>(found: &ArgMatches<'a>) -> Option<Request<'a>>
         set,
         profile,
         rule: Word::new(rule),
+        progress: is_given(found, "progress"),
+    })
+}
+
+/// `work` with the values of its options.
+fn work_in<'a>(found: &ArgMatches<'a>) -> Option<Request<'a>>
+    ensures request { result ≡ work_in (rows_of (found_of found.now)) }
+    ensures limits { IfSome result IsWithinLimits }
+{
+    let set = set_in(found)?;
+    let worker = number_from(found, "worker", 1, 16)?;
+    let profile = profile_in(found)?;
+    let rule = found.get_str("rule")?;
+    Some(Request::Work {
+        set,
+        worker: worker as u8,
+        profile,
+        rule: Word::new(rule),
     })
 }
 
@@ -275,6 +304,16 @@ fn set_in<'a>(found: &ArgMatches<'a>) -> Option<SoupSet<'a>>
         count: u64::from(count),
         also: Word::new(also),
     })
+}
+
+/// Whether a flag was given.
+fn is_given(found: &ArgMatches<'_>, id: &str) -> bool
+    ensures { result ≡ is_given id.now (rows_of (found_of found.now)) }
+{
+    match found.get_str(id) {
+        Some(value) => value == "true",
+        None => false,
+    }
 }
 
 /// The number up to a limit that was found for an argument.

@@ -58,14 +58,14 @@ Reads_error bytes (plaintext_error.Fault fault) short faults = Reads_refused byt
 Reads_error bytes plaintext_error.Memory short faults = tt
 
 -- memory that runs out after the input is begun leaves nothing on the output
-pub Reaches_no_memory : (reads : Bool) (right : Right) (output : Stream) → reads ≡ true → Has output [] → Reaches reads right (Err OutOfMemory) output
+pub Reaches_no_memory : (reads : Bool) (right : Right) (output : Stream) → reads ≡ true → Has output [] → Reaches reads true right (Err OutOfMemory) output
 Reaches_no_memory reads right output read nothing =
     (λ unread complaint is. let bad : false ≡ true = sym unread ∙ read in cc, λ answer is. ([], text_of answer, refl, nothing))
 
 -- an input that was refused or not read is what a command ends with, with nothing on the output
 pub Reaches_unread : {A : Type 0} (reads : Bool) (right : Right) (answer : Result A Complaint) (complaint : Complaint) (output : Stream) → reads ≡ true
     → ((refusal : Refusal) → answer ≡ Err (Refused refusal) → right (Err (Refused refusal))) → Reads answer (Err complaint) → Has output []
-    → Reaches reads right (Err complaint) output
+    → Reaches reads true right (Err complaint) output
 Reaches_unread reads right answer (Refused refusal) output read is refused nothing = (is refusal refused, nothing)
 Reaches_unread reads right answer OutOfMemory output read is refused nothing = Reaches_no_memory reads right output read nothing
 Reaches_unread reads right answer ReadFailed output read is refused nothing = (read, nothing)
@@ -74,7 +74,7 @@ Reaches_unread reads right answer WriteFailed output read is refused nothing = a
 -- a refused rule is a right answer, with nothing on the output
 pub Reaches_rule : (reads : Bool) (right : Right) (text : List ℕ) (error : RuleError) (output : Stream) → rule_read text ≡ Err error
     → ((complaint : Complaint) → rule_named text ≡ Err complaint → right (Err complaint)) → Has output []
-    → Reaches reads right (Err (rule_complaint error)) output
+    → Reaches reads true right (Err (rule_complaint error)) output
 Reaches_rule reads right text (rule_error.BadRule place) output is told nothing = (told _ (rw is refl), nothing)
 Reaches_rule reads right text rule_error.BirthZero output is told nothing = (told _ (rw is refl), nothing)
 
@@ -86,7 +86,7 @@ status_of-command ReadFailed is = cc
 status_of-command WriteFailed is = cc
 
 -- a command that ended well has no usage fault
-pub Ends-command : {reads : Bool} {right : Right} {status : Status} {output errors : Stream} → Ends reads right status output errors
+pub Ends-command : {reads whole : Bool} {right : Right} {status : Status} {output errors : Stream} → Ends reads whole right status output errors
     → status ≡ statuses.Usage → ⊥
 Ends-command {status = status} {errors = errors} ends is = go ends.outcome ends.told
   where

@@ -3,3 +3,4 @@ pub mod NameLemmas
 pub mod NumberLemmas
 pub mod ShowLemmas
 pub mod TakeLemmas
+pub mod WorkLemmas

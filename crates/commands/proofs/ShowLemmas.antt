@@ -1,5 +1,5 @@
 -- What `show` answers.
-use Rattle.std.proofs.Common.{◌≡◌, ◌↔◌, ℕ, false, List, [], Result, Ok, Err, IsOk, refl}
+use Rattle.std.proofs.Common.{◌≡◌, ◌↔◌, ℕ, false, List, [], Result, Ok, Err, IsOk, refl, true}
 use Rattle.std.specs.Result.{IsErrOf}
 use Rattle.plane_core.specs.declared.cell.Cell.{Cell}
 use Rattle.plane_core.specs.Plaintext.{plain}
@@ -37,7 +37,7 @@ faultless_refused word complaint ok refused = let bad : IsOk {T = List ℕ} (Err
 -- a text that was refused is the answer, with nothing on the output
 pub Reaches_text : (word text : List ℕ) (error : WechslerError) (output : Stream) → text_in word ≡ Ok text
     → ((fault : WechslerFault) → IsErrOf {T = List Cell} (Err error) (Fault fault) ↔ (wechsler_read text ≡ Err fault)) → Has output []
-    → Reaches false (only (show_answer word)) (Err (reader_complaint error)) output
+    → Reaches false true (only (show_answer word)) (Err (reader_complaint error)) output
 Reaches_text word text (Fault TooLong) output is faults nothing = (show_answer-fault word text TooLong is ((faults TooLong).0 refl), nothing)
 Reaches_text word text (Fault (BadByte place)) output is faults nothing =
     (show_answer-fault word text (BadByte place) is ((faults (BadByte place)).0 refl), nothing)

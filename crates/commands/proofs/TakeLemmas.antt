@@ -33,58 +33,75 @@ use Rattle.haul_core.specs.Reports.{Reported}
 use Rattle.commands.specs.declared.complaint.Complaint.{Complaint}
 use Rattle.commands.specs.declared.complaint.Complaint.TheVariants.{Refused, OutOfMemory, ReadFailed, WriteFailed}
 use Rattle.commands.specs.declared.profile.ProfileNumbers.{ProfileNumbers}
+use Rattle.commands.specs.declared.refusal.Refusal.{Refusal}
 use Rattle.commands.specs.declared.refusal.Refusal.TheVariants.{BadList, BadRule, BirthZero, HorizonBelowPeriod, RangeTooLarge, RangesOverlap}
 use Rattle.commands.specs.declared.refusal.Refusal.TheVariants.{SeedBadByte, SeedTooLong}
 use Rattle.commands.specs.declared.soup_set.SoupSet.{SoupSet}
-use Rattle.commands.specs.Answers.{NeedsMemory, Reaches, Right, given, text_of}
+use Rattle.commands.specs.Answers.{NeedsMemory, Reaches, Right, given, given_right, text_of}
 use Rattle.commands.specs.Inputs.{rule_complaint, rule_named}
 use Rattle.commands.specs.Profiles.{profile_named, settling}
 use Rattle.commands.specs.Soup.{seed_complaint, seed_named}
-use Rattle.commands.specs.SoupSets.{job_named}
+use Rattle.commands.specs.SoupSets.{AreRangesOf, IsRefused, job_named, right_for_set, Bad_list, Overlapping, Too_large}
 use Rattle.commands.specs.Streams.{Stream, Has}
-use Rattle.commands.specs.Take.{IsHaulOf, take_right, Bad_list, Complete, Overlapping, Too_large}
-use Rattle.commands.specs.TakeSteps.{IsOffered, IsOpened, IsOwn, Stops, list_complaint, numbers_of}
+use Rattle.commands.specs.Take.{TellsAll, take_right}
+use Rattle.commands.specs.TakeSteps.{IsOffered, IsOpened, IsOwn, Stops, StopsSet, list_complaint, numbers_of}
 use Rattle.commands.proofs.NumberLemmas.{count_cons, count_other, count_same, numbers_of_form, range_more}
 
 -- ---- refusals
 
 -- a refusal of a list that is one needs memory
-pub needs_memory : (job : Job) (set : SoupSet) (complaint : Complaint) → IsListText set.also → IsHaulOf job set (Err complaint) → NeedsMemory complaint
-needs_memory job set complaint list (Bad_list not_list place fault told) = absurd (not_list list)
-needs_memory job set complaint list (Too_large ranges named large told) =
-    let is : complaint ≡ Refused RangeTooLarge = cc in
-    subst NeedsMemory (sym is) tt
-needs_memory job set complaint list (Overlapping ranges named small overlap told) =
-    let is : complaint ≡ Refused RangesOverlap = cc in
-    subst NeedsMemory (sym is) tt
-needs_memory job set complaint list (Complete ranges named small apart tells) = let bad = tells.told in cc
+refused_needs_memory : (set : SoupSet) (refusal : Refusal) → IsListText set.also → IsRefused set refusal → NeedsMemory (Refused refusal)
+refused_needs_memory set refusal list (Bad_list not_list place fault told) = absurd (not_list list)
+refused_needs_memory set refusal list (Too_large ranges named large told) = subst (λ (r : Refusal). NeedsMemory (Refused r)) (sym told) tt
+refused_needs_memory set refusal list (Overlapping ranges named small overlap told) = subst (λ (r : Refusal). NeedsMemory (Refused r)) (sym told) tt
+
+needs_memory : (set : SoupSet) (tells : List Range → List ℕ → Type 0) (complaint : Complaint) → IsListText set.also
+    → right_for_set set tells (Err complaint) → NeedsMemory complaint
+needs_memory set tells (Refused refusal) list right = refused_needs_memory set refusal list right
+needs_memory set tells OutOfMemory list right = absurd right
+needs_memory set tells ReadFailed list right = absurd right
+needs_memory set tells WriteFailed list right = absurd right
+
+-- what stops a command over its set stops it
+Stops_set : (set : SoupSet) (tells : List Range → List ℕ → Type 0) (complaint : Complaint) → StopsSet set complaint
+    → Stops (right_for_set set tells) complaint
+Stops_set set tells (Refused refusal) stops = stops
+Stops_set set tells OutOfMemory stops = λ complaint right. needs_memory set tells complaint stops right
+Stops_set set tells ReadFailed stops = absurd stops
+Stops_set set tells WriteFailed stops = absurd stops
 
 -- a range list that is not read stops the command
-pub Stops_list : (job : Job) (set : SoupSet) (text : List ℕ) (error : ListError) → text ≡ set.also
+pub Stops_list : (set : SoupSet) (text : List ℕ) (error : ListError) → text ≡ set.also
     → ((ranges : List Range) → AreWords ranges → list_text ranges ≡ text → error ≡ list_error.Memory)
     → ((place : ℕ) → error ≡ list_error.BadList place → IsFirstFault text place) → (error ≡ list_error.Memory → IsListText text)
-    → Stops (IsHaulOf job set) (list_complaint error)
-Stops_list job set text (list_error.BadList place) is complete fault memory =
+    → StopsSet set (list_complaint error)
+Stops_list set text (list_error.BadList place) is complete fault memory =
     let not_list : IsListText set.also → ⊥ =
     λ list. let bad : list_error.BadList place ≡ list_error.Memory = complete list.ranges list.words (list.spelled ∙ sym is) in cc in
     Bad_list not_list place (subst (λ (t : List ℕ). IsFirstFault t place) is (fault place refl)) refl
-Stops_list job set text list_error.Memory is complete fault memory = λ complaint right. needs_memory job set complaint (subst IsListText is (memory refl)) right
+Stops_list set text list_error.Memory is complete fault memory = subst IsListText is (memory refl)
 
 -- a complaint that stops the command is what it ends with, with nothing on the output
-pub Reaches_stopped : (right : Right) (complaint : Complaint) (output : Stream) → Stops right complaint → Has output []
-    → Reaches false right (Err complaint) output
-Reaches_stopped right (Refused refusal) output stops nothing = (stops, nothing)
-Reaches_stopped right OutOfMemory output stops nothing = (λ unread. stops, λ answer is. ([], text_of answer, refl, nothing))
-Reaches_stopped right ReadFailed output stops nothing = absurd stops
-Reaches_stopped right WriteFailed output stops nothing = absurd stops
+pub Reaches_stopped : (whole : Bool) (right : Right) (complaint : Complaint) (output : Stream) → Stops right complaint → Has output []
+    → Reaches false whole right (Err complaint) output
+Reaches_stopped whole right (Refused refusal) output stops nothing = (stops, nothing)
+Reaches_stopped whole right OutOfMemory output stops nothing = (λ unread. stops, λ answer is. ([], text_of answer, refl, nothing))
+Reaches_stopped whole right ReadFailed output stops nothing = absurd stops
+Reaches_stopped whole right WriteFailed output stops nothing = absurd stops
 
 -- the same for a part of what is right
-pub Stops_given : (set : SoupSet) (numbers : ProfileNumbers) (rule_text : List ℕ) (job : Job) (complaint : Complaint)
-    → job_named set numbers rule_text ≡ Ok job → Stops (IsHaulOf job set) complaint → Stops (take_right set numbers rule_text) complaint
-Stops_given set numbers rule_text job (Refused refusal) named stops = rw named stops
-Stops_given set numbers rule_text job OutOfMemory named stops = λ complaint right. stops complaint (rw named at right)
-Stops_given set numbers rule_text job ReadFailed named stops = absurd stops
-Stops_given set numbers rule_text job WriteFailed named stops = absurd stops
+pub Stops_given : (set : SoupSet) (numbers : ProfileNumbers) (rule_text : List ℕ) (tells : Job → List Range → List ℕ → Type 0) (job : Job)
+    (complaint : Complaint)
+    → job_named set numbers rule_text ≡ Ok job → StopsSet set complaint
+    → Stops (given_right (job_named set numbers rule_text) (λ j. right_for_set set (tells j))) complaint
+Stops_given set numbers rule_text tells job complaint named stops = go complaint (Stops_set set (tells job) complaint stops)
+  where
+    go : (c : Complaint) → Stops (right_for_set set (tells job)) c
+        → Stops (given_right (job_named set numbers rule_text) (λ j. right_for_set set (tells j))) c
+    go (Refused refusal) is = rw named is
+    go OutOfMemory is = λ c right. is c (rw named at right)
+    go ReadFailed is = absurd is
+    go WriteFailed is = absurd is
 
 abbrev IsRefusal : Complaint → Type 0
 IsRefusal (Refused refusal) = Unit {0}
@@ -131,25 +148,27 @@ job_refused set numbers rule_text complaint =
     job_of seed profile rule = Ok (record { seed = seed; profile = profile; rule = rule })
 
 -- what makes up the job is refused
-pub Stops_job : (set : SoupSet) (numbers : ProfileNumbers) (rule_text : List ℕ) (complaint : Complaint) → job_named set numbers rule_text ≡ Err complaint
-    → Stops (take_right set numbers rule_text) complaint
-Stops_job set numbers rule_text (Refused refusal) refused = rw refused refl
-Stops_job set numbers rule_text OutOfMemory refused = absurd (job_refused set numbers rule_text OutOfMemory refused)
-Stops_job set numbers rule_text ReadFailed refused = absurd (job_refused set numbers rule_text ReadFailed refused)
-Stops_job set numbers rule_text WriteFailed refused = absurd (job_refused set numbers rule_text WriteFailed refused)
+pub Stops_job : (set : SoupSet) (numbers : ProfileNumbers) (rule_text : List ℕ) (next : Job → Right) (complaint : Complaint)
+    → job_named set numbers rule_text ≡ Err complaint → Stops (given_right (job_named set numbers rule_text) next) complaint
+Stops_job set numbers rule_text next (Refused refusal) refused = rw refused refl
+Stops_job set numbers rule_text next OutOfMemory refused = absurd (job_refused set numbers rule_text OutOfMemory refused)
+Stops_job set numbers rule_text next ReadFailed refused = absurd (job_refused set numbers rule_text ReadFailed refused)
+Stops_job set numbers rule_text next WriteFailed refused = absurd (job_refused set numbers rule_text WriteFailed refused)
 
 -- what is right for the job is right
-pub right_given : (set : SoupSet) (numbers : ProfileNumbers) (rule_text : List ℕ) (job : Job) (text : List ℕ) → job_named set numbers rule_text ≡ Ok job
-    → IsHaulOf job set (Ok text) → take_right set numbers rule_text (Ok text)
-right_given set numbers rule_text job text named right = rw named right
+pub right_given : (set : SoupSet) (numbers : ProfileNumbers) (rule_text : List ℕ) (next : Job → Right) (job : Job) (text : List ℕ)
+    → job_named set numbers rule_text ≡ Ok job → next job (Ok text) → given_right (job_named set numbers rule_text) next (Ok text)
+right_given set numbers rule_text next job text named right = rw named right
+
+-- a set whose ranges are known has a list
+pub listed : (set : SoupSet) (ranges : List Range) → AreRangesOf set ranges → IsListText set.also
+listed set ranges of = record { ranges = of.listed; words = of.words; spelled = of.spelled }
 
 -- memory that runs out over a haul that was opened stops the command
 pub Stops_memory : (set : SoupSet) (numbers : ProfileNumbers) (rule_text : List ℕ) (job : Job) (held : Held) → job_named set numbers rule_text ≡ Ok job
     → IsOpened job set held → Stops (take_right set numbers rule_text) OutOfMemory
 Stops_memory set numbers rule_text job held named opened =
-    let of = opened.named in
-    Stops_given set numbers rule_text job OutOfMemory named
-    (λ complaint right. needs_memory job set complaint (record { ranges = of.listed; words = of.words; spelled = of.spelled }) right)
+    Stops_given set numbers rule_text TellsAll job OutOfMemory named (listed set opened.ranges opened.named)
 
 -- ---- a haul that was opened
 
@@ -298,7 +317,7 @@ taken_numbers ranges held closed alone form h terms closes =
 pub complete_right : (job : Job) (set : SoupSet) (opened held closed : Held) (census : Census) → IsOpened job set opened → held.terms ≡ opened.terms
     → IsOffered (numbers_of opened.terms.ranges) held → closed.terms ≡ held.terms
     → ((arrivals : List Arrival) → StandsFor arrivals held → StandsFor (arrivals ++ Closing ∷ []) closed)
-    → IsCensus closed.terms.job closed.terms.ranges (numbers_in closed.taken) census → IsHaulOf job set (Ok (haul_text census))
+    → IsCensus closed.terms.job closed.terms.ranges (numbers_in closed.taken) census → right_for_set set (TellsAll job) (Ok (haul_text census))
 complete_right job set opened held closed census open_ terms offered_ closed_terms closes is =
     let same : closed.terms ≡ opened.terms = closed_terms ∙ terms in
     let alone : held.terms.workers ≡ 1 = ap (λ (t : Terms). t.workers) terms ∙ open_.one_worker in
@@ -307,14 +326,20 @@ complete_right job set opened held closed census open_ terms offered_ closed_ter
     let numbers = taken_numbers open_.ranges held closed alone form all_offered closed_terms closes ∙ ap (λ (t : Terms). numbers_of t.ranges) terms in
     let job_is : closed.terms.job ≡ job = ap (λ (t : Terms). t.job) same ∙ open_.job_is in
     let ranges_are : closed.terms.ranges ≡ opened.terms.ranges = ap (λ (t : Terms). t.ranges) same in
-    Complete open_.ranges open_.named open_.small open_.apart (record {
-      numbers = numbers_of opened.terms.ranges;
-      all = numbers_of_form open_.ranges opened.terms.ranges open_.form;
-      normal = opened.terms.ranges;
-      form = open_.form;
-      census = census;
-      counted = subst (λ (ns : List ℕ). IsCensus job opened.terms.ranges ns census) numbers
-          (subst (λ (rs : List Range). IsCensus job rs (numbers_in closed.taken) census) ranges_are
-          (subst (λ (j : Job). IsCensus j closed.terms.ranges (numbers_in closed.taken) census) job_is is));
-      told = refl;
-    })
+    record {
+      ranges = open_.ranges;
+      named = open_.named;
+      small = open_.small;
+      apart = open_.apart;
+      is_told = record {
+        numbers = numbers_of opened.terms.ranges;
+        all = numbers_of_form open_.ranges opened.terms.ranges open_.form;
+        normal = opened.terms.ranges;
+        form = open_.form;
+        census = census;
+        counted = subst (λ (ns : List ℕ). IsCensus job opened.terms.ranges ns census) numbers
+            (subst (λ (rs : List Range). IsCensus job rs (numbers_in closed.taken) census) ranges_are
+            (subst (λ (j : Job). IsCensus j closed.terms.ranges (numbers_in closed.taken) census) job_is is));
+        told = refl;
+      };
+    }

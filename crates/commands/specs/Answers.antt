@@ -57,17 +57,24 @@ NeedsMemory (Refused RangeTooLarge) = Unit {0}
 NeedsMemory (Refused RangesOverlap) = Unit {0}
 NeedsMemory _ = ⊥
 
+-- What is there of a text when a write failed: of one that was whole before it was written, a front. One that is written as it
+-- is made isn't known to its end: then there is a front of each right text, and no complaint is right.
+abbrev pub LeavesFront : Bool → Right → Stream → Type 0
+LeavesFront true right output = HasFrontOfRight right output
+LeavesFront false right output =
+    ((complaint : Complaint) → right (Err complaint) → ⊥) × ((text : List ℕ) → right (Ok text) → HasFront output text)
+
 -- What stands on standard output after an outcome: the text of a right answer if all was done, a front of it if memory
 -- ran out or a write failed, and else nothing. A refusal is a right answer. Only a text is written, only an input that is
 -- read can fail to be, and memory that runs out hides a refusal only if the input is looked at, or memory is needed for it.
-abbrev pub Reaches : Bool → Right → Outcome → Stream → Type 0
-Reaches reads right (Ok _) output = HasRight right output × (output.failed ≡ false)
-Reaches reads right (Err OutOfMemory) output =
+abbrev pub Reaches : Bool → Bool → Right → Outcome → Stream → Type 0
+Reaches reads whole right (Ok _) output = HasRight right output × (output.failed ≡ false)
+Reaches reads whole right (Err OutOfMemory) output =
     (reads ≡ false → (complaint : Complaint) → right (Err complaint) → NeedsMemory complaint)
     × ((answer : Answer) → right answer → HasFront output (text_of answer))
-Reaches reads right (Err ReadFailed) output = (reads ≡ true) × Has output []
-Reaches reads right (Err WriteFailed) output = HasFrontOfRight right output × (output.failed ≡ true)
-Reaches reads right (Err (Refused refusal)) output = right (Err (Refused refusal)) × Has output []
+Reaches reads whole right (Err ReadFailed) output = (reads ≡ true) × Has output []
+Reaches reads whole right (Err WriteFailed) output = LeavesFront whole right output × (output.failed ≡ true)
+Reaches reads whole right (Err (Refused refusal)) output = right (Err (Refused refusal)) × Has output []
 
 -- the status of an outcome, and its line on standard error
 abbrev pub Tells : Outcome → Status → Stream → Type 0
@@ -75,7 +82,7 @@ Tells (Ok _) status errors = (status ≡ Done) × Has errors [] × (errors.faile
 Tells (Err complaint) status errors = (status ≡ status_of complaint) × HasLine errors (line_of complaint)
 
 -- a command ends well: it gives a right answer, or it gives up because memory runs out or a stream fails
-pub record Ends (reads : Bool) (right : Right) (status : Status) (output errors : Stream) : Type 0 where
+pub record Ends (reads whole : Bool) (right : Right) (status : Status) (output errors : Stream) : Type 0 where
   pub outcome : Outcome
-  pub reached : Reaches reads right outcome output
+  pub reached : Reaches reads whole right outcome output
   pub told : Tells outcome status errors

@@ -13,3 +13,5 @@ pub mod Streams
 pub mod Take
 pub mod TakeSteps
 pub mod Version
+pub mod Work
+pub mod WorkSteps

@@ -7,6 +7,7 @@ use Rattle.haul_core.specs.declared.range.Range.{Range}
 use Rattle.haul_core.specs.declared.range_list.ListError.{ListError}
 use Rattle.haul_core.specs.declared.range_list.ListError.TheVariants as list_error
 use Rattle.haul_core.specs.Books.{Held, StandsFor}
+use Rattle.haul_core.specs.RangeLists.{IsListText}
 use Rattle.haul_core.specs.Ranges.{AreSmall, IsNormalForm, Overlap}
 use Rattle.haul_core.specs.Reports.{Reported}
 use Rattle.commands.specs.declared.complaint.Complaint.{Complaint}
@@ -14,7 +15,7 @@ use Rattle.commands.specs.declared.complaint.Complaint.TheVariants.{Refused, Out
 use Rattle.commands.specs.declared.refusal.Refusal.TheVariants.{BadList}
 use Rattle.commands.specs.declared.soup_set.SoupSet.{SoupSet}
 use Rattle.commands.specs.Answers.{NeedsMemory, Right}
-use Rattle.commands.specs.SoupSets.{AreRangesOf}
+use Rattle.commands.specs.SoupSets.{AreRangesOf, IsRefused}
 
 -- the complaint about a call that reads a range list
 abbrev pub list_complaint : ListError → Complaint
@@ -28,10 +29,19 @@ Stops right OutOfMemory = (complaint : Complaint) → right (Err complaint) → 
 Stops right ReadFailed = ⊥
 Stops right WriteFailed = ⊥
 
+-- a complaint over a set that ends a command before it writes: a refusal if that is right, or memory that ran out over what is
+-- a range list
+abbrev pub StopsSet : SoupSet → Complaint → Type 0
+StopsSet set (Refused refusal) = IsRefused set refusal
+StopsSet set OutOfMemory = IsListText set.also
+StopsSet set ReadFailed = ⊥
+StopsSet set WriteFailed = ⊥
+
 -- a haul of a job over the ranges of a set, for one worker, to which nothing has come
 pub record IsOpened (job : Job) (set : SoupSet) (held : Held) : Type 0 where
   pub ranges : List Range
   pub named : AreRangesOf set ranges
+  pub only : (others : List Range) → AreRangesOf set others → others ≡ ranges
   pub small : AreSmall ranges
   pub apart : ¬ Overlap ranges
   pub form : IsNormalForm ranges held.terms.ranges

@@ -14,6 +14,8 @@ pub mod name;
 pub mod output;
 /// Profiles, as words ask for them.
 pub mod profile;
+/// The line that says how far a haul has come.
+pub mod progress;
 /// Why a text was refused, and its line.
 pub mod refusal;
 /// Commands with their values.
@@ -36,3 +38,5 @@ mod tests;
 pub mod version;
 /// Words of the command line.
 pub mod word;
+/// `work`: the report lines of a set of soups.
+pub mod work;

@@ -4,6 +4,7 @@ ghost use Rattle.commands.specs.Streams.{stream};
 
 use crate::name::do_name;
 use crate::profile::ProfileNumbers;
+use crate::progress::Progress;
 use crate::run::do_run;
 use crate::show::do_show;
 use crate::soup::do_soup;
@@ -12,9 +13,11 @@ use crate::status::Status;
 use crate::take::do_take;
 use crate::version::do_version;
 use crate::word::Word;
+use crate::work::do_work;
 use plane_core::output::Out;
 use std::alloc::Global;
 use std::io::{Read, Write};
+use std::time::Clock;
 
 /// A command with its values.
 #[derive(Drop)]
@@ -38,9 +41,19 @@ pub enum Request<'a> {
         seed: Word<'a>,
         number: u64,
     },
-    /// The haul of all soups of a set, under a profile, of which each number is in its range, and the rule of a text.
+    /// The haul of all soups of a set, under a profile, of which each number is in its range, and the rule of a text; and
+    /// whether a line of progress is asked for.
     Take {
         set: SoupSet<'a>,
+        profile: ProfileNumbers,
+        rule: Word<'a>,
+        progress: bool,
+    },
+    /// The report lines of this worker, 1 to 16, for all soups of a set, under a profile, of which each number is in its range,
+    /// and the rule of a text.
+    Work {
+        set: SoupSet<'a>,
+        worker: u8,
         profile: ProfileNumbers,
         rule: Word<'a>,
     },
@@ -51,18 +64,20 @@ pub enum Request<'a> {
 /// Does what a request asks for, and returns how that ended.
 ///
 /// The request must be within its limits, and neither writer may have failed. Nothing of the input is read for a
-/// request that doesn't look at it, nor for one whose rule or profile is refused.
+/// request that doesn't look at it, nor for one whose rule or profile is refused. How far a haul has come is said on `line`, of
+/// which nothing else depends.
 ///
 /// # Errors
 ///
-/// Those of the request's own function: [`do_run`], [`do_name`], [`do_show`], [`do_soup`], [`do_take`] or
-/// [`do_version`].
-pub fn do_request<R: Read, W: Write, E: Write>(
+/// Those of the request's own function: [`do_run`], [`do_name`], [`do_show`], [`do_soup`], [`do_take`],
+/// [`do_work`] or [`do_version`].
+pub fn do_request<R: Read, W: Write, E: Write, P: Write, C: Clock>(
     alloc: Global,
     request: &Request<'_>,
     input: &mut R,
     output: &mut Out<W>,
     errors: &mut Out<E>,
+    line: &mut Progress<P, C>,
 ) -> Status
     requires request { IsWithinLimits request.now }
     requires output { output.old.failed ≡ false }
@@ -82,9 +97,21 @@ pub fn do_request<R: Read, W: Write, E: Write>(
         }
         Request::Show { code } => do_show(alloc, code.as_str(), output, errors),
         Request::Soup { seed, number } => { do_soup(alloc, seed.as_str(), *number, output, errors) }
-        Request::Take { set, profile, rule } => {
-            do_take(alloc, set, *profile, rule.as_str(), output, errors)
+        Request::Take {
+            set,
+            profile,
+            rule,
+            progress,
+        } => {
+            line.ask(*progress);
+            do_take(alloc, set, *profile, rule.as_str(), output, errors, line)
         }
+        Request::Work {
+            set,
+            worker,
+            profile,
+            rule,
+        } => { do_work(alloc, set, *worker, *profile, rule.as_str(), output, errors) }
         Request::Version => do_version(output, errors),
     }
 }

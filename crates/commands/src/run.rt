@@ -1,4 +1,4 @@
-ghost use Rattle.std.specs.Prelude.{◌≡◌, ◌≤◌, ℕ, List, false, is_ok, IsErr, IfOk, IfErr};
+ghost use Rattle.std.specs.Prelude.{◌≡◌, ◌≤◌, ℕ, List, false, is_ok, IsErr, IfOk, IfErr, true};
 ghost use Rattle.plane_core.specs.Generations.{after};
 ghost use Rattle.commands.specs.Answers.{Ends, IsInput, Reaches, only};
 ghost use Rattle.commands.specs.Complaints.{status_of};
@@ -43,7 +43,7 @@ pub fn do_run<R: Read, W: Write, E: Write>(
     requires output { output.old.failed ≡ false }
     requires errors { errors.old.failed ≡ false }
     ensures ends { (bytes : List ℕ) × IsInput (R.remaining input.old) bytes
-        × Ends (is_ok (rule_named rule_text.now)) (only (run_answer rule_text.now generations bytes)) result
+        × Ends (is_ok (rule_named rule_text.now)) true (only (run_answer rule_text.now generations bytes)) result
         (stream W.contents output.old output.new) (stream E.contents errors.old errors.new) }
     ensures rule_first { IsErr (rule_named rule_text.now) → (result ≡ Status.Refused) × (input.new ≡ input.old) }
     ensures untouched { result ≡ Status.Refused → output.new ≡ output.old }
@@ -64,7 +64,7 @@ fn run<R: Read, W: Write>(
     requires generations { generations ≤ 100000 }
     requires output { output.old.failed ≡ false }
     ensures reached { (bytes : List ℕ) × IsInput (R.remaining input.old) bytes
-        × Reaches (is_ok (rule_named rule_text.now)) (only (run_answer rule_text.now generations bytes)) result
+        × Reaches (is_ok (rule_named rule_text.now)) true (only (run_answer rule_text.now generations bytes)) result
         (stream W.contents output.old output.new) }
     ensures rule_first { IfErr (rule_named rule_text.now) (λ complaint.
         (result ≡ Err complaint) × (input.new ≡ input.old)) }

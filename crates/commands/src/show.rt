@@ -1,4 +1,4 @@
-ghost use Rattle.std.specs.Prelude.{◌≡◌, Some, IfErr, IfOk, false, option_map};
+ghost use Rattle.std.specs.Prelude.{◌≡◌, Some, IfErr, IfOk, false, option_map, true};
 ghost use Rattle.std.specs.Char.{is_ascii_digit};
 ghost use Rattle.std.specs.List.{list_all};
 ghost use Rattle.commands.specs.Answers.{Ends, Reaches, only};
@@ -32,7 +32,7 @@ pub fn do_show<W: Write, E: Write>(
 ) -> Status
     requires output { output.old.failed ≡ false }
     requires errors { errors.old.failed ≡ false }
-    ensures ends { Ends false (only (show_answer code.now)) result
+    ensures ends { Ends false true (only (show_answer code.now)) result
         (stream W.contents output.old output.new) (stream E.contents errors.old errors.new) }
     ensures untouched { result ≡ Status.Refused → output.new ≡ output.old }
 {
@@ -44,7 +44,7 @@ pub fn do_show<W: Write, E: Write>(
 
 fn show<W: Write>(alloc: Global, code: &str, output: &mut Out<W>) -> Result<(), Complaint>
     requires { output.old.failed ≡ false }
-    ensures reached { Reaches false (only (show_answer code.now)) result (stream W.contents output.old output.new) }
+    ensures reached { Reaches false true (only (show_answer code.now)) result (stream W.contents output.old output.new) }
     ensures untouched { IfErr result (λ complaint. status_of complaint ≡ Status.Refused → output.new ≡ output.old) }
 {
     let text = text_in(code)?;

@@ -1,4 +1,4 @@
-ghost use Rattle.std.specs.Prelude.{◌≡◌, ◌<◌, ◌^◌, IfErr, false};
+ghost use Rattle.std.specs.Prelude.{◌≡◌, ◌<◌, ◌^◌, IfErr, false, true};
 ghost use Rattle.commands.specs.Answers.{Ends, Reaches, only};
 ghost use Rattle.commands.specs.Complaints.{status_of};
 ghost use Rattle.commands.specs.Soup.{soup_answer};
@@ -34,7 +34,7 @@ pub fn do_soup<W: Write, E: Write>(
     requires number { number < 2 ^ 40 }
     requires output { output.old.failed ≡ false }
     requires errors { errors.old.failed ≡ false }
-    ensures ends { Ends false (only (soup_answer seed_text.now number)) result
+    ensures ends { Ends false true (only (soup_answer seed_text.now number)) result
         (stream W.contents output.old output.new) (stream E.contents errors.old errors.new) }
     ensures untouched { result ≡ Status.Refused → output.new ≡ output.old }
 {
@@ -51,7 +51,7 @@ fn put_soup<W: Write>(
     output: &mut Out<W>,
 ) -> Result<(), Complaint>
     requires { output.old.failed ≡ false }
-    ensures reached { Reaches false (only (soup_answer seed_text.now number)) result (stream W.contents output.old output.new) }
+    ensures reached { Reaches false true (only (soup_answer seed_text.now number)) result (stream W.contents output.old output.new) }
     ensures untouched { IfErr result (λ complaint. status_of complaint ≡ Status.Refused → output.new ≡ output.old) }
 {
     let seed = Seed::new(seed_text)?;

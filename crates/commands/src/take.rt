@@ -1,4 +1,4 @@
-ghost use Rattle.std.specs.Prelude.{◌≡◌, ◌++◌, ◌∷◌, ◌<◌, ◌≤◌, [], ℕ, List, IfErr, IfOk, OnOk, Err, Ok, false};
+ghost use Rattle.std.specs.Prelude.{◌≡◌, ◌++◌, ◌∷◌, ◌<◌, ◌≤◌, [], ℕ, List, IfErr, IfOk, OnOk, Err, Ok, false, true};
 ghost use Rattle.haul_core.specs.HaulTexts.{haul_text};
 ghost use Rattle.haul_core.specs.Ranges.{end_of, number_bound};
 ghost use Rattle.commands.specs.Answers.{Ends, Reaches};
@@ -6,14 +6,15 @@ ghost use Rattle.commands.specs.Complaints.{status_of};
 ghost use Rattle.commands.specs.Profiles.{AreInRange};
 ghost use Rattle.commands.specs.SoupSets.{AreRangesOf, job_named};
 ghost use Rattle.commands.specs.Streams.{stream};
-ghost use Rattle.commands.specs.Take.{IsHaulOf, take_right};
-ghost use Rattle.commands.specs.TakeSteps.{IsOffered, IsOpened, Stops, numbers_in_range, numbers_of};
+ghost use Rattle.commands.specs.Take.{take_right};
+ghost use Rattle.commands.specs.TakeSteps.{IsOffered, IsOpened, Stops, StopsSet, numbers_in_range, numbers_of};
 
 use crate::complaint::Complaint;
 use crate::profile::ProfileNumbers;
 use crate::refusal::Refusal;
 use crate::soup_set::SoupSet;
 use crate::status::Status;
+use crew::watch::Watch;
 use haul_core::census::Census;
 use haul_core::haul::{Haul, OpenError};
 use haul_core::haul_text::write_haul;
@@ -33,59 +34,63 @@ const WORKER: u8 = 1;
 ///
 /// Each of the profile's numbers is in its range, and neither writer may have failed. The seed is looked at first, then the
 /// profile, the rule, the range list, how large the ranges are, and last whether two of them share a number. Nothing is
-/// written before the haul is complete. `census take` is this call over the standard streams.
+/// written before the haul is complete. The watch hears how many soups are taken, and nothing else depends on it. `census take`
+/// is this call over the standard streams.
 ///
 /// # Errors
 ///
 /// The status is `Refused` for a text that is not a seed, a horizon below the period, a text that is not a rule or a range
 /// list, ranges that go past 2^40 or have over 2^24 numbers together, or ranges that share a number; `OutOfMemory`; or
 /// `Failed` if the output can't be written. Then one line stands on `errors`; a failure to write that line is not reported.
-pub fn do_take<W: Write, E: Write>(
+pub fn do_take<W: Write, E: Write, H: Watch>(
     alloc: Global,
     set: &SoupSet<'_>,
     profile: ProfileNumbers,
     rule_text: &str,
     output: &mut Out<W>,
     errors: &mut Out<E>,
+    watch: &mut H,
 ) -> Status
     requires profile { AreInRange profile }
     requires output { output.old.failed ≡ false }
     requires errors { errors.old.failed ≡ false }
-    ensures ends { Ends false (take_right set.now profile rule_text.now) result
+    ensures ends { Ends false true (take_right set.now profile rule_text.now) result
         (stream W.contents output.old output.new) (stream E.contents errors.old errors.new) }
     ensures untouched { result ≡ Status.Refused → output.new ≡ output.old }
     ensures no_memory { result ≡ Status.OutOfMemory → output.new ≡ output.old }
 {
-    match take(alloc, set, profile, rule_text, output) {
+    match take(alloc, set, profile, rule_text, output, watch) {
         Ok(()) => Status::Done,
         Err(complaint) => complaint.tell(errors),
     }
 }
 
-fn take<W: Write>(
+fn take<W: Write, H: Watch>(
     alloc: Global,
     set: &SoupSet<'_>,
     profile: ProfileNumbers,
     rule_text: &str,
     output: &mut Out<W>,
+    watch: &mut H,
 ) -> Result<(), Complaint>
     requires profile { AreInRange profile }
     requires output { output.old.failed ≡ false }
-    ensures reached { Reaches false (take_right set.now profile rule_text.now) result (stream W.contents output.old output.new) }
+    ensures reached { Reaches false true (take_right set.now profile rule_text.now) result (stream W.contents output.old output.new) }
     ensures untouched { IfErr result (λ complaint. status_of complaint ≡ Status.Refused → output.new ≡ output.old) }
     ensures no_memory { IfErr result (λ complaint. complaint ≡ Complaint.OutOfMemory → output.new ≡ output.old) }
 {
-    let census = census_of(alloc, set, profile, rule_text)?;
+    let census = census_of(alloc, set, profile, rule_text, watch)?;
     write_haul(&census, output)?;
     Ok(())
 }
 
 /// The census of the complete haul.
-fn census_of(
+fn census_of<H: Watch>(
     alloc: Global,
     set: &SoupSet<'_>,
     profile: ProfileNumbers,
     rule_text: &str,
+    watch: &mut H,
 ) -> Result<Census, Complaint>
     requires { AreInRange profile }
     ensures right { IfOk result (λ census. take_right set.now profile rule_text.now (Ok (haul_text census))) }
@@ -93,14 +98,18 @@ fn census_of(
 {
     let job = job(set, profile, rule_text)?;
     let mut haul = open_haul(alloc, job, set)?;
-    take_all(alloc, &mut haul)?;
+    complete(alloc, &mut haul, watch)?;
     let _ = haul.close();
     let census = haul.census()?;
     Ok(census)
 }
 
 /// The job that the texts and numbers make.
-fn job(set: &SoupSet<'_>, profile: ProfileNumbers, rule_text: &str) -> Result<Job, Complaint>
+pub(crate) fn job(
+    set: &SoupSet<'_>,
+    profile: ProfileNumbers,
+    rule_text: &str,
+) -> Result<Job, Complaint>
     requires { AreInRange profile }
     ensures { result ≡ job_named set.now profile rule_text.now }
 {
@@ -115,9 +124,9 @@ fn job(set: &SoupSet<'_>, profile: ProfileNumbers, rule_text: &str) -> Result<Jo
 }
 
 /// A haul over the ranges of a set, for one worker.
-fn open_haul(alloc: Global, job: Job, set: &SoupSet<'_>) -> Result<Haul, Complaint>
+pub(crate) fn open_haul(alloc: Global, job: Job, set: &SoupSet<'_>) -> Result<Haul, Complaint>
     ensures opened { IfOk result (IsOpened job set.now) }
-    ensures stops { IfErr result (Stops (IsHaulOf job set.now)) }
+    ensures stops { IfErr result (StopsSet set.now) }
 {
     let ranges = ranges_of(alloc, set)?;
     match Haul::open(alloc, job, ranges.as_slice(), WORKER) {
@@ -132,7 +141,8 @@ fn open_haul(alloc: Global, job: Job, set: &SoupSet<'_>) -> Result<Haul, Complai
 /// The ranges of a set.
 fn ranges_of(alloc: Global, set: &SoupSet<'_>) -> Result<Vec<Range>, Complaint>
     ensures named { IfOk result (λ ranges. AreRangesOf set.now ranges.items) }
-    ensures stops { (job : Job) → IfErr result (Stops (IsHaulOf job set.now)) }
+    ensures only { IfOk result (λ ranges. (others : List Range) → AreRangesOf set.now others → others ≡ ranges.items) }
+    ensures stops { IfErr result (StopsSet set.now) }
 {
     let mut ranges = Range::read_list(alloc, set.also.as_str())?;
     let own = Range {
@@ -143,20 +153,36 @@ fn ranges_of(alloc: Global, set: &SoupSet<'_>) -> Result<Vec<Range>, Complaint>
     Ok(ranges)
 }
 
+/// Takes each soup of the haul's set, under a watch.
+fn complete<H: Watch>(alloc: Global, haul: &mut Haul, watch: &mut H) -> Result<(), AllocError>
+    ensures terms { haul.new.terms ≡ haul.old.terms }
+    ensures offered { IsOffered [] haul.old → OnOk result (IsOffered (numbers_of haul.old.terms.ranges) haul.new) }
+{
+    watch.begin(haul.count());
+    let taken = take_all(alloc, haul, watch);
+    watch.end();
+    taken
+}
+
 /// Surveys each soup of the haul's set and offers the reports.
-fn take_all(alloc: Global, haul: &mut Haul) -> Result<(), AllocError>
+fn take_all<H: Watch>(alloc: Global, haul: &mut Haul, watch: &mut H) -> Result<(), AllocError>
     ensures terms { haul.new.terms ≡ haul.old.terms }
     ensures offered { IsOffered [] haul.old → OnOk result (IsOffered (numbers_of haul.old.terms.ranges) haul.new) }
 {
     let ranges = Vec::from_slice(alloc, haul.ranges())?;
     for range in ranges.as_slice() {
-        take_range(alloc, haul, *range)?;
+        take_range(alloc, haul, *range, watch)?;
     }
     Ok(())
 }
 
 /// Surveys each soup of a range and offers the reports.
-fn take_range(alloc: Global, haul: &mut Haul, range: Range) -> Result<(), AllocError>
+fn take_range<H: Watch>(
+    alloc: Global,
+    haul: &mut Haul,
+    range: Range,
+    watch: &mut H,
+) -> Result<(), AllocError>
     requires { end_of range ≤ number_bound }
     ensures terms { haul.new.terms ≡ haul.old.terms }
     ensures offered { (numbers : List ℕ) → IsOffered numbers haul.old
@@ -164,6 +190,7 @@ fn take_range(alloc: Global, haul: &mut Haul, range: Range) -> Result<(), AllocE
 {
     for number in range.first..range.first + range.count {
         take_soup(alloc, haul, number)?;
+        watch.taken(haul.taken().len() as u64);
     }
     Ok(())
 }

@@ -1,6 +1,7 @@
 ghost use Rattle.std.specs.Prelude.{◌≡◌};
 ghost use Rattle.commands.specs.Requests.{IsWithinLimits};
 
+use self::progress::line_on;
 use crate::output::send_buffered;
 use crate::request::{Request, do_request};
 use crate::run::do_run;
@@ -12,9 +13,11 @@ use std::process::Abort;
 use std::test::Fail;
 
 mod name;
+mod progress;
 mod show;
 mod soup;
 mod take;
+mod work;
 
 const BLINKER: &[u8] = b"OOO\n";
 
@@ -37,7 +40,15 @@ fn left_by(rt: &impl AllocGlobal, request: &Request<'_>, input: &[u8]) -> Left
     let mut input = input;
     let mut output = Out::new(Vec::new(rt.alloc()));
     let mut errors = Out::new(Vec::new(rt.alloc()));
-    let status = do_request(rt.alloc(), request, &mut input, &mut output, &mut errors);
+    let mut line = line_on(rt, Vec::new(rt.alloc()), false);
+    let status = do_request(
+        rt.alloc(),
+        request,
+        &mut input,
+        &mut output,
+        &mut errors,
+        &mut line,
+    );
     Left {
         status,
         output: output.into_inner(),

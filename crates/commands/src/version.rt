@@ -1,4 +1,4 @@
-ghost use Rattle.std.specs.Prelude.{◌≡◌, ◌≢◌, false};
+ghost use Rattle.std.specs.Prelude.{◌≡◌, ◌≢◌, false, true};
 ghost use Rattle.commands.specs.Answers.{Ends, Reaches, only};
 ghost use Rattle.commands.specs.Streams.{stream};
 ghost use Rattle.commands.specs.Version.{version_answer};
@@ -19,7 +19,7 @@ use std::io::Write;
 pub fn do_version<W: Write, E: Write>(output: &mut Out<W>, errors: &mut Out<E>) -> Status
     requires output { output.old.failed ≡ false }
     requires errors { errors.old.failed ≡ false }
-    ensures ends { Ends false (only version_answer) result
+    ensures ends { Ends false true (only version_answer) result
         (stream W.contents output.old output.new) (stream E.contents errors.old errors.new) }
     ensures status { result ≢ Status.Refused }
 {
@@ -31,7 +31,7 @@ pub fn do_version<W: Write, E: Write>(output: &mut Out<W>, errors: &mut Out<E>) 
 
 fn put_version<W: Write>(output: &mut Out<W>) -> Result<(), Complaint>
     requires { output.old.failed ≡ false }
-    ensures { Reaches false (only version_answer) result (stream W.contents output.old output.new) }
+    ensures { Reaches false true (only version_answer) result (stream W.contents output.old output.new) }
 {
     output.put(b"census 0.1.0\n")?;
     Ok(())

@@ -16,3 +16,5 @@ mod tests;
 pub mod tickets;
 /// The workers, and the call that runs them.
 pub mod workers;
+/// Who hears how far a haul has come.
+pub mod watch;

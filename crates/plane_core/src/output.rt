@@ -1,4 +1,4 @@
-ghost use Rattle.std.specs.Prelude.{◌≡◌, false};
+ghost use Rattle.std.specs.Prelude.{◌≡◌, [], false};
 ghost use Rattle.plane_core.specs.Out.{Writes};
 
 use std::io::Write;
@@ -73,6 +73,22 @@ impl<V: Write> Out<V> {
                 }
                 Ok(taken) => rest = &rest[taken..],
             }
+        }
+        Ok(())
+    }
+
+    /// Flushes the writer: what it holds back is sent on. The `Out` must not have failed.
+    ///
+    /// # Errors
+    ///
+    /// [`WriteError`] if the flush fails. The `Out` is failed from then on.
+    pub fn flush(&mut self) -> Result<(), WriteError>
+        requires { self.old.failed ≡ false }
+        ensures { Writes V.contents self.old self.new result [] }
+    {
+        if self.writer.flush().is_err() {
+            self.failed = true;
+            return Err(WriteError);
         }
         Ok(())
     }

@@ -1,5 +1,6 @@
 ghost use Rattle.commands.specs.Requests.{IsWithinLimits};
 
+use super::progress::line_on;
 use super::{FailingWriter, LIFE, assert_complains, assert_prints};
 use crate::profile::ProfileNumbers;
 use crate::request::Request;
@@ -7,6 +8,7 @@ use crate::soup_set::SoupSet;
 use crate::status::Status;
 use crate::take::do_take;
 use crate::word::Word;
+use crew::watch::Unwatched;
 use plane_core::output::Out;
 use std::process::Abort;
 
@@ -90,6 +92,7 @@ fn take(set: SoupSet<'_>) -> Request<'_>
         set,
         profile: SMALL,
         rule: Word::new(LIFE),
+        progress: false,
     }
 }
 
@@ -106,6 +109,7 @@ fn takes_no_soup(rt: HostRuntime) {
         set: set_of(1 << 40, 0, ""),
         profile: STANDARD,
         rule: Word::new(LIFE),
+        progress: true,
     };
     assert_prints(&rt, &request, b"", NONE);
 }
@@ -147,7 +151,15 @@ fn taken_by<R: Abort + AllocGlobal>(rt: &R, writes: usize, status: Status) -> Ve
     });
     let mut errors = Out::new(Vec::new(rt.alloc()));
     let set = set_of(0, 4, "");
-    let found = do_take(rt.alloc(), &set, SMALL, LIFE, &mut output, &mut errors);
+    let found = do_take(
+        rt.alloc(),
+        &set,
+        SMALL,
+        LIFE,
+        &mut output,
+        &mut errors,
+        &mut Unwatched,
+    );
     assert_eq!(rt; found, status);
     output.into_inner().taken
 }
@@ -159,4 +171,29 @@ fn tells_each_failed_write(rt: HostRuntime) {
         assert_eq!(rt; taken.as_slice(), &FOUR[..writes]);
     }
     assert_eq!(rt; taken_by(&rt, FOUR.len(), Status::Done).as_slice(), FOUR);
+}
+
+// The lines are due at 0, 200 and 400 milliseconds.
+#[test]
+fn takes_soups_under_a_line_of_progress(rt: HostRuntime) {
+    let mut output = Out::new(Vec::new(rt.alloc()));
+    let mut errors = Out::new(Vec::new(rt.alloc()));
+    let mut screen = Vec::new(rt.alloc());
+    let mut line = line_on(&rt, &mut screen, true);
+    let set = set_of(0, 4, "");
+    let found = do_take(
+        rt.alloc(),
+        &set,
+        SMALL,
+        LIFE,
+        &mut output,
+        &mut errors,
+        &mut line,
+    );
+    assert_eq!(rt; found, Status::Done);
+    assert_eq!(rt; output.into_inner().as_slice(), FOUR);
+    assert!(rt; errors.into_inner().is_empty());
+    let told =
+        b"\r0 of 4 soups\r2 of 4 soups, 10 a second\r4 of 4 soups, 10 a second\r                         \r";
+    assert_eq!(rt; screen.as_slice(), told.as_slice());
 }

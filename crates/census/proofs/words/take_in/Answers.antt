@@ -1,4 +1,4 @@
-use Rattle.std.proofs.Common.{◌∙◌, None, Some, ap, sym, codes}
+use Rattle.std.proofs.Common.{◌∙◌, None, Some, ap₂, sym, codes}
 use Rattle.clap.specs.Words.{found_of, rows_of}
 use Rattle.clap.proofs.WalkLemmas.{first_value-rows}
 use Rattle.commands.specs.declared.request.Request.TheVariants.{Take}
@@ -16,6 +16,6 @@ pub returns-clause-request : goal.returns-clause-request
 returns-clause-request c =
     let found = found_of c.args.found.now in
     let rule = c.in_ok-rule.ensures ∙ first_value-rows found (codes "rule") in
-    ap (λ text. Some (Take c.in_ok-set.set c.in_ok-profile.profile text)) c.new.ensures
+    ap₂ (λ text progress. Some (Take c.in_ok-set.set c.in_ok-profile.profile text progress)) c.new.ensures c.is_given.ensures
     ∙ sym (take_in-is (rows_of found) (Some c.in_ok-set.set) (Some c.in_ok-profile.profile) (Some c.in_ok-rule.rule.now) c.in_ok-set.ensures
     c.in_ok-profile.ensures.profile rule)

@@ -35,3 +35,11 @@ returns-in-Take-clause-ends g c =
 
 pub returns-in-Take-clause-command : goal.returns-in-Take-clause-command
 returns-in-Take-clause-command g c = Ends-command c.do_take.ensures.ends
+
+pub returns-in-Work-clause-ends : goal.returns-in-Work-clause-ends
+returns-in-Work-clause-ends g c =
+    let some = some_input (g.R.Read.remaining c.args.input.now) in
+    rw (c.in-Work.is, ← c.as_str-in-Work.ensures) (record { bytes = some.0; input = some.1; ends = c.do_work.ensures.ends })
+
+pub returns-in-Work-clause-command : goal.returns-in-Work-clause-command
+returns-in-Work-clause-command g c = Ends-command c.do_work.ensures.ends

@@ -1,7 +1,6 @@
-use Rattle.std.proofs.Common.{◌≡◌, ◌≤◌, arith, refl, sym, subst}
+use Rattle.std.proofs.Common.{◌≡◌, ◌∙◌, ◌≤◌, arith, refl, sym, subst}
 use Rattle.haul_core.specs.Reports.{IsWorker}
-use Rattle.commands.specs.SoupSets.{AreRangesOf}
-use Rattle.commands.specs.Take.{Overlapping, Too_large}
+use Rattle.commands.specs.SoupSets.{AreRangesOf, Overlapping, Too_large}
 use Rattle.commands.proofs.AnswerLemmas.{err_of}
 use Rattle.commands.proofs.TakeLemmas.{small_from}
 use Rattle.commands.proofs.take.open_haul.Goals as goal
@@ -10,7 +9,7 @@ one_worker : IsWorker 1
 one_worker = record { least = omega arith; most = omega arith }
 
 pub returns-in_err-ranges-clause-stops : goal.returns-in_err-ranges-clause-stops
-returns-in_err-ranges-clause-stops c = rw (err_of _ _ c.from_residual.ensures.1) (c.in_err-ranges.ensures.stops c.args.job)
+returns-in_err-ranges-clause-stops c = rw (err_of _ _ c.from_residual.ensures.1) c.in_err-ranges.ensures.stops
 
 pub returns-in-Ok-clause-opened : goal.returns-in-Ok-clause-opened
 returns-in-Ok-clause-opened c =
@@ -19,6 +18,7 @@ returns-in-Ok-clause-opened c =
     record {
       ranges = c.as_slice.result.now;
       named = subst (AreRangesOf c.args.set.now) (sym c.as_slice.ensures.value) c.in_ok-ranges.ensures.named;
+      only = λ others of. c.in_ok-ranges.ensures.only others of ∙ sym c.as_slice.ensures.value;
       small = small;
       apart = λ overlap. let bad = told.overlap.1 (one_worker, small, overlap) in cc;
       form = told.ranges;

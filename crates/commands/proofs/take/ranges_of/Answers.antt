@@ -1,24 +1,25 @@
-use Rattle.std.proofs.Common.{◌∙◌, Err, ap}
+use Rattle.std.proofs.Common.{◌≡◌, ◌∙◌, ◌++◌, ◌∷◌, [], List, Err, ap, sym}
+use Rattle.haul_core.specs.declared.range.Range.{Range}
+use Rattle.commands.specs.SoupSets.{own_range}
 use Rattle.commands.proofs.AnswerLemmas.{err_of}
-use Rattle.commands.proofs.TakeLemmas.{needs_memory, Stops_list}
+use Rattle.commands.proofs.TakeLemmas.{Stops_list}
 use Rattle.commands.proofs.take.ranges_of.Goals as goal
 
 pub returns-in_err-ranges-clause-stops : goal.returns-in_err-ranges-clause-stops
 returns-in_err-ranges-clause-stops c =
     let told = c.in_err-ranges.ensures in
-    λ job. rw (err_of _ _ c.from_residual.ensures.1)
-    (Stops_list job c.args.set.now c.as_str.result.now c.in_err-ranges.field-0.0 c.as_str.ensures told.complete
+    rw (err_of _ _ c.from_residual.ensures.1)
+    (Stops_list c.args.set.now c.as_str.result.now c.in_err-ranges.field-0.0 c.as_str.ensures told.complete
     (λ place is. told.bad_list place (ap Err is)) (λ is. told.memory (ap Err is)))
 
 pub returns-in_err-extend_from_slice-clause-stops : goal.returns-in_err-extend_from_slice-clause-stops
 returns-in_err-extend_from_slice-clause-stops c =
-    λ job. rw (err_of _ _ c.from_residual-in_err-extend_from_slice.ensures.1)
-    (λ complaint right. needs_memory job c.args.set.now complaint
+    rw (err_of _ _ c.from_residual-in_err-extend_from_slice.ensures.1)
     (record {
       ranges = c.in_ok-ranges.ranges.items;
       words = c.in_ok-ranges.ensures.words;
       spelled = c.in_ok-ranges.ensures.ranges ∙ c.as_str.ensures;
-    }) right)
+    })
 
 pub returns-clause-named : goal.returns-clause-named
 returns-clause-named c = record {
@@ -27,3 +28,8 @@ returns-clause-named c = record {
   spelled = c.in_ok-ranges.ensures.ranges ∙ c.as_str.ensures;
   all = c.in_ok-extend_from_slice.ensures.items;
 }
+
+pub returns-clause-only : goal.returns-clause-only
+returns-clause-only c = λ others of.
+    let listed : of.listed ≡ c.in_ok-ranges.ranges.items = sym (c.in_ok-ranges.ensures.complete of.listed of.words (of.spelled ∙ sym c.as_str.ensures)) in
+    of.all ∙ ap (λ (rs : List Range). rs ++ own_range c.args.set.now ∷ []) listed ∙ sym c.in_ok-extend_from_slice.ensures.items

@@ -4,7 +4,7 @@ use Rattle.commands.proofs.TakeLemmas.{offered_next}
 use Rattle.commands.proofs.take.take_range.Goals as goal
 
 pub loop-number-preserved : goal.loop-number-preserved
-loop-number-preserved c =
+loop-number-preserved g c =
     let first = c.args.range.first in
     let number = c.loop-number.number in
     record {

@@ -1,0 +1,312 @@
+-- Reports one after another, and that their lines are those of every right text.
+use Rattle.std.proofs.Common.{◌≡◌, ◌∙◌, ◌+◌, ◌-◌, ◌<◌, ◌≤◌, ◌++◌, ℕ, zero, suc, Bool, true, false, List, [], ◌∷◌, Option, Result, Ok, Err, flat_map, refl, sym, ap, ap₂}
+use Rattle.std.proofs.Common.{length, take, drop, get_or, subst, arith, append_assoc, append-nil, add-zero, zero-add}
+use Rattle.std.proofs.lemmas.List.{take-append-drop, take_more}
+use Rattle.std.proofs.lemmas.List.Concat.{flat_map-append}
+use Rattle.std.specs.List.{range_with_len}
+use Rattle.std.specs.Io.KnownBytes.{Appends}
+use Rattle.plane_core.proofs.OutLemmas.{Appends-append, Appends-nil, AppendsFront-append, AppendsFront-longer}
+use Rattle.survey_core.specs.declared.finding.Finding.{Finding}
+use Rattle.survey_core.specs.declared.job.Job.{Job}
+use Rattle.survey_core.specs.FindingLaws.{FindingsAreDetermined}
+use Rattle.survey_core.specs.Findings.{IsFinding}
+use Rattle.survey_core.specs.Soups.{soup}
+use Rattle.haul_core.specs.declared.range.Range.{Range}
+use Rattle.haul_core.specs.Books.{Held}
+use Rattle.haul_core.specs.Ranges.{AreSmall, IsNormalForm, OneNormalForm, Overlap, is_in}
+use Rattle.haul_core.specs.ReportLines.{report_text}
+use Rattle.haul_core.specs.Reports.{Reported}
+use Rattle.commands.specs.declared.complaint.Complaint.{Complaint}
+use Rattle.commands.specs.declared.complaint.Complaint.TheVariants.{Refused, OutOfMemory, ReadFailed, WriteFailed}
+use Rattle.commands.specs.declared.profile.ProfileNumbers.{ProfileNumbers}
+use Rattle.commands.specs.declared.refusal.Refusal.{Refusal}
+use Rattle.commands.specs.declared.soup_set.SoupSet.{SoupSet}
+use Rattle.commands.specs.Answers.{Answer, Outcome, Reaches, Right, given_right, text_of}
+use Rattle.commands.specs.SoupSets.{AreRangesOf, IsRefused, Bad_list, Overlapping, Too_large, job_named, right_for_set}
+use Rattle.commands.specs.Streams.{Stream, Has, HasFront}
+use Rattle.commands.specs.TakeSteps.{IsOpened, numbers_in_range, numbers_of}
+use Rattle.commands.specs.Work.{AreReportsOn, IsReportOn, TellsReports, work_right}
+use Rattle.commands.specs.WorkSteps.{IsBegun, IsPut, Puts}
+use Rattle.commands.proofs.NumberLemmas.{range_more}
+use Rattle.commands.proofs.TakeLemmas.{listed}
+
+-- the bytes of a stream over two calls, of which the first went well
+abbrev pub over : Option (List ℕ) → Option (List ℕ) → Bool → Stream
+over before after failed = record { before = before; after = after; failed = failed }
+
+lines-append : (one two : List Reported) → flat_map report_text (one ++ two) ≡ flat_map report_text one ++ flat_map report_text two
+lines-append one two = flat_map-append report_text one two
+
+each-append : (job : Job) (worker : ℕ) (ns ms : List ℕ) (rs ss : List Reported) → AreReportsOn job worker ns rs → AreReportsOn job worker ms ss
+    → AreReportsOn job worker (ns ++ ms) (rs ++ ss)
+each-append job worker [] ms [] ss one two = two
+each-append job worker [] ms (r ∷ rs) ss one two = absurd one
+each-append job worker (n ∷ ns) ms [] ss one two = absurd one
+each-append job worker (n ∷ ns) ms (r ∷ rs) ss one two = (one.0, each-append job worker ns ms rs ss one.1 two)
+
+-- no reports on no numbers
+pub puts_nothing : (job : Job) (worker : ℕ) (known : Option (List ℕ)) (failed : Bool) → failed ≡ false → Puts job worker [] (Ok tt) (over known known failed)
+puts_nothing job worker known failed fine = record { reports = []; each = tt; is_written = Appends-nil known; fine = fine }
+
+-- memory that runs out over the first of them
+pub puts_no_memory : (job : Job) (worker : ℕ) (numbers : List ℕ) (known : Option (List ℕ)) (failed : Bool)
+    → Puts job worker numbers (Err OutOfMemory) (over known known failed)
+puts_no_memory job worker numbers known failed =
+    record { done = []; more = numbers; parts = refl; reports = []; each = tt; is_written = Appends-nil known }
+
+-- a report on one number
+pub puts_one : (job : Job) (worker n : ℕ) (report : Reported) (output : Stream) → IsReportOn job worker n report → Has output (report_text report)
+    → output.failed ≡ false → Puts job worker (n ∷ []) (Ok tt) output
+puts_one job worker n report output is wrote fine = record {
+  reports = report ∷ [];
+  each = (is, tt);
+  is_written = subst (Has output) (sym (append-nil (report_text report))) wrote;
+  fine = fine;
+}
+
+-- and one that could not be written whole
+pub puts_failed : (job : Job) (worker n : ℕ) (report : Reported) (output : Stream) → IsReportOn job worker n report → HasFront output (report_text report)
+    → output.failed ≡ true → Puts job worker (n ∷ []) (Err WriteFailed) output
+puts_failed job worker n report output is wrote told = (
+  record {
+    done = n ∷ [];
+    more = [];
+    parts = refl;
+    reports = report ∷ [];
+    each = (is, tt);
+    is_written = subst (HasFront output) (sym (append-nil (report_text report))) wrote;
+  },
+  told,
+)
+
+-- reports on some numbers and then on others
+pub puts_then : (job : Job) (worker : ℕ) (ns ms : List ℕ) (outcome : Outcome) (x y z : Option (List ℕ)) (was failed : Bool)
+    → Puts job worker ns (Ok tt) (over x y was) → Puts job worker ms outcome (over y z failed) → Puts job worker (ns ++ ms) outcome (over x z failed)
+puts_then job worker ns ms (Ok u) x y z was failed one two = record {
+  reports = one.reports ++ two.reports;
+  each = each-append job worker ns ms one.reports two.reports one.each two.each;
+  is_written = subst (Appends x z) (sym (lines-append one.reports two.reports))
+      (Appends-append x y z (flat_map report_text one.reports) (flat_map report_text two.reports) one.is_written two.is_written);
+  fine = two.fine;
+}
+puts_then job worker ns ms (Err OutOfMemory) x y z was failed one two = record {
+  done = ns ++ two.done;
+  more = two.more;
+  parts = ap (λ (ks : List ℕ). ns ++ ks) two.parts ∙ sym (append_assoc ns two.done two.more);
+  reports = one.reports ++ two.reports;
+  each = each-append job worker ns two.done one.reports two.reports one.each two.each;
+  is_written = subst (Appends x z) (sym (lines-append one.reports two.reports))
+      (Appends-append x y z (flat_map report_text one.reports) (flat_map report_text two.reports) one.is_written two.is_written);
+}
+puts_then job worker ns ms (Err WriteFailed) x y z was failed one (two, told) = (
+  record {
+    done = ns ++ two.done;
+    more = two.more;
+    parts = ap (λ (ks : List ℕ). ns ++ ks) two.parts ∙ sym (append_assoc ns two.done two.more);
+    reports = one.reports ++ two.reports;
+    each = each-append job worker ns two.done one.reports two.reports one.each two.each;
+    is_written = subst (HasFront (over x z failed)) (sym (lines-append one.reports two.reports))
+        (AppendsFront-append x y z (flat_map report_text one.reports) (flat_map report_text two.reports) one.is_written two.is_written);
+  },
+  told,
+)
+puts_then job worker ns ms (Err ReadFailed) x y z was failed one two = absurd two
+puts_then job worker ns ms (Err (Refused refusal)) x y z was failed one two = absurd two
+
+-- what stops the first of some numbers stops them all
+pub puts_stops : (job : Job) (worker : ℕ) (ns ms : List ℕ) (complaint : Complaint) (output : Stream) → Puts job worker ns (Err complaint) output
+    → Puts job worker (ns ++ ms) (Err complaint) output
+puts_stops job worker ns ms OutOfMemory output h = record {
+  done = h.done;
+  more = h.more ++ ms;
+  parts = ap (λ (ks : List ℕ). ks ++ ms) h.parts ∙ append_assoc h.done h.more ms;
+  reports = h.reports;
+  each = h.each;
+  is_written = h.is_written;
+}
+puts_stops job worker ns ms WriteFailed output (h, told) = (
+  record {
+    done = h.done;
+    more = h.more ++ ms;
+    parts = ap (λ (ks : List ℕ). ks ++ ms) h.parts ∙ append_assoc h.done h.more ms;
+    reports = h.reports;
+    each = h.each;
+    is_written = h.is_written;
+  },
+  told,
+)
+puts_stops job worker ns ms ReadFailed output h = absurd h
+puts_stops job worker ns ms (Refused refusal) output h = absurd h
+
+-- ---- the numbers of a range
+
+range_split : (a n k : ℕ) → range_with_len a (n + k) ≡ range_with_len a n ++ range_with_len (a + n) k
+range_split a zero k = ap₂ range_with_len (sym (add-zero a)) (zero-add k)
+range_split a (suc n) k =
+    let here : suc n + k ≡ suc (n + k) = omega arith in
+    let there : a + 1 + n ≡ a + suc n = omega arith in
+    ap (range_with_len a) here
+    ∙ ap (λ (more : List ℕ). a ∷ more) (range_split (a + 1) n k ∙ ap (λ (m : ℕ). range_with_len (a + 1) n ++ range_with_len m k) there)
+
+-- one number more of a range
+pub puts_next : (job : Job) (worker first number : ℕ) (outcome : Outcome) (x y z : Option (List ℕ)) (was failed : Bool) → first ≤ number
+    → Puts job worker (range_with_len first (number - first)) (Ok tt) (over x y was) → Puts job worker (number ∷ []) outcome (over y z failed)
+    → Puts job worker (range_with_len first (number + 1 - first)) outcome (over x z failed)
+puts_next job worker first number outcome x y z was failed low one two =
+    let one_more : (number - first) + 1 ≡ number + 1 - first = omega arith in
+    subst (λ (ns : List ℕ). Puts job worker ns outcome (over x z failed))
+    (sym (range_more first (number - first) number (omega arith)) ∙ ap (range_with_len first) one_more)
+    (puts_then job worker (range_with_len first (number - first)) (number ∷ []) outcome x y z was failed one two)
+
+-- what stops one number of a range stops the range
+pub puts_short : (job : Job) (worker first number count : ℕ) (complaint : Complaint) (output : Stream) → first ≤ number → number < first + count
+    → Puts job worker (range_with_len first (number + 1 - first)) (Err complaint) output
+    → Puts job worker (range_with_len first count) (Err complaint) output
+puts_short job worker first number count complaint output low high h =
+    let k = number + 1 - first in
+    let whole : k + (count - k) ≡ count = omega arith in
+    subst (λ (ns : List ℕ). Puts job worker ns (Err complaint) output)
+    (sym (range_split first k (count - k)) ∙ ap (range_with_len first) whole)
+    (puts_stops job worker (range_with_len first k) (range_with_len (first + k) (count - k)) complaint output h)
+
+-- one range more of some
+pub puts_more : (job : Job) (worker : ℕ) (ranges : List Range) (i : ℕ) (d : Range) (outcome : Outcome) (x y z : Option (List ℕ)) (was failed : Bool)
+    → i < length ranges → Puts job worker (numbers_of (take i ranges)) (Ok tt) (over x y was)
+    → Puts job worker (numbers_in_range (get_or ranges i d)) outcome (over y z failed)
+    → Puts job worker (numbers_of (take (i + 1) ranges)) outcome (over x z failed)
+puts_more job worker ranges i d outcome x y z was failed more one two =
+    let r : Range = get_or ranges i d in
+    subst (λ (ns : List ℕ). Puts job worker ns outcome (over x z failed))
+    (sym (ap numbers_of (take_more ranges i d more) ∙ flat_map-append numbers_in_range (take i ranges) (r ∷ [])
+    ∙ ap (λ (ns : List ℕ). numbers_of (take i ranges) ++ ns) (append-nil (numbers_in_range r))))
+    (puts_then job worker (numbers_of (take i ranges)) (numbers_in_range r) outcome x y z was failed one two)
+
+-- what stops the first of some ranges stops them all
+pub puts_early : (job : Job) (worker : ℕ) (ranges : List Range) (k : ℕ) (complaint : Complaint) (output : Stream)
+    → Puts job worker (numbers_of (take k ranges)) (Err complaint) output → Puts job worker (numbers_of ranges) (Err complaint) output
+puts_early job worker ranges k complaint output h =
+    subst (λ (ns : List ℕ). Puts job worker ns (Err complaint) output)
+    (sym (flat_map-append numbers_in_range (take k ranges) (drop k ranges)) ∙ ap numbers_of (take-append-drop k ranges))
+    (puts_stops job worker (numbers_of (take k ranges)) (numbers_of (drop k ranges)) complaint output h)
+
+-- ---- there is one right text
+
+-- two reports of a worker on one soup are equal
+same_report : FindingsAreDetermined → (job : Job) (worker n : ℕ) (r s : Reported) → IsReportOn job worker n r → IsReportOn job worker n s → r ≡ s
+same_report determined job worker n r s one other = λ i. record {
+  job = (one.job_is ∙ sym other.job_is) i;
+  worker = (one.worker_is ∙ sym other.worker_is) i;
+  number = (one.number_is ∙ sym other.number_is) i;
+  finding = (determined job.rule job.profile (soup job.seed n) r.finding s.finding (found r one) (found s other)) i;
+}
+  where
+    found : (t : Reported) → IsReportOn job worker n t → IsFinding job.rule job.profile (soup job.seed n) t.finding
+    found t is =
+        subst (λ (j : Job). IsFinding j.rule j.profile (soup j.seed n) t.finding) is.job_is
+        (subst (λ (k : ℕ). IsFinding t.job.rule t.job.profile (soup t.job.seed k) t.finding) is.number_is is.found.finding)
+
+-- reports on the first of some numbers are the first of the reports on all
+first_reports : FindingsAreDetermined → (job : Job) (worker : ℕ) (done more : List ℕ) (rs all : List Reported) → AreReportsOn job worker done rs
+    → AreReportsOn job worker (done ++ more) all → (rest : List Reported) × (all ≡ rs ++ rest)
+first_reports determined job worker [] more [] all each every = (all, refl)
+first_reports determined job worker [] more (r ∷ rs) all each every = absurd each
+first_reports determined job worker (n ∷ done) more [] all each every = absurd each
+first_reports determined job worker (n ∷ done) more (r ∷ rs) [] each every = absurd every
+first_reports determined job worker (n ∷ done) more (r ∷ rs) (s ∷ all) each every =
+    let after = first_reports determined job worker done more rs all each.1 every.1 in
+    (after.0, ap₂ (λ (t : Reported) (ts : List Reported). t ∷ ts) (same_report determined job worker n s r every.0 each.0) after.1)
+
+-- each right answer over a set that was opened tells reports on its numbers
+record Tells (job : Job) (worker : ℕ) (numbers : List ℕ) (answer : Answer) : Type 0 where
+  pub reports : List Reported
+  pub each : AreReportsOn job worker numbers reports
+  pub told : answer ≡ Ok (flat_map report_text reports)
+
+only_text : OneNormalForm → (job : Job) (worker : ℕ) (set : SoupSet) (held : Held) → IsOpened job set held → (answer : Answer)
+    → right_for_set set (TellsReports job worker) answer → Tells job worker (numbers_of held.terms.ranges) answer
+only_text one_form job worker set held opened (Ok text) is =
+    let same : is.ranges ≡ opened.ranges = opened.only is.ranges is.named in
+    let tells = is.is_told in
+    let forms : tells.normal ≡ held.terms.ranges =
+    one_form tells.normal held.terms.ranges tells.form.normal_form opened.form.normal_form
+    (λ n. tells.form.same n ∙ ap (λ (rs : List Range). is_in rs n) same ∙ sym (opened.form.same n)) in
+    record {
+      reports = tells.reports;
+      each = subst (λ (rs : List Range). AreReportsOn job worker (numbers_of rs) tells.reports) forms tells.each;
+      told = ap Ok tells.told;
+    }
+only_text one_form job worker set held opened (Err (Refused refusal)) (Bad_list not_list place fault told) = absurd (not_list
+    (listed set opened.ranges opened.named))
+only_text one_form job worker set held opened (Err (Refused refusal)) (Too_large ranges named large told) =
+    absurd (large (subst AreSmall (sym (opened.only ranges named)) opened.small))
+only_text one_form job worker set held opened (Err (Refused refusal)) (Overlapping ranges named small overlap told) =
+    absurd (opened.apart (subst Overlap (opened.only ranges named) overlap))
+only_text one_form job worker set held opened (Err OutOfMemory) is = absurd is
+only_text one_form job worker set held opened (Err ReadFailed) is = absurd is
+only_text one_form job worker set held opened (Err WriteFailed) is = absurd is
+
+-- the lines of the first reports are a front of each right text
+front_of : FindingsAreDetermined → (job : Job) (worker : ℕ) (numbers : List ℕ) (answer : Answer) (output : Stream) → Tells job worker numbers answer
+    → IsBegun job worker numbers (HasFront output) → HasFront output (text_of answer)
+front_of determined job worker numbers answer output tells begun =
+    let every = subst (λ (ns : List ℕ). AreReportsOn job worker ns tells.reports) begun.parts tells.each in
+    let rest = first_reports determined job worker begun.done begun.more begun.reports tells.reports begun.each every in
+    let lines : flat_map report_text tells.reports ≡ flat_map report_text begun.reports ++ flat_map report_text rest.0 =
+    ap (flat_map report_text) rest.1 ∙ lines-append begun.reports rest.0 in
+    let is : text_of answer ≡ flat_map report_text begun.reports ++ flat_map report_text rest.0 = ap text_of tells.told ∙ lines in
+    subst (HasFront output) (sym is)
+    (AppendsFront-longer output.before output.after (flat_map report_text begun.reports) (flat_map report_text rest.0) begun.is_written)
+
+-- whole lines are a front of themselves
+begun_whole : (job : Job) (worker : ℕ) (numbers : List ℕ) (output : Stream) → IsBegun job worker numbers (Has output)
+    → IsBegun job worker numbers (HasFront output)
+begun_whole job worker numbers output begun = record {
+  done = begun.done;
+  more = begun.more;
+  parts = begun.parts;
+  reports = begun.reports;
+  each = begun.each;
+  is_written = (flat_map report_text begun.reports, [], sym (append-nil (flat_map report_text begun.reports)), begun.is_written);
+}
+
+-- what became of the reports on a set that was opened is a right end of the command
+pub reaches_work : FindingsAreDetermined → OneNormalForm → (set : SoupSet) (worker : ℕ) (numbers : ProfileNumbers) (rule_text : List ℕ) (job : Job)
+    (held : Held)
+    (outcome : Outcome) (output : Stream)
+    → job_named set numbers rule_text ≡ Ok job → IsOpened job set held → Puts job worker (numbers_of held.terms.ranges) outcome output
+    → Reaches false false (work_right set worker numbers rule_text) outcome output
+reaches_work determined one_form set worker numbers rule_text job held outcome output named opened puts = go outcome puts
+  where
+    right : Right
+    right = work_right set worker numbers rule_text
+
+    tells : (answer : Answer) → right answer → Tells job worker (numbers_of held.terms.ranges) answer
+    tells answer is = only_text one_form job worker set held opened answer (rw named at is)
+
+    never : (complaint : Complaint) → right (Err complaint) → ⊥
+    never complaint is =
+        let told = (tells (Err complaint) is).told in
+        cc
+
+    go : (o : Outcome) → Puts job worker (numbers_of held.terms.ranges) o output → Reaches false false right o output
+    go (Ok u) put =
+        let text : List ℕ = flat_map report_text put.reports in
+        let is : right_for_set set (TellsReports job worker) (Ok text) = record {
+          ranges = opened.ranges;
+          named = opened.named;
+          small = opened.small;
+          apart = opened.apart;
+          is_told = record { normal = held.terms.ranges; form = opened.form; reports = put.reports; each = put.each; told = refl };
+        } in
+        ((text, rw named is, put.is_written), put.fine)
+    go (Err OutOfMemory) begun = (
+      λ unread complaint is. absurd (never complaint is),
+      λ answer is. front_of determined job worker (numbers_of held.terms.ranges) answer output (tells answer is)
+          (begun_whole job worker (numbers_of held.terms.ranges) output begun),
+    )
+    go (Err WriteFailed) (begun, told) = (
+      (never, λ text is. front_of determined job worker (numbers_of held.terms.ranges) (Ok text) output (tells (Ok text) is) begun),
+      told,
+    )
+    go (Err ReadFailed) put = absurd put
+    go (Err (Refused refusal)) put = absurd put

@@ -1,0 +1,38 @@
+-- What `census work` is asked for.
+use Rattle.std.specs.Prelude.{◌≡◌, ℕ, List, [], ◌∷◌, flat_map}
+use Rattle.survey_core.specs.declared.job.Job.{Job}
+use Rattle.haul_core.specs.declared.range.Range.{Range}
+use Rattle.haul_core.specs.Ranges.{IsNormalForm}
+use Rattle.haul_core.specs.ReportLines.{report_text}
+use Rattle.haul_core.specs.Reports.{IsReport, Reported}
+use Rattle.commands.specs.declared.profile.ProfileNumbers.{ProfileNumbers}
+use Rattle.commands.specs.declared.soup_set.SoupSet.{SoupSet}
+use Rattle.commands.specs.Answers.{Right, given_right}
+use Rattle.commands.specs.SoupSets.{job_named, right_for_set}
+use Rattle.commands.specs.TakeSteps.{numbers_of}
+
+-- a worker's report on the soup of a job with this number
+pub record IsReportOn (job : Job) (worker number : ℕ) (report : Reported) : Type 0 where
+  pub job_is : report.job ≡ job
+  pub worker_is : report.worker ≡ worker
+  pub number_is : report.number ≡ number
+  pub found : IsReport report
+
+-- a worker's reports on the soups with these numbers, one on each, in this order
+abbrev pub AreReportsOn : Job → ℕ → List ℕ → List Reported → Type 0
+AreReportsOn job worker [] [] = Unit {0}
+AreReportsOn job worker [] (r ∷ reports) = ⊥
+AreReportsOn job worker (n ∷ numbers) [] = ⊥
+AreReportsOn job worker (n ∷ numbers) (r ∷ reports) = IsReportOn job worker n r × AreReportsOn job worker numbers reports
+
+-- a text that tells a worker's reports on all soups of a set, a line each, ascending by their numbers
+pub record TellsReports (job : Job) (worker : ℕ) (ranges : List Range) (text : List ℕ) : Type 0 where
+  pub normal : List Range
+  pub form : IsNormalForm ranges normal
+  pub reports : List Reported
+  pub each : AreReportsOn job worker (numbers_of normal) reports
+  pub told : text ≡ flat_map report_text reports
+
+-- the reports of the worker on the whole set; what makes up its job is looked at first
+abbrev pub work_right : SoupSet → ℕ → ProfileNumbers → List ℕ → Right
+work_right set worker numbers rule_text = given_right (job_named set numbers rule_text) (λ job. right_for_set set (TellsReports job worker))

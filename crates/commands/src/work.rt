@@ -1,0 +1,149 @@
+ghost use Rattle.std.specs.Prelude.{◌≡◌, ◌<◌, ◌≤◌, ◌∷◌, [], IfErr, false};
+ghost use Rattle.haul_core.specs.Ranges.{AreBelow, end_of, number_bound};
+ghost use Rattle.haul_core.specs.ReportLines.{report_text};
+ghost use Rattle.haul_core.specs.Reports.{IsWorker};
+ghost use Rattle.plane_core.specs.Out.{Writes};
+ghost use Rattle.commands.specs.Answers.{Ends, Reaches};
+ghost use Rattle.commands.specs.Complaints.{status_of};
+ghost use Rattle.commands.specs.Profiles.{AreInRange};
+ghost use Rattle.commands.specs.Streams.{stream};
+ghost use Rattle.commands.specs.TakeSteps.{numbers_in_range, numbers_of};
+ghost use Rattle.commands.specs.Work.{work_right};
+ghost use Rattle.commands.specs.WorkSteps.{Puts};
+
+use crate::complaint::Complaint;
+use crate::profile::ProfileNumbers;
+use crate::soup_set::SoupSet;
+use crate::status::Status;
+use crate::take::{job, open_haul};
+use haul_core::range::{Range, one_normal_form};
+use haul_core::report::Report;
+use haul_core::report_line::write_report_line;
+use plane_core::output::{Out, WriteError};
+use std::alloc::Global;
+use std::io::Write;
+use survey_core::finding::findings_are_determined;
+use survey_core::job::Job;
+
+/// Surveys all soups of a set for a worker, 1 to 16, under a profile and the rule of a text, and writes a report line for each,
+/// ascending by the soups' numbers.
+///
+/// Each line is sent on as soon as it is whole. Each of the profile's numbers is in its range, and neither writer may have
+/// failed. What is refused is looked for in the order of [`do_take`](crate::take::do_take). `census work` is this call over the
+/// standard streams.
+///
+/// # Errors
+///
+/// The status is `Refused` as of `do_take`; `OutOfMemory`, and then the lines before stand whole; or `Failed` if the output can't
+/// be written. Then one line stands on `errors`; a failure to write that line is not reported.
+pub fn do_work<W: Write, E: Write>(
+    alloc: Global,
+    set: &SoupSet<'_>,
+    worker: u8,
+    profile: ProfileNumbers,
+    rule_text: &str,
+    output: &mut Out<W>,
+    errors: &mut Out<E>,
+) -> Status
+    requires worker { IsWorker worker }
+    requires profile { AreInRange profile }
+    requires output { output.old.failed ≡ false }
+    requires errors { errors.old.failed ≡ false }
+    ensures ends { Ends false false (work_right set.now worker profile rule_text.now) result
+        (stream W.contents output.old output.new) (stream E.contents errors.old errors.new) }
+    ensures untouched { result ≡ Status.Refused → output.new ≡ output.old }
+{
+    match work(alloc, set, worker, profile, rule_text, output) {
+        Ok(()) => Status::Done,
+        Err(complaint) => complaint.tell(errors),
+    }
+}
+
+fn work<W: Write>(
+    alloc: Global,
+    set: &SoupSet<'_>,
+    worker: u8,
+    profile: ProfileNumbers,
+    rule_text: &str,
+    output: &mut Out<W>,
+) -> Result<(), Complaint>
+    requires worker { IsWorker worker }
+    requires profile { AreInRange profile }
+    requires output { output.old.failed ≡ false }
+    ensures reached { Reaches false false (work_right set.now worker profile rule_text.now) result (stream W.contents output.old output.new) }
+    ensures untouched { IfErr result (λ complaint. status_of complaint ≡ Status.Refused → output.new ≡ output.old) }
+{
+    findings_are_determined();
+    one_normal_form();
+    let job = job(set, profile, rule_text)?;
+    // No report is offered to this haul: it has the ranges in normal form.
+    let haul = open_haul(alloc, job, set)?;
+    put_reports(alloc, &job, worker, haul.ranges(), output)
+}
+
+/// Writes the reports on the soups of some ranges.
+fn put_reports<W: Write>(
+    alloc: Global,
+    job: &Job,
+    worker: u8,
+    ranges: &[Range],
+    output: &mut Out<W>,
+) -> Result<(), Complaint>
+    requires worker { IsWorker worker }
+    requires ranges { AreBelow number_bound ranges.now }
+    requires output { output.old.failed ≡ false }
+    ensures { Puts job.now worker (numbers_of ranges.now) result (stream W.contents output.old output.new) }
+{
+    for range in ranges {
+        put_range(alloc, job, worker, *range, output)?;
+    }
+    Ok(())
+}
+
+/// Writes the reports on the soups of a range.
+fn put_range<W: Write>(
+    alloc: Global,
+    job: &Job,
+    worker: u8,
+    range: Range,
+    output: &mut Out<W>,
+) -> Result<(), Complaint>
+    requires worker { IsWorker worker }
+    requires range { end_of range ≤ number_bound }
+    requires output { output.old.failed ≡ false }
+    ensures { Puts job.now worker (numbers_in_range range) result (stream W.contents output.old output.new) }
+{
+    for number in range.first..range.first + range.count {
+        put_report(alloc, job, worker, number, output)?;
+    }
+    Ok(())
+}
+
+/// Surveys a soup and writes the report.
+fn put_report<W: Write>(
+    alloc: Global,
+    job: &Job,
+    worker: u8,
+    number: u64,
+    output: &mut Out<W>,
+) -> Result<(), Complaint>
+    requires worker { IsWorker worker }
+    requires number { number < number_bound }
+    requires output { output.old.failed ≡ false }
+    ensures { Puts job.now worker (number ∷ []) result (stream W.contents output.old output.new) }
+{
+    let Ok(report) = Report::make(alloc, job, worker, number) else {
+        return Err(Complaint::OutOfMemory);
+    };
+    put_line(&report, output)?;
+    Ok(())
+}
+
+/// Writes the line of a report and sends it on, so that no line waits for the next one.
+fn put_line<W: Write>(report: &Report, output: &mut Out<W>) -> Result<(), WriteError>
+    requires { output.old.failed ≡ false }
+    ensures { Writes W.contents output.old output.new result (report_text report.now) }
+{
+    write_report_line(report, output)?;
+    output.flush()
+}

@@ -1,0 +1,21 @@
+/// Hears how far a haul has come.
+///
+/// No contract speaks of it, so nothing that a call returns or writes to its output depends on what is heard here.
+pub trait Watch {
+    /// A haul of so many soups is to be completed.
+    fn begin(&mut self, _whole: u64) {}
+
+    /// So many soups of the haul are taken by now.
+    fn taken(&mut self, count: u64);
+
+    /// No further soup will be taken.
+    fn end(&mut self) {}
+}
+
+/// Hears nothing.
+#[derive(Clone, Copy, Debug)]
+pub struct Unwatched;
+
+impl Watch for Unwatched {
+    fn taken(&mut self, _count: u64) {}
+}
