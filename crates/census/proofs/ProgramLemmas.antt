@@ -96,7 +96,8 @@ front_left false right before buffered below held failed (never, fronts) kept = 
 
 -- a complaint that ended a request is one that may
 ended_by : (request : Request) (bytes : List ℕ) (complaint : Complaint) (before buffered below : Option (List ℕ)) (held : List ℕ) (failed : Bool)
-    → Reaches (reads_input request) (is_whole request) (right_for request bytes) (Err complaint) (record { before = append_known before []; after = buffered; failed = failed })
+    → Reaches (reads_input request) (is_whole request) (right_for request bytes) (Err complaint)
+    (record { before = append_known before []; after = buffered; failed = failed })
     → Keeps buffered (append_known below held) → MayEnd request bytes before below complaint
 ended_by request bytes (Refused refusal) before buffered below held failed reached kept =
     (reached.0, front_sent before buffered below held [] [] reached.1 kept)

@@ -283,7 +283,8 @@ asks-progress : (program c : Text) → IsNumberUpTo 16777216 c
 unfolding clap_on_literals
 asks-progress program c h =
     let first = reads_count c h in
-    let flag : IsFlag built.rules progress_built (count_row c ∷ []) = record { sets = refl; missing = refl; least = refl; most = refl; fresh = refl; accepted = refl } in
+    let flag : IsFlag built.rules progress_built
+    (count_row c ∷ []) = record { sets = refl; missing = refl; least = refl; most = refl; fresh = refl; accepted = refl } in
     let second = reads_flag built (counted c) 1 (count_row c ∷ []) progress_built (codes "progress") (codes "--progress") first.holds flag refl refl refl in
     let rows : List Row = count_row c ∷ row_with progress_built (codes "true") ∷ [] in
     asks program (codes "take") (codes "--count" ∷ c ∷ codes "--progress" ∷ []) built (reacted built.rules progress_built [] (counted c)) 1 rows refl has_take

@@ -134,7 +134,8 @@ counted w c = pending built (hired w) count_built c
 
 reads_worker : (w : Text) → IsNumberFromTo 1 16 w → Reads built nothing_held 1 (codes "--worker" ∷ w ∷ []) (hired w) 1 (worker_row w ∷ [])
 reads_worker w h =
-    reads_option built nothing_held 1 [] worker_built w (codes "--worker") (nothing_holds built) (worker_use w [] refl h) worker_named (numeral_plain w h.numeral)
+    reads_option built nothing_held 1 [] worker_built w (codes "--worker") (nothing_holds built) (worker_use w [] refl h) worker_named
+    (numeral_plain w h.numeral)
 
 -- one option more, in the next word
 reads_more : (h : Held) (words : List Text) (rows : List Row) (a : Rule) (v word : Text) → Reads built nothing_held 1 words h 1 rows
@@ -193,7 +194,8 @@ asks-seed : (program w c text : Text) → IsNumberFromTo 1 16 w → IsNumberUpTo
     ≡ Works text 0 (digits_value 10 c) [] (digits_value 10 w) (codes "b3s23")
 unfolding clap_on_literals
 asks-seed program w c text is_w is_c is_value =
-    asks_option program w c text (codes "--seed") seed_built is_w is_c (text_use seed_built text (worker_row w ∷ count_row c ∷ []) seed_one refl refl) seed_named
+    asks_option program w c text (codes "--seed") seed_built is_w is_c (text_use seed_built text
+    (worker_row w ∷ count_row c ∷ []) seed_one refl refl) seed_named
     (plain_word-is text is_value) refl
     ∙ ap₂ (λ o n. worked text (Some 0) o [] n (codes "b3s23")) (number_read 16777216 c is_c.0 is_c.1) (from_read 1 16 w is_w)
 
@@ -202,7 +204,8 @@ asks-also : (program w c text : Text) → IsNumberFromTo 1 16 w → IsNumberUpTo
     ≡ Works [] 0 (digits_value 10 c) text (digits_value 10 w) (codes "b3s23")
 unfolding clap_on_literals
 asks-also program w c text is_w is_c is_value =
-    asks_option program w c text (codes "--also") also_built is_w is_c (text_use also_built text (worker_row w ∷ count_row c ∷ []) also_one refl refl) also_named
+    asks_option program w c text (codes "--also") also_built is_w is_c (text_use also_built text
+    (worker_row w ∷ count_row c ∷ []) also_one refl refl) also_named
     (plain_word-is text is_value) refl
     ∙ ap₂ (λ o n. worked [] (Some 0) o text n (codes "b3s23")) (number_read 16777216 c is_c.0 is_c.1) (from_read 1 16 w is_w)
 
@@ -211,7 +214,8 @@ asks-rule : (program w c text : Text) → IsNumberFromTo 1 16 w → IsNumberUpTo
     ≡ Works [] 0 (digits_value 10 c) [] (digits_value 10 w) text
 unfolding clap_on_literals
 asks-rule program w c text is_w is_c is_value =
-    asks_option program w c text (codes "--rule") rule_built is_w is_c (text_use rule_built text (worker_row w ∷ count_row c ∷ []) rule_one refl refl) rule_named
+    asks_option program w c text (codes "--rule") rule_built is_w is_c (text_use rule_built text
+    (worker_row w ∷ count_row c ∷ []) rule_one refl refl) rule_named
     (plain_word-is text is_value) refl
     ∙ ap₂ (λ o n. worked [] (Some 0) o [] n text) (number_read 16777216 c is_c.0 is_c.1) (from_read 1 16 w is_w)
 

@@ -235,7 +235,8 @@ only_text one_form job worker set held opened (Ok text) is =
       each = subst (λ (rs : List Range). AreReportsOn job worker (numbers_of rs) tells.reports) forms tells.each;
       told = ap Ok tells.told;
     }
-only_text one_form job worker set held opened (Err (Refused refusal)) (Bad_list not_list place fault told) = absurd (not_list (listed set opened.ranges opened.named))
+only_text one_form job worker set held opened (Err (Refused refusal)) (Bad_list not_list place fault told) = absurd (not_list
+    (listed set opened.ranges opened.named))
 only_text one_form job worker set held opened (Err (Refused refusal)) (Too_large ranges named large told) =
     absurd (large (subst AreSmall (sym (opened.only ranges named)) opened.small))
 only_text one_form job worker set held opened (Err (Refused refusal)) (Overlapping ranges named small overlap told) =
@@ -269,7 +270,8 @@ begun_whole job worker numbers output begun = record {
 }
 
 -- what became of the reports on a set that was opened is a right end of the command
-pub reaches_work : FindingsAreDetermined → OneNormalForm → (set : SoupSet) (worker : ℕ) (numbers : ProfileNumbers) (rule_text : List ℕ) (job : Job) (held : Held)
+pub reaches_work : FindingsAreDetermined → OneNormalForm → (set : SoupSet) (worker : ℕ) (numbers : ProfileNumbers) (rule_text : List ℕ) (job : Job)
+    (held : Held)
     (outcome : Outcome) (output : Stream)
     → job_named set numbers rule_text ≡ Ok job → IsOpened job set worker held → Puts job worker (numbers_of held.terms.ranges) outcome output
     → Reaches false false (work_right set worker numbers rule_text) outcome output

@@ -17,6 +17,7 @@ mod progress;
 mod show;
 mod soup;
 mod take;
+mod work;
 
 const BLINKER: &[u8] = b"OOO\n";
 

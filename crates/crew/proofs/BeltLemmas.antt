@@ -1,12 +1,13 @@
 -- Each atomic step keeps the rule of the belt.
+use Rattle.std.specs.Prelude.{IfNone, Option, None, Some}
 use Rattle.std.proofs.Common.{◌≡◌, ◌≢◌, ◌<◌, ◌≤◌, ◌+◌, ◌⊎◌, ℕ, zero, suc, Bool, true, false, true≢false, cond, nat_eq, List, [], ◌∷◌, ◌++◌, All}
 use Rattle.std.proofs.Common.{set, count_by, drop, filter, map, sym, refl, ap, ◌∙◌, subst, arith, append_assoc, append-nil, inl, inr, ⊎_elim, get_or}
 use Rattle.std.proofs.Common.{length, length-append}
 use Rattle.std.proofs.lemmas.Bool.{eq-eqb, ne_eqb}
 use Rattle.std.proofs.lemmas.List.Elements.{All-append, All-cons, All-head, All-nil, All-tail, filter-append}
-use Rattle.std.proofs.lemmas.List.{map-append}
+use Rattle.std.proofs.lemmas.List.{map-append, nil_from_length}
 use Rattle.std.proofs.lemmas.List.Sums.{sum_by-append, sum_by-cons, sum_by_push}
-use Rattle.crossbeam_queue.specs.Fifo.{Forks, Learns, Merges, Pops, Pushes}
+use Rattle.crossbeam_queue.specs.Fifo.{Forks, Held, Learns, Merges, Pops, Pushes}
 use Rattle.atomic_table.proofs.Lists.{at_set}
 use mathlib.Core.Logic.{dite}
 use mathlib.Core.Option.{some, some-injective, some-ne-none}
@@ -15,7 +16,7 @@ use lib.ListN.{get_elem?}
 use Rattle.std.proofs.Common.{add-zero}
 use Rattle.std.specs.List.{range_with_len}
 use Rattle.atomic_table.specs.Seated.{TableId}
-use Rattle.crew.specs.Belts.{IsWhole, Presented, left_of, notes_of, silent}
+use Rattle.crew.specs.Belts.{IsWhole, NothingLeft, Presented, left_of, notes_of, silent, with_first}
 use Rattle.crew.specs.BeltRule.{Delivers, Gets, Holds, IsFront, Puts, Tells, both_shares, entry_of, first_notes, first_share, left_over, new_sender}
 use Rattle.crew.specs.BeltRule.{owners, owns, receives, share, spent_share, with_sender, with_senders}
 use Rattle.crew.specs.declared.belt.Share.{Share}
@@ -29,6 +30,11 @@ is_none p q e = ap (λ (b : Bool). cond {A = ℕ} b 1 0) (ne_eqb p q e)
 
 off : false ≡ true → ⊥
 off e = true≢false (sym e)
+
+-- what holds anyway, of an option
+pub if_none : {T : Type 0} (o : Option T) (P : Type 0) → P → IfNone o P
+if_none None P p = p
+if_none (Some x) P p = tt
 
 range_more : (a n : ℕ) → range_with_len a n ++ (a + n) ∷ [] ≡ range_with_len a (suc n)
 range_more a zero = λ i. add-zero a i ∷ []
@@ -58,12 +64,12 @@ module _ {N : Type 0} where
       ap (λ (l : List (ℕ × N)). map (λ (m : ℕ × N). m.1) l) (filter-append (λ (m : ℕ × N). nat_eq p m.0) xs ys)
       ∙ map-append (λ (m : ℕ × N). m.1) (filter (λ (m : ℕ × N). nat_eq p m.0) xs) (filter (λ (m : ℕ × N). nat_eq p m.0) ys)
 
-  notes_first : (p q : ℕ) (note : N) (more : List (ℕ × N)) → q ≡ p → notes_of q ((p, note) ∷ more) ≡ note ∷ notes_of q more
+  pub notes_first : (p q : ℕ) (note : N) (more : List (ℕ × N)) → q ≡ p → notes_of q ((p, note) ∷ more) ≡ note ∷ notes_of q more
   notes_first p q note more e =
       ap (λ (b : Bool). map (λ (m : ℕ × N). m.1) (cond b ((p, note) ∷ filter (λ (m : ℕ × N). nat_eq q m.0) more) (filter (λ (m : ℕ × N). nat_eq q m.0) more)))
       (eq-eqb q p e)
 
-  notes_other : (p q : ℕ) (note : N) (more : List (ℕ × N)) → q ≢ p → notes_of q ((p, note) ∷ more) ≡ notes_of q more
+  pub notes_other : (p q : ℕ) (note : N) (more : List (ℕ × N)) → q ≢ p → notes_of q ((p, note) ∷ more) ≡ notes_of q more
   notes_other p q note more e =
       ap (λ (b : Bool). map (λ (m : ℕ × N). m.1) (cond b ((p, note) ∷ filter (λ (m : ℕ × N). nat_eq q m.0) more) (filter (λ (m : ℕ × N). nat_eq q m.0) more)))
       (ne_eqb q p e)
@@ -327,3 +333,55 @@ module _ {N : Type 0} where
   fronts_kept v items tells k z lt =
       let e = get_or v.senders k z in
       (notes_of e.0 items, tells k z lt ∙ notes-append e.0 v.got items)
+
+  -- ---- notes taken out of the rest
+
+  took_one : (got : List (ℕ × N)) (x : ℕ × N) (e : ℕ × List N) → IsFront (notes_of e.0 (got ++ x ∷ [])) e.1
+      → left_over got e ≡ with_first x.0 x.1 (left_over (got ++ x ∷ []) e)
+  took_one got x e f =
+      let front = notes_of e.0 got in
+      let now : drop (length (notes_of e.0 (got ++ x ∷ []))) e.1 ≡ f.0 =
+      ap (λ (l : List N). drop (length (notes_of e.0 (got ++ x ∷ []))) l) f.1 ∙ drop_front (notes_of e.0 (got ++ x ∷ [])) f.0 in
+      dite (ℕ_discrete e.0 x.0)
+      (λ same.
+      let grown : notes_of e.0 (got ++ x ∷ []) ≡ front ++ x.1 ∷ [] =
+      notes-append e.0 got (x ∷ []) ∙ ap (λ (l : List N). front ++ l) (notes_first x.0 e.0 x.1 [] same) in
+      let was : drop (length front) e.1 ≡ x.1 ∷ f.0 =
+      ap (λ (l : List N). drop (length front) l) (f.1 ∙ ap (λ (l : List N). l ++ f.0) grown ∙ append_assoc front (x.1 ∷ []) f.0)
+      ∙ drop_front front (x.1 ∷ f.0) in
+      λ i. (
+        e.0,
+        (was ∙ ap (λ (l : List N). x.1 ∷ l) (sym now)
+            ∙ sym (ap (λ (b : Bool). cond b (x.1 ∷ drop (length (notes_of e.0 (got ++ x ∷ []))) e.1) (drop (length (notes_of e.0 (got ++ x ∷ []))) e.1)) (eq-eqb e.0 x.0 same))) i,
+      ))
+      (λ apart.
+      let kept : notes_of e.0 (got ++ x ∷ []) ≡ front = notes_keep x.0 e.0 x.1 got apart in
+      λ i. (
+        e.0,
+        (ap (λ (l : List N). drop (length l) e.1) (sym kept)
+            ∙ sym (ap (λ (b : Bool). cond b (x.1 ∷ drop (length (notes_of e.0 (got ++ x ∷ []))) e.1) (drop (length (notes_of e.0 (got ++ x ∷ []))) e.1)) (ne_eqb e.0 x.0 apart))) i,
+      ))
+
+  pub took : (got : List (ℕ × N)) (x : ℕ × N) (senders : List (ℕ × List N)) → All (λ (e : ℕ × List N). IsFront (notes_of e.0 (got ++ x ∷ [])) e.1) senders
+      → map (left_over got) senders ≡ map (with_first x.0 x.1) (map (left_over (got ++ x ∷ [])) senders)
+  took got x [] fronts = refl
+  took got x (e ∷ es) fronts = λ i.
+      took_one got x e (All-head (λ (e : ℕ × List N). IsFront (notes_of e.0 (got ++ x ∷ [])) e.1) e es fronts) i
+      ∷ took got x es (All-tail (λ (e : ℕ × List N). IsFront (notes_of e.0 (got ++ x ∷ [])) e.1) e es fronts) i
+
+  left_none : (got : List (ℕ × N)) (senders : List (ℕ × List N)) → All (λ (e : ℕ × List N). e.1 ≡ notes_of e.0 got) senders
+      → NothingLeft (map (left_over got) senders)
+  left_none got [] whole = All-nil (λ (e : ℕ × List N). e.1 ≡ [])
+  left_none got (e ∷ es) whole =
+      let front = notes_of e.0 got in
+      let is : e.1 ≡ front = All-head (λ (e : ℕ × List N). e.1 ≡ notes_of e.0 got) e es whole in
+      All-cons (λ (e : ℕ × List N). e.1 ≡ []) (left_over got e) (map (left_over got) es)
+      (ap (λ (l : List N). drop (length front) l) (is ∙ sym (append-nil front)) ∙ drop_front front [])
+      (left_none got es (All-tail (λ (e : ℕ × List N). e.1 ≡ notes_of e.0 got) e es whole))
+
+  -- an empty queue
+  pub none_left : (v : Share N) → Held 0 (Tells v) → NothingLeft (map (left_over v.got) v.senders)
+  none_left v (items, none, tells) =
+      let empty : items ≡ [] = nil_from_length items none in
+      left_none v.got v.senders (subst (λ (l : List (ℕ × N)). All (λ (e : ℕ × List N). e.1 ≡ notes_of e.0 l) v.senders)
+      (ap (λ (l : List (ℕ × N)). v.got ++ l) empty ∙ append-nil v.got) tells)

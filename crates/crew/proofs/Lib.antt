@@ -1,3 +1,6 @@
 mod BeltLemmas
+mod CrewLemmas
+mod ShiftLemmas
 mod SumLemmas
+mod TakeLemmas
 mod TicketLemmas

@@ -1,5 +1,5 @@
 -- A belt: notes of several senders, for one receiver, each sender's in its order.
-use Rattle.std.specs.Prelude.{◌≡◌, ◌≤◌, ℕ, List, [], ◌∷◌, ◌++◌, drop, filter, length, map, nat_eq}
+use Rattle.std.specs.Prelude.{◌≡◌, ◌≤◌, ℕ, All, List, [], ◌∷◌, ◌++◌, drop, filter, length, map, nat_eq, if◌then◌else◌}
 use Rattle.atomic_table.specs.Seated.{TableId}
 
 -- a belt: what tells it from any other, and how many senders were made for it
@@ -49,3 +49,15 @@ module _ {N : Type 0} where
   -- the notes that were got of the sender, and those that are left of it, are the notes that it presented, in its order
   abbrev pub IsWhole : List (ℕ × N) → Presented N → Type 0
   IsWhole got pass = notes_of pass.number got ++ drop (length (notes_of pass.number got)) pass.notes ≡ pass.notes
+
+  -- the entry with this note in front, if it is the sender's
+  abbrev pub with_first : ℕ → N → ℕ × List N → ℕ × List N
+  with_first sender note e = (e.0, if nat_eq e.0 sender then note ∷ e.1 else e.1)
+
+  -- the note was the first that was left of some sender. If the sender's pass was not handed back, no list has changed
+  abbrev pub TookFirst : List (ℕ × List N) → List (ℕ × List N) → N → Type 0
+  TookFirst old new note = (sender : ℕ) × (old ≡ map (with_first sender note) new)
+
+  -- nothing is left of the senders whose passes were handed back
+  abbrev pub NothingLeft : List (ℕ × List N) → Type 0
+  NothingLeft rest = All (λ e. e.1 ≡ []) rest

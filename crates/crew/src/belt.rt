@@ -5,10 +5,10 @@
 //! queue      2 x, 1 b                    2 x, 1 b, 1 c
 //! receiver   1 a      receives 2 x       1 a, 2 x
 //! ```
-ghost use Rattle.std.specs.Prelude.{◌≡◌, ◌<◌, ◌≤◌, ◌+◌, ◌∷◌, [], All, IfOk, IfSome, IfErr, OnOk, MatchResult, MatchOption, length, map, vec_capacity, true};
+ghost use Rattle.std.specs.Prelude.{◌≡◌, ◌<◌, ◌≤◌, ◌+◌, ◌∷◌, [], All, IfNone, IfOk, IfSome, MatchResult, MatchOption, length, map, vec_capacity, true};
 ghost use Rattle.std.specs.List.{range_with_len};
 ghost use Rattle.crossbeam_queue.specs.Passes.{IsPassOf, IsSamePass, view};
-ghost use Rattle.crew.specs.Belts.{GotOne, IsWhole, deaf, left_of, silent, with_note};
+ghost use Rattle.crew.specs.Belts.{GotOne, IsWhole, NothingLeft, TookFirst, deaf, left_of, silent, with_note};
 ghost use Rattle.crew.specs.BeltRule.{first_share, share, with_senders};
 
 use crossbeam_queue::protocol::{Join, Lesson, Outcome, Protocol, Split};
@@ -113,6 +113,15 @@ impl<N> Model for SenderPass<N> {
     ghost view = { λ s. record { belt = s.pass.table_id; number = s.number; notes = first_notes s.pass.me.0.client.senders } };
 
     ghost invariant = { λ s. (s.pass.me.0.client.senders ≡ (s.number, first_notes s.pass.me.0.client.senders) ∷ []) × (s.pass.me.1 ≡ []) };
+}
+
+impl<N> SenderPass<N> {
+    /// The sender's number.
+    pub fn number(&self) -> u8
+        ensures { result ≡ self.now.number }
+    {
+        self.number
+    }
 }
 
 /// What the receiver receives notes with. Contracts see the notes that it got, each with its sender's number, in order.
@@ -238,6 +247,19 @@ impl<N: Drop> Belt<N> {
         ensures { MatchOption result (pass.new ≡ pass.old) (GotOne pass.old pass.new) }
     {
         let (_, note) = self.queue.try_pop_as::<Get>(&mut pass.pass)?;
+        Some(note)
+    }
+}
+
+impl<N: Drop> Rest<N> {
+    /// Takes out a note, which is the first that is left of its sender. `None` if nothing is left of the senders whose
+    /// passes were handed back.
+    pub fn next<R: Wait>(&mut self, rt: &R) -> Option<N>
+        ensures taken { IfSome result (TookFirst self.old self.new) }
+        ensures none { IfNone result (NothingLeft self.old) }
+        ensures kept { IfNone result (self.new ≡ self.old) }
+    {
+        let (_, note) = self.queue.pop_as::<Get, R>(rt, &mut self.pass)?;
         Some(note)
     }
 }

@@ -3,9 +3,18 @@
 
 /// A queue from several senders to one receiver.
 pub mod belt;
+/// The collector, which offers what it receives to a haul.
+pub mod collector;
+/// Gates, which may stop a worker.
+pub mod gate;
+/// What a worker says to the collector.
+pub mod note;
+mod shift;
 #[cfg(test)]
 mod tests;
 /// Numbers that threads draw, each once.
 pub mod tickets;
+/// The workers, and the call that runs them.
+pub mod workers;
 /// Who hears how far a haul has come.
 pub mod watch;

@@ -188,6 +188,7 @@ impl Tickets {
         ensures drawn { IfSome result (λ n. pass.new ≡ with_number n pass.old) }
         ensures none { IfNone result (pass.new ≡ with_none pass.old) }
         ensures heard { pass.old.heard_none ≡ true → result ≡ None }
+        ensures series { pass.new.series ≡ pass.old.series }
     {
         if pass.heard_none {
             return None;

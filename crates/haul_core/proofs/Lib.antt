@@ -21,6 +21,7 @@ mod MissingLemmas
 mod NormalLemmas
 mod NumberLemmas
 mod OneClaim
+mod OnePlace
 mod OrderLemmas
 mod RangeLemmas
 mod ReportLemmas

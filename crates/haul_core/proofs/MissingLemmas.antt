@@ -11,7 +11,7 @@ use Rattle.std.specs.declared.cmp.Ordering.TheVariants.{Less}
 use Rattle.std.proofs.lemmas.Bool.{cases_Bool, eq-eqb, eqb-true, false≢true}
 use Rattle.std.proofs.lemmas.Bool.Decides.{nat_tests}
 use Rattle.std.proofs.lemmas.List.{length-append, length-map}
-use Rattle.std.proofs.lemmas.List.Elements.{All-head, All-tail, filter_agree}
+use Rattle.std.proofs.lemmas.List.Elements.{All-append, All-cons, All-filter, All-head, All-nil, All-tail, filter_agree}
 use Rattle.std.proofs.lemmas.List.FromFn.{length-range_with_len}
 use Rattle.std.proofs.lemmas.List.Kept.{IsStrictlyIncreasing-filter}
 use Rattle.std.proofs.lemmas.List.Sums.{count_by-le-length, sum_by-append, sum_by-cons}
@@ -21,7 +21,7 @@ use Rattle.haul_core.specs.declared.range.Range.{Range}
 use Rattle.haul_core.specs.Keeping.{numbers_in}
 use Rattle.haul_core.specs.Missing.{AreAll, IsComplete, is_taken, missing_of, numbers_of, numbers_of_range}
 use Rattle.haul_core.specs.MissingSteps.{has_no_worker}
-use Rattle.haul_core.specs.Ranges.{AreNormal, BeginAfter, end_of, is_in, is_in_range, size_of}
+use Rattle.haul_core.specs.Ranges.{AreBelow, AreNormal, BeginAfter, end_of, is_in, is_in_range, size_of}
 
 -- how often a number stands in a list
 abbrev pub counted : ℕ → List ℕ → ℕ
@@ -313,3 +313,20 @@ pub adds_no : (workers : List (ℕ × ℕ)) (place end : ℕ) → place < end �
 adds_no workers place end low some =
     sym (adds_next workers place end low
     ∙ ap (λ (b : Bool). cond (not b) (place ∷ adds workers (place + 1) end) (adds workers (place + 1) end)) some)
+
+-- ---- how large missing numbers are
+
+below_range : (bound a k : ℕ) → a + k ≤ bound → All (λ n. n < bound) (range_with_len a k)
+below_range bound a zero le = All-nil (λ n. n < bound)
+below_range bound a (suc k) le = All-cons (λ n. n < bound) a (range_with_len (a + 1) k) (omega arith) (below_range bound (a + 1) k (omega arith))
+
+below_numbers : (bound : ℕ) (ranges : List Range) → AreBelow bound ranges → All (λ n. n < bound) (numbers_of ranges)
+below_numbers bound [] below = All-nil (λ n. n < bound)
+below_numbers bound (r ∷ more) below =
+    All-append (λ n. n < bound) (numbers_of_range r) (numbers_of more)
+    (below_range bound r.first r.count (All-head (λ (s : Range). end_of s ≤ bound) r more below))
+    (below_numbers bound more (All-tail (λ (s : Range). end_of s ≤ bound) r more below))
+
+pub missing_below : (bound : ℕ) (ranges : List Range) (taken : List (ℕ × ℕ)) → AreBelow bound ranges → All (λ n. n < bound) (missing_of ranges taken)
+missing_below bound ranges taken below =
+    All-filter (λ n. not (is_taken taken n)) (λ n. n < bound) (numbers_of ranges) (below_numbers bound ranges below)

@@ -263,7 +263,7 @@ pub line_of-lined : (f : List ℕ) (fs : List (List ℕ)) → line_of f fs ≡ l
 unfolding line_of
 line_of-lined f fs = refl
 
-stops_after : (rest : List ℕ) → (rest ≡ []) ⊎ has_byte 32 rest → Stops 32 rest
+pub stops_after : (rest : List ℕ) → (rest ≡ []) ⊎ has_byte 32 rest → Stops 32 rest
 stops_after [] h = tt
 stops_after (b ∷ rest) (inl e) = absurd (cc)
 stops_after (b ∷ rest) (inr e) = e

@@ -57,3 +57,7 @@ LinesHaveOneClaim = (one other : Claimed) → IsClaim one → IsClaim other → 
 -- a line with a fault is that of no lawful claim
 abbrev pub FaultyLinesHaveNoClaim : Type 0
 FaultyLinesHaveNoClaim = (line : List ℕ) (place : ℕ) → IsFirstFaultOf line place → ¬ IsClaimLine line
+
+-- a line has its first fault at one place
+abbrev pub LinesHaveOneFault : Type 0
+LinesHaveOneFault = (line : List ℕ) (one other : ℕ) → IsFirstFaultOf line one → IsFirstFaultOf line other → one ≡ other

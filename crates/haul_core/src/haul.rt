@@ -1,4 +1,5 @@
-ghost use Rattle.std.specs.Prelude.{◌≡◌, ◌⊎◌, ◌↔◌, ◌<◌, ◌≤◌, ◌+◌, ◌^◌, ◌++◌, ◌∷◌, [], ℕ, List, Option, None, Some, IfErr, IfOk, IsErrOf, IsTrue, OnErr, OnOk, false, length, true, vec_len, vec_capacity, nat_eq, is_err};
+ghost use Rattle.std.specs.Prelude.{◌≡◌, ◌⊎◌, ◌↔◌, ◌<◌, ◌≤◌, ◌+◌, ◌^◌, ◌++◌, ◌∷◌, [], ℕ, All, List, Option, None, Some, IfErr, IfOk, IsErrOf, IsTrue, OnErr, OnOk, false, length, true, vec_len, vec_capacity, nat_eq, is_err};
+ghost use Rattle.std.specs.List.{IsDistinct};
 ghost use Rattle.std.specs.List.Sorted.{IsStrictlyIncreasing};
 ghost use Rattle.indexmap.specs.IndexMap.{get, spare};
 ghost use Rattle.haul_core.specs.Books.{IsReply, StandsFor, has_closing, refusal_of};
@@ -195,9 +196,10 @@ impl Haul {
         self.count
     }
 
-    /// The worker and the number of each report taken, in order.
+    /// The worker and the number of each report taken, in order. No number stands twice.
     pub fn taken(&self) -> &[(u8, u64)]
-        ensures { result.now ≡ self.now.taken }
+        ensures taken { result.now ≡ self.now.taken }
+        ensures distinct { IsDistinct nat_eq (numbers_in self.now.taken) }
     {
         let Haul { taken, .. } = self;
         taken.as_slice()
@@ -211,6 +213,7 @@ impl Haul {
     pub fn missing(&self) -> Result<Vec<u64>, AllocError>
         ensures missing { IfOk result (λ missing. missing.items ≡ missing_of self.now.terms.ranges self.now.taken) }
         ensures ascending { IfOk result (λ missing. IsStrictlyIncreasing missing.items) }
+        ensures below { IfOk result (λ missing. All (λ n. n < number_bound) missing.items) }
     {
         let Haul {
             alloc,
@@ -284,6 +287,7 @@ impl Haul {
             → StandsFor (arrivals ++ arrival.Offer report ∷ []) self.new }
         ensures taken { OnOk result (self.new.taken ≡ self.old.taken ++ (report.worker, report.number) ∷ []) }
         ensures terms { self.new.terms ≡ self.old.terms }
+        ensures closed { self.new.closed ≡ self.old.closed }
         ensures kept { OnErr result (self.new ≡ self.old) }
         ensures report { IfErr result (λ refused. refused.report ≡ report) }
     {

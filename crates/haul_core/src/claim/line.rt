@@ -2,7 +2,7 @@
 
 ghost use Rattle.std.specs.Prelude.{◌≡◌, ◌↔◌, ◌-◌, ℕ, IfNone, IfOk, IfSome, IsErrOf, IsTrue, MatchResult, length, option_map};
 ghost use Rattle.haul_core.specs.ClaimSteps.{HasFront, IsAfter, MayFollow, claimed};
-ghost use Rattle.haul_core.specs.Claims.{FaultyLinesHaveNoClaim, IsClaimLine, IsFirstFaultOf, LinesHaveOneClaim};
+ghost use Rattle.haul_core.specs.Claims.{FaultyLinesHaveNoClaim, IsClaimLine, IsFirstFaultOf, LinesHaveOneClaim, LinesHaveOneFault};
 ghost use Rattle.haul_core.specs.FieldSteps.{Tells};
 ghost use Rattle.haul_core.specs.ReportLines.{Claimed, IsClaim, claim_line, count_field};
 ghost use Rattle.haul_core.specs.declared.front.Front.{Front as Before};
@@ -186,12 +186,11 @@ fn is_after(last: Option<&[u8]>, code: &[u8]) -> bool
     }
 }
 
-/// The laws of lines: a line is that of one claim at most, and a line with a fault is that of none.
+/// The laws of lines: a line is that of one claim at most, a line with a fault is that of none, and a line has its first
+/// fault at one place.
 #[tactic(auto, using(crate::proofs::OneClaim::one_claim))]
 pub fn lines_tell_claims()
     ensures one { LinesHaveOneClaim }
     ensures faulty { FaultyLinesHaveNoClaim }
+    ensures place { LinesHaveOneFault }
 {}
-
-#[cfg(test)]
-mod tests;

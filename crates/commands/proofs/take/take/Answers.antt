@@ -9,7 +9,8 @@ use Rattle.commands.proofs.take.take.Goals as goal
 pub returns-in_err-census-clause-reached : goal.returns-in_err-census-clause-reached
 returns-in_err-census-clause-reached g c =
     rw (err_of _ _ c.from_residual.ensures.1)
-    (Reaches_stopped true (take_right c.args.set.now c.args.profile c.args.rule_text.now) c.in_err-census.field-0.0 _ c.in_err-census.ensures.stops (Appends-nil _))
+    (Reaches_stopped true (take_right c.args.set.now c.args.profile c.args.rule_text.now) c.in_err-census.field-0.0 _ c.in_err-census.ensures.stops
+    (Appends-nil _))
 
 pub returns-in_err-write_haul-clause-reached : goal.returns-in_err-write_haul-clause-reached
 returns-in_err-write_haul-clause-reached g c =

@@ -1,12 +1,12 @@
-use Rattle.std.proofs.Common.{◌≡◌, ◌∙◌, ℕ, IfOk, List, ap, filter, subst, sym}
+use Rattle.std.proofs.Common.{◌≡◌, ◌<◌, ◌∙◌, ℕ, All, IfOk, List, ap, filter, subst, sym}
 use Rattle.std.specs.List.Sorted.{IsStrictlyIncreasing}
 use Rattle.std.proofs.lemmas.Result.{IfOk-weaker}
 use Rattle.haul_core.specs.declared.range.Range.{Range}
 use Rattle.haul_core.specs.Books.{Held}
 use Rattle.haul_core.specs.Missing.{missing_of, numbers_of}
 use Rattle.haul_core.specs.MissingSteps.{has_no_worker}
-use Rattle.haul_core.specs.Ranges.{AreNormal}
-use Rattle.haul_core.proofs.MissingLemmas.{missing_ascends, same_missing}
+use Rattle.haul_core.specs.Ranges.{AreBelow, AreNormal, number_bound}
+use Rattle.haul_core.proofs.MissingLemmas.{missing_ascends, missing_below, same_missing}
 use Rattle.haul_core.proofs.haul.Haul.missing.Goals as goal
 
 pub returns-clause-missing : goal.returns-clause-missing
@@ -25,3 +25,10 @@ returns-clause-ascending c =
     let normal : AreNormal now.terms.ranges = subst (λ (held : Held). AreNormal held.terms.ranges) c.self.view_is c.self.invariant.normal in
     IfOk-weaker c.missing.result (λ missing. missing.items ≡ missing_of now.terms.ranges now.taken) (λ missing. IsStrictlyIncreasing missing.items)
     (λ missing is. subst IsStrictlyIncreasing (sym is) (missing_ascends now.terms.ranges now.taken normal)) (returns-clause-missing c)
+
+pub returns-clause-below : goal.returns-clause-below
+returns-clause-below c =
+    let now = c.args.self.now in
+    let below : AreBelow number_bound now.terms.ranges = subst (λ (held : Held). AreBelow number_bound held.terms.ranges) c.self.view_is c.self.invariant.below in
+    IfOk-weaker c.missing.result (λ missing. missing.items ≡ missing_of now.terms.ranges now.taken) (λ missing. All (λ n. n < number_bound) missing.items)
+    (λ missing is. subst (All (λ n. n < number_bound)) (sym is) (missing_below number_bound now.terms.ranges now.taken below)) (returns-clause-missing c)

@@ -1,0 +1,336 @@
+-- From what each worker presented to what the haul has taken.
+use Rattle.std.proofs.Common.{◌≡◌, ◌≢◌, ◌<◌, ◌≤◌, ◌+◌, ◌++◌, ◌∙◌, ℕ, zero, suc, Bool, cond, nat_eq, All, List, [], ◌∷◌, ap, arith, drop, filter, get_or, inl, inr}
+use Rattle.std.proofs.Common.{length, map, refl, subst, sym, ⊎_elim}
+use Rattle.std.specs.Prelude.{AllPairs, Contains, IfSome, Option, slice_index}
+use Rattle.std.specs.List.Sorted.{IsStrictlyIncreasing}
+use Rattle.std.specs.List.{IsDistinct, range_with_len}
+use Rattle.std.proofs.lemmas.Bool.{eq-eqb, ne_eqb}
+use Rattle.std.proofs.lemmas.Grind.{flat_map-append}
+use Rattle.std.proofs.lemmas.List.{append-nil, length-map, map-append}
+use Rattle.std.proofs.lemmas.List.FromFn.{length-range_with_len}
+use Rattle.std.proofs.lemmas.List.Elements.{All-append, All-cons, All-head, All-map, All-nil, All-tail, Contains-get_or}
+use Rattle.std.proofs.lemmas.List.Kept.{AllPairs-cons, AllPairs-from_increasing}
+use Rattle.std.proofs.lemmas.Map.Keys.{IsDistinct-tail}
+use mathlib.Core.Logic.{dite}
+use native.Mathlib.Decide.{ℕ_discrete}
+use Rattle.atomic_table.specs.Seated.{TableId}
+use Rattle.haul_core.specs.Books.{Held, entry}
+use Rattle.haul_core.specs.Keeping.{numbers_in}
+use Rattle.haul_core.specs.Reports.{Reported}
+use Rattle.crew.specs.Belts.{IsWhole, Line, Presented, Received, deaf, notes_of, silent}
+use Rattle.crew.specs.Crews.{Collected, IsPart, report_in, reports_in}
+use Rattle.crew.specs.Shifts.{HasWorked, StopsAt, reported, sender_numbers}
+use Rattle.crew.specs.Takes.{HasTaken, taken_by, was_missing}
+use Rattle.crew.specs.declared.note.Note.{Note}
+use Rattle.crew.specs.declared.note.Note.TheVariants.{Done, Report}
+use Rattle.crew.proofs.BeltLemmas.{notes_first, notes_other}
+
+abbrev Rises : List ℕ → Type 0
+Rises xs = AllPairs (λ x y. x < y) xs
+
+-- ---- facts of parts of a list
+
+module _ {X : Type 0} (P : X → Type 0) where
+  pub all_left : (xs ys : List X) → All P (xs ++ ys) → All P xs
+  all_left [] ys h = All-nil P
+  all_left (x ∷ xs) ys h = All-cons P x xs (All-head P x (xs ++ ys) h) (all_left xs ys (All-tail P x (xs ++ ys) h))
+
+  pub all_right : (xs ys : List X) → All P (xs ++ ys) → All P ys
+  all_right [] ys h = h
+  all_right (x ∷ xs) ys h = all_right xs ys (All-tail P x (xs ++ ys) h)
+
+  pub all_part : (part xs : List X) → IsPart part xs → All P xs → All P part
+  all_part part [] p h = subst (All P) (sym p) (All-nil P)
+  all_part part (x ∷ xs) p h =
+      ⊎_elim (λ (q : IsPart part xs). all_part part xs q (All-tail P x xs h))
+      (λ (q : (rest : List X) × (part ≡ x ∷ rest) × IsPart rest xs).
+      subst (All P) (sym q.1) (All-cons P x q.0 (All-head P x xs h) (all_part q.0 xs q.2 (All-tail P x xs h)))) p
+
+rises_head : (x : ℕ) (xs : List ℕ) → Rises (x ∷ xs) → All (λ y. x < y) xs
+rises_head x xs h k d lt = h 0 (suc k) d (omega arith) (omega arith)
+
+rises_tail : (x : ℕ) (xs : List ℕ) → Rises (x ∷ xs) → Rises xs
+rises_tail x xs h i j d lt below = h (suc i) (suc j) d (omega arith) (omega arith)
+
+rises_left : (xs ys : List ℕ) → Rises (xs ++ ys) → Rises xs
+rises_left [] ys h = λ i j d lt below. absurd (omega arith)
+rises_left (x ∷ xs) ys h =
+    AllPairs-cons (λ a b. a < b) x xs (all_left (λ y. x < y) xs ys (rises_head x (xs ++ ys) h)) (rises_left xs ys (rises_tail x (xs ++ ys) h))
+
+rises_part : (part xs : List ℕ) → IsPart part xs → Rises xs → Rises part
+rises_part part [] p h = subst Rises (sym p) h
+rises_part part (x ∷ xs) p h =
+    ⊎_elim (λ (q : IsPart part xs). rises_part part xs q (rises_tail x xs h))
+    (λ (q : (rest : List ℕ) × (part ≡ x ∷ rest) × IsPart rest xs).
+    subst Rises (sym q.1) (AllPairs-cons (λ a b. a < b) x q.0 (all_part (λ y. x < y) q.0 xs q.2 (rises_head x xs h))
+    (rises_part q.0 xs q.2 (rises_tail x xs h)))) p
+
+pub distinct_right : (xs ys : List ℕ) → IsDistinct nat_eq (xs ++ ys) → IsDistinct nat_eq ys
+distinct_right [] ys h = h
+distinct_right (x ∷ xs) ys h = distinct_right xs ys (IsDistinct-tail nat_eq x (xs ++ ys) h)
+
+-- ---- numbers at places of the missing list
+
+at_places : (missing places : List ℕ) → All (λ t. t < length missing) places → All (Contains missing) (map (slice_index missing) places)
+at_places missing [] below = All-nil (Contains missing)
+at_places missing (t ∷ ts) below =
+    All-cons (Contains missing) (slice_index missing t) (map (slice_index missing) ts)
+    (Contains-get_or missing t 0 (All-head (λ s. s < length missing) t ts below))
+    (at_places missing ts (All-tail (λ s. s < length missing) t ts below))
+
+above : (missing : List ℕ) → Rises missing → (t : ℕ) (ts : List ℕ) → All (λ s. t < s) ts → All (λ s. s < length missing) ts
+    → All (λ n. slice_index missing t < n) (map (slice_index missing) ts)
+above missing up t [] more below = All-nil (λ n. slice_index missing t < n)
+above missing up t (s ∷ ss) more below =
+    All-cons (λ n. slice_index missing t < n) (slice_index missing s) (map (slice_index missing) ss)
+    (up t s 0 (All-head (λ u. t < u) s ss more) (All-head (λ u. u < length missing) s ss below))
+    (above missing up t ss (All-tail (λ u. t < u) s ss more) (All-tail (λ u. u < length missing) s ss below))
+
+rises_at : (missing places : List ℕ) → Rises missing → Rises places → All (λ t. t < length missing) places → Rises (map (slice_index missing) places)
+rises_at missing [] up rise below = λ i j d lt small. absurd (omega arith)
+rises_at missing (t ∷ ts) up rise below =
+    AllPairs-cons (λ a b. a < b) (slice_index missing t) (map (slice_index missing) ts)
+    (above missing up t ts (rises_head t ts rise) (All-tail (λ s. s < length missing) t ts below))
+    (rises_at missing ts up (rises_tail t ts rise) (All-tail (λ s. s < length missing) t ts below))
+
+-- ---- what was received of one worker
+
+-- a report of the worker, of a missing number
+abbrev IsOwn : List ℕ → ℕ → Reported → Type 0
+IsOwn missing worker r = (r.worker ≡ worker) × Contains missing r.number
+
+pub record ReceivedOf (missing : List ℕ) (worker : ℕ) (got : List (ℕ × Note)) : Type 0 where
+  pub own : All (IsOwn missing worker) (reported (notes_of worker got))
+  pub rises : Rises (map (λ r. r.number) (reported (notes_of worker got)))
+
+both : (missing : List ℕ) (worker : ℕ) (rs : List Reported) → All (λ r. r.worker ≡ worker) rs → All (Contains missing) (map (λ (r : Reported). r.number) rs)
+    → All (IsOwn missing worker) rs
+both missing worker [] own listed = All-nil (IsOwn missing worker)
+both missing worker (r ∷ rs) own listed =
+    All-cons (IsOwn missing worker) r rs
+    (All-head (λ (s : Reported). s.worker ≡ worker) r rs own, All-head (Contains missing) r.number (map (λ (s : Reported). s.number) rs) listed)
+    (both missing worker rs (All-tail (λ (s : Reported). s.worker ≡ worker) r rs own)
+    (All-tail (Contains missing) r.number (map (λ (s : Reported). s.number) rs) listed))
+
+received_of : (name : TableId) (missing : List ℕ) (got : List (ℕ × Note)) (pass : Presented Note) → Rises missing → HasWorked name missing pass
+    → IsWhole got pass → ReceivedOf missing pass.number got
+received_of name missing got pass up worked whole =
+    let h = worked.1 in
+    let front = notes_of pass.number got in
+    let rest = drop (length front) pass.notes in
+    let parts : reported pass.notes ≡ reported front ++ reported rest = ap reported (sym whole) ∙ flat_map-append report_in front rest in
+    let number : Reported → ℕ = λ r. r.number in
+    let numbers : map number (reported front) ++ map number (reported rest) ≡ map (slice_index missing) worked.0 =
+    sym (map-append number (reported front) (reported rest)) ∙ ap (λ (l : List Reported). map number l) (sym parts) ∙ h.numbers in
+    record {
+      own = both missing pass.number (reported front)
+          (all_left (λ (r : Reported). r.worker ≡ pass.number) (reported front) (reported rest)
+          (subst (λ (l : List Reported). All (λ (r : Reported). r.worker ≡ pass.number) l) parts h.own))
+          (all_left (Contains missing) (map number (reported front)) (map number (reported rest))
+          (subst (All (Contains missing)) (sym numbers) (at_places missing worked.0 h.below)));
+      rises = rises_left (map number (reported front)) (map number (reported rest))
+          (subst Rises (sym numbers) (rises_at missing worked.0 up h.ascending h.below));
+    }
+
+-- each worker's number is that of a sender
+sender_of : (P : ℕ → Type 0) (first n : ℕ) (passes : List (Presented Note)) → sender_numbers passes ≡ range_with_len first n
+    → All (λ (s : Presented Note). P s.number) passes → (worker : ℕ) → first ≤ worker → worker < first + n → P worker
+sender_of P first zero passes is all worker le lt = absurd (omega arith)
+sender_of P first (suc n) [] is all worker le lt = absurd (let e : 0 ≡ suc (length (range_with_len (first + 1) n)) = ap length is in omega arith)
+sender_of P first (suc n) (s ∷ ss) is all worker le lt =
+    dite (ℕ_discrete first worker)
+    (λ same. subst P (ap (λ (l : List ℕ). get_or l 0 0) is ∙ same) (All-head (λ (t : Presented Note). P t.number) s ss all))
+    (λ apart. sender_of P (first + 1) n ss (ap (λ (l : List ℕ). drop 1 l) is) (All-tail (λ (t : Presented Note). P t.number) s ss all) worker
+    (omega (arith, apart)) (omega arith))
+
+pub received_each : (name : TableId) (missing : List ℕ) (got : List (ℕ × Note)) (passes : List (Presented Note)) (workers : ℕ) → Rises missing
+    → sender_numbers passes ≡ range_with_len 1 workers → All (HasWorked name missing) passes → All (IsWhole got) passes
+    → (worker : ℕ) → 1 ≤ worker → worker ≤ workers → ReceivedOf missing worker got
+received_each name missing got passes workers up numbers worked whole worker le ge =
+    sender_of (λ w. ReceivedOf missing w got) 1 workers passes numbers
+    (λ k d lt. received_of name missing got (get_or passes k d) up (worked k d lt) (whole k d lt)) worker le (omega arith)
+
+-- ---- what was received of all workers
+
+reported_first : (p : ℕ) (note : Note) (more : List (ℕ × Note)) → reported (notes_of p ((p, note) ∷ more)) ≡ report_in note ++ reported (notes_of p more)
+reported_first p note more = ap reported (notes_first p p note more refl)
+
+-- each report stands beside its worker's number
+pub all_own : (Q : ℕ → Reported → Type 0) (got : List (ℕ × Note)) (workers : ℕ) → All (λ m. (1 ≤ m.0) × (m.0 ≤ workers)) got
+    → ((w : ℕ) → 1 ≤ w → w ≤ workers → All (Q w) (reported (notes_of w got))) → All (λ m. All (Q m.0) (report_in m.1)) got
+all_own Q [] workers few each = All-nil (λ m. All (Q m.0) (report_in m.1))
+all_own Q (m ∷ ms) workers few each =
+    let here = All-head (λ (n : ℕ × Note). (1 ≤ n.0) × (n.0 ≤ workers)) m ms few in
+    let first : reported (notes_of m.0 (m ∷ ms)) ≡ report_in m.1 ++ reported (notes_of m.0 ms) = reported_first m.0 m.1 ms in
+    All-cons (λ (n : ℕ × Note). All (Q n.0) (report_in n.1)) m ms
+    (all_left (Q m.0) (report_in m.1) (reported (notes_of m.0 ms)) (subst (All (Q m.0)) first (each m.0 here.0 here.1)))
+    (all_own Q ms workers (All-tail (λ (n : ℕ × Note). (1 ≤ n.0) × (n.0 ≤ workers)) m ms few)
+    (λ w le ge. dite (ℕ_discrete w m.0)
+    (λ same. all_right (Q w) (report_in m.1) (reported (notes_of w ms))
+    (subst (All (Q w)) (ap reported (notes_first m.0 w m.1 ms same)) (each w le ge)))
+    (λ apart. subst (All (Q w)) (ap reported (notes_other m.0 w m.1 ms apart)) (each w le ge))))
+
+pub all_reports : (Q : ℕ → Reported → Type 0) (P : Reported → Type 0) (got : List (ℕ × Note)) → ((m : ℕ × Note) → All (Q m.0) (report_in m.1)
+    → All P (report_in m.1))
+    → All (λ m. All (Q m.0) (report_in m.1)) got → All P (reports_in got)
+all_reports Q P [] turn all = All-nil P
+all_reports Q P (m ∷ ms) turn all =
+    All-append P (report_in m.1) (reports_in ms) (turn m (All-head (λ (n : ℕ × Note). All (Q n.0) (report_in n.1)) m ms all))
+    (all_reports Q P ms turn (All-tail (λ (n : ℕ × Note). All (Q n.0) (report_in n.1)) m ms all))
+
+-- what is taken of a worker, were all its reports taken, is what was received of it
+by_yes : (w : ℕ) (t : ℕ × ℕ) (ts : List (ℕ × ℕ)) → w ≡ t.0 → taken_by w (t ∷ ts) ≡ t.1 ∷ taken_by w ts
+by_yes w t ts e =
+    ap (λ (b : Bool). map (λ (s : ℕ × ℕ). s.1) (cond b (t ∷ filter (λ (s : ℕ × ℕ). nat_eq w s.0) ts) (filter (λ (s : ℕ × ℕ). nat_eq w s.0) ts)))
+    (eq-eqb w t.0 e)
+
+by_no : (w : ℕ) (t : ℕ × ℕ) (ts : List (ℕ × ℕ)) → w ≢ t.0 → taken_by w (t ∷ ts) ≡ taken_by w ts
+by_no w t ts e =
+    ap (λ (b : Bool). map (λ (s : ℕ × ℕ). s.1) (cond b (t ∷ filter (λ (s : ℕ × ℕ). nat_eq w s.0) ts) (filter (λ (s : ℕ × ℕ). nat_eq w s.0) ts)))
+    (ne_eqb w t.0 e)
+
+taken_part : (w : ℕ) (part rs : List Reported) → IsPart part rs → IsPart (taken_by w (map entry part)) (taken_by w (map entry rs))
+taken_part w part [] p = ap (λ (l : List Reported). taken_by w (map entry l)) p
+taken_part w part (r ∷ rs) p =
+    dite (ℕ_discrete w r.worker)
+    (λ same. subst (IsPart (taken_by w (map entry part))) (sym (by_yes w (entry r) (map entry rs) same))
+    (⊎_elim (λ (q : IsPart part rs). inl (taken_part w part rs q))
+    (λ (q : (rest : List Reported) × (part ≡ r ∷ rest) × IsPart rest rs).
+    inr (
+      taken_by w (map entry q.0),
+      ap (λ (l : List Reported). taken_by w (map entry l)) q.1 ∙ by_yes w (entry r) (map entry q.0) same,
+      taken_part w q.0 rs q.2,
+    )) p))
+    (λ apart. subst (IsPart (taken_by w (map entry part))) (sym (by_no w (entry r) (map entry rs) apart))
+    (⊎_elim (λ (q : IsPart part rs). taken_part w part rs q)
+    (λ (q : (rest : List Reported) × (part ≡ r ∷ rest) × IsPart rest rs).
+    subst (λ (l : List ℕ). IsPart l (taken_by w (map entry rs)))
+    (sym (ap (λ (l : List Reported). taken_by w (map entry l)) q.1 ∙ by_no w (entry r) (map entry q.0) apart)) (taken_part w q.0 rs q.2)) p))
+
+taken_all : (missing : List ℕ) (w : ℕ) (got : List (ℕ × Note)) → All (λ m. All (IsOwn missing m.0) (report_in m.1)) got
+    → taken_by w (map entry (reports_in got)) ≡ map (λ r. r.number) (reported (notes_of w got))
+taken_all missing w [] own = refl
+taken_all missing w ((p, Done worker) ∷ ms) own =
+    let more = taken_all missing w ms (All-tail (λ (m : ℕ × Note). All (IsOwn missing m.0) (report_in m.1)) (p, Done worker) ms own) in
+    dite (ℕ_discrete w p)
+    (λ same. more ∙ sym (ap (λ (l : List Note). map (λ (r : Reported). r.number) (reported l)) (notes_first p w (Done worker) ms same)))
+    (λ apart. more ∙ sym (ap (λ (l : List Note). map (λ (r : Reported). r.number) (reported l)) (notes_other p w (Done worker) ms apart)))
+taken_all missing w ((p, Report r) ∷ ms) own =
+    let more = taken_all missing w ms (All-tail (λ (m : ℕ × Note). All (IsOwn missing m.0) (report_in m.1)) (p, Report r) ms own) in
+    let mine : r.worker ≡ p =
+    (All-head (IsOwn missing p) r [] (All-head (λ (m : ℕ × Note). All (IsOwn missing m.0) (report_in m.1)) (p, Report r) ms own)).0 in
+    dite (ℕ_discrete w p)
+    (λ same. by_yes w (entry r) (map entry (reports_in ms)) (same ∙ sym mine) ∙ ap (λ (l : List ℕ). r.number ∷ l) more
+    ∙ sym (ap (λ (l : List Note). map (λ (s : Reported). s.number) (reported l)) (notes_first p w (Report r) ms same)))
+    (λ apart. by_no w (entry r) (map entry (reports_in ms)) (λ e. apart (e ∙ mine)) ∙ more
+    ∙ sym (ap (λ (l : List Note). map (λ (s : Reported). s.number) (reported l)) (notes_other p w (Report r) ms apart)))
+
+-- ---- the whole crew
+
+-- what was taken, of what was received of the workers
+pub has_taken : {name : TableId} (old new : Held) (workers : ℕ) (got : List (ℕ × Note)) (passes : List (Presented Note))
+    → Rises (was_missing old) → sender_numbers passes ≡ range_with_len 1 workers → All (HasWorked name (was_missing old)) passes
+    → All (IsWhole got) passes → All (λ m. (1 ≤ m.0) × (m.0 ≤ workers)) got → new.terms ≡ old.terms → new.closed ≡ old.closed
+    → (taken : (part : List Reported) × IsPart part (reports_in got) × (new.taken ≡ old.taken ++ map entry part))
+    → IsDistinct nat_eq (numbers_in new.taken) → HasTaken workers old new
+has_taken {name} old new workers got passes up numbers worked whole few terms closed taken distinct =
+    let missing = was_missing old in
+    let part = taken.0 in
+    let each = received_each name missing got passes workers up numbers worked whole in
+    let own : All (λ (m : ℕ × Note). All (IsOwn missing m.0) (report_in m.1)) got =
+    all_own (IsOwn missing) got workers few (λ w le ge. (each w le ge).own) in
+    let of_workers : All (λ (r : Reported). (1 ≤ r.worker) × (r.worker ≤ workers)) part =
+    all_part (λ (r : Reported). (1 ≤ r.worker) × (r.worker ≤ workers)) part (reports_in got) taken.1 (workers_in got few own) in
+    let listed : All (λ (r : Reported). Contains missing r.number) part =
+    all_part (λ (r : Reported). Contains missing r.number) part (reports_in got) taken.1
+    (all_reports (IsOwn missing) (λ (r : Reported). Contains missing r.number) got (λ m h k d lt. (h k d lt).1) own) in
+    record {
+      terms = terms;
+      closed = closed;
+      entries = map entry part;
+      taken = taken.2;
+      by_workers = All-map (λ (t : ℕ × ℕ). (1 ≤ t.0) × (t.0 ≤ workers)) entry part of_workers;
+      missing = All-map (λ (t : ℕ × ℕ). Contains missing t.1) entry part listed;
+      once = distinct_right (numbers_in old.taken) (numbers_in (map entry part))
+          (subst (IsDistinct nat_eq) (ap numbers_in taken.2 ∙ map-append (λ (t : ℕ × ℕ). t.1) old.taken (map entry part)) distinct);
+      ascending = λ w le ge.
+          rises_part (taken_by w (map entry part)) (taken_by w (map entry (reports_in got))) (taken_part w part (reports_in got) taken.1)
+          (subst Rises (sym (taken_all missing w got own)) (each w le ge).rises);
+    }
+  where
+    workers_in : (got : List (ℕ × Note)) → All (λ m. (1 ≤ m.0) × (m.0 ≤ workers)) got
+        → All (λ (m : ℕ × Note). All (IsOwn (was_missing old) m.0) (report_in m.1)) got
+        → All (λ (r : Reported). (1 ≤ r.worker) × (r.worker ≤ workers)) (reports_in got)
+    workers_in [] few own = All-nil (λ (r : Reported). (1 ≤ r.worker) × (r.worker ≤ workers))
+    workers_in (m ∷ ms) few own =
+        let P : Reported → Type 0 = λ r. (1 ≤ r.worker) × (r.worker ≤ workers) in
+        let here = All-head (λ (n : ℕ × Note). (1 ≤ n.0) × (n.0 ≤ workers)) m ms few in
+        let mine = All-head (λ (n : ℕ × Note). All (IsOwn (was_missing old) n.0) (report_in n.1)) m ms own in
+        All-append P (report_in m.1) (reports_in ms)
+        (λ k d lt. let e = (mine k d lt).0 in (omega (arith, here.0, e), omega (arith, here.1, e)))
+        (workers_in ms (All-tail (λ (n : ℕ × Note). (1 ≤ n.0) × (n.0 ≤ workers)) m ms few)
+        (All-tail (λ (n : ℕ × Note). All (IsOwn (was_missing old) n.0) (report_in n.1)) m ms own))
+
+distinct_none : IsDistinct nat_eq []
+unfolding IsDistinct
+distinct_none = tt
+
+pub taken_none : (workers : ℕ) (held : Held) → HasTaken workers held held
+taken_none workers held = record {
+  terms = refl;
+  closed = refl;
+  entries = [];
+  taken = sym (append-nil held.taken);
+  by_workers = All-nil (λ (t : ℕ × ℕ). (1 ≤ t.0) × (t.0 ≤ workers));
+  missing = All-nil (λ (t : ℕ × ℕ). Contains (was_missing held) t.1);
+  once = distinct_none;
+  ascending = λ w le ge i j d lt small. absurd (omega arith);
+}
+
+-- ---- what a crew begins with
+
+pub all_silent : (name : TableId) (numbers : List ℕ) → All (λ s. s ≡ silent {N = Note} name s.number) (map (silent {N = Note} name) numbers)
+all_silent name [] = All-nil (λ s. s ≡ silent {N = Note} name s.number)
+all_silent name (n ∷ ns) =
+    All-cons (λ (s : Presented Note). s ≡ silent {N = Note} name s.number) (silent {N = Note} name n) (map (silent {N =
+    Note} name) ns) refl (all_silent name ns)
+
+pub silent_numbers : (name : TableId) (numbers : List ℕ) → sender_numbers (map (silent {N = Note} name) numbers) ≡ numbers
+silent_numbers name [] = refl
+silent_numbers name (n ∷ ns) = ap (λ (l : List ℕ). n ∷ l) (silent_numbers name ns)
+
+pub silent_length : (name : TableId) (workers : ℕ) → length (map (silent {N = Note} name) (range_with_len 1 workers)) ≡ workers
+silent_length name workers = length-map (range_with_len 1 workers) (silent {N = Note} name) ∙ length-range_with_len 1 workers
+
+-- ---- what it leaves
+
+pub belts_of : (name : TableId) (missing : List ℕ) (passes : List (Presented Note)) → All (HasWorked name missing) passes
+    → All (λ (s : Presented Note). s.belt ≡ name) passes
+belts_of name missing passes worked k d lt = (worked k d lt).1.belt
+
+pub crew_has_taken : {name : TableId} {started : ℕ} {before after : Received Note} {old mid : Held} {answered : Bool} (belt : Line) (new : Held) (workers : ℕ)
+    (missing : List ℕ) (passes first back : List (Presented Note)) → Collected started 0 before after old mid answered → before ≡ deaf belt
+    → belt.workers ≡ workers
+    → missing ≡ was_missing old → IsStrictlyIncreasing missing → first ≡ map (silent name) (range_with_len 1 workers) → back ≡ []
+    → sender_numbers passes ≡ sender_numbers back ++ sender_numbers first → All (HasWorked name missing) passes
+    → All (IsWhole after.got) passes → new ≡ mid → IsDistinct nat_eq (numbers_in mid.taken) → HasTaken workers old new
+crew_has_taken {name} {started} {before} {after} {old} {mid} belt new workers missing passes first back c begun as_many listed up silents none
+    numbers worked whole same
+    distinct =
+    let notes_are : after.got ≡ c.notes = c.got ∙ ap (λ (r : Received Note). r.got ++ c.notes) begun in
+    let bound : before.belt.workers ≡ workers = ap (λ (r : Received Note). r.belt.workers) begun ∙ as_many in
+    let few : All (λ (m : ℕ × Note). (1 ≤ m.0) × (m.0 ≤ workers)) after.got =
+    subst (All (λ (m : ℕ × Note). (1 ≤ m.0) × (m.0 ≤ workers))) (sym notes_are)
+    (λ k d lt. let s = c.senders k d lt in (s.0, omega (arith, s.1, bound))) in
+    subst (HasTaken workers old) (sym same)
+    (has_taken {name = name} old mid workers after.got passes
+    (AllPairs-from_increasing (was_missing old) (subst IsStrictlyIncreasing listed up))
+    (numbers ∙ ap (λ (l : List (Presented Note)). sender_numbers l ++ sender_numbers first) none ∙ ap sender_numbers silents
+    ∙ silent_numbers name (range_with_len 1 workers))
+    (subst (λ (l : List ℕ). All (HasWorked name l) passes) listed worked) whole few c.terms c.closed
+    (c.taken.0, subst (λ (l : List (ℕ × Note)). IsPart c.taken.0 (reports_in l)) (sym notes_are) c.taken.1, c.taken.2) distinct)
+
+pub crew_stops : (may_stop : ℕ → ℕ → Type 0) (missing wanted : List ℕ) (stopped now : Option ℕ) → IfSome stopped (StopsAt may_stop missing) → missing ≡ wanted
+    → now ≡ stopped → IfSome now (StopsAt may_stop wanted)
+crew_stops may_stop missing wanted stopped now stops listed same =
+    subst (λ (o : Option ℕ). IfSome o (StopsAt may_stop wanted)) (sym same) (subst (λ (l : List ℕ). IfSome stopped (StopsAt may_stop l)) listed stops)

@@ -1,0 +1,16 @@
+use Rattle.std.proofs.Common.{arith}
+use Rattle.crew.proofs.CrewLemmas.{collected_done, collected_heard, collected_unheard}
+use Rattle.crew.proofs.collector.collect.Goals as goal
+
+pub loop-preserved-then-not-offer : goal.loop-preserved-then-not-offer
+loop-preserved-then-not-offer g c =
+    collected_unheard c.loop.invariant c.in-Report.report c.offer.new.haul (c.in-Report.ensures) (omega (arith, c.if-left-eq0.false))
+    (c.offer.ensures.kept c.if-not-offer.true)
+
+pub loop-preserved-else-not-offer : goal.loop-preserved-else-not-offer
+loop-preserved-else-not-offer g c =
+    collected_heard c.loop.invariant c.in-Report.report c.offer.new.haul (c.in-Report.ensures) (omega (arith, c.if-left-eq0.false))
+    c.offer.ensures.terms c.offer.ensures.closed c.offer.ensures.taken (c.offer.ensures.stands c.if-not-offer.false)
+
+pub loop-preserved : goal.loop-preserved
+loop-preserved g c = collected_done c.loop.invariant c.in-Done.worker (c.in-Done.ensures) (omega (arith, c.if-left-eq0.false))

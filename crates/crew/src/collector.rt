@@ -1,0 +1,66 @@
+//! The collector: it receives the workers' notes and offers their reports to the haul.
+ghost use Rattle.std.specs.Prelude.{◌≡◌, ◌++◌, ◌∷◌, ◌⊎◌, [], List, false, is_ok, true};
+ghost use Rattle.haul_core.specs.Books.{StandsFor};
+ghost use Rattle.haul_core.specs.declared.arrival.Arrival.{Arrival};
+ghost use Rattle.haul_core.specs.declared.arrival.Arrival.TheVariants as arrival;
+ghost use Rattle.crew.specs.Crews.{Collected};
+
+use crate::belt::{Belt, ReceiverPass};
+use crate::note::Note;
+use haul_core::haul::Haul;
+use haul_core::refusal::Refusal;
+use haul_core::report::Report;
+use std::alloc::AllocError;
+use std::sync::Wait;
+
+/// Receives notes until so many workers have said that they are done, and offers each report to the haul. A report that
+/// the haul refuses is dropped.
+///
+/// # Errors
+///
+/// [`AllocError`] if memory ran out for a report. All other reports have been offered then too.
+pub fn collect<R: Wait>(
+    rt: &R,
+    belt: &Belt<Note>,
+    pass: &mut ReceiverPass<Note>,
+    haul: &mut Haul,
+    started: u8,
+) -> Result<(), AllocError>
+    requires { pass.old.belt ≡ belt.now }
+    ensures { Collected started 0 pass.old pass.new haul.old haul.new (is_ok result) }
+{
+    let mut left = started;
+    let mut answered = true;
+    for _ in rt.forever() {
+        if left == 0 {
+            break;
+        }
+        match belt.receive(rt, pass) {
+            Note::Report(report) => {
+                if !offer(haul, report) {
+                    answered = false;
+                }
+            }
+            Note::Done { .. } => left -= 1,
+        }
+    }
+    if answered { Ok(()) } else { Err(AllocError) }
+}
+
+/// Offers a report. Whether there was memory to answer it.
+fn offer(haul: &mut Haul, report: Report) -> bool
+    ensures terms { haul.new.terms ≡ haul.old.terms }
+    ensures closed { haul.new.closed ≡ haul.old.closed }
+    ensures taken { (haul.new.taken ≡ haul.old.taken) ⊎ (haul.new.taken ≡ haul.old.taken ++ (report.worker, report.number) ∷ []) }
+    ensures stands { result ≡ true → (arrivals : List Arrival) → StandsFor arrivals haul.old
+        → StandsFor (arrivals ++ arrival.Offer report ∷ []) haul.new }
+    ensures kept { result ≡ false → haul.new ≡ haul.old }
+{
+    match haul.offer(report) {
+        Ok(()) => true,
+        Err(refused) => match refused.reason {
+            Refusal::Memory => false,
+            _ => true,
+        },
+    }
+}

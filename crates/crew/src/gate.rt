@@ -1,0 +1,28 @@
+//! Gates, which may stop a worker before it surveys a soup.
+ghost use Rattle.std.specs.Prelude.{ℕ, OnErr};
+
+/// The gate stops the worker.
+#[derive(Clone, Copy, Debug, PartialEq, Eq, Drop)]
+pub struct Stop;
+
+/// What a worker asks before each survey. Several threads ask at the same time.
+pub trait Gate {
+    /// Where the gate may stop which worker: of a worker and the number of a soup.
+    ghost may_stop: { Self → ℕ → ℕ → Type 0 };
+
+    /// Whether the worker may survey the soup with this number. If not, it surveys nothing more.
+    fn before(&self, worker: u8, number: u64) -> Result<(), Stop>
+        ensures { OnErr result (may_stop self.now worker number) };
+}
+
+/// A gate that stops nobody.
+#[derive(Clone, Copy)]
+pub struct OpenGate;
+
+impl Gate for OpenGate {
+    ghost may_stop = { λ _ worker number. ⊥ };
+
+    fn before(&self, _worker: u8, _number: u64) -> Result<(), Stop> {
+        Ok(())
+    }
+}

@@ -1,0 +1,111 @@
+//! A worker's shift: it draws, asks the gate, surveys and reports, until none is left or it has to stop.
+ghost use Rattle.std.specs.Prelude.{◌≡◌, ◌<◌, All, vec_len};
+ghost use Rattle.haul_core.specs.Ranges.{number_bound};
+ghost use Rattle.crew.specs.Belts.{silent};
+ghost use Rattle.crew.specs.Shifts.{HasWorked, StopsAt};
+ghost use Rattle.crew.specs.Tickets.{fresh};
+ghost use Rattle.crew.specs.declared.shift.End.TheVariants as End;
+
+use crate::belt::{Belt, SenderPass};
+use crate::gate::Gate;
+use crate::note::Note;
+use crate::tickets::{Pass, Tickets};
+use haul_core::report::Report;
+use std::alloc::Global;
+use std::sync::Wait;
+use std::sync::atomic::{AtomicU64, Ordering};
+use survey_core::job::Job;
+
+/// What all workers share.
+#[derive(Drop)]
+pub(crate) struct Site {
+    pub(crate) job: Job,
+    pub(crate) tickets: Tickets,
+    pub(crate) belt: Belt<Note>,
+    /// The numbers to be surveyed. A ticket is a place of this list.
+    pub(crate) missing: Vec<u64>,
+    /// The worker that was not started, if there is one.
+    pub(crate) called_off: AtomicU64,
+    ghost listed: { tickets.count ≡ vec_len missing },
+    ghost below: { All (λ n. n < number_bound) missing.items },
+}
+
+/// How a worker ended.
+#[derive(Clone, Copy, PartialEq, Eq)]
+pub(crate) enum End {
+    /// No number was left.
+    Drained,
+    /// Its gate stopped it.
+    Stopped,
+    /// Memory ran out, or the worker was not started.
+    OutOfMemory,
+}
+
+/// What a worker leaves.
+#[derive(Drop)]
+pub(crate) struct Shift {
+    pub(crate) sender: SenderPass<Note>,
+    pub(crate) end: End,
+}
+
+/// Surveys what is left, one number after another, until none is left, the gate stops the worker, or memory runs out. Each
+/// report is presented.
+#[tactic(auto, using(crate::proofs::ShiftLemmas::reported_none, crate::proofs::ShiftLemmas::reported_more))]
+fn survey_all<G: Gate, R: Wait>(
+    alloc: Global,
+    rt: &R,
+    site: &Site,
+    gate: &G,
+    pass: &mut Pass,
+    sender: &mut SenderPass<Note>,
+) -> End
+    requires pass { pass.old ≡ fresh site.now.tickets }
+    requires sender { sender.old ≡ silent site.now.belt.name sender.old.number }
+    ensures number { sender.new.number ≡ sender.old.number }
+    ensures worked { HasWorked site.now.belt.name site.now.missing.items sender.new }
+    ensures stopped { result ≡ End.Stopped → StopsAt (G.may_stop gate.now) site.now.missing.items sender.old.number }
+{
+    let worker = sender.number();
+    for _ in rt.forever() {
+        let Some(place) = site.tickets.draw(pass) else {
+            return End::Drained;
+        };
+        let number = site.missing[place as usize];
+        if gate.before(worker, number).is_err() {
+            return End::Stopped;
+        }
+        let Ok(report) = Report::make(alloc, &site.job, worker, number) else {
+            return End::OutOfMemory;
+        };
+        site.belt.present(rt, sender, Note::Report(report));
+    }
+    unreachable!()
+}
+
+/// A worker's whole shift. It ends with a note that says so, unless the worker was not started.
+#[tactic(auto, using(crate::proofs::ShiftLemmas::worked_none, crate::proofs::ShiftLemmas::worked_done))]
+pub(crate) fn work<G: Gate, R: Wait>(
+    alloc: Global,
+    rt: &R,
+    site: &Site,
+    gate: &G,
+    pass: Pass,
+    sender: SenderPass<Note>,
+) -> Shift
+    requires pass { pass ≡ fresh site.now.tickets }
+    requires sender { sender ≡ silent site.now.belt.name sender.number }
+    ensures number { result.sender.number ≡ sender.number }
+    ensures worked { HasWorked site.now.belt.name site.now.missing.items result.sender }
+    ensures stopped { result.end ≡ End.Stopped → StopsAt (G.may_stop gate.now) site.now.missing.items sender.number }
+{
+    let mut pass = pass;
+    let mut sender = sender;
+    let worker = sender.number();
+    if site.called_off.load(Ordering::SeqCst) == u64::from(worker) {
+        let end = End::OutOfMemory;
+        return Shift { sender, end };
+    }
+    let end = survey_all(alloc, rt, site, gate, &mut pass, &mut sender);
+    site.belt.present(rt, &mut sender, Note::Done { worker });
+    Shift { sender, end }
+}

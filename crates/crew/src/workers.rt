@@ -1,0 +1,333 @@
+//! The workers of a crew, and the call that runs them.
+ghost use Rattle.std.specs.Prelude.{◌≡◌, ◌<◌, ◌≤◌, ◌+◌, ◌++◌, ◌∷◌, ◌⊎◌, [], ◌≢◌, ℕ, All, Bool, Err, IfErr, IfOk, IfSome, MatchResult, Some, false, length, map, nat_eq, true, vec_capacity, vec_len};
+ghost use Rattle.std.specs.List.{IsDistinct, range_with_len};
+ghost use Rattle.std.specs.List.Sorted.{IsStrictlyIncreasing};
+ghost use Rattle.haul_core.specs.Keeping.{numbers_in};
+ghost use Rattle.haul_core.specs.Missing.{IsComplete};
+ghost use Rattle.crew.specs.Belts.{IsWhole, deaf, silent};
+ghost use Rattle.crew.specs.Crews.{Collected};
+ghost use Rattle.crew.specs.Shifts.{AreBack, Leaves, StopsAt, sender_numbers};
+ghost use Rattle.crew.specs.Takes.{HasTaken, was_missing};
+ghost use Rattle.crew.specs.Tickets.{fresh};
+ghost use Rattle.crew.specs.declared.workers.CrewError.TheVariants as CrewError;
+ghost use Rattle.crew.specs.declared.shift.End.TheVariants as End;
+
+use crate::belt::{Belt, ReceiverPass, SenderPass};
+use crate::collector::collect;
+use crate::gate::Gate;
+use crate::note::Note;
+use crate::shift::{End, Shift, Site, work};
+use crate::tickets::{Pass, Tickets};
+use haul_core::haul::Haul;
+use std::alloc::{AllocError, Global};
+use std::sync::Wait;
+use std::sync::atomic::{AtomicU64, Ordering};
+use std::thread;
+use std::thread::{Promise, Scope, Threads};
+use thiserror::Error;
+
+/// How many notes there is room for on the belt.
+const ROOM: usize = 64;
+
+/// Why a crew did not complete a haul.
+#[derive(Clone, Copy, Debug, PartialEq, Eq, Error)]
+pub enum CrewError {
+    /// The haul is closed.
+    #[error("closed")]
+    Closed,
+    /// The gate stopped a worker: of those that it stopped, the one with the least number.
+    #[error("worker {worker} was stopped")]
+    Stopped { worker: u8 },
+    /// Memory ran out, or a thread could not be started.
+    #[error("out of memory")]
+    Memory,
+}
+
+/// Lets so many workers survey what is missing in a haul, each in a thread of its own, and offers what they report.
+///
+/// There are at least one and at most as many workers as the haul has. A worker asks the gate before each survey, and
+/// surveys nothing more once the gate stops it. The haul stays open.
+///
+/// # Errors
+///
+/// The haul, with what was taken, and the first of these that holds:
+///
+/// - [`CrewError::Closed`] if the haul is closed. It comes back as it was.
+/// - [`CrewError::Stopped`] if the gate stopped a worker and the haul is not complete.
+/// - [`CrewError::Memory`] if memory ran out, or a thread could not be started, and the haul is not complete.
+///
+/// To call it again goes on with what is missing.
+pub fn take<G: Gate + Sync, R: Threads + Wait + Sync>(
+    alloc: Global,
+    rt: &R,
+    haul: Haul,
+    workers: u8,
+    gate: &G,
+) -> Result<Haul, (Haul, CrewError)>
+    requires some { 1 ≤ workers }
+    requires few { workers ≤ haul.terms.workers }
+    ensures closed { haul.closed ≡ true → result ≡ Err (haul, CrewError.Closed) }
+    ensures open { IfErr result (λ back. back.1 ≡ CrewError.Closed → haul.closed ≡ true) }
+    ensures taken { haul.closed ≡ false → MatchResult result (HasTaken workers haul) (λ back. HasTaken workers haul back.0) }
+    ensures complete { IfOk result (λ done. IsComplete done.terms.ranges done.taken) }
+    ensures stopped { (worker : ℕ) → IfErr result (λ back. back.1 ≡ CrewError.Stopped worker → StopsAt (G.may_stop gate.now) (was_missing haul) worker) }
+    ensures incomplete { IfErr result (λ back. back.1 ≢ CrewError.Closed → ¬ IsComplete back.0.terms.ranges back.0.taken) }
+{
+    if haul.is_closed() {
+        return Err((haul, CrewError::Closed));
+    }
+    let (haul, stopped) = take_missing(alloc, rt, haul, workers, gate);
+    if haul.is_complete() {
+        return Ok(haul);
+    }
+    match stopped {
+        Some(worker) => Err((haul, CrewError::Stopped { worker })),
+        None => Err((haul, CrewError::Memory)),
+    }
+}
+
+/// Lets workers survey what is missing. Which of them was stopped, if one was: the one with the least number.
+#[tactic(auto, using(crate::proofs::TakeLemmas::taken_none))]
+fn take_missing<G: Gate + Sync, R: Threads + Wait + Sync>(
+    alloc: Global,
+    rt: &R,
+    haul: Haul,
+    workers: u8,
+    gate: &G,
+) -> (Haul, Option<u8>)
+    ensures taken { HasTaken workers haul result.0 }
+    ensures stopped { IfSome result.1 (StopsAt (G.may_stop gate.now) (was_missing haul)) }
+{
+    if haul.is_complete() {
+        return (haul, None);
+    }
+    let Ok(start) = Start::new(alloc, &haul, workers) else {
+        return (haul, None);
+    };
+    let Start {
+        site,
+        passes,
+        senders,
+        receiver,
+        back,
+    } = start;
+    let crew = Crew {
+        haul,
+        receiver,
+        senders: back,
+        stopped: None,
+    };
+    let crew = run_in_scope(alloc, rt, &site, gate, passes, senders, crew);
+    end_crew(site, crew)
+}
+
+/// What a worker's thread promises.
+#[derive(Clone, Copy)]
+struct Duty<'s, G> {
+    worker: u8,
+    site: &'s Site,
+    gate: &'s G,
+}
+
+impl<'s, G: Gate> Promise<Shift> for Duty<'s, G> {
+    ghost kept_by = { λ d shift. Leaves (G.may_stop d.gate.now) d.site.now.belt.name d.site.now.missing.items d.worker shift.sender (shift.end ≡ End.Stopped) };
+}
+
+/// The haul, what its collector has received, and what the workers have left that are back.
+#[derive(Drop)]
+struct Crew {
+    haul: Haul,
+    receiver: ReceiverPass<Note>,
+    senders: Vec<SenderPass<Note>>,
+    /// The least worker that came back stopped.
+    stopped: Option<u8>,
+}
+
+/// Starts a worker for each pass and sender, from the last on, collects what they report, and waits for them. The first
+/// worker comes back first.
+fn run_crew<'s, E, G: Gate + Sync, R: Threads + Wait + Sync>(
+    alloc: Global,
+    rt: &'s R,
+    scope: &'s Scope<'s, E>,
+    site: &'s Site,
+    gate: &'s G,
+    mut passes: Vec<Pass>,
+    mut senders: Vec<SenderPass<Note>>,
+    mut crew: Crew,
+    started: u8,
+) -> Crew
+    requires passes { All (λ p. p ≡ fresh site.now.tickets) passes.items }
+    requires senders { All (λ s. s ≡ silent site.now.belt.name s.number) senders.items }
+    requires many { length passes.items ≡ length senders.items }
+    requires few { started + length senders.items ≤ 255 }
+    requires receiver { crew.receiver.belt ≡ site.now.belt }
+    requires room { length crew.senders.items + length senders.items ≤ vec_capacity crew.senders }
+    requires back { AreBack (G.may_stop gate.now) site.now.belt.name site.now.missing.items crew.senders.items crew.stopped }
+    ensures back { AreBack (G.may_stop gate.now) site.now.belt.name site.now.missing.items result.senders.items result.stopped }
+    ensures numbers { sender_numbers result.senders.items ≡ sender_numbers crew.senders.items ++ sender_numbers senders.items }
+    ensures many { length result.senders.items ≡ length crew.senders.items + length senders.items }
+    ensures room { vec_capacity result.senders ≡ vec_capacity crew.senders }
+    ensures collected { (started : ℕ) × (answered : Bool) × Collected started 0 crew.receiver result.receiver crew.haul result.haul answered }
+{
+    let Some(sender) = senders.pop() else {
+        let _ = collect(rt, &site.belt, &mut crew.receiver, &mut crew.haul, started);
+        return crew;
+    };
+    let Some(pass) = passes.pop() else {
+        unreachable!()
+    };
+    let worker = sender.number();
+    let duty = Duty { worker, site, gate };
+    let shift = move || -> Shift
+        requires { (pass ≡ fresh site.now.tickets) × (sender ≡ silent site.now.belt.name sender.number) }
+        ensures { Leaves (G.may_stop gate.entry.now) site.entry.now.belt.name site.entry.now.missing.items sender.number result.sender (result.end ≡ End.Stopped) }
+    { work(alloc, rt, site, gate, pass, sender) };
+    match scope.spawn_with(duty, shift) {
+        Ok(handle) => {
+            let crew = run_crew(
+                alloc,
+                rt,
+                scope,
+                site,
+                gate,
+                passes,
+                senders,
+                crew,
+                started + 1,
+            );
+            with_shift(crew, handle.join(rt))
+        }
+        Err(here) => {
+            site.called_off.store(u64::from(worker), Ordering::SeqCst);
+            let shift = (here.value)();
+            let crew = run_crew(alloc, rt, scope, site, gate, passes, senders, crew, started);
+            with_shift(crew, shift)
+        }
+    }
+}
+
+/// The crew with one worker more that is back.
+fn with_shift(crew: Crew, shift: Shift) -> Crew
+    requires room { length crew.senders.items < vec_capacity crew.senders }
+    ensures senders { result.senders.items ≡ crew.senders.items ++ shift.sender ∷ [] }
+    ensures room { vec_capacity result.senders ≡ vec_capacity crew.senders }
+    ensures stopped { IfSome result.stopped (λ w. (crew.stopped ≡ Some w) ⊎ ((shift.end ≡ End.Stopped) × (w ≡ shift.sender.number))) }
+    ensures haul { result.haul ≡ crew.haul }
+    ensures receiver { result.receiver ≡ crew.receiver }
+{
+    let Shift { sender, end } = shift;
+    let mut crew = crew;
+    if crew.stopped.is_none() && end == End::Stopped {
+        crew.stopped = Some(sender.number());
+    }
+    crew.senders.push_reserved(sender);
+    crew
+}
+
+/// What a crew begins with.
+#[derive(Drop)]
+struct Start {
+    site: Site,
+    passes: Vec<Pass>,
+    senders: Vec<SenderPass<Note>>,
+    receiver: ReceiverPass<Note>,
+    /// Room for the senders that come back.
+    back: Vec<SenderPass<Note>>,
+}
+
+impl Start {
+    /// All that is needed to survey what is missing in a haul.
+    fn new(alloc: Global, haul: &Haul, workers: u8) -> Result<Start, AllocError>
+        ensures missing { IfOk result (λ start. start.site.missing.items ≡ was_missing haul.now) }
+        ensures ascending { IfOk result (λ start. IsStrictlyIncreasing start.site.missing.items) }
+        ensures workers { IfOk result (λ start. start.site.belt.workers ≡ workers) }
+        ensures passes { IfOk result (λ start. All (λ p. p ≡ fresh start.site.tickets) start.passes.items) }
+        ensures many { IfOk result (λ start. length start.passes.items ≡ workers) }
+        ensures senders { IfOk result (λ start. start.senders.items ≡ map (silent start.site.belt.name) (range_with_len 1 workers)) }
+        ensures receiver { IfOk result (λ start. start.receiver ≡ deaf start.site.belt) }
+        ensures back { IfOk result (λ start. start.back.items ≡ []) }
+        ensures room { IfOk result (λ start. workers ≤ vec_capacity start.back) }
+    {
+        let missing = haul.missing()?;
+        let Ok((tickets, passes)) = Tickets::open(alloc, missing.len() as u64, workers) else {
+            return Err(AllocError);
+        };
+        let (belt, senders, receiver) = Belt::open(alloc, ROOM, workers)?;
+        let back = Vec::with_capacity(alloc, usize::from(workers))?;
+        let site = Site {
+            job: haul.job(),
+            tickets,
+            belt,
+            missing,
+            called_off: AtomicU64::new(0),
+        };
+        Ok(Start {
+            site,
+            passes,
+            senders,
+            receiver,
+            back,
+        })
+    }
+}
+
+/// Runs a crew in a scope of threads.
+fn run_in_scope<G: Gate + Sync, R: Threads + Wait + Sync>(
+    alloc: Global,
+    rt: &R,
+    site: &Site,
+    gate: &G,
+    passes: Vec<Pass>,
+    senders: Vec<SenderPass<Note>>,
+    crew: Crew,
+) -> Crew
+    requires passes { All (λ p. p ≡ fresh site.now.tickets) passes.items }
+    requires senders { All (λ s. s ≡ silent site.now.belt.name s.number) senders.items }
+    requires many { length passes.items ≡ length senders.items }
+    requires few { length senders.items ≤ 255 }
+    requires receiver { crew.receiver.belt ≡ site.now.belt }
+    requires room { length crew.senders.items + length senders.items ≤ vec_capacity crew.senders }
+    requires back { AreBack (G.may_stop gate.now) site.now.belt.name site.now.missing.items crew.senders.items crew.stopped }
+    ensures back { AreBack (G.may_stop gate.now) site.now.belt.name site.now.missing.items result.senders.items result.stopped }
+    ensures numbers { sender_numbers result.senders.items ≡ sender_numbers crew.senders.items ++ sender_numbers senders.items }
+    ensures collected { (started : ℕ) × (answered : Bool) × Collected started 0 crew.receiver result.receiver crew.haul result.haul answered }
+{
+    thread::scope(
+        thread::scope_env(),
+        rt,
+        move |scope| -> Crew
+            requires { All (λ p. p ≡ fresh site.now.tickets) passes.items
+                × All (λ s. s ≡ silent site.now.belt.name s.number) senders.items
+                × (length passes.items ≡ length senders.items)
+                × (length senders.items ≤ 255)
+                × (crew.receiver.belt ≡ site.now.belt)
+                × (length crew.senders.items + length senders.items ≤ vec_capacity crew.senders)
+                × AreBack (G.may_stop gate.now) site.now.belt.name site.now.missing.items crew.senders.items crew.stopped }
+            ensures back { AreBack (G.may_stop gate.entry.now) site.entry.now.belt.name site.entry.now.missing.items result.senders.items result.stopped }
+            ensures numbers { sender_numbers result.senders.items ≡ sender_numbers crew.senders.items ++ sender_numbers senders.items }
+            ensures collected { (started : ℕ) × (answered : Bool) × Collected started 0 crew.receiver result.receiver crew.haul result.haul answered }
+        { run_crew(alloc, rt, scope, site, gate, passes, senders, crew, 0) },
+    )
+}
+
+/// What a crew leaves, once all workers are back.
+fn end_crew(site: Site, crew: Crew) -> (Haul, Option<u8>)
+    requires senders { All (λ s. s.belt ≡ site.belt.name) crew.senders.items }
+    requires receiver { crew.receiver.belt ≡ site.belt }
+    ensures whole { All (IsWhole crew.receiver.got) crew.senders.items }
+    ensures haul { result.0 ≡ crew.haul }
+    ensures distinct { IsDistinct nat_eq (numbers_in crew.haul.taken) }
+    ensures stopped { result.1 ≡ crew.stopped }
+{
+    let Crew {
+        haul,
+        receiver,
+        senders,
+        stopped,
+    } = crew;
+    let Site { belt, .. } = site;
+    drop(belt.gather(senders, receiver));
+    // What the haul says of it: it has taken no number twice.
+    let _ = haul.taken();
+    (haul, stopped)
+}
