@@ -135,7 +135,7 @@ given_refused (Err c) next complaint own more e =
     let is : c ≡ complaint = cc in
     own complaint (ap Err is)
 
-job_refused : (set : SoupSet) (numbers : ProfileNumbers) (rule_text : List ℕ) (complaint : Complaint) → job_named set numbers rule_text ≡ Err complaint
+pub job_refused : (set : SoupSet) (numbers : ProfileNumbers) (rule_text : List ℕ) (complaint : Complaint) → job_named set numbers rule_text ≡ Err complaint
     → IsRefusal complaint
 job_refused set numbers rule_text complaint =
     given_refused (seed_named set.seed) (λ seed. given (profile_named numbers) (λ profile. given (rule_named rule_text) (λ rule. job_of seed profile rule)))

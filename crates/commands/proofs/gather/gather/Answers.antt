@@ -35,3 +35,54 @@ returns-in_err-gather_input-clause-gathers g c =
           (gathers_lines c.args.set.now c.args.workers c.args.profile c.args.rule_text.now some.0 _ _ c.in_err-gather_input.field-0.0 _ _
           (c.in_err-gather_input.ensures.ended c.in_ok-haul.ensures.opened.stands) (Appends-nil _)),
     )
+
+pub returns-in_err-census-clause-gathers : goal.returns-in_err-census-clause-gathers
+returns-in_err-census-clause-gathers g c =
+    let opened = c.in_ok-haul.ensures.opened in
+    let all = c.in_ok-gather_input.ensures.gathered opened.stands in (
+      all.bytes,
+      all.input,
+      rw (err_of _ _ c.from_residual-in_err-census.ensures.1) (record {
+        nothing = Appends-nil _;
+        terms = c.in_ok-haul.haul.terms;
+        begun = all_begun _ _ _ _ _ all c.gather_input.ensures.terms;
+        fine = c.in_ok-gather_input.ensures.fine;
+      }),
+    )
+
+pub returns-in_err-write_haul-clause-gathers : goal.returns-in_err-write_haul-clause-gathers
+returns-in_err-write_haul-clause-gathers g c =
+    let opened = c.in_ok-haul.ensures.opened in
+    let all = c.in_ok-gather_input.ensures.gathered opened.stands in
+    let is = is_gathering c.in_ok-job.job c.args.set.now c.args.workers _ _ _ c.in_ok-census.census _ _ _ opened c.gather_input.ensures.terms all
+    c.close.ensures.terms c.close.ensures.stands c.in_ok-census.ensures in (
+      all.bytes,
+      all.input,
+      rw (err_of _ _ c.from_residual-in_err-write_haul.ensures.1) (inl (record {
+        gathering = _;
+        is = gathering_right c.args.set.now c.args.workers c.args.profile c.args.rule_text.now all.bytes c.in_ok-job.job _ (sym c.in_ok-job.ensures) is;
+        text = c.in_err-write_haul.ensures.front;
+        cut = c.in_err-write_haul.ensures.told;
+        told = all.written;
+        fine = c.in_ok-gather_input.ensures.fine;
+      })),
+    )
+
+pub returns-clause-gathers : goal.returns-clause-gathers
+returns-clause-gathers g c =
+    let opened = c.in_ok-haul.ensures.opened in
+    let all = c.in_ok-gather_input.ensures.gathered opened.stands in
+    let is = is_gathering c.in_ok-job.job c.args.set.now c.args.workers _ _ _ c.in_ok-census.census _ _ _ opened c.gather_input.ensures.terms all
+    c.close.ensures.terms c.close.ensures.stands c.in_ok-census.ensures in (
+      all.bytes,
+      all.input,
+      record {
+        gathering = _;
+        is = gathering_right c.args.set.now c.args.workers c.args.profile c.args.rule_text.now all.bytes c.in_ok-job.job _ (sym c.in_ok-job.ensures) is;
+        missing_is = c.missing_count.ensures;
+        text = c.in_ok-write_haul.ensures.whole;
+        written = c.in_ok-write_haul.ensures.told;
+        told = all.written;
+        fine = c.in_ok-gather_input.ensures.fine;
+      },
+    )
