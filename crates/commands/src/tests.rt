@@ -12,6 +12,7 @@ use std::io::{self, BufWriter, ErrorKind, Read, Write};
 use std::process::Abort;
 use std::test::Fail;
 
+mod gather;
 mod name;
 mod progress;
 mod show;

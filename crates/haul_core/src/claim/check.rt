@@ -156,3 +156,6 @@ fn have_shape(objects: &[(Apgcode, u64)])
         object.0.text();
     }
 }
+
+#[cfg(test)]
+mod tests;

@@ -194,3 +194,6 @@ pub fn lines_tell_claims()
     ensures faulty { FaultyLinesHaveNoClaim }
     ensures place { LinesHaveOneFault }
 {}
+
+#[cfg(test)]
+mod tests;
