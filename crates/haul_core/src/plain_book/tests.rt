@@ -185,3 +185,38 @@ fn agrees_on_what_soups_leave(rt: HostRuntime) -> Result<(), Fail> {
     assert!(rt; agree_on_lists(rt.alloc(), own, &other, 12)?);
     Ok(())
 }
+
+/// A closed haul of this job and range that was offered one report.
+fn closed_haul(
+    alloc: Global,
+    job: Job,
+    range: Range,
+    worker: u8,
+    number: u32,
+) -> Result<Haul, Fail> {
+    let mut haul = Haul::open(alloc, job, &[range], worker)?;
+    let arrival = arriving(alloc, &job, &job, own(worker, number))?;
+    reply_of(&mut haul, arrival);
+    haul.close()?;
+    Ok(haul)
+}
+
+#[test]
+fn keeps_a_joined_haul(rt: HostRuntime) -> Result<(), Fail> {
+    let alloc = rt.alloc();
+    let ranges = [Range { first: 0, count: 1 }, Range { first: 2, count: 2 }];
+    let first = closed_haul(alloc, job("")?, ranges[0], 1, 0)?;
+    let second = closed_haul(alloc, job("")?, ranges[1], 2, 3)?;
+    let mut joined = first.join(second).ok().expect(&rt, "a joined haul");
+    let mut before = Vec::new(alloc);
+    before.extend_from_slice(&[own(1, 0), own(2, 3), Plain::Closing])?;
+    let plain = taken(alloc, &ranges, 2, before.as_slice())?;
+    assert!(rt; joined.taken() == plain.as_slice());
+    assert!(rt; joined.missing()?.as_slice() == [2].as_slice());
+    let rows = [
+        (own(2, 2), Reply::Refused(Refusal::Closed)),
+        (Plain::Closing, Reply::AlreadyClosed),
+    ];
+    assert!(rt; reply_so(alloc, &mut joined, &ranges, &mut before, &rows)?);
+    Ok(())
+}

@@ -63,7 +63,12 @@ fn refuses_damaged_heads(rt: HostRuntime) -> Result<(), Fail> {
     Ok(())
 }
 
-const FIRSTS: [Case; 4] = [(b"", 0), (b"report", 6), (b"report 3 x", 7), (b"Report 1", 0)];
+const FIRSTS: [Case; 4] = [
+    (b"", 0),
+    (b"report", 6),
+    (b"report 3 x", 7),
+    (b"Report 1", 0),
+];
 
 #[test]
 fn refuses_other_lines(rt: HostRuntime) -> Result<(), Fail> {
@@ -71,7 +76,11 @@ fn refuses_other_lines(rt: HostRuntime) -> Result<(), Fail> {
     Ok(())
 }
 
-const MARKS: [Case; 3] = [(b" at=0", 62), (b" at=0 xs4_33*1", 63), (b" at=0 good=maybe", 63)];
+const MARKS: [Case; 3] = [
+    (b" at=0", 62),
+    (b" at=0 xs4_33*1", 63),
+    (b" at=0 good=maybe", 63),
+];
 
 #[test]
 fn wants_the_mark_in_version_2(rt: HostRuntime) -> Result<(), Fail> {
