@@ -141,7 +141,8 @@ fn gathers_no_soup(rt: HostRuntime) {
 fn refuses_a_seed_before_reading(rt: HostRuntime) {
     let left = gathered(&rt, set_of("a b", 0, 4), LINES);
     assert_eq!(rt; left.status, Status::Refused);
-    assert_eq!(rt; left.errors.as_slice(), b"census: bad byte in seed at 1\n");
+    let told = b"census: bad byte in seed at 1\n".as_slice();
+    assert_eq!(rt; left.errors.as_slice(), told);
     assert!(rt; left.output.is_empty());
 }
 
@@ -177,7 +178,7 @@ fn tells_a_failed_read(rt: HostRuntime) {
         assert!(rt; left.errors.as_slice().ends_with(b"census: read failed\n"));
     }
     // The third line was met before.
-    let told = b"line 3: double of 3 by 1\ncensus: read failed\n";
+    let told = b"line 3: double of 3 by 1\ncensus: read failed\n".as_slice();
     assert_eq!(rt; left_by_reads(&rt, 204).errors.as_slice(), told);
 }
 
