@@ -14,6 +14,8 @@ pub enum Status {
     OutOfMemory,
     /// Reading or writing failed.
     Failed,
+    /// All that was there was gathered, and soups are missing.
+    Incomplete,
 }
 
 impl Status {
@@ -27,6 +29,7 @@ impl Status {
             Status::Refused => 3,
             Status::OutOfMemory => 4,
             Status::Failed => 5,
+            Status::Incomplete => 6,
         }
     }
 }

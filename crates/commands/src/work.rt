@@ -77,7 +77,7 @@ fn work<W: Write>(
     one_normal_form();
     let job = job(set, profile, rule_text)?;
     // No report is offered to this haul: it has the ranges in normal form.
-    let haul = open_haul(alloc, job, set)?;
+    let haul = open_haul(alloc, job, set, worker)?;
     put_reports(alloc, &job, worker, haul.ranges(), output)
 }
 

@@ -1,12 +1,8 @@
 use Rattle.std.proofs.Common.{◌≡◌, ◌∙◌, ◌≤◌, arith, refl, sym, subst}
-use Rattle.haul_core.specs.Reports.{IsWorker}
 use Rattle.commands.specs.SoupSets.{AreRangesOf, Overlapping, Too_large}
 use Rattle.commands.proofs.AnswerLemmas.{err_of}
 use Rattle.commands.proofs.TakeLemmas.{small_from}
 use Rattle.commands.proofs.take.open_haul.Goals as goal
-
-one_worker : IsWorker 1
-one_worker = record { least = omega arith; most = omega arith }
 
 pub returns-in_err-ranges-clause-stops : goal.returns-in_err-ranges-clause-stops
 returns-in_err-ranges-clause-stops c = rw (err_of _ _ c.from_residual.ensures.1) c.in_err-ranges.ensures.stops
@@ -14,16 +10,16 @@ returns-in_err-ranges-clause-stops c = rw (err_of _ _ c.from_residual.ensures.1)
 pub returns-in-Ok-clause-opened : goal.returns-in-Ok-clause-opened
 returns-in-Ok-clause-opened c =
     let told = c.in-Ok.ensures in
-    let small = small_from c.as_slice.result.now (λ large. let bad = told.bad_range.1 (one_worker, large) in cc) in
+    let small = small_from c.as_slice.result.now (λ large. let bad = told.bad_range.1 (c.requires, large) in cc) in
     record {
       ranges = c.as_slice.result.now;
       named = subst (AreRangesOf c.args.set.now) (sym c.as_slice.ensures.value) c.in_ok-ranges.ensures.named;
       only = λ others of. c.in_ok-ranges.ensures.only others of ∙ sym c.as_slice.ensures.value;
       small = small;
-      apart = λ overlap. let bad = told.overlap.1 (one_worker, small, overlap) in cc;
+      apart = λ overlap. let bad = told.overlap.1 (c.requires, small, overlap) in cc;
       form = told.ranges;
       job_is = told.job;
-      one_worker = told.workers;
+      workers_are = told.workers;
       stands = told.stands;
     }
 
