@@ -267,6 +267,7 @@ done_or_not statuses.Usage = inr (λ is. cc)
 done_or_not statuses.Refused = inr (λ is. cc)
 done_or_not statuses.OutOfMemory = inr (λ is. cc)
 done_or_not statuses.Failed = inr (λ is. cc)
+done_or_not statuses.Incomplete = inr (λ is. cc)
 
 -- a command that was done leaves nothing on standard error
 pub program_silent : (words : List Text) (known : Option (List ℕ)) (status : Status) (output errors : Stream) → DoesWords words known status output errors

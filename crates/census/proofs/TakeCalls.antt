@@ -155,8 +155,8 @@ count_use n rows fresh h = number_first count_built 0 16777216 n rows count_one 
 first_use : (n : Text) (rows : List Row) → has_row (codes "first") rows ≡ false → IsNumberUpTo 1099511627776 n → IsFirstUse built.rules first_built n rows
 first_use n rows fresh h = record { argument = first_one; fresh = fresh; accepted = large_accepted 1099511627776 n (lit< tt) h.0 h.1 }
 
-workers_use : (n : Text) (rows : List Row) → has_row (codes "workers") rows ≡ false → IsNumberFromTo 1 1 n → IsFirstUse built.rules workers_built n rows
-workers_use n rows fresh h = number_first workers_built 1 1 n rows workers_one refl refl fresh (omega arith) h.numeral h.low h.high
+workers_use : (n : Text) (rows : List Row) → has_row (codes "workers") rows ≡ false → IsNumberFromTo 1 16 n → IsFirstUse built.rules workers_built n rows
+workers_use n rows fresh h = number_first workers_built 1 16 n rows workers_one refl refl fresh (omega arith) h.numeral h.low h.high
 
 period_use : (n : Text) (rows : List Row) → has_row (codes "period") rows ≡ false → IsNumberFromTo 1 64 n → IsFirstUse built.rules period_built n rows
 period_use n rows fresh h = number_first period_built 1 64 n rows period_one refl refl fresh (omega arith) h.numeral h.low h.high
@@ -221,12 +221,13 @@ refuses_option program c v word a kind h named one plain refused =
 -- ---- what the values ask for
 
 -- the request of what was found for the options
-abbrev taken_with : Bool → Text → Option ℕ → Option ℕ → Text → Option ProfileNumbers → Text → Option Request
-taken_with progress seed first count also profile rule =
-    option_and_then (λ set. option_and_then (λ numbers. Some (Take set numbers rule progress)) profile) (set_of_four (Some seed) first count (Some also))
+abbrev taken_with : Bool → Option ℕ → Text → Option ℕ → Option ℕ → Text → Option ProfileNumbers → Text → Option Request
+taken_with progress workers seed first count also profile rule =
+    option_and_then (λ set. option_and_then (λ w. option_and_then (λ numbers. Some (Take set w numbers rule progress)) profile) workers)
+    (set_of_four (Some seed) first count (Some also))
 
 abbrev taken : Text → Option ℕ → Option ℕ → Text → Option ProfileNumbers → Text → Option Request
-taken = taken_with false
+taken = taken_with false (Some 1)
 
 abbrev standard : Option ProfileNumbers
 standard = all_four (Some 64) (Some 512) (Some 101) (Some 30300)
@@ -269,16 +270,26 @@ asks-first program c n h is_n =
     asks_option program c n (codes "--first") first_built h (first_use n (count_row c ∷ []) refl is_n) first_named (numeral_plain n is_n.0) refl
     ∙ ap₂ (λ f o. taken [] f o [] standard (codes "b3s23")) (large_read 1099511627776 n is_n.0 is_n.1) (number_read 16777216 c h.0 h.1)
 
-asks-workers : (program c n : Text) → IsNumberUpTo 16777216 c → IsNumberFromTo 1 1 n
-    → asked_by (program ∷ codes "take" ∷ codes "--count" ∷ c ∷ codes "--workers" ∷ n ∷ []) ≡ Takes [] 0 (digits_value 10 c) [] (codes "b3s23")
+abbrev at_least : ℕ → Option ℕ → Option ℕ
+at_least least o = option_and_then (λ n. cond {A = Option ℕ} (nat_le least n) (Some n) None) o
+
+from_read : (least most : ℕ) (n : Text) → IsNumberFromTo least most n → at_least least (number_of most (without_minus n)) ≡ Some (digits_value 10 n)
+from_read least most n h =
+    ap (at_least least) (number_read most n h.numeral h.high)
+    ∙ ap (λ b. cond {A = Option ℕ} b (Some (digits_value 10 n)) None) (le-leb least (digits_value 10 n) h.low)
+
+asks-workers : (program c n : Text) → IsNumberUpTo 16777216 c → IsNumberFromTo 1 16 n
+    → asked_by (program ∷ codes "take" ∷ codes "--count" ∷ c ∷ codes "--workers" ∷ n ∷ [])
+    ≡ Some (Take (record { seed = []; first = 0; count = digits_value 10 c; also = [] }) (digits_value 10 n)
+    (record { period = 64; horizon = 512; stride = 101; limit = 30300 }) (codes "b3s23") false)
 unfolding clap_on_literals
 asks-workers program c n h is_n =
     asks_option program c n (codes "--workers") workers_built h (workers_use n (count_row c ∷ []) refl is_n) workers_named (numeral_plain n is_n.numeral) refl
-    ∙ ap (λ o. taken [] (Some 0) o [] standard (codes "b3s23")) (number_read 16777216 c h.0 h.1)
+    ∙ ap₂ (λ w o. taken_with false w [] (Some 0) o [] standard (codes "b3s23")) (from_read 1 16 n is_n) (number_read 16777216 c h.0 h.1)
 
 asks-progress : (program c : Text) → IsNumberUpTo 16777216 c
     → asked_by (program ∷ codes "take" ∷ codes "--count" ∷ c ∷ codes "--progress" ∷ [])
-    ≡ Some (Take (record { seed = []; first = 0; count = digits_value 10 c; also = [] })
+    ≡ Some (Take (record { seed = []; first = 0; count = digits_value 10 c; also = [] }) 1
     (record { period = 64; horizon = 512; stride = 101; limit = 30300 }) (codes "b3s23") true)
 unfolding clap_on_literals
 asks-progress program c h =
@@ -290,17 +301,9 @@ asks-progress program c h =
     asks program (codes "take") (codes "--count" ∷ c ∷ codes "--progress" ∷ []) built (reacted built.rules progress_built [] (counted c)) 1 rows refl has_take
     (reads_then built nothing_held (counted c) (reacted built.rules progress_built [] (counted c)) 1 1 1 (codes "--count" ∷ c ∷ []) (codes "--progress" ∷ [])
     (count_row c ∷ []) rows first second) refl
-    ∙ ap (λ o. taken_with true [] (Some 0) o [] standard (codes "b3s23")) (number_read 16777216 c h.0 h.1)
+    ∙ ap (λ o. taken_with true (Some 1) [] (Some 0) o [] standard (codes "b3s23")) (number_read 16777216 c h.0 h.1)
 
 -- ---- the profile
-
-abbrev at_least : ℕ → Option ℕ → Option ℕ
-at_least least o = option_and_then (λ n. cond {A = Option ℕ} (nat_le least n) (Some n) None) o
-
-from_read : (least most : ℕ) (n : Text) → IsNumberFromTo least most n → at_least least (number_of most (without_minus n)) ≡ Some (digits_value 10 n)
-from_read least most n h =
-    ap (at_least least) (number_read most n h.numeral h.high)
-    ∙ ap (λ b. cond {A = Option ℕ} b (Some (digits_value 10 n)) None) (le-leb least (digits_value 10 n) h.low)
 
 reads_profile : (c p h k t : Text) → IsNumberUpTo 16777216 c → IsNumberFromTo 1 64 p → IsNumberUpTo 4096 h → IsNumberFromTo 1 10000 k → IsNumberUpTo 100000 t
     → Reads built nothing_held 1
@@ -328,7 +331,7 @@ asks-profile : (program c p h k t : Text) → IsNumberUpTo 16777216 c → IsNumb
     → IsNumberUpTo 100000 t
     → asked_by (program ∷ codes "take" ∷ codes "--count" ∷ c ∷ codes "--period" ∷ p ∷ codes "--horizon" ∷ h ∷ codes "--stride" ∷ k ∷ codes "--limit" ∷ t
     ∷ [])
-    ≡ Some (Take (record { seed = []; first = 0; count = digits_value 10 c; also = [] })
+    ≡ Some (Take (record { seed = []; first = 0; count = digits_value 10 c; also = [] }) 1
     (record { period = digits_value 10 p; horizon = digits_value 10 h; stride = digits_value 10 k; limit = digits_value 10 t }) (codes "b3s23") false)
 unfolding clap_on_literals
 asks-profile program c p h k t is_c is_p is_h is_k is_t =
@@ -363,19 +366,19 @@ asks-too_far program c n h numeral over =
     refuses_option program c n (codes "--first") first_built ValueValidation h first_named first_one (numeral_plain n numeral)
     (ap refused_number (large_refused 1099511627776 n numeral over))
 
-asks-more_workers : (program c n : Text) → IsNumberUpTo 16777216 c → IsNumeral 10 n → 1 < digits_value 10 n
+asks-too_many_workers : (program c n : Text) → IsNumberUpTo 16777216 c → IsNumeral 10 n → 16 < digits_value 10 n
     → asked_by (program ∷ codes "take" ∷ codes "--count" ∷ c ∷ codes "--workers" ∷ n ∷ []) ≡ None
 unfolding clap_on_literals
-asks-more_workers program c n h numeral over =
+asks-too_many_workers program c n h numeral over =
     refuses_option program c n (codes "--workers") workers_built ValueValidation h workers_named workers_one (numeral_plain n numeral)
-    (ap refused_number (number_refused 1 1 n numeral over))
+    (ap refused_number (number_refused 1 16 n numeral over))
 
 asks-no_worker : (program c n : Text) → IsNumberUpTo 16777216 c → IsNumeral 10 n → digits_value 10 n < 1
     → asked_by (program ∷ codes "take" ∷ codes "--count" ∷ c ∷ codes "--workers" ∷ n ∷ []) ≡ None
 unfolding clap_on_literals
 asks-no_worker program c n h numeral under =
     refuses_option program c n (codes "--workers") workers_built ValueValidation h workers_named workers_one (numeral_plain n numeral)
-    (ap refused_number (number_below 1 1 n numeral under))
+    (ap refused_number (number_below 1 16 n numeral under))
 
 asks-count_twice : (program one other : Text) → IsNumberUpTo 16777216 one → IsNumberUpTo 16777216 other
     → asked_by (program ∷ codes "take" ∷ codes "--count" ∷ one ∷ codes "--count" ∷ other ∷ []) ≡ None
@@ -399,7 +402,7 @@ asks_to_take = record {
   progress = asks-progress;
   too_many = asks-too_many;
   too_far = asks-too_far;
-  more_workers = asks-more_workers;
+  too_many_workers = asks-too_many_workers;
   no_worker = asks-no_worker;
   count_twice = asks-count_twice;
   count_missing = asks-count_missing;

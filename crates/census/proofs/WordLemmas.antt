@@ -92,12 +92,12 @@ pub set_in-is : (rows : List Row) (seed : Option Text) (first count : Option ℕ
     → set_in rows ≡ set_of_four seed first count also
 set_in-is rows seed first count also is_seed is_first is_count is_also = sym (λ i. set_of_four (is_seed i) (is_first i) (is_count i) (is_also i))
 
--- what `take` is asked for, from its three values
-pub take_in-is : (rows : List Row) (set : Option SoupSet) (profile : Option ProfileNumbers) (rule : Option Text) → set ≡ set_in rows → profile ≡ profile_in rows
-    → rule ≡ first_of (codes "rule") rows
-    → take_in rows ≡ option_and_then (λ soups. option_and_then (λ numbers. option_map (λ text. Take soups numbers text (is_given (codes "progress") rows)) rule)
-    profile) set
-take_in-is rows set profile rule is_set is_profile is_rule = rw (← is_set, ← is_profile, ← is_rule) refl
+-- what `take` is asked for, from its four values
+pub take_in-is : (rows : List Row) (set : Option SoupSet) (workers : Option ℕ) (profile : Option ProfileNumbers) (rule : Option Text) → set ≡ set_in rows
+    → workers ≡ number_from 1 16 (codes "workers") rows → profile ≡ profile_in rows → rule ≡ first_of (codes "rule") rows
+    → take_in rows ≡ option_and_then (λ soups. option_and_then (λ w. option_and_then (λ numbers. option_map (λ text.
+    Take soups w numbers text (is_given (codes "progress") rows)) rule) profile) workers) set
+take_in-is rows set workers profile rule is_set is_workers is_profile is_rule = rw (← is_set, ← is_workers, ← is_profile, ← is_rule) refl
 
 -- what `work` is asked for, from its four values
 pub work_in-is : (rows : List Row) (set : Option SoupSet) (worker : Option ℕ) (profile : Option ProfileNumbers) (rule : Option Text) → set ≡ set_in rows

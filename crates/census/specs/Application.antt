@@ -114,12 +114,12 @@ also_argument = record (new_rule (codes "also")) {
   defaults = [] ∷ [];
 }
 
--- the option --workers: 1 alone for now
+-- the option --workers: a number from 1 to 16, 1 by default
 abbrev pub workers_argument : Rule
 workers_argument = record (new_rule (codes "workers")) {
   long = Some (codes "workers");
   value_names = 1;
-  parser = Some (Signed (pos 1) (pos 1));
+  parser = Some (Signed (pos 1) (pos 16));
   defaults = codes "1" ∷ [];
 }
 

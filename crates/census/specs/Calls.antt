@@ -94,14 +94,14 @@ pub record AsksForSoup : Type 0 where
       → asked_by (program ∷ codes "soup" ∷ n ∷ codes "--seed" ∷ one ∷ codes "--seed" ∷ other ∷ []) ≡ None
   pub number_missing : (program : Text) → asked_by (program ∷ codes "soup" ∷ []) ≡ None
 
--- `take` over these soups of a seed, with these further ranges, under the standard profile and this rule
+-- `take` over these soups of a seed, with these further ranges, by one worker, under the standard profile and this rule
 abbrev pub Takes : Text → ℕ → ℕ → Text → Text → Option Request
 Takes seed first count also rule =
-    Some (Take (record { seed = seed; first = first; count = count; also = also })
+    Some (Take (record { seed = seed; first = first; count = count; also = also }) 1
     (record { period = 64; horizon = 512; stride = 101; limit = 30300 }) rule false)
 
 -- `take --count C` alone, with each option after it alone in the next word, and with all in this order; each number lies in its
--- range, there is one worker, and `--count` stands once
+-- range, and `--count` stands once
 pub record AsksToTake : Type 0 where
   pub alone : (program c : Text) → IsNumberUpTo 16777216 c
       → asked_by (program ∷ codes "take" ∷ codes "--count" ∷ c ∷ []) ≡ Takes [] 0 (digits_value 10 c) [] (codes "b3s23")
@@ -112,24 +112,26 @@ pub record AsksToTake : Type 0 where
       ≡ Takes [] (digits_value 10 n) (digits_value 10 c) [] (codes "b3s23")
   pub also : (program c text : Text) → IsNumberUpTo 16777216 c → IsValue text
       → asked_by (program ∷ codes "take" ∷ codes "--count" ∷ c ∷ codes "--also" ∷ text ∷ []) ≡ Takes [] 0 (digits_value 10 c) text (codes "b3s23")
-  pub workers : (program c n : Text) → IsNumberUpTo 16777216 c → IsNumberFromTo 1 1 n
-      → asked_by (program ∷ codes "take" ∷ codes "--count" ∷ c ∷ codes "--workers" ∷ n ∷ []) ≡ Takes [] 0 (digits_value 10 c) [] (codes "b3s23")
+  pub workers : (program c n : Text) → IsNumberUpTo 16777216 c → IsNumberFromTo 1 16 n
+      → asked_by (program ∷ codes "take" ∷ codes "--count" ∷ c ∷ codes "--workers" ∷ n ∷ [])
+      ≡ Some (Take (record { seed = []; first = 0; count = digits_value 10 c; also = [] }) (digits_value 10 n)
+      (record { period = 64; horizon = 512; stride = 101; limit = 30300 }) (codes "b3s23") false)
   pub rule : (program c text : Text) → IsNumberUpTo 16777216 c → IsValue text
       → asked_by (program ∷ codes "take" ∷ codes "--count" ∷ c ∷ codes "--rule" ∷ text ∷ []) ≡ Takes [] 0 (digits_value 10 c) [] text
   pub profile : (program c p h k t : Text) → IsNumberUpTo 16777216 c → IsNumberFromTo 1 64 p → IsNumberUpTo 4096 h → IsNumberFromTo 1 10000 k
       → IsNumberUpTo 100000 t
       → asked_by (program ∷ codes "take" ∷ codes "--count" ∷ c ∷ codes "--period" ∷ p ∷ codes "--horizon" ∷ h ∷ codes "--stride" ∷ k ∷ codes "--limit" ∷ t
       ∷ [])
-      ≡ Some (Take (record { seed = []; first = 0; count = digits_value 10 c; also = [] })
+      ≡ Some (Take (record { seed = []; first = 0; count = digits_value 10 c; also = [] }) 1
       (record { period = digits_value 10 p; horizon = digits_value 10 h; stride = digits_value 10 k; limit = digits_value 10 t }) (codes "b3s23") false)
   pub progress : (program c : Text) → IsNumberUpTo 16777216 c
       → asked_by (program ∷ codes "take" ∷ codes "--count" ∷ c ∷ codes "--progress" ∷ [])
-      ≡ Some (Take (record { seed = []; first = 0; count = digits_value 10 c; also = [] })
+      ≡ Some (Take (record { seed = []; first = 0; count = digits_value 10 c; also = [] }) 1
       (record { period = 64; horizon = 512; stride = 101; limit = 30300 }) (codes "b3s23") true)
   pub too_many : (program c : Text) → IsNumeral 10 c → 16777216 < digits_value 10 c → asked_by (program ∷ codes "take" ∷ codes "--count" ∷ c ∷ []) ≡ None
   pub too_far : (program c n : Text) → IsNumberUpTo 16777216 c → IsNumeral 10 n → 1099511627776 < digits_value 10 n
       → asked_by (program ∷ codes "take" ∷ codes "--count" ∷ c ∷ codes "--first" ∷ n ∷ []) ≡ None
-  pub more_workers : (program c n : Text) → IsNumberUpTo 16777216 c → IsNumeral 10 n → 1 < digits_value 10 n
+  pub too_many_workers : (program c n : Text) → IsNumberUpTo 16777216 c → IsNumeral 10 n → 16 < digits_value 10 n
       → asked_by (program ∷ codes "take" ∷ codes "--count" ∷ c ∷ codes "--workers" ∷ n ∷ []) ≡ None
   pub no_worker : (program c n : Text) → IsNumberUpTo 16777216 c → IsNumeral 10 n → digits_value 10 n < 1
       → asked_by (program ∷ codes "take" ∷ codes "--count" ∷ c ∷ codes "--workers" ∷ n ∷ []) ≡ None

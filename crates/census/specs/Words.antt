@@ -75,8 +75,9 @@ set_in rows = set_of_four (first_of (codes "seed") rows) (number_in 109951162777
 -- `take`, with what was found for its options
 abbrev pub take_in : List Row → Option Request
 take_in rows =
-    option_and_then (λ set. option_and_then (λ profile. option_map (λ rule. Take set profile rule (is_given (codes "progress") rows))
-    (first_of (codes "rule") rows)) (profile_in rows)) (set_in rows)
+    option_and_then (λ set. option_and_then (λ workers. option_and_then (λ profile. option_map (λ rule.
+    Take set workers profile rule (is_given (codes "progress") rows))
+    (first_of (codes "rule") rows)) (profile_in rows)) (number_from 1 16 (codes "workers") rows)) (set_in rows)
 
 -- `work`, with what was found for its options
 abbrev pub work_in : List Row → Option Request

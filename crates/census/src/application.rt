@@ -352,9 +352,12 @@ fn workers_argument<'a>(alloc: Global) -> Arg<'a>
     Arg::new(alloc, "workers")
         .long("workers")
         .value_name("WORKERS")
-        .value_parser(value_parser!(u32).range(1..=1))
+        .value_parser(value_parser!(u32).range(1..=16))
         .default_value("1")
-        .help("How many workers run soups at a time: 1. More come later")
+        .help(
+            "How many workers run soups at a time, from 1 to 16, each in a thread of its own. For one on each processor say \
+             `--workers $(nproc)`",
+        )
 }
 
 fn progress_argument<'a>(alloc: Global) -> Arg<'a>

@@ -23,6 +23,7 @@ fn main(rt: HostRuntime) -> ExitCode {
     let mut line = Progress::new(rt.alloc(), rt.stderr(), &rt, errors.is_terminal());
     let ended = run_program(
         rt.alloc(),
+        &rt,
         words,
         &mut rt.stdin(),
         rt.stdout(),

@@ -16,6 +16,8 @@ use commands::status::Status;
 use plane_core::output::Out;
 use std::alloc::Global;
 use std::io::{self, BufWriter, ErrorKind, Read, Write};
+use std::sync::Wait;
+use std::thread::Threads;
 use std::time::Clock;
 
 /// What the program leaves when it ends.
@@ -34,8 +36,16 @@ pub struct Ended<W: Write + Drop, E: Write + Drop> {
 /// The words are as `std::env::args` gives them: the first is the program's name, and words that are not UTF-8 are an
 /// error. Output goes through a buffer. With code 0, the whole text of what was asked for is with the writer below it. How far a
 /// haul has come is said on `line`, which has a writer of its own, and nothing else depends on it.
-pub fn run_program<R: Read, W: Write + Drop, E: Write + Drop, P: Write, C: Clock>(
+pub fn run_program<
+    T: Threads + Wait + Sync,
+    R: Read,
+    W: Write + Drop,
+    E: Write + Drop,
+    P: Write,
+    C: Clock,
+>(
     alloc: Global,
+    rt: &T,
     words: io::Result<Vec<String>>,
     input: &mut R,
     output: W,
@@ -73,6 +83,7 @@ pub fn run_program<R: Read, W: Write + Drop, E: Write + Drop, P: Write, C: Clock
         Ok(words) => {
             let (status, output) = do_buffered(
                 alloc,
+                rt,
                 words.as_slice(),
                 input,
                 output,
@@ -98,8 +109,9 @@ pub fn run_program<R: Read, W: Write + Drop, E: Write + Drop, P: Write, C: Clock
 
 /// Does what the words ask for, with its output through a buffer over this writer. Gives the writer back, or nothing if
 /// there is no memory for the buffer.
-fn do_buffered<R: Read, W: Write + Drop, E: Write, P: Write, C: Clock>(
+fn do_buffered<T: Threads + Wait + Sync, R: Read, W: Write + Drop, E: Write, P: Write, C: Clock>(
     alloc: Global,
+    rt: &T,
     words: &[String],
     input: &mut R,
     output: W,
@@ -123,7 +135,7 @@ fn do_buffered<R: Read, W: Write + Drop, E: Write, P: Write, C: Clock>(
         return (Complaint::OutOfMemory.tell(errors), None);
     };
     let mut output = Out::new(buffered);
-    let status = do_words(alloc, words, input, &mut output, errors, line);
+    let status = do_words(alloc, rt, words, input, &mut output, errors, line);
     let mut buffered = output.into_inner();
     let status = send_buffered(status, &mut buffered, errors);
     let (writer, _) = buffered.into_parts();

@@ -5,7 +5,9 @@ use commands::status::Status;
 use plane_core::output::Out;
 use std::io::{self, ErrorKind, Read, Write};
 use std::process::Abort;
+use std::sync::Wait;
 use std::test::Fail;
+use std::thread::Threads;
 use std::time::{Clock, Duration};
 
 const BLINKER: &[u8] = b"OOO\n";
@@ -42,13 +44,14 @@ fn no_line(rt: &impl AllocGlobal) -> Progress<Vec<u8>, Still> {
 }
 
 /// Does what the words ask for, with this input.
-fn left_by(rt: &impl AllocGlobal, words: &[&str], input: &[u8]) -> Left {
+fn left_by<T: Threads + Wait + Sync + AllocGlobal>(rt: &T, words: &[&str], input: &[u8]) -> Left {
     let mut input = input;
     let mut output = Out::new(Vec::new(rt.alloc()));
     let mut errors = Out::new(Vec::new(rt.alloc()));
     let mut line = no_line(rt);
     let status = do_words(
         rt.alloc(),
+        rt,
         words,
         &mut input,
         &mut output,
@@ -63,7 +66,12 @@ fn left_by(rt: &impl AllocGlobal, words: &[&str], input: &[u8]) -> Left {
 }
 
 /// Asserts that the words, with this input, end as done with this output and no line.
-fn assert_prints<R: Abort + AllocGlobal>(rt: &R, words: &[&str], input: &[u8], output: &[u8]) {
+fn assert_prints<R: Threads + Wait + Sync + Abort + AllocGlobal>(
+    rt: &R,
+    words: &[&str],
+    input: &[u8],
+    output: &[u8],
+) {
     let left = left_by(rt, words, input);
     assert_eq!(rt; left.status, Status::Done, "{words:?}");
     assert_eq!(rt; left.output.as_slice(), output, "{words:?}");
@@ -71,7 +79,7 @@ fn assert_prints<R: Abort + AllocGlobal>(rt: &R, words: &[&str], input: &[u8], o
 }
 
 /// Asserts that the words, with this input, end with this status and this line, and print nothing.
-fn assert_complains<R: Abort + AllocGlobal>(
+fn assert_complains<R: Threads + Wait + Sync + Abort + AllocGlobal>(
     rt: &R,
     words: &[&str],
     input: &[u8],
@@ -229,7 +237,7 @@ impl Write for FillingWriter {
 
 /// Runs the program on these words and this input, over a writer with so much room. Asserts the code and the line, and
 /// returns what the writer took.
-fn taken_by<R: Abort + AllocGlobal>(
+fn taken_by<R: Threads + Wait + Sync + Abort + AllocGlobal>(
     rt: &R,
     words: &[&str],
     input: &[u8],
@@ -244,6 +252,7 @@ fn taken_by<R: Abort + AllocGlobal>(
     };
     let ended = run_program(
         rt.alloc(),
+        rt,
         Ok(list_of(rt, words)?),
         &mut input,
         writer,
@@ -285,9 +294,13 @@ impl Read for NoReader {
 }
 
 /// What the program leaves with these words, over a reader that fails.
-fn ended_by(rt: &impl AllocGlobal, words: io::Result<Vec<String>>) -> Ended<Vec<u8>, Vec<u8>> {
+fn ended_by<T: Threads + Wait + Sync + AllocGlobal>(
+    rt: &T,
+    words: io::Result<Vec<String>>,
+) -> Ended<Vec<u8>, Vec<u8>> {
     run_program(
         rt.alloc(),
+        rt,
         words,
         &mut NoReader,
         Vec::new(rt.alloc()),

@@ -22,6 +22,8 @@ use plane_core::output::Out;
 use std::alloc::{AllocError, Global};
 use std::convert::AsStr;
 use std::io::{Read, Write};
+use std::sync::Wait;
+use std::thread::Threads;
 use std::time::Clock;
 
 /// The greatest number of a soup: 2^40 - 1.
@@ -60,8 +62,17 @@ impl From<AllocError> for Unasked {
 /// # Errors
 ///
 /// As of [`do_request`], or `OutOfMemory` if there is no memory to read the words.
-pub fn do_words<S: AsStr, R: Read, W: Write, E: Write, P: Write, C: Clock>(
+pub fn do_words<
+    T: Threads + Wait + Sync,
+    S: AsStr,
+    R: Read,
+    W: Write,
+    E: Write,
+    P: Write,
+    C: Clock,
+>(
     alloc: Global,
+    rt: &T,
     words: &[S],
     input: &mut R,
     output: &mut Out<W>,
@@ -79,7 +90,7 @@ pub fn do_words<S: AsStr, R: Read, W: Write, E: Write, P: Write, C: Clock>(
     ensures untouched { result ≡ Status.Refused → output.new ≡ output.old }
 {
     match request_of(alloc, words) {
-        Ok(request) => do_request(alloc, &request, input, output, errors, line),
+        Ok(request) => do_request(alloc, rt, &request, input, output, errors, line),
         Err(Unasked::Usage(text)) => {
             let _ = errors.put(text.as_bytes());
             Status::Usage
@@ -261,12 +272,13 @@ fn take_in<'a>(found: &ArgMatches<'a>) -> Option<Request<'a>>
     ensures request { result ≡ take_in (rows_of (found_of found.now)) }
     ensures limits { IfSome result IsWithinLimits }
 {
-    // `clap` has seen to it that there is one worker.
     let set = set_in(found)?;
+    let workers = number_from(found, "workers", 1, 16)?;
     let profile = profile_in(found)?;
     let rule = found.get_str("rule")?;
     Some(Request::Take {
         set,
+        workers: workers as u8,
         profile,
         rule: Word::new(rule),
         progress: is_given(found, "progress"),

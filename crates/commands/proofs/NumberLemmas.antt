@@ -2,7 +2,9 @@
 use Rattle.std.proofs.Common.{◌≡◌, ◌∙◌, ◌+◌, ◌-◌, ◌<◌, ◌≤◌, ◌&&◌, ◌||◌, ◌⊎◌, ℕ, zero, suc, Bool, true, false, cond, count_by, inl, inr}
 use Rattle.std.proofs.Common.{nat_eq, nat_le, nat_lt, List, [], ◌∷◌, ◌++◌, add-one, add-zero, ap, sym, refl, arith, zero-add}
 use Rattle.std.proofs.lemmas.Bool.{and_from, and_parts, cases_Bool, eq-eqb, eqb-true, false≢true, leb-false, leb-true}
-use Rattle.std.proofs.lemmas.Bool.{ltb-false, ltb-true, ne_eqb}
+use Rattle.std.proofs.lemmas.Bool.{le-leb, lt-ltb, ltb-false, ltb-true, ne_eqb, or_left, or_right}
+use Rattle.std.proofs.lemmas.List.Elements.{All-append, All-cons, All-nil}
+use Rattle.std.specs.List.{All}
 use Rattle.std.proofs.lemmas.List.Sums.{sum_by-append, sum_by-cons}
 use Rattle.std.specs.List.{range_with_len}
 use Rattle.haul_core.specs.declared.range.Range.{Range}
@@ -105,3 +107,19 @@ count_normal n (r ∷ more) normal = go (cases_Bool (is_in_range n r)) (cases_Bo
 -- the numbers of a normal form are those of the ranges
 pub numbers_of_form : (ranges normal : List Range) → IsNormalForm ranges normal → AreNumbersOf ranges (numbers_of normal)
 numbers_of_form ranges normal form = λ n. count_normal n normal form.normal_form ∙ ap (λ (b : Bool). cond {A = ℕ} b 1 0) (form.same n)
+
+-- ---- the numbers of ranges lie in them
+
+numbers_between : (low high a k : ℕ) → low ≤ a → a + k ≤ high → All (λ n. (low ≤ n) × (n < high)) (range_with_len a k)
+numbers_between low high a zero begin end_ = All-nil (λ n. (low ≤ n) × (n < high))
+numbers_between low high a (suc k) begin end_ =
+    All-cons (λ n. (low ≤ n) × (n < high)) a (range_with_len (a + 1) k) (begin, omega arith)
+    (numbers_between low high (a + 1) k (omega arith) (omega arith))
+
+pub numbers_within : (ranges : List Range) → All (λ n. is_in ranges n ≡ true) (numbers_of ranges)
+numbers_within [] = All-nil (λ n. is_in [] n ≡ true)
+numbers_within (r ∷ more) =
+    All-append (λ n. is_in (r ∷ more) n ≡ true) (numbers_in_range r) (numbers_of more)
+    (λ k d low. let within = numbers_between r.first (end_of r) r.first r.count (omega arith) (omega arith) k d low in
+    or_left _ _ (and_from _ _ (le-leb _ _ within.0) (lt-ltb _ _ within.1)))
+    (λ k d low. or_right _ _ (numbers_within more k d low))

@@ -1,12 +1,10 @@
 -- From the steps of `take` to a right answer.
-use Rattle.std.proofs.Common.{◌≡◌, ◌∙◌, ◌+◌, ◌-◌, ◌≤◌, ◌⊎◌, ℕ, Bool, true, false, cond, count_by, inl, inr, nat_eq, nat_le, not}
-use Rattle.std.proofs.Common.{List, [], ◌∷◌, ◌++◌, Result, Ok, Err, ap, sym, subst, refl, arith, filter, map, append_assoc}
-use Rattle.std.proofs.lemmas.Bool.{and_from, cases_Bool, eq-eqb, leb-false, leb-true, le-leb}
-use Rattle.std.proofs.lemmas.List.{map_push}
-use Rattle.std.proofs.lemmas.List.Elements.{All-head, All-nil, All-push, All-tail}
-use Rattle.std.specs.Bool.{beq}
-use Rattle.std.specs.Cmp.Lexicographic.{pointwise}
-use Rattle.std.specs.List.{All, range_with_len}
+use Rattle.std.proofs.Common.{◌≡◌, ◌∙◌, ◌≤◌, ◌⊎◌, ℕ, Bool, true, false, cond, inl, inr, nat_eq, nat_le, not, get_or, length}
+use Rattle.std.proofs.Common.{List, [], ◌∷◌, ◌++◌, Option, None, Some, Result, Ok, Err, All, ap, sym, subst, refl, arith}
+use Rattle.std.specs.Prelude.{Contains, IfSome}
+use Rattle.std.proofs.lemmas.Bool.{cases_Bool, leb-false, leb-true}
+use Rattle.std.proofs.lemmas.List.Elements.{All-contains, All-filter}
+use Rattle.std.specs.List.{IsDistinct}
 use Rattle.std.specs.Result.{result_map_both}
 use Rattle.plane_core.specs.declared.rule.RuleError.{RuleError}
 use Rattle.plane_core.specs.declared.rule.RuleError.TheVariants as rule_error
@@ -16,20 +14,19 @@ use Rattle.survey_core.specs.declared.seed.SeedError.{SeedError}
 use Rattle.survey_core.specs.declared.seed.SeedError.TheVariants as seed_error
 use Rattle.survey_core.specs.Profiles.{Settling}
 use Rattle.survey_core.specs.Seeds.{seed_read}
-use Rattle.haul_core.specs.declared.arrival.Arrival.{Arrival}
-use Rattle.haul_core.specs.declared.arrival.Arrival.TheVariants.{Closing, Offer}
 use Rattle.haul_core.specs.declared.census.Census.{Census}
 use Rattle.haul_core.specs.declared.range.Range.{Range}
 use Rattle.haul_core.specs.declared.range_list.ListError.{ListError}
 use Rattle.haul_core.specs.declared.range_list.ListError.TheVariants as list_error
-use Rattle.haul_core.specs.Books.{Held, StandsFor, Terms, entry, first_of_each, has_number, is_lawful, offered, taken_of}
+use Rattle.haul_core.specs.Books.{Held, StandsFor, Terms}
 use Rattle.haul_core.specs.Censuses.{IsCensus}
 use Rattle.haul_core.specs.HaulTexts.{haul_text}
-use Rattle.haul_core.specs.Jobs.{same_job}
 use Rattle.haul_core.specs.Keeping.{numbers_in}
+use Rattle.haul_core.specs.Missing.{AreAll, IsComplete, is_taken, missing_of}
 use Rattle.haul_core.specs.RangeLists.{AreWords, IsFirstFault, IsListText, list_text}
-use Rattle.haul_core.specs.Ranges.{AreSmall, IsNormalForm, Overlap, is_in}
-use Rattle.haul_core.specs.Reports.{Reported}
+use Rattle.haul_core.specs.Ranges.{AreSmall, IsNormalForm, is_in}
+use Rattle.crew.specs.Shifts.{StopsAt}
+use Rattle.crew.specs.Takes.{HasTaken, was_missing}
 use Rattle.commands.specs.declared.complaint.Complaint.{Complaint}
 use Rattle.commands.specs.declared.complaint.Complaint.TheVariants.{Refused, OutOfMemory, ReadFailed, WriteFailed}
 use Rattle.commands.specs.declared.profile.ProfileNumbers.{ProfileNumbers}
@@ -37,15 +34,17 @@ use Rattle.commands.specs.declared.refusal.Refusal.{Refusal}
 use Rattle.commands.specs.declared.refusal.Refusal.TheVariants.{BadList, BadRule, BirthZero, HorizonBelowPeriod, RangeTooLarge, RangesOverlap}
 use Rattle.commands.specs.declared.refusal.Refusal.TheVariants.{SeedBadByte, SeedTooLong}
 use Rattle.commands.specs.declared.soup_set.SoupSet.{SoupSet}
-use Rattle.commands.specs.Answers.{NeedsMemory, Reaches, Right, given, given_right, text_of}
+use Rattle.commands.specs.declared.status.Status.{Status}
+use Rattle.commands.specs.Answers.{Ends, NeedsMemory, Reaches, Right, given, given_right, text_of}
 use Rattle.commands.specs.Inputs.{rule_complaint, rule_named}
 use Rattle.commands.specs.Profiles.{profile_named, settling}
 use Rattle.commands.specs.Soup.{seed_complaint, seed_named}
 use Rattle.commands.specs.SoupSets.{AreRangesOf, IsRefused, job_named, right_for_set, Bad_list, Overlapping, Too_large}
+use Rattle.commands.specs.Stopped.{EndsTake, Takes, TellsTake, TellsTaken, right_if, stopped_right}
 use Rattle.commands.specs.Streams.{Stream, Has}
 use Rattle.commands.specs.Take.{TellsAll, take_right}
-use Rattle.commands.specs.TakeSteps.{IsOffered, IsOpened, IsOwn, Stops, StopsSet, list_complaint, numbers_of}
-use Rattle.commands.proofs.NumberLemmas.{count_cons, count_other, count_same, numbers_of_form, range_more}
+use Rattle.commands.specs.TakeSteps.{IsOpened, Stops, StopsSet, list_complaint, numbers_of}
+use Rattle.commands.proofs.NumberLemmas.{numbers_within}
 
 -- ---- refusals
 
@@ -165,16 +164,12 @@ pub listed : (set : SoupSet) (ranges : List Range) → AreRangesOf set ranges �
 listed set ranges of = record { ranges = of.listed; words = of.words; spelled = of.spelled }
 
 -- memory that runs out over a haul that was opened stops the command
-pub Stops_memory : (set : SoupSet) (numbers : ProfileNumbers) (rule_text : List ℕ) (job : Job) (held : Held) → job_named set numbers rule_text ≡ Ok job
-    → IsOpened job set 1 held → Stops (take_right set numbers rule_text) OutOfMemory
+pub Stops_memory : {workers : ℕ} (set : SoupSet) (numbers : ProfileNumbers) (rule_text : List ℕ) (job : Job) (held : Held) → job_named set numbers rule_text ≡ Ok job
+    → IsOpened job set workers held → Stops (take_right set numbers rule_text) OutOfMemory
 Stops_memory set numbers rule_text job held named opened =
     Stops_given set numbers rule_text TellsAll job OutOfMemory named (listed set opened.ranges opened.named)
 
 -- ---- a haul that was opened
-
--- nothing was offered yet
-pub offered_none : (held : Held) → StandsFor [] held → IsOffered [] held
-offered_none held stands = record { reports = []; own = All-nil (IsOwn held.terms.job); numbers_are = refl; stands = stands }
 
 -- ranges that can't be too large are small enough
 pub small_from : (ranges : List Range) → ((AreSmall ranges → ⊥) → ⊥) → AreSmall ranges
@@ -190,156 +185,127 @@ small_from ranges never = record {
         go (inl yes_) = leb-true a b yes_
         go (inr no_) = absurd (never (λ small. let less = leb-false a b no_ in let most = says small in omega arith))
 
--- ---- reports one after another
+-- ---- a haul of which something was taken
 
--- a report more
-pub offered_more : (old new : Held) (report : Reported) (n : ℕ) (numbers : List ℕ) → IsOffered numbers old → new.terms ≡ old.terms → IsOwn old.terms.job report
-    → report.number ≡ n → ((arrivals : List Arrival) → StandsFor arrivals old → StandsFor (arrivals ++ Offer report ∷ []) new)
-    → IsOffered (numbers ++ n ∷ []) new
-offered_more old new report n numbers h terms own is stands = record {
-  reports = h.reports ++ report ∷ [];
-  own = subst (λ (t : Terms). All (IsOwn t.job) (h.reports ++ report ∷ [])) (sym terms) (All-push (IsOwn old.terms.job) h.reports report h.own own);
-  numbers_are = map_push (λ r. r.number) h.reports report ∙ (λ i. h.numbers_are i ++ is i ∷ []);
-  stands = subst (λ (arrivals : List Arrival). StandsFor arrivals new) (sym (map_push Offer h.reports report)) (stands (map Offer h.reports) h.stands);
+-- nothing was taken of a haul that was opened
+none_taken : (held : Held) → StandsFor [] held → held.taken ≡ []
+none_taken held stands = stands.taken
+
+-- a missing number is one of the set
+in_set : (ranges normal : List Range) (taken : List (ℕ × ℕ)) (n : ℕ) → IsNormalForm ranges normal → Contains (missing_of normal taken) n
+    → is_in ranges n ≡ true
+in_set ranges normal taken n form missing =
+    sym (form.same n)
+    ∙ All-contains (λ m. is_in normal m ≡ true) (missing_of normal taken) n
+    (All-filter (λ m. not (is_taken taken m)) (λ m. is_in normal m ≡ true) (numbers_of normal) (numbers_within normal)) missing
+
+-- its census is that of the job and the set
+counted_by : {workers : ℕ} (job : Job) (set : SoupSet) (opened held : Held) (census : Census) → IsOpened job set workers opened
+    → HasTaken workers opened held → IsCensus held.terms.job held.terms.ranges (numbers_in held.taken) census
+    → IsCensus job opened.terms.ranges (numbers_in held.taken) census
+counted_by job set opened held census open_ h is =
+    subst (λ (j : Job). IsCensus j opened.terms.ranges (numbers_in held.taken) census) open_.job_is
+    (subst (λ (t : Terms). IsCensus t.job t.ranges (numbers_in held.taken) census) h.terms is)
+
+-- all of it was taken
+pub complete_right : {workers : ℕ} (job : Job) (set : SoupSet) (opened held : Held) (census : Census) → IsOpened job set workers opened
+    → HasTaken workers opened held → AreAll held.terms.ranges (numbers_in held.taken)
+    → IsCensus held.terms.job held.terms.ranges (numbers_in held.taken) census → right_for_set set (TellsAll job) (Ok (haul_text census))
+complete_right job set opened held census open_ h all is = record {
+  ranges = open_.ranges;
+  named = open_.named;
+  small = open_.small;
+  apart = open_.apart;
+  is_told = record {
+    numbers = numbers_in held.taken;
+    all = λ n. all n ∙ ap (λ (b : Bool). cond {A = ℕ} b 1 0)
+        (ap (λ (t : Terms). is_in t.ranges n) h.terms ∙ open_.form.same n);
+    normal = opened.terms.ranges;
+    form = open_.form;
+    census = census;
+    counted = counted_by job set opened held census open_ h is;
+    told = refl;
+  };
 }
 
--- the numbers of a range up to the next
-pub offered_next : (first number : ℕ) (numbers : List ℕ) (held : Held) → first ≤ number
-    → IsOffered ((numbers ++ range_with_len first (number - first)) ++ number ∷ []) held
-    → IsOffered (numbers ++ range_with_len first (number + 1 - first)) held
-offered_next first number numbers held low h =
-    let one_more : number + 1 - first ≡ (number - first) + 1 = omega arith in
-    let is = range_more first (number - first) number (omega arith) in
-    subst (λ (ns : List ℕ). IsOffered ns held)
-    (append_assoc numbers (range_with_len first (number - first)) (number ∷ []) ∙ ap (λ (ns : List ℕ). numbers ++ ns) (sym is)
-    ∙ ap (λ (k : ℕ). numbers ++ range_with_len first k) (sym one_more)) h
-
--- ---- what a book takes of reports on different numbers
-
-offered_all : (reports : List Reported) → offered (map Offer reports ++ Closing ∷ []) ≡ reports
-offered_all [] = refl
-offered_all (r ∷ more) = ap (λ (rs : List Reported). r ∷ rs) (offered_all more)
-
-itself : (n : ℕ) → nat_eq n n ≡ true
-itself n = eq-eqb n n refl
-
-same_numbers : (xs : List ℕ) → pointwise nat_eq xs xs ≡ true
-same_numbers [] = refl
-same_numbers (x ∷ xs) = and_from _ _ (itself x) (same_numbers xs)
-
-same_tests : (xs : List Bool) → pointwise beq xs xs ≡ true
-same_tests [] = refl
-same_tests (true ∷ xs) = same_tests xs
-same_tests (false ∷ xs) = same_tests xs
-
-same_job_itself : (job : Job) → same_job job job ≡ true
-same_job_itself job =
-    let p = job.profile in
-    let profile = and_from _ _ (itself p.period) (and_from _ _ (itself p.horizon) (and_from _ _ (itself p.stride) (itself p.limit))) in
-    and_from _ _ (same_numbers job.seed) (and_from _ _ profile (and_from _ _ (same_tests job.rule.births) (same_tests job.rule.survivals)))
-
-lawful_own : (terms : Terms) (r : Reported) → terms.workers ≡ 1 → IsOwn terms.job r → is_in terms.ranges r.number ≡ true → is_lawful terms r ≡ true
-lawful_own terms r alone own inside =
-    let worker = own.worker_is in
-    and_from _ _ (subst (λ (j : Job). same_job terms.job j ≡ true) (sym own.job_is) (same_job_itself terms.job))
-    (and_from _ _ (le-leb r.worker terms.workers (omega arith)) inside)
-
-abbrev numbers_on : List Reported → List ℕ
-numbers_on reports = map (λ r. r.number) reports
-
--- reports on other numbers
-keeps_others : (n : ℕ) (rs : List Reported) → count_by (nat_eq n) (numbers_on rs) ≡ 0 → filter (λ s. not (has_number n s)) rs ≡ rs
-keeps_others n [] none = refl
-keeps_others n (r ∷ rs) none = go (cases_Bool (nat_eq n r.number)) (keeps_others n rs)
+-- some numbers are missing
+pub stopped_told : {workers : ℕ} (may_stop : ℕ → ℕ → Type 0) (job : Job) (set : SoupSet) (opened held : Held) (census : Census) (missing : ℕ)
+    → IsOpened job set workers opened → HasTaken workers opened held → missing ≡ length (missing_of held.terms.ranges held.taken)
+    → ¬ IsComplete held.terms.ranges held.taken → ((worker : ℕ) × StopsAt may_stop (was_missing opened) worker)
+    → IsCensus held.terms.job held.terms.ranges (numbers_in held.taken) census
+    → right_for_set set (TellsTaken may_stop missing job) (Ok (haul_text census))
+stopped_told may_stop job set opened held census missing open_ h many incomplete stops is = record {
+  ranges = open_.ranges;
+  named = open_.named;
+  small = open_.small;
+  apart = open_.apart;
+  is_told = record {
+    normal = opened.terms.ranges;
+    form = open_.form;
+    taken = held.taken;
+    within = subst (All (λ (t : ℕ × ℕ). is_in open_.ranges t.1 ≡ true)) (sym entries)
+        (λ k d low. in_set open_.ranges opened.terms.ranges opened.taken (get_or h.entries k d).1 open_.form (h.missing k d low));
+    once = subst (λ (ts : List (ℕ × ℕ)). IsDistinct nat_eq (numbers_in ts)) (sym entries) h.once;
+    incomplete = subst (λ (t : Terms). ¬ IsComplete t.ranges held.taken) h.terms incomplete;
+    missing_is = many ∙ ap (λ (t : Terms). length (missing_of t.ranges held.taken)) h.terms;
+    stops = (stops.0, stops.1.0, in_set open_.ranges opened.terms.ranges opened.taken stops.1.0 open_.form stops.1.1, stops.1.2);
+    census = census;
+    counted = counted_by job set opened held census open_ h is;
+    told = refl;
+  };
+}
   where
-    go : (nat_eq n r.number ≡ true) ⊎ (nat_eq n r.number ≡ false)
-        → (count_by (nat_eq n) (numbers_on rs) ≡ 0 → filter (λ s. not (has_number n s)) rs ≡ rs)
-        → cond (not (nat_eq n r.number)) (r ∷ filter (λ s. not (has_number n s)) rs) (filter (λ s. not (has_number n s)) rs) ≡ r ∷ rs
-    go (inl same) rest =
-        let some = count_same n r.number (numbers_on rs) same in
-        absurd (omega arith)
-    go (inr other) rest =
-        let fewer = count_other n r.number (numbers_on rs) other in
-        ap (λ (b : Bool). cond (not b) (r ∷ filter (λ s. not (has_number n s)) rs) (filter (λ s. not (has_number n s)) rs)) other
-        ∙ ap (λ (xs : List Reported). r ∷ xs) (rest (sym fewer ∙ none))
+    entries : held.taken ≡ h.entries
+    entries = h.taken ∙ ap (λ (ts : List (ℕ × ℕ)). ts ++ h.entries) (none_taken opened open_.stands)
 
--- reports of the only worker on numbers of the set, each once, are all taken
-takes_all : (terms : Terms) (reports : List Reported) → terms.workers ≡ 1 → All (IsOwn terms.job) reports
-    → ((n : ℕ) → count_by (nat_eq n) (numbers_on reports) ≤ cond {A = ℕ} (is_in terms.ranges n) 1 0)
-    → first_of_each (filter (is_lawful terms) reports) ≡ reports
-takes_all terms [] alone own once = refl
-takes_all terms (r ∷ more) alone own once =
-    go (cases_Bool (is_in terms.ranges r.number)) (takes_all terms more alone (All-tail (IsOwn terms.job) r more own) (λ n. fewer n (once n)))
+-- what was taken of a haul that was opened, with how many are missing
+pub taken_right : {workers : ℕ} (may_stop : ℕ → ℕ → Type 0) (set : SoupSet) (numbers : ProfileNumbers) (rule_text : List ℕ) (job : Job) (opened held : Held)
+    (census : Census) (missing : Option ℕ) → job_named set numbers rule_text ≡ Ok job → IsOpened job set workers opened → HasTaken workers opened held
+    → (missing ≡ None → AreAll held.terms.ranges (numbers_in held.taken))
+    → IfSome missing (λ n. n ≡ length (missing_of held.terms.ranges held.taken))
+    → IfSome missing (λ n. ¬ IsComplete held.terms.ranges held.taken)
+    → (¬ IsComplete held.terms.ranges held.taken → (worker : ℕ) × StopsAt may_stop (was_missing opened) worker)
+    → IsCensus held.terms.job held.terms.ranges (numbers_in held.taken) census
+    → right_if (take_right set numbers rule_text) (stopped_right may_stop set numbers rule_text) missing (Ok (haul_text census))
+taken_right may_stop set numbers rule_text job opened held census None named open_ h all many incomplete stops is =
+    right_given set numbers rule_text (λ j. right_for_set set (TellsAll j)) job (haul_text census) named
+    (complete_right job set opened held census open_ h (all refl) is)
+taken_right may_stop set numbers rule_text job opened held census (Some n) named open_ h all many incomplete stops is =
+    right_given set numbers rule_text (λ j. right_for_set set (TellsTaken may_stop n j)) job (haul_text census) named
+    (stopped_told may_stop job set opened held census n open_ h many incomplete (stops incomplete) is)
+
+-- ---- how `take` ends
+
+-- a complaint that stops the command is what it ends with, with nothing on the output
+pub Takes_stopped : (whole : Right) (stopped : ℕ → Right) (complaint : Complaint) (output : Stream) → Stops whole complaint → Has output []
+    → Takes whole stopped (Err complaint) output
+Takes_stopped whole stopped (Refused refusal) output stops nothing = Reaches_stopped true whole (Refused refusal) output stops nothing
+Takes_stopped whole stopped OutOfMemory output stops nothing = Reaches_stopped true whole OutOfMemory output stops nothing
+Takes_stopped whole stopped ReadFailed output stops nothing = absurd stops
+Takes_stopped whole stopped WriteFailed output stops nothing = absurd stops
+
+-- a gate that stops nobody stops no haul
+never_right : (may_stop : ℕ → ℕ → Type 0) (set : SoupSet) (numbers : ProfileNumbers) (rule_text : List ℕ) (missing : ℕ) (text : List ℕ)
+    → ((worker n : ℕ) → may_stop worker n → ⊥) → stopped_right may_stop set numbers rule_text missing (Ok text) → ⊥
+never_right may_stop set numbers rule_text missing text never = go (job_named set numbers rule_text)
   where
-    fewer : (n : ℕ) {m : ℕ} → count_by (nat_eq n) (numbers_on (r ∷ more)) ≤ m → count_by (nat_eq n) (numbers_on more) ≤ m
-    fewer n h = let is = count_cons n r.number (numbers_on more) in omega arith
+    go : (r : Result Job Complaint) → given_right r (λ job. right_for_set set (TellsTaken may_stop missing job)) (Ok text) → ⊥
+    go (Ok job) told = let stops = told.is_told.stops in never stops.0 stops.1 stops.3
+    go (Err complaint) is = cc
 
-    here : count_by (nat_eq r.number) (numbers_on (r ∷ more)) ≡ 1 + count_by (nat_eq r.number) (numbers_on more)
-    here = count_same r.number r.number (numbers_on more) (eq-eqb r.number r.number refl)
-
-    most : (b : Bool) → is_in terms.ranges r.number ≡ b → count_by (nat_eq r.number) (numbers_on (r ∷ more)) ≤ cond {A = ℕ} b 1 0
-    most b is = subst (λ (c : Bool). count_by (nat_eq r.number) (numbers_on (r ∷ more)) ≤ cond {A = ℕ} c 1 0) is (once r.number)
-
-    go : (is_in terms.ranges r.number ≡ true) ⊎ (is_in terms.ranges r.number ≡ false) → first_of_each (filter (is_lawful terms) more) ≡ more
-        → first_of_each (filter (is_lawful terms) (r ∷ more)) ≡ r ∷ more
-    go (inl inside) rest =
-        let lawful = lawful_own terms r alone (All-head (IsOwn terms.job) r more own) inside in
-        let least = most true inside in
-        let none : count_by (nat_eq r.number) (numbers_on more) ≡ 0 = omega (arith, here) in
-        ap (λ (b : Bool). first_of_each (cond b (r ∷ filter (is_lawful terms) more) (filter (is_lawful terms) more))) lawful
-        ∙ ap (λ (xs : List Reported). r ∷ filter (λ s. not (has_number r.number s)) xs) rest
-        ∙ ap (λ (xs : List Reported). r ∷ xs) (keeps_others r.number more none)
-    go (inr outside) rest =
-        let least = most false outside in
-        absurd (omega (arith, here))
-
-numbers_in_entries : (reports : List Reported) → numbers_in (map entry reports) ≡ numbers_on reports
-numbers_in_entries [] = refl
-numbers_in_entries (r ∷ more) = ap (λ (ns : List ℕ). r.number ∷ ns) (numbers_in_entries more)
-
--- ---- the census of the complete haul
-
--- a haul that was offered a report on each number of its set, and was then closed, has taken each number
-taken_numbers : (ranges : List Range) (held closed : Held) → held.terms.workers ≡ 1 → IsNormalForm ranges held.terms.ranges
-    → IsOffered (numbers_of held.terms.ranges) held → closed.terms ≡ held.terms
-    → ((arrivals : List Arrival) → StandsFor arrivals held → StandsFor (arrivals ++ Closing ∷ []) closed)
-    → numbers_in closed.taken ≡ numbers_of held.terms.ranges
-taken_numbers ranges held closed alone form h terms closes =
-    let stands = closes (map Offer h.reports) h.stands in
-    let once : (n : ℕ) → count_by (nat_eq n) (numbers_on h.reports) ≤ cond {A = ℕ} (is_in held.terms.ranges n) 1 0 =
-    λ n. let is = ap (count_by (nat_eq n)) h.numbers_are ∙ numbers_of_form ranges held.terms.ranges form n
-    ∙ sym (ap (λ (b : Bool). cond {A = ℕ} b 1 0) (form.same n)) in omega arith in
-    let whole = takes_all held.terms h.reports alone h.own once in
-    ap numbers_in (stands.taken ∙ ap (λ (t : Terms). taken_of t (map Offer h.reports ++ Closing ∷ [])) terms
-    ∙ ap (λ (rs : List Reported). map entry (first_of_each (filter (is_lawful held.terms) rs))) (offered_all h.reports) ∙ ap (map entry) whole)
-    ∙ numbers_in_entries h.reports ∙ h.numbers_are
-
-pub complete_right : (job : Job) (set : SoupSet) (opened held closed : Held) (census : Census) → IsOpened job set 1 opened → held.terms ≡ opened.terms
-    → IsOffered (numbers_of opened.terms.ranges) held → closed.terms ≡ held.terms
-    → ((arrivals : List Arrival) → StandsFor arrivals held → StandsFor (arrivals ++ Closing ∷ []) closed)
-    → IsCensus closed.terms.job closed.terms.ranges (numbers_in closed.taken) census → right_for_set set (TellsAll job) (Ok (haul_text census))
-complete_right job set opened held closed census open_ terms offered_ closed_terms closes is =
-    let same : closed.terms ≡ opened.terms = closed_terms ∙ terms in
-    let alone : held.terms.workers ≡ 1 = ap (λ (t : Terms). t.workers) terms ∙ open_.workers_are in
-    let form : IsNormalForm open_.ranges held.terms.ranges = subst (λ (t : Terms). IsNormalForm open_.ranges t.ranges) (sym terms) open_.form in
-    let all_offered : IsOffered (numbers_of held.terms.ranges) held = subst (λ (t : Terms). IsOffered (numbers_of t.ranges) held) (sym terms) offered_ in
-    let numbers = taken_numbers open_.ranges held closed alone form all_offered closed_terms closes ∙ ap (λ (t : Terms). numbers_of t.ranges) terms in
-    let job_is : closed.terms.job ≡ job = ap (λ (t : Terms). t.job) same ∙ open_.job_is in
-    let ranges_are : closed.terms.ranges ≡ opened.terms.ranges = ap (λ (t : Terms). t.ranges) same in
-    record {
-      ranges = open_.ranges;
-      named = open_.named;
-      small = open_.small;
-      apart = open_.apart;
-      is_told = record {
-        numbers = numbers_of opened.terms.ranges;
-        all = numbers_of_form open_.ranges opened.terms.ranges open_.form;
-        normal = opened.terms.ranges;
-        form = open_.form;
-        census = census;
-        counted = subst (λ (ns : List ℕ). IsCensus job opened.terms.ranges ns census) numbers
-            (subst (λ (rs : List Range). IsCensus job rs (numbers_in closed.taken) census) ranges_are
-            (subst (λ (j : Job). IsCensus j closed.terms.ranges (numbers_in closed.taken) census) job_is is));
-        told = refl;
-      };
-    }
+pub never_stopped : (may_stop : ℕ → ℕ → Type 0) (set : SoupSet) (numbers : ProfileNumbers) (rule_text : List ℕ) (status : Status) (output errors : Stream)
+    → ((worker n : ℕ) → may_stop worker n → ⊥)
+    → EndsTake (take_right set numbers rule_text) (stopped_right may_stop set numbers rule_text) status output errors
+    → Ends false true (take_right set numbers rule_text) status output errors
+never_stopped may_stop set numbers rule_text status output errors never ends = go ends.outcome ends.reached ends.told
+  where
+    go : (outcome : Result (Option ℕ) Complaint) → Takes (take_right set numbers rule_text) (stopped_right may_stop set numbers rule_text) outcome output
+        → TellsTake outcome status errors
+        → Ends false true (take_right set numbers rule_text) status output errors
+    go (Ok None) reached told = record { outcome = Ok tt; reached = reached; told = told }
+    go (Ok (Some n)) reached told = absurd (never_right may_stop set numbers rule_text n reached.0.0 never reached.0.1)
+    go (Err (Refused refusal)) reached told = record { outcome = Err (Refused refusal); reached = reached; told = told }
+    go (Err OutOfMemory) reached told = record { outcome = Err OutOfMemory; reached = reached; told = told }
+    go (Err ReadFailed) reached told = record { outcome = Err ReadFailed; reached = reached; told = told }
+    go (Err WriteFailed) (None, front, failed) told = record { outcome = Err WriteFailed; reached = (front, failed); told = told }
+    go (Err WriteFailed) (Some n, front, failed) told = absurd (never_right may_stop set numbers rule_text n front.0 never front.1)

@@ -222,7 +222,7 @@ record Tells (job : Job) (worker : ℕ) (numbers : List ℕ) (answer : Answer) :
   pub each : AreReportsOn job worker numbers reports
   pub told : answer ≡ Ok (flat_map report_text reports)
 
-only_text : OneNormalForm → (job : Job) (worker : ℕ) (set : SoupSet) (held : Held) → IsOpened job set worker held → (answer : Answer)
+only_text : {workers : ℕ} → OneNormalForm → (job : Job) (worker : ℕ) (set : SoupSet) (held : Held) → IsOpened job set workers held → (answer : Answer)
     → right_for_set set (TellsReports job worker) answer → Tells job worker (numbers_of held.terms.ranges) answer
 only_text one_form job worker set held opened (Ok text) is =
     let same : is.ranges ≡ opened.ranges = opened.only is.ranges is.named in
@@ -270,10 +270,10 @@ begun_whole job worker numbers output begun = record {
 }
 
 -- what became of the reports on a set that was opened is a right end of the command
-pub reaches_work : FindingsAreDetermined → OneNormalForm → (set : SoupSet) (worker : ℕ) (numbers : ProfileNumbers) (rule_text : List ℕ) (job : Job)
+pub reaches_work : {workers : ℕ} → FindingsAreDetermined → OneNormalForm → (set : SoupSet) (worker : ℕ) (numbers : ProfileNumbers) (rule_text : List ℕ) (job : Job)
     (held : Held)
     (outcome : Outcome) (output : Stream)
-    → job_named set numbers rule_text ≡ Ok job → IsOpened job set worker held → Puts job worker (numbers_of held.terms.ranges) outcome output
+    → job_named set numbers rule_text ≡ Ok job → IsOpened job set workers held → Puts job worker (numbers_of held.terms.ranges) outcome output
     → Reaches false false (work_right set worker numbers rule_text) outcome output
 reaches_work determined one_form set worker numbers rule_text job held outcome output named opened puts = go outcome puts
   where

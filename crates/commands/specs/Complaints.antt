@@ -34,6 +34,10 @@ line_of OutOfMemory = codes "census: out of memory\n"
 line_of ReadFailed = codes "census: read failed\n"
 line_of WriteFailed = codes "census: write failed\n"
 
+-- the line of how many soups are missing
+abbrev pub missing_line : ℕ → List ℕ
+missing_line missing = codes "census: incomplete, " ++ (decimal missing ++ codes " missing\n")
+
 -- the status of a command that ends with a complaint
 abbrev pub status_of : Complaint → Status
 status_of (Refused refusal) = status.Refused

@@ -1,5 +1,5 @@
 -- What `census gather` is asked for, and how it ends.
-use Rattle.std.specs.Prelude.{◌≡◌, ◌⊎◌, ℕ, zero, suc, Bool, true, false, List, [], Option, Result, Ok, Err, IsOkAnd, MatchResult, codes, decimal, length, ◌++◌, ◌∷◌}
+use Rattle.std.specs.Prelude.{◌≡◌, ◌⊎◌, ℕ, zero, suc, Bool, true, false, List, [], Option, Result, Ok, Err, IsOkAnd, MatchResult, length, ◌++◌, ◌∷◌}
 use Rattle.haul_core.specs.declared.arrival.Arrival.{Arrival}
 use Rattle.haul_core.specs.declared.arrival.Arrival.TheVariants.{Closing}
 use Rattle.haul_core.specs.declared.census.Census.{Census}
@@ -17,7 +17,7 @@ use Rattle.commands.specs.declared.profile.ProfileNumbers.{ProfileNumbers}
 use Rattle.commands.specs.declared.soup_set.SoupSet.{SoupSet}
 use Rattle.commands.specs.declared.status.Status.{Status}
 use Rattle.commands.specs.declared.status.Status.TheVariants as statuses
-use Rattle.commands.specs.Complaints.{line_of, status_of}
+use Rattle.commands.specs.Complaints.{line_of, missing_line, status_of}
 use Rattle.commands.specs.GatherSteps.{HasBegun}
 use Rattle.commands.specs.GatheredLines.{Gathered, lines_of}
 use Rattle.commands.specs.SoupSets.{AreRangesOf, IsRefused, job_named}
@@ -98,7 +98,7 @@ Gathers right known (Err WriteFailed) output errors = IsCut right output errors 
 -- the last line of standard error: none if all was taken
 abbrev pub last_line : Result ℕ Complaint → List ℕ
 last_line (Ok zero) = []
-last_line (Ok (suc n)) = codes "census: incomplete, " ++ (decimal (suc n) ++ codes " missing\n")
+last_line (Ok (suc n)) = missing_line (suc n)
 last_line (Err complaint) = line_of complaint
 
 abbrev pub status_after : Result ℕ Complaint → Status

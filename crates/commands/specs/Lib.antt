@@ -12,6 +12,7 @@ pub mod Show
 pub mod Soup
 pub mod SoupSets
 pub mod Status
+pub mod Stopped
 pub mod Streams
 pub mod Take
 pub mod TakeSteps

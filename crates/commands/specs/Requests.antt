@@ -23,7 +23,7 @@ IsWithinLimits (Run generations rule) = generations ≤ 100000
 IsWithinLimits (Name profile rule) = AreInRange profile
 IsWithinLimits (Show code) = Unit {0}
 IsWithinLimits (Soup seed number) = number < 2 ^ 40
-IsWithinLimits (Take set profile rule progress) = AreInRange profile
+IsWithinLimits (Take set workers profile rule progress) = AreInRange profile × IsWorker workers
 IsWithinLimits (Work set worker profile rule) = AreInRange profile × IsWorker worker
 IsWithinLimits Version = Unit {0}
 
@@ -33,7 +33,7 @@ reads_input (Run generations rule) = is_ok (rule_named rule)
 reads_input (Name profile rule) = is_ok (profile_named profile) && is_ok (rule_named rule)
 reads_input (Show code) = false
 reads_input (Soup seed number) = false
-reads_input (Take set profile rule progress) = false
+reads_input (Take set workers profile rule progress) = false
 reads_input (Work set worker profile rule) = false
 reads_input Version = false
 
@@ -43,7 +43,7 @@ is_whole (Run generations rule) = true
 is_whole (Name profile rule) = true
 is_whole (Show code) = true
 is_whole (Soup seed number) = true
-is_whole (Take set profile rule progress) = true
+is_whole (Take set workers profile rule progress) = true
 is_whole (Work set worker profile rule) = false
 is_whole Version = true
 
@@ -54,7 +54,7 @@ right_for (Run generations rule) bytes = only (run_answer rule generations bytes
 right_for (Name profile rule) bytes = name_right profile rule bytes
 right_for (Show code) bytes = only (show_answer code)
 right_for (Soup seed number) bytes = only (soup_answer seed number)
-right_for (Take set profile rule progress) bytes = take_right set profile rule
+right_for (Take set workers profile rule progress) bytes = take_right set profile rule
 right_for (Work set worker profile rule) bytes = work_right set worker profile rule
 right_for Version bytes = only version_answer
 

@@ -1,15 +1,13 @@
--- How a haul is made complete, a step at a time.
-use Rattle.std.specs.Prelude.{◌≡◌, ℕ, All, List, [], ◌∷◌, Ok, Err, flat_map, map}
+-- How a haul over a set is opened, and its numbers.
+use Rattle.std.specs.Prelude.{◌≡◌, ℕ, List, [], Err, flat_map}
 use Rattle.std.specs.List.{range_with_len}
 use Rattle.survey_core.specs.declared.job.Job.{Job}
-use Rattle.haul_core.specs.declared.arrival.Arrival.TheVariants.{Offer}
 use Rattle.haul_core.specs.declared.range.Range.{Range}
 use Rattle.haul_core.specs.declared.range_list.ListError.{ListError}
 use Rattle.haul_core.specs.declared.range_list.ListError.TheVariants as list_error
 use Rattle.haul_core.specs.Books.{Held, StandsFor}
 use Rattle.haul_core.specs.RangeLists.{IsListText}
 use Rattle.haul_core.specs.Ranges.{AreSmall, IsNormalForm, Overlap}
-use Rattle.haul_core.specs.Reports.{Reported}
 use Rattle.commands.specs.declared.complaint.Complaint.{Complaint}
 use Rattle.commands.specs.declared.complaint.Complaint.TheVariants.{Refused, OutOfMemory, ReadFailed, WriteFailed}
 use Rattle.commands.specs.declared.refusal.Refusal.TheVariants.{BadList}
@@ -48,18 +46,6 @@ pub record IsOpened (job : Job) (set : SoupSet) (workers : ℕ) (held : Held) : 
   pub job_is : held.terms.job ≡ job
   pub workers_are : held.terms.workers ≡ workers
   pub stands : StandsFor [] held
-
--- the report is the only worker's, on a soup of the haul's job
-pub record IsOwn (job : Job) (report : Reported) : Type 0 where
-  pub job_is : report.job ≡ job
-  pub worker_is : report.worker ≡ 1
-
--- a report on each of the numbers was offered, in this order, and nothing else has come
-pub record IsOffered (numbers : List ℕ) (held : Held) : Type 0 where
-  pub reports : List Reported
-  pub own : All (IsOwn held.terms.job) reports
-  pub numbers_are : map (λ r. r.number) reports ≡ numbers
-  pub stands : StandsFor (map Offer reports) held
 
 -- the numbers of a range, ascending
 abbrev pub numbers_in_range : Range → List ℕ

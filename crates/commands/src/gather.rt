@@ -1,5 +1,4 @@
-ghost use Rattle.std.specs.Prelude.{◌≡◌, ◌≢◌, ◌<◌, Ok, Result, codes, decimal, ◌+◌, ◌^◌, ◌++◌, ◌∷◌, [], ℕ, List, Option, Some, IfErr, IfOk, OnOk, false, length};
-ghost use Rattle.plane_core.specs.Out.{Writes};
+ghost use Rattle.std.specs.Prelude.{◌≡◌, ◌≢◌, ◌<◌, Ok, Result, ◌+◌, ◌^◌, ◌++◌, ◌∷◌, [], ℕ, List, Option, Some, IfErr, IfOk, OnOk, false, length};
 ghost use Rattle.haul_core.specs.Reports.{IsWorker, Reported};
 ghost use Rattle.commands.specs.Answers.{IsInput};
 ghost use Rattle.commands.specs.Complaints.{line_of, status_of};
@@ -16,11 +15,10 @@ ghost use Rattle.haul_core.specs.declared.refusal.Refusal.TheVariants as refusal
 use crate::complaint::Complaint;
 use crate::line_fault::LineFault;
 use crate::lines::read_line;
-use crate::output::put_decimal;
 use crate::profile::ProfileNumbers;
 use crate::soup_set::SoupSet;
 use crate::status::Status;
-use crate::take::{job, open_haul};
+use crate::take::{job, open_haul, put_missing};
 use haul_core::claim::Claim;
 use haul_core::claim::check::CheckFault;
 use haul_core::claim::line::LineError;
@@ -28,7 +26,7 @@ use haul_core::haul::Haul;
 use haul_core::haul_text::write_haul;
 use haul_core::refusal::Refusal;
 use haul_core::report::Report;
-use plane_core::output::{Out, WriteError};
+use plane_core::output::Out;
 use std::alloc::{AllocError, Global};
 use std::io::{BufRead, BufReader, Read, Write};
 use survey_core::finding::findings_are_determined;
@@ -88,17 +86,6 @@ fn tell_missing<E: Write>(missing: u64, errors: &mut Out<E>) -> Status
     }
     let _ = put_missing(missing, errors);
     Status::Incomplete
-}
-
-/// Writes how many soups are missing.
-fn put_missing<E: Write>(missing: u64, errors: &mut Out<E>) -> Result<(), WriteError>
-    requires { errors.old.failed ≡ false }
-    ensures { Writes E.contents errors.old errors.new result
-        (codes "census: incomplete, " ++ (decimal missing ++ codes " missing\n")) }
-{
-    errors.put(b"census: incomplete, ")?;
-    put_decimal(errors, missing)?;
-    errors.put(b" missing\n")
 }
 
 /// Writes the line of a complaint, unless a write failed before, and returns its status.

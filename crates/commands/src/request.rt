@@ -17,6 +17,8 @@ use crate::work::do_work;
 use plane_core::output::Out;
 use std::alloc::Global;
 use std::io::{Read, Write};
+use std::sync::Wait;
+use std::thread::Threads;
 use std::time::Clock;
 
 /// A command with its values.
@@ -41,10 +43,11 @@ pub enum Request<'a> {
         seed: Word<'a>,
         number: u64,
     },
-    /// The haul of all soups of a set, under a profile, of which each number is in its range, and the rule of a text; and
-    /// whether a line of progress is asked for.
+    /// The haul of all soups of a set by so many workers, 1 to 16, under a profile, of which each number is in its range, and the
+    /// rule of a text; and whether a line of progress is asked for.
     Take {
         set: SoupSet<'a>,
+        workers: u8,
         profile: ProfileNumbers,
         rule: Word<'a>,
         progress: bool,
@@ -71,8 +74,9 @@ pub enum Request<'a> {
 ///
 /// Those of the request's own function: [`do_run`], [`do_name`], [`do_show`], [`do_soup`], [`do_take`],
 /// [`do_work`] or [`do_version`].
-pub fn do_request<R: Read, W: Write, E: Write, P: Write, C: Clock>(
+pub fn do_request<T: Threads + Wait + Sync, R: Read, W: Write, E: Write, P: Write, C: Clock>(
     alloc: Global,
+    rt: &T,
     request: &Request<'_>,
     input: &mut R,
     output: &mut Out<W>,
@@ -99,12 +103,23 @@ pub fn do_request<R: Read, W: Write, E: Write, P: Write, C: Clock>(
         Request::Soup { seed, number } => { do_soup(alloc, seed.as_str(), *number, output, errors) }
         Request::Take {
             set,
+            workers,
             profile,
             rule,
             progress,
         } => {
             line.ask(*progress);
-            do_take(alloc, set, *profile, rule.as_str(), output, errors, line)
+            do_take(
+                alloc,
+                rt,
+                set,
+                *workers,
+                *profile,
+                rule.as_str(),
+                output,
+                errors,
+                line,
+            )
         }
         Request::Work {
             set,

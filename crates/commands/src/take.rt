@@ -1,57 +1,68 @@
-ghost use Rattle.std.specs.Prelude.{◌≡◌, ◌++◌, ◌∷◌, ◌<◌, ◌≤◌, [], ℕ, List, IfErr, IfOk, OnOk, Err, Ok, false, true};
+ghost use Rattle.std.specs.Prelude.{◌≡◌, ◌++◌, ◌≤◌, ℕ, List, IfErr, IfOk, IfSome, None, Ok, false, length, true};
+ghost use Rattle.crew.specs.Shifts.{StopsAt};
+ghost use Rattle.crew.specs.Takes.{HasTaken, was_missing};
 ghost use Rattle.haul_core.specs.HaulTexts.{haul_text};
-ghost use Rattle.haul_core.specs.Ranges.{end_of, number_bound};
+ghost use Rattle.haul_core.specs.Keeping.{numbers_in};
+ghost use Rattle.haul_core.specs.Missing.{AreAll, IsComplete, missing_of};
 ghost use Rattle.haul_core.specs.Reports.{IsWorker};
-ghost use Rattle.commands.specs.Answers.{Ends, Reaches};
-ghost use Rattle.commands.specs.Complaints.{status_of};
+ghost use Rattle.plane_core.specs.Out.{Writes};
+ghost use Rattle.commands.specs.Answers.{Ends};
+ghost use Rattle.commands.specs.Complaints.{missing_line, status_of};
 ghost use Rattle.commands.specs.Profiles.{AreInRange};
 ghost use Rattle.commands.specs.SoupSets.{AreRangesOf, job_named};
+ghost use Rattle.commands.specs.Stopped.{EndsTake, Takes, right_if, stopped_right};
 ghost use Rattle.commands.specs.Streams.{stream};
 ghost use Rattle.commands.specs.Take.{take_right};
-ghost use Rattle.commands.specs.TakeSteps.{IsOffered, IsOpened, Stops, StopsSet, numbers_in_range, numbers_of};
+ghost use Rattle.commands.specs.TakeSteps.{IsOpened, Stops, StopsSet};
 
 use crate::complaint::Complaint;
+use crate::output::put_decimal;
 use crate::profile::ProfileNumbers;
 use crate::refusal::Refusal;
 use crate::soup_set::SoupSet;
 use crate::status::Status;
+use crew::gate::{Gate, OpenGate};
 use crew::watch::Watch;
+use crew::workers::{self, CrewError};
 use haul_core::census::Census;
 use haul_core::haul::{Haul, OpenError};
 use haul_core::haul_text::write_haul;
 use haul_core::range::Range;
-use haul_core::report::Report;
-use plane_core::output::Out;
+use plane_core::output::{Out, WriteError};
 use plane_core::rule::Rule;
 use std::alloc::{AllocError, Global};
 use std::io::Write;
+use std::sync::Wait;
+use std::thread::Threads;
 use survey_core::job::Job;
 use survey_core::seed::Seed;
 
-/// The only worker.
-const WORKER: u8 = 1;
-
-/// Surveys all soups of a set, under a profile and the rule of a text, and writes the haul text of what they left.
+/// Surveys all soups of a set by so many workers, 1 to 16, under a profile and the rule of a text, and writes the haul text of
+/// what they left.
 ///
-/// Each of the profile's numbers is in its range, and neither writer may have failed. The seed is looked at first, then the
-/// profile, the rule, the range list, how large the ranges are, and last whether two of them share a number. Nothing is
-/// written before the haul is complete. The watch hears how many soups are taken, and nothing else depends on it. `census take`
-/// is this call over the standard streams.
+/// Each worker has a thread of its own, and what is written is the same for any number of them. Each of the profile's numbers is
+/// in its range, and neither writer may have failed. The seed is looked at first, then the profile, the rule, the range list,
+/// how large the ranges are, and last whether two of them share a number. Nothing is written before the haul is complete. The
+/// watch hears how many soups are taken, and nothing else depends on it. `census take` is this call over the standard streams.
 ///
 /// # Errors
 ///
 /// The status is `Refused` for a text that is not a seed, a horizon below the period, a text that is not a rule or a range
-/// list, ranges that go past 2^40 or have over 2^24 numbers together, or ranges that share a number; `OutOfMemory`; or
-/// `Failed` if the output can't be written. Then one line stands on `errors`; a failure to write that line is not reported.
-pub fn do_take<W: Write, E: Write, H: Watch>(
+/// list, ranges that go past 2^40 or have over 2^24 numbers together, or ranges that share a number; `OutOfMemory`, also if a
+/// thread could not be started; or `Failed` if the output can't be written. Then one line stands on `errors`; a failure to write
+/// that line is not reported.
+pub fn do_take<W: Write, E: Write, R: Threads + Wait + Sync, H: Watch>(
     alloc: Global,
+    rt: &R,
     set: &SoupSet<'_>,
+    workers: u8,
     profile: ProfileNumbers,
     rule_text: &str,
     output: &mut Out<W>,
     errors: &mut Out<E>,
     watch: &mut H,
 ) -> Status
+    requires workers { IsWorker workers }
     requires profile { AreInRange profile }
     requires output { output.old.failed ≡ false }
     requires errors { errors.old.failed ≡ false }
@@ -60,49 +71,109 @@ pub fn do_take<W: Write, E: Write, H: Watch>(
     ensures untouched { result ≡ Status.Refused → output.new ≡ output.old }
     ensures no_memory { result ≡ Status.OutOfMemory → output.new ≡ output.old }
 {
-    match take(alloc, set, profile, rule_text, output, watch) {
-        Ok(()) => Status::Done,
+    do_take_with(
+        alloc, rt, set, workers, profile, rule_text, &OpenGate, output, errors, watch,
+    )
+}
+
+/// [`do_take`] under a gate, which may stop workers.
+///
+/// # Errors
+///
+/// As of `do_take`, and `Incomplete` if the gate stopped a worker and soups are missing: then the haul text of what was taken was
+/// written, and a line on `errors` says how many are missing.
+pub fn do_take_with<W: Write, E: Write, G: Gate + Sync, R: Threads + Wait + Sync, H: Watch>(
+    alloc: Global,
+    rt: &R,
+    set: &SoupSet<'_>,
+    workers: u8,
+    profile: ProfileNumbers,
+    rule_text: &str,
+    gate: &G,
+    output: &mut Out<W>,
+    errors: &mut Out<E>,
+    watch: &mut H,
+) -> Status
+    requires workers { IsWorker workers }
+    requires profile { AreInRange profile }
+    requires output { output.old.failed ≡ false }
+    requires errors { errors.old.failed ≡ false }
+    ensures ends { EndsTake (take_right set.now profile rule_text.now) (stopped_right (G.may_stop gate.now) set.now profile rule_text.now)
+        result (stream W.contents output.old output.new) (stream E.contents errors.old errors.new) }
+    ensures untouched { result ≡ Status.Refused → output.new ≡ output.old }
+    ensures no_memory { result ≡ Status.OutOfMemory → output.new ≡ output.old }
+{
+    match take(
+        alloc, rt, set, workers, profile, rule_text, gate, output, watch,
+    ) {
+        Ok(None) => Status::Done,
+        Ok(Some(missing)) => {
+            let _ = put_missing(missing, errors);
+            Status::Incomplete
+        }
         Err(complaint) => complaint.tell(errors),
     }
 }
 
-fn take<W: Write, H: Watch>(
+/// Writes how many soups are missing.
+pub(crate) fn put_missing<E: Write>(missing: u64, errors: &mut Out<E>) -> Result<(), WriteError>
+    requires { errors.old.failed ≡ false }
+    ensures { Writes E.contents errors.old errors.new result (missing_line missing) }
+{
+    errors.put(b"census: incomplete, ")?;
+    put_decimal(errors, missing)?;
+    errors.put(b" missing\n")
+}
+
+/// Takes what the gate lets through, writes the haul text, and says how many soups are missing, if some are.
+fn take<W: Write, G: Gate + Sync, R: Threads + Wait + Sync, H: Watch>(
     alloc: Global,
+    rt: &R,
     set: &SoupSet<'_>,
+    workers: u8,
     profile: ProfileNumbers,
     rule_text: &str,
+    gate: &G,
     output: &mut Out<W>,
     watch: &mut H,
-) -> Result<(), Complaint>
+) -> Result<Option<u64>, Complaint>
+    requires workers { IsWorker workers }
     requires profile { AreInRange profile }
     requires output { output.old.failed ≡ false }
-    ensures reached { Reaches false true (take_right set.now profile rule_text.now) result (stream W.contents output.old output.new) }
+    ensures reached { Takes (take_right set.now profile rule_text.now) (stopped_right (G.may_stop gate.now) set.now profile rule_text.now)
+        result (stream W.contents output.old output.new) }
     ensures untouched { IfErr result (λ complaint. status_of complaint ≡ Status.Refused → output.new ≡ output.old) }
     ensures no_memory { IfErr result (λ complaint. complaint ≡ Complaint.OutOfMemory → output.new ≡ output.old) }
 {
-    let census = census_of(alloc, set, profile, rule_text, watch)?;
+    let (census, missing) = census_of(alloc, rt, set, workers, profile, rule_text, gate, watch)?;
     write_haul(&census, output)?;
-    Ok(())
+    Ok(missing)
 }
 
-/// The census of the complete haul.
-fn census_of<H: Watch>(
+/// The census of what was taken, and how many soups are missing, if some are.
+fn census_of<G: Gate + Sync, R: Threads + Wait + Sync, H: Watch>(
     alloc: Global,
+    rt: &R,
     set: &SoupSet<'_>,
+    workers: u8,
     profile: ProfileNumbers,
     rule_text: &str,
+    gate: &G,
     watch: &mut H,
-) -> Result<Census, Complaint>
-    requires { AreInRange profile }
-    ensures right { IfOk result (λ census. take_right set.now profile rule_text.now (Ok (haul_text census))) }
+) -> Result<(Census, Option<u64>), Complaint>
+    requires workers { IsWorker workers }
+    requires profile { AreInRange profile }
+    ensures right { IfOk result (λ found. right_if (take_right set.now profile rule_text.now)
+        (stopped_right (G.may_stop gate.now) set.now profile rule_text.now) found.1 (Ok (haul_text found.0))) }
     ensures stops { IfErr result (Stops (take_right set.now profile rule_text.now)) }
 {
     let job = job(set, profile, rule_text)?;
-    let mut haul = open_haul(alloc, job, set, WORKER)?;
-    complete(alloc, &mut haul, watch)?;
-    let _ = haul.close();
+    let haul = open_haul(alloc, job, set, workers)?;
+    let mut haul = take_by_crew(alloc, rt, haul, workers, gate, watch)?;
+    let missing = missing_in(&haul);
     let census = haul.census()?;
-    Ok(census)
+    let _ = haul.close();
+    Ok((census, missing))
 }
 
 /// The job that the texts and numbers make.
@@ -160,61 +231,37 @@ fn ranges_of(alloc: Global, set: &SoupSet<'_>) -> Result<Vec<Range>, Complaint>
     Ok(ranges)
 }
 
-/// Takes each soup of the haul's set, under a watch.
-fn complete<H: Watch>(alloc: Global, haul: &mut Haul, watch: &mut H) -> Result<(), AllocError>
-    ensures terms { haul.new.terms ≡ haul.old.terms }
-    ensures offered { IsOffered [] haul.old → OnOk result (IsOffered (numbers_of haul.old.terms.ranges) haul.new) }
-{
-    watch.begin(haul.count());
-    let taken = take_all(alloc, haul, watch);
-    watch.end();
-    taken
-}
-
-/// Surveys each soup of the haul's set and offers the reports.
-fn take_all<H: Watch>(alloc: Global, haul: &mut Haul, watch: &mut H) -> Result<(), AllocError>
-    ensures terms { haul.new.terms ≡ haul.old.terms }
-    ensures offered { IsOffered [] haul.old → OnOk result (IsOffered (numbers_of haul.old.terms.ranges) haul.new) }
-{
-    let ranges = Vec::from_slice(alloc, haul.ranges())?;
-    for range in ranges.as_slice() {
-        take_range(alloc, haul, *range, watch)?;
-    }
-    Ok(())
-}
-
-/// Surveys each soup of a range and offers the reports.
-fn take_range<H: Watch>(
+/// Lets workers take what is missing in an open haul. If it isn't complete then, the gate stopped one of them.
+fn take_by_crew<G: Gate + Sync, R: Threads + Wait + Sync, H: Watch>(
     alloc: Global,
-    haul: &mut Haul,
-    range: Range,
+    rt: &R,
+    haul: Haul,
+    workers: u8,
+    gate: &G,
     watch: &mut H,
-) -> Result<(), AllocError>
-    requires { end_of range ≤ number_bound }
-    ensures terms { haul.new.terms ≡ haul.old.terms }
-    ensures offered { (numbers : List ℕ) → IsOffered numbers haul.old
-        → OnOk result (IsOffered (numbers ++ numbers_in_range range) haul.new) }
+) -> Result<Haul, AllocError>
+    requires some { 1 ≤ workers }
+    requires few { workers ≤ haul.terms.workers }
+    requires open { haul.closed ≡ false }
+    ensures taken { IfOk result (HasTaken workers haul) }
+    ensures stopped { IfOk result (λ now. ¬ IsComplete now.terms.ranges now.taken
+        → (worker : ℕ) × StopsAt (G.may_stop gate.now) (was_missing haul) worker) }
 {
-    for number in range.first..range.first + range.count {
-        take_soup(alloc, haul, number)?;
-        watch.taken(haul.taken().len() as u64);
-    }
-    Ok(())
-}
-
-/// Surveys a soup and offers the report.
-fn take_soup(alloc: Global, haul: &mut Haul, number: u64) -> Result<(), AllocError>
-    requires { number < number_bound }
-    ensures terms { haul.new.terms ≡ haul.old.terms }
-    ensures offered { (numbers : List ℕ) → IsOffered numbers haul.old
-        → OnOk result (IsOffered (numbers ++ number ∷ []) haul.new) }
-{
-    let Ok(report) = Report::make(alloc, &haul.job(), WORKER, number) else {
-        return Err(AllocError);
-    };
-    match haul.offer(report) {
-        Ok(()) => Ok(()),
-        // The haul is open, and each number of its set is offered once: only memory can be missing.
+    match workers::take(alloc, rt, haul, workers, gate, watch) {
+        Ok(haul) => Ok(haul),
+        Err((haul, CrewError::Stopped { .. })) => Ok(haul),
         Err(_) => Err(AllocError),
     }
+}
+
+/// How many soups are missing in a haul, if some are.
+fn missing_in(haul: &Haul) -> Option<u64>
+    ensures none { result ≡ None → AreAll haul.now.terms.ranges (numbers_in haul.now.taken) }
+    ensures some { IfSome result (λ n. n ≡ length (missing_of haul.now.terms.ranges haul.now.taken)) }
+    ensures incomplete { IfSome result (λ _. ¬ IsComplete haul.now.terms.ranges haul.now.taken) }
+{
+    if haul.is_complete() {
+        return None;
+    }
+    Some(haul.missing_count())
 }

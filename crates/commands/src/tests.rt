@@ -10,7 +10,9 @@ use crate::word::Word;
 use plane_core::output::Out;
 use std::io::{self, BufWriter, ErrorKind, Read, Write};
 use std::process::Abort;
+use std::sync::Wait;
 use std::test::Fail;
+use std::thread::Threads;
 
 mod gather;
 mod name;
@@ -35,7 +37,11 @@ struct Left {
 }
 
 /// Does the request, with this input. The numbers of a test are within their limits.
-fn left_by(rt: &impl AllocGlobal, request: &Request<'_>, input: &[u8]) -> Left
+fn left_by<R: Threads + Wait + Sync + AllocGlobal>(
+    rt: &R,
+    request: &Request<'_>,
+    input: &[u8],
+) -> Left
     requires { IsWithinLimits request.now }
 {
     let mut input = input;
@@ -44,6 +50,7 @@ fn left_by(rt: &impl AllocGlobal, request: &Request<'_>, input: &[u8]) -> Left
     let mut line = line_on(rt, Vec::new(rt.alloc()), false);
     let status = do_request(
         rt.alloc(),
+        rt,
         request,
         &mut input,
         &mut output,
@@ -68,7 +75,12 @@ fn run(generations: u32, rule: &str) -> Request<'_>
 }
 
 /// Asserts that the request, with this input, ends as done with this output and no line.
-fn assert_prints<R: Abort + AllocGlobal>(rt: &R, request: &Request<'_>, input: &[u8], output: &[u8])
+fn assert_prints<R: Threads + Wait + Sync + Abort + AllocGlobal>(
+    rt: &R,
+    request: &Request<'_>,
+    input: &[u8],
+    output: &[u8],
+)
     requires { IsWithinLimits request.now }
 {
     let left = left_by(rt, request, input);
@@ -78,7 +90,7 @@ fn assert_prints<R: Abort + AllocGlobal>(rt: &R, request: &Request<'_>, input: &
 }
 
 /// Asserts that the request, with this input, ends with this status and this line, and prints nothing.
-fn assert_complains<R: Abort + AllocGlobal>(
+fn assert_complains<R: Threads + Wait + Sync + Abort + AllocGlobal>(
     rt: &R,
     request: &Request<'_>,
     input: &[u8],

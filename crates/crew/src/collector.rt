@@ -7,6 +7,7 @@ ghost use Rattle.crew.specs.Crews.{Collected};
 
 use crate::belt::{Belt, ReceiverPass};
 use crate::note::Note;
+use crate::watch::Watch;
 use haul_core::haul::Haul;
 use haul_core::refusal::Refusal;
 use haul_core::report::Report;
@@ -14,17 +15,19 @@ use std::alloc::AllocError;
 use std::sync::Wait;
 
 /// Receives notes until so many workers have said that they are done, and offers each report to the haul. A report that
-/// the haul refuses is dropped.
+/// the haul refuses is dropped. The watch hears before each note, and at the end, how many soups of the haul are
+/// taken.
 ///
 /// # Errors
 ///
 /// [`AllocError`] if memory ran out for a report. All other reports have been offered then too.
-pub fn collect<R: Wait>(
+pub fn collect<R: Wait, H: Watch>(
     rt: &R,
     belt: &Belt<Note>,
     pass: &mut ReceiverPass<Note>,
     haul: &mut Haul,
     started: u8,
+    watch: &mut H,
 ) -> Result<(), AllocError>
     requires { pass.old.belt ≡ belt.now }
     ensures { Collected started 0 pass.old pass.new haul.old haul.new (is_ok result) }
@@ -32,6 +35,7 @@ pub fn collect<R: Wait>(
     let mut left = started;
     let mut answered = true;
     for _ in rt.forever() {
+        watch.taken(haul.taken().len() as u64);
         if left == 0 {
             break;
         }

@@ -3,6 +3,7 @@ ghost use Rattle.std.specs.Prelude.{◌≡◌, ◌≤◌, IfOk};
 use crate::belt::Belt;
 use crate::gate::{Gate, OpenGate, Stop};
 use crate::tickets::{Pass, Tickets, TicketsError};
+use crate::watch::Unwatched;
 use crate::workers::{CrewError, take};
 use haul_core::haul::Haul;
 use haul_core::range::Range;
@@ -86,12 +87,12 @@ fn haul(alloc: Global, count: u64, workers: u8) -> Result<Haul, Fail>
 #[test]
 fn takes_all(rt: HostRuntime) -> Result<(), Fail> {
     let alloc = rt.alloc();
-    let Ok(mut haul) = take(alloc, &rt, haul(alloc, 8, 3)?, 3, &OpenGate) else {
+    let Ok(mut haul) = take(alloc, &rt, haul(alloc, 8, 3)?, 3, &OpenGate, &mut Unwatched) else {
         panic!(rt; "not complete")
     };
     assert_eq!(rt; haul.missing_count(), 0);
     let _ = haul.close();
-    match take(alloc, &rt, haul, 3, &OpenGate) {
+    match take(alloc, &rt, haul, 3, &OpenGate, &mut Unwatched) {
         Ok(_) => panic!(rt; "closed"),
         Err((_, fault)) => assert_eq!(rt; fault, CrewError::Closed),
     }
@@ -142,7 +143,7 @@ fn take_some<R: Threads + Wait + Sync>(
     requires { 3 ≤ haul.terms.workers }
     ensures { result.0.terms ≡ haul.terms }
 {
-    match take(alloc, rt, haul, 3, &turns_of(turns)) {
+    match take(alloc, rt, haul, 3, &turns_of(turns), &mut Unwatched) {
         Ok(haul) => (haul, None),
         Err((haul, fault)) => match fault {
             CrewError::Stopped { worker } => (haul, Some(worker)),
@@ -160,7 +161,7 @@ fn goes_on_after_a_stop(rt: HostRuntime) -> Result<(), Fail> {
     assert_eq!(rt; (stopped, haul.missing_count()), (Some(1), 5));
     let (haul, stopped) = take_some(alloc, &rt, haul, 1);
     assert_eq!(rt; (stopped.is_some(), haul.missing_count()), (true, 2));
-    assert!(rt; take(alloc, &rt, haul, 3, &OpenGate).is_ok());
+    assert!(rt; take(alloc, &rt, haul, 3, &OpenGate, &mut Unwatched).is_ok());
     Ok(())
 }
 

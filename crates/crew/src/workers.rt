@@ -18,6 +18,7 @@ use crate::gate::Gate;
 use crate::note::Note;
 use crate::shift::{End, Shift, Site, work};
 use crate::tickets::{Pass, Tickets};
+use crate::watch::Watch;
 use haul_core::haul::Haul;
 use std::alloc::{AllocError, Global};
 use std::sync::Wait;
@@ -46,7 +47,8 @@ pub enum CrewError {
 /// Lets so many workers survey what is missing in a haul, each in a thread of its own, and offers what they report.
 ///
 /// There are at least one and at most as many workers as the haul has. A worker asks the gate before each survey, and
-/// surveys nothing more once the gate stops it. The haul stays open.
+/// surveys nothing more once the gate stops it. The haul stays open. The watch hears how many soups of the haul are taken,
+/// in the thread of the call.
 ///
 /// # Errors
 ///
@@ -57,12 +59,13 @@ pub enum CrewError {
 /// - [`CrewError::Memory`] if memory ran out, or a thread could not be started, and the haul is not complete.
 ///
 /// To call it again goes on with what is missing.
-pub fn take<G: Gate + Sync, R: Threads + Wait + Sync>(
+pub fn take<G: Gate + Sync, R: Threads + Wait + Sync, H: Watch>(
     alloc: Global,
     rt: &R,
     haul: Haul,
     workers: u8,
     gate: &G,
+    watch: &mut H,
 ) -> Result<Haul, (Haul, CrewError)>
     requires some { 1 ≤ workers }
     requires few { workers ≤ haul.terms.workers }
@@ -76,7 +79,9 @@ pub fn take<G: Gate + Sync, R: Threads + Wait + Sync>(
     if haul.is_closed() {
         return Err((haul, CrewError::Closed));
     }
-    let (haul, stopped) = take_missing(alloc, rt, haul, workers, gate);
+    watch.begin(haul.count());
+    let (haul, stopped) = take_missing(alloc, rt, haul, workers, gate, watch);
+    watch.end();
     if haul.is_complete() {
         return Ok(haul);
     }
@@ -88,12 +93,13 @@ pub fn take<G: Gate + Sync, R: Threads + Wait + Sync>(
 
 /// Lets workers survey what is missing. Which of them was stopped, if one was: the one with the least number.
 #[tactic(auto, using(crate::proofs::TakeLemmas::taken_none))]
-fn take_missing<G: Gate + Sync, R: Threads + Wait + Sync>(
+fn take_missing<G: Gate + Sync, R: Threads + Wait + Sync, H: Watch>(
     alloc: Global,
     rt: &R,
     haul: Haul,
     workers: u8,
     gate: &G,
+    watch: &mut H,
 ) -> (Haul, Option<u8>)
     ensures taken { HasTaken workers haul result.0 }
     ensures stopped { IfSome result.1 (StopsAt (G.may_stop gate.now) (was_missing haul)) }
@@ -117,7 +123,7 @@ fn take_missing<G: Gate + Sync, R: Threads + Wait + Sync>(
         senders: back,
         stopped: None,
     };
-    let crew = run_in_scope(alloc, rt, &site, gate, passes, senders, crew);
+    let crew = run_in_scope(alloc, rt, &site, gate, passes, senders, crew, watch);
     end_crew(site, crew)
 }
 
@@ -145,7 +151,7 @@ struct Crew {
 
 /// Starts a worker for each pass and sender, from the last on, collects what they report, and waits for them. The first
 /// worker comes back first.
-fn run_crew<'s, E, G: Gate + Sync, R: Threads + Wait + Sync>(
+fn run_crew<'s, E, G: Gate + Sync, R: Threads + Wait + Sync, H: Watch>(
     alloc: Global,
     rt: &'s R,
     scope: &'s Scope<'s, E>,
@@ -155,6 +161,7 @@ fn run_crew<'s, E, G: Gate + Sync, R: Threads + Wait + Sync>(
     mut senders: Vec<SenderPass<Note>>,
     mut crew: Crew,
     started: u8,
+    watch: &mut H,
 ) -> Crew
     requires passes { All (λ p. p ≡ fresh site.now.tickets) passes.items }
     requires senders { All (λ s. s ≡ silent site.now.belt.name s.number) senders.items }
@@ -170,7 +177,14 @@ fn run_crew<'s, E, G: Gate + Sync, R: Threads + Wait + Sync>(
     ensures collected { (started : ℕ) × (answered : Bool) × Collected started 0 crew.receiver result.receiver crew.haul result.haul answered }
 {
     let Some(sender) = senders.pop() else {
-        let _ = collect(rt, &site.belt, &mut crew.receiver, &mut crew.haul, started);
+        let _ = collect(
+            rt,
+            &site.belt,
+            &mut crew.receiver,
+            &mut crew.haul,
+            started,
+            watch,
+        );
         return crew;
     };
     let Some(pass) = passes.pop() else {
@@ -194,13 +208,16 @@ fn run_crew<'s, E, G: Gate + Sync, R: Threads + Wait + Sync>(
                 senders,
                 crew,
                 started + 1,
+                watch,
             );
             with_shift(crew, handle.join(rt))
         }
         Err(here) => {
             site.called_off.store(u64::from(worker), Ordering::SeqCst);
             let shift = (here.value)();
-            let crew = run_crew(alloc, rt, scope, site, gate, passes, senders, crew, started);
+            let crew = run_crew(
+                alloc, rt, scope, site, gate, passes, senders, crew, started, watch,
+            );
             with_shift(crew, shift)
         }
     }
@@ -272,7 +289,7 @@ impl Start {
 }
 
 /// Runs a crew in a scope of threads.
-fn run_in_scope<G: Gate + Sync, R: Threads + Wait + Sync>(
+fn run_in_scope<G: Gate + Sync, R: Threads + Wait + Sync, H: Watch>(
     alloc: Global,
     rt: &R,
     site: &Site,
@@ -280,6 +297,7 @@ fn run_in_scope<G: Gate + Sync, R: Threads + Wait + Sync>(
     passes: Vec<Pass>,
     senders: Vec<SenderPass<Note>>,
     crew: Crew,
+    watch: &mut H,
 ) -> Crew
     requires passes { All (λ p. p ≡ fresh site.now.tickets) passes.items }
     requires senders { All (λ s. s ≡ silent site.now.belt.name s.number) senders.items }
@@ -306,7 +324,11 @@ fn run_in_scope<G: Gate + Sync, R: Threads + Wait + Sync>(
             ensures back { AreBack (G.may_stop gate.entry.now) site.entry.now.belt.name site.entry.now.missing.items result.senders.items result.stopped }
             ensures numbers { sender_numbers result.senders.items ≡ sender_numbers crew.senders.items ++ sender_numbers senders.items }
             ensures collected { (started : ℕ) × (answered : Bool) × Collected started 0 crew.receiver result.receiver crew.haul result.haul answered }
-        { run_crew(alloc, rt, scope, site, gate, passes, senders, crew, 0) },
+        {
+            run_crew(
+                alloc, rt, scope, site, gate, passes, senders, crew, 0, watch,
+            )
+        },
     )
 }
 

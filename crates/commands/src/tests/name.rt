@@ -6,7 +6,9 @@ use crate::status::Status;
 use crate::word::Word;
 use plane_core::output::Out;
 use std::process::Abort;
+use std::sync::Wait;
 use std::test::Fail;
+use std::thread::Threads;
 
 const STANDARD: ProfileNumbers = ProfileNumbers {
     period: 64,
@@ -40,7 +42,10 @@ const CODES: [&str; 18] = [
 ];
 
 /// Asserts that what is shown of a code is an object with that code.
-fn assert_is_named<R: Abort + AllocGlobal>(rt: &R, code: &str) -> Result<(), Fail> {
+fn assert_is_named<R: Threads + Wait + Sync + Abort + AllocGlobal>(
+    rt: &R,
+    code: &str,
+) -> Result<(), Fail> {
     let shown = left_by(
         rt,
         &Request::Show {

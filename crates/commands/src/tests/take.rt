@@ -11,6 +11,8 @@ use crate::word::Word;
 use crew::watch::Unwatched;
 use plane_core::output::Out;
 use std::process::Abort;
+use std::sync::Wait;
+use std::thread::Threads;
 
 /// Under this profile a soup is settled only if it is a still life at once.
 const SMALL: ProfileNumbers = ProfileNumbers {
@@ -90,6 +92,7 @@ fn take(set: SoupSet<'_>) -> Request<'_>
 {
     Request::Take {
         set,
+        workers: 1,
         profile: SMALL,
         rule: Word::new(LIFE),
         progress: false,
@@ -107,6 +110,7 @@ fn takes_soups(rt: HostRuntime) {
 fn takes_no_soup(rt: HostRuntime) {
     let request = Request::Take {
         set: set_of(1 << 40, 0, ""),
+        workers: 16,
         profile: STANDARD,
         rule: Word::new(LIFE),
         progress: true,
@@ -115,7 +119,11 @@ fn takes_no_soup(rt: HostRuntime) {
 }
 
 /// Asserts that the set is refused with this line.
-fn assert_refused<R: Abort + AllocGlobal>(rt: &R, set: SoupSet<'_>, line: &[u8]) {
+fn assert_refused<R: Threads + Wait + Sync + Abort + AllocGlobal>(
+    rt: &R,
+    set: SoupSet<'_>,
+    line: &[u8],
+) {
     assert_complains(rt, &take(set), b"", Status::Refused, line);
 }
 
@@ -143,7 +151,11 @@ fn refuses_sets(rt: HostRuntime) {
 }
 
 /// Takes four soups with a writer that fails at this write, and returns what the writer took.
-fn taken_by<R: Abort + AllocGlobal>(rt: &R, writes: usize, status: Status) -> Vec<u8> {
+fn taken_by<R: Threads + Wait + Sync + Abort + AllocGlobal>(
+    rt: &R,
+    writes: usize,
+    status: Status,
+) -> Vec<u8> {
     let mut output = Out::new(FailingWriter {
         taken: Vec::new(rt.alloc()),
         writes,
@@ -153,7 +165,9 @@ fn taken_by<R: Abort + AllocGlobal>(rt: &R, writes: usize, status: Status) -> Ve
     let set = set_of(0, 4, "");
     let found = do_take(
         rt.alloc(),
+        rt,
         &set,
+        1,
         SMALL,
         LIFE,
         &mut output,
@@ -173,7 +187,7 @@ fn tells_each_failed_write(rt: HostRuntime) {
     assert_eq!(rt; taken_by(&rt, FOUR.len(), Status::Done).as_slice(), FOUR);
 }
 
-// The lines are due at 0, 200 and 400 milliseconds.
+// The lines are due at 0, 200, 400 and 600 milliseconds. The line is told before each of the five notes, and at the end.
 #[test]
 fn takes_soups_under_a_line_of_progress(rt: HostRuntime) {
     let mut output = Out::new(Vec::new(rt.alloc()));
@@ -183,7 +197,9 @@ fn takes_soups_under_a_line_of_progress(rt: HostRuntime) {
     let set = set_of(0, 4, "");
     let found = do_take(
         rt.alloc(),
+        &rt,
         &set,
+        1,
         SMALL,
         LIFE,
         &mut output,
@@ -194,6 +210,6 @@ fn takes_soups_under_a_line_of_progress(rt: HostRuntime) {
     assert_eq!(rt; output.into_inner().as_slice(), FOUR);
     assert!(rt; errors.into_inner().is_empty());
     let told =
-        b"\r0 of 4 soups\r2 of 4 soups, 10 a second\r4 of 4 soups, 10 a second\r                         \r";
+        b"\r0 of 4 soups\r1 of 4 soups, 5 a second\r3 of 4 soups, 7 a second\r4 of 4 soups, 6 a second\r                        \r";
     assert_eq!(rt; screen.as_slice(), told.as_slice());
 }

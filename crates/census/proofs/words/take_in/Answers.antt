@@ -10,12 +10,13 @@ returns-in_err-rule-clause-request c =
     let found = found_of c.args.found.now in
     let rule = c.in_err-rule.ensures ∙ first_value-rows found (codes "rule") in
     c.from_residual-in_err-rule.ensures
-    ∙ sym (take_in-is (rows_of found) (Some c.in_ok-set.set) (Some c.in_ok-profile.profile) None c.in_ok-set.ensures c.in_ok-profile.ensures.profile rule)
+    ∙ sym (take_in-is (rows_of found) (Some c.in_ok-set.set) (Some c.in_ok-workers.workers) (Some c.in_ok-profile.profile) None c.in_ok-set.ensures
+    c.in_ok-workers.ensures.number c.in_ok-profile.ensures.profile rule)
 
 pub returns-clause-request : goal.returns-clause-request
 returns-clause-request c =
     let found = found_of c.args.found.now in
     let rule = c.in_ok-rule.ensures ∙ first_value-rows found (codes "rule") in
-    ap₂ (λ text progress. Some (Take c.in_ok-set.set c.in_ok-profile.profile text progress)) c.new.ensures c.is_given.ensures
-    ∙ sym (take_in-is (rows_of found) (Some c.in_ok-set.set) (Some c.in_ok-profile.profile) (Some c.in_ok-rule.rule.now) c.in_ok-set.ensures
-    c.in_ok-profile.ensures.profile rule)
+    ap₂ (λ text progress. Some (Take c.in_ok-set.set c.in_ok-workers.workers c.in_ok-profile.profile text progress)) c.new.ensures c.is_given.ensures
+    ∙ sym (take_in-is (rows_of found) (Some c.in_ok-set.set) (Some c.in_ok-workers.workers) (Some c.in_ok-profile.profile) (Some c.in_ok-rule.rule.now)
+    c.in_ok-set.ensures c.in_ok-workers.ensures.number c.in_ok-profile.ensures.profile rule)
