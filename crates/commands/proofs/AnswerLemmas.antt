@@ -9,7 +9,7 @@ use Rattle.plane_core.specs.declared.plaintext.PlaintextError.{PlaintextError}
 use Rattle.plane_core.specs.declared.plaintext.PlaintextError.TheVariants as plaintext_error
 use Rattle.plane_core.specs.declared.plaintext.PlaintextFault.{PlaintextFault}
 use Rattle.plane_core.specs.declared.plaintext.PlaintextFault.TheVariants as plaintext_fault
-use Rattle.plane_core.specs.Rules.{Numbers, rule_read}
+use Rattle.plane_core.specs.Rules.{rule_read}
 use Rattle.plane_core.specs.Plaintext.{pattern}
 use Rattle.commands.specs.declared.complaint.Complaint.{Complaint}
 use Rattle.commands.specs.declared.complaint.Complaint.TheVariants.{Refused, OutOfMemory, ReadFailed, WriteFailed}

@@ -1,5 +1,5 @@
 -- How gathering ends.
-use Rattle.std.proofs.Common.{◌≡◌, ◌∙◌, ◌++◌, ◌⊎◌, ℕ, zero, suc, Bool, true, false, inl, inr, List, [], ◌∷◌, Option, None, Some, IfSome, Result, Ok, Err, ap, length, refl, subst, sym}
+use Rattle.std.proofs.Common.{◌≡◌, ◌∙◌, ◌++◌, ℕ, zero, suc, false, inr, List, [], ◌∷◌, Option, None, Some, IfSome, Ok, Err, ap, length, refl, subst}
 use Rattle.survey_core.specs.declared.job.Job.{Job}
 use Rattle.haul_core.specs.declared.arrival.Arrival.{Arrival}
 use Rattle.haul_core.specs.declared.arrival.Arrival.TheVariants.{Closing}
@@ -13,15 +13,13 @@ use Rattle.commands.specs.declared.complaint.Complaint.{Complaint}
 use Rattle.commands.specs.declared.complaint.Complaint.TheVariants.{Refused, OutOfMemory, ReadFailed, WriteFailed}
 use Rattle.commands.specs.declared.profile.ProfileNumbers.{ProfileNumbers}
 use Rattle.commands.specs.declared.soup_set.SoupSet.{SoupSet}
-use Rattle.commands.specs.declared.status.Status.{Status}
 use Rattle.commands.specs.declared.status.Status.TheVariants as statuses
-use Rattle.commands.specs.Gather.{Gathering, Gathers, IsGathering, IsPrinted, gather_right, status_after, terms_of}
+use Rattle.commands.specs.Gather.{Gathering, Gathers, IsGathering, gather_right, status_after, terms_of}
 use Rattle.commands.specs.GatherSteps.{EndsLines, HasBegun, HasGatheredAll}
 use Rattle.commands.specs.GatheredLines.{Gathered, Start, lines_of}
-use Rattle.commands.specs.SoupSets.{IsRefused, job_named}
+use Rattle.commands.specs.SoupSets.{job_named}
 use Rattle.commands.specs.Streams.{Stream, Has}
 use Rattle.commands.specs.TakeSteps.{IsOpened, StopsSet}
-use Rattle.commands.proofs.GatherLemmas.{all_begun}
 use Rattle.commands.proofs.TakeLemmas.{job_refused}
 
 -- no line has come

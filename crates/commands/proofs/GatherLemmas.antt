@@ -1,5 +1,5 @@
 -- From the steps of `gather` to what became of each line.
-use Rattle.std.proofs.Common.{◌≡◌, ◌≢◌, ◌+◌, ◌-◌, ◌≤◌, ◌∙◌, ◌++◌, ◌⊎◌, ◌<◌, ℕ, suc, inl, inr, Bool, true, false, IfSome, length-append, List, [], ◌∷◌, Option, None, Some, Result, Ok, Err, IfOk, ap, append-nil, append_assoc, arith, length, refl, subst, sym}
+use Rattle.std.proofs.Common.{◌≡◌, ◌≢◌, ◌+◌, ◌∙◌, ◌++◌, ◌<◌, ℕ, suc, inl, inr, Bool, true, false, IfSome, length-append, List, [], ◌∷◌, Option, None, Some, Result, Ok, Err, IfOk, ap, append-nil, arith, length, refl, subst, sym}
 use Rattle.survey_core.specs.FindingLaws.{FindingsAreDetermined}
 use Rattle.survey_core.specs.Soups.{soup}
 use Rattle.survey_core.specs.declared.finding.Finding.{Finding}
@@ -14,14 +14,14 @@ use Rattle.haul_core.specs.Reports.{Reported}
 use Rattle.commands.specs.declared.line_fault.LineFault.{LineFault}
 use Rattle.std.proofs.KnownBytes.{Consumes-nil, Consumes-trans}
 use Rattle.std.proofs.lemmas.List.Elements.{All-nil}
-use Rattle.std.specs.Io.KnownBytes.{Appends, Consumes, IsAtEnd}
+use Rattle.std.specs.Io.KnownBytes.{Consumes, IsAtEnd}
 use Rattle.plane_core.proofs.OutLemmas.{Appends-append, Appends-nil}
 use Rattle.plane_core.specs.Out.{Output}
 use Rattle.commands.specs.declared.complaint.Complaint.{Complaint}
 use Rattle.commands.specs.declared.complaint.Complaint.TheVariants.{Refused, OutOfMemory, ReadFailed, WriteFailed}
 use Rattle.commands.specs.GatherSteps.{EndsLine, EndsLines, GoesOn, HasBegun, HasGathered, HasGatheredAll, HasMet, IsMetBy, IsOneLine, with_feed}
 use Rattle.commands.proofs.LineLemmas.{all_read, ended_more, lines_bare, lines_ended, all_lines, first_lines}
-use Rattle.commands.specs.GatheredLines.{Claims, lines_of, Faulty, Gathered, IsChecked, IsWrong, Meets, Next, Offered, Start, offer_fault, told_of}
+use Rattle.commands.specs.GatheredLines.{lines_of, Faulty, Gathered, IsChecked, IsWrong, Meets, Next, Offered, Start, offer_fault, told_of}
 
 -- nothing arrives by a line with a fault
 pub faulty : {terms : Terms} {line : List ℕ} {fault : LineFault} {held : Held} (arrivals : List Arrival) → IsChecked terms.job line (Err fault)

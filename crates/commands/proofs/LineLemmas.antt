@@ -1,12 +1,8 @@
 -- Inputs, line by line.
-use Rattle.std.proofs.Common.{◌≡◌, ◌≢◌, ◌==◌, ◌<◌, ◌≤◌, ◌-◌, ◌+◌, ◌⊎◌, ◌∙◌, ◌++◌, ℕ, suc, zero, Bool, true, false, eqb, eqb-true, ne_eqb, inl, inr}
-use Rattle.std.proofs.Common.{List, [], ◌∷◌, All, Option, None, Some, IfSome, ap, append-nil, append_assoc, arith, cond, flat_map, length, length-append, refl, slice_index, subst, sym, take, take_all}
-use Rattle.std.proofs.KnownBytes.{Consumes-trans}
-use Rattle.std.proofs.Math.Seq.{take-append_seam}
+use Rattle.std.proofs.Common.{◌≡◌, ◌≢◌, ◌==◌, ◌<◌, ◌∙◌, ◌++◌, ℕ, Bool, true, false, eqb, eqb-true, ne_eqb}
+use Rattle.std.proofs.Common.{List, [], ◌∷◌, All, Option, None, Some, IfSome, ap, append-nil, append_assoc, arith, cond, flat_map, length, refl, subst, sym}
 use Rattle.std.proofs.lemmas.Grind.{flat_map-append}
-use Rattle.std.proofs.lemmas.List.{take_more}
-use Rattle.std.proofs.lemmas.List.Elements.{All-head, All-nil, All-push, All-tail}
-use Rattle.std.specs.Io.{StopsAt}
+use Rattle.std.proofs.lemmas.List.Elements.{All-head, All-push, All-tail}
 use Rattle.std.specs.Io.BufRead.{DropsThrough, drop_through, take_through}
 use Rattle.std.specs.Io.KnownBytes.{Consumes, IsAtEnd}
 use Rattle.commands.specs.Answers.{IsInput}
@@ -15,24 +11,6 @@ use Rattle.commands.specs.GatheredLines.{begun_with, lines_of}
 
 abbrev IsNotFeed : ℕ → Type 0
 IsNotFeed byte = byte ≢ 10
-
--- what stops at a line feed, without it, is one line
-pub one_fed : (line : List ℕ) → StopsAt (line ++ 10 ∷ []) 10 → IsOneLine line
-one_fed line stops =
-    let long : length (line ++ 10 ∷ []) - 1 ≡ length line = omega (arith, length-append line (10 ∷ [])) in
-    let whole : take (length (line ++ 10 ∷ []) - 1) (line ++ 10 ∷ []) ≡ line = ap (λ n. take n (line ++ 10 ∷ [])) long ∙ take-append_seam line (10 ∷ []) in
-    subst IsOneLine whole stops
-
--- what stops at a line feed and doesn't end with one is one line
-pub one_bare : (line : List ℕ) → StopsAt line 10 → (line ≡ []) ⊎ (slice_index line (length line - 1) ≢ 10) → IsOneLine line
-one_bare line stops (inl none) = subst IsOneLine (sym none) (All-nil IsNotFeed)
-one_bare [] stops (inr last) = All-nil IsNotFeed
-one_bare (x ∷ xs) stops (inr last) =
-    let line = x ∷ xs in
-    let front = take (length line - 1) line in
-    let split : line ≡ front ++ slice_index line (length line - 1) ∷ [] =
-    sym (take_all (length line - 1 + 1) line (omega arith)) ∙ take_more line (length line - 1) 0 (omega arith) in
-    subst IsOneLine (sym split) (All-push IsNotFeed front (slice_index line (length line - 1)) stops last)
 
 -- bytes that hold no line feed are dropped whole
 dropped : (bytes : List ℕ) → IsOneLine (take_through 10 bytes) → drop_through 10 bytes ≡ []

@@ -13,7 +13,7 @@ use Rattle.commands.specs.declared.complaint.Complaint.TheVariants.{Refused}
 use Rattle.commands.specs.declared.refusal.Refusal.TheVariants.{HorizonBelowPeriod}
 use Rattle.commands.specs.Answers.{Reaches}
 use Rattle.commands.specs.Inputs.{pattern_of, rule_named}
-use Rattle.commands.specs.Name.{finding_text, name_right, object_line}
+use Rattle.commands.specs.Name.{finding_text, name_right}
 use Rattle.commands.specs.Profiles.{profile_named, settling}
 use Rattle.commands.specs.Streams.{Stream, Has}
 

@@ -1,6 +1,6 @@
 -- From the steps of `take` to a right answer.
 use Rattle.std.proofs.Common.{◌≡◌, ◌∙◌, ◌≤◌, ◌⊎◌, ℕ, Bool, true, false, cond, inl, inr, nat_eq, nat_le, not, get_or, length}
-use Rattle.std.proofs.Common.{List, [], ◌∷◌, ◌++◌, Option, None, Some, Result, Ok, Err, All, ap, sym, subst, refl, arith}
+use Rattle.std.proofs.Common.{List, [], ◌++◌, Option, None, Some, Result, Ok, Err, All, ap, sym, subst, refl, arith}
 use Rattle.std.specs.Prelude.{Contains, IfSome}
 use Rattle.std.proofs.lemmas.Bool.{cases_Bool, leb-false, leb-true}
 use Rattle.std.proofs.lemmas.List.Elements.{All-contains, All-filter}
@@ -31,7 +31,7 @@ use Rattle.commands.specs.declared.complaint.Complaint.{Complaint}
 use Rattle.commands.specs.declared.complaint.Complaint.TheVariants.{Refused, OutOfMemory, ReadFailed, WriteFailed}
 use Rattle.commands.specs.declared.profile.ProfileNumbers.{ProfileNumbers}
 use Rattle.commands.specs.declared.refusal.Refusal.{Refusal}
-use Rattle.commands.specs.declared.refusal.Refusal.TheVariants.{BadList, BadRule, BirthZero, HorizonBelowPeriod, RangeTooLarge, RangesOverlap}
+use Rattle.commands.specs.declared.refusal.Refusal.TheVariants.{BadRule, BirthZero, HorizonBelowPeriod}
 use Rattle.commands.specs.declared.refusal.Refusal.TheVariants.{SeedBadByte, SeedTooLong}
 use Rattle.commands.specs.declared.soup_set.SoupSet.{SoupSet}
 use Rattle.commands.specs.declared.status.Status.{Status}

@@ -1,32 +1,30 @@
 -- Reports one after another, and that their lines are those of every right text.
-use Rattle.std.proofs.Common.{◌≡◌, ◌∙◌, ◌+◌, ◌-◌, ◌<◌, ◌≤◌, ◌++◌, ℕ, zero, suc, Bool, true, false, List, [], ◌∷◌, Option, Result, Ok, Err, flat_map, refl, sym, ap, ap₂}
+use Rattle.std.proofs.Common.{◌≡◌, ◌∙◌, ◌+◌, ◌-◌, ◌<◌, ◌≤◌, ◌++◌, ℕ, zero, suc, Bool, true, false, List, [], ◌∷◌, Option, Ok, Err, flat_map, refl, sym, ap, ap₂}
 use Rattle.std.proofs.Common.{length, take, drop, get_or, subst, arith, append_assoc, append-nil, add-zero, zero-add}
 use Rattle.std.proofs.lemmas.List.{take-append-drop, take_more}
 use Rattle.std.proofs.lemmas.List.Concat.{flat_map-append}
 use Rattle.std.specs.List.{range_with_len}
 use Rattle.std.specs.Io.KnownBytes.{Appends}
 use Rattle.plane_core.proofs.OutLemmas.{Appends-append, Appends-nil, AppendsFront-append, AppendsFront-longer}
-use Rattle.survey_core.specs.declared.finding.Finding.{Finding}
 use Rattle.survey_core.specs.declared.job.Job.{Job}
 use Rattle.survey_core.specs.FindingLaws.{FindingsAreDetermined}
 use Rattle.survey_core.specs.Findings.{IsFinding}
 use Rattle.survey_core.specs.Soups.{soup}
 use Rattle.haul_core.specs.declared.range.Range.{Range}
 use Rattle.haul_core.specs.Books.{Held}
-use Rattle.haul_core.specs.Ranges.{AreSmall, IsNormalForm, OneNormalForm, Overlap, is_in}
+use Rattle.haul_core.specs.Ranges.{AreSmall, OneNormalForm, Overlap, is_in}
 use Rattle.haul_core.specs.ReportLines.{report_text}
 use Rattle.haul_core.specs.Reports.{Reported}
 use Rattle.commands.specs.declared.complaint.Complaint.{Complaint}
 use Rattle.commands.specs.declared.complaint.Complaint.TheVariants.{Refused, OutOfMemory, ReadFailed, WriteFailed}
 use Rattle.commands.specs.declared.profile.ProfileNumbers.{ProfileNumbers}
-use Rattle.commands.specs.declared.refusal.Refusal.{Refusal}
 use Rattle.commands.specs.declared.soup_set.SoupSet.{SoupSet}
-use Rattle.commands.specs.Answers.{Answer, Outcome, Reaches, Right, given_right, text_of}
-use Rattle.commands.specs.SoupSets.{AreRangesOf, IsRefused, Bad_list, Overlapping, Too_large, job_named, right_for_set}
+use Rattle.commands.specs.Answers.{Answer, Outcome, Reaches, Right, text_of}
+use Rattle.commands.specs.SoupSets.{Bad_list, Overlapping, Too_large, job_named, right_for_set}
 use Rattle.commands.specs.Streams.{Stream, Has, HasFront}
 use Rattle.commands.specs.TakeSteps.{IsOpened, numbers_in_range, numbers_of}
 use Rattle.commands.specs.Work.{AreReportsOn, IsReportOn, TellsReports, work_right}
-use Rattle.commands.specs.WorkSteps.{IsBegun, IsPut, Puts}
+use Rattle.commands.specs.WorkSteps.{IsBegun, Puts}
 use Rattle.commands.proofs.NumberLemmas.{range_more}
 use Rattle.commands.proofs.TakeLemmas.{listed}
 

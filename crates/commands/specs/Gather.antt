@@ -1,5 +1,5 @@
 -- What `census gather` is asked for, and how it ends.
-use Rattle.std.specs.Prelude.{◌≡◌, ◌⊎◌, ℕ, zero, suc, Bool, true, false, List, [], Option, Result, Ok, Err, IsOkAnd, MatchResult, length, ◌++◌, ◌∷◌}
+use Rattle.std.specs.Prelude.{◌≡◌, ◌⊎◌, ℕ, zero, suc, true, false, List, [], Option, Result, Ok, Err, IsOkAnd, MatchResult, length, ◌++◌, ◌∷◌}
 use Rattle.haul_core.specs.declared.arrival.Arrival.{Arrival}
 use Rattle.haul_core.specs.declared.arrival.Arrival.TheVariants.{Closing}
 use Rattle.haul_core.specs.declared.census.Census.{Census}

@@ -1,5 +1,5 @@
 -- What `census name` is asked for.
-use Rattle.std.specs.Prelude.{◌≡◌, ◌++◌, ℕ, List, Ok, codes, decimal, flat_map}
+use Rattle.std.specs.Prelude.{◌++◌, ℕ, List, Ok, codes, decimal, flat_map}
 use Rattle.plane_core.specs.declared.cell.Cell.{Cell}
 use Rattle.plane_core.specs.Rules.{Numbers}
 use Rattle.survey_core.specs.declared.finding.Finding.{Finding}

@@ -1,5 +1,5 @@
 -- The profiles that commands are asked for.
-use Rattle.std.specs.Prelude.{◌≤◌, ℕ, Result, Ok, Err, nat_le, if◌then◌else◌}
+use Rattle.std.specs.Prelude.{◌≤◌, Result, Ok, Err, nat_le, if◌then◌else◌}
 use Rattle.survey_core.specs.Profiles.{Settling}
 use Rattle.commands.specs.declared.complaint.Complaint.{Complaint}
 use Rattle.commands.specs.declared.complaint.Complaint.TheVariants.{Refused}

@@ -1,6 +1,5 @@
-use Rattle.std.proofs.Common.{◌≡◌, inl, refl, rules, sym}
+use Rattle.std.proofs.Common.{inl, sym}
 use Rattle.std.proofs.KnownBytes.{Appends-nil}
-use Rattle.haul_core.specs.HaulTexts.{haul_text}
 use Rattle.commands.proofs.AnswerLemmas.{err_of, some_input}
 use Rattle.commands.proofs.EndLemmas.{gathering_right, gathers_job, gathers_lines, gathers_set, is_gathering}
 use Rattle.commands.proofs.GatherLemmas.{all_begun}

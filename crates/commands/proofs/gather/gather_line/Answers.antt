@@ -1,4 +1,4 @@
-use Rattle.std.proofs.Common.{◌≡◌, ℕ, List, ◌<◌, ◌+◌, ◌∙◌, [], ap, false, length, rules, subst, sym}
+use Rattle.std.proofs.Common.{◌≡◌, ℕ, List, ◌<◌, ◌∙◌, false, length, subst, sym}
 use Rattle.commands.specs.GatherSteps.{IsMetBy}
 use Rattle.commands.proofs.GatherLemmas.{goes_on, no_more}
 use Rattle.commands.proofs.LineLemmas.{no_bytes, some_bytes}

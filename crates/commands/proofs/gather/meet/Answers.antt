@@ -1,4 +1,4 @@
-use Rattle.std.proofs.Common.{refl, rules, sym}
+use Rattle.std.proofs.Common.{rules, sym}
 use Rattle.commands.proofs.GatherLemmas.{faulty, refused_told, taken}
 use Rattle.commands.proofs.gather.meet.Goals as goal
 

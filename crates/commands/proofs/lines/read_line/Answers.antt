@@ -1,4 +1,4 @@
-use Rattle.std.proofs.Common.{[], rules}
+use Rattle.std.proofs.Common.{rules}
 use Rattle.commands.proofs.LineLemmas.{last_line}
 use Rattle.commands.proofs.lines.read_line.Goals as goal
 

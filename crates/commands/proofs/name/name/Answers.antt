@@ -2,7 +2,6 @@ use Rattle.std.proofs.Common.{◌≡◌, ◌≤◌, Ok, arith, refl, sym}
 use Rattle.survey_core.proofs.PlaneLemmas.{within_more}
 use Rattle.commands.specs.Inputs.{pattern_of, rule_named}
 use Rattle.commands.specs.Name.{finding_text, name_right}
-use Rattle.commands.specs.Profiles.{profile_named}
 use Rattle.commands.specs.Streams.{stream}
 use Rattle.commands.proofs.AnswerLemmas.{err_of, some_input, Reaches_no_memory, Reaches_rule, Reaches_unread}
 use Rattle.commands.proofs.NameLemmas.{name_reads, right_finding, right_pattern, right_rule, Reaches_profile}

@@ -1,4 +1,4 @@
-use Rattle.std.proofs.Common.{◌≡◌, ◌-◌, ℕ, List, Ok, Err, arith, sym, subst}
+use Rattle.std.proofs.Common.{◌≡◌, ◌-◌, ℕ, Ok, Err, arith, sym, subst}
 use Rattle.std.specs.List.{range_with_len}
 use Rattle.commands.specs.Streams.{stream}
 use Rattle.commands.specs.WorkSteps.{Puts}

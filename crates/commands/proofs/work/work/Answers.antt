@@ -6,7 +6,7 @@ use Rattle.commands.specs.TakeSteps.{numbers_of}
 use Rattle.commands.specs.Work.{TellsReports, work_right}
 use Rattle.commands.specs.WorkSteps.{Puts}
 use Rattle.commands.proofs.AnswerLemmas.{err_of}
-use Rattle.commands.proofs.TakeLemmas.{Reaches_stopped, Stops_given, Stops_job}
+use Rattle.commands.proofs.TakeLemmas.{Reaches_stopped, Stops_given}
 use Rattle.commands.proofs.WorkLemmas.{reaches_work}
 use Rattle.commands.proofs.work.work.Goals as goal
 
