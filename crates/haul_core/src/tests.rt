@@ -1,3 +1,5 @@
+mod memory;
+
 use crate::arrival::{Arrival, Reply};
 use crate::book::keep_book;
 use crate::census::Census;
