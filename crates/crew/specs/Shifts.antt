@@ -1,10 +1,11 @@
 -- What a worker of the crew reports.
-use Rattle.std.specs.Prelude.{◌≡◌, ◌<◌, ℕ, All, AllPairs, Contains, IfSome, List, Option, flat_map, length, map, slice_index}
+use Rattle.std.specs.Prelude.{◌≡◌, ◌<◌, ◌++◌, ◌∷◌, [], ℕ, All, AllPairs, Contains, IfSome, List, Option, flat_map, length, map, slice_index}
 use Rattle.atomic_table.specs.Seated.{TableId}
 use Rattle.haul_core.specs.Reports.{Reported}
 use Rattle.crew.specs.Belts.{Presented}
 use Rattle.crew.specs.Crews.{report_in}
 use Rattle.crew.specs.declared.note.Note.{Note}
+use Rattle.crew.specs.declared.note.Note.TheVariants.{Done}
 
 -- the reports among a worker's notes, in order
 abbrev pub reported : List Note → List Reported
@@ -22,6 +23,10 @@ pub record HasReported (name : TableId) (worker : ℕ) (missing places : List �
 -- at some places
 abbrev pub HasWorked : TableId → List ℕ → Presented Note → Type 0
 HasWorked name missing pass = (places : List ℕ) × HasReported name pass.number missing places pass
+
+-- the worker's last note says that it is done
+abbrev pub EndsByDone : ℕ → List Note → Type 0
+EndsByDone worker notes = (front : List Note) × (notes ≡ front ++ Done worker ∷ [])
 
 -- the gate may stop the worker at a number that is missing
 abbrev pub StopsAt : (ℕ → ℕ → Type 0) → List ℕ → ℕ → Type 0

@@ -11,13 +11,13 @@ ghost use Rattle.crossbeam_queue.specs.Passes.{IsPassOf, IsSamePass, view};
 ghost use Rattle.crew.specs.Belts.{GotOne, IsWhole, NothingLeft, TookFirst, deaf, left_of, silent, with_note};
 ghost use Rattle.crew.specs.BeltRule.{first_share, share, with_senders};
 
+use crate::bell::Bell;
 use crossbeam_queue::protocol::{Join, Lesson, Outcome, Protocol, Split};
 use crossbeam_queue::{Pass, RuledArrayQueue};
 use std::alloc::{AllocError, Global};
 use std::collections::LinkedList;
 use std::marker::Model;
 use std::sync::Wait;
-use std::thread;
 
 /// What a pass knows. No value of it is made.
 struct Share<N> {
@@ -86,6 +86,10 @@ type Queue<N> = RuledArrayQueue<(u8, N), Share<N>, InOrder>;
 pub struct Belt<N: Drop> {
     queue: Queue<N>,
     workers: u8,
+    /// Rings after each note that is presented.
+    arrived: Bell,
+    /// Rings after each note that is received.
+    left: Bell,
 }
 
 impl<N: Drop> Model for Belt<N> {
@@ -180,35 +184,47 @@ impl<N: Drop> Belt<N> {
         let mut senders = Vec::with_capacity(alloc, usize::from(workers))?;
         let (queue, mut pass) = Queue::ruled(alloc, room)?;
         make_senders(&queue, &mut pass, workers, &mut senders);
-        Ok((Belt { queue, workers }, senders, ReceiverPass { pass }))
+        let belt = Belt {
+            queue,
+            workers,
+            arrived: Bell::new(),
+            left: Bell::new(),
+        };
+        Ok((belt, senders, ReceiverPass { pass }))
     }
 
-    /// Presents a note. It waits while the queue is full.
+    /// Presents a note. It sleeps while the queue is full.
     pub fn present<R: Wait>(&self, rt: &R, pass: &mut SenderPass<N>, note: N)
         requires { pass.old.belt ≡ self.now.name }
         ensures { pass.new ≡ with_note note pass.old }
     {
         let mut note = note;
         for _ in rt.forever() {
+            let rings = self.left.rings();
             match self.try_present(pass, note) {
-                Ok(()) => return,
+                Ok(()) => {
+                    self.arrived.ring();
+                    return;
+                }
                 Err(back) => note = back,
             }
-            thread::yield_now();
+            self.left.sleep(rt, rings);
         }
         unreachable!()
     }
 
-    /// Receives a note. It waits while the queue is empty.
+    /// Receives a note. It sleeps while the queue is empty.
     pub fn receive<R: Wait>(&self, rt: &R, pass: &mut ReceiverPass<N>) -> N
         requires { pass.old.belt ≡ self.now }
         ensures { GotOne pass.old pass.new result }
     {
         for _ in rt.forever() {
+            let rings = self.arrived.rings();
             if let Some(note) = self.try_receive(pass) {
+                self.left.ring();
                 return note;
             }
-            thread::yield_now();
+            self.arrived.sleep(rt, rings);
         }
         unreachable!()
     }

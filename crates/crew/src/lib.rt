@@ -1,6 +1,7 @@
 //! What threads need to take the soups of one haul together, with no lock.
 #![tactic(auto)]
 
+mod bell;
 /// A queue from several senders to one receiver.
 pub mod belt;
 /// The collector, which offers what it receives to a haul.

@@ -1,8 +1,8 @@
 //! A worker's shift: it draws, asks the gate, surveys and reports, until none is left or it has to stop.
-ghost use Rattle.std.specs.Prelude.{◌≡◌, ◌<◌, All, vec_len};
+ghost use Rattle.std.specs.Prelude.{◌≡◌, ◌<◌, ◌⊎◌, All, vec_len};
 ghost use Rattle.haul_core.specs.Ranges.{number_bound};
 ghost use Rattle.crew.specs.Belts.{silent};
-ghost use Rattle.crew.specs.Shifts.{HasWorked, StopsAt};
+ghost use Rattle.crew.specs.Shifts.{EndsByDone, HasWorked, StopsAt};
 ghost use Rattle.crew.specs.Tickets.{fresh};
 ghost use Rattle.crew.specs.declared.shift.End.TheVariants as End;
 
@@ -37,8 +37,10 @@ pub(crate) enum End {
     Drained,
     /// Its gate stopped it.
     Stopped,
-    /// Memory ran out, or the worker was not started.
+    /// Memory ran out.
     OutOfMemory,
+    /// The worker was not started.
+    CalledOff,
 }
 
 /// What a worker leaves.
@@ -97,12 +99,13 @@ pub(crate) fn work<G: Gate, R: Wait>(
     ensures number { result.sender.number ≡ sender.number }
     ensures worked { HasWorked site.now.belt.name site.now.missing.items result.sender }
     ensures stopped { result.end ≡ End.Stopped → StopsAt (G.may_stop gate.now) site.now.missing.items sender.number }
+    ensures done { (result.end ≡ End.CalledOff) ⊎ EndsByDone sender.number result.sender.notes }
 {
     let mut pass = pass;
     let mut sender = sender;
     let worker = sender.number();
     if site.called_off.load(Ordering::SeqCst) == u64::from(worker) {
-        let end = End::OutOfMemory;
+        let end = End::CalledOff;
         return Shift { sender, end };
     }
     let end = survey_all(alloc, rt, site, gate, &mut pass, &mut sender);

@@ -1,5 +1,5 @@
 //! The workers of a crew, and the call that runs them.
-ghost use Rattle.std.specs.Prelude.{◌≡◌, ◌<◌, ◌≤◌, ◌+◌, ◌++◌, ◌∷◌, ◌⊎◌, [], ◌≢◌, ℕ, All, Bool, Err, IfErr, IfOk, IfSome, MatchResult, Some, false, length, map, nat_eq, true, vec_capacity, vec_len};
+ghost use Rattle.std.specs.Prelude.{◌≡◌, ◌<◌, ◌≤◌, ◌+◌, ◌++◌, ◌∷◌, ◌⊎◌, [], ◌≢◌, ℕ, All, Bool, Err, IfErr, IfOk, IfSome, MatchResult, None, Some, false, length, map, nat_eq, true, vec_capacity, vec_len};
 ghost use Rattle.std.specs.List.{IsDistinct, range_with_len};
 ghost use Rattle.std.specs.List.Sorted.{IsStrictlyIncreasing};
 ghost use Rattle.haul_core.specs.Keeping.{numbers_in};
@@ -229,6 +229,8 @@ fn with_shift(crew: Crew, shift: Shift) -> Crew
     ensures senders { result.senders.items ≡ crew.senders.items ++ shift.sender ∷ [] }
     ensures room { vec_capacity result.senders ≡ vec_capacity crew.senders }
     ensures stopped { IfSome result.stopped (λ w. (crew.stopped ≡ Some w) ⊎ ((shift.end ≡ End.Stopped) × (w ≡ shift.sender.number))) }
+    ensures first { IfSome crew.stopped (λ w. result.stopped ≡ Some w) }
+    ensures noted { crew.stopped ≡ None → shift.end ≡ End.Stopped → result.stopped ≡ Some shift.sender.number }
     ensures haul { result.haul ≡ crew.haul }
     ensures receiver { result.receiver ≡ crew.receiver }
 {
