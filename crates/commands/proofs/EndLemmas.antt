@@ -1,5 +1,5 @@
 -- How gathering ends.
-use Rattle.std.proofs.Common.{◌≡◌, ◌∙◌, ◌++◌, ℕ, zero, suc, false, inr, List, [], ◌∷◌, Option, None, Some, IfSome, Ok, Err, ap, length, refl, subst}
+use Rattle.std.proofs.Common.{◌≡◌, ◌∙◌, ◌++◌, ℕ, zero, suc, Bool, true, false, inr, List, [], ◌∷◌, Option, None, Some, IfSome, Result, Ok, Err, ap, sym, length, refl, subst}
 use Rattle.survey_core.specs.declared.job.Job.{Job}
 use Rattle.haul_core.specs.declared.arrival.Arrival.{Arrival}
 use Rattle.haul_core.specs.declared.arrival.Arrival.TheVariants.{Closing}
@@ -13,13 +13,15 @@ use Rattle.commands.specs.declared.complaint.Complaint.{Complaint}
 use Rattle.commands.specs.declared.complaint.Complaint.TheVariants.{Refused, OutOfMemory, ReadFailed, WriteFailed}
 use Rattle.commands.specs.declared.profile.ProfileNumbers.{ProfileNumbers}
 use Rattle.commands.specs.declared.soup_set.SoupSet.{SoupSet}
+use Rattle.commands.specs.declared.status.Status.{Status}
 use Rattle.commands.specs.declared.status.Status.TheVariants as statuses
-use Rattle.commands.specs.Gather.{Gathering, Gathers, IsGathering, gather_right, status_after, terms_of}
+use Rattle.commands.specs.Gather.{EndsGather, Gathering, Gathers, IsGathering, gather_reads, gather_right, status_after, terms_of}
 use Rattle.commands.specs.GatherSteps.{EndsLines, HasBegun, HasGatheredAll}
 use Rattle.commands.specs.GatheredLines.{Gathered, Start, lines_of}
 use Rattle.commands.specs.SoupSets.{job_named}
 use Rattle.commands.specs.Streams.{Stream, Has}
 use Rattle.commands.specs.TakeSteps.{IsOpened, StopsSet}
+use Rattle.commands.proofs.AnswerLemmas.{status_of-command}
 use Rattle.commands.proofs.TakeLemmas.{job_refused}
 
 -- no line has come
@@ -31,10 +33,15 @@ none_begun terms known errors nothing =
     all_left None = tt
     all_left (Some bytes) = (lines_of bytes, refl)
 
+-- with a job the input is looked at
+pub looks_at : (set : SoupSet) (numbers : ProfileNumbers) (rule_text : List ℕ) (job : Job) → job_named set numbers rule_text ≡ Ok job
+    → gather_reads set numbers rule_text ≡ true
+looks_at set numbers rule_text job named = rw named refl
+
 -- a job that is refused
 pub gathers_job : (set : SoupSet) (workers : ℕ) (numbers : ProfileNumbers) (rule_text bytes : List ℕ) (known : Option (List ℕ)) (complaint : Complaint)
     (output errors : Stream) → job_named set numbers rule_text ≡ Err complaint → Has output [] → Has errors [] → errors.failed ≡ false
-    → Gathers (gather_right set workers numbers rule_text bytes) known (Err complaint) output errors
+    → Gathers (gather_reads set numbers rule_text) (gather_right set workers numbers rule_text bytes) known (Err complaint) output errors
 gathers_job set workers numbers rule_text bytes known (Refused refusal) output errors named nothing silent fine = (rw named refl, nothing, silent, fine)
 gathers_job set workers numbers rule_text bytes known OutOfMemory output errors named nothing silent fine =
     absurd (job_refused set numbers rule_text OutOfMemory named)
@@ -46,24 +53,24 @@ gathers_job set workers numbers rule_text bytes known WriteFailed output errors 
 -- a set that is refused, or memory that runs out over it
 pub gathers_set : (set : SoupSet) (workers : ℕ) (numbers : ProfileNumbers) (rule_text bytes : List ℕ) (known : Option (List ℕ)) (job : Job)
     (complaint : Complaint) (output errors : Stream) → job_named set numbers rule_text ≡ Ok job → StopsSet set complaint → Has output [] → Has errors []
-    → errors.failed ≡ false → Gathers (gather_right set workers numbers rule_text bytes) known (Err complaint) output errors
+    → errors.failed ≡ false → Gathers (gather_reads set numbers rule_text) (gather_right set workers numbers rule_text bytes) known (Err complaint) output errors
 gathers_set set workers numbers rule_text bytes known job (Refused refusal) output errors named stops nothing silent fine = (rw named stops, nothing, silent, fine)
 gathers_set set workers numbers rule_text bytes known job OutOfMemory output errors named stops nothing silent fine =
     let terms = terms_of job [] workers in
-    record { nothing = nothing; terms = terms; begun = none_begun terms known errors silent; fine = fine }
+    record { looked = looks_at set numbers rule_text job named; nothing = nothing; terms = terms; begun = none_begun terms known errors silent; fine = fine }
 gathers_set set workers numbers rule_text bytes known job ReadFailed output errors named stops nothing silent fine = absurd stops
 gathers_set set workers numbers rule_text bytes known job WriteFailed output errors named stops nothing silent fine = absurd stops
 
 -- a complaint over the lines
 pub gathers_lines : (set : SoupSet) (workers : ℕ) (numbers : ProfileNumbers) (rule_text bytes : List ℕ) (known : Option (List ℕ)) (terms : Terms)
-    (complaint : Complaint) (output errors : Stream) → EndsLines terms known errors.before errors.after errors.failed complaint → Has output []
-    → Gathers (gather_right set workers numbers rule_text bytes) known (Err complaint) output errors
-gathers_lines set workers numbers rule_text bytes known terms (Refused refusal) output errors ends nothing = absurd ends
-gathers_lines set workers numbers rule_text bytes known terms OutOfMemory output errors ends nothing =
-    record { nothing = nothing; terms = terms; begun = ends.0; fine = ends.1 }
-gathers_lines set workers numbers rule_text bytes known terms ReadFailed output errors ends nothing =
-    record { nothing = nothing; terms = terms; begun = ends.0; fine = ends.1 }
-gathers_lines set workers numbers rule_text bytes known terms WriteFailed output errors ends nothing = inr (record { nothing = nothing; cut = ends })
+    (complaint : Complaint) (output errors : Stream) → gather_reads set numbers rule_text ≡ true → EndsLines terms known errors.before errors.after errors.failed complaint → Has output []
+    → Gathers (gather_reads set numbers rule_text) (gather_right set workers numbers rule_text bytes) known (Err complaint) output errors
+gathers_lines set workers numbers rule_text bytes known terms (Refused refusal) output errors looked ends nothing = absurd ends
+gathers_lines set workers numbers rule_text bytes known terms OutOfMemory output errors looked ends nothing =
+    record { looked = looked; nothing = nothing; terms = terms; begun = ends.0; fine = ends.1 }
+gathers_lines set workers numbers rule_text bytes known terms ReadFailed output errors looked ends nothing =
+    record { looked = looked; nothing = nothing; terms = terms; begun = ends.0; fine = ends.1 }
+gathers_lines set workers numbers rule_text bytes known terms WriteFailed output errors looked ends nothing = inr (record { nothing = nothing; cut = ends })
 
 -- what was gathered
 pub is_gathering : (job : Job) (set : SoupSet) (workers : ℕ) (opened held closed : Held) (census : Census) (known before after : Option (List ℕ))
@@ -110,3 +117,13 @@ not_refused (suc n) same = cc
 pub not_memory : (missing : ℕ) → status_after (Ok missing) ≡ statuses.OutOfMemory → ⊥
 not_memory zero same = cc
 not_memory (suc n) same = cc
+
+-- gathering has no usage fault
+pub EndsGather-command : {reads : Bool} {right : Result Gathering Complaint → Type 0} {known : Option (List ℕ)} {status : Status} {output errors : Stream}
+    → EndsGather reads right known status output errors → status ≡ statuses.Usage → ⊥
+EndsGather-command ends is = no_usage ends.outcome (sym ends.status_is ∙ is)
+  where
+    no_usage : (outcome : Result ℕ Complaint) → status_after outcome ≡ statuses.Usage → ⊥
+    no_usage (Ok zero) same = cc
+    no_usage (Ok (suc n)) same = cc
+    no_usage (Err complaint) same = status_of-command complaint same

@@ -1,5 +1,5 @@
 -- What `census gather` is asked for, and how it ends.
-use Rattle.std.specs.Prelude.{◌≡◌, ◌⊎◌, ℕ, zero, suc, true, false, List, [], Option, Result, Ok, Err, IsOkAnd, MatchResult, length, ◌++◌, ◌∷◌}
+use Rattle.std.specs.Prelude.{◌≡◌, ◌⊎◌, ℕ, zero, suc, Bool, true, false, List, [], Option, Result, Ok, Err, IsOkAnd, MatchResult, is_ok, length, ◌++◌, ◌∷◌}
 use Rattle.haul_core.specs.declared.arrival.Arrival.{Arrival}
 use Rattle.haul_core.specs.declared.arrival.Arrival.TheVariants.{Closing}
 use Rattle.haul_core.specs.declared.census.Census.{Census}
@@ -17,6 +17,7 @@ use Rattle.commands.specs.declared.profile.ProfileNumbers.{ProfileNumbers}
 use Rattle.commands.specs.declared.soup_set.SoupSet.{SoupSet}
 use Rattle.commands.specs.declared.status.Status.{Status}
 use Rattle.commands.specs.declared.status.Status.TheVariants as statuses
+use Rattle.commands.specs.Answers.{Right}
 use Rattle.commands.specs.Complaints.{line_of, missing_line, status_of}
 use Rattle.commands.specs.GatherSteps.{HasBegun}
 use Rattle.commands.specs.GatheredLines.{Gathered, lines_of}
@@ -57,6 +58,15 @@ gather_right set workers numbers rule_text bytes (Err (Refused refusal)) =
     MatchResult (job_named set numbers rule_text) (λ job. IsRefused set refusal) (λ complaint. complaint ≡ Refused refusal)
 gather_right set workers numbers rule_text bytes (Err _) = ⊥
 
+-- the answers that gathering gives: its haul text, whatever is missing, or a refusal
+abbrev pub gathered_text : (Result Gathering Complaint → Type 0) → Right
+gathered_text right (Ok text) = (gathering : Gathering) × right (Ok gathering) × (gathering.text ≡ text)
+gathered_text right (Err complaint) = right (Err complaint)
+
+-- the input is looked at, if the job is one
+abbrev pub gather_reads : SoupSet → ProfileNumbers → List ℕ → Bool
+gather_reads set numbers rule_text = is_ok (job_named set numbers rule_text)
+
 -- the whole text was written, and what is told of lines
 pub record IsPrinted (right : Result Gathering Complaint → Type 0) (missing : ℕ) (output errors : Stream) : Type 0 where
   pub gathering : Gathering
@@ -67,8 +77,9 @@ pub record IsPrinted (right : Result Gathering Complaint → Type 0) (missing : 
   pub told : Has errors gathering.told
   pub fine : errors.failed ≡ false
 
--- nothing was written to standard output, and the first lines have come to a haul
-pub record IsStopped (known : Option (List ℕ)) (output errors : Stream) : Type 0 where
+-- the input is looked at, nothing was written to standard output, and the first lines have come to a haul
+pub record IsStopped (reads : Bool) (known : Option (List ℕ)) (output errors : Stream) : Type 0 where
+  pub looked : reads ≡ true
   pub nothing : Has output []
   pub terms : Terms
   pub begun : HasBegun terms known errors.before errors.after
@@ -88,12 +99,13 @@ pub record IsUntold (output errors : Stream) : Type 0 where
   pub cut : errors.failed ≡ true
 
 -- What stands on the streams before the last line of standard error: how many soups are missing, or a complaint.
-abbrev pub Gathers : (Result Gathering Complaint → Type 0) → Option (List ℕ) → Result ℕ Complaint → Stream → Stream → Type 0
-Gathers right known (Ok missing) output errors = IsPrinted right missing output errors
-Gathers right known (Err (Refused refusal)) output errors = right (Err (Refused refusal)) × Has output [] × Has errors [] × (errors.failed ≡ false)
-Gathers right known (Err OutOfMemory) output errors = IsStopped known output errors
-Gathers right known (Err ReadFailed) output errors = IsStopped known output errors
-Gathers right known (Err WriteFailed) output errors = IsCut right output errors ⊎ IsUntold output errors
+abbrev pub Gathers : Bool → (Result Gathering Complaint → Type 0) → Option (List ℕ) → Result ℕ Complaint → Stream → Stream → Type 0
+Gathers reads right known (Ok missing) output errors = IsPrinted right missing output errors
+Gathers reads right known (Err (Refused refusal)) output errors =
+    right (Err (Refused refusal)) × Has output [] × Has errors [] × (errors.failed ≡ false)
+Gathers reads right known (Err OutOfMemory) output errors = IsStopped reads known output errors
+Gathers reads right known (Err ReadFailed) output errors = IsStopped reads known output errors
+Gathers reads right known (Err WriteFailed) output errors = IsCut right output errors ⊎ IsUntold output errors
 
 -- the last line of standard error: none if all was taken
 abbrev pub last_line : Result ℕ Complaint → List ℕ
@@ -106,11 +118,14 @@ status_after (Ok zero) = statuses.Done
 status_after (Ok (suc n)) = statuses.Incomplete
 status_after (Err complaint) = status_of complaint
 
--- how gathering ends: `between` is standard error before its last line
-pub record EndsGather (right : Result Gathering Complaint → Type 0) (known : Option (List ℕ)) (status : Status) (output errors : Stream) : Type 0 where
+-- How gathering ends: `between` is standard error before its last line. Only an input that is looked at can be cut off by memory
+-- or a failed read.
+pub record EndsGather (reads : Bool) (right : Result Gathering Complaint → Type 0) (known : Option (List ℕ)) (status : Status) (output errors : Stream)
+    : Type 0 where
   pub outcome : Result ℕ Complaint
   pub between : Stream
   pub from : between.before ≡ errors.before
-  pub reached : Gathers right known outcome output between
+  pub reached : Gathers reads right known outcome output between
+  pub stays : between.failed ≡ true → errors.failed ≡ true
   pub last : HasLine (record { before = between.after; after = errors.after; failed = errors.failed }) (last_line outcome)
   pub status_is : status ≡ status_after outcome

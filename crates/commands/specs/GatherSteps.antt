@@ -55,6 +55,10 @@ pub record HasBegun (terms : Terms) (known before after : Option (List ℕ)) : T
   pub gathered : Gathered terms lines arrivals told
   pub written : Appends before after told
 
+-- the same, whatever haul that is
+abbrev pub Begins : (known before after : Option (List ℕ)) → Type 0
+Begins known before after = (terms : Terms) × HasBegun terms known before after
+
 -- All lines of the input have come to the haul, and standard error has what is told of them.
 pub record HasGatheredAll (known before after : Option (List ℕ)) (held : Held) : Type 0 where
   pub bytes : List ℕ

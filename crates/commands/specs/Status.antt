@@ -1,5 +1,5 @@
 -- The numbers that the process ends with.
-use Rattle.std.specs.Prelude.{ℕ}
+use Rattle.std.specs.Prelude.{ℕ, Bool, true, false}
 use Rattle.commands.specs.declared.status.Status.{Status}
 use Rattle.commands.specs.declared.status.Status.TheVariants.{Done, Usage, Refused, OutOfMemory, Failed, Incomplete}
 
@@ -11,3 +11,9 @@ exit_code Refused = 3
 exit_code OutOfMemory = 4
 exit_code Failed = 5
 exit_code Incomplete = 6
+
+-- a command with this status printed its whole text: it was done, maybe but for soups that are missing
+abbrev pub has_printed : Status → Bool
+has_printed Done = true
+has_printed Incomplete = true
+has_printed status = false

@@ -1,8 +1,10 @@
-ghost use Rattle.std.specs.Prelude.{◌≡◌, ◌≢◌, ◌<◌, Ok, Result, ◌+◌, ◌^◌, ◌++◌, ◌∷◌, [], ℕ, List, Option, Some, IfErr, IfOk, OnOk, false, length};
+ghost use Rattle.std.specs.Prelude.{◌≡◌, ◌≢◌, ◌<◌, Ok, Result, ◌+◌, ◌^◌, ◌++◌, ◌∷◌, [], ℕ, List, Option, Some, IfErr, IfOk, OnOk, false, true, length};
+ghost use Rattle.haul_core.specs.HaulTexts.{haul_text};
 ghost use Rattle.haul_core.specs.Reports.{IsWorker, Reported};
+ghost use Rattle.plane_core.specs.Out.{Writes};
 ghost use Rattle.commands.specs.Answers.{IsInput};
 ghost use Rattle.commands.specs.Complaints.{line_of, status_of};
-ghost use Rattle.commands.specs.Gather.{EndsGather, Gathers, gather_right, last_line, status_after};
+ghost use Rattle.commands.specs.Gather.{EndsGather, Gathers, gather_reads, gather_right, last_line, status_after};
 ghost use Rattle.commands.specs.Profiles.{AreInRange};
 ghost use Rattle.commands.specs.Streams.{stream, HasLine};
 ghost use Rattle.commands.specs.declared.complaint.Complaint.{Complaint};
@@ -19,6 +21,7 @@ use crate::profile::ProfileNumbers;
 use crate::soup_set::SoupSet;
 use crate::status::Status;
 use crate::take::{job, open_haul, put_missing};
+use haul_core::census::Census;
 use haul_core::claim::Claim;
 use haul_core::claim::check::CheckFault;
 use haul_core::claim::line::LineError;
@@ -26,7 +29,7 @@ use haul_core::haul::Haul;
 use haul_core::haul_text::write_haul;
 use haul_core::refusal::Refusal;
 use haul_core::report::Report;
-use plane_core::output::Out;
+use plane_core::output::{Out, WriteError};
 use std::alloc::{AllocError, Global};
 use std::io::{BufRead, BufReader, Read, Write};
 use survey_core::finding::findings_are_determined;
@@ -61,8 +64,10 @@ pub fn do_gather<R: Read, W: Write, E: Write>(
     requires output { output.old.failed ≡ false }
     requires errors { errors.old.failed ≡ false }
     ensures ends { (bytes : List ℕ) × IsInput (R.remaining input.old) bytes
-        × EndsGather (gather_right set.now workers profile rule_text.now bytes) (R.remaining input.old) result
+        × EndsGather (gather_reads set.now profile rule_text.now) (gather_right set.now workers profile rule_text.now bytes)
+        (R.remaining input.old) result
         (stream W.contents output.old output.new) (stream E.contents errors.old errors.new) }
+    ensures unread { gather_reads set.now profile rule_text.now ≡ false → input.new ≡ input.old }
     ensures untouched { result ≡ Status.Refused → (input.new ≡ input.old) × (output.new ≡ output.old) }
     ensures no_memory { result ≡ Status.OutOfMemory → output.new ≡ output.old }
 {
@@ -92,6 +97,7 @@ fn tell_missing<E: Write>(missing: u64, errors: &mut Out<E>) -> Status
 fn tell_complaint<E: Write>(complaint: Complaint, errors: &mut Out<E>) -> Status
     ensures status { result ≡ status_of complaint }
     ensures line { HasLine (stream E.contents errors.old errors.new) (line_of complaint) }
+    ensures stays { errors.old.failed ≡ true → errors.new.failed ≡ true }
 {
     if errors.failed() {
         return complaint.status();
@@ -115,9 +121,11 @@ fn gather<R: Read, W: Write, E: Write>(
     requires output { output.old.failed ≡ false }
     requires errors { errors.old.failed ≡ false }
     ensures gathers { (bytes : List ℕ) × IsInput (R.remaining input.old) bytes
-        × Gathers (gather_right set.now workers profile rule_text.now bytes) (R.remaining input.old) result
+        × Gathers (gather_reads set.now profile rule_text.now) (gather_right set.now workers profile rule_text.now bytes)
+        (R.remaining input.old) result
         (stream W.contents output.old output.new) (stream E.contents errors.old errors.new) }
     ensures fine { OnOk result (errors.new.failed ≡ false) }
+    ensures unread { gather_reads set.now profile rule_text.now ≡ false → input.new ≡ input.old }
     ensures untouched { IfErr result (λ complaint. status_of complaint ≡ Status.Refused
         → (input.new ≡ input.old) × (output.new ≡ output.old)) }
     ensures no_memory { IfErr result (λ complaint. complaint ≡ Complaint.OutOfMemory → output.new ≡ output.old) }
@@ -127,8 +135,17 @@ fn gather<R: Read, W: Write, E: Write>(
     gather_input(alloc, input, &mut haul, errors)?;
     let _ = haul.close();
     let census = haul.census()?;
-    write_haul(&census, output)?;
+    send_haul(&census, output)?;
     Ok(haul.missing_count())
+}
+
+/// Writes the haul text and sends it on, so that a line on what is missing says that the text was printed.
+fn send_haul<W: Write>(census: &Census, output: &mut Out<W>) -> Result<(), WriteError>
+    requires { output.old.failed ≡ false }
+    ensures { Writes W.contents output.old output.new result (haul_text census.now) }
+{
+    write_haul(census, output)?;
+    output.flush()
 }
 
 /// Reads the input through a buffer, and gathers its lines.

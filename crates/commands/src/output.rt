@@ -1,8 +1,9 @@
-ghost use Rattle.std.specs.Prelude.{◌≡◌, ◌≢◌, false, [], decimal};
+ghost use Rattle.std.specs.Prelude.{◌≡◌, ◌≢◌, true, false, [], decimal};
 ghost use Rattle.std.specs.Io.Buffered.{writer_buffer, writer_contents};
 ghost use Rattle.std.specs.Io.KnownBytes.{Keeps};
 ghost use Rattle.plane_core.specs.Out.{Writes};
 ghost use Rattle.commands.specs.Complaints.{line_of};
+ghost use Rattle.commands.specs.Status.{has_printed};
 ghost use Rattle.commands.specs.Streams.{stream, HasLine};
 
 use crate::complaint::Complaint;
@@ -13,9 +14,10 @@ use std::alloc::Global;
 use std::io::{BufWriter, Write};
 
 /// Sends on what a command has left in the buffer, and returns the status that the process ends with: that of the
-/// command, or `Failed` if the command was done and not all of its output could be sent on.
+/// command, or `Failed` if the command printed its text and not all of it could be sent on.
 ///
-/// After a command that wasn't done nothing more is written: then the buffer is not touched. The line of a failure goes to
+/// A text is printed by a command that was done, or was done but for soups that are missing. After any other nothing more is
+/// written: then the buffer is not touched. The line of a failure goes to
 /// `errors`; a failure to write that line is not reported.
 pub fn send_buffered<W: Write + Drop, E: Write>(
     status: Status,
@@ -23,21 +25,30 @@ pub fn send_buffered<W: Write + Drop, E: Write>(
     errors: &mut Out<E>,
 ) -> Status
     ensures done { result ≡ Status.Done → (status ≡ Status.Done) × (writer_buffer buffered.new ≡ []) }
+    ensures incomplete { result ≡ Status.Incomplete → (status ≡ Status.Incomplete) × (writer_buffer buffered.new ≡ []) }
     ensures bytes { Keeps (writer_contents W.contents buffered.old) (writer_contents W.contents buffered.new) }
-    ensures untouched { status ≢ Status.Done → buffered.new ≡ buffered.old }
-    ensures silent { result ≡ Status.Done → errors.new ≡ errors.old }
-    ensures kept { status ≢ Status.Done → (result ≡ status) × (errors.new ≡ errors.old) }
+    ensures untouched { has_printed status ≡ false → buffered.new ≡ buffered.old }
+    ensures silent { result ≡ status → errors.new ≡ errors.old }
+    ensures kept { has_printed status ≡ false → (result ≡ status) × (errors.new ≡ errors.old) }
     ensures failed { result ≢ status → result ≡ Status.Failed }
+    ensures stays { errors.old.failed ≡ true → errors.new.failed ≡ true }
     ensures line { result ≢ status → errors.old.failed ≡ false
         → HasLine (stream E.contents errors.old errors.new) (line_of Complaint.WriteFailed) }
 {
-    if status != Status::Done || buffered.flush().is_ok() {
+    if !has_printed(status) || buffered.flush().is_ok() {
         return status;
     }
     if errors.failed() {
         return Status::Failed;
     }
     Complaint::WriteFailed.tell(errors)
+}
+
+/// Whether a command with this status printed its whole text.
+fn has_printed(status: Status) -> bool
+    ensures { result ≡ has_printed status }
+{
+    matches!(status, Status::Done | Status::Incomplete)
 }
 
 /// Writes a number in decimal. It takes no memory.

@@ -2,6 +2,7 @@ ghost use Rattle.std.specs.Prelude.{◌≡◌, ◌≢◌, false};
 ghost use Rattle.commands.specs.Requests.{DoesRequest, IsWithinLimits, reads_input};
 ghost use Rattle.commands.specs.Streams.{stream};
 
+use crate::gather::do_gather;
 use crate::name::do_name;
 use crate::profile::ProfileNumbers;
 use crate::progress::Progress;
@@ -60,6 +61,14 @@ pub enum Request<'a> {
         profile: ProfileNumbers,
         rule: Word<'a>,
     },
+    /// The haul that report lines of so many workers, 1 to 16, make over a set, under a profile, of which each number is in its
+    /// range, and the rule of a text.
+    Gather {
+        set: SoupSet<'a>,
+        workers: u8,
+        profile: ProfileNumbers,
+        rule: Word<'a>,
+    },
     /// The program's name and version.
     Version,
 }
@@ -67,13 +76,13 @@ pub enum Request<'a> {
 /// Does what a request asks for, and returns how that ended.
 ///
 /// The request must be within its limits, and neither writer may have failed. Nothing of the input is read for a
-/// request that doesn't look at it, nor for one whose rule or profile is refused. How far a haul has come is said on `line`, of
+/// request that doesn't look at it, nor for one whose rule, profile or seed is refused. How far a haul has come is said on `line`, of
 /// which nothing else depends.
 ///
 /// # Errors
 ///
 /// Those of the request's own function: [`do_run`], [`do_name`], [`do_show`], [`do_soup`], [`do_take`],
-/// [`do_work`] or [`do_version`].
+/// [`do_work`], [`do_gather`] or [`do_version`].
 pub fn do_request<T: Threads + Wait + Sync, R: Read, W: Write, E: Write, P: Write, C: Clock>(
     alloc: Global,
     rt: &T,
@@ -127,6 +136,15 @@ pub fn do_request<T: Threads + Wait + Sync, R: Read, W: Write, E: Write, P: Writ
             profile,
             rule,
         } => { do_work(alloc, set, *worker, *profile, rule.as_str(), output, errors) }
+        Request::Gather {
+            set,
+            workers,
+            profile,
+            rule,
+        } => {
+            let rule = rule.as_str();
+            do_gather(alloc, set, *workers, *profile, rule, input, output, errors)
+        }
         Request::Version => do_version(output, errors),
     }
 }

@@ -356,8 +356,13 @@ impl Write for Unflushed {
 
 #[test]
 fn tells_a_failed_flush(rt: HostRuntime) -> Result<(), Fail> {
-    let cases: [(Status, Status, &[u8]); 3] = [
+    let cases: [(Status, Status, &[u8]); 4] = [
         (Status::Done, Status::Failed, b"census: write failed\n"),
+        (
+            Status::Incomplete,
+            Status::Failed,
+            b"census: write failed\n",
+        ),
         (Status::OutOfMemory, Status::OutOfMemory, b""),
         (Status::Failed, Status::Failed, b""),
     ];

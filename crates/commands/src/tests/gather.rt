@@ -1,11 +1,14 @@
-use super::{FailingReader, FailingWriter, LIFE, Left};
+use super::{FailingReader, FailingWriter, LIFE, Left, Unflushed, assert_prints};
 use crate::gather::do_gather;
 use crate::profile::ProfileNumbers;
+use crate::request::Request;
 use crate::soup_set::SoupSet;
 use crate::status::Status;
 use crate::word::Word;
 use plane_core::output::Out;
+use std::io::BufWriter;
 use std::process::Abort;
+use std::test::Fail;
 
 /// Under this profile a soup is settled only if it is a still life at once.
 const SMALL: ProfileNumbers = ProfileNumbers {
@@ -238,4 +241,38 @@ fn ends_if_a_line_is_not_told(rt: HostRuntime) {
         assert_eq!(rt; left.output.as_slice(), TWO_OF_FOUR);
         assert_eq!(rt; left.errors.as_slice(), &TOLD[..writes]);
     }
+}
+
+// A text that can't be sent on isn't followed by how many soups are missing.
+#[test]
+fn tells_a_failed_flush_alone(rt: HostRuntime) -> Result<(), Fail> {
+    let mut input = FIRST;
+    let mut output = Out::new(BufWriter::new(rt.alloc(), Unflushed)?);
+    let mut errors = Out::new(Vec::new(rt.alloc()));
+    let set = set_of("", 0, 4);
+    let status = do_gather(
+        rt.alloc(),
+        &set,
+        2,
+        SMALL,
+        LIFE,
+        &mut input,
+        &mut output,
+        &mut errors,
+    );
+    assert_eq!(rt; status, Status::Failed);
+    let told = b"census: write failed\n".as_slice();
+    assert_eq!(rt; errors.into_inner().as_slice(), told);
+    Ok(())
+}
+
+#[test]
+fn gathers_by_request(rt: HostRuntime) {
+    let request = Request::Gather {
+        set: set_of("", 0, 2),
+        workers: 2,
+        profile: SMALL,
+        rule: Word::new(LIFE),
+    };
+    assert_prints(&rt, &request, BOTH, TWO);
 }

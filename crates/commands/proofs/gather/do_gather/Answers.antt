@@ -1,4 +1,4 @@
-use Rattle.std.proofs.Common.{◌∙◌, Err, Ok, refl, sym}
+use Rattle.std.proofs.Common.{◌≡◌, ◌∙◌, Err, Ok, false, refl, sym}
 use Rattle.commands.specs.Streams.{stream}
 use Rattle.commands.proofs.EndLemmas.{not_memory, not_refused}
 use Rattle.commands.proofs.gather.do_gather.Goals as goal
@@ -14,6 +14,7 @@ returns-in-Ok-clause-ends g c =
         between = stream g.E.Write.contents c.args.errors.now c.gather.new.errors;
         from = refl;
         reached = told.2;
+        stays = λ failed. let fine : c.gather.new.errors.failed ≡ false = c.in-Ok.ensures.fine in cc;
         last = line.line (Ok c.in-Ok.missing) refl;
         status_is = line.status (Ok c.in-Ok.missing) refl;
       },
@@ -35,6 +36,7 @@ returns-in-Err-clause-ends g c =
         between = stream g.E.Write.contents c.args.errors.now c.gather.new.errors;
         from = refl;
         reached = told.2;
+        stays = c.tell_complaint.ensures.stays;
         last = c.tell_complaint.ensures.line;
         status_is = c.tell_complaint.ensures.status;
       },

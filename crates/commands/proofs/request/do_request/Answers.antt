@@ -1,4 +1,5 @@
 use Rattle.commands.proofs.AnswerLemmas.{some_input, Ends-command}
+use Rattle.commands.proofs.EndLemmas.{EndsGather-command}
 use Rattle.commands.proofs.request.do_request.Goals as goal
 
 pub returns-in-Show-clause-ends : goal.returns-in-Show-clause-ends
@@ -43,3 +44,11 @@ returns-in-Work-clause-ends g c =
 
 pub returns-in-Work-clause-command : goal.returns-in-Work-clause-command
 returns-in-Work-clause-command g c = Ends-command c.do_work.ensures.ends
+
+pub returns-in-Gather-clause-ends : goal.returns-in-Gather-clause-ends
+returns-in-Gather-clause-ends g c =
+    let ended = c.do_gather.ensures.ends in
+    rw (c.in-Gather.is, ← c.as_str-rule.ensures) (record { bytes = ended.0; input = ended.1; ends = ended.2 })
+
+pub returns-in-Gather-clause-command : goal.returns-in-Gather-clause-command
+returns-in-Gather-clause-command g c = EndsGather-command c.do_gather.ensures.ends.2
