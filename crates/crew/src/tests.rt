@@ -11,6 +11,7 @@ use survey_core::seed::Seed;
 
 mod belt;
 mod gates;
+mod memory;
 mod tickets;
 
 /// The soups of the empty seed, under a profile that is soon done.

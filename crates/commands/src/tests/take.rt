@@ -6,12 +6,14 @@ use crate::profile::ProfileNumbers;
 use crate::request::Request;
 use crate::soup_set::SoupSet;
 use crate::status::Status;
-use crate::take::do_take;
+use crate::take::{do_take, do_take_with};
 use crate::word::Word;
+use crew::gate::{Gate, Stop};
 use crew::watch::Unwatched;
 use plane_core::output::Out;
 use std::process::Abort;
 use std::sync::Wait;
+use std::sync::atomic::{AtomicU64, Ordering};
 use std::thread::Threads;
 
 /// Under this profile a soup is settled only if it is a still life at once.
@@ -67,6 +69,21 @@ const THREE: &[u8] = b"@VERSION 2\n\
     @PROFILE 1 1 1 0\n\
     @RANGE 0 1\n\
     @RANGE 2 2\n\
+    @NUM_SOUPS 3\n\
+    @NUM_UNSETTLED 3\n\
+    @NUM_FOR_GOOD 0\n\
+    @NUM_OBJECTS 0\n\
+    \n\
+    @CENSUS TABLE\n\
+    \n\
+    @SAMPLE_SOUPIDS\n";
+
+const THREE_OF_EIGHT: &[u8] = b"@VERSION 2\n\
+    @ROOT seed=\n\
+    @RULE b3s23\n\
+    @SYMMETRY C1\n\
+    @PROFILE 1 1 1 0\n\
+    @RANGE 0 8\n\
     @NUM_SOUPS 3\n\
     @NUM_UNSETTLED 3\n\
     @NUM_FOR_GOOD 0\n\
@@ -212,4 +229,57 @@ fn takes_soups_under_a_line_of_progress(rt: HostRuntime) {
     let told =
         b"\r0 of 4 soups\r1 of 4 soups, 5 a second\r3 of 4 soups, 7 a second\r4 of 4 soups, 6 a second\r                        \r";
     assert_eq!(rt; screen.as_slice(), told.as_slice());
+}
+
+/// A gate that stops each of three workers at its second call.
+#[derive(Drop)]
+struct OneEach {
+    calls: [AtomicU64; 4],
+}
+
+impl Gate for OneEach {
+    ghost may_stop = { λ _ worker number. Unit {0} };
+
+    fn before(&self, worker: u8, _number: u64) -> Result<(), Stop> {
+        let Some(calls) = self.calls.get(usize::from(worker)) else {
+            return Err(Stop);
+        };
+        if calls.fetch_add(1, Ordering::SeqCst) == 0 {
+            Ok(())
+        } else {
+            Err(Stop)
+        }
+    }
+}
+
+#[test]
+fn prints_what_was_taken_before_a_stop(rt: HostRuntime) {
+    let mut output = Out::new(Vec::new(rt.alloc()));
+    let mut errors = Out::new(Vec::new(rt.alloc()));
+    let gate = OneEach {
+        calls: [
+            AtomicU64::new(0),
+            AtomicU64::new(0),
+            AtomicU64::new(0),
+            AtomicU64::new(0),
+        ],
+    };
+    let found = do_take_with(
+        rt.alloc(),
+        &rt,
+        &set_of(0, 8, ""),
+        3,
+        SMALL,
+        LIFE,
+        &gate,
+        &mut output,
+        &mut errors,
+        &mut Unwatched,
+    );
+    assert_eq!(rt; found, Status::Incomplete);
+    assert_eq!(rt; output.into_inner().as_slice(), THREE_OF_EIGHT);
+    assert_eq!(rt;
+        errors.into_inner().as_slice(),
+        b"census: incomplete, 5 missing\n".as_slice()
+    );
 }
