@@ -410,6 +410,10 @@ asks-work_help : (program : Text) → asked_by (program ∷ codes "work" ∷ cod
 unfolding clap_on_literals
 asks-work_help program = refl
 
+asks-gather_help : (program : Text) → asked_by (program ∷ codes "gather" ∷ codes "--help" ∷ []) ≡ None
+unfolding clap_on_literals
+asks-gather_help program = refl
+
 -- a value isn't `--version`
 no_version : (program word : Text) (words : List Text) → IsValue word → asks_version (program ∷ word ∷ words) ≡ false
 no_version program [] [] h = refl
@@ -428,10 +432,10 @@ or_else_first one two kind kinds is = ap (λ k. or_else k two) is
 
 -- a word in a command's place that is none
 asks-unknown : (program word : Text) (words : List Text) → IsValue word → word ≢ codes "run" → word ≢ codes "name" → word ≢ codes "show"
-    → word ≢ codes "soup" → word ≢ codes "take" → word ≢ codes "work" → word ≢ codes "help"
+    → word ≢ codes "soup" → word ≢ codes "take" → word ≢ codes "work" → word ≢ codes "gather" → word ≢ codes "help"
     → asked_by (program ∷ word ∷ words) ≡ None
 unfolding clap_on_literals
-asks-unknown program word words is_value no_run no_name no_show no_soup no_take no_work no_help =
+asks-unknown program word words is_value no_run no_name no_show no_soup no_take no_work no_gather no_help =
     let top = census_built.top in
     let names = names_of census_built in
     let plain = plain_word-is word is_value in
@@ -441,8 +445,9 @@ asks-unknown program word words is_value no_run no_name no_show no_soup no_take 
     let is_soup : bytes_eq (codes "soup") word ≡ false = not_named (codes "soup") word no_soup in
     let is_take : bytes_eq (codes "take") word ≡ false = not_named (codes "take") word no_take in
     let is_work : bytes_eq (codes "work") word ≡ false = not_named (codes "work") word no_work in
+    let is_gather : bytes_eq (codes "gather") word ≡ false = not_named (codes "gather") word no_gather in
     let is_help : bytes_eq (codes "help") word ≡ false = not_named (codes "help") word no_help in
-    let unnamed : subcommand_met names idle word ≡ None = rw (is_run, is_name, is_show, is_soup, is_take, is_work, is_help) refl in
+    let unnamed : subcommand_met names idle word ≡ None = rw (is_run, is_name, is_show, is_soup, is_take, is_work, is_gather, is_help) refl in
     let met : subcommand_or_other top.rules (subcommand_met names idle word) idle 1 word nothing_held ≡ (nothing_held, value) =
     ap (λ o. subcommand_or_other top.rules o idle 1 word nothing_held) unnamed ∙ plain_word_met top.rules idle 1 word nothing_held plain in
     let no_flag = ap (λ o. other_fault top o word nothing_held) unnamed ∙ no_flag_fault top word nothing_held plain in
@@ -498,4 +503,5 @@ asks_for_nothing = record {
   soup_help = asks-soup_help;
   take_help = asks-take_help;
   work_help = asks-work_help;
+  gather_help = asks-gather_help;
 }

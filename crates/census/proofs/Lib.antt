@@ -1,4 +1,5 @@
 pub mod CallLemmas
+pub mod GatherCalls
 pub mod NameCalls
 pub mod NumberLemmas
 pub mod ProgramLemmas

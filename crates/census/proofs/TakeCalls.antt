@@ -34,34 +34,34 @@ use Rattle.census.proofs.UseLemmas.{level_refuses, nothing_holds, pending, plain
 abbrev built : Shape
 built = built_leaf (inherited (with_leaf_noted (marked_built census_app.top)) take_shape)
 
-abbrev seed_built : Rule
+abbrev pub seed_built : Rule
 seed_built = filled seed_argument
 
-abbrev first_built : Rule
+abbrev pub first_built : Rule
 first_built = filled first_argument
 
-abbrev count_built : Rule
+abbrev pub count_built : Rule
 count_built = filled count_argument
 
-abbrev also_built : Rule
+abbrev pub also_built : Rule
 also_built = filled also_argument
 
-abbrev workers_built : Rule
+abbrev pub workers_built : Rule
 workers_built = filled workers_argument
 
-abbrev period_built : Rule
+abbrev pub period_built : Rule
 period_built = filled period_argument
 
-abbrev horizon_built : Rule
+abbrev pub horizon_built : Rule
 horizon_built = filled horizon_argument
 
-abbrev stride_built : Rule
+abbrev pub stride_built : Rule
 stride_built = filled stride_argument
 
-abbrev limit_built : Rule
+abbrev pub limit_built : Rule
 limit_built = filled limit_argument
 
-abbrev rule_built : Rule
+abbrev pub rule_built : Rule
 rule_built = filled rule_argument
 
 abbrev progress_built : Rule
@@ -179,7 +179,7 @@ text_use a text rows one fresh accepted = record { argument = one; fresh = fresh
 abbrev counted : Text → Held
 counted c = pending built nothing_held count_built c
 
-abbrev count_row : Text → Row
+abbrev pub count_row : Text → Row
 count_row c = row_with count_built c
 
 reads_count : (c : Text) → IsNumberUpTo 16777216 c → Reads built nothing_held 1 (codes "--count" ∷ c ∷ []) (counted c) 1 (count_row c ∷ [])
@@ -229,7 +229,7 @@ taken_with progress workers seed first count also profile rule =
 abbrev taken : Text → Option ℕ → Option ℕ → Text → Option ProfileNumbers → Text → Option Request
 taken = taken_with false (Some 1)
 
-abbrev standard : Option ProfileNumbers
+abbrev pub standard : Option ProfileNumbers
 standard = all_four (Some 64) (Some 512) (Some 101) (Some 30300)
 
 asks-alone : (program c : Text) → IsNumberUpTo 16777216 c
@@ -270,10 +270,10 @@ asks-first program c n h is_n =
     asks_option program c n (codes "--first") first_built h (first_use n (count_row c ∷ []) refl is_n) first_named (numeral_plain n is_n.0) refl
     ∙ ap₂ (λ f o. taken [] f o [] standard (codes "b3s23")) (large_read 1099511627776 n is_n.0 is_n.1) (number_read 16777216 c h.0 h.1)
 
-abbrev at_least : ℕ → Option ℕ → Option ℕ
+abbrev pub at_least : ℕ → Option ℕ → Option ℕ
 at_least least o = option_and_then (λ n. cond {A = Option ℕ} (nat_le least n) (Some n) None) o
 
-from_read : (least most : ℕ) (n : Text) → IsNumberFromTo least most n → at_least least (number_of most (without_minus n)) ≡ Some (digits_value 10 n)
+pub from_read : (least most : ℕ) (n : Text) → IsNumberFromTo least most n → at_least least (number_of most (without_minus n)) ≡ Some (digits_value 10 n)
 from_read least most n h =
     ap (at_least least) (number_read most n h.numeral h.high)
     ∙ ap (λ b. cond {A = Option ℕ} b (Some (digits_value 10 n)) None) (le-leb least (digits_value 10 n) h.low)
@@ -348,7 +348,7 @@ asks-profile program c p h k t is_c is_p is_h is_k is_t =
 
 -- ---- calls that are refused
 
-abbrev refused_number : Bool → Kinds
+abbrev pub refused_number : Bool → Kinds
 refused_number accepted = or_else (cond {A = Kinds} accepted [] (ValueValidation ∷ [])) []
 
 asks-too_many : (program c : Text) → IsNumeral 10 c → 16777216 < digits_value 10 c → asked_by (program ∷ codes "take" ∷ codes "--count" ∷ c ∷ []) ≡ None

@@ -14,10 +14,10 @@ use Rattle.clap.proofs.OnLiterals.{clap_on_literals}
 use Rattle.clap.proofs.WalkLemmas.{both, one_text-rows}
 use Rattle.commands.specs.declared.profile.ProfileNumbers.{ProfileNumbers}
 use Rattle.commands.specs.declared.request.Request.{Request}
-use Rattle.commands.specs.declared.request.Request.TheVariants.{Run, Name, Show, Soup, Take, Work}
+use Rattle.commands.specs.declared.request.Request.TheVariants.{Run, Name, Show, Soup, Take, Work, Gather}
 use Rattle.commands.specs.declared.soup_set.SoupSet.{SoupSet}
 use Rattle.census.specs.Application.{census_app}
-use Rattle.census.specs.Words.{asked_by, asks_version, command_of, is_given, name_in, profile_in, request_in, number_in, number_of, run_in, set_in, set_of_four}
+use Rattle.census.specs.Words.{asked_by, asks_version, command_of, gather_in, is_given, name_in, profile_in, request_in, number_in, number_of, run_in, set_in, set_of_four}
 use Rattle.census.specs.Words.{number_from, show_in, soup_in, take_in, work_in}
 
 digits_pass : (ds : List ℕ) → AllDigits 10 ds → list_all (λ d. nat_lt (digit_value d) 10) ds ≡ true
@@ -104,6 +104,12 @@ pub work_in-is : (rows : List Row) (set : Option SoupSet) (worker : Option ℕ) 
     → worker ≡ number_from 1 16 (codes "worker") rows → profile ≡ profile_in rows → rule ≡ first_of (codes "rule") rows
     → work_in rows ≡ option_and_then (λ soups. option_and_then (λ w. option_and_then (λ numbers. option_map (Work soups w numbers) rule) profile) worker) set
 work_in-is rows set worker profile rule is_set is_worker is_profile is_rule = rw (← is_set, ← is_worker, ← is_profile, ← is_rule) refl
+
+-- what `gather` is asked for, from its four values
+pub gather_in-is : (rows : List Row) (set : Option SoupSet) (workers : Option ℕ) (profile : Option ProfileNumbers) (rule : Option Text) → set ≡ set_in rows
+    → workers ≡ number_from 1 16 (codes "workers") rows → profile ≡ profile_in rows → rule ≡ first_of (codes "rule") rows
+    → gather_in rows ≡ option_and_then (λ soups. option_and_then (λ w. option_and_then (λ numbers. option_map (Gather soups w numbers) rule) profile) workers) set
+gather_in-is rows set workers profile rule is_set is_workers is_profile is_rule = rw (← is_set, ← is_workers, ← is_profile, ← is_rule) refl
 
 -- what `soup` is asked for, from its two values
 pub soup_in-is : (rows : List Row) (n : Option ℕ) (seed : Option Text) → n ≡ number_in 1099511627775 (codes "N") rows → seed ≡ first_of (codes "seed") rows

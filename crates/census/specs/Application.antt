@@ -135,11 +135,19 @@ abbrev pub with_count : App → App
 with_count app = with_rule (with_rule app count_argument) also_argument
 
 abbrev pub with_workers : App → App
-with_workers app = with_rule (with_rule (with_rule app rule_argument) workers_argument) progress_argument
+with_workers app = with_rule (with_rule app rule_argument) workers_argument
+
+-- the same with that on the line of progress
+abbrev pub with_crew : App → App
+with_crew app = with_rule (with_workers app) progress_argument
 
 -- `take`
 abbrev pub take_shape : Shape
-take_shape = (with_workers (with_looks (with_rest (with_count (with_first (new_app (codes "take"))))))).top
+take_shape = (with_crew (with_looks (with_rest (with_count (with_first (new_app (codes "take"))))))).top
+
+-- `gather`
+abbrev pub gather_shape : Shape
+gather_shape = (with_workers (with_looks (with_rest (with_count (with_first (new_app (codes "gather"))))))).top
 
 -- the option --worker: a number from 1 to 16, which must be there
 abbrev pub worker_argument : Rule
@@ -170,6 +178,10 @@ pattern_app = with_subcommand (with_subcommand (record { top = census_shape; sub
 abbrev pub printing_app : App
 printing_app = with_subcommand (with_subcommand pattern_app show_shape) soup_shape
 
+-- the same with those that run soups
+abbrev pub running_app : App
+running_app = with_subcommand (with_subcommand printing_app take_shape) work_shape
+
 -- the program
 abbrev pub census_app : App
-census_app = with_subcommand (with_subcommand printing_app take_shape) work_shape
+census_app = with_subcommand running_app gather_shape

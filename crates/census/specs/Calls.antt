@@ -147,7 +147,7 @@ AsksForVersion = (program : Text) → asked_by (program ∷ codes "--version" �
 pub record AsksForNothing : Type 0 where
   pub no_command : (program : Text) → asked_by (program ∷ []) ≡ None
   pub unknown : (program word : Text) (words : List Text) → IsValue word → word ≢ codes "run" → word ≢ codes "name" → word ≢ codes "show"
-      → word ≢ codes "soup" → word ≢ codes "take" → word ≢ codes "work" → word ≢ codes "help"
+      → word ≢ codes "soup" → word ≢ codes "take" → word ≢ codes "work" → word ≢ codes "gather" → word ≢ codes "help"
       → asked_by (program ∷ word ∷ words) ≡ None
   pub help : (program : Text) → asked_by (program ∷ codes "--help" ∷ []) ≡ None
   pub run_help : (program : Text) → asked_by (program ∷ codes "run" ∷ codes "--help" ∷ []) ≡ None
@@ -156,3 +156,4 @@ pub record AsksForNothing : Type 0 where
   pub soup_help : (program : Text) → asked_by (program ∷ codes "soup" ∷ codes "--help" ∷ []) ≡ None
   pub take_help : (program : Text) → asked_by (program ∷ codes "take" ∷ codes "--help" ∷ []) ≡ None
   pub work_help : (program : Text) → asked_by (program ∷ codes "work" ∷ codes "--help" ∷ []) ≡ None
+  pub gather_help : (program : Text) → asked_by (program ∷ codes "gather" ∷ codes "--help" ∷ []) ≡ None

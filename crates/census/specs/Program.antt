@@ -7,10 +7,12 @@ use Rattle.commands.specs.declared.complaint.Complaint.TheVariants.{Refused, Out
 use Rattle.commands.specs.declared.request.Request.{Request}
 use Rattle.commands.specs.Answers.{Answer, IsInput, NeedsMemory, Right, text_of}
 use Rattle.commands.specs.Complaints.{line_of, status_of}
+use Rattle.commands.specs.Gather.{Gathering, last_line}
 use Rattle.commands.specs.Requests.{is_whole, reads_input, right_for}
 use Rattle.commands.specs.Status.{exit_code}
 use Rattle.commands.specs.Streams.{Stream, HasLine}
 use Rattle.clap.specs.Words.{Text}
+use Rattle.census.specs.LastLines.{Gives, HasTextAndLine, Says, tells_lines}
 use Rattle.census.specs.Words.{asked_by}
 
 -- the stream of a writer that was handed over, and is given back with whether a write failed
@@ -26,15 +28,18 @@ abbrev pub left_by : {V : Type 0} → (V → Option (List ℕ)) → V → Option
 left_by contents old None = contents old
 left_by contents old (Some new) = contents new
 
--- the words ask for something; on this input a text is right for it, and the whole text was added to what the writer held
-pub record IsDone (words : List Text) (known before after : Option (List ℕ)) : Type 0 where
+-- The words ask for something; on this input a text is right for it, and the whole text was added to what the writer held. So many
+-- soups are missing, which is none but for `gather`. Standard error has what `gather` tells of lines, and of what is missing.
+pub record IsDone (words : List Text) (known before after : Option (List ℕ)) (errors : Stream) (missing : ℕ) : Type 0 where
   pub request : Request
   pub asked : asked_by words ≡ Some request
   pub bytes : List ℕ
   pub input : IsInput known bytes
-  pub text : List ℕ
-  pub answer : right_for request bytes (Ok text)
-  pub written : Appends before after text
+  pub gathering : Gathering
+  pub gives : Gives request bytes gathering
+  pub missing_is : gathering.missing ≡ missing
+  pub written : Appends before after gathering.text
+  pub told : HasTextAndLine errors gathering.told (last_line (Ok missing))
 
 -- the bytes now are a front of the bytes before and the text
 abbrev pub IsFront : Option (List ℕ) → Option (List ℕ) → List ℕ → Type 0
@@ -52,24 +57,32 @@ LeavesFrontOf false right before after =
 
 -- A complaint may end a request: a refusal if that is right for it, memory that runs out, or a stream that fails. The writer
 -- holds nothing of it, or a front of the right text where memory ran out or a write failed. Memory hides a refusal only if
--- the input is looked at or memory is needed for it, and only a text is written.
+-- the input is looked at or memory is needed for it, and only a text is written. The write that failed may be one of what is told
+-- of lines.
 abbrev pub MayEnd : Request → List ℕ → Option (List ℕ) → Option (List ℕ) → Complaint → Type 0
 MayEnd request bytes before after (Refused refusal) = right_for request bytes (Err (Refused refusal)) × IsFront before after []
 MayEnd request bytes before after OutOfMemory =
     (reads_input request ≡ false → (complaint : Complaint) → right_for request bytes (Err complaint) → NeedsMemory complaint)
     × ((answer : Answer) → right_for request bytes answer → IsFront before after (text_of answer))
 MayEnd request bytes before after ReadFailed = (reads_input request ≡ true) × IsFront before after []
-MayEnd request bytes before after WriteFailed = LeavesFrontOf (is_whole request) (right_for request bytes) before after
+MayEnd request bytes before after WriteFailed =
+    LeavesFrontOf (is_whole request) (right_for request bytes) before after ⊎ ((tells_lines request ≡ true) × IsFront before after [])
 
--- a request was ended by a complaint on an input
-pub record IsEndedBy (complaint : Complaint) (known before after : Option (List ℕ)) (request : Request) : Type 0 where
+-- a request was ended by a complaint on an input, with its line
+pub record IsEndedBy (complaint : Complaint) (known before after : Option (List ℕ)) (errors : Stream) (request : Request) : Type 0 where
   pub bytes : List ℕ
   pub input : IsInput known bytes
   pub may : MayEnd request bytes before after complaint
+  pub says : Says request bytes known complaint errors
+
+-- there was no memory for the words
+pub record LacksWords (complaint : Complaint) (before after : Option (List ℕ)) (errors : Stream) : Type 0 where
+  pub memory : complaint ≡ OutOfMemory
+  pub nothing : IsFront before after []
+  pub line : HasLine errors (line_of complaint)
 
 -- the code and the line are those of a complaint: of memory for the words, or of what they ask for
 pub record Complains (words : List Text) (known : Option (List ℕ)) (number : ℕ) (before after : Option (List ℕ)) (errors : Stream) : Type 0 where
   pub complaint : Complaint
   pub code : number ≡ exit_code (status_of complaint)
-  pub line : HasLine errors (line_of complaint)
-  pub why : ((complaint ≡ OutOfMemory) × IsFront before after []) ⊎ IsSomeAnd (asked_by words) (IsEndedBy complaint known before after)
+  pub why : LacksWords complaint before after errors ⊎ IsSomeAnd (asked_by words) (IsEndedBy complaint known before after errors)

@@ -9,7 +9,7 @@ use Rattle.clap.specs.ValueTests.{is_numeral}
 use Rattle.commands.specs.declared.complaint.Complaint.TheVariants as complaint
 use Rattle.commands.specs.declared.profile.ProfileNumbers.{ProfileNumbers}
 use Rattle.commands.specs.declared.request.Request.{Request}
-use Rattle.commands.specs.declared.request.Request.TheVariants.{Run, Name, Show, Soup, Take, Work, Version}
+use Rattle.commands.specs.declared.request.Request.TheVariants.{Run, Name, Show, Soup, Take, Work, Gather, Version}
 use Rattle.commands.specs.declared.soup_set.SoupSet.{SoupSet}
 use Rattle.commands.specs.declared.status.Status.{Status}
 use Rattle.commands.specs.declared.status.Status.TheVariants.{OutOfMemory}
@@ -84,6 +84,11 @@ abbrev pub work_in : List Row → Option Request
 work_in rows = option_and_then (λ set. option_and_then (λ worker. option_and_then (λ profile. option_map (Work set worker profile)
     (first_of (codes "rule") rows)) (profile_in rows)) (number_from 1 16 (codes "worker") rows)) (set_in rows)
 
+-- `gather`, with what was found for its options
+abbrev pub gather_in : List Row → Option Request
+gather_in rows = option_and_then (λ set. option_and_then (λ workers. option_and_then (λ profile. option_map (Gather set workers profile)
+    (first_of (codes "rule") rows)) (profile_in rows)) (number_from 1 16 (codes "workers") rows)) (set_in rows)
+
 -- the command of this name, with its values
 abbrev pub request_in : Text × List Row → Option Request
 request_in found =
@@ -93,6 +98,7 @@ request_in found =
     else if bytes_eq found.0 (codes "name") then name_in found.1
     else if bytes_eq found.0 (codes "take") then take_in found.1
     else if bytes_eq found.0 (codes "work") then work_in found.1
+    else if bytes_eq found.0 (codes "gather") then gather_in found.1
     else None
 
 -- a request, if nothing is wrong with the words

@@ -2,8 +2,8 @@ ghost use Rattle.std.specs.Prelude.{◌≡◌, false, IfOk};
 ghost use Rattle.clap.specs.Words.{app_of, rule_of, shape_of};
 ghost use Rattle.clap.specs.declared.builder.command.Command.TheViews.{out-Command as fields_of};
 ghost use Rattle.census.specs.Application.{census_app, pattern_app, printing_app, code_argument, generations_argument, number_argument, rule_argument, run_shape, seed_argument, show_shape, soup_shape, name_shape, period_argument, horizon_argument, stride_argument, limit_argument, with_looks, with_rest};
-ghost use Rattle.census.specs.Application.{also_argument, count_argument, first_argument, progress_argument, take_shape, with_count, with_first, with_workers};
-ghost use Rattle.census.specs.Application.{with_worker, work_shape, worker_argument, workers_argument};
+ghost use Rattle.census.specs.Application.{also_argument, count_argument, first_argument, progress_argument, take_shape, with_count, with_crew, with_first, with_workers};
+ghost use Rattle.census.specs.Application.{gather_shape, running_app, with_worker, work_shape, worker_argument, workers_argument};
 
 use clap::builder::ValueParser;
 use clap::{Arg, ArgAction, Command, value_parser};
@@ -12,6 +12,15 @@ use std::alloc::{AllocError, Global};
 /// The rule that is meant if none is given: Conway's Game of Life.
 const LIFE: &str = "b3s23";
 
+/// What `--workers` means where workers run soups.
+const CREW_HELP: &str =
+    "How many workers run soups at a time, from 1 to 16, each in a thread of its own. For one on each processor say \
+     `--workers $(nproc)`";
+
+/// What `--workers` means where workers have reported.
+const REPORTERS_HELP: &str =
+    "The greatest number of a worker whose reports are taken, from 1 to 16";
+
 /// The program as `clap` reads its words.
 ///
 /// # Errors
@@ -19,6 +28,13 @@ const LIFE: &str = "b3s23";
 /// `AllocError` if memory runs out.
 pub fn census_command<'a>(alloc: Global) -> Result<Command<'a>, AllocError>
     ensures { IfOk result (λ command. app_of command ≡ census_app) }
+{
+    running_commands(alloc)?.subcommand(gather_command(alloc)?)
+}
+
+/// The program with all commands but `gather`.
+fn running_commands<'a>(alloc: Global) -> Result<Command<'a>, AllocError>
+    ensures { IfOk result (λ command. app_of command ≡ running_app) }
 {
     printing_commands(alloc)?
         .subcommand(take_command(alloc)?)?
@@ -148,7 +164,7 @@ fn take_command<'a>(alloc: Global) -> Result<Command<'a>, AllocError>
         )
         .after_help("Example: census take --seed abc --count 100");
     let command = with_count(alloc, with_first(alloc, command)?)?;
-    with_workers(alloc, with_looks(alloc, with_rest(alloc, command)?)?)
+    with_crew(alloc, with_looks(alloc, with_rest(alloc, command)?)?)
 }
 
 fn work_command<'a>(alloc: Global) -> Result<Command<'a>, AllocError>
@@ -165,6 +181,30 @@ fn work_command<'a>(alloc: Global) -> Result<Command<'a>, AllocError>
         .after_help("Example: census work --worker 1 --seed abc --count 100 > one.lines");
     let command = with_count(alloc, with_first(alloc, command)?)?;
     with_worker(alloc, with_looks(alloc, with_rest(alloc, command)?)?)
+}
+
+fn gather_command<'a>(alloc: Global) -> Result<Command<'a>, AllocError>
+    ensures shape { IfOk result (λ command. shape_of command ≡ gather_shape) }
+    ensures local { IfOk result (λ command. (fields_of command).has_globals ≡ false) }
+{
+    let command = Command::new(alloc, "gather")
+        .about("Reads report lines, checks each, and counts the objects of their soups")
+        .long_about(
+            "Reads report lines from standard input, as `census work` prints them, checks each by running its soup, and prints \
+             the haul, as `census take` does, over the soups that were reported.\n\n\
+             A line that is refused is told on standard error by its number, and the next one is read. If soups are missing, a \
+             last line says how many, and the status is 6. The soups are said as for `take`, and when a soup has settled as for \
+             `name`.",
+        )
+        .after_help(
+            "Example: cat one.lines two.lines | census gather --workers 2 --seed abc --count 200",
+        );
+    let command = with_count(alloc, with_first(alloc, command)?)?;
+    with_workers(
+        alloc,
+        with_looks(alloc, with_rest(alloc, command)?)?,
+        REPORTERS_HELP,
+    )
 }
 
 /// The command with the options on the seed and the first number.
@@ -187,15 +227,26 @@ fn with_count<'a>(alloc: Global, command: Command<'a>) -> Result<Command<'a>, Al
         .arg(also_argument(alloc))
 }
 
-/// The command with the options on the rule and the workers, and that on the line of progress.
-fn with_workers<'a>(alloc: Global, command: Command<'a>) -> Result<Command<'a>, AllocError>
+/// The command with the options on the rule and the workers.
+fn with_workers<'a>(
+    alloc: Global,
+    command: Command<'a>,
+    help: &'a str,
+) -> Result<Command<'a>, AllocError>
     ensures app { IfOk result (λ new. app_of new ≡ with_workers (app_of command.entry)) }
     ensures local { (fields_of command.entry).has_globals ≡ false → IfOk result (λ new. (fields_of new).has_globals ≡ false) }
 {
     command
         .arg(rule_argument(alloc))?
-        .arg(workers_argument(alloc))?
-        .arg(progress_argument(alloc))
+        .arg(workers_argument(alloc, help))
+}
+
+/// The command with the options on the rule and the workers of a crew, and that on the line of progress.
+fn with_crew<'a>(alloc: Global, command: Command<'a>) -> Result<Command<'a>, AllocError>
+    ensures app { IfOk result (λ new. app_of new ≡ with_crew (app_of command.entry)) }
+    ensures local { (fields_of command.entry).has_globals ≡ false → IfOk result (λ new. (fields_of new).has_globals ≡ false) }
+{
+    with_workers(alloc, command, CREW_HELP)?.arg(progress_argument(alloc))
 }
 
 /// The command with the options on the rule and on which worker it is.
@@ -345,7 +396,7 @@ fn also_argument<'a>(alloc: Global) -> Arg<'a>
         .help("Further ranges of numbers, as 100+20,500+1: the numbers 100 to 119, and 500")
 }
 
-fn workers_argument<'a>(alloc: Global) -> Arg<'a>
+fn workers_argument<'a>(alloc: Global, help: &'a str) -> Arg<'a>
     ensures rule { rule_of result ≡ workers_argument }
     ensures local { result.global ≡ false }
 {
@@ -354,10 +405,7 @@ fn workers_argument<'a>(alloc: Global) -> Arg<'a>
         .value_name("WORKERS")
         .value_parser(value_parser!(u32).range(1..=16))
         .default_value("1")
-        .help(
-            "How many workers run soups at a time, from 1 to 16, each in a thread of its own. For one on each processor say \
-             `--workers $(nproc)`",
-        )
+        .help(help)
 }
 
 fn progress_argument<'a>(alloc: Global) -> Arg<'a>

@@ -1,10 +1,11 @@
-ghost use Rattle.std.specs.Prelude.{◌≡◌, ◌≢◌, [], IsErr, None, Some, IfOk, IfErr, IfNone, IfSome, IsOkAnd, IsSomeAnd, true, false, map, string_bytes};
+ghost use Rattle.std.specs.Prelude.{◌≡◌, ◌≢◌, ℕ, suc, [], IsErr, None, Some, IfOk, IfErr, IfNone, IfSome, IsOkAnd, IsSomeAnd, true, false, map, string_bytes};
 ghost use Rattle.std.specs.Io.Buffered.{writer_buffer, writer_contents, writer_inner};
 ghost use Rattle.std.specs.IoError.{error_kind};
 ghost use Rattle.commands.specs.Complaints.{line_of};
 ghost use Rattle.commands.specs.Requests.{reads_input};
 ghost use Rattle.commands.specs.Status.{exit_code};
 ghost use Rattle.commands.specs.Streams.{Has, HasLine, stream};
+ghost use Rattle.census.specs.LastLines.{tells_lines};
 ghost use Rattle.census.specs.Program.{Complains, IsDone, left_by, not_text_line, returned};
 ghost use Rattle.census.specs.Words.{asked_by};
 
@@ -34,8 +35,9 @@ pub struct Ended<W: Write + Drop, E: Write + Drop> {
 /// What the program does, from its words to the number that the process ends with.
 ///
 /// The words are as `std::env::args` gives them: the first is the program's name, and words that are not UTF-8 are an
-/// error. Output goes through a buffer. With code 0, the whole text of what was asked for is with the writer below it. How far a
-/// haul has come is said on `line`, which has a writer of its own, and nothing else depends on it.
+/// error. Output goes through a buffer. With code 0, and with code 6 if soups are missing, the whole text of what was asked for is
+/// with the writer below it. How far a haul has come is said on `line`, which has a writer of its own, and nothing else depends on
+/// it.
 pub fn run_program<
     T: Threads + Wait + Sync,
     R: Read,
@@ -52,17 +54,24 @@ pub fn run_program<
     errors: E,
     line: &mut Progress<P, C>,
 ) -> Ended<W, E>
-    // Code 0: what the words ask for was done, and its whole text is with the writer.
+    // Code 0: what the words ask for was done, and its whole text is with the writer. Only `gather` writes to standard error.
     ensures done { result.code ≡ 0 → IsOkAnd words (λ list. IsSomeAnd result.output (λ writer.
-        IsDone (map string_bytes list.items) (R.remaining input.old) (W.contents output) (W.contents writer))) }
-    ensures silent { result.code ≡ 0 → Has (returned E.contents errors result.errors) [] }
+        IsDone (map string_bytes list.items) (R.remaining input.old) (W.contents output) (W.contents writer)
+        (returned E.contents errors result.errors) 0)) }
+    ensures silent { result.code ≡ 0 → IfOk words (λ list. IfSome (asked_by (map string_bytes list.items)) (λ request.
+        tells_lines request ≡ false → Has (returned E.contents errors result.errors) [])) }
+
+    // Code 6: what the words ask for was done, but for soups that are missing.
+    ensures incomplete { result.code ≡ 6 → IsOkAnd words (λ list. IsSomeAnd result.output (λ writer.
+        (less : ℕ) × IsDone (map string_bytes list.items) (R.remaining input.old) (W.contents output) (W.contents writer)
+        (returned E.contents errors result.errors) (suc less))) }
 
     // Code 2: the words ask for nothing, and nothing was read or written.
     ensures usage { result.code ≡ 2 → IfOk words (λ list. asked_by (map string_bytes list.items) ≡ None) }
     ensures untouched { result.code ≡ 2 → (input.new ≡ input.old) × (result.output ≡ Some output) }
 
     // Any other code: the complaint that ended it, with its line.
-    ensures complains { result.code ≢ 0 → result.code ≢ 2 → IfOk words (λ list.
+    ensures complains { result.code ≢ 0 → result.code ≢ 2 → result.code ≢ 6 → IfOk words (λ list.
         Complains (map string_bytes list.items) (R.remaining input.old) result.code
         (W.contents output) (left_by W.contents output result.output) (returned E.contents errors result.errors)) }
     ensures refused { result.code ≡ 3 → result.output ≡ Some output }
@@ -120,11 +129,16 @@ fn do_buffered<T: Threads + Wait + Sync, R: Read, W: Write + Drop, E: Write, P: 
 ) -> (Status, Option<W>)
     requires { errors.old.failed ≡ false }
     ensures done { result.0 ≡ Status.Done → IsSomeAnd result.1 (λ writer.
-        IsDone (map string_bytes words.now) (R.remaining input.old) (W.contents output) (W.contents writer)) }
+        IsDone (map string_bytes words.now) (R.remaining input.old) (W.contents output) (W.contents writer)
+        (stream E.contents errors.old errors.new) 0) }
+    ensures incomplete { result.0 ≡ Status.Incomplete → IsSomeAnd result.1 (λ writer. (less : ℕ)
+        × IsDone (map string_bytes words.now) (R.remaining input.old) (W.contents output) (W.contents writer)
+        (stream E.contents errors.old errors.new) (suc less)) }
     ensures usage { result.0 ≡ Status.Usage → asked_by (map string_bytes words.now) ≡ None }
     ensures unused { result.0 ≡ Status.Usage → (input.new ≡ input.old) × (result.1 ≡ Some output) }
-    ensures silent { result.0 ≡ Status.Done → Has (stream E.contents errors.old errors.new) [] }
-    ensures complains { result.0 ≢ Status.Done → result.0 ≢ Status.Usage →
+    ensures silent { result.0 ≡ Status.Done → IfSome (asked_by (map string_bytes words.now)) (λ request.
+        tells_lines request ≡ false → Has (stream E.contents errors.old errors.new) []) }
+    ensures complains { result.0 ≢ Status.Done → result.0 ≢ Status.Usage → result.0 ≢ Status.Incomplete →
         Complains (map string_bytes words.now) (R.remaining input.old) (exit_code result.0)
         (W.contents output) (left_by W.contents output result.1) (stream E.contents errors.old errors.new) }
     ensures refused { result.0 ≡ Status.Refused → result.1 ≡ Some output }

@@ -212,6 +212,24 @@ fn list_of(rt: &impl AllocGlobal, words: &[&str]) -> Result<Vec<String>, Fail> {
     Ok(list)
 }
 
+const ONE_REPORT: &[u8] = b"report 1 rule=b3s23 profile=1,1,1,0 seed= worker=1 soup=0 unsettled\n";
+
+/// The haul of one soup of two.
+const HALF: &[u8] = b"@VERSION 2\n\
+    @ROOT seed=\n\
+    @RULE b3s23\n\
+    @SYMMETRY C1\n\
+    @PROFILE 1 1 1 0\n\
+    @RANGE 0 2\n\
+    @NUM_SOUPS 1\n\
+    @NUM_UNSETTLED 1\n\
+    @NUM_FOR_GOOD 0\n\
+    @NUM_OBJECTS 0\n\
+    \n\
+    @CENSUS TABLE\n\
+    \n\
+    @SAMPLE_SOUPIDS\n";
+
 /// A writer that takes so many bytes and then fails.
 #[derive(Drop)]
 struct FillingWriter {
@@ -280,6 +298,34 @@ fn ends_with_each_code(rt: HostRuntime) -> Result<(), Fail> {
     }
     let line = b"census: bad byte at line 1 column 2\n";
     assert!(rt; taken_by(&rt, &run, b"Ox", 6, 3, line)?.is_empty());
+    Ok(())
+}
+
+#[test]
+fn ends_with_soups_missing(rt: HostRuntime) -> Result<(), Fail> {
+    let gather = [
+        "census",
+        "gather",
+        "--count",
+        "2",
+        "--period",
+        "1",
+        "--horizon",
+        "1",
+        "--stride",
+        "1",
+        "--limit",
+        "0",
+    ];
+    let told = b"census: incomplete, 1 missing\n";
+    assert_eq!(rt;
+        taken_by(&rt, &gather, ONE_REPORT, HALF.len(), 6, told)?.as_slice(),
+        HALF
+    );
+    for room in [0, 1, HALF.len() - 1] {
+        let taken = taken_by(&rt, &gather, ONE_REPORT, room, 5, b"census: write failed\n")?;
+        assert_eq!(rt; taken.as_slice(), &HALF[..room]);
+    }
     Ok(())
 }
 

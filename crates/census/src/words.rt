@@ -4,8 +4,9 @@ ghost use Rattle.commands.specs.Profiles.{AreInRange};
 ghost use Rattle.commands.specs.Requests.{IsWithinLimits, reads_input};
 ghost use Rattle.commands.specs.Streams.{stream};
 ghost use Rattle.census.specs.Calls.{AsksForNothing, AsksForSoup, AsksForVersion, AsksToName, AsksToRun, AsksToShow, AsksToTake};
+ghost use Rattle.census.specs.GatherCalls.{AsksToGather};
 ghost use Rattle.census.specs.WorkCalls.{AsksToWork};
-ghost use Rattle.census.specs.Words.{DoesWords, asked_by, asks_version, is_given, name_in, number_from, number_in, profile_in, request_in, run_in, set_in, show_in, soup_in, take_in, work_in};
+ghost use Rattle.census.specs.Words.{DoesWords, asked_by, asks_version, gather_in, is_given, name_in, number_from, number_in, profile_in, request_in, run_in, set_in, show_in, soup_in, take_in, work_in};
 
 use crate::application::census_command;
 use clap::ArgMatches;
@@ -160,6 +161,12 @@ pub fn asks_to_work()
     ensures { AsksToWork }
 {}
 
+/// A law of all words: what the calls of `gather` ask for.
+#[tactic(auto, using(crate::proofs::GatherCalls::asks_to_gather))]
+pub fn asks_to_gather()
+    ensures { AsksToGather }
+{}
+
 /// A law of all words: what `--version` asks for.
 #[tactic(auto, using(crate::proofs::CallLemmas::asks_for_version))]
 pub fn asks_for_version()
@@ -194,6 +201,7 @@ fn request_in<'a>(matches: &ArgMatches<'a>) -> Option<Request<'a>>
         Some(("soup", found)) => soup_in(found),
         Some(("take", found)) => take_in(found),
         Some(("work", found)) => work_in(found),
+        Some(("gather", found)) => gather_in(found),
         _ => None,
     }
 }
@@ -297,6 +305,23 @@ fn work_in<'a>(found: &ArgMatches<'a>) -> Option<Request<'a>>
     Some(Request::Work {
         set,
         worker: worker as u8,
+        profile,
+        rule: Word::new(rule),
+    })
+}
+
+/// `gather` with the values of its options.
+fn gather_in<'a>(found: &ArgMatches<'a>) -> Option<Request<'a>>
+    ensures request { result ≡ gather_in (rows_of (found_of found.now)) }
+    ensures limits { IfSome result IsWithinLimits }
+{
+    let set = set_in(found)?;
+    let reporters = number_from(found, "workers", 1, 16)?;
+    let profile = profile_in(found)?;
+    let rule = found.get_str("rule")?;
+    Some(Request::Gather {
+        set,
+        workers: reporters as u8,
         profile,
         rule: Word::new(rule),
     })
