@@ -1,14 +1,12 @@
 -- What the calls of `gather` ask for. Its options are those of `take`, but for `--progress`.
-use Rattle.std.proofs.Common.{◌≡◌, ◌∙◌, ◌<◌, ◌≤◌, ◌++◌, ◌^◌, ℕ, pos, true, false, cond, Option, None, Some, List, [], ◌∷◌, codes}
-use Rattle.std.proofs.Common.{nat_le, refl, ap, ap₂, arith, lit<, option_and_then}
-use Rattle.std.proofs.lemmas.Bool.{le-leb}
+use Rattle.std.proofs.Common.{◌≡◌, ◌∙◌, ◌<◌, ◌≤◌, ◌++◌, ◌^◌, ℕ, pos, true, false, Option, None, Some, List, [], ◌∷◌, codes}
+use Rattle.std.proofs.Common.{refl, ap, ap₂, arith, lit<, option_and_then}
 use Rattle.std.specs.Str.Parse.{IsNumeral, digits_value}
-use Rattle.clap.specs.Words.{Kinds, Row, Rule, Shape, Text}
+use Rattle.clap.specs.Words.{Row, Rule, Shape, Text}
 use Rattle.clap.specs.Facts.{parser_of_value}
 use Rattle.clap.specs.Faults.{check_fault, defaults_fault, use_fault}
 use Rattle.clap.specs.Kinds.{or_else}
-use Rattle.clap.specs.Simple.{built_leaf, filled, inherited, marked_built, with_leaf_noted}
-use Rattle.clap.specs.Lexer.{without_minus}
+use Rattle.clap.specs.Simple.{built_leaf, inherited, marked_built, with_leaf_noted}
 use Rattle.clap.specs.ValueTests.{accepts}
 use Rattle.clap.specs.Walk.{Held, has_row, nothing_held}
 use Rattle.clap.specs.declared.builder.value_parser.ValueParser.TheVariants.{Signed}
@@ -21,7 +19,7 @@ use Rattle.commands.specs.declared.request.Request.TheVariants.{Gather}
 use Rattle.census.specs.Application.{census_app, gather_shape}
 use Rattle.census.specs.Calls.{IsNumberFromTo, IsNumberUpTo, IsValue}
 use Rattle.census.specs.GatherCalls.{AsksToGather, Gathers}
-use Rattle.census.specs.Words.{all_four, asked_by, number_of, request_in, set_of_four}
+use Rattle.census.specs.Words.{all_four, asked_by, request_in, set_of_four}
 use Rattle.census.proofs.CallLemmas.{asks, asks_none, census_built}
 use Rattle.census.proofs.NumberLemmas.{large_accepted, large_read, large_refused, number_accepted, number_below, number_read, number_refused, numeral_plain}
 use Rattle.census.proofs.TakeCalls.{also_built, count_built, count_row, first_built, from_read, horizon_built, limit_built, period_built, refused_number}

@@ -5,17 +5,15 @@ use Rattle.std.proofs.lemmas.Bool.{le-leb}
 use Rattle.std.specs.Str.Parse.{IsNumeral, digits_value}
 use Rattle.clap.specs.Words.{Kinds, Row, Rule, Shape, Text}
 use Rattle.clap.specs.Facts.{parser_of_value}
-use Rattle.clap.specs.Faults.{check_fault, defaults_fault, use_fault}
+use Rattle.clap.specs.Faults.{check_fault, defaults_fault}
 use Rattle.clap.specs.Kinds.{or_else}
 use Rattle.clap.specs.Simple.{built_leaf, filled, inherited, marked_built, with_leaf_noted}
 use Rattle.clap.specs.Lexer.{without_minus}
 use Rattle.clap.specs.ValueTests.{accepts}
 use Rattle.clap.specs.Walk.{Held, has_row, nothing_held}
 use Rattle.clap.specs.declared.builder.value_parser.ValueParser.TheVariants.{Signed}
-use Rattle.clap.specs.declared.error.kind.ErrorKind.{ErrorKind}
 use Rattle.clap.specs.declared.error.kind.ErrorKind.TheVariants.{MissingRequiredArgument, ValueValidation}
 use Rattle.clap.proofs.OnLiterals.{clap_on_literals}
-use Rattle.commands.specs.declared.profile.ProfileNumbers.{ProfileNumbers}
 use Rattle.commands.specs.declared.request.Request.{Request}
 use Rattle.commands.specs.declared.request.Request.TheVariants.{Work}
 use Rattle.census.specs.Application.{also_argument, census_app, count_argument, first_argument, rule_argument, seed_argument}
@@ -24,8 +22,8 @@ use Rattle.census.specs.Calls.{IsNumberFromTo, IsNumberUpTo, IsValue}
 use Rattle.census.specs.WorkCalls.{AsksToWork, Works}
 use Rattle.census.specs.Words.{all_four, asked_by, number_of, request_in, set_of_four}
 use Rattle.census.proofs.CallLemmas.{asks, asks_none, census_built}
-use Rattle.census.proofs.NumberLemmas.{large_accepted, large_read, large_refused, number_accepted, number_below, number_read, number_refused, numeral_plain}
-use Rattle.census.proofs.UseLemmas.{HasCommand, IsFirstUse, IsNamedBy, IsPlainWord, Reads, TakesOne, completed, leads_option, leads_then}
+use Rattle.census.proofs.NumberLemmas.{large_accepted, large_read, number_accepted, number_below, number_read, number_refused, numeral_plain}
+use Rattle.census.proofs.UseLemmas.{HasCommand, IsFirstUse, IsNamedBy, IsPlainWord, Reads, TakesOne, completed, leads_option}
 use Rattle.census.proofs.UseLemmas.{level_reads, level_refuses, nothing_holds, pending, plain_word-is, reads_option, reads_then, row_with}
 
 -- ---- `work` and its options, as `clap` builds them

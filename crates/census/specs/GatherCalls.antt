@@ -1,5 +1,5 @@
 -- Calls of `gather`, and what they ask for.
-use Rattle.std.specs.Prelude.{◌≡◌, ◌<◌, ℕ, List, [], ◌∷◌, Option, None, Some, codes}
+use Rattle.std.specs.Prelude.{◌≡◌, ◌<◌, ℕ, [], ◌∷◌, Option, None, Some, codes}
 use Rattle.std.specs.Str.Parse.{IsNumeral, digits_value}
 use Rattle.clap.specs.Words.{Text}
 use Rattle.commands.specs.declared.request.Request.{Request}
