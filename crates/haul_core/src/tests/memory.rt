@@ -9,14 +9,19 @@ use crate::haul_text::write_haul;
 use crate::refusal::Refusal;
 use crate::report::Report;
 use plane_core::output::Out;
+use plane_core::rule::Rule;
 use std::alloc::Global;
 use std::process::Abort;
 use std::test::Fail;
-use survey_core::profile::Profile;
+use survey_core::job::Job;
 
-/// A haul of soups 0 to 3 under the standard profile that has taken soup 1.
+/// A haul of soups 0 to 3 that has taken soup 1. Under its rule nothing is born or dies, so a soup is at rest at once, with some
+/// tens of objects.
 fn haul_of_one(alloc: Global) -> Result<Haul, Fail> {
-    let job = job("", Profile::standard())?;
+    let job = Job {
+        rule: Rule::read("bs012345678")?,
+        ..job("", small()?)?
+    };
     let mut haul = Haul::open(alloc, job, &[range(0, 4)], 1)?;
     let report = Report::make(alloc, &job, 1, 1)?;
     haul.offer(report).map_err(|refused| refused.reason)?;
