@@ -30,7 +30,8 @@ fn haul_of_one(alloc: Global) -> Result<Haul, Fail> {
 
 /// The haul text of what is taken.
 fn text(alloc: Global, haul: &Haul) -> Result<Vec<u8>, Fail> {
-    let mut out = Out::new(Vec::new(alloc));
+    // So a write can't fail for want of memory.
+    let mut out = Out::new(Vec::with_capacity(alloc, 65_536)?);
     write_haul(&haul.census()?, &mut out)?;
     Ok(out.into_inner())
 }
