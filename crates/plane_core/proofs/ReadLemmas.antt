@@ -100,9 +100,6 @@ pub record HasReadStrips (at : Layout) (words : List ℕ) (n : ℕ) (new : List 
   pub sound : (others : List Cell) → IsShown at words others → AreAmong others new
   pub complete : (s r i : ℕ) → s < n → r < 16 * at.blocks → i < 64 → bit_at (slice_index words (index_of at s r)) i ≡ 1 → has new (place at s r i) ≡ true
 
-pub strips-none : (at : Layout) (words : List ℕ) → HasReadStrips at words 0 []
-strips-none at words = record { sound = λ others shown d e. absurd (false≢true e); complete = λ s r i low. absurd (omega arith) }
-
 pub strips-more : (at : Layout) (words : List ℕ) (s : ℕ) (new more : List Cell) → HasReadStrips at words s new
     → HasReadRows at words s new (16 * at.blocks) more → HasReadStrips at words (s + 1) more
 strips-more at words s new more before read = record {

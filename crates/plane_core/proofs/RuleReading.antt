@@ -373,16 +373,6 @@ rule_text-rule_read text = spelled (rule_read text) (Says_rule_read text) where
 pub IsFirstFault-rule_read : (text : List ℕ) (place : ℕ) → rule_read text ≡ Err (BadRule place) → IsFirstFault text place
 IsFirstFault-rule_read text place e = let says = subst (Says text) e (Says_rule_read text) in says.0
 
--- the error is a birth on zero neighbours exactly if the text begins with one
-pub begins-rule_read : (text : List ℕ) → rule_read text ≡ Err BirthZero → begins text (codes "b0") ≡ true
-begins-rule_read text e = subst (Says text) e (Says_rule_read text)
-
-pub rule_read-begins : (text : List ℕ) → begins text (codes "b0") ≡ true → rule_read text ≡ Err BirthZero
-rule_read-begins text h = go (begins text (codes "b")) refl where
-  go : (b : Bool) → begins text (codes "b") ≡ b → rule_read text ≡ Err BirthZero
-  go true e = rule_read-zero text e h
-  go false e = let wrong : true ≡ false = sym h ∙ no_b text e in cc
-
 -- ---- what is read keeps these laws
 
 pub reads_complete : (text : List ℕ) (read : Result Numbers RuleError) → read ≡ rule_read text → (rule : Numbers) → IsRule rule → rule_text rule ≡ text
