@@ -85,9 +85,18 @@ pub fn take<G: Gate + Sync, R: Threads + Wait + Sync, H: Watch>(
     if haul.is_complete() {
         return Ok(haul);
     }
+    Err((haul, cause(stopped)))
+}
+
+/// Why a haul is not complete: a worker was stopped, or else there was no memory.
+fn cause(stopped: Option<u8>) -> CrewError
+    ensures stopped { IfSome stopped (λ worker. result ≡ CrewError.Stopped worker) }
+    ensures memory { stopped ≡ None → result ≡ CrewError.Memory }
+    ensures named { (worker : ℕ) → result ≡ CrewError.Stopped worker → stopped ≡ Some worker }
+{
     match stopped {
-        Some(worker) => Err((haul, CrewError::Stopped { worker })),
-        None => Err((haul, CrewError::Memory)),
+        Some(worker) => CrewError::Stopped { worker },
+        None => CrewError::Memory,
     }
 }
 
@@ -121,6 +130,7 @@ fn take_missing<G: Gate + Sync, R: Threads + Wait + Sync, H: Watch>(
         haul,
         receiver,
         senders: back,
+        away: 0,
         stopped: None,
     };
     let crew = run_in_scope(alloc, rt, &site, gate, passes, senders, crew, watch);
@@ -145,6 +155,8 @@ struct Crew {
     haul: Haul,
     receiver: ReceiverPass<Note>,
     senders: Vec<SenderPass<Note>>,
+    /// How many workers have been started and are not back.
+    away: u8,
     /// The least worker that came back stopped.
     stopped: Option<u8>,
 }
@@ -160,13 +172,12 @@ fn run_crew<'s, E, G: Gate + Sync, R: Threads + Wait + Sync, H: Watch>(
     mut passes: Vec<Pass>,
     mut senders: Vec<SenderPass<Note>>,
     mut crew: Crew,
-    started: u8,
     watch: &mut H,
 ) -> Crew
     requires passes { All (λ p. p ≡ fresh site.now.tickets) passes.items }
     requires senders { All (λ s. s ≡ silent site.now.belt.name s.number) senders.items }
     requires many { length passes.items ≡ length senders.items }
-    requires few { started + length senders.items ≤ 255 }
+    requires few { crew.away + length senders.items ≤ 255 }
     requires receiver { crew.receiver.belt ≡ site.now.belt }
     requires room { length crew.senders.items + length senders.items ≤ vec_capacity crew.senders }
     requires back { AreBack (G.may_stop gate.now) site.now.belt.name site.now.missing.items crew.senders.items crew.stopped }
@@ -174,6 +185,7 @@ fn run_crew<'s, E, G: Gate + Sync, R: Threads + Wait + Sync, H: Watch>(
     ensures numbers { sender_numbers result.senders.items ≡ sender_numbers crew.senders.items ++ sender_numbers senders.items }
     ensures many { length result.senders.items ≡ length crew.senders.items + length senders.items }
     ensures room { vec_capacity result.senders ≡ vec_capacity crew.senders }
+    ensures away { result.away ≡ crew.away }
     ensures collected { (started : ℕ) × (answered : Bool) × Collected started 0 crew.receiver result.receiver crew.haul result.haul answered }
 {
     let Some(sender) = senders.pop() else {
@@ -182,7 +194,7 @@ fn run_crew<'s, E, G: Gate + Sync, R: Threads + Wait + Sync, H: Watch>(
             &site.belt,
             &mut crew.receiver,
             &mut crew.haul,
-            started,
+            crew.away,
             watch,
         );
         return crew;
@@ -198,25 +210,19 @@ fn run_crew<'s, E, G: Gate + Sync, R: Threads + Wait + Sync, H: Watch>(
     { work(alloc, rt, site, gate, pass, sender) };
     match scope.spawn_with(duty, shift) {
         Ok(handle) => {
-            let crew = run_crew(
-                alloc,
-                rt,
-                scope,
-                site,
-                gate,
-                passes,
-                senders,
-                crew,
-                started + 1,
-                watch,
+            crew.away += 1;
+            let mut crew = run_crew(
+                alloc, rt, scope, site, gate, passes, senders, crew, watch,
             );
-            with_shift(crew, handle.join(rt))
+            let shift = handle.join(rt);
+            crew.away -= 1;
+            with_shift(crew, shift)
         }
         Err(here) => {
             site.called_off.store(u64::from(worker), Ordering::SeqCst);
             let shift = (here.value)();
             let crew = run_crew(
-                alloc, rt, scope, site, gate, passes, senders, crew, started, watch,
+                alloc, rt, scope, site, gate, passes, senders, crew, watch,
             );
             with_shift(crew, shift)
         }
@@ -233,6 +239,7 @@ fn with_shift(crew: Crew, shift: Shift) -> Crew
     ensures noted { crew.stopped ≡ None → shift.end ≡ End.Stopped → result.stopped ≡ Some shift.sender.number }
     ensures haul { result.haul ≡ crew.haul }
     ensures receiver { result.receiver ≡ crew.receiver }
+    ensures away { result.away ≡ crew.away }
 {
     let Shift { sender, end } = shift;
     let mut crew = crew;
@@ -304,7 +311,7 @@ fn run_in_scope<G: Gate + Sync, R: Threads + Wait + Sync, H: Watch>(
     requires passes { All (λ p. p ≡ fresh site.now.tickets) passes.items }
     requires senders { All (λ s. s ≡ silent site.now.belt.name s.number) senders.items }
     requires many { length passes.items ≡ length senders.items }
-    requires few { length senders.items ≤ 255 }
+    requires few { crew.away + length senders.items ≤ 255 }
     requires receiver { crew.receiver.belt ≡ site.now.belt }
     requires room { length crew.senders.items + length senders.items ≤ vec_capacity crew.senders }
     requires back { AreBack (G.may_stop gate.now) site.now.belt.name site.now.missing.items crew.senders.items crew.stopped }
@@ -319,7 +326,7 @@ fn run_in_scope<G: Gate + Sync, R: Threads + Wait + Sync, H: Watch>(
             requires { All (λ p. p ≡ fresh site.now.tickets) passes.items
                 × All (λ s. s ≡ silent site.now.belt.name s.number) senders.items
                 × (length passes.items ≡ length senders.items)
-                × (length senders.items ≤ 255)
+                × (crew.away + length senders.items ≤ 255)
                 × (crew.receiver.belt ≡ site.now.belt)
                 × (length crew.senders.items + length senders.items ≤ vec_capacity crew.senders)
                 × AreBack (G.may_stop gate.now) site.now.belt.name site.now.missing.items crew.senders.items crew.stopped }
@@ -328,7 +335,7 @@ fn run_in_scope<G: Gate + Sync, R: Threads + Wait + Sync, H: Watch>(
             ensures collected { (started : ℕ) × (answered : Bool) × Collected started 0 crew.receiver result.receiver crew.haul result.haul answered }
         {
             run_crew(
-                alloc, rt, scope, site, gate, passes, senders, crew, 0, watch,
+                alloc, rt, scope, site, gate, passes, senders, crew, watch,
             )
         },
     )
@@ -348,6 +355,7 @@ fn end_crew(site: Site, crew: Crew) -> (Haul, Option<u8>)
         receiver,
         senders,
         stopped,
+        ..
     } = crew;
     let Site { belt, .. } = site;
     drop(belt.gather(senders, receiver));

@@ -44,11 +44,11 @@ run_crew-crew-requires-in-Err-clause-senders g t c κs within =
 
 pub returns-in-Ok-clause-back : goal.returns-in-Ok-clause-back
 returns-in-Ok-clause-back g t c =
-    let shift = c.join.result in
+    let shift = c.join-shift.result in
     let leaves : Leaves (g.G.Gate.may_stop c.args.gate.now) c.args.site.now.belt.name c.args.site.now.missing.items c.number-worker.result shift.sender
     (shift.end ≡ Stopped) =
     subst (λ d. Leaves (g.G.Gate.may_stop d.gate.now) d.site.now.belt.name d.site.now.missing.items d.worker shift.sender (shift.end ≡ Stopped))
-    c.in-Ok.ensures.ok c.join.ensures in
+    c.in-Ok.ensures.ok c.join-shift.ensures in
     back_more c.run_crew-crew.result.senders.items c.with_shift.result.senders.items shift.sender c.run_crew-crew.result.stopped
     c.with_shift.result.stopped c.number-worker.result (shift.end ≡ Stopped) c.run_crew-crew.ensures.back leaves c.with_shift.ensures.senders
     c.with_shift.ensures.stopped

@@ -1,0 +1,9 @@
+use Rattle.std.proofs.Common.{IfSome, subst}
+use Rattle.crew.specs.Shifts.{StopsAt}
+use Rattle.crew.specs.Takes.{was_missing}
+use Rattle.crew.proofs.workers.take.Goals as goal
+
+pub returns-clause-stopped : goal.returns-clause-stopped
+returns-clause-stopped g c worker is =
+    subst (λ o. IfSome o (StopsAt (g.G.Gate.may_stop c.args.gate.now) (was_missing c.args.haul))) (c.cause.ensures.named worker is)
+    c.take_missing-haul.ensures.stopped
