@@ -2,6 +2,7 @@ pub mod CallLemmas
 pub mod GatherCalls
 pub mod NameCalls
 pub mod NumberLemmas
+pub mod OptionLemmas
 pub mod ProgramLemmas
 pub mod TakeCalls
 pub mod UseLemmas

@@ -130,6 +130,33 @@ no_line : (known : Option (List ℕ)) (failed : Bool) → HasLine (record { befo
 no_line known true = ([], [], refl, no_more known)
 no_line known false = no_more known
 
+-- ---- requests with one answer, and gatherings
+
+-- one text, and nothing else
+abbrev OneText : Right → Gathering → Type 0
+OneText right gathering = right (Ok gathering.text) × (gathering.told ≡ []) × (gathering.missing ≡ 0)
+
+-- a request ends by one answer
+record HasOneAnswer (request : Request) : Type 0 where
+  pub ends : (known : Option (List ℕ)) (bytes : List ℕ) (status : Status) (output errors : Stream)
+      → EndsRequest request known bytes status output errors
+      → Ends (reads_input request) (is_whole request) (right_for request bytes) status output errors
+  pub gives : (bytes : List ℕ) (gathering : Gathering) → OneText (right_for request bytes) gathering → Gives request bytes gathering
+  pub says : (bytes : List ℕ) (known : Option (List ℕ)) (complaint : Complaint) (errors : Stream) → HasLine errors (line_of complaint)
+      → Says request bytes known complaint errors
+
+-- what holds of all of these, and of gatherings, holds of each request
+by_answer : (P : Request → Type 0) → ((request : Request) → HasOneAnswer request → P request)
+    → ((set : SoupSet) (workers : ℕ) (profile : ProfileNumbers) (rule : List ℕ) → P (Gather set workers profile rule)) → (request : Request) → P request
+by_answer P one lines (Run n rule) = one (Run n rule) (record { ends = λ _ _ _ _ _ h. h; gives = λ _ _ h. h; says = λ _ _ _ _ h. h })
+by_answer P one lines (Name p rule) = one (Name p rule) (record { ends = λ _ _ _ _ _ h. h; gives = λ _ _ h. h; says = λ _ _ _ _ h. h })
+by_answer P one lines (Show code) = one (Show code) (record { ends = λ _ _ _ _ _ h. h; gives = λ _ _ h. h; says = λ _ _ _ _ h. h })
+by_answer P one lines (Soup seed n) = one (Soup seed n) (record { ends = λ _ _ _ _ _ h. h; gives = λ _ _ h. h; says = λ _ _ _ _ h. h })
+by_answer P one lines (Take set w p rule b) = one (Take set w p rule b) (record { ends = λ _ _ _ _ _ h. h; gives = λ _ _ h. h; says = λ _ _ _ _ h. h })
+by_answer P one lines (Work set w p rule) = one (Work set w p rule) (record { ends = λ _ _ _ _ _ h. h; gives = λ _ _ h. h; says = λ _ _ _ _ h. h })
+by_answer P one lines Version = one Version (record { ends = λ _ _ _ _ _ h. h; gives = λ _ _ h. h; says = λ _ _ _ _ h. h })
+by_answer P one lines (Gather set workers profile rule) = lines set workers profile rule
+
 -- ---- a request that was done, or done but for soups that are missing
 
 -- what it gave stands on the two streams
@@ -140,18 +167,15 @@ record Printed (gives : Gathering → Type 0) (missing : ℕ) (output errors : S
   pub wrote : Has output gathering.text
   pub told : HasTextAndLine errors gathering.told (last_line (Ok missing))
 
--- one text, and nothing else
-abbrev OneText : Right → Gathering → Type 0
-OneText right gathering = right (Ok gathering.text) × (gathering.told ≡ []) × (gathering.missing ≡ 0)
-
-answer_printed : (reads whole : Bool) (right : Right) (output errors : Stream) → Ends reads whole right statuses.Done output errors
-    → Printed (OneText right) 0 output errors
-answer_printed reads whole right output errors ends = go ends.outcome ends.reached ends.told
+answer_printed : (reads whole : Bool) (right : Right) (gives : Gathering → Type 0) (output errors : Stream)
+    → ((gathering : Gathering) → OneText right gathering → gives gathering) → Ends reads whole right statuses.Done output errors
+    → Printed gives 0 output errors
+answer_printed reads whole right gives output errors one_text ends = go ends.outcome ends.reached ends.told
   where
-    go : (outcome : Outcome) → Reaches reads whole right outcome output → Tells outcome statuses.Done errors → Printed (OneText right) 0 output errors
+    go : (outcome : Outcome) → Reaches reads whole right outcome output → Tells outcome statuses.Done errors → Printed gives 0 output errors
     go (Ok u) reached said = record {
       gathering = record { text = reached.0.0; told = []; missing = 0 };
-      is = (reached.0.1, refl, refl);
+      is = one_text (record { text = reached.0.0; told = []; missing = 0 }) (reached.0.1, refl, refl);
       missing_is = refl;
       wrote = reached.0.2;
       told = record { between = errors.after; whole = said.1; last = no_line errors.after errors.failed };
@@ -203,41 +227,20 @@ answer_complete reads whole right output errors ends = absurd (go ends.outcome e
 
 request_done : (request : Request) (known : Option (List ℕ)) (bytes : List ℕ) (output errors : Stream)
     → EndsRequest request known bytes statuses.Done output errors → Printed (Gives request bytes) 0 output errors
-request_done (Run generations rule) known bytes output errors ends =
-    answer_printed (reads_input (Run generations rule)) (is_whole (Run generations rule)) (right_for (Run generations rule) bytes) output errors ends
-request_done (Name profile rule) known bytes output errors ends =
-    answer_printed (reads_input (Name profile rule)) (is_whole (Name profile rule)) (right_for (Name profile rule) bytes) output errors ends
-request_done (Show code) known bytes output errors ends =
-    answer_printed (reads_input (Show code)) (is_whole (Show code)) (right_for (Show code) bytes) output errors ends
-request_done (Soup seed number) known bytes output errors ends =
-    answer_printed (reads_input (Soup seed number)) (is_whole (Soup seed number)) (right_for (Soup seed number) bytes) output errors ends
-request_done (Take set workers profile rule progress) known bytes output errors ends =
-    answer_printed (reads_input (Take set workers profile rule progress)) (is_whole (Take set workers profile rule progress)) (right_for (Take set workers profile rule progress) bytes) output errors ends
-request_done (Work set worker profile rule) known bytes output errors ends =
-    answer_printed (reads_input (Work set worker profile rule)) (is_whole (Work set worker profile rule)) (right_for (Work set worker profile rule) bytes) output errors ends
-request_done Version known bytes output errors ends =
-    answer_printed (reads_input Version) (is_whole Version) (right_for Version bytes) output errors ends
-request_done (Gather set workers profile rule) known bytes output errors ends =
-    lines_done (gather_reads set profile rule) (gather_right set workers profile rule bytes) known output errors ends
+request_done request known bytes output errors =
+    by_answer (λ r. EndsRequest r known bytes statuses.Done output errors → Printed (Gives r bytes) 0 output errors)
+    (λ r one ends. answer_printed (reads_input r) (is_whole r) (right_for r bytes) (Gives r bytes) output errors (one.gives bytes)
+    (one.ends known bytes statuses.Done output errors ends))
+    (λ set workers profile rule ends. lines_done (gather_reads set profile rule) (gather_right set workers profile rule bytes) known output errors ends)
+    request
 
 request_incomplete : (request : Request) (known : Option (List ℕ)) (bytes : List ℕ) (output errors : Stream)
     → EndsRequest request known bytes statuses.Incomplete output errors → (less : ℕ) × Printed (Gives request bytes) (suc less) output errors
-request_incomplete (Run generations rule) known bytes output errors ends =
-    answer_complete (reads_input (Run generations rule)) (is_whole (Run generations rule)) (right_for (Run generations rule) bytes) output errors ends
-request_incomplete (Name profile rule) known bytes output errors ends =
-    answer_complete (reads_input (Name profile rule)) (is_whole (Name profile rule)) (right_for (Name profile rule) bytes) output errors ends
-request_incomplete (Show code) known bytes output errors ends =
-    answer_complete (reads_input (Show code)) (is_whole (Show code)) (right_for (Show code) bytes) output errors ends
-request_incomplete (Soup seed number) known bytes output errors ends =
-    answer_complete (reads_input (Soup seed number)) (is_whole (Soup seed number)) (right_for (Soup seed number) bytes) output errors ends
-request_incomplete (Take set workers profile rule progress) known bytes output errors ends =
-    answer_complete (reads_input (Take set workers profile rule progress)) (is_whole (Take set workers profile rule progress)) (right_for (Take set workers profile rule progress) bytes) output errors ends
-request_incomplete (Work set worker profile rule) known bytes output errors ends =
-    answer_complete (reads_input (Work set worker profile rule)) (is_whole (Work set worker profile rule)) (right_for (Work set worker profile rule) bytes) output errors ends
-request_incomplete Version known bytes output errors ends =
-    answer_complete (reads_input Version) (is_whole Version) (right_for Version bytes) output errors ends
-request_incomplete (Gather set workers profile rule) known bytes output errors ends =
-    lines_incomplete (gather_reads set profile rule) (gather_right set workers profile rule bytes) known output errors ends
+request_incomplete request known bytes output errors =
+    by_answer (λ r. EndsRequest r known bytes statuses.Incomplete output errors → (less : ℕ) × Printed (Gives r bytes) (suc less) output errors)
+    (λ r one ends. answer_complete (reads_input r) (is_whole r) (right_for r bytes) output errors (one.ends known bytes statuses.Incomplete output errors ends))
+    (λ set workers profile rule ends. lines_incomplete (gather_reads set profile rule) (gather_right set workers profile rule bytes) known output errors ends)
+    request
 
 -- but for a gathering, a command that was done left nothing on standard error, and the stream is fine
 answer_silent : (reads whole : Bool) (right : Right) (output errors : Stream) → Ends reads whole right statuses.Done output errors
@@ -250,21 +253,11 @@ answer_silent reads whole right output errors ends = go ends.outcome ends.told
 
 request_silent : (request : Request) (known : Option (List ℕ)) (bytes : List ℕ) (output errors : Stream) → tells_lines request ≡ false
     → EndsRequest request known bytes statuses.Done output errors → Has errors []
-request_silent (Run generations rule) known bytes output errors quiet ends =
-    (answer_silent (reads_input (Run generations rule)) (is_whole (Run generations rule)) (right_for (Run generations rule) bytes) output errors ends).0
-request_silent (Name profile rule) known bytes output errors quiet ends =
-    (answer_silent (reads_input (Name profile rule)) (is_whole (Name profile rule)) (right_for (Name profile rule) bytes) output errors ends).0
-request_silent (Show code) known bytes output errors quiet ends =
-    (answer_silent (reads_input (Show code)) (is_whole (Show code)) (right_for (Show code) bytes) output errors ends).0
-request_silent (Soup seed number) known bytes output errors quiet ends =
-    (answer_silent (reads_input (Soup seed number)) (is_whole (Soup seed number)) (right_for (Soup seed number) bytes) output errors ends).0
-request_silent (Take set workers profile rule progress) known bytes output errors quiet ends =
-    (answer_silent (reads_input (Take set workers profile rule progress)) (is_whole (Take set workers profile rule progress)) (right_for (Take set workers profile rule progress) bytes) output errors ends).0
-request_silent (Work set worker profile rule) known bytes output errors quiet ends =
-    (answer_silent (reads_input (Work set worker profile rule)) (is_whole (Work set worker profile rule)) (right_for (Work set worker profile rule) bytes) output errors ends).0
-request_silent Version known bytes output errors quiet ends =
-    (answer_silent (reads_input Version) (is_whole Version) (right_for Version bytes) output errors ends).0
-request_silent (Gather set workers profile rule) known bytes output errors quiet ends = let bad : true ≡ false = quiet in cc
+request_silent request known bytes output errors =
+    by_answer (λ r. tells_lines r ≡ false → EndsRequest r known bytes statuses.Done output errors → Has errors [])
+    (λ r one quiet ends. (answer_silent (reads_input r) (is_whole r) (right_for r bytes) output errors
+    (one.ends known bytes statuses.Done output errors ends)).0)
+    (λ set workers profile rule quiet ends. let bad : true ≡ false = quiet in cc) request
 
 -- ---- a request that a complaint ended
 
@@ -362,22 +355,13 @@ lines_ended set workers profile rule bytes known before buffered below held fail
 request_ended : (request : Request) (bytes : List ℕ) (known before buffered below : Option (List ℕ)) (held : List ℕ) (failed : Bool) (status : Status)
     (errors : Stream) → EndsRequest request known bytes status (record { before = append_known before []; after = buffered; failed = failed }) errors
     → IsUndone status → Keeps buffered (append_known below held) → Ended request bytes known before below status errors
-request_ended (Run generations rule) bytes known before buffered below held failed status errors ends undone kept =
-    answer_ended (Run generations rule) bytes known before buffered below held failed status errors (λ complaint line. line) ends undone kept
-request_ended (Name profile rule) bytes known before buffered below held failed status errors ends undone kept =
-    answer_ended (Name profile rule) bytes known before buffered below held failed status errors (λ complaint line. line) ends undone kept
-request_ended (Show code) bytes known before buffered below held failed status errors ends undone kept =
-    answer_ended (Show code) bytes known before buffered below held failed status errors (λ complaint line. line) ends undone kept
-request_ended (Soup seed number) bytes known before buffered below held failed status errors ends undone kept =
-    answer_ended (Soup seed number) bytes known before buffered below held failed status errors (λ complaint line. line) ends undone kept
-request_ended (Take set workers profile rule progress) bytes known before buffered below held failed status errors ends undone kept =
-    answer_ended (Take set workers profile rule progress) bytes known before buffered below held failed status errors (λ complaint line. line) ends undone kept
-request_ended (Work set worker profile rule) bytes known before buffered below held failed status errors ends undone kept =
-    answer_ended (Work set worker profile rule) bytes known before buffered below held failed status errors (λ complaint line. line) ends undone kept
-request_ended Version bytes known before buffered below held failed status errors ends undone kept =
-    answer_ended Version bytes known before buffered below held failed status errors (λ complaint line. line) ends undone kept
-request_ended (Gather set workers profile rule) bytes known before buffered below held failed status errors ends undone kept =
-    lines_ended set workers profile rule bytes known before buffered below held failed status errors ends undone kept
+request_ended request bytes known before buffered below held failed status errors =
+    let output : Stream = record { before = append_known before []; after = buffered; failed = failed } in
+    by_answer (λ r. EndsRequest r known bytes status output errors → IsUndone status → Keeps buffered (append_known below held)
+    → Ended r bytes known before below status errors)
+    (λ r one ends. answer_ended r bytes known before buffered below held failed status errors (λ complaint line. one.says bytes known complaint errors line)
+    (one.ends known bytes status output errors ends))
+    (λ set workers profile rule. lines_ended set workers profile rule bytes known before buffered below held failed status errors) request
 
 -- ---- a text that could not all be sent on
 
@@ -445,23 +429,16 @@ request_unsent : (request : Request) (bytes : List ℕ) (known before buffered b
     (record { before = silent; after = between; failed = was })
     → Keeps buffered (append_known below held) → Spoken between spoken was is_failed
     → IsUnsent request bytes known before below (record { before = silent; after = spoken; failed = is_failed })
-request_unsent (Run generations rule) bytes known before buffered below held failed silent between spoken was is_failed ends kept said =
-    answer_unsent (Run generations rule) bytes known before buffered below held failed silent between spoken was is_failed (λ line. line) ends kept said
-request_unsent (Name profile rule) bytes known before buffered below held failed silent between spoken was is_failed ends kept said =
-    answer_unsent (Name profile rule) bytes known before buffered below held failed silent between spoken was is_failed (λ line. line) ends kept said
-request_unsent (Show code) bytes known before buffered below held failed silent between spoken was is_failed ends kept said =
-    answer_unsent (Show code) bytes known before buffered below held failed silent between spoken was is_failed (λ line. line) ends kept said
-request_unsent (Soup seed number) bytes known before buffered below held failed silent between spoken was is_failed ends kept said =
-    answer_unsent (Soup seed number) bytes known before buffered below held failed silent between spoken was is_failed (λ line. line) ends kept said
-request_unsent (Take set workers profile rule progress) bytes known before buffered below held failed silent between spoken was is_failed ends kept said =
-    answer_unsent (Take set workers profile rule progress) bytes known before buffered below held failed silent between spoken was is_failed (λ line. line) ends kept said
-request_unsent (Work set worker profile rule) bytes known before buffered below held failed silent between spoken was is_failed ends kept said =
-    answer_unsent (Work set worker profile rule) bytes known before buffered below held failed silent between spoken was is_failed (λ line. line) ends kept said
-request_unsent Version bytes known before buffered below held failed silent between spoken was is_failed ends kept said =
-    answer_unsent Version bytes known before buffered below held failed silent between spoken was is_failed (λ line. line) ends kept said
-request_unsent (Gather set workers profile rule) bytes known before buffered below held failed silent between spoken was is_failed ends kept said =
-    lines_unsent set workers profile rule bytes known before buffered below held failed 0 silent between spoken was is_failed
-    (lines_done (gather_reads set profile rule) (gather_right set workers profile rule bytes) known _ _ ends) kept said
+request_unsent request bytes known before buffered below held failed silent between spoken was is_failed =
+    let output : Stream = record { before = append_known before []; after = buffered; failed = failed } in
+    let errors : Stream = record { before = silent; after = between; failed = was } in
+    let after : Stream = record { before = silent; after = spoken; failed = is_failed } in
+    by_answer (λ r. EndsRequest r known bytes statuses.Done output errors → Keeps buffered (append_known below held) → Spoken between spoken was is_failed
+    → IsUnsent r bytes known before below after)
+    (λ r one ends. answer_unsent r bytes known before buffered below held failed silent between spoken was is_failed
+    (one.says bytes known WriteFailed after) (one.ends known bytes statuses.Done output errors ends))
+    (λ set workers profile rule ends. lines_unsent set workers profile rule bytes known before buffered below held failed 0 silent between spoken was is_failed
+    (lines_done (gather_reads set profile rule) (gather_right set workers profile rule bytes) known output errors ends)) request
 
 request_unsent_less : (request : Request) (bytes : List ℕ) (known before buffered below : Option (List ℕ)) (held : List ℕ) (failed : Bool)
     (silent between spoken : Option (List ℕ)) (was is_failed : Bool)
@@ -469,23 +446,16 @@ request_unsent_less : (request : Request) (bytes : List ℕ) (known before buffe
     (record { before = silent; after = between; failed = was })
     → Keeps buffered (append_known below held) → Spoken between spoken was is_failed
     → IsUnsent request bytes known before below (record { before = silent; after = spoken; failed = is_failed })
-request_unsent_less (Run generations rule) bytes known before buffered below held failed silent between spoken was is_failed ends kept said =
-    answer_complete (reads_input (Run generations rule)) (is_whole (Run generations rule)) (right_for (Run generations rule) bytes) _ _ ends
-request_unsent_less (Name profile rule) bytes known before buffered below held failed silent between spoken was is_failed ends kept said =
-    answer_complete (reads_input (Name profile rule)) (is_whole (Name profile rule)) (right_for (Name profile rule) bytes) _ _ ends
-request_unsent_less (Show code) bytes known before buffered below held failed silent between spoken was is_failed ends kept said =
-    answer_complete (reads_input (Show code)) (is_whole (Show code)) (right_for (Show code) bytes) _ _ ends
-request_unsent_less (Soup seed number) bytes known before buffered below held failed silent between spoken was is_failed ends kept said =
-    answer_complete (reads_input (Soup seed number)) (is_whole (Soup seed number)) (right_for (Soup seed number) bytes) _ _ ends
-request_unsent_less (Take set workers profile rule progress) bytes known before buffered below held failed silent between spoken was is_failed ends kept said =
-    answer_complete (reads_input (Take set workers profile rule progress)) (is_whole (Take set workers profile rule progress)) (right_for (Take set workers profile rule progress) bytes) _ _ ends
-request_unsent_less (Work set worker profile rule) bytes known before buffered below held failed silent between spoken was is_failed ends kept said =
-    answer_complete (reads_input (Work set worker profile rule)) (is_whole (Work set worker profile rule)) (right_for (Work set worker profile rule) bytes) _ _ ends
-request_unsent_less Version bytes known before buffered below held failed silent between spoken was is_failed ends kept said =
-    answer_complete (reads_input Version) (is_whole Version) (right_for Version bytes) _ _ ends
-request_unsent_less (Gather set workers profile rule) bytes known before buffered below held failed silent between spoken was is_failed ends kept said =
-    let less = lines_incomplete (gather_reads set profile rule) (gather_right set workers profile rule bytes) known _ _ ends in
-    lines_unsent set workers profile rule bytes known before buffered below held failed (suc less.0) silent between spoken was is_failed less.1 kept said
+request_unsent_less request bytes known before buffered below held failed silent between spoken was is_failed =
+    let output : Stream = record { before = append_known before []; after = buffered; failed = failed } in
+    let errors : Stream = record { before = silent; after = between; failed = was } in
+    let after : Stream = record { before = silent; after = spoken; failed = is_failed } in
+    by_answer (λ r. EndsRequest r known bytes statuses.Incomplete output errors → Keeps buffered (append_known below held)
+    → Spoken between spoken was is_failed → IsUnsent r bytes known before below after)
+    (λ r one ends. answer_complete (reads_input r) (is_whole r) (right_for r bytes) output errors (one.ends known bytes statuses.Incomplete output errors ends))
+    (λ set workers profile rule ends.
+    let less = lines_incomplete (gather_reads set profile rule) (gather_right set workers profile rule bytes) known output errors ends in
+    lines_unsent set workers profile rule bytes known before buffered below held failed (suc less.0) silent between spoken was is_failed less.1) request
 
 -- ---- the words
 
