@@ -201,22 +201,39 @@ fn closed_haul(
     Ok(haul)
 }
 
+const TWO_RANGES: [Range; 2] = [Range { first: 0, count: 1 }, Range { first: 2, count: 2 }];
+
+/// A haul of two ranges: the first worker took the soup 0, and the second the soup 3.
+fn joined_haul(alloc: Global) -> Result<Haul, Fail> {
+    let first = closed_haul(alloc, job("")?, TWO_RANGES[0], 1, 0)?;
+    let second = closed_haul(alloc, job("")?, TWO_RANGES[1], 2, 3)?;
+    match first.join(second) {
+        Ok(haul) => Ok(haul),
+        Err((_, _, fault)) => Err(Fail::from(fault)),
+    }
+}
+
 #[test]
 fn keeps_a_joined_haul(rt: HostRuntime) -> Result<(), Fail> {
     let alloc = rt.alloc();
-    let ranges = [Range { first: 0, count: 1 }, Range { first: 2, count: 2 }];
-    let first = closed_haul(alloc, job("")?, ranges[0], 1, 0)?;
-    let second = closed_haul(alloc, job("")?, ranges[1], 2, 3)?;
-    let mut joined = first.join(second).ok().expect(&rt, "a joined haul");
+    let joined = joined_haul(alloc)?;
+    let plain = taken(alloc, &TWO_RANGES, 2, &[own(1, 0), own(2, 3), Plain::Closing])?;
+    assert!(rt; joined.taken() == plain.as_slice());
+    let missing = joined.missing()?;
+    assert!(rt; missing.as_slice() == [2].as_slice());
+    Ok(())
+}
+
+#[test]
+fn a_joined_haul_is_closed(rt: HostRuntime) -> Result<(), Fail> {
+    let alloc = rt.alloc();
+    let mut joined = joined_haul(alloc)?;
     let mut before = Vec::new(alloc);
     before.extend_from_slice(&[own(1, 0), own(2, 3), Plain::Closing])?;
-    let plain = taken(alloc, &ranges, 2, before.as_slice())?;
-    assert!(rt; joined.taken() == plain.as_slice());
-    assert!(rt; joined.missing()?.as_slice() == [2].as_slice());
     let rows = [
         (own(2, 2), Reply::Refused(Refusal::Closed)),
         (Plain::Closing, Reply::AlreadyClosed),
     ];
-    assert!(rt; reply_so(alloc, &mut joined, &ranges, &mut before, &rows)?);
+    assert!(rt; reply_so(alloc, &mut joined, &TWO_RANGES, &mut before, &rows)?);
     Ok(())
 }
