@@ -211,9 +211,7 @@ fn run_crew<'s, E, G: Gate + Sync, R: Threads + Wait + Sync, H: Watch>(
     match scope.spawn_with(duty, shift) {
         Ok(handle) => {
             crew.away += 1;
-            let mut crew = run_crew(
-                alloc, rt, scope, site, gate, passes, senders, crew, watch,
-            );
+            let mut crew = run_crew(alloc, rt, scope, site, gate, passes, senders, crew, watch);
             let shift = handle.join(rt);
             crew.away -= 1;
             with_shift(crew, shift)
@@ -221,9 +219,7 @@ fn run_crew<'s, E, G: Gate + Sync, R: Threads + Wait + Sync, H: Watch>(
         Err(here) => {
             site.called_off.store(u64::from(worker), Ordering::SeqCst);
             let shift = (here.value)();
-            let crew = run_crew(
-                alloc, rt, scope, site, gate, passes, senders, crew, watch,
-            );
+            let crew = run_crew(alloc, rt, scope, site, gate, passes, senders, crew, watch);
             with_shift(crew, shift)
         }
     }
@@ -333,11 +329,7 @@ fn run_in_scope<G: Gate + Sync, R: Threads + Wait + Sync, H: Watch>(
             ensures back { AreBack (G.may_stop gate.entry.now) site.entry.now.belt.name site.entry.now.missing.items result.senders.items result.stopped }
             ensures numbers { sender_numbers result.senders.items ≡ sender_numbers crew.senders.items ++ sender_numbers senders.items }
             ensures collected { (started : ℕ) × (answered : Bool) × Collected started 0 crew.receiver result.receiver crew.haul result.haul answered }
-        {
-            run_crew(
-                alloc, rt, scope, site, gate, passes, senders, crew, watch,
-            )
-        },
+        { run_crew(alloc, rt, scope, site, gate, passes, senders, crew, watch) },
     )
 }
 

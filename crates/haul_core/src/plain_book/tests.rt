@@ -217,7 +217,12 @@ fn joined_haul(alloc: Global) -> Result<Haul, Fail> {
 fn keeps_a_joined_haul(rt: HostRuntime) -> Result<(), Fail> {
     let alloc = rt.alloc();
     let joined = joined_haul(alloc)?;
-    let plain = taken(alloc, &TWO_RANGES, 2, &[own(1, 0), own(2, 3), Plain::Closing])?;
+    let plain = taken(
+        alloc,
+        &TWO_RANGES,
+        2,
+        &[own(1, 0), own(2, 3), Plain::Closing],
+    )?;
     assert!(rt; joined.taken() == plain.as_slice());
     let missing = joined.missing()?;
     assert!(rt; missing.as_slice() == [2].as_slice());
