@@ -201,12 +201,13 @@ fn closed_haul(
     Ok(haul)
 }
 
-const TWO_RANGES: [Range; 2] = [Range { first: 0, count: 1 }, Range { first: 2, count: 2 }];
+/// The sets of the two hauls that are joined.
+const JOINED_RANGES: [Range; 2] = [Range { first: 0, count: 1 }, Range { first: 2, count: 2 }];
 
 /// A haul of two ranges: the first worker took the soup 0, and the second the soup 3.
 fn joined_haul(alloc: Global) -> Result<Haul, Fail> {
-    let first = closed_haul(alloc, job("")?, TWO_RANGES[0], 1, 0)?;
-    let second = closed_haul(alloc, job("")?, TWO_RANGES[1], 2, 3)?;
+    let first = closed_haul(alloc, job("")?, JOINED_RANGES[0], 1, 0)?;
+    let second = closed_haul(alloc, job("")?, JOINED_RANGES[1], 2, 3)?;
     match first.join(second) {
         Ok(haul) => Ok(haul),
         Err((_, _, fault)) => Err(Fail::from(fault)),
@@ -219,7 +220,7 @@ fn keeps_a_joined_haul(rt: HostRuntime) -> Result<(), Fail> {
     let joined = joined_haul(alloc)?;
     let plain = taken(
         alloc,
-        &TWO_RANGES,
+        &JOINED_RANGES,
         2,
         &[own(1, 0), own(2, 3), Plain::Closing],
     )?;
@@ -239,6 +240,6 @@ fn a_joined_haul_is_closed(rt: HostRuntime) -> Result<(), Fail> {
         (own(2, 2), Reply::Refused(Refusal::Closed)),
         (Plain::Closing, Reply::AlreadyClosed),
     ];
-    assert!(rt; reply_so(alloc, &mut joined, &TWO_RANGES, &mut before, &rows)?);
+    assert!(rt; reply_so(alloc, &mut joined, &JOINED_RANGES, &mut before, &rows)?);
     Ok(())
 }
