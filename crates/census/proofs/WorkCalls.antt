@@ -55,9 +55,6 @@ has_rule = record { name = codes "rule"; option = rule_option; by_id = refl; by_
 abbrev hired : Text → Held
 hired w = pending built nothing_held worker_built w
 
-abbrev both_held : Text → Text → Held
-both_held w c = pending built (hired w) count_built c
-
 abbrev both_rows : Text → Text → List Row
 both_rows w c = row_with worker_built w ∷ row_with count_built c ∷ []
 
@@ -65,7 +62,7 @@ reads_worker : (w : Text) → IsNumberFromTo 1 16 w → Reads built nothing_held
 reads_worker w is_w = reads_more (reads_none built) (worker_next [] w has_worker refl is_w)
 
 reads_both : (w c : Text) → IsNumberFromTo 1 16 w → IsNumberUpTo 16777216 c
-    → Reads built nothing_held 1 (codes "--worker" ∷ w ∷ codes "--count" ∷ c ∷ []) (both_held w c) 1 (both_rows w c)
+    → Reads built nothing_held 1 (codes "--worker" ∷ w ∷ codes "--count" ∷ c ∷ []) (pending built (hired w) count_built c) 1 (both_rows w c)
 reads_both w c is_w is_c = reads_more (reads_worker w is_w) (count_next (row_with worker_built w ∷ []) c has_set.count refl is_c)
 
 asks_option : {a : Rule} {word v : Text} (program w c : Text) → IsNumberFromTo 1 16 w → IsNumberUpTo 16777216 c → IsNextUse built (both_rows w c) a word v
