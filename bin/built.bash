@@ -37,10 +37,11 @@ get_cpu() {
     done 2>/dev/null </proc/cpuinfo
 }
 
-# Prints the digests of the sources, and of the program if it is named. Wrong bodies and tests' inputs aren't built.
+# Prints the digests of the sources, and of the program if it is named. Crates of tests, wrong bodies and tests' inputs aren't
+# built into it.
 digests() (
     set -o pipefail
-    cd -- "$top" && find crates.txt crates "$@" -name out -prune -o \
+    cd -- "$top" && find crates.txt crates "$@" \( -name out -o -path 'crates/*_tests' \) -prune -o \
         -type f \( -name '*.rt' -o -name '*.antt' -o -path crates.txt -o -path "$program" \) \
         -exec b2sum -l 256 -- {} + 2>/dev/null | LC_ALL=C sort
 )

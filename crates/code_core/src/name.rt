@@ -197,6 +197,3 @@ fn text_order(one: &str, other: &str) -> Ordering
 {
     one.len().cmp(&other.len()).then(one.cmp(other))
 }
-
-#[cfg(test)]
-mod tests;

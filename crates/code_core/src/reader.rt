@@ -337,6 +337,3 @@ fn character_value(byte: u8) -> u8
         byte - b'a' + 10
     }
 }
-
-#[cfg(test)]
-mod tests;

@@ -213,6 +213,3 @@ fn one_at(pattern: &Pattern, bounds: Bounds, x: u32, y: u32) -> u8
     let _cells = pattern.cells();
     u8::from(pattern.has(along(bounds.left, x), along(bounds.top, y)))
 }
-
-#[cfg(test)]
-mod tests;

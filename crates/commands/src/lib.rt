@@ -38,8 +38,6 @@ pub mod soup_set;
 pub mod status;
 /// `take`: the haul of a set of soups.
 pub mod take;
-#[cfg(test)]
-mod tests;
 /// `--version`: the program's name and version.
 pub mod version;
 /// Words of the command line.

@@ -11,8 +11,6 @@ pub mod gate;
 /// What a worker says to the collector.
 pub mod note;
 mod shift;
-#[cfg(test)]
-mod tests;
 /// Numbers that threads draw, each once.
 pub mod tickets;
 /// The workers, and the call that runs them.

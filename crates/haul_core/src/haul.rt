@@ -371,6 +371,3 @@ fn note(taken: &mut Vec<(u8, u64)>, worker_of: &mut IndexMap<u64, u8>, worker: u
     taken.push((worker, number)).unwrap();
     worker_of.insert(number, worker).unwrap();
 }
-
-#[cfg(test)]
-mod tests;

@@ -200,6 +200,3 @@ fn put_number<W: Write, N: Integer>(out: &mut Out<W>, number: N) -> Result<(), W
     out.put(b" ")?;
     out.put(buffer.format(number).as_bytes())
 }
-
-#[cfg(test)]
-mod tests;

@@ -18,8 +18,6 @@ pub mod haul;
 /// What a census says, as text.
 pub mod haul_text;
 mod missing;
-#[cfg(test)]
-mod plain_book;
 /// Sets of soup numbers.
 pub mod range;
 /// Lists of ranges as texts.
@@ -35,5 +33,3 @@ pub mod samples;
 /// Why a report is refused.
 pub mod refusal;
 mod tally;
-#[cfg(test)]
-mod tests;

@@ -137,6 +137,3 @@ fn put_number<W: Write, N: Integer>(
     out.put(word)?;
     out.put(buffer.format(number).as_bytes())
 }
-
-#[cfg(test)]
-mod tests;

@@ -176,6 +176,3 @@ fn mark(
     }
     Ok(())
 }
-
-#[cfg(test)]
-mod tests;

@@ -229,6 +229,3 @@ fn touches(cells: &[Cell]) -> bool
 {
     cells.iter().any(|cell| cell.is_on_edge())
 }
-
-#[cfg(test)]
-mod tests;

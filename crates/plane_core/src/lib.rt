@@ -32,6 +32,4 @@ pub mod rule;
 /// The shift from one pattern to another.
 pub mod shift_to;
 mod tally;
-#[cfg(test)]
-mod tests;
 mod word;

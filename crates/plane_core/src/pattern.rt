@@ -136,6 +136,3 @@ pub(crate) fn in_order(cells: Vec<Cell>) -> Vec<Cell>
     set.dedup();
     set
 }
-
-#[cfg(test)]
-mod tests;

@@ -178,6 +178,3 @@ fn to_corner(cells: &[Cell], orientation: Orientation) -> Option<Placement>
         dy: negated(bounds.top),
     })
 }
-
-#[cfg(test)]
-mod tests;

@@ -303,6 +303,3 @@ fn write_rows<V: Write>(out: &mut Out<V>, cells: &[Cell], bounds: Bounds) -> Res
     }
     Ok(())
 }
-
-#[cfg(test)]
-mod tests;

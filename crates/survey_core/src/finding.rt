@@ -131,6 +131,3 @@ fn run_on(
         Err(StepError::Edge) => unreachable!(),
     }
 }
-
-#[cfg(test)]
-mod tests;

@@ -99,6 +99,3 @@ fn square_cell(place: u32) -> Cell
         x: (place % 16) as i32,
     }
 }
-
-#[cfg(test)]
-mod tests;

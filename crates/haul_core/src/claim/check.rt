@@ -156,6 +156,3 @@ fn have_shape(objects: &[(Apgcode, u64)])
         object.0.text();
     }
 }
-
-#[cfg(test)]
-mod tests;

@@ -194,6 +194,3 @@ pub fn lines_tell_claims()
     ensures faulty { FaultyLinesHaveNoClaim }
     ensures place { LinesHaveOneFault }
 {}
-
-#[cfg(test)]
-mod tests;

@@ -1,0 +1,9 @@
+//! Tests of the public calls of `code_core`. They stand in a crate of their own, so that `code_core` is proved once.
+#![tactic(auto)]
+
+#[cfg(test)]
+mod name;
+#[cfg(test)]
+mod reader;
+#[cfg(test)]
+mod wechsler;

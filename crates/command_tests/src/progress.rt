@@ -1,0 +1,77 @@
+use crate::requests::FailingWriter;
+use commands::progress::Progress;
+use crew::watch::Watch;
+use std::cell::Cell;
+use std::io::{self, Write};
+use std::time::{Clock, Duration};
+
+/// A clock on which 100 milliseconds pass between two readings, and which has so many at the next.
+#[derive(Drop)]
+pub struct Ticking(Cell<u64>);
+
+impl Clock for Ticking {
+    fn monotonic(&self) -> io::Result<Duration> {
+        let now = self.0.get();
+        self.0.set(now.saturating_add(100));
+        Ok(Duration::from_millis(now))
+    }
+
+    fn since_1970(&self) -> io::Result<Duration> {
+        Ok(Duration::from_millis(0))
+    }
+}
+
+/// A line on this writer, by a clock that begins at 0.
+pub fn line_on<W: Write>(rt: &impl AllocGlobal, writer: W, is_shown: bool) -> Progress<W, Ticking> {
+    Progress::new(rt.alloc(), writer, Ticking(Cell::new(0)), is_shown)
+}
+
+/// Tells the line of twelve soups, of which some are taken in the first 400 milliseconds.
+fn tell(line: &mut impl Watch) {
+    line.begin(12);
+    for count in [1, 2, 2, 3] {
+        line.taken(count);
+    }
+    line.end();
+}
+
+// Lines are due at 0, 200 and 400 milliseconds: 2 soups in 200 are 10 a second, and 3 in 400 are 7 and a half.
+const TOLD: &[u8] = b"\r0 of 12 soups\
+    \r2 of 12 soups, 10 a second\
+    \r3 of 12 soups, 7 a second \
+    \r                          \r";
+
+#[test]
+fn tells_and_wipes_its_line(rt: HostRuntime) {
+    let mut screen = Vec::new(rt.alloc());
+    let mut line = line_on(&rt, &mut screen, true);
+    tell(&mut line);
+    line.taken(4);
+    line.end();
+    assert_eq!(rt; screen.as_slice(), TOLD);
+}
+
+#[test]
+fn tells_nothing_unless_it_is_to_be_shown(rt: HostRuntime) {
+    let mut screen = Vec::new(rt.alloc());
+    let mut line = line_on(&rt, &mut screen, false);
+    line.ask(false);
+    tell(&mut line);
+    assert!(rt; screen.is_empty());
+    let mut line = line_on(&rt, &mut screen, false);
+    line.ask(true);
+    tell(&mut line);
+    assert_eq!(rt; screen.as_slice(), TOLD);
+}
+
+#[test]
+fn a_failed_write_is_the_last(rt: HostRuntime) {
+    let mut screen = FailingWriter {
+        taken: Vec::new(rt.alloc()),
+        writes: 20,
+        takes_none: false,
+    };
+    let mut line = line_on(&rt, &mut screen, true);
+    tell(&mut line);
+    assert_eq!(rt; screen.taken.as_slice(), &TOLD[..20]);
+}

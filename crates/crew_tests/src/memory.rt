@@ -1,0 +1,87 @@
+//! Each of these tests passes, or fails for want of memory alone, whichever allocation is refused. `bin/try-memory` refuses each
+//! in turn.
+ghost use Rattle.std.specs.Prelude.{◌≡◌, ◌≤◌};
+
+use crate::small::{haul_of, small_job};
+use crew::gate::{Gate, OpenGate, Stop};
+use crew::watch::Unwatched;
+use crew::workers::{CrewError, take};
+use std::process::Abort;
+use std::sync::Wait;
+use std::sync::atomic::{AtomicU64, Ordering};
+use std::test::Fail;
+use std::thread::Threads;
+
+/// Lets workers take four soups. If there was no memory, the haul is open, and is completed by another call.
+fn assert_taken<R: Abort + AllocGlobal + Threads + Wait + Sync>(
+    rt: &R,
+    workers: u8,
+) -> Result<(), Fail>
+    requires { 1 ≤ workers }
+{
+    let alloc = rt.alloc();
+    let haul = haul_of(alloc, small_job()?, 4, workers)?;
+    match take(alloc, rt, haul, workers, &OpenGate, &mut Unwatched) {
+        Ok(haul) => assert_eq!(rt; haul.missing_count(), 0),
+        Err((haul, fault)) => {
+            assert_eq!(rt; fault, CrewError::Memory);
+            assert!(rt; !haul.is_closed());
+            let Ok(haul) = take(alloc, rt, haul, workers, &OpenGate, &mut Unwatched) else {
+                panic!(rt; "not complete")
+            };
+            assert_eq!(rt; haul.missing_count(), 0);
+        }
+    }
+    Ok(())
+}
+
+#[test]
+fn without_memory_one_worker_leaves_the_haul_open(rt: HostRuntime) -> Result<(), Fail> {
+    assert_taken(&rt, 1)
+}
+
+#[test]
+fn without_memory_two_workers_leave_the_haul_open(rt: HostRuntime) -> Result<(), Fail> {
+    assert_taken(&rt, 2)
+}
+
+/// A gate that stops the second worker, and notes that it did.
+#[derive(Drop)]
+struct StopsSecond {
+    stops: AtomicU64,
+}
+
+impl Gate for StopsSecond {
+    ghost may_stop = { λ _ worker number. Unit {0} };
+
+    fn before(&self, worker: u8, _number: u64) -> Result<(), Stop> {
+        if worker != 2 {
+            return Ok(());
+        }
+        self.stops.store(1, Ordering::SeqCst);
+        Err(Stop)
+    }
+}
+
+// Where a worker was stopped and another one had no memory, the stop is told.
+#[test]
+fn without_memory_a_stop_is_told(rt: HostRuntime) -> Result<(), Fail> {
+    let alloc = rt.alloc();
+    let haul = haul_of(alloc, small_job()?, 8, 2)?;
+    let gate = StopsSecond {
+        stops: AtomicU64::new(0),
+    };
+    match take(alloc, &rt, haul, 2, &gate, &mut Unwatched) {
+        Ok(haul) => assert_eq!(rt; haul.missing_count(), 0),
+        Err((haul, fault)) => {
+            assert!(rt; haul.missing_count() > 0);
+            let told = if gate.stops.load(Ordering::SeqCst) == 0 {
+                CrewError::Memory
+            } else {
+                CrewError::Stopped { worker: 2 }
+            };
+            assert_eq!(rt; fault, told);
+        }
+    }
+    Ok(())
+}

@@ -1,0 +1,26 @@
+ghost use Rattle.std.specs.Prelude.{◌≡◌, IfOk};
+
+use haul_core::haul::Haul;
+use haul_core::range::Range;
+use plane_core::rule::Rule;
+use std::alloc::Global;
+use std::test::Fail;
+use survey_core::job::Job;
+use survey_core::profile::Profile;
+use survey_core::seed::Seed;
+
+/// The soups of the empty seed, under a profile that is soon done.
+pub(crate) fn small_job() -> Result<Job, Fail> {
+    Ok(Job {
+        seed: Seed::new("")?,
+        profile: Profile::new(1, 1, 1, 0)?,
+        rule: Rule::life(),
+    })
+}
+
+/// An open haul of the first soups of a job.
+pub(crate) fn haul_of(alloc: Global, job: Job, count: u64, workers: u8) -> Result<Haul, Fail>
+    ensures { IfOk result (λ haul. haul.terms.workers ≡ workers) }
+{
+    Ok(Haul::open(alloc, job, &[Range { first: 0, count }], workers)?)
+}

@@ -1,0 +1,254 @@
+use haul_core::arrival::{Arrival, Reply};
+use haul_core::book::keep_book;
+use haul_core::census::Census;
+use haul_core::haul::Haul;
+use haul_core::haul::join::JoinFault;
+use haul_core::range::Range;
+use haul_core::range_list::ListError;
+use haul_core::refusal::Refusal;
+use haul_core::report::{Report, ReportError};
+use plane_core::rule::Rule;
+use std::alloc::Global;
+use std::test::Fail;
+use survey_core::job::Job;
+use survey_core::profile::Profile;
+use survey_core::seed::Seed;
+
+/// A job of Life.
+pub(crate) fn job(seed: &str, profile: Profile) -> Result<Job, Fail> {
+    Ok(Job {
+        seed: Seed::new(seed)?,
+        profile,
+        rule: Rule::life(),
+    })
+}
+
+/// Under this profile a soup is settled only if it is a still life at once.
+pub(crate) fn small() -> Result<Profile, Fail> {
+    Ok(Profile::new(1, 1, 1, 0)?)
+}
+
+/// An offer of a report by this worker, of the soup with this number.
+fn offer(alloc: Global, job: &Job, worker: u8, number: u32) -> Result<Arrival, Fail> {
+    Ok(Arrival::Offer(Report::make(alloc, job, worker, u64::from(number))?))
+}
+
+/// An offer for each pair: the worker, and the number of the soup.
+fn arrivals(alloc: Global, job: &Job, offers: &[(u8, u32)]) -> Result<Vec<Arrival>, Fail> {
+    let mut arrivals = Vec::new(alloc);
+    for offered in offers {
+        arrivals.push(offer(alloc, job, offered.0, offered.1)?)?;
+    }
+    Ok(arrivals)
+}
+
+#[test]
+fn refuses_other_jobs(rt: HostRuntime) -> Result<(), Fail> {
+    let alloc = rt.alloc();
+    let range = Range {
+        first: 0,
+        count: 40,
+    };
+    let mut haul = Haul::open(alloc, job("1", small()?)?, &[range], 1)?;
+    let arriving = arrivals(alloc, &job("12", small()?)?, &[(1, 3)])?;
+    let replies = keep_book(alloc, &mut haul, arriving)?;
+    assert_eq!(rt;
+        replies.as_slice(),
+        [Reply::Refused(Refusal::OtherJob)].as_slice()
+    );
+    Ok(())
+}
+
+/// Lets this arrive at the haul, and writes the reply at the end of a text.
+fn note(alloc: Global, haul: &mut Haul, arrival: Arrival, text: &mut String) -> Result<(), Fail> {
+    let mut arriving = Vec::new(alloc);
+    arriving.push(arrival)?;
+    for reply in keep_book(alloc, haul, arriving)?.as_slice() {
+        let reply = format!(in alloc; "{reply:?}\n")?;
+        text.push_str(reply.as_str())?;
+    }
+    Ok(())
+}
+
+/// The sums and rows of a census, a line each.
+fn lines(alloc: Global, census: &Census) -> Result<String, Fail> {
+    let mut text = format!(in alloc;
+        "{} of {}, {} unsettled, {} for good, {} objects\n",
+        census.soups, census.count, census.unsettled, census.for_good, census.objects
+    )?;
+    for row in census.rows.as_slice() {
+        let line = format!(in alloc; "{} {}", row.code.text(), row.total)?;
+        text.push_str(line.as_str())?;
+        for number in row.samples.as_slice() {
+            let sample = format!(in alloc; " {number}")?;
+            text.push_str(sample.as_str())?;
+        }
+        text.push_str("\n")?;
+    }
+    Ok(text)
+}
+
+pub(crate) fn range(first: u64, count: u64) -> Range {
+    Range { first, count }
+}
+
+#[test]
+fn refuses_workers(rt: HostRuntime) -> Result<(), Fail> {
+    let job = job("", small()?)?;
+    assert!(rt; Report::make(rt.alloc(), &job, 0, 0).err() == Some(ReportError::BadWorker));
+    assert!(rt; Report::make(rt.alloc(), &job, 17, 0).err() == Some(ReportError::BadWorker));
+    Ok(())
+}
+
+/// Whether a line is one of the text's.
+fn has_line(text: &str, line: &str) -> bool {
+    for own in text.lines() {
+        if own == line {
+            return true;
+        }
+    }
+    false
+}
+
+// The census of soups 0 to 39 of the empty seed under the standard profile, by a program in another language, written from
+// the definitions alone: its sums, and of some codes the total and the samples. The soups come in another order, from three
+// workers.
+#[test]
+fn counts_what_forty_soups_leave(rt: HostRuntime) -> Result<(), Fail> {
+    let alloc = rt.alloc();
+    let job = job("", Profile::standard())?;
+    let mut haul = Haul::open(alloc, job, &[range(0, 40)], 3)?;
+    let mut text = String::new(alloc);
+    for place in 0..40u32 {
+        let worker = 1 + (place % 3) as u8;
+        let number = (place * 7 + 3) % 40;
+        note(
+            alloc,
+            &mut haul,
+            offer(alloc, &job, worker, number)?,
+            &mut text,
+        )?;
+    }
+    let census = lines(alloc, &haul.census()?)?;
+    let text = census.as_str();
+    assert!(rt; has_line(text, "40 of 40, 0 unsettled, 14 for good, 796 objects"));
+    assert!(rt; has_line(text, "xp2_1110s 5 2 12 27"));
+    assert!(rt; has_line(text, "xp2_7 111 1 2 3"));
+    assert!(rt; has_line(text, "xp2_33ws 2 21 29"));
+    assert!(rt; has_line(text, "xq4_153 91 1 4 5"));
+    Ok(())
+}
+
+// What doesn't stand in a list of ranges: an end, a byte and a number, each where the first fault is.
+#[test]
+fn names_the_first_fault_of_a_list(rt: HostRuntime) {
+    let cases = [
+        ("1", 1),
+        ("2+2,", 4),
+        ("01+2", 1),
+        ("00+2", 1),
+        ("1+02", 3),
+        ("+1", 0),
+        ("1++2", 2),
+        ("1+2;3+1", 3),
+        ("1+2,,3+1", 4),
+        (" 1+2", 0),
+        ("18446744073709551616+1", 0),
+        ("1+2,3+18446744073709551616x", 6),
+        ("99999999999999999999x", 0),
+    ];
+    for (text, place) in cases {
+        assert_eq!(rt;
+            Range::read_list(rt.alloc(), text).err(),
+            Some(ListError::BadList { place }),
+            "{text}"
+        );
+    }
+}
+
+#[test]
+fn reads_lists_of_ranges(rt: HostRuntime) -> Result<(), Fail> {
+    let read = Range::read_list(rt.alloc(), "0+4,10+2,18446744073709551615+0")?;
+    let ranges = [range(0, 4), range(10, 2), range(u64::MAX, 0)];
+    assert!(rt; read.as_slice() == ranges.as_slice());
+    let none = Range::read_list(rt.alloc(), "")?;
+    assert!(rt; none.is_empty());
+    Ok(())
+}
+
+// A list of 10,000 ranges, each of one number.
+#[test]
+fn reads_a_long_list(rt: HostRuntime) -> Result<(), Fail> {
+    let mut text = String::new(rt.alloc());
+    text.push_str("0+1")?;
+    for _ in 1..10_000 {
+        text.push_str(",0+1")?;
+    }
+    let read = Range::read_list(rt.alloc(), text.as_str())?;
+    assert!(rt; read.len() == 10_000);
+    Ok(())
+}
+
+/// A closed haul of this range that was offered one report.
+fn closed_haul(
+    alloc: Global,
+    job: &Job,
+    range: Range,
+    workers: u8,
+    offered: (u8, u32),
+) -> Result<Haul, Fail> {
+    let mut haul = Haul::open(alloc, *job, &[range], workers)?;
+    keep_book(alloc, &mut haul, arrivals(alloc, job, &[offered])?)?;
+    haul.close()?;
+    Ok(haul)
+}
+
+#[test]
+fn joins_two_hauls(rt: HostRuntime) -> Result<(), Fail> {
+    let job = job("", small()?)?;
+    let first = closed_haul(rt.alloc(), &job, range(0, 1), 1, (1, 0))?;
+    let second = closed_haul(rt.alloc(), &job, range(2, 2), 2, (2, 3))?;
+    let joined = first.join(second).ok().expect(&rt, "a joined haul");
+    assert!(rt; joined.workers() == 2);
+    assert!(rt; joined.count() == 3);
+    assert!(rt; joined.taken() == [(1, 0), (2, 3)].as_slice());
+    assert!(rt; joined.ranges() == [range(0, 1), range(2, 2)].as_slice());
+    assert!(rt; joined.census()?.unsettled == 2);
+    Ok(())
+}
+
+/// Why two hauls are not joined, if they aren't.
+fn fault_of(first: Haul, second: Haul) -> Option<JoinFault> {
+    match first.join(second) {
+        Ok(_) => None,
+        Err((_, _, fault)) => Some(fault),
+    }
+}
+
+#[test]
+fn joins_no_open_haul(rt: HostRuntime) -> Result<(), Fail> {
+    let first = closed_haul(rt.alloc(), &job("", small()?)?, range(0, 1), 1, (1, 0))?;
+    let open = Haul::open(rt.alloc(), job("x", small()?)?, &[range(2, 2)], 1)?;
+    assert!(rt; fault_of(first, open) == Some(JoinFault::Open));
+    Ok(())
+}
+
+#[test]
+fn joins_no_other_job(rt: HostRuntime) -> Result<(), Fail> {
+    let first = closed_haul(rt.alloc(), &job("", small()?)?, range(0, 1), 1, (1, 0))?;
+    let other = closed_haul(rt.alloc(), &job("x", small()?)?, range(2, 2), 1, (1, 2))?;
+    assert!(rt; fault_of(first, other) == Some(JoinFault::OtherJob));
+    Ok(())
+}
+
+#[test]
+fn joins_no_equal_haul(rt: HostRuntime) -> Result<(), Fail> {
+    let job = job("", small()?)?;
+    let first = closed_haul(rt.alloc(), &job, range(0, 1), 1, (1, 0))?;
+    let second = closed_haul(rt.alloc(), &job, range(0, 1), 1, (1, 0))?;
+    assert!(rt; fault_of(first, second) == Some(JoinFault::Overlap));
+    let nothing = closed_haul(rt.alloc(), &job, range(0, 0), 1, (1, 0))?;
+    let none = closed_haul(rt.alloc(), &job, range(0, 0), 1, (1, 0))?;
+    assert!(rt; fault_of(nothing, none).is_none());
+    Ok(())
+}
