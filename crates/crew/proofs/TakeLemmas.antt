@@ -14,13 +14,14 @@ use Rattle.std.proofs.lemmas.Map.Keys.{IsDistinct-tail}
 use mathlib.Core.Logic.{dite}
 use native.Mathlib.Decide.{ℕ_discrete}
 use Rattle.atomic_table.specs.Seated.{TableId}
-use Rattle.haul_core.specs.Books.{Held, entry}
+use Rattle.haul_core.specs.Books.{Held, StandsFor, entry}
 use Rattle.haul_core.specs.Keeping.{numbers_in}
 use Rattle.haul_core.specs.Reports.{Reported}
+use Rattle.haul_core.specs.declared.arrival.Arrival.{Arrival}
 use Rattle.crew.specs.Belts.{IsWhole, Line, Presented, Received, deaf, notes_of, silent}
 use Rattle.crew.specs.Crews.{Collected, IsPart, report_in, reports_in}
 use Rattle.crew.specs.Shifts.{HasWorked, StopsAt, reported, sender_numbers}
-use Rattle.crew.specs.Takes.{HasTaken, taken_by, was_missing}
+use Rattle.crew.specs.Takes.{HasHeard, HasTaken, taken_by, was_missing}
 use Rattle.crew.specs.declared.note.Note.{Note}
 use Rattle.crew.specs.declared.note.Note.TheVariants.{Done, Report}
 use Rattle.crew.proofs.BeltLemmas.{notes_first, notes_other}
@@ -227,49 +228,40 @@ taken_all missing w ((p, Report r) ∷ ms) own =
 
 -- ---- the whole crew
 
--- what was taken, of what was received of the workers
-pub has_taken : {name : TableId} (old new : Held) (workers : ℕ) (got : List (ℕ × Note)) (passes : List (Presented Note))
-    → Rises (was_missing old) → sender_numbers passes ≡ range_with_len 1 workers → All (HasWorked name (was_missing old)) passes
-    → All (IsWhole got) passes → All (λ m. (1 ≤ m.0) × (m.0 ≤ workers)) got → new.terms ≡ old.terms → new.closed ≡ old.closed
-    → (taken : (part : List Reported) × IsPart part (reports_in got) × (new.taken ≡ old.taken ++ map entry part))
-    → IsDistinct nat_eq (numbers_in new.taken) → HasTaken workers old new
-has_taken {name} old new workers got passes up numbers worked whole few terms closed taken distinct =
-    let missing = was_missing old in
-    let part = taken.0 in
+-- some of the reports that were received of the workers
+record OfCrew (workers : ℕ) (missing : List ℕ) (part : List Reported) : Type 0 where
+  by_workers : All (λ r. (1 ≤ r.worker) × (r.worker ≤ workers)) part
+  listed : All (λ r. Contains missing r.number) part
+  rises : (worker : ℕ) → 1 ≤ worker → worker ≤ workers → Rises (taken_by worker (map entry part))
+
+of_crew : (name : TableId) (missing : List ℕ) (workers : ℕ) (got : List (ℕ × Note)) (passes : List (Presented Note)) (part : List Reported)
+    → Rises missing → sender_numbers passes ≡ range_with_len 1 workers → All (HasWorked name missing) passes
+    → All (IsWhole got) passes → All (λ m. (1 ≤ m.0) × (m.0 ≤ workers)) got → IsPart part (reports_in got) → OfCrew workers missing part
+of_crew name missing workers got passes part up numbers worked whole few is =
     let each = received_each name missing got passes workers up numbers worked whole in
     let own : All (λ (m : ℕ × Note). All (IsOwn missing m.0) (report_in m.1)) got =
     all_own (IsOwn missing) got workers few (λ w le ge. (each w le ge).own) in
-    let of_workers : All (λ (r : Reported). (1 ≤ r.worker) × (r.worker ≤ workers)) part =
-    all_part (λ (r : Reported). (1 ≤ r.worker) × (r.worker ≤ workers)) part (reports_in got) taken.1 (workers_in got few own) in
-    let listed : All (λ (r : Reported). Contains missing r.number) part =
-    all_part (λ (r : Reported). Contains missing r.number) part (reports_in got) taken.1
-    (all_reports (IsOwn missing) (λ (r : Reported). Contains missing r.number) got (λ m h k d lt. (h k d lt).1) own) in
     record {
-      terms = terms;
-      closed = closed;
-      entries = map entry part;
-      taken = taken.2;
-      by_workers = All-map (λ (t : ℕ × ℕ). (1 ≤ t.0) × (t.0 ≤ workers)) entry part of_workers;
-      missing = All-map (λ (t : ℕ × ℕ). Contains missing t.1) entry part listed;
-      once = distinct_right (numbers_in old.taken) (numbers_in (map entry part))
-          (subst (IsDistinct nat_eq) (ap numbers_in taken.2 ∙ map-append (λ (t : ℕ × ℕ). t.1) old.taken (map entry part)) distinct);
-      ascending = λ w le ge.
-          rises_part (taken_by w (map entry part)) (taken_by w (map entry (reports_in got))) (taken_part w part (reports_in got) taken.1)
+      by_workers = all_part (λ (r : Reported). (1 ≤ r.worker) × (r.worker ≤ workers)) part (reports_in got) is (workers_in got few own);
+      listed = all_part (λ (r : Reported). Contains missing r.number) part (reports_in got) is
+          (all_reports (IsOwn missing) (λ (r : Reported). Contains missing r.number) got (λ m h k d lt. (h k d lt).1) own);
+      rises = λ w le ge.
+          rises_part (taken_by w (map entry part)) (taken_by w (map entry (reports_in got))) (taken_part w part (reports_in got) is)
           (subst Rises (sym (taken_all missing w got own)) (each w le ge).rises);
     }
   where
     workers_in : (got : List (ℕ × Note)) → All (λ m. (1 ≤ m.0) × (m.0 ≤ workers)) got
-        → All (λ (m : ℕ × Note). All (IsOwn (was_missing old) m.0) (report_in m.1)) got
+        → All (λ (m : ℕ × Note). All (IsOwn missing m.0) (report_in m.1)) got
         → All (λ (r : Reported). (1 ≤ r.worker) × (r.worker ≤ workers)) (reports_in got)
     workers_in [] few own = All-nil (λ (r : Reported). (1 ≤ r.worker) × (r.worker ≤ workers))
     workers_in (m ∷ ms) few own =
         let P : Reported → Type 0 = λ r. (1 ≤ r.worker) × (r.worker ≤ workers) in
         let here = All-head (λ (n : ℕ × Note). (1 ≤ n.0) × (n.0 ≤ workers)) m ms few in
-        let mine = All-head (λ (n : ℕ × Note). All (IsOwn (was_missing old) n.0) (report_in n.1)) m ms own in
+        let mine = All-head (λ (n : ℕ × Note). All (IsOwn missing n.0) (report_in n.1)) m ms own in
         All-append P (report_in m.1) (reports_in ms)
         (λ k d lt. let e = (mine k d lt).0 in (omega (arith, here.0, e), omega (arith, here.1, e)))
         (workers_in ms (All-tail (λ (n : ℕ × Note). (1 ≤ n.0) × (n.0 ≤ workers)) m ms few)
-        (All-tail (λ (n : ℕ × Note). All (IsOwn (was_missing old) n.0) (report_in n.1)) m ms own))
+        (All-tail (λ (n : ℕ × Note). All (IsOwn missing n.0) (report_in n.1)) m ms own))
 
 distinct_none : IsDistinct nat_eq []
 unfolding IsDistinct
@@ -285,6 +277,15 @@ taken_none workers held = record {
   missing = All-nil (λ (t : ℕ × ℕ). Contains (was_missing held) t.1);
   once = distinct_none;
   ascending = λ w le ge i j d lt small. absurd (omega arith);
+}
+
+pub heard_none : (workers : ℕ) (held : Held) → HasHeard workers held held
+heard_none workers held = record {
+  offers = [];
+  by_workers = All-nil (λ (r : Reported). (1 ≤ r.worker) × (r.worker ≤ workers));
+  missing = All-nil (λ (r : Reported). Contains (was_missing held) r.number);
+  in_order = λ w le ge i j d lt small. absurd (omega arith);
+  stands = λ arrivals s. subst (λ (l : List Arrival). StandsFor l held) (sym (append-nil arrivals)) s;
 }
 
 -- ---- what a crew begins with
@@ -308,27 +309,52 @@ pub belts_of : (name : TableId) (missing : List ℕ) (passes : List (Presented N
     → All (λ (s : Presented Note). s.belt ≡ name) passes
 belts_of name missing passes worked k d lt = (worked k d lt).1.belt
 
-pub crew_has_taken : {name : TableId} {started : ℕ} {before after : Received Note} {old mid : Held} {answered : Bool} (belt : Line) (new : Held) (workers : ℕ)
-    (missing : List ℕ) (passes first back : List (Presented Note)) → Collected started 0 before after old mid answered → before ≡ deaf belt
-    → belt.workers ≡ workers
-    → missing ≡ was_missing old → IsStrictlyIncreasing missing → first ≡ map (silent name) (range_with_len 1 workers) → back ≡ []
-    → sender_numbers passes ≡ sender_numbers back ++ sender_numbers first → All (HasWorked name missing) passes
-    → All (IsWhole after.got) passes → new ≡ mid → IsDistinct nat_eq (numbers_in mid.taken) → HasTaken workers old new
-crew_has_taken {name} {started} {before} {after} {old} {mid} belt new workers missing passes first back c begun as_many listed up silents none
-    numbers worked whole same
-    distinct =
-    let notes_are : after.got ≡ c.notes = c.got ∙ ap (λ (r : Received Note). r.got ++ c.notes) begun in
-    let bound : before.belt.workers ≡ workers = ap (λ (r : Received Note). r.belt.workers) begun ∙ as_many in
-    let few : All (λ (m : ℕ × Note). (1 ≤ m.0) × (m.0 ≤ workers)) after.got =
-    subst (All (λ (m : ℕ × Note). (1 ≤ m.0) × (m.0 ≤ workers))) (sym notes_are)
-    (λ k d lt. let s = c.senders k d lt in (s.0, omega (arith, s.1, bound))) in
-    subst (HasTaken workers old) (sym same)
-    (has_taken {name = name} old mid workers after.got passes
-    (AllPairs-from_increasing (was_missing old) (subst IsStrictlyIncreasing listed up))
-    (numbers ∙ ap (λ (l : List (Presented Note)). sender_numbers l ++ sender_numbers first) none ∙ ap sender_numbers silents
-    ∙ silent_numbers name (range_with_len 1 workers))
-    (subst (λ (l : List ℕ). All (HasWorked name l) passes) listed worked) whole few c.terms c.closed
-    (c.taken.0, subst (λ (l : List (ℕ × Note)). IsPart c.taken.0 (reports_in l)) (sym notes_are) c.taken.1, c.taken.2) distinct)
+-- what is known when a crew ends
+module _ {name : TableId} {started : ℕ} {before after : Received Note} {old mid : Held} {answered : Bool} (belt : Line) (workers : ℕ)
+    (missing : List ℕ) (passes first back : List (Presented Note)) (c : Collected started 0 before after old mid answered) (begun : before ≡ deaf belt)
+    (as_many : belt.workers ≡ workers) (listed : missing ≡ was_missing old) (up : IsStrictlyIncreasing missing)
+    (silents : first ≡ map (silent name) (range_with_len 1 workers)) (none : back ≡ [])
+    (numbers : sender_numbers passes ≡ sender_numbers back ++ sender_numbers first) (worked : All (HasWorked name missing) passes)
+    (whole : All (IsWhole after.got) passes) where
+  crew_part : (part : List Reported) → IsPart part (reports_in c.notes) → OfCrew workers (was_missing old) part
+  crew_part part is =
+      let notes_are : after.got ≡ c.notes = c.got ∙ ap (λ (r : Received Note). r.got ++ c.notes) begun in
+      let bound : before.belt.workers ≡ workers = ap (λ (r : Received Note). r.belt.workers) begun ∙ as_many in
+      of_crew name (was_missing old) workers after.got passes part
+      (AllPairs-from_increasing (was_missing old) (subst IsStrictlyIncreasing listed up))
+      (numbers ∙ ap (λ (l : List (Presented Note)). sender_numbers l ++ sender_numbers first) none ∙ ap sender_numbers silents
+      ∙ silent_numbers name (range_with_len 1 workers))
+      (subst (λ (l : List ℕ). All (HasWorked name l) passes) listed worked) whole
+      (subst (All (λ (m : ℕ × Note). (1 ≤ m.0) × (m.0 ≤ workers))) (sym notes_are)
+      (λ k d lt. let s = c.senders k d lt in (s.0, omega (arith, s.1, bound))))
+      (subst (λ (l : List (ℕ × Note)). IsPart part (reports_in l)) (sym notes_are) is)
+
+  pub crew_has_taken : (new : Held) → new ≡ mid → IsDistinct nat_eq (numbers_in mid.taken) → HasTaken workers old new
+  crew_has_taken new same distinct =
+      let part = c.taken.0 in
+      let of = crew_part part c.taken.1 in
+      subst (HasTaken workers old) (sym same) (record {
+        terms = c.terms;
+        closed = c.closed;
+        entries = map entry part;
+        taken = c.taken.2;
+        by_workers = All-map (λ (t : ℕ × ℕ). (1 ≤ t.0) × (t.0 ≤ workers)) entry part of.by_workers;
+        missing = All-map (λ (t : ℕ × ℕ). Contains (was_missing old) t.1) entry part of.listed;
+        once = distinct_right (numbers_in old.taken) (numbers_in (map entry part))
+            (subst (IsDistinct nat_eq) (ap numbers_in c.taken.2 ∙ map-append (λ (t : ℕ × ℕ). t.1) old.taken (map entry part)) distinct);
+        ascending = of.rises;
+      })
+
+  pub crew_has_heard : (new : Held) → new ≡ mid → HasHeard workers old new
+  crew_has_heard new same =
+      let of = crew_part c.offered c.some in
+      subst (HasHeard workers old) (sym same) (record {
+        offers = c.offered;
+        by_workers = of.by_workers;
+        missing = of.listed;
+        in_order = of.rises;
+        stands = c.stands;
+      })
 
 pub crew_stops : (may_stop : ℕ → ℕ → Type 0) (missing wanted : List ℕ) (stopped now : Option ℕ) → IfSome stopped (StopsAt may_stop missing) → missing ≡ wanted
     → now ≡ stopped → IfSome now (StopsAt may_stop wanted)

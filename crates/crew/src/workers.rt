@@ -3,11 +3,11 @@ ghost use Rattle.std.specs.Prelude.{◌≡◌, ◌<◌, ◌≤◌, ◌+◌, ◌+
 ghost use Rattle.std.specs.List.{IsDistinct, range_with_len};
 ghost use Rattle.std.specs.List.Sorted.{IsStrictlyIncreasing};
 ghost use Rattle.haul_core.specs.Keeping.{numbers_in};
-ghost use Rattle.haul_core.specs.Missing.{IsComplete};
+ghost use Rattle.haul_core.specs.Missing.{AreAll, IsComplete};
 ghost use Rattle.crew.specs.Belts.{IsWhole, deaf, silent};
 ghost use Rattle.crew.specs.Crews.{Collected};
 ghost use Rattle.crew.specs.Shifts.{AreBack, Leaves, StopsAt, sender_numbers};
-ghost use Rattle.crew.specs.Takes.{HasTaken, was_missing};
+ghost use Rattle.crew.specs.Takes.{HasHeard, HasTaken, was_missing};
 ghost use Rattle.crew.specs.Tickets.{fresh};
 ghost use Rattle.crew.specs.declared.workers.CrewError.TheVariants as CrewError;
 ghost use Rattle.crew.specs.declared.shift.End.TheVariants as End;
@@ -72,7 +72,9 @@ pub fn take<G: Gate + Sync, R: Threads + Wait + Sync, H: Watch>(
     ensures closed { haul.closed ≡ true → result ≡ Err (haul, CrewError.Closed) }
     ensures open { IfErr result (λ back. back.1 ≡ CrewError.Closed → haul.closed ≡ true) }
     ensures taken { haul.closed ≡ false → MatchResult result (HasTaken workers haul) (λ back. HasTaken workers haul back.0) }
+    ensures heard { haul.closed ≡ false → MatchResult result (HasHeard workers haul) (λ back. HasHeard workers haul back.0) }
     ensures complete { IfOk result (λ done. IsComplete done.terms.ranges done.taken) }
+    ensures all { IfOk result (λ done. AreAll done.terms.ranges (numbers_in done.taken)) }
     ensures stopped { (worker : ℕ) → IfErr result (λ back. back.1 ≡ CrewError.Stopped worker → StopsAt (G.may_stop gate.now) (was_missing haul) worker) }
     ensures incomplete { IfErr result (λ back. back.1 ≢ CrewError.Closed → ¬ IsComplete back.0.terms.ranges back.0.taken) }
 {
@@ -101,7 +103,7 @@ fn cause(stopped: Option<u8>) -> CrewError
 }
 
 /// Lets workers survey what is missing. Which of them was stopped, if one was: the one with the least number.
-#[tactic(auto, using(crate::proofs::TakeLemmas::taken_none))]
+#[tactic(auto, using(crate::proofs::TakeLemmas::heard_none, crate::proofs::TakeLemmas::taken_none))]
 fn take_missing<G: Gate + Sync, R: Threads + Wait + Sync, H: Watch>(
     alloc: Global,
     rt: &R,
@@ -111,6 +113,7 @@ fn take_missing<G: Gate + Sync, R: Threads + Wait + Sync, H: Watch>(
     watch: &mut H,
 ) -> (Haul, Option<u8>)
     ensures taken { HasTaken workers haul result.0 }
+    ensures heard { HasHeard workers haul result.0 }
     ensures stopped { IfSome result.1 (StopsAt (G.may_stop gate.now) (was_missing haul)) }
 {
     if haul.is_complete() {

@@ -42,16 +42,17 @@ fn arrivals(alloc: Global, job: &Job, offers: &[(u8, u32)]) -> Result<Vec<Arriva
     Ok(arrivals)
 }
 
+/// What a haul of another seed replies to a report of its soup 3.
+fn replies_to_another(alloc: Global, haul: &mut Haul) -> Result<Vec<Reply>, Fail> {
+    let arriving = arrivals(alloc, &job("12", small()?)?, &[(1, 3)])?;
+    Ok(keep_book(alloc, haul, arriving)?)
+}
+
 #[test]
 fn refuses_other_jobs(rt: HostRuntime) -> Result<(), Fail> {
     let alloc = rt.alloc();
-    let range = Range {
-        first: 0,
-        count: 40,
-    };
-    let mut haul = Haul::open(alloc, job("1", small()?)?, &[range], 1)?;
-    let arriving = arrivals(alloc, &job("12", small()?)?, &[(1, 3)])?;
-    let replies = keep_book(alloc, &mut haul, arriving)?;
+    let mut haul = Haul::open(alloc, job("1", small()?)?, &[range(0, 40)], 1)?;
+    let replies = replies_to_another(alloc, &mut haul)?;
     assert_eq!(rt;
         replies.as_slice(),
         [Reply::Refused(Refusal::OtherJob)].as_slice()

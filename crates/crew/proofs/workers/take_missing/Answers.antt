@@ -2,7 +2,7 @@ use Rattle.std.proofs.Common.{◌≡◌, ◌∙◌, All, ap, arith, length, subs
 use Rattle.std.specs.List.{range_with_len}
 use Rattle.crew.specs.Belts.{Presented, Received, silent}
 use Rattle.crew.specs.declared.note.Note.{Note}
-use Rattle.crew.proofs.TakeLemmas.{all_silent, belts_of, crew_has_taken, crew_stops, silent_length}
+use Rattle.crew.proofs.TakeLemmas.{all_silent, belts_of, crew_has_heard, crew_has_taken, crew_stops, silent_length}
 use Rattle.crew.proofs.workers.take_missing.Goals as goal
 
 pub run_in_scope-crew-requires-clause-senders : goal.run_in_scope-crew-requires-clause-senders
@@ -39,9 +39,17 @@ pub returns-clause-taken : goal.returns-clause-taken
 returns-clause-taken g c =
     let start = c.in-Ok.ensures in
     let crew = c.run_in_scope-crew.ensures in
-    crew_has_taken c.in-Ok.start.site.belt c.end_crew.result.0 c.args.workers c.in-Ok.start.site.missing.items c.run_in_scope-crew.result.senders.items
+    crew_has_taken c.in-Ok.start.site.belt c.args.workers c.in-Ok.start.site.missing.items c.run_in_scope-crew.result.senders.items
     c.in-Ok.start.senders.items c.in-Ok.start.back.items crew.collected.2 start.receiver start.workers start.missing start.ascending start.senders start.back
-    crew.numbers crew.back.worked c.end_crew.ensures.whole c.end_crew.ensures.haul c.end_crew.ensures.distinct
+    crew.numbers crew.back.worked c.end_crew.ensures.whole c.end_crew.result.0 c.end_crew.ensures.haul c.end_crew.ensures.distinct
+
+pub returns-clause-heard : goal.returns-clause-heard
+returns-clause-heard g c =
+    let start = c.in-Ok.ensures in
+    let crew = c.run_in_scope-crew.ensures in
+    crew_has_heard c.in-Ok.start.site.belt c.args.workers c.in-Ok.start.site.missing.items c.run_in_scope-crew.result.senders.items
+    c.in-Ok.start.senders.items c.in-Ok.start.back.items crew.collected.2 start.receiver start.workers start.missing start.ascending start.senders start.back
+    crew.numbers crew.back.worked c.end_crew.ensures.whole c.end_crew.result.0 c.end_crew.ensures.haul
 
 pub returns-clause-stopped : goal.returns-clause-stopped
 returns-clause-stopped g c =
