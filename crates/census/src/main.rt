@@ -8,8 +8,6 @@
 /// The commands and their arguments, as `clap` reads words by them.
 mod application;
 mod program;
-#[cfg(test)]
-mod tests;
 mod words;
 
 use commands::progress::Progress;
