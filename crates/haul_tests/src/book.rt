@@ -234,22 +234,29 @@ fn joins_no_open_haul(rt: HostRuntime) -> Result<(), Fail> {
     Ok(())
 }
 
+/// Why closed hauls, of a seed and a range each, are not joined, if they aren't. Each was offered the soup 0.
+fn fault_between(
+    alloc: Global,
+    first: (&str, Range),
+    second: (&str, Range),
+) -> Result<Option<JoinFault>, Fail> {
+    let one = closed_haul(alloc, &job(first.0, small()?)?, first.1, 1, (1, 0))?;
+    let other = closed_haul(alloc, &job(second.0, small()?)?, second.1, 1, (1, 0))?;
+    Ok(fault_of(one, other))
+}
+
 #[test]
 fn joins_no_other_job(rt: HostRuntime) -> Result<(), Fail> {
-    let first = closed_haul(rt.alloc(), &job("", small()?)?, range(0, 1), 1, (1, 0))?;
-    let other = closed_haul(rt.alloc(), &job("x", small()?)?, range(2, 2), 1, (1, 2))?;
-    assert!(rt; fault_of(first, other) == Some(JoinFault::OtherJob));
+    let fault = fault_between(rt.alloc(), ("", range(0, 1)), ("x", range(2, 2)))?;
+    assert!(rt; fault == Some(JoinFault::OtherJob));
     Ok(())
 }
 
 #[test]
 fn joins_no_equal_haul(rt: HostRuntime) -> Result<(), Fail> {
-    let job = job("", small()?)?;
-    let first = closed_haul(rt.alloc(), &job, range(0, 1), 1, (1, 0))?;
-    let second = closed_haul(rt.alloc(), &job, range(0, 1), 1, (1, 0))?;
-    assert!(rt; fault_of(first, second) == Some(JoinFault::Overlap));
-    let nothing = closed_haul(rt.alloc(), &job, range(0, 0), 1, (1, 0))?;
-    let none = closed_haul(rt.alloc(), &job, range(0, 0), 1, (1, 0))?;
-    assert!(rt; fault_of(nothing, none).is_none());
+    let alloc = rt.alloc();
+    let fault = fault_between(alloc, ("", range(0, 1)), ("", range(0, 1)))?;
+    assert!(rt; fault == Some(JoinFault::Overlap));
+    assert!(rt; fault_between(alloc, ("", range(0, 0)), ("", range(0, 0)))?.is_none());
     Ok(())
 }
