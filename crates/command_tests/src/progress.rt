@@ -7,7 +7,7 @@ use std::time::{Clock, Duration};
 
 /// A clock on which 100 milliseconds pass between two readings, and which has so many at the next.
 #[derive(Drop)]
-pub struct Ticking(Cell<u64>);
+pub(crate) struct Ticking(Cell<u64>);
 
 impl Clock for Ticking {
     fn monotonic(&self) -> io::Result<Duration> {
@@ -22,7 +22,11 @@ impl Clock for Ticking {
 }
 
 /// A line on this writer, by a clock that begins at 0.
-pub fn line_on<W: Write>(rt: &impl AllocGlobal, writer: W, is_shown: bool) -> Progress<W, Ticking> {
+pub(crate) fn line_on<W: Write>(
+    rt: &impl AllocGlobal,
+    writer: W,
+    is_shown: bool,
+) -> Progress<W, Ticking> {
     Progress::new(rt.alloc(), writer, Ticking(Cell::new(0)), is_shown)
 }
 
