@@ -3,15 +3,11 @@
 #SBATCH --ntasks=1
 #SBATCH --cpus-per-task=1
 #SBATCH --requeue
-#SBATCH --output=census-%a.log
 #SBATCH --open-mode=append
-# A census as an array job of Slurm: a task for each part, on nodes that share FOLDER and this repository.
+# What a task of Slurm's array job does: the part with the task's number. cluster/with-slurm submits it.
 #
-# usage: sbatch --array=0-LAST cluster/census.sbatch FOLDER TOTAL SIZE [further words for census work, as --seed x]
+# usage: cluster/census.sbatch PART FOLDER TOTAL SIZE [further words for census work, as --seed x]
 #
-# LAST is the number of the last part: with 1,000,000 soups in parts of 20,000 it is 49. Submit it from the top of this
-# repository, and again after a crash: parts that are whole are not taken again.
+# PART is the program of a part: Slurm runs a copy of this file, which doesn't know where it came from.
 set -euo pipefail
-folder=$1 total=$2 size=$3
-shift 3
-exec cluster/part "$folder" "$total" "$size" "$SLURM_ARRAY_TASK_ID" "$@"
+exec "$1" "$2" "$3" "$4" "$SLURM_ARRAY_TASK_ID" "${@:5}"

@@ -1,0 +1,81 @@
+# shellcheck shell=bash
+# What the recipes share: the words that they take, and the file `job` in a folder of lines, which says what census these
+# lines are of.
+#
+# A recipe sets `here` to the folder that it stands in, loads this file, and then calls `read_folder`, `read_words` and
+# `keep_job`.
+
+census=${CENSUS:-$here/../bin/census}
+
+# One line that says why nothing is done.
+refuse() {
+    printf '%s: %s\n' "${0##*/}" "$1" >&2
+    exit 2
+}
+
+# The line of the recipe's own head that says its words.
+usage() {
+    sed -n 's/^# usage: /usage: /p' "$0" >&2
+    exit 2
+}
+
+# Sets `folder` to a name for the folder that no program takes for an option or for an assignment.
+read_folder() {
+    [[ $1 ]] || refuse "FOLDER is empty"
+    folder=$1
+    [[ $folder == /* ]] || folder=./$folder
+}
+
+# Whether a word is a whole number from 1 on, of at most thirteen digits.
+is_count() {
+    [[ $1 =~ ^[1-9][0-9]{0,12}$ ]]
+}
+
+# Sets `total`, `size` and `parts` from the words TOTAL and SIZE, and looks at those that go on to `census work`. Nothing is
+# written before the program has understood them.
+read_words() {
+    total=$1 size=$2
+    shift 2
+    is_count "$total" || refuse "TOTAL is a number of soups, from 1 on, and not '$total'"
+    is_count "$size" || refuse "SIZE is the number of soups in a part, from 1 on, and not '$size'"
+    [[ $total -le 1099511627776 ]] || refuse "TOTAL is at most 1099511627776, since soups are numbered below 2^40"
+    [[ $size -le 16777216 ]] || refuse "SIZE is at most 16777216, which is what one call of census takes"
+    parts=$(((total + size - 1) / size))
+    local word
+    for word in "$@"; do
+        case $word in
+            --first | --first=* | --worker | --worker=* | --also | --also=* | --count | --count=*)
+                refuse "${word%%=*} can't be given here: the parts say it themselves" ;;
+        esac
+    done
+    "$census" work --count 0 --worker 1 "$@" || exit
+}
+
+# Writes down what census the lines in the folder are of, or refuses what another job says: other words, another SIZE, or fewer
+# soups than before. More soups than before go on.
+#
+# The file has a line `total N`, then `size N`, and then each further word as a shell would quote it. It is made under a name
+# of its own and then linked, so that of many parts that begin at once one makes it, and none reads half of it.
+keep_job() {
+    local lines now new known
+    mkdir -p -- "$folder" || exit
+    # Lines are looked for before the job: who makes a job does so before the first line.
+    lines=$(find "$folder" -maxdepth 1 \( -name '*.lines' -o -name '*.part' \) -print -quit)
+    now=$(printf 'size %d\n' "$size" && if [[ $# != 0 ]]; then printf 'word %q\n' "$@"; fi)
+    new=$folder/job.$(uname -n).$$
+    if [[ ! -e $folder/job ]]; then
+        [[ -z $lines ]] || refuse "the folder has lines and no file 'job', so nothing says what census they are of"
+        printf 'total %d\n%s\n' "$total" "$now" > "$new"
+        ln -- "$new" "$folder/job" 2> /dev/null || [[ -e $folder/job ]] || refuse "can't make the file 'job' in the folder"
+        rm -f -- "$new"
+    fi
+    [[ $(tail -n +2 -- "$folder/job") == "$now" ]] ||
+        refuse "the file 'job' in the folder says another SIZE or other words; take another folder for this census"
+    read -r _ known < "$folder/job"
+    is_count "$known" || refuse "the file 'job' in the folder has no total in its first line"
+    [[ $known -le $total ]] || refuse "the file 'job' in the folder says $known soups, and TOTAL is less"
+    if [[ $known -lt $total ]]; then
+        printf 'total %d\n%s\n' "$total" "$now" > "$new"
+        mv -- "$new" "$folder/job"
+    fi
+}
