@@ -136,3 +136,22 @@ fn the_edge_is_one_generation_away(rt: HostRuntime) -> Result<(), Fail> {
     assert_eq!(rt; blinker.run(alloc, &life, 2).err(), Some(StepError::Edge));
     Ok(())
 }
+
+// Two upright blinkers with 1,900,000 columns between them lie after an odd number of generations.
+#[test]
+fn far_blinkers_turn(rt: HostRuntime) -> Result<(), Fail> {
+    let alloc = rt.alloc();
+    let mut cells = Vec::new(alloc);
+    for x in [-950_000, 950_000] {
+        for y in -1..2 {
+            cells.push(Cell { y, x })?;
+        }
+    }
+    let blinkers = Pattern::from_cells(alloc, cells.as_slice())?;
+    let later = blinkers.run(alloc, &Rule::life(), 301)?;
+    assert_eq!(rt; later.population(), 6);
+    for x in [-950_001, -949_999, 949_999, 950_001] {
+        assert!(rt; later.has(x, 0));
+    }
+    Ok(())
+}

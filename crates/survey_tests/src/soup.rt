@@ -52,6 +52,16 @@ fn draws_a_digest(rt: HostRuntime) -> Result<(), Fail> {
     Ok(())
 }
 
+// No bit set is no cell, and all bits set are all 256 cells.
+#[test]
+fn draws_an_empty_and_a_full_soup(rt: HostRuntime) -> Result<(), Fail> {
+    assert!(rt; soup_of_digest(rt.alloc(), &[0; 32])?.cells().is_empty());
+    let full = soup_of_digest(rt.alloc(), &[255; 32])?;
+    assert_eq!(rt; full.population(), 256);
+    assert!(rt; full.has(0, 0) && full.has(15, 15));
+    Ok(())
+}
+
 #[test]
 fn refuses_seeds(rt: HostRuntime) -> Result<(), Fail> {
     let spaces = "                                                                 ";
