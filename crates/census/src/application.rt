@@ -15,11 +15,11 @@ const LIFE: &str = "b3s23";
 /// What `--workers` means where workers run soups.
 const CREW_HELP: &str =
     "How many workers run soups at a time, from 1 to 16, each in a thread of its own. For one on each processor say \
-     `--workers $(nproc)`";
+     `--workers $(nproc)`, where there are at most 16. Fewer work where the system starts no more threads; the haul is the same";
 
 /// What `--workers` means where workers have reported.
 const REPORTERS_HELP: &str =
-    "The greatest number of a worker whose reports are taken, from 1 to 16";
+    "The greatest number of a worker whose reports are taken, from 1 to 16: lines of worker 3 need `--workers 3`";
 
 /// The program as `clap` reads its words.
 ///
@@ -160,7 +160,8 @@ fn take_command<'a>(alloc: Global) -> Result<Command<'a>, AllocError>
             "Runs soups until they have settled, and counts their objects. Prints the haul: for each apgcode how many objects \
              have it, and the least three numbers of soups that left one.\n\n\
              The soups are those of SEED with the numbers from FIRST on, COUNT of them, and those of the ranges in LIST. No \
-             two ranges may share a number. When a soup has settled is said as for `name`.",
+             two ranges may share a number. When a soup has settled is said as for `name`.\n\n\
+             Nothing is kept of a census that is stopped; `work` keeps each soup that it has printed.",
         )
         .after_help("Example: census take --seed abc --count 100");
     let command = with_count(alloc, with_first(alloc, command)?)?;
@@ -337,7 +338,10 @@ fn limit_argument<'a>(alloc: Global) -> Arg<'a>
         .value_name("LIMIT")
         .value_parser(value_parser!(u32).range(0..=100_000))
         .default_value("30300")
-        .help("The last generation at which there may be a look, from 0 to 100000")
+        .help(
+            "The last generation at which there may be a look, from 0 to 100000. A pattern that explodes under its rule takes \
+             ever more memory and time up to there",
+        )
 }
 
 fn number_argument<'a>(alloc: Global) -> Arg<'a>
