@@ -11,7 +11,7 @@ use Rattle.plane_core.specs.declared.parts.Axis.TheVariants.{Columns, Rows}
 use Rattle.plane_core.specs.declared.parts.Cut.{Cut}
 use Rattle.plane_core.specs.Cells.{has, same_cell, set_of, king_distance, distance, on_plane, plane_bound, is_within, InOrder, IsPattern}
 use Rattle.plane_core.specs.Generations.{around, lives, after}
-use Rattle.plane_core.specs.Parts.{AreApart, HasRun, IsCut, is_before, leaves_band, place_on, side}
+use Rattle.plane_core.specs.Parts.{AreApart, FarPatternsRunAlone, HasRun, IsCut, is_before, leaves_band, place_on, side}
 use Rattle.plane_core.specs.Rules.{Numbers, is_birth, is_survival}
 use Rattle.plane_core.proofs.BlockLemmas.{around-cons}
 use Rattle.plane_core.proofs.GenerationLemmas.{a_neighbour, after-none, distance_itself, has-next, lives_cases}
@@ -41,7 +41,7 @@ around-beside (d ∷ ds) c = go (king_distance c d == 1) refl (around-beside ds 
 abbrev pub Agree : Cell → List Cell → List Cell → Type 0
 Agree c S T = (d : Cell) → king_distance c d ≤ 1 → has S d ≡ has T d
 
-around-local : (S T : List Cell) (c : Cell) → InOrder S → InOrder T → Agree c S T → around S c ≡ around T c
+pub around-local : (S T : List Cell) (c : Cell) → InOrder S → InOrder T → Agree c S T → around S c ≡ around T c
 around-local S T c o u same =
     sym (around-beside S c)
     ∙ ap (λ (V : List Cell). around V c)
@@ -59,7 +59,7 @@ around-local S T c o u same =
         go true e = ap (λ (a : Bool). a && true) (same d (let one = eqb-true (king_distance c d) 1 e in omega arith))
         go false e = and-false (has S d) ∙ sym (and-false (has T d))
 
-lives-local : (rule : Numbers) (S T : List Cell) (c : Cell) → InOrder S → InOrder T → Agree c S T → lives rule S c ≡ lives rule T c
+pub lives-local : (rule : Numbers) (S T : List Cell) (c : Cell) → InOrder S → InOrder T → Agree c S T → lives rule S c ≡ lives rule T c
 lives-local rule S T c o u same =
     λ i. cond (same c (omega (arith, distance_itself c.x, distance_itself c.y)) i) (is_survival rule (around-local S T c o u same i))
     (is_birth rule (around-local S T c o u same i))
@@ -70,7 +70,7 @@ lives-local rule S T c o u same =
 abbrev pub IsFar : Cell → List Cell → Type 0
 IsFar c S = (d : Cell) → has S d ≡ true → 1 < king_distance c d
 
-far_or_near : (c : Cell) (S : List Cell) → IsFar c S ⊎ ((d : Cell) × (has S d ≡ true) × (king_distance c d ≤ 1))
+pub far_or_near : (c : Cell) (S : List Cell) → IsFar c S ⊎ ((d : Cell) × (has S d ≡ true) × (king_distance c d ≤ 1))
 far_or_near c [] = inl (λ d h. absurd (false≢true h))
 far_or_near c (d ∷ ds) = go (nat_lt 1 (king_distance c d)) refl (far_or_near c ds)
   where
@@ -84,15 +84,15 @@ far_or_near c (d ∷ ds) = go (nat_lt 1 (king_distance c d)) refl (far_or_near c
     ])
 
 -- what isn't true is false
-false_unless : (b : Bool) → ¬ (b ≡ true) → b ≡ false
+pub false_unless : (b : Bool) → ¬ (b ≡ true) → b ≡ false
 false_unless true h = absurd (h refl)
 false_unless false h = refl
 
-far-has : (c : Cell) (S : List Cell) → IsFar c S → (d : Cell) → king_distance c d ≤ 1 → has S d ≡ false
+pub far-has : (c : Cell) (S : List Cell) → IsFar c S → (d : Cell) → king_distance c d ≤ 1 → has S d ≡ false
 far-has c S far d near = false_unless (has S d) (λ h. let out = far d h in absurd (omega arith))
 
 -- nothing is alive where nothing is seen
-far-lives : (rule : Numbers) (c : Cell) (S : List Cell) → IsFar c S → lives rule S c ≡ false
+pub far-lives : (rule : Numbers) (c : Cell) (S : List Cell) → IsFar c S → lives rule S c ≡ false
 far-lives rule c S far = false_unless (lives rule S c) (λ h. elim (lives_cases rule S c h) [
   | inl alive ↦ let out = far c alive in absurd (omega (arith, out, distance_itself c.x, distance_itself c.y))
   | inr some ↦ let d = a_neighbour S c some in let out = far d.0 d.1 in absurd (omega (arith, out, d.2))
@@ -100,7 +100,7 @@ far-lives rule c S far = false_unless (lives rule S c) (λ h. elim (lives_cases 
 
 -- ---- where the cells come from
 
-triangle : (c d e : Cell) (m n : ℕ) → king_distance c d ≤ m → king_distance d e ≤ n → king_distance c e ≤ m + n
+pub triangle : (c d e : Cell) (m n : ℕ) → king_distance c d ≤ m → king_distance d e ≤ n → king_distance c e ≤ m + n
 triangle c d e m n h k =
     let x : distance c.x e.x ≤ m + n = one c.x d.x e.x (omega arith) (omega arith) in
     let y : distance c.y e.y ≤ m + n = one c.y d.y e.y (omega arith) (omega arith) in
@@ -109,14 +109,14 @@ triangle c d e m n h k =
     one : (a b c : ℤ) → distance a b ≤ m → distance b c ≤ n → distance a c ≤ m + n
     one a b c h k = omega (arith, ints)
 
-turned : (c d : Cell) → king_distance c d ≡ king_distance d c
+pub turned : (c d : Cell) → king_distance c d ≡ king_distance d c
 turned c d = λ i. max (one c.x d.x i) (one c.y d.y i)
   where
     one : (a b : ℤ) → distance a b ≡ distance b a
     one a b = omega (arith, ints)
 
 -- a cell that lives after g generations is at most g from one that lived
-near-after : (rule : Numbers) (S : List Cell) (g : ℕ) (c : Cell) → has (after rule S g) c ≡ true
+pub near-after : (rule : Numbers) (S : List Cell) (g : ℕ) (c : Cell) → has (after rule S g) c ≡ true
     → (d : Cell) × (has S d ≡ true) × (king_distance c d ≤ g)
 near-after rule S zero c e = (c, subst (λ (T : List Cell). has T c ≡ true) (after-none rule S) e, omega (arith, distance_itself c.x, distance_itself c.y))
 near-after rule S (suc g) c e =
@@ -267,3 +267,48 @@ run_from_parts rule S cut n before past whole p one other both = record {
     either c false is e =
         list_all-has (is_within (plane_bound - n)) (filter (others (is_before cut)) S) other.inside c
         (sym (ap (λ (a : Bool). a || has (filter (others (is_before cut)) S) c) is) ∙ e)
+
+-- ---- two patterns that lie far apart
+
+-- each is the part of both that passes the test of being one of the first's cells, or not
+pub far_patterns : FarPatternsRunAlone
+far_patterns rule one other g o u far =
+    same_lists (after rule both g) (set_of (after rule one g ++ after rule other g)) (in_order-after rule both g (in_order-set_of (one ++ other)))
+    (in_order-set_of (after rule one g ++ after rule other g))
+    (λ c. parts-after rule both (has one) g g (in_order-set_of (one ++ other)) apart (omega arith) c
+    ∙ (λ i. has (after rule (first i) g) c || has (after rule (second i) g) c)
+    ∙ sym (has-set_of (after rule one g ++ after rule other g) c ∙ has-append (after rule one g) (after rule other g) c))
+  where
+    both : List Cell
+    both = set_of (one ++ other)
+
+    has-both : (c : Cell) → has (set_of (one ++ other)) c ≡ (has one c || has other c)
+    has-both c = has-set_of (one ++ other) c ∙ has-append one other c
+
+    apart : AreApart (2 * g) (has one) (set_of (one ++ other))
+    apart c d h k in_one out =
+        far c d in_one (sym (ap (λ (a : Bool). a || has other d) out) ∙ sym (has-both d) ∙ k)
+
+    absent : (c : Cell) → has one c ≡ true → has other c ≡ false
+    absent c h = false_unless (has other c) (λ k. let out = far c c h k in omega (arith, out, distance_itself c.x, distance_itself c.y))
+
+    take_first : (a b : Bool) → ((a || b) && a) ≡ a
+    take_first true b = refl
+    take_first false true = refl
+    take_first false false = refl
+
+    take_second : (a b : Bool) → (a ≡ true → b ≡ false) → ((a || b) && not a) ≡ b
+    take_second true b h = sym (h refl)
+    take_second false true h = refl
+    take_second false false h = refl
+
+    first : filter (has one) (set_of (one ++ other)) ≡ one
+    first = same_lists (filter (has one) (set_of (one ++ other))) one (in_order-filter (has one) (set_of (one ++ other)) (in_order-set_of (one ++ other))) o
+        (λ c. has-filter (has one) (set_of (one ++ other)) c ∙ ap (λ (a : Bool). a && has one c) (has-both c) ∙ take_first (has one c) (has other c))
+
+    second : filter (others (has one)) (set_of (one ++ other)) ≡ other
+    second =
+        same_lists (filter (others (has one)) (set_of (one ++ other))) other
+        (in_order-filter (others (has one)) (set_of (one ++ other)) (in_order-set_of (one ++ other))) u
+        (λ c. has-filter (others (has one)) (set_of (one ++ other)) c ∙ ap (λ (a : Bool). a && not (has one c)) (has-both c)
+        ∙ take_second (has one c) (has other c) (absent c))

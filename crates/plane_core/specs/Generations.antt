@@ -1,5 +1,5 @@
 -- Generations under a rule (LifeWiki, "Life-like cellular automaton").
-use Rattle.std.specs.Prelude.{◌≡◌, ◌+◌, true, ◌==◌, ℕ, ℤ, zero, suc, pos, negsuc, Bool, List, [], ◌∷◌, All, count_by, filter, flat_map, if◌then◌else◌}
+use Rattle.std.specs.Prelude.{◌≡◌, ◌+◌, ◌≤◌, true, ◌==◌, ℕ, ℤ, zero, suc, pos, negsuc, Bool, List, [], ◌∷◌, All, count_by, filter, flat_map, if◌then◌else◌}
 use Rattle.std.specs.List.{list_any, list_all}
 use Rattle.plane_core.specs.declared.cell.Cell.{Cell}
 use Rattle.plane_core.specs.Cells.{InOrder, king_distance, moved_by, has, set_of, on_edge, is_within}
@@ -56,3 +56,8 @@ SpeedOfLight = (rule : Numbers) (cells : List Cell) (b : Bounds) (g : ℕ) → A
 -- and a pattern that lies within reach of the origin lies within g more after g generations
 abbrev pub SpeedFromOrigin : Type 0
 SpeedFromOrigin = (rule : Numbers) (cells : List Cell) (reach g : ℕ) → lies_within reach cells ≡ true → lies_within (reach + g) (after rule cells g) ≡ true
+
+-- And cell by cell: what is alive after g generations is within king distance g of a cell that was alive at the start.
+abbrev pub SpeedOfCells : Type 0
+SpeedOfCells = (rule : Numbers) (cells : List Cell) (g : ℕ) (c : Cell) → has (after rule cells g) c ≡ true
+    → (d : Cell) × (has cells d ≡ true) × (king_distance c d ≤ g)

@@ -1,10 +1,10 @@
 -- Parts of a pattern that lie so far apart that they don't meet for some generations.
-use Rattle.std.specs.Prelude.{◌≡◌, ◌<◌, ◌+ℤ◌, ◌||◌, ℕ, ℤ, pos, Bool, true, false, not, List, filter, int_lt, if◌then◌else◌, ◌-◌}
+use Rattle.std.specs.Prelude.{◌≡◌, ◌<◌, ◌*◌, ◌++◌, ◌+ℤ◌, ◌||◌, ℕ, ℤ, pos, Bool, true, false, not, List, filter, int_lt, if◌then◌else◌, ◌-◌}
 use Rattle.plane_core.specs.declared.cell.Cell.{Cell}
 use Rattle.plane_core.specs.declared.parts.Axis.{Axis}
 use Rattle.plane_core.specs.declared.parts.Axis.TheVariants.{Columns, Rows}
 use Rattle.plane_core.specs.declared.parts.Cut.{Cut}
-use Rattle.plane_core.specs.Cells.{InOrder, has, king_distance, plane_bound}
+use Rattle.plane_core.specs.Cells.{InOrder, has, king_distance, plane_bound, set_of}
 use Rattle.plane_core.specs.Generations.{after, lies_within}
 use Rattle.plane_core.specs.Rules.{Numbers}
 
@@ -41,3 +41,12 @@ pub record IsCut (band : ℕ) (cells : List Cell) (cut : Cut) : Type 0 where
 pub record HasRun (rule : Numbers) (cells : List Cell) (n : ℕ) (later : List Cell) : Type 0 where
   pub after : later ≡ after rule cells n
   pub inside : lies_within (plane_bound - n) cells ≡ true
+
+-- the cells of the one pattern are further than so far from those of the other
+abbrev pub LieFurther : ℕ → List Cell → List Cell → Type 0
+LieFurther far one other = (c d : Cell) → has one c ≡ true → has other d ≡ true → far < king_distance c d
+
+-- Two patterns that lie further than 2g apart run for g generations as if each were alone.
+abbrev pub FarPatternsRunAlone : Type 0
+FarPatternsRunAlone = (rule : Numbers) (one other : List Cell) (g : ℕ) → InOrder one → InOrder other → LieFurther (2 * g) one other
+    → after rule (set_of (one ++ other)) g ≡ set_of (after rule one g ++ after rule other g)

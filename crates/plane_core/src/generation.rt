@@ -1,8 +1,8 @@
 ghost use Rattle.std.specs.Prelude.{◌≡◌, ◌≢◌, ℕ, ◌+◌, ◌-◌, ◌<◌, ◌≤◌, true, false, IfOk, IfErr, IfSome, OnOk, IsErrOf};
 ghost use Rattle.plane_core.specs.Cells.{has, plane_bound};
-ghost use Rattle.plane_core.specs.Generations.{next, after, lives, touches_edge, lies_within, NextMoved, NextTurned, SpeedFromOrigin, SpeedOfLight};
+ghost use Rattle.plane_core.specs.Generations.{next, after, lives, touches_edge, lies_within, NextMoved, NextTurned, SpeedFromOrigin, SpeedOfCells, SpeedOfLight};
 ghost use Rattle.plane_core.specs.Layouts.{HasRoom, IsLaid};
-ghost use Rattle.plane_core.specs.Parts.{HasRun};
+ghost use Rattle.plane_core.specs.Parts.{FarPatternsRunAlone, HasRun};
 ghost use Rattle.plane_core.specs.Refusals.{RefusesStep};
 ghost use Rattle.plane_core.specs.declared.cell.Cell.{Cell};
 ghost use Rattle.plane_core.specs.declared.generation.StepError.TheVariants.{Memory};
@@ -214,6 +214,12 @@ struct Stretch {
 pub fn speed_of_light()
     ensures boxes { SpeedOfLight }
     ensures origin { SpeedFromOrigin }
+    ensures cells { SpeedOfCells }
+{}
+
+/// A law of all rules: two patterns that lie further than 2g apart run for g generations as if each were alone.
+pub fn far_patterns_run_alone()
+    ensures { FarPatternsRunAlone }
 {}
 
 /// The laws of generations on the grid: the next generation of a pattern moved or turned is its next generation, moved

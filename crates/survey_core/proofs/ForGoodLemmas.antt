@@ -29,7 +29,9 @@ use Rattle.code_core.specs.Apgcodes.{code_text, kind_in, number_in}
 use Rattle.code_core.specs.Names.{IsCode, kind_of, number_of}
 use Rattle.code_core.proofs.ApgcodeLemmas.{kind_of_name, number_of_name}
 use Rattle.code_core.proofs.MovedCodes.{in_order-after}
-use Rattle.survey_core.specs.Objects.{IsMultiple, count_of, is_code, period_in, period_of_kind}
+use Rattle.survey_core.specs.FindingLaws.{FindingsForGood}
+use Rattle.survey_core.specs.Findings.{IsSettled}
+use Rattle.survey_core.specs.Objects.{IsMultiple, StayForGood, count_of, is_code, period_in, period_of_kind}
 use Rattle.survey_core.specs.Rest.{KeepApart}
 use Rattle.survey_core.specs.RestLaws.{AtRestForGood, EmptyIsAtRest}
 use Rattle.survey_core.proofs.FindingLemmas.{after-then}
@@ -41,7 +43,7 @@ next-empty : (rule : Numbers) → next rule [] ≡ []
 unfolding next
 next-empty rule = refl
 
-after-empty : (rule : Numbers) (g : ℕ) → after rule [] g ≡ []
+pub after-empty : (rule : Numbers) (g : ℕ) → after rule [] g ≡ []
 after-empty rule zero = after-none rule []
 after-empty rule (suc g) = ap (after rule []) (sym (add-one g)) ∙ after-more rule [] g ∙ ap (next rule) (after-empty rule g) ∙ next-empty rule
 
@@ -70,7 +72,7 @@ after_periods rule cells p (suc k) back =
     ∙ ap (λ (state : List Cell). after rule state p) (after_periods rule cells p k back) ∙ back
 
 -- so only the rest of the division by the period matters
-after_rest : (rule : Numbers) (cells : List Cell) (p g : ℕ) → after rule cells p ≡ cells → after rule cells g ≡ after rule cells (g % p)
+pub after_rest : (rule : Numbers) (cells : List Cell) (p g : ℕ) → after rule cells p ≡ cells → after rule cells g ≡ after rule cells (g % p)
 after_rest rule cells p g back =
     ap (after rule cells) (sym (div-add-mod g p) ∙ ap (λ (n : ℕ). n + g % p) (mul_comm p (g / p)))
     ∙ sym (after-then rule cells ((g / p) * p) (g % p))
@@ -79,7 +81,7 @@ after_rest rule cells p g back =
 unmoved : (x : ℤ) → x +ℤ pos 0 ≡ x
 unmoved x = omega (arith, ints)
 
-shifted-none : (cells : List Cell) → shifted (pos 0) (pos 0) cells ≡ cells
+pub shifted-none : (cells : List Cell) → shifted (pos 0) (pos 0) cells ≡ cells
 shifted-none [] = refl
 shifted-none (c ∷ cs) = λ i. record { y = unmoved c.y i; x = unmoved c.x i } ∷ shifted-none cs i
 
@@ -210,6 +212,18 @@ at_rest_for_good rule profile cells clusters objects order low rest counted good
 
     up_to : (g : ℕ) → g ≤ good.multiple → KeepApart rule cells clusters g
     up_to g least = rest.apart g (omega (arith, least, good.within))
+
+pub findings_for_good : FindingsForGood
+findings_for_good rule profile cells t objects order low finding =
+    let settled : IsSettled rule profile (after rule cells t) objects true = finding.2 in
+    let good : StayForGood profile.horizon objects = settled.good.0 refl in
+    record {
+      clusters = settled.clusters;
+      rest = settled.rest;
+      good = good;
+      forever = at_rest_for_good rule profile (after rule cells t) settled.clusters objects (in_order-after rule cells t order) low settled.rest
+          settled.counted good;
+    }
 
 map_fixed : (f : List Cell → List Cell) (parts : List (List Cell)) → map f parts ≡ parts → All (λ part. f part ≡ part) parts
 map_fixed f [] same k d low = absurd (omega arith)

@@ -1,6 +1,7 @@
 mod DeterminedLemmas
 mod FindingLemmas
 mod ForGoodLemmas
+pub mod GroupLemmas
 mod ImageLemmas
 mod ObjectLemmas
 mod PartitionLemmas

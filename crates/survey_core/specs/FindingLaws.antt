@@ -1,14 +1,19 @@
 -- Laws of findings.
-use Rattle.std.specs.Prelude.{◌≡◌, ℤ, List}
+use Rattle.std.specs.Prelude.{◌≡◌, ◌≤◌, ℕ, ℤ, true, List}
 use Rattle.plane_core.specs.declared.cell.Cell.{Cell}
 use Rattle.plane_core.specs.declared.orientation.Orientation.{Orientation}
 use Rattle.plane_core.specs.Bounds.{shifted}
 use Rattle.plane_core.specs.Cells.{InOrder}
+use Rattle.plane_core.specs.Generations.{after}
 use Rattle.plane_core.specs.Orientations.{image, turned}
 use Rattle.plane_core.specs.Rules.{Numbers}
 use Rattle.survey_core.specs.declared.finding.Finding.{Finding}
+use Rattle.survey_core.specs.declared.finding.Finding.TheVariants.{Settled}
 use Rattle.survey_core.specs.Findings.{IsFinding}
+use Rattle.survey_core.specs.Objects.{StayForGood}
 use Rattle.survey_core.specs.Profiles.{Settling}
+use Rattle.survey_core.specs.Rest.{RestsAs}
+use Rattle.survey_core.specs.RestLaws.{RestsForever}
 
 -- a pattern has one finding
 abbrev pub FindingsAreDetermined : Type 0
@@ -29,3 +34,15 @@ FindingsOfImages = (o : Orientation) (rule : Numbers) (profile : Settling) (cell
 abbrev pub FindingsTurned : Type 0
 FindingsTurned = (o : Orientation) (rule : Numbers) (profile : Settling) (cells : List Cell) (finding : Finding)
     → InOrder cells → IsFinding rule profile cells finding → IsFinding rule profile (turned o cells) finding
+
+-- The clusters of a pattern with these objects stay for good: each comes back, and they keep apart forever.
+pub record RestsForGood (rule : Numbers) (profile : Settling) (cells : List Cell) (objects : List (List ℕ × ℕ)) : Type 0 where
+  pub clusters : List (List Cell)
+  pub rest : RestsAs rule profile cells clusters
+  pub good : StayForGood profile.horizon objects
+  pub forever : RestsForever rule cells clusters good.multiple
+
+-- if a finding says that the objects stay for good, they do
+abbrev pub FindingsForGood : Type 0
+FindingsForGood = (rule : Numbers) (profile : Settling) (cells : List Cell) (t : ℕ) (objects : List (List ℕ × ℕ)) → InOrder cells → profile.period ≤ 64
+    → IsFinding rule profile cells (Settled t objects true) → RestsForGood rule profile (after rule cells t) objects

@@ -1,5 +1,6 @@
 pub mod FindingLaws
 pub mod Findings
+pub mod Groups
 pub mod Objects
 pub mod Profiles
 pub mod Rest

@@ -1,8 +1,9 @@
 -- Soups: 16 by 16 cells from the 256 bits of a SHA-256 digest (FIPS 180-4).
-use Rattle.std.specs.Prelude.{◌==◌, ◌+◌, ◌-◌, ◌*◌, ◌/◌, ◌%◌, ◌^◌, ◌++◌, ℕ, pos, Bool, List, decimal, filter, map, slice_index}
+use Rattle.std.specs.Prelude.{◌≡◌, ◌<◌, ◌==◌, ◌+◌, ◌-◌, ◌*◌, ◌/◌, ◌%◌, ◌^◌, ◌++◌, ℕ, pos, Bool, List, decimal, filter, map, slice_index}
 use Rattle.std.specs.List.{range_with_len}
 use Rattle.plane_core.specs.declared.cell.Cell.{Cell}
-use Rattle.plane_core.specs.Cells.{cell_at, set_of}
+use Rattle.plane_core.specs.declared.bounds.Bounds.{Bounds}
+use Rattle.plane_core.specs.Cells.{cell_at, has, set_of}
 use Rattle.sha2.specs.Sha256.{sha256}
 
 -- the digest's bit for column x of row y is set: bit 7 - x mod 8 of byte 2y + x div 8, where bit 7 is the greatest
@@ -27,3 +28,12 @@ soup_of digest = set_of (live_cells digest 256)
 -- the soup with this number: the message is the seed's bytes and then the number in decimal
 abbrev pub soup : List ℕ → ℕ → List Cell
 soup seed number = soup_of (sha256 (seed ++ decimal number))
+
+-- where every soup lies: columns 0 to 15 of rows 0 to 15
+abbrev pub square : Bounds
+square = record { left = pos 0; top = pos 0; right = pos 15; bottom = pos 15 }
+
+-- the soup cell by cell: the cell in column x of row y is alive exactly if its bit is set
+abbrev pub SoupsByCells : Type 0
+SoupsByCells = (seed : List ℕ) (number x y : ℕ) → x < 16 → y < 16
+    → has (soup seed number) (cell_at (pos x) (pos y)) ≡ is_set (sha256 (seed ++ decimal number)) x y

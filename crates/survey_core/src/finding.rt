@@ -1,6 +1,6 @@
 ghost use Rattle.std.specs.Prelude.{◌≡◌, ◌<◌, ◌≤◌, ◌^◌, IfOk, IfNone, IfSome, true};
 ghost use Rattle.plane_core.specs.Generations.{after, lies_within};
-ghost use Rattle.survey_core.specs.FindingLaws.{FindingsAreDetermined, FindingsMoved, FindingsOfImages, FindingsTurned};
+ghost use Rattle.survey_core.specs.FindingLaws.{FindingsAreDetermined, FindingsForGood, FindingsMoved, FindingsOfImages, FindingsTurned};
 ghost use Rattle.survey_core.specs.Findings.{IsFinding, SettlesAt, objects_in};
 ghost use Rattle.survey_core.specs.Rest.{IsAtRest};
 ghost use Rattle.survey_core.specs.Soups.{soup};
@@ -87,6 +87,13 @@ pub fn findings_are_kept()
     ensures moved { FindingsMoved }
     ensures images { FindingsOfImages }
     ensures turned { FindingsTurned }
+{}
+
+/// A law of all patterns: if a finding says that the objects stay for good, the clusters, each run alone, keep apart and
+/// make up the whole forever, and the pattern comes back after the least common multiple of their periods.
+#[tactic(auto, using(crate::proofs::ForGoodLemmas::findings_for_good))]
+pub fn findings_for_good()
+    ensures { FindingsForGood }
 {}
 
 /// The finding of a pattern that is this one at the checkpoint, if it is at rest.

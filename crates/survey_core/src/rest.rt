@@ -207,7 +207,7 @@ fn next_beside(
 }
 
 /// The next generation of a pattern that doesn't touch the edge of the plane.
-fn next(alloc: Global, rule: &Rule, pattern: &Pattern) -> Result<Pattern, AllocError>
+pub(crate) fn next(alloc: Global, rule: &Rule, pattern: &Pattern) -> Result<Pattern, AllocError>
     requires { lies_within 999999 pattern.now ≡ true }
     ensures { IfOk result (λ later. later ≡ next rule.now pattern.now) }
 {

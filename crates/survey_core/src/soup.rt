@@ -9,10 +9,10 @@
 //!
 //! So the cell at place i of the square, counted row by row, is bit 7 - i mod 8 of byte i div 8.
 
-ghost use Rattle.std.specs.Prelude.{◌≡◌, ◌<◌, ◌++◌, decimal, true, IfOk};
-ghost use Rattle.plane_core.specs.Generations.{lies_within};
+ghost use Rattle.std.specs.Prelude.{◌≡◌, ◌<◌, ◌++◌, decimal, All, IfOk};
+ghost use Rattle.plane_core.specs.Bounds.{IsWithin};
 ghost use Rattle.sha2.specs.Sha256.{sha256};
-ghost use Rattle.survey_core.specs.Soups.{is_alive_at, live_cells, soup, soup_of, square_cell};
+ghost use Rattle.survey_core.specs.Soups.{SoupsByCells, is_alive_at, live_cells, soup, soup_of, square, square_cell};
 
 use crate::job::Job;
 use crate::seed::Seed;
@@ -30,7 +30,7 @@ use std::alloc::{AllocError, Global};
 /// [`AllocError`] if there is no memory.
 pub fn soup(alloc: Global, job: &Job, number: u64) -> Result<Pattern, AllocError>
     ensures soup { IfOk result (λ pattern. pattern ≡ soup job.now.seed number) }
-    ensures small { IfOk result (λ pattern. lies_within 15 pattern ≡ true) }
+    ensures small { IfOk result (All (IsWithin square)) }
 {
     soup_of_digest(alloc, &digest(&job.seed, number))
 }
@@ -43,7 +43,7 @@ pub fn soup(alloc: Global, job: &Job, number: u64) -> Result<Pattern, AllocError
 /// [`AllocError`] if there is no memory.
 pub fn soup_of_digest(alloc: Global, digest: &[u8; 32]) -> Result<Pattern, AllocError>
     ensures soup { IfOk result (λ pattern. pattern ≡ soup_of digest.now) }
-    ensures small { IfOk result (λ pattern. lies_within 15 pattern ≡ true) }
+    ensures small { IfOk result (All (IsWithin square)) }
 {
     let cells = live_cells(alloc, digest)?;
     match Pattern::from_cells(alloc, cells.as_slice()) {
@@ -52,6 +52,12 @@ pub fn soup_of_digest(alloc: Global, digest: &[u8; 32]) -> Result<Pattern, Alloc
         Err(FromCellsError::OutOfPlane { .. }) => unreachable!(),
     }
 }
+
+/// A law of all soups, cell by cell: the one in column x of row y, both 0 to 15, is alive exactly if its bit is set.
+#[tactic(auto, using(crate::proofs::SoupLemmas::soups_by_cells))]
+pub fn soups_by_cells()
+    ensures { SoupsByCells }
+{}
 
 /// The live cells of the square.
 #[tactic(auto, using(crate::proofs::SoupLemmas::live_cells_none, crate::proofs::SoupLemmas::live_cells_alive, crate::proofs::SoupLemmas::live_cells_dead))]

@@ -1,3 +1,4 @@
+use Rattle.plane_core.proofs.PartLemmas.{near-after}
 use Rattle.plane_core.proofs.SpeedLemmas.{speed_from_origin, speed_of_light_law}
 use Rattle.plane_core.proofs.generation.speed_of_light.Goals as goal
 
@@ -6,3 +7,6 @@ returns-clause-boxes c = speed_of_light_law
 
 pub returns-clause-origin : goal.returns-clause-origin
 returns-clause-origin c = speed_from_origin
+
+pub returns-clause-cells : goal.returns-clause-cells
+returns-clause-cells c = near-after

@@ -1,7 +1,15 @@
-use Rattle.std.proofs.Common.{arith}
+use Rattle.std.proofs.Common.{◌≡◌, ◌∙◌, ◌++◌, ap, arith, decimal}
+use Rattle.plane_core.specs.Cells.{set_of}
+use Rattle.plane_core.specs.Generations.{lies_within}
+use Rattle.sha2.specs.Sha256.{sha256}
+use Rattle.survey_core.specs.Soups.{live_cells}
 use Rattle.survey_core.proofs.PlaneLemmas.{within_more}
+use Rattle.survey_core.proofs.SoupLemmas.{soup_is_small}
 use Rattle.survey_core.proofs.finding.survey.Goals as goal
 
 -- a soup lies near the origin
 pub survey_pattern-requires : goal.survey_pattern-requires
-survey_pattern-requires c = within_more 15 1000 c.in_ok-pattern.pattern (omega arith) c.in_ok-pattern.ensures.small
+survey_pattern-requires c =
+    let digest = sha256 (c.args.job.now.seed ++ decimal c.args.number) in
+    ap (lies_within 1000) c.in_ok-pattern.ensures.soup
+    ∙ within_more 15 1000 (set_of (live_cells digest 256)) (omega arith) (soup_is_small digest)

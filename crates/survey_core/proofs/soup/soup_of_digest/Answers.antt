@@ -1,16 +1,16 @@
-use Rattle.std.proofs.Common.{◌≡◌, ◌∙◌, ap, position, Some, None}
+use Rattle.std.proofs.Common.{◌≡◌, ◌∙◌, ap, sym, subst, All, position, Some, None}
 use Rattle.plane_core.specs.declared.pattern.FromCellsError.TheVariants.{OutOfPlane}
 use Rattle.plane_core.specs.Cells.{off_plane, set_of}
-use Rattle.plane_core.specs.Generations.{lies_within}
+use Rattle.plane_core.specs.Bounds.{IsWithin}
 use Rattle.plane_core.specs.Refusals.{RefusesCells}
-use Rattle.survey_core.specs.Soups.{live_cells}
-use Rattle.survey_core.proofs.SoupLemmas.{soup_is_small, soup_on_plane}
+use Rattle.survey_core.specs.Soups.{live_cells, square}
+use Rattle.survey_core.proofs.SoupLemmas.{soup_in_square, soup_on_plane}
 use Rattle.survey_core.proofs.soup.soup_of_digest.Goals as goal
 
 pub returns-in-Ok-clause-small : goal.returns-in-Ok-clause-small
 returns-in-Ok-clause-small c =
     let cells : c.as_slice.result.now ≡ live_cells c.args.digest.now 256 = c.as_slice.ensures.value ∙ c.in_ok-cells.ensures in
-    ap (lies_within 15) (c.in-Ok.ensures.set ∙ ap set_of cells) ∙ soup_is_small c.args.digest.now
+    subst (All (IsWithin square)) (sym (c.in-Ok.ensures.set ∙ ap set_of cells)) (soup_in_square c.args.digest.now)
 
 -- no cell of the square lies past the bound
 pub unreachable-requires : goal.unreachable-requires
