@@ -4,7 +4,7 @@ use Rattle.std.proofs.Common.{◌++◌, Option, None, Some, ap, sym, subst, refl
 use Rattle.std.specs.List.{find, list_any}
 use Rattle.std.specs.Iterator.{Yields}
 use Rattle.std.specs.Map.{lookup}
-use Rattle.std.specs.Result.{OnErr}
+use Rattle.std.specs.Result.{IsOk, OnErr, is_ok}
 use Rattle.std.specs.Vec.Iter.{into_iter_items, into_iter_steps}
 use Rattle.std.specs.declared.vec.IntoIter.{IntoIter}
 use Rattle.std.proofs.lemmas.Bool.{and_from, cases_Bool, false≢true, eq-eqb, eqb-true, ne_eqb, leb-false, leb-true, le-ltb, lt-ltb, or_right}
@@ -14,9 +14,9 @@ use Rattle.std.proofs.lemmas.List.Folds.{list_any-append}
 use Rattle.haul_core.specs.declared.arrival.Arrival.{Arrival}
 use Rattle.haul_core.specs.declared.arrival.Arrival.TheVariants.{Closing, Offer}
 use Rattle.haul_core.specs.declared.refusal.Refusal.{Refusal}
-use Rattle.haul_core.specs.declared.refusal.Refusal.TheVariants.{Closed, Double, OtherJob, OutOfRange, UnknownWorker}
-use Rattle.haul_core.specs.BookSteps.{refusal_at, worker_in}
-use Rattle.haul_core.specs.Books.{Held, StandsFor, Terms, double, eligible, entry, first_of_each, first_worker}
+use Rattle.haul_core.specs.declared.refusal.Refusal.TheVariants.{Closed, Double, Memory, OtherJob, OutOfRange, UnknownWorker}
+use Rattle.haul_core.specs.Replies.{IsTakenNext, StandsForFront, refusal_at, worker_in}
+use Rattle.haul_core.specs.Books.{Held, IsReply, StandsFor, Terms, double, eligible, entry, first_of_each, first_worker}
 use Rattle.haul_core.specs.Books.{has_closing, has_number, is_closing, is_lawful, offered, refusal_of, replies_to, reply_to, taken_of}
 use Rattle.haul_core.specs.declared.arrival.Reply.{Reply}
 use Rattle.haul_core.specs.Jobs.{same_job}
@@ -286,9 +286,54 @@ replies_push terms before (x ∷ xs) a =
     (replies_push terms (before ++ x ∷ []) xs a
     ∙ ap (λ (b : List Arrival). replies_to terms (before ++ x ∷ []) xs ++ reply_to terms b a ∷ []) (append_assoc before (x ∷ []) xs))
 
+-- no reason of the book is memory
+no_memory : (closed job over inside : Bool) (worker : Option ℕ) → refuses closed job over inside worker ≢ Some Memory
+no_memory true job over inside worker e = absurd (cc)
+no_memory false false over inside worker e = absurd (cc)
+no_memory false true true inside worker e = absurd (cc)
+no_memory false true false false worker e = absurd (cc)
+no_memory false true false true None e = absurd (cc)
+no_memory false true false true (Some w) e = absurd (cc)
+
+-- where memory runs out, the book takes the offer
+pub is_taken : (terms : Terms) (before : List Arrival) (r : Reported) (given : Option Refusal) → IsReply given (refusal_of terms before r)
+    → given ≡ Some Memory → refusal_of terms before r ≡ None
+is_taken terms before r given (inl same) e = absurd (no_memory (has_closing before) (same_job terms.job r.job) (nat_lt terms.workers r.worker)
+    (is_in terms.ranges r.number) (first_worker r.number (eligible terms before)) (sym same ∙ e))
+is_taken terms before r given (inr none) e = none.1
+
+-- where it doesn't, the reply is the book's
+pub answered : (given wanted : Option Refusal) → IsReply given wanted → given ≢ Some Memory → given ≡ wanted
+answered given wanted (inl same) not_memory = same
+answered given wanted (inr none) not_memory = absurd (not_memory none.0)
+
 pub on_err_from : {T E P : Type 0} (r : Result T E) → P → OnErr r P
 on_err_from (Ok x) p = tt
 on_err_from (Err e) p = p
+
+-- an item that there is room for is pushed
+pub pushed : {X T E : Type 0} (r : Result T E) (more same : List X) → IsOk r → (if is_ok r then more else same) ≡ more
+pushed r more same ok = ap (λ (b : Bool). if b then more else same) ok
+
+pub reason_is : {r s : Refusal} → Some r ≡ Some s → r ≡ s
+reason_is e = cc
+
+-- memory ran out for the next arrival, which the book takes
+pub stopped_at : {T E : Type 0} (r : Result T E) (before arrivals front : List Arrival) (next : Arrival) (more : List Arrival) (held new : Held)
+    → arrivals ≡ front ++ next ∷ more → new ≡ held → IsTakenNext held.terms (before ++ front) (next ∷ []) → StandsFor (before ++ front) held
+    → OnErr r (StandsForFront before arrivals new)
+stopped_at r before arrivals front next more held new cut same taken s = on_err_from r (record {
+  front = front;
+  rest = next ∷ more;
+  cut = cut;
+  stands = subst (StandsFor (before ++ front)) (sym same) s;
+  stopped = inr (subst (λ (h : Held). IsTakenNext h.terms (before ++ front) (next ∷ more)) (sym same) (is_next held.terms (before ++ front) next more taken));
+})
+  where
+    is_next : (terms : Terms) (before : List Arrival) (next : Arrival) (more : List Arrival) → IsTakenNext terms before (next ∷ [])
+        → IsTakenNext terms before (next ∷ more)
+    is_next terms before (Offer r) more taken = taken
+    is_next terms before Closing more taken = taken
 
 -- what the iterator of a vector has given is a front of its items
 pub taken_front : {X A : Type 0} (s : IntoIter X A) (xs : List X) (t : IntoIter X A) → Yields into_iter_steps s xs t

@@ -22,7 +22,7 @@ use Rattle.survey_core.specs.declared.finding.Finding.{Finding}
 use Rattle.survey_core.specs.declared.finding.Finding.TheVariants.{Settled, Unsettled}
 use Rattle.haul_core.specs.declared.tally.Tally.{Tally}
 use Rattle.survey_core.specs.declared.job.Job.{Job}
-use Rattle.haul_core.specs.BookSteps.{refusal_at, worker_in}
+use Rattle.haul_core.specs.Replies.{refusal_at, worker_in}
 use Rattle.haul_core.specs.Jobs.{same_job}
 use Rattle.haul_core.proofs.BookLemmas.{none_holds}
 use Rattle.haul_core.proofs.JobLemmas.{jobs_decide}

@@ -1,4 +1,3 @@
-pub mod BookSteps
 pub mod Books
 pub mod Censuses
 pub mod ClaimChecks
@@ -17,6 +16,7 @@ pub mod RangeLists
 pub mod RangeSteps
 pub mod Ranges
 pub mod ReportLines
+pub mod Replies
 pub mod Reports
 pub mod RowSteps
 pub mod Rows

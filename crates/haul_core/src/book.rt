@@ -1,6 +1,6 @@
 ghost use Rattle.std.specs.Prelude.{◌≡◌, ◌++◌, ◌∷◌, [], List, IfOk, OnErr, OnOk};
 ghost use Rattle.haul_core.specs.Books.{StandsFor, replies_to, reply_to};
-ghost use Rattle.haul_core.specs.BookSteps.{StandsForFront};
+ghost use Rattle.haul_core.specs.Replies.{IsTakenNext, StandsForFront};
 ghost use Rattle.haul_core.specs.declared.arrival.Arrival.{Arrival as Arrived};
 
 use crate::arrival::{Arrival, Reply};
@@ -16,7 +16,8 @@ use std::alloc::{AllocError, Global};
 ///
 /// # Errors
 ///
-/// [`AllocError`] if memory runs out. Some of the arrivals, from the first on, have come to the haul then, and no other.
+/// [`AllocError`] if memory runs out: for the replies, and then nothing has come to the haul; or for an offer that the book
+/// takes, and then the arrivals before it have come, and no other.
 pub fn keep_book(
     alloc: Global,
     haul: &mut Haul,
@@ -30,22 +31,24 @@ pub fn keep_book(
     ensures memory { (before : List Arrived) → StandsFor before haul.old
         → OnErr result (StandsForFront before arrivals.items haul.new) }
 {
-    let mut replies = Vec::new(alloc);
+    let mut replies = Vec::with_capacity(alloc, arrivals.len())?;
     for arrival in arrivals {
         let reply = answer(haul, arrival)?;
-        replies.push(reply)?;
+        replies.push(reply).unwrap();
     }
     Ok(replies)
 }
 
-/// Lets one arrival come to a haul. If memory runs out nothing has come.
+/// Lets one arrival come to a haul. Memory runs out only for an offer that the book takes, and then nothing has come.
 fn answer(haul: &mut Haul, arrival: Arrival) -> Result<Reply, AllocError>
     ensures reply { (before : List Arrived) → StandsFor before haul.old
         → IfOk result (λ reply. reply ≡ reply_to haul.old.terms before arrival) }
     ensures stands { (before : List Arrived) → StandsFor before haul.old
         → OnOk result (StandsFor (before ++ arrival ∷ []) haul.new) }
     ensures terms { haul.new.terms ≡ haul.old.terms }
-    ensures memory { OnErr result (haul.new ≡ haul.old) }
+    ensures kept { OnErr result (haul.new ≡ haul.old) }
+    ensures memory { (before : List Arrived) → StandsFor before haul.old
+        → OnErr result (IsTakenNext haul.old.terms before (arrival ∷ [])) }
 {
     match arrival {
         Arrival::Offer(report) => match haul.offer(report) {

@@ -3,11 +3,11 @@ ghost use Rattle.std.specs.List.{IsDistinct};
 ghost use Rattle.std.specs.List.Sorted.{IsStrictlyIncreasing};
 ghost use Rattle.indexmap.specs.IndexMap.{get, spare};
 ghost use Rattle.haul_core.specs.Books.{IsReply, StandsFor, has_closing, refusal_of};
-ghost use Rattle.haul_core.specs.BookSteps.{refusal_at, reply_of, IsAnswered};
+ghost use Rattle.haul_core.specs.Replies.{refusal_at, reply_of, IsAnswered};
 ghost use Rattle.haul_core.specs.Censuses.{IsCensus};
 ghost use Rattle.haul_core.specs.Keeping.{numbers_in};
 ghost use Rattle.haul_core.specs.Missing.{AreAll, IsComplete, missing_of};
-ghost use Rattle.haul_core.specs.Ranges.{AreBelow, AreNormal, AreSmall, IsNormalForm, Overlap, number_bound, size_of};
+ghost use Rattle.haul_core.specs.Ranges.{AreBelow, AreNormal, AreSmall, IsNormalForm, Overlap, is_in, number_bound, size_of};
 ghost use Rattle.haul_core.specs.Reports.{IsWorker};
 ghost use Rattle.haul_core.specs.Tallies.{Extends, HasRows};
 ghost use Rattle.haul_core.specs.declared.arrival.Arrival.{Arrival};
@@ -147,6 +147,9 @@ impl Haul {
         ensures reply { (arrivals : List Arrival) → StandsFor arrivals self.old → is_err result ≡ has_closing arrivals }
         ensures stands { (arrivals : List Arrival) → StandsFor arrivals self.old
             → StandsFor (arrivals ++ arrival.Closing ∷ []) self.new }
+        ensures again { is_err result ≡ self.old.closed }
+        ensures closed { self.new.closed ≡ true }
+        ensures taken { self.new.taken ≡ self.old.taken }
         ensures terms { self.new.terms ≡ self.old.terms }
         ensures kept { OnErr result (self.new ≡ self.old) }
     {
@@ -196,10 +199,11 @@ impl Haul {
         self.count
     }
 
-    /// The worker and the number of each report taken, in order. No number stands twice.
+    /// The worker and the number of each report taken, in order. No number stands twice, and each is of the set.
     pub fn taken(&self) -> &[(u8, u64)]
         ensures taken { result.now ≡ self.now.taken }
         ensures distinct { IsDistinct nat_eq (numbers_in self.now.taken) }
+        ensures within { All (λ t. is_in self.now.terms.ranges t.1 ≡ true) self.now.taken }
     {
         let Haul { taken, .. } = self;
         taken.as_slice()
@@ -283,6 +287,7 @@ impl Haul {
     pub fn offer(&mut self, report: Report) -> Result<(), Refused>
         ensures reply { (arrivals : List Arrival) → StandsFor arrivals self.old
             → IsReply (reply_of result) (refusal_of self.old.terms arrivals report) }
+        ensures state { IsReply (reply_of result) (refusal_at self.old report) }
         ensures stands { (arrivals : List Arrival) → StandsFor arrivals self.old → IsAnswered (reply_of result)
             → StandsFor (arrivals ++ arrival.Offer report ∷ []) self.new }
         ensures taken { OnOk result (self.new.taken ≡ self.old.taken ++ (report.worker, report.number) ∷ []) }

@@ -27,7 +27,8 @@ impl Model for Samples {
 impl Samples {
     /// The numbers, ascending.
     pub fn as_slice(&self) -> &[u64]
-        ensures { result.now ≡ self.now }
+        ensures samples { result.now ≡ self.now }
+        ensures ascending { IsAscending self.now }
     {
         let Samples { numbers, count } = self;
         &numbers[..*count]

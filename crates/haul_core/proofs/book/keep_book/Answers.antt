@@ -1,19 +1,23 @@
-use Rattle.std.proofs.Common.{◌≡◌, ◌∙◌, ◌++◌, ◌∷◌, [], ap, sym, subst, List}
+use Rattle.std.proofs.Common.{◌≡◌, ◌∙◌, ◌++◌, ◌∷◌, [], ap, sym, subst, List, inr, arith}
 use Rattle.std.proofs.lemmas.List.{append_assoc}
 use Rattle.std.specs.Vec.Iter.{into_iter_items}
 use Rattle.haul_core.specs.declared.arrival.Arrival.{Arrival}
 use Rattle.haul_core.specs.declared.arrival.Reply.{Reply}
 use Rattle.haul_core.specs.Books.{Held, StandsFor, Terms, replies_to, reply_to}
-use Rattle.haul_core.proofs.BookLemmas.{on_err_from, replies_push, taken_front}
+use Rattle.haul_core.proofs.BookLemmas.{pushed, replies_push, stopped_at, taken_front}
 use Rattle.haul_core.proofs.book.keep_book.Goals as goal
 
 pub returns-in_err-reply-clause-memory : goal.returns-in_err-reply-clause-memory
-returns-in_err-reply-clause-memory c = λ before s. on_err_from c.from_residual.result (record {
-  front = c.loop-arrival.yielded;
-  rest = into_iter_items c.loop-arrival.arrival-iterator;
-  cut = sym c.into_iter-arrival-iterator.ensures.into_iter_gives.0 ∙ taken_front _ c.loop-arrival.yielded _ c.loop-arrival.yielded_by;
-  stands = subst (StandsFor (before ++ c.loop-arrival.yielded)) (sym c.in_err-reply.ensures.memory) (c.loop-arrival.invariant.stands before s);
-})
+returns-in_err-reply-clause-memory c = λ before s.
+    let here : StandsFor (before ++ c.loop-arrival.yielded) c.loop-arrival.haul = c.loop-arrival.invariant.stands before s in
+    stopped_at c.from_residual-in_err-reply.result before c.args.arrivals.items c.loop-arrival.yielded c.in-Some.arrival (into_iter_items c.next.new.self)
+    c.loop-arrival.haul c.answer.new.haul
+    (sym c.into_iter-arrival-iterator.ensures.into_iter_gives.0 ∙ taken_front _ c.loop-arrival.yielded _ c.loop-arrival.yielded_by
+    ∙ ap (λ (xs : List Arrival). c.loop-arrival.yielded ++ xs) c.in-Some.ensures.steps.0) c.in_err-reply.ensures.kept
+    (c.in_err-reply.ensures.memory (before ++ c.loop-arrival.yielded) here) here
+
+pub unwrap-requires : goal.unwrap-requires
+unwrap-requires c = c.push.ensures.succeeds (omega (arith, c.loop-arrival.invariant.room, c.in-Some.ensures.steps.1))
 
 pub loop-arrival-preserved : goal.loop-arrival-preserved
 loop-arrival-preserved c = record {
@@ -22,22 +26,11 @@ loop-arrival-preserved c = record {
       let reply : c.in_ok-reply.reply ≡ reply_to c.args.haul.now.terms (before ++ c.loop-arrival.yielded) c.in-Some.arrival =
       c.in_ok-reply.ensures.reply (before ++ c.loop-arrival.yielded) stands
       ∙ ap (λ (terms : Terms). reply_to terms (before ++ c.loop-arrival.yielded) c.in-Some.arrival) c.loop-arrival.invariant.terms in
-      c.in_ok-push.ensures.items ∙ (λ i. c.loop-arrival.invariant.replies before s i ++ reply i ∷ [])
+      c.push.ensures.items ∙ pushed c.push.result _ _ (c.push.ensures.succeeds (omega (arith, c.loop-arrival.invariant.room, c.in-Some.ensures.steps.1))) ∙ (λ i. c.loop-arrival.invariant.replies before s i ++ reply i ∷ [])
       ∙ sym (replies_push c.args.haul.now.terms before c.loop-arrival.yielded c.in-Some.arrival);
   stands = λ before s. subst (λ (arrivals : List Arrival). StandsFor arrivals c.answer.new.haul)
       (append_assoc before c.loop-arrival.yielded (c.in-Some.arrival ∷ []))
       (c.in_ok-reply.ensures.stands (before ++ c.loop-arrival.yielded) (c.loop-arrival.invariant.stands before s));
   terms = c.answer.ensures.terms ∙ c.loop-arrival.invariant.terms;
+  room = omega (arith, c.loop-arrival.invariant.room, c.in-Some.ensures.steps.1, c.push.ensures.capacity, c.push.ensures.upper_bound);
 }
-
-pub returns-in_err-push-clause-memory : goal.returns-in_err-push-clause-memory
-returns-in_err-push-clause-memory c = λ before s. on_err_from c.from_residual-in_err-push.result (record {
-  front = c.loop-arrival.yielded ++ c.in-Some.arrival ∷ [];
-  rest = into_iter_items c.next.new.self;
-  cut = sym c.into_iter-arrival-iterator.ensures.into_iter_gives.0 ∙ taken_front _ c.loop-arrival.yielded _ c.loop-arrival.yielded_by
-      ∙ ap (λ (xs : List Arrival). c.loop-arrival.yielded ++ xs) c.in-Some.ensures.steps.0
-      ∙ sym (append_assoc c.loop-arrival.yielded (c.in-Some.arrival ∷ []) (into_iter_items c.next.new.self));
-  stands = subst (λ (arrivals : List Arrival). StandsFor arrivals c.answer.new.haul)
-      (append_assoc before c.loop-arrival.yielded (c.in-Some.arrival ∷ []))
-      (c.in_ok-reply.ensures.stands (before ++ c.loop-arrival.yielded) (c.loop-arrival.invariant.stands before s));
-})

@@ -1,5 +1,5 @@
 use Rattle.std.proofs.Common.{◌≡◌, ◌∙◌, ◌+◌, ◌<◌, ◌≤◌, ◌^◌, ◌++◌, ◌∷◌, [], ℕ, List, None, Some, ap, refl, sym, subst, inl, inr, arith, length, if◌then◌else◌}
-use Rattle.haul_core.specs.BookSteps.{refusal_at}
+use Rattle.haul_core.specs.Replies.{refusal_at}
 use Rattle.haul_core.specs.Books.{Held, StandsFor, Terms, entry}
 use Rattle.haul_core.specs.Tallies.{added, found_in, tally_in}
 use Rattle.haul_core.specs.Totals.{is_for_good, is_unsettled}

@@ -1,11 +1,12 @@
--- The book, one arrival at a time.
-use Rattle.std.specs.Prelude.{◌≡◌, ◌≢◌, ◌++◌, ℕ, List, Option, None, Some, Result, Ok, Err, map, not, nat_eq, nat_lt, if◌then◌else◌}
+-- What a haul answers to an offer, and where a list of arrivals stops for want of memory.
+use Rattle.std.specs.Prelude.{◌≡◌, ◌≢◌, ◌++◌, ◌⊎◌, ℕ, List, [], ◌∷◌, Option, None, Some, Result, Ok, Err, map, not, nat_eq, nat_lt, if◌then◌else◌}
 use Rattle.std.specs.Map.{lookup}
 use Rattle.haul_core.specs.declared.refusal.Refusal.{Refusal}
 use Rattle.haul_core.specs.declared.refusal.Refusal.TheVariants.{Closed, Double, Memory, OtherJob, OutOfRange, UnknownWorker}
 use Rattle.haul_core.specs.declared.refusal.Refused.{Refused}
-use Rattle.haul_core.specs.Books.{Held, StandsFor, double}
+use Rattle.haul_core.specs.Books.{Held, StandsFor, Terms, double, refusal_of}
 use Rattle.haul_core.specs.declared.arrival.Arrival.{Arrival}
+use Rattle.haul_core.specs.declared.arrival.Arrival.TheVariants.{Closing, Offer}
 use Rattle.haul_core.specs.Jobs.{same_job}
 use Rattle.haul_core.specs.Ranges.{is_in}
 use Rattle.haul_core.specs.Reports.{Reported}
@@ -32,9 +33,16 @@ refusal_at held r =
     else if not (is_in held.terms.ranges r.number) then Some OutOfRange
     else double (worker_in r.number held.taken)
 
--- some of the arrivals, from the first on, have come after those before
+-- the next arrival is an offer that the book takes
+abbrev pub IsTakenNext : Terms → List Arrival → List Arrival → Type 0
+IsTakenNext terms before [] = ⊥
+IsTakenNext terms before (Offer report ∷ more) = refusal_of terms before report ≡ None
+IsTakenNext terms before (Closing ∷ more) = ⊥
+
+-- memory ran out before any arrival came, or for an offer that the book takes: the arrivals before it have come, and no other
 pub record StandsForFront (before arrivals : List Arrival) (held : Held) : Type 0 where
   pub front : List Arrival
   pub rest : List Arrival
   pub cut : arrivals ≡ front ++ rest
   pub stands : StandsFor (before ++ front) held
+  pub stopped : (front ≡ []) ⊎ IsTakenNext held.terms (before ++ front) rest
