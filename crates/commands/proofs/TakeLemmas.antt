@@ -1,9 +1,9 @@
 -- From the steps of `take` to a right answer.
 use Rattle.std.proofs.Common.{◌≡◌, ◌∙◌, ◌≤◌, ◌⊎◌, ℕ, Bool, true, false, cond, inl, inr, nat_eq, nat_le, not, get_or, length}
-use Rattle.std.proofs.Common.{List, [], ◌++◌, Option, None, Some, Result, Ok, Err, All, ap, sym, subst, refl, arith}
+use Rattle.std.proofs.Common.{List, [], ◌++◌, map, Option, None, Some, Result, Ok, Err, All, ap, sym, subst, refl, arith}
 use Rattle.std.specs.Prelude.{Contains, IfSome}
 use Rattle.std.proofs.lemmas.Bool.{cases_Bool, leb-false, leb-true}
-use Rattle.std.proofs.lemmas.List.Elements.{All-contains, All-filter}
+use Rattle.std.proofs.lemmas.List.Elements.{All-contains, All-filter, All-map}
 use Rattle.std.specs.List.{IsDistinct}
 use Rattle.std.specs.Result.{result_map_both}
 use Rattle.plane_core.specs.declared.rule.RuleError.{RuleError}
@@ -18,7 +18,7 @@ use Rattle.haul_core.specs.declared.census.Census.{Census}
 use Rattle.haul_core.specs.declared.range.Range.{Range}
 use Rattle.haul_core.specs.declared.range_list.ListError.{ListError}
 use Rattle.haul_core.specs.declared.range_list.ListError.TheVariants as list_error
-use Rattle.haul_core.specs.Books.{Held, StandsFor, Terms}
+use Rattle.haul_core.specs.Books.{Held, StandsFor, Terms, entry}
 use Rattle.haul_core.specs.Censuses.{IsCensus}
 use Rattle.haul_core.specs.HaulTexts.{haul_text}
 use Rattle.haul_core.specs.Keeping.{numbers_in}
@@ -205,7 +205,7 @@ counted_by : {workers : ℕ} (job : Job) (set : SoupSet) (opened held : Held) (c
     → IsCensus job opened.terms.ranges (numbers_in held.taken) census
 counted_by job set opened held census open_ h is =
     subst (λ (j : Job). IsCensus j opened.terms.ranges (numbers_in held.taken) census) open_.job_is
-    (subst (λ (t : Terms). IsCensus t.job t.ranges (numbers_in held.taken) census) h.terms is)
+    (subst (λ (t : Terms). IsCensus t.job t.ranges (numbers_in held.taken) census) h.added.terms is)
 
 -- all of it was taken
 pub complete_right : {workers : ℕ} (job : Job) (set : SoupSet) (opened held : Held) (census : Census) → IsOpened job set workers opened
@@ -219,7 +219,7 @@ complete_right job set opened held census open_ h all is = record {
   is_told = record {
     numbers = numbers_in held.taken;
     all = λ n. all n ∙ ap (λ (b : Bool). cond {A = ℕ} b 1 0)
-        (ap (λ (t : Terms). is_in t.ranges n) h.terms ∙ open_.form.same n);
+        (ap (λ (t : Terms). is_in t.ranges n) h.added.terms ∙ open_.form.same n);
     normal = opened.terms.ranges;
     form = open_.form;
     census = census;
@@ -244,10 +244,11 @@ stopped_told may_stop job set opened held census missing open_ h many incomplete
     form = open_.form;
     taken = held.taken;
     within = subst (All (λ (t : ℕ × ℕ). is_in open_.ranges t.1 ≡ true)) (sym entries)
-        (λ k d low. in_set open_.ranges opened.terms.ranges opened.taken (get_or h.entries k d).1 open_.form (h.missing k d low));
+        (All-map (λ (t : ℕ × ℕ). is_in open_.ranges t.1 ≡ true) entry h.offers
+        (λ k d low. in_set open_.ranges opened.terms.ranges opened.taken (get_or h.offers k d).number open_.form (h.missing k d low)));
     once = subst (λ (ts : List (ℕ × ℕ)). IsDistinct nat_eq (numbers_in ts)) (sym entries) h.once;
-    incomplete = subst (λ (t : Terms). ¬ IsComplete t.ranges held.taken) h.terms incomplete;
-    missing_is = many ∙ ap (λ (t : Terms). length (missing_of t.ranges held.taken)) h.terms;
+    incomplete = subst (λ (t : Terms). ¬ IsComplete t.ranges held.taken) h.added.terms incomplete;
+    missing_is = many ∙ ap (λ (t : Terms). length (missing_of t.ranges held.taken)) h.added.terms;
     stops = (stops.0, stops.1.0, in_set open_.ranges opened.terms.ranges opened.taken stops.1.0 open_.form stops.1.1, stops.1.2);
     census = census;
     counted = counted_by job set opened held census open_ h is;
@@ -255,8 +256,8 @@ stopped_told may_stop job set opened held census missing open_ h many incomplete
   };
 }
   where
-    entries : held.taken ≡ h.entries
-    entries = h.taken ∙ ap (λ (ts : List (ℕ × ℕ)). ts ++ h.entries) (none_taken opened open_.stands)
+    entries : held.taken ≡ map entry h.offers
+    entries = h.added.taken ∙ ap (λ (ts : List (ℕ × ℕ)). ts ++ map entry h.offers) (none_taken opened open_.stands)
 
 -- what was taken of a haul that was opened, with how many are missing
 pub taken_right : {workers : ℕ} (may_stop : ℕ → ℕ → Type 0) (set : SoupSet) (numbers : ProfileNumbers) (rule_text : List ℕ) (job : Job) (opened held : Held)

@@ -370,7 +370,7 @@ module _ {N : Type 0} where
       ∷ took got x es (All-tail (λ (e : ℕ × List N). IsFront (notes_of e.0 (got ++ x ∷ [])) e.1) e es fronts) i
 
   left_none : (got : List (ℕ × N)) (senders : List (ℕ × List N)) → All (λ (e : ℕ × List N). e.1 ≡ notes_of e.0 got) senders
-      → NothingLeft (map (left_over got) senders)
+      → All (λ (e : ℕ × List N). e.1 ≡ []) (map (left_over got) senders)
   left_none got [] whole = All-nil (λ (e : ℕ × List N). e.1 ≡ [])
   left_none got (e ∷ es) whole =
       let front = notes_of e.0 got in
@@ -380,7 +380,7 @@ module _ {N : Type 0} where
       (left_none got es (All-tail (λ (e : ℕ × List N). e.1 ≡ notes_of e.0 got) e es whole))
 
   -- an empty queue
-  pub none_left : (v : Share N) → Held 0 (Tells v) → NothingLeft (map (left_over v.got) v.senders)
+  pub none_left : (v : Share N) → Held 0 (Tells v) → NothingLeft (record { workers = v.made; lists = map (left_over v.got) v.senders })
   none_left v (items, none, tells) =
       let empty : items ≡ [] = nil_from_length items none in
       left_none v.got v.senders (subst (λ (l : List (ℕ × N)). All (λ (e : ℕ × List N). e.1 ≡ notes_of e.0 l) v.senders)

@@ -1,17 +1,18 @@
 -- Notes received one after another, and the reports in them offered to a haul.
 use Rattle.std.proofs.Common.{◌≡◌, ◌<◌, ◌≤◌, ◌+◌, ◌-◌, ◌++◌, ◌⊎◌, ◌∙◌, ℕ, Bool, cond, true, false, true≢false, All, List, [], ◌∷◌, ap, append-nil, append_assoc, arith}
 use Rattle.std.proofs.Common.{inl, inr, map, refl, subst, sym, ⊎_elim}
+use Rattle.std.specs.Prelude.{None}
 use Rattle.std.proofs.lemmas.Grind.{flat_map-append}
 use Rattle.std.proofs.lemmas.List.{map-append}
 use Rattle.std.proofs.lemmas.List.Elements.{All-append, All-cons, All-nil}
 use Rattle.std.proofs.lemmas.List.Sums.{sum_by_push}
 use native.Mathlib.Decide.{dec_le}
-use Rattle.haul_core.specs.Books.{Held, StandsFor, entry}
+use Rattle.haul_core.specs.Books.{Held, StandsFor, Terms, entry, eligible, refusal_of}
 use Rattle.haul_core.specs.Reports.{Reported}
 use Rattle.haul_core.specs.declared.arrival.Arrival.{Arrival}
 use Rattle.haul_core.specs.declared.arrival.Arrival.TheVariants.{Offer}
 use Rattle.crew.specs.Belts.{GotOne, Line, Received}
-use Rattle.crew.specs.Crews.{Collected, IsPart, dones, is_done, report_in, reports_in}
+use Rattle.crew.specs.Crews.{Collected, HasAdded, HasLost, HasMetAll, IsPart, dones, is_done, report_in, reports_in}
 use Rattle.crew.specs.declared.note.Note.{Note}
 use Rattle.crew.specs.declared.note.Note.TheVariants.{Done, Report}
 
@@ -42,6 +43,31 @@ reports_push notes m =
 dones_push : (notes : List (ℕ × Note)) (m : ℕ × Note) → dones (notes ++ m ∷ []) ≡ dones notes + cond {A = ℕ} (is_done m.1) 1 0
 dones_push notes m = sum_by_push (λ (n : ℕ × Note). cond {A = ℕ} (is_done n.1) 1 0) notes m
 
+-- ---- hauls that have taken reports
+
+pub added_none : (held : Held) → HasAdded [] held held
+added_none held = record {
+  terms = refl;
+  closed = refl;
+  taken = sym (append-nil held.taken);
+  stands = λ arrivals s. subst (λ (l : List Arrival). StandsFor l held) (sym (append-nil arrivals)) s;
+}
+
+met_more : (xs ys : List Reported) (old mid new : Held) → HasMetAll xs old mid → HasMetAll ys mid new → HasMetAll (xs ++ ys) old new
+met_more xs ys old mid new first more arrivals s =
+    subst (λ (l : List Arrival). StandsFor l new)
+    (append_assoc arrivals (map Offer xs) (map Offer ys) ∙ ap (λ (l : List Arrival). arrivals ++ l) (sym (map-append Offer xs ys)))
+    (more (arrivals ++ map Offer xs) (first arrivals s))
+
+added_more : (xs ys : List Reported) (old mid new : Held) → HasAdded xs old mid → HasAdded ys mid new → HasAdded (xs ++ ys) old new
+added_more xs ys old mid new first more = record {
+  terms = more.terms ∙ first.terms;
+  closed = more.closed ∙ first.closed;
+  taken = more.taken ∙ ap (λ (l : List (ℕ × ℕ)). l ++ map entry ys) first.taken ∙ append_assoc old.taken (map entry xs) (map entry ys)
+      ∙ ap (λ (l : List (ℕ × ℕ)). old.taken ++ l) (sym (map-append entry xs ys));
+  stands = met_more xs ys old mid new first.stands more.stands;
+}
+
 -- ---- the collector's loop
 
 pub collected_none : (started : ℕ) (pass : Received Note) (held : Held) → Collected started started pass pass held held true
@@ -52,37 +78,52 @@ collected_none started pass held = record {
   senders = All-nil (λ (m : ℕ × Note). (1 ≤ m.0) × (m.0 ≤ pass.belt.workers));
   done = let a : dones [] ≡ 0 = refl in omega arith;
   ends = elim (dec_le 1 started) [ yes some ↦ inl some | no none ↦ inr (inl refl) ];
-  terms = refl;
-  closed = refl;
-  taken = ([], refl, sym (append-nil held.taken));
-  offered = [];
+  part = [];
   some = refl;
-  all = λ _. refl;
-  stands = λ arrivals s. subst (λ (l : List Arrival). StandsFor l held) (sym (append-nil arrivals)) s;
+  added = added_none held;
+  all = λ _. (added_none held).stands;
+  lost = λ no. absurd (true≢false no);
 }
 
--- a report, however it was answered: what is taken
-taken_more : {started left : ℕ} {before after : Received Note} {old mid : Held} {answered : Bool} (c : Collected started left before after old mid answered)
-    (r : Reported) (sender : ℕ) (new : Held) → (new.taken ≡ mid.taken) ⊎ (new.taken ≡ mid.taken ++ entry r ∷ [])
-    → (part : List Reported) × IsPart part (reports_in (c.notes ++ (sender, Report r) ∷ [])) × (new.taken ≡ old.taken ++ map entry part)
-taken_more {old = old} {mid = mid} c r sender new t =
-    let part = c.taken.0 in
-    let whole = sym (reports_push c.notes (sender, Report r)) in
-    ⊎_elim
-    (λ (same : new.taken ≡ mid.taken). (
-      part,
-      subst (λ (l : List Reported). IsPart part l) whole
-          (subst (λ (l : List Reported). IsPart l (reports_in c.notes ++ r ∷ [])) (append-nil part)
-          (part_append part (reports_in c.notes) [] (r ∷ []) c.taken.1 (part_none (r ∷ [])))),
-      same ∙ c.taken.2,
-    ))
-    (λ (more : new.taken ≡ mid.taken ++ entry r ∷ []). (
-      part ++ r ∷ [],
-      subst (λ (l : List Reported). IsPart (part ++ r ∷ []) l) whole
-          (part_append part (reports_in c.notes) (r ∷ []) (r ∷ []) c.taken.1 (part_all (r ∷ []))),
-      more ∙ ap (λ (l : List (ℕ × ℕ)). l ++ entry r ∷ []) c.taken.2 ∙ append_assoc old.taken (map entry part) (entry r ∷ [])
-          ∙ ap (λ (l : List (ℕ × ℕ)). old.taken ++ l) (sym (map-append entry part (r ∷ []))),
-    )) t
+module _ {started left : ℕ} {before after : Received Note} {old mid : Held} {answered : Bool} (c : Collected started left before after old mid answered) where
+  -- a part of what was received before and after this report
+  some_more : (r : Reported) (sender : ℕ) (part more : List Reported) → IsPart part (reports_in c.notes) → IsPart more (r ∷ [])
+      → IsPart (part ++ more) (reports_in (c.notes ++ (sender, Report r) ∷ []))
+  some_more r sender part more p q =
+      subst (λ (l : List Reported). IsPart (part ++ more) l) (sym (reports_push c.notes (sender, Report r)))
+      (part_append part (reports_in c.notes) more (r ∷ []) p q)
+
+  lost_more : (r : Reported) (sender : ℕ) → HasLost (reports_in c.notes) old → HasLost (reports_in (c.notes ++ (sender, Report r) ∷ [])) old
+  lost_more r sender lost =
+      let front = lost.before ++ lost.report ∷ [] in
+      record {
+        before = lost.before;
+        report = lost.report;
+        some = subst (λ (l : List Reported). IsPart l (reports_in (c.notes ++ (sender, Report r) ∷ []))) (append-nil front)
+            (some_more r sender front [] lost.some (part_none (r ∷ [])));
+        eligible = lost.eligible;
+      }
+
+  -- what is taken after a report, and which reports that are
+  record Takes (r : Reported) (sender : ℕ) (new : Held) : Type 0 where
+    part : List Reported
+    some : IsPart part (reports_in (c.notes ++ (sender, Report r) ∷ []))
+    added : HasAdded part old new
+
+  takes : (r : Reported) (sender : ℕ) (new : Held) → (new ≡ mid) ⊎ HasAdded (r ∷ []) mid new → Takes r sender new
+  takes r sender new added =
+      ⊎_elim
+      (λ (same : new ≡ mid). record {
+        part = c.part;
+        some = subst (λ (l : List Reported). IsPart l (reports_in (c.notes ++ (sender, Report r) ∷ []))) (append-nil c.part)
+            (some_more r sender c.part [] c.some (part_none (r ∷ [])));
+        added = subst (HasAdded c.part old) (sym same) c.added;
+      })
+      (λ (more : HasAdded (r ∷ []) mid new). record {
+        part = c.part ++ r ∷ [];
+        some = some_more r sender c.part (r ∷ []) c.some (part_all (r ∷ []));
+        added = added_more c.part (r ∷ []) old mid new c.added more;
+      }) added
 
 module _ {started left : ℕ} {before after next : Received Note} {old mid : Held} {answered : Bool}
     (c : Collected started left before after old mid answered) where
@@ -98,12 +139,11 @@ module _ {started left : ℕ} {before after next : Received Note} {old mid : Hel
       g.got ∙ ap (λ (l : List (ℕ × Note)). l ++ (g.sender, note) ∷ []) c.got ∙ append_assoc before.got c.notes ((g.sender, note) ∷ [])
 
   -- a report that was answered
-  pub collected_heard : (r : Reported) (new : Held) → GotOne after next (Report r) → 0 < left → new.terms ≡ mid.terms → new.closed ≡ mid.closed
-      → (new.taken ≡ mid.taken) ⊎ (new.taken ≡ mid.taken ++ (r.worker, r.number) ∷ [])
-      → ((arrivals : List Arrival) → StandsFor arrivals mid → StandsFor (arrivals ++ Offer r ∷ []) new)
-      → Collected started left before next old new answered
-  collected_heard r new g some terms closed taken stands =
+  pub collected_heard : (r : Reported) (new : Held) → GotOne after next (Report r) → 0 < left → (new ≡ mid) ⊎ HasAdded (r ∷ []) mid new
+      → HasMetAll (r ∷ []) mid new → Collected started left before next old new answered
+  collected_heard r new g some added met =
       let whole = reports_push c.notes (g.sender, Report r) in
+      let t = takes c r g.sender new added in
       record {
         notes = c.notes ++ (g.sender, Report r) ∷ [];
         belt = g.belt ∙ c.belt;
@@ -111,23 +151,20 @@ module _ {started left : ℕ} {before after next : Received Note} {old mid : Hel
         senders = sender_in (Report r) g;
         done = let a = dones_push c.notes (g.sender, Report r) in let b = c.done in omega arith;
         ends = inl some;
-        terms = terms ∙ c.terms;
-        closed = closed ∙ c.closed;
-        taken = taken_more c r g.sender new taken;
-        offered = c.offered ++ r ∷ [];
-        some = subst (λ (l : List Reported). IsPart (c.offered ++ r ∷ []) l) (sym whole)
-            (part_append c.offered (reports_in c.notes) (r ∷ []) (r ∷ []) c.some (part_all (r ∷ [])));
-        all = λ yes. ap (λ (l : List Reported). l ++ r ∷ []) (c.all yes) ∙ sym whole;
-        stands = λ arrivals s. subst (λ (l : List Arrival). StandsFor l new)
-            (append_assoc arrivals (map Offer c.offered) (Offer r ∷ []) ∙ ap (λ (l : List Arrival). arrivals ++ l) (sym (map-append Offer c.offered (r ∷ []))))
-            (stands (arrivals ++ map Offer c.offered) (c.stands arrivals s));
+        part = t.part;
+        some = t.some;
+        added = t.added;
+        all = λ yes. subst (λ (l : List Reported). HasMetAll l old new) (sym whole)
+            (met_more (reports_in c.notes) (r ∷ []) old mid new (c.all yes) met);
+        lost = λ no. lost_more c r g.sender (c.lost no);
       }
 
   -- a report for which there was no memory
   pub collected_unheard : (r : Reported) (new : Held) → GotOne after next (Report r) → 0 < left → new ≡ mid
+      → ((arrivals : List Arrival) → StandsFor arrivals mid → refusal_of mid.terms arrivals r ≡ None)
       → Collected started left before next old new false
-  collected_unheard r new g some same =
-      let whole = reports_push c.notes (g.sender, Report r) in
+  collected_unheard r new g some same eligible =
+      let t = takes c r g.sender new (inl same) in
       record {
         notes = c.notes ++ (g.sender, Report r) ∷ [];
         belt = g.belt ∙ c.belt;
@@ -135,15 +172,17 @@ module _ {started left : ℕ} {before after next : Received Note} {old mid : Hel
         senders = sender_in (Report r) g;
         done = let a = dones_push c.notes (g.sender, Report r) in let b = c.done in omega arith;
         ends = inl some;
-        terms = ap (λ (h : Held). h.terms) same ∙ c.terms;
-        closed = ap (λ (h : Held). h.closed) same ∙ c.closed;
-        taken = taken_more c r g.sender new (inl (ap (λ (h : Held). h.taken) same));
-        offered = c.offered;
-        some = subst (λ (l : List Reported). IsPart c.offered l) (sym whole)
-            (subst (λ (l : List Reported). IsPart l (reports_in c.notes ++ r ∷ [])) (append-nil c.offered)
-            (part_append c.offered (reports_in c.notes) [] (r ∷ []) c.some (part_none (r ∷ []))));
+        part = t.part;
+        some = t.some;
+        added = t.added;
         all = λ yes. absurd (true≢false (sym yes));
-        stands = λ arrivals s. subst (λ (h : Held). StandsFor (arrivals ++ map Offer c.offered) h) (sym same) (c.stands arrivals s);
+        lost = λ no. record {
+          before = c.part;
+          report = r;
+          some = some_more c r g.sender c.part (r ∷ []) c.some (part_all (r ∷ []));
+          eligible = λ arrivals s. subst (λ (t : Terms). refusal_of t (arrivals ++ map Offer c.part) r ≡ None) c.added.terms
+              (eligible (arrivals ++ map Offer c.part) (c.added.stands arrivals s));
+        };
       }
 
   -- a worker that is done
@@ -158,11 +197,9 @@ module _ {started left : ℕ} {before after next : Received Note} {old mid : Hel
         senders = sender_in (Done worker) g;
         done = let a = dones_push c.notes (g.sender, Done worker) in let b = c.done in omega arith;
         ends = inr (inr (c.notes, g.sender, worker, refl));
-        terms = c.terms;
-        closed = c.closed;
-        taken = (c.taken.0, subst (λ (l : List Reported). IsPart c.taken.0 l) (sym whole) c.taken.1, c.taken.2);
-        offered = c.offered;
-        some = subst (λ (l : List Reported). IsPart c.offered l) (sym whole) c.some;
-        all = λ yes. c.all yes ∙ sym whole;
-        stands = c.stands;
+        part = c.part;
+        some = subst (λ (l : List Reported). IsPart c.part l) (sym whole) c.some;
+        added = c.added;
+        all = λ yes. subst (λ (l : List Reported). HasMetAll l old mid) (sym whole) (c.all yes);
+        lost = λ no. subst (λ (l : List Reported). HasLost l old) (sym whole) (c.lost no);
       }

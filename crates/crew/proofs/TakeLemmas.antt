@@ -1,30 +1,31 @@
 -- From what each worker presented to what the haul has taken.
 use Rattle.std.proofs.Common.{◌≡◌, ◌≢◌, ◌<◌, ◌≤◌, ◌+◌, ◌++◌, ◌∙◌, ℕ, zero, suc, Bool, cond, nat_eq, All, List, [], ◌∷◌, ap, arith, drop, filter, get_or, inl, inr}
 use Rattle.std.proofs.Common.{length, map, refl, subst, sym, ⊎_elim}
-use Rattle.std.specs.Prelude.{AllPairs, Contains, IfSome, Option, slice_index}
+use Rattle.std.specs.Prelude.{AllPairs, Contains, IfSome, None, Option, Some, slice_index}
 use Rattle.std.specs.List.Sorted.{IsStrictlyIncreasing}
 use Rattle.std.specs.List.{IsDistinct, range_with_len}
 use Rattle.std.proofs.lemmas.Bool.{eq-eqb, ne_eqb}
 use Rattle.std.proofs.lemmas.Grind.{flat_map-append}
-use Rattle.std.proofs.lemmas.List.{append-nil, length-map, map-append}
+use Rattle.std.proofs.lemmas.List.{length-map, map-append}
 use Rattle.std.proofs.lemmas.List.FromFn.{length-range_with_len}
-use Rattle.std.proofs.lemmas.List.Elements.{All-append, All-cons, All-head, All-map, All-nil, All-tail, Contains-get_or}
+use Rattle.std.proofs.lemmas.List.Elements.{All-append, All-cons, All-contains, All-head, All-nil, All-tail, Contains-get_or}
 use Rattle.std.proofs.lemmas.List.Kept.{AllPairs-cons, AllPairs-from_increasing}
 use Rattle.std.proofs.lemmas.Map.Keys.{IsDistinct-tail}
 use mathlib.Core.Logic.{dite}
 use native.Mathlib.Decide.{ℕ_discrete}
 use Rattle.atomic_table.specs.Seated.{TableId}
-use Rattle.haul_core.specs.Books.{Held, StandsFor, entry}
+use Rattle.survey_core.specs.declared.job.Job.{Job}
+use Rattle.haul_core.specs.Books.{Held, entry}
 use Rattle.haul_core.specs.Keeping.{numbers_in}
 use Rattle.haul_core.specs.Reports.{Reported}
-use Rattle.haul_core.specs.declared.arrival.Arrival.{Arrival}
 use Rattle.crew.specs.Belts.{IsWhole, Line, Presented, Received, deaf, notes_of, silent}
 use Rattle.crew.specs.Crews.{Collected, IsPart, report_in, reports_in}
 use Rattle.crew.specs.Shifts.{HasWorked, StopsAt, reported, sender_numbers}
-use Rattle.crew.specs.Takes.{HasHeard, HasTaken, taken_by, was_missing}
+use Rattle.crew.specs.Takes.{HasTaken, taken_by, was_missing}
 use Rattle.crew.specs.declared.note.Note.{Note}
 use Rattle.crew.specs.declared.note.Note.TheVariants.{Done, Report}
 use Rattle.crew.proofs.BeltLemmas.{notes_first, notes_other}
+use Rattle.crew.proofs.CrewLemmas.{added_none}
 
 abbrev Rises : List ℕ → Type 0
 Rises xs = AllPairs (λ x y. x < y) xs
@@ -96,26 +97,30 @@ rises_at missing (t ∷ ts) up rise below =
 
 -- ---- what was received of one worker
 
--- a report of the worker, of a missing number
-abbrev IsOwn : List ℕ → ℕ → Reported → Type 0
-IsOwn missing worker r = (r.worker ≡ worker) × Contains missing r.number
+-- a report of the worker for the job, of a missing number
+abbrev IsOwn : Job → List ℕ → ℕ → Reported → Type 0
+IsOwn job missing worker r = (r.worker ≡ worker) × Contains missing r.number × (r.job ≡ job)
 
-pub record ReceivedOf (missing : List ℕ) (worker : ℕ) (got : List (ℕ × Note)) : Type 0 where
-  pub own : All (IsOwn missing worker) (reported (notes_of worker got))
+pub record ReceivedOf (job : Job) (missing : List ℕ) (worker : ℕ) (got : List (ℕ × Note)) : Type 0 where
+  pub own : All (IsOwn job missing worker) (reported (notes_of worker got))
   pub rises : Rises (map (λ r. r.number) (reported (notes_of worker got)))
 
-both : (missing : List ℕ) (worker : ℕ) (rs : List Reported) → All (λ r. r.worker ≡ worker) rs → All (Contains missing) (map (λ (r : Reported). r.number) rs)
-    → All (IsOwn missing worker) rs
-both missing worker [] own listed = All-nil (IsOwn missing worker)
-both missing worker (r ∷ rs) own listed =
-    All-cons (IsOwn missing worker) r rs
-    (All-head (λ (s : Reported). s.worker ≡ worker) r rs own, All-head (Contains missing) r.number (map (λ (s : Reported). s.number) rs) listed)
-    (both missing worker rs (All-tail (λ (s : Reported). s.worker ≡ worker) r rs own)
-    (All-tail (Contains missing) r.number (map (λ (s : Reported). s.number) rs) listed))
+both : (job : Job) (missing : List ℕ) (worker : ℕ) (rs : List Reported) → All (λ r. r.worker ≡ worker) rs
+    → All (Contains missing) (map (λ (r : Reported). r.number) rs) → All (λ (r : Reported). r.job ≡ job) rs → All (IsOwn job missing worker) rs
+both job missing worker [] own listed of = All-nil (IsOwn job missing worker)
+both job missing worker (r ∷ rs) own listed of =
+    All-cons (IsOwn job missing worker) r rs
+    (
+      All-head (λ (s : Reported). s.worker ≡ worker) r rs own,
+      All-head (Contains missing) r.number (map (λ (s : Reported). s.number) rs) listed,
+      All-head (λ (s : Reported). s.job ≡ job) r rs of,
+    )
+    (both job missing worker rs (All-tail (λ (s : Reported). s.worker ≡ worker) r rs own)
+    (All-tail (Contains missing) r.number (map (λ (s : Reported). s.number) rs) listed) (All-tail (λ (s : Reported). s.job ≡ job) r rs of))
 
-received_of : (name : TableId) (missing : List ℕ) (got : List (ℕ × Note)) (pass : Presented Note) → Rises missing → HasWorked name missing pass
-    → IsWhole got pass → ReceivedOf missing pass.number got
-received_of name missing got pass up worked whole =
+received_of : (name : TableId) (job : Job) (missing : List ℕ) (got : List (ℕ × Note)) (pass : Presented Note) → Rises missing → HasWorked name job missing pass
+    → IsWhole got pass → ReceivedOf job missing pass.number got
+received_of name job missing got pass up worked whole =
     let h = worked.1 in
     let front = notes_of pass.number got in
     let rest = drop (length front) pass.notes in
@@ -124,11 +129,13 @@ received_of name missing got pass up worked whole =
     let numbers : map number (reported front) ++ map number (reported rest) ≡ map (slice_index missing) worked.0 =
     sym (map-append number (reported front) (reported rest)) ∙ ap (λ (l : List Reported). map number l) (sym parts) ∙ h.numbers in
     record {
-      own = both missing pass.number (reported front)
+      own = both job missing pass.number (reported front)
           (all_left (λ (r : Reported). r.worker ≡ pass.number) (reported front) (reported rest)
           (subst (λ (l : List Reported). All (λ (r : Reported). r.worker ≡ pass.number) l) parts h.own))
           (all_left (Contains missing) (map number (reported front)) (map number (reported rest))
-          (subst (All (Contains missing)) (sym numbers) (at_places missing worked.0 h.below)));
+          (subst (All (Contains missing)) (sym numbers) (at_places missing worked.0 h.below)))
+          (all_left (λ (r : Reported). r.job ≡ job) (reported front) (reported rest)
+          (subst (λ (l : List Reported). All (λ (r : Reported). r.job ≡ job) l) parts h.of_job));
       rises = rises_left (map number (reported front)) (map number (reported rest))
           (subst Rises (sym numbers) (rises_at missing worked.0 up h.ascending h.below));
     }
@@ -144,12 +151,12 @@ sender_of P first (suc n) (s ∷ ss) is all worker le lt =
     (λ apart. sender_of P (first + 1) n ss (ap (λ (l : List ℕ). drop 1 l) is) (All-tail (λ (t : Presented Note). P t.number) s ss all) worker
     (omega (arith, apart)) (omega arith))
 
-pub received_each : (name : TableId) (missing : List ℕ) (got : List (ℕ × Note)) (passes : List (Presented Note)) (workers : ℕ) → Rises missing
-    → sender_numbers passes ≡ range_with_len 1 workers → All (HasWorked name missing) passes → All (IsWhole got) passes
-    → (worker : ℕ) → 1 ≤ worker → worker ≤ workers → ReceivedOf missing worker got
-received_each name missing got passes workers up numbers worked whole worker le ge =
-    sender_of (λ w. ReceivedOf missing w got) 1 workers passes numbers
-    (λ k d lt. received_of name missing got (get_or passes k d) up (worked k d lt) (whole k d lt)) worker le (omega arith)
+pub received_each : (name : TableId) (job : Job) (missing : List ℕ) (got : List (ℕ × Note)) (passes : List (Presented Note)) (workers : ℕ) → Rises missing
+    → sender_numbers passes ≡ range_with_len 1 workers → All (HasWorked name job missing) passes → All (IsWhole got) passes
+    → (worker : ℕ) → 1 ≤ worker → worker ≤ workers → ReceivedOf job missing worker got
+received_each name job missing got passes workers up numbers worked whole worker le ge =
+    sender_of (λ w. ReceivedOf job missing w got) 1 workers passes numbers
+    (λ k d lt. received_of name job missing got (get_or passes k d) up (worked k d lt) (whole k d lt)) worker le (omega arith)
 
 -- ---- what was received of all workers
 
@@ -208,18 +215,18 @@ taken_part w part (r ∷ rs) p =
     subst (λ (l : List ℕ). IsPart l (taken_by w (map entry rs)))
     (sym (ap (λ (l : List Reported). taken_by w (map entry l)) q.1 ∙ by_no w (entry r) (map entry q.0) apart)) (taken_part w q.0 rs q.2)) p))
 
-taken_all : (missing : List ℕ) (w : ℕ) (got : List (ℕ × Note)) → All (λ m. All (IsOwn missing m.0) (report_in m.1)) got
+taken_all : (job : Job) (missing : List ℕ) (w : ℕ) (got : List (ℕ × Note)) → All (λ m. All (IsOwn job missing m.0) (report_in m.1)) got
     → taken_by w (map entry (reports_in got)) ≡ map (λ r. r.number) (reported (notes_of w got))
-taken_all missing w [] own = refl
-taken_all missing w ((p, Done worker) ∷ ms) own =
-    let more = taken_all missing w ms (All-tail (λ (m : ℕ × Note). All (IsOwn missing m.0) (report_in m.1)) (p, Done worker) ms own) in
+taken_all job missing w [] own = refl
+taken_all job missing w ((p, Done worker) ∷ ms) own =
+    let more = taken_all job missing w ms (All-tail (λ (m : ℕ × Note). All (IsOwn job missing m.0) (report_in m.1)) (p, Done worker) ms own) in
     dite (ℕ_discrete w p)
     (λ same. more ∙ sym (ap (λ (l : List Note). map (λ (r : Reported). r.number) (reported l)) (notes_first p w (Done worker) ms same)))
     (λ apart. more ∙ sym (ap (λ (l : List Note). map (λ (r : Reported). r.number) (reported l)) (notes_other p w (Done worker) ms apart)))
-taken_all missing w ((p, Report r) ∷ ms) own =
-    let more = taken_all missing w ms (All-tail (λ (m : ℕ × Note). All (IsOwn missing m.0) (report_in m.1)) (p, Report r) ms own) in
+taken_all job missing w ((p, Report r) ∷ ms) own =
+    let more = taken_all job missing w ms (All-tail (λ (m : ℕ × Note). All (IsOwn job missing m.0) (report_in m.1)) (p, Report r) ms own) in
     let mine : r.worker ≡ p =
-    (All-head (IsOwn missing p) r [] (All-head (λ (m : ℕ × Note). All (IsOwn missing m.0) (report_in m.1)) (p, Report r) ms own)).0 in
+    (All-head (IsOwn job missing p) r [] (All-head (λ (m : ℕ × Note). All (IsOwn job missing m.0) (report_in m.1)) (p, Report r) ms own)).0 in
     dite (ℕ_discrete w p)
     (λ same. by_yes w (entry r) (map entry (reports_in ms)) (same ∙ sym mine) ∙ ap (λ (l : List ℕ). r.number ∷ l) more
     ∙ sym (ap (λ (l : List Note). map (λ (s : Reported). s.number) (reported l)) (notes_first p w (Report r) ms same)))
@@ -228,40 +235,50 @@ taken_all missing w ((p, Report r) ∷ ms) own =
 
 -- ---- the whole crew
 
+range_within : (first n last : ℕ) → first + n ≤ last + 1 → All (λ v. (first ≤ v) × (v ≤ last)) (range_with_len first n)
+range_within first zero last le = All-nil (λ v. (first ≤ v) × (v ≤ last))
+range_within first (suc n) last le =
+    let more = range_within (first + 1) n last (omega arith) in
+    All-cons (λ v. (first ≤ v) × (v ≤ last)) first (range_with_len (first + 1) n) (omega arith, omega arith)
+    (λ k d lt. let m = more k d lt in (omega (arith, m.0), m.1))
+
 -- some of the reports that were received of the workers
-record OfCrew (workers : ℕ) (missing : List ℕ) (part : List Reported) : Type 0 where
+record OfCrew (workers : ℕ) (job : Job) (missing : List ℕ) (part : List Reported) : Type 0 where
+  of_job : All (λ r. r.job ≡ job) part
   by_workers : All (λ r. (1 ≤ r.worker) × (r.worker ≤ workers)) part
   listed : All (λ r. Contains missing r.number) part
   rises : (worker : ℕ) → 1 ≤ worker → worker ≤ workers → Rises (taken_by worker (map entry part))
 
-of_crew : (name : TableId) (missing : List ℕ) (workers : ℕ) (got : List (ℕ × Note)) (passes : List (Presented Note)) (part : List Reported)
-    → Rises missing → sender_numbers passes ≡ range_with_len 1 workers → All (HasWorked name missing) passes
-    → All (IsWhole got) passes → All (λ m. (1 ≤ m.0) × (m.0 ≤ workers)) got → IsPart part (reports_in got) → OfCrew workers missing part
-of_crew name missing workers got passes part up numbers worked whole few is =
-    let each = received_each name missing got passes workers up numbers worked whole in
-    let own : All (λ (m : ℕ × Note). All (IsOwn missing m.0) (report_in m.1)) got =
-    all_own (IsOwn missing) got workers few (λ w le ge. (each w le ge).own) in
+of_crew : (name : TableId) (job : Job) (missing : List ℕ) (workers : ℕ) (got : List (ℕ × Note)) (passes : List (Presented Note)) (part : List Reported)
+    → Rises missing → sender_numbers passes ≡ range_with_len 1 workers → All (HasWorked name job missing) passes
+    → All (IsWhole got) passes → All (λ m. (1 ≤ m.0) × (m.0 ≤ workers)) got → IsPart part (reports_in got) → OfCrew workers job missing part
+of_crew name job missing workers got passes part up numbers worked whole few is =
+    let each = received_each name job missing got passes workers up numbers worked whole in
+    let own : All (λ (m : ℕ × Note). All (IsOwn job missing m.0) (report_in m.1)) got =
+    all_own (IsOwn job missing) got workers few (λ w le ge. (each w le ge).own) in
     record {
       by_workers = all_part (λ (r : Reported). (1 ≤ r.worker) × (r.worker ≤ workers)) part (reports_in got) is (workers_in got few own);
       listed = all_part (λ (r : Reported). Contains missing r.number) part (reports_in got) is
-          (all_reports (IsOwn missing) (λ (r : Reported). Contains missing r.number) got (λ m h k d lt. (h k d lt).1) own);
+          (all_reports (IsOwn job missing) (λ (r : Reported). Contains missing r.number) got (λ m h k d lt. (h k d lt).1) own);
+      of_job = all_part (λ (r : Reported). r.job ≡ job) part (reports_in got) is
+          (all_reports (IsOwn job missing) (λ (r : Reported). r.job ≡ job) got (λ m h k d lt. (h k d lt).2) own);
       rises = λ w le ge.
           rises_part (taken_by w (map entry part)) (taken_by w (map entry (reports_in got))) (taken_part w part (reports_in got) is)
-          (subst Rises (sym (taken_all missing w got own)) (each w le ge).rises);
+          (subst Rises (sym (taken_all job missing w got own)) (each w le ge).rises);
     }
   where
     workers_in : (got : List (ℕ × Note)) → All (λ m. (1 ≤ m.0) × (m.0 ≤ workers)) got
-        → All (λ (m : ℕ × Note). All (IsOwn missing m.0) (report_in m.1)) got
+        → All (λ (m : ℕ × Note). All (IsOwn job missing m.0) (report_in m.1)) got
         → All (λ (r : Reported). (1 ≤ r.worker) × (r.worker ≤ workers)) (reports_in got)
     workers_in [] few own = All-nil (λ (r : Reported). (1 ≤ r.worker) × (r.worker ≤ workers))
     workers_in (m ∷ ms) few own =
         let P : Reported → Type 0 = λ r. (1 ≤ r.worker) × (r.worker ≤ workers) in
         let here = All-head (λ (n : ℕ × Note). (1 ≤ n.0) × (n.0 ≤ workers)) m ms few in
-        let mine = All-head (λ (n : ℕ × Note). All (IsOwn missing n.0) (report_in n.1)) m ms own in
+        let mine = All-head (λ (n : ℕ × Note). All (IsOwn job missing n.0) (report_in n.1)) m ms own in
         All-append P (report_in m.1) (reports_in ms)
         (λ k d lt. let e = (mine k d lt).0 in (omega (arith, here.0, e), omega (arith, here.1, e)))
         (workers_in ms (All-tail (λ (n : ℕ × Note). (1 ≤ n.0) × (n.0 ≤ workers)) m ms few)
-        (All-tail (λ (n : ℕ × Note). All (IsOwn missing n.0) (report_in n.1)) m ms own))
+        (All-tail (λ (n : ℕ × Note). All (IsOwn job missing n.0) (report_in n.1)) m ms own))
 
 distinct_none : IsDistinct nat_eq []
 unfolding IsDistinct
@@ -269,23 +286,13 @@ distinct_none = tt
 
 pub taken_none : (workers : ℕ) (held : Held) → HasTaken workers held held
 taken_none workers held = record {
-  terms = refl;
-  closed = refl;
-  entries = [];
-  taken = sym (append-nil held.taken);
-  by_workers = All-nil (λ (t : ℕ × ℕ). (1 ≤ t.0) × (t.0 ≤ workers));
-  missing = All-nil (λ (t : ℕ × ℕ). Contains (was_missing held) t.1);
-  once = distinct_none;
-  ascending = λ w le ge i j d lt small. absurd (omega arith);
-}
-
-pub heard_none : (workers : ℕ) (held : Held) → HasHeard workers held held
-heard_none workers held = record {
   offers = [];
+  added = added_none held;
+  job = All-nil (λ (r : Reported). r.job ≡ held.terms.job);
   by_workers = All-nil (λ (r : Reported). (1 ≤ r.worker) × (r.worker ≤ workers));
   missing = All-nil (λ (r : Reported). Contains (was_missing held) r.number);
+  once = distinct_none;
   in_order = λ w le ge i j d lt small. absurd (omega arith);
-  stands = λ arrivals s. subst (λ (l : List Arrival). StandsFor l held) (sym (append-nil arrivals)) s;
 }
 
 -- ---- what a crew begins with
@@ -305,56 +312,60 @@ silent_length name workers = length-map (range_with_len 1 workers) (silent {N = 
 
 -- ---- what it leaves
 
-pub belts_of : (name : TableId) (missing : List ℕ) (passes : List (Presented Note)) → All (HasWorked name missing) passes
+pub belts_of : (name : TableId) (job : Job) (missing : List ℕ) (passes : List (Presented Note)) → All (HasWorked name job missing) passes
     → All (λ (s : Presented Note). s.belt ≡ name) passes
-belts_of name missing passes worked k d lt = (worked k d lt).1.belt
+belts_of name job missing passes worked k d lt = (worked k d lt).1.belt
 
 -- what is known when a crew ends
-module _ {name : TableId} {started : ℕ} {before after : Received Note} {old mid : Held} {answered : Bool} (belt : Line) (workers : ℕ)
+module _ {name : TableId} {job : Job} {started : ℕ} {before after : Received Note} {old mid : Held} {answered : Bool} (belt : Line) (workers : ℕ)
     (missing : List ℕ) (passes first back : List (Presented Note)) (c : Collected started 0 before after old mid answered) (begun : before ≡ deaf belt)
     (as_many : belt.workers ≡ workers) (listed : missing ≡ was_missing old) (up : IsStrictlyIncreasing missing)
     (silents : first ≡ map (silent name) (range_with_len 1 workers)) (none : back ≡ [])
-    (numbers : sender_numbers passes ≡ sender_numbers back ++ sender_numbers first) (worked : All (HasWorked name missing) passes)
+    (numbers : sender_numbers passes ≡ sender_numbers back ++ sender_numbers first) (worked : All (HasWorked name job missing) passes)
     (whole : All (IsWhole after.got) passes) where
-  crew_part : (part : List Reported) → IsPart part (reports_in c.notes) → OfCrew workers (was_missing old) part
+  crew_part : (part : List Reported) → IsPart part (reports_in c.notes) → OfCrew workers job (was_missing old) part
   crew_part part is =
       let notes_are : after.got ≡ c.notes = c.got ∙ ap (λ (r : Received Note). r.got ++ c.notes) begun in
       let bound : before.belt.workers ≡ workers = ap (λ (r : Received Note). r.belt.workers) begun ∙ as_many in
-      of_crew name (was_missing old) workers after.got passes part
+      of_crew name job (was_missing old) workers after.got passes part
       (AllPairs-from_increasing (was_missing old) (subst IsStrictlyIncreasing listed up))
       (numbers ∙ ap (λ (l : List (Presented Note)). sender_numbers l ++ sender_numbers first) none ∙ ap sender_numbers silents
       ∙ silent_numbers name (range_with_len 1 workers))
-      (subst (λ (l : List ℕ). All (HasWorked name l) passes) listed worked) whole
+      (subst (λ (l : List ℕ). All (HasWorked name job l) passes) listed worked) whole
       (subst (All (λ (m : ℕ × Note). (1 ≤ m.0) × (m.0 ≤ workers))) (sym notes_are)
       (λ k d lt. let s = c.senders k d lt in (s.0, omega (arith, s.1, bound))))
       (subst (λ (l : List (ℕ × Note)). IsPart part (reports_in l)) (sym notes_are) is)
 
-  pub crew_has_taken : (new : Held) → new ≡ mid → IsDistinct nat_eq (numbers_in mid.taken) → HasTaken workers old new
-  crew_has_taken new same distinct =
-      let part = c.taken.0 in
-      let of = crew_part part c.taken.1 in
+  pub crew_has_taken : (new : Held) → new ≡ mid → IsDistinct nat_eq (numbers_in mid.taken) → job ≡ old.terms.job → HasTaken workers old new
+  crew_has_taken new same distinct of_haul =
+      let of = crew_part c.part c.some in
       subst (HasTaken workers old) (sym same) (record {
-        terms = c.terms;
-        closed = c.closed;
-        entries = map entry part;
-        taken = c.taken.2;
-        by_workers = All-map (λ (t : ℕ × ℕ). (1 ≤ t.0) × (t.0 ≤ workers)) entry part of.by_workers;
-        missing = All-map (λ (t : ℕ × ℕ). Contains (was_missing old) t.1) entry part of.listed;
-        once = distinct_right (numbers_in old.taken) (numbers_in (map entry part))
-            (subst (IsDistinct nat_eq) (ap numbers_in c.taken.2 ∙ map-append (λ (t : ℕ × ℕ). t.1) old.taken (map entry part)) distinct);
-        ascending = of.rises;
-      })
-
-  pub crew_has_heard : (new : Held) → new ≡ mid → HasHeard workers old new
-  crew_has_heard new same =
-      let of = crew_part c.offered c.some in
-      subst (HasHeard workers old) (sym same) (record {
-        offers = c.offered;
+        offers = c.part;
+        added = c.added;
+        job = subst (λ (j : Job). All (λ (r : Reported). r.job ≡ j) c.part) of_haul of.of_job;
         by_workers = of.by_workers;
         missing = of.listed;
+        once = distinct_right (numbers_in old.taken) (numbers_in (map entry c.part))
+            (subst (IsDistinct nat_eq) (ap numbers_in c.added.taken ∙ map-append (λ (t : ℕ × ℕ). t.1) old.taken (map entry c.part)) distinct);
         in_order = of.rises;
-        stands = c.stands;
       })
+
+-- the worker that was stopped is one of the crew
+pub crew_within : (name : TableId) (workers : ℕ) (first back passes : List (Presented Note)) (stopped now : Option ℕ)
+    → IfSome stopped (Contains (sender_numbers passes)) → first ≡ map (silent name) (range_with_len 1 workers) → back ≡ []
+    → sender_numbers passes ≡ sender_numbers back ++ sender_numbers first → now ≡ stopped → IfSome now (λ w. (1 ≤ w) × (w ≤ workers))
+crew_within name workers first back passes stopped now one silents none numbers same =
+    subst (λ (o : Option ℕ). IfSome o (λ w. (1 ≤ w) × (w ≤ workers))) (sym same) (go stopped one)
+  where
+    are : sender_numbers passes ≡ range_with_len 1 workers
+    are = numbers ∙ ap (λ (l : List (Presented Note)). sender_numbers l ++ sender_numbers first) none ∙ ap sender_numbers silents
+        ∙ silent_numbers name (range_with_len 1 workers)
+
+    go : (o : Option ℕ) → IfSome o (Contains (sender_numbers passes)) → IfSome o (λ w. (1 ≤ w) × (w ≤ workers))
+    go None h = tt
+    go (Some w) h =
+        let within = subst (λ (l : List ℕ). Contains l w) are h in
+        All-contains (λ v. (1 ≤ v) × (v ≤ workers)) (range_with_len 1 workers) w (range_within 1 workers workers (omega arith)) within
 
 pub crew_stops : (may_stop : ℕ → ℕ → Type 0) (missing wanted : List ℕ) (stopped now : Option ℕ) → IfSome stopped (StopsAt may_stop missing) → missing ≡ wanted
     → now ≡ stopped → IfSome now (StopsAt may_stop wanted)

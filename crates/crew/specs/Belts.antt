@@ -18,6 +18,11 @@ pub record Received (N : Type 0) : Type 0 where
   pub belt : Line
   pub got : List (ℕ × N)
 
+-- what is left on a belt: how many senders were made for it, and of each whose pass was handed back its number and its notes
+pub record Left (N : Type 0) : Type 0 where
+  pub workers : ℕ
+  pub lists : List (ℕ × List N)
+
 module _ {N : Type 0} where
   -- the notes of one sender, in order
   abbrev pub notes_of : ℕ → List (ℕ × N) → List N
@@ -55,9 +60,12 @@ module _ {N : Type 0} where
   with_first sender note e = (e.0, if nat_eq e.0 sender then note ∷ e.1 else e.1)
 
   -- the note was the first that was left of some sender. If the sender's pass was not handed back, no list has changed
-  abbrev pub TookFirst : List (ℕ × List N) → List (ℕ × List N) → N → Type 0
-  TookFirst old new note = (sender : ℕ) × (old ≡ map (with_first sender note) new)
+  pub record TookFirst (old new : Left N) (note : N) : Type 0 where
+    pub sender : ℕ
+    pub some_worker : (1 ≤ sender) × (sender ≤ old.workers)
+    pub workers : new.workers ≡ old.workers
+    pub lists : old.lists ≡ map (with_first sender note) new.lists
 
   -- nothing is left of the senders whose passes were handed back
-  abbrev pub NothingLeft : List (ℕ × List N) → Type 0
-  NothingLeft rest = All (λ e. e.1 ≡ []) rest
+  abbrev pub NothingLeft : Left N → Type 0
+  NothingLeft rest = All (λ e. e.1 ≡ []) rest.lists

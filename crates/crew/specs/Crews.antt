@@ -1,7 +1,8 @@
 -- A crew: what its workers say, and what becomes of it.
-use Rattle.std.specs.Prelude.{◌≡◌, ◌<◌, ◌≤◌, ◌+◌, ◌++◌, ◌⊎◌, ℕ, Bool, true, false, All, List, [], ◌∷◌, count_by, flat_map, map}
-use Rattle.haul_core.specs.Books.{Held, StandsFor, entry}
+use Rattle.std.specs.Prelude.{◌≡◌, ◌<◌, ◌≤◌, ◌+◌, ◌++◌, ◌⊎◌, ℕ, Bool, true, false, All, List, [], ◌∷◌, None, count_by, flat_map, map}
+use Rattle.haul_core.specs.Books.{Held, StandsFor, entry, refusal_of}
 use Rattle.haul_core.specs.Reports.{Reported}
+use Rattle.haul_core.specs.declared.arrival.Arrival.{Arrival}
 use Rattle.haul_core.specs.declared.arrival.Arrival.TheVariants.{Offer}
 use Rattle.crew.specs.Belts.{Received}
 use Rattle.crew.specs.declared.note.Note.{Note}
@@ -32,8 +33,26 @@ dones got = count_by (λ m. is_done m.1) got
 abbrev pub EndsDone : List (ℕ × Note) → Type 0
 EndsDone got = (got ≡ []) ⊎ ((front : List (ℕ × Note)) × (sender : ℕ) × (worker : ℕ) × (got ≡ front ++ (sender, Done worker) ∷ []))
 
--- Notes were received until so many workers were done, all but the last few, and the reports in them were offered to a haul; there was memory for
--- all of them if `answered`
+-- A haul has taken these reports, in this order. Whatever arrivals stood for it, they and then offers of these reports stand for it.
+pub record HasAdded (reports : List Reported) (old new : Held) : Type 0 where
+  pub terms : new.terms ≡ old.terms
+  pub closed : new.closed ≡ old.closed
+  pub taken : new.taken ≡ old.taken ++ map entry reports
+  pub stands : (arrivals : List Arrival) → StandsFor arrivals old → StandsFor (arrivals ++ map Offer reports) new
+
+-- Whatever arrivals stood for the haul, they and then offers of all these reports stand for it now.
+abbrev pub HasMetAll : List Reported → Held → Held → Type 0
+HasMetAll reports old new = (arrivals : List Arrival) → StandsFor arrivals old → StandsFor (arrivals ++ map Offer reports) new
+
+-- One of these reports was lost, which the book takes after others of them that came before it.
+pub record HasLost (reports : List Reported) (old : Held) : Type 0 where
+  pub before : List Reported
+  pub report : Reported
+  pub some : IsPart (before ++ report ∷ []) reports
+  pub eligible : (arrivals : List Arrival) → StandsFor arrivals old → refusal_of old.terms (arrivals ++ map Offer before) report ≡ None
+
+-- Notes were received until so many workers were done, all but the last few. Of the reports in them a haul has taken some: all that
+-- the book takes if `answered`, and else one was lost.
 pub record Collected (started left : ℕ) (before after : Received Note) (old new : Held) (answered : Bool) : Type 0 where
   pub notes : List (ℕ × Note)
   pub belt : after.belt ≡ before.belt
@@ -41,10 +60,8 @@ pub record Collected (started left : ℕ) (before after : Received Note) (old ne
   pub senders : All (λ m. (1 ≤ m.0) × (m.0 ≤ before.belt.workers)) notes
   pub done : dones notes + left ≡ started
   pub ends : (0 < left) ⊎ EndsDone notes
-  pub terms : new.terms ≡ old.terms
-  pub closed : new.closed ≡ old.closed
-  pub taken : (part : List Reported) × IsPart part (reports_in notes) × (new.taken ≡ old.taken ++ map entry part)
-  pub offered : List Reported
-  pub some : IsPart offered (reports_in notes)
-  pub all : answered ≡ true → offered ≡ reports_in notes
-  pub stands : (arrivals : _) → StandsFor arrivals old → StandsFor (arrivals ++ map Offer offered) new
+  pub part : List Reported
+  pub some : IsPart part (reports_in notes)
+  pub added : HasAdded part old new
+  pub all : answered ≡ true → HasMetAll (reports_in notes) old new
+  pub lost : answered ≡ false → HasLost (reports_in notes) old

@@ -145,8 +145,8 @@ impl<N> Model for ReceiverPass<N> {
     ghost invariant = { λ r. (r.pass.me.0.client.receives ≡ true) × (r.pass.me.0.client.senders ≡ []) × (r.pass.me.1 ≡ []) };
 }
 
-/// What is left on a belt. Contracts see one list for each sender's pass that was handed back: its number, and the notes of
-/// it that are left, in order.
+/// What is left on a belt. Contracts see how many senders were made, and one list for each sender's pass that was handed
+/// back: its number, and the notes of it that are left, in order.
 #[derive(Drop)]
 pub struct Rest<N: Drop> {
     queue: Queue<N>,
@@ -154,13 +154,13 @@ pub struct Rest<N: Drop> {
 }
 
 impl<N: Drop> Model for Rest<N> {
-    ghost use Rattle.std.specs.Prelude.{◌≡◌, ℕ, List, All, [], map, true};
-    ghost use Rattle.crew.specs.Belts.{notes_of};
+    ghost use Rattle.std.specs.Prelude.{◌≡◌, All, [], map, true};
+    ghost use Rattle.crew.specs.Belts.{Left, notes_of};
     ghost use Rattle.crew.specs.BeltRule.{IsFront, left_over};
 
-    ghost Value = { List (ℕ × List N) };
+    ghost Value = { Left N };
 
-    ghost view = { λ r. map (left_over r.pass.me.0.client.got) r.pass.me.0.client.senders };
+    ghost view = { λ r. record { workers = r.pass.me.0.client.made; lists = map (left_over r.pass.me.0.client.got) r.pass.me.0.client.senders } };
 
     ghost invariant = { λ r. (r.pass.table_id ≡ r.queue.table.shared.table_id) × (r.pass.me.1 ≡ []) × (r.pass.me.0.client.receives ≡ true) × All (λ e. IsFront (notes_of e.0 r.pass.me.0.client.got) e.1) r.pass.me.0.client.senders };
 }
@@ -233,7 +233,8 @@ impl<N: Drop> Belt<N> {
     pub fn gather(self, senders: Vec<SenderPass<N>>, receiver: ReceiverPass<N>) -> Rest<N>
         requires senders { All (λ s. s.belt ≡ self.name) senders.items }
         requires receiver { receiver.belt ≡ self }
-        ensures left { result ≡ map (left_of receiver.got) senders.items }
+        ensures workers { result.workers ≡ self.workers }
+        ensures left { result.lists ≡ map (left_of receiver.got) senders.items }
         ensures whole { All (IsWhole receiver.got) senders.items }
     {
         let Belt { queue, .. } = self;

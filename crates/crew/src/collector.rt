@@ -1,9 +1,8 @@
 //! The collector: it receives the workers' notes and offers their reports to the haul.
-ghost use Rattle.std.specs.Prelude.{◌≡◌, ◌++◌, ◌∷◌, ◌⊎◌, [], List, false, is_ok, true};
-ghost use Rattle.haul_core.specs.Books.{StandsFor};
+ghost use Rattle.std.specs.Prelude.{◌≡◌, ◌∷◌, ◌⊎◌, [], List, None, false, is_ok, true};
+ghost use Rattle.haul_core.specs.Books.{StandsFor, refusal_of};
 ghost use Rattle.haul_core.specs.declared.arrival.Arrival.{Arrival};
-ghost use Rattle.haul_core.specs.declared.arrival.Arrival.TheVariants as arrival;
-ghost use Rattle.crew.specs.Crews.{Collected};
+ghost use Rattle.crew.specs.Crews.{Collected, HasAdded, HasMetAll};
 
 use crate::belt::{Belt, ReceiverPass};
 use crate::note::Note;
@@ -20,7 +19,8 @@ use std::sync::Wait;
 ///
 /// # Errors
 ///
-/// [`AllocError`] if memory ran out for a report. All other reports have been offered then too.
+/// [`AllocError`] if memory ran out for a report that the haul would have taken. All other reports have been offered then
+/// too.
 pub fn collect<R: Wait, H: Watch>(
     rt: &R,
     belt: &Belt<Note>,
@@ -53,12 +53,11 @@ pub fn collect<R: Wait, H: Watch>(
 
 /// Offers a report. Whether there was memory to answer it.
 fn offer(haul: &mut Haul, report: Report) -> bool
-    ensures terms { haul.new.terms ≡ haul.old.terms }
-    ensures closed { haul.new.closed ≡ haul.old.closed }
-    ensures taken { (haul.new.taken ≡ haul.old.taken) ⊎ (haul.new.taken ≡ haul.old.taken ++ (report.worker, report.number) ∷ []) }
-    ensures stands { result ≡ true → (arrivals : List Arrival) → StandsFor arrivals haul.old
-        → StandsFor (arrivals ++ arrival.Offer report ∷ []) haul.new }
+    ensures added { (haul.new ≡ haul.old) ⊎ HasAdded (report ∷ []) haul.old haul.new }
+    ensures stands { result ≡ true → HasMetAll (report ∷ []) haul.old haul.new }
     ensures kept { result ≡ false → haul.new ≡ haul.old }
+    ensures lost { result ≡ false → (arrivals : List Arrival) → StandsFor arrivals haul.old
+        → refusal_of haul.old.terms arrivals report ≡ None }
 {
     match haul.offer(report) {
         Ok(()) => true,

@@ -64,7 +64,7 @@ fn survey_all<G: Gate, R: Wait>(
     requires pass { pass.old ≡ fresh site.now.tickets }
     requires sender { sender.old ≡ silent site.now.belt.name sender.old.number }
     ensures number { sender.new.number ≡ sender.old.number }
-    ensures worked { HasWorked site.now.belt.name site.now.missing.items sender.new }
+    ensures worked { HasWorked site.now.belt.name site.now.job site.now.missing.items sender.new }
     ensures stopped { result ≡ End.Stopped → StopsAt (G.may_stop gate.now) site.now.missing.items sender.old.number }
 {
     let worker = sender.number();
@@ -97,7 +97,7 @@ pub(crate) fn work<G: Gate, R: Wait>(
     requires pass { pass ≡ fresh site.now.tickets }
     requires sender { sender ≡ silent site.now.belt.name sender.number }
     ensures number { result.sender.number ≡ sender.number }
-    ensures worked { HasWorked site.now.belt.name site.now.missing.items result.sender }
+    ensures worked { HasWorked site.now.belt.name site.now.job site.now.missing.items result.sender }
     ensures stopped { result.end ≡ End.Stopped → StopsAt (G.may_stop gate.now) site.now.missing.items sender.number }
     ensures done { (result.end ≡ End.CalledOff) ⊎ EndsByDone sender.number result.sender.notes }
 {

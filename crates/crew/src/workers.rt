@@ -7,7 +7,7 @@ ghost use Rattle.haul_core.specs.Missing.{AreAll, IsComplete};
 ghost use Rattle.crew.specs.Belts.{IsWhole, deaf, silent};
 ghost use Rattle.crew.specs.Crews.{Collected};
 ghost use Rattle.crew.specs.Shifts.{AreBack, Leaves, StopsAt, sender_numbers};
-ghost use Rattle.crew.specs.Takes.{HasHeard, HasTaken, was_missing};
+ghost use Rattle.crew.specs.Takes.{HasTaken, was_missing};
 ghost use Rattle.crew.specs.Tickets.{fresh};
 ghost use Rattle.crew.specs.declared.workers.CrewError.TheVariants as CrewError;
 ghost use Rattle.crew.specs.declared.shift.End.TheVariants as End;
@@ -72,10 +72,10 @@ pub fn take<G: Gate + Sync, R: Threads + Wait + Sync, H: Watch>(
     ensures closed { haul.closed ≡ true → result ≡ Err (haul, CrewError.Closed) }
     ensures open { IfErr result (λ back. back.1 ≡ CrewError.Closed → haul.closed ≡ true) }
     ensures taken { haul.closed ≡ false → MatchResult result (HasTaken workers haul) (λ back. HasTaken workers haul back.0) }
-    ensures heard { haul.closed ≡ false → MatchResult result (HasHeard workers haul) (λ back. HasHeard workers haul back.0) }
     ensures complete { IfOk result (λ done. IsComplete done.terms.ranges done.taken) }
     ensures all { IfOk result (λ done. AreAll done.terms.ranges (numbers_in done.taken)) }
     ensures stopped { (worker : ℕ) → IfErr result (λ back. back.1 ≡ CrewError.Stopped worker → StopsAt (G.may_stop gate.now) (was_missing haul) worker) }
+    ensures within { (worker : ℕ) → IfErr result (λ back. back.1 ≡ CrewError.Stopped worker → (1 ≤ worker) × (worker ≤ workers)) }
     ensures incomplete { IfErr result (λ back. back.1 ≢ CrewError.Closed → ¬ IsComplete back.0.terms.ranges back.0.taken) }
 {
     if haul.is_closed() {
@@ -103,7 +103,7 @@ fn cause(stopped: Option<u8>) -> CrewError
 }
 
 /// Lets workers survey what is missing. Which of them was stopped, if one was: the one with the least number.
-#[tactic(auto, using(crate::proofs::TakeLemmas::heard_none, crate::proofs::TakeLemmas::taken_none))]
+#[tactic(auto, using(crate::proofs::TakeLemmas::taken_none))]
 fn take_missing<G: Gate + Sync, R: Threads + Wait + Sync, H: Watch>(
     alloc: Global,
     rt: &R,
@@ -113,8 +113,8 @@ fn take_missing<G: Gate + Sync, R: Threads + Wait + Sync, H: Watch>(
     watch: &mut H,
 ) -> (Haul, Option<u8>)
     ensures taken { HasTaken workers haul result.0 }
-    ensures heard { HasHeard workers haul result.0 }
     ensures stopped { IfSome result.1 (StopsAt (G.may_stop gate.now) (was_missing haul)) }
+    ensures within { IfSome result.1 (λ worker. (1 ≤ worker) × (worker ≤ workers)) }
 {
     if haul.is_complete() {
         return (haul, None);
@@ -149,7 +149,7 @@ struct Duty<'s, G> {
 }
 
 impl<'s, G: Gate> Promise<Shift> for Duty<'s, G> {
-    ghost kept_by = { λ d shift. Leaves (G.may_stop d.gate.now) d.site.now.belt.name d.site.now.missing.items d.worker shift.sender (shift.end ≡ End.Stopped) };
+    ghost kept_by = { λ d shift. Leaves (G.may_stop d.gate.now) d.site.now.belt.name d.site.now.job d.site.now.missing.items d.worker shift.sender (shift.end ≡ End.Stopped) };
 }
 
 /// The haul, what its collector has received, and what the workers have left that are back.
@@ -183,8 +183,8 @@ fn run_crew<'s, E, G: Gate + Sync, R: Threads + Wait + Sync, H: Watch>(
     requires few { crew.away + length senders.items ≤ 255 }
     requires receiver { crew.receiver.belt ≡ site.now.belt }
     requires room { length crew.senders.items + length senders.items ≤ vec_capacity crew.senders }
-    requires back { AreBack (G.may_stop gate.now) site.now.belt.name site.now.missing.items crew.senders.items crew.stopped }
-    ensures back { AreBack (G.may_stop gate.now) site.now.belt.name site.now.missing.items result.senders.items result.stopped }
+    requires back { AreBack (G.may_stop gate.now) site.now.belt.name site.now.job site.now.missing.items crew.senders.items crew.stopped }
+    ensures back { AreBack (G.may_stop gate.now) site.now.belt.name site.now.job site.now.missing.items result.senders.items result.stopped }
     ensures numbers { sender_numbers result.senders.items ≡ sender_numbers crew.senders.items ++ sender_numbers senders.items }
     ensures many { length result.senders.items ≡ length crew.senders.items + length senders.items }
     ensures room { vec_capacity result.senders ≡ vec_capacity crew.senders }
@@ -209,7 +209,7 @@ fn run_crew<'s, E, G: Gate + Sync, R: Threads + Wait + Sync, H: Watch>(
     let duty = Duty { worker, site, gate };
     let shift = move || -> Shift
         requires { (pass ≡ fresh site.now.tickets) × (sender ≡ silent site.now.belt.name sender.number) }
-        ensures { Leaves (G.may_stop gate.entry.now) site.entry.now.belt.name site.entry.now.missing.items sender.number result.sender (result.end ≡ End.Stopped) }
+        ensures { Leaves (G.may_stop gate.entry.now) site.entry.now.belt.name site.entry.now.job site.entry.now.missing.items sender.number result.sender (result.end ≡ End.Stopped) }
     { work(alloc, rt, site, gate, pass, sender) };
     match scope.spawn_with(duty, shift) {
         Ok(handle) => {
@@ -263,6 +263,7 @@ struct Start {
 impl Start {
     /// All that is needed to survey what is missing in a haul.
     fn new(alloc: Global, haul: &Haul, workers: u8) -> Result<Start, AllocError>
+        ensures job { IfOk result (λ start. start.site.job ≡ haul.now.terms.job) }
         ensures missing { IfOk result (λ start. start.site.missing.items ≡ was_missing haul.now) }
         ensures ascending { IfOk result (λ start. IsStrictlyIncreasing start.site.missing.items) }
         ensures workers { IfOk result (λ start. start.site.belt.workers ≡ workers) }
@@ -313,8 +314,8 @@ fn run_in_scope<G: Gate + Sync, R: Threads + Wait + Sync, H: Watch>(
     requires few { crew.away + length senders.items ≤ 255 }
     requires receiver { crew.receiver.belt ≡ site.now.belt }
     requires room { length crew.senders.items + length senders.items ≤ vec_capacity crew.senders }
-    requires back { AreBack (G.may_stop gate.now) site.now.belt.name site.now.missing.items crew.senders.items crew.stopped }
-    ensures back { AreBack (G.may_stop gate.now) site.now.belt.name site.now.missing.items result.senders.items result.stopped }
+    requires back { AreBack (G.may_stop gate.now) site.now.belt.name site.now.job site.now.missing.items crew.senders.items crew.stopped }
+    ensures back { AreBack (G.may_stop gate.now) site.now.belt.name site.now.job site.now.missing.items result.senders.items result.stopped }
     ensures numbers { sender_numbers result.senders.items ≡ sender_numbers crew.senders.items ++ sender_numbers senders.items }
     ensures collected { (started : ℕ) × (answered : Bool) × Collected started 0 crew.receiver result.receiver crew.haul result.haul answered }
 {
@@ -328,8 +329,8 @@ fn run_in_scope<G: Gate + Sync, R: Threads + Wait + Sync, H: Watch>(
                 × (crew.away + length senders.items ≤ 255)
                 × (crew.receiver.belt ≡ site.now.belt)
                 × (length crew.senders.items + length senders.items ≤ vec_capacity crew.senders)
-                × AreBack (G.may_stop gate.now) site.now.belt.name site.now.missing.items crew.senders.items crew.stopped }
-            ensures back { AreBack (G.may_stop gate.entry.now) site.entry.now.belt.name site.entry.now.missing.items result.senders.items result.stopped }
+                × AreBack (G.may_stop gate.now) site.now.belt.name site.now.job site.now.missing.items crew.senders.items crew.stopped }
+            ensures back { AreBack (G.may_stop gate.entry.now) site.entry.now.belt.name site.entry.now.job site.entry.now.missing.items result.senders.items result.stopped }
             ensures numbers { sender_numbers result.senders.items ≡ sender_numbers crew.senders.items ++ sender_numbers senders.items }
             ensures collected { (started : ℕ) × (answered : Bool) × Collected started 0 crew.receiver result.receiver crew.haul result.haul answered }
         { run_crew(alloc, rt, scope, site, gate, passes, senders, crew, watch) },

@@ -8,12 +8,12 @@ loop-init g c = collected_none c.args.started c.args.pass.now c.args.haul.now
 pub loop-preserved-then-not-offer : goal.loop-preserved-then-not-offer
 loop-preserved-then-not-offer g c =
     collected_unheard c.loop.invariant c.in-Report.report c.offer.new.haul (c.in-Report.ensures) (omega (arith, c.if-left-eq0.false))
-    (c.offer.ensures.kept c.if-not-offer.true)
+    (c.offer.ensures.kept c.if-not-offer.true) (c.offer.ensures.lost c.if-not-offer.true)
 
 pub loop-preserved-else-not-offer : goal.loop-preserved-else-not-offer
 loop-preserved-else-not-offer g c =
     collected_heard c.loop.invariant c.in-Report.report c.offer.new.haul (c.in-Report.ensures) (omega (arith, c.if-left-eq0.false))
-    c.offer.ensures.terms c.offer.ensures.closed c.offer.ensures.taken (c.offer.ensures.stands c.if-not-offer.false)
+    c.offer.ensures.added (c.offer.ensures.stands c.if-not-offer.false)
 
 pub loop-preserved : goal.loop-preserved
 loop-preserved g c = collected_done c.loop.invariant c.in-Done.worker (c.in-Done.ensures) (omega (arith, c.if-left-eq0.false))

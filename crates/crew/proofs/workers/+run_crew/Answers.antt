@@ -45,9 +45,9 @@ run_crew-crew-requires-in-Err-clause-senders g t c κs within =
 pub returns-in-Ok-clause-back : goal.returns-in-Ok-clause-back
 returns-in-Ok-clause-back g t c =
     let shift = c.join-shift.result in
-    let leaves : Leaves (g.G.Gate.may_stop c.args.gate.now) c.args.site.now.belt.name c.args.site.now.missing.items c.number-worker.result shift.sender
+    let leaves : Leaves (g.G.Gate.may_stop c.args.gate.now) c.args.site.now.belt.name c.args.site.now.job c.args.site.now.missing.items c.number-worker.result shift.sender
     (shift.end ≡ Stopped) =
-    subst (λ d. Leaves (g.G.Gate.may_stop d.gate.now) d.site.now.belt.name d.site.now.missing.items d.worker shift.sender (shift.end ≡ Stopped))
+    subst (λ d. Leaves (g.G.Gate.may_stop d.gate.now) d.site.now.belt.name d.site.now.job d.site.now.missing.items d.worker shift.sender (shift.end ≡ Stopped))
     c.in-Ok.ensures.ok c.join-shift.ensures in
     back_more c.run_crew-crew.result.senders.items c.with_shift.result.senders.items shift.sender c.run_crew-crew.result.stopped
     c.with_shift.result.stopped c.number-worker.result (shift.end ≡ Stopped) c.run_crew-crew.ensures.back leaves c.with_shift.ensures.senders
@@ -56,9 +56,9 @@ returns-in-Ok-clause-back g t c =
 pub returns-in-Err-clause-back : goal.returns-in-Err-clause-back
 returns-in-Err-clause-back g t c =
     let shift = c.shift-shift.result in
-    let leaves : Leaves (g.G.Gate.may_stop c.args.gate.now) c.args.site.now.belt.name c.args.site.now.missing.items c.in-Some.sender.number shift.sender
+    let leaves : Leaves (g.G.Gate.may_stop c.args.gate.now) c.args.site.now.belt.name c.args.site.now.job c.args.site.now.missing.items c.in-Some.sender.number shift.sender
     (shift.end ≡ Stopped) =
-    subst (λ f. Leaves (g.G.Gate.may_stop f.3.now) f.2.now.belt.name f.2.now.missing.items f.5.number shift.sender (shift.end ≡ Stopped))
+    subst (λ f. Leaves (g.G.Gate.may_stop f.3.now) f.2.now.belt.name f.2.now.job f.2.now.missing.items f.5.number shift.sender (shift.end ≡ Stopped))
     c.in-Err.ensures.err c.shift-shift.ensures in
     back_more c.run_crew-crew-in-Err.result.senders.items c.with_shift-in-Err.result.senders.items shift.sender c.run_crew-crew-in-Err.result.stopped
     c.with_shift-in-Err.result.stopped c.in-Some.sender.number (shift.end ≡ Stopped) c.run_crew-crew-in-Err.ensures.back leaves

@@ -1,4 +1,4 @@
-use Rattle.std.proofs.Common.{IfSome, subst}
+use Rattle.std.proofs.Common.{◌≤◌, IfSome, subst}
 use Rattle.crew.specs.Shifts.{StopsAt}
 use Rattle.crew.specs.Takes.{was_missing}
 use Rattle.crew.proofs.workers.take.Goals as goal
@@ -7,3 +7,7 @@ pub returns-clause-stopped : goal.returns-clause-stopped
 returns-clause-stopped g c worker is =
     subst (λ o. IfSome o (StopsAt (g.G.Gate.may_stop c.args.gate.now) (was_missing c.args.haul))) (c.cause.ensures.named worker is)
     c.take_missing-haul.ensures.stopped
+
+pub returns-clause-within : goal.returns-clause-within
+returns-clause-within g c worker is =
+    subst (λ o. IfSome o (λ w. (1 ≤ w) × (w ≤ c.args.workers))) (c.cause.ensures.named worker is) c.take_missing-haul.ensures.within

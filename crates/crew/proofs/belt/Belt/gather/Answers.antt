@@ -18,6 +18,11 @@ invariant_of-result g c =
           (fronts_kept c.take_in.new.pass.me.0.client c.learn_as.ensures.rule.0 c.learn_as.ensures.rule.1),
     )
 
+pub returns-clause-workers : goal.returns-clause-workers
+returns-clause-workers g c =
+    ap (λ (u : Share g.row.N.Denot). u.made) (c.learn_as.ensures.queue.1 ∙ c.take_in.ensures.taken)
+    ∙ ap (λ (r : Received g.row.N.Denot). r.belt.workers) c.receiver.view_is ∙ ap (λ (b : Line). b.workers) c.requires.receiver
+
 pub returns-clause-left : goal.returns-clause-left
 returns-clause-left g c =
     let v = c.receiver.inside.pass.me.0.client in

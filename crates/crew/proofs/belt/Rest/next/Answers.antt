@@ -1,7 +1,7 @@
-use Rattle.std.proofs.Common.{◌∙◌, ℕ, List, All, ap, map, subst, sym}
+use Rattle.std.proofs.Common.{◌≤◌, ◌∙◌, ℕ, List, All, ap, map, subst, sym}
 use Rattle.crossbeam_queue.specs.Passes.{view}
 use Rattle.crew.specs.BeltRule.{IsFront, left_over}
-use Rattle.crew.specs.Belts.{NothingLeft, notes_of, with_first}
+use Rattle.crew.specs.Belts.{Left, NothingLeft, notes_of, with_first}
 use Rattle.crew.specs.declared.belt.Share.{Share}
 use Rattle.crew.proofs.BeltLemmas.{if_none, learns, none_left, pops, took}
 use Rattle.crew.proofs.belt.Rest.next.Goals as goal
@@ -25,7 +25,7 @@ invariant_of-self g c =
 pub returns-in_err-note-clause-none : goal.returns-in_err-note-clause-none
 returns-in_err-note-clause-none g c =
     if_none c.from_residual.result (NothingLeft c.args.self.now)
-    (subst (λ (left : List (ℕ × List g.row.N.Denot)). NothingLeft left) c.self.view_is
+    (subst (λ (left : Left g.row.N.Denot). NothingLeft left) c.self.view_is
     (none_left (view c.self.inside.pass) c.in_err-note.ensures.rule.1))
 
 pub invariant_of-self-2 : goal.invariant_of-self-2
@@ -43,8 +43,11 @@ returns-clause-taken g c =
     let gets = c.in_ok-note.ensures.rule in
     let v = view c.self.inside.pass in
     let sender = c.in_ok-note.field-0-0 in
-    let note = c.in_ok-note.note in (
-      sender,
-      sym c.self.view_is ∙ took v.got (sender, note) v.senders gets.fronts
-          ∙ ap (λ (u : Share g.row.N.Denot). map (with_first sender note) (map (left_over u.got) u.senders)) (sym gets.got),
-    )
+    let note = c.in_ok-note.note in
+    record {
+      sender = sender;
+      some_worker = subst (λ (left : Left g.row.N.Denot). (1 ≤ sender) × (sender ≤ left.workers)) c.self.view_is gets.made;
+      workers = ap (λ (u : Share g.row.N.Denot). u.made) gets.got ∙ ap (λ (left : Left g.row.N.Denot). left.workers) c.self.view_is;
+      lists = ap (λ (left : Left g.row.N.Denot). left.lists) (sym c.self.view_is) ∙ took v.got (sender, note) v.senders gets.fronts
+          ∙ ap (λ (u : Share g.row.N.Denot). map (with_first sender note) (map (left_over u.got) u.senders)) (sym gets.got);
+    }
