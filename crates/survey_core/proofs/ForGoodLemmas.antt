@@ -16,7 +16,7 @@ use Rattle.std.proofs.Math.Nat.{div-add-mod, mul_comm, suc-mul, zero-mul}
 use Rattle.plane_core.specs.declared.cell.Cell.{Cell}
 use Rattle.plane_core.specs.Bounds.{shifted}
 use Rattle.plane_core.specs.Cells.{InOrder, has}
-use Rattle.plane_core.specs.Clusters.{AreClusters, Partition}
+use Rattle.plane_core.specs.Clusters.{Partition}
 use Rattle.plane_core.specs.Generations.{after, next}
 use Rattle.plane_core.specs.Rules.{Numbers}
 use Rattle.plane_core.proofs.ClusterLaws.{partition_law}
@@ -168,17 +168,16 @@ map_itself (part ∷ parts) = λ i. part ∷ map_itself parts i
 
 -- clusters that all are themselves again in a generation up to which they keep apart
 module _ (rule : Numbers) (cells : List Cell) (clusters : List (List Cell)) (L : ℕ) (some : 1 ≤ L) (order : InOrder cells)
-    (are : AreClusters cells clusters) (each : All (λ part. after rule part L ≡ part) clusters) (apart : (g : ℕ) → g ≤ L → KeepApart rule cells clusters g)
+    (are : Partition cells clusters) (each : All (λ part. after rule part L ≡ part) clusters) (apart : (g : ℕ) → g ≤ L → KeepApart rule cells clusters g)
   where
     -- the whole is itself again as well
     pub whole_back : after rule cells L ≡ cells
     whole_back =
         let later : Partition (after rule cells L) (map (λ part. after rule part L) clusters) = apart L (omega arith) in
-        let now : Partition cells clusters = partition_law cells clusters are in
         let same : map (λ part. after rule part L) clusters ≡ clusters =
         map_same (λ part. after rule part L) (λ part. part) clusters each ∙ map_itself clusters in
         same_lists (after rule cells L) cells (in_order-after rule cells L order) order
-        (λ c. sym (later.union c) ∙ ap (λ (parts : List (List Cell)). list_any (λ part. has part c) parts) same ∙ now.union c)
+        (λ c. sym (later.union c) ∙ ap (λ (parts : List (List Cell)). list_any (λ part. has part c) parts) same ∙ are.union c)
 
     -- so they keep apart forever
     pub apart_forever : (g : ℕ) → KeepApart rule cells clusters g
@@ -192,10 +191,10 @@ module _ (rule : Numbers) (cells : List Cell) (clusters : List (List Cell)) (L :
 
 pub at_rest_for_good : AtRestForGood
 at_rest_for_good rule profile cells clusters objects order low rest counted good = record {
-  apart = apart_forever rule cells clusters good.multiple good.common.some order rest.parts each up_to;
+  apart = apart_forever rule cells clusters good.multiple good.common.some order (partition_law cells clusters rest.parts) each up_to;
   back = λ g. ap (after rule cells) (add_comm g good.multiple) ∙ sym (after-then rule cells good.multiple g)
       ∙ ap (λ (state : List Cell). after rule state g)
-      (whole_back rule cells clusters good.multiple good.common.some order rest.parts each up_to);
+      (whole_back rule cells clusters good.multiple good.common.some order (partition_law cells clusters rest.parts) each up_to);
 }
   where
     each : All (λ part. after rule part good.multiple ≡ part) clusters
@@ -231,7 +230,7 @@ map_fixed f (part ∷ parts) same zero d low = ap (λ (list : List (List Cell)).
 map_fixed f (part ∷ parts) same (suc k) d low = map_fixed f parts (ap (λ (list : List (List Cell)). drop 1 list) same) k d (omega arith)
 
 -- clusters that were run for some generations and are themselves again
-pub apart_once_back : (rule : Numbers) (cells : List Cell) (clusters alone : List (List Cell)) (L : ℕ) → 1 ≤ L → InOrder cells → AreClusters cells clusters
+pub apart_once_back : (rule : Numbers) (cells : List Cell) (clusters alone : List (List Cell)) (L : ℕ) → 1 ≤ L → InOrder cells → Partition cells clusters
     → alone ≡ map (λ part. after rule part L) clusters → alone ≡ clusters → ((g : ℕ) → g ≤ L → KeepApart rule cells clusters g)
     → (g : ℕ) → KeepApart rule cells clusters g
 apart_once_back rule cells clusters alone L some order are run back apart =

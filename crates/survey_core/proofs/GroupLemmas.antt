@@ -1,11 +1,11 @@
 -- Groups of parts that stay apart: the whole runs as the groups do, each alone, and a group as its parts do in the whole.
 use Rattle.std.proofs.Common.{◌≡◌, ◌≢◌, ◌==◌, ◌∙◌, ◌+◌, ◌<◌, ◌≤◌, ◌↔◌, ◌||◌, ap, sym, refl, subst, ℕ, zero, suc, Bool, true, false, cond, List, [], ◌∷◌}
-use Rattle.std.proofs.Common.{All, AllPairs, arith, flat_map, get_or, inl, inr, ◌⊎◌, length, map, nat_lt}
+use Rattle.std.proofs.Common.{All, AllPairs, arith, flat_map, get_or, inl, inr, ◌⊎◌, length, map, nat_lt, take, ◌++◌}
 use Rattle.std.specs.List.{list_any}
 use Rattle.std.proofs.lemmas.Bool.{eqb-true, false≢true, ltb-false, ltb-true}
 use Rattle.std.proofs.lemmas.Bool.Decides.{Decides-eqb}
 use Rattle.std.proofs.lemmas.List.Elements.{All-cons}
-use Rattle.std.proofs.lemmas.List.{get_or_default, get_or-map, length-map}
+use Rattle.std.proofs.lemmas.List.{get_or_default, get_or-map, length-map, length-take-le, take_more}
 use Rattle.std.proofs.lemmas.List.Kept.{AllPairs-cons}
 use Rattle.std.specs.Cmp.{both_ways as both_true}
 use Rattle.std.proofs.lemmas.List.Folds.{list_any_at}
@@ -18,7 +18,7 @@ use Rattle.plane_core.proofs.GenerationLemmas.{after-none, distance_itself, has-
 use Rattle.plane_core.proofs.PartLemmas.{IsFar, far-has, far-lives, far_or_near, false_unless, lives-local, triangle, turned}
 use Rattle.plane_core.proofs.SetLemmas.{has-set_of, in_order-set_of, same_lists}
 use Rattle.code_core.proofs.MovedCodes.{after-suc, in_order-after}
-use Rattle.survey_core.specs.Groups.{GroupKeeps, GroupsStayApart, members, union_of}
+use Rattle.survey_core.specs.Groups.{GroupKeeps, GroupsStayApart, ShareNoCell, members, union_of}
 use Rattle.survey_core.specs.Rest.{KeepApart}
 use Rattle.survey_core.proofs.ForGoodLemmas.{after-empty}
 use Rattle.survey_core.proofs.PartitionLemmas.{has-joined}
@@ -389,9 +389,40 @@ alone_keeps rule (part ∷ []) g low order =
 alone_keeps rule (part ∷ other ∷ parts) g low order = absurd (omega arith)
 
 -- the parts of a group are a partition of its union
-pub members_partition : (cells : List Cell) (k : ℕ) (gs : List ℕ) (parts : List (List Cell)) → Partition cells parts
+pub members_partition : (k : ℕ) (gs : List ℕ) (parts : List (List Cell)) → ShareNoCell parts
     → Partition (union_of (members k gs parts)) (members k gs parts)
-members_partition cells k gs parts whole = record {
-  disjoint = members_pairs (λ a b. (c : Cell) → has a c ≡ true → has b c ≡ false) k gs parts whole.disjoint;
+members_partition k gs parts off = record {
+  disjoint = members_pairs (λ a b. (c : Cell) → has a c ≡ true → has b c ≡ false) k gs parts off;
   union = λ c. sym (union_has (members k gs parts) c);
 }
+
+-- ---- one place more
+
+pub members-append : (k : ℕ) (gs : List ℕ) (parts : List (List Cell)) (g : ℕ) (part : List Cell) → length gs ≡ length parts
+    → members k (gs ++ g ∷ []) (parts ++ part ∷ []) ≡ members k gs parts ++ cond (g == k) (part ∷ []) []
+unfolding members
+members-append k [] [] g part same = refl
+members-append k [] (p ∷ ps) g part same = absurd (omega arith)
+members-append k (h ∷ gs) [] g part same = absurd (omega arith)
+members-append k (h ∷ gs) (p ∷ ps) g part same =
+    members-cons k h (gs ++ g ∷ []) p (ps ++ part ∷ [])
+    ∙ go (h == k) (members-append k gs ps g part (omega arith))
+    ∙ ap (λ (ms : List (List Cell)). ms ++ cond (g == k) (part ∷ []) []) (sym (members-cons k h gs p ps))
+  where
+    go : (b : Bool) → members k (gs ++ g ∷ []) (ps ++ part ∷ []) ≡ members k gs ps ++ cond (g == k) (part ∷ []) []
+        → cond b (p ∷ members k (gs ++ g ∷ []) (ps ++ part ∷ [])) (members k (gs ++ g ∷ []) (ps ++ part ∷ []))
+        ≡ cond b (p ∷ members k gs ps) (members k gs ps) ++ cond (g == k) (part ∷ []) []
+    go true more = ap (λ (ms : List (List Cell)). p ∷ ms) more
+    go false more = more
+
+pub members_more : (k : ℕ) (gs : List ℕ) (parts : List (List Cell)) (i : ℕ) (d : List Cell) → i < length parts → length gs ≡ length parts
+    → members k (take (i + 1) gs) (take (i + 1) parts)
+    ≡ members k (take i gs) (take i parts) ++ cond (get_or gs i 0 == k) (get_or parts i d ∷ []) []
+members_more k gs parts i d low same =
+    let there : i < length gs = subst (λ (n : ℕ). i < n) (sym same) low in
+    (λ j. members k (take_more gs i 0 there j) (take_more parts i d low j))
+    ∙ members-append k (take i gs) (take i parts) (get_or gs i 0) (get_or parts i d)
+    (length_take gs i there ∙ sym (length_take parts i low))
+  where
+    length_take : {X : Type 0} (xs : List X) (i : ℕ) → i < length xs → length (take i xs) ≡ i
+    length_take xs i h = length-take-le i xs (omega arith)

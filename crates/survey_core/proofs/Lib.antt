@@ -2,6 +2,7 @@ mod DeterminedLemmas
 mod FindingLemmas
 mod ForGoodLemmas
 pub mod GroupLemmas
+mod GroupingLemmas
 mod ImageLemmas
 mod ObjectLemmas
 mod PartitionLemmas
@@ -11,3 +12,4 @@ mod RestLemmas
 mod SeedLemmas
 mod SortedClusters
 mod SoupLemmas
+mod SweepLemmas

@@ -1,10 +1,10 @@
 -- The test of rest, a generation and a cluster at a time.
-use Rattle.std.proofs.Common.{◌≡◌, ◌≢◌, ◌∙◌, ap, sym, refl, subst, ℕ, ◌+◌, ◌≤◌, ◌↔◌, true, IsTrue, List, [], ◌∷◌, All, map, Option, None, Some}
-use Rattle.std.proofs.Common.{is_some, IfSome, IfNone, arith, get_or, eq-or-lt_of_le, inl, inr}
+use Rattle.std.proofs.Common.{◌≡◌, ◌≢◌, ◌∙◌, ap, sym, refl, subst, ℕ, ◌+◌, ◌≤◌, ◌↔◌, true, IsTrue, List, [], ◌∷◌, All, map, flat_map}
+use Rattle.std.proofs.Common.{arith, get_or, eq-or-lt_of_le, inl, inr}
 use Rattle.std.proofs.lemmas.Bool.{false≢true}
 use Rattle.std.proofs.lemmas.List.Elements.{All-map}
 use Rattle.plane_core.specs.declared.cell.Cell.{Cell}
-use Rattle.plane_core.specs.Cells.{InOrder, has}
+use Rattle.plane_core.specs.Cells.{InOrder, has, is_within, set_of}
 use Rattle.plane_core.specs.Clusters.{AreClusters, IsCluster, Partition}
 use Rattle.plane_core.specs.Generations.{after, lies_within, next}
 use Rattle.plane_core.specs.Rules.{Numbers}
@@ -12,20 +12,12 @@ use Rattle.plane_core.proofs.ClusterLemmas.{linked-has, linked-itself}
 use Rattle.plane_core.proofs.ClusterLaws.{determined_law, partition_law}
 use Rattle.plane_core.proofs.GenerationLemmas.{after-none, after-more}
 use Rattle.plane_core.proofs.SearchLemmas.{has-list_all, list_all-has}
-use Rattle.code_core.specs.declared.recurrence.Recurrence.{Recurrence}
-use Rattle.code_core.specs.Recurrences.{IsNew, Recurs}
 use Rattle.code_core.proofs.MovedCodes.{in_order-after}
-use Rattle.survey_core.proofs.PlaneLemmas.{within_later}
+use Rattle.plane_core.proofs.SetLemmas.{has-set_of}
+use Rattle.survey_core.proofs.PlaneLemmas.{within_all, within_later}
+use Rattle.survey_core.specs.Groups.{ShareNoCell, union_of}
 use Rattle.survey_core.specs.Profiles.{Settling}
-use Rattle.survey_core.specs.Rest.{ComesBack, IsAtRest, KeepApart, RestsAs}
-
--- a search for the recurrence tells whether the pattern comes back
-pub back_then : (rule : Numbers) (limit : ℕ) (cells : List Cell) (found : Option Recurrence) → IfSome found (Recurs rule cells limit)
-    → IfNone found (IsNew rule cells limit)
-    → IsTrue (is_some found) ↔ ComesBack rule limit cells
-back_then rule limit cells None some none =
-    (λ e. absurd (false≢true e), λ back. absurd (none back.0.period back.0.dx back.0.dy back.1.some back.1.within back.1.back))
-back_then rule limit cells (Some r) some none = (λ e. (r, some), λ back. refl)
+use Rattle.survey_core.specs.Rest.{IsAtRest, KeepApart, RestsAs}
 
 -- a cluster has a cell
 pub cluster_some : (cells cluster : List Cell) → IsCluster cells cluster → cluster ≢ []
@@ -41,11 +33,11 @@ pub alone_at_once : (rule : Numbers) (clusters : List (List Cell)) → map (λ p
 alone_at_once rule [] = refl
 alone_at_once rule (part ∷ parts) = λ i. after-none rule part i ∷ alone_at_once rule parts i
 
--- at generation 0 the clusters are the pattern
-pub apart_at_once : (rule : Numbers) (cells : List Cell) (clusters : List (List Cell)) → AreClusters cells clusters → KeepApart rule cells clusters 0
+-- at generation 0 the parts are the pattern
+pub apart_at_once : (rule : Numbers) (cells : List Cell) (clusters : List (List Cell)) → Partition cells clusters → KeepApart rule cells clusters 0
 apart_at_once rule cells clusters are =
     subst (λ (parts : List (List Cell)). Partition (after rule cells 0) parts) (sym (alone_at_once rule clusters))
-    (subst (λ (whole : List Cell). Partition whole clusters) (sym (after-none rule cells)) (partition_law cells clusters are))
+    (subst (λ (whole : List Cell). Partition whole clusters) (sym (after-none rule cells)) are)
 
 -- ---- the clusters beside the whole
 
@@ -55,19 +47,17 @@ alone_later rule [] g = refl
 alone_later rule (part ∷ parts) g = λ i. sym (after-more rule part g) i ∷ alone_later rule parts g i
 
 -- each cluster later lies in order
-pub alone_in_order : (rule : Numbers) (cells : List Cell) (clusters : List (List Cell)) (g : ℕ) → AreClusters cells clusters
+pub alone_in_order : (rule : Numbers) (clusters : List (List Cell)) (g : ℕ) → All InOrder clusters
     → All InOrder (map (λ part. after rule part g) clusters)
-alone_in_order rule cells clusters g are =
-    All-map InOrder (λ part. after rule part g) clusters (λ k d low. in_order-after rule (get_or clusters k d) g (are.each k d low).in_order)
+alone_in_order rule clusters g order =
+    All-map InOrder (λ part. after rule part g) clusters (λ k d low. in_order-after rule (get_or clusters k d) g (order k d low))
 
 -- and near the origin
-pub alone_near : (rule : Numbers) (cells : List Cell) (clusters : List (List Cell)) (g : ℕ) → AreClusters cells clusters
-    → lies_within 101000 cells ≡ true → g ≤ 4096
+pub alone_near : (rule : Numbers) (clusters : List (List Cell)) (g : ℕ) → All (λ part. lies_within 101000 part ≡ true) clusters → g ≤ 4096
     → All (λ part. lies_within 999999 part ≡ true) (map (λ part. after rule part g) clusters)
-alone_near rule cells clusters g are near low =
+alone_near rule clusters g near low =
     All-map (λ part. lies_within 999999 part ≡ true) (λ part. after rule part g) clusters
-    (λ k d there. within_later 101000 999999 rule (get_or clusters k d) g (omega arith)
-    (cluster_within 101000 cells (get_or clusters k d) near (are.each k d there)))
+    (λ k d there. within_later 101000 999999 rule (get_or clusters k d) g (omega arith) (near k d there))
 
 -- one generation more in which they keep apart
 pub apart_more : (rule : Numbers) (cells : List Cell) (clusters : List (List Cell)) (g : ℕ) (whole : List Cell) (alone : List (List Cell))
@@ -91,3 +81,23 @@ pub same_clusters : (rule : Numbers) (profile : Settling) (cells : List Cell) (c
     → IsAtRest rule profile cells → RestsAs rule profile cells clusters
 same_clusters rule profile cells clusters are (others, rest) =
     subst (λ (c : List (List Cell)). RestsAs rule profile cells c) (determined_law cells others clusters rest.parts are) rest
+
+-- ---- groups of clusters
+
+pub union_near : (reach : ℕ) (parts : List (List Cell)) → All (λ part. lies_within reach part ≡ true) parts → lies_within reach (union_of parts) ≡ true
+union_near reach parts near =
+    has-list_all (is_within reach) (union_of parts)
+    (λ c e. list_all-has (is_within reach) (flat_map (λ part. part) parts) (within_all reach parts near) c (sym (has-set_of (flat_map (λ part. part) parts) c) ∙ e))
+
+pub clusters_near : (reach : ℕ) (cells : List Cell) (clusters : List (List Cell)) → AreClusters cells clusters → lies_within reach cells ≡ true
+    → All (λ part. lies_within reach part ≡ true) clusters
+clusters_near reach cells clusters are near k d low = cluster_within reach cells (get_or clusters k d) near (are.each k d low)
+
+pub clusters_in_order : (cells : List Cell) (clusters : List (List Cell)) → AreClusters cells clusters → All InOrder clusters
+clusters_in_order cells clusters are k d low = (are.each k d low).in_order
+
+pub clusters_some : (cells : List Cell) (clusters : List (List Cell)) → AreClusters cells clusters → All (λ (part : List Cell). part ≢ []) clusters
+clusters_some cells clusters are k d low = cluster_some cells (get_or clusters k d) (are.each k d low)
+
+pub clusters_off : (cells : List Cell) (clusters : List (List Cell)) → AreClusters cells clusters → ShareNoCell clusters
+clusters_off cells clusters are = (partition_law cells clusters are).disjoint

@@ -1,7 +1,7 @@
 -- Groups of parts: each part has the number of its group.
-use Rattle.std.specs.Prelude.{◌≡◌, ◌≢◌, ◌<◌, ◌≤◌, ◌==◌, ℕ, List, [], ◌∷◌, cond, flat_map, get_or, length, if◌then◌else◌}
+use Rattle.std.specs.Prelude.{◌≡◌, ◌≢◌, ◌<◌, ◌≤◌, ◌==◌, ℕ, List, [], ◌∷◌, true, false, AllPairs, cond, flat_map, get_or, length, if◌then◌else◌}
 use Rattle.plane_core.specs.declared.cell.Cell.{Cell}
-use Rattle.plane_core.specs.Cells.{set_of}
+use Rattle.plane_core.specs.Cells.{has, set_of}
 use Rattle.plane_core.specs.Clusters.{LieApart}
 use Rattle.plane_core.specs.Generations.{after}
 use Rattle.plane_core.specs.Rules.{Numbers}
@@ -16,6 +16,10 @@ members k (g ∷ gs) (part ∷ parts) = cond (g == k) (part ∷ members k gs par
 -- the cells of all parts, as a pattern
 abbrev pub union_of : List (List Cell) → List Cell
 union_of parts = set_of (flat_map (λ part. part) parts)
+
+-- no two of the parts share a cell
+abbrev pub ShareNoCell : List (List Cell) → Type 0
+ShareNoCell parts = AllPairs (λ a b. (c : Cell) → has a c ≡ true → has b c ≡ false) parts
 
 -- parts of different groups, each run alone, stay at king distance 3 or more from each other up to generation n
 abbrev pub GroupsStayApart : Numbers → List ℕ → List (List Cell) → ℕ → Type 0

@@ -1,5 +1,6 @@
 pub mod FindingLaws
 pub mod Findings
+pub mod Grouping
 pub mod Groups
 pub mod Objects
 pub mod Profiles
@@ -7,3 +8,4 @@ pub mod Rest
 pub mod RestLaws
 pub mod Seeds
 pub mod Soups
+pub mod Sweeps

@@ -15,3 +15,7 @@ pub mod rest;
 pub mod seed;
 /// Random patterns of 16 by 16 cells.
 pub mod soup;
+/// Where a pattern that comes back lies, turn by turn.
+pub mod sweep;
+/// Groups of clusters that may meet.
+mod groups;

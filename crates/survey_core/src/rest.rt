@@ -13,20 +13,23 @@
 //! ```
 //!
 //! Most patterns that are looked at are not at rest, and nearly always some cluster doesn't come back. So that is
-//! asked first. Then the whole and the clusters are stepped side by side, a generation at a time, until a generation
-//! differs, or until each cluster is itself again in its place: then the whole is what it was as well, and all that
-//! follows has been seen. So the horizon is reached only if there is a spaceship. Even then a cluster that is itself
-//! again isn't stepped, since its next generation is known.
+//! asked first, and the sweep of each cluster is kept. Sweeps tell which clusters may come near each other: these are a
+//! group, and clusters of different groups are never run side by side. In a group the whole and its clusters are stepped, a
+//! generation at a time, until a generation differs, or until each cluster is itself again in its place: then the whole is
+//! what it was as well, and all that follows has been seen. Even before that a cluster that is itself again isn't stepped,
+//! since its next generation is known.
 
-ghost use Rattle.std.specs.Prelude.{◌≡◌, ◌≢◌, ◌≤◌, ◌↔◌, [], ℕ, All, IfNone, IfOk, IfSome, IsTrue, flat_map, length, map, true};
+ghost use Rattle.std.specs.Prelude.{◌≡◌, ◌<◌, ◌≤◌, ◌↔◌, ℕ, All, IfNone, IfOk, IfSome, IsTrue, flat_map, length, map, true};
 ghost use Rattle.plane_core.specs.Cells.{InOrder};
-ghost use Rattle.plane_core.specs.Clusters.{AreClusters, Partition};
+ghost use Rattle.plane_core.specs.Clusters.{Partition};
 ghost use Rattle.plane_core.specs.Generations.{lies_within, next};
-ghost use Rattle.survey_core.specs.Rest.{ComesBack, IsAtRest, KeepApart, RestsAs};
+ghost use Rattle.survey_core.specs.Groups.{GroupKeeps, ShareNoCell, members, union_of};
+ghost use Rattle.survey_core.specs.Rest.{IsAtRest, KeepApart, RestsAs};
 ghost use Rattle.survey_core.specs.RestLaws.{AtRestForGood, EmptyIsAtRest};
 
+use crate::groups::groups;
 use crate::profile::Profile;
-use code_core::recurrence::Recurrence;
+use crate::sweep::sweeps;
 use plane_core::cell::Cell;
 use plane_core::generation::StepError;
 use plane_core::pattern::{FromCellsError, Pattern};
@@ -44,52 +47,106 @@ pub(crate) fn clusters_at_rest(
     ensures rest { IfOk result (λ found. IfSome found (λ clusters. RestsAs rule.now profile.now pattern.now clusters.items)) }
     ensures moves { IfOk result (λ found. IfNone found (¬ IsAtRest rule.now profile.now pattern.now)) }
 {
+    // That a pattern's cells stand in order is known of them where they are asked for.
+    let _in_order = pattern.cells();
     let clusters = pattern.clusters(alloc)?;
-    let back = all_come_back(alloc, rule, profile.period(), clusters.as_slice())?;
-    if !back {
-        return Ok(None);
-    }
-    let apart = keep_apart(alloc, rule, profile.horizon(), pattern, clusters.as_slice())?;
+    let sweeps = match sweeps(alloc, rule, profile.period(), clusters.as_slice())? {
+        Some(sweeps) => sweeps,
+        None => return Ok(None),
+    };
+    let groups = groups(alloc, profile.horizon(), sweeps.as_slice())?;
+    let apart = groups_keep_apart(
+        alloc,
+        rule,
+        profile.horizon(),
+        clusters.as_slice(),
+        groups.as_slice(),
+    )?;
     if !apart {
         return Ok(None);
     }
     Ok(Some(clusters))
 }
 
-/// Whether each of the patterns comes back within so many generations.
-fn all_come_back(
+/// Whether in each group the clusters, each run alone, keep apart and make up their union up to the horizon.
+fn groups_keep_apart(
     alloc: Global,
     rule: &Rule,
-    limit: u32,
-    patterns: &[Pattern],
+    horizon: u32,
+    clusters: &[Pattern],
+    groups: &[usize],
 ) -> Result<bool, AllocError>
-    requires least { 1 ≤ limit }
-    requires most { limit ≤ 64 }
-    requires some { All (λ pattern. pattern ≢ []) patterns.now }
-    requires near { All (λ pattern. lies_within 101000 pattern ≡ true) patterns.now }
-    ensures { IfOk result (λ all. IsTrue all ↔ All (ComesBack rule.now limit) patterns.now) }
+    requires horizon { horizon ≤ 4096 }
+    requires near { All (λ cluster. lies_within 101000 cluster ≡ true) clusters.now }
+    requires order { All InOrder clusters.now }
+    requires off { ShareNoCell clusters.now }
+    requires count { length groups.now ≡ length clusters.now }
+    ensures { IfOk result (λ apart. IsTrue apart ↔ ((k : ℕ) → k < length clusters.now → GroupKeeps rule.now groups.now clusters.now horizon k)) }
 {
-    for pattern in patterns {
-        let back = comes_back(alloc, rule, limit, pattern)?;
-        if !back {
+    for number in 0..clusters.len() {
+        let keeps = group_keeps_apart(alloc, rule, horizon, clusters, groups, number)?;
+        if !keeps {
             return Ok(false);
         }
     }
     Ok(true)
 }
 
-/// Whether the pattern comes back within so many generations.
-fn comes_back(alloc: Global, rule: &Rule, limit: u32, pattern: &Pattern) -> Result<bool, AllocError>
-    requires least { 1 ≤ limit }
-    requires most { limit ≤ 64 }
-    requires some { pattern.now ≢ [] }
-    requires near { lies_within 101000 pattern.now ≡ true }
-    ensures { IfOk result (λ back. IsTrue back ↔ ComesBack rule.now limit pattern.now) }
+/// Whether in the group with this number the clusters, each run alone, keep apart and make up their union.
+fn group_keeps_apart(
+    alloc: Global,
+    rule: &Rule,
+    horizon: u32,
+    clusters: &[Pattern],
+    groups: &[usize],
+    number: usize,
+) -> Result<bool, AllocError>
+    requires horizon { horizon ≤ 4096 }
+    requires near { All (λ cluster. lies_within 101000 cluster ≡ true) clusters.now }
+    requires order { All InOrder clusters.now }
+    requires off { ShareNoCell clusters.now }
+    requires count { length groups.now ≡ length clusters.now }
+    ensures { IfOk result (λ apart. IsTrue apart ↔ GroupKeeps rule.now groups.now clusters.now horizon number) }
 {
-    match Recurrence::find(alloc, pattern, rule, limit) {
-        Ok(found) => Ok(found.is_some()),
-        Err(StepError::Memory) => Err(AllocError),
-        Err(StepError::Edge) => unreachable!(),
+    let members = members(alloc, number, groups, clusters)?;
+    if members.len() < 2 {
+        return Ok(true);
+    }
+    let whole = union(alloc, members.as_slice())?;
+    let apart = keep_apart(alloc, rule, horizon, &whole, members.as_slice())?;
+    Ok(apart)
+}
+
+/// The clusters of the group with this number.
+fn members(
+    alloc: Global,
+    number: usize,
+    groups: &[usize],
+    clusters: &[Pattern],
+) -> Result<Vec<Pattern>, AllocError>
+    requires { length groups.now ≡ length clusters.now }
+    ensures { IfOk result (λ found. found.items ≡ members number groups.now clusters.now) }
+{
+    let mut members = Vec::new(alloc);
+    for (place, cluster) in clusters.iter().enumerate() {
+        if groups[place] != number {
+            continue;
+        }
+        members.push(cluster.copy(alloc)?)?;
+    }
+    Ok(members)
+}
+
+/// The cells of all the patterns.
+fn union(alloc: Global, parts: &[Pattern]) -> Result<Pattern, AllocError>
+    requires { All (λ part. lies_within 999999 part ≡ true) parts.now }
+    ensures { IfOk result (λ whole. whole ≡ union_of parts.now) }
+{
+    let cells = all_cells(alloc, parts)?;
+    match Pattern::from_cells(alloc, cells.as_slice()) {
+        Ok(whole) => Ok(whole),
+        Err(FromCellsError::Memory) => Err(AllocError),
+        Err(FromCellsError::OutOfPlane { .. }) => unreachable!(),
     }
 }
 
@@ -103,7 +160,9 @@ fn keep_apart(
 ) -> Result<bool, AllocError>
     requires horizon { horizon ≤ 4096 }
     requires near { lies_within 101000 pattern.now ≡ true }
-    requires clusters { AreClusters pattern.now clusters.now }
+    requires each_near { All (λ cluster. lies_within 101000 cluster ≡ true) clusters.now }
+    requires order { All InOrder clusters.now }
+    requires parts { Partition pattern.now clusters.now }
     ensures { IfOk result (λ apart. IsTrue apart ↔ ((g : ℕ) → g ≤ horizon → KeepApart rule.now pattern.now clusters.now g)) }
 {
     let mut whole = pattern.copy(alloc)?;

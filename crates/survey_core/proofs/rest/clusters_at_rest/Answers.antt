@@ -1,46 +1,80 @@
-use Rattle.std.proofs.Common.{◌≡◌, ◌≢◌, ◌∙◌, ◌≤◌, sym, subst, ℕ, List, [], All, true}
+use Rattle.std.proofs.Common.{◌≡◌, ◌≢◌, ◌∙◌, ◌<◌, ◌≤◌, ap, sym, subst, ℕ, List, [], All, length, true}
 use Rattle.std.proofs.lemmas.Bool.{false≢true}
 use Rattle.plane_core.specs.declared.cell.Cell.{Cell}
+use Rattle.plane_core.specs.Cells.{InOrder}
 use Rattle.plane_core.specs.Generations.{lies_within}
-use Rattle.survey_core.specs.Rest.{ComesBack, KeepApart, RestsAs}
-use Rattle.survey_core.proofs.RestLemmas.{cluster_some, cluster_within, same_clusters}
+use Rattle.survey_core.specs.declared.sweep.Sweep.{Sweep}
+use Rattle.survey_core.specs.Grouping.{AreGroups}
+use Rattle.survey_core.specs.Groups.{GroupKeeps, ShareNoCell}
+use Rattle.survey_core.specs.Rest.{ComesBack, RestsAs}
+use Rattle.survey_core.specs.Sweeps.{AreSweeps}
+use Rattle.survey_core.proofs.GroupingLemmas.{groups_of_rest, rest_by_groups}
+use Rattle.survey_core.proofs.RestLemmas.{clusters_near, clusters_off, clusters_some, same_clusters}
 use Rattle.survey_core.proofs.rest.clusters_at_rest.Goals as goal
 
-pub all_come_back-requires-clause-some : goal.all_come_back-requires-clause-some
-all_come_back-requires-clause-some c =
+pub sweeps-requires-clause-some : goal.sweeps-requires-clause-some
+sweeps-requires-clause-some c =
     subst (All (λ (part : List Cell). part ≢ [])) (sym c.as_slice.ensures.value)
-    (λ k d low. cluster_some c.args.pattern.now _ (c.in_ok-clusters.ensures.clusters.each k d low))
+    (clusters_some c.args.pattern.now c.in_ok-clusters.clusters.items c.in_ok-clusters.ensures.clusters)
 
-pub all_come_back-requires-clause-near : goal.all_come_back-requires-clause-near
-all_come_back-requires-clause-near c =
+pub sweeps-requires-clause-near : goal.sweeps-requires-clause-near
+sweeps-requires-clause-near c =
     subst (All (λ (part : List Cell). lies_within 101000 part ≡ true)) (sym c.as_slice.ensures.value)
-    (λ k d low. cluster_within 101000 c.args.pattern.now _ c.requires (c.in_ok-clusters.ensures.clusters.each k d low))
+    (clusters_near 101000 c.args.pattern.now c.in_ok-clusters.clusters.items c.in_ok-clusters.ensures.clusters c.requires)
 
 -- a cluster doesn't come back
-pub returns-then-not-back-clause-moves : goal.returns-then-not-back-clause-moves
-returns-then-not-back-clause-moves c = λ rest.
+pub returns-in-None-clause-moves : goal.returns-in-None-clause-moves
+returns-in-None-clause-moves c = λ rest.
     let same : RestsAs c.args.rule.now c.args.profile.now c.args.pattern.now c.in_ok-clusters.clusters.items =
     same_clusters c.args.rule.now c.args.profile.now c.args.pattern.now c.in_ok-clusters.clusters.items c.in_ok-clusters.ensures.clusters rest in
-    false≢true (sym c.if-not-back.true ∙ c.in_ok-back.ensures.1
-    (subst (λ (p : ℕ). All (ComesBack c.args.rule.now p) c.as_slice.result.now) (sym c.period.ensures.period)
-    (subst (All (ComesBack c.args.rule.now c.args.profile.now.period)) (sym c.as_slice.ensures.value) same.back)))
+    let never : ¬ All (ComesBack c.args.rule.now c.period.result) c.as_slice.result.now = rw c.in-None.is at c.in_ok-sweeps.ensures.never in
+    never (subst (λ (p : ℕ). All (ComesBack c.args.rule.now p) c.as_slice.result.now) (sym c.period.ensures.period)
+    (subst (All (ComesBack c.args.rule.now c.args.profile.now.period)) (sym c.as_slice.ensures.value) same.back))
 
--- or they don't keep apart
+pub groups_keep_apart-requires-clause-near : goal.groups_keep_apart-requires-clause-near
+groups_keep_apart-requires-clause-near c =
+    subst (All (λ (part : List Cell). lies_within 101000 part ≡ true)) (sym c.as_slice-3.ensures.value)
+    (clusters_near 101000 c.args.pattern.now c.in_ok-clusters.clusters.items c.in_ok-clusters.ensures.clusters c.requires)
+
+pub groups_keep_apart-requires-clause-off : goal.groups_keep_apart-requires-clause-off
+groups_keep_apart-requires-clause-off c =
+    subst ShareNoCell (sym c.as_slice-3.ensures.value)
+    (clusters_off c.args.pattern.now c.in_ok-clusters.clusters.items c.in_ok-clusters.ensures.clusters)
+
+-- or those of a group don't keep apart
 pub returns-then-not-apart-clause-moves : goal.returns-then-not-apart-clause-moves
 returns-then-not-apart-clause-moves c = λ rest.
+    let found : AreSweeps c.args.rule.now c.args.profile.now.period c.in_ok-clusters.clusters.items c.in-Some.sweeps.items =
+    subst (λ (p : ℕ). AreSweeps c.args.rule.now p c.in_ok-clusters.clusters.items c.in-Some.sweeps.items) c.period.ensures.period
+    (subst (λ (parts : List (List Cell)). AreSweeps c.args.rule.now c.period.result parts c.in-Some.sweeps.items) c.as_slice.ensures.value
+    (rw c.in-Some.is at c.in_ok-sweeps.ensures.sweeps)) in
+    let right : AreGroups c.args.profile.now.horizon c.in-Some.sweeps.items c.in_ok-groups.groups.items =
+    subst (λ (h : ℕ). AreGroups h c.in-Some.sweeps.items c.in_ok-groups.groups.items) c.horizon.ensures.horizon
+    (subst (λ (sweeps : List Sweep). AreGroups c.horizon.result sweeps c.in_ok-groups.groups.items) c.as_slice-2.ensures.value c.in_ok-groups.ensures) in
+    let order : InOrder c.args.pattern.now = c.cells-in_order.ensures.pattern.in_order in
     let same : RestsAs c.args.rule.now c.args.profile.now c.args.pattern.now c.in_ok-clusters.clusters.items =
     same_clusters c.args.rule.now c.args.profile.now c.args.pattern.now c.in_ok-clusters.clusters.items c.in_ok-clusters.ensures.clusters rest in
-    false≢true (sym c.if-not-apart.true ∙ c.in_ok-apart.ensures.1
-    (subst (λ (h : ℕ). (g : ℕ) → g ≤ h → KeepApart c.args.rule.now c.args.pattern.now c.as_slice-2.result.now g) (sym c.horizon.ensures.horizon)
-    (subst (λ (parts : List (List Cell)). (g : ℕ) → g ≤ c.args.profile.now.horizon
-    → KeepApart c.args.rule.now c.args.pattern.now parts g) (sym c.as_slice-2.ensures.value) same.apart)))
+    false≢true (sym c.if-not-apart.true ∙ c.in_ok-apart.ensures.1 (λ k low.
+    subst (λ (h : ℕ). GroupKeeps c.args.rule.now c.as_slice-4.result.now c.as_slice-3.result.now h k) (sym c.horizon-2.ensures.horizon)
+    (subst (λ (parts : List (List Cell)). GroupKeeps c.args.rule.now c.as_slice-4.result.now parts c.args.profile.now.horizon k) (sym c.as_slice-3.ensures.value)
+    (subst (λ (gs : List ℕ). GroupKeeps c.args.rule.now gs c.in_ok-clusters.clusters.items c.args.profile.now.horizon k) (sym c.as_slice-4.ensures.value)
+    (groups_of_rest c.args.rule.now c.args.profile.now c.args.pattern.now c.in_ok-clusters.clusters.items c.in-Some.sweeps.items
+    c.in_ok-groups.groups.items order found right same k)))))
 
 pub returns-clause-rest : goal.returns-clause-rest
-returns-clause-rest c = record {
-  parts = c.in_ok-clusters.ensures.clusters;
-  back = subst (λ (p : ℕ). All (ComesBack c.args.rule.now p) c.in_ok-clusters.clusters.items) c.period.ensures.period
-      (subst (All (ComesBack c.args.rule.now c.period.result)) c.as_slice.ensures.value (c.in_ok-back.ensures.0 c.if-not-back.false));
-  apart = subst (λ (h : ℕ). (g : ℕ) → g ≤ h → KeepApart c.args.rule.now c.args.pattern.now c.in_ok-clusters.clusters.items g) c.horizon.ensures.horizon
-      (subst (λ (parts : List (List Cell)). (g : ℕ) → g ≤ c.horizon.result
-      → KeepApart c.args.rule.now c.args.pattern.now parts g) c.as_slice-2.ensures.value (c.in_ok-apart.ensures.0 c.if-not-apart.false));
-}
+returns-clause-rest c =
+    let found : AreSweeps c.args.rule.now c.args.profile.now.period c.in_ok-clusters.clusters.items c.in-Some.sweeps.items =
+    subst (λ (p : ℕ). AreSweeps c.args.rule.now p c.in_ok-clusters.clusters.items c.in-Some.sweeps.items) c.period.ensures.period
+    (subst (λ (parts : List (List Cell)). AreSweeps c.args.rule.now c.period.result parts c.in-Some.sweeps.items) c.as_slice.ensures.value
+    (rw c.in-Some.is at c.in_ok-sweeps.ensures.sweeps)) in
+    let right : AreGroups c.args.profile.now.horizon c.in-Some.sweeps.items c.in_ok-groups.groups.items =
+    subst (λ (h : ℕ). AreGroups h c.in-Some.sweeps.items c.in_ok-groups.groups.items) c.horizon.ensures.horizon
+    (subst (λ (sweeps : List Sweep). AreGroups c.horizon.result sweeps c.in_ok-groups.groups.items) c.as_slice-2.ensures.value c.in_ok-groups.ensures) in
+    let order : InOrder c.args.pattern.now = c.cells-in_order.ensures.pattern.in_order in
+    let each = c.in_ok-apart.ensures.0 c.if-not-apart.false in
+    rest_by_groups c.args.rule.now c.args.profile.now c.args.pattern.now c.in_ok-clusters.clusters.items c.in-Some.sweeps.items
+    c.in_ok-groups.groups.items order c.in_ok-clusters.ensures.clusters found right (λ k low.
+    subst (λ (h : ℕ). GroupKeeps c.args.rule.now c.in_ok-groups.groups.items c.in_ok-clusters.clusters.items h k) c.horizon-2.ensures.horizon
+    (subst (λ (parts : List (List Cell)). GroupKeeps c.args.rule.now c.in_ok-groups.groups.items parts c.horizon-2.result k) c.as_slice-3.ensures.value
+    (subst (λ (gs : List ℕ). GroupKeeps c.args.rule.now gs c.as_slice-3.result.now c.horizon-2.result k) c.as_slice-4.ensures.value
+    (each k (subst (λ (parts : List (List Cell)). k < length parts) (sym c.as_slice-3.ensures.value) low)))))

@@ -14,13 +14,13 @@ loop-init c = record {
   whole = c.in_ok-whole.ensures ∙ sym (after-none c.args.rule.now c.args.pattern.now);
   alone = c.in_ok-alone.ensures ∙ sym (alone_at_once c.args.rule.now c.args.clusters.now);
   apart = λ k low. subst (λ (h : ℕ). KeepApart c.args.rule.now c.args.pattern.now c.args.clusters.now h) (omega arith)
-      (apart_at_once c.args.rule.now c.args.pattern.now c.args.clusters.now c.requires.clusters);
+      (apart_at_once c.args.rule.now c.args.pattern.now c.args.clusters.now c.requires.parts);
 }
 
 pub next_of_each-requires : goal.next_of_each-requires
 next_of_each-requires c =
     subst (All (λ part. lies_within 999999 part ≡ true)) (alone_at_once c.args.rule.now c.args.clusters.now)
-    (alone_near c.args.rule.now c.args.pattern.now c.args.clusters.now 0 c.requires.clusters c.requires.near (omega arith))
+    (alone_near c.args.rule.now c.args.clusters.now 0 c.requires.each_near (omega arith))
 
 pub next-requires : goal.next-requires
 next-requires c =
@@ -33,14 +33,14 @@ next_of_all-requires-clause-near c =
     let low : c.loop.counter < c.args.horizon = c.loop-test.true in
     let most : c.args.horizon ≤ 4096 = c.requires.horizon in
     subst (All (λ part. lies_within 999999 part ≡ true)) (sym (c.as_slice.ensures.value ∙ c.loop.invariant.alone))
-    (alone_near c.args.rule.now c.args.pattern.now c.args.clusters.now c.loop.counter c.requires.clusters c.requires.near (omega arith))
+    (alone_near c.args.rule.now c.args.clusters.now c.loop.counter c.requires.each_near (omega arith))
 
 pub make_up-requires-clause-in_order : goal.make_up-requires-clause-in_order
 make_up-requires-clause-in_order c =
     let alone : c.as_slice-in-loop.result.now ≡ map (λ part. after c.args.rule.now part (c.loop.counter + 1)) c.args.clusters.now =
     c.as_slice-in-loop.ensures.value ∙ c.in_ok-alone-2.ensures ∙ ap (map (next c.args.rule.now)) (c.as_slice.ensures.value ∙ c.loop.invariant.alone)
     ∙ alone_later c.args.rule.now c.args.clusters.now c.loop.counter in
-    subst (All InOrder) (sym alone) (alone_in_order c.args.rule.now c.args.pattern.now c.args.clusters.now (c.loop.counter + 1) c.requires.clusters)
+    subst (All InOrder) (sym alone) (alone_in_order c.args.rule.now c.args.clusters.now (c.loop.counter + 1) c.requires.order)
 
 pub make_up-requires-clause-near : goal.make_up-requires-clause-near
 make_up-requires-clause-near c =
@@ -50,7 +50,7 @@ make_up-requires-clause-near c =
     c.as_slice-in-loop.ensures.value ∙ c.in_ok-alone-2.ensures ∙ ap (map (next c.args.rule.now)) (c.as_slice.ensures.value ∙ c.loop.invariant.alone)
     ∙ alone_later c.args.rule.now c.args.clusters.now c.loop.counter in
     subst (All (λ part. lies_within 999999 part ≡ true)) (sym alone)
-    (alone_near c.args.rule.now c.args.pattern.now c.args.clusters.now (c.loop.counter + 1) c.requires.clusters c.requires.near (omega arith))
+    (alone_near c.args.rule.now c.args.clusters.now (c.loop.counter + 1) c.requires.each_near (omega arith))
 
 -- a generation in which they don't keep apart
 pub returns-then-not-same : goal.returns-then-not-same
@@ -77,7 +77,7 @@ returns-then-back c =
     ∙ alone_later c.args.rule.now c.args.clusters.now c.loop.counter in
     let back : c.in_ok-alone-2.alone.items ≡ c.args.clusters.now = sym c.as_slice-in-loop-2.ensures.value ∙ c.are_back-back.ensures.0 c.if-back.true in (
       λ e g low. apart_once_back c.args.rule.now c.args.pattern.now c.args.clusters.now c.in_ok-alone-2.alone.items (c.loop.counter + 1) (omega arith)
-          (subst InOrder (c.whole.view_is ∙ c.in_ok-whole.ensures) c.whole.invariant.in_order) c.requires.clusters items back
+          (subst InOrder (c.whole.view_is ∙ c.in_ok-whole.ensures) c.whole.invariant.in_order) c.requires.parts items back
           (apart_more c.args.rule.now c.args.pattern.now c.args.clusters.now c.loop.counter c.in_ok-whole-2.whole c.as_slice-in-loop.result.now whole
           (c.as_slice-in-loop.ensures.value ∙ items) c.loop.invariant.apart (c.in_ok-same.ensures.0 c.if-not-same.false)) g,
       λ apart. refl,

@@ -1,0 +1,127 @@
+-- Groups as they are joined.
+use Rattle.std.proofs.Common.{◌≡◌, ◌≢◌, ◌==◌, ◌∙◌, ◌<◌, ap, sym, refl, subst, ℕ, Bool, true, false, List, All, arith, cond, get_or, inl, inr, length, map}
+use Rattle.std.proofs.Common.{[], ◌∷◌, eq-or-lt_of_le, nat_lt, ◌≤◌, ◌+◌}
+use Rattle.std.proofs.lemmas.Bool.{ltb-false, ltb-true}
+use Rattle.std.proofs.lemmas.Bool.Decides.{Decides-eqb}
+use Rattle.std.proofs.lemmas.List.{get_or-map, get_or_default, length-map}
+use Rattle.std.proofs.lemmas.List.Elements.{All-map}
+use Rattle.plane_core.specs.declared.cell.Cell.{Cell}
+use Rattle.plane_core.specs.Cells.{InOrder, has, king_distance}
+use Rattle.plane_core.specs.Clusters.{AreClusters, LieApart}
+use Rattle.plane_core.specs.Generations.{after}
+use Rattle.plane_core.specs.Rules.{Numbers}
+use Rattle.plane_core.proofs.ClusterLaws.{partition_law}
+use Rattle.plane_core.proofs.PartLemmas.{turned}
+use Rattle.survey_core.specs.declared.sweep.Sweep.{Sweep}
+use Rattle.survey_core.specs.Grouping.{AreGroups, AreNumbers, Coarser, PairIsRight}
+use Rattle.survey_core.specs.Groups.{GroupKeeps, GroupsStayApart, renamed}
+use Rattle.survey_core.specs.Profiles.{Settling}
+use Rattle.survey_core.specs.Rest.{RestsAs}
+use Rattle.survey_core.specs.Sweeps.{AreSweeps, StayApart}
+use Rattle.survey_core.proofs.GroupLemmas.{group_keeps, whole_keeps}
+
+-- whatever stands for a place that isn't there
+pub stay_default : (horizon : ℕ) (sweeps : List Sweep) (i j : ℕ) (d e f : Sweep) → i < length sweeps → j < length sweeps
+    → StayApart horizon (get_or sweeps i e) (get_or sweeps j f) → StayApart horizon (get_or sweeps i d) (get_or sweeps j d)
+stay_default horizon sweeps i j d e f one other apart =
+    subst (λ (s : Sweep). StayApart horizon s (get_or sweeps j d)) (get_or_default sweeps i e d one)
+    (subst (λ (s : Sweep). StayApart horizon (get_or sweeps i e) s) (get_or_default sweeps j f d other) apart)
+
+renamed_from : (from to k : ℕ) → k ≡ from → renamed from to k ≡ to
+renamed_from from to k is = ap (λ (b : Bool). cond {A = ℕ} b to k) ((Decides-eqb k from).1 is)
+
+renamed_to : (from to k : ℕ) → k ≡ to → renamed from to k ≡ to
+renamed_to from to k is = go (k == from)
+  where
+    go : (b : Bool) → cond {A = ℕ} b to k ≡ to
+    go true = refl
+    go false = is
+
+renamed_below : (from to k n : ℕ) → to < n → k < n → renamed from to k < n
+renamed_below from to k n low there = go (k == from)
+  where
+    go : (b : Bool) → cond {A = ℕ} b to k < n
+    go true = low
+    go false = there
+
+pub renamed_numbers : (sweeps : List Sweep) (groups later slice : List ℕ) (from to : ℕ) → later ≡ map (renamed from to) slice → slice ≡ groups
+    → to < length sweeps → AreNumbers sweeps groups → AreNumbers sweeps later
+renamed_numbers sweeps groups later slice from to made is low are = record {
+  count = ap length made ∙ length-map slice (renamed from to) ∙ ap length is ∙ are.count;
+  below = subst (All (λ k. k < length sweeps)) (sym made)
+      (All-map (λ k. k < length sweeps) (renamed from to) slice
+      (λ i d there. renamed_below from to (get_or slice i d) (length sweeps) low
+      (subst (λ (gs : List ℕ). All (λ k. k < length sweeps) gs) (sym is) are.below i d there)));
+}
+
+at_later : (groups later slice : List ℕ) (from to i : ℕ) → later ≡ map (renamed from to) slice → slice ≡ groups → i < length groups
+    → get_or later i 0 ≡ renamed from to (get_or groups i 0)
+at_later groups later slice from to i made is low =
+    ap (λ (gs : List ℕ). get_or gs i 0) (made ∙ ap (map (renamed from to)) is) ∙ get_or-map (renamed from to) groups i 0 0 low
+
+pub renamed_coarser : (groups later slice : List ℕ) (from to : ℕ) → later ≡ map (renamed from to) slice → slice ≡ groups → Coarser groups later
+renamed_coarser groups later slice from to made is a b low there ne = λ same.
+    ne (at_later groups later slice from to a made is low ∙ ap (renamed from to) same ∙ sym (at_later groups later slice from to b made is there))
+
+-- the two are in one group then
+pub renamed_pair : (groups later slice : List ℕ) (from to i j : ℕ) → later ≡ map (renamed from to) slice → slice ≡ groups → i < length groups
+    → j < length groups → get_or groups i 0 ≡ from → get_or groups j 0 ≡ to → get_or later i 0 ≡ get_or later j 0
+renamed_pair groups later slice from to i j made is low there one other =
+    at_later groups later slice from to i made is low ∙ renamed_from from to (get_or groups i 0) one
+    ∙ sym (at_later groups later slice from to j made is there ∙ renamed_to from to (get_or groups j 0) other)
+
+-- an element of a list that has one
+pub first_of : (sweeps : List Sweep) (i : ℕ) → i < length sweeps → Sweep
+first_of [] i low = absurd (omega arith)
+first_of (s ∷ ss) i low = s
+
+-- sweeps of different groups stay apart, whichever stands first
+pub groups_stay_apart : (rule : Numbers) (limit horizon : ℕ) (parts : List (List Cell)) (sweeps : List Sweep) (groups : List ℕ)
+    → AreSweeps rule limit parts sweeps → AreGroups horizon sweeps groups → GroupsStayApart rule groups parts horizon
+groups_stay_apart rule limit horizon parts sweeps groups are right i j d g one other ne low = go (nat_lt i j) refl
+  where
+    in_sweeps : (k : ℕ) → k < length parts → k < length sweeps
+    in_sweeps k there = subst (λ (n : ℕ). k < n) (sym are.count) there
+
+    any : Sweep
+    any = get_or sweeps i (first_of sweeps i (in_sweeps i one))
+
+    later_first : (a b : ℕ) → b < a → a < length parts → b < length parts → get_or groups a 0 ≢ get_or groups b 0
+        → LieApart (after rule (get_or parts a d) g) (after rule (get_or parts b d) g)
+    later_first a b lt low_a low_b differ =
+        right.apart a b lt (in_sweeps a low_a) any differ rule limit (get_or parts a d) (get_or parts b d) (are.each a d any low_a)
+        (are.each b d any low_b) g low
+
+    go : (b : Bool) → nat_lt i j ≡ b → LieApart (after rule (get_or parts i d) g) (after rule (get_or parts j d) g)
+    go true e = λ c f h k.
+        let far : 3 ≤ king_distance f c = later_first j i (ltb-true i j e) other one (λ is. ne (sym is)) f c k h in
+        let same : king_distance f c ≡ king_distance c f = turned f c in
+        omega arith
+    go false e = later_first i j (before (ltb-false i j e)) one other ne
+      where
+        before : j ≤ i → j < i
+        before le = elim (eq-or-lt_of_le le) [ inl same ↦ absurd (ne (ap (λ (n : ℕ). get_or groups n 0) (sym same))) | inr lt ↦ lt ]
+
+-- ---- at rest, by groups
+
+pub rest_by_groups : (rule : Numbers) (profile : Settling) (cells : List Cell) (clusters : List (List Cell)) (sweeps : List Sweep) (groups : List ℕ)
+    → InOrder cells → AreClusters cells clusters → AreSweeps rule profile.period clusters sweeps → AreGroups profile.horizon sweeps groups
+    → ((k : ℕ) → k < length clusters → GroupKeeps rule groups clusters profile.horizon k) → RestsAs rule profile cells clusters
+rest_by_groups rule profile cells clusters sweeps groups order are found right each = record {
+  parts = are;
+  back = λ k d low.
+      let there : k < length sweeps = subst (λ (n : ℕ). k < n) (sym found.count) low in
+      let is = found.each k d (first_of sweeps k there) low in
+      ((get_or sweeps k (first_of sweeps k there)).recurrence, is.recurs);
+  apart = whole_keeps rule cells groups clusters profile.horizon order (right.numbers.count ∙ found.count)
+      (groups_stay_apart rule profile.period profile.horizon clusters sweeps groups found right) (partition_law cells clusters are)
+      (λ i there. each (get_or groups i 0) (subst (λ (n : ℕ). get_or groups i 0 < n) found.count
+      (right.numbers.below i 0 (subst (λ (n : ℕ). i < n) (sym (right.numbers.count ∙ found.count)) there))));
+}
+
+pub groups_of_rest : (rule : Numbers) (profile : Settling) (cells : List Cell) (clusters : List (List Cell)) (sweeps : List Sweep) (groups : List ℕ)
+    → InOrder cells → AreSweeps rule profile.period clusters sweeps → AreGroups profile.horizon sweeps groups
+    → RestsAs rule profile cells clusters → (k : ℕ) → GroupKeeps rule groups clusters profile.horizon k
+groups_of_rest rule profile cells clusters sweeps groups order found right rest k =
+    group_keeps rule cells groups clusters profile.horizon order (right.numbers.count ∙ found.count)
+    (groups_stay_apart rule profile.period profile.horizon clusters sweeps groups found right) (partition_law cells clusters rest.parts) rest.apart k

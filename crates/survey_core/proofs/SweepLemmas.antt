@@ -1,0 +1,264 @@
+-- Sweeps: where a pattern that comes back lies in each turn, and boxes that stay clear of each other.
+use Rattle.std.proofs.Common.{◌≡◌, ◌≢◌, ◌∙◌, ◌+◌, ◌*◌, ◌/◌, ◌%◌, ◌<◌, ◌≤◌, ◌+ℤ◌, ◌-ℤ◌, ◌≤ℤ◌, ◌<ℤ◌, ap, sym, refl, subst, ℕ, ℤ, pos, zero, suc, List, [], ◌∷◌}
+use Rattle.std.proofs.Common.{All, arith, add_comm, get_or, inl, inr, ◌⊎◌, true, false, zero-add, eq-or-lt_of_le, int_lt, length, mul_comm, take, unsigned_abs, ◌++◌}
+use Rattle.std.proofs.lemmas.Int.{clamps, ints}
+use Rattle.std.proofs.lemmas.List.Elements.{All-map, recursion_from_All}
+use Rattle.std.proofs.lemmas.Bool.{or_cases}
+use Rattle.std.proofs.lemmas.List.{get_or_append_left, get_or_push, length-append, take_more}
+use Rattle.std.proofs.Math.Nat.{div-add-mod, le-div_iff_mul-le, suc-mul, zero-mul}
+use Rattle.plane_core.specs.declared.bounds.Bounds.{Bounds}
+use Rattle.plane_core.specs.declared.cell.Cell.{Cell}
+use Rattle.plane_core.specs.Bounds.{IsWithin, shifted}
+use Rattle.plane_core.specs.Cells.{InOrder, cell_at, distance, has, king_distance, moved_by}
+use Rattle.plane_core.specs.Generations.{after}
+use Rattle.plane_core.specs.Rules.{Numbers}
+use Rattle.plane_core.proofs.GenerationLemmas.{after-none}
+use Rattle.plane_core.proofs.SetLemmas.{has-all}
+use Rattle.code_core.proofs.MovedCodes.{after-shifted, in_order-after}
+use Rattle.survey_core.specs.declared.sweep.Sweep.{Sweep}
+use Rattle.survey_core.specs.Sweeps.{AreSweeps, IsSweep, Serves, ShipsMoveByTurns, StayApart, StayClear, both_boxes, carried, is_clear, is_past, times}
+use Rattle.survey_core.proofs.FindingLemmas.{after-then}
+use Rattle.survey_core.proofs.ForGoodLemmas.{after_rest, shifted-none}
+
+-- ---- turns
+
+one_more : (a s t : ℤ) → (a +ℤ s) +ℤ t ≡ a +ℤ (s +ℤ t)
+one_more a s t = omega (arith, ints)
+
+shifted-twice : (sx sy tx ty : ℤ) (cells : List Cell) → shifted tx ty (shifted sx sy cells) ≡ shifted (sx +ℤ tx) (sy +ℤ ty) cells
+shifted-twice sx sy tx ty [] = refl
+shifted-twice sx sy tx ty (c ∷ cs) = λ i. cell_at (one_more c.x sx tx i) (one_more c.y sy ty i) ∷ shifted-twice sx sy tx ty cs i
+
+-- what comes back moves by its shift each period
+pub after_turns : ShipsMoveByTurns
+after_turns rule cells p dx dy order back zero r =
+    ap (after rule cells) (ap (λ (m : ℕ). m + r) (zero-mul p) ∙ zero-add r) ∙ sym (shifted-none (after rule cells r))
+after_turns rule cells p dx dy order back (suc n) r =
+    ap (after rule cells) (later (n * p) (suc n * p) (suc-mul n p)) ∙ sym (after-then rule cells p (n * p + r))
+    ∙ ap (λ (S : List Cell). after rule S (n * p + r)) back ∙ after-shifted dx dy rule cells (n * p + r) order
+    ∙ ap (shifted dx dy) (after_turns rule cells p dx dy order back n r)
+    ∙ shifted-twice (times n dx) (times n dy) dx dy (after rule cells r)
+  where
+    later : (m k : ℕ) → k ≡ m + p → k + r ≡ p + (m + r)
+    later m k e = omega (arith, e)
+
+pub times-none : (n : ℕ) → times n (pos 0) ≡ pos 0
+times-none zero = refl
+times-none (suc n) = ap (λ (t : ℤ). t +ℤ pos 0) (times-none n)
+
+-- n steps by the difference are the difference of n steps
+pub times-difference : (n : ℕ) (d e : ℤ) → times n (e -ℤ d) +ℤ times n d ≡ times n e
+times-difference zero d e = refl
+times-difference (suc n) d e = one (times n (e -ℤ d)) (times n d) (times n e) (times-difference n d e)
+  where
+    one : (a b c : ℤ) → a +ℤ b ≡ c → (a +ℤ (e -ℤ d)) +ℤ (b +ℤ d) ≡ c +ℤ e
+    one a b c h = omega (arith, ints, h)
+
+within_shifted : (b : Bounds) (tx ty : ℤ) (cells : List Cell) → All (IsWithin b) cells
+    → All (IsWithin (record { left = b.left +ℤ tx; top = b.top +ℤ ty; right = b.right +ℤ tx; bottom = b.bottom +ℤ ty })) (shifted tx ty cells)
+within_shifted b tx ty cells all =
+    All-map (IsWithin (record { left = b.left +ℤ tx; top = b.top +ℤ ty; right = b.right +ℤ tx; bottom = b.bottom +ℤ ty })) (moved_by tx ty) cells
+    (λ k d low. each (get_or cells k d) (all k d low))
+  where
+    each : (c : Cell) → IsWithin b c
+        → IsWithin (record { left = b.left +ℤ tx; top = b.top +ℤ ty; right = b.right +ℤ tx; bottom = b.bottom +ℤ ty }) (moved_by tx ty c)
+    each c w = record {
+      left = low b.left c.x tx w.left;
+      top = low b.top c.y ty w.top;
+      right = low c.x b.right tx w.right;
+      bottom = low c.y b.bottom ty w.bottom;
+    }
+      where
+        low : (a e t : ℤ) → a ≤ℤ e → (a +ℤ t) ≤ℤ (e +ℤ t)
+        low a e t h = omega (arith, ints, h)
+
+-- in each generation of turn n the pattern lies in its box of that turn
+pub in_turn : (rule : Numbers) (limit : ℕ) (cells : List Cell) (s : Sweep) (p n r : ℕ) → IsSweep rule limit cells s → Serves p s → r < p
+    → All (IsWithin (carried n s)) (after rule cells (n * p + r))
+in_turn rule limit cells s p n r is (inl same) low =
+    let part : r < s.recurrence.period = subst (λ (m : ℕ). r < m) same low in
+    subst (λ (m : ℕ). All (IsWithin (carried n s)) (after rule cells (n * m + r))) (sym same)
+    (subst (All (IsWithin (carried n s)))
+    (sym (after_turns rule cells s.recurrence.period s.recurrence.dx s.recurrence.dy is.in_order is.recurs.back n r))
+    (within_shifted s.bounds (times n s.recurrence.dx) (times n s.recurrence.dy) (after rule cells r) (is.within r part)))
+in_turn rule limit cells s p n r is (inr still) low =
+    let q : ℕ = s.recurrence.period in
+    let some : 1 ≤ s.recurrence.period = is.recurs.some in
+    let back : after rule cells s.recurrence.period ≡ cells =
+    is.recurs.back ∙ (λ i. shifted (still.0 i) (still.1 i) cells) ∙ shifted-none cells in
+    let rest : (n * p + r) % s.recurrence.period < s.recurrence.period = omega arith in
+    subst (λ (b : Bounds). All (IsWithin b) (after rule cells (n * p + r))) (sym (stays still))
+    (subst (All (IsWithin s.bounds)) (sym (after_rest rule cells s.recurrence.period (n * p + r) back))
+    (is.within ((n * p + r) % s.recurrence.period) rest))
+  where
+    zero_more : (a t : ℤ) → t ≡ pos 0 → a +ℤ t ≡ a
+    zero_more a t e = omega (arith, ints, e)
+
+    stays : (s.recurrence.dx ≡ pos 0) × (s.recurrence.dy ≡ pos 0) → carried n s ≡ s.bounds
+    stays (x, y) =
+        let tx : times n s.recurrence.dx ≡ pos 0 = ap (times n) x ∙ times-none n in
+        let ty : times n s.recurrence.dy ≡ pos 0 = ap (times n) y ∙ times-none n in
+        λ i. record {
+          left = zero_more s.bounds.left (times n s.recurrence.dx) tx i;
+          top = zero_more s.bounds.top (times n s.recurrence.dy) ty i;
+          right = zero_more s.bounds.right (times n s.recurrence.dx) tx i;
+          bottom = zero_more s.bounds.bottom (times n s.recurrence.dy) ty i;
+        }
+
+-- ---- clear boxes
+
+-- what begins more than two past an end, and what lies before that end
+far_past : (end begin x t u a b : ℤ) → is_past end (pos 0) begin x ≡ true → x +ℤ t ≡ u → a ≤ℤ (end +ℤ t) → (begin +ℤ u) ≤ℤ b → 3 ≤ distance a b
+far_past end begin x t u a b h e low high =
+    let less : ((end +ℤ pos 0) +ℤ pos 2) <ℤ (begin +ℤ x) = strict _ _ h in
+    omega (arith, ints, less, e, low, high)
+  where
+    strict : (m n : ℤ) → int_lt m n ≡ true → m <ℤ n
+    strict m n k = grind (arith, ints)
+
+far_ahead : (end begin x t u a b : ℤ) → is_past end x begin (pos 0) ≡ true → x +ℤ t ≡ u → (begin +ℤ t) ≤ℤ a → b ≤ℤ (end +ℤ u) → 3 ≤ distance a b
+far_ahead end begin x t u a b h e low high =
+    let less : ((end +ℤ x) +ℤ pos 2) <ℤ (begin +ℤ pos 0) = strict _ _ h in
+    omega (arith, ints, less, e, low, high)
+  where
+    strict : (m n : ℤ) → int_lt m n ≡ true → m <ℤ n
+    strict m n k = grind (arith, ints)
+
+-- cells of boxes that are clear of each other in a turn
+clear_apart : (one other : Sweep) (n : ℕ) (c d : Cell)
+    → is_clear one.bounds other.bounds (times n (other.recurrence.dx -ℤ one.recurrence.dx)) (times n (other.recurrence.dy -ℤ one.recurrence.dy)) ≡ true
+    → IsWithin (carried n one) c → IsWithin (carried n other) d → 3 ≤ king_distance c d
+clear_apart one other n c d clear v w = elim (or_cases _ _ clear) [
+  | inl rest ↦ elim (or_cases _ _ rest) [
+    | inl more ↦ elim (or_cases _ _ more) [
+      | inl right ↦ across (far_past one.bounds.right other.bounds.left (times n (other.recurrence.dx -ℤ one.recurrence.dx)) (times n one.recurrence.dx)
+          (times n other.recurrence.dx) c.x d.x right ex v.right w.left)
+      | inr left ↦ across (far_ahead other.bounds.right one.bounds.left (times n (other.recurrence.dx -ℤ one.recurrence.dx)) (times n one.recurrence.dx)
+          (times n other.recurrence.dx) c.x d.x left ex v.left w.right)
+    ]
+    | inr below ↦ down (far_past one.bounds.bottom other.bounds.top (times n (other.recurrence.dy -ℤ one.recurrence.dy)) (times n one.recurrence.dy)
+        (times n other.recurrence.dy) c.y d.y below ey v.bottom w.top)
+  ]
+  | inr above ↦ down (far_ahead other.bounds.bottom one.bounds.top (times n (other.recurrence.dy -ℤ one.recurrence.dy)) (times n one.recurrence.dy)
+      (times n other.recurrence.dy) c.y d.y above ey v.top w.bottom)
+]
+  where
+    ex : times n (other.recurrence.dx -ℤ one.recurrence.dx) +ℤ times n one.recurrence.dx ≡ times n other.recurrence.dx
+    ex = times-difference n one.recurrence.dx other.recurrence.dx
+
+    ey : times n (other.recurrence.dy -ℤ one.recurrence.dy) +ℤ times n one.recurrence.dy ≡ times n other.recurrence.dy
+    ey = times-difference n one.recurrence.dy other.recurrence.dy
+
+    across : 3 ≤ distance c.x d.x → 3 ≤ king_distance c d
+    across h = omega arith
+
+    down : 3 ≤ distance c.y d.y → 3 ≤ king_distance c d
+    down h = omega arith
+
+-- boxes that are clear in all turns up to the horizon
+pub apart_by_turns : (horizon p : ℕ) (one other : Sweep) → 1 ≤ p → Serves p one → Serves p other → StayClear (horizon / p + 1) one other
+    → StayApart horizon one other
+apart_by_turns horizon p one other some s t clear rule limit cells others is that g low c d in_one in_other =
+    let whole : g ≡ g / p * p + g % p = sym (div-add-mod g p) ∙ ap (λ (m : ℕ). m + g % p) (mul_comm p (g / p)) in
+    let inside : g % p < p = omega arith in
+    let below : g / p * p ≤ horizon = omega (arith, whole) in
+    let turn : g / p ≤ horizon / p = (le-div_iff_mul-le some).1 below in
+    clear_apart one other (g / p) c d (clear (g / p) (omega (arith, turn)))
+    (has-all (IsWithin (carried (g / p) one)) (after rule cells g) c
+    (recursion_from_All (IsWithin (carried (g / p) one)) (after rule cells g)
+    (subst (λ (m : ℕ). All (IsWithin (carried (g / p) one)) (after rule cells m)) (sym whole) (in_turn rule limit cells one p (g / p) (g % p) is s inside))) in_one)
+    (has-all (IsWithin (carried (g / p) other)) (after rule others g) d
+    (recursion_from_All (IsWithin (carried (g / p) other)) (after rule others g)
+    (subst (λ (m : ℕ). All (IsWithin (carried (g / p) other)) (after rule others m)) (sym whole) (in_turn rule limit others other p (g / p) (g % p) that t inside))) in_other)
+
+-- ---- the loop over turns
+
+times_small : (n : ℕ) (d : ℤ) → unsigned_abs d ≤ 8589934592 → unsigned_abs (times n d) ≤ n * 8589934592
+times_small zero d small = omega (arith, ints)
+times_small (suc n) d small =
+    let more : unsigned_abs (times n d) ≤ n * 8589934592 = times_small n d small in
+    let sum : unsigned_abs (times n d +ℤ d) ≤ unsigned_abs (times n d) + unsigned_abs d = both (times n d) d in
+    omega (arith, more, sum, small)
+  where
+    both : (a b : ℤ) → unsigned_abs (a +ℤ b) ≤ unsigned_abs a + unsigned_abs b
+    both a b = omega (arith, ints)
+
+pub offset_small : (n turns : ℕ) (d o : ℤ) → n < turns → turns ≤ 4097 → unsigned_abs d ≤ 8589934592 → o ≡ times n d
+    → unsigned_abs o + unsigned_abs d ≤ 70368744177664
+offset_small n turns d o low few small is =
+    let whole : unsigned_abs (times n d) ≤ n * 8589934592 = times_small n d small in
+    let same : unsigned_abs o ≡ unsigned_abs (times n d) = ap unsigned_abs is in
+    omega (arith, whole, same, small, low, few)
+
+pub clear_more : (one other : Sweep) (n : ℕ) (x y : ℤ) → x ≡ times n (other.recurrence.dx -ℤ one.recurrence.dx)
+    → y ≡ times n (other.recurrence.dy -ℤ one.recurrence.dy) → StayClear n one other → is_clear one.bounds other.bounds x y ≡ true
+    → StayClear (n + 1) one other
+clear_more one other n x y is_x is_y before now m low = elim (eq-or-lt_of_le (m_low m low)) [
+  | inl same ↦
+      subst (λ (k : ℕ). is_clear one.bounds other.bounds (times k (other.recurrence.dx -ℤ one.recurrence.dx)) (times k (other.recurrence.dy -ℤ one.recurrence.dy)) ≡ true)
+      (sym same) ((λ i. is_clear one.bounds other.bounds (sym is_x i) (sym is_y i)) ∙ now)
+  | inr less ↦ before m less
+]
+  where
+    m_low : (m : ℕ) → m < n + 1 → m ≤ n
+    m_low m h = omega arith
+
+-- ---- the box of all phases
+
+pub swept_more : (rule : Numbers) (cells : List Cell) (age : ℕ) (phase : List Cell) (bounds box both : Bounds) → both ≡ both_boxes bounds box
+    → phase ≡ after rule cells (age + 1) → All (IsWithin box) phase → ((g : ℕ) → g ≤ age → All (IsWithin bounds) (after rule cells g))
+    → (g : ℕ) → g ≤ age + 1 → All (IsWithin both) (after rule cells g)
+swept_more rule cells age phase bounds box both is at now before g low = elim (eq-or-lt_of_le low) [
+  | inl same ↦
+      subst (λ (h : ℕ). All (IsWithin both) (after rule cells h)) (sym same)
+      (subst (All (IsWithin both)) at (λ k d there. subst (λ (b : Bounds). IsWithin b (get_or phase k d)) (sym is) (second (get_or phase k d) (now k d there))))
+  | inr less ↦ λ k d there. subst (λ (b : Bounds). IsWithin b (get_or (after rule cells g) k d)) (sym is)
+      (first (get_or (after rule cells g) k d) (before g (omega arith) k d there))
+]
+  where
+    first : (c : Cell) → IsWithin bounds c → IsWithin (both_boxes bounds box) c
+    first c w = record {
+      left = omega (arith, ints, clamps, w.left);
+      top = omega (arith, ints, clamps, w.top);
+      right = omega (arith, ints, clamps, w.right);
+      bottom = omega (arith, ints, clamps, w.bottom);
+    }
+
+    second : (c : Cell) → IsWithin box c → IsWithin (both_boxes bounds box) c
+    second c w = record {
+      left = omega (arith, ints, clamps, w.left);
+      top = omega (arith, ints, clamps, w.top);
+      right = omega (arith, ints, clamps, w.right);
+      bottom = omega (arith, ints, clamps, w.bottom);
+    }
+
+-- ---- the sweeps of some patterns, one after another
+
+sweeps_push : (rule : Numbers) (limit : ℕ) (parts : List (List Cell)) (sweeps : List Sweep) (part : List Cell) (sweep : Sweep)
+    → AreSweeps rule limit parts sweeps → IsSweep rule limit part sweep → AreSweeps rule limit (parts ++ part ∷ []) (sweeps ++ sweep ∷ [])
+sweeps_push rule limit parts sweeps part sweep are is = record {
+  count = length-append sweeps (sweep ∷ []) ∙ ap (λ (n : ℕ). n + 1) are.count ∙ sym (length-append parts (part ∷ []));
+  each = λ i d e low. go i d e (eq-or-lt_of_le (below i low));
+}
+  where
+    below : (i : ℕ) → i < length (parts ++ part ∷ []) → i ≤ length parts
+    below i low = omega (arith, low, length-append parts (part ∷ []))
+
+    go : (i : ℕ) (d : List Cell) (e : Sweep) → (i ≡ length parts) ⊎ (i < length parts)
+        → IsSweep rule limit (get_or (parts ++ part ∷ []) i d) (get_or (sweeps ++ sweep ∷ []) i e)
+    go i d e (inl last) =
+        let at : length sweeps ≡ i = are.count ∙ sym last in
+        subst (λ (s : Sweep). IsSweep rule limit (get_or (parts ++ part ∷ []) i d) s) (sym (get_or_push sweeps sweep e i at))
+        (subst (λ (p : List Cell). IsSweep rule limit p sweep) (sym (get_or_push parts part d i (sym last))) is)
+    go i d e (inr low) =
+        let there : i < length sweeps = subst (λ (n : ℕ). i < n) (sym are.count) low in
+        subst (λ (s : Sweep). IsSweep rule limit (get_or (parts ++ part ∷ []) i d) s) (sym (get_or_append_left sweeps (sweep ∷ []) e i there))
+        (subst (λ (p : List Cell). IsSweep rule limit p (get_or sweeps i e)) (sym (get_or_append_left parts (part ∷ []) d i low)) (are.each i d e low))
+
+pub sweeps_more : (rule : Numbers) (limit : ℕ) (parts : List (List Cell)) (i : ℕ) (part : List Cell) (sweeps : List Sweep) (sweep : Sweep) (items : List Sweep)
+    → i < length parts → part ≡ get_or parts i part → AreSweeps rule limit (take i parts) sweeps → IsSweep rule limit part sweep
+    → items ≡ sweeps ++ sweep ∷ [] → AreSweeps rule limit (take (i + 1) parts) items
+sweeps_more rule limit parts i part sweeps sweep items low at are is made =
+    subst (AreSweeps rule limit (take (i + 1) parts)) (sym made)
+    (subst (λ (front : List (List Cell)). AreSweeps rule limit front (sweeps ++ sweep ∷ [])) (sym (take_more parts i part low))
+    (sweeps_push rule limit (take i parts) sweeps (get_or parts i part) sweep are (subst (λ (p : List Cell). IsSweep rule limit p sweep) at is)))

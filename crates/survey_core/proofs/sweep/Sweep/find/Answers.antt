@@ -1,0 +1,13 @@
+use Rattle.code_core.specs.Recurrences.{IsNew, Recurs}
+use Rattle.survey_core.proofs.sweep.Sweep.find.Goals as goal
+
+pub returns-in_ok-bounds-in-Ok-Some-clause-sweep : goal.returns-in_ok-bounds-in-Ok-Some-clause-sweep
+returns-in_ok-bounds-in-Ok-Some-clause-sweep c =
+    let recurs : Recurs c.args.rule.now c.args.pattern.now c.args.limit c.in-Ok-Some.recurrence =
+    rw c.in-Ok-Some.field-0-is at c.in-Ok-Some.ensures.recurs in
+    record { in_order = c.requires.order; recurs = recurs; within = c.in_ok-bounds-in-Ok-Some.ensures }
+
+pub returns-in-Ok-None-clause-never : goal.returns-in-Ok-None-clause-never
+returns-in-Ok-None-clause-never c = λ back.
+    let new : IsNew c.args.rule.now c.args.pattern.now c.args.limit = rw c.in-Ok-None.field-0-is at c.in-Ok-None.ensures.never in
+    new back.0.period back.0.dx back.0.dy back.1.some back.1.within back.1.back

@@ -1,0 +1,75 @@
+-- The sweep of a pattern that comes back: a box in which all its phases lie, and which moves along with it.
+use Rattle.std.specs.Prelude.{◌≡◌, ◌≢◌, ◌+◌, ◌*◌, ◌+ℤ◌, ◌<◌, ◌≤◌, ◌⊎◌, ◌||◌, Bool, true, int_lt, ℕ, ℤ, zero, suc, pos, List, [], All, get_or, length}
+use Rattle.std.specs.Int.{int_max, int_min}
+use lib.IntN.{◌-ℤ◌}
+use Rattle.plane_core.specs.declared.cell.Cell.{Cell}
+use Rattle.plane_core.specs.declared.bounds.Bounds.{Bounds}
+use Rattle.plane_core.specs.Bounds.{IsWithin, shifted}
+use Rattle.plane_core.specs.Cells.{InOrder}
+use Rattle.plane_core.specs.Clusters.{LieApart}
+use Rattle.plane_core.specs.Generations.{after}
+use Rattle.plane_core.specs.Rules.{Numbers}
+use Rattle.code_core.specs.Recurrences.{Recurs}
+use Rattle.survey_core.specs.declared.sweep.Sweep.{Sweep}
+
+-- n steps by d
+abbrev pub times : ℕ → ℤ → ℤ
+times zero d = pos 0
+times (suc n) d = times n d +ℤ d
+
+-- the sweep of a pattern: how it comes back, and a box in which it lies in each generation of its period
+pub record IsSweep (rule : Numbers) (limit : ℕ) (cells : List Cell) (sweep : Sweep) : Type 0 where
+  pub in_order : InOrder cells
+  pub recurs : Recurs rule cells limit sweep.recurrence
+  pub within : (g : ℕ) → g < sweep.recurrence.period → All (IsWithin sweep.bounds) (after rule cells g)
+
+-- the sweeps of some patterns, one for each
+pub record AreSweeps (rule : Numbers) (limit : ℕ) (parts : List (List Cell)) (sweeps : List Sweep) : Type 0 where
+  pub count : length sweeps ≡ length parts
+  pub each : (i : ℕ) (d : List Cell) (e : Sweep) → i < length parts → IsSweep rule limit (get_or parts i d) (get_or sweeps i e)
+
+-- turns of so many generations suit a sweep: they are its period, or it doesn't move
+abbrev pub Serves : ℕ → Sweep → Type 0
+Serves period sweep = (period ≡ sweep.recurrence.period) ⊎ ((sweep.recurrence.dx ≡ pos 0) × (sweep.recurrence.dy ≡ pos 0))
+
+-- the box of turn n
+abbrev pub carried : ℕ → Sweep → Bounds
+carried n sweep = record {
+  left = sweep.bounds.left +ℤ times n sweep.recurrence.dx;
+  top = sweep.bounds.top +ℤ times n sweep.recurrence.dy;
+  right = sweep.bounds.right +ℤ times n sweep.recurrence.dx;
+  bottom = sweep.bounds.bottom +ℤ times n sweep.recurrence.dy;
+}
+
+-- what begins here, moved by s, begins more than two past the end, moved by t
+abbrev pub is_past : ℤ → ℤ → ℤ → ℤ → Bool
+is_past end t begin s = int_lt ((end +ℤ t) +ℤ pos 2) (begin +ℤ s)
+
+-- the box and the other, moved by (x, y), have at least two empty columns or rows between them
+abbrev pub is_clear : Bounds → Bounds → ℤ → ℤ → Bool
+is_clear one other x y = is_past one.right (pos 0) other.left x || is_past other.right x one.left (pos 0)
+    || is_past one.bottom (pos 0) other.top y || is_past other.bottom y one.top (pos 0)
+
+-- the least box that has both in it
+abbrev pub both_boxes : Bounds → Bounds → Bounds
+both_boxes a b = record {
+  left = int_min a.left b.left;
+  top = int_min a.top b.top;
+  right = int_max a.right b.right;
+  bottom = int_max a.bottom b.bottom;
+}
+
+-- so many turns the boxes are clear of each other
+abbrev pub StayClear : ℕ → Sweep → Sweep → Type 0
+StayClear turns one other = (n : ℕ) → n < turns → is_clear one.bounds other.bounds (times n (other.recurrence.dx -ℤ one.recurrence.dx))
+    (times n (other.recurrence.dy -ℤ one.recurrence.dy)) ≡ true
+
+-- Up to the horizon patterns with these sweeps, each run alone, are at king distance 3 or more.
+abbrev pub StayApart : ℕ → Sweep → Sweep → Type 0
+StayApart horizon one other = (rule : Numbers) (limit : ℕ) (cells others : List Cell) → IsSweep rule limit cells one → IsSweep rule limit others other
+    → (g : ℕ) → g ≤ horizon → LieApart (after rule cells g) (after rule others g)
+
+-- what comes back moves by its shift each period
+abbrev pub ShipsMoveByTurns : Type 0
+ShipsMoveByTurns = (rule : Numbers) (cells : List Cell) (p : ℕ) (dx dy : ℤ) → InOrder cells → after rule cells p ≡ shifted dx dy cells → (n r : ℕ)
+    → after rule cells (n * p + r) ≡ shifted (times n dx) (times n dy) (after rule cells r)

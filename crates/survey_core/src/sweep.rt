@@ -1,0 +1,308 @@
+//! The sweep of a cluster that comes back: the least box of all its phases, which moves along with it. This is the
+//! glider's, with the four phases in it, and where it lies a turn of four generations later:
+//!
+//! ```text
+//! .O..    ....    ....    ....    turn 0    turn 1
+//! ..O.    O.O.    ..O.    .O..    +---+
+//! OOO.    .OO.    O.O.    ..OO    |   |+---+
+//! ....    .O..    .OO.    .OO.    +---+|   |
+//!                                      +---+
+//! ```
+//!
+//! Two clusters stay apart if their sweeps, one of them grown by 2, do so in every turn up to the horizon. Only the step
+//! of the one against the other counts, and once they part they never meet again. What doesn't move has turns of any
+//! length; two that move with different periods are taken to come near each other, and are run.
+
+ghost use Rattle.std.specs.Prelude.{◌≡◌, ◌≢◌, ◌↔◌, ◌+◌, ◌*◌, ◌-ℤ◌, ◌+ℤ◌, ◌<◌, ◌≤◌, ◌<ℤ◌, ◌≤ℤ◌, ◌⊎◌, ◌^◌, [], ℕ, pos, All, IfNone, IfOk, IfSome, IsTrue, true, unsigned_abs};
+ghost use Rattle.std.specs.Int.{int_max, int_min};
+ghost use Rattle.plane_core.specs.Bounds.{IsWithin};
+ghost use Rattle.plane_core.specs.Cells.{InOrder};
+ghost use Rattle.plane_core.specs.Generations.{after, lies_within};
+ghost use Rattle.survey_core.specs.Rest.{ComesBack};
+ghost use Rattle.survey_core.specs.Sweeps.{AreSweeps, IsSweep, Serves, ShipsMoveByTurns, StayApart, StayClear, is_clear, is_past};
+
+use crate::rest::next;
+use code_core::recurrence::Recurrence;
+use plane_core::bounds::Bounds;
+use plane_core::generation::StepError;
+use plane_core::pattern::Pattern;
+use plane_core::rule::Rule;
+use std::alloc::{AllocError, Global};
+
+/// How a cluster comes back, and a box in which all its phases lie.
+#[derive(Clone, Copy, Debug)]
+pub(crate) struct Sweep {
+    pub(crate) recurrence: Recurrence,
+    pub(crate) bounds: Bounds,
+}
+
+/// The sweeps of patterns, or `None` if one of them doesn't come back within so many generations.
+pub(crate) fn sweeps(
+    alloc: Global,
+    rule: &Rule,
+    limit: u32,
+    patterns: &[Pattern],
+) -> Result<Option<Vec<Sweep>>, AllocError>
+    requires least { 1 ≤ limit }
+    requires most { limit ≤ 64 }
+    requires order { All InOrder patterns.now }
+    requires some { All (λ pattern. pattern ≢ []) patterns.now }
+    requires near { All (λ pattern. lies_within 101000 pattern ≡ true) patterns.now }
+    ensures sweeps { IfOk result (λ found. IfSome found (λ sweeps. AreSweeps rule.now limit patterns.now sweeps.items)) }
+    ensures never { IfOk result (λ found. IfNone found (¬ All (ComesBack rule.now limit) patterns.now)) }
+{
+    let mut sweeps = Vec::with_capacity(alloc, patterns.len())?;
+    for pattern in patterns {
+        match Sweep::find(alloc, rule, limit, pattern)? {
+            Some(sweep) => sweeps.push(sweep)?,
+            None => return Ok(None),
+        }
+    }
+    Ok(Some(sweeps))
+}
+
+impl Sweep {
+    /// The sweep of a pattern, or `None` if it doesn't come back within so many generations.
+    fn find(
+        alloc: Global,
+        rule: &Rule,
+        limit: u32,
+        pattern: &Pattern,
+    ) -> Result<Option<Sweep>, AllocError>
+        requires least { 1 ≤ limit }
+        requires most { limit ≤ 64 }
+        requires order { InOrder pattern.now }
+        requires some { pattern.now ≢ [] }
+        requires near { lies_within 101000 pattern.now ≡ true }
+        ensures sweep { IfOk result (λ found. IfSome found (IsSweep rule.now limit pattern.now)) }
+        ensures never { IfOk result (λ found. IfNone found (¬ ComesBack rule.now limit pattern.now)) }
+    {
+        match Recurrence::find(alloc, pattern, rule, limit) {
+            Ok(Some(recurrence)) => {
+                let bounds = swept(alloc, rule, recurrence.period, pattern)?;
+                Ok(Some(Sweep { recurrence, bounds }))
+            }
+            Ok(None) => Ok(None),
+            Err(StepError::Memory) => Err(AllocError),
+            Err(StepError::Edge) => unreachable!(),
+        }
+    }
+}
+
+/// A box in which the pattern lies in each of the first generations, so many of them.
+fn swept(alloc: Global, rule: &Rule, period: u32, pattern: &Pattern) -> Result<Bounds, AllocError>
+    requires some { 1 ≤ period }
+    requires few { period ≤ 64 }
+    requires near { lies_within 101000 pattern.now ≡ true }
+    ensures { IfOk result (λ bounds. (g : ℕ) → g < period → All (IsWithin bounds) (after rule.now pattern.now g)) }
+{
+    let mut phase = pattern.copy(alloc)?;
+    let mut bounds = box_round(pattern);
+    for age in 0..period - 1 {
+        phase = next(alloc, rule, &phase)?;
+        bounds = joined(bounds, box_round(&phase));
+    }
+    Ok(bounds)
+}
+
+/// The least box round the pattern. For the empty pattern it is any box.
+fn box_round(pattern: &Pattern) -> Bounds
+    ensures { All (IsWithin result) pattern.now }
+{
+    match pattern.bounds() {
+        Some(bounds) => bounds,
+        None => Bounds {
+            left: 0,
+            top: 0,
+            right: 0,
+            bottom: 0,
+        },
+    }
+}
+
+/// The least box that has both in it.
+fn joined(one: Bounds, other: Bounds) -> Bounds
+    ensures left { result.left ≡ int_min one.left other.left }
+    ensures top { result.top ≡ int_min one.top other.top }
+    ensures right { result.right ≡ int_max one.right other.right }
+    ensures bottom { result.bottom ≡ int_max one.bottom other.bottom }
+{
+    Bounds {
+        left: lesser(one.left, other.left),
+        top: lesser(one.top, other.top),
+        right: greater(one.right, other.right),
+        bottom: greater(one.bottom, other.bottom),
+    }
+}
+
+/// The lesser of the two.
+fn lesser(one: i32, other: i32) -> i32
+    ensures { result ≡ int_min one other }
+{
+    one.min(other)
+}
+
+/// The greater of the two.
+fn greater(one: i32, other: i32) -> i32
+    ensures { result ≡ int_max one other }
+{
+    one.max(other)
+}
+
+/// Whether patterns with these sweeps are seen to stay apart up to the horizon.
+pub(crate) fn stay_apart(horizon: u32, one: &Sweep, other: &Sweep) -> bool
+    requires { horizon ≤ 4096 }
+    ensures { IsTrue result → StayApart horizon one.now other.now }
+{
+    let Some(period) = common_turns(one, other) else {
+        return false;
+    };
+    are_clear_for(one, other, horizon / period + 1)
+}
+
+/// How many generations a turn has for both, if there is such a number.
+fn common_turns(one: &Sweep, other: &Sweep) -> Option<u32>
+    ensures some { IfSome result (λ period. 1 ≤ period) }
+    ensures one { IfSome result (λ period. Serves period one.now) }
+    ensures other { IfSome result (λ period. Serves period other.now) }
+{
+    let period = if is_still(one) {
+        other.recurrence.period
+    } else {
+        one.recurrence.period
+    };
+    if period > 0 && serves(period, one) && serves(period, other) {
+        Some(period)
+    } else {
+        None
+    }
+}
+
+/// Whether turns of so many generations suit the sweep.
+fn serves(period: u32, sweep: &Sweep) -> bool
+    ensures { IsTrue result → Serves period sweep.now }
+{
+    period == sweep.recurrence.period || is_still(sweep)
+}
+
+/// Whether the pattern comes back in its place.
+fn is_still(sweep: &Sweep) -> bool
+    ensures { IsTrue result ↔ ((sweep.now.recurrence.dx ≡ pos 0) × (sweep.now.recurrence.dy ≡ pos 0)) }
+{
+    sweep.recurrence.dx == 0 && sweep.recurrence.dy == 0
+}
+
+/// Whether the boxes are clear of each other for so many turns. Where neither moves against the other, one turn shows it.
+fn are_clear_for(one: &Sweep, other: &Sweep, turns: u32) -> bool
+    requires { turns ≤ 4097 }
+    ensures { IsTrue result → StayClear turns one.now other.now }
+{
+    let step = step(one, other);
+    if step.is_none() {
+        return are_clear(one.bounds, other.bounds, step);
+    }
+    let mut offset = Offset { x: 0, y: 0 };
+    for _ in 0..turns {
+        let clear = are_clear(one.bounds, other.bounds, offset);
+        if !clear {
+            return false;
+        }
+        offset = offset.moved(step);
+    }
+    true
+}
+
+/// By how much the one is moved against the other.
+#[derive(Clone, Copy)]
+struct Offset {
+    x: i64,
+    y: i64,
+}
+
+impl Offset {
+    /// Whether nothing is moved.
+    fn is_none(self) -> bool
+        ensures { IsTrue result ↔ ((self.x ≡ pos 0) × (self.y ≡ pos 0)) }
+    {
+        self.x == 0 && self.y == 0
+    }
+
+    /// The offset a step later.
+    fn moved(self, step: Offset) -> Offset
+        requires across { unsigned_abs self.x + unsigned_abs step.x ≤ 2 ^ 46 }
+        requires down { unsigned_abs self.y + unsigned_abs step.y ≤ 2 ^ 46 }
+        ensures x { result.x ≡ self.x +ℤ step.x }
+        ensures y { result.y ≡ self.y +ℤ step.y }
+    {
+        Offset {
+            x: self.x + step.x,
+            y: self.y + step.y,
+        }
+    }
+}
+
+/// The step of the other against the one in a turn.
+fn step(one: &Sweep, other: &Sweep) -> Offset
+    ensures x { result.x ≡ other.now.recurrence.dx -ℤ one.now.recurrence.dx }
+    ensures y { result.y ≡ other.now.recurrence.dy -ℤ one.now.recurrence.dy }
+    ensures across { unsigned_abs result.x ≤ 2 ^ 33 }
+    ensures down { unsigned_abs result.y ≤ 2 ^ 33 }
+{
+    Offset {
+        x: difference(one.recurrence.dx, other.recurrence.dx),
+        y: difference(one.recurrence.dy, other.recurrence.dy),
+    }
+}
+
+/// By how much the other is greater.
+fn difference(one: i32, other: i32) -> i64
+    ensures step { result ≡ other -ℤ one }
+    ensures small { unsigned_abs result ≤ 2 ^ 33 }
+{
+    i64::from(other) - i64::from(one)
+}
+
+/// Whether the box and the other, moved, have at least two empty columns or rows between them.
+fn are_clear(one: Bounds, other: Bounds, offset: Offset) -> bool
+    requires across { unsigned_abs offset.x ≤ 2 ^ 46 }
+    requires down { unsigned_abs offset.y ≤ 2 ^ 46 }
+    ensures { result ≡ is_clear one other offset.x offset.y }
+{
+    is_past(one.right, 0, other.left, offset.x)
+        | is_past(other.right, offset.x, one.left, 0)
+        | is_past(one.bottom, 0, other.top, offset.y)
+        | is_past(other.bottom, offset.y, one.top, 0)
+}
+
+/// Whether what begins here, moved by `s`, begins more than two past the end, moved by `t`.
+fn is_past(end: i32, t: i64, begin: i32, s: i64) -> bool
+    requires end { unsigned_abs t ≤ 2 ^ 46 }
+    requires begin { unsigned_abs s ≤ 2 ^ 46 }
+    ensures { result ≡ is_past end t begin s }
+{
+    two_past(placed(end, t)) < placed(begin, s)
+}
+
+/// Where a column or row comes to lie.
+fn placed(at: i32, by: i64) -> i64
+    requires { unsigned_abs by ≤ 2 ^ 46 }
+    ensures place { result ≡ at +ℤ by }
+    ensures small { unsigned_abs result ≤ 2 ^ 47 }
+{
+    i64::from(at) + by
+}
+
+/// The second column or row further on.
+fn two_past(at: i64) -> i64
+    requires { unsigned_abs at ≤ 2 ^ 47 }
+    ensures { result ≡ at +ℤ pos 2 }
+{
+    at + 2
+}
+
+/// A law of all patterns that come back after p generations, moved by a shift: after n times p and r generations they are
+/// what they are after r, moved by n times the shift.
+#[tactic(auto, using(crate::proofs::SweepLemmas::after_turns))]
+pub fn ships_move_by_turns()
+    ensures { ShipsMoveByTurns }
+{}
