@@ -109,8 +109,7 @@ both : (job : Job) (missing : List ℕ) (worker : ℕ) (rs : List Reported) → 
     → All (Contains missing) (map (λ (r : Reported). r.number) rs) → All (λ (r : Reported). r.job ≡ job) rs → All (IsOwn job missing worker) rs
 both job missing worker [] own listed of = All-nil (IsOwn job missing worker)
 both job missing worker (r ∷ rs) own listed of =
-    All-cons (IsOwn job missing worker) r rs
-    (
+    All-cons (IsOwn job missing worker) r rs (
       All-head (λ (s : Reported). s.worker ≡ worker) r rs own,
       All-head (Contains missing) r.number (map (λ (s : Reported). s.number) rs) listed,
       All-head (λ (s : Reported). s.job ≡ job) r rs of,
