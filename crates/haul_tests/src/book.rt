@@ -42,6 +42,15 @@ fn arrivals(alloc: Global, job: &Job, offers: &[(u8, u32)]) -> Result<Vec<Arriva
     Ok(arrivals)
 }
 
+/// An offer of each soup from 0 on, by the worker 1.
+pub(crate) fn arrivals_from(alloc: Global, job: &Job, count: u32) -> Result<Vec<Arrival>, Fail> {
+    let mut arrivals = Vec::new(alloc);
+    for number in 0..count {
+        arrivals.push(offer(alloc, job, 1, number)?)?;
+    }
+    Ok(arrivals)
+}
+
 /// What a haul of another seed replies to a report of its soup 3.
 fn replies_to_another(alloc: Global, haul: &mut Haul) -> Result<Vec<Reply>, Fail> {
     let arriving = arrivals(alloc, &job("12", small()?)?, &[(1, 3)])?;
@@ -57,6 +66,40 @@ fn refuses_other_jobs(rt: HostRuntime) -> Result<(), Fail> {
         replies.as_slice(),
         [Reply::Refused(Refusal::OtherJob)].as_slice()
     );
+    Ok(())
+}
+
+/// Eight arrivals at a haul of the soups 0 to 3 and two workers.
+fn eight(alloc: Global, own: &Job, other: &Job) -> Result<Vec<Arrival>, Fail> {
+    let mut arriving = arrivals(alloc, own, &[(1, 3), (2, 3), (3, 0)])?;
+    arriving.push(offer(alloc, other, 1, 0)?)?;
+    arriving.push(offer(alloc, own, 2, 4)?)?;
+    arriving.push(Arrival::Closing)?;
+    arriving.push(offer(alloc, own, 2, 0)?)?;
+    arriving.push(Arrival::Closing)?;
+    Ok(arriving)
+}
+
+/// What is replied to them, by the book's rule.
+const EIGHT: [Reply; 8] = [
+    Reply::Taken,
+    Reply::Refused(Refusal::Double { worker: 1 }),
+    Reply::Refused(Refusal::UnknownWorker),
+    Reply::Refused(Refusal::OtherJob),
+    Reply::Refused(Refusal::OutOfRange),
+    Reply::NowClosed,
+    Reply::Refused(Refusal::Closed),
+    Reply::AlreadyClosed,
+];
+
+#[test]
+fn replies_to_eight_arrivals(rt: HostRuntime) -> Result<(), Fail> {
+    let alloc = rt.alloc();
+    let own = job("", small()?)?;
+    let mut haul = Haul::open(alloc, own, &[range(0, 4)], 2)?;
+    let arriving = eight(alloc, &own, &job("x", small()?)?)?;
+    let replies = keep_book(alloc, &mut haul, arriving)?;
+    assert!(rt; replies.as_slice() == EIGHT.as_slice());
     Ok(())
 }
 
@@ -217,6 +260,28 @@ fn joins_two_hauls(rt: HostRuntime) -> Result<(), Fail> {
     assert!(rt; joined.census()?.unsettled == 2);
     Ok(())
 }
+
+// Soups 101 and 107 of the empty seed under the standard profile, by a program in another language, written from the
+// definitions alone: what they leave is among the lines of the tests of report lines.
+#[test]
+fn joins_hauls_that_have_objects(rt: HostRuntime) -> Result<(), Fail> {
+    let alloc = rt.alloc();
+    let job = job("", Profile::standard())?;
+    let first = closed_haul(alloc, &job, range(101, 1), 1, (1, 101))?;
+    let second = closed_haul(alloc, &job, range(107, 1), 1, (1, 107))?;
+    let joined = first.join(second).ok().expect(&rt, "a joined haul");
+    let census = lines(alloc, &joined.census()?)?;
+    assert_eq!(rt; census.as_str(), JOINED);
+    Ok(())
+}
+
+const JOINED: &str = "2 of 2, 0 unsettled, 2 for good, 9 objects
+xp2_7 2 101 107
+xp2_s01110szw222 1 107
+xs4_33 4 101 107
+xs5_253 1 101
+xs7_2596 1 101
+";
 
 /// Why two hauls are not joined, if they aren't.
 fn fault_of(first: Haul, second: Haul) -> Option<JoinFault> {

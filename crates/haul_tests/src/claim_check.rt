@@ -97,7 +97,7 @@ fn tells_another_job(rt: HostRuntime) -> Result<(), Fail> {
 }
 
 // Soup 101 of the empty seed under the standard profile, by a program in another language, written from the definitions
-// alone; then with the mark exchanged, with the first count raised, and in version 1.
+// alone; then with the mark exchanged, with the first count raised, in version 1, and so with the last count raised.
 const SETTLED: &[u8] =
     b"report 2 rule=b3s23 profile=64,512,101,30300 seed= worker=3 soup=101 at=202 good=yes xp2_7*1 xs4_33*3 xs5_253*1 xs7_2596*1";
 
@@ -110,6 +110,9 @@ const RAISED: &[u8] =
 const FIRST: &[u8] =
     b"report 1 rule=b3s23 profile=64,512,101,30300 seed= worker=3 soup=101 at=202 xp2_7*1 xs4_33*3 xs5_253*1 xs7_2596*1";
 
+const FIRST_RAISED: &[u8] =
+    b"report 1 rule=b3s23 profile=64,512,101,30300 seed= worker=3 soup=101 at=202 xp2_7*1 xs4_33*3 xs5_253*1 xs7_2596*2";
+
 #[test]
 fn checks_a_settled_soup(rt: HostRuntime) -> Result<(), Fail> {
     let alloc = rt.alloc();
@@ -121,6 +124,10 @@ fn checks_a_settled_soup(rt: HostRuntime) -> Result<(), Fail> {
     );
     assert_eq!(rt; become_of(alloc, profile, RAISED)?, Outcome::FoundSettled);
     assert_eq!(rt; become_of(alloc, profile, FIRST)?, Outcome::Report);
+    assert_eq!(rt;
+        become_of(alloc, profile, FIRST_RAISED)?,
+        Outcome::FoundSettled
+    );
     Ok(())
 }
 

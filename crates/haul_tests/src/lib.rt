@@ -12,6 +12,8 @@ mod haul;
 #[cfg(test)]
 mod haul_text;
 #[cfg(test)]
+mod large;
+#[cfg(test)]
 mod memory;
 #[cfg(test)]
 mod plain_book;
