@@ -23,6 +23,7 @@ mod NumberLemmas
 mod OneClaim
 mod OnePlace
 mod OrderLemmas
+mod PartLemmas
 mod RangeLemmas
 mod ReportLemmas
 mod RowLemmas

@@ -1,3 +1,4 @@
+pub mod BookLaws
 pub mod Books
 pub mod Censuses
 pub mod ClaimChecks

@@ -1,4 +1,5 @@
 ghost use Rattle.std.specs.Prelude.{◌≡◌, ◌++◌, ◌∷◌, [], List, IfOk, OnErr, OnOk};
+ghost use Rattle.haul_core.specs.BookLaws.{WorkersAreTakenInOrder};
 ghost use Rattle.haul_core.specs.Books.{StandsFor, replies_to, reply_to};
 ghost use Rattle.haul_core.specs.Replies.{IsTakenNext, StandsForFront};
 ghost use Rattle.haul_core.specs.declared.arrival.Arrival.{Arrival as Arrived};
@@ -38,6 +39,12 @@ pub fn keep_book(
     }
     Ok(replies)
 }
+
+/// The law that what the book takes of a worker is a part of what it offered, in its order, each number at most once and of
+/// the set.
+pub fn workers_are_taken_in_order()
+    ensures { WorkersAreTakenInOrder }
+{}
 
 /// Lets one arrival come to a haul. Memory runs out only for an offer that the book takes, and then nothing has come.
 fn answer(haul: &mut Haul, arrival: Arrival) -> Result<Reply, AllocError>
