@@ -100,7 +100,7 @@ fn turns_of(turns: u64) -> Turnstile {
 }
 
 /// Lets workers go on with a haul under a gate. Which of them was stopped, if one was: the first by number.
-fn take_some<G: Gate + Sync, R: Threads + Wait + Sync>(
+pub(crate) fn take_some<G: Gate + Sync, R: Threads + Wait + Sync>(
     alloc: Global,
     rt: &R,
     haul: Haul,
@@ -121,7 +121,7 @@ fn take_some<G: Gate + Sync, R: Threads + Wait + Sync>(
 }
 
 /// How many soups the haul has taken of a worker.
-fn count_of(haul: &Haul, worker: u8) -> usize {
+pub(crate) fn count_of(haul: &Haul, worker: u8) -> usize {
     haul.taken()
         .iter()
         .filter(|taken| taken.0 == worker)
@@ -191,13 +191,13 @@ fn goes_on_after_any_number_of_soups(rt: HostRuntime) -> Result<(), Fail> {
 
 /// Waits for a counter, and steps a block at each turn, so that a turn takes some time.
 #[derive(Drop)]
-struct Patience {
+pub(crate) struct Patience {
     alloc: Global,
     block: Pattern,
 }
 
 impl Patience {
-    fn new(alloc: Global) -> Result<Patience, Fail> {
+    pub(crate) fn new(alloc: Global) -> Result<Patience, Fail> {
         let cells = [
             Cell { x: 0, y: 0 },
             Cell { x: 1, y: 0 },
@@ -209,7 +209,7 @@ impl Patience {
     }
 
     /// Waits until the counter is over a number, but not for too many turns.
-    fn wait_for(&self, counter: &AtomicU64, number: u64) -> Result<(), Stop> {
+    pub(crate) fn wait_for(&self, counter: &AtomicU64, number: u64) -> Result<(), Stop> {
         for _ in 0..TURNS {
             if counter.load(Ordering::SeqCst) > number {
                 return Ok(());

@@ -8,6 +8,8 @@ mod gates;
 #[cfg(test)]
 mod memory;
 #[cfg(test)]
+mod sixteen;
+#[cfg(test)]
 mod small;
 #[cfg(test)]
 mod tickets;

@@ -6,21 +6,25 @@ use crate::small::{haul_of, small_job};
 use crew::gate::{Gate, OpenGate, Stop};
 use crew::watch::Unwatched;
 use crew::workers::{CrewError, take};
+use plane_core::rule::Rule;
 use std::process::Abort;
 use std::sync::Wait;
 use std::sync::atomic::{AtomicU64, Ordering};
 use std::test::Fail;
 use std::thread::Threads;
+use survey_core::job::Job;
 
-/// Lets workers take four soups. If there was no memory, the haul is open, and is completed by another call.
+/// Lets workers take so many soups. If there was no memory, the haul is open, and is completed by another call.
 fn assert_taken<R: Abort + AllocGlobal + Threads + Wait + Sync>(
     rt: &R,
+    job: Job,
+    count: u64,
     workers: u8,
 ) -> Result<(), Fail>
     requires { 1 ≤ workers }
 {
     let alloc = rt.alloc();
-    let haul = haul_of(alloc, small_job()?, 4, workers)?;
+    let haul = haul_of(alloc, job, count, workers)?;
     match take(alloc, rt, haul, workers, &OpenGate, &mut Unwatched) {
         Ok(haul) => assert_eq!(rt; haul.missing_count(), 0),
         Err((haul, fault)) => {
@@ -37,12 +41,23 @@ fn assert_taken<R: Abort + AllocGlobal + Threads + Wait + Sync>(
 
 #[test]
 fn without_memory_one_worker_leaves_the_haul_open(rt: HostRuntime) -> Result<(), Fail> {
-    assert_taken(&rt, 1)
+    assert_taken(&rt, small_job()?, 4, 1)
 }
 
 #[test]
 fn without_memory_two_workers_leave_the_haul_open(rt: HostRuntime) -> Result<(), Fail> {
-    assert_taken(&rt, 2)
+    assert_taken(&rt, small_job()?, 4, 2)
+}
+
+// A worker whose thread can't be started has to leave alone what the others survey: the belt has room for 64 notes, and nobody
+// receives any before all threads are started. By this rule all cells die at once, so a soup takes few allocations.
+#[test]
+fn without_memory_two_hundred_soups_are_taken(rt: HostRuntime) -> Result<(), Fail> {
+    let job = Job {
+        rule: Rule::read("bs")?,
+        ..small_job()?
+    };
+    assert_taken(&rt, job, 200, 2)
 }
 
 /// A gate that stops the second worker, and notes that it did.

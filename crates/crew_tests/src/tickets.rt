@@ -58,6 +58,32 @@ fn gathers_one_pass_of_two(rt: HostRuntime) -> Result<(), Fail> {
 }
 
 #[test]
+fn gathers_without_passes(rt: HostRuntime) -> Result<(), Fail> {
+    let (tickets, mut passes) = Tickets::open(rt.alloc(), 3, 2)?;
+    let Some(mut pass) = passes.pop() else {
+        panic!(rt; "no pass")
+    };
+    assert_eq!(rt;
+        [tickets.draw(&mut pass), tickets.draw(&mut pass)],
+        [Some(0), Some(1)]
+    );
+    drop(pass);
+    drop(passes);
+    assert_eq!(rt; tickets.gather(Vec::new(rt.alloc())), 2);
+    let (tickets, mut passes) = Tickets::open(rt.alloc(), 1, 1)?;
+    let Some(mut pass) = passes.pop() else {
+        panic!(rt; "no pass")
+    };
+    assert_eq!(rt;
+        [tickets.draw(&mut pass), tickets.draw(&mut pass)],
+        [Some(0), None]
+    );
+    drop(pass);
+    assert_eq!(rt; tickets.gather(Vec::new(rt.alloc())), 1);
+    Ok(())
+}
+
+#[test]
 fn draws_none_of_none(rt: HostRuntime) -> Result<(), Fail> {
     let (tickets, mut passes) = Tickets::open(rt.alloc(), 0, 1)?;
     let Some(mut a) = passes.pop() else {
