@@ -20,6 +20,10 @@ ghost use Rattle.survey_core.specs.Groups.{renamed};
 use crate::sweep::{Sweep, stay_apart};
 use std::alloc::{AllocError, Global};
 
+/// How many clusters are grouped at the most. More are one group: each pair is looked at, and with so many that takes longer
+/// than running them side by side. A soup leaves some hundred.
+const MOST_GROUPED: usize = 4096;
+
 /// The groups of clusters with these sweeps: for each the number of its group. Those of different groups stay apart up to
 /// the horizon.
 pub(crate) fn groups(
@@ -30,9 +34,24 @@ pub(crate) fn groups(
     requires { horizon ≤ 4096 }
     ensures { IfOk result (λ groups. AreGroups horizon sweeps.now groups.items) }
 {
+    if sweeps.len() > MOST_GROUPED {
+        return one_group(alloc, sweeps.len());
+    }
     let mut groups = numbers(alloc, sweeps.len())?;
     for place in 0..sweeps.len() {
         groups = joined(alloc, horizon, sweeps, place, groups)?;
+    }
+    Ok(groups)
+}
+
+/// All clusters in one group.
+fn one_group(alloc: Global, count: usize) -> Result<Vec<usize>, AllocError>
+    ensures count { IfOk result (λ groups. length groups.items ≡ count) }
+    ensures one { IfOk result (λ groups. All (λ k. k ≡ 0) groups.items) }
+{
+    let mut groups = Vec::with_capacity(alloc, count)?;
+    while groups.len() < count {
+        groups.push(0)?;
     }
     Ok(groups)
 }
