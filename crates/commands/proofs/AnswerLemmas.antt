@@ -1,6 +1,7 @@
 -- Lemmas on what commands read and answer.
 use Rattle.std.proofs.Common.{◌≡◌, ◌≤◌, ◌^◌, ◌↔◌, ℕ, List, [], length, Bool, true, false, Option, None, Some, Result, Ok, Err, nat_le, refl}
-use Rattle.std.proofs.Common.{sym, ap, ◌∙◌, rules}
+use Rattle.std.proofs.Common.{IfSome, ◌+◌, ◌++◌, arith, length-take, subst, sym, ap, take, take_all, ◌∙◌, rules}
+use Rattle.std.specs.Option.{option_map}
 use Rattle.std.specs.Result.{IsErrAnd, IsErrOf, result_map_both}
 use Rattle.plane_core.specs.declared.cell.Cell.{Cell}
 use Rattle.plane_core.specs.declared.rule.RuleError.{RuleError}
@@ -32,6 +33,19 @@ err_of (Err x) e h = ap Err h
 pub some_input : (known : Option (List ℕ)) → (bytes : List ℕ) × IsInput known bytes
 some_input None = ([], tt)
 some_input (Some left) = (left, refl)
+
+-- what is read of an input up to a byte past a limit, and is no longer than the limit, is all of it
+pub whole_input : (limit count : ℕ) (known old : Option (List ℕ)) (before bytes : List ℕ) → count ≡ limit + 1 → old ≡ known → before ≡ []
+    → IfSome (option_map (take count) old) (λ read. bytes ≡ before ++ read) → length bytes ≤ limit → IfSome known (λ left. bytes ≡ left)
+whole_input limit count known old before bytes is same none read short =
+    let P : List ℕ → Type 0 = λ front. IfSome (option_map (take (limit + 1)) known) (λ more. bytes ≡ front ++ more) in
+    go known (subst P none (rw same at (rw is at read)))
+  where
+    go : (known : Option (List ℕ)) → IfSome (option_map (take (limit + 1)) known) (λ more. bytes ≡ [] ++ more) → IfSome known (λ left. bytes ≡ left)
+    go None more = tt
+    go (Some left) more =
+        let long = ap length more ∙ length-take (limit + 1) left in
+        more ∙ take_all (limit + 1) left (omega (arith, long, short))
 
 -- an input that was not read to its end says nothing of the answer
 pub Reads_unread : {A : Type 0} (answer : Result A Complaint) (fault : InputFault) → Reads answer (Err (input_complaint fault))

@@ -1,5 +1,5 @@
 -- How gathering ends.
-use Rattle.std.proofs.Common.{◌≡◌, ◌∙◌, ◌++◌, ℕ, zero, suc, Bool, true, false, inr, List, [], ◌∷◌, Option, None, Some, IfSome, Result, Ok, Err, ap, sym, length, refl, subst}
+use Rattle.std.proofs.Common.{◌≡◌, ◌∙◌, ◌++◌, ◌≤◌, ◌^◌, ℕ, zero, suc, true, inl, inr, List, [], ◌∷◌, Option, Result, Ok, Err, IsOkAnd, ap, is_ok, length, refl, subst, sym}
 use Rattle.survey_core.specs.declared.job.Job.{Job}
 use Rattle.haul_core.specs.declared.arrival.Arrival.{Arrival}
 use Rattle.haul_core.specs.declared.arrival.Arrival.TheVariants.{Closing}
@@ -9,105 +9,162 @@ use Rattle.haul_core.specs.Censuses.{IsCensus}
 use Rattle.haul_core.specs.HaulTexts.{haul_text}
 use Rattle.haul_core.specs.Keeping.{numbers_in}
 use Rattle.haul_core.specs.Missing.{missing_of}
+use Rattle.haul_core.specs.RangeLists.{IsListText}
 use Rattle.commands.specs.declared.complaint.Complaint.{Complaint}
 use Rattle.commands.specs.declared.complaint.Complaint.TheVariants.{Refused, OutOfMemory, ReadFailed, WriteFailed}
 use Rattle.commands.specs.declared.profile.ProfileNumbers.{ProfileNumbers}
+use Rattle.commands.specs.declared.refusal.Refusal.{Refusal}
 use Rattle.commands.specs.declared.soup_set.SoupSet.{SoupSet}
 use Rattle.commands.specs.declared.status.Status.{Status}
 use Rattle.commands.specs.declared.status.Status.TheVariants as statuses
-use Rattle.commands.specs.Gather.{EndsGather, Gathering, Gathers, IsGathering, gather_reads, gather_right, status_after, terms_of}
-use Rattle.commands.specs.GatherSteps.{EndsLines, HasBegun, HasGatheredAll}
-use Rattle.commands.specs.GatheredLines.{Gathered, Start, lines_of}
-use Rattle.commands.specs.SoupSets.{job_named}
+use Rattle.commands.specs.Answers.{NeedsMemory}
+use Rattle.commands.specs.Gather.{EndsGather, Gathering, Gathers, HidesNoOther, IsGathered, IsGathering, IsHaulOver, IsSame, IsSilent, IsStopped}
+use Rattle.commands.specs.Gather.{gather_opens, gather_reads, gather_right, gathered_right, status_after}
+use Rattle.commands.specs.GatherSteps.{EndsLines, HasGatheredShort}
+use Rattle.commands.specs.GatheredLines.{Gathered}
+use Rattle.commands.specs.Lines.{lines_of}
+use Rattle.commands.specs.SoupSets.{Bad_list, IsRefused, Overlapping, Too_large, job_named}
 use Rattle.commands.specs.Streams.{Stream, Has}
 use Rattle.commands.specs.TakeSteps.{IsOpened, StopsSet}
 use Rattle.commands.proofs.AnswerLemmas.{status_of-command}
 use Rattle.commands.proofs.TakeLemmas.{job_refused}
 
--- no line has come
-pub none_begun : (terms : Terms) (known : Option (List ℕ)) (errors : Stream) → Has errors [] → HasBegun terms known errors.before errors.after
-none_begun terms known errors nothing =
-    record { lines = []; first = all_left known; arrivals = []; told = []; gathered = Start; written = nothing }
+-- where a haul may be opened, the input is looked at
+pub opens_reads : (set : SoupSet) (workers : ℕ) (numbers : ProfileNumbers) (rule_text : List ℕ) (terms : Terms)
+    → gather_opens set workers numbers rule_text terms → gather_reads set numbers rule_text ≡ true
+opens_reads set workers numbers rule_text terms = go (job_named set numbers rule_text)
   where
-    all_left : (known : Option (List ℕ)) → IfSome known (λ bytes. (more : List (List ℕ)) × (lines_of bytes ≡ [] ++ more))
-    all_left None = tt
-    all_left (Some bytes) = (lines_of bytes, refl)
+    go : (named : Result Job Complaint) → IsOkAnd named (λ job. IsHaulOver set workers job terms) → is_ok named ≡ true
+    go (Ok job) over = refl
+    go (Err complaint) over = absurd over
 
--- with a job the input is looked at
-pub looks_at : (set : SoupSet) (numbers : ProfileNumbers) (rule_text : List ℕ) (job : Job) → job_named set numbers rule_text ≡ Ok job
-    → gather_reads set numbers rule_text ≡ true
-looks_at set numbers rule_text job named = rw named refl
+-- memory that runs out over a range list hides only what it is needed for
+list_needs : (set : SoupSet) (refusal : Refusal) → IsListText set.also → IsRefused set refusal → NeedsMemory (Refused refusal)
+list_needs set refusal listed (Bad_list not place fault is) = absurd (not listed)
+list_needs set refusal listed (Too_large ranges named large is) = subst (λ (r : Refusal). NeedsMemory (Refused r)) (sym is) tt
+list_needs set refusal listed (Overlapping ranges named small overlap is) = subst (λ (r : Refusal). NeedsMemory (Refused r)) (sym is) tt
+
+list_hides : (set : SoupSet) (workers : ℕ) (numbers : ProfileNumbers) (rule_text bytes : List ℕ) (job : Job) → job_named set numbers rule_text ≡ Ok job
+    → IsListText set.also → HidesNoOther (gather_right set workers numbers rule_text bytes)
+list_hides set workers numbers rule_text bytes job named listed (Refused refusal) is = list_needs set refusal listed (rw named at is)
+list_hides set workers numbers rule_text bytes job named listed OutOfMemory is = absurd is
+list_hides set workers numbers rule_text bytes job named listed ReadFailed is = absurd is
+list_hides set workers numbers rule_text bytes job named listed WriteFailed is = absurd is
 
 -- a job that is refused
 pub gathers_job : (set : SoupSet) (workers : ℕ) (numbers : ProfileNumbers) (rule_text bytes : List ℕ) (known : Option (List ℕ)) (complaint : Complaint)
-    (output errors : Stream) → job_named set numbers rule_text ≡ Err complaint → Has output [] → Has errors [] → errors.failed ≡ false
-    → Gathers (gather_reads set numbers rule_text) (gather_right set workers numbers rule_text bytes) known (Err complaint) output errors
-gathers_job set workers numbers rule_text bytes known (Refused refusal) output errors named nothing silent fine = (rw named refl, nothing, silent, fine)
-gathers_job set workers numbers rule_text bytes known OutOfMemory output errors named nothing silent fine =
-    absurd (job_refused set numbers rule_text OutOfMemory named)
-gathers_job set workers numbers rule_text bytes known ReadFailed output errors named nothing silent fine =
-    absurd (job_refused set numbers rule_text ReadFailed named)
-gathers_job set workers numbers rule_text bytes known WriteFailed output errors named nothing silent fine =
-    absurd (job_refused set numbers rule_text WriteFailed named)
+    (output errors : Stream) → job_named set numbers rule_text ≡ Err complaint → IsSilent output errors
+    → Gathers (gather_right set workers numbers rule_text bytes) (gather_opens set workers numbers rule_text) known (Err complaint) output errors
+gathers_job set workers numbers rule_text bytes known (Refused refusal) output errors named silent = (rw named refl, silent)
+gathers_job set workers numbers rule_text bytes known OutOfMemory output errors named silent = absurd (job_refused set numbers rule_text OutOfMemory named)
+gathers_job set workers numbers rule_text bytes known ReadFailed output errors named silent = absurd (job_refused set numbers rule_text ReadFailed named)
+gathers_job set workers numbers rule_text bytes known WriteFailed output errors named silent = absurd (job_refused set numbers rule_text WriteFailed named)
 
 -- a set that is refused, or memory that runs out over it
 pub gathers_set : (set : SoupSet) (workers : ℕ) (numbers : ProfileNumbers) (rule_text bytes : List ℕ) (known : Option (List ℕ)) (job : Job)
-    (complaint : Complaint) (output errors : Stream) → job_named set numbers rule_text ≡ Ok job → StopsSet set complaint → Has output [] → Has errors []
-    → errors.failed ≡ false → Gathers (gather_reads set numbers rule_text) (gather_right set workers numbers rule_text bytes) known (Err complaint) output errors
-gathers_set set workers numbers rule_text bytes known job (Refused refusal) output errors named stops nothing silent fine = (rw named stops, nothing, silent, fine)
-gathers_set set workers numbers rule_text bytes known job OutOfMemory output errors named stops nothing silent fine =
-    let terms = terms_of job [] workers in
-    record { looked = looks_at set numbers rule_text job named; nothing = nothing; terms = terms; begun = none_begun terms known errors silent; fine = fine }
-gathers_set set workers numbers rule_text bytes known job ReadFailed output errors named stops nothing silent fine = absurd stops
-gathers_set set workers numbers rule_text bytes known job WriteFailed output errors named stops nothing silent fine = absurd stops
+    (complaint : Complaint) (output errors : Stream) → job_named set numbers rule_text ≡ Ok job → StopsSet set complaint → IsSilent output errors
+    → Gathers (gather_right set workers numbers rule_text bytes) (gather_opens set workers numbers rule_text) known (Err complaint) output errors
+gathers_set set workers numbers rule_text bytes known job (Refused refusal) output errors named stops silent = (rw named stops, silent)
+gathers_set set workers numbers rule_text bytes known job OutOfMemory output errors named stops silent =
+    (list_hides set workers numbers rule_text bytes job named stops, inl silent)
+gathers_set set workers numbers rule_text bytes known job ReadFailed output errors named stops silent = absurd stops
+gathers_set set workers numbers rule_text bytes known job WriteFailed output errors named stops silent = absurd stops
 
 -- a complaint over the lines
-pub gathers_lines : (set : SoupSet) (workers : ℕ) (numbers : ProfileNumbers) (rule_text bytes : List ℕ) (known : Option (List ℕ)) (terms : Terms)
-    (complaint : Complaint) (output errors : Stream) → gather_reads set numbers rule_text ≡ true → EndsLines terms known errors.before errors.after errors.failed complaint → Has output []
-    → Gathers (gather_reads set numbers rule_text) (gather_right set workers numbers rule_text bytes) known (Err complaint) output errors
-gathers_lines set workers numbers rule_text bytes known terms (Refused refusal) output errors looked ends nothing = absurd ends
-gathers_lines set workers numbers rule_text bytes known terms OutOfMemory output errors looked ends nothing =
-    record { looked = looked; nothing = nothing; terms = terms; begun = ends.0; fine = ends.1 }
-gathers_lines set workers numbers rule_text bytes known terms ReadFailed output errors looked ends nothing =
-    record { looked = looked; nothing = nothing; terms = terms; begun = ends.0; fine = ends.1 }
-gathers_lines set workers numbers rule_text bytes known terms WriteFailed output errors looked ends nothing = inr (record { nothing = nothing; cut = ends })
+pub gathers_lines : (terms : Terms) (bytes : List ℕ) (known : Option (List ℕ)) (complaint : Complaint) (output errors : Stream)
+    → EndsLines terms known errors.before errors.after errors.failed complaint → Has output []
+    → Gathers (gathered_right terms bytes) (IsSame terms) known (Err complaint) output errors
+gathers_lines terms bytes known (Refused refusal) output errors ends nothing = absurd ends
+gathers_lines terms bytes known OutOfMemory output errors ends nothing =
+    (λ _ is. absurd is, inr (record { terms = terms; opened = refl; begun = ends.0; nothing = nothing; fine = ends.1 }))
+gathers_lines terms bytes known ReadFailed output errors ends nothing =
+    record { terms = terms; opened = refl; begun = ends.0; nothing = nothing; fine = ends.1 }
+gathers_lines terms bytes known WriteFailed output errors ends nothing = inr (record { terms = terms; opened = refl; nothing = nothing; cut = ends })
 
 -- what was gathered
-pub is_gathering : (job : Job) (set : SoupSet) (workers : ℕ) (opened held closed : Held) (census : Census) (known before after : Option (List ℕ))
-    → IsOpened job set workers opened → held.terms ≡ opened.terms → (all : HasGatheredAll known before after held) → closed.terms ≡ held.terms
+pub is_gathered : (terms : Terms) (held closed : Held) (census : Census) (known before after : Option (List ℕ))
+    → (all : HasGatheredShort known before after held) → held.terms ≡ terms → closed.terms ≡ held.terms
     → ((arrivals : List Arrival) → StandsFor arrivals held → StandsFor (arrivals ++ Closing ∷ []) closed)
     → IsCensus closed.terms.job closed.terms.ranges (numbers_in closed.taken) census
-    → IsGathering set workers all.bytes
-    (record { text = haul_text census; told = all.told; missing = length (missing_of closed.terms.ranges closed.taken) }) job
-is_gathering job set workers opened held closed census known before after open_ same all kept closes counted =
-    let terms = terms_of job opened.terms.ranges workers in
-    let path : opened.terms ≡ terms = λ i. record { job = open_.job_is i; ranges = opened.terms.ranges; workers = open_.workers_are i } in
-    let now : closed.terms ≡ terms = kept ∙ same ∙ path in
-    let P : Terms → Type 0 = λ t. Gathered t (lines_of all.bytes) all.met.arrivals all.told in
+    → IsGathered terms all.2.bytes
+    (record { text = haul_text census; told = all.2.told; missing = length (missing_of closed.terms.ranges closed.taken) })
+is_gathered terms held closed census known before after all same kept closes counted =
+    let read = all.2 in
+    let now : closed.terms ≡ terms = kept ∙ same in
+    let P : Terms → Type 0 = λ t. Gathered t (lines_of read.bytes) read.met.arrivals read.told in
     let Q : Terms → Type 0 = λ t. IsCensus t.job t.ranges (numbers_in closed.taken) census in
-    let stands = closes all.met.arrivals all.met.stands in
+    let stands = closes read.met.arrivals read.met.stands in
     record {
-      ranges = open_.ranges;
-      named = open_.named;
-      small = open_.small;
-      apart = open_.apart;
-      normal = opened.terms.ranges;
-      form = open_.form;
-      arrivals = all.met.arrivals;
-      gathered = subst P (same ∙ path) all.met.gathered;
+      short = subst (λ (n : ℕ). n ≤ 2 ^ 32) read.size_is all.1;
+      arrivals = read.met.arrivals;
+      gathered = subst P same read.met.gathered;
       taken = closed.taken;
-      taken_is = stands.taken ∙ ap (λ (t : Terms). taken_of t (all.met.arrivals ++ Closing ∷ [])) now;
+      taken_is = stands.taken ∙ ap (λ (t : Terms). taken_of t (read.met.arrivals ++ Closing ∷ [])) now;
       census = census;
       counted = subst Q now counted;
       text_is = refl;
       missing_is = ap (λ (t : Terms). length (missing_of t.ranges closed.taken)) now;
     }
 
--- it is right for the job
-pub gathering_right : (set : SoupSet) (workers : ℕ) (numbers : ProfileNumbers) (rule_text bytes : List ℕ) (job : Job) (gathering : Gathering)
-    → job_named set numbers rule_text ≡ Ok job → IsGathering set workers bytes gathering job
-    → gather_right set workers numbers rule_text bytes (Ok gathering)
-gathering_right set workers numbers rule_text bytes job gathering named is = rw named is
+-- a haul that was opened is one over the set
+pub is_over : (job : Job) (set : SoupSet) (workers : ℕ) (held : Held) → IsOpened job set workers held → IsHaulOver set workers job held.terms
+is_over job set workers held open_ = record {
+  ranges = open_.ranges;
+  named = open_.named;
+  small = open_.small;
+  apart = open_.apart;
+  form = open_.form;
+  job_is = open_.job_is;
+  workers_are = open_.workers_are;
+}
+
+-- from what is gathered in an open haul to what is right for the set
+pub gathers_over : (set : SoupSet) (workers : ℕ) (numbers : ProfileNumbers) (rule_text bytes : List ℕ) (known : Option (List ℕ)) (job : Job) (terms : Terms)
+    (outcome : Result ℕ Complaint) (output errors : Stream) → job_named set numbers rule_text ≡ Ok job → IsHaulOver set workers job terms
+    → Gathers (gathered_right terms bytes) (IsSame terms) known outcome output errors
+    → Gathers (gather_right set workers numbers rule_text bytes) (gather_opens set workers numbers rule_text) known outcome output errors
+gathers_over set workers numbers rule_text bytes known job terms outcome output errors named over = go outcome
+  where
+    right : (gathering : Gathering) → IsGathered terms bytes gathering → gather_right set workers numbers rule_text bytes (Ok gathering)
+    right gathering is =
+        let gathers : IsGathering set workers bytes gathering job = record { terms = terms; opened = over; is = is } in
+        rw named gathers
+
+    opens : (others : Terms) → others ≡ terms → gather_opens set workers numbers rule_text others
+    opens others same =
+        let other : IsHaulOver set workers job others = subst (IsHaulOver set workers job) (sym same) over in
+        rw named other
+
+    stopped : IsStopped (IsSame terms) known output errors → IsStopped (gather_opens set workers numbers rule_text) known output errors
+    stopped is = record { terms = is.terms; opened = opens is.terms is.opened; begun = is.begun; nothing = is.nothing; fine = is.fine }
+
+    listed : IsListText set.also
+    listed = record { ranges = over.named.listed; words = over.named.words; spelled = over.named.spelled }
+
+    go : (outcome : Result ℕ Complaint) → Gathers (gathered_right terms bytes) (IsSame terms) known outcome output errors
+        → Gathers (gather_right set workers numbers rule_text bytes) (gather_opens set workers numbers rule_text) known outcome output errors
+    go (Ok missing) is = record {
+      gathering = is.gathering;
+      is = right is.gathering is.is;
+      missing_is = is.missing_is;
+      text = is.text;
+      written = is.written;
+      told = is.told;
+      fine = is.fine;
+    }
+    go (Err (Refused refusal)) is = absurd (is.0)
+    go (Err OutOfMemory) (hides, inl silent) = (list_hides set workers numbers rule_text bytes job named listed, inl silent)
+    go (Err OutOfMemory) (hides, inr is) = (list_hides set workers numbers rule_text bytes job named listed, inr (stopped is))
+    go (Err ReadFailed) is = stopped is
+    go (Err WriteFailed) (inl is) = inl (record {
+      gathering = is.gathering;
+      is = right is.gathering is.is;
+      text = is.text;
+      cut = is.cut;
+      told = is.told;
+      fine = is.fine;
+    })
+    go (Err WriteFailed) (inr is) = inr (record { terms = is.terms; opened = opens is.terms is.opened; nothing = is.nothing; cut = is.cut })
 
 -- what is missing is no refusal
 pub not_refused : (missing : ℕ) → status_after (Ok missing) ≡ statuses.Refused → ⊥
@@ -119,8 +176,8 @@ not_memory zero same = cc
 not_memory (suc n) same = cc
 
 -- gathering has no usage fault
-pub EndsGather-command : {reads : Bool} {right : Result Gathering Complaint → Type 0} {known : Option (List ℕ)} {status : Status} {output errors : Stream}
-    → EndsGather reads right known status output errors → status ≡ statuses.Usage → ⊥
+pub EndsGather-command : {right : Result Gathering Complaint → Type 0} {opens : Terms → Type 0} {known : Option (List ℕ)} {status : Status} {output errors : Stream}
+    → EndsGather right opens known status output errors → status ≡ statuses.Usage → ⊥
 EndsGather-command ends is = no_usage ends.outcome (sym ends.status_is ∙ is)
   where
     no_usage : (outcome : Result ℕ Complaint) → status_after outcome ≡ statuses.Usage → ⊥

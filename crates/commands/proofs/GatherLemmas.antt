@@ -1,5 +1,5 @@
 -- From the steps of `gather` to what became of each line.
-use Rattle.std.proofs.Common.{◌≡◌, ◌≢◌, ◌+◌, ◌∙◌, ◌++◌, ◌<◌, ℕ, suc, inl, inr, Bool, true, false, IfSome, length-append, List, [], ◌∷◌, Option, None, Some, Result, Ok, Err, IfOk, ap, append-nil, arith, length, refl, subst, sym}
+use Rattle.std.proofs.Common.{◌≡◌, ◌≢◌, ◌+◌, ◌∙◌, ◌++◌, ◌<◌, ◌≤◌, ◌^◌, ℕ, suc, inl, inr, false, length-append, length-take, List, [], ◌∷◌, Option, None, Some, Result, Ok, Err, IfOk, ap, ap₂, append-nil, arith, length, refl, subst, sym, take, take-take, take_all}
 use Rattle.survey_core.specs.FindingLaws.{FindingsAreDetermined}
 use Rattle.survey_core.specs.Soups.{soup}
 use Rattle.survey_core.specs.declared.finding.Finding.{Finding}
@@ -12,26 +12,32 @@ use Rattle.haul_core.specs.ClaimChecks.{Agrees, IsFoundFor}
 use Rattle.haul_core.specs.ReportLines.{Claimed, told_in}
 use Rattle.haul_core.specs.Reports.{Reported}
 use Rattle.commands.specs.declared.line_fault.LineFault.{LineFault}
+use Rattle.commands.specs.declared.line_fault.LineFault.TheVariants.{BadLine}
+use Rattle.survey_core.specs.declared.job.Job.{Job}
 use Rattle.std.proofs.KnownBytes.{Consumes-nil, Consumes-trans}
 use Rattle.std.proofs.lemmas.List.Elements.{All-nil}
-use Rattle.std.specs.Io.KnownBytes.{Consumes, IsAtEnd}
+use Rattle.std.specs.Io.KnownBytes.{Consumes}
 use Rattle.plane_core.proofs.OutLemmas.{Appends-append, Appends-nil}
 use Rattle.plane_core.specs.Out.{Output}
 use Rattle.commands.specs.declared.complaint.Complaint.{Complaint}
 use Rattle.commands.specs.declared.complaint.Complaint.TheVariants.{Refused, OutOfMemory, ReadFailed, WriteFailed}
-use Rattle.commands.specs.GatherSteps.{EndsLine, EndsLines, GoesOn, HasBegun, HasGathered, HasGatheredAll, HasMet, IsMetBy, IsOneLine, with_feed}
+use Rattle.commands.specs.declared.lines.LineEnd.{LineEnd}
+use Rattle.commands.specs.declared.lines.LineEnd.TheVariants.{Feed, Input}
+use Rattle.commands.specs.declared.lines.LineRead.{LineRead}
+use Rattle.commands.specs.GatherSteps.{EndsLine, EndsLines, GoesOn, HasBegun, HasGathered, HasGatheredAll, HasMet, IsMetBy, Passage, passage}
+use Rattle.commands.specs.Lines.{HasRead, IsOneLine, lines_of, with_end}
 use Rattle.commands.proofs.LineLemmas.{all_read, ended_more, lines_bare, lines_ended, all_lines, first_lines}
-use Rattle.commands.specs.GatheredLines.{lines_of, Faulty, Gathered, IsChecked, IsWrong, Meets, Next, Offered, Start, offer_fault, told_of}
+use Rattle.commands.specs.GatheredLines.{Faulty, Front, Gathered, IsChecked, IsFrontFault, IsLookedAt, IsWrong, Meets, Next, Offered, Start, Whole, offer_fault, told_of}
 
 -- nothing arrives by a line with a fault
-pub faulty : {terms : Terms} {line : List ℕ} {fault : LineFault} {held : Held} (arrivals : List Arrival) → IsChecked terms.job line (Err fault)
+pub faulty : {terms : Terms} {line : List ℕ} {fault : LineFault} {held : Held} (arrivals : List Arrival) → IsLookedAt terms.job line (Err fault)
     → StandsFor arrivals held → (arrived : List Arrival) × Meets terms arrivals line arrived (Some fault) × StandsFor (arrivals ++ arrived) held
 faulty {fault} {held} arrivals is stands =
     let P : List Arrival → Type 0 = λ l. StandsFor l held in
     ([], Faulty fault is, subst P (sym (append-nil arrivals)) stands)
 
 -- a report that is taken
-pub taken : {terms : Terms} {line : List ℕ} {held : Held} (arrivals : List Arrival) (report : Reported) → IsChecked terms.job line (Ok report)
+pub taken : {terms : Terms} {line : List ℕ} {held : Held} (arrivals : List Arrival) (report : Reported) → IsLookedAt terms.job line (Ok report)
     → IsReply None (refusal_of terms arrivals report) → StandsFor (arrivals ++ Offer report ∷ []) held
     → (arrived : List Arrival) × Meets terms arrivals line arrived None × StandsFor (arrivals ++ arrived) held
 taken {terms} {line} arrivals report is (inl reply) stands =
@@ -41,7 +47,7 @@ taken arrivals report is (inr reply) stands = absurd (cc (reply.0))
 
 -- a report that is refused
 pub refused : {terms : Terms} {line : List ℕ} {held : Held} (arrivals : List Arrival) (report : Reported) (reason : Refusal) (fault : Option LineFault)
-    → IsChecked terms.job line (Ok report) → IsReply (Some reason) (refusal_of terms arrivals report) → reason ≢ refusal.Memory
+    → IsLookedAt terms.job line (Ok report) → IsReply (Some reason) (refusal_of terms arrivals report) → reason ≢ refusal.Memory
     → fault ≡ offer_fault report (Some reason) → StandsFor (arrivals ++ Offer report ∷ []) held
     → (arrived : List Arrival) × Meets terms arrivals line arrived fault × StandsFor (arrivals ++ arrived) held
 refused {terms} {line} arrivals report reason fault is (inl reply) memory told stands =
@@ -51,7 +57,7 @@ refused arrivals report reason fault is (inr reply) memory told stands = absurd 
 
 -- the same for all that the call for the fault gives
 pub refused_told : {E : Type 0} (terms : Terms) (line : List ℕ) (held : Held) (arrivals : List Arrival) (report : Reported) (reason : Refusal)
-    (result : Result (Option LineFault) E) → IsChecked terms.job line (Ok report) → IsReply (Some reason) (refusal_of terms arrivals report)
+    (result : Result (Option LineFault) E) → IsLookedAt terms.job line (Ok report) → IsReply (Some reason) (refusal_of terms arrivals report)
     → IfOk result (λ _. reason ≢ refusal.Memory) → IfOk result (λ fault. fault ≡ offer_fault report (Some reason))
     → (reason ≢ refusal.Memory → StandsFor (arrivals ++ Offer report ∷ []) held)
     → IfOk result (λ fault. (arrived : List Arrival) × Meets terms arrivals line arrived fault × StandsFor (arrivals ++ arrived) held)
@@ -79,7 +85,7 @@ met_more terms lines line told old new before fault count met step = record {
 }
 
 -- no line has come
-pub none_gathered : (known before : Option (List ℕ)) (held : Held) → StandsFor [] held → HasGathered known known before before 0 held
+pub none_gathered : (known before : Option (List ℕ)) (held : Held) → StandsFor [] held → HasGathered (passage known known before before 0 0) held
 none_gathered known before held stands = record {
   read = [];
   lines = [];
@@ -87,48 +93,76 @@ none_gathered known before held stands = record {
   consumed = Consumes-nil known;
   ended = record { spelled = refl; whole = All-nil IsOneLine };
   count_is = refl;
+  size_is = refl;
   met = record { arrivals = []; gathered = Start; stands = stands };
   written = Appends-nil before;
 }
 
 -- no line is left
-pub no_more : (known left new before after : Option (List ℕ)) (count : ℕ) (held : Held) (line : List ℕ) → HasGathered known left before after count held
-    → Consumes left new line → line ≡ [] → IfSome left (λ _. IsAtEnd new) → HasGatheredAll known before after held
-no_more known left new before after count held line gathered consumed none end =
-    let P : List ℕ → Type 0 = λ l. Consumes left new l in
-    let Q : List (List ℕ) → Type 0 = λ lines. HasMet held.terms lines held gathered.told in record {
-      bytes = gathered.read ++ [];
-      input = all_read known left new gathered.read [] gathered.consumed (subst P none consumed) end;
-      told = gathered.told;
-      met = subst Q (sym (lines_ended gathered.read gathered.lines gathered.ended)) gathered.met;
-      written = gathered.written;
-    }
+pub no_more : (known left new before after : Option (List ℕ)) (count size : ℕ) (held : Held) (kept : List ℕ) (line : LineRead)
+    → HasGathered (passage known left before after count size) held → (read : HasRead left new kept line) → line.size ≡ 0
+    → GoesOn (passage known new before after (count + 1) (size + line.size)) held line.end
+no_more known left new before after count size held kept line gathered read none = go line.end refl
+  where
+    short : length (with_end line.end read.line) ≡ 0
+    short = sym read.size_is ∙ none
+
+    bare : (bytes : List ℕ) → length bytes ≡ 0 → bytes ≡ []
+    bare [] e = refl
+    bare (x ∷ xs) e = absurd (omega (arith, e))
+
+    go : (end : LineEnd) → line.end ≡ end → GoesOn (passage known new before after (count + 1) (size + line.size)) held end
+    go Feed is = absurd (omega (arith, rw is at short, length-append read.line (10 ∷ [])))
+    go Input is =
+        let P : List ℕ → Type 0 = λ l. Consumes left new l in
+        let Q : List (List ℕ) → Type 0 = λ lines. HasMet held.terms lines held gathered.told in record {
+          bytes = gathered.read ++ [];
+          input = all_read known left new gathered.read [] gathered.consumed (subst P (bare (with_end line.end read.line) short) read.consumed) (read.last is);
+          size_is = ap (λ n. size + n) none ∙ omega (arith, gathered.size_is, ap length (append-nil gathered.read));
+          told = gathered.told;
+          met = subst Q (sym (lines_ended gathered.read gathered.lines gathered.ended)) gathered.met;
+          written = gathered.written;
+        }
 
 -- a line more, after which others may follow or none
-pub goes_on : (known left new before after later : Option (List ℕ)) (count : ℕ) (held next : Held) (line : List ℕ) (more : Bool)
-    → (gathered : HasGathered known left before after count held) → Consumes left new (with_feed more line) → IsOneLine line
-    → (more ≡ false → IfSome left (λ _. IsAtEnd new)) → (more ≡ false → 0 < length line)
-    → IsMetBy held.terms gathered.lines line next gathered.told after later → next.terms ≡ held.terms → GoesOn known new before later (count + 1) next more
-goes_on known left new before after later count held next line true gathered consumed one end some by same =
-    let P : Terms → Type 0 = λ terms. HasMet terms (gathered.lines ++ line ∷ []) next (gathered.told ++ by.more) in record {
-      read = gathered.read ++ (line ++ 10 ∷ []);
-      lines = gathered.lines ++ line ∷ [];
+pub goes_on : (known left new before after later : Option (List ℕ)) (count size : ℕ) (held next : Held) (kept : List ℕ) (line : LineRead)
+    → (gathered : HasGathered (passage known left before after count size) held) → (read : HasRead left new kept line) → 0 < line.size
+    → IsMetBy held.terms gathered.lines read.line next gathered.told after later → next.terms ≡ held.terms
+    → GoesOn (passage known new before later (count + 1) (size + line.size)) next line.end
+goes_on known left new before after later count size held next kept line gathered read some by same = go line.end refl
+  where
+    whole : List ℕ
+    whole = with_end line.end read.line
+
+    total : size + line.size ≡ length (gathered.read ++ whole)
+    total = ap₂ (λ a b. a + b) gathered.size_is read.size_is ∙ sym (length-append gathered.read whole)
+
+    met : HasMet next.terms (gathered.lines ++ read.line ∷ []) next (gathered.told ++ by.more)
+    met = subst (λ (terms : Terms). HasMet terms (gathered.lines ++ read.line ∷ []) next (gathered.told ++ by.more)) (sym same) by.met
+
+    go : (end : LineEnd) → line.end ≡ end → GoesOn (passage known new before later (count + 1) (size + line.size)) next end
+    go Feed is = record {
+      read = gathered.read ++ (read.line ++ 10 ∷ []);
+      lines = gathered.lines ++ read.line ∷ [];
       told = gathered.told ++ by.more;
-      consumed = Consumes-trans known left new gathered.read (line ++ 10 ∷ []) gathered.consumed consumed;
-      ended = ended_more gathered.read gathered.lines line gathered.ended one;
-      count_is = ap (λ n. n + 1) gathered.count_is ∙ sym (length-append gathered.lines (line ∷ []));
-      met = subst P (sym same) by.met;
+      consumed = Consumes-trans known left new gathered.read (read.line ++ 10 ∷ []) gathered.consumed (rw is at read.consumed);
+      ended = ended_more gathered.read gathered.lines read.line gathered.ended read.one;
+      count_is = ap (λ n. n + 1) gathered.count_is ∙ sym (length-append gathered.lines (read.line ∷ []));
+      size_is = rw is at total;
+      met = met;
       written = Appends-append before after later gathered.told by.more gathered.written by.written;
     }
-goes_on known left new before after later count held next line false gathered consumed one end some by same =
-    let P : Terms → Type 0 = λ terms. HasMet terms (gathered.lines ++ line ∷ []) next (gathered.told ++ by.more) in
-    let Q : List (List ℕ) → Type 0 = λ lines. HasMet next.terms lines next (gathered.told ++ by.more) in record {
-      bytes = gathered.read ++ line;
-      input = all_read known left new gathered.read line gathered.consumed consumed (end refl);
-      told = gathered.told ++ by.more;
-      met = subst Q (sym (lines_bare gathered.read gathered.lines line gathered.ended one (some refl))) (subst P (sym same) by.met);
-      written = Appends-append before after later gathered.told by.more gathered.written by.written;
-    }
+    go Input is =
+        let bare : with_end line.end read.line ≡ read.line = ap (λ e. with_end e read.line) is ∙ append-nil read.line in
+        let Q : List (List ℕ) → Type 0 = λ lines. HasMet next.terms lines next (gathered.told ++ by.more) in
+        let there : 0 < length read.line = omega (arith, some, read.size_is, ap length bare) in record {
+          bytes = gathered.read ++ read.line;
+          input = all_read known left new gathered.read read.line gathered.consumed (subst (Consumes left new) bare read.consumed) (read.last is);
+          size_is = total ∙ ap (λ l. length (gathered.read ++ l)) bare;
+          told = gathered.told ++ by.more;
+          met = subst Q (sym (lines_bare gathered.read gathered.lines read.line gathered.ended read.one there)) met;
+          written = Appends-append before after later gathered.told by.more gathered.written by.written;
+        }
 
 -- there is no fault
 pub no_fault : (fault : Option LineFault) → ((x : LineFault) → fault ≢ Some x) → fault ≡ None
@@ -136,11 +170,10 @@ no_fault None not = refl
 no_fault (Some x) not = absurd (not x refl)
 
 -- what has come so far is a beginning
-pub begun : (known left before after : Option (List ℕ)) (count : ℕ) (held : Held) (terms : Terms) → HasGathered known left before after count held
-    → held.terms ≡ terms → HasBegun terms known before after
-begun known left before after count held terms gathered same = record {
+pub begun : (way : Passage) (held : Held) (terms : Terms) → HasGathered way held → held.terms ≡ terms → HasBegun terms way.known way.before way.after
+begun way held terms gathered same = record {
   lines = gathered.lines;
-  first = first_lines known left gathered.read gathered.lines gathered.consumed gathered.ended;
+  first = first_lines way.known way.left gathered.read gathered.lines gathered.consumed gathered.ended;
   arrivals = gathered.met.arrivals;
   told = gathered.told;
   gathered =
@@ -150,9 +183,9 @@ begun known left before after count held terms gathered same = record {
 }
 
 -- and so is all that has come
-pub all_begun : (known before after : Option (List ℕ)) (held : Held) (terms : Terms) → HasGatheredAll known before after held → held.terms ≡ terms
-    → HasBegun terms known before after
-all_begun known before after held terms all same = record {
+pub all_begun : (known before after : Option (List ℕ)) (size : ℕ) (held : Held) (terms : Terms) → HasGatheredAll known before after size held
+    → held.terms ≡ terms → HasBegun terms known before after
+all_begun known before after size held terms all same = record {
   lines = lines_of all.bytes;
   first = all_lines known all.bytes all.input;
   arrivals = all.met.arrivals;
@@ -164,18 +197,54 @@ all_begun known before after held terms all same = record {
 }
 
 -- the same where there may be more lines, or none
-pub goes_begun : (known left before after : Option (List ℕ)) (count : ℕ) (held : Held) (terms : Terms) (more : Bool)
-    → GoesOn known left before after count held more → held.terms ≡ terms → HasBegun terms known before after
-goes_begun known left before after count held terms true gathered same = begun known left before after count held terms gathered same
-goes_begun known left before after count held terms false all same = all_begun known before after held terms all same
+pub goes_begun : (way : Passage) (held : Held) (terms : Terms) (end : LineEnd) → GoesOn way held end → held.terms ≡ terms
+    → HasBegun terms way.known way.before way.after
+goes_begun way held terms Feed gathered same = begun way held terms gathered same
+goes_begun way held terms Input all same = all_begun way.known way.before way.after way.size held terms all same
+
+-- a line after which others may follow
+pub goes_further : (way : Passage) (held : Held) (end : LineEnd) → (end ≡ Input → ⊥) → GoesOn way held end → HasGathered way held
+goes_further way held Feed more gathered = gathered
+goes_further way held Input more all = absurd (more refl)
+
+-- the last line
+pub goes_no_further : (way : Passage) (held : Held) (end : LineEnd) → end ≡ Input → GoesOn way held end
+    → HasGatheredAll way.known way.before way.after way.size held
+goes_no_further way held Feed is gathered = let bad : Feed ≡ Input = is in cc
+goes_no_further way held Input is all = all
 
 -- a complaint over a line, after all lines before it
-pub lines_ended_by : {V : Type 0} (contents : V → Option (List ℕ)) (known left before : Option (List ℕ)) (count : ℕ) (held : Held) (terms : Terms) (old new : Output V)
-    (complaint : Complaint) → HasGathered known left before (contents old.writer) count held → held.terms ≡ terms → old.failed ≡ false → EndsLine old new complaint
-    → EndsLines terms known before (contents new.writer) new.failed complaint
-lines_ended_by contents known left before count held terms old new OutOfMemory gathered same fine kept =
-    rw kept (begun known left before (contents old.writer) count held terms gathered same, fine)
-lines_ended_by contents known left before count held terms old new ReadFailed gathered same fine kept =
-    rw kept (begun known left before (contents old.writer) count held terms gathered same, fine)
-lines_ended_by contents known left before count held terms old new WriteFailed gathered same fine failed = failed
-lines_ended_by contents known left before count held terms old new (Refused refusal) gathered same fine none = absurd none
+pub lines_ended_by : {V : Type 0} (contents : V → Option (List ℕ)) (known left before : Option (List ℕ)) (count size : ℕ) (held : Held) (terms : Terms)
+    (old new : Output V) (complaint : Complaint) → HasGathered (passage known left before (contents old.writer) count size) held → held.terms ≡ terms
+    → old.failed ≡ false → EndsLine old new complaint → EndsLines terms known before (contents new.writer) new.failed complaint
+lines_ended_by contents known left before count size held terms old new OutOfMemory gathered same fine kept =
+    rw kept (begun (passage known left before (contents old.writer) count size) held terms gathered same, fine)
+lines_ended_by contents known left before count size held terms old new ReadFailed gathered same fine kept =
+    rw kept (begun (passage known left before (contents old.writer) count size) held terms gathered same, fine)
+lines_ended_by contents known left before count size held terms old new WriteFailed gathered same fine failed = failed
+lines_ended_by contents known left before count size held terms old new (Refused refusal) gathered same fine none = absurd none
+
+-- ---- what is looked at of a line
+
+-- a line that is kept whole
+pub looked_whole : {outcome : Result Reported LineFault} (job : Job) (kept line : List ℕ) → kept ≡ take (2 ^ 24 + 1) line → length kept ≤ 2 ^ 24
+    → IsChecked job kept outcome → IsLookedAt job line outcome
+looked_whole {outcome} job kept line is short checked =
+    let long = ap length is ∙ length-take (2 ^ 24 + 1) line in
+    let fits : length line ≤ 2 ^ 24 = omega (arith, long, short) in
+    let same : kept ≡ line = is ∙ take_all (2 ^ 24 + 1) line (omega (arith, fits)) in
+    Whole fits (subst (λ (l : List ℕ). IsChecked job l outcome) same checked)
+
+-- the same for all that the call gives
+pub ok_whole : {E : Type 0} (job : Job) (kept line : List ℕ) (result : Result (Result Reported LineFault) E) → kept ≡ take (2 ^ 24 + 1) line
+    → length kept ≤ 2 ^ 24 → IfOk result (IsChecked job kept) → IfOk result (IsLookedAt job line)
+ok_whole job kept line (Ok outcome) is short checked = looked_whole job kept line is short checked
+ok_whole job kept line (Err e) is short checked = tt
+
+-- a line of which the front is kept
+pub looked_front : (job : Job) (kept line : List ℕ) (place : ℕ) → kept ≡ take (2 ^ 24 + 1) line → 2 ^ 24 < length kept
+    → IsFrontFault (take (2 ^ 24) kept) place → IsLookedAt job line (Err (BadLine place))
+looked_front job kept line place is long fault =
+    let size = ap length is ∙ length-take (2 ^ 24 + 1) line in
+    let same : take (2 ^ 24) kept ≡ take (2 ^ 24) line = ap (take (2 ^ 24)) is ∙ take-take (2 ^ 24) (2 ^ 24 + 1) line (omega arith) in
+    Front place (omega (arith, size, long)) (subst (λ (l : List ℕ). IsFrontFault l place) same fault)

@@ -1,36 +1,62 @@
 -- Inputs, line by line.
-use Rattle.std.proofs.Common.{◌≡◌, ◌≢◌, ◌==◌, ◌<◌, ◌∙◌, ◌++◌, ℕ, Bool, true, false, eqb, eqb-true, ne_eqb}
-use Rattle.std.proofs.Common.{List, [], ◌∷◌, All, Option, None, Some, IfSome, ap, append-nil, append_assoc, arith, cond, flat_map, length, refl, subst, sym}
+use Rattle.std.proofs.Common.{◌≡◌, ◌≢◌, ◌==◌, ◌<◌, ◌≤◌, ◌+◌, ◌^◌, ◌∙◌, ◌++◌, ℕ, zero, suc, true, false, eqb-true, ne_eqb}
+use Rattle.std.proofs.Common.{List, [], ◌∷◌, All, Option, None, Some, Result, Ok, Err, IfOk, IfSome, ap, ap₂, append-nil, append_assoc, arith, cond, flat_map, length, length-append, length-take, refl, subst, sym, take, take_all}
 use Rattle.std.proofs.lemmas.Grind.{flat_map-append}
-use Rattle.std.proofs.lemmas.List.Elements.{All-head, All-push, All-tail}
-use Rattle.std.specs.Io.BufRead.{DropsThrough, drop_through, take_through}
-use Rattle.std.specs.Io.KnownBytes.{Consumes, IsAtEnd}
+use Rattle.std.proofs.lemmas.List.Elements.{All-append, All-head, All-nil, All-push, All-tail}
+use Rattle.std.proofs.KnownBytes.{Consumes-kept, Consumes-nil, Consumes-trans}
+use Rattle.std.specs.Io.KnownBytes.{Consumes, IsAtEnd, Keeps}
 use Rattle.commands.specs.Answers.{IsInput}
-use Rattle.commands.specs.GatherSteps.{AreEnded, IsOneLine, with_feed}
-use Rattle.commands.specs.GatheredLines.{begun_with, lines_of}
+use Rattle.commands.specs.declared.lines.LineEnd.TheVariants.{Feed, Input}
+use Rattle.commands.specs.declared.lines.Piece.{Piece}
+use Rattle.commands.specs.GatherSteps.{AreEnded}
+use Rattle.commands.specs.Lines.{HasPiece, IsOneLine, IsSpent, begun_with, lines_of, piece_end, with_end}
 
 abbrev IsNotFeed : ℕ → Type 0
 IsNotFeed byte = byte ≢ 10
 
--- bytes that hold no line feed are dropped whole
-dropped : (bytes : List ℕ) → IsOneLine (take_through 10 bytes) → drop_through 10 bytes ≡ []
-dropped [] one = refl
-dropped (x ∷ xs) one = go (eqb x 10) refl (dropped xs)
-  where
-    go : (b : Bool) → eqb x 10 ≡ b → (IsOneLine (take_through 10 xs) → drop_through 10 xs ≡ []) → drop_through 10 (x ∷ xs) ≡ []
-    go true e more =
-        let hit : take_through 10 (x ∷ xs) ≡ x ∷ [] = ap (λ b. cond b (x ∷ []) (x ∷ take_through 10 xs)) e in
-        let no : eqb x 10 ≡ false = ne_eqb x 10 (All-head IsNotFeed x [] (subst IsOneLine hit one)) in
-        cc
-    go false e more =
-        let miss : take_through 10 (x ∷ xs) ≡ x ∷ take_through 10 xs = ap (λ b. cond b (x ∷ []) (x ∷ take_through 10 xs)) e in
-        ap (λ b. cond b xs (drop_through 10 xs)) e ∙ more (All-tail IsNotFeed x (take_through 10 xs) (subst IsOneLine miss one))
+-- what is kept of a line to which a piece is added
+pub kept_more : (n : ℕ) (front piece : List ℕ) → take n (take n front ++ piece) ≡ take n (front ++ piece)
+kept_more zero front piece = refl
+kept_more (suc n) [] piece = refl
+kept_more (suc n) (x ∷ xs) piece = ap (λ l. x ∷ l) (kept_more n xs piece)
 
--- a line that no line feed ended is the last
-pub last_line : (old new : Option (List ℕ)) (line : List ℕ) → IfSome old (λ bytes. line ≡ take_through 10 bytes) → DropsThrough old new 10
-    → IsOneLine line → IfSome old (λ _. IsAtEnd new)
-last_line None new line taken rest one = tt
-last_line (Some bytes) new line taken rest one = subst IsAtEnd (sym rest) (dropped bytes (subst IsOneLine taken one))
+-- it is no more than is kept
+pub kept_short : (n : ℕ) (kept front : List ℕ) → kept ≡ take n front → length kept ≤ n
+kept_short n kept front is = subst (λ (l : List ℕ). length l ≤ n) (sym is) (omega (arith, length-take n front))
+
+-- a piece more of a line of which a front was read
+pub read_more : (start old new : Option (List ℕ)) (kept after front : List ℕ) (size : ℕ) (piece : Piece) → kept ≡ take (2 ^ 24 + 1) front → IsOneLine front
+    → Consumes start old front → size ≡ length front → (read : HasPiece old new kept after piece)
+    → (after ≡ take (2 ^ 24 + 1) (front ++ read.piece)) × IsOneLine (front ++ read.piece)
+    × Consumes start new ((front ++ read.piece) ++ piece_end piece.end) × (size + piece.size ≡ length ((front ++ read.piece) ++ piece_end piece.end))
+read_more start old new kept after front size piece kept_is one consumed size_is read =
+    let n : ℕ = 2 ^ 24 + 1 in
+    let bytes = read.piece ++ piece_end piece.end in
+    let flat : front ++ bytes ≡ (front ++ read.piece) ++ piece_end piece.end = sym (append_assoc front read.piece (piece_end piece.end)) in (
+      read.kept_is ∙ ap (λ l. take n (l ++ read.piece)) kept_is ∙ kept_more n front read.piece,
+      All-append IsNotFeed front read.piece one read.one,
+      subst (Consumes start new) flat (Consumes-trans start old new front bytes consumed read.consumed),
+      ap₂ (λ a b. a + b) size_is read.size_is ∙ sym (length-append front bytes) ∙ ap length flat,
+    )
+
+-- an input that ends after a front of it was read
+pub spent_from : (start old new : Option (List ℕ)) (front : List ℕ) → Consumes start old front → IsSpent old new → IsSpent start new
+spent_from None old new front consumed spent = tt
+spent_from (Some all) None new front consumed spent = absurd consumed
+spent_from (Some all) (Some left) new front consumed spent = spent
+
+-- a read that was interrupted read nothing
+pub nothing_read : {E : Type 0} (old new : Option (List ℕ)) (kept : List ℕ) (result : Result Piece E) → length kept ≤ 2 ^ 24 + 1 → Keeps old new
+    → IfOk result (λ piece. piece ≡ record { length = 0; size = 0; end = None }) → IfOk result (HasPiece old new kept kept)
+nothing_read old new kept (Err e) short same is = tt
+nothing_read old new kept (Ok piece) short same is = record {
+  piece = [];
+  kept_is = sym (ap (take (2 ^ 24 + 1)) (append-nil kept) ∙ take_all (2 ^ 24 + 1) kept short);
+  one = All-nil IsNotFeed;
+  consumed = rw is (Consumes-kept old old new [] (Consumes-nil old) same);
+  size_is = rw is refl;
+  last = λ end. let bad : None ≡ Some Input = ap (λ (p : Piece). p.end) (sym is) ∙ end in cc;
+}
 
 -- all was read
 pub all_read : (start old new : Option (List ℕ)) (read line : List ℕ) → Consumes start old read → Consumes old new line → IfSome old (λ _. IsAtEnd new)
@@ -47,8 +73,8 @@ pub ended_more : (read : List ℕ) (lines : List (List ℕ)) (line : List ℕ) �
     → AreEnded (read ++ (line ++ 10 ∷ [])) (lines ++ line ∷ [])
 ended_more read lines line before one = record {
   spelled =
-      ap (λ l. l ++ (line ++ 10 ∷ [])) before.spelled ∙ ap (λ l. flat_map (with_feed true) lines ++ l) (sym (append-nil (line ++ 10 ∷ [])))
-      ∙ sym (flat_map-append (with_feed true) lines (line ∷ []));
+      ap (λ l. l ++ (line ++ 10 ∷ [])) before.spelled ∙ ap (λ l. flat_map (with_end Feed) lines ++ l) (sym (append-nil (line ++ 10 ∷ [])))
+      ∙ sym (flat_map-append (with_end Feed) lines (line ∷ []));
   whole = All-push IsOneLine lines line before.whole one;
 }
 
@@ -61,10 +87,10 @@ first_line (x ∷ xs) more one =
     ap (λ b. cond b ([] ∷ rest) (begun_with x rest)) miss ∙ ap (begun_with x) (first_line xs more (All-tail IsNotFeed x xs one))
 
 -- the lines that were ended, and those after them
-ended_lines : (lines : List (List ℕ)) (more : List ℕ) → All IsOneLine lines → lines_of (flat_map (with_feed true) lines ++ more) ≡ lines ++ lines_of more
+ended_lines : (lines : List (List ℕ)) (more : List ℕ) → All IsOneLine lines → lines_of (flat_map (with_end Feed) lines ++ more) ≡ lines ++ lines_of more
 ended_lines [] more whole = refl
 ended_lines (line ∷ lines) more whole =
-    let rest = flat_map (with_feed true) lines in
+    let rest = flat_map (with_end Feed) lines in
     ap lines_of (append_assoc (line ++ 10 ∷ []) rest more) ∙ first_line line (rest ++ more) (All-head IsOneLine line lines whole)
     ∙ ap (λ l. line ∷ l) (ended_lines lines more (All-tail IsOneLine line lines whole))
 

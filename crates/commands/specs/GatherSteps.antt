@@ -1,26 +1,20 @@
 -- How report lines are gathered, a line at a time.
-use Rattle.std.specs.Prelude.{◌≡◌, ◌≢◌, ◌++◌, ℕ, Bool, true, false, List, [], ◌∷◌, All, IfSome, Option, flat_map, length}
+use Rattle.std.specs.Prelude.{◌≡◌, ◌≤◌, ◌^◌, ◌++◌, ℕ, Bool, true, false, List, [], ◌∷◌, All, IfSome, Option, flat_map, length}
 use Rattle.std.specs.Io.KnownBytes.{Appends, Consumes}
 use Rattle.haul_core.specs.declared.arrival.Arrival.{Arrival}
 use Rattle.plane_core.specs.Out.{Output}
 use Rattle.haul_core.specs.Books.{Held, StandsFor, Terms}
 use Rattle.commands.specs.declared.complaint.Complaint.{Complaint}
 use Rattle.commands.specs.declared.complaint.Complaint.TheVariants.{Refused, OutOfMemory, ReadFailed, WriteFailed}
+use Rattle.commands.specs.declared.lines.LineEnd.{LineEnd}
+use Rattle.commands.specs.declared.lines.LineEnd.TheVariants.{Feed, Input}
 use Rattle.commands.specs.Answers.{IsInput}
-use Rattle.commands.specs.GatheredLines.{Gathered, lines_of}
-
--- no line feed (10) is among the bytes
-abbrev pub IsOneLine : List ℕ → Type 0
-IsOneLine line = All (λ byte. byte ≢ 10) line
-
--- the bytes that a line takes, with the line feed that ends it
-abbrev pub with_feed : Bool → List ℕ → List ℕ
-with_feed true line = line ++ 10 ∷ []
-with_feed false line = line
+use Rattle.commands.specs.GatheredLines.{Gathered}
+use Rattle.commands.specs.Lines.{IsOneLine, lines_of, with_end}
 
 -- the bytes are these lines, each ended by a line feed
 pub record AreEnded (bytes : List ℕ) (lines : List (List ℕ)) : Type 0 where
-  pub spelled : bytes ≡ flat_map (with_feed true) lines
+  pub spelled : bytes ≡ flat_map (with_end Feed) lines
   pub whole : All IsOneLine lines
 
 -- the lines have come to the haul, and this was told of them
@@ -35,16 +29,31 @@ pub record IsMetBy (terms : Terms) (lines : List (List ℕ)) (line : List ℕ) (
   pub met : HasMet terms (lines ++ line ∷ []) held (told ++ more)
   pub written : Appends before after more
 
--- So many lines of an input were read and have come to the haul, and standard error has what is told of them.
-pub record HasGathered (known left before after : Option (List ℕ)) (count : ℕ) (held : Held) : Type 0 where
+-- How far gathering is: the input at its start and what is left of it, standard error at the start and now, and how many lines and bytes
+-- were read.
+pub record Passage : Type 0 where
+  pub known : Option (List ℕ)
+  pub left : Option (List ℕ)
+  pub before : Option (List ℕ)
+  pub after : Option (List ℕ)
+  pub count : ℕ
+  pub size : ℕ
+
+abbrev pub passage : (known left before after : Option (List ℕ)) → ℕ → ℕ → Passage
+passage known left before after count size =
+    record { known = known; left = left; before = before; after = after; count = count; size = size }
+
+-- The lines that were read have come to the haul, and standard error has what is told of them.
+pub record HasGathered (passage : Passage) (held : Held) : Type 0 where
   pub read : List ℕ
   pub lines : List (List ℕ)
   pub told : List ℕ
-  pub consumed : Consumes known left read
+  pub consumed : Consumes passage.known passage.left read
   pub ended : AreEnded read lines
-  pub count_is : count ≡ length lines
+  pub count_is : passage.count ≡ length lines
+  pub size_is : passage.size ≡ length read
   pub met : HasMet held.terms lines held told
-  pub written : Appends before after told
+  pub written : Appends passage.before passage.after told
 
 -- The first lines of an input have come to a haul, and standard error has what is told of them.
 pub record HasBegun (terms : Terms) (known before after : Option (List ℕ)) : Type 0 where
@@ -55,22 +64,23 @@ pub record HasBegun (terms : Terms) (known before after : Option (List ℕ)) : T
   pub gathered : Gathered terms lines arrivals told
   pub written : Appends before after told
 
--- the same, whatever haul that is
-abbrev pub Begins : (known before after : Option (List ℕ)) → Type 0
-Begins known before after = (terms : Terms) × HasBegun terms known before after
-
--- All lines of the input have come to the haul, and standard error has what is told of them.
-pub record HasGatheredAll (known before after : Option (List ℕ)) (held : Held) : Type 0 where
+-- All lines of an input of so many bytes have come to the haul, and standard error has what is told of them.
+pub record HasGatheredAll (known before after : Option (List ℕ)) (size : ℕ) (held : Held) : Type 0 where
   pub bytes : List ℕ
   pub input : IsInput known bytes
+  pub size_is : size ≡ length bytes
   pub told : List ℕ
   pub met : HasMet held.terms (lines_of bytes) held told
   pub written : Appends before after told
 
 -- there may be more lines, or all have come
-abbrev pub GoesOn : (known left before after : Option (List ℕ)) (count : ℕ) (held : Held) → Bool → Type 0
-GoesOn known left before after count held true = HasGathered known left before after count held
-GoesOn known left before after count held false = HasGatheredAll known before after held
+abbrev pub GoesOn : Passage → Held → LineEnd → Type 0
+GoesOn passage held Feed = HasGathered passage held
+GoesOn passage held Input = HasGatheredAll passage.known passage.before passage.after passage.size held
+
+-- all lines of an input that isn't too long have come
+abbrev pub HasGatheredShort : (known before after : Option (List ℕ)) → Held → Type 0
+HasGatheredShort known before after held = (size : ℕ) × (size ≤ 2 ^ 32) × HasGatheredAll known before after size held
 
 -- what is left of the lines where a complaint ends them
 abbrev pub EndsLines : Terms → Option (List ℕ) → Option (List ℕ) → Option (List ℕ) → Bool → Complaint → Type 0

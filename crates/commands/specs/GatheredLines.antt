@@ -1,5 +1,5 @@
--- Report lines as an input: its lines, what each of them says, and what becomes of it at a haul.
-use Rattle.std.specs.Prelude.{◌≡◌, ◌==◌, ◌++◌, ℕ, suc, true, false, List, [], ◌∷◌, Option, None, Some, Result, Ok, Err, codes, decimal, length, if◌then◌else◌}
+-- Report lines: what each of them says, and what becomes of it at a haul.
+use Rattle.std.specs.Prelude.{◌≡◌, ◌<◌, ◌≤◌, ◌⊎◌, ◌^◌, ◌++◌, ℕ, suc, true, false, List, [], ◌∷◌, Option, None, Some, Result, Ok, Err, codes, decimal, length, take}
 use Rattle.survey_core.specs.declared.finding.Finding.{Finding}
 use Rattle.survey_core.specs.declared.job.Job.{Job}
 use Rattle.haul_core.specs.declared.arrival.Arrival.{Arrival}
@@ -14,16 +14,6 @@ use Rattle.haul_core.specs.ReportLines.{Claimed, IsClaim, claim_line}
 use Rattle.haul_core.specs.Reports.{Reported}
 use Rattle.commands.specs.declared.line_fault.LineFault.{LineFault}
 use Rattle.commands.specs.declared.line_fault.LineFault.TheVariants.{BadLine, OtherJob, Disagrees, UnknownWorker, OutOfRange, Double}
-
--- a byte at the front of the first of some lines
-abbrev pub begun_with : ℕ → List (List ℕ) → List (List ℕ)
-begun_with byte [] = (byte ∷ []) ∷ []
-begun_with byte (line ∷ more) = (byte ∷ line) ∷ more
-
--- the lines of an input: a line feed (10) ends a line, and the last may lack it
-abbrev pub lines_of : List ℕ → List (List ℕ)
-lines_of [] = []
-lines_of (byte ∷ more) = if byte == 10 then [] ∷ lines_of more else begun_with byte (lines_of more)
 
 -- a line says what this lawful claim says
 pub record Claims (line : List ℕ) (claim : Claimed) : Type 0 where
@@ -42,6 +32,16 @@ IsChecked job line (Err OtherJob) = (claim : Claimed) × Claims line claim × (s
 IsChecked job line (Err Disagrees) = (claim : Claimed) × Claims line claim × (same_job claim.job job ≡ true) × IsWrong claim
 IsChecked job line (Err _) = ⊥
 
+-- a line that is longer than this front of it is bad at the front's first fault, or where its 2^24 bytes end if they
+-- are a claim's line
+abbrev pub IsFrontFault : List ℕ → ℕ → Type 0
+IsFrontFault front place = IsFirstFaultOf front place ⊎ ((claim : Claimed) × Claims front claim × (place ≡ 2 ^ 24))
+
+-- A line of up to 2^24 bytes is looked at whole. A longer one is bad, and only its first 2^24 bytes are looked at.
+pub data IsLookedAt (job : Job) (line : List ℕ) : Result Reported LineFault → Type 0 where
+  Whole : {outcome : Result Reported LineFault} → length line ≤ 2 ^ 24 → IsChecked job line outcome → IsLookedAt job line outcome
+  Front : (place : ℕ) → 2 ^ 24 < length line → IsFrontFault (take (2 ^ 24) line) place → IsLookedAt job line (Err (BadLine place))
+
 -- what is told of a report that a haul refuses; a haul that is open refuses no report of its job in other ways
 abbrev pub offer_fault : Reported → Option Refusal → Option LineFault
 offer_fault report (Some refusal.UnknownWorker) = Some (UnknownWorker report.worker)
@@ -51,8 +51,8 @@ offer_fault report _ = None
 
 -- What becomes of a line after some arrivals: what arrives by it, and the fault that is told of it, if there is one.
 pub data Meets (terms : Terms) (before : List Arrival) (line : List ℕ) : List Arrival → Option LineFault → Type 0 where
-  Faulty : (fault : LineFault) → IsChecked terms.job line (Err fault) → Meets terms before line [] (Some fault)
-  Offered : (report : Reported) → IsChecked terms.job line (Ok report)
+  Faulty : (fault : LineFault) → IsLookedAt terms.job line (Err fault) → Meets terms before line [] (Some fault)
+  Offered : (report : Reported) → IsLookedAt terms.job line (Ok report)
       → Meets terms before line (Offer report ∷ []) (offer_fault report (refusal_of terms before report))
 
 -- the words on a fault

@@ -4,6 +4,7 @@ pub mod Gather
 pub mod GatherSteps
 pub mod GatheredLines
 pub mod Inputs
+pub mod Lines
 pub mod Name
 pub mod Profiles
 pub mod Requests

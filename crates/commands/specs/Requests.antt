@@ -5,7 +5,7 @@ use Rattle.commands.specs.declared.request.Request.{Request}
 use Rattle.commands.specs.declared.request.Request.TheVariants.{Run, Name, Show, Soup, Take, Work, Gather, Version}
 use Rattle.commands.specs.declared.status.Status.{Status}
 use Rattle.commands.specs.Answers.{Ends, IsInput, Right, only}
-use Rattle.commands.specs.Gather.{EndsGather, gather_reads, gather_right, gathered_text}
+use Rattle.commands.specs.Gather.{EndsGather, gather_opens, gather_reads, gather_right, gathered_text}
 use Rattle.commands.specs.Inputs.{rule_named}
 use Rattle.commands.specs.Name.{name_right}
 use Rattle.commands.specs.Profiles.{AreInRange, profile_named}
@@ -40,6 +40,17 @@ reads_input (Work set worker profile rule) = false
 reads_input (Gather set workers profile rule) = gather_reads set profile rule
 reads_input Version = false
 
+-- what is refused may be the input: `run` and `name` refuse what is not a pattern
+abbrev pub refuses_input : Request → Bool
+refuses_input (Run generations rule) = is_ok (rule_named rule)
+refuses_input (Name profile rule) = is_ok (profile_named profile) && is_ok (rule_named rule)
+refuses_input (Show code) = false
+refuses_input (Soup seed number) = false
+refuses_input (Take set workers profile rule progress) = false
+refuses_input (Work set worker profile rule) = false
+refuses_input (Gather set workers profile rule) = false
+refuses_input Version = false
+
 -- the command's text is whole before its first byte is written: all but the lines of `work`
 abbrev pub is_whole : Request → Bool
 is_whole (Run generations rule) = true
@@ -66,7 +77,7 @@ right_for Version bytes = only version_answer
 -- How a request ends on an input: by one answer, but for `gather`, which tells of lines too, and of soups that are missing.
 abbrev pub EndsRequest : Request → Option (List ℕ) → List ℕ → Status → Stream → Stream → Type 0
 EndsRequest (Gather set workers profile rule) known bytes status output errors =
-    EndsGather (gather_reads set profile rule) (gather_right set workers profile rule bytes) known status output errors
+    EndsGather (gather_right set workers profile rule bytes) (gather_opens set workers profile rule) known status output errors
 EndsRequest request known bytes status output errors = Ends (reads_input request) (is_whole request) (right_for request bytes) status output errors
 
 -- a request was done on an input, and ended well

@@ -1,9 +1,10 @@
 ghost use Rattle.std.specs.Prelude.{◌≡◌, false};
 ghost use Rattle.plane_core.specs.Out.{Writes};
-ghost use Rattle.commands.specs.Complaints.{line_of, status_of};
+ghost use Rattle.commands.specs.Complaints.{line_of, missing_line, status_of};
 ghost use Rattle.commands.specs.Streams.{stream, HasLine};
 
 use crate::input::InputFault;
+use crate::output::{LineBuffer, put_decimal};
 use crate::refusal::Refusal;
 use crate::status::Status;
 use code_core::reader::{WechslerError, WechslerFault};
@@ -40,7 +41,7 @@ impl Complaint {
         }
     }
 
-    /// Writes the line, to a writer that hasn't failed. It takes no memory.
+    /// Writes the line at once, to a writer that hasn't failed. It takes no memory.
     ///
     /// # Errors
     ///
@@ -49,8 +50,20 @@ impl Complaint {
         requires { errors.old.failed ≡ false }
         ensures { Writes E.contents errors.old errors.new result (line_of self) }
     {
+        let mut line = Out::new(LineBuffer::new());
+        match self.put_line(&mut line) {
+            Ok(()) => errors.put(line.into_inner().as_slice()),
+            Err(_) => self.put_line(errors),
+        }
+    }
+
+    /// Writes the line piece by piece.
+    fn put_line<E: Write>(self, errors: &mut Out<E>) -> Result<(), WriteError>
+        requires { errors.old.failed ≡ false }
+        ensures { Writes E.contents errors.old errors.new result (line_of self) }
+    {
         match self {
-            Complaint::Refused(refusal) => refusal.write_line(errors),
+            Complaint::Refused(refusal) => refusal.put_line(errors),
             Complaint::OutOfMemory => errors.put(b"census: out of memory\n"),
             Complaint::ReadFailed => errors.put(b"census: read failed\n"),
             Complaint::WriteFailed => errors.put(b"census: write failed\n"),
@@ -66,6 +79,31 @@ impl Complaint {
         let _ = self.write_line(errors);
         self.status()
     }
+}
+
+/// Writes at once how many soups are missing, to a writer that hasn't failed.
+///
+/// # Errors
+///
+/// [`WriteError`] if a write fails.
+pub(crate) fn put_missing<E: Write>(missing: u64, errors: &mut Out<E>) -> Result<(), WriteError>
+    requires { errors.old.failed ≡ false }
+    ensures { Writes E.contents errors.old errors.new result (missing_line missing) }
+{
+    let mut line = Out::new(LineBuffer::new());
+    match put_missing_line(missing, &mut line) {
+        Ok(()) => errors.put(line.into_inner().as_slice()),
+        Err(_) => put_missing_line(missing, errors),
+    }
+}
+
+fn put_missing_line<E: Write>(missing: u64, errors: &mut Out<E>) -> Result<(), WriteError>
+    requires { errors.old.failed ≡ false }
+    ensures { Writes E.contents errors.old errors.new result (missing_line missing) }
+{
+    errors.put(b"census: incomplete, ")?;
+    put_decimal(errors, missing)?;
+    errors.put(b" missing\n")
 }
 
 impl From<RuleError> for Complaint {

@@ -1,27 +1,32 @@
-ghost use Rattle.std.specs.Prelude.{◌≡◌, ◌≢◌, ◌<◌, Ok, Result, ◌+◌, ◌^◌, ◌++◌, ◌∷◌, [], ℕ, List, Option, Some, IfErr, IfOk, OnOk, false, true, length};
-ghost use Rattle.haul_core.specs.HaulTexts.{haul_text};
+//! A haul of report lines.
+//!
+//! ```text
+//! input ── line ── claim ── report ── haul ── census ── haul text
+//!            │       │         │
+//!            └───────┴─────────┴── a line on standard error, if it isn't taken
+//! ```
+
+ghost use Rattle.std.specs.Prelude.{◌≡◌, ◌≢◌, ◌<◌, ◌≤◌, Ok, Result, ◌+◌, ◌^◌, ◌++◌, ◌∷◌, [], ℕ, List, Option, Some, IfErr, IfOk, OnOk, false, true, length, take};
 ghost use Rattle.haul_core.specs.Reports.{IsWorker, Reported};
-ghost use Rattle.plane_core.specs.Out.{Writes};
 ghost use Rattle.commands.specs.Answers.{IsInput};
 ghost use Rattle.commands.specs.Complaints.{line_of, status_of};
-ghost use Rattle.commands.specs.Gather.{EndsGather, Gathers, gather_reads, gather_right, last_line, status_after};
+ghost use Rattle.commands.specs.Gather.{EndsGather, Gathers, gather_opens, gather_reads, gather_right, gathered_right, last_line, status_after, IsSame};
 ghost use Rattle.commands.specs.Profiles.{AreInRange};
 ghost use Rattle.commands.specs.Streams.{stream, HasLine};
 ghost use Rattle.commands.specs.declared.complaint.Complaint.{Complaint};
-ghost use Rattle.haul_core.specs.Books.{StandsFor, has_closing};
+ghost use Rattle.haul_core.specs.Books.{StandsFor};
 ghost use Rattle.haul_core.specs.declared.arrival.Arrival.{Arrival};
-ghost use Rattle.commands.specs.GatherSteps.{EndsLine, EndsLines, GoesOn, HasGathered, HasGatheredAll, HasMet, IsMetBy};
-ghost use Rattle.commands.specs.GatheredLines.{IsChecked, Meets, offer_fault};
+ghost use Rattle.commands.specs.GatherSteps.{EndsLine, EndsLines, GoesOn, HasGathered, HasGatheredShort, HasMet, IsMetBy, passage};
+ghost use Rattle.commands.specs.GatheredLines.{IsChecked, IsFrontFault, IsLookedAt, Meets, offer_fault};
 ghost use Rattle.haul_core.specs.declared.refusal.Refusal.TheVariants as refusal;
 
-use crate::complaint::Complaint;
+use crate::complaint::{Complaint, put_missing};
 use crate::line_fault::LineFault;
-use crate::lines::read_line;
+use crate::lines::{LINE_LIMIT, LineEnd, LineRead, read_line};
 use crate::profile::ProfileNumbers;
 use crate::soup_set::SoupSet;
 use crate::status::Status;
-use crate::take::{job, open_haul, put_missing};
-use haul_core::census::Census;
+use crate::take::{job, open_haul};
 use haul_core::claim::Claim;
 use haul_core::claim::check::CheckFault;
 use haul_core::claim::line::LineError;
@@ -39,9 +44,10 @@ use survey_core::job::Job;
 /// haul text of what was taken.
 ///
 /// A line is ended by a line feed, which the last may lack. A line that is not taken is told on `errors`, by its number from 1
-/// on, and the next one is read. Each of the profile's numbers is in its range, there are 1 to 16 workers, and neither writer
+/// on, and the next one is read. Of a line no more than the first 2^24 bytes are looked at: a longer one is bad at the first fault
+/// of these, or at 2^24. Each of the profile's numbers is in its range, there are 1 to 16 workers, and neither writer
 /// may have failed. What is refused is looked for in the order of [`do_take`](crate::take::do_take), before anything is read.
-/// One line is kept at a time, and the haul. `census gather` is this call over the standard streams.
+/// One line is kept at a time, and the haul. A read that a signal interrupts is tried again. `census gather` is this call over the standard streams.
 ///
 /// # Errors
 ///
@@ -64,7 +70,7 @@ pub fn do_gather<R: Read, W: Write, E: Write>(
     requires output { output.old.failed ≡ false }
     requires errors { errors.old.failed ≡ false }
     ensures ends { (bytes : List ℕ) × IsInput (R.remaining input.old) bytes
-        × EndsGather (gather_reads set.now profile rule_text.now) (gather_right set.now workers profile rule_text.now bytes)
+        × EndsGather (gather_right set.now workers profile rule_text.now bytes) (gather_opens set.now workers profile rule_text.now)
         (R.remaining input.old) result
         (stream W.contents output.old output.new) (stream E.contents errors.old errors.new) }
     ensures unread { gather_reads set.now profile rule_text.now ≡ false → input.new ≡ input.old }
@@ -105,7 +111,7 @@ fn tell_complaint<E: Write>(complaint: Complaint, errors: &mut Out<E>) -> Status
     complaint.tell(errors)
 }
 
-/// Reads and offers the lines, writes the haul text, and says how many soups are missing.
+/// Opens the haul, gathers the lines, writes the haul text, and says how many soups are missing.
 fn gather<R: Read, W: Write, E: Write>(
     alloc: Global,
     set: &SoupSet<'_>,
@@ -121,7 +127,7 @@ fn gather<R: Read, W: Write, E: Write>(
     requires output { output.old.failed ≡ false }
     requires errors { errors.old.failed ≡ false }
     ensures gathers { (bytes : List ℕ) × IsInput (R.remaining input.old) bytes
-        × Gathers (gather_reads set.now profile rule_text.now) (gather_right set.now workers profile rule_text.now bytes)
+        × Gathers (gather_right set.now workers profile rule_text.now bytes) (gather_opens set.now workers profile rule_text.now)
         (R.remaining input.old) result
         (stream W.contents output.old output.new) (stream E.contents errors.old errors.new) }
     ensures fine { OnOk result (errors.new.failed ≡ false) }
@@ -132,20 +138,34 @@ fn gather<R: Read, W: Write, E: Write>(
 {
     let job = job(set, profile, rule_text)?;
     let mut haul = open_haul(alloc, job, set, workers)?;
-    gather_input(alloc, input, &mut haul, errors)?;
-    let _ = haul.close();
-    let census = haul.census()?;
-    send_haul(&census, output)?;
-    Ok(haul.missing_count())
+    gather_into(alloc, &mut haul, input, output, errors)
 }
 
-/// Writes the haul text and sends it on, so that a line on what is missing says that the text was printed.
-fn send_haul<W: Write>(census: &Census, output: &mut Out<W>) -> Result<(), WriteError>
-    requires { output.old.failed ≡ false }
-    ensures { Writes W.contents output.old output.new result (haul_text census.now) }
+/// Gathers the lines in a haul to which nothing has come, writes the haul text, and says how many soups are missing.
+fn gather_into<R: Read, W: Write, E: Write>(
+    alloc: Global,
+    haul: &mut Haul,
+    input: &mut R,
+    output: &mut Out<W>,
+    errors: &mut Out<E>,
+) -> Result<u64, Complaint>
+    requires haul { StandsFor [] haul.old }
+    requires output { output.old.failed ≡ false }
+    requires errors { errors.old.failed ≡ false }
+    ensures gathers { (bytes : List ℕ) × IsInput (R.remaining input.old) bytes
+        × Gathers (gathered_right haul.old.terms bytes) (IsSame haul.old.terms) (R.remaining input.old) result
+        (stream W.contents output.old output.new) (stream E.contents errors.old errors.new) }
+    ensures fine { OnOk result (errors.new.failed ≡ false) }
+    ensures accepted { IfErr result (λ complaint. status_of complaint ≢ Status.Refused) }
+    ensures no_memory { IfErr result (λ complaint. complaint ≡ Complaint.OutOfMemory → output.new ≡ output.old) }
 {
-    write_haul(census, output)?;
-    output.flush()
+    gather_input(alloc, input, haul, errors)?;
+    let _ = haul.close();
+    let census = haul.census()?;
+    write_haul(&census, output)?;
+    // So that a line on what is missing says that the text was printed.
+    output.flush()?;
+    Ok(haul.missing_count())
 }
 
 /// Reads the input through a buffer, and gathers its lines.
@@ -155,11 +175,12 @@ fn gather_input<R: Read, E: Write>(
     haul: &mut Haul,
     errors: &mut Out<E>,
 ) -> Result<(), Complaint>
-    requires { errors.old.failed ≡ false }
+    requires haul { StandsFor [] haul.old }
+    requires errors { errors.old.failed ≡ false }
     ensures terms { haul.new.terms ≡ haul.old.terms }
-    ensures gathered { StandsFor [] haul.old → OnOk result (HasGatheredAll (R.remaining input.old)
+    ensures gathered { OnOk result (HasGatheredShort (R.remaining input.old)
         (E.contents errors.old.writer) (E.contents errors.new.writer) haul.new) }
-    ensures ended { StandsFor [] haul.old → IfErr result (EndsLines haul.old.terms (R.remaining input.old)
+    ensures ended { IfErr result (EndsLines haul.old.terms (R.remaining input.old)
         (E.contents errors.old.writer) (E.contents errors.new.writer) errors.new.failed) }
     ensures fine { OnOk result (errors.new.failed ≡ false) }
 {
@@ -182,61 +203,62 @@ fn gather_lines<R: BufRead, E: Write>(
     haul: &mut Haul,
     errors: &mut Out<E>,
 ) -> Result<(), Complaint>
-    requires { errors.old.failed ≡ false }
+    requires haul { StandsFor [] haul.old }
+    requires errors { errors.old.failed ≡ false }
     ensures terms { haul.new.terms ≡ haul.old.terms }
-    ensures gathered { StandsFor [] haul.old → OnOk result (HasGatheredAll (R.remaining input.old)
+    ensures gathered { OnOk result (HasGatheredShort (R.remaining input.old)
         (E.contents errors.old.writer) (E.contents errors.new.writer) haul.new) }
-    ensures ended { StandsFor [] haul.old → IfErr result (EndsLines haul.old.terms (R.remaining input.old)
+    ensures ended { IfErr result (EndsLines haul.old.terms (R.remaining input.old)
         (E.contents errors.old.writer) (E.contents errors.new.writer) errors.new.failed) }
     ensures fine { OnOk result (errors.new.failed ≡ false) }
 {
     let mut line = Vec::new(alloc);
-    let mut read = 0u64;
+    let mut size = 0u64;
     for before in 0..INPUT_LIMIT {
-        let more = gather_line(alloc, input, &mut line, before, haul, errors)?;
-        read += line.len() as u64 + u64::from(more);
-        if read > INPUT_LIMIT {
+        let read = next_line(alloc, input, &mut line, before, haul, errors)?;
+        size += read.size;
+        if size > INPUT_LIMIT {
             return Err(Complaint::ReadFailed);
         }
-        if !more {
+        if let LineEnd::Input = read.end {
             return Ok(());
         }
     }
     Err(Complaint::ReadFailed)
 }
 
-/// Reads the line after so many others, checks it, offers its report and tells what is wrong with it. Says whether there
-/// may be another.
-fn gather_line<R: BufRead, E: Write>(
+/// Reads the line after so many others, checks it, offers its report and tells what is wrong with it. Says what was read.
+fn next_line<R: BufRead, E: Write>(
     alloc: Global,
     input: &mut R,
     line: &mut Vec<u8>,
     before: u64,
     haul: &mut Haul,
     errors: &mut Out<E>,
-) -> Result<bool, Complaint>
+) -> Result<LineRead, Complaint>
     requires before { before < 2 ^ 32 }
     requires errors { errors.old.failed ≡ false }
     ensures terms { haul.new.terms ≡ haul.old.terms }
-    ensures going { (known first : Option (List ℕ))
-        → HasGathered known (R.remaining input.old) first (E.contents errors.old.writer) before haul.old
-        → IfOk result (GoesOn known (R.remaining input.new) first (E.contents errors.new.writer) (before + 1) haul.new) }
+    ensures short { IfOk result (λ read. read.size ≤ 2 ^ 32) }
+    ensures going { (known first : Option (List ℕ)) (size : ℕ)
+        → HasGathered (passage known (R.remaining input.old) first (E.contents errors.old.writer) before size) haul.old
+        → IfOk result (λ read. GoesOn (passage known (R.remaining input.new) first (E.contents errors.new.writer) (before + 1) (size + read.size))
+        haul.new read.end) }
     ensures fine { OnOk result (errors.new.failed ≡ false) }
     ensures ended { IfErr result (EndsLine errors.old errors.new) }
 {
-    let more = read_line(input, line)?;
-    let line = line.as_slice();
-    if !more && line.is_empty() {
-        return Ok(false);
+    let read = read_line(input, line)?;
+    if read.size > 0 {
+        take_line(alloc, line.as_slice(), before, haul, errors)?;
     }
-    meet_line(alloc, line, before, haul, errors)?;
-    Ok(more)
+    Ok(read)
 }
 
-/// Checks the line after so many others, offers its report, and tells what is wrong with it.
-fn meet_line<E: Write>(
+/// Offers the report of the line after so many others, and tells what is wrong with the line. The slice has the line's first
+/// 2^24 + 1 bytes.
+fn take_line<E: Write>(
     alloc: Global,
-    line: &[u8],
+    kept: &[u8],
     before: u64,
     haul: &mut Haul,
     errors: &mut Out<E>,
@@ -244,19 +266,66 @@ fn meet_line<E: Write>(
     requires before { before < 2 ^ 32 }
     requires errors { errors.old.failed ≡ false }
     ensures terms { haul.new.terms ≡ haul.old.terms }
-    ensures met { (lines : List (List ℕ)) (told : List ℕ) → before ≡ length lines → HasMet haul.old.terms lines haul.old told
-        → OnOk result (IsMetBy haul.old.terms lines line.now haul.new told (E.contents errors.old.writer) (E.contents errors.new.writer)) }
+    ensures met { (line : List ℕ) (lines : List (List ℕ)) (told : List ℕ) → kept.now ≡ take (2 ^ 24 + 1) line → before ≡ length lines
+        → HasMet haul.old.terms lines haul.old told
+        → OnOk result (IsMetBy haul.old.terms lines line haul.new told (E.contents errors.old.writer) (E.contents errors.new.writer)) }
     ensures fine { OnOk result (errors.new.failed ≡ false) }
     ensures ended { IfErr result (EndsLine errors.old errors.new) }
 {
-    if let Some(fault) = meet(alloc, line, haul)? {
+    if let Some(fault) = offer_line(alloc, kept, haul)? {
         fault.write_line(before + 1, errors)?;
     }
     Ok(())
 }
 
+/// Offers the report of a line, of which the slice has the first 2^24 + 1 bytes. The fault is what is told of the line, if
+/// anything is.
+fn offer_line(alloc: Global, kept: &[u8], haul: &mut Haul) -> Result<Option<LineFault>, AllocError>
+    ensures terms { haul.new.terms ≡ haul.old.terms }
+    ensures met { (line : List ℕ) (arrivals : List Arrival) → kept.now ≡ take (2 ^ 24 + 1) line → StandsFor arrivals haul.old
+        → IfOk result (λ fault. (arrived : List Arrival)
+        × Meets haul.old.terms arrivals line arrived fault × StandsFor (arrivals ++ arrived) haul.new) }
+{
+    let report = match report_of(alloc, kept, &haul.job())? {
+        Ok(report) => report,
+        Err(fault) => return Ok(Some(fault)),
+    };
+    let worker = report.worker();
+    let number = report.number();
+    match haul.offer(report) {
+        Ok(()) => Ok(None),
+        Err(refused) => fault_of(refused.reason, worker, number),
+    }
+}
+
+/// The report that a line stands for, or why there is none. The slice has the line's first 2^24 + 1 bytes.
+fn report_of(alloc: Global, kept: &[u8], job: &Job) -> Result<Result<Report, LineFault>, AllocError>
+    ensures { (line : List ℕ) → kept.now ≡ take (2 ^ 24 + 1) line → IfOk result (IsLookedAt job.now line) }
+{
+    if kept.len() > LINE_LIMIT {
+        let place = front_fault(alloc, &kept[..LINE_LIMIT])?;
+        return Ok(Err(LineFault::BadLine { place }));
+    }
+    checked_report(alloc, kept, job)
+}
+
+/// Where a line is bad that begins with these 2^24 bytes, and is longer.
+fn front_fault(alloc: Global, front: &[u8]) -> Result<usize, AllocError>
+    ensures { IfOk result (IsFrontFault front.now) }
+{
+    match Claim::read_line(alloc, front) {
+        Ok(_) => Ok(LINE_LIMIT),
+        Err(LineError::BadLine { place }) => Ok(place),
+        Err(LineError::Memory) => Err(AllocError),
+    }
+}
+
 /// The report that a line stands for, or why there is none.
-fn checked(alloc: Global, line: &[u8], job: &Job) -> Result<Result<Report, LineFault>, AllocError>
+fn checked_report(
+    alloc: Global,
+    line: &[u8],
+    job: &Job,
+) -> Result<Result<Report, LineFault>, AllocError>
     ensures { IfOk result (IsChecked job.now line.now) }
 {
     let claim = match Claim::read_line(alloc, line) {
@@ -275,26 +344,8 @@ fn checked(alloc: Global, line: &[u8], job: &Job) -> Result<Result<Report, LineF
     }
 }
 
-/// Checks a line and offers its report. The fault is the one that is told of the line, if there is one.
-fn meet(alloc: Global, line: &[u8], haul: &mut Haul) -> Result<Option<LineFault>, AllocError>
-    ensures terms { haul.new.terms ≡ haul.old.terms }
-    ensures met { (arrivals : List Arrival) → StandsFor arrivals haul.old → IfOk result (λ fault. (arrived : List Arrival)
-        × Meets haul.old.terms arrivals line.now arrived fault × StandsFor (arrivals ++ arrived) haul.new) }
-{
-    let report = match checked(alloc, line, &haul.job())? {
-        Ok(report) => report,
-        Err(fault) => return Ok(Some(fault)),
-    };
-    let worker = report.worker();
-    let number = report.number();
-    match haul.offer(report) {
-        Ok(()) => Ok(None),
-        Err(refused) => told(refused.reason, worker, number),
-    }
-}
-
 /// What is told of a report that a haul refused.
-fn told(reason: Refusal, worker: u8, number: u64) -> Result<Option<LineFault>, AllocError>
+fn fault_of(reason: Refusal, worker: u8, number: u64) -> Result<Option<LineFault>, AllocError>
     ensures told { (report : Reported) → report.worker ≡ worker → report.number ≡ number
         → IfOk result (λ fault. fault ≡ offer_fault report (Some reason)) }
     ensures answered { IfOk result (λ _. reason ≢ refusal.Memory) }

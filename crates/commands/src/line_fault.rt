@@ -2,7 +2,7 @@ ghost use Rattle.std.specs.Prelude.{◌≡◌, ◌++◌, codes, decimal, false};
 ghost use Rattle.plane_core.specs.Out.{Writes};
 ghost use Rattle.commands.specs.GatheredLines.{fault_line, fault_words};
 
-use crate::output::put_decimal;
+use crate::output::{LineBuffer, put_decimal};
 use plane_core::output::{Out, WriteError};
 use std::io::Write;
 
@@ -24,7 +24,7 @@ pub enum LineFault {
 }
 
 impl LineFault {
-    /// Writes the line that tells the fault of a line, which is counted from 1. It takes no memory.
+    /// Writes at once the line that tells the fault of a line, which is counted from 1. It takes no memory.
     ///
     /// # Errors
     ///
@@ -37,15 +37,27 @@ impl LineFault {
         requires { errors.old.failed ≡ false }
         ensures { Writes E.contents errors.old errors.new result (fault_line number self) }
     {
+        let mut line = Out::new(LineBuffer::new());
+        match self.put_line(number, &mut line) {
+            Ok(()) => errors.put(line.into_inner().as_slice()),
+            Err(_) => self.put_line(number, errors),
+        }
+    }
+
+    /// Writes the line piece by piece.
+    fn put_line<E: Write>(self, number: u64, errors: &mut Out<E>) -> Result<(), WriteError>
+        requires { errors.old.failed ≡ false }
+        ensures { Writes E.contents errors.old errors.new result (fault_line number self) }
+    {
         errors.put(b"line ")?;
         put_decimal(errors, number)?;
         errors.put(b": ")?;
-        self.write_words(errors)?;
+        self.put_words(errors)?;
         errors.put(b"\n")
     }
 
     /// Writes the words on the fault.
-    fn write_words<E: Write>(self, errors: &mut Out<E>) -> Result<(), WriteError>
+    fn put_words<E: Write>(self, errors: &mut Out<E>) -> Result<(), WriteError>
         requires { errors.old.failed ≡ false }
         ensures { Writes E.contents errors.old errors.new result (fault_words self) }
     {

@@ -1,41 +1,133 @@
 //! An input, line by line.
+//!
+//! ```text
+//! input   a report ⏎   another report ⏎   the last
+//! size    9            15                 8
+//! end     Feed         Feed               Input
+//! ```
+//!
+//! No more of a line is kept than its first 2^24 bytes and the byte after them, so an input without a line feed takes no more
+//! memory than that.
 
-ghost use Rattle.std.specs.Prelude.{◌≡◌, ◌≢◌, ◌⊎◌, ◌-◌, [], IfOk, IfSome, OnOk, false, slice_index, vec_len};
-ghost use Rattle.std.specs.Io.{StopsAt};
-ghost use Rattle.std.specs.Io.KnownBytes.{Consumes, IsAtEnd};
-ghost use Rattle.commands.specs.GatherSteps.{IsOneLine, with_feed};
+ghost use Rattle.std.specs.Prelude.{◌≡◌, ◌≤◌, ◌+◌, ◌^◌, IfOk, None, length};
+ghost use Rattle.commands.specs.Lines.{HasPiece, HasRead, IsPieceOf};
 
 use crate::input::InputFault;
-use std::io::{BufRead, ErrorKind};
+use memchr::memchr;
+use std::io::{BufRead, Error, ErrorKind};
 
-/// Puts the next line of the input, without the line feed that ends it, into `line`, and says whether a line feed ended
-/// it. If none did, the input is at its end; if it was there before, the line is empty.
+/// How many bytes of a line are looked at: 2^24, far more than a report line of a census has.
+pub(crate) const LINE_LIMIT: usize = 16_777_216;
+
+/// How many bytes a line has at most: 2^32, as many as an input.
+const LONGEST: u64 = 4_294_967_296;
+
+/// What ends a line.
+#[derive(Clone, Copy)]
+pub(crate) enum LineEnd {
+    /// A line feed.
+    Feed,
+    /// The end of the input.
+    Input,
+}
+
+/// What was read of an input for a line.
+#[derive(Clone, Copy)]
+pub(crate) struct LineRead {
+    /// How many bytes, with the line feed.
+    pub(crate) size: u64,
+    /// What ends the line.
+    pub(crate) end: LineEnd,
+}
+
+/// What a reader had at hand of a line.
+#[derive(Clone, Copy)]
+struct Piece {
+    /// How many bytes of the line.
+    length: usize,
+    /// How many bytes, with the line feed.
+    size: usize,
+    /// What ends the line, if it ends there.
+    end: Option<LineEnd>,
+}
+
+/// Reads the next line of the input, and puts its first 2^24 + 1 bytes, without the line feed that ends it, into `line`. A read that a
+/// signal interrupts is tried again. Where the input is at its end, nothing is read, and the line is empty.
 ///
 /// # Errors
 ///
-/// `Unreadable` if a read fails, and `OutOfMemory`.
-pub(crate) fn read_line<R: BufRead>(input: &mut R, line: &mut Vec<u8>) -> Result<bool, InputFault>
-    ensures read { IfOk result (λ ended. Consumes (R.remaining input.old) (R.remaining input.new) (with_feed ended line.new.items)) }
-    ensures one { OnOk result (IsOneLine line.new.items) }
-    ensures end { IfOk result (λ ended. ended ≡ false → IfSome (R.remaining input.old) (λ _. IsAtEnd (R.remaining input.new))) }
+/// `Unreadable` if a read fails or the line has over 2^32 bytes, and `OutOfMemory`.
+pub(crate) fn read_line<R: BufRead>(
+    input: &mut R,
+    line: &mut Vec<u8>,
+) -> Result<LineRead, InputFault>
+    ensures { IfOk result (HasRead (R.remaining input.old) (R.remaining input.new) line.new.items) }
 {
     line.clear();
-    match input.read_until(b'\n', line) {
-        Ok(_) => Ok(drop_feed(line)),
-        Err(error) if error.kind() == ErrorKind::OutOfMemory => Err(InputFault::OutOfMemory),
-        Err(_) => Err(InputFault::Unreadable),
+    let mut size = 0u64;
+    for _ in 0..u64::MAX {
+        let piece = read_piece(input, line)?;
+        size = size.saturating_add(piece.size as u64);
+        if size > LONGEST {
+            return Err(InputFault::Unreadable);
+        }
+        if let Some(end) = piece.end {
+            return Ok(LineRead { size, end });
+        }
+    }
+    Err(InputFault::Unreadable)
+}
+
+/// Puts what the reader has at hand of a line at the end of `line`, of which no more than 2^24 + 1 bytes are kept.
+fn read_piece<R: BufRead>(input: &mut R, line: &mut Vec<u8>) -> Result<Piece, InputFault>
+    requires { length line.old.items ≤ 2 ^ 24 + 1 }
+    ensures { IfOk result (HasPiece (R.remaining input.old) (R.remaining input.new) line.old.items line.new.items) }
+{
+    let available = match input.fill_buf() {
+        Ok(available) => available,
+        Err(error) => return after_error(&error),
+    };
+    let piece = first_piece(available);
+    line.extend_from_slice(&available[..piece.length])?;
+    line.truncate(LINE_LIMIT + 1);
+    input.consume(piece.size);
+    Ok(piece)
+}
+
+/// Nothing, after a read that a signal interrupted: it is tried again.
+fn after_error(error: &Error) -> Result<Piece, InputFault>
+    ensures { IfOk result (λ piece. piece ≡ record { length = 0; size = 0; end = None }) }
+{
+    match error.kind() {
+        ErrorKind::Interrupted => Ok(Piece {
+            length: 0,
+            size: 0,
+            end: None,
+        }),
+        ErrorKind::OutOfMemory => Err(InputFault::OutOfMemory),
+        _ => Err(InputFault::Unreadable),
     }
 }
 
-/// Takes off the line feed at the line's end, and says whether there was one.
-fn drop_feed(line: &mut Vec<u8>) -> bool
-    ensures fed { line.old.items ≡ with_feed result line.new.items }
-    ensures one { StopsAt line.old.items 10 → IsOneLine line.new.items }
-    ensures bare { result ≡ false → line.new.items ≡ line.old.items }
+/// What these bytes have of a line. None at all are the end of the input.
+fn first_piece(bytes: &[u8]) -> Piece
+    ensures { IsPieceOf bytes.now result }
 {
-    let ended = line.last() == Some(&b'\n');
-    if ended {
-        line.pop();
+    match memchr(b'\n', bytes) {
+        Some(length) => Piece {
+            length,
+            size: length + 1,
+            end: Some(LineEnd::Feed),
+        },
+        None if bytes.is_empty() => Piece {
+            length: 0,
+            size: 0,
+            end: Some(LineEnd::Input),
+        },
+        None => Piece {
+            length: bytes.len(),
+            size: bytes.len(),
+            end: None,
+        },
     }
-    ended
 }

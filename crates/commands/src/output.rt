@@ -8,10 +8,15 @@ ghost use Rattle.commands.specs.Streams.{stream, HasLine};
 
 use crate::complaint::Complaint;
 use crate::status::Status;
+use arrayvec::ArrayVec;
 use itoa::Buffer;
 use plane_core::output::{Out, WriteError};
 use std::alloc::Global;
 use std::io::{BufWriter, Write};
+
+/// Room for a line of standard error, so that it is written at once and lines of other programs don't come in between. Each line
+/// that is written is shorter: one that weren't would be written piece by piece.
+pub(crate) type LineBuffer = ArrayVec<u8, 128>;
 
 /// Sends on what a command has left in the buffer, and returns the status that the process ends with: that of the
 /// command, or `Failed` if the command printed its text and not all of it could be sent on.

@@ -42,12 +42,12 @@ pub enum Refusal {
 }
 
 impl Refusal {
-    /// Writes the line of the refusal, to a writer that hasn't failed. It takes no memory.
+    /// Writes the line of the refusal piece by piece, to a writer that hasn't failed. It takes no memory.
     ///
     /// # Errors
     ///
     /// [`WriteError`] if a write fails.
-    pub(crate) fn write_line<E: Write>(self, errors: &mut Out<E>) -> Result<(), WriteError>
+    pub(crate) fn put_line<E: Write>(self, errors: &mut Out<E>) -> Result<(), WriteError>
         requires { errors.old.failed ≡ false }
         ensures { Writes E.contents errors.old errors.new result (refusal_line self) }
     {

@@ -1,5 +1,5 @@
-ghost use Rattle.std.specs.Prelude.{◌≡◌, ◌≢◌, false};
-ghost use Rattle.commands.specs.Requests.{DoesRequest, IsWithinLimits, reads_input};
+ghost use Rattle.std.specs.Prelude.{◌≡◌, ◌≢◌, false, true};
+ghost use Rattle.commands.specs.Requests.{DoesRequest, IsWithinLimits, is_whole, reads_input, refuses_input};
 ghost use Rattle.commands.specs.Streams.{stream};
 
 use crate::gather::do_gather;
@@ -76,7 +76,7 @@ pub enum Request<'a> {
 /// Does what a request asks for, and returns how that ended.
 ///
 /// The request must be within its limits, and neither writer may have failed. Nothing of the input is read for a
-/// request that doesn't look at it, nor for one whose rule, profile or seed is refused. How far a haul has come is said on `line`, of
+/// request that doesn't look at it, nor for one whose rule, profile, seed or set is refused. How far a haul has come is said on `line`, of
 /// which nothing else depends.
 ///
 /// # Errors
@@ -98,7 +98,9 @@ pub fn do_request<T: Threads + Wait + Sync, R: Read, W: Write, E: Write, P: Writ
     ensures ends { DoesRequest (R.remaining input.old) result
         (stream W.contents output.old output.new) (stream E.contents errors.old errors.new) request.now }
     ensures unread { reads_input request.now ≡ false → input.new ≡ input.old }
+    ensures unread_refused { result ≡ Status.Refused → refuses_input request.now ≡ false → input.new ≡ input.old }
     ensures untouched { result ≡ Status.Refused → output.new ≡ output.old }
+    ensures no_memory { result ≡ Status.OutOfMemory → is_whole request.now ≡ true → output.new ≡ output.old }
     ensures command { result ≢ Status.Usage }
 {
     match request {

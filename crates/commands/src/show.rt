@@ -35,6 +35,7 @@ pub fn do_show<W: Write, E: Write>(
     ensures ends { Ends false true (only (show_answer code.now)) result
         (stream W.contents output.old output.new) (stream E.contents errors.old errors.new) }
     ensures untouched { result ≡ Status.Refused → output.new ≡ output.old }
+    ensures no_memory { result ≡ Status.OutOfMemory → output.new ≡ output.old }
 {
     match show(alloc, code, output) {
         Ok(()) => Status::Done,
@@ -46,6 +47,7 @@ fn show<W: Write>(alloc: Global, code: &str, output: &mut Out<W>) -> Result<(), 
     requires { output.old.failed ≡ false }
     ensures reached { Reaches false true (only (show_answer code.now)) result (stream W.contents output.old output.new) }
     ensures untouched { IfErr result (λ complaint. status_of complaint ≡ Status.Refused → output.new ≡ output.old) }
+    ensures no_memory { IfErr result (λ complaint. complaint ≡ Complaint.OutOfMemory → output.new ≡ output.old) }
 {
     let text = text_in(code)?;
     let pattern = read_wechsler(alloc, text)?;

@@ -37,6 +37,7 @@ pub fn do_soup<W: Write, E: Write>(
     ensures ends { Ends false true (only (soup_answer seed_text.now number)) result
         (stream W.contents output.old output.new) (stream E.contents errors.old errors.new) }
     ensures untouched { result ≡ Status.Refused → output.new ≡ output.old }
+    ensures no_memory { result ≡ Status.OutOfMemory → output.new ≡ output.old }
 {
     match put_soup(alloc, seed_text, number, output) {
         Ok(()) => Status::Done,
@@ -53,6 +54,7 @@ fn put_soup<W: Write>(
     requires { output.old.failed ≡ false }
     ensures reached { Reaches false true (only (soup_answer seed_text.now number)) result (stream W.contents output.old output.new) }
     ensures untouched { IfErr result (λ complaint. status_of complaint ≡ Status.Refused → output.new ≡ output.old) }
+    ensures no_memory { IfErr result (λ complaint. complaint ≡ Complaint.OutOfMemory → output.new ≡ output.old) }
 {
     let seed = Seed::new(seed_text)?;
     // The cells don't depend on the profile and the rule.

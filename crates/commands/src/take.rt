@@ -5,9 +5,8 @@ ghost use Rattle.haul_core.specs.HaulTexts.{haul_text};
 ghost use Rattle.haul_core.specs.Keeping.{numbers_in};
 ghost use Rattle.haul_core.specs.Missing.{AreAll, IsComplete, missing_of};
 ghost use Rattle.haul_core.specs.Reports.{IsWorker};
-ghost use Rattle.plane_core.specs.Out.{Writes};
 ghost use Rattle.commands.specs.Answers.{Ends};
-ghost use Rattle.commands.specs.Complaints.{missing_line, status_of};
+ghost use Rattle.commands.specs.Complaints.{status_of};
 ghost use Rattle.commands.specs.Profiles.{AreInRange};
 ghost use Rattle.commands.specs.SoupSets.{AreRangesOf, job_named};
 ghost use Rattle.commands.specs.Stopped.{EndsTake, Takes, right_if, stopped_right};
@@ -15,8 +14,7 @@ ghost use Rattle.commands.specs.Streams.{stream};
 ghost use Rattle.commands.specs.Take.{take_right};
 ghost use Rattle.commands.specs.TakeSteps.{IsOpened, Stops, StopsSet};
 
-use crate::complaint::Complaint;
-use crate::output::put_decimal;
+use crate::complaint::{Complaint, put_missing};
 use crate::profile::ProfileNumbers;
 use crate::refusal::Refusal;
 use crate::soup_set::SoupSet;
@@ -113,16 +111,6 @@ pub fn do_take_with<W: Write, E: Write, G: Gate + Sync, R: Threads + Wait + Sync
         }
         Err(complaint) => complaint.tell(errors),
     }
-}
-
-/// Writes how many soups are missing.
-pub(crate) fn put_missing<E: Write>(missing: u64, errors: &mut Out<E>) -> Result<(), WriteError>
-    requires { errors.old.failed ≡ false }
-    ensures { Writes E.contents errors.old errors.new result (missing_line missing) }
-{
-    errors.put(b"census: incomplete, ")?;
-    put_decimal(errors, missing)?;
-    errors.put(b" missing\n")
 }
 
 /// Takes what the gate lets through, writes the haul text, and says how many soups are missing, if some are.

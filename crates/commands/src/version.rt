@@ -1,4 +1,4 @@
-ghost use Rattle.std.specs.Prelude.{◌≡◌, ◌≢◌, false, true};
+ghost use Rattle.std.specs.Prelude.{◌≡◌, ◌≢◌, false, true, IfErr};
 ghost use Rattle.commands.specs.Answers.{Ends, Reaches, only};
 ghost use Rattle.commands.specs.Streams.{stream};
 ghost use Rattle.commands.specs.Version.{version_answer};
@@ -22,6 +22,7 @@ pub fn do_version<W: Write, E: Write>(output: &mut Out<W>, errors: &mut Out<E>) 
     ensures ends { Ends false true (only version_answer) result
         (stream W.contents output.old output.new) (stream E.contents errors.old errors.new) }
     ensures status { result ≢ Status.Refused }
+    ensures no_memory { result ≢ Status.OutOfMemory }
 {
     match put_version(output) {
         Ok(()) => Status::Done,
@@ -31,7 +32,8 @@ pub fn do_version<W: Write, E: Write>(output: &mut Out<W>, errors: &mut Out<E>) 
 
 fn put_version<W: Write>(output: &mut Out<W>) -> Result<(), Complaint>
     requires { output.old.failed ≡ false }
-    ensures { Reaches false true (only version_answer) result (stream W.contents output.old output.new) }
+    ensures reached { Reaches false true (only version_answer) result (stream W.contents output.old output.new) }
+    ensures failed { IfErr result (λ complaint. complaint ≡ Complaint.WriteFailed) }
 {
     output.put(b"census 0.1.0\n")?;
     Ok(())

@@ -1,7 +1,8 @@
-ghost use Rattle.std.specs.Prelude.{◌≡◌, [], false};
+ghost use Rattle.std.specs.Prelude.{◌≡◌, ◌<◌, ◌≤◌, [], IfOk, OnErr, false, is_err, length, take};
+ghost use Rattle.std.specs.Io.KnownBytes.{Appends};
 ghost use Rattle.plane_core.specs.Out.{Writes};
 
-use std::io::Write;
+use std::io::{ErrorKind, Write};
 use std::marker::Model;
 use thiserror::Error;
 
@@ -54,11 +55,12 @@ impl<V: Write> Out<V> {
         self.writer
     }
 
-    /// Writes the whole piece. The `Out` must not have failed. No write is tried again, and nothing is flushed.
+    /// Writes the whole piece. The `Out` must not have failed. A write that a signal interrupts is tried again, no other is, and
+    /// nothing is flushed.
     ///
     /// # Errors
     ///
-    /// [`WriteError`] if a write fails, for whatever reason, or takes no byte of what is left. The front of the piece may
+    /// [`WriteError`] if a write fails for another reason, or takes no byte of what is left. The front of the piece may
     /// have been written by then, and the `Out` is failed from then on.
     pub fn put(&mut self, piece: &[u8]) -> Result<(), WriteError>
         requires { self.old.failed ≡ false }
@@ -66,15 +68,29 @@ impl<V: Write> Out<V> {
     {
         let mut rest = piece;
         while !rest.is_empty() {
-            match self.writer.write(rest) {
-                Ok(0) | Err(_) => {
-                    self.failed = true;
-                    return Err(WriteError);
-                }
-                Ok(taken) => rest = &rest[taken..],
-            }
+            let taken = self.put_some(rest)?;
+            rest = &rest[taken..];
         }
         Ok(())
+    }
+
+    /// Writes a front of the piece, and says how long it is: one byte at least, where the piece isn't empty.
+    fn put_some(&mut self, piece: &[u8]) -> Result<usize, WriteError>
+        requires { self.old.failed ≡ false }
+        ensures told { self.new.failed ≡ is_err result }
+        ensures some { IfOk result (λ taken. (0 < taken) × (taken ≤ length piece.now)) }
+        ensures written { IfOk result (λ taken. Appends (V.contents self.old.writer) (V.contents self.new.writer) (take taken piece.now)) }
+        ensures nothing { OnErr result (Appends (V.contents self.old.writer) (V.contents self.new.writer) []) }
+    {
+        for _ in 0..u64::MAX {
+            match self.writer.write(piece) {
+                Ok(taken) if taken > 0 => return Ok(taken),
+                Err(error) if error.kind() == ErrorKind::Interrupted => {}
+                _ => break,
+            }
+        }
+        self.failed = true;
+        Err(WriteError)
     }
 
     /// Flushes the writer: what it holds back is sent on. The `Out` must not have failed.

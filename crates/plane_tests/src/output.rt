@@ -19,7 +19,7 @@ impl Write for Faulty {
         self.writes = self.writes.saturating_add(1);
         if self.writes == self.bad {
             return if self.fails {
-                Err(io::Error::from(ErrorKind::Interrupted))
+                Err(io::Error::from(ErrorKind::BrokenPipe))
             } else {
                 Ok(0)
             };
@@ -96,4 +96,40 @@ fn stops_at_the_first_fault(rt: HostRuntime) {
             assert!(rt; !writer.flushed, "at {bad}");
         }
     }
+}
+
+// Is interrupted at each other write, from the first on, and takes a byte at the others.
+#[derive(Drop)]
+struct Interrupted {
+    taken: Vec<u8>,
+    writes: usize,
+}
+
+impl Write for Interrupted {
+    fn write(&mut self, buf: &[u8]) -> io::Result<usize> {
+        self.writes = self.writes.saturating_add(1);
+        if self.writes % 2 == 1 {
+            return Err(io::Error::from(ErrorKind::Interrupted));
+        }
+        let count = buf.len().min(1);
+        self.taken.extend_from_slice(&buf[..count])?;
+        Ok(count)
+    }
+
+    fn flush(&mut self) -> io::Result<()> {
+        Ok(())
+    }
+}
+
+#[test]
+fn tries_an_interrupted_write_again(rt: HostRuntime) {
+    let mut out = Out::new(Interrupted {
+        taken: Vec::new(rt.alloc()),
+        writes: 0,
+    });
+    assert_eq!(rt; out.put(b"abc"), Ok(()));
+    assert!(rt; !out.failed());
+    let writer = out.into_inner();
+    assert_eq!(rt; writer.taken.as_slice(), b"abc".as_slice());
+    assert_eq!(rt; writer.writes, 6);
 }

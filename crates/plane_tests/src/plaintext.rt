@@ -125,7 +125,7 @@ impl Write for Faulty {
         self.writes = self.writes.saturating_add(1);
         if self.writes == self.bad {
             return if self.fails {
-                Err(io::Error::from(ErrorKind::Interrupted))
+                Err(io::Error::from(ErrorKind::BrokenPipe))
             } else {
                 Ok(0)
             };

@@ -1,13 +1,9 @@
-use Rattle.std.proofs.Common.{[], rules, arith}
-use Rattle.std.proofs.KnownBytes.{Consumes-trans, Consumes-all}
+use Rattle.std.proofs.Common.{◌≤◌, ◌^◌, ap, length, rules}
+use Rattle.commands.proofs.AnswerLemmas.{whole_input}
 use Rattle.commands.proofs.input.read_input.Goals as goal
 
-pub returns-then-branch-eq0-clause-whole : goal.returns-then-branch-eq0-clause-whole
-returns-then-branch-eq0-clause-whole g c =
-    let read = Consumes-trans _ _ _ _ _ c.loop-input.invariant.read c.in_ok-read_piece.ensures.read in
-    Consumes-all _ _ _ [] _ read (c.in_ok-read_piece.ensures.end (search rules)) c.in_ok-read_piece.ensures.kept
-
-pub loop-input-preserved : goal.loop-input-preserved
-loop-input-preserved g c =
-    let read = Consumes-trans _ _ _ _ _ c.loop-input.invariant.read c.in_ok-read_piece.ensures.read in
-    record { read = rw c.in_ok-read_piece.ensures.kept read; asks = omega (arith, c.loop-input.invariant.asks) }
+pub returns-in-Ok-clause-whole : goal.returns-in-Ok-clause-whole
+returns-in-Ok-clause-whole g c =
+    let short : length c.read_to_end.new.buf.items ≤ 2 ^ 24 = search rules in
+    whole_input (2 ^ 24) _ (g.R.Read.remaining c.args.input.now) _ _ _ c.take-limited.ensures.limit (ap (λ r. g.R.Read.remaining r.now) c.take-limited.ensures.inner) c.new-bytes.ensures.items
+    c.in-Ok.ensures.bytes short

@@ -5,8 +5,8 @@ use Rattle.plane_core.proofs.output.Out.put.Given as goal
 -- a front of the piece has been written, and the rest has not
 abbrev pub invariant-loop-rest : goal.invariant-loop-rest
 invariant-loop-rest g l =
-    (l.self-inside.failed ≡ false)
-    × ((front : List ℕ) × (l.fn.piece ≡ front ++ l.rest) × Appends (g.V.Write.contents l.fn.self.writer) (g.V.Write.contents l.self-inside.writer) front)
+    (l.self.failed ≡ false)
+    × ((front : List ℕ) × (l.fn.piece ≡ front ++ l.rest) × Appends (g.V.Write.contents l.fn.self.writer) (g.V.Write.contents l.self.writer) front)
 
 abbrev pub decreases-loop-rest : goal.decreases-loop-rest
 decreases-loop-rest g l = length l.rest

@@ -1,7 +1,7 @@
 use Rattle.std.proofs.Common.{◌++◌, codes, decimal}
 use Rattle.plane_core.proofs.OutLemmas.{Writes_then, Writes_stops}
 use Rattle.commands.specs.GatheredLines.{fault_words}
-use Rattle.commands.proofs.line_fault.LineFault.write_line.Goals as goal
+use Rattle.commands.proofs.line_fault.LineFault.put_line.Goals as goal
 
 pub returns-in_err-put : goal.returns-in_err-put
 returns-in_err-put g c =
@@ -17,12 +17,12 @@ returns-in_err-put-2 g c =
     Writes_then c.in_ok-put.ensures (Writes_then c.in_ok-put_decimal.ensures
     (Writes_stops (fault_words c.args.self ++ codes "\n") c.from_residual-in_err-put-2.ensures.0 c.in_err-put-2.ensures))
 
-pub returns-in_err-write_words : goal.returns-in_err-write_words
-returns-in_err-write_words g c =
+pub returns-in_err-put_words : goal.returns-in_err-put_words
+returns-in_err-put_words g c =
     Writes_then c.in_ok-put.ensures (Writes_then c.in_ok-put_decimal.ensures (Writes_then c.in_ok-put-2.ensures
-    (Writes_stops (codes "\n") c.from_residual-in_err-write_words.ensures.0 c.in_err-write_words.ensures)))
+    (Writes_stops (codes "\n") c.from_residual-in_err-put_words.ensures.0 c.in_err-put_words.ensures)))
 
 pub returns : goal.returns
 returns g c =
     Writes_then c.in_ok-put.ensures (Writes_then c.in_ok-put_decimal.ensures (Writes_then c.in_ok-put-2.ensures
-    (Writes_then c.in_ok-write_words.ensures c.put-3.ensures)))
+    (Writes_then c.in_ok-put_words.ensures c.put-3.ensures)))

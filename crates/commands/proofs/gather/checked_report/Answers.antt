@@ -1,5 +1,5 @@
 use Rattle.commands.proofs.GatherLemmas.{wrong}
-use Rattle.commands.proofs.gather.checked.Goals as goal
+use Rattle.commands.proofs.gather.checked_report.Goals as goal
 
 pub returns-in-Err-default-Disagrees : goal.returns-in-Err-default-Disagrees
 returns-in-Err-default-Disagrees c =

@@ -1,7 +1,7 @@
 use Rattle.std.proofs.Common.{◌++◌, ◌∙◌, ap, codes, decimal, sym}
 use Rattle.plane_core.proofs.OutLemmas.{Writes_same}
 use Rattle.commands.specs.GatheredLines.{fault_words}
-use Rattle.commands.proofs.line_fault.LineFault.write_words.Goals as goal
+use Rattle.commands.proofs.line_fault.LineFault.put_words.Goals as goal
 
 pub returns-in-UnknownWorker : goal.returns-in-UnknownWorker
 returns-in-UnknownWorker g c =

@@ -1,6 +1,6 @@
 use Rattle.std.proofs.Common.{◌++◌, codes, decimal}
 use Rattle.plane_core.proofs.OutLemmas.{Writes_then, Writes_stops}
-use Rattle.commands.proofs.take.put_missing.Goals as goal
+use Rattle.commands.proofs.complaint.put_missing_line.Goals as goal
 
 pub returns-in_err-put : goal.returns-in_err-put
 returns-in_err-put g c = Writes_stops (decimal c.args.missing ++ codes " missing\n") c.from_residual.ensures.0 c.in_err-put.ensures

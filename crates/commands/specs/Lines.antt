@@ -1,0 +1,65 @@
+-- The lines of an input, and how one is read.
+use Rattle.std.specs.Prelude.{◌≡◌, ◌≢◌, ◌≤◌, ◌==◌, ◌+◌, ◌^◌, ◌++◌, ℕ, List, [], ◌∷◌, All, IfSome, Option, None, Some, length, take, if◌then◌else◌}
+use Rattle.std.specs.Io.KnownBytes.{Consumes, IsAtEnd}
+use Rattle.commands.specs.declared.lines.LineEnd.{LineEnd}
+use Rattle.commands.specs.declared.lines.LineEnd.TheVariants.{Feed, Input}
+use Rattle.commands.specs.declared.lines.LineRead.{LineRead}
+use Rattle.commands.specs.declared.lines.Piece.{Piece}
+
+-- a byte at the front of the first of some lines
+abbrev pub begun_with : ℕ → List (List ℕ) → List (List ℕ)
+begun_with byte [] = (byte ∷ []) ∷ []
+begun_with byte (line ∷ more) = (byte ∷ line) ∷ more
+
+-- the lines of an input: a line feed (10) ends a line, and the last may lack it
+abbrev pub lines_of : List ℕ → List (List ℕ)
+lines_of [] = []
+lines_of (byte ∷ more) = if byte == 10 then [] ∷ lines_of more else begun_with byte (lines_of more)
+
+-- no line feed is among the bytes
+abbrev pub IsOneLine : List ℕ → Type 0
+IsOneLine line = All (λ byte. byte ≢ 10) line
+
+-- the bytes that end a line
+abbrev pub end_bytes : LineEnd → List ℕ
+end_bytes Feed = 10 ∷ []
+end_bytes Input = []
+
+-- the bytes that a line takes, with what ends it
+abbrev pub with_end : LineEnd → List ℕ → List ℕ
+with_end end line = line ++ end_bytes end
+
+-- nothing is left of the input, if that is known
+abbrev pub IsSpent : Option (List ℕ) → Option (List ℕ) → Type 0
+IsSpent old new = IfSome old (λ _. IsAtEnd new)
+
+-- A line of at most 2^32 bytes was read, of which the first 2^24 + 1 are kept. If no line feed ends it, the input is at its end.
+pub record HasRead (old new : Option (List ℕ)) (kept : List ℕ) (read : LineRead) : Type 0 where
+  pub line : List ℕ
+  pub kept_is : kept ≡ take (2 ^ 24 + 1) line
+  pub one : IsOneLine line
+  pub consumed : Consumes old new (with_end read.end line)
+  pub size_is : read.size ≡ length (with_end read.end line)
+  pub short : read.size ≤ 2 ^ 32
+  pub last : read.end ≡ Input → IsSpent old new
+
+abbrev pub piece_end : Option LineEnd → List ℕ
+piece_end None = []
+piece_end (Some end) = end_bytes end
+
+-- what some bytes have of a line: all up to their first line feed
+pub record IsPieceOf (bytes : List ℕ) (read : Piece) : Type 0 where
+  pub within : read.length ≤ length bytes
+  pub bound : read.size ≤ length bytes
+  pub one : IsOneLine (take read.length bytes)
+  pub ended : take read.size bytes ≡ take read.length bytes ++ piece_end read.end
+  pub last : read.end ≡ Some Input → bytes ≡ []
+
+-- a piece of a line was read, and added to what is kept of it
+pub record HasPiece (old new : Option (List ℕ)) (before after : List ℕ) (read : Piece) : Type 0 where
+  pub piece : List ℕ
+  pub kept_is : after ≡ take (2 ^ 24 + 1) (before ++ piece)
+  pub one : IsOneLine piece
+  pub consumed : Consumes old new (piece ++ piece_end read.end)
+  pub size_is : read.size ≡ length (piece ++ piece_end read.end)
+  pub last : read.end ≡ Some Input → IsSpent old new
