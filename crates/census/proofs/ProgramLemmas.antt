@@ -13,9 +13,10 @@ use Rattle.commands.specs.declared.status.Status.{Status}
 use Rattle.commands.specs.declared.status.Status.TheVariants as statuses
 use Rattle.commands.specs.Answers.{Ends, HasRight, LeavesFront, Outcome, Reaches, Right, Tells, text_of}
 use Rattle.commands.specs.Complaints.{line_of, status_of}
-use Rattle.commands.specs.Gather.{EndsGather, Gathering, Gathers, IsPrinted, gather_reads, gather_right, gathered_text, last_line, status_after}
-use Rattle.commands.specs.GatherSteps.{Begins}
-use Rattle.commands.specs.Requests.{DoesRequest, EndsRequest, is_whole, reads_input, right_for}
+use Rattle.commands.specs.Gather.{BeginsHaul, EndsGather, Gathering, Gathers, Hauls, IsPrinted, IsSilent, IsStopped, gather_opens, gather_right, gathered_text, last_line, status_after}
+use Rattle.commands.specs.GatherSteps.{HasBegun}
+use Rattle.commands.proofs.EndLemmas.{opens_reads}
+use Rattle.commands.specs.Requests.{DoesRequest, EndsRequest, is_whole, reads_input, refuses_input, right_for}
 use Rattle.commands.specs.Status.{exit_code, has_printed}
 use Rattle.commands.specs.Streams.{Stream, Has, HasLine}
 use Rattle.census.specs.LastLines.{Gives, HasTextAndLine, Says, tells_lines}
@@ -83,19 +84,19 @@ front_left false right before buffered below held failed (never, fronts) kept = 
 
 -- a complaint that ended a request is one that may
 ended_by : (request : Request) (bytes : List ℕ) (complaint : Complaint) (before buffered below : Option (List ℕ)) (held : List ℕ) (failed : Bool)
-    → Reaches (reads_input request) (is_whole request) (right_for request bytes) (Err complaint)
+    → refuses_input request ≡ reads_input request → Reaches (reads_input request) (is_whole request) (right_for request bytes) (Err complaint)
     (record { before = append_known before []; after = buffered; failed = failed })
     → Keeps buffered (append_known below held) → MayEnd request bytes before below complaint
-ended_by request bytes (Refused refusal) before buffered below held failed reached kept =
+ended_by request bytes (Refused refusal) before buffered below held failed same reached kept =
     (reached.0, front_sent before buffered below held [] [] reached.1 kept)
-ended_by request bytes OutOfMemory before buffered below held failed (may, fronts) kept = (
-  may,
+ended_by request bytes OutOfMemory before buffered below held failed same (may, fronts) kept = (
+  λ unrefused. may (sym same ∙ unrefused),
   λ answer right. let (front, rest, is, wrote) = fronts answer right in
       subst (IsFront before below) (sym is) (front_sent before buffered below held front rest wrote kept),
 )
-ended_by request bytes ReadFailed before buffered below held failed reached kept =
+ended_by request bytes ReadFailed before buffered below held failed same reached kept =
     (reached.0, front_sent before buffered below held [] [] reached.1 kept)
-ended_by request bytes WriteFailed before buffered below held failed (left, told) kept =
+ended_by request bytes WriteFailed before buffered below held failed same (left, told) kept =
     inl (front_left (is_whole request) (right_for request bytes) before buffered below held failed left kept)
 
 -- bytes after no bytes
@@ -144,17 +145,18 @@ record HasOneAnswer (request : Request) : Type 0 where
   pub gives : (bytes : List ℕ) (gathering : Gathering) → OneText (right_for request bytes) gathering → Gives request bytes gathering
   pub says : (bytes : List ℕ) (known : Option (List ℕ)) (complaint : Complaint) (errors : Stream) → HasLine errors (line_of complaint)
       → Says request bytes known complaint errors
+  pub same : refuses_input request ≡ reads_input request
 
 -- what holds of all of these, and of gatherings, holds of each request
 by_answer : (P : Request → Type 0) → ((request : Request) → HasOneAnswer request → P request)
     → ((set : SoupSet) (workers : ℕ) (profile : ProfileNumbers) (rule : List ℕ) → P (Gather set workers profile rule)) → (request : Request) → P request
-by_answer P one lines (Run n rule) = one (Run n rule) (record { ends = λ _ _ _ _ _ h. h; gives = λ _ _ h. h; says = λ _ _ _ _ h. h })
-by_answer P one lines (Name p rule) = one (Name p rule) (record { ends = λ _ _ _ _ _ h. h; gives = λ _ _ h. h; says = λ _ _ _ _ h. h })
-by_answer P one lines (Show code) = one (Show code) (record { ends = λ _ _ _ _ _ h. h; gives = λ _ _ h. h; says = λ _ _ _ _ h. h })
-by_answer P one lines (Soup seed n) = one (Soup seed n) (record { ends = λ _ _ _ _ _ h. h; gives = λ _ _ h. h; says = λ _ _ _ _ h. h })
-by_answer P one lines (Take set w p rule b) = one (Take set w p rule b) (record { ends = λ _ _ _ _ _ h. h; gives = λ _ _ h. h; says = λ _ _ _ _ h. h })
-by_answer P one lines (Work set w p rule) = one (Work set w p rule) (record { ends = λ _ _ _ _ _ h. h; gives = λ _ _ h. h; says = λ _ _ _ _ h. h })
-by_answer P one lines Version = one Version (record { ends = λ _ _ _ _ _ h. h; gives = λ _ _ h. h; says = λ _ _ _ _ h. h })
+by_answer P one lines (Run n rule) = one (Run n rule) (record { ends = λ _ _ _ _ _ h. h; gives = λ _ _ h. h; says = λ _ _ _ _ h. h; same = refl })
+by_answer P one lines (Name p rule) = one (Name p rule) (record { ends = λ _ _ _ _ _ h. h; gives = λ _ _ h. h; says = λ _ _ _ _ h. h; same = refl })
+by_answer P one lines (Show code) = one (Show code) (record { ends = λ _ _ _ _ _ h. h; gives = λ _ _ h. h; says = λ _ _ _ _ h. h; same = refl })
+by_answer P one lines (Soup seed n) = one (Soup seed n) (record { ends = λ _ _ _ _ _ h. h; gives = λ _ _ h. h; says = λ _ _ _ _ h. h; same = refl })
+by_answer P one lines (Take set w p rule b) = one (Take set w p rule b) (record { ends = λ _ _ _ _ _ h. h; gives = λ _ _ h. h; says = λ _ _ _ _ h. h; same = refl })
+by_answer P one lines (Work set w p rule) = one (Work set w p rule) (record { ends = λ _ _ _ _ _ h. h; gives = λ _ _ h. h; says = λ _ _ _ _ h. h; same = refl })
+by_answer P one lines Version = one Version (record { ends = λ _ _ _ _ _ h. h; gives = λ _ _ h. h; says = λ _ _ _ _ h. h; same = refl })
 by_answer P one lines (Gather set workers profile rule) = lines set workers profile rule
 
 -- ---- a request that was done, or done but for soups that are missing
@@ -195,22 +197,22 @@ lines_printed right missing output between errors from printed last = record {
   told = record { between = between.after; whole = subst (λ (b : Option (List ℕ)). Appends b between.after printed.gathering.told) from printed.told; last = last };
 }
 
-lines_done : (reads : Bool) (right : Result Gathering Complaint → Type 0) (known : Option (List ℕ)) (output errors : Stream)
-    → EndsGather reads right known statuses.Done output errors → Printed (λ gathering. right (Ok gathering)) 0 output errors
-lines_done reads right known output errors ends = go ends.outcome ends.reached ends.last (sym ends.status_is)
+lines_done : (right : Result Gathering Complaint → Type 0) (opens : Hauls) (known : Option (List ℕ)) (output errors : Stream)
+    → EndsGather right opens known statuses.Done output errors → Printed (λ gathering. right (Ok gathering)) 0 output errors
+lines_done right opens known output errors ends = go ends.outcome ends.reached ends.last (sym ends.status_is)
   where
-    go : (outcome : Result ℕ Complaint) → Gathers reads right known outcome output ends.between
+    go : (outcome : Result ℕ Complaint) → Gathers right opens known outcome output ends.between
         → HasLine (record { before = ends.between.after; after = errors.after; failed = errors.failed }) (last_line outcome)
         → status_after outcome ≡ statuses.Done → Printed (λ gathering. right (Ok gathering)) 0 output errors
     go (Ok zero) reached last same = lines_printed right 0 output ends.between errors ends.from reached last
     go (Ok (suc n)) reached last same = let bad : statuses.Incomplete ≡ statuses.Done = same in cc
     go (Err complaint) reached last same = absurd (status_of-done complaint same)
 
-lines_incomplete : (reads : Bool) (right : Result Gathering Complaint → Type 0) (known : Option (List ℕ)) (output errors : Stream)
-    → EndsGather reads right known statuses.Incomplete output errors → (less : ℕ) × Printed (λ gathering. right (Ok gathering)) (suc less) output errors
-lines_incomplete reads right known output errors ends = go ends.outcome ends.reached ends.last (sym ends.status_is)
+lines_incomplete : (right : Result Gathering Complaint → Type 0) (opens : Hauls) (known : Option (List ℕ)) (output errors : Stream)
+    → EndsGather right opens known statuses.Incomplete output errors → (less : ℕ) × Printed (λ gathering. right (Ok gathering)) (suc less) output errors
+lines_incomplete right opens known output errors ends = go ends.outcome ends.reached ends.last (sym ends.status_is)
   where
-    go : (outcome : Result ℕ Complaint) → Gathers reads right known outcome output ends.between
+    go : (outcome : Result ℕ Complaint) → Gathers right opens known outcome output ends.between
         → HasLine (record { before = ends.between.after; after = errors.after; failed = errors.failed }) (last_line outcome)
         → status_after outcome ≡ statuses.Incomplete → (less : ℕ) × Printed (λ gathering. right (Ok gathering)) (suc less) output errors
     go (Ok zero) reached last same = let bad : statuses.Done ≡ statuses.Incomplete = same in cc
@@ -231,7 +233,7 @@ request_done request known bytes output errors =
     by_answer (λ r. EndsRequest r known bytes statuses.Done output errors → Printed (Gives r bytes) 0 output errors)
     (λ r one ends. answer_printed (reads_input r) (is_whole r) (right_for r bytes) (Gives r bytes) output errors (one.gives bytes)
     (one.ends known bytes statuses.Done output errors ends))
-    (λ set workers profile rule ends. lines_done (gather_reads set profile rule) (gather_right set workers profile rule bytes) known output errors ends)
+    (λ set workers profile rule ends. lines_done (gather_right set workers profile rule bytes) (gather_opens set workers profile rule) known output errors ends)
     request
 
 request_incomplete : (request : Request) (known : Option (List ℕ)) (bytes : List ℕ) (output errors : Stream)
@@ -239,7 +241,7 @@ request_incomplete : (request : Request) (known : Option (List ℕ)) (bytes : Li
 request_incomplete request known bytes output errors =
     by_answer (λ r. EndsRequest r known bytes statuses.Incomplete output errors → (less : ℕ) × Printed (Gives r bytes) (suc less) output errors)
     (λ r one ends. answer_complete (reads_input r) (is_whole r) (right_for r bytes) output errors (one.ends known bytes statuses.Incomplete output errors ends))
-    (λ set workers profile rule ends. lines_incomplete (gather_reads set profile rule) (gather_right set workers profile rule bytes) known output errors ends)
+    (λ set workers profile rule ends. lines_incomplete (gather_right set workers profile rule bytes) (gather_opens set workers profile rule) known output errors ends)
     request
 
 -- but for a gathering, a command that was done left nothing on standard error, and the stream is fine
@@ -273,11 +275,12 @@ abbrev IsUndone : Status → Type 0
 IsUndone status = (status ≢ statuses.Done) × (status ≢ statuses.Incomplete)
 
 answer_ended : (request : Request) (bytes : List ℕ) (known before buffered below : Option (List ℕ)) (held : List ℕ) (failed : Bool) (status : Status)
-    (errors : Stream) → ((complaint : Complaint) → HasLine errors (line_of complaint) → Says request bytes known complaint errors)
+    (errors : Stream) → refuses_input request ≡ reads_input request
+    → ((complaint : Complaint) → HasLine errors (line_of complaint) → Says request bytes known complaint errors)
     → Ends (reads_input request) (is_whole request) (right_for request bytes) status
     (record { before = append_known before []; after = buffered; failed = failed }) errors
     → IsUndone status → Keeps buffered (append_known below held) → Ended request bytes known before below status errors
-answer_ended request bytes known before buffered below held failed status errors by_line ends undone kept = go ends.outcome ends.reached ends.told
+answer_ended request bytes known before buffered below held failed status errors same by_line ends undone kept = go ends.outcome ends.reached ends.told
   where
     output : Stream
     output = record { before = append_known before []; after = buffered; failed = failed }
@@ -288,7 +291,7 @@ answer_ended request bytes known before buffered below held failed status errors
     go (Err complaint) reached said = record {
       complaint = complaint;
       status_is = said.0;
-      may = ended_by request bytes complaint before buffered below held failed reached kept;
+      may = ended_by request bytes complaint before buffered below held failed same reached kept;
       says = by_line complaint said.1;
     }
 
@@ -306,10 +309,29 @@ lines_ended set workers profile rule bytes known before buffered below held fail
     R : Result Gathering Complaint → Type 0
     R = gather_right set workers profile rule bytes
 
-    begun : Begins known ends.between.before ends.between.after → Begins known errors.before ends.between.after
-    begun b = subst (λ (x : Option (List ℕ)). Begins known x ends.between.after) ends.from b
+    O : Hauls
+    O = gather_opens set workers profile rule
 
-    go : (outcome : Result ℕ Complaint) → Gathers (gather_reads set profile rule) R known outcome output ends.between
+    begun : IsStopped O known output ends.between → BeginsHaul O known errors.before ends.between.after
+    begun stopped = record {
+      terms = stopped.terms;
+      opened = stopped.opened;
+      begun = subst (λ (x : Option (List ℕ)). HasBegun stopped.terms known x ends.between.after) ends.from stopped.begun;
+    }
+
+    quiet : IsSilent output ends.between → Appends errors.before ends.between.after []
+    quiet silent = subst (λ (x : Option (List ℕ)). Appends x ends.between.after []) ends.from silent.silent
+
+    nothing : IsSilent output ends.between ⊎ IsStopped O known output ends.between → Has output []
+    nothing (inl silent) = silent.nothing
+    nothing (inr stopped) = stopped.nothing
+
+    told : IsSilent output ends.between ⊎ IsStopped O known output ends.between
+        → Appends errors.before ends.between.after [] ⊎ BeginsHaul O known errors.before ends.between.after
+    told (inl silent) = inl (quiet silent)
+    told (inr stopped) = inr (begun stopped)
+
+    go : (outcome : Result ℕ Complaint) → Gathers R O known outcome output ends.between
         → HasLine (record { before = ends.between.after; after = errors.after; failed = errors.failed }) (last_line outcome)
         → status ≡ status_after outcome → Ended (Gather set workers profile rule) bytes known before below status errors
     go (Ok zero) reached last same = absurd (undone.0 same)
@@ -317,23 +339,26 @@ lines_ended set workers profile rule bytes known before buffered below held fail
     go (Err (Refused refusal)) reached last same = record {
       complaint = Refused refusal;
       status_is = same;
-      may = (reached.0, front_sent before buffered below held [] [] reached.1 kept);
-      says = inl (ends.between.after, subst (λ (x : Option (List ℕ)). Appends x ends.between.after []) ends.from reached.2, last);
+      may = (reached.0, front_sent before buffered below held [] [] reached.1.nothing kept);
+      says = inl (ends.between.after, quiet reached.1, last);
     }
     go (Err OutOfMemory) reached last same = record {
       complaint = OutOfMemory;
       status_is = same;
       may = (
-        λ unread complaint is. let bad : false ≡ true = sym unread ∙ reached.looked in cc,
-        λ answer is. front_sent before buffered below held [] (text_of answer) reached.nothing kept,
+        λ unrefused complaint is. reached.0 complaint is,
+        λ answer is. front_sent before buffered below held [] (text_of answer) (nothing reached.1) kept,
       );
-      says = inl (ends.between.after, begun (reached.terms, reached.begun), last);
+      says = inl (ends.between.after, told reached.1, last);
     }
     go (Err ReadFailed) reached last same = record {
       complaint = ReadFailed;
       status_is = same;
-      may = (reached.looked, front_sent before buffered below held [] [] reached.nothing kept);
-      says = inl (ends.between.after, begun (reached.terms, reached.begun), last);
+      may = (
+        opens_reads set workers profile rule reached.terms reached.opened,
+        front_sent before buffered below held [] [] reached.nothing kept
+      );
+      says = inl (ends.between.after, begun reached, last);
     }
     go (Err WriteFailed) (inl cut) last same = record {
       complaint = WriteFailed;
@@ -359,7 +384,7 @@ request_ended request bytes known before buffered below held failed status error
     let output : Stream = record { before = append_known before []; after = buffered; failed = failed } in
     by_answer (λ r. EndsRequest r known bytes status output errors → IsUndone status → Keeps buffered (append_known below held)
     → Ended r bytes known before below status errors)
-    (λ r one ends. answer_ended r bytes known before buffered below held failed status errors (λ complaint line. one.says bytes known complaint errors line)
+    (λ r one ends. answer_ended r bytes known before buffered below held failed status errors one.same (λ complaint line. one.says bytes known complaint errors line)
     (one.ends known bytes status output errors ends))
     (λ set workers profile rule. lines_ended set workers profile rule bytes known before buffered below held failed status errors) request
 
@@ -438,7 +463,7 @@ request_unsent request bytes known before buffered below held failed silent betw
     (λ r one ends. answer_unsent r bytes known before buffered below held failed silent between spoken was is_failed
     (one.says bytes known WriteFailed after) (one.ends known bytes statuses.Done output errors ends))
     (λ set workers profile rule ends. lines_unsent set workers profile rule bytes known before buffered below held failed 0 silent between spoken was is_failed
-    (lines_done (gather_reads set profile rule) (gather_right set workers profile rule bytes) known output errors ends)) request
+    (lines_done (gather_right set workers profile rule bytes) (gather_opens set workers profile rule) known output errors ends)) request
 
 request_unsent_less : (request : Request) (bytes : List ℕ) (known before buffered below : Option (List ℕ)) (held : List ℕ) (failed : Bool)
     (silent between spoken : Option (List ℕ)) (was is_failed : Bool)
@@ -454,7 +479,7 @@ request_unsent_less request bytes known before buffered below held failed silent
     → Spoken between spoken was is_failed → IsUnsent r bytes known before below after)
     (λ r one ends. answer_complete (reads_input r) (is_whole r) (right_for r bytes) output errors (one.ends known bytes statuses.Incomplete output errors ends))
     (λ set workers profile rule ends.
-    let less = lines_incomplete (gather_reads set profile rule) (gather_right set workers profile rule bytes) known output errors ends in
+    let less = lines_incomplete (gather_right set workers profile rule bytes) (gather_opens set workers profile rule) known output errors ends in
     lines_unsent set workers profile rule bytes known before buffered below held failed (suc less.0) silent between spoken was is_failed less.1) request
 
 -- ---- the words

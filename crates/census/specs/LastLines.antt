@@ -6,8 +6,7 @@ use Rattle.commands.specs.declared.complaint.Complaint.TheVariants.{Refused, Out
 use Rattle.commands.specs.declared.request.Request.{Request}
 use Rattle.commands.specs.declared.request.Request.TheVariants.{Gather}
 use Rattle.commands.specs.Complaints.{line_of}
-use Rattle.commands.specs.Gather.{Gathering, gather_right, last_line}
-use Rattle.commands.specs.GatherSteps.{Begins}
+use Rattle.commands.specs.Gather.{BeginsHaul, Gathering, Hauls, gather_opens, gather_right, last_line}
 use Rattle.commands.specs.Requests.{right_for}
 use Rattle.commands.specs.Streams.{Stream, HasLine}
 
@@ -27,23 +26,25 @@ pub record HasTextAndLine (errors : Stream) (text line : List ℕ) : Type 0 wher
   pub whole : Appends errors.before between text
   pub last : HasLine (record { before = between; after = errors.after; failed = errors.failed }) line
 
--- What was told before a complaint of `gather`: nothing before a refusal, what is to be told of the first lines if the others weren't
--- read, and if the output failed, what is to be told of all lines, and maybe how many soups are missing.
-abbrev pub IsToldBefore : (Result Gathering Complaint → Type 0) → Option (List ℕ) → Complaint → Option (List ℕ) → Option (List ℕ) → Type 0
-IsToldBefore right known (Refused refusal) before between = Appends before between []
-IsToldBefore right known OutOfMemory before between = Begins known before between
-IsToldBefore right known ReadFailed before between = Begins known before between
-IsToldBefore right known WriteFailed before between = (gathering : Gathering) × right (Ok gathering)
+-- What was told before a complaint of `gather`: nothing before a refusal, or where there was no memory for a haul; what is to be told of
+-- the first lines if the others weren't read; and if the output failed, what is to be told of all lines, and maybe how many soups are
+-- missing.
+abbrev pub IsToldBefore : (Result Gathering Complaint → Type 0) → Hauls → Option (List ℕ) → Complaint → Option (List ℕ) → Option (List ℕ) → Type 0
+IsToldBefore right opens known (Refused refusal) before between = Appends before between []
+IsToldBefore right opens known OutOfMemory before between = Appends before between [] ⊎ BeginsHaul opens known before between
+IsToldBefore right opens known ReadFailed before between = BeginsHaul opens known before between
+IsToldBefore right opens known WriteFailed before between = (gathering : Gathering) × right (Ok gathering)
     × (Appends before between gathering.told ⊎ Appends before between (gathering.told ++ last_line (Ok gathering.missing)))
 
 -- what was told before it, and the line of a complaint; or standard error failed
-abbrev pub SaysAfterLines : (Result Gathering Complaint → Type 0) → Option (List ℕ) → Complaint → Stream → Type 0
-SaysAfterLines right known complaint errors =
-    ((between : Option (List ℕ)) × IsToldBefore right known complaint errors.before between
+abbrev pub SaysAfterLines : (Result Gathering Complaint → Type 0) → Hauls → Option (List ℕ) → Complaint → Stream → Type 0
+SaysAfterLines right opens known complaint errors =
+    ((between : Option (List ℕ)) × IsToldBefore right opens known complaint errors.before between
     × HasLine (record { before = between; after = errors.after; failed = errors.failed }) (line_of complaint))
     ⊎ ((complaint ≡ WriteFailed) × (errors.failed ≡ true))
 
 -- the line of a complaint, and before it only what `gather` tells
 abbrev pub Says : Request → List ℕ → Option (List ℕ) → Complaint → Stream → Type 0
-Says (Gather set workers profile rule) bytes known complaint errors = SaysAfterLines (gather_right set workers profile rule bytes) known complaint errors
+Says (Gather set workers profile rule) bytes known complaint errors =
+    SaysAfterLines (gather_right set workers profile rule bytes) (gather_opens set workers profile rule) known complaint errors
 Says request bytes known complaint errors = HasLine errors (line_of complaint)

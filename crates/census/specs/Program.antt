@@ -8,7 +8,7 @@ use Rattle.commands.specs.declared.request.Request.{Request}
 use Rattle.commands.specs.Answers.{Answer, IsInput, NeedsMemory, Right, text_of}
 use Rattle.commands.specs.Complaints.{line_of, status_of}
 use Rattle.commands.specs.Gather.{Gathering, last_line}
-use Rattle.commands.specs.Requests.{is_whole, reads_input, right_for}
+use Rattle.commands.specs.Requests.{is_whole, reads_input, refuses_input, right_for}
 use Rattle.commands.specs.Status.{exit_code}
 use Rattle.commands.specs.Streams.{Stream, HasLine}
 use Rattle.clap.specs.Words.{Text}
@@ -57,12 +57,12 @@ LeavesFrontOf false right before after =
 
 -- A complaint may end a request: a refusal if that is right for it, memory that runs out, or a stream that fails. The writer
 -- holds nothing of it, or a front of the right text where memory ran out or a write failed. Memory hides a refusal only if
--- the input is looked at or memory is needed for it, and only a text is written. The write that failed may be one of what is told
--- of lines.
+-- it may be the input that is refused or memory is needed for it, and only a text is written. The write that failed may be one of
+-- what is told of lines.
 abbrev pub MayEnd : Request → List ℕ → Option (List ℕ) → Option (List ℕ) → Complaint → Type 0
 MayEnd request bytes before after (Refused refusal) = right_for request bytes (Err (Refused refusal)) × IsFront before after []
 MayEnd request bytes before after OutOfMemory =
-    (reads_input request ≡ false → (complaint : Complaint) → right_for request bytes (Err complaint) → NeedsMemory complaint)
+    (refuses_input request ≡ false → (complaint : Complaint) → right_for request bytes (Err complaint) → NeedsMemory complaint)
     × ((answer : Answer) → right_for request bytes answer → IsFront before after (text_of answer))
 MayEnd request bytes before after ReadFailed = (reads_input request ≡ true) × IsFront before after []
 MayEnd request bytes before after WriteFailed =

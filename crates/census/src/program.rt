@@ -2,7 +2,7 @@ ghost use Rattle.std.specs.Prelude.{◌≡◌, ◌≢◌, ℕ, suc, [], IsErr, N
 ghost use Rattle.std.specs.Io.Buffered.{writer_buffer, writer_contents, writer_inner};
 ghost use Rattle.std.specs.IoError.{error_kind};
 ghost use Rattle.commands.specs.Complaints.{line_of};
-ghost use Rattle.commands.specs.Requests.{reads_input};
+ghost use Rattle.commands.specs.Requests.{is_whole, reads_input, refuses_input};
 ghost use Rattle.commands.specs.Status.{exit_code};
 ghost use Rattle.commands.specs.Streams.{Has, HasLine, stream};
 ghost use Rattle.census.specs.LastLines.{tells_lines};
@@ -75,6 +75,10 @@ pub fn run_program<
         Complains (map string_bytes list.items) (R.remaining input.old) result.code
         (W.contents output) (left_by W.contents output result.output) (returned E.contents errors result.errors)) }
     ensures refused { result.code ≡ 3 → result.output ≡ Some output }
+    ensures unread_refused { result.code ≡ 3 → IfOk words (λ list. IfSome (asked_by (map string_bytes list.items)) (λ request.
+        refuses_input request ≡ false → input.new ≡ input.old)) }
+    ensures nothing_left { result.code ≡ 4 → IfOk words (λ list. IfSome (asked_by (map string_bytes list.items)) (λ request.
+        is_whole request ≡ true → IfSome result.output (λ writer. writer ≡ output))) }
 
     // Words that ask for a command that doesn't look at its input.
     ensures unread { IfOk words (λ list. IfSome (asked_by (map string_bytes list.items)) (λ request.
@@ -142,6 +146,10 @@ fn do_buffered<T: Threads + Wait + Sync, R: Read, W: Write + Drop, E: Write, P: 
         Complains (map string_bytes words.now) (R.remaining input.old) (exit_code result.0)
         (W.contents output) (left_by W.contents output result.1) (stream E.contents errors.old errors.new) }
     ensures refused { result.0 ≡ Status.Refused → result.1 ≡ Some output }
+    ensures unread_refused { result.0 ≡ Status.Refused → IfSome (asked_by (map string_bytes words.now)) (λ request.
+        refuses_input request ≡ false → input.new ≡ input.old) }
+    ensures nothing_left { result.0 ≡ Status.OutOfMemory → IfSome (asked_by (map string_bytes words.now)) (λ request.
+        is_whole request ≡ true → IfSome result.1 (λ writer. writer ≡ output)) }
     ensures unread { IfSome (asked_by (map string_bytes words.now)) (λ request.
         reads_input request ≡ false → input.new ≡ input.old) }
 {

@@ -1,7 +1,7 @@
 ghost use Rattle.std.specs.Prelude.{◌≡◌, ◌≢◌, ◌≤◌, None, Some, IfOk, IfErr, IfSome, false, true, is_some, map, option_and_then};
 ghost use Rattle.clap.specs.Words.{found_of, kind_of, rows_of, subcommand_rows_of};
 ghost use Rattle.commands.specs.Profiles.{AreInRange};
-ghost use Rattle.commands.specs.Requests.{IsWithinLimits, reads_input};
+ghost use Rattle.commands.specs.Requests.{IsWithinLimits, is_whole, reads_input, refuses_input};
 ghost use Rattle.commands.specs.Streams.{stream};
 ghost use Rattle.census.specs.Calls.{AsksForNothing, AsksForSoup, AsksForVersion, AsksToName, AsksToRun, AsksToShow, AsksToTake};
 ghost use Rattle.census.specs.GatherCalls.{AsksToGather};
@@ -88,7 +88,11 @@ pub fn do_words<
         (stream W.contents output.old output.new) (stream E.contents errors.old errors.new) }
     ensures unread { IfSome (asked_by (map S.text words.now)) (λ request.
         reads_input request ≡ false → input.new ≡ input.old) }
+    ensures unread_refused { result ≡ Status.Refused → IfSome (asked_by (map S.text words.now)) (λ request.
+        refuses_input request ≡ false → input.new ≡ input.old) }
     ensures untouched { result ≡ Status.Refused → output.new ≡ output.old }
+    ensures no_memory { result ≡ Status.OutOfMemory → IfSome (asked_by (map S.text words.now)) (λ request.
+        is_whole request ≡ true → output.new ≡ output.old) }
 {
     match request_of(alloc, words) {
         Ok(request) => do_request(alloc, rt, &request, input, output, errors, line),

@@ -75,8 +75,12 @@ gather_right set workers numbers rule_text bytes (Err (Refused refusal)) =
     MatchResult (job_named set numbers rule_text) (λ job. IsRefused set refusal) (λ complaint. complaint ≡ Refused refusal)
 gather_right set workers numbers rule_text bytes (Err _) = ⊥
 
+-- a property of hauls, by their terms
+abbrev pub Hauls : Type 1
+Hauls = Terms → Type 0
+
 -- which hauls may be opened for a set
-abbrev pub gather_opens : SoupSet → ℕ → ProfileNumbers → List ℕ → Terms → Type 0
+abbrev pub gather_opens : SoupSet → ℕ → ProfileNumbers → List ℕ → Hauls
 gather_opens set workers numbers rule_text terms = IsOkAnd (job_named set numbers rule_text) (λ job. IsHaulOver set workers job terms)
 
 -- the answers that gathering gives: its haul text, whatever is missing, or a refusal
@@ -99,12 +103,18 @@ pub record IsPrinted (right : Result Gathering Complaint → Type 0) (missing : 
   pub fine : errors.failed ≡ false
 
 -- a haul was opened, the first lines have come to it, and nothing was written to standard output
-pub record IsStopped (opens : Terms → Type 0) (known : Option (List ℕ)) (output errors : Stream) : Type 0 where
+pub record IsStopped (opens : Hauls) (known : Option (List ℕ)) (output errors : Stream) : Type 0 where
   pub terms : Terms
   pub opened : opens terms
   pub begun : HasBegun terms known errors.before errors.after
   pub nothing : Has output []
   pub fine : errors.failed ≡ false
+
+-- a haul was opened, and what stands on standard error is what is told of the first lines
+pub record BeginsHaul (opens : Hauls) (known before after : Option (List ℕ)) : Type 0 where
+  pub terms : Terms
+  pub opened : opens terms
+  pub begun : HasBegun terms known before after
 
 -- nothing was written to either stream
 pub record IsSilent (output errors : Stream) : Type 0 where
@@ -122,7 +132,7 @@ pub record IsCut (right : Result Gathering Complaint → Type 0) (output errors 
   pub fine : errors.failed ≡ false
 
 -- a haul was opened, and a line on a report line wasn't written whole
-pub record IsUntold (opens : Terms → Type 0) (output errors : Stream) : Type 0 where
+pub record IsUntold (opens : Hauls) (output errors : Stream) : Type 0 where
   pub terms : Terms
   pub opened : opens terms
   pub nothing : Has output []
@@ -133,7 +143,7 @@ abbrev pub HidesNoOther : (Result Gathering Complaint → Type 0) → Type 0
 HidesNoOther right = (complaint : Complaint) → right (Err complaint) → NeedsMemory complaint
 
 -- What stands on the streams before the last line of standard error: how many soups are missing, or a complaint.
-abbrev pub Gathers : (Result Gathering Complaint → Type 0) → (Terms → Type 0) → Option (List ℕ) → Result ℕ Complaint → Stream → Stream → Type 0
+abbrev pub Gathers : (Result Gathering Complaint → Type 0) → Hauls → Option (List ℕ) → Result ℕ Complaint → Stream → Stream → Type 0
 Gathers right opens known (Ok missing) output errors = IsPrinted right missing output errors
 Gathers right opens known (Err (Refused refusal)) output errors = right (Err (Refused refusal)) × IsSilent output errors
 Gathers right opens known (Err OutOfMemory) output errors =
@@ -154,7 +164,7 @@ status_after (Err complaint) = status_of complaint
 
 -- How gathering ends: `between` is standard error before its last line. Memory or a failed read
 -- can cut off an input only after a haul was opened.
-pub record EndsGather (right : Result Gathering Complaint → Type 0) (opens : Terms → Type 0) (known : Option (List ℕ)) (status : Status)
+pub record EndsGather (right : Result Gathering Complaint → Type 0) (opens : Hauls) (known : Option (List ℕ)) (status : Status)
     (output errors : Stream) : Type 0 where
   pub outcome : Result ℕ Complaint
   pub between : Stream
