@@ -16,7 +16,7 @@ use Rattle.plane_core.specs.Forest.{cell_of, parent_of, LeadsBack, IsForest, Lab
 use Rattle.plane_core.specs.declared.forest.Cursors.{Cursors}
 use Rattle.plane_core.proofs.CellLemmas.{cell_cmp_total, cell_cmp-moved}
 use Rattle.plane_core.proofs.SetLemmas.{Contains-has, greater_turned}
-use Rattle.plane_core.proofs.ClusterLemmas.{linked-itself, linked-near, linked-trans, linked-sym}
+use Rattle.plane_core.proofs.ClusterLemmas.{linked-near, linked-trans, linked-sym}
 
 pub has-cell_of : (cells : List Cell) (k : ℕ) → k < length cells → has cells (cell_of cells k) ≡ true
 has-cell_of cells k low = Contains-has cells (cell_of cells k) (Contains-get_or cells k _ low)
@@ -28,13 +28,6 @@ pub record Climbs (parents : List ℕ) (place at : ℕ) : Type 0 where
   pub low : at < length parents
   pub joined : Joined parents place at
   pub linked : (cells : List Cell) → IsForest cells parents → Linked cells (cell_of cells place) (cell_of cells at)
-
-pub climbs-none : (parents : List ℕ) (place : ℕ) → place < length parents → Climbs parents place place
-climbs-none parents place low = record {
-  low = low;
-  joined = λ label labels. refl;
-  linked = λ cells f. let few : place < length cells = omega (arith, low, f.size) in linked-itself cells (cell_of cells place) (has-cell_of cells place few);
-}
 
 pub climbs-more : (parents : List ℕ) (place at : ℕ) → LeadsBack parents → Climbs parents place at → Climbs parents place (parent_of parents at)
 climbs-more parents place at back c = record {
@@ -124,9 +117,6 @@ joined-kept old new j k keeps joined label labels = joined label (keeps label la
 
 pub keeps-then : (a b c : List ℕ) → Keeps a b → Keeps b c → Keeps a c
 keeps-then a b c first second label labels = first label (second label labels)
-
-pub keeps-itself : (a : List ℕ) → Keeps a a
-keeps-itself a label labels = labels
 
 pub near_linked : (cells : List Cell) (j k : ℕ) → j < length cells → k < length cells → king_distance (cell_of cells j) (cell_of cells k) ≤ 2
     → Linked cells (cell_of cells j) (cell_of cells k)
@@ -237,9 +227,6 @@ pub record IsScanning (cells : List Cell) (old new : List ℕ) (place first at :
   pub forest : IsForest cells new
   pub keeps : Keeps old new
   pub joined : (k : ℕ) → first ≤ k → k < at → king_distance (cell_of cells k) (cell_of cells place) ≤ 2 → Joined new k place
-
-pub scanning-none : (cells : List Cell) (parents : List ℕ) (place first : ℕ) → IsForest cells parents → IsScanning cells parents parents place first first
-scanning-none cells parents place first f = record { forest = f; keeps = keeps-itself parents; joined = λ k low less near. absurd (omega (arith, low, less)) }
 
 pub scanning-more : (cells : List Cell) (old now new : List ℕ) (place first at : ℕ) → IsScanning cells old now place first at → IsForest cells new
     → Keeps now new → (king_distance (cell_of cells at) (cell_of cells place) ≤ 2 → Joined new at place) → IsScanning cells old new place first (at + 1)

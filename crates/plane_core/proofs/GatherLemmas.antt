@@ -133,18 +133,6 @@ pub record IsGathering (cells : List Cell) (parents numbers : List ℕ) (cluster
   pub linked : (j k : ℕ) → j < place → k < place → get_or numbers j 0 ≡ get_or numbers k 0 → Linked cells (cell_of cells j) (cell_of cells k)
   pub in_order : AllPairs FirstBefore clusters
 
-pub gathering-none : (cells : List Cell) (parents : List ℕ) → IsGathering cells parents [] [] 0
-gathering-none cells parents = record {
-  size = refl;
-  few = omega arith;
-  labels = λ k low. absurd (omega (arith, low));
-  below = λ k low. absurd (omega (arith, low));
-  lists = λ n low. absurd (omega (arith, low));
-  used = λ n low. absurd (omega (arith, low));
-  linked = λ j k low high e. absurd (omega (arith, low));
-  in_order = λ i j d low high. absurd (omega (arith, high));
-}
-
 -- a number at the end of the list
 at_end : (numbers : List ℕ) (n place : ℕ) → length numbers ≡ place → get_or (numbers ++ n ∷ []) place 0 ≡ n
 at_end numbers n place size = get_or_push numbers n 0 place size
@@ -437,7 +425,6 @@ gathered_all cells parents numbers clusters place o f joins all g = record {
 
     every : (c : Cell) → (k : ℕ) × (k < length cells) × (cell_of cells k ≡ c) → Any (λ cluster. has cluster c ≡ true) clusters
     every c p =
-        let number : ℕ = get_or numbers p.0 0 in
         let low : p.0 < place = let few : p.0 < length cells = p.1 in omega (arith, few, whole) in
         let inside : get_or numbers p.0 0 < length clusters = g.below p.0 low in (
           get_or numbers p.0 0,
