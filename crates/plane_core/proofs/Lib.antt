@@ -5,9 +5,8 @@ pub mod CellLemmas
 pub mod ClusterLaws
 pub mod ClusterLemmas
 pub mod CommuteLemmas
-pub mod FloodLemmas
-pub mod FloodLoops
-pub mod FloodSteps
+pub mod ForestLemmas
+pub mod GatherLemmas
 pub mod GenerationLemmas
 pub mod LayLemmas
 pub mod LayoutLemmas

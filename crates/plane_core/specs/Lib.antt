@@ -2,7 +2,7 @@ pub mod Boards
 pub mod Bounds
 pub mod Cells
 pub mod Clusters
-pub mod Flood
+pub mod Forest
 pub mod Generations
 pub mod Layouts
 pub mod Orientations

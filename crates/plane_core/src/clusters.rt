@@ -1,25 +1,21 @@
-//! How a pattern falls into clusters: each one is flooded from its first cell.
+//! How a pattern falls into clusters: each tree of its [forest](crate::forest) is one.
 //!
-//!      O . O . . . O          1 . 2 . . . O
-//!      . . . . . . O          . . . . . . O
-//!      . . . O . . .          . . . 3 . . .
+//!      O . O . . . O          place    0  1  2  3  4
+//!      . . . . . . O          leads to 0  0  2  2  0
+//!      . . . O . . .          cluster  0  0  1  1  0
 //!
-//! Each cell of the pattern has a mark, and the flood a list of the cells that it has reached: 1, 2 and 3 above, in this
-//! order. It goes through the list from the front. For each cell there, the cells at most two columns and two rows away
-//! that have no mark yet are marked and put at the list's end. At the end of the list, the list is the cluster.
-//!
-//! The other two cells are three columns from cell 3, too far to be reached. The next flood starts at the first cell
-//! without a mark, so the clusters come in the order of their first cells.
-ghost use Rattle.std.specs.Prelude.{◌≡◌, ◌≤◌, ◌||◌, true, false, length, All, IfOk, OnOk, ◌+ℤ◌, unsigned_abs};
-ghost use Rattle.plane_core.specs.Cells.{InOrder, IsPattern, has, moved_by, on_plane, same_cell, set_of};
-ghost use Rattle.plane_core.specs.Clusters.{AreClusters, IsCluster};
+//! The places are gone through in order. A root begins the next cluster; any other place goes into the cluster of the place
+//! to which it leads, which stands earlier. So the clusters come in the order of their first cells, and the cells of each
+//! in their own.
+ghost use Rattle.std.specs.Prelude.{◌≡◌, ◌<◌, ◌++◌, [], ◌∷◌, length, All, IfOk, OnOk, get_or, set};
+ghost use Rattle.plane_core.specs.Cells.{IsPattern};
+ghost use Rattle.plane_core.specs.Clusters.{AreClusters};
 ghost use Rattle.plane_core.specs.Clusters.{ClustersAreDetermined, ClustersLieApart, ClustersMoveAlong, ClustersPartition, LinkedIsAnEquivalence};
-ghost use Rattle.plane_core.specs.Flood.{IsClosed, Marks, MarksCluster, is_in_row, is_near, marked};
-ghost use Rattle.plane_core.specs.declared.cell.Cell.{Cell};
+ghost use Rattle.plane_core.specs.Forest.{IsForest, JoinsAll};
 
 use crate::cell::Cell;
-use crate::coordinate::stepped;
-use crate::pattern::{Pattern, in_order};
+use crate::forest::forest;
+use crate::pattern::Pattern;
 use std::alloc::{AllocError, Global};
 
 impl Pattern {
@@ -35,15 +31,8 @@ impl Pattern {
         ensures patterns { IfOk result (λ clusters. All IsPattern clusters.items) }
     {
         let cells = self.cells();
-        let mut marks = vec![in alloc; false; cells.len()]?;
-        let mut clusters = Vec::new(alloc);
-        for (place, cell) in cells.iter().enumerate() {
-            if !marks[place] {
-                let cluster = flood(alloc, cells, *cell, &mut marks)?;
-                clusters.push(Pattern::from_ordered(cluster))?;
-            }
-        }
-        Ok(clusters)
+        let parents = forest(alloc, cells)?;
+        gathered(alloc, cells, &parents)
     }
 }
 
@@ -72,107 +61,48 @@ pub fn clusters_move_along()
     ensures { ClustersMoveAlong }
 {}
 
-/// The cluster of this cell, whose cells are marked from now on.
-fn flood(
-    alloc: Global,
-    cells: &[Cell],
-    start: Cell,
-    marks: &mut [bool],
-) -> Result<Vec<Cell>, AllocError>
+/// The trees of a forest, each as the pattern of its cells.
+fn gathered(alloc: Global, cells: &[Cell], parents: &[usize]) -> Result<Vec<Pattern>, AllocError>
     requires pattern { IsPattern cells.now }
-    requires size { length marks.old ≡ length cells.now }
-    requires start { has cells.now start ≡ true }
-    requires fresh { marked cells.now marks.old start ≡ false }
-    requires closed { IsClosed cells.now marks.old }
-    ensures size { length marks.new ≡ length marks.old }
-    ensures cluster { IfOk result (λ cluster. IsCluster cells.now cluster.items) }
-    ensures pattern { IfOk result (λ cluster. IsPattern cluster.items) }
-    ensures start { IfOk result (λ cluster. has cluster.items start ≡ true) }
-    ensures marks { IfOk result (λ cluster. MarksCluster cells.now cluster.items marks.old marks.new) }
+    requires forest { IsForest cells.now parents.now }
+    requires joined { JoinsAll cells.now parents.now (length cells.now) }
+    ensures clusters { IfOk result (λ clusters. AreClusters cells.now clusters.items) }
+    ensures patterns { IfOk result (λ clusters. All IsPattern clusters.items) }
 {
-    let mut reached = Vec::new(alloc);
-    mark(cells, start, marks, &mut reached)?;
-    let mut next = 0;
-    while next < reached.len() {
-        mark_near(cells, reached[next], marks, &mut reached)?;
-        next += 1;
+    let mut clusters = Vec::new(alloc);
+    let mut numbers = Vec::with_capacity(alloc, cells.len())?;
+    for (place, cell) in cells.iter().enumerate() {
+        let parent = parents[place];
+        let number = if parent == place {
+            begin(alloc, &mut clusters, *cell)?
+        } else {
+            let number = numbers[parent];
+            extend(&mut clusters, number, *cell)?;
+            number
+        };
+        numbers.push(number)?;
     }
-    Ok(in_order(reached))
+    Ok(clusters)
 }
 
-/// Marks the cells that are at king distance at most 2 from this one.
-fn mark_near(
-    cells: &[Cell],
-    cell: Cell,
-    marks: &mut [bool],
-    reached: &mut Vec<Cell>,
-) -> Result<(), AllocError>
-    requires in_order { InOrder cells.now }
-    requires on_plane { on_plane cell ≡ true }
-    requires size { length marks.old ≡ length cells.now }
-    ensures size { length marks.new ≡ length marks.old }
-    ensures marks { OnOk result
-        (Marks cells.now (is_near cell) marks.old reached.old.items marks.new reached.new.items) }
+/// Begins a cluster with this cell, after the others. The result is its number.
+fn begin(alloc: Global, clusters: &mut Vec<Pattern>, cell: Cell) -> Result<usize, AllocError>
+    requires { IsPattern (cell ∷ []) }
+    ensures number { IfOk result (λ number. number ≡ length clusters.old.items) }
+    ensures cluster { OnOk result (clusters.new.items ≡ clusters.old.items ++ (cell ∷ []) ∷ []) }
 {
-    for dy in [-2, -1, 0, 1, 2] {
-        mark_row(cells, cell, dy, marks, reached)?;
-    }
-    Ok(())
+    let number = clusters.len();
+    let mut first = Vec::new(alloc);
+    first.push(cell)?;
+    clusters.push(Pattern::from_ordered(first))?;
+    Ok(number)
 }
 
-/// Marks the cells that are dy rows further down and at most two columns away.
-fn mark_row(
-    cells: &[Cell],
-    cell: Cell,
-    dy: i32,
-    marks: &mut [bool],
-    reached: &mut Vec<Cell>,
-) -> Result<(), AllocError>
-    requires in_order { InOrder cells.now }
-    requires on_plane { on_plane cell ≡ true }
-    requires down { unsigned_abs dy ≤ 2 }
-    requires size { length marks.old ≡ length cells.now }
-    ensures size { length marks.new ≡ length marks.old }
-    ensures marks { OnOk result
-        (Marks cells.now (is_in_row cell dy) marks.old reached.old.items marks.new reached.new.items) }
+/// Puts a cell at the end of a cluster.
+fn extend(clusters: &mut [Pattern], number: usize, cell: Cell) -> Result<(), AllocError>
+    requires number { number < length clusters.old }
+    requires pattern { IsPattern (get_or clusters.old number [] ++ cell ∷ []) }
+    ensures { OnOk result (clusters.new ≡ set clusters.old number (get_or clusters.old number [] ++ cell ∷ [])) }
 {
-    for dx in [-2, -1, 0, 1, 2] {
-        mark(cells, near(cell, dx, dy), marks, reached)?;
-    }
-    Ok(())
-}
-
-/// The cell (x + dx, y + dy), at most two steps away.
-#[tactic(auto, unfolding(crate::specs::Cells::on_plane))]
-fn near(cell: Cell, dx: i32, dy: i32) -> Cell
-    requires on_plane { on_plane cell ≡ true }
-    requires right { unsigned_abs dx ≤ 2 }
-    requires down { unsigned_abs dy ≤ 2 }
-    ensures { result ≡ moved_by dx dy cell }
-{
-    let x = stepped(cell.x, dx);
-    let y = stepped(cell.y, dy);
-    Cell { y, x }
-}
-
-/// Marks the cell and puts it after those reached, if it is in the pattern and wasn't marked.
-fn mark(
-    cells: &[Cell],
-    cell: Cell,
-    marks: &mut [bool],
-    reached: &mut Vec<Cell>,
-) -> Result<(), AllocError>
-    requires in_order { InOrder cells.now }
-    requires size { length marks.old ≡ length cells.now }
-    ensures size { length marks.new ≡ length marks.old }
-    ensures marks { OnOk result
-        (Marks cells.now (λ c. same_cell c cell) marks.old reached.old.items marks.new reached.new.items) }
-{
-    if let Ok(place) = cells.binary_search(&cell) {
-        if !marks[place] {
-            reached.push(cell)?;
-            marks[place] = true;
-        }
-    }
-    Ok(())
+    clusters[number].push(cell)
 }

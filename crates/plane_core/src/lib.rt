@@ -14,6 +14,7 @@ pub mod cell;
 pub mod clusters;
 /// Sums and differences of coordinates.
 pub mod coordinate;
+mod forest;
 /// The next generation, and later ones.
 pub mod generation;
 /// The eight orientations.

@@ -1,4 +1,4 @@
-ghost use Rattle.std.specs.Prelude.{◌≡◌, List, length, IfOk, IfErr, OnOk, position, None};
+ghost use Rattle.std.specs.Prelude.{◌≡◌, ◌++◌, List, [], ◌∷◌, length, IfOk, IfErr, OnOk, position, None};
 ghost use Rattle.plane_core.specs.Cells.{InOrder, IsPattern, SetsHaveOneList, cell_at, has, set_of, off_plane};
 ghost use Rattle.plane_core.specs.Refusals.{RefusesCells};
 ghost use Rattle.plane_core.specs.declared.cell.Cell.{Cell};
@@ -70,6 +70,15 @@ impl Pattern {
         ensures { result ≡ cells.items }
     {
         Pattern { cells }
+    }
+
+    /// Puts a cell after the others, which come before it.
+    pub(crate) fn push(&mut self, cell: Cell) -> Result<(), AllocError>
+        requires { IsPattern (self.old ++ cell ∷ []) }
+        ensures { OnOk result (self.new ≡ self.old ++ cell ∷ []) }
+    {
+        self.cells.push(cell)?;
+        Ok(())
     }
 
     /// An equal pattern.

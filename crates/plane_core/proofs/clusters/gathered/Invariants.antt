@@ -1,0 +1,5 @@
+use Rattle.plane_core.proofs.GatherLemmas.{IsGathering}
+use Rattle.plane_core.proofs.clusters.gathered.Given as goal
+
+abbrev pub invariant-loop-place : goal.invariant-loop-place
+invariant-loop-place l = IsGathering l.cells l.parents l.numbers.items l.clusters.items l.place

@@ -1,0 +1,5 @@
+use Rattle.plane_core.specs.Forest.{AreBehind, IsForest, JoinsAll}
+use Rattle.plane_core.proofs.forest.join_all.Given as goal
+
+abbrev pub invariant-loop-place : goal.invariant-loop-place
+invariant-loop-place l = IsForest l.cells l.parents × JoinsAll l.cells l.parents l.place × AreBehind l.cells l.cursors l.place

@@ -1,0 +1,24 @@
+use Rattle.std.proofs.Common.{◌≡◌, false, arith, rules}
+use Rattle.std.specs.Ordering.{is_le}
+use Rattle.plane_core.specs.Cells.{cell_cmp}
+use Rattle.plane_core.specs.Forest.{cell_of}
+use Rattle.plane_core.proofs.ForestLemmas.{scanning-more, scanned, not_most}
+use Rattle.plane_core.proofs.forest.join_up_to.Goals as goal
+
+pub loop-at-preserved : goal.loop-at-preserved
+loop-at-preserved c =
+    scanning-more c.args.cells.now c.args.parents.now c.loop-at.parents c.join_if_near.new.parents c.args.place c.args.first c.loop-at.at
+    c.loop-at.invariant c.join_if_near.ensures.forest c.join_if_near.ensures.keeps c.join_if_near.ensures.joined
+
+-- the scan ended at a cell after the last that may be near
+pub returns-else-le-clause-joined : goal.returns-else-le-clause-joined
+returns-else-le-clause-joined c =
+    let after : is_le (cell_cmp (cell_of c.args.cells.now c.loop-at.at) c.args.to) ≡ false = search rules in
+    scanned c.args.cells.now c.args.parents.now c.loop-at.parents c.args.place c.args.first c.loop-at.at c.args.to c.requires.pattern.in_order
+    c.requires.place (λ early. not_most (cell_of c.args.cells.now c.loop-at.at) c.args.to after) c.loop-at.invariant
+
+-- or at the place itself
+pub returns-after-loop-at-clause-joined : goal.returns-after-loop-at-clause-joined
+returns-after-loop-at-clause-joined c =
+    scanned c.args.cells.now c.args.parents.now c.loop-at.parents c.args.place c.args.first c.loop-at.at c.args.to c.requires.pattern.in_order
+    c.requires.place (λ early. absurd (omega (arith, early, c.loop-at-test.false))) c.loop-at.invariant

@@ -1,0 +1,65 @@
+-- How clusters are found: the places of a pattern's list become a forest. Each leads to an earlier place or is a root.
+use Rattle.std.specs.Prelude.{◌≡◌, ◌<◌, ◌≤◌, ◌==◌, ℕ, ℤ, pos, negsuc, List, [], ◌∷◌, cond, get_or, length}
+use Rattle.std.specs.declared.cmp.Ordering.TheVariants.{Less}
+use Rattle.plane_core.specs.declared.cell.Cell.{Cell}
+use Rattle.plane_core.specs.declared.forest.Cursors.{Cursors}
+use Rattle.plane_core.specs.Cells.{cell_at, cell_cmp, king_distance, moved_by}
+use Rattle.plane_core.specs.Clusters.{Linked}
+
+-- the cell at a place
+abbrev pub cell_of : List Cell → ℕ → Cell
+cell_of cells k = get_or cells k (cell_at (pos 0) (pos 0))
+
+-- the place to which a place leads
+abbrev pub parent_of : List ℕ → ℕ → ℕ
+parent_of parents k = get_or parents k 0
+
+-- no place leads to a later one
+abbrev pub LeadsBack : List ℕ → Type 0
+LeadsBack parents = (k : ℕ) → k < length parents → parent_of parents k ≤ k
+
+-- each cell is linked to the one to which its place leads
+pub record IsForest (cells : List Cell) (parents : List ℕ) : Type 0 where
+  pub size : length parents ≡ length cells
+  pub back : LeadsBack parents
+  pub linked : (k : ℕ) → k < length parents → Linked cells (cell_of cells k) (cell_of cells (parent_of parents k))
+
+-- each place has the label of the one to which it leads
+abbrev pub Labels : List ℕ → (ℕ → ℕ) → Type 0
+Labels parents label = (k : ℕ) → k < length parents → label (parent_of parents k) ≡ label k
+
+-- two places are of one tree: whoever labels trees gives them one label
+abbrev pub Joined : List ℕ → ℕ → ℕ → Type 0
+Joined parents j k = (label : ℕ → ℕ) → Labels parents label → label j ≡ label k
+
+-- what was joined still is
+abbrev pub Keeps : List ℕ → List ℕ → Type 0
+Keeps old new = (label : ℕ → ℕ) → Labels new label → Labels old label
+
+-- the trees may only be joined where cells are linked
+abbrev pub JoinsLinked : List ℕ → List ℕ → ℕ → ℕ → Type 0
+JoinsLinked old new j k = (cells : List Cell) → IsForest cells old → Linked cells (cell_of cells j) (cell_of cells k) → IsForest cells new
+
+-- places of near cells are joined, up to this place
+abbrev pub JoinsAll : List Cell → List ℕ → ℕ → Type 0
+JoinsAll cells parents place =
+    (j k : ℕ) → j < k → k < place → king_distance (cell_of cells j) (cell_of cells k) ≤ 2 → Joined parents j k
+
+-- the places before the cursor are those of cells that come before this one
+abbrev pub IsPassed : List Cell → ℕ → Cell → Type 0
+IsPassed cells cursor from = (k : ℕ) → k < cursor → cell_cmp (cell_of cells k) from ≡ Less
+
+-- they come before all that is near the cells from this place on, so many rows further down
+abbrev pub IsBehind : List Cell → ℕ → ℤ → ℕ → Type 0
+IsBehind cells cursor dy place = (p : ℕ) → place ≤ p → p < length cells → IsPassed cells cursor (moved_by (negsuc 1) dy (cell_of cells p))
+
+pub record AreBehind (cells : List Cell) (cursors : Cursors) (place : ℕ) : Type 0 where
+  pub here : IsBehind cells cursors.here (pos 0) place
+  pub above : IsBehind cells cursors.above (negsuc 0) place
+  pub top : IsBehind cells cursors.top (negsuc 1) place
+
+-- the cells at places with this number
+abbrev pub numbered : ℕ → List ℕ → List Cell → List Cell
+numbered n [] cells = []
+numbered n (m ∷ ms) [] = []
+numbered n (m ∷ ms) (c ∷ cs) = cond (m == n) (c ∷ numbered n ms cs) (numbered n ms cs)

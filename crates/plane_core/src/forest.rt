@@ -1,0 +1,234 @@
+//! Which cells of a pattern share a cluster: a forest over the places of its cells.
+//!
+//!      O . O . . . O          0 . 1 . . . 2          place    0  1  2  3  4
+//!      . . . . . . O          . . . . . . 3          leads to 0  0  2  2  0
+//!      . . . O . . .          . . . 4 . . .
+//!
+//! Each place leads to an earlier one of its tree, or to itself: then it is a root. At first all are roots. The places are
+//! gone through in order, and each is joined with those before it whose cells are near, at most two columns and two rows
+//! away: of the two roots, the later one leads to the earlier from then on. At the end each tree is a cluster.
+//!
+//! What is near and stands earlier lies in the cell's own row or in the two above. A cursor for each of these rows skips
+//! what lies too far to the left; it never goes back, since the next cell lies further right or further down.
+ghost use Rattle.std.specs.Prelude.{◌≡◌, ◌≢◌, ◌<◌, ◌≤◌, ℕ, true, IfOk, List, length, nat_le, unsigned_abs};
+ghost use Rattle.std.specs.declared.cmp.Ordering.TheVariants.{Less};
+ghost use Rattle.plane_core.specs.Cells.{IsPattern, cell_cmp, king_distance, moved_by, on_plane};
+ghost use Rattle.plane_core.specs.Forest.{AreBehind, IsForest, IsPassed, Joined, JoinsAll, JoinsLinked, Keeps, LeadsBack};
+ghost use Rattle.plane_core.specs.Clusters.{Linked};
+ghost use Rattle.plane_core.specs.Forest.{cell_of, parent_of};
+ghost use Rattle.plane_core.specs.declared.cell.Cell.{Cell};
+
+use crate::cell::Cell;
+use crate::coordinate::{apart, stepped};
+use std::alloc::{AllocError, Global};
+
+/// The first places that may be near, in the row of a cell and in the two rows above.
+#[derive(Clone, Copy, Debug)]
+struct Cursors {
+    here: usize,
+    above: usize,
+    top: usize,
+}
+
+/// The forest of a pattern: for each place the one to which it leads.
+pub(crate) fn forest(alloc: Global, cells: &[Cell]) -> Result<Vec<usize>, AllocError>
+    requires { IsPattern cells.now }
+    ensures forest { IfOk result (λ parents. IsForest cells.now parents.items) }
+    ensures joined { IfOk result (λ parents. JoinsAll cells.now parents.items (length cells.now)) }
+{
+    let mut parents = roots(alloc, cells.len())?;
+    join_all(cells, &mut parents);
+    Ok(parents)
+}
+
+/// So many places, each a root.
+fn roots(alloc: Global, count: usize) -> Result<Vec<usize>, AllocError>
+    ensures count { IfOk result (λ parents. length parents.items ≡ count) }
+    ensures roots { IfOk result (λ parents. (k : ℕ) → k < count → parent_of parents.items k ≡ k) }
+{
+    let mut parents = Vec::with_capacity(alloc, count)?;
+    for place in 0..count {
+        parents.push(place)?;
+    }
+    Ok(parents)
+}
+
+/// Joins the places of all cells that are near each other.
+fn join_all(cells: &[Cell], parents: &mut [usize])
+    requires pattern { IsPattern cells.now }
+    requires forest { IsForest cells.now parents.old }
+    ensures forest { IsForest cells.now parents.new }
+    ensures joined { JoinsAll cells.now parents.new (length cells.now) }
+{
+    let mut cursors = Cursors {
+        here: 0,
+        above: 0,
+        top: 0,
+    };
+    for place in 0..cells.len() {
+        cursors = join_place(cells, parents, place, cursors);
+    }
+}
+
+/// Joins this place with those before it whose cells are near. The result is the cursors for the next place.
+fn join_place(cells: &[Cell], parents: &mut [usize], place: usize, cursors: Cursors) -> Cursors
+    requires pattern { IsPattern cells.now }
+    requires place { place < length cells.now }
+    requires forest { IsForest cells.now parents.old }
+    requires cursors { AreBehind cells.now cursors place }
+    ensures forest { IsForest cells.now parents.new }
+    ensures keeps { Keeps parents.old parents.new }
+    ensures joined { (k : ℕ) → k < place → king_distance (cell_of cells.now k) (cell_of cells.now place) ≤ 2
+        → Joined parents.new k place }
+    ensures cursors { AreBehind cells.now result place }
+{
+    let cell = cells[place];
+    let here = join_row(
+        cells,
+        parents,
+        place,
+        cursors.here,
+        near(cell, -2, 0),
+        near(cell, 2, 0),
+    );
+    let above = join_row(
+        cells,
+        parents,
+        place,
+        cursors.above,
+        near(cell, -2, -1),
+        near(cell, 2, -1),
+    );
+    let top = join_row(
+        cells,
+        parents,
+        place,
+        cursors.top,
+        near(cell, -2, -2),
+        near(cell, 2, -2),
+    );
+    Cursors { here, above, top }
+}
+
+/// Joins this place with those before it whose cells are near and lie between two cells, these included. The result is the
+/// first place that may be one.
+fn join_row(
+    cells: &[Cell],
+    parents: &mut [usize],
+    place: usize,
+    cursor: usize,
+    from: Cell,
+    to: Cell,
+) -> usize
+    requires pattern { IsPattern cells.now }
+    requires place { place < length cells.now }
+    requires forest { IsForest cells.now parents.old }
+    requires cursor { IsPassed cells.now cursor from }
+    ensures forest { IsForest cells.now parents.new }
+    ensures keeps { Keeps parents.old parents.new }
+    ensures joined { (k : ℕ) → k < place → cell_cmp (cell_of cells.now k) from ≢ Less → cell_cmp to (cell_of cells.now k) ≢ Less
+        → king_distance (cell_of cells.now k) (cell_of cells.now place) ≤ 2 → Joined parents.new k place }
+    ensures cursor { IsPassed cells.now result from }
+{
+    let first = skipped(cells, cursor, from);
+    join_up_to(cells, parents, place, first, to);
+    first
+}
+
+/// The first place whose cell doesn't come before this one.
+fn skipped(cells: &[Cell], cursor: usize, from: Cell) -> usize
+    requires { IsPassed cells.now cursor from }
+    ensures { IsPassed cells.now result from }
+{
+    let mut at = cursor;
+    while at < cells.len() && cells[at] < from {
+        at += 1;
+    }
+    at
+}
+
+/// Joins this place with those from the first one on whose cells are near, up to the cell at which it ends.
+fn join_up_to(cells: &[Cell], parents: &mut [usize], place: usize, first: usize, to: Cell)
+    requires pattern { IsPattern cells.now }
+    requires place { place < length cells.now }
+    requires forest { IsForest cells.now parents.old }
+    ensures forest { IsForest cells.now parents.new }
+    ensures keeps { Keeps parents.old parents.new }
+    ensures joined { (k : ℕ) → first ≤ k → k < place → cell_cmp to (cell_of cells.now k) ≢ Less
+        → king_distance (cell_of cells.now k) (cell_of cells.now place) ≤ 2 → Joined parents.new k place }
+{
+    let mut at = first;
+    while at < place && cells[at] <= to {
+        join_if_near(cells, parents, at, place);
+        at += 1;
+    }
+}
+
+/// Joins two places if their cells are near.
+fn join_if_near(cells: &[Cell], parents: &mut [usize], one: usize, other: usize)
+    requires pattern { IsPattern cells.now }
+    requires one { one < length cells.now }
+    requires other { other < length cells.now }
+    requires forest { IsForest cells.now parents.old }
+    ensures forest { IsForest cells.now parents.new }
+    ensures keeps { Keeps parents.old parents.new }
+    ensures joined { king_distance (cell_of cells.now one) (cell_of cells.now other) ≤ 2 → Joined parents.new one other }
+{
+    if are_near(cells[one], cells[other]) {
+        join(parents, one, other);
+    }
+}
+
+/// Joins the trees of two places: the later root leads to the earlier.
+fn join(parents: &mut [usize], one: usize, other: usize)
+    requires one { one < length parents.old }
+    requires other { other < length parents.old }
+    requires back { LeadsBack parents.old }
+    ensures forest { JoinsLinked parents.old parents.new one other }
+    ensures keeps { Keeps parents.old parents.new }
+    ensures joined { Joined parents.new one other }
+{
+    let left = root(parents, one);
+    let right = root(parents, other);
+    let later = left.max(right);
+    parents[later] = left.min(right);
+}
+
+/// The root of a place's tree.
+fn root(parents: &[usize], place: usize) -> usize
+    requires place { place < length parents.now }
+    requires back { LeadsBack parents.now }
+    ensures place { result < length parents.now }
+    ensures root { parent_of parents.now result ≡ result }
+    ensures joined { Joined parents.now place result }
+    ensures linked { (cells : List Cell) → IsForest cells parents.now → Linked cells (cell_of cells place) (cell_of cells result) }
+{
+    let mut at = place;
+    while parents[at] != at {
+        at = parents[at];
+    }
+    at
+}
+
+/// Whether two cells are at king distance at most 2.
+#[tactic(auto, unfolding(crate::specs::Cells::on_plane))]
+fn are_near(one: Cell, other: Cell) -> bool
+    requires one { on_plane one ≡ true }
+    requires other { on_plane other ≡ true }
+    ensures { result ≡ nat_le (king_distance one other) 2 }
+{
+    apart(one.x, other.x).max(apart(one.y, other.y)) <= 2
+}
+
+/// The cell (x + dx, y + dy), at most two steps away.
+#[tactic(auto, unfolding(crate::specs::Cells::on_plane))]
+fn near(cell: Cell, dx: i32, dy: i32) -> Cell
+    requires on_plane { on_plane cell ≡ true }
+    requires right { unsigned_abs dx ≤ 2 }
+    requires down { unsigned_abs dy ≤ 2 }
+    ensures { result ≡ moved_by dx dy cell }
+{
+    let x = stepped(cell.x, dx);
+    let y = stepped(cell.y, dy);
+    Cell { y, x }
+}
