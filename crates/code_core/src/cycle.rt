@@ -37,6 +37,10 @@ pub(crate) fn follow(
     if touches_edge(pattern) {
         return Err(StepError::Edge);
     }
+    // Most patterns that don't come back are small, and seen not to at a fraction of what their phases cost.
+    if pattern.is_seen_to_change(rule, limit) {
+        return Ok(None);
+    }
     let mut phases = Vec::new(alloc);
     let mut latest = pattern.copy(alloc)?;
     for age in 0..limit {

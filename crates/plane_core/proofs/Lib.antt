@@ -36,4 +36,5 @@ pub mod SetLemmas
 pub mod SpeedLemmas
 pub mod TallyLemmas
 pub mod TurnLemmas
+pub mod WindowLemmas
 pub mod WordLemmas

@@ -14,4 +14,5 @@ pub mod PlaintextWalk
 pub mod Refusals
 pub mod Rules
 pub mod Tallies
+pub mod Windows
 pub mod Words

@@ -33,4 +33,6 @@ pub mod rule;
 /// The shift from one pattern to another.
 pub mod shift_to;
 mod tally;
+/// Whether a small pattern is seen not to come back.
+pub mod window;
 mod word;

@@ -55,3 +55,6 @@ returns-in_err-next-clause-edge c = search rules
 pub returns-in_err-next-clause-never_edge : goal.returns-in_err-next-clause-never_edge
 returns-in_err-next-clause-never_edge c = λ reach inside far e.
     never_meets c.args.rule.now c.args.pattern.now c.args.limit reach inside far (returns-in_err-next-clause-edge c e)
+
+pub returns-then-is_seen_to_change-clause-never : goal.returns-then-is_seen_to_change-clause-never
+returns-then-is_seen_to_change-clause-never c = c.is_seen_to_change.ensures.new c.if-is_seen_to_change.true

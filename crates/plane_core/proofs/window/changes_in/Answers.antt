@@ -1,0 +1,32 @@
+use Rattle.std.proofs.Common.{◌*◌, ◌+◌, arith, ℕ, subst, sym}
+use Rattle.plane_core.specs.Rules.{Numbers}
+use Rattle.plane_core.proofs.LoadLemmas.{zeros}
+use Rattle.plane_core.proofs.WindowLemmas.{IsChanging, changed-fewer, changing_more, changing_start}
+use Rattle.plane_core.proofs.window.changes_in.Goals as goal
+
+pub fill-requires-clause-empty : goal.fill-requires-clause-empty
+fill-requires-clause-empty c i = zeros 288 i
+
+pub loop-half-init : goal.loop-half-init
+loop-half-init c =
+    changing_start _ c.args.at c.args.cells.now _ _ c.requires.order c.requires.room c.fill.ensures.shown c.fill.ensures.dead (λ i outer. zeros 288 i)
+
+pub loop-half-preserved : goal.loop-half-preserved
+loop-half-preserved c =
+    let inv : IsChanging c.new-answers.result.rule c.args.at c.args.cells.now (2 * c.loop-half.half) c.loop-half.now c.loop-half.later =
+    subst (λ (r : Numbers). IsChanging r c.args.at c.args.cells.now (2 * c.loop-half.half) c.loop-half.now c.loop-half.later) (sym c.new-answers.ensures)
+    c.loop-half.invariant in
+    let one : IsChanging c.new-answers.result.rule c.args.at c.args.cells.now (2 * c.loop-half.half + 1) c.goes_on-changed.new.later c.loop-half.now =
+    changing_more _ c.args.at c.args.cells.now (2 * c.loop-half.half) c.loop-half.now c.loop-half.later c.goes_on-changed.new.later inv
+    (c.goes_on-changed.ensures.seen c.if-not-changed.false _ inv.dead inv.seen)
+    (λ dx dy. c.goes_on-changed.ensures.new c.if-not-changed.false _ dx dy inv.dead inv.seen) in
+    let two : IsChanging c.new-answers.result.rule c.args.at c.args.cells.now (2 * c.loop-half.half + 1 + 1) c.goes_on-changed_again.new.later c.goes_on-changed.new.later =
+    changing_more _ c.args.at c.args.cells.now (2 * c.loop-half.half + 1) c.goes_on-changed.new.later c.loop-half.now c.goes_on-changed_again.new.later one
+    (c.goes_on-changed_again.ensures.seen c.if-not-changed_again.false _ one.dead one.seen)
+    (λ dx dy. c.goes_on-changed_again.ensures.new c.if-not-changed_again.false _ dx dy one.dead one.seen) in
+    subst (λ (n : ℕ). IsChanging c.args.rule.now c.args.at c.args.cells.now n c.goes_on-changed_again.new.later c.goes_on-changed.new.later) (omega arith)
+    (subst (λ (r : Numbers). IsChanging r c.args.at c.args.cells.now (2 * c.loop-half.half + 1 + 1) c.goes_on-changed_again.new.later c.goes_on-changed.new.later)
+    c.new-answers.ensures two)
+
+pub returns : goal.returns
+returns c = λ changes. changed-fewer _ c.args.at c.args.cells.now (2 * c.loop-half.half) c.args.generations (omega arith) c.loop-half.invariant.changed

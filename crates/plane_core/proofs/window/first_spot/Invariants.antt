@@ -1,0 +1,5 @@
+use Rattle.std.proofs.Common.{◌≡◌, ◌+◌, ◌<◌, ◌≤◌, ℕ, slice_index}
+use Rattle.plane_core.proofs.window.first_spot.Given as goal
+
+abbrev pub invariant-loop-down : goal.invariant-loop-down
+invariant-loop-down l = (r : ℕ) → 16 ≤ r → r < l.down → slice_index l.words (96 + r) ≡ 0

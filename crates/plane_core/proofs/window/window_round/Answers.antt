@@ -1,0 +1,42 @@
+use Rattle.std.proofs.Common.{rules, w32, FitsSigned, refl}
+use Rattle.std.proofs.lemmas.Int.{to_z-of_z}
+use Rattle.plane_core.proofs.LayLemmas.{room_round}
+use Rattle.plane_core.proofs.WindowLemmas.{IsRoundWindow, window_is_inland, window_is_laid, window_has_room}
+use Rattle.plane_core.proofs.window.window_round.Goals as goal
+
+is_round : (c : goal.After-back-2) → IsRoundWindow c.in_ok-bounds.bounds c.apart-width.result c.apart-height.result
+    (record { left = c.back.result; top = c.back-2.result; strips = 3; blocks = 6 })
+is_round c =
+    let left : FitsSigned w32 c.in_ok-bounds.bounds.left = search rules in
+    let top : FitsSigned w32 c.in_ok-bounds.bounds.top = search rules in
+    let right : FitsSigned w32 c.in_ok-bounds.bounds.right = search rules in
+    let bottom : FitsSigned w32 c.in_ok-bounds.bounds.bottom = search rules in
+    record {
+      left = simp to_z-of_z at c.back.ensures;
+      top = simp to_z-of_z at c.back-2.ensures;
+      strips = refl;
+      blocks = refl;
+      across = simp to_z-of_z at c.apart-width.ensures;
+      down = simp to_z-of_z at c.apart-height.ensures;
+      wide = c.if-width-gt61.false;
+      high = c.if-height-gt61.false;
+    }
+
+pub returns-clause-laid : goal.returns-clause-laid
+returns-clause-laid c =
+    let left : FitsSigned w32 c.back.result = search rules in
+    let top : FitsSigned w32 c.back-2.result = search rules in
+    simp to_z-of_z (window_is_laid c.in_ok-bounds.bounds _ _ _ (c.is_near.ensures c.if-not-is_near.false) (is_round c))
+
+pub returns-clause-room : goal.returns-clause-room
+returns-clause-room c =
+    let left : FitsSigned w32 c.back.result = search rules in
+    let top : FitsSigned w32 c.back-2.result = search rules in
+    simp to_z-of_z (room_round c.args.pattern.now c.in_ok-bounds.bounds (record { left = c.back.result; top = c.back-2.result; strips = 3; blocks = 6 }) 0
+    c.in_ok-bounds.ensures.least (window_has_room c.in_ok-bounds.bounds _ _ _ (is_round c)))
+
+pub returns-clause-inland : goal.returns-clause-inland
+returns-clause-inland c =
+    let left : FitsSigned w32 c.back.result = search rules in
+    let top : FitsSigned w32 c.back-2.result = search rules in
+    simp to_z-of_z (window_is_inland c.in_ok-bounds.bounds _ _ _ (c.is_near.ensures c.if-not-is_near.false) (is_round c))
