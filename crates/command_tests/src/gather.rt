@@ -11,7 +11,7 @@ use std::process::Abort;
 use std::test::Fail;
 
 /// Under this profile a soup is settled only if it is a still life at once.
-const SMALL: ProfileNumbers = ProfileNumbers {
+pub(crate) const SMALL: ProfileNumbers = ProfileNumbers {
     period: 1,
     horizon: 1,
     stride: 1,
@@ -19,12 +19,13 @@ const SMALL: ProfileNumbers = ProfileNumbers {
 };
 
 /// Lines of version 1 on soups 0 to 3 of the empty seed: none is a still life. The third comes twice, and the last is cut.
-const LINES: &[u8] = b"report 1 rule=b3s23 profile=1,1,1,0 seed= worker=1 soup=3 unsettled\n\
+pub(crate) const LINES: &[u8] =
+    b"report 1 rule=b3s23 profile=1,1,1,0 seed= worker=1 soup=3 unsettled\n\
     report 1 rule=b3s23 profile=1,1,1,0 seed= worker=2 soup=0 unsettled\n\
     report 1 rule=b3s23 profile=1,1,1,0 seed= worker=1 soup=3 unsettled\n\
     report 1 rule=b3s23 profile=1,1,1,0 seed= wor\n";
 
-const TOLD: &[u8] = b"line 3: double of 3 by 1\n\
+pub(crate) const TOLD: &[u8] = b"line 3: double of 3 by 1\n\
     line 4: bad line at 42\n\
     census: incomplete, 2 missing\n";
 
@@ -33,7 +34,7 @@ const FIRST: &[u8] = b"report 1 rule=b3s23 profile=1,1,1,0 seed= worker=2 soup=0
 const BOTH: &[u8] = b"report 1 rule=b3s23 profile=1,1,1,0 seed= worker=2 soup=0 unsettled\n\
     report 2 rule=b3s23 profile=1,1,1,0 seed= worker=2 soup=1 unsettled";
 
-const TWO_OF_FOUR: &[u8] = b"@VERSION 2\n\
+pub(crate) const TWO_OF_FOUR: &[u8] = b"@VERSION 2\n\
     @ROOT seed=\n\
     @RULE b3s23\n\
     @SYMMETRY C1\n\
@@ -64,7 +65,7 @@ const TWO: &[u8] = b"@VERSION 2\n\
     @SAMPLE_SOUPIDS\n";
 
 /// So many soups of a seed, from this number on.
-fn set_of(seed: &str, first: u64, count: u64) -> SoupSet<'_> {
+pub(crate) fn set_of(seed: &str, first: u64, count: u64) -> SoupSet<'_> {
     SoupSet {
         seed: Word::new(seed),
         first,

@@ -14,6 +14,8 @@ mod show;
 #[cfg(test)]
 mod soup;
 #[cfg(test)]
+mod streams;
+#[cfg(test)]
 mod take;
 #[cfg(test)]
 mod work;

@@ -16,7 +16,7 @@ use std::thread::Threads;
 
 pub(crate) const BLINKER: &[u8] = b"OOO\n";
 
-const UPRIGHT: &[u8] = b"O\nO\nO\n";
+pub(crate) const UPRIGHT: &[u8] = b"O\nO\nO\n";
 
 pub(crate) const LIFE: &str = "b3s23";
 
