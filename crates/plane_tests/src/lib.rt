@@ -17,3 +17,5 @@ mod plaintext;
 mod rule;
 #[cfg(test)]
 mod sizes;
+#[cfg(test)]
+mod window;
