@@ -356,7 +356,7 @@ lines_ended set workers profile rule bytes known before buffered below held fail
       status_is = same;
       may = (
         opens_reads set workers profile rule reached.terms reached.opened,
-        front_sent before buffered below held [] [] reached.nothing kept
+        front_sent before buffered below held [] [] reached.nothing kept,
       );
       says = inl (ends.between.after, begun reached, last);
     }
