@@ -17,5 +17,7 @@ pub mod options;
 pub mod commands;
 /// What words ask for.
 pub mod request;
+/// The values that a request takes, each looked up by its row.
+pub mod values;
 /// A text that stands in the words.
 pub mod word;
