@@ -1,5 +1,5 @@
 -- What a request takes of the values that were found for the arguments of a command.
-use Rattle.std.specs.Prelude.{◌&&◌, ℕ, Bool, false, List, Option, None, Some, codes, option_and_then, nat_le, if◌then◌else◌}
+use Rattle.std.specs.Prelude.{◌≤◌, ◌&&◌, ℕ, Bool, false, List, Option, None, Some, codes, option_and_then, nat_le, if◌then◌else◌}
 use Rattle.std.specs.Option.{option_map_or}
 use Rattle.std.specs.Str.{bytes_eq}
 use Rattle.std.specs.Str.Parse.{digits_value, without_leading_plus}
@@ -40,3 +40,10 @@ text_in entry rows = first_of entry.name rows
 -- whether a flag was given: then its value is `true`
 abbrev pub is_given : Entry → List Row → Bool
 is_given entry rows = option_map_or (λ text. bytes_eq text (codes "true")) (first_of entry.name rows) false
+
+-- a number is in the range of a kind
+abbrev pub IsInRange : Kind → ℕ → Type 0
+IsInRange kind.Text n = ⊥
+IsInRange kind.Flag n = ⊥
+IsInRange (kind.Number least most) n = (least ≤ n) × (n ≤ most)
+IsInRange (kind.LargeNumber most) n = n ≤ most

@@ -15,6 +15,8 @@ pub mod application;
 pub mod options;
 /// The table of the commands.
 pub mod commands;
+/// What is found for the arguments of a command, put together.
+pub mod reading;
 /// What words ask for.
 pub mod request;
 /// The values that a request takes, each looked up by its row.
