@@ -13,6 +13,8 @@
 pub mod application;
 /// The table of the arguments.
 pub mod options;
+/// What the words of a call ask for.
+pub mod calls;
 /// The table of the commands.
 pub mod commands;
 /// What is found for the arguments of a command, put together.
