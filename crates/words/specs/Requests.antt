@@ -1,0 +1,94 @@
+-- The request that a command's values make.
+use Rattle.std.specs.Prelude.{ℕ, Bool, false, List, [], ◌∷◌, Option, None, Some, codes, option_and_then, if◌then◌else◌}
+use Rattle.std.specs.Str.{bytes_eq}
+use Rattle.clap.specs.Words.{Kinds, Row, Text, fault_of, subcommand_of}
+use Rattle.words.specs.declared.request.ProfileNumbers.{ProfileNumbers}
+use Rattle.words.specs.declared.request.Request.{Request}
+use Rattle.words.specs.declared.request.Request.TheVariants.{Run, Name, Show, Soup, Take, Work, Gather, Version}
+use Rattle.words.specs.declared.request.SoupSet.{SoupSet}
+use Rattle.words.specs.declared.request.Survey.{Survey}
+use Rattle.words.specs.Table.{also, census_app, code, generations, number, progress, rule, worker, workers, count, first, horizon, limit, period, seed, stride}
+use Rattle.words.specs.Values.{is_given, number_in, text_in}
+
+-- the numbers of a profile, if all four are there
+abbrev pub all_four : Option ℕ → Option ℕ → Option ℕ → Option ℕ → Option ProfileNumbers
+all_four (Some p) (Some h) (Some k) (Some t) = Some (record { period = p; horizon = h; stride = k; limit = t })
+all_four _ _ _ _ = None
+
+abbrev pub profile_in : List Row → Option ProfileNumbers
+profile_in rows = all_four (number_in period rows) (number_in horizon rows) (number_in stride rows) (number_in limit rows)
+
+-- a set of soups, if all four of its parts are there
+abbrev pub set_of_four : Option Text → Option ℕ → Option ℕ → Option Text → Option SoupSet
+set_of_four (Some seed) (Some first) (Some count) (Some also) = Some (record { seed = seed; first = first; count = count; also = also })
+set_of_four _ _ _ _ = None
+
+abbrev pub set_in : List Row → Option SoupSet
+set_in rows = set_of_four (text_in seed rows) (number_in first rows) (number_in count rows) (text_in also rows)
+
+-- which soups, and how they are run, if all three parts are there
+abbrev pub survey_of_three : Option SoupSet → Option ProfileNumbers → Option Text → Option Survey
+survey_of_three (Some set) (Some profile) (Some rule) = Some (record { set = set; profile = profile; rule = rule })
+survey_of_three _ _ _ = None
+
+abbrev pub survey_in : List Row → Option Survey
+survey_in rows = survey_of_three (set_in rows) (profile_in rows) (text_in rule rows)
+
+-- each command, if its values are there
+abbrev pub run_of : Option ℕ → Option Text → Option Request
+run_of (Some n) (Some rule) = Some (Run n rule)
+run_of _ _ = None
+
+abbrev pub name_of : Option ProfileNumbers → Option Text → Option Request
+name_of (Some profile) (Some rule) = Some (Name profile rule)
+name_of _ _ = None
+
+abbrev pub show_of : Option Text → Option Request
+show_of (Some code) = Some (Show code)
+show_of None = None
+
+abbrev pub soup_of : Option ℕ → Option Text → Option Request
+soup_of (Some n) (Some seed) = Some (Soup seed n)
+soup_of _ _ = None
+
+abbrev pub take_of : Bool → Option Survey → Option ℕ → Option Request
+take_of asked (Some survey) (Some workers) = Some (Take survey workers asked)
+take_of asked _ _ = None
+
+abbrev pub work_of : Option Survey → Option ℕ → Option Request
+work_of (Some survey) (Some worker) = Some (Work survey worker)
+work_of _ _ = None
+
+abbrev pub gather_of : Option Survey → Option ℕ → Option Request
+gather_of (Some survey) (Some workers) = Some (Gather survey workers)
+gather_of _ _ = None
+
+-- the command of this name, with its values
+abbrev pub request_in : Text × List Row → Option Request
+request_in found =
+    if bytes_eq found.0 (codes "run") then run_of (number_in generations found.1) (text_in rule found.1)
+    else if bytes_eq found.0 (codes "name") then name_of (profile_in found.1) (text_in rule found.1)
+    else if bytes_eq found.0 (codes "show") then show_of (text_in code found.1)
+    else if bytes_eq found.0 (codes "soup") then soup_of (number_in number found.1) (text_in seed found.1)
+    else if bytes_eq found.0 (codes "take") then take_of (is_given progress found.1) (survey_in found.1) (number_in workers found.1)
+    else if bytes_eq found.0 (codes "work") then work_of (survey_in found.1) (number_in worker found.1)
+    else if bytes_eq found.0 (codes "gather") then gather_of (survey_in found.1) (number_in workers found.1)
+    else None
+
+-- a request, if nothing is wrong with the words
+abbrev pub unless_faulty : Kinds → Option Request → Option Request
+unless_faulty [] request = request
+unless_faulty (kind ∷ kinds) request = None
+
+-- the program's name and `--version` alone
+abbrev pub asks_version : List Text → Bool
+asks_version (program ∷ word ∷ []) = bytes_eq word (codes "--version")
+asks_version _ = false
+
+-- what `clap` makes of the words: no request if it finds a fault in them, or they ask for help
+abbrev pub called_by : List Text → Option Request
+called_by words = unless_faulty (fault_of census_app words) (option_and_then request_in (subcommand_of census_app words))
+
+-- what words ask for, of which the first is the program's name
+abbrev pub asked_by : List Text → Option Request
+asked_by words = if asks_version words then Some Version else called_by words

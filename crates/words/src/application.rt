@@ -1,0 +1,116 @@
+ghost use Rattle.std.specs.Prelude.{◌≡◌, IfOk, map, true, false};
+ghost use Rattle.clap.specs.Words.{app_of, rule_of, shape_of};
+ghost use Rattle.clap.specs.declared.builder.command.Command.TheViews.{out-Command as fields_of};
+ghost use Rattle.words.specs.Table.{census_app, command_of, entry_of, named, placed, rule_in, shape_in, with_commands, with_rules};
+
+use crate::commands::{COMMANDS, CommandRow};
+use crate::options::{Argument, Kind, Place};
+use clap::builder::ValueParser;
+use clap::{Arg, ArgAction, Command};
+use std::alloc::{AllocError, Global};
+
+/// The program as `clap` reads its words.
+///
+/// # Errors
+///
+/// `AllocError` if memory runs out.
+pub fn census_command<'a>(alloc: Global) -> Result<Command<'a>, AllocError>
+    ensures { IfOk result (λ command. app_of command ≡ census_app) }
+{
+    let command = Command::new(alloc, "census")
+        .about(
+            "Runs patterns of Conway's Game of Life and its kin, names and draws their objects, makes soups, and counts what \
+             they leave",
+        )
+        .after_help("`census --version` prints the name and version.")
+        .subcommand_required(true);
+    with_commands(alloc, command, &COMMANDS)
+}
+
+/// The program with these commands too.
+fn with_commands<'a>(
+    alloc: Global,
+    program: Command<'a>,
+    rows: &[CommandRow],
+) -> Result<Command<'a>, AllocError>
+    ensures { IfOk result (λ new. app_of new ≡ with_commands (app_of program.entry) (map shape_in (map command_of rows.now))) }
+{
+    let mut program = program;
+    for row in rows {
+        program = program.subcommand(command(alloc, row)?)?;
+    }
+    Ok(program)
+}
+
+/// The command of a row.
+fn command<'a>(alloc: Global, row: &CommandRow) -> Result<Command<'a>, AllocError>
+    ensures shape { IfOk result (λ command. shape_of command ≡ shape_in (command_of row.now)) }
+    ensures local { IfOk result (λ command. (fields_of command).has_globals ≡ false) }
+{
+    let command = Command::new(alloc, row.name)
+        .about(row.about)
+        .long_about(row.long_about)
+        .after_help(row.after_help);
+    with_arguments(alloc, command, row.arguments)
+}
+
+/// The command with these arguments too.
+fn with_arguments<'a>(
+    alloc: Global,
+    command: Command<'a>,
+    rows: &[Argument],
+) -> Result<Command<'a>, AllocError>
+    ensures app { IfOk result (λ new. app_of new ≡ with_rules (app_of command.entry) (map rule_in (map entry_of rows.now))) }
+    ensures local { (fields_of command.entry).has_globals ≡ false → IfOk result (λ new. (fields_of new).has_globals ≡ false) }
+{
+    let mut command = command;
+    for row in rows {
+        command = command.arg(argument(alloc, row))?;
+    }
+    Ok(command)
+}
+
+/// The argument of a row.
+fn argument<'a>(alloc: Global, row: &Argument) -> Arg<'a>
+    ensures rule { rule_of result ≡ rule_in (entry_of row.now) }
+    ensures local { result.global ≡ false }
+{
+    match row.kind {
+        Kind::Text => with_value(alloc, row),
+        Kind::Flag => Arg::new(alloc, row.name)
+            .long(row.name)
+            .action(ArgAction::SetTrue)
+            .help(row.help),
+        Kind::Number(least, most) => {
+            let parser = ValueParser::signed(i64::from(least), i64::from(most));
+            with_value(alloc, row).value_parser(parser)
+        }
+        Kind::LargeNumber(most) => {
+            with_value(alloc, row).value_parser(ValueParser::unsigned(0, most))
+        }
+    }
+}
+
+/// The argument of a row that has a value, which may be any text.
+fn with_value<'a>(alloc: Global, row: &Argument) -> Arg<'a>
+    ensures rule { rule_of result ≡ placed (entry_of row.now) }
+    ensures local { result.global ≡ false }
+{
+    let argument = with_place(alloc, row);
+    match row.default {
+        Some(text) => argument.default_value(text),
+        None => argument.required(true),
+    }
+}
+
+/// The argument of a row, with its name and place alone.
+fn with_place<'a>(alloc: Global, row: &Argument) -> Arg<'a>
+    ensures rule { rule_of result ≡ named (entry_of row.now) }
+    ensures local { result.global ≡ false }
+{
+    let argument = Arg::new(alloc, row.name).help(row.help);
+    match row.place {
+        Place::Position => argument,
+        Place::Named(shown) => argument.long(row.name).value_name(shown),
+    }
+}

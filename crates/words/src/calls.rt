@@ -1,0 +1,101 @@
+ghost use Rattle.std.specs.Prelude.{◌≡◌, ◌≢◌, None, Some, IfOk, IfErr, map, option_and_then};
+ghost use Rattle.clap.specs.Words.{kind_of, subcommand_rows_of};
+ghost use Rattle.words.specs.Requests.{asked_by, asks_version, request_in};
+
+use crate::application::census_command;
+use crate::reading::{gather_in, name_in, run_in, show_in, soup_in, take_in, work_in};
+use crate::request::Request;
+use clap::ArgMatches;
+use clap::error::ErrorKind;
+use std::alloc::{AllocError, Global};
+use std::convert::AsStr;
+
+/// Why words give no request.
+#[derive(Debug, Drop)]
+pub enum Unasked {
+    /// They are not understood, or ask for help: the text that says so.
+    Usage(String),
+    /// Memory ran out.
+    OutOfMemory,
+}
+
+impl From<AllocError> for Unasked {
+    ghost use Rattle.words.specs.declared.calls.Unasked.TheVariants.{OutOfMemory};
+
+    ghost from_gives = { λ _ unasked. unasked ≡ OutOfMemory };
+
+    fn from(_error: AllocError) -> Unasked {
+        Unasked::OutOfMemory
+    }
+}
+
+/// What the words ask for, of which the first is the program's name.
+///
+/// # Errors
+///
+/// - [`Unasked::Usage`]: `clap` finds a fault in the words, or they ask for help.
+/// - [`Unasked::OutOfMemory`].
+pub fn request_of<'a, S: AsStr>(alloc: Global, words: &'a [S]) -> Result<Request<'a>, Unasked>
+    ensures asked { IfOk result (λ request. asked_by (map S.text words.entry.now) ≡ Some request) }
+    ensures usage { IfErr result (λ unasked.
+        unasked ≢ Unasked.OutOfMemory → asked_by (map S.text words.entry.now) ≡ None) }
+{
+    if asks_version(words) {
+        return Ok(Request::Version);
+    }
+    let command = census_command(alloc)?;
+    match command.try_get_matches_from(words) {
+        Ok(matches) => match request_in(&matches) {
+            Some(request) => Ok(request),
+            None => Err(usage(alloc, "error: a value is missing\n")),
+        },
+        Err(error) => Err(unasked_by(alloc, &error)),
+    }
+}
+
+/// Whether the words are the program's name and `--version` alone.
+fn asks_version<S: AsStr>(words: &[S]) -> bool
+    ensures { result ≡ asks_version (map S.text words.now) }
+{
+    match words {
+        [_, word] => word.as_str() == "--version",
+        _ => false,
+    }
+}
+
+/// The command that `clap` found, with its values.
+fn request_in<'a>(matches: &ArgMatches<'a>) -> Option<Request<'a>>
+    ensures request { result ≡ option_and_then request_in (subcommand_rows_of matches.now) }
+{
+    match matches.subcommand() {
+        Some(("run", found)) => run_in(found),
+        Some(("name", found)) => name_in(found),
+        Some(("show", found)) => show_in(found),
+        Some(("soup", found)) => soup_in(found),
+        Some(("take", found)) => take_in(found),
+        Some(("work", found)) => work_in(found),
+        Some(("gather", found)) => gather_in(found),
+        _ => None,
+    }
+}
+
+/// What `clap`'s error says of words that name no command, or ask for help.
+fn unasked_by(alloc: Global, error: &clap::Error) -> Unasked
+    ensures { kind_of error.now ≡ ErrorKind.OutOfMemory → result ≡ Unasked.OutOfMemory }
+{
+    if error.kind() == ErrorKind::OutOfMemory {
+        return Unasked::OutOfMemory;
+    }
+    match error.to_string(alloc) {
+        Ok(text) => Unasked::Usage(text),
+        Err(_) => Unasked::OutOfMemory,
+    }
+}
+
+/// The usage fault with this text.
+fn usage(alloc: Global, text: &str) -> Unasked {
+    match String::from_str(alloc, text) {
+        Ok(text) => Unasked::Usage(text),
+        Err(_) => Unasked::OutOfMemory,
+    }
+}

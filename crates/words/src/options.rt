@@ -1,0 +1,188 @@
+//! The one table of the program's arguments: a row each, and a list of rows for each command.
+//!
+//! What `clap` reads words by, what a request takes of them and the laws on words all come from these rows. A new option is
+//! a row more, which stands in the lists of the commands that have it.
+
+/// What the value of an argument has to be.
+#[derive(Clone, Copy)]
+pub enum Kind {
+    /// Any text.
+    Text,
+    /// There is no value: the argument is given or not.
+    Flag,
+    /// A number from the first to the second of these.
+    Number(u32, u32),
+    /// A number from 0 to this, which may take more than 32 bits.
+    LargeNumber(u64),
+}
+
+/// Where an argument stands in the words.
+#[derive(Clone, Copy)]
+pub enum Place {
+    /// By itself, as the first that does.
+    Position,
+    /// After `--` and its name, in the next word or after `=`. Help calls its value so.
+    Named(&'static str),
+}
+
+/// An argument of a command.
+#[derive(Clone, Copy)]
+pub struct Argument {
+    /// The name: what stands after `--`, or what help calls an argument that stands by itself.
+    pub name: &'static str,
+    /// Where it stands.
+    pub place: Place,
+    /// What its value has to be.
+    pub kind: Kind,
+    /// The value that is meant if it isn't given. Without one it must be given, unless it is a flag.
+    pub default: Option<&'static str>,
+    /// What help says of it.
+    pub help: &'static str,
+}
+
+/// The number of generations to run.
+pub const GENERATIONS: Argument = Argument {
+    name: "N",
+    place: Place::Position,
+    kind: Kind::Number(0, 100_000),
+    default: None,
+    help: "How many generations to run, from 0 to 100000",
+};
+
+/// The code of an object.
+pub const CODE: Argument = Argument {
+    name: "CODE",
+    place: Place::Position,
+    kind: Kind::Text,
+    default: None,
+    help: "An apgcode, as xs7_178c or xp2_7, or the text after its `_`; the number isn't checked",
+};
+
+/// The number of a soup.
+pub const NUMBER: Argument = Argument {
+    name: "N",
+    place: Place::Position,
+    kind: Kind::LargeNumber(1_099_511_627_775),
+    default: None,
+    help: "The number of the soup, from 0 to 1099511627775",
+};
+
+/// The rule. Life is meant if none is given.
+pub const RULE: Argument = Argument {
+    name: "rule",
+    place: Place::Named("TEXT"),
+    kind: Kind::Text,
+    default: Some("b3s23"),
+    help: "The rule: `b`, the numbers of live neighbours that give birth, `s`, the numbers on which a live cell \
+         survives. Life is b3s23, which others write B3/S23",
+};
+
+/// The seed.
+pub const SEED: Argument = Argument {
+    name: "seed",
+    place: Place::Named("TEXT"),
+    kind: Kind::Text,
+    default: Some(""),
+    help: "The seed: at most 64 visible ASCII characters",
+};
+
+/// The first number of the range of soups.
+pub const FIRST: Argument = Argument {
+    name: "first",
+    place: Place::Named("FIRST"),
+    kind: Kind::LargeNumber(1_099_511_627_776),
+    default: Some("0"),
+    help: "The first number of a soup, from 0 to 1099511627776",
+};
+
+/// How many numbers the range of soups has.
+pub const COUNT: Argument = Argument {
+    name: "count",
+    place: Place::Named("COUNT"),
+    kind: Kind::Number(0, 16_777_216),
+    default: None,
+    help: "How many soups, from 0 to 16777216",
+};
+
+/// The list of the other ranges of soups.
+pub const ALSO: Argument = Argument {
+    name: "also",
+    place: Place::Named("LIST"),
+    kind: Kind::Text,
+    default: Some(""),
+    help: "Further ranges of numbers, as 100+20,500+1: the numbers 100 to 119, and 500",
+};
+
+/// The longest period that counts.
+pub const PERIOD: Argument = Argument {
+    name: "period",
+    place: Place::Named("PERIOD"),
+    kind: Kind::Number(1, 64),
+    default: Some("64"),
+    help: "The longest period that counts, from 1 to 64",
+};
+
+/// For how many generations objects may not meet.
+pub const HORIZON: Argument = Argument {
+    name: "horizon",
+    place: Place::Named("HORIZON"),
+    kind: Kind::Number(0, 4096),
+    default: Some("512"),
+    help: "For how many generations objects may not come into each other's way: PERIOD to 4096",
+};
+
+/// How far one look is from the next.
+pub const STRIDE: Argument = Argument {
+    name: "stride",
+    place: Place::Named("STRIDE"),
+    kind: Kind::Number(1, 10_000),
+    default: Some("101"),
+    help: "How many generations there are from one look to the next, from 1 to 10000",
+};
+
+/// The last generation at which there may be a look.
+pub const LIMIT: Argument = Argument {
+    name: "limit",
+    place: Place::Named("LIMIT"),
+    kind: Kind::Number(0, 100_000),
+    default: Some("30300"),
+    help: "The last generation at which there may be a look, from 0 to 100000. A pattern that explodes under its rule takes \
+         ever more memory and time up to there",
+};
+
+/// How many workers run soups.
+pub const WORKERS: Argument = Argument {
+    name: "workers",
+    place: Place::Named("WORKERS"),
+    kind: Kind::Number(1, 16),
+    default: Some("1"),
+    help: "How many workers run soups at a time, from 1 to 16, each in a thread of its own. For one on each processor say \
+         `--workers $(nproc)`, where there are at most 16. Fewer work where the system starts no more threads; the haul is the same",
+};
+
+/// How many workers have reported.
+pub const REPORTERS: Argument = Argument {
+    name: "workers",
+    place: Place::Named("WORKERS"),
+    kind: Kind::Number(1, 16),
+    default: Some("1"),
+    help: "The greatest number of a worker whose reports are taken, from 1 to 16: lines of worker 3 need `--workers 3`",
+};
+
+/// Which worker reports.
+pub const WORKER: Argument = Argument {
+    name: "worker",
+    place: Place::Named("WORKER"),
+    kind: Kind::Number(1, 16),
+    default: None,
+    help: "The number of the worker that reports, from 1 to 16",
+};
+
+/// Whether the line of progress is asked for.
+pub const PROGRESS: Argument = Argument {
+    name: "progress",
+    place: Place::Named(""),
+    kind: Kind::Flag,
+    default: None,
+    help: "Says on standard error how many soups are run, also if that is no terminal. The line is wiped at the end",
+};

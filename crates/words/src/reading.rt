@@ -1,0 +1,127 @@
+ghost use Rattle.std.specs.Prelude.{◌≡◌};
+ghost use Rattle.clap.specs.Words.{found_of, rows_of};
+ghost use Rattle.words.specs.Table.{code, generations, number, progress, rule, seed, worker, workers};
+ghost use Rattle.words.specs.Values.{is_given, number_in, text_in};
+ghost use Rattle.words.specs.Requests.{gather_of, name_of, profile_in, run_of, set_in, show_of, soup_of, survey_in, take_of, work_of};
+
+use crate::options;
+use crate::request::{ProfileNumbers, Request, SoupSet, Survey};
+use crate::values::{is_given, number_in, text_in};
+use clap::ArgMatches;
+
+/// The numbers of a profile that were found.
+pub fn profile_in(found: &ArgMatches<'_>) -> Option<ProfileNumbers>
+    ensures { result ≡ profile_in (rows_of (found_of found.now)) }
+{
+    let period = number_in(found, &options::PERIOD)?;
+    let horizon = number_in(found, &options::HORIZON)?;
+    let stride = number_in(found, &options::STRIDE)?;
+    let limit = number_in(found, &options::LIMIT)?;
+    Some(ProfileNumbers {
+        period: period as u32,
+        horizon: horizon as u32,
+        stride: stride as u32,
+        limit: limit as u32,
+    })
+}
+
+/// The set of soups that was found.
+pub fn set_in<'a>(found: &ArgMatches<'a>) -> Option<SoupSet<'a>>
+    ensures { result ≡ set_in (rows_of (found_of found.now)) }
+{
+    let seed = text_in(found, &options::SEED)?;
+    let first = number_in(found, &options::FIRST)?;
+    let count = number_in(found, &options::COUNT)?;
+    let also = text_in(found, &options::ALSO)?;
+    Some(SoupSet {
+        seed,
+        first,
+        count,
+        also,
+    })
+}
+
+/// Which soups are meant, and how they are run.
+pub fn survey_in<'a>(found: &ArgMatches<'a>) -> Option<Survey<'a>>
+    ensures { result ≡ survey_in (rows_of (found_of found.now)) }
+{
+    let set = set_in(found)?;
+    let profile = profile_in(found)?;
+    let rule = text_in(found, &options::RULE)?;
+    Some(Survey { set, profile, rule })
+}
+
+/// `run` with its values.
+pub(crate) fn run_in<'a>(found: &ArgMatches<'a>) -> Option<Request<'a>>
+    ensures { result ≡ run_of (number_in generations (rows_of (found_of found.now))) (text_in rule (rows_of (found_of found.now))) }
+{
+    let generations = number_in(found, &options::GENERATIONS)?;
+    let rule = text_in(found, &options::RULE)?;
+    Some(Request::Run {
+        generations: generations as u32,
+        rule,
+    })
+}
+
+/// `name` with its values.
+pub(crate) fn name_in<'a>(found: &ArgMatches<'a>) -> Option<Request<'a>>
+    ensures { result ≡ name_of (profile_in (rows_of (found_of found.now))) (text_in rule (rows_of (found_of found.now))) }
+{
+    let profile = profile_in(found)?;
+    let rule = text_in(found, &options::RULE)?;
+    Some(Request::Name { profile, rule })
+}
+
+/// `show` with its value.
+pub(crate) fn show_in<'a>(found: &ArgMatches<'a>) -> Option<Request<'a>>
+    ensures { result ≡ show_of (text_in code (rows_of (found_of found.now))) }
+{
+    let code = text_in(found, &options::CODE)?;
+    Some(Request::Show { code })
+}
+
+/// `soup` with its values.
+pub(crate) fn soup_in<'a>(found: &ArgMatches<'a>) -> Option<Request<'a>>
+    ensures { result ≡ soup_of (number_in number (rows_of (found_of found.now))) (text_in seed (rows_of (found_of found.now))) }
+{
+    let number = number_in(found, &options::NUMBER)?;
+    let seed = text_in(found, &options::SEED)?;
+    Some(Request::Soup { seed, number })
+}
+
+/// `take` with its values.
+pub(crate) fn take_in<'a>(found: &ArgMatches<'a>) -> Option<Request<'a>>
+    ensures { result ≡ take_of (is_given progress (rows_of (found_of found.now))) (survey_in (rows_of (found_of found.now))) (number_in workers (rows_of (found_of found.now))) }
+{
+    let survey = survey_in(found)?;
+    let workers = number_in(found, &options::WORKERS)?;
+    Some(Request::Take {
+        survey,
+        workers: workers as u8,
+        progress: is_given(found, &options::PROGRESS),
+    })
+}
+
+/// `work` with its values.
+pub(crate) fn work_in<'a>(found: &ArgMatches<'a>) -> Option<Request<'a>>
+    ensures { result ≡ work_of (survey_in (rows_of (found_of found.now))) (number_in worker (rows_of (found_of found.now))) }
+{
+    let survey = survey_in(found)?;
+    let worker = number_in(found, &options::WORKER)?;
+    Some(Request::Work {
+        survey,
+        worker: worker as u8,
+    })
+}
+
+/// `gather` with its values.
+pub(crate) fn gather_in<'a>(found: &ArgMatches<'a>) -> Option<Request<'a>>
+    ensures { result ≡ gather_of (survey_in (rows_of (found_of found.now))) (number_in workers (rows_of (found_of found.now))) }
+{
+    let survey = survey_in(found)?;
+    let reporters = number_in(found, &options::REPORTERS)?;
+    Some(Request::Gather {
+        survey,
+        workers: reporters as u8,
+    })
+}

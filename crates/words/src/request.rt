@@ -1,0 +1,80 @@
+use crate::word::Word;
+
+/// A command with its values.
+#[derive(Drop)]
+pub enum Request<'a> {
+    /// The pattern of the input so many generations later, at most 100,000, under the rule of a text.
+    Run {
+        generations: u32,
+        rule: Word<'a>,
+    },
+    /// What the input's pattern becomes, under a profile, and under the rule of a text.
+    Name {
+        profile: ProfileNumbers,
+        rule: Word<'a>,
+    },
+    /// The object that a code names.
+    Show {
+        code: Word<'a>,
+    },
+    /// The soup with this number, which is below 2^40, of the seed of a text.
+    Soup {
+        seed: Word<'a>,
+        number: u64,
+    },
+    /// The haul of all soups of a set by so many workers, 1 to 16, and whether a line of progress is asked for.
+    Take {
+        survey: Survey<'a>,
+        workers: u8,
+        progress: bool,
+    },
+    /// The report lines of this worker, 1 to 16, for all soups of a set.
+    Work {
+        survey: Survey<'a>,
+        worker: u8,
+    },
+    /// The haul that report lines of so many workers, 1 to 16, make over a set.
+    Gather {
+        survey: Survey<'a>,
+        workers: u8,
+    },
+    /// The program's name and version.
+    Version,
+}
+
+/// The soups that are meant, and how they are run.
+#[derive(Drop)]
+pub struct Survey<'a> {
+    /// Which soups.
+    pub set: SoupSet<'a>,
+    /// When a soup counts as settled.
+    pub profile: ProfileNumbers,
+    /// The rule.
+    pub rule: Word<'a>,
+}
+
+/// The soups of a seed whose numbers stand in a range, or in the ranges of a list beside it.
+#[derive(Drop)]
+pub struct SoupSet<'a> {
+    /// The seed.
+    pub seed: Word<'a>,
+    /// The first number of the range, at most 2^40.
+    pub first: u64,
+    /// How many numbers the range has, at most 2^24.
+    pub count: u64,
+    /// The list of the other ranges.
+    pub also: Word<'a>,
+}
+
+/// The four numbers of a profile: when a pattern counts as settled.
+#[derive(Clone, Copy)]
+pub struct ProfileNumbers {
+    /// The longest period that counts, 1 to 64.
+    pub period: u32,
+    /// For how many generations clusters may not come into each other's way, at most 4,096.
+    pub horizon: u32,
+    /// How many generations there are from one look to the next, 1 to 10,000.
+    pub stride: u32,
+    /// The last generation at which there may be a look, at most 100,000.
+    pub limit: u32,
+}

@@ -1,0 +1,58 @@
+ghost use Rattle.std.specs.Prelude.{◌≡◌, ◌≤◌, IfSome};
+ghost use Rattle.clap.specs.Words.{found_of, rows_of};
+ghost use Rattle.words.specs.Table.{entry_of};
+ghost use Rattle.words.specs.Values.{IsInRange, is_given, number_in, number_up_to, text_in};
+
+use crate::options::{Argument, Kind};
+use crate::word::Word;
+use clap::ArgMatches;
+
+/// The number that was found for the argument of a row, in its range.
+///
+/// None if there is none, or if the row is not one of a number.
+pub fn number_in(found: &ArgMatches<'_>, row: &Argument) -> Option<u64>
+    ensures number { result ≡ number_in (entry_of row.now) (rows_of (found_of found.now)) }
+    ensures range { IfSome result (IsInRange row.now.kind) }
+{
+    match row.kind {
+        Kind::Text | Kind::Flag => None,
+        Kind::Number(least, most) => {
+            let number = number_up_to(found, row.name, u64::from(most))?;
+            if number < u64::from(least) {
+                return None;
+            }
+            Some(number)
+        }
+        Kind::LargeNumber(most) => number_up_to(found, row.name, most),
+    }
+}
+
+/// The number up to a limit that was found for an argument.
+fn number_up_to(found: &ArgMatches<'_>, id: &str, most: u64) -> Option<u64>
+    ensures number { result ≡ number_up_to most id.now (rows_of (found_of found.now)) }
+    ensures most { IfSome result (λ n. n ≤ most) }
+{
+    let number = found.get_one::<u64>(id)?;
+    if number > most {
+        return None;
+    }
+    Some(number)
+}
+
+/// The text that was found for the argument of a row.
+pub fn text_in<'a>(found: &ArgMatches<'a>, row: &Argument) -> Option<Word<'a>>
+    ensures { result ≡ text_in (entry_of row.now) (rows_of (found_of found.now)) }
+{
+    let text = found.get_str(row.name)?;
+    Some(Word::new(text))
+}
+
+/// Whether the flag of a row was given.
+pub fn is_given(found: &ArgMatches<'_>, row: &Argument) -> bool
+    ensures { result ≡ is_given (entry_of row.now) (rows_of (found_of found.now)) }
+{
+    match found.get_str(row.name) {
+        Some(value) => value == "true",
+        None => false,
+    }
+}
