@@ -1,3 +1,8 @@
+mod BuiltLemmas
+mod KnownLemmas
 mod NumberLemmas
 mod ParseLemmas
+mod RowLemmas
 mod TableLemmas
+mod UseLemmas
+mod WalkLemmas
