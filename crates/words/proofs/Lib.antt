@@ -5,4 +5,5 @@ mod ParseLemmas
 mod RowLemmas
 mod TableLemmas
 mod UseLemmas
+mod ValueLemmas
 mod WalkLemmas
