@@ -1,5 +1,6 @@
 mod BuiltLemmas
 mod KnownLemmas
+mod LawLemmas
 mod NumberLemmas
 mod ParseLemmas
 mod RowLemmas
