@@ -4,6 +4,7 @@ mod LawLemmas
 mod NumberLemmas
 mod ParseLemmas
 mod RowLemmas
+mod StuckLemmas
 mod TableLemmas
 mod UseLemmas
 mod ValueLemmas

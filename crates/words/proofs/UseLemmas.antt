@@ -47,7 +47,7 @@ module _ {s : Shape} {es : List Entry} (k : Knows s es) (e : Entry) (here : IsIn
   pub by_its_id : arg_by_id s.rules (built e).id ≡ Some (built e)
   by_its_id = ap (arg_by_id s.rules) (built_is e).id ∙ at (λ e. arg_by_id s.rules e.name) (λ e. Some (built e)) es e k.by_id here
 
-  by_its_place : (b : Bool) → has_name e ≡ b → cond b (arg_by_long s.rules e.name) (arg_by_index s.rules 1) ≡ Some (built e)
+  pub by_its_place : (b : Bool) → has_name e ≡ b → cond b (arg_by_long s.rules e.name) (arg_by_index s.rules 1) ≡ Some (built e)
   by_its_place b is =
       sym (ap (λ c. cond {A = Option Rule} c (arg_by_long s.rules e.name) (arg_by_index s.rules 1)) is)
       ∙ at (λ e. cond (has_name e) (arg_by_long s.rules e.name) (arg_by_index s.rules 1)) (λ e. Some (built e)) es e k.by_place here
@@ -131,10 +131,11 @@ pub record HasRead (s : Shape) (lone : Text) (words : List Text) (rows : List Ro
   pub position : ℕ
   pub reads : Reads s nothing_held 1 words held position rows
   pub place : position ≡ cond {A = ℕ} (has_row lone rows) 2 1
+  pub no_skip : held.skip ≡ 0
 
 none_read : (s : Shape) (lone : Text) → HasRead s lone [] []
 unfolding walk_fault
-none_read s lone = record { held = nothing_held; position = 1; reads = record { leads = record { walks = refl; fine = refl }; holds = nothing_holds s }; place = refl }
+none_read s lone = record { held = nothing_held; position = 1; reads = record { leads = record { walks = refl; fine = refl }; holds = nothing_holds s }; place = refl; no_skip = refl }
 
 or_true : (b : Bool) → (b || true) ≡ true
 or_true true = refl
@@ -146,14 +147,15 @@ or_false false = refl
 
 module _ {s : Shape} (command : Command) (k : Knows s command.arguments) {words : List Text} {rows : List Row} (read : HasRead s k.lone words rows) where
   -- one argument more that leaves the position
-  reads_named : (e : Entry) (v : Text) (more : List Text) (h : Held) → IsIn e command.arguments → has_name e ≡ true
+  reads_named : (e : Entry) (v : Text) (more : List Text) (h : Held) → IsIn e command.arguments → has_name e ≡ true → h.skip ≡ read.held.skip
       → Reads s read.held read.position more h read.position (rows ++ row_with (built e) v ∷ [])
       → HasRead s k.lone (words ++ more) (rows ++ row_with (built e) v ∷ [])
-  reads_named e v more h here is next = record {
+  reads_named e v more h here is same next = record {
     held = h;
     position = read.position;
     reads = reads_then s nothing_held read.held h 1 read.position read.position words more rows (rows ++ row_with (built e) v ∷ []) read.reads next;
     place = read.place ∙ sym (ap (λ b. cond {A = ℕ} b 2 1) (lone_after k e here true rows v is ∙ or_false (has_row k.lone rows)));
+    no_skip = same ∙ read.no_skip;
   }
 
   read_alone : (e : Entry) (v : Text) → IsUse command (alone e v) → has_row e.name rows ≡ false
@@ -174,13 +176,14 @@ module _ {s : Shape} (command : Command) (k : Knows s command.arguments) {words 
             (stands_first k e u.argument no_name) (plain_word-is v u.stands.2));
         place = next ∙ sym (ap (λ b. cond {A = ℕ} b 2 1)
             (lone_after k e u.argument false rows v no_name ∙ ap (λ b. b || (true || false)) lone_fresh));
+        no_skip = read.no_skip;
       }
 
   read_spaced : (e : Entry) (v : Text) → IsUse command (spaced e v) → has_row e.name rows ≡ false
       → HasRead s k.lone (words ++ (codes "--" ++ e.name) ∷ v ∷ []) (rows ++ row_with (built e) v ∷ [])
   read_spaced e v u fresh =
       let is : has_name e ≡ true = ap (λ a. a || is_flag e.kind) u.stands.0 in
-      reads_named e v ((codes "--" ++ e.name) ∷ v ∷ []) (pending s read.held (built e) v) u.argument is
+      reads_named e v ((codes "--" ++ e.name) ∷ v ∷ []) (pending s read.held (built e) v) u.argument is refl
       (reads_option s read.held read.position rows (built e) v (codes "--" ++ e.name) read.reads.holds
       (first_use k e u.argument v rows u.stands.1 u.taken fresh) (named_by k e u.argument is u.stands.1) (plain_word-is v u.stands.2))
 
@@ -189,7 +192,7 @@ module _ {s : Shape} (command : Command) (k : Knows s command.arguments) {words 
   read_attached e v u fresh =
       let is : has_name e ≡ true = ap (λ a. a || is_flag e.kind) u.stands.0 in
       let word : Text = codes "--" ++ (e.name ++ (codes "=" ++ v)) in
-      reads_named e v (word ∷ []) (reacted s.rules (built e) (v ∷ []) read.held) u.argument is
+      reads_named e v (word ∷ []) (reacted s.rules (built e) (v ∷ []) read.held) u.argument is refl
       (reads_attached s read.held read.position rows (built e) e.name v word read.reads.holds
       (first_use k e u.argument v rows u.stands.1 u.taken fresh) (by_its_name k e u.argument is) (takes_value k e u.argument u.stands.1)
       (its_attached_dashes k e u.argument v) (its_attached k e u.argument v))
@@ -199,7 +202,7 @@ module _ {s : Shape} (command : Command) (k : Knows s command.arguments) {words 
   read_flag e u fresh =
       let is : has_name e ≡ true = ap (λ b. e.is_named || b) u.stands ∙ or_true e.is_named in
       let word : Text = codes "--" ++ e.name in
-      reads_named e (codes "true") (word ∷ []) (reacted s.rules (built e) [] read.held) u.argument is
+      reads_named e (codes "true") (word ∷ []) (reacted s.rules (built e) [] read.held) u.argument is refl
       (reads_flag s read.held read.position rows (built e) e.name word read.reads.holds (is_a_flag k e u.argument rows u.stands fresh)
       (by_its_name k e u.argument is) (its_dashes k e u.argument) (its_words k e u.argument))
 

@@ -147,7 +147,7 @@ pending_holds s h a v rows holds first =
           ∙ ap (λ rs. rs ++ row_with a v ∷ []) holds.found;
     }
 
-and_false : (b : Bool) → (b && false) ≡ false
+pub and_false : (b : Bool) → (b && false) ≡ false
 and_false true = refl
 and_false false = refl
 
@@ -292,15 +292,15 @@ reads_argument s h position rows a v holds first stands plain =
 
 -- ---- one use after another
 
-fold-append : {X Y : Type 0} (f : X → Y → X) (x : X) (ys zs : List Y) → fold f x (ys ++ zs) ≡ fold f (fold f x ys) zs
+pub fold-append : {X Y : Type 0} (f : X → Y → X) (x : X) (ys zs : List Y) → fold f x (ys ++ zs) ≡ fold f (fold f x ys) zs
 fold-append f x [] zs = refl
 fold-append f x (y ∷ ys) zs = fold-append f (f x y) ys zs
 
-or_else_assoc : (one two three : Kinds) → or_else (or_else one two) three ≡ or_else one (or_else two three)
+pub or_else_assoc : (one two three : Kinds) → or_else (or_else one two) three ≡ or_else one (or_else two three)
 or_else_assoc [] two three = refl
 or_else_assoc (kind ∷ kinds) two three = refl
 
-walk_fault-append : (s : Shape) (names : Names) (w : Walk) (words more : List Text)
+pub walk_fault-append : (s : Shape) (names : Names) (w : Walk) (words more : List Text)
     → walk_fault s names w (words ++ more) ≡ or_else (walk_fault s names w words) (walk_fault s names (fold (walked s.rules names) w words) more)
 unfolding walk_fault
 walk_fault-append s names w [] more = refl
@@ -340,19 +340,6 @@ pub level_reads : (s : Shape) (words : List Text) (h : Held) (position : ℕ) (r
 level_reads s words h position rows reads =
     ap₂ (λ k (w : Walk). or_else k (end_fault s w.held)) reads.leads.fine reads.leads.walks
     ∙ ap₂ (λ k rs. or_else k (or_else (defaults_fault rs s.rules) (check_fault s (fold with_default rs s.rules) false))) reads.holds.fine reads.holds.found
-
--- a last use that is refused is the fault
-pub level_refuses : (s : Shape) (words : List Text) (h : Held) (position : ℕ) (rows : List Row) (a : Rule) (v : Text) (kind : ErrorKind)
-    → Leads s nothing_held 1 words (pending s h a v) position
-    → Holds s h rows → arg_by_id s.rules a.id ≡ Some a → use_fault s.args_override_self a (v ∷ []) rows ≡ kind ∷ []
-    → level_fault s [] nothing_held words false [] ≡ kind ∷ []
-level_refuses s words h position rows a v kind leads holds by_id refused =
-    let again = s.args_override_self in
-    let settles : settle_fault s.rules again (pending s h a v) ≡ kind ∷ [] =
-    ap (λ o. option_map_or (λ b. use_fault again b (v ∷ []) (settled s.rules h).rows) o []) by_id ∙ ap (use_fault again a (v ∷ [])) holds.found ∙ refused in
-    ap₂ (λ k (w : Walk). or_else k (end_fault s w.held)) leads.fine leads.walks
-    ∙ ap (λ k. or_else k (or_else (defaults_fault (settled s.rules (pending s h a v)).rows s.rules)
-    (check_fault s (finished s.rules (pending s h a v)) false))) settles
 
 -- and these values
 pub rows_read : (s : Shape) (words : List Text) (h : Held) (position : ℕ) (rows : List Row) → Reads s nothing_held 1 words h position rows

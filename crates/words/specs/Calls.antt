@@ -64,14 +64,14 @@ pub record AskForTheirValues : Type 0 where
   pub gather : AsksFor table.gather_command (λ uses. Gather (survey_given uses) (number_given table.workers uses))
 
 -- Words of a command that ask for nothing: an argument that has to be there is missing; or after arguments that are lawful there is one
--- a second time, one with a value out of its range, an unknown option, or `--help`.
+-- a second time, one with a value out of its range, an unknown option, or `--help`, whatever comes after it.
 pub record AskForNothing (command : Command) : Type 0 where
   pub missing : (program : Text) (uses : List Use) → AreUses command uses → lacks_some command uses ≡ true
       → asked_by (program ∷ command.name ∷ words_in uses) ≡ None
-  pub twice : (program : Text) (uses : List Use) (u : Use) → AreUses command uses → IsUse command u → is_used (entry_in u).name uses ≡ true
-      → asked_by (program ∷ command.name ∷ (words_in uses ++ words_of u)) ≡ None
-  pub out_of_range : (program : Text) (uses : List Use) (u : Use) → AreUses command uses → IsOutOfRange command u
-      → asked_by (program ∷ command.name ∷ (words_in uses ++ words_of u)) ≡ None
+  pub twice : (program : Text) (uses : List Use) (u : Use) (more : List Text) → AreUses command uses → IsUse command u
+      → is_used (entry_in u).name uses ≡ true → asked_by (program ∷ command.name ∷ (words_in uses ++ (words_of u ++ more))) ≡ None
+  pub out_of_range : (program : Text) (uses : List Use) (u : Use) (more : List Text) → AreUses command uses → IsOutOfRange command u
+      → asked_by (program ∷ command.name ∷ (words_in uses ++ (words_of u ++ more))) ≡ None
   pub unknown : (program word : Text) (uses : List Use) (more : List Text) → AreUses command uses → IsUnknown command word
       → asked_by (program ∷ command.name ∷ (words_in uses ++ word ∷ more)) ≡ None
   pub help : (program : Text) (uses : List Use) (more : List Text) → AreUses command uses
