@@ -11,7 +11,7 @@ use Rattle.clap.specs.Lexer.{long_of}
 use Rattle.clap.specs.Simple.{built_leaf, filled, help_rule, inherited, marked_built, with_index, with_leaf_noted}
 use Rattle.clap.specs.Simple as simple
 use Rattle.clap.specs.Takes.{is_given}
-use Rattle.clap.specs.Walk.{arg_by_id, arg_by_index, arg_by_long, has_long}
+use Rattle.clap.specs.Walk.{arg_by_id, arg_by_index, arg_by_long, has_long, takes_several}
 use Rattle.clap.proofs.OnLiterals.{clap_on_literals}
 use Rattle.words.specs.declared.options.Kind.TheVariants as kind
 use Rattle.words.specs.Table.{Command, Entry, census_app, commands, shape_in}
@@ -53,7 +53,7 @@ pub record Knows (s : Shape) (es : List Entry) : Type 0 where
   pub defaults : map (λ e. option_map_or (is_of_kind e.kind) e.default true) es ≡ map (λ e. true) es
   pub no_fault : map (default_fault []) s.rules ≡ map (λ _. []) s.rules
   pub again : s.args_override_self ≡ false
-  pub is_leaf : s.is_leaf ≡ true
+  pub several : map takes_several s.rules ≡ map (λ _. false) s.rules
   pub checks : (rows : List Row) → check_fault s rows false ≡ check_kinds false false (list_any (λ a. a.required && not (is_given a.id rows)) s.rules)
   pub required : (g : Text → Bool) → list_any (λ a. a.required && not (g a.id)) s.rules ≡ list_any (λ e. is_required e && not (g e.name)) es
   pub named : (name : Text) → list_any (takes_name name) s.rules ≡ list_any (λ e. e.is_named && (bytes_eq e.name name || false)) (es ++ help_entry ∷ [])
@@ -78,7 +78,7 @@ run_known = record {
   has = record { named = refl; found = refl; no_help = refl; defaults = refl; checked = refl };
   knows = record {
     lone = codes "N"; lone_is = refl; no_second = refl; by_id = refl; by_place = refl; apart = refl; words = refl; dashes = refl;
-    attached = λ v. refl; attached_dashes = λ v. refl; small = refl; defaults = refl; no_fault = refl; again = refl; is_leaf = refl; checks = λ rows. refl;
+    attached = λ v. refl; attached_dashes = λ v. refl; small = refl; defaults = refl; no_fault = refl; again = refl; several = refl; checks = λ rows. refl;
     required = λ g. refl; named = λ name. refl; help = refl;
   };
   no_version = refl;
@@ -90,7 +90,7 @@ name_known = record {
   has = record { named = refl; found = refl; no_help = refl; defaults = refl; checked = refl };
   knows = record {
     lone = []; lone_is = refl; no_second = refl; by_id = refl; by_place = refl; apart = refl; words = refl; dashes = refl;
-    attached = λ v. refl; attached_dashes = λ v. refl; small = refl; defaults = refl; no_fault = refl; again = refl; is_leaf = refl; checks = λ rows. refl;
+    attached = λ v. refl; attached_dashes = λ v. refl; small = refl; defaults = refl; no_fault = refl; again = refl; several = refl; checks = λ rows. refl;
     required = λ g. refl; named = λ name. refl; help = refl;
   };
   no_version = refl;
@@ -102,7 +102,7 @@ show_known = record {
   has = record { named = refl; found = refl; no_help = refl; defaults = refl; checked = refl };
   knows = record {
     lone = codes "CODE"; lone_is = refl; no_second = refl; by_id = refl; by_place = refl; apart = refl; words = refl; dashes = refl;
-    attached = λ v. refl; attached_dashes = λ v. refl; small = refl; defaults = refl; no_fault = refl; again = refl; is_leaf = refl; checks = λ rows. refl;
+    attached = λ v. refl; attached_dashes = λ v. refl; small = refl; defaults = refl; no_fault = refl; again = refl; several = refl; checks = λ rows. refl;
     required = λ g. refl; named = λ name. refl; help = refl;
   };
   no_version = refl;
@@ -114,7 +114,7 @@ soup_known = record {
   has = record { named = refl; found = refl; no_help = refl; defaults = refl; checked = refl };
   knows = record {
     lone = codes "N"; lone_is = refl; no_second = refl; by_id = refl; by_place = refl; apart = refl; words = refl; dashes = refl;
-    attached = λ v. refl; attached_dashes = λ v. refl; small = refl; defaults = refl; no_fault = refl; again = refl; is_leaf = refl; checks = λ rows. refl;
+    attached = λ v. refl; attached_dashes = λ v. refl; small = refl; defaults = refl; no_fault = refl; again = refl; several = refl; checks = λ rows. refl;
     required = λ g. refl; named = λ name. refl; help = refl;
   };
   no_version = refl;
@@ -126,7 +126,7 @@ take_known = record {
   has = record { named = refl; found = refl; no_help = refl; defaults = refl; checked = refl };
   knows = record {
     lone = []; lone_is = refl; no_second = refl; by_id = refl; by_place = refl; apart = refl; words = refl; dashes = refl;
-    attached = λ v. refl; attached_dashes = λ v. refl; small = refl; defaults = refl; no_fault = refl; again = refl; is_leaf = refl; checks = λ rows. refl;
+    attached = λ v. refl; attached_dashes = λ v. refl; small = refl; defaults = refl; no_fault = refl; again = refl; several = refl; checks = λ rows. refl;
     required = λ g. refl; named = λ name. refl; help = refl;
   };
   no_version = refl;
@@ -138,7 +138,7 @@ work_known = record {
   has = record { named = refl; found = refl; no_help = refl; defaults = refl; checked = refl };
   knows = record {
     lone = []; lone_is = refl; no_second = refl; by_id = refl; by_place = refl; apart = refl; words = refl; dashes = refl;
-    attached = λ v. refl; attached_dashes = λ v. refl; small = refl; defaults = refl; no_fault = refl; again = refl; is_leaf = refl; checks = λ rows. refl;
+    attached = λ v. refl; attached_dashes = λ v. refl; small = refl; defaults = refl; no_fault = refl; again = refl; several = refl; checks = λ rows. refl;
     required = λ g. refl; named = λ name. refl; help = refl;
   };
   no_version = refl;
@@ -150,7 +150,7 @@ gather_known = record {
   has = record { named = refl; found = refl; no_help = refl; defaults = refl; checked = refl };
   knows = record {
     lone = []; lone_is = refl; no_second = refl; by_id = refl; by_place = refl; apart = refl; words = refl; dashes = refl;
-    attached = λ v. refl; attached_dashes = λ v. refl; small = refl; defaults = refl; no_fault = refl; again = refl; is_leaf = refl; checks = λ rows. refl;
+    attached = λ v. refl; attached_dashes = λ v. refl; small = refl; defaults = refl; no_fault = refl; again = refl; several = refl; checks = λ rows. refl;
     required = λ g. refl; named = λ name. refl; help = refl;
   };
   no_version = refl;

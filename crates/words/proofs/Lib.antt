@@ -3,6 +3,7 @@ mod KnownLemmas
 mod LawLemmas
 mod NumberLemmas
 mod ParseLemmas
+mod RefuseLemmas
 mod RowLemmas
 mod StuckLemmas
 mod TableLemmas

@@ -31,13 +31,13 @@ rows_in uses = map row_in uses
 
 -- ---- an argument of a command
 
-has_one : (k : Kind) → is_flag k ≡ false → (action_for k ≡ Set) × (values_for k ≡ 1)
+pub has_one : (k : Kind) → is_flag k ≡ false → (action_for k ≡ Set) × (values_for k ≡ 1)
 has_one kind.Text h = (refl, refl)
 has_one kind.Flag h = cc
 has_one (kind.Number l m) h = (refl, refl)
 has_one (kind.LargeNumber m) h = (refl, refl)
 
-has_none : (k : Kind) → is_flag k ≡ true → (action_for k ≡ SetTrue) × (values_for k ≡ 0) × (missing_for k ≡ codes "true" ∷ []) × IsOfKind k (codes "true")
+pub has_none : (k : Kind) → is_flag k ≡ true → (action_for k ≡ SetTrue) × (values_for k ≡ 0) × (missing_for k ≡ codes "true" ∷ []) × IsOfKind k (codes "true")
 has_none kind.Text h = cc
 has_none kind.Flag h = (refl, refl, refl, refl)
 has_none (kind.Number l m) h = cc
@@ -137,7 +137,7 @@ none_read : (s : Shape) (lone : Text) → HasRead s lone [] []
 unfolding walk_fault
 none_read s lone = record { held = nothing_held; position = 1; reads = record { leads = record { walks = refl; fine = refl }; holds = nothing_holds s }; place = refl; no_skip = refl }
 
-or_true : (b : Bool) → (b || true) ≡ true
+pub or_true : (b : Bool) → (b || true) ≡ true
 or_true true = refl
 or_true false = refl
 
