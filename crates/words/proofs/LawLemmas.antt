@@ -1,14 +1,19 @@
 -- What the calls of the program ask for.
-use Rattle.std.proofs.Common.{◌≡◌, ◌∙◌, ◌++◌, ℕ, Bool, true, false, None, Some, List, [], ◌∷◌, codes, option_and_then, inl, inr, refl, sym, ap, ap₂}
+use Rattle.std.proofs.Common.{◌≡◌, ◌∙◌, ◌++◌, ◌||◌, ℕ, Bool, true, false, None, Some, List, [], ◌∷◌, codes, option_and_then, option_map, inl, inr, refl, sym, ap, ap₂, subst}
+use Rattle.std.specs.List.{list_any}
 use Rattle.std.specs.Str.{bytes_eq}
+use Rattle.std.specs.Str.Parse.{starts_with_minus}
+use Rattle.std.proofs.lemmas.List.Folds.{list_any-append}
 use Rattle.clap.specs.Words.{Kinds, Row, Shape, Text, subcommand_of}
-use Rattle.clap.specs.Faults.{check_fault, defaults_fault, level_fault}
+use Rattle.clap.specs.Faults.{level_fault, other_fault, step_fault, turn_fault, walk_fault}
+use Rattle.clap.specs.Simple.{names_of}
 use Rattle.clap.specs.Kinds.{check_kinds, or_else}
-use Rattle.clap.specs.Walk.{nothing_held}
+use Rattle.clap.specs.Walk.{Held, Step, answers_to, idle, nothing_held, subcommand_met, subcommand_or_other, walk_from}
+use Rattle.clap.proofs.OnLiterals.{clap_on_literals}
 use Rattle.clap.specs.declared.error.kind.ErrorKind.{ErrorKind}
 use Rattle.clap.specs.declared.error.kind.ErrorKind.TheVariants.{MissingRequiredArgument}
 use Rattle.words.specs.declared.request.ProfileNumbers.{ProfileNumbers}
-use Rattle.words.specs.Calls.{AskForTheirValues, number_given, profile_given, set_given, survey_given, text_given}
+use Rattle.words.specs.Calls.{AskForTheirValues, AsksForVersion, NoCommandAsksForNothing, number_given, profile_given, set_given, survey_given, text_given}
 use Rattle.words.specs.Requests.{all_four, asked_by, asks_version, gather_of, name_of, request_in, run_of, set_of_four, show_of, soup_of, survey_in}
 use Rattle.words.specs.Requests.{survey_of_three, take_of, unless_faulty, work_of}
 use Rattle.words.specs.Table.{Command, Entry, census_app, commands}
@@ -16,10 +21,11 @@ use Rattle.words.specs.Table as table
 use Rattle.words.specs.Uses.{AreUses, IsIn, Use, lacks_some, words_in}
 use Rattle.words.proofs.KnownLemmas.{KnowsCommand, census_built, known, leaf}
 use Rattle.words.proofs.ParseLemmas.{asked_by-called}
-use Rattle.words.proofs.RowLemmas.{no_default_fault}
+use Rattle.words.proofs.RowLemmas.{find_none, no_default_fault, or_nothing}
+use Rattle.words.proofs.StuckLemmas.{IsFaulty, faulty_first, faulty_next, stray}
 use Rattle.words.proofs.UseLemmas.{all_read, rows_in}
 use Rattle.words.proofs.ValueLemmas.{IsRead, all_values, lacks}
-use Rattle.words.proofs.WalkLemmas.{command_fault, command_rows, completed, level_reads, rows_read}
+use Rattle.words.proofs.WalkLemmas.{command_fault, command_rows, completed, level_reads, no_flag_fault, plain_word-is, plain_word_met, rows_read}
 
 -- ---- any command
 
@@ -134,3 +140,60 @@ ask_for_their_values = record {
       let workers = read table.workers (tenth table.workers []) in
       asks_for table.gather_command k program uses are whole ∙ (λ i. gather_of (survey i) (workers i));
 }
+
+-- ---- no command
+
+pub asks_for_version : AsksForVersion
+asks_for_version program = refl
+
+-- a value isn't `--version`
+value_no_version : (program word : Text) (words : List Text) → starts_with_minus word ≡ false → asks_version (program ∷ word ∷ words) ≡ false
+value_no_version program [] [] h = refl
+value_no_version program (x ∷ xs) [] h = rw h refl
+value_no_version program word (w ∷ ws) h = refl
+
+-- a word that isn't the name of a command
+abbrev help_command : Command
+help_command = record { name = codes "help"; arguments = [] }
+
+listed_names : (word : Text)
+    → list_any (answers_to word) (names_of census_built) ≡ list_any (λ (c : Command). bytes_eq c.name word || false) (commands ++ help_command ∷ [])
+unfolding clap_on_literals
+listed_names word = refl
+
+unnamed : (word : Text) → list_any (λ (c : Command). bytes_eq c.name word) commands ≡ false → bytes_eq (codes "help") word ≡ false
+    → subcommand_met (names_of census_built) idle word ≡ None
+unnamed word none no_help =
+    let named : Command → Bool = λ c. bytes_eq c.name word || false in
+    ap (option_map (λ (s : Text × List Text). s.0)) (find_none (answers_to word) (names_of census_built)
+    (listed_names word ∙ list_any-append named commands (help_command ∷ [])
+    ∙ ap₂ (λ a b. a || ((b || false) || false)) ((λ i. list_any (λ (c : Command). or_nothing (bytes_eq c.name word) i) commands) ∙ none) no_help))
+
+asks_unknown : (program word : Text) (words : List Text) → starts_with_minus word ≡ false
+    → list_any (λ (c : Command). bytes_eq c.name word) commands ≡ false → bytes_eq (codes "help") word ≡ false → asked_by (program ∷ word ∷ words) ≡ None
+unfolding walk_fault
+asks_unknown program word words is_value none no_help =
+    let top = census_built.top in
+    let names = names_of census_built in
+    let plain = plain_word-is word is_value in
+    let no_name = unnamed word none no_help in
+    let met = ap (λ o. subcommand_or_other top.rules o idle 1 word nothing_held) no_name ∙ plain_word_met top.rules idle 1 word nothing_held plain in
+    let fine = ap (λ o. other_fault top o word nothing_held) no_name ∙ no_flag_fault top word nothing_held plain in
+    let step : IsFaulty (step_fault top 1 (subcommand_or_other top.rules (subcommand_met names idle word) idle 1 word nothing_held).0
+        (subcommand_or_other top.rules (subcommand_met names idle word) idle 1 word nothing_held).1) =
+    subst IsFaulty (sym (ap (λ (m : Held × Step). step_fault top 1 m.0 m.1) met)) (stray top) in
+    let fault = faulty_first (walk_fault top names (walk_from nothing_held) (word ∷ words)) _
+    (faulty_first (turn_fault top names (walk_from nothing_held) word) _ (faulty_next (other_fault top (subcommand_met names idle word) word nothing_held) _ fine step)) in
+    asked_by-called (program ∷ word ∷ words) (value_no_version program word words is_value)
+    ∙ ap (λ ks. unless_faulty ks (option_and_then request_in (subcommand_of census_app (program ∷ word ∷ words)))) fault.is
+
+none_named : (program : Text) → asked_by (program ∷ []) ≡ None
+unfolding clap_on_literals
+none_named program = refl
+
+asks_help : (program : Text) → asked_by (program ∷ codes "--help" ∷ []) ≡ None
+unfolding clap_on_literals
+asks_help program = refl
+
+pub no_command_asks_for_nothing : NoCommandAsksForNothing
+no_command_asks_for_nothing = record { no_command = none_named; unknown = asks_unknown; help = asks_help }

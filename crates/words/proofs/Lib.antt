@@ -1,9 +1,9 @@
 mod BuiltLemmas
 mod KnownLemmas
-mod LawLemmas
+pub mod LawLemmas
 mod NumberLemmas
 mod ParseLemmas
-mod RefuseLemmas
+pub mod RefuseLemmas
 mod RowLemmas
 mod StuckLemmas
 mod TableLemmas

@@ -30,9 +30,10 @@ use Rattle.words.specs.Uses.{value_in, words_in, words_of}
 use Rattle.words.proofs.BuiltLemmas.{action_for, built, built_is, kind_refused, missing_for, parser_for, values_for}
 use Rattle.words.proofs.KnownLemmas.{Knows, KnowsCommand, at, has_name, help_entry, known, leaf, takes_name}
 use Rattle.words.proofs.LawLemmas.{asks_lacking, asks_none}
+use Rattle.words.proofs.RowLemmas.{find_none, or_nothing}
 use Rattle.words.proofs.StuckLemmas.{IsFaulty, faulty, faulty_first, faulty_next, level_refuses, level_stuck, stray}
 use Rattle.words.proofs.UseLemmas.{HasRead, all_read, by_its_id, by_its_name, has_none, has_one, its_attached, its_attached_dashes, its_dashes}
-use Rattle.words.proofs.UseLemmas.{its_words, named_by, neither, or_true, rows_in, stands_first, takes_one, takes_value}
+use Rattle.words.proofs.UseLemmas.{its_words, named_by, or_true, rows_in, stands_first, takes_one, takes_value}
 use Rattle.words.proofs.ValueLemmas.{rows_have}
 use Rattle.words.proofs.WalkLemmas.{Leads, Reads, leads_argument, leads_option, leads_then, no_flag_fault, pending, plain_word-is, plain_word_met}
 
@@ -43,12 +44,6 @@ values_by (spaced e v) = v ∷ []
 values_by (attached e v) = v ∷ []
 values_by (flagged e) = []
 
-find_none : {X : Type 0} (p : X → Bool) (xs : List X) → list_any p xs ≡ false → find p xs ≡ None
-find_none p [] none = refl
-find_none p (x ∷ xs) none =
-    let parts = neither (p x) (list_any p xs) none in
-    ap (λ b. cond b (Some x) (find p xs)) parts.0 ∙ find_none p xs parts.1
-
 one_value : (p : Rule → Bool) (c : List Rule) (a : Rule) → map takes_several c ≡ map (λ _. false) c → find p c ≡ Some a → takes_several a ≡ false
 one_value p [] a fine found = cc
 one_value p (x ∷ c) a fine found = go (p x) refl (one_value p c a (ap (drop 1) fine))
@@ -58,10 +53,6 @@ one_value p (x ∷ c) a fine found = go (p x) refl (one_value p c a (ap (drop 1)
         let same : x ≡ a = same_Some x a (sym (ap (λ b. cond b (Some x) (find p c)) e) ∙ found) in
         ap takes_several (sym same) ∙ ap (λ l. get_or l 0 false) fine
     go false e more = more (sym (ap (λ b. cond b (Some x) (find p c)) e) ∙ found)
-
-or_nothing : (b : Bool) → (b || false) ≡ b
-or_nothing true = refl
-or_nothing false = refl
 
 not_dashes : (word name : Text) (v : Option Text) → long_of word ≡ Some (name, v) → bytes_eq word (codes "--") ≡ false
 not_dashes word name v is = go (bytes_eq word (codes "--")) refl

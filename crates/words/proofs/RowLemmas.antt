@@ -3,7 +3,7 @@ use Rattle.std.proofs.Common.{◌≡◌, ◌∙◌, ◌||◌, ◌&&◌, ◌++◌
 use Rattle.std.specs.List.{find, fold, list_any}
 use Rattle.std.specs.Option.{option_map_or, option_or}
 use Rattle.std.specs.Str.{bytes_eq}
-use Rattle.std.proofs.lemmas.List.Folds.{find-append}
+use Rattle.std.proofs.lemmas.List.Folds.{find-append, list_any-append}
 use Rattle.std.proofs.lemmas.Option.{same_Some}
 use Rattle.std.proofs.lemmas.Slice.Eq.{bytes_eq-Decides}
 use Rattle.clap.specs.Words.{Kinds, Row, Rule, Text}
@@ -22,20 +22,19 @@ lookup id rows = find (λ r. bytes_eq r.id id) rows
 pub same_text : (a : Text) → bytes_eq a a ≡ true
 same_text a = (bytes_eq-Decides a a).1 refl
 
-pub has_lookup : (id : Text) (rows : List Row) → has_row id rows ≡ is_some (lookup id rows)
-has_lookup id [] = refl
-has_lookup id (r ∷ rs) = go (bytes_eq r.id id) (has_lookup id rs)
-  where
-    go : (b : Bool) → has_row id rs ≡ is_some (lookup id rs) → (b || has_row id rs) ≡ is_some (cond b (Some r) (lookup id rs))
-    go true rest = refl
-    go false rest = rest
+pub neither : (a b : Bool) → (a || b) ≡ false → (a ≡ false) × (b ≡ false)
+neither true b h = cc
+neither false b h = (refl, h)
 
-pub lookup_none : (id : Text) (rows : List Row) → has_row id rows ≡ false → lookup id rows ≡ None
-lookup_none id rows none = go (lookup id rows) (sym (has_lookup id rows) ∙ none)
-  where
-    go : (o : Option Row) → is_some o ≡ false → o ≡ None
-    go None e = refl
-    go (Some r) e = cc
+pub or_nothing : (b : Bool) → (b || false) ≡ b
+or_nothing true = refl
+or_nothing false = refl
+
+pub find_none : {X : Type 0} (p : X → Bool) (xs : List X) → list_any p xs ≡ false → find p xs ≡ None
+find_none p [] none = refl
+find_none p (x ∷ xs) none =
+    let parts = neither (p x) (list_any p xs) none in
+    ap (λ b. cond b (Some x) (find p xs)) parts.0 ∙ find_none p xs parts.1
 
 -- ---- one default
 
@@ -72,16 +71,15 @@ default_given id rows a = with_default_cases (λ rs. is_given id rs ≡ is_given
     go vs None false = refl
 
 -- a row of another argument is none of this one
-default_other : (id : Text) (rows : List Row) (a : Rule) → bytes_eq a.id id ≡ false → lookup id rows ≡ None → lookup id (with_default rows a) ≡ None
-default_other id rows a other none = with_default_cases (λ rs. lookup id rs ≡ None) rows a none (λ vs _ is.
-    find-append (λ (x : Row). bytes_eq x.id id) rows (default_row a vs ∷ []) ∙ ap (λ o. option_or o (lookup id (default_row a vs ∷ []))) none
-    ∙ ap (λ b. cond {A = Option Row} b (Some (default_row a vs)) None) other)
+default_other : (id : Text) (rows : List Row) (a : Rule) → bytes_eq a.id id ≡ false → has_row id rows ≡ false → has_row id (with_default rows a) ≡ false
+default_other id rows a other none = with_default_cases (λ rs. has_row id rs ≡ false) rows a none (λ vs _ is.
+    list_any-append (λ (x : Row). bytes_eq x.id id) rows (default_row a vs ∷ []) ∙ ap₂ (λ x y. x || (y || false)) none other)
 
-default_here : (rows : List Row) (a : Rule) (v : Text) → lookup a.id rows ≡ None → a.defaults ≡ v ∷ []
+default_here : (rows : List Row) (a : Rule) (v : Text) → has_row a.id rows ≡ false → a.defaults ≡ v ∷ []
     → lookup a.id (with_default rows a) ≡ Some (default_row a (v ∷ []))
-default_here rows a v none is =
-    let fresh : has_row a.id rows ≡ false = has_lookup a.id rows ∙ ap is_some none in
+default_here rows a v fresh is =
     let id : Text = a.id in
+    let none : lookup id rows ≡ None = find_none (λ (x : Row). bytes_eq x.id id) rows fresh in
     ap (λ b. lookup id (cond b rows (default_rows a.id (reading_by a) a.defaults rows))) fresh
     ∙ ap (λ vs. lookup id (default_rows a.id (reading_by a) vs rows)) is
     ∙ ap (lookup id) (at_row_none a.id (more_values DefaultValue (v ∷ [])) (default_row a (v ∷ []) ∷ []) rows fresh)
@@ -102,12 +100,12 @@ completed_given id (a ∷ c) rows = completed_given id c (with_default rows a) �
 
 -- an argument without a row gets its default
 pub completed_default : (a : Rule) (v : Text) (c : List Rule) (rows : List Row) → a.defaults ≡ v ∷ [] → arg_by_id c a.id ≡ Some a
-    → lookup a.id rows ≡ None → lookup a.id (fold with_default rows c) ≡ Some (default_row a (v ∷ []))
+    → has_row a.id rows ≡ false → lookup a.id (fold with_default rows c) ≡ Some (default_row a (v ∷ []))
 completed_default a v [] rows is by_id none = cc
 completed_default a v (x ∷ c) rows is by_id none = go (bytes_eq x.id a.id) refl (completed_default a v c (with_default rows x) is)
   where
     go : (b : Bool) → bytes_eq x.id a.id ≡ b
-        → (arg_by_id c a.id ≡ Some a → lookup a.id (with_default rows x) ≡ None → lookup a.id (fold with_default (with_default rows x) c) ≡ Some (default_row a (v ∷ [])))
+        → (arg_by_id c a.id ≡ Some a → has_row a.id (with_default rows x) ≡ false → lookup a.id (fold with_default (with_default rows x) c) ≡ Some (default_row a (v ∷ [])))
         → lookup a.id (fold with_default (with_default rows x) c) ≡ Some (default_row a (v ∷ []))
     go true e rest =
         let same : x ≡ a = same_Some x a (sym (ap (λ b. cond {A = Option Rule} b (Some x) (arg_by_id c a.id)) e) ∙ by_id) in

@@ -18,7 +18,7 @@ use Rattle.words.specs.Table.{Command, Entry}
 use Rattle.words.specs.Uses.{AreUses, IsIn, IsOfKind, IsUse, Stands, Use, alone, attached, entry_in, flagged, is_flag, is_used, spaced, value_in, words_in, words_of}
 use Rattle.words.proofs.BuiltLemmas.{action_for, built, built_is, is_small, kind_accepted, missing_for, parser_for, values_for}
 use Rattle.words.proofs.KnownLemmas.{Knows, at, has_name}
-use Rattle.words.proofs.RowLemmas.{same_text}
+use Rattle.words.proofs.RowLemmas.{neither, same_text}
 use Rattle.words.proofs.WalkLemmas.{IsFirstUse, IsFlag, IsNamedBy, Reads, StandsAt, TakesOne, nothing_holds, pending, plain_word-is, reads_argument, reads_attached}
 use Rattle.words.proofs.WalkLemmas.{reads_flag, reads_option, reads_then, row_with}
 
@@ -219,10 +219,6 @@ module _ {s : Shape} (command : Command) (k : Knows s command.arguments) {words 
 abbrev AreFresh : List Row → List Use → Type 0
 AreFresh rows [] = Unit {0}
 AreFresh rows (u ∷ more) = (has_row (entry_in u).name rows ≡ false) × AreFresh rows more
-
-pub neither : (a b : Bool) → (a || b) ≡ false → (a ≡ false) × (b ≡ false)
-neither true b h = cc
-neither false b h = (refl, h)
 
 turned : (a b : Text) → bytes_eq a b ≡ false → bytes_eq b a ≡ false
 turned a b differ = go (bytes_eq b a) refl

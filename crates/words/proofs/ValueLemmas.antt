@@ -19,8 +19,8 @@ use Rattle.words.specs.Values.{at_least, is_given, number_of, number_by, text_in
 use Rattle.words.proofs.BuiltLemmas.{built, built_default, built_is, default_by, is_of_kind, kind_by_test, parser_for}
 use Rattle.words.proofs.KnownLemmas.{Knows, at}
 use Rattle.words.proofs.NumberLemmas.{large_read, number_read}
-use Rattle.words.proofs.RowLemmas.{completed_default, completed_given, default_row, has_lookup, kept, lookup, lookup_none}
-use Rattle.words.proofs.UseLemmas.{by_its_id, neither, row_in, rows_in}
+use Rattle.words.proofs.RowLemmas.{completed_default, completed_given, default_row, kept, lookup, neither}
+use Rattle.words.proofs.UseLemmas.{by_its_id, row_in, rows_in}
 use Rattle.words.proofs.WalkLemmas.{completed, row_with}
 
 -- ---- the rows of the arguments
@@ -105,7 +105,7 @@ module _ {s : Shape} (command : Command) (k : Knows s command.arguments) where
         → IsFound e v (completed s (rows_in uses))
     found_default e v here none default =
         let row : Row = default_row (built e) (v ∷ []) in
-        let no_row = lookup_none (built e).id (rows_in uses) (ap (λ id. has_row id (rows_in uses)) (built_is e).id ∙ rows_have e.name uses ∙ none) in
+        let no_row = ap (λ id. has_row id (rows_in uses)) (built_is e).id ∙ rows_have e.name uses ∙ none in
         record {
           row = row;
           found = ap (λ id. lookup id (completed s (rows_in uses))) (sym (built_is e).id)

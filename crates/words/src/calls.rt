@@ -1,5 +1,6 @@
 ghost use Rattle.std.specs.Prelude.{◌≡◌, ◌≢◌, None, Some, IfOk, IfErr, map, option_and_then};
 ghost use Rattle.clap.specs.Words.{kind_of, subcommand_rows_of};
+ghost use Rattle.words.specs.Calls.{AskForTheirValues, AsksForVersion, NoCommandAsksForNothing, OthersAskForNothing};
 ghost use Rattle.words.specs.Requests.{asked_by, asks_version, request_in};
 
 use crate::application::census_command;
@@ -52,6 +53,31 @@ pub fn request_of<'a, S: AsStr>(alloc: Global, words: &'a [S]) -> Result<Request
         Err(error) => Err(unasked_by(alloc, &error)),
     }
 }
+
+/// A law of all words: a command asks for the values that stand there, in any order, and for the defaults of the others.
+#[tactic(auto, using(crate::proofs::LawLemmas::ask_for_their_values))]
+pub fn commands_ask_for_their_values()
+    ensures { AskForTheirValues }
+{}
+
+/// A law of all words: an argument that is missing, one a second time, a value out of its range, an unknown option and `--help` ask
+/// for nothing.
+#[tactic(auto, using(crate::proofs::RefuseLemmas::others_ask_for_nothing))]
+pub fn others_ask_for_nothing()
+    ensures { OthersAskForNothing }
+{}
+
+/// A law of all words: what `--version` asks for.
+#[tactic(auto, using(crate::proofs::LawLemmas::asks_for_version))]
+pub fn asks_for_version()
+    ensures { AsksForVersion }
+{}
+
+/// A law of all words: no command, an unknown one and `--help` ask for nothing.
+#[tactic(auto, using(crate::proofs::LawLemmas::no_command_asks_for_nothing))]
+pub fn no_command_asks_for_nothing()
+    ensures { NoCommandAsksForNothing }
+{}
 
 /// Whether the words are the program's name and `--version` alone.
 fn asks_version<S: AsStr>(words: &[S]) -> bool
