@@ -8,7 +8,33 @@ use Rattle.words.specs.declared.request.Request.TheVariants.{Run, Name, Show, So
 use Rattle.words.specs.declared.request.SoupSet.{SoupSet}
 use Rattle.words.specs.declared.request.Survey.{Survey}
 use Rattle.words.specs.Table.{also, census_app, code, generations, number, progress, rule, worker, workers, count, first, horizon, limit, period, seed, stride}
-use Rattle.words.specs.Values.{is_given, number_in, text_in}
+use Rattle.words.specs.Values.{IsInRange, is_given, number_in, text_in}
+
+-- ---- numbers in their ranges
+
+pub record AreProfileNumbers (numbers : ProfileNumbers) : Type 0 where
+  pub of_period : IsInRange period.kind numbers.period
+  pub of_horizon : IsInRange horizon.kind numbers.horizon
+  pub of_stride : IsInRange stride.kind numbers.stride
+  pub of_limit : IsInRange limit.kind numbers.limit
+
+pub record AreSurveyNumbers (survey : Survey) : Type 0 where
+  pub of_profile : AreProfileNumbers survey.profile
+  pub of_first : IsInRange first.kind survey.set.first
+  pub of_count : IsInRange count.kind survey.set.count
+
+-- each number of a request is in the range of its argument
+abbrev pub AreInTheirRanges : Request → Type 0
+AreInTheirRanges (Run n _) = IsInRange generations.kind n
+AreInTheirRanges (Name profile _) = AreProfileNumbers profile
+AreInTheirRanges (Show _) = Unit {0}
+AreInTheirRanges (Soup _ n) = IsInRange number.kind n
+AreInTheirRanges (Take survey n _) = AreSurveyNumbers survey × IsInRange workers.kind n
+AreInTheirRanges (Work survey n) = AreSurveyNumbers survey × IsInRange worker.kind n
+AreInTheirRanges (Gather survey n) = AreSurveyNumbers survey × IsInRange workers.kind n
+AreInTheirRanges Version = Unit {0}
+
+-- ---- values put together
 
 -- the numbers of a profile, if all four are there
 abbrev pub all_four : Option ℕ → Option ℕ → Option ℕ → Option ℕ → Option ProfileNumbers

@@ -1,7 +1,7 @@
-ghost use Rattle.std.specs.Prelude.{◌≡◌, ◌≢◌, None, Some, IfOk, IfErr, map, option_and_then};
+ghost use Rattle.std.specs.Prelude.{◌≡◌, ◌≢◌, None, Some, IfOk, IfErr, IfSome, map, option_and_then};
 ghost use Rattle.clap.specs.Words.{kind_of, subcommand_rows_of};
 ghost use Rattle.words.specs.Calls.{AskForTheirValues, AsksForVersion, NoCommandAsksForNothing, OthersAskForNothing};
-ghost use Rattle.words.specs.Requests.{asked_by, asks_version, request_in};
+ghost use Rattle.words.specs.Requests.{AreInTheirRanges, asked_by, asks_version, request_in};
 
 use crate::application::census_command;
 use crate::reading::{gather_in, name_in, run_in, show_in, soup_in, take_in, work_in};
@@ -38,6 +38,7 @@ impl From<AllocError> for Unasked {
 /// - [`Unasked::OutOfMemory`].
 pub fn request_of<'a, S: AsStr>(alloc: Global, words: &'a [S]) -> Result<Request<'a>, Unasked>
     ensures asked { IfOk result (λ request. asked_by (map S.text words.entry.now) ≡ Some request) }
+    ensures ranges { IfOk result AreInTheirRanges }
     ensures usage { IfErr result (λ unasked.
         unasked ≢ Unasked.OutOfMemory → asked_by (map S.text words.entry.now) ≡ None) }
 {
@@ -92,6 +93,7 @@ fn asks_version<S: AsStr>(words: &[S]) -> bool
 /// The command that `clap` found, with its values.
 fn request_in<'a>(matches: &ArgMatches<'a>) -> Option<Request<'a>>
     ensures request { result ≡ option_and_then request_in (subcommand_rows_of matches.now) }
+    ensures ranges { IfSome result AreInTheirRanges }
 {
     match matches.subcommand() {
         Some(("run", found)) => run_in(found),
