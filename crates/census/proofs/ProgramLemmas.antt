@@ -2,7 +2,7 @@
 use Rattle.std.proofs.Common.{◌≡◌, ◌≢◌, ◌++◌, ◌⊎◌, ℕ, List, [], Bool, true, false, Option, None, Some, Ok, Err, IsSomeAnd, inl, inr, refl, sym, ap}
 use Rattle.std.proofs.Common.{◌∙◌, zero, suc, IfSome, Result, subst, append_assoc, append-nil}
 use Rattle.std.specs.Io.KnownBytes.{Appends, Keeps, append_known}
-use Rattle.clap.specs.Words.{Text}
+use Rattle.words.specs.Requests.{Text}
 use Rattle.commands.specs.declared.complaint.Complaint.{Complaint}
 use Rattle.commands.specs.declared.complaint.Complaint.TheVariants.{Refused, OutOfMemory, ReadFailed, WriteFailed}
 use Rattle.commands.specs.declared.profile.ProfileNumbers.{ProfileNumbers}

@@ -11,7 +11,7 @@ use Rattle.commands.specs.Gather.{Gathering, last_line}
 use Rattle.commands.specs.Requests.{is_whole, reads_input, refuses_input, right_for}
 use Rattle.commands.specs.Status.{exit_code}
 use Rattle.commands.specs.Streams.{Stream, HasLine}
-use Rattle.clap.specs.Words.{Text}
+use Rattle.words.specs.Requests.{Text}
 use Rattle.census.specs.LastLines.{Gives, HasTextAndLine, Says, tells_lines}
 use Rattle.census.specs.Words.{asked_by}
 

@@ -9,7 +9,7 @@ ghost use Rattle.census.specs.LastLines.{tells_lines};
 ghost use Rattle.census.specs.Program.{Complains, IsDone, left_by, not_text_line, returned};
 ghost use Rattle.census.specs.Words.{asked_by};
 
-use crate::words::do_words;
+use crate::request::do_words;
 use commands::complaint::Complaint;
 use commands::output::send_buffered;
 use commands::progress::Progress;
