@@ -19,8 +19,8 @@ pub fn census_command<'a>(alloc: Global) -> Result<Command<'a>, AllocError>
 {
     let command = Command::new(alloc, "census")
         .about(
-            "Runs patterns of Conway's Game of Life and its kin, names and draws their objects, makes soups, and counts what \
-             they leave",
+            "Runs patterns of Conway's Game of Life and its kin, names and draws their\n\
+             objects, makes soups, and counts what they leave",
         )
         .after_help("`census --version` prints the name and version.")
         .subcommand_required(true);
