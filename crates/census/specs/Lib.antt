@@ -1,3 +1,3 @@
 pub mod LastLines
 pub mod Program
-pub mod Words
+pub mod Requests
