@@ -87,9 +87,9 @@ gather_tells (Run n rule) tells = absurd tells
 gather_tells (Name profile rule) tells = absurd tells
 gather_tells (Show code) tells = absurd tells
 gather_tells (Soup seed n) tells = absurd tells
-gather_tells (Take set workers profile rule progress) tells = absurd tells
-gather_tells (Work set worker profile rule) tells = absurd tells
-gather_tells (Gather set workers profile rule) tells = refl
+gather_tells (Take survey workers progress) tells = absurd tells
+gather_tells (Work survey worker) tells = absurd tells
+gather_tells (Gather survey workers) tells = refl
 gather_tells Version tells = absurd tells
 
 -- what is right for the others is a text, and nothing else
@@ -99,9 +99,9 @@ text_alone (Run n rule) bytes made quiet is = (is.1, is.2)
 text_alone (Name profile rule) bytes made quiet is = (is.1, is.2)
 text_alone (Show code) bytes made quiet is = (is.1, is.2)
 text_alone (Soup seed n) bytes made quiet is = (is.1, is.2)
-text_alone (Take set workers profile rule progress) bytes made quiet is = (is.1, is.2)
-text_alone (Work set worker profile rule) bytes made quiet is = (is.1, is.2)
-text_alone (Gather set workers profile rule) bytes made quiet is = let bad : true ≡ false = quiet in cc
+text_alone (Take survey workers progress) bytes made quiet is = (is.1, is.2)
+text_alone (Work survey worker) bytes made quiet is = (is.1, is.2)
+text_alone (Gather survey workers) bytes made quiet is = let bad : true ≡ false = quiet in cc
 text_alone Version bytes made quiet is = (is.1, is.2)
 
 -- so where soups are missing, lines may be told

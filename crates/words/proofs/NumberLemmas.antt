@@ -77,7 +77,7 @@ found_within bits most id fits G only f found none some = go (one_text f id) ref
 
 -- ---- what `clap` accepts as a number
 
-no_sign : (n : Text) → IsNumeral 10 n → (starts_with_minus n ≡ false) × (without_leading_plus n ≡ n)
+pub no_sign : (n : Text) → IsNumeral 10 n → (starts_with_minus n ≡ false) × (without_leading_plus n ≡ n)
 no_sign [] h = absurd (omega arith)
 no_sign (d ∷ ds) h =
     let minus : (d == 45) ≡ false = ne_eqb _ _ (λ e. omega (arith, digit_from_value d h.1.0)) in

@@ -1,6 +1,6 @@
 -- Words of a command that are faults, after arguments that are lawful.
 use Rattle.std.proofs.Common.{◌≡◌, ◌∙◌, ◌++◌, ◌||◌, ◌&&◌, ◌==◌, ℕ, Bool, true, false, cond, Option, None, Some, List, [], ◌∷◌, codes, drop, get_or, is_some, length, map, not}
-use Rattle.std.proofs.Common.{refl, sym, ap, ap₂, subst, append_assoc}
+use Rattle.std.proofs.Common.{◌⊎◌, inl, inr, refl, sym, ap, ap₂, subst, append_assoc}
 use Rattle.std.specs.List.{find, list_any}
 use Rattle.std.specs.Option.{option_map_or}
 use Rattle.std.specs.Str.{bytes_eq}
@@ -25,17 +25,17 @@ use Rattle.words.specs.Requests.{asked_by}
 use Rattle.words.specs.declared.options.Kind.{Kind}
 use Rattle.words.specs.declared.options.Kind.TheVariants as kind
 use Rattle.words.specs.Table.{Command, Entry}
-use Rattle.words.specs.Uses.{AreUses, IsIn, IsNotOfKind, IsOutOfRange, IsUnknown, IsUse, Stands, Use, alone, attached, entry_in, flagged, is_flag, is_used, spaced}
+use Rattle.words.specs.Uses.{AreUses, IsIn, IsNotOfKind, IsOfKind, IsOutOfRange, IsUnknown, IsUse, Stands, Use, alone, attached, entry_in, flagged, is_flag, is_used, spaced}
 use Rattle.words.specs.Uses.{value_in, words_in, words_of}
 use Rattle.words.proofs.BuiltLemmas.{action_for, built, built_is, kind_refused, missing_for, parser_for, values_for}
 use Rattle.words.proofs.KnownLemmas.{Knows, KnowsCommand, at, has_name, help_entry, known, leaf, takes_name}
 use Rattle.words.proofs.LawLemmas.{asks_lacking, asks_none}
 use Rattle.words.proofs.RowLemmas.{find_none, or_nothing}
 use Rattle.words.proofs.StuckLemmas.{IsFaulty, faulty, faulty_first, faulty_next, level_refuses, level_stuck, stray}
-use Rattle.words.proofs.UseLemmas.{HasRead, all_read, by_its_id, by_its_name, has_none, has_one, its_attached, its_attached_dashes, its_dashes}
+use Rattle.words.proofs.UseLemmas.{HasRead, all_read, bare_value, by_its_id, by_its_name, has_none, has_one, its_attached, its_attached_dashes, its_dashes}
 use Rattle.words.proofs.UseLemmas.{its_words, named_by, or_true, rows_in, stands_first, takes_one, takes_value}
 use Rattle.words.proofs.ValueLemmas.{rows_have}
-use Rattle.words.proofs.WalkLemmas.{Leads, Reads, leads_argument, leads_option, leads_then, no_flag_fault, pending, plain_word-is, plain_word_met}
+use Rattle.words.proofs.WalkLemmas.{IsPlainWord, Leads, Reads, leads_argument, leads_option, leads_then, no_flag_fault, pending, plain_word-is, plain_word_met}
 
 -- the values of a use
 abbrev pub values_by : Use → List Text
@@ -81,9 +81,9 @@ module _ {s : Shape} (command : Command) (k : Knows s command.arguments) {words 
       (level_stuck s (words ++ new) more old p i bare (subst IsFaulty (sym settles) bad)
       (λ j a found. one_value _ s.rules a k.several found))
 
-  refuses_alone : (e : Entry) (v : Text) → Stands (alone e v) → IsIn e command.arguments → IsFaulty (use_fault s.args_override_self (built e) (v ∷ []) rows)
+  refuses_alone : (e : Entry) (v : Text) → Stands (alone e v) → IsPlainWord v → IsIn e command.arguments → IsFaulty (use_fault s.args_override_self (built e) (v ∷ []) rows)
       → IsFaulty (level_fault s [] nothing_held (words ++ v ∷ more) false [])
-  refuses_alone e v stands here bad = go (has_row k.lone rows) refl
+  refuses_alone e v stands plain here bad = go (has_row k.lone rows) refl
     where
       no_name : has_name e ≡ false
       no_name = ap₂ (λ a b. a || b) stands.0 stands.1
@@ -92,25 +92,24 @@ module _ {s : Shape} (command : Command) (k : Knows s command.arguments) {words 
           let reads = subst (λ i. Reads s nothing_held 1 words read.held i rows) (read.place ∙ ap (λ b. cond {A = ℕ} b 2 1) none) read.reads in
           refuses_value e v (next_position (built e) 1) (v ∷ []) here bad
           (leads_then s nothing_held read.held (pending s read.held (built e) v) 1 1 (next_position (built e) 1) words (v ∷ []) reads.leads
-          (leads_argument s read.held 1 rows (built e) v reads.holds (stands_first k e here no_name) (plain_word-is v stands.2)))
+          (leads_argument s read.held 1 rows (built e) v reads.holds (stands_first k e here no_name) plain))
       go true some =
           let reads = subst (λ i. Reads s nothing_held 1 words read.held i rows) (read.place ∙ ap (λ b. cond {A = ℕ} b 2 1) some) read.reads in
-          let plain = plain_word-is v stands.2 in
           let met = plain_word_met s.rules idle 2 v read.held plain in
           let step : step_fault s 2 (subcommand_or_other s.rules None idle 2 v read.held).0 (subcommand_or_other s.rules None idle 2 v read.held).1 ≡ stray_fault s =
           ap (λ m. step_fault s 2 m.0 m.1) met ∙ ap (λ o. option_map_or (λ a. positional_fault s.rules s.args_override_self a read.held) o (stray_fault s)) k.no_second in
           level_refuses s words more v read.held 2 rows reads
           (faulty_next (other_fault s None v read.held) _ (no_flag_fault s v read.held plain) (subst IsFaulty (sym step) (stray s)))
 
-  refuses_spaced : (e : Entry) (v : Text) → Stands (spaced e v) → IsIn e command.arguments → IsFaulty (use_fault s.args_override_self (built e) (v ∷ []) rows)
+  refuses_spaced : (e : Entry) (v : Text) → Stands (spaced e v) → IsPlainWord v → IsIn e command.arguments → IsFaulty (use_fault s.args_override_self (built e) (v ∷ []) rows)
       → IsFaulty (level_fault s [] nothing_held (words ++ (codes "--" ++ e.name) ∷ v ∷ more) false [])
-  refuses_spaced e v stands here bad =
+  refuses_spaced e v stands plain here bad =
       let is : has_name e ≡ true = ap (λ a. a || is_flag e.kind) stands.0 in
       let word : Text = codes "--" ++ e.name in
       let i = read.position in
       refuses_value e v i (word ∷ v ∷ []) here bad
       (leads_then s nothing_held read.held (pending s read.held (built e) v) 1 i i words (word ∷ v ∷ []) read.reads.leads
-      (leads_option s read.held i rows (built e) v word read.reads.holds (takes_one k e here stands.1) (named_by k e here is stands.1) (plain_word-is v stands.2)))
+      (leads_option s read.held i rows (built e) v word read.reads.holds (takes_one k e here stands.1) (named_by k e here is stands.1) plain))
 
   -- a word that is a fault by itself
   refuses_word : (word : Text) → IsFaulty (other_fault s None word read.held) → IsFaulty (level_fault s [] nothing_held (words ++ word ∷ more) false [])
@@ -129,18 +128,18 @@ module _ {s : Shape} (command : Command) (k : Knows s command.arguments) {words 
       rw (dashes, long, by_long) (is ∙ ap₂ (λ ks rs. or_else ks (use_fault again a values rs)) read.reads.holds.fine read.reads.holds.found) in
       subst IsFaulty (sym fault) bad
 
-  pub refuses : (u : Use) → Stands u → IsIn (entry_in u) command.arguments
+  pub refuses : (u : Use) → Stands u → IsOfKind (entry_in u).kind (value_in u) ⊎ IsNotOfKind (entry_in u).kind (value_in u) → IsIn (entry_in u) command.arguments
       → IsFaulty (use_fault s.args_override_self (built (entry_in u)) (values_by u) rows)
       → IsFaulty (level_fault s [] nothing_held (words ++ (words_of u ++ more)) false [])
-  refuses (alone e v) stands here bad = refuses_alone e v stands here bad
-  refuses (spaced e v) stands here bad = refuses_spaced e v stands here bad
-  refuses (attached e v) stands here bad =
+  refuses (alone e v) stands of here bad = refuses_alone e v stands (bare_value e.kind v stands.1 stands.2 of) here bad
+  refuses (spaced e v) stands of here bad = refuses_spaced e v stands (bare_value e.kind v stands.1 stands.2 of) here bad
+  refuses (attached e v) stands of here bad =
       let is : has_name e ≡ true = ap (λ a. a || is_flag e.kind) stands.0 in
       let word : Text = codes "--" ++ (e.name ++ (codes "=" ++ v)) in
       let takes = takes_value k e here stands.1 in
       refuses_word word (option_bad word e.name (Some v) (built e) (v ∷ []) (its_attached_dashes k e here v) (its_attached k e here v) (by_its_name k e here is)
       (rw takes refl) bad)
-  refuses (flagged e) stands here bad =
+  refuses (flagged e) stands of here bad =
       let is : has_name e ≡ true = ap (λ b. e.is_named || b) stands ∙ or_true e.is_named in
       let word : Text = codes "--" ++ e.name in
       let takes : takes_values (built e) ≡ false = ap (λ n. not (n == 0)) ((built_is e).most ∙ (has_none e.kind stands).1) in
@@ -231,10 +230,10 @@ pub others_ask_for_nothing : OthersAskForNothing
 others_ask_for_nothing command here = record {
   missing = λ program uses are lacking. asks_lacking command k program uses are lacking;
   twice = λ program uses u more are is used.
-      none program (words_in uses ++ (words_of u ++ more)) (refuses command k.knows (all_read command k.knows uses are) more u is.stands is.argument
+      none program (words_in uses ++ (words_of u ++ more)) (refuses command k.knows (all_read command k.knows uses are) more u is.stands (inl is.taken) is.argument
       (twice_bad u (leaf command).args_override_self (rows_in uses) k.knows.again is.stands (rows_have (entry_in u).name uses ∙ used)));
   out_of_range = λ program uses u more are is.
-      none program (words_in uses ++ (words_of u ++ more)) (refuses command k.knows (all_read command k.knows uses are) more u is.stands is.argument
+      none program (words_in uses ++ (words_of u ++ more)) (refuses command k.knows (all_read command k.knows uses are) more u is.stands (inr is.refused) is.argument
       (range_bad u (leaf command).args_override_self (rows_in uses) k.knows.again is.stands is.refused));
   unknown = λ program word uses more are is.
       none program (words_in uses ++ word ∷ more) (refuses_unknown command k.knows (all_read command k.knows uses are) more word is);

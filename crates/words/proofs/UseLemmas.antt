@@ -1,6 +1,6 @@
 -- The arguments of a call, one after another: how each is read, and what rows they leave.
 use Rattle.std.proofs.Common.{◌≡◌, ◌∙◌, ◌++◌, ◌||◌, ◌&&◌, ◌==◌, ℕ, Bool, true, false, cond, Option, None, Some, List, [], ◌∷◌, codes, map, not, is_some}
-use Rattle.std.proofs.Common.{refl, sym, ap, ap₂, subst, append-nil, append_assoc}
+use Rattle.std.proofs.Common.{◌⊎◌, inl, inr, refl, sym, ap, ap₂, subst, append-nil, append_assoc}
 use Rattle.std.specs.List.{list_any}
 use Rattle.std.specs.Str.{bytes_eq}
 use Rattle.std.proofs.lemmas.List.Folds.{list_any-append}
@@ -15,11 +15,12 @@ use Rattle.clap.specs.declared.builder.action.ArgAction.TheVariants.{Set, SetTru
 use Rattle.words.specs.declared.options.Kind.{Kind}
 use Rattle.words.specs.declared.options.Kind.TheVariants as kind
 use Rattle.words.specs.Table.{Command, Entry}
-use Rattle.words.specs.Uses.{AreUses, IsIn, IsOfKind, IsUse, Stands, Use, alone, attached, entry_in, flagged, is_flag, is_used, spaced, value_in, words_in, words_of}
+use Rattle.words.specs.Uses.{AreUses, IsBare, IsIn, IsNotOfKind, IsOfKind, IsUse, Stands, Use, alone, attached, entry_in, flagged, is_flag, is_used, spaced, value_in, words_in, words_of}
 use Rattle.words.proofs.BuiltLemmas.{action_for, built, built_is, is_small, kind_accepted, missing_for, parser_for, values_for}
 use Rattle.words.proofs.KnownLemmas.{Knows, at, has_name}
+use Rattle.words.proofs.NumberLemmas.{no_sign}
 use Rattle.words.proofs.RowLemmas.{neither, same_text}
-use Rattle.words.proofs.WalkLemmas.{IsFirstUse, IsFlag, IsNamedBy, Reads, StandsAt, TakesOne, nothing_holds, pending, plain_word-is, reads_argument, reads_attached}
+use Rattle.words.proofs.WalkLemmas.{IsFirstUse, IsFlag, IsNamedBy, IsPlainWord, Reads, StandsAt, TakesOne, nothing_holds, pending, plain_word-is, reads_argument, reads_attached}
 use Rattle.words.proofs.WalkLemmas.{reads_flag, reads_option, reads_then, row_with}
 
 -- the row of an argument
@@ -42,6 +43,15 @@ has_none kind.Text h = cc
 has_none kind.Flag h = (refl, refl, refl, refl)
 has_none (kind.Number l m) h = cc
 has_none (kind.LargeNumber m) h = cc
+
+-- a value that stands in a word of its own is no flag
+pub bare_value : (k : Kind) (v : Text) → is_flag k ≡ false → IsBare k v → IsOfKind k v ⊎ IsNotOfKind k v → IsPlainWord v
+bare_value kind.Text v no_flag bare of = plain_word-is v bare
+bare_value kind.Flag v no_flag bare of = cc
+bare_value (kind.Number l m) v no_flag bare (inl n) = plain_word-is v (no_sign v n.numeral).0
+bare_value (kind.Number l m) v no_flag bare (inr n) = plain_word-is v n.0
+bare_value (kind.LargeNumber m) v no_flag bare (inl n) = plain_word-is v (no_sign v n.numeral).0
+bare_value (kind.LargeNumber m) v no_flag bare (inr n) = plain_word-is v n.0
 
 module _ {s : Shape} {es : List Entry} (k : Knows s es) (e : Entry) (here : IsIn e es) where
   pub by_its_id : arg_by_id s.rules (built e).id ≡ Some (built e)
@@ -173,7 +183,7 @@ module _ {s : Shape} (command : Command) (k : Knows s command.arguments) {words 
         reads = reads_then s nothing_held read.held (pending s read.held (built e) v) 1 1 (next_position (built e) 1) words (v ∷ []) rows
             (rows ++ row_with (built e) v ∷ []) reads
             (reads_argument s read.held 1 rows (built e) v reads.holds (first_use k e u.argument v rows u.stands.1 u.taken fresh)
-            (stands_first k e u.argument no_name) (plain_word-is v u.stands.2));
+            (stands_first k e u.argument no_name) (bare_value e.kind v u.stands.1 u.stands.2 (inl u.taken)));
         place = next ∙ sym (ap (λ b. cond {A = ℕ} b 2 1)
             (lone_after k e u.argument false rows v no_name ∙ ap (λ b. b || (true || false)) lone_fresh));
         no_skip = read.no_skip;
@@ -185,7 +195,7 @@ module _ {s : Shape} (command : Command) (k : Knows s command.arguments) {words 
       let is : has_name e ≡ true = ap (λ a. a || is_flag e.kind) u.stands.0 in
       reads_named e v ((codes "--" ++ e.name) ∷ v ∷ []) (pending s read.held (built e) v) u.argument is refl
       (reads_option s read.held read.position rows (built e) v (codes "--" ++ e.name) read.reads.holds
-      (first_use k e u.argument v rows u.stands.1 u.taken fresh) (named_by k e u.argument is u.stands.1) (plain_word-is v u.stands.2))
+      (first_use k e u.argument v rows u.stands.1 u.taken fresh) (named_by k e u.argument is u.stands.1) (bare_value e.kind v u.stands.1 u.stands.2 (inl u.taken)))
 
   read_attached : (e : Entry) (v : Text) → IsUse command (attached e v) → has_row e.name rows ≡ false
       → HasRead s k.lone (words ++ (codes "--" ++ (e.name ++ (codes "=" ++ v))) ∷ []) (rows ++ row_with (built e) v ∷ [])

@@ -50,10 +50,15 @@ abbrev pub is_flag : Kind → Bool
 is_flag kind.Flag = true
 is_flag _ = false
 
--- an argument stands as it may: with a name or without one, and in a word of its own no value begins with `-`
+-- in a word of its own a text doesn't begin with `-`
+abbrev pub IsBare : Kind → Text → Type 0
+IsBare kind.Text value = starts_with_minus value ≡ false
+IsBare _ value = ⊤
+
+-- an argument stands as it may: with a name or without one, with a value or as a flag
 abbrev pub Stands : Use → Type 0
-Stands (alone entry value) = (entry.is_named ≡ false) × (is_flag entry.kind ≡ false) × (starts_with_minus value ≡ false)
-Stands (spaced entry value) = (entry.is_named ≡ true) × (is_flag entry.kind ≡ false) × (starts_with_minus value ≡ false)
+Stands (alone entry value) = (entry.is_named ≡ false) × (is_flag entry.kind ≡ false) × IsBare entry.kind value
+Stands (spaced entry value) = (entry.is_named ≡ true) × (is_flag entry.kind ≡ false) × IsBare entry.kind value
 Stands (attached entry value) = (entry.is_named ≡ true) × (is_flag entry.kind ≡ false)
 Stands (flagged entry) = is_flag entry.kind ≡ true
 
