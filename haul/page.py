@@ -40,11 +40,8 @@ def page_of(census: Census, haul: Haul, least: int) -> Iterator[str]:
     yield from bars(haul, codes[:BARS])
     yield table_head(len(codes), len(haul.totals), least)
     for code in codes:
-        yield row(haul, code, drawings.get(code))
-    yield "</tbody></table>\n<svg width='0' height='0' aria-hidden='true'><defs>\n"
-    for number, path in paths.items():
-        yield f"<path id='s{number}' d='{path}'/>\n"
-    yield f"</defs></svg>\n</main>\n<script>{SCRIPT}</script>\n</body>\n</html>\n"
+        yield row(haul, code, drawings.get(code), paths)
+    yield f"</tbody></table>\n</main>\n<script>{SCRIPT}</script>\n</body>\n</html>\n"
 
 
 def head(haul: Haul) -> str:
@@ -150,7 +147,7 @@ differ by definition.</p>
 """
 
 
-def row(haul: Haul, code: str, drawing: str | None) -> str:
+def row(haul: Haul, code: str, drawing: str | None, paths: dict[int, str]) -> str:
     total, objects = haul.totals[code], haul.objects()
     name = NAMES.get(code, "")
     if drawing is None:
@@ -158,7 +155,7 @@ def row(haul: Haul, code: str, drawing: str | None) -> str:
     else:
         image, cells = picture(drawing, name or code), str(drawing.count("O"))
     once = round(objects / total)
-    samples = "".join(sample(haul.job, number) for number in haul.samples[code])
+    samples = "".join(sample(haul.job, number, paths[number]) for number in haul.samples[code])
     return (
         f"<tr><td>{image}</td><td>{linked(code, haul.job.rule)}</td><td>{escape(name)}</td><td>{kind_words(code)}</td>"
         f"<td>{cells}</td><td>{total:,}</td><td>1 in {once:,}</td><td>{samples}</td></tr>\n"
@@ -186,10 +183,10 @@ def linked(code: str, rule: str) -> str:
     return f"<a href='https://catagolue.hatsya.com/object/{text}/{escape(rule)}'>{text}</a>"
 
 
-def sample(job: Job, number: int) -> str:
+def sample(job: Job, number: int, path: str) -> str:
     """A sample soup, which opens to its picture and to the words that show what becomes of it."""
     return (
-        f"<details><summary>{number}</summary><svg class='soup' viewBox='0 0 16 16'><use href='#s{number}'/></svg>"
+        f"<details><summary>{number}</summary><svg class='soup' viewBox='0 0 16 16'><path d='{path}'/></svg>"
         f"<code>{escape(commands(job, number))}</code></details>"
     )
 

@@ -75,12 +75,18 @@ class Census:
 
 
 def beside() -> str | None:
-    """The program that this checkout built, or one that is installed in the same folder."""
-    here = Path(sys.argv[0]).resolve().parent
-    for path in (here.parent / "crates" / "census" / "out" / "census", here / "census"):
-        if path.is_file() and os.access(path, os.X_OK):
-            return str(path)
-    return None
+    """The program that is installed in the same folder, or the one of this checkout, which its launcher builds if need be."""
+    program = Path(sys.argv[0]).resolve().parent / "census"
+    if not os.access(program, os.X_OK):
+        return None
+    built = program.parent.parent / "crates" / "census" / "out" / "census"
+    if not (program.parent / "built.bash").is_file():
+        return str(program)
+    # The program itself is asked, since the launcher looks at all sources at each call.
+    done = subprocess.run([program, "--version"], stdin=subprocess.DEVNULL, stdout=subprocess.DEVNULL, check=False)
+    if done.returncode != 0:
+        raise NoCensus(f"no census at {program}")
+    return str(built)
 
 
 def checked(status: int, printed: bytes, errors: bytes) -> bytes:

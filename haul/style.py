@@ -16,11 +16,12 @@ code, td:nth-child(2) { font-family: ui-monospace, monospace; font-size: .9em; o
 .bars { width: 100%; max-width: 46rem; height: auto; font-size: 12px; }
 .bars text { fill: currentColor; } .bar { fill: var(--bar); } .mark { stroke: var(--line); }
 .filter input { font: inherit; padding: .2rem .4rem; width: 14rem; max-width: 100%; }
-table { border-collapse: collapse; width: 100%; table-layout: fixed; }
-th, td { text-align: left; vertical-align: top; padding: .4rem .5rem; border-bottom: 1px solid var(--line); }
-th:nth-child(1) { width: 164px; } th:nth-child(3) { width: 9rem; } th:nth-child(4) { width: 8rem; } th:nth-child(5) { width: 4rem; }
-th:nth-child(6), th:nth-child(7) { width: 6.5rem; } th:nth-child(8) { width: 15rem; }
-th { position: sticky; top: 0; background: var(--paper); }
+table, thead, tbody { display: block; }
+tr { display: grid; grid-template-columns: 164px minmax(7rem, 1fr) 9rem 8rem 4rem 6.5rem 6.5rem 15rem; border-bottom: 1px solid var(--line); }
+/* Rows that are out of sight are laid out when they come into it, so a page of thousands opens at once. */
+tbody tr { content-visibility: auto; contain-intrinsic-size: auto 6rem; }
+thead { position: sticky; top: 0; z-index: 1; background: var(--paper); }
+th, td { text-align: left; padding: .4rem .5rem; min-width: 0; }
 th button { all: unset; cursor: pointer; font-weight: bold; text-decoration: underline dotted; }
 th button:focus-visible { outline: 2px solid var(--link); }
 th[aria-sort=ascending] button::after { content: " \\2191"; } th[aria-sort=descending] button::after { content: " \\2193"; }
@@ -30,15 +31,15 @@ td > svg { background: var(--soft); }
 .soup { width: 128px; height: 128px; background: var(--soft); margin: .3rem 0; }
 summary { cursor: pointer; font-variant-numeric: tabular-nums; }
 @media (max-width: 56rem) {
-  thead tr { display: flex; flex-wrap: wrap; gap: .2rem .9rem; } th { position: static; width: auto !important; border: 0; padding: 0; }
+  thead { position: static; } thead tr { display: flex; flex-wrap: wrap; gap: .2rem .9rem; padding-bottom: .4rem; } th { padding: 0; }
   th:first-child, th:last-child { display: none; }
-  table, tbody, td { display: block; } tr { border-bottom: 1px solid var(--line); padding: .5rem 0; display: block; }
-  td { border: 0; padding: .1rem 0; } td:empty { display: none; }
+  tbody tr { display: block; padding: .5rem 0; contain-intrinsic-size: auto 15rem; }
+  td { display: block; padding: .1rem 0; } td:empty { display: none; }
   td:nth-child(5)::before { content: "cells: "; } td:nth-child(6)::before { content: "total: "; }
   td:nth-child(8)::before { content: "sample soups:"; }
 }
 tr[hidden] { display: none; }
-@media print { .filter { display: none; } th { position: static; } tr { break-inside: avoid; } }
+@media print { .filter { display: none; } thead { position: static; } tr { break-inside: avoid; } }
 """
 
 SCRIPT = """

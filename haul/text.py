@@ -10,7 +10,7 @@ import re
 from bisect import bisect_right
 from collections.abc import Iterable, Iterator
 from dataclasses import dataclass
-from typing import BinaryIO
+from typing import IO
 
 # No soup has this number, or a larger one.
 NUMBER_LIMIT = 2**40
@@ -126,7 +126,7 @@ def text_of(haul: Haul) -> str:
 class Lines:
     """The lines of an input, and where reading is: the latest line, its fields, and how many of these have been read."""
 
-    def __init__(self, stream: BinaryIO) -> None:
+    def __init__(self, stream: IO[bytes]) -> None:
         self.stream = stream
         self.number = 0
         self.fields: list[bytes] = []
@@ -209,7 +209,7 @@ class Lines:
         self.end_line()
 
 
-def read_hauls(stream: BinaryIO) -> Iterator[Haul]:
+def read_hauls(stream: IO[bytes]) -> Iterator[Haul]:
     """The hauls that stand one after another in an input; at least one. Raises `BadHaul` at the first fault."""
     lines = Lines(stream)
     yield read_haul(lines)
@@ -217,7 +217,7 @@ def read_hauls(stream: BinaryIO) -> Iterator[Haul]:
         yield read_haul(lines)
 
 
-def read_one_haul(stream: BinaryIO) -> Haul:
+def read_one_haul(stream: IO[bytes]) -> Haul:
     """The only haul of an input."""
     lines = Lines(stream)
     haul = read_haul(lines)

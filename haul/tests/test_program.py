@@ -14,9 +14,8 @@ from html import unescape
 from pathlib import Path
 from typing import IO
 
-from haul.check import differences, taken_again, wrong_samples
 from haul.page import page_of
-from haul.program import Census, set_words, pieces
+from haul.program import Census, pieces, set_words
 from haul.text import BadHaul, Haul, Job, read_one_haul, text_of
 
 TOP = Path(__file__).resolve().parents[2]
@@ -231,17 +230,17 @@ class Pages(unittest.TestCase):
             os.symlink(CENSUS, os.path.join(folder, "census"))
             for seed in self.HOSTILE:
                 with self.subTest(seed=seed):
-                    words = [f"--seed={seed}", "--count=1", "--rule=b36s23", "--limit=101"]
+                    words = [f"--seed={seed}", "--count=10", "--rule=b36s23", "--limit=303"]
                     page = self.page(read_one_haul(io.BytesIO(census("take", *words))))
-                    shown = re.search("</svg><code>(census soup .*?)</code></details>", page)
+                    shown = re.search("<summary>([0-9]+)</summary><svg.*?</svg><code>(census soup .*?)</code></details>", page)
                     assert shown is not None
-                    told = subprocess.run(["bash", "-c", unescape(shown[1])], cwd=folder, capture_output=True, check=False,
+                    told = subprocess.run(["bash", "-c", unescape(shown[2])], cwd=folder, capture_output=True, check=False,
                                           env={"PATH": folder + os.pathsep + os.environ["PATH"]})
-                    soup = census("soup", f"--seed={seed}", "0")
-                    wanted = subprocess.run([CENSUS, "name", "--rule=b36s23", "--limit=101"], input=soup, stdout=subprocess.PIPE, check=True)
+                    soup = census("soup", f"--seed={seed}", shown[1])
+                    wanted = subprocess.run([CENSUS, "name", "--rule=b36s23", "--limit=303"], input=soup, stdout=subprocess.PIPE, check=True)
                     self.assertEqual((told.stdout, told.stderr), (wanted.stdout, b""))
                     self.assertEqual(os.listdir(folder), ["census"])
-                    self.assertNotIn(seed if "<" in seed else "</script></script>", page.partition("<h1>")[2])
+                    self.assertEqual((page.count("</script>"), page.count("<b>")), (1, 0))
 
     def test_all_is_there(self) -> None:
         text = census("take", "--count", "40")
