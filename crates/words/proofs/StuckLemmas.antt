@@ -6,14 +6,14 @@ use Rattle.std.specs.Prelude.{slice_get}
 use Rattle.std.specs.Str.{bytes_eq, chars}
 use Rattle.clap.specs.Words.{Kinds, Row, Rule, Shape, Text}
 use Rattle.clap.specs.Faults.{bundle_fault, bundle_step_fault, flag_word_fault, flags_fault, level_fault, long_fault, option_fault, positional_fault, react_fault}
-use Rattle.clap.specs.Faults.{settle_fault, short_fault, step_fault, stray_fault, turn_fault, walk_fault}
+use Rattle.clap.specs.Faults.{settle_fault, short_fault, step_fault, stray_fault, turn_fault, use_fault, walk_fault}
 use Rattle.clap.specs.Kinds.{or_else}
 use Rattle.clap.specs.Lexer.{long_of, short_of}
-use Rattle.clap.specs.Walk.{Held, Outcome, Step, Walk, after_flag, after_step, arg_by_index, arg_by_long, arg_by_short, attached_value, bundle_met, bundle_step, idle, is_pending}
+use Rattle.clap.specs.Walk.{Held, Outcome, Step as WalkStep, Walk, after_flag, after_step, arg_by_index, arg_by_long, arg_by_short, attached_value, bundle_met, bundle_step, idle, is_pending}
 use Rattle.clap.specs.Walk.{long_or_other, nothing_held, plain, reacted, short_or_plain, short_word, takes_several, takes_values, trailing, value, walked}
 use Rattle.clap.specs.declared.error.kind.ErrorKind.{ErrorKind}
 use Rattle.clap.specs.declared.error.kind.ErrorKind.TheVariants.{InvalidSubcommand, TooManyValues, UnknownArgument}
-use Rattle.words.proofs.WalkLemmas.{Leads, Reads, and_false, at, fold-append, or_else_assoc, walk_fault-append}
+use Rattle.words.proofs.WalkLemmas.{Reads, Step, and_false, at, fold-append, or_else_assoc, step_faults, walk_fault-append}
 
 -- there is a fault
 pub record IsFaulty (kinds : Kinds) : Type 0 where
@@ -109,7 +109,7 @@ module _ (s : Shape) (rows : List Row) (p : Option (Text × List Text))
   stuck_at i t = record { held = h; waiting = idle; position = i; is_trailing = t; stopped = None }
 
   -- a word that may be `--`
-  abbrev met_at : ℕ → Text → Bool → Held × Step
+  abbrev met_at : ℕ → Text → Bool → Held × WalkStep
   met_at i word b = cond b (h, trailing i) (long_or_other s.rules idle word (long_of word) h)
 
   abbrev turn_at : ℕ → Text → Bool → Kinds
@@ -137,30 +137,50 @@ module _ (s : Shape) (rows : List Row) (p : Option (Text × List Text))
 
 -- ---- the faults of a command's words
 
--- after words that lead to a value that is refused
-pub level_stuck : (s : Shape) (words more : List Text) (rows : List Row) (p : Option (Text × List Text)) (i : ℕ)
-    → Leads s nothing_held 1 words (record { rows = rows; pending = p; skip = 0 }) i
-    → IsFaulty (settle_fault s.rules s.args_override_self (record { rows = rows; pending = p; skip = 0 }))
-    → ((i : ℕ) (a : Rule) → arg_by_index s.rules i ≡ Some a → takes_several a ≡ false) → IsFaulty (level_fault s [] nothing_held (words ++ more) false [])
-level_stuck s words more rows p i leads settles single =
-    let end : Walk = stuck_at s rows p settles single i false in
-    let stuck = all_stuck s rows p settles single more i false in
-    let walks : walk_fault s [] (at nothing_held 1) (words ++ more) ≡ walk_fault s [] end more =
-    walk_fault-append s [] (at nothing_held 1) words more ∙ ap₂ (λ k w. or_else k (walk_fault s [] w more)) leads.fine leads.walks in
-    let ends : fold (walked s.rules []) (at nothing_held 1) (words ++ more) ≡ fold (walked s.rules []) end more =
-    fold-append (walked s.rules []) (at nothing_held 1) words more ∙ ap (λ w. fold (walked s.rules []) w more) leads.walks in
-    subst IsFaulty (or_else_assoc (walk_fault s [] (at nothing_held 1) (words ++ more)) _ _)
-    (faulty_first (or_else (walk_fault s [] (at nothing_held 1) (words ++ more)) (settle_fault s.rules s.args_override_self
-    (fold (walked s.rules []) (at nothing_held 1) (words ++ more)).held)) _
-    (subst IsFaulty (sym (λ j. or_else (walks j) (settle_fault s.rules s.args_override_self (ends j).held))) stuck))
+either_faulty : (one two three : Kinds) → IsFaulty (or_else one two) → (IsFaulty two → IsFaulty three) → IsFaulty (or_else one three)
+either_faulty [] two three f more = more f
+either_faulty (kind ∷ kinds) two three f more = faulty kind kinds _ refl
+
+-- the words of a command, as far as they were read, and then these
+walks_on : (s : Shape) (words more : List Text) (h : Held) (i : ℕ) (rows : List Row) → Reads s words h i rows
+    → walk_fault s [] (at nothing_held 1) (words ++ more) ≡ walk_fault s [] (at h i) more
+walks_on s words more h i rows reads =
+    walk_fault-append s [] (at nothing_held 1) words more ∙ ap₂ (λ k w. or_else k (walk_fault s [] w more)) reads.fine reads.walks
 
 -- after words that were read, a word that is a fault by itself
-pub level_refuses : (s : Shape) (words more : List Text) (word : Text) (h : Held) (i : ℕ) (rows : List Row) → Reads s nothing_held 1 words h i rows
+pub level_refuses : (s : Shape) (words more : List Text) (word : Text) (h : Held) (i : ℕ) (rows : List Row) → Reads s words h i rows
     → IsFaulty (turn_fault s [] (at h i) word) → IsFaulty (level_fault s [] nothing_held (words ++ word ∷ more) false [])
 unfolding walk_fault
 level_refuses s words more word h i rows reads fault =
-    let walks : walk_fault s [] (at nothing_held 1) (words ++ word ∷ more) ≡ walk_fault s [] (at h i) (word ∷ more) =
-    walk_fault-append s [] (at nothing_held 1) words (word ∷ more)
-    ∙ ap₂ (λ k w. or_else k (walk_fault s [] w (word ∷ more))) reads.leads.fine reads.leads.walks in
     faulty_first (walk_fault s [] (at nothing_held 1) (words ++ word ∷ more)) _
-    (subst IsFaulty (sym walks) (faulty_first (turn_fault s [] (at h i) word) _ fault))
+    (subst IsFaulty (sym (walks_on s words (word ∷ more) h i rows reads)) (faulty_first (turn_fault s [] (at h i) word) _ fault))
+
+-- and a use that is a fault
+pub level_stuck : (s : Shape) (words new more : List Text) (h : Held) (i end : ℕ) (rows : List Row) (a : Rule) (given : List Text) → Reads s words h i rows
+    → h.skip ≡ 0 → Step s h i new a given end → IsFaulty (use_fault s.args_override_self a given rows)
+    → ((j : ℕ) (b : Rule) → arg_by_index s.rules j ≡ Some b → takes_several b ≡ false)
+    → IsFaulty (level_fault s [] nothing_held (words ++ (new ++ more)) false [])
+level_stuck s words new more h i end rows a given reads no_skip step bad single =
+    let last : Walk → Kinds = λ w. settle_fault s.rules s.args_override_self w.held in
+    let on : Walk → List Text → Walk = λ w ws. fold (walked s.rules []) w ws in
+    let bare : Held = record { rows = step.held.rows; pending = step.held.pending; skip = 0 } in
+    let is_bare : step.held ≡ bare = λ j. record { rows = step.held.rows; pending = step.held.pending; skip = (step.skip ∙ no_skip) j } in
+    -- what is held after it is a fault, or its words are
+    let held : IsFaulty (settle_fault s.rules s.args_override_self step.held) → IsFaulty (or_else (walk_fault s [] (at step.held end) more) (last (on (at step.held end) more))) =
+    subst (λ (x : Held). IsFaulty (settle_fault s.rules s.args_override_self x) → IsFaulty (or_else (walk_fault s [] (at x end) more) (last (on (at x end) more))))
+    (sym is_bare) (λ settles. all_stuck s bare.rows bare.pending settles single more end false) in
+    let faults = either_faulty (walk_fault s [] (at h i) new) (settle_fault s.rules s.args_override_self step.held) _
+    (subst IsFaulty (sym (step_faults reads step)) bad) held in
+    -- so there is a fault in all the words, or at their end
+    let all : List Text = words ++ (new ++ more) in
+    let walks : walk_fault s [] (at nothing_held 1) all ≡ or_else (walk_fault s [] (at h i) new) (walk_fault s [] (at step.held end) more) =
+    walks_on s words (new ++ more) h i rows reads ∙ walk_fault-append s [] (at h i) new more
+    ∙ ap (λ w. or_else (walk_fault s [] (at h i) new) (walk_fault s [] w more)) step.walks in
+    let ends : on (at nothing_held 1) all ≡ on (at step.held end) more =
+    fold-append (walked s.rules []) (at nothing_held 1) words (new ++ more) ∙ ap (λ w. on w (new ++ more)) reads.walks
+    ∙ fold-append (walked s.rules []) (at h i) new more ∙ ap (λ w. on w more) step.walks in
+    let total : or_else (walk_fault s [] (at nothing_held 1) all) (last (on (at nothing_held 1) all))
+        ≡ or_else (walk_fault s [] (at h i) new) (or_else (walk_fault s [] (at step.held end) more) (last (on (at step.held end) more))) =
+    (λ j. or_else (walks j) (last (ends j))) ∙ or_else_assoc (walk_fault s [] (at h i) new) (walk_fault s [] (at step.held end) more) _ in
+    subst IsFaulty (or_else_assoc (walk_fault s [] (at nothing_held 1) all) _ _)
+    (faulty_first (or_else (walk_fault s [] (at nothing_held 1) all) (last (on (at nothing_held 1) all))) _ (subst IsFaulty (sym total) faults))

@@ -1,6 +1,6 @@
 -- How `clap` walks the words of a call, for any command: a word at a time, and then a use of an argument at a time.
-use Rattle.std.proofs.Common.{◌≡◌, ◌∙◌, ◌++◌, ◌&&◌, ℕ, Bool, true, false, cond, Option, None, Some, List, [], ◌∷◌, is_some, option_and_then, not}
-use Rattle.std.proofs.Common.{codes, ◌==◌, refl, sym, ap, ap₂, subst, append-nil, append_assoc}
+use Rattle.std.proofs.Common.{◌≡◌, ◌∙◌, ◌++◌, ◌&&◌, ◌⊎◌, ◌==◌, ℕ, Bool, true, false, cond, Option, None, Some, List, [], ◌∷◌}
+use Rattle.std.proofs.Common.{append-nil, append_assoc, ap, ap₂, inl, inr, is_some, length, not, option_and_then, refl, sym}
 use Rattle.std.specs.List.{find, fold}
 use Rattle.std.specs.Option.{option_map, option_map_or}
 use Rattle.std.specs.Str.{bytes_eq}
@@ -10,18 +10,17 @@ use Rattle.clap.specs.Simple.{App, entered, label_of, names_of, rows_at}
 use Rattle.clap.specs.Words.{Kinds, Row, Rule, Shape, Text}
 use Rattle.clap.specs.Kinds.{or_else, range_kinds}
 use Rattle.clap.specs.Values.{refused_kind}
-use Rattle.clap.specs.declared.error.kind.ErrorKind.TheVariants.{ArgumentConflict}
-use Rattle.clap.specs.declared.error.kind.ErrorKind.{ErrorKind}
 use Rattle.clap.specs.Facts.{parser_of_value, unwrap_or_range}
-use Rattle.clap.specs.Faults.{built_fault, check_fault, defaults_fault, entered_fault, level_fault, action_fault, repeat_fault, set_fault}
-use Rattle.clap.specs.Faults.{values_fault, bundle_fault, flag_word_fault, other_fault, settle_fault, step_fault, turn_fault, use_fault, walk_fault}
+use Rattle.clap.specs.Faults.{action_fault, built_fault, bundle_fault, check_fault, defaults_fault, entered_fault, flag_word_fault, level_fault, long_fault}
+use Rattle.clap.specs.Faults.{other_fault, react_fault, repeat_fault, settle_fault, step_fault, turn_fault, use_fault, values_fault, walk_fault}
 use Rattle.clap.specs.ValueTests.{accepts}
-use Rattle.clap.specs.Walk.{answers_to, finished, rows_after, stop_after, with_default, more_values, next, used_as, used_by_id, with_values, Held}
-use Rattle.clap.specs.Walk.{Names, Step, Waiting, Walk, action_of, after_step, arg_by_id, arg_by_index, arg_by_long, at_row, has_row, idle}
-use Rattle.clap.specs.Walk.{is_multiple, is_pending, long_or_other, most_values, next_position, nothing_held, option, plain_word, reacted, reading_by}
-use Rattle.clap.specs.Walk.{settled, short_or_plain, subcommand_met, subcommand_or_other, takes_several, takes_values, to_positional, trailing, used}
-use Rattle.clap.specs.Walk.{value, walk, walk_from, walked}
+use Rattle.clap.specs.Walk.{Held, Names, Outcome, Step as WalkStep, Waiting, Walk, action_of, after_flag, after_step, answers_to, arg_by_id, arg_by_index}
+use Rattle.clap.specs.Walk.{arg_by_long, at_row, done, finished, has_row, idle, is_multiple, is_pending, long_met, long_or_other, more_values, most_values, next}
+use Rattle.clap.specs.Walk.{next_position, nothing_held, option, plain_word, reacted, reading_by, rows_after, settled, short_or_plain, stop_after}
+use Rattle.clap.specs.Walk.{subcommand_met, subcommand_or_other, takes_several, takes_values, to_positional, trailing, used, used_as, used_by_id, value}
+use Rattle.clap.specs.Walk.{values_or_missing, walk, walk_from, walked, with_default, with_values, without}
 use Rattle.clap.specs.declared.builder.action.ArgAction.TheVariants.{Set, SetTrue}
+use Rattle.clap.specs.declared.error.kind.ErrorKind.TheVariants.{ArgumentConflict}
 use Rattle.clap.specs.declared.parser.matches.ValueSource.TheVariants.{CommandLine}
 
 -- ---- words that are no flag
@@ -49,7 +48,7 @@ plain_word-is word h = record {
 pub plain_word_met : (c : List Rule) (waiting : Waiting) (position : ℕ) (word : Text) (h : Held) → IsPlainWord word
     → subcommand_or_other c None waiting position word h ≡ plain_word c waiting word h
 plain_word_met c waiting position word h p =
-    ap (λ b. cond {A = Held × Step} b (h, trailing position) (long_or_other c waiting word (long_of word) h)) p.dashes
+    ap (λ b. cond {A = Held × WalkStep} b (h, trailing position) (long_or_other c waiting word (long_of word) h)) p.dashes
     ∙ ap (λ o. long_or_other c waiting word o h) p.long
     ∙ ap (λ o. short_or_plain c waiting word o h) p.short
 
@@ -75,35 +74,42 @@ at_row_none id change missing (r ∷ rs) none = go (bytes_eq r.id id) refl (at_r
 abbrev pub row_with : Rule → Text → Row
 row_with a v = record { id = a.id; values = v ∷ []; count = None; source = Some CommandLine; reading = reading_by a }
 
--- ---- an argument that takes one value
+-- ---- a use of an argument
 
-pub record TakesOne (c : List Rule) (a : Rule) : Type 0 where
-  pub by_id : arg_by_id c a.id ≡ Some a
-  pub sets : action_of a ≡ Set
-  pub least : (unwrap_or_range a.range).start_inclusive ≡ 1
-  pub most : most_values a ≡ 1
+-- the argument takes these values, which come to one value
+pub record Comes (a : Rule) (given : List Text) (v : Text) : Type 0 where
+  pub acts : (action_of a ≡ Set) ⊎ (action_of a ≡ SetTrue)
+  pub comes : values_or_missing a given ≡ v ∷ []
+  pub few : range_kinds (unwrap_or_range a.range).start_inclusive (most_values a) (length given) ≡ []
 
--- a use of it with one value, for the first time
-pub record IsFirstUse (c : List Rule) (a : Rule) (v : Text) (rows : List Row) : Type 0 where
-  pub argument : TakesOne c a
-  pub fresh : has_row a.id rows ≡ false
-  pub accepted : accepts a.ignore_case (parser_of_value a.parser) v ≡ true
+module _ (a : Rule) (given : List Text) (v : Text) (is : Comes a given v) where
+  -- for the first time it leaves a row
+  pub used_row : (rows : List Row) → has_row a.id rows ≡ false → used a given rows ≡ rows ++ row_with a v ∷ []
+  used_row rows fresh = go is.acts
+    where
+      puts : with_values a.id (reading_by a) CommandLine (v ∷ []) (without a.id rows) ≡ rows ++ row_with a v ∷ []
+      puts = ap (with_values a.id (reading_by a) CommandLine (v ∷ [])) (at_row_none a.id (λ _. []) [] rows fresh ∙ append-nil rows)
+          ∙ at_row_none a.id (more_values CommandLine (v ∷ [])) (row_with a v ∷ []) rows fresh
+      go : (action_of a ≡ Set) ⊎ (action_of a ≡ SetTrue) → used a given rows ≡ rows ++ row_with a v ∷ []
+      go (inl set) = ap₂ (λ act vs. used_as act a.id (reading_by a) vs rows) set is.comes ∙ puts
+      go (inr set) = ap₂ (λ act vs. used_as act a.id (reading_by a) vs rows) set is.comes ∙ puts
 
-pub used_row : (c : List Rule) (a : Rule) (v : Text) (rows : List Row) → IsFirstUse c a v rows → used a (v ∷ []) rows ≡ rows ++ row_with a v ∷ []
-used_row c a v rows first =
-    ap (λ act. used_as act a.id (reading_by a) (v ∷ []) rows) first.argument.sets
-    ∙ ap (λ rs. with_values a.id (reading_by a) CommandLine (v ∷ []) rs) (at_row_none a.id (λ _. []) [] rows first.fresh ∙ append-nil rows)
-    ∙ at_row_none a.id (more_values CommandLine (v ∷ [])) (row_with a v ∷ []) rows first.fresh
+  -- the faults of a use: a second one, or a value that is refused
+  pub used_faults : (again : Bool) (rows : List Row)
+      → use_fault again a given rows ≡ or_else (repeat_fault again a.id rows) (values_fault a (v ∷ []))
+  used_faults again rows = ap₂ or_else is.few (go is.acts)
+    where
+      go : (action_of a ≡ Set) ⊎ (action_of a ≡ SetTrue)
+          → action_fault (action_of a) again a (values_or_missing a given) rows ≡ or_else (repeat_fault again a.id rows) (values_fault a (v ∷ []))
+      go (inl set) = ap₂ (λ act vs. action_fault act again a vs rows) set is.comes
+      go (inr set) = ap₂ (λ act vs. action_fault act again a vs rows) set is.comes
 
-pub use_fine : (c : List Rule) (again : Bool) (a : Rule) (v : Text) (rows : List Row) → IsFirstUse c a v rows → use_fault again a (v ∷ []) rows ≡ []
-use_fine c again a v rows first =
-    let range : range_kinds (unwrap_or_range a.range).start_inclusive (most_values a) 1 ≡ [] =
-    ap₂ (λ l m. range_kinds l m 1) first.argument.least first.argument.most in
-    let sets : action_fault (action_of a) again a (v ∷ []) rows ≡ set_fault again a (v ∷ []) rows =
-    ap (λ act. action_fault act again a (v ∷ []) rows) first.argument.sets in
-    let repeated : repeat_fault again a.id rows ≡ [] = ap (λ b. cond {A = Kinds} (b && not again) (ArgumentConflict ∷ []) []) first.fresh in
-    let values : values_fault a (v ∷ []) ≡ [] = ap (λ b. or_else (cond {A = Kinds} b [] (refused_kind (parser_of_value a.parser) ∷ [])) []) first.accepted in
-    ap₂ or_else range (sets ∙ ap₂ or_else repeated values)
+  pub used_fine : (again : Bool) (rows : List Row) → has_row a.id rows ≡ false → accepts a.ignore_case (parser_of_value a.parser) v ≡ true
+      → use_fault again a given rows ≡ []
+  used_fine again rows fresh accepted =
+      used_faults again rows
+      ∙ ap₂ (λ x y. or_else (cond {A = Kinds} (x && not again) (ArgumentConflict ∷ []) [])
+      (or_else (cond {A = Kinds} y [] (refused_kind (parser_of_value a.parser) ∷ [])) [])) fresh accepted
 
 -- ---- between two words
 
@@ -111,152 +117,87 @@ use_fine c again a v rows first =
 abbrev pub at : Held → ℕ → Walk
 at h position = record { held = h; waiting = idle; position = position; is_trailing = false; stopped = None }
 
--- so far these rows were found, and no fault
-pub record Holds (s : Shape) (h : Held) (rows : List Row) : Type 0 where
-  pub fine : settle_fault s.rules s.args_override_self h ≡ []
+-- from the first word on, the words lead there without a fault, and to these rows once what is held is settled
+pub record Reads (s : Shape) (words : List Text) (h : Held) (position : ℕ) (rows : List Row) : Type 0 where
+  pub walks : fold (walked s.rules []) (at nothing_held 1) words ≡ at h position
+  pub fine : walk_fault s [] (at nothing_held 1) words ≡ []
+  pub settles : settle_fault s.rules s.args_override_self h ≡ []
   pub found : (settled s.rules h).rows ≡ rows
 
--- the words lead from one such place to another, without a fault on the way
-pub record Leads (s : Shape) (h : Held) (position : ℕ) (words : List Text) (h' : Held) (position' : ℕ) : Type 0 where
-  pub walks : fold (walked s.rules []) (at h position) words ≡ at h' position'
-  pub fine : walk_fault s [] (at h position) words ≡ []
+-- The words of one use lead from one such place to another. `clap` settles a value when the next one begins, so their faults are told
+-- as they will be settled: those of what was held before, and then those of the use.
+pub record Step (s : Shape) (h : Held) (position : ℕ) (words : List Text) (a : Rule) (given : List Text) (end : ℕ) : Type 0 where
+  pub held : Held
+  pub walks : fold (walked s.rules []) (at h position) words ≡ at held end
+  pub faults : or_else (walk_fault s [] (at h position) words) (settle_fault s.rules s.args_override_self held)
+      ≡ or_else (settle_fault s.rules s.args_override_self h) (use_fault s.args_override_self a given (settled s.rules h).rows)
+  pub rows : (settled s.rules held).rows ≡ used a given (settled s.rules h).rows
+  pub skip : held.skip ≡ h.skip
 
--- and to rows without a fault
-pub record Reads (s : Shape) (h : Held) (position : ℕ) (words : List Text) (h' : Held) (position' : ℕ) (rows' : List Row) : Type 0 where
-  pub leads : Leads s h position words h' position'
-  pub holds : Holds s h' rows'
-
-pub nothing_holds : (s : Shape) → Holds s nothing_held []
-nothing_holds s = record { fine = refl; found = refl }
-
--- ---- one use of an argument
-
--- what is held after a use whose value is not settled yet
-abbrev pub pending : Shape → Held → Rule → Text → Held
-pending s h a v = record (settled s.rules h) { pending = Some (a.id, v ∷ []) }
-
-pending_holds : (s : Shape) (h : Held) (a : Rule) (v : Text) (rows : List Row) → Holds s h rows → IsFirstUse s.rules a v rows
-    → Holds s (pending s h a v) (rows ++ row_with a v ∷ [])
-pending_holds s h a v rows holds first =
-    let by_id = first.argument.by_id in
-    let here : IsFirstUse s.rules a v (settled s.rules h).rows = subst (IsFirstUse s.rules a v) (sym holds.found) first in
-    record {
-      fine = ap (λ o. option_map_or (λ b. use_fault s.args_override_self b (v ∷ []) (settled s.rules h).rows) o []) by_id
-          ∙ use_fine s.rules s.args_override_self a v (settled s.rules h).rows here;
-      found = ap (λ o. used_by_id o (v ∷ []) (settled s.rules h).rows) by_id ∙ used_row s.rules a v (settled s.rules h).rows here
-          ∙ ap (λ rs. rs ++ row_with a v ∷ []) holds.found;
-    }
+or_else_nil : (kinds : Kinds) → or_else kinds [] ≡ kinds
+or_else_nil [] = refl
+or_else_nil (kind ∷ kinds) = refl
 
 pub and_false : (b : Bool) → (b && false) ≡ false
 and_false true = refl
 and_false false = refl
 
--- `--name=value`
-pub reads_attached : (s : Shape) (h : Held) (position : ℕ) (rows : List Row) (a : Rule) (name v word : Text) → Holds s h rows → IsFirstUse s.rules a v rows
-    → arg_by_long s.rules name ≡ Some a → takes_values a ≡ true → bytes_eq word (45 ∷ 45 ∷ []) ≡ false → long_of word ≡ Some (name, Some v)
-    → Reads s h position (word ∷ []) (reacted s.rules a (v ∷ []) h) position (rows ++ row_with a v ∷ [])
+-- a word that has the whole use: `--name=value`, or `--name` of a flag
+pub word_step : (s : Shape) (h : Held) (position : ℕ) (a : Rule) (given : List Text) (name word : Text) (given_with : Option Text)
+    → bytes_eq word (45 ∷ 45 ∷ []) ≡ false → long_of word ≡ Some (name, given_with) → arg_by_long s.rules name ≡ Some a
+    → long_met s.rules (Some a) given_with h ≡ (reacted s.rules a given h, done)
+    → long_fault s.rules s.args_override_self (Some a) given_with h ≡ react_fault s.rules s.args_override_self a given h
+    → Step s h position (word ∷ []) a given position
 unfolding walked walk_fault
-reads_attached s h position rows a name v word holds first by_long takes no_dashes is_long =
-    let here : IsFirstUse s.rules a v (settled s.rules h).rows = subst (IsFirstUse s.rules a v) (sym holds.found) first in
-    let met : subcommand_or_other s.rules None idle position word h ≡ (reacted s.rules a (v ∷ []) h, next idle) =
-    rw (no_dashes, is_long, by_long, takes) refl in
-    let fine : other_fault s None word h ≡ [] =
-    rw (no_dashes, is_long, by_long, takes) (ap₂ or_else holds.fine (use_fine s.rules s.args_override_self a v (settled s.rules h).rows here)) in
+word_step s h position a given name word given_with differs is_long by_long meets fails =
+    let total = react_fault s.rules s.args_override_self a given h in
+    let met : subcommand_or_other s.rules None idle position word h ≡ (reacted s.rules a given h, next idle) =
+    rw (differs, is_long, by_long) (ap (λ (m : Held × Outcome). after_flag s.rules idle word m.0 m.1) meets) in
+    let fault : other_fault s None word h ≡ total = rw (differs, is_long, by_long) fails in
     record {
-      leads = record {
-        walks = ap (λ m. after_step s.rules word (at h position) m.0 m.1) met;
-        fine = ap (λ k. or_else k []) (ap₂ or_else fine (ap (λ m. step_fault s position m.0 m.1) met));
-      };
-      holds = record {
-        fine = refl;
-        found = used_row s.rules a v (settled s.rules h).rows here ∙ ap (λ rs. rs ++ row_with a v ∷ []) holds.found;
-      };
+      held = reacted s.rules a given h;
+      walks = ap (λ (m : Held × WalkStep). after_step s.rules word (at h position) m.0 m.1) met;
+      faults = ap₂ (λ k (m : Held × WalkStep). or_else (or_else (or_else k (step_fault s position m.0 m.1)) []) []) fault met
+          ∙ or_else_nil (or_else (or_else total []) []) ∙ or_else_nil (or_else total []) ∙ or_else_nil total;
+      rows = refl;
+      skip = refl;
     }
 
--- a flag, which is set by its name alone, for the first time
-pub record IsFlag (c : List Rule) (a : Rule) (rows : List Row) : Type 0 where
-  pub sets : action_of a ≡ SetTrue
-  pub missing : a.missing ≡ codes "true" ∷ []
-  pub least : (unwrap_or_range a.range).start_inclusive ≡ 0
-  pub most : most_values a ≡ 0
-  pub fresh : has_row a.id rows ≡ false
-  pub accepted : accepts a.ignore_case (parser_of_value a.parser) (codes "true") ≡ true
+-- what is held while a value isn't settled yet
+abbrev pub pending : Shape → Held → Rule → Text → Held
+pending s h a v = record (settled s.rules h) { pending = Some (a.id, v ∷ []) }
 
-flag_row : (c : List Rule) (a : Rule) (rows : List Row) → IsFlag c a rows → used a [] rows ≡ rows ++ row_with a (codes "true") ∷ []
-flag_row c a rows flag =
-    ap₂ (λ act vs. used_as act a.id (reading_by a) vs rows) flag.sets flag.missing
-    ∙ ap (λ rs. with_values a.id (reading_by a) CommandLine (codes "true" ∷ []) rs) (at_row_none a.id (λ _. []) [] rows flag.fresh ∙ append-nil rows)
-    ∙ at_row_none a.id (more_values CommandLine (codes "true" ∷ [])) (row_with a (codes "true") ∷ []) rows flag.fresh
+pending_settles : (s : Shape) (h : Held) (a : Rule) (v : Text) → arg_by_id s.rules a.id ≡ Some a
+    → settle_fault s.rules s.args_override_self (pending s h a v) ≡ use_fault s.args_override_self a (v ∷ []) (settled s.rules h).rows
+pending_settles s h a v by_id = ap (λ o. option_map_or (λ b. use_fault s.args_override_self b (v ∷ []) (settled s.rules h).rows) o []) by_id
 
-flag_fine : (c : List Rule) (again : Bool) (a : Rule) (rows : List Row) → IsFlag c a rows → use_fault again a [] rows ≡ []
-flag_fine c again a rows flag =
-    let range : range_kinds (unwrap_or_range a.range).start_inclusive (most_values a) 0 ≡ [] = ap₂ (λ l m. range_kinds l m 0) flag.least flag.most in
-    let sets : action_fault (action_of a) again a a.missing rows ≡ set_fault again a (codes "true" ∷ []) rows =
-    ap₂ (λ act vs. action_fault act again a vs rows) flag.sets flag.missing in
-    let repeated : repeat_fault again a.id rows ≡ [] = ap (λ b. cond {A = Kinds} (b && not again) (ArgumentConflict ∷ []) []) flag.fresh in
-    let values : values_fault a (codes "true" ∷ []) ≡ [] =
-    ap (λ b. or_else (cond {A = Kinds} b [] (refused_kind (parser_of_value a.parser) ∷ [])) []) flag.accepted in
-    ap₂ or_else range (sets ∙ ap₂ or_else repeated values)
-
--- `--name` of a flag
-pub reads_flag : (s : Shape) (h : Held) (position : ℕ) (rows : List Row) (a : Rule) (name word : Text) → Holds s h rows → IsFlag s.rules a rows
-    → arg_by_long s.rules name ≡ Some a → bytes_eq word (45 ∷ 45 ∷ []) ≡ false → long_of word ≡ Some (name, None)
-    → Reads s h position (word ∷ []) (reacted s.rules a [] h) position (rows ++ row_with a (codes "true") ∷ [])
+-- `--name value`
+pub option_step : (s : Shape) (h : Held) (position : ℕ) (a : Rule) (v name word : Text) → arg_by_id s.rules a.id ≡ Some a → bytes_eq a.id a.id ≡ true
+    → most_values a ≡ 1 → bytes_eq word (45 ∷ 45 ∷ []) ≡ false → long_of word ≡ Some (name, None) → arg_by_long s.rules name ≡ Some a → IsPlainWord v
+    → Step s h position (word ∷ v ∷ []) a (v ∷ []) position
 unfolding walked walk_fault
-reads_flag s h position rows a name word holds flag by_long no_dashes is_long =
-    let here : IsFlag s.rules a (settled s.rules h).rows = subst (IsFlag s.rules a) (sym holds.found) flag in
-    let takes : takes_values a ≡ false = ap (λ n. not (n == 0)) flag.most in
-    let met : subcommand_or_other s.rules None idle position word h ≡ (reacted s.rules a [] h, next idle) =
-    rw (no_dashes, is_long, by_long, takes) refl in
-    let fine : other_fault s None word h ≡ [] =
-    rw (no_dashes, is_long, by_long, takes) (ap₂ or_else holds.fine (flag_fine s.rules s.args_override_self a (settled s.rules h).rows here)) in
-    record {
-      leads = record {
-        walks = ap (λ m. after_step s.rules word (at h position) m.0 m.1) met;
-        fine = ap (λ k. or_else k []) (ap₂ or_else fine (ap (λ m. step_fault s position m.0 m.1) met));
-      };
-      holds = record {
-        fine = refl;
-        found = flag_row s.rules a (settled s.rules h).rows here ∙ ap (λ rs. rs ++ row_with a (codes "true") ∷ []) holds.found;
-      };
-    }
-
--- the option of a word that is its name alone
-pub record IsNamedBy (c : List Rule) (a : Rule) (word : Text) : Type 0 where
-  pub name : Text
-  pub long : long_of word ≡ Some (name, None)
-  pub dashes : bytes_eq word (45 ∷ 45 ∷ []) ≡ false
-  pub by_long : arg_by_long c name ≡ Some a
-  pub takes : takes_values a ≡ true
-  pub same : bytes_eq a.id a.id ≡ true
-
--- `--name value`, whatever the value
-pub leads_option : (s : Shape) (h : Held) (position : ℕ) (rows : List Row) (a : Rule) (v word : Text) → Holds s h rows → TakesOne s.rules a
-    → IsNamedBy s.rules a word → IsPlainWord v
-    → Leads s h position (word ∷ v ∷ []) (pending s h a v) position
-unfolding walked walk_fault
-leads_option s h position rows a v word holds one by plain =
+option_step s h position a v name word by_id same most differs is_long by_long plain =
     let c = s.rules in
+    let held_before = settle_fault c s.args_override_self h in
+    let takes : takes_values a ≡ true = ap (λ n. not (n == 0)) most in
     let named : Held = record (settled c h) { pending = Some (a.id, []) } in
     let waits : Walk = record { held = named; waiting = option a.id; position = position; is_trailing = false; stopped = None } in
-    let met : subcommand_or_other c None idle position word h ≡ (named, next (option a.id)) = rw (by.dashes, by.long, by.by_long, by.takes) refl in
-    let given : plain_word c (option a.id) v named ≡ (pending s h a v, next idle) = rw (one.by_id, by.same, one.most) refl in
+    let met : subcommand_or_other c None idle position word h ≡ (named, next (option a.id)) = rw (differs, is_long, by_long, takes) refl in
+    let given : plain_word c (option a.id) v named ≡ (pending s h a v, next idle) = rw (by_id, same, most) refl in
     let value_met = plain_word_met c (option a.id) position v named plain ∙ given in
-    let no_fault : other_fault s None word h ≡ [] = rw (by.dashes, by.long, by.by_long, by.takes) holds.fine in
+    let first_fault : other_fault s None word h ≡ held_before = rw (differs, is_long, by_long, takes) refl in
     let first_walk : walked c [] (at h position) word ≡ waits = ap (λ m. after_step c word (at h position) m.0 m.1) met in
-    let first_turn : turn_fault s [] (at h position) word ≡ [] = ap₂ or_else no_fault (ap (λ m. step_fault s position m.0 m.1) met) in
+    let first_turn : turn_fault s [] (at h position) word ≡ held_before =
+    ap₂ or_else first_fault (ap (λ m. step_fault s position m.0 m.1) met) ∙ or_else_nil held_before in
     let second_turn : turn_fault s [] waits v ≡ [] = ap₂ or_else (no_flag_fault s v named plain) (ap (λ m. step_fault s position m.0 m.1) value_met) in
     record {
+      held = pending s h a v;
       walks = ap (λ w. walked c [] w v) first_walk ∙ ap (λ m. after_step c v waits m.0 m.1) value_met;
-      fine = ap₂ (λ k w. or_else k (walk_fault s [] w (v ∷ []))) first_turn first_walk ∙ ap (λ k. or_else k []) second_turn;
+      faults = ap₂ or_else (ap₂ (λ k w. or_else k (walk_fault s [] w (v ∷ []))) first_turn first_walk ∙ ap (λ k. or_else held_before (or_else k [])) second_turn
+          ∙ or_else_nil held_before) (pending_settles s h a v by_id);
+      rows = ap (λ o. used_by_id o (v ∷ []) (settled c h).rows) by_id;
+      skip = refl;
     }
-
--- `--name value`, with a value that is accepted
-pub reads_option : (s : Shape) (h : Held) (position : ℕ) (rows : List Row) (a : Rule) (v word : Text) → Holds s h rows → IsFirstUse s.rules a v rows
-    → IsNamedBy s.rules a word → IsPlainWord v
-    → Reads s h position (word ∷ v ∷ []) (pending s h a v) position (rows ++ row_with a v ∷ [])
-reads_option s h position rows a v word holds first by plain =
-    record { leads = leads_option s h position rows a v word holds first.argument by plain; holds = pending_holds s h a v rows holds first }
 
 -- the argument that stands at a position
 pub record StandsAt (c : List Rule) (position : ℕ) (a : Rule) : Type 0 where
@@ -265,30 +206,27 @@ pub record StandsAt (c : List Rule) (position : ℕ) (a : Rule) : Type 0 where
   pub one : takes_several a ≡ false
   pub no_trailing : a.trailing_var_arg ≡ false
 
--- a value that goes to the next position, whatever it is
-pub leads_argument : (s : Shape) (h : Held) (position : ℕ) (rows : List Row) (a : Rule) (v : Text) → Holds s h rows → StandsAt s.rules position a
-    → IsPlainWord v
-    → Leads s h position (v ∷ []) (pending s h a v) (next_position a position)
+-- a value that goes to the next position
+pub argument_step : (s : Shape) (h : Held) (position : ℕ) (a : Rule) (v : Text) → arg_by_id s.rules a.id ≡ Some a → StandsAt s.rules position a → IsPlainWord v
+    → Step s h position (v ∷ []) a (v ∷ []) (next_position a position)
 unfolding walked walk_fault
-leads_argument s h position rows a v holds stands plain =
+argument_step s h position a v by_id stands plain =
     let c = s.rules in
+    let held_before = settle_fault c s.args_override_self h in
     let alone : (is_pending a h.pending && takes_several a) ≡ false = ap (λ b. is_pending a h.pending && b) stands.one ∙ and_false (is_pending a h.pending) in
     let met : subcommand_or_other c None idle position v h ≡ (h, value) = plain_word_met c idle position v h plain in
     let stored : to_positional c (arg_by_index c position) v (at h position) h ≡ at (pending s h a v) (next_position a position) =
     rw (stands.by_index, alone, stands.single, stands.no_trailing) refl in
-    let no_stray : step_fault s position h value ≡ [] = rw (stands.by_index, alone) holds.fine in
-    let turn : turn_fault s [] (at h position) v ≡ [] = ap₂ or_else (no_flag_fault s v h plain) (ap (λ m. step_fault s position m.0 m.1) met ∙ no_stray) in
+    let stepped : step_fault s position h value ≡ held_before = rw (stands.by_index, alone) refl in
+    let turn : turn_fault s [] (at h position) v ≡ held_before =
+    ap₂ or_else (no_flag_fault s v h plain) (ap (λ m. step_fault s position m.0 m.1) met ∙ stepped) in
     record {
+      held = pending s h a v;
       walks = ap (λ m. after_step c v (at h position) m.0 m.1) met ∙ stored;
-      fine = ap (λ k. or_else k []) turn;
+      faults = ap₂ or_else (ap (λ k. or_else k []) turn ∙ or_else_nil held_before) (pending_settles s h a v by_id);
+      rows = ap (λ o. used_by_id o (v ∷ []) (settled c h).rows) by_id;
+      skip = refl;
     }
-
--- a value that goes to the next position, and is accepted
-pub reads_argument : (s : Shape) (h : Held) (position : ℕ) (rows : List Row) (a : Rule) (v : Text) → Holds s h rows → IsFirstUse s.rules a v rows
-    → StandsAt s.rules position a → IsPlainWord v
-    → Reads s h position (v ∷ []) (pending s h a v) (next_position a position) (rows ++ row_with a v ∷ [])
-reads_argument s h position rows a v holds first stands plain =
-    record { leads = leads_argument s h position rows a v holds stands plain; holds = pending_holds s h a v rows holds first }
 
 -- ---- one use after another
 
@@ -309,19 +247,26 @@ walk_fault-append s names w (word ∷ words) more =
     ∙ sym (or_else_assoc (turn_fault s names w word) (walk_fault s names (walked s.rules names w word) words)
     (walk_fault s names (fold (walked s.rules names) (walked s.rules names w word) words) more))
 
-pub leads_then : (s : Shape) (h h' h'' : Held) (position position' position'' : ℕ) (words more : List Text) → Leads s h position words h' position'
-    → Leads s h' position' more h'' position''
-    → Leads s h position (words ++ more) h'' position''
-leads_then s h h' h'' position position' position'' words more one two = record {
-  walks = fold-append (walked s.rules []) (at h position) words more ∙ ap (λ w. fold (walked s.rules []) w more) one.walks ∙ two.walks;
-  fine = walk_fault-append s [] (at h position) words more ∙ ap₂ (λ k w. or_else k (walk_fault s [] w more)) one.fine one.walks ∙ two.fine;
-}
+both_nil : (one two : Kinds) → or_else one two ≡ [] → (one ≡ []) × (two ≡ [])
+both_nil [] two is = (refl, is)
+both_nil (kind ∷ kinds) two is = cc
 
-pub reads_then : (s : Shape) (h h' h'' : Held) (position position' position'' : ℕ) (words more : List Text) (rows rows' : List Row)
-    → Reads s h position words h' position' rows
-    → Reads s h' position' more h'' position'' rows' → Reads s h position (words ++ more) h'' position'' rows'
-reads_then s h h' h'' position position' position'' words more rows rows' one two =
-    record { leads = leads_then s h h' h'' position position' position'' words more one.leads two.leads; holds = two.holds }
+module _ {s : Shape} {words more : List Text} {h : Held} {position end : ℕ} {rows : List Row} {a : Rule} {given : List Text} where
+  -- the faults of a step, after words that were read
+  pub step_faults : Reads s words h position rows → (step : Step s h position more a given end)
+      → or_else (walk_fault s [] (at h position) more) (settle_fault s.rules s.args_override_self step.held) ≡ use_fault s.args_override_self a given rows
+  step_faults reads step = step.faults ∙ ap₂ (λ k rs. or_else k (use_fault s.args_override_self a given rs)) reads.settles reads.found
+
+  pub reads_step : (v : Text) → Comes a given v → Reads s words h position rows → (step : Step s h position more a given end) → has_row a.id rows ≡ false
+      → accepts a.ignore_case (parser_of_value a.parser) v ≡ true → Reads s (words ++ more) step.held end (rows ++ row_with a v ∷ [])
+  reads_step v comes reads step fresh accepted =
+      let none = both_nil _ _ (step_faults reads step ∙ used_fine a given v comes s.args_override_self rows fresh accepted) in
+      record {
+        walks = fold-append (walked s.rules []) (at nothing_held 1) words more ∙ ap (λ w. fold (walked s.rules []) w more) reads.walks ∙ step.walks;
+        fine = walk_fault-append s [] (at nothing_held 1) words more ∙ ap₂ (λ k w. or_else k (walk_fault s [] w more)) reads.fine reads.walks ∙ none.0;
+        settles = none.1;
+        found = step.rows ∙ ap (used a given) reads.found ∙ used_row a given v comes rows fresh;
+      }
 
 -- ---- the end of the words of a command
 
@@ -335,17 +280,16 @@ abbrev pub completed : Shape → List Row → List Row
 completed s rows = fold with_default rows s.rules
 
 -- the words of a command that were read give these faults: of its defaults, and of what it requires
-pub level_reads : (s : Shape) (words : List Text) (h : Held) (position : ℕ) (rows : List Row) → Reads s nothing_held 1 words h position rows
+pub level_reads : (s : Shape) (words : List Text) (h : Held) (position : ℕ) (rows : List Row) → Reads s words h position rows
     → level_fault s [] nothing_held words false [] ≡ or_else (defaults_fault rows s.rules) (check_fault s (completed s rows) false)
 level_reads s words h position rows reads =
-    ap₂ (λ k (w : Walk). or_else k (end_fault s w.held)) reads.leads.fine reads.leads.walks
-    ∙ ap₂ (λ k rs. or_else k (or_else (defaults_fault rs s.rules) (check_fault s (fold with_default rs s.rules) false))) reads.holds.fine reads.holds.found
+    ap₂ (λ k (w : Walk). or_else k (end_fault s w.held)) reads.fine reads.walks
+    ∙ ap₂ (λ k rs. or_else k (or_else (defaults_fault rs s.rules) (check_fault s (fold with_default rs s.rules) false))) reads.settles reads.found
 
 -- and these values
-pub rows_read : (s : Shape) (words : List Text) (h : Held) (position : ℕ) (rows : List Row) → Reads s nothing_held 1 words h position rows
+pub rows_read : (s : Shape) (words : List Text) (h : Held) (position : ℕ) (rows : List Row) → Reads s words h position rows
     → rows_after s.rules [] words ≡ completed s rows
-rows_read s words h position rows reads = ap (λ (w : Walk). finished s.rules w.held) reads.leads.walks
-    ∙ ap (λ rs. fold with_default rs s.rules) reads.holds.found
+rows_read s words h position rows reads = ap (λ (w : Walk). finished s.rules w.held) reads.walks ∙ ap (λ rs. fold with_default rs s.rules) reads.found
 
 -- ---- the name of a command, and the words after it
 
