@@ -9,7 +9,7 @@ use Rattle.clap.specs.Words.{Row, Rule, Text, reading_of}
 use Rattle.clap.specs.Facts.{parser_of_value, unwrap_or_range}
 use Rattle.clap.specs.Simple.{filled, with_index}
 use Rattle.clap.specs.ValueTests.{accepts, is_numeral}
-use Rattle.clap.specs.Walk.{action_of, is_multiple, most_values, reading_by, takes_several}
+use Rattle.clap.specs.Walk.{action_of, is_multiple, most_values, reading_by}
 use Rattle.clap.specs.declared.builder.action.ArgAction.{ArgAction}
 use Rattle.clap.specs.declared.builder.action.ArgAction.TheVariants.{Set, SetTrue}
 use Rattle.clap.specs.declared.builder.value_parser.ValueParser.{ValueParser}
@@ -52,9 +52,8 @@ pub record IsBuilt (e : Entry) (a : Rule) : Type 0 where
   pub least : (unwrap_or_range a.range).start_inclusive ≡ values_for e.kind
   pub most : most_values a ≡ values_for e.kind
   pub single : is_multiple a ≡ false
-  pub one : takes_several a ≡ false
   pub absent : a.missing ≡ missing_for e.kind
-  pub no_trailing : a.trailing_var_arg ≡ false
+  pub plain : a.trailing_var_arg ≡ false
 
 pub built_is : (e : Entry) → IsBuilt e (built e)
 built_is e = go e.kind e.is_named e.name e.default
@@ -62,19 +61,19 @@ built_is e = go e.kind e.is_named e.name e.default
     go : (k : Kind) (named : Bool) (name : Text) (default : Option Text)
         → IsBuilt (record { name = name; is_named = named; kind = k; default = default }) (built (record { name = name; is_named = named; kind = k; default = default }))
     go kind.Text true n d =
-        record { id = refl; cased = refl; parses = refl; reads = refl; acts = refl; least = refl; most = refl; single = refl; one = refl; absent = refl; no_trailing = refl }
+        record { id = refl; cased = refl; parses = refl; reads = refl; acts = refl; least = refl; most = refl; single = refl; absent = refl; plain = refl }
     go kind.Text false n d =
-        record { id = refl; cased = refl; parses = refl; reads = refl; acts = refl; least = refl; most = refl; single = refl; one = refl; absent = refl; no_trailing = refl }
+        record { id = refl; cased = refl; parses = refl; reads = refl; acts = refl; least = refl; most = refl; single = refl; absent = refl; plain = refl }
     go kind.Flag named n d =
-        record { id = refl; cased = refl; parses = refl; reads = refl; acts = refl; least = refl; most = refl; single = refl; one = refl; absent = refl; no_trailing = refl }
+        record { id = refl; cased = refl; parses = refl; reads = refl; acts = refl; least = refl; most = refl; single = refl; absent = refl; plain = refl }
     go (kind.Number l m) true n d =
-        record { id = refl; cased = refl; parses = refl; reads = refl; acts = refl; least = refl; most = refl; single = refl; one = refl; absent = refl; no_trailing = refl }
+        record { id = refl; cased = refl; parses = refl; reads = refl; acts = refl; least = refl; most = refl; single = refl; absent = refl; plain = refl }
     go (kind.Number l m) false n d =
-        record { id = refl; cased = refl; parses = refl; reads = refl; acts = refl; least = refl; most = refl; single = refl; one = refl; absent = refl; no_trailing = refl }
+        record { id = refl; cased = refl; parses = refl; reads = refl; acts = refl; least = refl; most = refl; single = refl; absent = refl; plain = refl }
     go (kind.LargeNumber m) true n d =
-        record { id = refl; cased = refl; parses = refl; reads = refl; acts = refl; least = refl; most = refl; single = refl; one = refl; absent = refl; no_trailing = refl }
+        record { id = refl; cased = refl; parses = refl; reads = refl; acts = refl; least = refl; most = refl; single = refl; absent = refl; plain = refl }
     go (kind.LargeNumber m) false n d =
-        record { id = refl; cased = refl; parses = refl; reads = refl; acts = refl; least = refl; most = refl; single = refl; one = refl; absent = refl; no_trailing = refl }
+        record { id = refl; cased = refl; parses = refl; reads = refl; acts = refl; least = refl; most = refl; single = refl; absent = refl; plain = refl }
 
 -- the value of an argument that isn't given
 abbrev pub default_by : Kind → Option Text → Option Text

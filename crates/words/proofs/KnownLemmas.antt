@@ -37,27 +37,38 @@ has_name e = e.is_named || is_flag e.kind
 abbrev pub takes_name : Text → Rule → Bool
 takes_name name a = not (is_some a.index) && has_long a name
 
--- What is known of a built command with these arguments. One without a name is called `lone`.
-pub record Knows (s : Shape) (es : List Entry) : Type 0 where
-  pub lone : Text
+-- how a built command with these arguments finds them; one without a name is called `lone`
+pub record Finds (s : Shape) (es : List Entry) (lone : Text) : Type 0 where
   pub lone_is : map (λ e. bytes_eq e.name lone) es ≡ map (λ e. not (has_name e)) es
   pub no_second : arg_by_index s.rules 2 ≡ None
   pub by_id : map (λ e. arg_by_id s.rules e.name) es ≡ map (λ e. Some (built e)) es
   pub by_place : map (λ e. if has_name e then arg_by_long s.rules e.name else arg_by_index s.rules 1) es ≡ map (λ e. Some (built e)) es
   pub apart : map (λ e. find (λ x. bytes_eq x.name e.name) es) es ≡ map (λ e. Some e) es
+
+-- how their names stand in words, and that the numbers of the table are lawful
+pub record Spells (es : List Entry) : Type 0 where
   pub words : map (λ e. long_of (codes "--" ++ e.name)) es ≡ map (λ e. Some (e.name, None)) es
   pub dashes : map (λ e. bytes_eq (codes "--" ++ e.name) (codes "--")) es ≡ map (λ e. false) es
   pub attached : (v : Text) → map (λ e. long_of (codes "--" ++ (e.name ++ (codes "=" ++ v)))) es ≡ map (λ e. Some (e.name, Some v)) es
-  pub attached_dashes : (v : Text) → map (λ e. bytes_eq (codes "--" ++ (e.name ++ (codes "=" ++ v))) (codes "--")) es ≡ map (λ e. false) es
+  pub differs : (v : Text) → map (λ e. bytes_eq (codes "--" ++ (e.name ++ (codes "=" ++ v))) (codes "--")) es ≡ map (λ e. false) es
   pub small : map (λ e. is_small e.kind) es ≡ map (λ e. true) es
   pub defaults : map (λ e. option_map_or (is_of_kind e.kind) e.default true) es ≡ map (λ e. true) es
+
+-- what it checks
+pub record Checks (s : Shape) (es : List Entry) : Type 0 where
   pub no_fault : map (default_fault []) s.rules ≡ map (λ _. []) s.rules
   pub again : s.args_override_self ≡ false
   pub several : map takes_several s.rules ≡ map (λ _. false) s.rules
-  pub checks : (rows : List Row) → check_fault s rows false ≡ check_kinds false false (list_any (λ a. a.required && not (is_given a.id rows)) s.rules)
+  pub tests : (rows : List Row) → check_fault s rows false ≡ check_kinds false false (list_any (λ a. a.required && not (is_given a.id rows)) s.rules)
   pub required : (g : Text → Bool) → list_any (λ a. a.required && not (g a.id)) s.rules ≡ list_any (λ e. is_required e && not (g e.name)) es
   pub named : (name : Text) → list_any (takes_name name) s.rules ≡ list_any (λ e. e.is_named && (bytes_eq e.name name || false)) (es ++ help_entry ∷ [])
   pub help : arg_by_long s.rules (codes "help") ≡ Some (with_index 1 (filled help_rule))
+
+pub record Knows (s : Shape) (es : List Entry) : Type 0 where
+  pub lone : Text
+  pub finds : Finds s es lone
+  pub spells : Spells es
+  pub checks : Checks s es
 
 -- one of two lists of facts on the same arguments
 pub at : {X : Type 0} (f g : Entry → X) (es : List Entry) (e : Entry) → map f es ≡ map g es → IsIn e es → f e ≡ g e
@@ -77,9 +88,10 @@ unfolding clap_on_literals
 run_known = record {
   has = record { named = refl; found = refl; no_help = refl; defaults = refl; checked = refl };
   knows = record {
-    lone = codes "N"; lone_is = refl; no_second = refl; by_id = refl; by_place = refl; apart = refl; words = refl; dashes = refl;
-    attached = λ v. refl; attached_dashes = λ v. refl; small = refl; defaults = refl; no_fault = refl; again = refl; several = refl; checks = λ rows. refl;
-    required = λ g. refl; named = λ name. refl; help = refl;
+    lone = codes "N";
+    finds = record { lone_is = refl; no_second = refl; by_id = refl; by_place = refl; apart = refl };
+    spells = record { words = refl; dashes = refl; attached = λ v. refl; differs = λ v. refl; small = refl; defaults = refl };
+    checks = record { no_fault = refl; again = refl; several = refl; tests = λ rows. refl; required = λ g. refl; named = λ name. refl; help = refl };
   };
   no_version = refl;
 }
@@ -89,9 +101,10 @@ unfolding clap_on_literals
 name_known = record {
   has = record { named = refl; found = refl; no_help = refl; defaults = refl; checked = refl };
   knows = record {
-    lone = []; lone_is = refl; no_second = refl; by_id = refl; by_place = refl; apart = refl; words = refl; dashes = refl;
-    attached = λ v. refl; attached_dashes = λ v. refl; small = refl; defaults = refl; no_fault = refl; again = refl; several = refl; checks = λ rows. refl;
-    required = λ g. refl; named = λ name. refl; help = refl;
+    lone = [];
+    finds = record { lone_is = refl; no_second = refl; by_id = refl; by_place = refl; apart = refl };
+    spells = record { words = refl; dashes = refl; attached = λ v. refl; differs = λ v. refl; small = refl; defaults = refl };
+    checks = record { no_fault = refl; again = refl; several = refl; tests = λ rows. refl; required = λ g. refl; named = λ name. refl; help = refl };
   };
   no_version = refl;
 }
@@ -101,9 +114,10 @@ unfolding clap_on_literals
 show_known = record {
   has = record { named = refl; found = refl; no_help = refl; defaults = refl; checked = refl };
   knows = record {
-    lone = codes "CODE"; lone_is = refl; no_second = refl; by_id = refl; by_place = refl; apart = refl; words = refl; dashes = refl;
-    attached = λ v. refl; attached_dashes = λ v. refl; small = refl; defaults = refl; no_fault = refl; again = refl; several = refl; checks = λ rows. refl;
-    required = λ g. refl; named = λ name. refl; help = refl;
+    lone = codes "CODE";
+    finds = record { lone_is = refl; no_second = refl; by_id = refl; by_place = refl; apart = refl };
+    spells = record { words = refl; dashes = refl; attached = λ v. refl; differs = λ v. refl; small = refl; defaults = refl };
+    checks = record { no_fault = refl; again = refl; several = refl; tests = λ rows. refl; required = λ g. refl; named = λ name. refl; help = refl };
   };
   no_version = refl;
 }
@@ -113,9 +127,10 @@ unfolding clap_on_literals
 soup_known = record {
   has = record { named = refl; found = refl; no_help = refl; defaults = refl; checked = refl };
   knows = record {
-    lone = codes "N"; lone_is = refl; no_second = refl; by_id = refl; by_place = refl; apart = refl; words = refl; dashes = refl;
-    attached = λ v. refl; attached_dashes = λ v. refl; small = refl; defaults = refl; no_fault = refl; again = refl; several = refl; checks = λ rows. refl;
-    required = λ g. refl; named = λ name. refl; help = refl;
+    lone = codes "N";
+    finds = record { lone_is = refl; no_second = refl; by_id = refl; by_place = refl; apart = refl };
+    spells = record { words = refl; dashes = refl; attached = λ v. refl; differs = λ v. refl; small = refl; defaults = refl };
+    checks = record { no_fault = refl; again = refl; several = refl; tests = λ rows. refl; required = λ g. refl; named = λ name. refl; help = refl };
   };
   no_version = refl;
 }
@@ -125,9 +140,10 @@ unfolding clap_on_literals
 take_known = record {
   has = record { named = refl; found = refl; no_help = refl; defaults = refl; checked = refl };
   knows = record {
-    lone = []; lone_is = refl; no_second = refl; by_id = refl; by_place = refl; apart = refl; words = refl; dashes = refl;
-    attached = λ v. refl; attached_dashes = λ v. refl; small = refl; defaults = refl; no_fault = refl; again = refl; several = refl; checks = λ rows. refl;
-    required = λ g. refl; named = λ name. refl; help = refl;
+    lone = [];
+    finds = record { lone_is = refl; no_second = refl; by_id = refl; by_place = refl; apart = refl };
+    spells = record { words = refl; dashes = refl; attached = λ v. refl; differs = λ v. refl; small = refl; defaults = refl };
+    checks = record { no_fault = refl; again = refl; several = refl; tests = λ rows. refl; required = λ g. refl; named = λ name. refl; help = refl };
   };
   no_version = refl;
 }
@@ -137,9 +153,10 @@ unfolding clap_on_literals
 work_known = record {
   has = record { named = refl; found = refl; no_help = refl; defaults = refl; checked = refl };
   knows = record {
-    lone = []; lone_is = refl; no_second = refl; by_id = refl; by_place = refl; apart = refl; words = refl; dashes = refl;
-    attached = λ v. refl; attached_dashes = λ v. refl; small = refl; defaults = refl; no_fault = refl; again = refl; several = refl; checks = λ rows. refl;
-    required = λ g. refl; named = λ name. refl; help = refl;
+    lone = [];
+    finds = record { lone_is = refl; no_second = refl; by_id = refl; by_place = refl; apart = refl };
+    spells = record { words = refl; dashes = refl; attached = λ v. refl; differs = λ v. refl; small = refl; defaults = refl };
+    checks = record { no_fault = refl; again = refl; several = refl; tests = λ rows. refl; required = λ g. refl; named = λ name. refl; help = refl };
   };
   no_version = refl;
 }
@@ -149,9 +166,10 @@ unfolding clap_on_literals
 gather_known = record {
   has = record { named = refl; found = refl; no_help = refl; defaults = refl; checked = refl };
   knows = record {
-    lone = []; lone_is = refl; no_second = refl; by_id = refl; by_place = refl; apart = refl; words = refl; dashes = refl;
-    attached = λ v. refl; attached_dashes = λ v. refl; small = refl; defaults = refl; no_fault = refl; again = refl; several = refl; checks = λ rows. refl;
-    required = λ g. refl; named = λ name. refl; help = refl;
+    lone = [];
+    finds = record { lone_is = refl; no_second = refl; by_id = refl; by_place = refl; apart = refl };
+    spells = record { words = refl; dashes = refl; attached = λ v. refl; differs = λ v. refl; small = refl; defaults = refl };
+    checks = record { no_fault = refl; again = refl; several = refl; tests = λ rows. refl; required = λ g. refl; named = λ name. refl; help = refl };
   };
   no_version = refl;
 }

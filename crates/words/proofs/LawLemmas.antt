@@ -51,8 +51,8 @@ module _ (command : Command) (k : KnowsCommand command) (program : Text) (uses :
       let read = all_read command k.knows uses are in
       let rows : List Row = completed s (rows_in uses) in
       level_reads s (words_in uses) read.held read.position (rows_in uses) read.reads
-      ∙ ap₂ or_else (no_default_fault s.rules (rows_in uses) k.knows.no_fault)
-      (k.knows.checks rows ∙ ap (check_kinds false false) (lacks command k.knows uses are ∙ is))
+      ∙ ap₂ or_else (no_default_fault s.rules (rows_in uses) k.knows.checks.no_fault)
+      (k.knows.checks.tests rows ∙ ap (check_kinds false false) (lacks command k.knows uses are ∙ is))
 
   asks_for : lacks_some command uses ≡ false
       → asked_by (program ∷ command.name ∷ words_in uses) ≡ request_in ((leaf command).name, completed (leaf command) (rows_in uses))
@@ -180,7 +180,7 @@ asks_unknown program word words is_value none no_help =
     let met = ap (λ o. subcommand_or_other top.rules o idle 1 word nothing_held) no_name ∙ plain_word_met top.rules idle 1 word nothing_held plain in
     let fine = ap (λ o. other_fault top o word nothing_held) no_name ∙ no_flag_fault top word nothing_held plain in
     let step : IsFaulty (step_fault top 1 (subcommand_or_other top.rules (subcommand_met names idle word) idle 1 word nothing_held).0
-        (subcommand_or_other top.rules (subcommand_met names idle word) idle 1 word nothing_held).1) =
+    (subcommand_or_other top.rules (subcommand_met names idle word) idle 1 word nothing_held).1) =
     subst IsFaulty (sym (ap (λ (m : Held × Step). step_fault top 1 m.0 m.1) met)) (stray top) in
     let fault = faulty_first (walk_fault top names (walk_from nothing_held) (word ∷ words)) _
     (faulty_first (turn_fault top names (walk_from nothing_held) word) _ (faulty_next (other_fault top (subcommand_met names idle word) word nothing_held) _ fine step)) in

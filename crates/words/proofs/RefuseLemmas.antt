@@ -62,7 +62,7 @@ module _ {s : Shape} (command : Command) (k : Knows s command.arguments) {words 
       → IsFaulty (level_fault s [] nothing_held (words ++ (words_of u ++ more)) false [])
   refuses_use u stands of here first bad =
       level_stuck s words (words_of u) more read.held read.position _ rows (built (entry_in u)) (values_by u) read.reads read.no_skip
-      (use_step k read.held read.position u here stands of first) bad (λ j a found. one_value _ s.rules a k.several found)
+      (use_step k read.held read.position u here stands of first) bad (λ j a found. one_value _ s.rules a k.checks.several found)
 
   -- a word that is a fault by itself
   refuses_word : (word : Text) → IsFaulty (other_fault s None word read.held) → IsFaulty (level_fault s [] nothing_held (words ++ word ∷ more) false [])
@@ -75,7 +75,7 @@ module _ {s : Shape} (command : Command) (k : Knows s command.arguments) {words 
       let reads = subst (λ i. Reads s words read.held i rows) second read.reads in
       let step : step_fault s 2 (subcommand_or_other s.rules None idle 2 v read.held).0 (subcommand_or_other s.rules None idle 2 v read.held).1 ≡ stray_fault s =
       ap (λ m. step_fault s 2 m.0 m.1) (plain_word_met s.rules idle 2 v read.held plain)
-      ∙ ap (λ o. option_map_or (λ a. positional_fault s.rules s.args_override_self a read.held) o (stray_fault s)) k.no_second in
+      ∙ ap (λ o. option_map_or (λ a. positional_fault s.rules s.args_override_self a read.held) o (stray_fault s)) k.finds.no_second in
       level_refuses s words more v read.held 2 rows reads
       (faulty_next (other_fault s None v read.held) _ (no_flag_fault s v read.held plain) (subst IsFaulty (sym step) (stray s)))
 
@@ -99,7 +99,7 @@ module _ {s : Shape} (command : Command) (k : Knows s command.arguments) {words 
   unfolding clap_on_literals
   refuses_help =
       let fault : other_fault s None (codes "--help") read.held ≡ DisplayHelp ∷ [] =
-      ap (λ o. long_fault s.rules s.args_override_self o None read.held) k.help ∙ ap (λ ks. or_else ks (DisplayHelp ∷ [])) read.reads.settles in
+      ap (λ o. long_fault s.rules s.args_override_self o None read.held) k.checks.help ∙ ap (λ ks. or_else ks (DisplayHelp ∷ [])) read.reads.settles in
       refuses_word (codes "--help") (faulty DisplayHelp [] _ fault)
 
   -- an option that is unknown
@@ -108,7 +108,7 @@ module _ {s : Shape} (command : Command) (k : Knows s command.arguments) {words 
       let es = command.arguments in
       let named : Entry → Bool = λ e. e.is_named && (bytes_eq e.name u.name || false) in
       let none : list_any (takes_name u.name) s.rules ≡ false =
-      k.named u.name ∙ list_any-append named es (help_entry ∷ [])
+      k.checks.named u.name ∙ list_any-append named es (help_entry ∷ [])
       ∙ ap₂ (λ a b. a || ((b || false) || false)) ((λ i. list_any (λ e. e.is_named && or_nothing (bytes_eq e.name u.name) i) es) ∙ u.no_option) u.no_help in
       let differs : bytes_eq word (codes "--") ≡ false = not_dashes word u.name u.value u.is_option in
       let fault : other_fault s None word read.held ≡ UnknownArgument ∷ [] =
@@ -135,10 +135,12 @@ module _ (u : Use) (stands : Stands u) (again : Bool) (no_more : again ≡ false
     where
       a : Rule
       a = built (entry_in u)
+
       bad : values_fault a (value_in u ∷ []) ≡ refused_kind (parser_of_value a.parser) ∷ []
       bad = ap (λ b. or_else (cond {A = Kinds} b [] (refused_kind (parser_of_value a.parser) ∷ [])) [])
           (ap₂ (λ b p. accepts b p (value_in u)) (built_is (entry_in u)).cased (built_is (entry_in u)).parses
           ∙ kind_refused (entry_in u).kind (value_in u) refused)
+
       go : (b : Bool) → IsFaulty (values_fault a (value_in u ∷ [])) → IsFaulty (or_else (cond b (ArgumentConflict ∷ []) []) (values_fault a (value_in u ∷ [])))
       go true f = faulty ArgumentConflict [] _ refl
       go false f = f
@@ -150,10 +152,10 @@ others_ask_for_nothing command here = record {
   missing = λ program uses are lacking. asks_lacking command k program uses are lacking;
   twice = λ program uses u more are is used.
       none program (words_in uses ++ (words_of u ++ more)) (refuses command k.knows (all_read command k.knows uses are) more u is.stands (inl is.taken) is.argument
-      (twice_bad u is.stands (leaf command).args_override_self k.knows.again (rows_in uses) (rows_have (entry_in u).name uses ∙ used)));
+      (twice_bad u is.stands (leaf command).args_override_self k.knows.checks.again (rows_in uses) (rows_have (entry_in u).name uses ∙ used)));
   out_of_range = λ program uses u more are is.
       none program (words_in uses ++ (words_of u ++ more)) (refuses command k.knows (all_read command k.knows uses are) more u is.stands (inr is.refused) is.argument
-      (range_bad u is.stands (leaf command).args_override_self k.knows.again (rows_in uses) is.refused));
+      (range_bad u is.stands (leaf command).args_override_self k.knows.checks.again (rows_in uses) is.refused));
   unknown = λ program word uses more are is.
       none program (words_in uses ++ word ∷ more) (refuses_unknown command k.knows (all_read command k.knows uses are) more word is);
   help = λ program uses more are.
@@ -162,6 +164,7 @@ others_ask_for_nothing command here = record {
   where
     k : KnowsCommand command
     k = known command here
+
     none : (program : Text) (words : List Text) → IsFaulty (level_fault (leaf command) [] nothing_held words false [])
         → asked_by (program ∷ command.name ∷ words) ≡ None
     none program words f = asks_none command program words f.kind f.more k f.is

@@ -50,6 +50,7 @@ with_default_cases P rows a same added = go (has_row a.id rows) refl
     more : (vs : List Text) → has_row a.id rows ≡ false → a.defaults ≡ vs → P (default_rows a.id (reading_by a) vs rows)
     more [] none is = same
     more (v ∷ vs) none is = rw (at_row_none a.id _ (default_row a (v ∷ vs) ∷ []) rows none) (added (v ∷ vs) none is)
+
     go : (b : Bool) → has_row a.id rows ≡ b → P (cond b rows (default_rows a.id (reading_by a) a.defaults rows))
     go true e = same
     go false e = more a.defaults e refl

@@ -180,7 +180,7 @@ level_stuck s words new more h i end rows a given reads no_skip step bad single 
     fold-append (walked s.rules []) (at nothing_held 1) words (new ++ more) ∙ ap (λ w. on w (new ++ more)) reads.walks
     ∙ fold-append (walked s.rules []) (at h i) new more ∙ ap (λ w. on w more) step.walks in
     let total : or_else (walk_fault s [] (at nothing_held 1) all) (last (on (at nothing_held 1) all))
-        ≡ or_else (walk_fault s [] (at h i) new) (or_else (walk_fault s [] (at step.held end) more) (last (on (at step.held end) more))) =
+    ≡ or_else (walk_fault s [] (at h i) new) (or_else (walk_fault s [] (at step.held end) more) (last (on (at step.held end) more))) =
     (λ j. or_else (walks j) (last (ends j))) ∙ or_else_assoc (walk_fault s [] (at h i) new) (walk_fault s [] (at step.held end) more) _ in
     subst IsFaulty (or_else_assoc (walk_fault s [] (at nothing_held 1) all) _ _)
     (faulty_first (or_else (walk_fault s [] (at nothing_held 1) all) (last (on (at nothing_held 1) all))) _ (subst IsFaulty (sym total) faults))

@@ -60,26 +60,26 @@ bare_value (kind.LargeNumber m) v no_flag bare (inr n) = plain_word-is v n.0
 
 module _ {s : Shape} {es : List Entry} (k : Knows s es) (e : Entry) (here : IsIn e es) where
   pub by_its_id : arg_by_id s.rules (built e).id ≡ Some (built e)
-  by_its_id = ap (arg_by_id s.rules) (built_is e).id ∙ at (λ e. arg_by_id s.rules e.name) (λ e. Some (built e)) es e k.by_id here
+  by_its_id = ap (arg_by_id s.rules) (built_is e).id ∙ at (λ e. arg_by_id s.rules e.name) (λ e. Some (built e)) es e k.finds.by_id here
 
   by_its_place : (b : Bool) → has_name e ≡ b → cond b (arg_by_long s.rules e.name) (arg_by_index s.rules 1) ≡ Some (built e)
   by_its_place b is =
       sym (ap (λ c. cond {A = Option Rule} c (arg_by_long s.rules e.name) (arg_by_index s.rules 1)) is)
-      ∙ at (λ e. cond (has_name e) (arg_by_long s.rules e.name) (arg_by_index s.rules 1)) (λ e. Some (built e)) es e k.by_place here
+      ∙ at (λ e. cond (has_name e) (arg_by_long s.rules e.name) (arg_by_index s.rules 1)) (λ e. Some (built e)) es e k.finds.by_place here
 
   its_words : long_of (codes "--" ++ e.name) ≡ Some (e.name, None)
-  its_words = at (λ e. long_of (codes "--" ++ e.name)) (λ e. Some (e.name, None)) es e k.words here
+  its_words = at (λ e. long_of (codes "--" ++ e.name)) (λ e. Some (e.name, None)) es e k.spells.words here
 
   its_dashes : bytes_eq (codes "--" ++ e.name) (codes "--") ≡ false
-  its_dashes = at (λ e. bytes_eq (codes "--" ++ e.name) (codes "--")) (λ e. false) es e k.dashes here
+  its_dashes = at (λ e. bytes_eq (codes "--" ++ e.name) (codes "--")) (λ e. false) es e k.spells.dashes here
 
   pub is_lone : bytes_eq e.name k.lone ≡ not (has_name e)
-  is_lone = at (λ e. bytes_eq e.name k.lone) (λ e. not (has_name e)) es e k.lone_is here
+  is_lone = at (λ e. bytes_eq e.name k.lone) (λ e. not (has_name e)) es e k.finds.lone_is here
 
   pub is_accepted : (v : Text) → IsOfKind e.kind v → accepts (built e).ignore_case (parser_of_value (built e).parser) v ≡ true
   is_accepted v taken =
       ap₂ (λ b p. accepts b p v) (built_is e).cased (built_is e).parses
-      ∙ kind_accepted e.kind v (at (λ e. is_small e.kind) (λ e. true) es e k.small here) taken
+      ∙ kind_accepted e.kind v (at (λ e. is_small e.kind) (λ e. true) es e k.spells.small here) taken
 
   -- its words lead on: with a name from any place, and alone to the second
   abbrev StepTo : Held → ℕ → List Text → List Text → Type 0
@@ -95,7 +95,7 @@ module _ {s : Shape} {es : List Entry} (k : Knows s es) (e : Entry) (here : IsIn
       let b = built_is e in
       step_to h 1 (next_position (built e) 1) false (v ∷ []) (v ∷ []) no_name (ap (λ t. cond {A = ℕ} t 1 2) b.single)
       (argument_step s h 1 (built e) v by_its_id
-      (record { by_index = by_its_place false no_name; single = b.single; one = b.one; no_trailing = b.no_trailing }) plain)
+      (record { by_index = by_its_place false no_name; single = b.single; one = (neither _ _ b.single).0; no_trailing = b.plain }) plain)
 
   spaced_step : (h : Held) (position : ℕ) (v : Text) → has_name e ≡ true → is_flag e.kind ≡ false → IsPlainWord v
       → StepTo h position ((codes "--" ++ e.name) ∷ v ∷ []) (v ∷ [])
@@ -111,8 +111,8 @@ module _ {s : Shape} {es : List Entry} (k : Knows s es) (e : Entry) (here : IsIn
       let takes : takes_values (built e) ≡ true = ap (λ n. not (n == 0)) ((built_is e).most ∙ (has_one e.kind no_flag).1) in
       step_to h position position true (word ∷ []) (v ∷ []) is refl
       (word_step s h position (built e) (v ∷ []) e.name word (Some v)
-      (at (λ e. bytes_eq (codes "--" ++ (e.name ++ (codes "=" ++ v))) (codes "--")) (λ e. false) es e (k.attached_dashes v) here)
-      (at (λ e. long_of (codes "--" ++ (e.name ++ (codes "=" ++ v)))) (λ e. Some (e.name, Some v)) es e (k.attached v) here)
+      (at (λ e. bytes_eq (codes "--" ++ (e.name ++ (codes "=" ++ v))) (codes "--")) (λ e. false) es e (k.spells.differs v) here)
+      (at (λ e. long_of (codes "--" ++ (e.name ++ (codes "=" ++ v)))) (λ e. Some (e.name, Some v)) es e (k.spells.attached v) here)
       (by_its_place true is) (rw takes refl) (rw takes refl))
 
   flag_step : (h : Held) (position : ℕ) → has_name e ≡ true → is_flag e.kind ≡ true → StepTo h position ((codes "--" ++ e.name) ∷ []) []
@@ -233,11 +233,12 @@ still_fresh : (rows : List Row) (u : Use) (more : List Use) → AreFresh rows mo
 still_fresh rows u [] fresh other = tt
 still_fresh rows u (m ∷ more) fresh other =
     let name : Text = (entry_in m).name in
-    let parts = neither _ _ other in
-    (list_any-append (λ (r : Row). bytes_eq r.id name) rows (row_in u ∷ [])
-    ∙ ap₂ (λ a b. a || (b || false)) fresh.0
-    (ap (λ id. bytes_eq id name) (built_is (entry_in u)).id ∙ turned name (entry_in u).name parts.0),
-    still_fresh rows u more fresh.1 parts.1)
+    let parts = neither _ _ other in (
+      list_any-append (λ (r : Row). bytes_eq r.id name) rows (row_in u ∷ [])
+          ∙ ap₂ (λ a b. a || (b || false)) fresh.0
+          (ap (λ id. bytes_eq id name) (built_is (entry_in u)).id ∙ turned name (entry_in u).name parts.0),
+      still_fresh rows u more fresh.1 parts.1,
+    )
 
 all_fresh : (uses : List Use) → AreFresh [] uses
 all_fresh [] = tt

@@ -61,8 +61,8 @@ module _ {s : Shape} (command : Command) (k : Knows s command.arguments) where
   same_entry : (e e' : Entry) → IsIn e command.arguments → IsIn e' command.arguments → bytes_eq e'.name e.name ≡ true → e' ≡ e
   same_entry e e' here there named =
       let es = command.arguments in
-      let alone = at (λ e. find (λ x. bytes_eq x.name e.name) es) (λ e. Some e) es e k.apart here in
-      let alone' = at (λ e. find (λ x. bytes_eq x.name e.name) es) (λ e. Some e) es e' k.apart there in
+      let alone = at (λ e. find (λ x. bytes_eq x.name e.name) es) (λ e. Some e) es e k.finds.apart here in
+      let alone' = at (λ e. find (λ x. bytes_eq x.name e.name) es) (λ e. Some e) es e' k.finds.apart there in
       same_Some e' e (sym alone' ∙ ap (λ n. find (λ x. bytes_eq x.name n) es) ((bytes_eq-Decides e'.name e.name).0 named) ∙ alone)
 
   used_found : (e : Entry) (uses : List Use) → AreUses command uses → IsIn e command.arguments → is_used e.name uses ≡ true
@@ -72,6 +72,7 @@ module _ {s : Shape} (command : Command) (k : Knows s command.arguments) where
     where
       Is : Text → Type 0
       Is v = (lookup e.name (rows_in (u ∷ more)) ≡ Some (row_with (built e) v)) × IsOfKind e.kind v
+
       go : (b : Bool) → bytes_eq (entry_in u).name e.name ≡ b
           → (is_used e.name more ≡ true → (lookup e.name (rows_in more) ≡ Some (row_with (built e) (text_given e more))) × IsOfKind e.kind (text_given e more))
           → Is (text_given e (u ∷ more))
@@ -93,7 +94,7 @@ module _ {s : Shape} (command : Command) (k : Knows s command.arguments) where
     given_used name = completed_given name s.rules (rows_in uses) ∙ rows_give name uses
 
     pub lacks : list_any (λ a. a.required && not (takes.is_given a.id (completed s (rows_in uses)))) s.rules ≡ lacks_some command uses
-    lacks = k.required (λ name. takes.is_given name (completed s (rows_in uses)))
+    lacks = k.checks.required (λ name. takes.is_given name (completed s (rows_in uses)))
         ∙ (λ i. list_any (λ e. is_required e && not (given_used e.name i)) command.arguments)
 
     found_used : (e : Entry) → IsIn e command.arguments → is_used e.name uses ≡ true → IsFound e (text_given e uses) (completed s (rows_in uses))
@@ -175,8 +176,10 @@ module _ {s : Shape} (command : Command) (k : Knows s command.arguments) (uses :
     where
       rows : List Row
       rows = completed s (rows_in uses)
+
       read : (v : Text) → IsFound e v rows → is_given e rows ≡ bytes_eq v (codes "true")
       read v found = ap (λ o. option_map_or (λ text. bytes_eq text (codes "true")) o false) (first_read e v rows found)
+
       go : (b : Bool) → is_used e.name uses ≡ b → is_given e rows ≡ is_used e.name uses
       go true used =
           let taken = subst (λ c. IsOfKind c (text_given e uses)) is (used_found command k e uses are here used).1 in
@@ -189,15 +192,17 @@ module _ {s : Shape} (command : Command) (k : Knows s command.arguments) (uses :
     where
       rows : List Row
       rows = completed s (rows_in uses)
+
       default : (d : Option Text) → e.default ≡ d → is_some d ≡ true → is_used e.name uses ≡ false → IsRead uses rows e e.kind
       default None is some none = cc
       default (Some v) is some none =
           let given : text_given e uses ≡ v = unused e uses none ∙ ap (λ o. unwrap_or o []) is in
           let test : is_of_kind e.kind v ≡ true =
           sym (ap (λ o. option_map_or (is_of_kind e.kind) o true) is)
-          ∙ at (λ e. option_map_or (is_of_kind e.kind) e.default true) (λ e. true) command.arguments e k.defaults here in
+          ∙ at (λ e. option_map_or (is_of_kind e.kind) e.default true) (λ e. true) command.arguments e k.spells.defaults here in
           read_by uses rows e e.kind refl no_flag (subst (IsOfKind e.kind) (sym given) (kind_by_test e.kind v no_flag test))
           (subst (λ t. IsFound e t rows) (sym given) (found_default command k uses are e v here none (default_by-is e.kind e.default no_flag ∙ is)))
+
       go : (b : Bool) → is_used e.name uses ≡ b → IsRead uses rows e e.kind
       go true used =
           read_by uses rows e e.kind refl no_flag (used_found command k e uses are here used).1 (found_used command k uses are e here used)

@@ -90,6 +90,7 @@ module _ (a : Rule) (given : List Text) (v : Text) (is : Comes a given v) where
       puts : with_values a.id (reading_by a) CommandLine (v ∷ []) (without a.id rows) ≡ rows ++ row_with a v ∷ []
       puts = ap (with_values a.id (reading_by a) CommandLine (v ∷ [])) (at_row_none a.id (λ _. []) [] rows fresh ∙ append-nil rows)
           ∙ at_row_none a.id (more_values CommandLine (v ∷ [])) (row_with a v ∷ []) rows fresh
+
       go : (action_of a ≡ Set) ⊎ (action_of a ≡ SetTrue) → used a given rows ≡ rows ++ row_with a v ∷ []
       go (inl set) = ap₂ (λ act vs. used_as act a.id (reading_by a) vs rows) set is.comes ∙ puts
       go (inr set) = ap₂ (λ act vs. used_as act a.id (reading_by a) vs rows) set is.comes ∙ puts
