@@ -1,11 +1,10 @@
 -- What building makes of an argument of the table, whatever the row.
-use Rattle.std.proofs.Common.{◌≡◌, ◌&&◌, ◌||◌, ◌^◌, ℕ, Bool, true, false, Option, None, Some, List, [], ◌∷◌, pos, not, codes, refl, ap, nat_lt, nat_le, ltb-true}
-use Rattle.std.specs.Option.{option_map_or}
+use Rattle.std.proofs.Common.{◌≡◌, ◌&&◌, ◌^◌, ℕ, Bool, true, false, Option, Some, List, [], ◌∷◌, pos, codes, refl, ap, nat_lt, nat_le, ltb-true}
 use Rattle.std.specs.Str.{bytes_eq}
 use Rattle.std.specs.Str.Parse.{digits_value}
 use Rattle.std.proofs.lemmas.Bool.{leb-true}
 use Rattle.std.proofs.lemmas.Option.{same_Some}
-use Rattle.clap.specs.Words.{Row, Rule, Text, reading_of}
+use Rattle.clap.specs.Words.{Rule, Text, reading_of}
 use Rattle.clap.specs.Facts.{parser_of_value, unwrap_or_range}
 use Rattle.clap.specs.Simple.{filled, with_index}
 use Rattle.clap.specs.ValueTests.{accepts, is_numeral}
@@ -59,7 +58,8 @@ pub built_is : (e : Entry) → IsBuilt e (built e)
 built_is e = go e.kind e.is_named e.name e.default
   where
     go : (k : Kind) (named : Bool) (name : Text) (default : Option Text)
-        → IsBuilt (record { name = name; is_named = named; kind = k; default = default }) (built (record { name = name; is_named = named; kind = k; default = default }))
+        → IsBuilt (record { name = name; is_named = named; kind = k; default = default })
+        (built (record { name = name; is_named = named; kind = k; default = default }))
     go kind.Text true n d =
         record { id = refl; cased = refl; parses = refl; reads = refl; acts = refl; least = refl; most = refl; single = refl; absent = refl; plain = refl }
     go kind.Text false n d =

@@ -1,5 +1,5 @@
 -- Facts on the table that compute: what each command has, as `clap` builds it.
-use Rattle.std.proofs.Common.{◌≡◌, ◌∙◌, ◌⊎◌, ◌||◌, ◌&&◌, ◌++◌, ℕ, Bool, true, false, cond, Option, None, Some, List, [], ◌∷◌, codes, inl, inr, not, refl, sym, ap, subst}
+use Rattle.std.proofs.Common.{◌≡◌, ◌||◌, ◌&&◌, ◌++◌, Bool, true, false, None, Some, List, [], ◌∷◌, codes, inl, inr, not, refl, ap, subst}
 use Rattle.std.proofs.Common.{drop, get_or, if◌then◌else◌, is_some, map}
 use Rattle.std.specs.List.{find, list_any}
 use Rattle.std.specs.Option.{option_map_or}
@@ -17,7 +17,7 @@ use Rattle.words.specs.declared.options.Kind.TheVariants as kind
 use Rattle.words.specs.Table.{Command, Entry, census_app, commands, shape_in}
 use Rattle.words.specs.Table as table
 use Rattle.words.specs.Uses.{IsIn, is_flag, is_required}
-use Rattle.words.proofs.BuiltLemmas.{built, default_by, is_of_kind, is_small}
+use Rattle.words.proofs.BuiltLemmas.{built, is_of_kind, is_small}
 use Rattle.words.proofs.WalkLemmas.{HasCommand}
 
 -- the program and a command, as `clap` builds them

@@ -1,10 +1,10 @@
 -- What the calls of the program ask for.
-use Rattle.std.proofs.Common.{◌≡◌, ◌∙◌, ◌++◌, ◌||◌, ℕ, Bool, true, false, None, Some, List, [], ◌∷◌, codes, option_and_then, option_map, inl, inr, refl, sym, ap, ap₂, subst}
+use Rattle.std.proofs.Common.{◌≡◌, ◌∙◌, ◌++◌, ◌||◌, Bool, true, false, None, Some, List, [], ◌∷◌, codes, option_and_then, option_map, inl, inr, refl, sym, ap, ap₂, subst}
 use Rattle.std.specs.List.{list_any}
 use Rattle.std.specs.Str.{bytes_eq}
 use Rattle.std.specs.Str.Parse.{starts_with_minus}
 use Rattle.std.proofs.lemmas.List.Folds.{list_any-append}
-use Rattle.clap.specs.Words.{Kinds, Row, Shape, Text, subcommand_of}
+use Rattle.clap.specs.Words.{Kinds, Row, Text, subcommand_of}
 use Rattle.clap.specs.Faults.{level_fault, other_fault, step_fault, turn_fault, walk_fault}
 use Rattle.clap.specs.Simple.{names_of}
 use Rattle.clap.specs.Kinds.{check_kinds, or_else}
@@ -12,8 +12,7 @@ use Rattle.clap.specs.Walk.{Held, Step, answers_to, idle, nothing_held, subcomma
 use Rattle.clap.proofs.OnLiterals.{clap_on_literals}
 use Rattle.clap.specs.declared.error.kind.ErrorKind.{ErrorKind}
 use Rattle.clap.specs.declared.error.kind.ErrorKind.TheVariants.{MissingRequiredArgument}
-use Rattle.words.specs.declared.request.ProfileNumbers.{ProfileNumbers}
-use Rattle.words.specs.Calls.{AskForTheirValues, AsksForVersion, NoCommandAsksForNothing, number_given, profile_given, set_given, survey_given, text_given}
+use Rattle.words.specs.Calls.{AskForTheirValues, AsksForVersion, NoCommandAsksForNothing, survey_given}
 use Rattle.words.specs.Requests.{all_four, asked_by, asks_version, gather_of, name_of, request_in, run_of, set_of_four, show_of, soup_of, survey_in}
 use Rattle.words.specs.Requests.{survey_of_three, take_of, unless_faulty, work_of}
 use Rattle.words.specs.Table.{Command, Entry, census_app, commands}
@@ -73,7 +72,8 @@ module _ (command : Command) (k : KnowsCommand command) (program : Text) (uses :
 
 -- the arguments that say which soups, and how they are run, are the first nine of three commands
 survey_read : (uses : List Use) (rows : List Row) (more : List Entry)
-    → ((e : Entry) → IsIn e (table.seed ∷ table.first ∷ table.count ∷ table.also ∷ table.period ∷ table.horizon ∷ table.stride ∷ table.limit ∷ table.rule ∷ more)
+    → ((e : Entry) → IsIn e (table.seed ∷ table.first ∷ table.count ∷ table.also ∷ table.period ∷ table.horizon ∷ table.stride ∷ table.limit
+    ∷ table.rule ∷ more)
     → IsRead uses rows e e.kind)
     → survey_in rows ≡ Some (survey_given uses)
 survey_read uses rows more read =
@@ -183,7 +183,8 @@ asks_unknown program word words is_value none no_help =
     (subcommand_or_other top.rules (subcommand_met names idle word) idle 1 word nothing_held).1) =
     subst IsFaulty (sym (ap (λ (m : Held × Step). step_fault top 1 m.0 m.1) met)) (stray top) in
     let fault = faulty_first (walk_fault top names (walk_from nothing_held) (word ∷ words)) _
-    (faulty_first (turn_fault top names (walk_from nothing_held) word) _ (faulty_next (other_fault top (subcommand_met names idle word) word nothing_held) _ fine step)) in
+    (faulty_first (turn_fault top names (walk_from nothing_held) word) _
+    (faulty_next (other_fault top (subcommand_met names idle word) word nothing_held) _ fine step)) in
     asked_by-called (program ∷ word ∷ words) (value_no_version program word words is_value)
     ∙ ap (λ ks. unless_faulty ks (option_and_then request_in (subcommand_of census_app (program ∷ word ∷ words)))) fault.is
 

@@ -1,5 +1,5 @@
 -- Words of a command that are faults, after arguments that are lawful.
-use Rattle.std.proofs.Common.{◌≡◌, ◌∙◌, ◌++◌, ◌||◌, ◌&&◌, ◌⊎◌, ℕ, Bool, true, false, cond, Option, None, Some, List, [], ◌∷◌, codes}
+use Rattle.std.proofs.Common.{◌≡◌, ◌∙◌, ◌++◌, ◌||◌, ◌&&◌, ℕ, Bool, true, false, cond, Option, None, Some, List, [], ◌∷◌, codes}
 use Rattle.std.proofs.Common.{ap, ap₂, drop, get_or, inl, inr, is_some, map, not, refl, sym, subst}
 use Rattle.std.specs.List.{find, list_any}
 use Rattle.std.specs.Option.{option_map_or}
@@ -20,15 +20,15 @@ use Rattle.clap.proofs.OnLiterals.{clap_on_literals}
 use Rattle.words.specs.Calls.{OthersAskForNothing}
 use Rattle.words.specs.Requests.{asked_by}
 use Rattle.words.specs.Table.{Command, Entry}
-use Rattle.words.specs.Uses.{IsIn, IsNotOfKind, IsOfKind, IsUnknown, Stands, Use, alone, attached, entry_in, flagged, is_flag, spaced, value_in, words_in, words_of}
+use Rattle.words.specs.Uses.{IsIn, IsNotOfKind, IsUnknown, Stands, Use, alone, attached, entry_in, flagged, is_flag, spaced, value_in, words_in, words_of}
 use Rattle.words.proofs.BuiltLemmas.{built, built_is, kind_refused}
 use Rattle.words.proofs.KnownLemmas.{Knows, KnowsCommand, has_name, help_entry, known, leaf, takes_name}
 use Rattle.words.proofs.LawLemmas.{asks_lacking, asks_none}
-use Rattle.words.proofs.RowLemmas.{find_none, neither, or_nothing}
+use Rattle.words.proofs.RowLemmas.{find_none, or_nothing}
 use Rattle.words.proofs.StuckLemmas.{IsFaulty, faulty, faulty_first, faulty_next, level_refuses, level_stuck, stray}
-use Rattle.words.proofs.UseLemmas.{HasRead, all_read, bare_value, has_its_name, or_true, rows_in, use_comes, use_step, values_by}
+use Rattle.words.proofs.UseLemmas.{HasOrLacks, HasRead, all_read, bare_value, has_its_name, or_true, rows_in, use_comes, use_step, values_by}
 use Rattle.words.proofs.ValueLemmas.{rows_have}
-use Rattle.words.proofs.WalkLemmas.{IsPlainWord, Reads, no_flag_fault, plain_word_met, used_faults}
+use Rattle.words.proofs.WalkLemmas.{IsPlainWord, Reads, no_flag_fault, plain_word_met, stepped, used_faults}
 
 one_value : (p : Rule → Bool) (c : List Rule) (a : Rule) → map takes_several c ≡ map (λ _. false) c → find p c ≡ Some a → takes_several a ≡ false
 one_value p [] a fine found = cc
@@ -54,9 +54,10 @@ not_dashes word name v is = go (bytes_eq word (codes "--")) refl
 
 -- ---- after arguments that are lawful
 
-module _ {s : Shape} (command : Command) (k : Knows s command.arguments) {words : List Text} {rows : List Row} (read : HasRead s k.lone words rows) (more : List Text) where
+module _ {s : Shape} (command : Command) (k : Knows s command.arguments) {words : List Text} {rows : List Row} (read : HasRead s k.lone words rows)
+    (more : List Text) where
   -- a use that is a fault
-  refuses_use : (u : Use) → Stands u → IsOfKind (entry_in u).kind (value_in u) ⊎ IsNotOfKind (entry_in u).kind (value_in u) → IsIn (entry_in u) command.arguments
+  refuses_use : (u : Use) → Stands u → HasOrLacks u → IsIn (entry_in u) command.arguments
       → (has_its_name u ≡ false → read.position ≡ 1)
       → IsFaulty (use_fault s.args_override_self (built (entry_in u)) (values_by u) rows)
       → IsFaulty (level_fault s [] nothing_held (words ++ (words_of u ++ more)) false [])
@@ -73,13 +74,13 @@ module _ {s : Shape} (command : Command) (k : Knows s command.arguments) {words 
   refuses_second : (v : Text) → IsPlainWord v → read.position ≡ 2 → IsFaulty (level_fault s [] nothing_held (words ++ v ∷ more) false [])
   refuses_second v plain second =
       let reads = subst (λ i. Reads s words read.held i rows) second read.reads in
-      let step : step_fault s 2 (subcommand_or_other s.rules None idle 2 v read.held).0 (subcommand_or_other s.rules None idle 2 v read.held).1 ≡ stray_fault s =
+      let step : stepped s 2 (subcommand_or_other s.rules None idle 2 v read.held) ≡ stray_fault s =
       ap (λ m. step_fault s 2 m.0 m.1) (plain_word_met s.rules idle 2 v read.held plain)
       ∙ ap (λ o. option_map_or (λ a. positional_fault s.rules s.args_override_self a read.held) o (stray_fault s)) k.finds.no_second in
       level_refuses s words more v read.held 2 rows reads
       (faulty_next (other_fault s None v read.held) _ (no_flag_fault s v read.held plain) (subst IsFaulty (sym step) (stray s)))
 
-  pub refuses : (u : Use) → Stands u → IsOfKind (entry_in u).kind (value_in u) ⊎ IsNotOfKind (entry_in u).kind (value_in u) → IsIn (entry_in u) command.arguments
+  pub refuses : (u : Use) → Stands u → HasOrLacks u → IsIn (entry_in u) command.arguments
       → IsFaulty (use_fault s.args_override_self (built (entry_in u)) (values_by u) rows)
       → IsFaulty (level_fault s [] nothing_held (words ++ (words_of u ++ more)) false [])
   refuses (alone e v) stands of here bad = go (has_row k.lone rows) refl
@@ -151,10 +152,12 @@ pub others_ask_for_nothing : OthersAskForNothing
 others_ask_for_nothing command here = record {
   missing = λ program uses are lacking. asks_lacking command k program uses are lacking;
   twice = λ program uses u more are is used.
-      none program (words_in uses ++ (words_of u ++ more)) (refuses command k.knows (all_read command k.knows uses are) more u is.stands (inl is.taken) is.argument
+      none program (words_in uses ++ (words_of u ++ more))
+      (refuses command k.knows (all_read command k.knows uses are) more u is.stands (inl is.taken) is.argument
       (twice_bad u is.stands (leaf command).args_override_self k.knows.checks.again (rows_in uses) (rows_have (entry_in u).name uses ∙ used)));
   out_of_range = λ program uses u more are is.
-      none program (words_in uses ++ (words_of u ++ more)) (refuses command k.knows (all_read command k.knows uses are) more u is.stands (inr is.refused) is.argument
+      none program (words_in uses ++ (words_of u ++ more))
+      (refuses command k.knows (all_read command k.knows uses are) more u is.stands (inr is.refused) is.argument
       (range_bad u is.stands (leaf command).args_override_self k.knows.checks.again (rows_in uses) is.refused));
   unknown = λ program word uses more are is.
       none program (words_in uses ++ word ∷ more) (refuses_unknown command k.knows (all_read command k.knows uses are) more word is);

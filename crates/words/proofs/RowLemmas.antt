@@ -1,5 +1,5 @@
 -- What is found for an argument once the defaults are filled in.
-use Rattle.std.proofs.Common.{◌≡◌, ◌∙◌, ◌||◌, ◌&&◌, ◌++◌, Bool, true, false, cond, Option, None, Some, List, [], ◌∷◌, is_some, refl, sym, ap, ap₂, append-nil, map, drop, get_or}
+use Rattle.std.proofs.Common.{◌≡◌, ◌∙◌, ◌||◌, ◌++◌, Bool, true, false, cond, Option, None, Some, List, [], ◌∷◌, refl, sym, ap, ap₂, map, drop, get_or}
 use Rattle.std.specs.List.{find, fold, list_any}
 use Rattle.std.specs.Option.{option_map_or, option_or}
 use Rattle.std.specs.Str.{bytes_eq}
@@ -106,7 +106,8 @@ completed_default a v [] rows is by_id none = cc
 completed_default a v (x ∷ c) rows is by_id none = go (bytes_eq x.id a.id) refl (completed_default a v c (with_default rows x) is)
   where
     go : (b : Bool) → bytes_eq x.id a.id ≡ b
-        → (arg_by_id c a.id ≡ Some a → has_row a.id (with_default rows x) ≡ false → lookup a.id (fold with_default (with_default rows x) c) ≡ Some (default_row a (v ∷ [])))
+        → (arg_by_id c a.id ≡ Some a → has_row a.id (with_default rows x) ≡ false
+        → lookup a.id (fold with_default (with_default rows x) c) ≡ Some (default_row a (v ∷ [])))
         → lookup a.id (fold with_default (with_default rows x) c) ≡ Some (default_row a (v ∷ []))
     go true e rest =
         let same : x ≡ a = same_Some x a (sym (ap (λ b. cond {A = Option Rule} b (Some x) (arg_by_id c a.id)) e) ∙ by_id) in

@@ -13,7 +13,7 @@ use Rattle.clap.specs.Walk.{Held, Outcome, Step as WalkStep, Walk, after_flag, a
 use Rattle.clap.specs.Walk.{long_or_other, nothing_held, plain, reacted, short_or_plain, short_word, takes_several, takes_values, trailing, value, walked}
 use Rattle.clap.specs.declared.error.kind.ErrorKind.{ErrorKind}
 use Rattle.clap.specs.declared.error.kind.ErrorKind.TheVariants.{InvalidSubcommand, TooManyValues, UnknownArgument}
-use Rattle.words.proofs.WalkLemmas.{Reads, Step, and_false, at, fold-append, or_else_assoc, step_faults, walk_fault-append}
+use Rattle.words.proofs.WalkLemmas.{Reads, Step, and_false, at, fold-append, or_else_assoc, step_faults, stepped, walk_fault-append}
 
 -- there is a fault
 pub record IsFaulty (kinds : Kinds) : Type 0 where
@@ -84,24 +84,24 @@ module _ (s : Shape) (rows : List Row) (p : Option (Text × List Text))
 
   -- `-abc`
   bundle_stuck : (i : ℕ) (word flags : Text)
-      → IsFaulty (or_else (bundle_fault s.rules again flags h) (step_fault s i (short_word s.rules idle word flags h).0 (short_word s.rules idle word flags h).1))
+      → IsFaulty (or_else (bundle_fault s.rules again flags h) (stepped s i (short_word s.rules idle word flags h)))
   unfolding flags_fault bundle_met
   bundle_stuck i word [] = value_stuck i
   bundle_stuck i word (x ∷ xs) = go (slice_get (chars (x ∷ xs)) 0)
     where
       go : (o : Option ℕ)
           → IsFaulty (or_else (bundle_step_fault s.rules again o (x ∷ xs) 0 h (flags_fault s.rules again (length xs)))
-          (step_fault s i (after_flag s.rules idle word (bundle_from x xs o).0 (bundle_from x xs o).1).0 (after_flag s.rules idle word (bundle_from x xs o).0 (bundle_from x xs o).1).1))
+          (stepped s i (after_flag s.rules idle word (bundle_from x xs o).0 (bundle_from x xs o).1)))
       go None = value_stuck i
       go (Some y) = faulty_first (short_fault s.rules again (arg_by_short s.rules y) _ h _) _ (short_stuck (arg_by_short s.rules y) _ _)
 
   word_stuck : (i : ℕ) (word : Text) (o : Option (Text × Option Text))
-      → IsFaulty (or_else (flag_word_fault s.rules again o word h) (step_fault s i (long_or_other s.rules idle word o h).0 (long_or_other s.rules idle word o h).1))
+      → IsFaulty (or_else (flag_word_fault s.rules again o word h) (stepped s i (long_or_other s.rules idle word o h)))
   word_stuck i word (Some q) = faulty_first (long_fault s.rules again (arg_by_long s.rules q.0) q.1 h) _ (long_stuck (arg_by_long s.rules q.0) q.1)
   word_stuck i word None = go (short_of word)
     where
       go : (o : Option Text) → IsFaulty (or_else (option_map_or (λ flags. bundle_fault s.rules again flags h) o [])
-          (step_fault s i (short_or_plain s.rules idle word o h).0 (short_or_plain s.rules idle word o h).1))
+          (stepped s i (short_or_plain s.rules idle word o h)))
       go None = value_stuck i
       go (Some flags) = bundle_stuck i word flags
 
@@ -114,7 +114,7 @@ module _ (s : Shape) (rows : List Row) (p : Option (Text × List Text))
 
   abbrev turn_at : ℕ → Text → Bool → Kinds
   turn_at i word b =
-      or_else (cond b [] (flag_word_fault s.rules again (long_of word) word h)) (step_fault s i (met_at i word b).0 (met_at i word b).1)
+      or_else (cond b [] (flag_word_fault s.rules again (long_of word) word h)) (stepped s i (met_at i word b))
 
   abbrev next_at : ℕ → Text → Bool → Walk
   next_at i word b = after_step s.rules word (stuck_at i false) (met_at i word b).0 (met_at i word b).1
@@ -166,9 +166,9 @@ level_stuck s words new more h i end rows a given reads no_skip step bad single 
     let bare : Held = record { rows = step.held.rows; pending = step.held.pending; skip = 0 } in
     let is_bare : step.held ≡ bare = λ j. record { rows = step.held.rows; pending = step.held.pending; skip = (step.skip ∙ no_skip) j } in
     -- what is held after it is a fault, or its words are
-    let held : IsFaulty (settle_fault s.rules s.args_override_self step.held) → IsFaulty (or_else (walk_fault s [] (at step.held end) more) (last (on (at step.held end) more))) =
-    subst (λ (x : Held). IsFaulty (settle_fault s.rules s.args_override_self x) → IsFaulty (or_else (walk_fault s [] (at x end) more) (last (on (at x end) more))))
-    (sym is_bare) (λ settles. all_stuck s bare.rows bare.pending settles single more end false) in
+    let rest : Held → Kinds = λ x. or_else (walk_fault s [] (at x end) more) (last (on (at x end) more)) in
+    let held : IsFaulty (settle_fault s.rules s.args_override_self step.held) → IsFaulty (rest step.held) =
+    subst (λ (x : Held). IsFaulty (settle_fault s.rules s.args_override_self x) → IsFaulty (rest x)) (sym is_bare) (λ settles. all_stuck s bare.rows bare.pending settles single more end false) in
     let faults = either_faulty (walk_fault s [] (at h i) new) (settle_fault s.rules s.args_override_self step.held) _
     (subst IsFaulty (sym (step_faults reads step)) bad) held in
     -- so there is a fault in all the words, or at their end

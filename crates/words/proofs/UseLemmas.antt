@@ -152,9 +152,13 @@ use_comes (flagged e) stands =
       few = ap₂ (λ l m. range_kinds l m 0) ((built_is e).least ∙ none.1) ((built_is e).most ∙ none.1);
     }
 
+-- its value is one of its kind, or it is known not to be
+abbrev pub HasOrLacks : Use → Type 0
+HasOrLacks u = IsOfKind (entry_in u).kind (value_in u) ⊎ IsNotOfKind (entry_in u).kind (value_in u)
+
 -- only an argument without a name depends on the place
 pub use_step : {s : Shape} {es : List Entry} → Knows s es → (h : Held) (position : ℕ) (u : Use) → IsIn (entry_in u) es → Stands u
-    → IsOfKind (entry_in u).kind (value_in u) ⊎ IsNotOfKind (entry_in u).kind (value_in u) → (has_its_name u ≡ false → position ≡ 1)
+    → HasOrLacks u → (has_its_name u ≡ false → position ≡ 1)
     → Step s h position (words_of u) (built (entry_in u)) (values_by u) (cond {A = ℕ} (has_its_name u) position 2)
 use_step {s} k h position (alone e v) here stands of first =
     let no_name : has_name e ≡ false = ap₂ (λ a b. a || b) stands.0 stands.1 in

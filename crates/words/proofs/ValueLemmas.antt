@@ -1,7 +1,7 @@
 -- The values of a call: those of its arguments, and the defaults of the others.
-use Rattle.std.proofs.Common.{◌≡◌, ◌∙◌, ◌++◌, ◌||◌, ◌&&◌, ℕ, Bool, true, false, cond, Option, None, Some, List, [], ◌∷◌, codes, is_some, map, not, option_and_then}
+use Rattle.std.proofs.Common.{◌≡◌, ◌∙◌, ◌||◌, ◌&&◌, Bool, true, false, cond, Option, None, Some, List, [], ◌∷◌, codes, is_some, not, option_and_then}
 use Rattle.std.proofs.Common.{inl, inr, option_map, slice_get, unwrap_or, refl, sym, ap, ap₂, subst}
-use Rattle.std.specs.List.{find, fold, list_any}
+use Rattle.std.specs.List.{find, list_any}
 use Rattle.std.specs.Option.{option_map_or}
 use Rattle.std.specs.Str.{bytes_eq}
 use Rattle.std.proofs.lemmas.Option.{same_Some}
@@ -139,11 +139,13 @@ read_by uses rows e kind.Text is no_flag taken found = first_read e (text_given 
 read_by uses rows e kind.Flag is no_flag taken found = cc
 read_by uses rows e (kind.Number least most) is no_flag taken found =
     ap (λ o. option_and_then (at_least least) (option_and_then (number_of most) o))
-    (one_read e (text_given e uses) rows found ∙ ap (λ how. Some (read_as how (text_given e uses))) ((built_is e).reads ∙ ap (λ c. reading_of (parser_for c)) is))
+    (one_read e (text_given e uses) rows found
+    ∙ ap (λ how. Some (read_as how (text_given e uses))) ((built_is e).reads ∙ ap (λ c. reading_of (parser_for c)) is))
     ∙ number_read least most (text_given e uses) taken
 read_by uses rows e (kind.LargeNumber most) is no_flag taken found =
     ap (option_and_then (number_of most))
-    (one_read e (text_given e uses) rows found ∙ ap (λ how. Some (read_as how (text_given e uses))) ((built_is e).reads ∙ ap (λ c. reading_of (parser_for c)) is))
+    (one_read e (text_given e uses) rows found
+    ∙ ap (λ how. Some (read_as how (text_given e uses))) ((built_is e).reads ∙ ap (λ c. reading_of (parser_for c)) is))
     ∙ large_read most (text_given e uses) taken
 
 default_by-is : (c : Kind) (d : Option Text) → is_flag c ≡ false → default_by c d ≡ d
@@ -163,7 +165,8 @@ has_default true (Some v) is h = refl
 has_default true None is h = cc
 has_default false d is h = cc
 
-module _ {s : Shape} (command : Command) (k : Knows s command.arguments) (uses : List Use) (are : AreUses command uses) (whole : lacks_some command uses ≡ false) where
+module _ {s : Shape} (command : Command) (k : Knows s command.arguments) (uses : List Use) (are : AreUses command uses)
+    (whole : lacks_some command uses ≡ false) where
   -- an argument that is required is used
   required_used : (es : List Entry) (e : Entry) → list_any (λ e. is_required e && not (is_used e.name uses)) es ≡ false → IsIn e es
       → (is_required e && not (is_used e.name uses)) ≡ false

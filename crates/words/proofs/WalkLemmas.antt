@@ -118,6 +118,10 @@ module _ (a : Rule) (given : List Text) (v : Text) (is : Comes a given v) where
 abbrev pub at : Held → ℕ → Walk
 at h position = record { held = h; waiting = idle; position = position; is_trailing = false; stopped = None }
 
+-- the faults of a word by what it was found to be
+abbrev pub stepped : Shape → ℕ → Held × WalkStep → Kinds
+stepped s i m = step_fault s i m.0 m.1
+
 -- from the first word on, the words lead there without a fault, and to these rows once what is held is settled
 pub record Reads (s : Shape) (words : List Text) (h : Held) (position : ℕ) (rows : List Row) : Type 0 where
   pub walks : fold (walked s.rules []) (at nothing_held 1) words ≡ at h position
