@@ -168,7 +168,8 @@ level_stuck s words new more h i end rows a given reads no_skip step bad single 
     -- what is held after it is a fault, or its words are
     let rest : Held → Kinds = λ x. or_else (walk_fault s [] (at x end) more) (last (on (at x end) more)) in
     let held : IsFaulty (settle_fault s.rules s.args_override_self step.held) → IsFaulty (rest step.held) =
-    subst (λ (x : Held). IsFaulty (settle_fault s.rules s.args_override_self x) → IsFaulty (rest x)) (sym is_bare) (λ settles. all_stuck s bare.rows bare.pending settles single more end false) in
+    subst (λ (x : Held). IsFaulty (settle_fault s.rules s.args_override_self x) → IsFaulty (rest x)) (sym is_bare)
+    (λ settles. all_stuck s bare.rows bare.pending settles single more end false) in
     let faults = either_faulty (walk_fault s [] (at h i) new) (settle_fault s.rules s.args_override_self step.held) _
     (subst IsFaulty (sym (step_faults reads step)) bad) held in
     -- so there is a fault in all the words, or at their end

@@ -114,7 +114,7 @@ pub const GATHER: CommandRow = CommandRow {
          A line that is refused is told on standard error by its number, and the next\n\
          one is read. If soups are missing, a last line says how many, and the status is\n\
          6. The soups are said as for `take`, and when a soup has settled as for `name`.",
-    after_help: "Example: cat one.lines two.lines | census gather --workers 2 --seed abc --count 200",
+    after_help: "Example:\n  cat one.lines two.lines | census gather --workers 2 --seed abc --count 200",
     arguments: &[
         SEED, FIRST, COUNT, ALSO, PERIOD, HORIZON, STRIDE, LIMIT, RULE, REPORTERS,
     ],

@@ -141,7 +141,7 @@ pub const STRIDE: Argument = Argument {
     place: Place::Named("STRIDE"),
     kind: Kind::Number(1, 10_000),
     default: Some("101"),
-    help: "How many generations there are from one look to the next, from 1 to 10000",
+    help: "How many generations lie between two looks, from 1 to 10000",
 };
 
 /// The last generation at which there may be a look.
