@@ -1,0 +1,29 @@
+# Completion of haul for bash.
+
+_haul() {
+    local word=${COMP_WORDS[COMP_CWORD]} before=${COMP_WORDS[COMP_CWORD - 1]} options=''
+    COMPREPLY=()
+    if [[ $COMP_CWORD == 1 ]]; then
+        mapfile -t COMPREPLY < <(compgen -W 'check join compare page --help --version' -- "$word")
+        return
+    fi
+    case $before in
+        --workers | --least) return ;;
+        --census)
+            mapfile -t COMPREPLY < <(compgen -f -- "$word")
+            return
+            ;;
+    esac
+    case ${COMP_WORDS[1]} in
+        check) options='--workers --samples --census --help' ;;
+        join) options='--help' ;;
+        compare) options='--least --help' ;;
+        page) options='--least --census --help' ;;
+    esac
+    if [[ $word == -* ]]; then
+        mapfile -t COMPREPLY < <(compgen -W "$options" -- "$word")
+    else
+        mapfile -t COMPREPLY < <(compgen -f -- "$word")
+    fi
+}
+complete -o filenames -F _haul haul
