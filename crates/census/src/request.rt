@@ -79,9 +79,9 @@ pub fn do_words<
 
 /// Does what a request asks for, and returns how that ended.
 ///
-/// Each number of the request must be in its range, and neither writer may have failed. Nothing of the input is read for a
-/// request that doesn't look at it, nor for one whose rule, profile, seed or set is refused. How far a haul has come is said on
-/// `line`, of which nothing else depends.
+/// Each number of the request must be in its range, and neither writer may have failed. Nothing of the input is read
+/// for a request that doesn't look at it, nor for one whose rule, profile, seed or set is refused. How far a haul has
+/// come is said on `line`, of which nothing else depends.
 ///
 /// # Errors
 ///

@@ -90,16 +90,38 @@ abbrev pub gather_of : Option Survey → Option ℕ → Option Request
 gather_of (Some survey) (Some workers) = Some (Gather survey workers)
 gather_of _ _ = None
 
+-- each command, with what was found for its arguments
+abbrev pub run_in : List Row → Option Request
+run_in rows = run_of (number_in generations rows) (text_in rule rows)
+
+abbrev pub name_in : List Row → Option Request
+name_in rows = name_of (profile_in rows) (text_in rule rows)
+
+abbrev pub show_in : List Row → Option Request
+show_in rows = show_of (text_in code rows)
+
+abbrev pub soup_in : List Row → Option Request
+soup_in rows = soup_of (number_in number rows) (text_in seed rows)
+
+abbrev pub take_in : List Row → Option Request
+take_in rows = take_of (is_given progress rows) (survey_in rows) (number_in workers rows)
+
+abbrev pub work_in : List Row → Option Request
+work_in rows = work_of (survey_in rows) (number_in worker rows)
+
+abbrev pub gather_in : List Row → Option Request
+gather_in rows = gather_of (survey_in rows) (number_in workers rows)
+
 -- the command of this name, with its values
 abbrev pub request_in : Text × List Row → Option Request
 request_in found =
-    if bytes_eq found.0 (codes "run") then run_of (number_in generations found.1) (text_in rule found.1)
-    else if bytes_eq found.0 (codes "name") then name_of (profile_in found.1) (text_in rule found.1)
-    else if bytes_eq found.0 (codes "show") then show_of (text_in code found.1)
-    else if bytes_eq found.0 (codes "soup") then soup_of (number_in number found.1) (text_in seed found.1)
-    else if bytes_eq found.0 (codes "take") then take_of (is_given progress found.1) (survey_in found.1) (number_in workers found.1)
-    else if bytes_eq found.0 (codes "work") then work_of (survey_in found.1) (number_in worker found.1)
-    else if bytes_eq found.0 (codes "gather") then gather_of (survey_in found.1) (number_in workers found.1)
+    if bytes_eq found.0 (codes "run") then run_in found.1
+    else if bytes_eq found.0 (codes "name") then name_in found.1
+    else if bytes_eq found.0 (codes "show") then show_in found.1
+    else if bytes_eq found.0 (codes "soup") then soup_in found.1
+    else if bytes_eq found.0 (codes "take") then take_in found.1
+    else if bytes_eq found.0 (codes "work") then work_in found.1
+    else if bytes_eq found.0 (codes "gather") then gather_in found.1
     else None
 
 -- a request, if nothing is wrong with the words

@@ -55,14 +55,14 @@ pub fn request_of<'a, S: AsStr>(alloc: Global, words: &'a [S]) -> Result<Request
     }
 }
 
-/// A law of all words: a command asks for the values that stand there, in any order, and for the defaults of the others.
+/// A law of all words: a command asks for the values that are given, in any order, and for the defaults of the others.
 #[tactic(auto, using(crate::proofs::LawLemmas::ask_for_their_values))]
 pub fn commands_ask_for_their_values()
     ensures { AskForTheirValues }
 {}
 
-/// A law of all words: an argument that is missing, one a second time, a value out of its range, an unknown option and `--help` ask
-/// for nothing.
+/// A law of all words: an argument that is missing, one a second time, a value out of its range, an unknown option and
+/// `--help` ask for nothing.
 #[tactic(auto, using(crate::proofs::RefuseLemmas::others_ask_for_nothing))]
 pub fn others_ask_for_nothing()
     ensures { OthersAskForNothing }

@@ -1,7 +1,7 @@
 //! The one table of the program's arguments: a row each, and a list of rows for each command.
 //!
-//! What `clap` reads words by, what a request takes of them and the laws on words all come from these rows. A new option is
-//! a row more, which stands in the lists of the commands that have it.
+//! What `clap` reads words by, what a request takes of them and the laws on words all come from these rows. A new
+//! option is a row more, which stands in the lists of the commands that have it.
 
 /// What the value of an argument has to be.
 #[derive(Clone, Copy)]

@@ -1,8 +1,8 @@
 ghost use Rattle.std.specs.Prelude.{◌≡◌, IfSome};
 ghost use Rattle.clap.specs.Words.{found_of, rows_of};
-ghost use Rattle.words.specs.Table.{code, count, first, generations, number, progress, rule, seed, worker, workers};
-ghost use Rattle.words.specs.Values.{IsInRange, is_given, number_in, text_in};
-ghost use Rattle.words.specs.Requests.{AreInTheirRanges, AreProfileNumbers, AreSurveyNumbers, gather_of, name_of, profile_in, run_of, set_in, show_of, soup_of, survey_in, take_of, work_of};
+ghost use Rattle.words.specs.Table.{count, first};
+ghost use Rattle.words.specs.Values.{IsInRange};
+ghost use Rattle.words.specs.Requests.{AreInTheirRanges, AreProfileNumbers, AreSurveyNumbers, gather_in, name_in, profile_in, run_in, set_in, show_in, soup_in, survey_in, take_in, work_in};
 
 use crate::options;
 use crate::request::{ProfileNumbers, Request, SoupSet, Survey};
@@ -56,7 +56,7 @@ pub fn survey_in<'a>(found: &ArgMatches<'a>) -> Option<Survey<'a>>
 
 /// `run` with its values.
 pub(crate) fn run_in<'a>(found: &ArgMatches<'a>) -> Option<Request<'a>>
-    ensures request { result ≡ run_of (number_in generations (rows_of (found_of found.now))) (text_in rule (rows_of (found_of found.now))) }
+    ensures request { result ≡ run_in (rows_of (found_of found.now)) }
     ensures ranges { IfSome result AreInTheirRanges }
 {
     let generations = number_in(found, &options::GENERATIONS)?;
@@ -69,7 +69,7 @@ pub(crate) fn run_in<'a>(found: &ArgMatches<'a>) -> Option<Request<'a>>
 
 /// `name` with its values.
 pub(crate) fn name_in<'a>(found: &ArgMatches<'a>) -> Option<Request<'a>>
-    ensures request { result ≡ name_of (profile_in (rows_of (found_of found.now))) (text_in rule (rows_of (found_of found.now))) }
+    ensures request { result ≡ name_in (rows_of (found_of found.now)) }
     ensures ranges { IfSome result AreInTheirRanges }
 {
     let profile = profile_in(found)?;
@@ -79,7 +79,7 @@ pub(crate) fn name_in<'a>(found: &ArgMatches<'a>) -> Option<Request<'a>>
 
 /// `show` with its value.
 pub(crate) fn show_in<'a>(found: &ArgMatches<'a>) -> Option<Request<'a>>
-    ensures { result ≡ show_of (text_in code (rows_of (found_of found.now))) }
+    ensures { result ≡ show_in (rows_of (found_of found.now)) }
 {
     let code = text_in(found, &options::CODE)?;
     Some(Request::Show { code })
@@ -87,7 +87,7 @@ pub(crate) fn show_in<'a>(found: &ArgMatches<'a>) -> Option<Request<'a>>
 
 /// `soup` with its values.
 pub(crate) fn soup_in<'a>(found: &ArgMatches<'a>) -> Option<Request<'a>>
-    ensures request { result ≡ soup_of (number_in number (rows_of (found_of found.now))) (text_in seed (rows_of (found_of found.now))) }
+    ensures request { result ≡ soup_in (rows_of (found_of found.now)) }
     ensures ranges { IfSome result AreInTheirRanges }
 {
     let number = number_in(found, &options::NUMBER)?;
@@ -97,7 +97,7 @@ pub(crate) fn soup_in<'a>(found: &ArgMatches<'a>) -> Option<Request<'a>>
 
 /// `take` with its values.
 pub(crate) fn take_in<'a>(found: &ArgMatches<'a>) -> Option<Request<'a>>
-    ensures request { result ≡ take_of (is_given progress (rows_of (found_of found.now))) (survey_in (rows_of (found_of found.now))) (number_in workers (rows_of (found_of found.now))) }
+    ensures request { result ≡ take_in (rows_of (found_of found.now)) }
     ensures ranges { IfSome result AreInTheirRanges }
 {
     let survey = survey_in(found)?;
@@ -111,7 +111,7 @@ pub(crate) fn take_in<'a>(found: &ArgMatches<'a>) -> Option<Request<'a>>
 
 /// `work` with its values.
 pub(crate) fn work_in<'a>(found: &ArgMatches<'a>) -> Option<Request<'a>>
-    ensures request { result ≡ work_of (survey_in (rows_of (found_of found.now))) (number_in worker (rows_of (found_of found.now))) }
+    ensures request { result ≡ work_in (rows_of (found_of found.now)) }
     ensures ranges { IfSome result AreInTheirRanges }
 {
     let survey = survey_in(found)?;
@@ -124,7 +124,7 @@ pub(crate) fn work_in<'a>(found: &ArgMatches<'a>) -> Option<Request<'a>>
 
 /// `gather` with its values.
 pub(crate) fn gather_in<'a>(found: &ArgMatches<'a>) -> Option<Request<'a>>
-    ensures request { result ≡ gather_of (survey_in (rows_of (found_of found.now))) (number_in workers (rows_of (found_of found.now))) }
+    ensures request { result ≡ gather_in (rows_of (found_of found.now)) }
     ensures ranges { IfSome result AreInTheirRanges }
 {
     let survey = survey_in(found)?;
