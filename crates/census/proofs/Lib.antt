@@ -1,10 +1,1 @@
-pub mod CallLemmas
-pub mod GatherCalls
-pub mod NameCalls
-pub mod NumberLemmas
-pub mod OptionLemmas
 pub mod ProgramLemmas
-pub mod TakeCalls
-pub mod UseLemmas
-pub mod WordLemmas
-pub mod WorkCalls

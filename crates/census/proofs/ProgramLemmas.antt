@@ -2,22 +2,23 @@
 use Rattle.std.proofs.Common.{◌≡◌, ◌≢◌, ◌++◌, ◌⊎◌, ℕ, List, [], Bool, true, false, Option, None, Some, Ok, Err, IsSomeAnd, inl, inr, refl, sym, ap}
 use Rattle.std.proofs.Common.{◌∙◌, zero, suc, IfSome, Result, subst, append_assoc, append-nil}
 use Rattle.std.specs.Io.KnownBytes.{Appends, Keeps, append_known}
-use Rattle.clap.specs.Words.{Text}
+use Rattle.words.specs.Requests.{Text}
 use Rattle.commands.specs.declared.complaint.Complaint.{Complaint}
 use Rattle.commands.specs.declared.complaint.Complaint.TheVariants.{Refused, OutOfMemory, ReadFailed, WriteFailed}
-use Rattle.commands.specs.declared.request.Request.{Request}
-use Rattle.commands.specs.declared.request.Request.TheVariants.{Run, Name, Show, Soup, Take, Work, Gather, Version}
+use Rattle.words.specs.declared.request.Request.{Request}
+use Rattle.words.specs.declared.request.Request.TheVariants.{Run, Name, Show, Soup, Take, Work, Gather, Version}
 use Rattle.commands.specs.declared.status.Status.{Status}
 use Rattle.commands.specs.declared.status.Status.TheVariants as statuses
 use Rattle.commands.specs.Complaints.{line_of, status_of}
 use Rattle.commands.specs.Ends.{Ends, HasLast, IsPrinted, LeavesFront, LeavesPart, Outcome, Reaches, last_line, status_after}
-use Rattle.commands.specs.Requests.{DoesRequest, is_whole, right_for, task_of}
+use Rattle.census.specs.Requests.{DoesRequest, is_whole, right_for, task_of}
 use Rattle.commands.specs.Status.{exit_code, has_printed}
 use Rattle.commands.specs.Streams.{Stream, Has, HasLine}
 use Rattle.commands.specs.Tasks.{Made, Makes, Task, text_made}
 use Rattle.census.specs.LastLines.{HasTextAndLine, Says, TellsBefore, tells_lines}
 use Rattle.census.specs.Program.{Complains, IsDone, IsEndedBy, IsFront, LeavesFrontOf, MayEnd}
-use Rattle.census.specs.Words.{DoesWords, asked_by}
+use Rattle.census.specs.Requests.{DoesWords}
+use Rattle.words.specs.Requests.{asked_by}
 
 -- an empty buffer holds nothing back
 whole_sent : (before buffered below : Option (List ℕ)) (text : List ℕ) → Appends (append_known before []) buffered text
@@ -86,9 +87,9 @@ gather_tells (Run n rule) tells = absurd tells
 gather_tells (Name profile rule) tells = absurd tells
 gather_tells (Show code) tells = absurd tells
 gather_tells (Soup seed n) tells = absurd tells
-gather_tells (Take set workers profile rule progress) tells = absurd tells
-gather_tells (Work set worker profile rule) tells = absurd tells
-gather_tells (Gather set workers profile rule) tells = refl
+gather_tells (Take survey workers progress) tells = absurd tells
+gather_tells (Work survey worker) tells = absurd tells
+gather_tells (Gather survey workers) tells = refl
 gather_tells Version tells = absurd tells
 
 -- what is right for the others is a text, and nothing else
@@ -98,9 +99,9 @@ text_alone (Run n rule) bytes made quiet is = (is.1, is.2)
 text_alone (Name profile rule) bytes made quiet is = (is.1, is.2)
 text_alone (Show code) bytes made quiet is = (is.1, is.2)
 text_alone (Soup seed n) bytes made quiet is = (is.1, is.2)
-text_alone (Take set workers profile rule progress) bytes made quiet is = (is.1, is.2)
-text_alone (Work set worker profile rule) bytes made quiet is = (is.1, is.2)
-text_alone (Gather set workers profile rule) bytes made quiet is = let bad : true ≡ false = quiet in cc
+text_alone (Take survey workers progress) bytes made quiet is = (is.1, is.2)
+text_alone (Work survey worker) bytes made quiet is = (is.1, is.2)
+text_alone (Gather survey workers) bytes made quiet is = let bad : true ≡ false = quiet in cc
 text_alone Version bytes made quiet is = (is.1, is.2)
 
 -- so where soups are missing, lines may be told

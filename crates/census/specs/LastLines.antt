@@ -3,17 +3,17 @@ use Rattle.std.specs.Prelude.{◌≡◌, ◌⊎◌, ◌++◌, ℕ, Bool, true, f
 use Rattle.std.specs.Io.KnownBytes.{Appends}
 use Rattle.commands.specs.declared.complaint.Complaint.{Complaint}
 use Rattle.commands.specs.declared.complaint.Complaint.TheVariants.{Refused, OutOfMemory, ReadFailed, WriteFailed}
-use Rattle.commands.specs.declared.request.Request.{Request}
-use Rattle.commands.specs.declared.request.Request.TheVariants.{Gather}
+use Rattle.words.specs.declared.request.Request.{Request}
+use Rattle.words.specs.declared.request.Request.TheVariants.{Gather}
 use Rattle.commands.specs.Complaints.{line_of}
 use Rattle.commands.specs.Ends.{last_line}
-use Rattle.commands.specs.Requests.{task_of}
+use Rattle.census.specs.Requests.{task_of}
 use Rattle.commands.specs.Streams.{Stream, Has, HasLine}
 use Rattle.commands.specs.Tasks.{Made, Makes, Task}
 
 -- the request is for a haul of report lines, of which those that are refused are told
 abbrev pub tells_lines : Request → Bool
-tells_lines (Gather set workers profile rule) = true
+tells_lines (Gather survey workers) = true
 tells_lines request = false
 
 -- a text was added, and then a line, or a front of the line where a write failed

@@ -4,17 +4,17 @@ use Rattle.std.specs.Io.KnownBytes.{Appends}
 use Rattle.plane_core.specs.Out.{Output}
 use Rattle.commands.specs.declared.complaint.Complaint.{Complaint}
 use Rattle.commands.specs.declared.complaint.Complaint.TheVariants.{Refused, OutOfMemory, ReadFailed, WriteFailed}
-use Rattle.commands.specs.declared.request.Request.{Request}
+use Rattle.words.specs.declared.request.Request.{Request}
 use Rattle.commands.specs.Answers.{IsInput}
 use Rattle.commands.specs.Complaints.{line_of, status_of}
 use Rattle.commands.specs.Ends.{last_line}
-use Rattle.commands.specs.Requests.{is_whole, reads_input, refuses_input, right_for}
+use Rattle.census.specs.Requests.{is_whole, reads_input, refuses_input, right_for}
 use Rattle.commands.specs.Status.{exit_code}
 use Rattle.commands.specs.Streams.{Stream, HasLine}
 use Rattle.commands.specs.Tasks.{Made, Makes, NeedsMemoryAlone, text_made}
-use Rattle.clap.specs.Words.{Text}
+use Rattle.words.specs.Requests.{Text}
 use Rattle.census.specs.LastLines.{HasTextAndLine, Says, tells_lines}
-use Rattle.census.specs.Words.{asked_by}
+use Rattle.words.specs.Requests.{asked_by}
 
 -- the stream of a writer that was handed over, and is given back with whether a write failed
 abbrev pub returned : {V : Type 0} → (V → Option (List ℕ)) → V → Output V → Stream

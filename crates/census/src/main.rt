@@ -1,14 +1,11 @@
 //! A census of random soups of Conway's Game of Life and its kin: the program.
 //!
 //! `main` calls [`run_program`](program::run_program) with the process's words and streams. That reads the words into a
-//! request by [`request_of`](words::request_of), and does it by
-//! [`do_request`](commands::request::do_request).
+//! request by [`request_of`](words::calls::request_of), and hands its values to the function of the command.
 #![tactic(auto)]
 
-/// The commands and their arguments, as `clap` reads words by them.
-mod application;
 mod program;
-mod words;
+mod request;
 
 use commands::progress::Progress;
 use program::run_program;

@@ -2,14 +2,14 @@ ghost use Rattle.std.specs.Prelude.{◌≡◌, ◌≢◌, ℕ, suc, [], IsErr, N
 ghost use Rattle.std.specs.Io.Buffered.{writer_buffer, writer_contents, writer_inner};
 ghost use Rattle.std.specs.IoError.{error_kind};
 ghost use Rattle.commands.specs.Complaints.{line_of};
-ghost use Rattle.commands.specs.Requests.{is_whole, reads_input, refuses_input};
 ghost use Rattle.commands.specs.Status.{exit_code};
 ghost use Rattle.commands.specs.Streams.{Has, HasLine, stream};
 ghost use Rattle.census.specs.LastLines.{tells_lines};
 ghost use Rattle.census.specs.Program.{Complains, IsDone, left_by, not_text_line, returned};
-ghost use Rattle.census.specs.Words.{asked_by};
+ghost use Rattle.census.specs.Requests.{is_whole, reads_input, refuses_input};
+ghost use Rattle.words.specs.Requests.{asked_by};
 
-use crate::words::do_words;
+use crate::request::do_words;
 use commands::complaint::Complaint;
 use commands::output::send_buffered;
 use commands::progress::Progress;

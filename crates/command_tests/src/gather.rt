@@ -1,7 +1,7 @@
+use crate::call::Call;
 use crate::requests::{FailingReader, FailingWriter, LIFE, Left, Unflushed, assert_prints};
 use commands::gather::do_gather;
 use commands::profile::ProfileNumbers;
-use commands::request::Request;
 use commands::soup_set::SoupSet;
 use commands::status::Status;
 use commands::word::Word;
@@ -269,7 +269,7 @@ fn tells_a_failed_flush_alone(rt: HostRuntime) -> Result<(), Fail> {
 
 #[test]
 fn gathers_by_request(rt: HostRuntime) {
-    let request = Request::Gather {
+    let request = Call::Gather {
         set: set_of("", 0, 2),
         workers: 2,
         profile: SMALL,

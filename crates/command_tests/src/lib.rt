@@ -1,6 +1,8 @@
 //! Tests of the public calls of `commands`. They stand in a crate of their own, so that `commands` is proved once.
 #![tactic(auto)]
 
+/// A call of a command with its values, as the tests make it.
+pub mod call;
 #[cfg(test)]
 mod gather;
 #[cfg(test)]

@@ -1,7 +1,7 @@
+use crate::call::Call;
 use crate::requests::{BLINKER, FailingWriter, LIFE, assert_complains, assert_prints, left_by};
 use commands::name::do_name;
 use commands::profile::ProfileNumbers;
-use commands::request::Request;
 use commands::status::Status;
 use commands::word::Word;
 use plane_core::output::Out;
@@ -48,7 +48,7 @@ fn assert_is_named<R: Threads + Wait + Sync + Abort + AllocGlobal>(
 ) -> Result<(), Fail> {
     let shown = left_by(
         rt,
-        &Request::Show {
+        &Call::Show {
             code: Word::new(code),
         },
         b"",
@@ -57,7 +57,7 @@ fn assert_is_named<R: Threads + Wait + Sync + Abort + AllocGlobal>(
     finding.extend_from_slice(b"settled 0\n")?;
     finding.extend_from_slice(code.as_bytes())?;
     finding.extend_from_slice(b" 1\n")?;
-    let request = Request::Name {
+    let request = Call::Name {
         profile: STANDARD,
         rule: Word::new(LIFE),
     };
@@ -79,13 +79,13 @@ fn refuses_profiles_and_then_rules(rt: HostRuntime) {
         horizon: 63,
         ..STANDARD
     };
-    let request = Request::Name {
+    let request = Call::Name {
         profile,
         rule: Word::new("b9s"),
     };
     let line = b"census: horizon below period\n";
     assert_complains(&rt, &request, b"x", Status::Refused, line);
-    let request = Request::Name {
+    let request = Call::Name {
         profile: STANDARD,
         rule: Word::new("b9s"),
     };

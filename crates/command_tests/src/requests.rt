@@ -1,9 +1,9 @@
 ghost use Rattle.std.specs.Prelude.{◌≡◌};
-ghost use Rattle.commands.specs.Requests.{IsWithinLimits};
+ghost use Rattle.command_tests.specs.Calls.{IsWithinLimits};
 
+use crate::call::{Call, make};
 use crate::progress::line_on;
 use commands::output::send_buffered;
-use commands::request::{Request, do_request};
 use commands::run::do_run;
 use commands::status::Status;
 use commands::word::Word;
@@ -28,22 +28,22 @@ pub(crate) struct Left {
     pub(crate) errors: Vec<u8>,
 }
 
-/// Does the request, with this input. The numbers of a test are within their limits.
+/// Makes the call, with this input. The numbers of a test are within their limits.
 pub(crate) fn left_by<R: Threads + Wait + Sync + AllocGlobal>(
     rt: &R,
-    request: &Request<'_>,
+    call: &Call<'_>,
     input: &[u8],
 ) -> Left
-    requires { IsWithinLimits request.now }
+    requires { IsWithinLimits call.now }
 {
     let mut input = input;
     let mut output = Out::new(Vec::new(rt.alloc()));
     let mut errors = Out::new(Vec::new(rt.alloc()));
     let mut line = line_on(rt, Vec::new(rt.alloc()), false);
-    let status = do_request(
+    let status = make(
         rt.alloc(),
         rt,
-        request,
+        call,
         &mut input,
         &mut output,
         &mut errors,
@@ -56,42 +56,42 @@ pub(crate) fn left_by<R: Threads + Wait + Sync + AllocGlobal>(
     }
 }
 
-/// The request for so many generations of a rule.
-fn run(generations: u32, rule: &str) -> Request<'_>
-    ensures { result ≡ Request.Run generations rule.now }
+/// The call for so many generations of a rule.
+fn run(generations: u32, rule: &str) -> Call<'_>
+    ensures { result ≡ Call.Run generations rule.now }
 {
-    Request::Run {
+    Call::Run {
         generations,
         rule: Word::new(rule),
     }
 }
 
-/// Asserts that the request, with this input, ends as done with this output and no line.
+/// Asserts that the call, with this input, ends as done with this output and no line.
 pub(crate) fn assert_prints<R: Threads + Wait + Sync + Abort + AllocGlobal>(
     rt: &R,
-    request: &Request<'_>,
+    call: &Call<'_>,
     input: &[u8],
     output: &[u8],
 )
-    requires { IsWithinLimits request.now }
+    requires { IsWithinLimits call.now }
 {
-    let left = left_by(rt, request, input);
+    let left = left_by(rt, call, input);
     assert_eq!(rt; left.status, Status::Done);
     assert_eq!(rt; left.output.as_slice(), output);
     assert!(rt; left.errors.is_empty());
 }
 
-/// Asserts that the request, with this input, ends with this status and this line, and prints nothing.
+/// Asserts that the call, with this input, ends with this status and this line, and prints nothing.
 pub(crate) fn assert_complains<R: Threads + Wait + Sync + Abort + AllocGlobal>(
     rt: &R,
-    request: &Request<'_>,
+    call: &Call<'_>,
     input: &[u8],
     status: Status,
     line: &[u8],
 )
-    requires { IsWithinLimits request.now }
+    requires { IsWithinLimits call.now }
 {
-    let left = left_by(rt, request, input);
+    let left = left_by(rt, call, input);
     assert_eq!(rt; left.status, status);
     assert_eq!(rt; left.errors.as_slice(), line);
     assert!(rt; left.output.is_empty());
@@ -120,7 +120,7 @@ fn runs_patterns(rt: HostRuntime) {
 
 #[test]
 fn prints_the_version(rt: HostRuntime) {
-    assert_prints(&rt, &Request::Version, BLINKER, b"census 0.1.0\n");
+    assert_prints(&rt, &Call::Version, BLINKER, b"census 0.1.0\n");
 }
 
 #[test]

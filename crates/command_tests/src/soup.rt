@@ -1,5 +1,5 @@
+use crate::call::Call;
 use crate::requests::{assert_complains, assert_prints};
-use commands::request::Request;
 use commands::status::Status;
 use commands::word::Word;
 use std::test::Fail;
@@ -24,7 +24,7 @@ const FIRST: &[u8] = b".O.OOOOOOOO.OO..\n\
 
 #[test]
 fn prints_soups(rt: HostRuntime) {
-    let first = Request::Soup {
+    let first = Call::Soup {
         seed: Word::new(""),
         number: 0,
     };
@@ -34,13 +34,13 @@ fn prints_soups(rt: HostRuntime) {
 #[test]
 fn refuses_seeds(rt: HostRuntime) -> Result<(), Fail> {
     let line = b"census: bad byte in seed at 1\n";
-    let spaced = Request::Soup {
+    let spaced = Call::Soup {
         seed: Word::new("a b"),
         number: 0,
     };
     assert_complains(&rt, &spaced, b"", Status::Refused, line);
     let text = "a".repeat(rt.alloc(), 65)?;
-    let long = Request::Soup {
+    let long = Call::Soup {
         seed: Word::new(text.as_str()),
         number: 0,
     };

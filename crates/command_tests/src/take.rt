@@ -1,9 +1,9 @@
-ghost use Rattle.commands.specs.Requests.{IsWithinLimits};
+ghost use Rattle.command_tests.specs.Calls.{IsWithinLimits};
 
+use crate::call::Call;
 use crate::progress::line_on;
 use crate::requests::{FailingWriter, LIFE, assert_complains, assert_prints};
 use commands::profile::ProfileNumbers;
-use commands::request::Request;
 use commands::soup_set::SoupSet;
 use commands::status::Status;
 use commands::take::{do_take, do_take_with};
@@ -104,10 +104,10 @@ fn set_of(first: u64, count: u64, also: &str) -> SoupSet<'_> {
 }
 
 /// The request for the haul of a set under a small profile.
-fn take(set: SoupSet<'_>) -> Request<'_>
+fn take(set: SoupSet<'_>) -> Call<'_>
     ensures { IsWithinLimits result }
 {
-    Request::Take {
+    Call::Take {
         set,
         workers: 1,
         profile: SMALL,
@@ -125,7 +125,7 @@ fn takes_soups(rt: HostRuntime) {
 
 #[test]
 fn takes_no_soup(rt: HostRuntime) {
-    let request = Request::Take {
+    let request = Call::Take {
         set: set_of(1 << 40, 0, ""),
         workers: 16,
         profile: STANDARD,

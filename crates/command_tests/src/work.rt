@@ -1,9 +1,9 @@
-ghost use Rattle.commands.specs.Requests.{IsWithinLimits};
+ghost use Rattle.command_tests.specs.Calls.{IsWithinLimits};
 ghost use Rattle.haul_core.specs.Reports.{IsWorker};
 
+use crate::call::Call;
 use crate::requests::{FailingWriter, LIFE, assert_complains, assert_prints};
 use commands::profile::ProfileNumbers;
-use commands::request::Request;
 use commands::soup_set::SoupSet;
 use commands::status::Status;
 use commands::word::Word;
@@ -38,10 +38,10 @@ fn set_of(first: u64, count: u64, also: &str) -> SoupSet<'_> {
 }
 
 /// The request for the lines of worker 2 for a set, under a small profile.
-fn work(set: SoupSet<'_>) -> Request<'_>
+fn work(set: SoupSet<'_>) -> Call<'_>
     ensures { IsWithinLimits result }
 {
-    Request::Work {
+    Call::Work {
         set,
         worker: 2,
         profile: SMALL,

@@ -9,7 +9,6 @@ pub mod Inputs
 pub mod Lines
 pub mod Name
 pub mod Profiles
-pub mod Requests
 pub mod Run
 pub mod Show
 pub mod Soup

@@ -1,7 +1,7 @@
 //! What each command of the census program does, over values, readers and writers.
 //!
-//! [`do_request`](request::do_request) does what a [`Request`](request::Request) asks for, by the function of that
-//! command, as [`do_run`](run::do_run). The program reads words into a request, and lends the process's streams.
+//! Each command is a function of plain values, as [`do_run`](run::do_run). The program reads them from its words, and lends the
+//! process's streams.
 #![tactic(auto)]
 
 /// Why a command did not do all that was asked, and the line on standard error that says so.
@@ -28,8 +28,6 @@ pub mod profile;
 pub mod progress;
 /// Why a text was refused, and its line.
 pub mod refusal;
-/// Commands with their values.
-pub mod request;
 /// `run`: a pattern some generations later.
 pub mod run;
 /// `show`: the object that a code names.

@@ -1,3 +1,12 @@
+mod BuiltLemmas
+mod KnownLemmas
+pub mod LawLemmas
 mod NumberLemmas
 mod ParseLemmas
+pub mod RefuseLemmas
+mod RowLemmas
+mod StuckLemmas
 mod TableLemmas
+mod UseLemmas
+mod ValueLemmas
+mod WalkLemmas

@@ -1,14 +1,41 @@
 -- The request that a command's values make.
 use Rattle.std.specs.Prelude.{ℕ, Bool, false, List, [], ◌∷◌, Option, None, Some, codes, option_and_then, if◌then◌else◌}
 use Rattle.std.specs.Str.{bytes_eq}
-use Rattle.clap.specs.Words.{Kinds, Row, Text, fault_of, subcommand_of}
+use Rattle.clap.specs.Words.{Kinds, Row, fault_of, subcommand_of}
+pub use Rattle.clap.specs.Words.{Text}
 use Rattle.words.specs.declared.request.ProfileNumbers.{ProfileNumbers}
 use Rattle.words.specs.declared.request.Request.{Request}
 use Rattle.words.specs.declared.request.Request.TheVariants.{Run, Name, Show, Soup, Take, Work, Gather, Version}
 use Rattle.words.specs.declared.request.SoupSet.{SoupSet}
 use Rattle.words.specs.declared.request.Survey.{Survey}
 use Rattle.words.specs.Table.{also, census_app, code, generations, number, progress, rule, worker, workers, count, first, horizon, limit, period, seed, stride}
-use Rattle.words.specs.Values.{is_given, number_in, text_in}
+use Rattle.words.specs.Values.{IsInRange, is_given, number_in, text_in}
+
+-- ---- numbers in their ranges
+
+pub record AreProfileNumbers (numbers : ProfileNumbers) : Type 0 where
+  pub of_period : IsInRange period.kind numbers.period
+  pub of_horizon : IsInRange horizon.kind numbers.horizon
+  pub of_stride : IsInRange stride.kind numbers.stride
+  pub of_limit : IsInRange limit.kind numbers.limit
+
+pub record AreSurveyNumbers (survey : Survey) : Type 0 where
+  pub of_profile : AreProfileNumbers survey.profile
+  pub of_first : IsInRange first.kind survey.set.first
+  pub of_count : IsInRange count.kind survey.set.count
+
+-- each number of a request is in the range of its argument
+abbrev pub AreInTheirRanges : Request → Type 0
+AreInTheirRanges (Run n _) = IsInRange generations.kind n
+AreInTheirRanges (Name profile _) = AreProfileNumbers profile
+AreInTheirRanges (Show _) = Unit {0}
+AreInTheirRanges (Soup _ n) = IsInRange number.kind n
+AreInTheirRanges (Take survey n _) = AreSurveyNumbers survey × IsInRange workers.kind n
+AreInTheirRanges (Work survey n) = AreSurveyNumbers survey × IsInRange worker.kind n
+AreInTheirRanges (Gather survey n) = AreSurveyNumbers survey × IsInRange workers.kind n
+AreInTheirRanges Version = Unit {0}
+
+-- ---- values put together
 
 -- the numbers of a profile, if all four are there
 abbrev pub all_four : Option ℕ → Option ℕ → Option ℕ → Option ℕ → Option ProfileNumbers
@@ -63,16 +90,38 @@ abbrev pub gather_of : Option Survey → Option ℕ → Option Request
 gather_of (Some survey) (Some workers) = Some (Gather survey workers)
 gather_of _ _ = None
 
+-- each command, with what was found for its arguments
+abbrev pub run_in : List Row → Option Request
+run_in rows = run_of (number_in generations rows) (text_in rule rows)
+
+abbrev pub name_in : List Row → Option Request
+name_in rows = name_of (profile_in rows) (text_in rule rows)
+
+abbrev pub show_in : List Row → Option Request
+show_in rows = show_of (text_in code rows)
+
+abbrev pub soup_in : List Row → Option Request
+soup_in rows = soup_of (number_in number rows) (text_in seed rows)
+
+abbrev pub take_in : List Row → Option Request
+take_in rows = take_of (is_given progress rows) (survey_in rows) (number_in workers rows)
+
+abbrev pub work_in : List Row → Option Request
+work_in rows = work_of (survey_in rows) (number_in worker rows)
+
+abbrev pub gather_in : List Row → Option Request
+gather_in rows = gather_of (survey_in rows) (number_in workers rows)
+
 -- the command of this name, with its values
 abbrev pub request_in : Text × List Row → Option Request
 request_in found =
-    if bytes_eq found.0 (codes "run") then run_of (number_in generations found.1) (text_in rule found.1)
-    else if bytes_eq found.0 (codes "name") then name_of (profile_in found.1) (text_in rule found.1)
-    else if bytes_eq found.0 (codes "show") then show_of (text_in code found.1)
-    else if bytes_eq found.0 (codes "soup") then soup_of (number_in number found.1) (text_in seed found.1)
-    else if bytes_eq found.0 (codes "take") then take_of (is_given progress found.1) (survey_in found.1) (number_in workers found.1)
-    else if bytes_eq found.0 (codes "work") then work_of (survey_in found.1) (number_in worker found.1)
-    else if bytes_eq found.0 (codes "gather") then gather_of (survey_in found.1) (number_in workers found.1)
+    if bytes_eq found.0 (codes "run") then run_in found.1
+    else if bytes_eq found.0 (codes "name") then name_in found.1
+    else if bytes_eq found.0 (codes "show") then show_in found.1
+    else if bytes_eq found.0 (codes "soup") then soup_in found.1
+    else if bytes_eq found.0 (codes "take") then take_in found.1
+    else if bytes_eq found.0 (codes "work") then work_in found.1
+    else if bytes_eq found.0 (codes "gather") then gather_in found.1
     else None
 
 -- a request, if nothing is wrong with the words

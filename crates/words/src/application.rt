@@ -19,8 +19,8 @@ pub fn census_command<'a>(alloc: Global) -> Result<Command<'a>, AllocError>
 {
     let command = Command::new(alloc, "census")
         .about(
-            "Runs patterns of Conway's Game of Life and its kin, names and draws their objects, makes soups, and counts what \
-             they leave",
+            "Runs patterns of Conway's Game of Life and its kin, names and draws their\n\
+             objects, makes soups, and counts what they leave",
         )
         .after_help("`census --version` prints the name and version.")
         .subcommand_required(true);
@@ -33,7 +33,8 @@ fn with_commands<'a>(
     program: Command<'a>,
     rows: &[CommandRow],
 ) -> Result<Command<'a>, AllocError>
-    ensures { IfOk result (λ new. app_of new ≡ with_commands (app_of program.entry) (map shape_in (map command_of rows.now))) }
+    ensures { IfOk result (λ new.
+        app_of new ≡ with_commands (app_of program.entry) (map shape_in (map command_of rows.now))) }
 {
     let mut program = program;
     for row in rows {
@@ -60,8 +61,10 @@ fn with_arguments<'a>(
     command: Command<'a>,
     rows: &[Argument],
 ) -> Result<Command<'a>, AllocError>
-    ensures app { IfOk result (λ new. app_of new ≡ with_rules (app_of command.entry) (map rule_in (map entry_of rows.now))) }
-    ensures local { (fields_of command.entry).has_globals ≡ false → IfOk result (λ new. (fields_of new).has_globals ≡ false) }
+    ensures app { IfOk result (λ new.
+        app_of new ≡ with_rules (app_of command.entry) (map rule_in (map entry_of rows.now))) }
+    ensures local { (fields_of command.entry).has_globals ≡ false →
+        IfOk result (λ new. (fields_of new).has_globals ≡ false) }
 {
     let mut command = command;
     for row in rows {

@@ -1,6 +1,7 @@
-ghost use Rattle.std.specs.Prelude.{◌≡◌, ◌≢◌, None, Some, IfOk, IfErr, map, option_and_then};
+ghost use Rattle.std.specs.Prelude.{◌≡◌, ◌≢◌, None, Some, IfOk, IfErr, IfSome, map, option_and_then};
 ghost use Rattle.clap.specs.Words.{kind_of, subcommand_rows_of};
-ghost use Rattle.words.specs.Requests.{asked_by, asks_version, request_in};
+ghost use Rattle.words.specs.Calls.{AskForTheirValues, AsksForVersion, NoCommandAsksForNothing, OthersAskForNothing};
+ghost use Rattle.words.specs.Requests.{AreInTheirRanges, asked_by, asks_version, request_in};
 
 use crate::application::census_command;
 use crate::reading::{gather_in, name_in, run_in, show_in, soup_in, take_in, work_in};
@@ -37,6 +38,7 @@ impl From<AllocError> for Unasked {
 /// - [`Unasked::OutOfMemory`].
 pub fn request_of<'a, S: AsStr>(alloc: Global, words: &'a [S]) -> Result<Request<'a>, Unasked>
     ensures asked { IfOk result (λ request. asked_by (map S.text words.entry.now) ≡ Some request) }
+    ensures ranges { IfOk result AreInTheirRanges }
     ensures usage { IfErr result (λ unasked.
         unasked ≢ Unasked.OutOfMemory → asked_by (map S.text words.entry.now) ≡ None) }
 {
@@ -53,6 +55,31 @@ pub fn request_of<'a, S: AsStr>(alloc: Global, words: &'a [S]) -> Result<Request
     }
 }
 
+/// A law of all words: a command asks for the values that are given, in any order, and for the defaults of the others.
+#[tactic(auto, using(crate::proofs::LawLemmas::ask_for_their_values))]
+pub fn commands_ask_for_their_values()
+    ensures { AskForTheirValues }
+{}
+
+/// A law of all words: an argument that is missing, one a second time, a value out of its range, an unknown option and
+/// `--help` ask for nothing.
+#[tactic(auto, using(crate::proofs::RefuseLemmas::others_ask_for_nothing))]
+pub fn others_ask_for_nothing()
+    ensures { OthersAskForNothing }
+{}
+
+/// A law of all words: what `--version` asks for.
+#[tactic(auto, using(crate::proofs::LawLemmas::asks_for_version))]
+pub fn asks_for_version()
+    ensures { AsksForVersion }
+{}
+
+/// A law of all words: no command, an unknown one and `--help` ask for nothing.
+#[tactic(auto, using(crate::proofs::LawLemmas::no_command_asks_for_nothing))]
+pub fn no_command_asks_for_nothing()
+    ensures { NoCommandAsksForNothing }
+{}
+
 /// Whether the words are the program's name and `--version` alone.
 fn asks_version<S: AsStr>(words: &[S]) -> bool
     ensures { result ≡ asks_version (map S.text words.now) }
@@ -66,6 +93,7 @@ fn asks_version<S: AsStr>(words: &[S]) -> bool
 /// The command that `clap` found, with its values.
 fn request_in<'a>(matches: &ArgMatches<'a>) -> Option<Request<'a>>
     ensures request { result ≡ option_and_then request_in (subcommand_rows_of matches.now) }
+    ensures ranges { IfSome result AreInTheirRanges }
 {
     match matches.subcommand() {
         Some(("run", found)) => run_in(found),

@@ -24,10 +24,12 @@ pub struct CommandRow {
 pub const RUN: CommandRow = CommandRow {
     name: "run",
     about: "Reads a pattern, runs it for N generations and prints it",
-    long_about: "Reads a pattern from standard input, runs it for N generations and prints it on standard output.\n\n\
-         Both are plaintext (`.cells`): a line for each row, with `.` for a dead cell and `O` or `*` for a live \
-         one. Lines that begin with `!` are comments. Other formats, as RLE, are not read. What is printed is cut \
-         to its box: empty rows and columns at the edges are left out.",
+    long_about: "Reads a pattern from standard input, runs it for N generations and prints it on\n\
+         standard output.\n\n\
+         Both are plaintext (`.cells`): a line for each row, with `.` for a dead cell\n\
+         and `O` or `*` for a live one. Lines that begin with `!` are comments. Other\n\
+         formats, as RLE, are not read. What is printed is cut to its box: empty rows\n\
+         and columns at the edges are left out.",
     after_help: "Example: census run 4 < glider.cells",
     arguments: &[GENERATIONS, RULE],
 };
@@ -36,12 +38,13 @@ pub const RUN: CommandRow = CommandRow {
 pub const NAME: CommandRow = CommandRow {
     name: "name",
     about: "Reads a pattern, runs it until it has settled, and names its objects",
-    long_about: "Reads a pattern from standard input, in plaintext, and runs it until it has settled. Prints `settled` and the \
-         generation of the first look at which it has, and then a line for each apgcode with how many objects have \
-         it. Prints `unsettled` if it hasn't by the last look.\n\n\
-         The looks are at the generations 0, STRIDE, twice STRIDE and so on, up to LIMIT. A pattern has settled if each \
-         of its objects comes back within PERIOD generations, and if none comes into another's way for HORIZON \
-         generations.",
+    long_about: "Reads a pattern from standard input, in plaintext, and runs it until it has\n\
+         settled. Prints `settled` and the generation of the first look at which it has,\n\
+         and then a line for each apgcode with how many objects have it. Prints\n\
+         `unsettled` if it hasn't by the last look.\n\n\
+         The looks are at the generations 0, STRIDE, twice STRIDE and so on, up to\n\
+         LIMIT. A pattern has settled if each of its objects comes back within PERIOD\n\
+         generations, and if none comes into another's way for HORIZON generations.",
     after_help: "Example: census name < acorn.cells",
     arguments: &[PERIOD, HORIZON, STRIDE, LIMIT, RULE],
 };
@@ -50,8 +53,8 @@ pub const NAME: CommandRow = CommandRow {
 pub const SHOW: CommandRow = CommandRow {
     name: "show",
     about: "Prints the object that a code names",
-    long_about: "Prints the object that a code names on standard output, in plaintext: a line for each row, with `.` for a \
-         dead cell and `O` for a live one.",
+    long_about: "Prints the object that a code names on standard output, in plaintext: a line\n\
+         for each row, with `.` for a dead cell and `O` for a live one.",
     after_help: "Example: census show xs7_178c",
     arguments: &[CODE],
 };
@@ -60,9 +63,11 @@ pub const SHOW: CommandRow = CommandRow {
 pub const SOUP: CommandRow = CommandRow {
     name: "soup",
     about: "Prints a soup: a random start pattern",
-    long_about: "Prints a soup, a random start pattern of 16 by 16 cells, on standard output, in plaintext.\n\n\
-         Its cells are the 256 bits of the SHA-256 digest of the seed and then the number in decimal, so anybody can \
-         check it. What is printed is cut to its box: empty rows and columns at the edges are left out.",
+    long_about: "Prints a soup, a random start pattern of 16 by 16 cells, on standard output, in\n\
+         plaintext.\n\n\
+         Its cells are the 256 bits of the SHA-256 digest of SEED and then N in decimal,\n\
+         so anybody can check it. What is printed is cut to its box: empty rows and\n\
+         columns at the edges are left out.",
     after_help: "Example: census soup --seed abc 12",
     arguments: &[NUMBER, SEED],
 };
@@ -71,11 +76,14 @@ pub const SOUP: CommandRow = CommandRow {
 pub const TAKE: CommandRow = CommandRow {
     name: "take",
     about: "Runs soups until they have settled, and counts their objects",
-    long_about: "Runs soups until they have settled, and counts their objects. Prints the haul: for each apgcode how many objects \
-         have it, and the least three numbers of soups that left one.\n\n\
-         The soups are those of SEED with the numbers from FIRST on, COUNT of them, and those of the ranges in LIST. No \
-         two ranges may share a number. When a soup has settled is said as for `name`.\n\n\
-         Nothing is kept of a census that is stopped; `work` keeps each soup that it has printed.",
+    long_about: "Runs soups until they have settled, and counts their objects. Prints the haul:\n\
+         for each apgcode how many objects have it, and the least three numbers of soups\n\
+         that left one.\n\n\
+         The soups are those of SEED with the numbers from NUMBER on, COUNT of them, and\n\
+         those of the ranges in LIST. No two ranges may share a number. When a soup has\n\
+         settled is said as for `name`.\n\n\
+         Nothing is kept of a census that is stopped; `work` keeps each soup that it has\n\
+         printed.",
     after_help: "Example: census take --seed abc --count 100",
     arguments: &[
         SEED, FIRST, COUNT, ALSO, PERIOD, HORIZON, STRIDE, LIMIT, RULE, WORKERS, PROGRESS,
@@ -86,8 +94,9 @@ pub const TAKE: CommandRow = CommandRow {
 pub const WORK: CommandRow = CommandRow {
     name: "work",
     about: "Runs soups until they have settled, and prints a report line for each",
-    long_about: "Runs soups until they have settled, and prints what worker WORKER reports of each: a line for each soup, ascending \
-         by the soups' numbers. Each line is written as soon as it is made.\n\n\
+    long_about: "Runs soups until they have settled, and prints what worker WORKER reports of\n\
+         each: a line for each soup, ascending by the soups' numbers. Each line is\n\
+         written as soon as it is made.\n\n\
          The soups are said as for `take`, and when a soup has settled as for `name`.",
     after_help: "Example: census work --worker 1 --seed abc --count 100 > one.lines",
     arguments: &[
@@ -99,12 +108,13 @@ pub const WORK: CommandRow = CommandRow {
 pub const GATHER: CommandRow = CommandRow {
     name: "gather",
     about: "Reads report lines, checks each, and counts the objects of their soups",
-    long_about: "Reads report lines from standard input, as `census work` prints them, checks each by running its soup, and prints \
-         the haul, as `census take` does, over the soups that were reported.\n\n\
-         A line that is refused is told on standard error by its number, and the next one is read. If soups are missing, a \
-         last line says how many, and the status is 6. The soups are said as for `take`, and when a soup has settled as for \
-         `name`.",
-    after_help: "Example: cat one.lines two.lines | census gather --workers 2 --seed abc --count 200",
+    long_about: "Reads report lines from standard input, as `census work` prints them, checks\n\
+         each by running its soup, and prints the haul, as `census take` does, over the\n\
+         soups that were reported.\n\n\
+         A line that is refused is told on standard error by its number, and the next\n\
+         one is read. If soups are missing, a last line says how many, and the status is\n\
+         6. The soups are said as for `take`, and when a soup has settled as for `name`.",
+    after_help: "Example:\n  cat one.lines two.lines | census gather --workers 2 --seed abc --count 200",
     arguments: &[
         SEED, FIRST, COUNT, ALSO, PERIOD, HORIZON, STRIDE, LIMIT, RULE, REPORTERS,
     ],

@@ -1,7 +1,7 @@
 //! The one table of the program's arguments: a row each, and a list of rows for each command.
 //!
-//! What `clap` reads words by, what a request takes of them and the laws on words all come from these rows. A new option is
-//! a row more, which stands in the lists of the commands that have it.
+//! What `clap` reads words by, what a request takes of them and the laws on words all come from these rows. A new
+//! option is a row more, which stands in the lists of the commands that have it.
 
 /// What the value of an argument has to be.
 #[derive(Clone, Copy)]
@@ -55,7 +55,8 @@ pub const CODE: Argument = Argument {
     place: Place::Position,
     kind: Kind::Text,
     default: None,
-    help: "An apgcode, as xs7_178c or xp2_7, or the text after its `_`; the number isn't checked",
+    help: "An apgcode, as xs7_178c or xp2_7, or the text after its `_`. The\n\
+         number in it isn't checked",
 };
 
 /// The number of a soup.
@@ -70,17 +71,18 @@ pub const NUMBER: Argument = Argument {
 /// The rule. Life is meant if none is given.
 pub const RULE: Argument = Argument {
     name: "rule",
-    place: Place::Named("TEXT"),
+    place: Place::Named("RULE"),
     kind: Kind::Text,
     default: Some("b3s23"),
-    help: "The rule: `b`, the numbers of live neighbours that give birth, `s`, the numbers on which a live cell \
-         survives. Life is b3s23, which others write B3/S23",
+    help: "The rule: `b`, the numbers of live neighbours that give birth, `s`,\n\
+         the numbers on which a live cell survives. Life is b3s23, which\n\
+         others write B3/S23",
 };
 
 /// The seed.
 pub const SEED: Argument = Argument {
     name: "seed",
-    place: Place::Named("TEXT"),
+    place: Place::Named("SEED"),
     kind: Kind::Text,
     default: Some(""),
     help: "The seed: at most 64 visible ASCII characters",
@@ -89,10 +91,10 @@ pub const SEED: Argument = Argument {
 /// The first number of the range of soups.
 pub const FIRST: Argument = Argument {
     name: "first",
-    place: Place::Named("FIRST"),
+    place: Place::Named("NUMBER"),
     kind: Kind::LargeNumber(1_099_511_627_776),
     default: Some("0"),
-    help: "The first number of a soup, from 0 to 1099511627776",
+    help: "The number of the first soup, from 0 to 1099511627776",
 };
 
 /// How many numbers the range of soups has.
@@ -110,7 +112,8 @@ pub const ALSO: Argument = Argument {
     place: Place::Named("LIST"),
     kind: Kind::Text,
     default: Some(""),
-    help: "Further ranges of numbers, as 100+20,500+1: the numbers 100 to 119, and 500",
+    help: "A list of further ranges of numbers, as 100+20,500+1: the numbers\n\
+         100 to 119, and 500",
 };
 
 /// The longest period that counts.
@@ -128,7 +131,8 @@ pub const HORIZON: Argument = Argument {
     place: Place::Named("HORIZON"),
     kind: Kind::Number(0, 4096),
     default: Some("512"),
-    help: "For how many generations objects may not come into each other's way: PERIOD to 4096",
+    help: "For how many generations objects may not come into each other's way,\n\
+         from PERIOD to 4096",
 };
 
 /// How far one look is from the next.
@@ -137,7 +141,7 @@ pub const STRIDE: Argument = Argument {
     place: Place::Named("STRIDE"),
     kind: Kind::Number(1, 10_000),
     default: Some("101"),
-    help: "How many generations there are from one look to the next, from 1 to 10000",
+    help: "How many generations lie between two looks, from 1 to 10000",
 };
 
 /// The last generation at which there may be a look.
@@ -146,8 +150,9 @@ pub const LIMIT: Argument = Argument {
     place: Place::Named("LIMIT"),
     kind: Kind::Number(0, 100_000),
     default: Some("30300"),
-    help: "The last generation at which there may be a look, from 0 to 100000. A pattern that explodes under its rule takes \
-         ever more memory and time up to there",
+    help: "The last generation at which there may be a look, from 0 to 100000.\n\
+         A pattern that explodes under its rule takes ever more memory and\n\
+         time up to there",
 };
 
 /// How many workers run soups.
@@ -156,8 +161,9 @@ pub const WORKERS: Argument = Argument {
     place: Place::Named("WORKERS"),
     kind: Kind::Number(1, 16),
     default: Some("1"),
-    help: "How many workers run soups at a time, from 1 to 16, each in a thread of its own. For one on each processor say \
-         `--workers $(nproc)`, where there are at most 16. Fewer work where the system starts no more threads; the haul is the same",
+    help: "How many workers run soups at a time, at most 16, each in a thread\n\
+         of its own. More than there are processors gain nothing. The haul is\n\
+         the same. Fewer work where the system starts no more threads",
 };
 
 /// How many workers have reported.
@@ -166,7 +172,8 @@ pub const REPORTERS: Argument = Argument {
     place: Place::Named("WORKERS"),
     kind: Kind::Number(1, 16),
     default: Some("1"),
-    help: "The greatest number of a worker whose reports are taken, from 1 to 16: lines of worker 3 need `--workers 3`",
+    help: "The greatest number of a worker whose lines are taken, at most 16:\n\
+         lines of worker 3 need `--workers 3`",
 };
 
 /// Which worker reports.
@@ -184,5 +191,6 @@ pub const PROGRESS: Argument = Argument {
     place: Place::Named(""),
     kind: Kind::Flag,
     default: None,
-    help: "Says on standard error how many soups are run, also if that is no terminal. The line is wiped at the end",
+    help: "Says on standard error how many soups are run, also if that is no\n\
+         terminal. The line is wiped at the end",
 };

@@ -1,8 +1,8 @@
-ghost use Rattle.std.specs.Prelude.{◌≡◌};
+ghost use Rattle.std.specs.Prelude.{◌≡◌, IfSome};
 ghost use Rattle.clap.specs.Words.{found_of, rows_of};
-ghost use Rattle.words.specs.Table.{code, generations, number, progress, rule, seed, worker, workers};
-ghost use Rattle.words.specs.Values.{is_given, number_in, text_in};
-ghost use Rattle.words.specs.Requests.{gather_of, name_of, profile_in, run_of, set_in, show_of, soup_of, survey_in, take_of, work_of};
+ghost use Rattle.words.specs.Table.{count, first};
+ghost use Rattle.words.specs.Values.{IsInRange};
+ghost use Rattle.words.specs.Requests.{AreInTheirRanges, AreProfileNumbers, AreSurveyNumbers, gather_in, name_in, profile_in, run_in, set_in, show_in, soup_in, survey_in, take_in, work_in};
 
 use crate::options;
 use crate::request::{ProfileNumbers, Request, SoupSet, Survey};
@@ -11,7 +11,8 @@ use clap::ArgMatches;
 
 /// The numbers of a profile that were found.
 pub fn profile_in(found: &ArgMatches<'_>) -> Option<ProfileNumbers>
-    ensures { result ≡ profile_in (rows_of (found_of found.now)) }
+    ensures profile { result ≡ profile_in (rows_of (found_of found.now)) }
+    ensures ranges { IfSome result AreProfileNumbers }
 {
     let period = number_in(found, &options::PERIOD)?;
     let horizon = number_in(found, &options::HORIZON)?;
@@ -27,7 +28,8 @@ pub fn profile_in(found: &ArgMatches<'_>) -> Option<ProfileNumbers>
 
 /// The set of soups that was found.
 pub fn set_in<'a>(found: &ArgMatches<'a>) -> Option<SoupSet<'a>>
-    ensures { result ≡ set_in (rows_of (found_of found.now)) }
+    ensures set { result ≡ set_in (rows_of (found_of found.now)) }
+    ensures ranges { IfSome result (λ set. IsInRange first.kind set.first × IsInRange count.kind set.count) }
 {
     let seed = text_in(found, &options::SEED)?;
     let first = number_in(found, &options::FIRST)?;
@@ -43,7 +45,8 @@ pub fn set_in<'a>(found: &ArgMatches<'a>) -> Option<SoupSet<'a>>
 
 /// Which soups are meant, and how they are run.
 pub fn survey_in<'a>(found: &ArgMatches<'a>) -> Option<Survey<'a>>
-    ensures { result ≡ survey_in (rows_of (found_of found.now)) }
+    ensures survey { result ≡ survey_in (rows_of (found_of found.now)) }
+    ensures ranges { IfSome result AreSurveyNumbers }
 {
     let set = set_in(found)?;
     let profile = profile_in(found)?;
@@ -53,7 +56,8 @@ pub fn survey_in<'a>(found: &ArgMatches<'a>) -> Option<Survey<'a>>
 
 /// `run` with its values.
 pub(crate) fn run_in<'a>(found: &ArgMatches<'a>) -> Option<Request<'a>>
-    ensures { result ≡ run_of (number_in generations (rows_of (found_of found.now))) (text_in rule (rows_of (found_of found.now))) }
+    ensures request { result ≡ run_in (rows_of (found_of found.now)) }
+    ensures ranges { IfSome result AreInTheirRanges }
 {
     let generations = number_in(found, &options::GENERATIONS)?;
     let rule = text_in(found, &options::RULE)?;
@@ -65,7 +69,8 @@ pub(crate) fn run_in<'a>(found: &ArgMatches<'a>) -> Option<Request<'a>>
 
 /// `name` with its values.
 pub(crate) fn name_in<'a>(found: &ArgMatches<'a>) -> Option<Request<'a>>
-    ensures { result ≡ name_of (profile_in (rows_of (found_of found.now))) (text_in rule (rows_of (found_of found.now))) }
+    ensures request { result ≡ name_in (rows_of (found_of found.now)) }
+    ensures ranges { IfSome result AreInTheirRanges }
 {
     let profile = profile_in(found)?;
     let rule = text_in(found, &options::RULE)?;
@@ -74,7 +79,7 @@ pub(crate) fn name_in<'a>(found: &ArgMatches<'a>) -> Option<Request<'a>>
 
 /// `show` with its value.
 pub(crate) fn show_in<'a>(found: &ArgMatches<'a>) -> Option<Request<'a>>
-    ensures { result ≡ show_of (text_in code (rows_of (found_of found.now))) }
+    ensures { result ≡ show_in (rows_of (found_of found.now)) }
 {
     let code = text_in(found, &options::CODE)?;
     Some(Request::Show { code })
@@ -82,7 +87,8 @@ pub(crate) fn show_in<'a>(found: &ArgMatches<'a>) -> Option<Request<'a>>
 
 /// `soup` with its values.
 pub(crate) fn soup_in<'a>(found: &ArgMatches<'a>) -> Option<Request<'a>>
-    ensures { result ≡ soup_of (number_in number (rows_of (found_of found.now))) (text_in seed (rows_of (found_of found.now))) }
+    ensures request { result ≡ soup_in (rows_of (found_of found.now)) }
+    ensures ranges { IfSome result AreInTheirRanges }
 {
     let number = number_in(found, &options::NUMBER)?;
     let seed = text_in(found, &options::SEED)?;
@@ -91,7 +97,8 @@ pub(crate) fn soup_in<'a>(found: &ArgMatches<'a>) -> Option<Request<'a>>
 
 /// `take` with its values.
 pub(crate) fn take_in<'a>(found: &ArgMatches<'a>) -> Option<Request<'a>>
-    ensures { result ≡ take_of (is_given progress (rows_of (found_of found.now))) (survey_in (rows_of (found_of found.now))) (number_in workers (rows_of (found_of found.now))) }
+    ensures request { result ≡ take_in (rows_of (found_of found.now)) }
+    ensures ranges { IfSome result AreInTheirRanges }
 {
     let survey = survey_in(found)?;
     let workers = number_in(found, &options::WORKERS)?;
@@ -104,7 +111,8 @@ pub(crate) fn take_in<'a>(found: &ArgMatches<'a>) -> Option<Request<'a>>
 
 /// `work` with its values.
 pub(crate) fn work_in<'a>(found: &ArgMatches<'a>) -> Option<Request<'a>>
-    ensures { result ≡ work_of (survey_in (rows_of (found_of found.now))) (number_in worker (rows_of (found_of found.now))) }
+    ensures request { result ≡ work_in (rows_of (found_of found.now)) }
+    ensures ranges { IfSome result AreInTheirRanges }
 {
     let survey = survey_in(found)?;
     let worker = number_in(found, &options::WORKER)?;
@@ -116,7 +124,8 @@ pub(crate) fn work_in<'a>(found: &ArgMatches<'a>) -> Option<Request<'a>>
 
 /// `gather` with its values.
 pub(crate) fn gather_in<'a>(found: &ArgMatches<'a>) -> Option<Request<'a>>
-    ensures { result ≡ gather_of (survey_in (rows_of (found_of found.now))) (number_in workers (rows_of (found_of found.now))) }
+    ensures request { result ≡ gather_in (rows_of (found_of found.now)) }
+    ensures ranges { IfSome result AreInTheirRanges }
 {
     let survey = survey_in(found)?;
     let reporters = number_in(found, &options::REPORTERS)?;

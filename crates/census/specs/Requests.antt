@@ -1,0 +1,76 @@
+-- What a request is to do, and how doing it may end.
+use Rattle.std.specs.Prelude.{◌≡◌, ◌⊎◌, ℕ, Bool, List, [], Option, IsSomeAnd}
+use Rattle.commands.specs.declared.complaint.Complaint.TheVariants as complaint
+use Rattle.commands.specs.declared.profile.ProfileNumbers.{ProfileNumbers}
+use Rattle.commands.specs.declared.soup_set.SoupSet.{SoupSet}
+use Rattle.commands.specs.declared.status.Status.{Status}
+use Rattle.commands.specs.declared.status.Status.TheVariants.{OutOfMemory}
+use Rattle.commands.specs.Answers.{IsInput}
+use Rattle.commands.specs.Complaints.{line_of}
+use Rattle.commands.specs.Ends.{Ends}
+use Rattle.commands.specs.Gather.{gather_task}
+use Rattle.commands.specs.Name.{name_task}
+use Rattle.commands.specs.Run.{run_task}
+use Rattle.commands.specs.Show.{show_task}
+use Rattle.commands.specs.Soup.{soup_task}
+use Rattle.commands.specs.Streams.{Stream, Has, HasLine}
+use Rattle.commands.specs.Take.{take_task}
+use Rattle.commands.specs.Tasks.{Makes, Task}
+use Rattle.commands.specs.Version.{version_task}
+use Rattle.commands.specs.Work.{work_task}
+use Rattle.words.specs.declared.request.ProfileNumbers.{ProfileNumbers as Numbers}
+use Rattle.words.specs.declared.request.Request.{Request}
+use Rattle.words.specs.declared.request.Request.TheVariants.{Run, Name, Show, Soup, Take, Work, Gather, Version}
+use Rattle.words.specs.declared.request.SoupSet.{SoupSet as Soups}
+use Rattle.words.specs.Requests.{Text, asked_by}
+
+-- the values of a request, as the commands take them
+abbrev pub numbers_for : Numbers → ProfileNumbers
+numbers_for n = record { period = n.period; horizon = n.horizon; stride = n.stride; limit = n.limit }
+
+abbrev pub soups_for : Soups → SoupSet
+soups_for set = record { seed = set.seed; first = set.first; count = set.count; also = set.also }
+
+-- what a request is to do
+abbrev pub task_of : Request → Task
+task_of (Run generations rule) = run_task rule generations
+task_of (Name profile rule) = name_task (numbers_for profile) rule
+task_of (Show code) = show_task code
+task_of (Soup seed number) = soup_task seed number
+task_of (Take survey workers progress) = take_task (soups_for survey.set) (numbers_for survey.profile) survey.rule
+task_of (Work survey worker) = work_task (soups_for survey.set) worker (numbers_for survey.profile) survey.rule
+task_of (Gather survey workers) = gather_task (soups_for survey.set) workers (numbers_for survey.profile) survey.rule
+task_of Version = version_task
+
+-- the command looks at its input: `run` does, if its rule is one, `name`, if its profile is one too, and `gather`, if its seed is too
+abbrev pub reads_input : Request → Bool
+reads_input request = (task_of request).reads
+
+-- what is refused may be the input: `run` and `name` refuse what is not a pattern
+abbrev pub refuses_input : Request → Bool
+refuses_input request = (task_of request).refuses
+
+-- the command's text is whole before its first byte is written: all but the lines of `work`
+abbrev pub is_whole : Request → Bool
+is_whole request = (task_of request).whole
+
+-- what is right for a request, on an input
+abbrev pub right_for : Request → List ℕ → Makes
+right_for request = (task_of request).right
+
+-- a request was done on an input, and ended well
+pub record DoesRequest (known : Option (List ℕ)) (status : Status) (output errors : Stream) (request : Request) : Type 0 where
+  pub bytes : List ℕ
+  pub input : IsInput known bytes
+  pub ends : Ends (task_of request) known bytes status output errors
+
+-- there was no memory to read the words, and nothing was done
+pub record LacksMemory (status : Status) (output errors : Stream) : Type 0 where
+  pub told : status ≡ OutOfMemory
+  pub nothing : Has output []
+  pub line : HasLine errors (line_of complaint.OutOfMemory)
+
+-- what the words ask for was done, or there was no memory to read them
+abbrev pub DoesWords : List Text → Option (List ℕ) → Status → Stream → Stream → Type 0
+DoesWords words known status output errors =
+    IsSomeAnd (asked_by words) (DoesRequest known status output errors) ⊎ LacksMemory status output errors

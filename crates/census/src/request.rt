@@ -1,0 +1,182 @@
+ghost use Rattle.std.specs.Prelude.{◌≡◌, ◌≢◌, IfSome, false, true, is_some, map};
+ghost use Rattle.words.specs.Requests.{AreInTheirRanges, AreProfileNumbers, asked_by};
+ghost use Rattle.commands.specs.Profiles.{AreInRange};
+ghost use Rattle.commands.specs.Streams.{stream};
+ghost use Rattle.census.specs.Requests.{DoesRequest, DoesWords, is_whole, numbers_for, reads_input, refuses_input, soups_for};
+
+use commands::complaint::Complaint;
+use commands::gather::do_gather;
+use commands::name::do_name;
+use commands::profile::ProfileNumbers;
+use commands::progress::Progress;
+use commands::run::do_run;
+use commands::show::do_show;
+use commands::soup::do_soup;
+use commands::soup_set::SoupSet;
+use commands::status::Status;
+use commands::take::do_take;
+use commands::version::do_version;
+use commands::word::Word;
+use commands::work::do_work;
+use plane_core::output::Out;
+use std::alloc::Global;
+use std::convert::AsStr;
+use std::io::{Read, Write};
+use std::sync::Wait;
+use std::thread::Threads;
+use std::time::Clock;
+use words::calls::{Unasked, request_of};
+use words::request::Request;
+
+/// Does what the words ask for, and returns how that ended. The first word is the program's name.
+///
+/// Neither writer may have failed. Words that ask for nothing end with `Usage` and their text on `errors`; nothing is
+/// read then, and nothing is printed. How far a haul has come is said on `line`.
+///
+/// # Errors
+///
+/// As of [`do_request`], or `OutOfMemory` if there is no memory to read the words.
+pub fn do_words<
+    T: Threads + Wait + Sync,
+    S: AsStr,
+    R: Read,
+    W: Write,
+    E: Write,
+    P: Write,
+    C: Clock,
+>(
+    alloc: Global,
+    rt: &T,
+    words: &[S],
+    input: &mut R,
+    output: &mut Out<W>,
+    errors: &mut Out<E>,
+    line: &mut Progress<P, C>,
+) -> Status
+    requires output { output.old.failed ≡ false }
+    requires errors { errors.old.failed ≡ false }
+    ensures usage { result ≡ Status.Usage → (output.new ≡ output.old) × (input.new ≡ input.old) }
+    ensures understood { is_some (asked_by (map S.text words.now)) ≡ true → result ≢ Status.Usage }
+    ensures command { result ≢ Status.Usage → DoesWords (map S.text words.now) (R.remaining input.old) result
+        (stream W.contents output.old output.new) (stream E.contents errors.old errors.new) }
+    ensures unread { IfSome (asked_by (map S.text words.now)) (λ request.
+        reads_input request ≡ false → input.new ≡ input.old) }
+    ensures unread_refused { result ≡ Status.Refused → IfSome (asked_by (map S.text words.now)) (λ request.
+        refuses_input request ≡ false → input.new ≡ input.old) }
+    ensures untouched { result ≡ Status.Refused → output.new ≡ output.old }
+    ensures no_memory { result ≡ Status.OutOfMemory → IfSome (asked_by (map S.text words.now)) (λ request.
+        is_whole request ≡ true → output.new ≡ output.old) }
+{
+    match request_of(alloc, words) {
+        Ok(request) => do_request(alloc, rt, &request, input, output, errors, line),
+        Err(Unasked::Usage(text)) => {
+            let _ = errors.put(text.as_bytes());
+            Status::Usage
+        }
+        Err(Unasked::OutOfMemory) => Complaint::OutOfMemory.tell(errors),
+    }
+}
+
+/// Does what a request asks for, and returns how that ended.
+///
+/// Each number of the request must be in its range, and neither writer may have failed. Nothing of the input is read
+/// for a request that doesn't look at it, nor for one whose rule, profile, seed or set is refused. How far a haul has
+/// come is said on `line`, of which nothing else depends.
+///
+/// # Errors
+///
+/// Those of the request's own function: [`do_run`], [`do_name`], [`do_show`], [`do_soup`], [`do_take`],
+/// [`do_work`], [`do_gather`] or [`do_version`].
+fn do_request<T: Threads + Wait + Sync, R: Read, W: Write, E: Write, P: Write, C: Clock>(
+    alloc: Global,
+    rt: &T,
+    request: &Request<'_>,
+    input: &mut R,
+    output: &mut Out<W>,
+    errors: &mut Out<E>,
+    line: &mut Progress<P, C>,
+) -> Status
+    requires request { AreInTheirRanges request.now }
+    requires output { output.old.failed ≡ false }
+    requires errors { errors.old.failed ≡ false }
+    ensures ends { DoesRequest (R.remaining input.old) result
+        (stream W.contents output.old output.new) (stream E.contents errors.old errors.new) request.now }
+    ensures unread { reads_input request.now ≡ false → input.new ≡ input.old }
+    ensures unread_refused { result ≡ Status.Refused → refuses_input request.now ≡ false → input.new ≡ input.old }
+    ensures untouched { result ≡ Status.Refused → output.new ≡ output.old }
+    ensures no_memory { result ≡ Status.OutOfMemory → is_whole request.now ≡ true → output.new ≡ output.old }
+    ensures command { result ≢ Status.Usage }
+{
+    match request {
+        Request::Run { generations, rule } => {
+            do_run(alloc, *generations, rule.as_str(), input, output, errors)
+        }
+        Request::Name { profile, rule } => {
+            let profile = numbers_for(*profile);
+            do_name(alloc, profile, rule.as_str(), input, output, errors)
+        }
+        Request::Show { code } => do_show(alloc, code.as_str(), output, errors),
+        Request::Soup { seed, number } => { do_soup(alloc, seed.as_str(), *number, output, errors) }
+        Request::Take {
+            survey,
+            workers,
+            progress,
+        } => {
+            line.ask(*progress);
+            let set = soups_for(&survey.set);
+            let profile = numbers_for(survey.profile);
+            let rule = survey.rule.as_str();
+            do_take(
+                alloc, rt, &set, *workers, profile, rule, output, errors, line,
+            )
+        }
+        Request::Work { survey, worker } => {
+            let set = soups_for(&survey.set);
+            let profile = numbers_for(survey.profile);
+            let rule = survey.rule.as_str();
+            do_work(alloc, &set, *worker, profile, rule, output, errors)
+        }
+        Request::Gather { survey, workers } => {
+            let set = soups_for(&survey.set);
+            let profile = numbers_for(survey.profile);
+            let rule = survey.rule.as_str();
+            do_gather(
+                alloc, &set, *workers, profile, rule, input, output, errors,
+            )
+        }
+        Request::Version => do_version(output, errors),
+    }
+}
+
+/// The text of a word.
+fn word_for<'a>(word: &words::word::Word<'a>) -> Word<'a>
+    ensures { result ≡ word.now }
+{
+    Word::new(word.as_str())
+}
+
+/// The numbers of a profile.
+fn numbers_for(numbers: words::request::ProfileNumbers) -> ProfileNumbers
+    requires { AreProfileNumbers numbers }
+    ensures numbers { result ≡ numbers_for numbers }
+    ensures ranges { AreInRange result }
+{
+    ProfileNumbers {
+        period: numbers.period,
+        horizon: numbers.horizon,
+        stride: numbers.stride,
+        limit: numbers.limit,
+    }
+}
+
+/// Which soups are meant.
+fn soups_for<'a>(set: &words::request::SoupSet<'a>) -> SoupSet<'a>
+    ensures { result ≡ soups_for set.now }
+{
+    SoupSet {
+        seed: word_for(&set.seed),
+        first: set.first,
+        count: set.count,
+        also: word_for(&set.also),
+    }
+}

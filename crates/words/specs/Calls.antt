@@ -1,0 +1,93 @@
+-- What the calls of the program ask for, whatever the words.
+use Rattle.std.specs.Prelude.{◌≡◌, ◌++◌, ℕ, false, true, List, [], ◌∷◌, None, Some, codes, unwrap_or, if◌then◌else◌}
+use Rattle.std.specs.List.{list_any}
+use Rattle.std.specs.Str.{bytes_eq}
+use Rattle.std.specs.Str.Parse.{digits_value, starts_with_minus}
+use Rattle.clap.specs.Words.{Text}
+use Rattle.words.specs.declared.request.ProfileNumbers.{ProfileNumbers}
+use Rattle.words.specs.declared.request.Request.{Request}
+use Rattle.words.specs.declared.request.Request.TheVariants.{Run, Name, Show, Soup, Take, Work, Gather, Version}
+use Rattle.words.specs.declared.request.SoupSet.{SoupSet}
+use Rattle.words.specs.declared.request.Survey.{Survey}
+use Rattle.words.specs.Requests.{asked_by}
+use Rattle.words.specs.Table.{Command, Entry, commands}
+use Rattle.words.specs.Table as table
+use Rattle.words.specs.Uses.{AreUses, IsIn, IsOutOfRange, IsUnknown, IsUse, Use, entry_in, is_used, lacks_some, value_in, words_in, words_of}
+
+-- ---- values
+
+-- the value of an argument: the one that is given, or else the default
+abbrev pub text_given : Entry → List Use → Text
+text_given entry [] = unwrap_or entry.default []
+text_given entry (u ∷ more) = if bytes_eq (entry_in u).name entry.name then value_in u else text_given entry more
+
+abbrev pub number_given : Entry → List Use → ℕ
+number_given entry uses = digits_value 10 (text_given entry uses)
+
+abbrev pub profile_given : List Use → ProfileNumbers
+profile_given uses = record {
+  period = number_given table.period uses;
+  horizon = number_given table.horizon uses;
+  stride = number_given table.stride uses;
+  limit = number_given table.limit uses;
+}
+
+abbrev pub set_given : List Use → SoupSet
+set_given uses = record {
+  seed = text_given table.seed uses;
+  first = number_given table.first uses;
+  count = number_given table.count uses;
+  also = text_given table.also uses;
+}
+
+abbrev pub survey_given : List Use → Survey
+survey_given uses = record { set = set_given uses; profile = profile_given uses; rule = text_given table.rule uses }
+
+-- ---- the laws
+
+-- The command's name and then its arguments, each at most once, in any order, with values that they take, ask for this request if no
+-- argument that has to be there is missing.
+abbrev pub AsksFor : Command → (List Use → Request) → Type 0
+AsksFor command request =
+    (program : Text) (uses : List Use) → AreUses command uses → lacks_some command uses ≡ false
+    → asked_by (program ∷ command.name ∷ words_in uses) ≡ Some (request uses)
+
+-- each command asks for the request with the values that are given, and the defaults of the others
+pub record AskForTheirValues : Type 0 where
+  pub run : AsksFor table.run_command (λ uses. Run (number_given table.generations uses) (text_given table.rule uses))
+  pub name : AsksFor table.name_command (λ uses. Name (profile_given uses) (text_given table.rule uses))
+  pub show : AsksFor table.show_command (λ uses. Show (text_given table.code uses))
+  pub soup : AsksFor table.soup_command (λ uses. Soup (text_given table.seed uses) (number_given table.number uses))
+  pub take : AsksFor table.take_command
+      (λ uses. Take (survey_given uses) (number_given table.workers uses) (is_used table.progress.name uses))
+  pub work : AsksFor table.work_command (λ uses. Work (survey_given uses) (number_given table.worker uses))
+  pub gather : AsksFor table.gather_command (λ uses. Gather (survey_given uses) (number_given table.workers uses))
+
+-- Words of a command that ask for nothing: an argument that has to be there is missing; or after arguments that are lawful there is one
+-- a second time, one with a value out of its range, an unknown option, or `--help`, whatever comes after it.
+pub record AskForNothing (command : Command) : Type 0 where
+  pub missing : (program : Text) (uses : List Use) → AreUses command uses → lacks_some command uses ≡ true
+      → asked_by (program ∷ command.name ∷ words_in uses) ≡ None
+  pub twice : (program : Text) (uses : List Use) (u : Use) (more : List Text) → AreUses command uses → IsUse command u
+      → is_used (entry_in u).name uses ≡ true → asked_by (program ∷ command.name ∷ (words_in uses ++ (words_of u ++ more))) ≡ None
+  pub out_of_range : (program : Text) (uses : List Use) (u : Use) (more : List Text) → AreUses command uses → IsOutOfRange command u
+      → asked_by (program ∷ command.name ∷ (words_in uses ++ (words_of u ++ more))) ≡ None
+  pub unknown : (program word : Text) (uses : List Use) (more : List Text) → AreUses command uses → IsUnknown command word
+      → asked_by (program ∷ command.name ∷ (words_in uses ++ word ∷ more)) ≡ None
+  pub help : (program : Text) (uses : List Use) (more : List Text) → AreUses command uses
+      → asked_by (program ∷ command.name ∷ (words_in uses ++ codes "--help" ∷ more)) ≡ None
+
+abbrev pub OthersAskForNothing : Type 0
+OthersAskForNothing = (command : Command) → IsIn command commands → AskForNothing command
+
+-- `--version` alone
+abbrev pub AsksForVersion : Type 0
+AsksForVersion = (program : Text) → asked_by (program ∷ codes "--version" ∷ []) ≡ Some Version
+
+-- no command, another word in its place, whatever comes after it, and a call for help
+pub record NoCommandAsksForNothing : Type 0 where
+  pub no_command : (program : Text) → asked_by (program ∷ []) ≡ None
+  pub unknown : (program word : Text) (words : List Text) → starts_with_minus word ≡ false
+      → list_any (λ command. bytes_eq command.name word) commands ≡ false → bytes_eq (codes "help") word ≡ false
+      → asked_by (program ∷ word ∷ words) ≡ None
+  pub help : (program : Text) → asked_by (program ∷ codes "--help" ∷ []) ≡ None
