@@ -18,7 +18,7 @@ use std::io::Write;
 use survey_core::seed::SeedError;
 
 /// Why a command did not do all that was asked: the one line that it leaves on standard error, and its status.
-#[derive(Clone, Copy, Debug, PartialEq, Eq)]
+#[derive(Clone, Copy)]
 pub enum Complaint {
     /// A text was refused.
     Refused(Refusal),

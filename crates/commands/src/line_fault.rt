@@ -8,7 +8,7 @@ use plane_core::output::{Out, WriteError};
 use std::io::Write;
 
 /// Why a report line was not taken.
-#[derive(Clone, Copy, Debug, PartialEq, Eq)]
+#[derive(Clone, Copy)]
 pub enum LineFault {
     /// It is the line of no claim. The place is the offset, in bytes from 0, of the first field that can't stand there.
     BadLine { place: usize },

@@ -7,7 +7,7 @@ use plane_core::output::{Out, WriteError};
 use std::io::Write;
 
 /// Why a text was refused: it is not of its form.
-#[derive(Clone, Copy, Debug, PartialEq, Eq)]
+#[derive(Clone, Copy)]
 pub enum Refusal {
     /// A byte of a plaintext pattern that stands for no cell. Lines and columns count from 1.
     BadByte { line: usize, column: usize },
