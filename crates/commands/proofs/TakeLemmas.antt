@@ -22,7 +22,7 @@ use Rattle.haul_core.specs.Books.{Held, StandsFor, Terms, entry}
 use Rattle.haul_core.specs.Censuses.{IsCensus}
 use Rattle.haul_core.specs.HaulTexts.{haul_text}
 use Rattle.haul_core.specs.Keeping.{numbers_in}
-use Rattle.haul_core.specs.Missing.{AreAll, IsComplete, is_taken, missing_of}
+use Rattle.haul_core.specs.Missing.{AreAll, IsComplete, is_taken, missing_of, numbers_of}
 use Rattle.haul_core.specs.RangeLists.{AreWords, IsFirstFault, IsListText, list_text}
 use Rattle.haul_core.specs.Ranges.{AreSmall, IsNormalForm, is_in}
 use Rattle.crew.specs.Shifts.{StopsAt}
@@ -45,7 +45,7 @@ use Rattle.commands.specs.SoupSets.{AreRangesOf, IsRefused, job_named, right_for
 use Rattle.commands.specs.Stopped.{TellsTaken, gated_task, right_if, stopped_right, taken_right}
 use Rattle.commands.specs.Streams.{Stream, Has, IsStill}
 use Rattle.commands.specs.Take.{TellsAll, take_right, take_task}
-use Rattle.commands.specs.TakeSteps.{EndsCrew, IsOpened, IsTaken, Stops, StopsSet, list_complaint, numbers_of}
+use Rattle.commands.specs.TakeSteps.{EndsCrew, IsOpened, IsTaken, Stops, StopsSet, list_complaint}
 use Rattle.commands.specs.Tasks.{Made, Task, alone}
 use Rattle.commands.specs.TextSteps.{ReachesText}
 use Rattle.commands.proofs.NumberLemmas.{numbers_within}

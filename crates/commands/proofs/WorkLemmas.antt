@@ -22,7 +22,8 @@ use Rattle.commands.specs.declared.soup_set.SoupSet.{SoupSet}
 use Rattle.commands.specs.Answers.{Answer, Right, text_of}
 use Rattle.commands.specs.SoupSets.{Bad_list, Overlapping, Too_large, job_named, right_for_set}
 use Rattle.commands.specs.Streams.{Stream, Has, HasFront}
-use Rattle.commands.specs.TakeSteps.{IsOpened, numbers_in_range, numbers_of}
+use Rattle.haul_core.specs.Missing.{numbers_of_range, numbers_of}
+use Rattle.commands.specs.TakeSteps.{IsOpened}
 use Rattle.commands.specs.TextSteps.{ReachesText, TextOutcome}
 use Rattle.commands.specs.Work.{AreReportsOn, IsReportOn, TellsReports, work_right}
 use Rattle.commands.specs.WorkSteps.{IsBegun, Puts}
@@ -171,21 +172,21 @@ puts_short job worker first number count complaint output low high h =
 -- one range more of some
 pub puts_more : (job : Job) (worker : ℕ) (ranges : List Range) (i : ℕ) (d : Range) (outcome : TextOutcome) (x y z : Option (List ℕ)) (was failed : Bool)
     → i < length ranges → Puts job worker (numbers_of (take i ranges)) (Ok tt) (over x y was)
-    → Puts job worker (numbers_in_range (get_or ranges i d)) outcome (over y z failed)
+    → Puts job worker (numbers_of_range (get_or ranges i d)) outcome (over y z failed)
     → Puts job worker (numbers_of (take (i + 1) ranges)) outcome (over x z failed)
 puts_more job worker ranges i d outcome x y z was failed more one two =
     let r : Range = get_or ranges i d in
     subst (λ (ns : List ℕ). Puts job worker ns outcome (over x z failed))
-    (sym (ap numbers_of (take_more ranges i d more) ∙ flat_map-append numbers_in_range (take i ranges) (r ∷ [])
-    ∙ ap (λ (ns : List ℕ). numbers_of (take i ranges) ++ ns) (append-nil (numbers_in_range r))))
-    (puts_then job worker (numbers_of (take i ranges)) (numbers_in_range r) outcome x y z was failed one two)
+    (sym (ap numbers_of (take_more ranges i d more) ∙ flat_map-append numbers_of_range (take i ranges) (r ∷ [])
+    ∙ ap (λ (ns : List ℕ). numbers_of (take i ranges) ++ ns) (append-nil (numbers_of_range r))))
+    (puts_then job worker (numbers_of (take i ranges)) (numbers_of_range r) outcome x y z was failed one two)
 
 -- what stops the first of some ranges stops them all
 pub puts_early : (job : Job) (worker : ℕ) (ranges : List Range) (k : ℕ) (complaint : Complaint) (output : Stream)
     → Puts job worker (numbers_of (take k ranges)) (Err complaint) output → Puts job worker (numbers_of ranges) (Err complaint) output
 puts_early job worker ranges k complaint output h =
     subst (λ (ns : List ℕ). Puts job worker ns (Err complaint) output)
-    (sym (flat_map-append numbers_in_range (take k ranges) (drop k ranges)) ∙ ap numbers_of (take-append-drop k ranges))
+    (sym (flat_map-append numbers_of_range (take k ranges) (drop k ranges)) ∙ ap numbers_of (take-append-drop k ranges))
     (puts_stops job worker (numbers_of (take k ranges)) (numbers_of (drop k ranges)) complaint output h)
 
 -- ---- there is one right text

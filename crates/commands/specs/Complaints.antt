@@ -11,7 +11,7 @@ use Rattle.commands.specs.declared.status.Status.TheVariants as status
 
 -- the line of a refusal
 abbrev pub refusal_line : Refusal → List ℕ
-refusal_line (BadByte line column) = codes "census: bad byte at line " ++ decimal line ++ codes " column " ++ decimal column ++ codes "\n"
+refusal_line (BadByte line column) = codes "census: bad byte at line " ++ decimal line ++ (codes " column " ++ decimal column ++ codes "\n")
 refusal_line PatternTooLarge = codes "census: pattern larger than 1000 by 1000\n"
 refusal_line (BadRule place) = codes "census: bad rule at " ++ decimal place ++ codes "\n"
 refusal_line BirthZero = codes "census: birth on zero neighbours\n"
@@ -36,7 +36,7 @@ line_of WriteFailed = codes "census: write failed\n"
 
 -- the line of how many soups are missing
 abbrev pub missing_line : ℕ → List ℕ
-missing_line missing = codes "census: incomplete, " ++ (decimal missing ++ codes " missing\n")
+missing_line missing = codes "census: incomplete, " ++ decimal missing ++ codes " missing\n"
 
 -- the status of a command that ends with a complaint
 abbrev pub status_of : Complaint → Status

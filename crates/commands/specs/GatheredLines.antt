@@ -62,11 +62,11 @@ fault_words OtherJob = codes "other job"
 fault_words Disagrees = codes "disagrees"
 fault_words (UnknownWorker worker) = codes "unknown worker " ++ decimal worker
 fault_words (OutOfRange number) = codes "out of range " ++ decimal number
-fault_words (Double number worker) = codes "double of " ++ (decimal number ++ (codes " by " ++ decimal worker))
+fault_words (Double number worker) = codes "double of " ++ decimal number ++ (codes " by " ++ decimal worker)
 
 -- what is told of line `number`, counted from 1
 abbrev pub fault_line : ℕ → LineFault → List ℕ
-fault_line number fault = codes "line " ++ (decimal number ++ (codes ": " ++ (fault_words fault ++ codes "\n")))
+fault_line number fault = codes "line " ++ decimal number ++ (codes ": " ++ (fault_words fault ++ codes "\n"))
 
 abbrev pub told_of : ℕ → Option LineFault → List ℕ
 told_of number None = []

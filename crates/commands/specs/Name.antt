@@ -14,7 +14,7 @@ use Rattle.commands.specs.Tasks.{Task, text_task}
 
 -- a code and how many objects have it, as a line
 abbrev pub object_line : List ℕ × ℕ → List ℕ
-object_line object = object.0 ++ (codes " " ++ (decimal object.1 ++ codes "\n"))
+object_line object = object.0 ++ (codes " " ++ decimal object.1 ++ codes "\n")
 
 -- a finding in lines: the generation of the checkpoint, and a line for each code
 abbrev pub finding_text : Finding → List ℕ

@@ -1,25 +1,22 @@
 -- What `census take` is asked for.
-use Rattle.std.specs.Prelude.{◌≡◌, ℕ, true, false, List, count_by, nat_eq, if◌then◌else◌}
+use Rattle.std.specs.Prelude.{◌≡◌, ℕ, true, false, List}
 use Rattle.survey_core.specs.declared.job.Job.{Job}
 use Rattle.haul_core.specs.declared.census.Census.{Census}
 use Rattle.haul_core.specs.declared.range.Range.{Range}
 use Rattle.haul_core.specs.Censuses.{IsCensus}
 use Rattle.haul_core.specs.HaulTexts.{haul_text}
-use Rattle.haul_core.specs.Ranges.{IsNormalForm, is_in}
+use Rattle.haul_core.specs.Missing.{AreAll}
+use Rattle.haul_core.specs.Ranges.{IsNormalForm}
 use Rattle.commands.specs.declared.profile.ProfileNumbers.{ProfileNumbers}
 use Rattle.commands.specs.declared.soup_set.SoupSet.{SoupSet}
 use Rattle.commands.specs.Answers.{Right, given_right}
 use Rattle.commands.specs.SoupSets.{job_named, right_for_set}
 use Rattle.commands.specs.Tasks.{Task, text_task}
 
--- each number of the set that the ranges give stands among the numbers once, and no other number does
-abbrev pub AreNumbersOf : List Range → List ℕ → Type 0
-AreNumbersOf ranges numbers = (n : ℕ) → count_by (nat_eq n) numbers ≡ (if is_in ranges n then 1 else 0)
-
 -- a text that tells the census of a job over all soups of a set, with the set's ranges in normal form
 pub record TellsAll (job : Job) (ranges : List Range) (text : List ℕ) : Type 0 where
   pub numbers : List ℕ
-  pub all : AreNumbersOf ranges numbers
+  pub all : AreAll ranges numbers
   pub normal : List Range
   pub form : IsNormalForm ranges normal
   pub census : Census

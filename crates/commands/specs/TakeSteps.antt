@@ -1,6 +1,5 @@
 -- How a haul over a set is opened, and its numbers.
-use Rattle.std.specs.Prelude.{◌≡◌, ◌⊎◌, ℕ, List, [], Ok, Err, flat_map}
-use Rattle.std.specs.List.{range_with_len}
+use Rattle.std.specs.Prelude.{◌≡◌, ◌⊎◌, ℕ, List, [], Ok, Err}
 use Rattle.survey_core.specs.declared.job.Job.{Job}
 use Rattle.haul_core.specs.declared.range.Range.{Range}
 use Rattle.haul_core.specs.declared.range_list.ListError.{ListError}
@@ -65,11 +64,3 @@ pub record IsTaken (may_stop : ℕ → ℕ → Type 0) (set : SoupSet) (workers 
   pub is_opened : IsOpened job set workers opened
   pub taken : HasTaken workers opened held
   pub ends : EndsCrew may_stop opened held
-
--- the numbers of a range, ascending
-abbrev pub numbers_in_range : Range → List ℕ
-numbers_in_range range = range_with_len range.first range.count
-
--- the numbers of some ranges, range by range
-abbrev pub numbers_of : List Range → List ℕ
-numbers_of ranges = flat_map numbers_in_range ranges

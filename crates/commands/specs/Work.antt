@@ -2,6 +2,7 @@
 use Rattle.std.specs.Prelude.{◌≡◌, ℕ, false, List, [], ◌∷◌, flat_map}
 use Rattle.survey_core.specs.declared.job.Job.{Job}
 use Rattle.haul_core.specs.declared.range.Range.{Range}
+use Rattle.haul_core.specs.Missing.{numbers_of}
 use Rattle.haul_core.specs.Ranges.{IsNormalForm}
 use Rattle.haul_core.specs.ReportLines.{report_text}
 use Rattle.haul_core.specs.Reports.{IsReport, Reported}
@@ -9,7 +10,6 @@ use Rattle.commands.specs.declared.profile.ProfileNumbers.{ProfileNumbers}
 use Rattle.commands.specs.declared.soup_set.SoupSet.{SoupSet}
 use Rattle.commands.specs.Answers.{Right, given_right}
 use Rattle.commands.specs.SoupSets.{job_named, right_for_set}
-use Rattle.commands.specs.TakeSteps.{numbers_of}
 use Rattle.commands.specs.Tasks.{Task, text_task}
 
 -- a worker's report on the soup of a job with this number

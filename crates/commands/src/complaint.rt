@@ -4,10 +4,11 @@ ghost use Rattle.commands.specs.Complaints.{line_of, missing_line, status_of};
 ghost use Rattle.commands.specs.Streams.{stream, HasLine};
 
 use crate::input::InputFault;
-use crate::output::{LineBuffer, put_decimal};
+use crate::output::LineBuffer;
 use crate::refusal::Refusal;
 use crate::status::Status;
 use code_core::reader::{WechslerError, WechslerFault};
+use haul_core::decimal::put_number;
 use haul_core::range_list::ListError;
 use plane_core::output::{Out, WriteError};
 use plane_core::plaintext::{PlaintextError, PlaintextFault};
@@ -17,7 +18,7 @@ use std::io::Write;
 use survey_core::seed::SeedError;
 
 /// Why a command did not do all that was asked: the one line that it leaves on standard error, and its status.
-#[derive(Clone, Copy, Debug, PartialEq, Eq)]
+#[derive(Clone, Copy)]
 pub enum Complaint {
     /// A text was refused.
     Refused(Refusal),
@@ -101,8 +102,7 @@ fn put_missing_line<E: Write>(missing: u64, errors: &mut Out<E>) -> Result<(), W
     requires { errors.old.failed ≡ false }
     ensures { Writes E.contents errors.old errors.new result (missing_line missing) }
 {
-    errors.put(b"census: incomplete, ")?;
-    put_decimal(errors, missing)?;
+    put_number(errors, b"census: incomplete, ", missing)?;
     errors.put(b" missing\n")
 }
 

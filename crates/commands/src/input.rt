@@ -11,7 +11,7 @@ use std::io::{ErrorKind, Read};
 pub const INPUT_LIMIT: usize = 16_777_216;
 
 /// Why an input was not read to its end.
-#[derive(Clone, Copy, Debug, PartialEq, Eq)]
+#[derive(Clone, Copy)]
 pub enum InputFault {
     /// A read failed, or there is more than the limit.
     Unreadable,

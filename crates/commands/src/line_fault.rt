@@ -2,12 +2,13 @@ ghost use Rattle.std.specs.Prelude.{◌≡◌, ◌++◌, codes, decimal, false};
 ghost use Rattle.plane_core.specs.Out.{Writes};
 ghost use Rattle.commands.specs.GatheredLines.{fault_line, fault_words};
 
-use crate::output::{LineBuffer, put_decimal};
+use crate::output::LineBuffer;
+use haul_core::decimal::put_number;
 use plane_core::output::{Out, WriteError};
 use std::io::Write;
 
 /// Why a report line was not taken.
-#[derive(Clone, Copy, Debug, PartialEq, Eq)]
+#[derive(Clone, Copy)]
 pub enum LineFault {
     /// It is the line of no claim. The place is the offset, in bytes from 0, of the first field that can't stand there.
     BadLine { place: usize },
@@ -49,8 +50,7 @@ impl LineFault {
         requires { errors.old.failed ≡ false }
         ensures { Writes E.contents errors.old errors.new result (fault_line number self) }
     {
-        errors.put(b"line ")?;
-        put_decimal(errors, number)?;
+        put_number(errors, b"line ", number)?;
         errors.put(b": ")?;
         self.put_words(errors)?;
         errors.put(b"\n")
@@ -62,33 +62,23 @@ impl LineFault {
         ensures { Writes E.contents errors.old errors.new result (fault_words self) }
     {
         match self {
-            LineFault::BadLine { place } => put_numbered(errors, b"bad line at ", place as u64),
+            LineFault::BadLine { place } => put_number(errors, b"bad line at ", place),
             LineFault::OtherJob => errors.put(b"other job"),
             LineFault::Disagrees => errors.put(b"disagrees"),
             LineFault::UnknownWorker { worker } => {
-                put_numbered(errors, b"unknown worker ", u64::from(worker))
+                put_number(errors, b"unknown worker ", worker)
             }
-            LineFault::OutOfRange { number } => put_numbered(errors, b"out of range ", number),
+            LineFault::OutOfRange { number } => put_number(errors, b"out of range ", number),
             LineFault::Double { number, worker } => put_double(errors, number, worker),
         }
     }
 }
 
-/// Writes words that end with a number.
-fn put_numbered<E: Write>(errors: &mut Out<E>, front: &[u8], number: u64) -> Result<(), WriteError>
-    requires { errors.old.failed ≡ false }
-    ensures { Writes E.contents errors.old errors.new result (front.now ++ decimal number) }
-{
-    errors.put(front)?;
-    put_decimal(errors, number)
-}
-
 /// Writes which soup was taken before, and from whom.
 fn put_double<E: Write>(errors: &mut Out<E>, number: u64, worker: u8) -> Result<(), WriteError>
     requires { errors.old.failed ≡ false }
-    ensures { Writes E.contents errors.old errors.new result (codes "double of " ++ (decimal number ++ (codes " by " ++ decimal worker))) }
+    ensures { Writes E.contents errors.old errors.new result (codes "double of " ++ decimal number ++ (codes " by " ++ decimal worker)) }
 {
-    errors.put(b"double of ")?;
-    put_decimal(errors, number)?;
-    put_numbered(errors, b" by ", u64::from(worker))
+    put_number(errors, b"double of ", number)?;
+    put_number(errors, b" by ", worker)
 }

@@ -11,10 +11,10 @@ ghost use Rattle.commands.specs.TextSteps.{ReachesText};
 
 use crate::complaint::Complaint;
 use crate::input::read_pattern;
-use crate::output::put_decimal;
 use crate::profile::ProfileNumbers;
 use crate::status::Status;
 use code_core::apgcode::Apgcode;
+use haul_core::decimal::put_number;
 use plane_core::output::{Out, WriteError};
 use plane_core::rule::Rule;
 use std::alloc::Global;
@@ -107,8 +107,7 @@ fn put_settled<W: Write>(output: &mut Out<W>, checkpoint: u32) -> Result<(), Wri
     requires { output.old.failed ≡ false }
     ensures { Writes W.contents output.old output.new result (codes "settled " ++ decimal checkpoint ++ codes "\n") }
 {
-    output.put(b"settled ")?;
-    put_decimal(output, u64::from(checkpoint))?;
+    put_number(output, b"settled ", checkpoint)?;
     output.put(b"\n")
 }
 
@@ -130,7 +129,6 @@ fn put_object<W: Write>(output: &mut Out<W>, object: &(Apgcode, u64)) -> Result<
 {
     let (code, count) = object;
     output.put(code.text().as_bytes())?;
-    output.put(b" ")?;
-    put_decimal(output, *count)?;
+    put_number(output, b" ", *count)?;
     output.put(b"\n")
 }

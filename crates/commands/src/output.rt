@@ -1,7 +1,6 @@
-ghost use Rattle.std.specs.Prelude.{◌≡◌, ◌≢◌, true, false, [], decimal};
+ghost use Rattle.std.specs.Prelude.{◌≡◌, ◌≢◌, true, false, []};
 ghost use Rattle.std.specs.Io.Buffered.{writer_buffer, writer_contents};
 ghost use Rattle.std.specs.Io.KnownBytes.{Keeps};
-ghost use Rattle.plane_core.specs.Out.{Writes};
 ghost use Rattle.commands.specs.Complaints.{line_of};
 ghost use Rattle.commands.specs.Status.{has_printed};
 ghost use Rattle.commands.specs.Streams.{stream, HasLine};
@@ -9,8 +8,7 @@ ghost use Rattle.commands.specs.Streams.{stream, HasLine};
 use crate::complaint::Complaint;
 use crate::status::Status;
 use arrayvec::ArrayVec;
-use itoa::Buffer;
-use plane_core::output::{Out, WriteError};
+use plane_core::output::Out;
 use std::alloc::Global;
 use std::io::{BufWriter, Write};
 
@@ -54,13 +52,4 @@ fn has_printed(status: Status) -> bool
     ensures { result ≡ has_printed status }
 {
     matches!(status, Status::Done | Status::Incomplete)
-}
-
-/// Writes a number in decimal. It takes no memory.
-pub(crate) fn put_decimal<W: Write>(output: &mut Out<W>, number: u64) -> Result<(), WriteError>
-    requires { output.old.failed ≡ false }
-    ensures { Writes W.contents output.old output.new result (decimal number) }
-{
-    let mut buffer = Buffer::new();
-    output.put(buffer.format(number).as_bytes())
 }

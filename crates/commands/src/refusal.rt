@@ -2,12 +2,12 @@ ghost use Rattle.std.specs.Prelude.{◌≡◌, ◌++◌, false, codes, decimal};
 ghost use Rattle.plane_core.specs.Out.{Writes};
 ghost use Rattle.commands.specs.Complaints.{refusal_line};
 
-use crate::output::put_decimal;
+use haul_core::decimal::put_number;
 use plane_core::output::{Out, WriteError};
 use std::io::Write;
 
 /// Why a text was refused: it is not of its form.
-#[derive(Clone, Copy, Debug, PartialEq, Eq)]
+#[derive(Clone, Copy)]
 pub enum Refusal {
     /// A byte of a plaintext pattern that stands for no cell. Lines and columns count from 1.
     BadByte { line: usize, column: usize },
@@ -85,11 +85,8 @@ fn put_bad_byte<E: Write>(errors: &mut Out<E>, line: usize, column: usize) -> Re
     requires { errors.old.failed ≡ false }
     ensures { Writes E.contents errors.old errors.new result (refusal_line (Refusal.BadByte line column)) }
 {
-    errors.put(b"census: bad byte at line ")?;
-    put_decimal(errors, line as u64)?;
-    errors.put(b" column ")?;
-    put_decimal(errors, column as u64)?;
-    errors.put(b"\n")
+    put_number(errors, b"census: bad byte at line ", line)?;
+    put_numbered(errors, b" column ", column)
 }
 
 /// Writes a line that ends with a number.
@@ -99,9 +96,8 @@ fn put_numbered<E: Write>(
     number: usize,
 ) -> Result<(), WriteError>
     requires { errors.old.failed ≡ false }
-    ensures { Writes E.contents errors.old errors.new result (front.now ++ (decimal number ++ codes "\n")) }
+    ensures { Writes E.contents errors.old errors.new result (front.now ++ decimal number ++ codes "\n") }
 {
-    errors.put(front)?;
-    put_decimal(errors, number as u64)?;
+    put_number(errors, front, number)?;
     errors.put(b"\n")
 }

@@ -1,4 +1,19 @@
+ghost use Rattle.std.specs.Prelude.{◌≡◌, List, IfErr, IfOk};
+ghost use Rattle.haul_core.specs.Reports.{IsWorker};
+ghost use Rattle.commands.specs.Profiles.{AreInRange};
+ghost use Rattle.commands.specs.SoupSets.{AreRangesOf, job_named};
+ghost use Rattle.commands.specs.TakeSteps.{IsOpened, StopsSet};
+
+use crate::complaint::Complaint;
+use crate::profile::ProfileNumbers;
+use crate::refusal::Refusal;
 use crate::word::Word;
+use haul_core::haul::{Haul, OpenError};
+use haul_core::range::Range;
+use plane_core::rule::Rule;
+use std::alloc::Global;
+use survey_core::job::Job;
+use survey_core::seed::Seed;
 
 /// The soups that words ask for: those of a seed whose numbers stand in a range, or in the ranges of a list beside it.
 ///
@@ -13,4 +28,59 @@ pub struct SoupSet<'a> {
     pub count: u64,
     /// The list of the other ranges.
     pub also: Word<'a>,
+}
+
+/// The job that the texts and numbers make.
+pub(crate) fn job(
+    set: &SoupSet<'_>,
+    profile: ProfileNumbers,
+    rule_text: &str,
+) -> Result<Job, Complaint>
+    requires { AreInRange profile }
+    ensures { result ≡ job_named set.now profile rule_text.now }
+{
+    let seed = Seed::new(set.seed.as_str())?;
+    let profile = profile.profile()?;
+    let rule = Rule::read(rule_text)?;
+    Ok(Job {
+        seed,
+        profile,
+        rule,
+    })
+}
+
+/// A haul over the ranges of a set, for so many workers, 1 to 16.
+pub(crate) fn open_haul(
+    alloc: Global,
+    job: Job,
+    set: &SoupSet<'_>,
+    workers: u8,
+) -> Result<Haul, Complaint>
+    requires { IsWorker workers }
+    ensures opened { IfOk result (IsOpened job set.now workers) }
+    ensures stops { IfErr result (StopsSet set.now) }
+{
+    let ranges = ranges_of(alloc, set)?;
+    match Haul::open(alloc, job, ranges.as_slice(), workers) {
+        Ok(haul) => Ok(haul),
+        Err(OpenError::BadWorkers) => unreachable!(),
+        Err(OpenError::BadRange) => Err(Complaint::Refused(Refusal::RangeTooLarge)),
+        Err(OpenError::Overlap) => Err(Complaint::Refused(Refusal::RangesOverlap)),
+        Err(OpenError::Memory) => Err(Complaint::OutOfMemory),
+    }
+}
+
+/// The ranges of a set.
+fn ranges_of(alloc: Global, set: &SoupSet<'_>) -> Result<Vec<Range>, Complaint>
+    ensures named { IfOk result (λ ranges. AreRangesOf set.now ranges.items) }
+    ensures only { IfOk result (λ ranges. (others : List Range) → AreRangesOf set.now others → others ≡ ranges.items) }
+    ensures stops { IfErr result (StopsSet set.now) }
+{
+    let mut ranges = Range::read_list(alloc, set.also.as_str())?;
+    let own = Range {
+        first: set.first,
+        count: set.count,
+    };
+    ranges.extend_from_slice(&[own])?;
+    Ok(ranges)
 }

@@ -4,32 +4,26 @@ ghost use Rattle.haul_core.specs.Reports.{IsWorker};
 ghost use Rattle.commands.specs.Complaints.{status_of};
 ghost use Rattle.commands.specs.Ends.{Ends, Reaches};
 ghost use Rattle.commands.specs.Profiles.{AreInRange};
-ghost use Rattle.commands.specs.SoupSets.{AreRangesOf, job_named};
 ghost use Rattle.commands.specs.Stopped.{gated_task};
 ghost use Rattle.commands.specs.Streams.{Stream, stream, IsStill};
 ghost use Rattle.commands.specs.Take.{take_right, take_task};
-ghost use Rattle.commands.specs.TakeSteps.{EndsCrew, IsOpened, IsTaken, Stops, StopsSet};
+ghost use Rattle.commands.specs.TakeSteps.{EndsCrew, IsTaken, Stops};
 
 use crate::complaint::Complaint;
 use crate::ending::tell_end;
 use crate::finish::finish;
 use crate::profile::ProfileNumbers;
-use crate::refusal::Refusal;
-use crate::soup_set::SoupSet;
+use crate::soup_set::{SoupSet, job, open_haul};
 use crate::status::Status;
 use crew::gate::{Gate, OpenGate};
 use crew::watch::Watch;
 use crew::workers::{self, CrewError};
-use haul_core::haul::{Haul, OpenError};
-use haul_core::range::Range;
+use haul_core::haul::Haul;
 use plane_core::output::Out;
-use plane_core::rule::Rule;
 use std::alloc::{AllocError, Global};
 use std::io::Write;
 use std::sync::Wait;
 use std::thread::Threads;
-use survey_core::job::Job;
-use survey_core::seed::Seed;
 
 /// Surveys all soups of a set by so many workers, 1 to 16, under a profile and the rule of a text, and writes the haul text of
 /// what they left.
@@ -149,61 +143,6 @@ fn taken_haul<G: Gate + Sync, R: Threads + Wait + Sync, H: Watch>(
     let haul = open_haul(alloc, job, set, workers)?;
     let haul = take_by_crew(alloc, rt, haul, workers, gate, watch)?;
     Ok(haul)
-}
-
-/// The job that the texts and numbers make.
-pub(crate) fn job(
-    set: &SoupSet<'_>,
-    profile: ProfileNumbers,
-    rule_text: &str,
-) -> Result<Job, Complaint>
-    requires { AreInRange profile }
-    ensures { result ≡ job_named set.now profile rule_text.now }
-{
-    let seed = Seed::new(set.seed.as_str())?;
-    let profile = profile.profile()?;
-    let rule = Rule::read(rule_text)?;
-    Ok(Job {
-        seed,
-        profile,
-        rule,
-    })
-}
-
-/// A haul over the ranges of a set, for so many workers, 1 to 16.
-pub(crate) fn open_haul(
-    alloc: Global,
-    job: Job,
-    set: &SoupSet<'_>,
-    workers: u8,
-) -> Result<Haul, Complaint>
-    requires { IsWorker workers }
-    ensures opened { IfOk result (IsOpened job set.now workers) }
-    ensures stops { IfErr result (StopsSet set.now) }
-{
-    let ranges = ranges_of(alloc, set)?;
-    match Haul::open(alloc, job, ranges.as_slice(), workers) {
-        Ok(haul) => Ok(haul),
-        Err(OpenError::BadWorkers) => unreachable!(),
-        Err(OpenError::BadRange) => Err(Complaint::Refused(Refusal::RangeTooLarge)),
-        Err(OpenError::Overlap) => Err(Complaint::Refused(Refusal::RangesOverlap)),
-        Err(OpenError::Memory) => Err(Complaint::OutOfMemory),
-    }
-}
-
-/// The ranges of a set.
-fn ranges_of(alloc: Global, set: &SoupSet<'_>) -> Result<Vec<Range>, Complaint>
-    ensures named { IfOk result (λ ranges. AreRangesOf set.now ranges.items) }
-    ensures only { IfOk result (λ ranges. (others : List Range) → AreRangesOf set.now others → others ≡ ranges.items) }
-    ensures stops { IfErr result (StopsSet set.now) }
-{
-    let mut ranges = Range::read_list(alloc, set.also.as_str())?;
-    let own = Range {
-        first: set.first,
-        count: set.count,
-    };
-    ranges.extend_from_slice(&[own])?;
-    Ok(ranges)
 }
 
 /// Lets workers take what is missing in an open haul. If it isn't complete then, the gate stopped one of them.

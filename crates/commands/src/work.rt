@@ -7,16 +7,15 @@ ghost use Rattle.commands.specs.Complaints.{status_of};
 ghost use Rattle.commands.specs.Ends.{Ends};
 ghost use Rattle.commands.specs.Profiles.{AreInRange};
 ghost use Rattle.commands.specs.Streams.{stream};
-ghost use Rattle.commands.specs.TakeSteps.{numbers_in_range, numbers_of};
+ghost use Rattle.haul_core.specs.Missing.{numbers_of_range, numbers_of};
 ghost use Rattle.commands.specs.TextSteps.{ReachesText};
 ghost use Rattle.commands.specs.Work.{work_right, work_task};
 ghost use Rattle.commands.specs.WorkSteps.{Puts};
 
 use crate::complaint::Complaint;
 use crate::profile::ProfileNumbers;
-use crate::soup_set::SoupSet;
+use crate::soup_set::{SoupSet, job, open_haul};
 use crate::status::Status;
-use crate::take::{job, open_haul};
 use haul_core::range::{Range, one_normal_form};
 use haul_core::report::Report;
 use haul_core::report_line::write_report_line;
@@ -112,7 +111,7 @@ fn put_range<W: Write>(
     requires worker { IsWorker worker }
     requires range { end_of range ≤ number_bound }
     requires output { output.old.failed ≡ false }
-    ensures { Puts job.now worker (numbers_in_range range) result (stream W.contents output.old output.new) }
+    ensures { Puts job.now worker (numbers_of_range range) result (stream W.contents output.old output.new) }
 {
     for number in range.first..range.first + range.count {
         put_report(alloc, job, worker, number, output)?;

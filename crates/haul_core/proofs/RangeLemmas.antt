@@ -3,7 +3,7 @@ use Rattle.std.proofs.Common.{◌≡◌, ◌∙◌, ◌+◌, ◌<◌, ◌≤◌,
 use Rattle.std.proofs.Common.{subst, refl, arith, max, min, cond, count_by, inl, inr, length, drop, take, get_or, ◌||◌, ◌≢◌, zero-add}
 use Rattle.std.proofs.lemmas.Bool.{and_from, and_parts, cases_Bool, cases_lt, false≢true, ltb-false, ltb-true, lt-ltb, leb-true, le-leb, or_parts}
 use Rattle.std.proofs.lemmas.Bool.Decides.{nat_tests}
-use Rattle.std.proofs.lemmas.List.{append_assoc, drop_more}
+use Rattle.std.proofs.lemmas.List.{append_assoc, drop_all, drop_more}
 use Rattle.std.proofs.lemmas.List.Elements.{All-cons, All-filter, All-head, All-nil, All-push, All-tail, All-weaker, filter_passes}
 use Rattle.std.proofs.lemmas.List.Folds.{list_any-append}
 use Rattle.std.proofs.lemmas.List.Sorted.{All-permutation, IsNonDecreasingBy-drop, list_any-IsPermutation, sum_by-IsPermutation}
@@ -287,3 +287,14 @@ next_below_at all done latest more i d low j =
 pub start_from : (all : List Range) (a : Range) (rest : List Range) → all ≡ a ∷ rest → Ascending all → AreBelow number_bound all → Joining all [] a rest
 start_from all a rest e asc below =
     subst (λ (xs : List Range). Joining xs [] a rest) (sym e) (joining_start a rest (subst Ascending e asc) (subst (AreBelow number_bound) e below))
+
+-- all is joined
+pub all_joined : (all done joined more : List Range) (latest : Range) (i : ℕ) → length more ≤ i → Joining all done latest (drop i more)
+    → joined ≡ done ++ latest ∷ [] → IsNormalForm all joined × (size_of joined ≡ size_of all) × AreBelow number_bound joined
+all_joined all done joined more latest i past j is =
+    let end : Joining all done latest [] = subst (Joining all done latest) (drop_all i more past) j in (
+      record { normal_form = subst AreNormal (sym is) end.normal; same = λ n. ap (λ (rs : List Range). is_in rs n) is ∙ end.same n },
+      ap size_of is ∙ end.size,
+      subst (AreBelow number_bound) (sym is)
+          (All-push (λ x. end_of x ≤ number_bound) done latest end.done_below (All-head (λ x. end_of x ≤ number_bound) latest [] end.below)),
+    )

@@ -5,9 +5,10 @@ ghost use Rattle.haul_core.specs.HaulTexts.{ended, haul_text, head_lines, line_o
 ghost use Rattle.haul_core.specs.HaulTexts.{sample_line, sample_lines, spaced, sum_lines, text_of, total_line, total_lines};
 
 use crate::census::Census;
+use crate::decimal::put_number;
 use crate::range::Range;
 use crate::row::Row;
-use itoa::{Buffer, Integer};
+use itoa::Integer;
 use plane_core::output::{Out, WriteError};
 use std::io::Write;
 use survey_core::finding::findings_are_determined;
@@ -186,17 +187,7 @@ fn put_numbers<W: Write, N: Integer>(out: &mut Out<W>, numbers: &[N]) -> Result<
     ensures { Writes W.contents out.old out.new result (flat_map (λ n. spaced (N.text n)) numbers.now) }
 {
     for number in numbers {
-        put_number(out, *number)?;
+        put_number(out, b" ", *number)?;
     }
     Ok(())
-}
-
-/// Writes a number in decimal, with a space before it.
-fn put_number<W: Write, N: Integer>(out: &mut Out<W>, number: N) -> Result<(), WriteError>
-    requires { out.old.failed ≡ false }
-    ensures { Writes W.contents out.old out.new result (spaced (N.text number)) }
-{
-    let mut buffer = Buffer::new();
-    out.put(b" ")?;
-    out.put(buffer.format(number).as_bytes())
 }

@@ -9,9 +9,9 @@ ghost use Rattle.plane_core.specs.Out.{Writes};
 ghost use Rattle.haul_core.specs.HaulTexts.{line_of, spaced};
 ghost use Rattle.haul_core.specs.ReportLines.{claim_of, count_field, found_fields, head_fields, mark_fields, profile_field, report_text, told_in};
 
+use crate::decimal::put_number;
 use crate::report::Report;
 use code_core::apgcode::Apgcode;
-use itoa::{Buffer, Integer};
 use plane_core::output::{Out, WriteError};
 use std::io::Write;
 use survey_core::finding::Finding;
@@ -122,18 +122,4 @@ fn put_count<W: Write>(out: &mut Out<W>, object: &(Apgcode, u64)) -> Result<(), 
     out.put(b" ")?;
     out.put(object.0.text().as_bytes())?;
     put_number(out, b"*", object.1)
-}
-
-/// Writes a word and a number in decimal right after it.
-fn put_number<W: Write, N: Integer>(
-    out: &mut Out<W>,
-    word: &[u8],
-    number: N,
-) -> Result<(), WriteError>
-    requires { out.old.failed ≡ false }
-    ensures { Writes W.contents out.old out.new result (word.now ++ N.text number) }
-{
-    let mut buffer = Buffer::new();
-    out.put(word)?;
-    out.put(buffer.format(number).as_bytes())
 }

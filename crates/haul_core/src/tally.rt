@@ -21,7 +21,7 @@ use std::alloc::{AllocError, Global};
 use survey_core::finding::Finding;
 
 /// What is kept of a code.
-#[derive(Debug, Drop)]
+#[derive(Drop)]
 pub(crate) struct Tally {
     /// How many objects have the code.
     pub(crate) total: u128,
@@ -30,7 +30,7 @@ pub(crate) struct Tally {
 }
 
 /// The totals over some surveyed soups.
-#[derive(Debug, Drop)]
+#[derive(Drop)]
 pub(crate) struct Totals {
     /// A row for each code that one of them left, and perhaps some with total 0.
     pub(crate) rows: IndexMap<Apgcode, Tally>,

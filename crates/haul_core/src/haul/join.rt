@@ -55,12 +55,9 @@ impl Haul {
         ensures fault { IfErr result (λ refused. Hinders self other refused.2) }
         ensures kept { IfErr result (λ refused. (refused.0 ≡ self) × (refused.1 ≡ other)) }
     {
-        if let Some(fault) = fault(&self, &other) {
-            return Err((self, other, fault));
-        }
-        match joined(&self, &other) {
+        match one_of(&self, &other) {
             Ok(joined) => Ok(joined),
-            Err(_) => Err((self, other, JoinFault::Memory)),
+            Err(fault) => Err((self, other, fault)),
         }
     }
 }
@@ -71,6 +68,21 @@ pub fn joined_hauls_add_up()
     ensures { JoinedHaulsAddUp }
 {
     findings_are_determined();
+}
+
+/// The two hauls as one, or why they can't be joined.
+fn one_of(first: &Haul, second: &Haul) -> Result<Haul, JoinFault>
+    ensures can { OnOk result (CanJoin first.now second.now) }
+    ensures joined { IfOk result (IsJoined first.now second.now) }
+    ensures fault { IfErr result (Hinders first.now second.now) }
+{
+    if let Some(fault) = fault(first, second) {
+        return Err(fault);
+    }
+    match joined(first, second) {
+        Ok(joined) => Ok(joined),
+        Err(_) => Err(JoinFault::Memory),
+    }
 }
 
 /// Why the hauls can't be joined, if they can't, apart from memory.
@@ -97,8 +109,7 @@ fn joined(first: &Haul, second: &Haul) -> Result<Haul, AllocError>
 {
     let alloc = first.alloc;
     let ranges = first.ranges.union(alloc, &second.ranges)?;
-    let mut taken = Vec::from_slice(alloc, first.taken.as_slice())?;
-    taken.extend_from_slice(second.taken.as_slice())?;
+    let taken = all_taken(alloc, first.taken.as_slice(), second.taken.as_slice())?;
     let worker_of = by_number(alloc, taken.as_slice())?;
     let totals = first.totals.joined(alloc, &second.totals)?;
     Ok(Haul {
@@ -112,6 +123,19 @@ fn joined(first: &Haul, second: &Haul) -> Result<Haul, AllocError>
         worker_of,
         totals,
     })
+}
+
+/// What the first has taken, and then what the second has.
+fn all_taken(
+    alloc: Global,
+    first: &[(u8, u64)],
+    second: &[(u8, u64)],
+) -> Result<Vec<(u8, u64)>, AllocError>
+    ensures { IfOk result (λ taken. taken.items ≡ first.now ++ second.now) }
+{
+    let mut taken = Vec::from_slice(alloc, first)?;
+    taken.extend_from_slice(second)?;
+    Ok(taken)
 }
 
 /// The worker of each number.

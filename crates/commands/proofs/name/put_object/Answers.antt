@@ -4,20 +4,15 @@ use Rattle.commands.proofs.name.put_object.Goals as goal
 
 pub returns-in_err-put : goal.returns-in_err-put
 returns-in_err-put g c =
-    Writes_stops (codes " " ++ (decimal c.args.object.now.1 ++ codes "\n")) c.from_residual.ensures.0
+    Writes_stops (codes " " ++ decimal c.args.object.now.1 ++ codes "\n") c.from_residual.ensures.0
     (Writes_same (c.as_bytes.ensures.value ∙ c.text.ensures.text) c.in_err-put.ensures)
 
-pub returns-in_err-put-2 : goal.returns-in_err-put-2
-returns-in_err-put-2 g c =
+pub returns-in_err-put_number : goal.returns-in_err-put_number
+returns-in_err-put_number g c =
     Writes_then (Writes_same (c.as_bytes.ensures.value ∙ c.text.ensures.text) c.in_ok-put.ensures)
-    (Writes_stops (decimal c.args.object.now.1 ++ codes "\n") c.from_residual-in_err-put-2.ensures.0 c.in_err-put-2.ensures)
-
-pub returns-in_err-put_decimal : goal.returns-in_err-put_decimal
-returns-in_err-put_decimal g c =
-    Writes_then (Writes_same (c.as_bytes.ensures.value ∙ c.text.ensures.text) c.in_ok-put.ensures) (Writes_then c.in_ok-put-2.ensures
-    (Writes_stops (codes "\n") c.from_residual-in_err-put_decimal.ensures.0 c.in_err-put_decimal.ensures))
+    (Writes_stops (codes "\n") c.from_residual-in_err-put_number.ensures.0 c.in_err-put_number.ensures)
 
 pub returns : goal.returns
 returns g c =
     Writes_then (Writes_same (c.as_bytes.ensures.value ∙ c.text.ensures.text) c.in_ok-put.ensures)
-    (Writes_then c.in_ok-put-2.ensures (Writes_then c.in_ok-put_decimal.ensures c.put-3.ensures))
+    (Writes_then c.in_ok-put_number.ensures c.put-2.ensures)

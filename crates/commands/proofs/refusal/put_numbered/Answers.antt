@@ -1,13 +1,9 @@
-use Rattle.std.proofs.Common.{◌++◌, codes, decimal}
+use Rattle.std.proofs.Common.{codes}
 use Rattle.plane_core.proofs.OutLemmas.{Writes_then, Writes_stops}
 use Rattle.commands.proofs.refusal.put_numbered.Goals as goal
 
-pub returns-in_err-put : goal.returns-in_err-put
-returns-in_err-put g c = Writes_stops (decimal c.args.number ++ codes "\n") c.from_residual.ensures.0 c.in_err-put.ensures
-
-pub returns-in_err-put_decimal : goal.returns-in_err-put_decimal
-returns-in_err-put_decimal g c =
-    Writes_then c.in_ok-put.ensures (Writes_stops (codes "\n") c.from_residual-in_err-put_decimal.ensures.0 c.in_err-put_decimal.ensures)
+pub returns-in_err-put_number : goal.returns-in_err-put_number
+returns-in_err-put_number g c = Writes_stops (codes "\n") c.from_residual.ensures.0 c.in_err-put_number.ensures
 
 pub returns : goal.returns
-returns g c = Writes_then c.in_ok-put.ensures (Writes_then c.in_ok-put_decimal.ensures c.put-2.ensures)
+returns g c = Writes_then c.in_ok-put_number.ensures c.put.ensures

@@ -2,7 +2,7 @@ use Rattle.std.proofs.Common.{List, sym, subst, false}
 use Rattle.std.proofs.KnownBytes.{Appends-nil}
 use Rattle.haul_core.specs.declared.range.Range.{Range}
 use Rattle.commands.specs.Streams.{stream}
-use Rattle.commands.specs.TakeSteps.{numbers_of}
+use Rattle.haul_core.specs.Missing.{numbers_of}
 use Rattle.commands.specs.Work.{TellsReports, work_right}
 use Rattle.commands.specs.WorkSteps.{Puts}
 use Rattle.commands.proofs.AnswerLemmas.{err_of}

@@ -1,7 +1,7 @@
 use Rattle.std.proofs.Common.{◌≡◌, ◌∙◌, ◌+◌, ◌≤◌, sym, subst, arith, drop, get_or, ◌∷◌, List, ◌++◌, []}
 use Rattle.haul_core.specs.declared.range.Range.{Range}
 use Rattle.haul_core.specs.Ranges.{end_of, number_bound}
-use Rattle.haul_core.proofs.RangeLemmas.{Joining, gap_at, latest_below, next_below_at, start_from, touch_at}
+use Rattle.haul_core.proofs.RangeLemmas.{Joining, all_joined, gap_at, latest_below, next_below_at, start_from, touch_at}
 use Rattle.haul_core.proofs.range.joined.Goals as goal
 use Rattle.haul_core.proofs.range.joined.Goals.{then-latest-range, else-latest-range+in_ok-push}
 
@@ -30,3 +30,18 @@ loop-range-preserved c = elim c.if-latest-range.branch [
       (gap_at c.args.ascending.now c.loop-range.joined.items c.loop-range.latest c.in-Some.more.now c.loop-range.range-index
       (record { first = 0; count = 0 }) c.loop-range-test.true (λ e. w.if-latest-range.false e) c.loop-range.invariant)
 ]
+
+pub returns-clause-form : goal.returns-clause-form
+returns-clause-form c =
+    (all_joined c.args.ascending.now c.loop-range.joined.items _ c.in-Some.more.now c.loop-range.latest c.loop-range.range-index c.loop-range-test.false
+    c.loop-range.invariant c.in_ok-push-2.ensures.items).0
+
+pub returns-clause-size : goal.returns-clause-size
+returns-clause-size c =
+    (all_joined c.args.ascending.now c.loop-range.joined.items _ c.in-Some.more.now c.loop-range.latest c.loop-range.range-index c.loop-range-test.false
+    c.loop-range.invariant c.in_ok-push-2.ensures.items).1
+
+pub returns-clause-below : goal.returns-clause-below
+returns-clause-below c =
+    (all_joined c.args.ascending.now c.loop-range.joined.items _ c.in-Some.more.now c.loop-range.latest c.loop-range.range-index c.loop-range-test.false
+    c.loop-range.invariant c.in_ok-push-2.ensures.items).2

@@ -1,28 +1,22 @@
-use Rattle.std.proofs.Common.{◌++◌, codes, decimal}
+use Rattle.std.proofs.Common.{◌++◌, codes}
 use Rattle.plane_core.proofs.OutLemmas.{Writes_then, Writes_stops}
 use Rattle.commands.specs.GatheredLines.{fault_words}
 use Rattle.commands.proofs.line_fault.LineFault.put_line.Goals as goal
 
+pub returns-in_err-put_number : goal.returns-in_err-put_number
+returns-in_err-put_number g c =
+    Writes_stops (codes ": " ++ (fault_words c.args.self ++ codes "\n")) c.from_residual.ensures.0 c.in_err-put_number.ensures
+
 pub returns-in_err-put : goal.returns-in_err-put
 returns-in_err-put g c =
-    Writes_stops (decimal c.args.number ++ (codes ": " ++ (fault_words c.args.self ++ codes "\n"))) c.from_residual.ensures.0 c.in_err-put.ensures
-
-pub returns-in_err-put_decimal : goal.returns-in_err-put_decimal
-returns-in_err-put_decimal g c =
-    Writes_then c.in_ok-put.ensures
-    (Writes_stops (codes ": " ++ (fault_words c.args.self ++ codes "\n")) c.from_residual-in_err-put_decimal.ensures.0 c.in_err-put_decimal.ensures)
-
-pub returns-in_err-put-2 : goal.returns-in_err-put-2
-returns-in_err-put-2 g c =
-    Writes_then c.in_ok-put.ensures (Writes_then c.in_ok-put_decimal.ensures
-    (Writes_stops (fault_words c.args.self ++ codes "\n") c.from_residual-in_err-put-2.ensures.0 c.in_err-put-2.ensures))
+    Writes_then c.in_ok-put_number.ensures
+    (Writes_stops (fault_words c.args.self ++ codes "\n") c.from_residual-in_err-put.ensures.0 c.in_err-put.ensures)
 
 pub returns-in_err-put_words : goal.returns-in_err-put_words
 returns-in_err-put_words g c =
-    Writes_then c.in_ok-put.ensures (Writes_then c.in_ok-put_decimal.ensures (Writes_then c.in_ok-put-2.ensures
-    (Writes_stops (codes "\n") c.from_residual-in_err-put_words.ensures.0 c.in_err-put_words.ensures)))
+    Writes_then c.in_ok-put_number.ensures (Writes_then c.in_ok-put.ensures
+    (Writes_stops (codes "\n") c.from_residual-in_err-put_words.ensures.0 c.in_err-put_words.ensures))
 
 pub returns : goal.returns
 returns g c =
-    Writes_then c.in_ok-put.ensures (Writes_then c.in_ok-put_decimal.ensures (Writes_then c.in_ok-put-2.ensures
-    (Writes_then c.in_ok-put_words.ensures c.put-3.ensures)))
+    Writes_then c.in_ok-put_number.ensures (Writes_then c.in_ok-put.ensures (Writes_then c.in_ok-put_words.ensures c.put-2.ensures))
