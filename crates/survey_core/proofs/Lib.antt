@@ -4,6 +4,7 @@ mod ForGoodLemmas
 pub mod GroupLemmas
 mod GroupingLemmas
 mod ImageLemmas
+mod MemoLemmas
 mod ObjectLemmas
 mod PartitionLemmas
 mod PlacedFindings
