@@ -294,6 +294,7 @@ pub next_mark_is : (flags from : ℕ) → flags < 2 ^ 64 → 0 < flags / 2 ^ fro
 next_mark_is flags from small some = record {
   low = omega arith;
   high = inside (less_or_not (from + place) 64);
+  one = moved_down flags from (from + place) (omega arith) ∙ ap (λ (n : ℕ). bit_at (flags / 2 ^ from) n) at ∙ found.1;
   none = λ b l h. moved_down flags from b l ∙ found.2 (b - from) (omega arith);
 }
   where
@@ -303,12 +304,14 @@ next_mark_is flags from small some = record {
     found : (place < 64) × (bit_at (flags / 2 ^ from) place ≡ 1) × ((i : ℕ) → i < place → bit_at (flags / 2 ^ from) i ≡ 0)
     found = bit_at-trailing_zeros w64 (flags / 2 ^ from) some (omega (arith, div-le_self flags (2 ^ from)))
 
+    at : from + place - from ≡ place
+    at = omega arith
+
     inside : (from + place < 64) ⊎ (64 ≤ from + place) → from + place < 64
     inside (inl early) = early
     inside (inr past) =
         let none = bit_at_above flags 64 (from + place) small past in
         let is = moved_down flags from (from + place) (omega arith) in
-        let at : from + place - from ≡ place = omega arith in
         let same = ap (λ (n : ℕ). bit_at (flags / 2 ^ from) n) at in
         absurd (omega (arith, none, is, same, found.1))
 

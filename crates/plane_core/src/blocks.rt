@@ -169,8 +169,8 @@ fn step_one(
     mark_changes(marks, grid, j, changes);
 }
 
-/// The first mark in a word of flags, from this place on.
-fn next_mark(flags: u64, from: usize) -> Option<usize>
+/// The first mark in a word of flags, from this place on: the first bit that is set.
+pub(crate) fn next_mark(flags: u64, from: usize) -> Option<usize>
     requires { from ≤ 64 }
     ensures some { IfSome result (IsNextMark flags from) }
     ensures none { IfNone result (AreNoMarks flags from 64) }
