@@ -260,6 +260,19 @@ writing_more rule grid start i now old new later columns change far writing next
         let before : bit_at columns b ≡ 0 = omega arith in
         ap (λ (w : ℕ). bit_at w b) (others m apart) ∙ writing.unchanged b m before
 
+-- one word more of the next generation
+pub words_more : (rule : Numbers) (grid : Grid) (now : List ℕ) (from k : ℕ) (words : List ℕ) (word : ℕ) → k < length words
+    → ((m : ℕ) → m < k → IsNextAt rule grid now (from + m) (slice_index words m)) → IsNextAt rule grid now (from + k) word
+    → (m : ℕ) → m < k + 1 → IsNextAt rule grid now (from + m) (slice_index (set words k word) m)
+words_more rule grid now from k words word long before next m low = go (same_or_not m k)
+  where
+    go : (m ≡ k) ⊎ (m ≢ k) → IsNextAt rule grid now (from + m) (slice_index (set words k word) m)
+    go (inl same) =
+        subst (λ (n : ℕ). IsNextAt rule grid now (from + n) (slice_index (set words k word) n)) (sym same)
+        (subst (IsNextAt rule grid now (from + k)) (sym (get_or-set_same words k word 0 long)) next)
+    go (inr apart) =
+        subst (IsNextAt rule grid now (from + m)) (sym (get_or-set_other words k m word 0 apart)) (before m (omega arith))
+
 -- the sixteen words of block j
 pub written_block : (rule : Numbers) (grid : Grid) (j i : ℕ) (now old new : List ℕ) (columns : ℕ) → i ≡ 16 * j + 16
     → IsWriting rule grid (16 * j) i now old new columns → IsWritten rule grid j now old new

@@ -48,19 +48,40 @@ fn row_of(words: &[u64], grid: Grid, i: usize) -> Row
     }
 }
 
-/// Writes word i of the next generation, and returns which of its bits have changed.
-fn step_word(answers: &Answers, grid: Grid, now: &[u64], last: &mut [u64], i: usize) -> u64
-    requires long { length last.old ≡ length now.now }
+/// Word i of the next generation.
+fn next_word(answers: &Answers, grid: Grid, now: &[u64], i: usize) -> u64
     requires low { 16 * grid.blocks + 1 ≤ i }
     requires high { i + 16 * grid.blocks + 1 < length now.now }
-    ensures next { IsNextAt answers.now.rule grid now.now i (slice_index last.new i) }
-    ensures others { (m : ℕ) → m ≢ i → slice_index last.new m ≡ slice_index last.old m }
-    ensures changes { (b : ℕ) → bit_at result b ≡ 0 → bit_at (slice_index last.new i) b ≡ bit_at (slice_index last.old i) b }
+    ensures { IsNextAt answers.now.rule grid now.now i result }
 {
     let above = row_of(now, grid, i - 1);
     let here = row_of(now, grid, i);
     let below = row_of(now, grid, i + 1);
-    let word = answers.next_word(above, here, below);
+    answers.next_word(above, here, below)
+}
+
+/// Sixteen words of the next generation, from this one on. They stand apart from both lists, so that the compiler makes
+/// several at once and needs no test whether the lists overlap.
+pub(crate) fn next_words(answers: &Answers, grid: Grid, now: &[u64], from: usize) -> [u64; 16]
+    requires low { 16 * grid.blocks + 1 ≤ from }
+    requires high { from + 16 * grid.blocks + 16 < length now.now }
+    ensures { (k : ℕ) → k < 16 → IsNextAt answers.now.rule grid now.now (from + k) (slice_index result k) }
+{
+    let mut words = [0; 16];
+    for k in 0..16 {
+        words[k] = next_word(answers, grid, now, from + k);
+    }
+    words
+}
+
+/// Writes word i, and returns which of its bits have changed.
+fn write_word(last: &mut [u64], i: usize, word: u64) -> u64
+    requires { i < length last.old }
+    ensures word { slice_index last.new i ≡ word }
+    ensures others { (m : ℕ) → m ≢ i → slice_index last.new m ≡ slice_index last.old m }
+    ensures changes { (b : ℕ) → bit_at result b ≡ 0 → bit_at (slice_index last.new i) b ≡ bit_at (slice_index last.old i) b }
+    ensures long { length last.new ≡ length last.old }
+{
     let change = last[i] ^ word;
     last[i] = word;
     change
@@ -135,9 +156,10 @@ fn step_block(answers: &Answers, grid: Grid, now: &[u64], last: &mut [u64], j: u
     let start = 16 * j;
     let end = start + 15;
     let (first, final_row) = (last[start], last[end]);
+    let words = next_words(answers, grid, now, start);
     let mut columns = 0;
-    for i in start..start + 16 {
-        columns |= step_word(answers, grid, now, last, i);
+    for k in 0..16 {
+        columns |= write_word(last, start + k, words[k]);
     }
     Changes {
         columns,
