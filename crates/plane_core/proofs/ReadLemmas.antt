@@ -1,15 +1,16 @@
 -- The cells that are read off a board.
-use Rattle.std.proofs.Common.{◌≡◌, ◌≢◌, ◌==◌, ◌+◌, ◌*◌, ◌/◌, ◌%◌, ◌<◌, ◌≤◌, ℕ, ℤ, pos, ◌+ℤ◌, ◌-ℤ◌, ◌≤ℤ◌, Bool, true, false, ◌||◌, List, [], ◌∷◌, ◌++◌}
-use Rattle.std.proofs.Common.{arith, refl, ap, ◌∙◌, sym, subst, inl, inr, ◌⊎◌, slice_index, unsigned_abs}
+use Rattle.std.proofs.Common.{◌≡◌, ◌≢◌, ◌==◌, ◌+◌, ◌*◌, ◌/◌, ◌%◌, ◌-◌, ◌<◌, ◌≤◌, ℕ, ℤ, pos, ◌+ℤ◌, ◌-ℤ◌, ◌≤ℤ◌, Bool, true, false, ◌||◌, List, [], ◌∷◌, ◌++◌}
+use Rattle.std.proofs.Common.{arith, refl, ap, ◌∙◌, sym, subst, inl, inr, ◌⊎◌, bit_or, slice_index, unsigned_abs}
 use Rattle.std.specs.Int.{bit_at}
 use Rattle.std.specs.Cmp.{both_ways as both_true}
 use Rattle.std.proofs.lemmas.Int.{ints}
+use Rattle.std.proofs.lemmas.Nat.Bits.{bit_at_or}
 use Rattle.std.proofs.lemmas.Bool.{false≢true, or_cases, eqb-true}
 use Rattle.plane_core.specs.declared.board.Layout.{Layout}
 use Rattle.plane_core.specs.declared.cell.Cell.{Cell}
 use Rattle.plane_core.specs.Cells.{InOrder, cell_at, has, set_of}
 use Rattle.plane_core.specs.Boards.{AreNoMarks}
-use Rattle.plane_core.specs.Layouts.{AreAmong, HasRead, HasReadRow, place, index_of, IsShown, HasRoom}
+use Rattle.plane_core.specs.Layouts.{AreAmong, HasRead, HasReadRow, HasReadRows, IsBandEmpty, place, index_of, IsShown, HasRoom}
 use Rattle.plane_core.proofs.BoardLemmas.{less_or_not, same_or_not}
 use Rattle.plane_core.proofs.LayoutLemmas.{same_cells}
 use Rattle.plane_core.proofs.LoadLemmas.{place_of, spot_inside}
@@ -96,11 +97,6 @@ row-more at words s r word first old new more hs hr word_is first_is before read
 
 -- ---- the board
 
--- the first n rows have been read
-pub record HasReadRows (at : Layout) (words : List ℕ) (n : ℕ) (new : List Cell) : Type 0 where
-  pub sound : (others : List Cell) → IsShown at words others → AreAmong others new
-  pub complete : (s r i : ℕ) → s < at.strips → r < n → i < 64 → bit_at (slice_index words (index_of at s r)) i ≡ 1 → has new (place at s r i) ≡ true
-
 pub rows-more : (at : Layout) (words : List ℕ) (r : ℕ) (new more : List Cell) → HasReadRows at words r new
     → HasReadRow at words r new at.strips more → HasReadRows at words (r + 1) more
 rows-more at words r new more before read = record {
@@ -114,6 +110,59 @@ rows-more at words r new more before read = record {
         ap (λ (n : ℕ). has more (place at s n i)) same
         ∙ read.complete s i hs low (ap (λ (n : ℕ). bit_at (slice_index words (index_of at s n)) i) (sym same) ∙ bit)
     found s k i hs near low bit (inr apart) = read.grows (place at s k i) (before.complete s k i hs (omega arith) low bit)
+
+pub rows-none : (at : Layout) (words : List ℕ) (cells : List Cell) → cells ≡ [] → HasReadRows at words 0 cells
+rows-none at words cells none = record {
+  sound = λ others shown c e. absurd (false≢true (sym (ap (λ (cs : List Cell). has cs c) none) ∙ e));
+  complete = λ s r i hs low. absurd (omega arith);
+}
+
+-- an empty band has nothing to read
+pub rows-on : (at : Layout) (words : List ℕ) (band : ℕ) (new : List Cell) → IsBandEmpty at words at.strips band → HasReadRows at words (16 * band) new
+    → HasReadRows at words (16 * band + 16) new
+rows-on at words band new empty before = record {
+  sound = before.sound;
+  complete = λ s r i hs near low bit. found s r i hs near low bit (less_or_not r (16 * band));
+}
+  where
+    found : (s r i : ℕ) → s < at.strips → r < 16 * band + 16 → i < 64 → bit_at (slice_index words (index_of at s r)) i ≡ 1
+        → (r < 16 * band) ⊎ (16 * band ≤ r) → has new (place at s r i) ≡ true
+    found s r i hs near low bit (inl done) = before.complete s r i hs done low bit
+    found s r i hs near low bit (inr here) =
+        let row : 16 * band + (r - 16 * band) ≡ r = omega arith in
+        let none = empty s (r - 16 * band) i hs (omega arith) in
+        let same = ap (λ (n : ℕ). bit_at (slice_index words (index_of at s n)) i) row in
+        absurd (omega (arith, none, same, bit))
+
+-- one strip more of a band is empty
+pub band-more : (at : Layout) (words : List ℕ) (s band from columns block : ℕ) → from ≡ index_of at s (16 * band)
+    → ((b k : ℕ) → bit_at block b ≡ 0 → k < 16 → bit_at (slice_index words (from + k)) b ≡ 0)
+    → ((b t k : ℕ) → bit_at columns b ≡ 0 → t < s → k < 16 → bit_at (slice_index words (index_of at t (16 * band + k))) b ≡ 0)
+    → (b t k : ℕ) → bit_at (bit_or columns block) b ≡ 0 → t < s + 1 → k < 16 → bit_at (slice_index words (index_of at t (16 * band + k))) b ≡ 0
+band-more at words s band from columns block is here before b t k none near low = go (same_or_not t s)
+  where
+    go : (t ≡ s) ⊎ (t ≢ s) → bit_at (slice_index words (index_of at t (16 * band + k))) b ≡ 0
+    go (inl same) =
+        let e = bit_at_or columns block b in
+        let block_none : bit_at block b ≡ 0 = omega (arith, e, none) in
+        let spot : index_of at s (16 * band + k) ≡ from + k = omega (arith, is) in
+        ap (λ (n : ℕ). bit_at (slice_index words (index_of at n (16 * band + k))) b) same
+        ∙ ap (λ (n : ℕ). bit_at (slice_index words n) b) spot ∙ here b k block_none low
+    go (inr apart) = let e = bit_at_or columns block b in before b t k (omega (arith, e, none)) (omega arith) low
+
+-- one word more of a block
+pub block-more : (words : List ℕ) (from k columns : ℕ)
+    → ((b m : ℕ) → bit_at columns b ≡ 0 → m < k → bit_at (slice_index words (from + m)) b ≡ 0)
+    → (b m : ℕ) → bit_at (bit_or columns (slice_index words (from + k))) b ≡ 0 → m < k + 1 → bit_at (slice_index words (from + m)) b ≡ 0
+block-more words from k columns before b m none near = go (same_or_not m k)
+  where
+    go : (m ≡ k) ⊎ (m ≢ k) → bit_at (slice_index words (from + m)) b ≡ 0
+    go (inl same) =
+        let e = bit_at_or columns (slice_index words (from + k)) b in
+        ap (λ (n : ℕ). bit_at (slice_index words (from + n)) b) same ∙ omega (arith, e, none)
+    go (inr apart) =
+        let e = bit_at_or columns (slice_index words (from + k)) b in
+        before b m (omega (arith, e, none)) (omega arith)
 
 natural : (d : ℤ) (a : ℤ) (n : ℕ) → (a +ℤ pos n) ≤ℤ d → pos (unsigned_abs (d -ℤ a)) ≡ d -ℤ a
 natural d a n h = omega (arith, ints)

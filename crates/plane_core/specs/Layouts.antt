@@ -80,6 +80,15 @@ pub record HasReadRow (at : Layout) (words : List ℕ) (r : ℕ) (old : List Cel
   pub sound : (others : List Cell) → IsShown at words others → AreAmong others old → AreAmong others new
   pub complete : (s i : ℕ) → s < n → i < 64 → bit_at (slice_index words (index_of at s r)) i ≡ 1 → has new (place at s r i) ≡ true
 
+-- the first n rows have been read
+pub record HasReadRows (at : Layout) (words : List ℕ) (n : ℕ) (new : List Cell) : Type 0 where
+  pub sound : (others : List Cell) → IsShown at words others → AreAmong others new
+  pub complete : (s r i : ℕ) → s < at.strips → r < n → i < 64 → bit_at (slice_index words (index_of at s r)) i ≡ 1 → has new (place at s r i) ≡ true
+
+-- no cell is alive in the first n blocks of a band, which are in its sixteen rows
+abbrev pub IsBandEmpty : Layout → List ℕ → ℕ → ℕ → Type 0
+IsBandEmpty at words n band = (s k b : ℕ) → s < n → k < 16 → bit_at (slice_index words (index_of at s (16 * band + k))) b ≡ 0
+
 -- the sides of a box are at most so far from the origin
 pub record AreSidesWithin (reach : ℕ) (b : Bounds) : Type 0 where
   pub left : unsigned_abs b.left ≤ reach

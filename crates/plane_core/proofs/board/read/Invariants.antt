@@ -1,5 +1,6 @@
-use Rattle.plane_core.proofs.ReadLemmas.{HasReadRows}
+use Rattle.std.proofs.Common.{◌*◌}
+use Rattle.plane_core.specs.Layouts.{HasReadRows}
 use Rattle.plane_core.proofs.board.read.Given as goal
 
-abbrev pub invariant-loop-row : goal.invariant-loop-row
-invariant-loop-row l = HasReadRows l.at l.words l.row l.cells.items
+abbrev pub invariant-loop-band : goal.invariant-loop-band
+invariant-loop-band l = HasReadRows l.at l.words (16 * l.band) l.cells.items
