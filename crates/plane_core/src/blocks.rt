@@ -61,7 +61,9 @@ fn next_word(answers: &Answers, grid: Grid, now: &[u64], i: usize) -> u64
 }
 
 /// Sixteen words of the next generation, from this one on. They stand apart from both lists, so that the compiler makes
-/// several at once and needs no test whether the lists overlap.
+/// several at once and needs no test whether the lists overlap. As a call it would hand over an address, which may be one of
+/// `now`, and make one word after another.
+#[inline(always)]
 pub(crate) fn next_words(answers: &Answers, grid: Grid, now: &[u64], from: usize) -> [u64; 16]
     requires low { 16 * grid.blocks + 1 ≤ from }
     requires high { from + 16 * grid.blocks + 16 < length now.now }
