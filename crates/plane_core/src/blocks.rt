@@ -49,6 +49,7 @@ fn row_of(words: &[u64], grid: Grid, i: usize) -> Row
 }
 
 /// Word i of the next generation.
+#[inline(always)]
 fn next_word(answers: &Answers, grid: Grid, now: &[u64], i: usize) -> u64
     requires low { 16 * grid.blocks + 1 ≤ i }
     requires high { i + 16 * grid.blocks + 1 < length now.now }
@@ -61,8 +62,7 @@ fn next_word(answers: &Answers, grid: Grid, now: &[u64], i: usize) -> u64
 }
 
 /// Sixteen words of the next generation, from this one on. They stand apart from both lists, so that the compiler makes
-/// several at once and needs no test whether the lists overlap. As a call it would hand over an address, which may be one of
-/// `now`, and make one word after another.
+/// several at once and needs no test whether the lists overlap. As calls these functions would make one word after another.
 #[inline(always)]
 pub(crate) fn next_words(answers: &Answers, grid: Grid, now: &[u64], from: usize) -> [u64; 16]
     requires low { 16 * grid.blocks + 1 ≤ from }

@@ -68,6 +68,7 @@ impl Answers {
     }
 
     /// The word one generation after that of the middle row.
+    #[inline(always)]
     pub(crate) fn next_word(&self, above: Row, here: Row, below: Row) -> u64
         ensures { IsNextWord self.now.rule above here below result }
     {
@@ -79,6 +80,7 @@ impl Answers {
     }
 
     /// The answer for the sums 0 to 9.
+    #[inline(always)]
     fn at_nine(&self, digits: FourDigits, here: u64) -> u64
         ensures { (i : ℕ) → i < 64 → bit_at digits.ones i + 2 * bit_at digits.twos i + 4 * bit_at digits.fours i + 8 * bit_at digits.eights i ≤ 9
             → bit_at result i ≡ one_if (lives_by self.now.rule (bit_at digits.ones i + 2 * bit_at digits.twos i + 4 * bit_at digits.fours i + 8 * bit_at digits.eights i) (bit_at here i == 1)) }
@@ -169,6 +171,7 @@ fn from_east(here: u64, after: u64) -> u64
 }
 
 /// How many live cells each block of nine has.
+#[inline(always)]
 fn block_sum(above: Row, here: Row, below: Row) -> FourDigits
     ensures { (i : ℕ) → i < 64 → bit_at result.ones i + 2 * bit_at result.twos i + 4 * bit_at result.fours i + 8 * bit_at result.eights i ≡ block_count above here below i }
 {
