@@ -8,8 +8,9 @@
 ghost use Rattle.std.specs.Prelude.{◌≡◌, ◌≢◌, ◌==◌, ◌+◌, ◌-◌, ◌*◌, ◌/◌, ◌%◌, ◌^◌, ◌<◌, ◌≤◌, ◌↔◌, IfNone, IfSome, IsTrue, ℕ, List, length, slice_index};
 ghost use Rattle.std.specs.Int.{bit_at};
 ghost use Rattle.plane_core.specs.Boards.{AreNoMarks, IsBeside, IsClear, IsFar, IsGoing, IsInner, IsNext, IsNextAt, IsNextMark, IsRight, IsStill, IsUnmarked, IsWritten, KeepsMarks, KeepsOuter, TellsChanges, row_at};
+ghost use Rattle.plane_core.specs.Words.{life};
 
-use crate::word::{Answers, Row};
+use crate::word::{self, Answers, Row};
 
 /// How many blocks a strip of a board has, and how many there are in all.
 #[derive(Clone, Copy)]
@@ -61,10 +62,53 @@ fn next_word(answers: &Answers, grid: Grid, now: &[u64], i: usize) -> u64
     answers.next_word(above, here, below)
 }
 
-/// Sixteen words of the next generation, from this one on. They stand apart from both lists, so that the compiler makes
-/// several at once and needs no test whether the lists overlap. As calls these functions would make one word after another.
+/// Word i of the next generation, in Life.
+#[inline(always)]
+fn next_word_of_life(grid: Grid, now: &[u64], i: usize) -> u64
+    requires low { 16 * grid.blocks + 1 ≤ i }
+    requires high { i + 16 * grid.blocks + 1 < length now.now }
+    ensures { IsNextAt life grid now.now i result }
+{
+    let above = row_of(now, grid, i - 1);
+    let here = row_of(now, grid, i);
+    let below = row_of(now, grid, i + 1);
+    word::next_word_of_life(above, here, below)
+}
+
+/// Sixteen words of the next generation, from this one on.
+///
+/// They stand apart from both lists, so that no test is needed whether the lists overlap, and Life has a loop of its own,
+/// so that no branch is in a loop. Then the compiler makes several words at once, where it sees all of it in one place; as
+/// calls these functions would make one word after another.
 #[inline(always)]
 pub(crate) fn next_words(answers: &Answers, grid: Grid, now: &[u64], from: usize) -> [u64; 16]
+    requires low { 16 * grid.blocks + 1 ≤ from }
+    requires high { from + 16 * grid.blocks + 16 < length now.now }
+    ensures { (k : ℕ) → k < 16 → IsNextAt answers.now.rule grid now.now (from + k) (slice_index result k) }
+{
+    if answers.is_life {
+        return next_words_of_life(grid, now, from);
+    }
+    next_words_by_rule(answers, grid, now, from)
+}
+
+/// Sixteen words of the next generation in Life.
+#[inline(always)]
+fn next_words_of_life(grid: Grid, now: &[u64], from: usize) -> [u64; 16]
+    requires low { 16 * grid.blocks + 1 ≤ from }
+    requires high { from + 16 * grid.blocks + 16 < length now.now }
+    ensures { (k : ℕ) → k < 16 → IsNextAt life grid now.now (from + k) (slice_index result k) }
+{
+    let mut words = [0; 16];
+    for k in 0..16 {
+        words[k] = next_word_of_life(grid, now, from + k);
+    }
+    words
+}
+
+/// Sixteen words of the next generation, chosen by the answers of a rule.
+#[inline(always)]
+fn next_words_by_rule(answers: &Answers, grid: Grid, now: &[u64], from: usize) -> [u64; 16]
     requires low { 16 * grid.blocks + 1 ≤ from }
     requires high { from + 16 * grid.blocks + 16 < length now.now }
     ensures { (k : ℕ) → k < 16 → IsNextAt answers.now.rule grid now.now (from + k) (slice_index result k) }

@@ -40,7 +40,7 @@ struct FourDigits {
 #[derive(Clone, Copy)]
 pub(crate) struct Answers {
     rule: Rule,
-    is_life: bool,
+    pub(crate) is_life: bool,
     dead: [u64; 10],
     alive: [u64; 10],
     ghost life: { is_life ≡ true → rule ≡ life },
@@ -73,9 +73,6 @@ impl Answers {
         ensures { IsNextWord self.now.rule above here below result }
     {
         let digits = block_sum(above, here, below);
-        if self.is_life {
-            return life_at_nine(digits, here.here);
-        }
         self.at_nine(digits, here.here)
     }
 
@@ -121,6 +118,15 @@ impl Answers {
     {
         choice(here, self.alive[n], self.dead[n])
     }
+}
+
+/// The word one generation after that of the middle row, in Life.
+#[inline(always)]
+pub(crate) fn next_word_of_life(above: Row, here: Row, below: Row) -> u64
+    ensures { IsNextWord life above here below result }
+{
+    let digits = block_sum(above, here, below);
+    life_at_nine(digits, here.here)
 }
 
 /// Whether the rule is Life.
