@@ -1,6 +1,6 @@
 # shellcheck shell=bash
-# What the recipes share: the words that they take, and the file `job` in a folder of lines, which says what census these
-# lines are of.
+# What the recipes share: the words that they take, and the file `job` in a folder of lines or hauls, which says what census
+# these are of.
 #
 # A recipe sets `here` to the folder that it stands in, loads this file, and then calls `read_folder`, `read_words` and
 # `keep_job`.
@@ -60,11 +60,11 @@ keep_job() {
     local lines now new known
     mkdir -p -- "$folder" || exit
     # Lines are looked for before the job: who makes a job does so before the first line.
-    lines=$(find "$folder" -maxdepth 1 \( -name '*.lines' -o -name '*.part' \) -print -quit)
+    lines=$(find "$folder" -maxdepth 1 \( -name '*.lines' -o -name '*.part' -o -name '*.haul' \) -print -quit)
     now=$(printf 'size %d\n' "$size" && if [[ $# != 0 ]]; then printf 'word %q\n' "$@"; fi)
     new=$folder/job.$(uname -n).$$
     if [[ ! -e $folder/job ]]; then
-        [[ -z $lines ]] || refuse "the folder has lines and no file 'job', so nothing says what census they are of"
+        [[ -z $lines ]] || refuse "the folder has lines or hauls and no file 'job', so nothing says what census they are of"
         printf 'total %d\n%s\n' "$total" "$now" > "$new"
         ln -- "$new" "$folder/job" 2> /dev/null || [[ -e $folder/job ]] || refuse "can't make the file 'job' in the folder"
         rm -f -- "$new"

@@ -5,21 +5,17 @@ use Rattle.std.specs.Io.KnownBytes.{Appends, Keeps, append_known}
 use Rattle.clap.specs.Words.{Text}
 use Rattle.commands.specs.declared.complaint.Complaint.{Complaint}
 use Rattle.commands.specs.declared.complaint.Complaint.TheVariants.{Refused, OutOfMemory, ReadFailed, WriteFailed}
-use Rattle.commands.specs.declared.profile.ProfileNumbers.{ProfileNumbers}
 use Rattle.commands.specs.declared.request.Request.{Request}
 use Rattle.commands.specs.declared.request.Request.TheVariants.{Run, Name, Show, Soup, Take, Work, Gather, Version}
-use Rattle.commands.specs.declared.soup_set.SoupSet.{SoupSet}
 use Rattle.commands.specs.declared.status.Status.{Status}
 use Rattle.commands.specs.declared.status.Status.TheVariants as statuses
-use Rattle.commands.specs.Answers.{Ends, HasRight, LeavesFront, Outcome, Reaches, Right, Tells, text_of}
 use Rattle.commands.specs.Complaints.{line_of, status_of}
-use Rattle.commands.specs.Gather.{BeginsHaul, EndsGather, Gathering, Gathers, Hauls, IsPrinted, IsSilent, IsStopped, gather_opens, gather_right, gathered_text, last_line, status_after}
-use Rattle.commands.specs.GatherSteps.{HasBegun}
-use Rattle.commands.proofs.EndLemmas.{opens_reads}
-use Rattle.commands.specs.Requests.{DoesRequest, EndsRequest, is_whole, reads_input, refuses_input, right_for}
+use Rattle.commands.specs.Ends.{Ends, HasLast, IsPrinted, LeavesFront, LeavesPart, Outcome, Reaches, last_line, status_after}
+use Rattle.commands.specs.Requests.{DoesRequest, is_whole, right_for, task_of}
 use Rattle.commands.specs.Status.{exit_code, has_printed}
 use Rattle.commands.specs.Streams.{Stream, Has, HasLine}
-use Rattle.census.specs.LastLines.{Gives, HasTextAndLine, Says, tells_lines}
+use Rattle.commands.specs.Tasks.{Made, Makes, Task, text_made}
+use Rattle.census.specs.LastLines.{HasTextAndLine, Says, TellsBefore, tells_lines}
 use Rattle.census.specs.Program.{Complains, IsDone, IsEndedBy, IsFront, LeavesFrontOf, MayEnd}
 use Rattle.census.specs.Words.{DoesWords, asked_by}
 
@@ -56,49 +52,6 @@ status_of-incomplete OutOfMemory is = cc
 status_of-incomplete ReadFailed is = cc
 status_of-incomplete WriteFailed is = cc
 
--- a command that was done has a right text, and wrote it
-done_text : (reads whole : Bool) (right : Right) (output errors : Stream) → Ends reads whole right statuses.Done output errors → HasRight right output
-done_text reads whole right output errors ends = go ends.outcome ends.reached ends.told
-  where
-    go : (outcome : Outcome) → Reaches reads whole right outcome output → Tells outcome statuses.Done errors → HasRight right output
-    go (Ok u) reached told = reached.0
-    go (Err complaint) reached told = absurd (status_of-done complaint (sym told.0))
-
--- a front of a right text that is known is left, however the text was written
-known_left : (whole : Bool) (right : Right) (before below : Option (List ℕ)) (text : List ℕ) → right (Ok text) → IsFront before below text
-    → LeavesFrontOf whole right before below
-known_left true right before below text is front = (text, is, front)
-known_left false right before below text is front = inl (text, is, front)
-
--- what a failed write left in the buffer, from below it
-front_left : (whole : Bool) (right : Right) (before buffered below : Option (List ℕ)) (held : List ℕ) (failed : Bool)
-    → LeavesFront whole right (record { before = append_known before []; after = buffered; failed = failed }) → Keeps buffered (append_known below held)
-    → LeavesFrontOf whole right before below
-front_left true right before buffered below held failed (text, is, (front, rest, parts, wrote)) kept =
-    (text, is, subst (IsFront before below) (sym parts) (front_sent before buffered below held front rest wrote kept))
-front_left false right before buffered below held failed (never, fronts) kept = inr (
-  never,
-  λ text is. let (front, rest, parts, wrote) = fronts text is in
-      subst (IsFront before below) (sym parts) (front_sent before buffered below held front rest wrote kept),
-)
-
--- a complaint that ended a request is one that may
-ended_by : (request : Request) (bytes : List ℕ) (complaint : Complaint) (before buffered below : Option (List ℕ)) (held : List ℕ) (failed : Bool)
-    → refuses_input request ≡ reads_input request → Reaches (reads_input request) (is_whole request) (right_for request bytes) (Err complaint)
-    (record { before = append_known before []; after = buffered; failed = failed })
-    → Keeps buffered (append_known below held) → MayEnd request bytes before below complaint
-ended_by request bytes (Refused refusal) before buffered below held failed same reached kept =
-    (reached.0, front_sent before buffered below held [] [] reached.1 kept)
-ended_by request bytes OutOfMemory before buffered below held failed same (may, fronts) kept = (
-  λ unrefused. may (sym same ∙ unrefused),
-  λ answer right. let (front, rest, is, wrote) = fronts answer right in
-      subst (IsFront before below) (sym is) (front_sent before buffered below held front rest wrote kept),
-)
-ended_by request bytes ReadFailed before buffered below held failed same reached kept =
-    (reached.0, front_sent before buffered below held [] [] reached.1 kept)
-ended_by request bytes WriteFailed before buffered below held failed same (left, told) kept =
-    inl (front_left (is_whole request) (right_for request bytes) before buffered below held failed left kept)
-
 -- bytes after no bytes
 appends_after : (before between after : Option (List ℕ)) (text : List ℕ) → Appends before between [] → Appends between after text → Appends before after text
 appends_after None between after text nothing wrote = tt
@@ -114,152 +67,120 @@ appends_then (Some xs) None after one two first second = absurd first
 appends_then (Some xs) (Some ys) None one two first second = absurd second
 appends_then (Some xs) (Some ys) (Some zs) one two first second = second ∙ ap (λ l. l ++ two) first ∙ append_assoc xs one two
 
--- a line after nothing is the line
-line_after_nothing : (before between after : Option (List ℕ)) (failed : Bool) (line : List ℕ) → Appends before between []
-    → HasLine (record { before = between; after = after; failed = failed }) line → HasLine (record { before = before; after = after; failed = failed }) line
-line_after_nothing before between after true line nothing (front, rest, is, wrote) =
-    (front, rest, is, appends_after before between after front nothing wrote)
-line_after_nothing before between after false line nothing wrote = appends_after before between after line nothing wrote
+-- a line of no bytes
+no_line : (before after : Option (List ℕ)) (failed : Bool) → Appends before after [] → HasLine (record { before = before; after = after; failed = failed }) []
+no_line before after true nothing = ([], [], refl, nothing)
+no_line before after false nothing = nothing
 
--- no bytes more
-no_more : (known : Option (List ℕ)) → Appends known known []
-no_more None = tt
-no_more (Some xs) = sym (append-nil xs)
+-- a line of a stream that is fine is whole
+whole_line : (before after : Option (List ℕ)) (failed : Bool) (line : List ℕ) → failed ≡ false
+    → HasLine (record { before = before; after = after; failed = failed }) line → Appends before after line
+whole_line before after true line fine has = cc
+whole_line before after false line fine has = has
 
--- no line at all is a line of no bytes
-no_line : (known : Option (List ℕ)) (failed : Bool) → HasLine (record { before = known; after = known; failed = failed }) []
-no_line known true = ([], [], refl, no_more known)
-no_line known false = no_more known
+-- ---- which requests tell of lines
 
--- ---- requests with one answer, and gatherings
+-- only `gather` may
+gather_tells : (request : Request) → (task_of request).may_tell → tells_lines request ≡ true
+gather_tells (Run n rule) tells = absurd tells
+gather_tells (Name profile rule) tells = absurd tells
+gather_tells (Show code) tells = absurd tells
+gather_tells (Soup seed n) tells = absurd tells
+gather_tells (Take set workers profile rule progress) tells = absurd tells
+gather_tells (Work set worker profile rule) tells = absurd tells
+gather_tells (Gather set workers profile rule) tells = refl
+gather_tells Version tells = absurd tells
 
--- one text, and nothing else
-abbrev OneText : Right → Gathering → Type 0
-OneText right gathering = right (Ok gathering.text) × (gathering.told ≡ []) × (gathering.missing ≡ 0)
+-- what is right for the others is a text, and nothing else
+text_alone : (request : Request) (bytes : List ℕ) (made : Made) → tells_lines request ≡ false → right_for request bytes (Ok made)
+    → (made.told ≡ []) × (made.missing ≡ 0)
+text_alone (Run n rule) bytes made quiet is = (is.1, is.2)
+text_alone (Name profile rule) bytes made quiet is = (is.1, is.2)
+text_alone (Show code) bytes made quiet is = (is.1, is.2)
+text_alone (Soup seed n) bytes made quiet is = (is.1, is.2)
+text_alone (Take set workers profile rule progress) bytes made quiet is = (is.1, is.2)
+text_alone (Work set worker profile rule) bytes made quiet is = (is.1, is.2)
+text_alone (Gather set workers profile rule) bytes made quiet is = let bad : true ≡ false = quiet in cc
+text_alone Version bytes made quiet is = (is.1, is.2)
 
--- a request ends by one answer
-record HasOneAnswer (request : Request) : Type 0 where
-  pub ends : (known : Option (List ℕ)) (bytes : List ℕ) (status : Status) (output errors : Stream)
-      → EndsRequest request known bytes status output errors
-      → Ends (reads_input request) (is_whole request) (right_for request bytes) status output errors
-  pub gives : (bytes : List ℕ) (gathering : Gathering) → OneText (right_for request bytes) gathering → Gives request bytes gathering
-  pub says : (bytes : List ℕ) (known : Option (List ℕ)) (complaint : Complaint) (errors : Stream) → HasLine errors (line_of complaint)
-      → Says request bytes known complaint errors
-  pub same : refuses_input request ≡ reads_input request
-
--- what holds of all of these, and of gatherings, holds of each request
-by_answer : (P : Request → Type 0) → ((request : Request) → HasOneAnswer request → P request)
-    → ((set : SoupSet) (workers : ℕ) (profile : ProfileNumbers) (rule : List ℕ) → P (Gather set workers profile rule)) → (request : Request) → P request
-by_answer P one lines (Run n rule) = one (Run n rule) (record { ends = λ _ _ _ _ _ h. h; gives = λ _ _ h. h; says = λ _ _ _ _ h. h; same = refl })
-by_answer P one lines (Name p rule) = one (Name p rule) (record { ends = λ _ _ _ _ _ h. h; gives = λ _ _ h. h; says = λ _ _ _ _ h. h; same = refl })
-by_answer P one lines (Show code) = one (Show code) (record { ends = λ _ _ _ _ _ h. h; gives = λ _ _ h. h; says = λ _ _ _ _ h. h; same = refl })
-by_answer P one lines (Soup seed n) = one (Soup seed n) (record { ends = λ _ _ _ _ _ h. h; gives = λ _ _ h. h; says = λ _ _ _ _ h. h; same = refl })
-by_answer P one lines (Take set w p rule b) = one (Take set w p rule b) (record { ends = λ _ _ _ _ _ h. h; gives = λ _ _ h. h; says = λ _ _ _ _ h. h; same = refl })
-by_answer P one lines (Work set w p rule) = one (Work set w p rule) (record { ends = λ _ _ _ _ _ h. h; gives = λ _ _ h. h; says = λ _ _ _ _ h. h; same = refl })
-by_answer P one lines Version = one Version (record { ends = λ _ _ _ _ _ h. h; gives = λ _ _ h. h; says = λ _ _ _ _ h. h; same = refl })
-by_answer P one lines (Gather set workers profile rule) = lines set workers profile rule
+-- so where soups are missing, lines may be told
+tells_missing : (request : Request) (bytes : List ℕ) (made : Made) (n : ℕ) → right_for request bytes (Ok made) → made.missing ≡ suc n
+    → tells_lines request ≡ true
+tells_missing request bytes made n is missing = go (tells_lines request) refl
+  where
+    go : (b : Bool) → tells_lines request ≡ b → b ≡ true
+    go true e = refl
+    go false e =
+        let none : made.missing ≡ 0 = (text_alone request bytes made e is).1 in
+        let bad : zero ≡ suc n = sym none ∙ missing in
+        cc
 
 -- ---- a request that was done, or done but for soups that are missing
 
--- what it gave stands on the two streams
-record Printed (gives : Gathering → Type 0) (missing : ℕ) (output errors : Stream) : Type 0 where
-  pub gathering : Gathering
-  pub is : gives gathering
-  pub missing_is : gathering.missing ≡ missing
-  pub wrote : Has output gathering.text
-  pub told : HasTextAndLine errors gathering.told (last_line (Ok missing))
+-- what it made stands on the two streams
+record Printed (right : Makes) (missing : ℕ) (output errors : Stream) : Type 0 where
+  pub made : Made
+  pub is : right (Ok made)
+  pub missing_is : made.missing ≡ missing
+  pub wrote : Has output made.text
+  pub told : HasTextAndLine errors made.told (last_line (Ok missing))
 
-answer_printed : (reads whole : Bool) (right : Right) (gives : Gathering → Type 0) (output errors : Stream)
-    → ((gathering : Gathering) → OneText right gathering → gives gathering) → Ends reads whole right statuses.Done output errors
-    → Printed gives 0 output errors
-answer_printed reads whole right gives output errors one_text ends = go ends.outcome ends.reached ends.told
-  where
-    go : (outcome : Outcome) → Reaches reads whole right outcome output → Tells outcome statuses.Done errors → Printed gives 0 output errors
-    go (Ok u) reached said = record {
-      gathering = record { text = reached.0.0; told = []; missing = 0 };
-      is = one_text (record { text = reached.0.0; told = []; missing = 0 }) (reached.0.1, refl, refl);
-      missing_is = refl;
-      wrote = reached.0.2;
-      told = record { between = errors.after; whole = said.1; last = no_line errors.after errors.failed };
-    }
-    go (Err complaint) reached said = absurd (status_of-done complaint (sym said.0))
-
--- what was gathered, and the last line
-lines_printed : (right : Result Gathering Complaint → Type 0) (missing : ℕ) (output between errors : Stream) → between.before ≡ errors.before
-    → IsPrinted right missing output between
+-- what was printed, and the last line
+printed_with : (right : Makes) (missing : ℕ) (output between errors : Stream) → between.before ≡ errors.before → IsPrinted right missing output between
     → HasLine (record { before = between.after; after = errors.after; failed = errors.failed }) (last_line (Ok missing))
-    → Printed (λ gathering. right (Ok gathering)) missing output errors
-lines_printed right missing output between errors from printed last = record {
-  gathering = printed.gathering;
+    → Printed right missing output errors
+printed_with right missing output between errors from printed last = record {
+  made = printed.made;
   is = printed.is;
   missing_is = sym printed.missing_is;
   wrote = printed.text;
-  told = record { between = between.after; whole = subst (λ (b : Option (List ℕ)). Appends b between.after printed.gathering.told) from printed.told; last = last };
+  told = record { between = between.after; whole = subst (λ (b : Option (List ℕ)). Appends b between.after printed.made.told) from printed.told; last = last };
 }
 
-lines_done : (right : Result Gathering Complaint → Type 0) (opens : Hauls) (known : Option (List ℕ)) (output errors : Stream)
-    → EndsGather right opens known statuses.Done output errors → Printed (λ gathering. right (Ok gathering)) 0 output errors
-lines_done right opens known output errors ends = go ends.outcome ends.reached ends.last (sym ends.status_is)
+task_done : (task : Task) (known : Option (List ℕ)) (bytes : List ℕ) (output errors : Stream) → Ends task known bytes statuses.Done output errors
+    → Printed (task.right bytes) 0 output errors
+task_done task known bytes output errors ends = go ends.outcome ends.reached ends.last (sym ends.status_is)
   where
-    go : (outcome : Result ℕ Complaint) → Gathers right opens known outcome output ends.between
-        → HasLine (record { before = ends.between.after; after = errors.after; failed = errors.failed }) (last_line outcome)
-        → status_after outcome ≡ statuses.Done → Printed (λ gathering. right (Ok gathering)) 0 output errors
-    go (Ok zero) reached last same = lines_printed right 0 output ends.between errors ends.from reached last
+    go : (outcome : Outcome) → Reaches task known bytes outcome output ends.between
+        → HasLast outcome (record { before = ends.between.after; after = errors.after; failed = errors.failed })
+        → status_after outcome ≡ statuses.Done → Printed (task.right bytes) 0 output errors
+    go (Ok zero) reached last same =
+        printed_with (task.right bytes) 0 output ends.between errors ends.from reached (no_line ends.between.after errors.after errors.failed last.0)
     go (Ok (suc n)) reached last same = let bad : statuses.Incomplete ≡ statuses.Done = same in cc
     go (Err complaint) reached last same = absurd (status_of-done complaint same)
 
-lines_incomplete : (right : Result Gathering Complaint → Type 0) (opens : Hauls) (known : Option (List ℕ)) (output errors : Stream)
-    → EndsGather right opens known statuses.Incomplete output errors → (less : ℕ) × Printed (λ gathering. right (Ok gathering)) (suc less) output errors
-lines_incomplete right opens known output errors ends = go ends.outcome ends.reached ends.last (sym ends.status_is)
+task_incomplete : (task : Task) (known : Option (List ℕ)) (bytes : List ℕ) (output errors : Stream)
+    → Ends task known bytes statuses.Incomplete output errors → (less : ℕ) × Printed (task.right bytes) (suc less) output errors
+task_incomplete task known bytes output errors ends = go ends.outcome ends.reached ends.last (sym ends.status_is)
   where
-    go : (outcome : Result ℕ Complaint) → Gathers right opens known outcome output ends.between
-        → HasLine (record { before = ends.between.after; after = errors.after; failed = errors.failed }) (last_line outcome)
-        → status_after outcome ≡ statuses.Incomplete → (less : ℕ) × Printed (λ gathering. right (Ok gathering)) (suc less) output errors
+    go : (outcome : Outcome) → Reaches task known bytes outcome output ends.between
+        → HasLast outcome (record { before = ends.between.after; after = errors.after; failed = errors.failed })
+        → status_after outcome ≡ statuses.Incomplete → (less : ℕ) × Printed (task.right bytes) (suc less) output errors
     go (Ok zero) reached last same = let bad : statuses.Done ≡ statuses.Incomplete = same in cc
-    go (Ok (suc n)) reached last same = (n, lines_printed right (suc n) output ends.between errors ends.from reached last)
+    go (Ok (suc n)) reached last same = (n, printed_with (task.right bytes) (suc n) output ends.between errors ends.from reached last)
     go (Err complaint) reached last same = absurd (status_of-incomplete complaint same)
 
--- only of a gathering may soups be missing
-answer_complete : {A : Type 0} (reads whole : Bool) (right : Right) (output errors : Stream) → Ends reads whole right statuses.Incomplete output errors → A
-answer_complete reads whole right output errors ends = absurd (go ends.outcome ends.told)
+-- after a command that was done standard error has no line more, and is fine
+task_fine : (task : Task) (known : Option (List ℕ)) (bytes : List ℕ) (output errors : Stream) (ends : Ends task known bytes statuses.Done output errors)
+    → Appends ends.between.after errors.after [] × (errors.failed ≡ false)
+task_fine task known bytes output errors ends = go ends.outcome ends.last (sym ends.status_is)
   where
-    go : (outcome : Outcome) → Tells outcome statuses.Incomplete errors → ⊥
-    go (Ok u) said = let bad : statuses.Incomplete ≡ statuses.Done = said.0 in cc
-    go (Err complaint) said = status_of-incomplete complaint (sym said.0)
+    go : (outcome : Outcome) → HasLast outcome (record { before = ends.between.after; after = errors.after; failed = errors.failed })
+        → status_after outcome ≡ statuses.Done → Appends ends.between.after errors.after [] × (errors.failed ≡ false)
+    go (Ok zero) last same = last
+    go (Ok (suc n)) last same = let bad : statuses.Incomplete ≡ statuses.Done = same in cc
+    go (Err complaint) last same = absurd (status_of-done complaint same)
 
-request_done : (request : Request) (known : Option (List ℕ)) (bytes : List ℕ) (output errors : Stream)
-    → EndsRequest request known bytes statuses.Done output errors → Printed (Gives request bytes) 0 output errors
-request_done request known bytes output errors =
-    by_answer (λ r. EndsRequest r known bytes statuses.Done output errors → Printed (Gives r bytes) 0 output errors)
-    (λ r one ends. answer_printed (reads_input r) (is_whole r) (right_for r bytes) (Gives r bytes) output errors (one.gives bytes)
-    (one.ends known bytes statuses.Done output errors ends))
-    (λ set workers profile rule ends. lines_done (gather_right set workers profile rule bytes) (gather_opens set workers profile rule) known output errors ends)
-    request
-
-request_incomplete : (request : Request) (known : Option (List ℕ)) (bytes : List ℕ) (output errors : Stream)
-    → EndsRequest request known bytes statuses.Incomplete output errors → (less : ℕ) × Printed (Gives request bytes) (suc less) output errors
-request_incomplete request known bytes output errors =
-    by_answer (λ r. EndsRequest r known bytes statuses.Incomplete output errors → (less : ℕ) × Printed (Gives r bytes) (suc less) output errors)
-    (λ r one ends. answer_complete (reads_input r) (is_whole r) (right_for r bytes) output errors (one.ends known bytes statuses.Incomplete output errors ends))
-    (λ set workers profile rule ends. lines_incomplete (gather_right set workers profile rule bytes) (gather_opens set workers profile rule) known output errors ends)
-    request
-
--- but for a gathering, a command that was done left nothing on standard error, and the stream is fine
-answer_silent : (reads whole : Bool) (right : Right) (output errors : Stream) → Ends reads whole right statuses.Done output errors
-    → Has errors [] × (errors.failed ≡ false)
-answer_silent reads whole right output errors ends = go ends.outcome ends.told
-  where
-    go : (outcome : Outcome) → Tells outcome statuses.Done errors → Has errors [] × (errors.failed ≡ false)
-    go (Ok u) said = (said.1, said.2)
-    go (Err complaint) said = absurd (status_of-done complaint (sym said.0))
-
+-- but for a gathering, it left nothing there
 request_silent : (request : Request) (known : Option (List ℕ)) (bytes : List ℕ) (output errors : Stream) → tells_lines request ≡ false
-    → EndsRequest request known bytes statuses.Done output errors → Has errors []
-request_silent request known bytes output errors =
-    by_answer (λ r. tells_lines r ≡ false → EndsRequest r known bytes statuses.Done output errors → Has errors [])
-    (λ r one quiet ends. (answer_silent (reads_input r) (is_whole r) (right_for r bytes) output errors
-    (one.ends known bytes statuses.Done output errors ends)).0)
-    (λ set workers profile rule quiet ends. let bad : true ≡ false = quiet in cc) request
+    → Ends (task_of request) known bytes statuses.Done output errors → Has errors []
+request_silent request known bytes output errors quiet ends =
+    let printed = task_done (task_of request) known bytes output errors ends in
+    let none = (text_alone request bytes printed.made quiet printed.is).0 in
+    let fine = (task_fine (task_of request) known bytes output errors ends).1 in
+    appends_after errors.before printed.told.between errors.after []
+    (subst (λ (text : List ℕ). Appends errors.before printed.told.between text) none printed.told.whole)
+    (whole_line printed.told.between errors.after errors.failed [] fine printed.told.last)
 
 -- ---- a request that a complaint ended
 
@@ -274,119 +195,98 @@ record Ended (request : Request) (bytes : List ℕ) (known before below : Option
 abbrev IsUndone : Status → Type 0
 IsUndone status = (status ≢ statuses.Done) × (status ≢ statuses.Incomplete)
 
-answer_ended : (request : Request) (bytes : List ℕ) (known before buffered below : Option (List ℕ)) (held : List ℕ) (failed : Bool) (status : Status)
-    (errors : Stream) → refuses_input request ≡ reads_input request
-    → ((complaint : Complaint) → HasLine errors (line_of complaint) → Says request bytes known complaint errors)
-    → Ends (reads_input request) (is_whole request) (right_for request bytes) status
-    (record { before = append_known before []; after = buffered; failed = failed }) errors
-    → IsUndone status → Keeps buffered (append_known below held) → Ended request bytes known before below status errors
-answer_ended request bytes known before buffered below held failed status errors same by_line ends undone kept = go ends.outcome ends.reached ends.told
+-- what a failed write left in the buffer, from below it
+front_left : (whole : Bool) (right : Makes) (before buffered below : Option (List ℕ)) (held : List ℕ) (failed : Bool) (errors : Stream)
+    → LeavesFront whole right (record { before = append_known before []; after = buffered; failed = failed }) errors
+    → Keeps buffered (append_known below held) → LeavesFrontOf whole right before below
+front_left true right before buffered below held failed errors (made, is, (front, rest, parts, wrote), told) kept =
+    (made, is, subst (IsFront before below) (sym parts) (front_sent before buffered below held front rest wrote kept))
+front_left false right before buffered below held failed errors (never, fronts, told) kept = inr (
+  never,
+  λ made is. let (front, rest, parts, wrote) = fronts made is in
+      subst (IsFront before below) (sym parts) (front_sent before buffered below held front rest wrote kept),
+)
+
+-- the same of a text that memory cut off
+part_left : (whole : Bool) (right : Makes) (before buffered below : Option (List ℕ)) (held : List ℕ) (failed : Bool) (answer : Result Made Complaint)
+    → LeavesPart whole right (record { before = append_known before []; after = buffered; failed = failed }) → right answer
+    → Keeps buffered (append_known below held) → IsFront before below (text_made answer)
+part_left true right before buffered below held failed answer nothing is kept = front_sent before buffered below held [] (text_made answer) nothing kept
+part_left false right before buffered below held failed answer fronts is kept =
+    let (front, rest, parts, wrote) = fronts answer is in
+    subst (IsFront before below) (sym parts) (front_sent before buffered below held front rest wrote kept)
+
+-- a complaint that ended a request is one that may
+ended_by : (request : Request) (bytes : List ℕ) (complaint : Complaint) (known before buffered below : Option (List ℕ)) (held : List ℕ) (failed : Bool)
+    (errors : Stream)
+    → Reaches (task_of request) known bytes (Err complaint) (record { before = append_known before []; after = buffered; failed = failed }) errors
+    → Keeps buffered (append_known below held) → MayEnd request bytes before below complaint
+ended_by request bytes (Refused refusal) known before buffered below held failed errors reached kept =
+    (reached.0, front_sent before buffered below held [] [] reached.1.nothing kept)
+ended_by request bytes OutOfMemory known before buffered below held failed errors reached kept =
+    (reached.hides, λ answer is. part_left (is_whole request) (right_for request bytes) before buffered below held failed answer reached.left is kept)
+ended_by request bytes ReadFailed known before buffered below held failed errors reached kept =
+    (reached.reads, front_sent before buffered below held [] [] reached.nothing kept)
+ended_by request bytes WriteFailed known before buffered below held failed errors (inl cut) kept =
+    inl (front_left (is_whole request) (right_for request bytes) before buffered below held failed errors cut.left kept)
+ended_by request bytes WriteFailed known before buffered below held failed errors (inr untold) kept =
+    inr (gather_tells request untold.tells, front_sent before buffered below held [] [] untold.nothing kept)
+
+-- what was told before it
+told_before : (request : Request) (bytes : List ℕ) (complaint : Complaint) (known : Option (List ℕ)) (output errors : Stream)
+    → Reaches (task_of request) known bytes (Err complaint) output errors
+    → TellsBefore (task_of request) known bytes complaint errors ⊎ ((tells_lines request ≡ true) × (complaint ≡ WriteFailed) × (errors.failed ≡ true))
+told_before request bytes (Refused refusal) known output errors reached = inl reached.1.silent
+told_before request bytes OutOfMemory known output errors reached = inl reached.told
+told_before request bytes ReadFailed known output errors reached = inl reached.begun
+told_before request bytes WriteFailed known output errors (inl cut) = inl (go (is_whole request) refl cut.left)
   where
-    output : Stream
-    output = record { before = append_known before []; after = buffered; failed = failed }
+    go : (whole : Bool) → is_whole request ≡ whole → LeavesFront whole (right_for request bytes) output errors
+        → TellsBefore (task_of request) known bytes WriteFailed errors
+    go true e (made, is, front, told) = inr (made, is, inl told)
+    go false e (never, fronts, nothing) = inl (e, nothing)
+told_before request bytes WriteFailed known output errors (inr untold) = inr (gather_tells request untold.tells, refl, untold.cut)
 
-    go : (outcome : Outcome) → Reaches (reads_input request) (is_whole request) (right_for request bytes) outcome output → Tells outcome status errors
-        → Ended request bytes known before below status errors
-    go (Ok u) reached said = absurd (undone.0 said.0)
-    go (Err complaint) reached said = record {
-      complaint = complaint;
-      status_is = said.0;
-      may = ended_by request bytes complaint before buffered below held failed same reached kept;
-      says = by_line complaint said.1;
-    }
+-- and then its line
+says_line : (request : Request) (bytes : List ℕ) (complaint : Complaint) (known : Option (List ℕ)) (output between errors : Stream)
+    → between.before ≡ errors.before → (between.failed ≡ true → errors.failed ≡ true) → Reaches (task_of request) known bytes (Err complaint) output between
+    → HasLine (record { before = between.after; after = errors.after; failed = errors.failed }) (line_of complaint)
+    → Says request bytes known complaint errors
+says_line request bytes complaint known output between errors from stays reached last =
+    go (told_before request bytes complaint known output between reached)
+  where
+    before_is : (complaint : Complaint) → TellsBefore (task_of request) known bytes complaint between
+        → TellsBefore (task_of request) known bytes complaint (record { before = errors.before; after = between.after; failed = false })
+    before_is (Refused refusal) told = subst (λ (b : Option (List ℕ)). TellsBefore (task_of request) known bytes (Refused refusal) (record { before = b; after = between.after; failed = false })) from told
+    before_is OutOfMemory told = subst (λ (b : Option (List ℕ)). TellsBefore (task_of request) known bytes OutOfMemory (record { before = b; after = between.after; failed = false })) from told
+    before_is ReadFailed told = subst (λ (b : Option (List ℕ)). TellsBefore (task_of request) known bytes ReadFailed (record { before = b; after = between.after; failed = false })) from told
+    before_is WriteFailed told = subst (λ (b : Option (List ℕ)). TellsBefore (task_of request) known bytes WriteFailed (record { before = b; after = between.after; failed = false })) from told
 
-lines_ended : (set : SoupSet) (workers : ℕ) (profile : ProfileNumbers) (rule bytes : List ℕ) (known before buffered below : Option (List ℕ)) (held : List ℕ)
-    (failed : Bool) (status : Status) (errors : Stream)
-    → EndsRequest (Gather set workers profile rule) known bytes status (record { before = append_known before []; after = buffered; failed = failed }) errors
-    → IsUndone status → Keeps buffered (append_known below held)
-    → Ended (Gather set workers profile rule) bytes known before below status errors
-lines_ended set workers profile rule bytes known before buffered below held failed status errors ends undone kept =
+    go : TellsBefore (task_of request) known bytes complaint between ⊎ ((tells_lines request ≡ true) × (complaint ≡ WriteFailed) × (between.failed ≡ true))
+        → Says request bytes known complaint errors
+    go (inl told) = inl (between.after, before_is complaint told, last)
+    go (inr cut) = inr (cut.0, cut.1, stays cut.2)
+
+request_ended : (request : Request) (bytes : List ℕ) (known before buffered below : Option (List ℕ)) (held : List ℕ) (failed : Bool) (status : Status)
+    (errors : Stream) → Ends (task_of request) known bytes status (record { before = append_known before []; after = buffered; failed = failed }) errors
+    → IsUndone status → Keeps buffered (append_known below held) → Ended request bytes known before below status errors
+request_ended request bytes known before buffered below held failed status errors ends undone kept =
     go ends.outcome ends.reached ends.last ends.status_is
   where
     output : Stream
     output = record { before = append_known before []; after = buffered; failed = failed }
 
-    R : Result Gathering Complaint → Type 0
-    R = gather_right set workers profile rule bytes
-
-    O : Hauls
-    O = gather_opens set workers profile rule
-
-    begun : IsStopped O known output ends.between → BeginsHaul O known errors.before ends.between.after
-    begun stopped = record {
-      terms = stopped.terms;
-      opened = stopped.opened;
-      begun = subst (λ (x : Option (List ℕ)). HasBegun stopped.terms known x ends.between.after) ends.from stopped.begun;
-    }
-
-    quiet : IsSilent output ends.between → Appends errors.before ends.between.after []
-    quiet silent = subst (λ (x : Option (List ℕ)). Appends x ends.between.after []) ends.from silent.silent
-
-    nothing : IsSilent output ends.between ⊎ IsStopped O known output ends.between → Has output []
-    nothing (inl silent) = silent.nothing
-    nothing (inr stopped) = stopped.nothing
-
-    told : IsSilent output ends.between ⊎ IsStopped O known output ends.between
-        → Appends errors.before ends.between.after [] ⊎ BeginsHaul O known errors.before ends.between.after
-    told (inl silent) = inl (quiet silent)
-    told (inr stopped) = inr (begun stopped)
-
-    go : (outcome : Result ℕ Complaint) → Gathers R O known outcome output ends.between
-        → HasLine (record { before = ends.between.after; after = errors.after; failed = errors.failed }) (last_line outcome)
-        → status ≡ status_after outcome → Ended (Gather set workers profile rule) bytes known before below status errors
+    go : (outcome : Outcome) → Reaches (task_of request) known bytes outcome output ends.between
+        → HasLast outcome (record { before = ends.between.after; after = errors.after; failed = errors.failed })
+        → status ≡ status_after outcome → Ended request bytes known before below status errors
     go (Ok zero) reached last same = absurd (undone.0 same)
     go (Ok (suc n)) reached last same = absurd (undone.1 same)
-    go (Err (Refused refusal)) reached last same = record {
-      complaint = Refused refusal;
+    go (Err complaint) reached last same = record {
+      complaint = complaint;
       status_is = same;
-      may = (reached.0, front_sent before buffered below held [] [] reached.1.nothing kept);
-      says = inl (ends.between.after, quiet reached.1, last);
+      may = ended_by request bytes complaint known before buffered below held failed ends.between reached kept;
+      says = says_line request bytes complaint known output ends.between errors ends.from ends.stays reached last;
     }
-    go (Err OutOfMemory) reached last same = record {
-      complaint = OutOfMemory;
-      status_is = same;
-      may = (
-        λ unrefused complaint is. reached.0 complaint is,
-        λ answer is. front_sent before buffered below held [] (text_of answer) (nothing reached.1) kept,
-      );
-      says = inl (ends.between.after, told reached.1, last);
-    }
-    go (Err ReadFailed) reached last same = record {
-      complaint = ReadFailed;
-      status_is = same;
-      may = (
-        opens_reads set workers profile rule reached.terms reached.opened,
-        front_sent before buffered below held [] [] reached.nothing kept,
-      );
-      says = inl (ends.between.after, begun reached, last);
-    }
-    go (Err WriteFailed) (inl cut) last same = record {
-      complaint = WriteFailed;
-      status_is = same;
-      may = inl (front_left true (gathered_text R) before buffered below held failed (cut.gathering.text, (cut.gathering, cut.is, refl), cut.text) kept);
-      says = inl (
-        ends.between.after,
-        (cut.gathering, cut.is, inl (subst (λ (x : Option (List ℕ)). Appends x ends.between.after cut.gathering.told) ends.from cut.told)),
-        last,
-      );
-    }
-    go (Err WriteFailed) (inr untold) last same = record {
-      complaint = WriteFailed;
-      status_is = same;
-      may = inr (refl, front_sent before buffered below held [] [] untold.nothing kept);
-      says = inr (refl, ends.stays untold.cut);
-    }
-
-request_ended : (request : Request) (bytes : List ℕ) (known before buffered below : Option (List ℕ)) (held : List ℕ) (failed : Bool) (status : Status)
-    (errors : Stream) → EndsRequest request known bytes status (record { before = append_known before []; after = buffered; failed = failed }) errors
-    → IsUndone status → Keeps buffered (append_known below held) → Ended request bytes known before below status errors
-request_ended request bytes known before buffered below held failed status errors =
-    let output : Stream = record { before = append_known before []; after = buffered; failed = failed } in
-    by_answer (λ r. EndsRequest r known bytes status output errors → IsUndone status → Keeps buffered (append_known below held)
-    → Ended r bytes known before below status errors)
-    (λ r one ends. answer_ended r bytes known before buffered below held failed status errors one.same (λ complaint line. one.says bytes known complaint errors line)
-    (one.ends known bytes status output errors ends))
-    (λ set workers profile rule. lines_ended set workers profile rule bytes known before buffered below held failed status errors) request
 
 -- ---- a text that could not all be sent on
 
@@ -401,46 +301,38 @@ text_front : (before buffered below : Option (List ℕ)) (held text : List ℕ) 
 text_front before buffered below held text wrote kept =
     subst (IsFront before below) (append-nil text) (front_sent before buffered below held text [] wrote kept)
 
+-- a front of a right text that is known is left, however the text was written
+known_left : (whole : Bool) (right : Makes) (before below : Option (List ℕ)) (made : Made) → right (Ok made) → IsFront before below made.text
+    → LeavesFrontOf whole right before below
+known_left true right before below made is front = (made, is, front)
+known_left false right before below made is front = inl (made, is, front)
+
 -- the output and the line of a request of which not all could be sent on
 abbrev IsUnsent : Request → List ℕ → (known before below : Option (List ℕ)) → Stream → Type 0
 IsUnsent request bytes known before below after = MayEnd request bytes before below WriteFailed × Says request bytes known WriteFailed after
 
-answer_unsent : (request : Request) (bytes : List ℕ) (known before buffered below : Option (List ℕ)) (held : List ℕ) (failed : Bool)
+-- of what was printed
+unsent : (request : Request) (bytes : List ℕ) (known before buffered below : Option (List ℕ)) (held : List ℕ) (failed : Bool) (missing : ℕ)
     (silent between spoken : Option (List ℕ)) (was is_failed : Bool)
-    → (HasLine (record { before = silent; after = spoken; failed = is_failed }) (line_of WriteFailed)
-    → Says request bytes known WriteFailed (record { before = silent; after = spoken; failed = is_failed }))
-    → Ends (reads_input request) (is_whole request) (right_for request bytes) statuses.Done
-    (record { before = append_known before []; after = buffered; failed = failed }) (record { before = silent; after = between; failed = was })
-    → Keeps buffered (append_known below held) → Spoken between spoken was is_failed
+    → Printed (right_for request bytes) missing (record { before = append_known before []; after = buffered; failed = failed })
+    (record { before = silent; after = between; failed = was })
+    → (was ≡ true → tells_lines request ≡ true) → Keeps buffered (append_known below held) → Spoken between spoken was is_failed
     → IsUnsent request bytes known before below (record { before = silent; after = spoken; failed = is_failed })
-answer_unsent request bytes known before buffered below held failed silent between spoken was is_failed by_line ends kept said =
-    let output : Stream = record { before = append_known before []; after = buffered; failed = failed } in
-    let errors : Stream = record { before = silent; after = between; failed = was } in
-    let quiet = answer_silent (reads_input request) (is_whole request) (right_for request bytes) output errors ends in
-    let wrote = done_text (reads_input request) (is_whole request) (right_for request bytes) output errors ends in (
-      inl (known_left (is_whole request) (right_for request bytes) before below wrote.0 wrote.1 (text_front before buffered below held wrote.0 wrote.2 kept)),
-      by_line (line_after_nothing silent between spoken is_failed (line_of WriteFailed) quiet.0 (said.line quiet.1)),
-    )
-
-lines_unsent : (set : SoupSet) (workers : ℕ) (profile : ProfileNumbers) (rule bytes : List ℕ) (known before buffered below : Option (List ℕ))
-    (held : List ℕ) (failed : Bool) (missing : ℕ) (silent between spoken : Option (List ℕ)) (was is_failed : Bool)
-    → Printed (λ gathering. gather_right set workers profile rule bytes (Ok gathering)) missing
-    (record { before = append_known before []; after = buffered; failed = failed }) (record { before = silent; after = between; failed = was })
-    → Keeps buffered (append_known below held) → Spoken between spoken was is_failed
-    → IsUnsent (Gather set workers profile rule) bytes known before below (record { before = silent; after = spoken; failed = is_failed })
-lines_unsent set workers profile rule bytes known before buffered below held failed missing silent between spoken true is_failed printed kept said = (
-  inl (printed.gathering.text, (printed.gathering, printed.is, refl), text_front before buffered below held printed.gathering.text printed.wrote kept),
-  inr (refl, said.untold refl),
+unsent request bytes known before buffered below held failed missing silent between spoken true is_failed printed tells kept said = (
+  inl (known_left (is_whole request) (right_for request bytes) before below printed.made printed.is
+      (text_front before buffered below held printed.made.text printed.wrote kept)),
+  inr (tells refl, refl, said.untold refl),
 )
-lines_unsent set workers profile rule bytes known before buffered below held failed missing silent between spoken false is_failed printed kept said =
-    let told = printed.gathering.told in
+unsent request bytes known before buffered below held failed missing silent between spoken false is_failed printed tells kept said =
+    let told = printed.made.told in
     let last : Appends printed.told.between between (last_line (Ok missing)) = printed.told.last in
     let both = appends_then silent printed.told.between between told (last_line (Ok missing)) printed.told.whole last in (
-      inl (printed.gathering.text, (printed.gathering, printed.is, refl), text_front before buffered below held printed.gathering.text printed.wrote kept),
+      inl (known_left (is_whole request) (right_for request bytes) before below printed.made printed.is
+          (text_front before buffered below held printed.made.text printed.wrote kept)),
       inl (
         between,
-        (
-          printed.gathering,
+        inr (
+          printed.made,
           printed.is,
           inr (subst (λ (n : ℕ). Appends silent between (told ++ last_line (Ok n))) (sym printed.missing_is) both),
         ),
@@ -450,37 +342,29 @@ lines_unsent set workers profile rule bytes known before buffered below held fai
 
 request_unsent : (request : Request) (bytes : List ℕ) (known before buffered below : Option (List ℕ)) (held : List ℕ) (failed : Bool)
     (silent between spoken : Option (List ℕ)) (was is_failed : Bool)
-    → EndsRequest request known bytes statuses.Done (record { before = append_known before []; after = buffered; failed = failed })
+    → Ends (task_of request) known bytes statuses.Done (record { before = append_known before []; after = buffered; failed = failed })
     (record { before = silent; after = between; failed = was })
     → Keeps buffered (append_known below held) → Spoken between spoken was is_failed
     → IsUnsent request bytes known before below (record { before = silent; after = spoken; failed = is_failed })
-request_unsent request bytes known before buffered below held failed silent between spoken was is_failed =
+request_unsent request bytes known before buffered below held failed silent between spoken was is_failed ends kept said =
     let output : Stream = record { before = append_known before []; after = buffered; failed = failed } in
     let errors : Stream = record { before = silent; after = between; failed = was } in
-    let after : Stream = record { before = silent; after = spoken; failed = is_failed } in
-    by_answer (λ r. EndsRequest r known bytes statuses.Done output errors → Keeps buffered (append_known below held) → Spoken between spoken was is_failed
-    → IsUnsent r bytes known before below after)
-    (λ r one ends. answer_unsent r bytes known before buffered below held failed silent between spoken was is_failed
-    (one.says bytes known WriteFailed after) (one.ends known bytes statuses.Done output errors ends))
-    (λ set workers profile rule ends. lines_unsent set workers profile rule bytes known before buffered below held failed 0 silent between spoken was is_failed
-    (lines_done (gather_right set workers profile rule bytes) (gather_opens set workers profile rule) known output errors ends)) request
+    let fine : was ≡ false = (task_fine (task_of request) known bytes output errors ends).1 in
+    unsent request bytes known before buffered below held failed 0 silent between spoken was is_failed
+    (task_done (task_of request) known bytes output errors ends) (λ cut. let bad : false ≡ true = sym fine ∙ cut in cc) kept said
 
 request_unsent_less : (request : Request) (bytes : List ℕ) (known before buffered below : Option (List ℕ)) (held : List ℕ) (failed : Bool)
     (silent between spoken : Option (List ℕ)) (was is_failed : Bool)
-    → EndsRequest request known bytes statuses.Incomplete (record { before = append_known before []; after = buffered; failed = failed })
+    → Ends (task_of request) known bytes statuses.Incomplete (record { before = append_known before []; after = buffered; failed = failed })
     (record { before = silent; after = between; failed = was })
     → Keeps buffered (append_known below held) → Spoken between spoken was is_failed
     → IsUnsent request bytes known before below (record { before = silent; after = spoken; failed = is_failed })
-request_unsent_less request bytes known before buffered below held failed silent between spoken was is_failed =
+request_unsent_less request bytes known before buffered below held failed silent between spoken was is_failed ends kept said =
     let output : Stream = record { before = append_known before []; after = buffered; failed = failed } in
     let errors : Stream = record { before = silent; after = between; failed = was } in
-    let after : Stream = record { before = silent; after = spoken; failed = is_failed } in
-    by_answer (λ r. EndsRequest r known bytes statuses.Incomplete output errors → Keeps buffered (append_known below held)
-    → Spoken between spoken was is_failed → IsUnsent r bytes known before below after)
-    (λ r one ends. answer_complete (reads_input r) (is_whole r) (right_for r bytes) output errors (one.ends known bytes statuses.Incomplete output errors ends))
-    (λ set workers profile rule ends.
-    let less = lines_incomplete (gather_right set workers profile rule bytes) (gather_opens set workers profile rule) known output errors ends in
-    lines_unsent set workers profile rule bytes known before buffered below held failed (suc less.0) silent between spoken was is_failed less.1) request
+    let less = task_incomplete (task_of request) known bytes output errors ends in
+    unsent request bytes known before buffered below held failed (suc less.0) silent between spoken was is_failed less.1
+    (λ cut. tells_missing request bytes less.1.made less.0 less.1.is less.1.missing_is) kept said
 
 -- ---- the words
 
@@ -521,17 +405,17 @@ doing words known status output errors (inl does) enough = go (asked_by words) r
 -- what was printed, with nothing held back
 is_done : (words : List Text) (known before buffered below : Option (List ℕ)) (failed : Bool) (status : Status) (missing : ℕ) (errors : Stream)
     → (d : Doing words known status (record { before = append_known before []; after = buffered; failed = failed }) errors)
-    → Printed (Gives d.request d.does.bytes) missing (record { before = append_known before []; after = buffered; failed = failed }) errors
+    → Printed (right_for d.request d.does.bytes) missing (record { before = append_known before []; after = buffered; failed = failed }) errors
     → Keeps buffered (append_known below []) → IsDone words known before below errors missing
 is_done words known before buffered below failed status missing errors d printed kept = record {
   request = d.request;
   asked = d.asked;
   bytes = d.does.bytes;
   input = d.does.input;
-  gathering = printed.gathering;
-  gives = printed.is;
+  made = printed.made;
+  right = printed.is;
   missing_is = printed.missing_is;
-  written = whole_sent before buffered below printed.gathering.text printed.wrote kept;
+  written = whole_sent before buffered below printed.made.text printed.wrote kept;
   told = printed.told;
 }
 
@@ -543,7 +427,7 @@ pub program_done : (words : List Text) (known : Option (List ℕ)) (status : Sta
 program_done words known status before start buffered below held failed errors passes does done empty =
     let at_done = subst (λ (s : Status). DoesWords words known s (record { before = start; after = buffered; failed = failed }) errors) done does in
     let d = doing words known statuses.Done _ errors (from_start words known statuses.Done before start buffered failed errors passes.starts at_done) (λ is. cc) in
-    is_done words known before buffered below failed statuses.Done 0 errors d (request_done d.request known d.does.bytes _ errors d.does.ends)
+    is_done words known before buffered below failed statuses.Done 0 errors d (task_done (task_of d.request) known d.does.bytes _ errors d.does.ends)
     (subst (λ (h : List ℕ). Keeps buffered (append_known below h)) empty passes.kept)
 
 -- a command that was done but for soups that are missing, with an empty buffer
@@ -555,7 +439,7 @@ program_incomplete words known status before start buffered below held failed er
     let at_done = subst (λ (s : Status). DoesWords words known s (record { before = start; after = buffered; failed = failed }) errors) done does in
     let d = doing words known statuses.Incomplete _ errors (from_start words known statuses.Incomplete before start buffered failed errors passes.starts at_done)
     (λ is. cc) in
-    let printed = request_incomplete d.request known d.does.bytes _ errors d.does.ends in (
+    let printed = task_incomplete (task_of d.request) known d.does.bytes _ errors d.does.ends in (
       printed.0,
       is_done words known before buffered below failed statuses.Incomplete (suc printed.0) errors d printed.1
           (subst (λ (h : List ℕ). Keeps buffered (append_known below h)) empty passes.kept),
@@ -625,6 +509,15 @@ program_unsent words known status before start buffered below held failed silent
     (record { line = line; untold = untold }) in
     complains_of words known before below (exit_code statuses.Failed) after d.request WriteFailed d.asked refl
     (record { bytes = d.does.bytes; input = d.does.input; may = unsent.0; says = unsent.1 })
+
+-- only a refusal has its code
+pub code_refused : (status : Status) → exit_code status ≡ 3 → status ≡ statuses.Refused
+code_refused statuses.Done is = let bad : 0 ≡ 3 = is in cc
+code_refused statuses.Usage is = let bad : 2 ≡ 3 = is in cc
+code_refused statuses.Refused is = refl
+code_refused statuses.OutOfMemory is = let bad : 4 ≡ 3 = is in cc
+code_refused statuses.Failed is = let bad : 5 ≡ 3 = is in cc
+code_refused statuses.Incomplete is = let bad : 6 ≡ 3 = is in cc
 
 -- a command printed its text, or a complaint ended it
 pub printed_or_not : (status : Status)

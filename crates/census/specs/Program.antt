@@ -1,18 +1,19 @@
 -- How the program ends, from its words to the bytes that it leaves.
-use Rattle.std.specs.Prelude.{◌≡◌, ◌++◌, ◌⊎◌, ℕ, Bool, true, false, List, [], Option, None, Some, Ok, Err, IsSomeAnd, ⊤, codes}
+use Rattle.std.specs.Prelude.{◌≡◌, ◌++◌, ◌⊎◌, ℕ, Bool, true, false, List, [], Option, None, Some, Result, Ok, Err, IsSomeAnd, ⊤, codes}
 use Rattle.std.specs.Io.KnownBytes.{Appends}
 use Rattle.plane_core.specs.Out.{Output}
 use Rattle.commands.specs.declared.complaint.Complaint.{Complaint}
 use Rattle.commands.specs.declared.complaint.Complaint.TheVariants.{Refused, OutOfMemory, ReadFailed, WriteFailed}
 use Rattle.commands.specs.declared.request.Request.{Request}
-use Rattle.commands.specs.Answers.{Answer, IsInput, NeedsMemory, Right, text_of}
+use Rattle.commands.specs.Answers.{IsInput}
 use Rattle.commands.specs.Complaints.{line_of, status_of}
-use Rattle.commands.specs.Gather.{Gathering, last_line}
+use Rattle.commands.specs.Ends.{last_line}
 use Rattle.commands.specs.Requests.{is_whole, reads_input, refuses_input, right_for}
 use Rattle.commands.specs.Status.{exit_code}
 use Rattle.commands.specs.Streams.{Stream, HasLine}
+use Rattle.commands.specs.Tasks.{Made, Makes, NeedsMemoryAlone, text_made}
 use Rattle.clap.specs.Words.{Text}
-use Rattle.census.specs.LastLines.{Gives, HasTextAndLine, Says, tells_lines}
+use Rattle.census.specs.LastLines.{HasTextAndLine, Says, tells_lines}
 use Rattle.census.specs.Words.{asked_by}
 
 -- the stream of a writer that was handed over, and is given back with whether a write failed
@@ -35,11 +36,11 @@ pub record IsDone (words : List Text) (known before after : Option (List ℕ)) (
   pub asked : asked_by words ≡ Some request
   pub bytes : List ℕ
   pub input : IsInput known bytes
-  pub gathering : Gathering
-  pub gives : Gives request bytes gathering
-  pub missing_is : gathering.missing ≡ missing
-  pub written : Appends before after gathering.text
-  pub told : HasTextAndLine errors gathering.told (last_line (Ok missing))
+  pub made : Made
+  pub right : right_for request bytes (Ok made)
+  pub missing_is : made.missing ≡ missing
+  pub written : Appends before after made.text
+  pub told : HasTextAndLine errors made.told (last_line (Ok missing))
 
 -- the bytes now are a front of the bytes before and the text
 abbrev pub IsFront : Option (List ℕ) → Option (List ℕ) → List ℕ → Type 0
@@ -49,11 +50,11 @@ IsFront (Some xs) (Some ys) text = (rest : List ℕ) × (ys ++ rest ≡ xs ++ te
 
 -- What the writer holds when a write failed: of a text that was whole before it was written, a front. Of one that is written as
 -- it is made, a front too, if it is known to its end; or else a front of each right text, and no complaint is right.
-abbrev pub LeavesFrontOf : Bool → Right → Option (List ℕ) → Option (List ℕ) → Type 0
-LeavesFrontOf true right before after = (text : List ℕ) × right (Ok text) × IsFront before after text
+abbrev pub LeavesFrontOf : Bool → Makes → Option (List ℕ) → Option (List ℕ) → Type 0
+LeavesFrontOf true right before after = (made : Made) × right (Ok made) × IsFront before after made.text
 LeavesFrontOf false right before after =
-    ((text : List ℕ) × right (Ok text) × IsFront before after text)
-    ⊎ (((complaint : Complaint) → right (Err complaint) → ⊥) × ((text : List ℕ) → right (Ok text) → IsFront before after text))
+    ((made : Made) × right (Ok made) × IsFront before after made.text)
+    ⊎ (((complaint : Complaint) → right (Err complaint) → ⊥) × ((made : Made) → right (Ok made) → IsFront before after made.text))
 
 -- A complaint may end a request: a refusal if that is right for it, memory that runs out, or a stream that fails. The writer
 -- holds nothing of it, or a front of the right text where memory ran out or a write failed. Memory hides a refusal only if
@@ -62,8 +63,8 @@ LeavesFrontOf false right before after =
 abbrev pub MayEnd : Request → List ℕ → Option (List ℕ) → Option (List ℕ) → Complaint → Type 0
 MayEnd request bytes before after (Refused refusal) = right_for request bytes (Err (Refused refusal)) × IsFront before after []
 MayEnd request bytes before after OutOfMemory =
-    (refuses_input request ≡ false → (complaint : Complaint) → right_for request bytes (Err complaint) → NeedsMemory complaint)
-    × ((answer : Answer) → right_for request bytes answer → IsFront before after (text_of answer))
+    (refuses_input request ≡ false → NeedsMemoryAlone (right_for request bytes))
+    × ((answer : Result Made Complaint) → right_for request bytes answer → IsFront before after (text_made answer))
 MayEnd request bytes before after ReadFailed = (reads_input request ≡ true) × IsFront before after []
 MayEnd request bytes before after WriteFailed =
     LeavesFrontOf (is_whole request) (right_for request bytes) before after ⊎ ((tells_lines request ≡ true) × IsFront before after [])

@@ -1,5 +1,5 @@
 -- Lemmas on what commands read and answer.
-use Rattle.std.proofs.Common.{◌≡◌, ◌≤◌, ◌^◌, ◌↔◌, ℕ, List, [], length, Bool, true, false, Option, None, Some, Result, Ok, Err, nat_le, refl}
+use Rattle.std.proofs.Common.{◌≡◌, ◌≤◌, ◌^◌, ◌↔◌, ℕ, zero, suc, List, [], length, Bool, true, false, Option, None, Some, Result, Ok, Err, nat_le, refl}
 use Rattle.std.proofs.Common.{IfSome, ◌+◌, ◌++◌, arith, length-take, subst, sym, ap, take, take_all, ◌∙◌, rules}
 use Rattle.std.specs.Option.{option_map}
 use Rattle.std.specs.Result.{IsErrAnd, IsErrOf, result_map_both}
@@ -19,10 +19,13 @@ use Rattle.commands.specs.declared.status.Status.{Status}
 use Rattle.commands.specs.declared.status.Status.TheVariants as statuses
 use Rattle.commands.specs.declared.input.InputFault.{InputFault}
 use Rattle.commands.specs.declared.input.InputFault.TheVariants as input_fault
-use Rattle.commands.specs.Answers.{Ends, IsInput, Outcome, Reaches, Right, Tells, text_of}
+use Rattle.commands.specs.Answers.{IsInput, Right}
+use Rattle.commands.specs.Ends.{Ends, Outcome, status_after}
 use Rattle.commands.specs.Inputs.{Reads, rule_named, input_complaint, plaintext_complaint, pattern_complaint, pattern_of, rule_complaint}
 use Rattle.commands.specs.Complaints.{status_of}
 use Rattle.commands.specs.Streams.{Stream, Has}
+use Rattle.commands.specs.Tasks.{Task}
+use Rattle.commands.specs.TextSteps.{ReachesText}
 
 -- an error that is known is the result
 pub err_of : {A E : Type 0} (r : Result A E) (e : E) → IsErrAnd r (λ x. x ≡ e) → r ≡ Err e
@@ -72,14 +75,14 @@ Reads_error bytes (plaintext_error.Fault fault) short faults = Reads_refused byt
 Reads_error bytes plaintext_error.Memory short faults = tt
 
 -- memory that runs out after the input is begun leaves nothing on the output
-pub Reaches_no_memory : (reads : Bool) (right : Right) (output : Stream) → reads ≡ true → Has output [] → Reaches reads true right (Err OutOfMemory) output
+pub Reaches_no_memory : (reads : Bool) (right : Right) (output : Stream) → reads ≡ true → Has output [] → ReachesText reads true right (Err OutOfMemory) output
 Reaches_no_memory reads right output read nothing =
-    (λ unread complaint is. let bad : false ≡ true = sym unread ∙ read in cc, λ answer is. ([], text_of answer, refl, nothing))
+    (λ unread complaint is. let bad : false ≡ true = sym unread ∙ read in cc, nothing)
 
 -- an input that was refused or not read is what a command ends with, with nothing on the output
 pub Reaches_unread : {A : Type 0} (reads : Bool) (right : Right) (answer : Result A Complaint) (complaint : Complaint) (output : Stream) → reads ≡ true
     → ((refusal : Refusal) → answer ≡ Err (Refused refusal) → right (Err (Refused refusal))) → Reads answer (Err complaint) → Has output []
-    → Reaches reads true right (Err complaint) output
+    → ReachesText reads true right (Err complaint) output
 Reaches_unread reads right answer (Refused refusal) output read is refused nothing = (is refusal refused, nothing)
 Reaches_unread reads right answer OutOfMemory output read is refused nothing = Reaches_no_memory reads right output read nothing
 Reaches_unread reads right answer ReadFailed output read is refused nothing = (read, nothing)
@@ -88,7 +91,7 @@ Reaches_unread reads right answer WriteFailed output read is refused nothing = a
 -- a refused rule is a right answer, with nothing on the output
 pub Reaches_rule : (reads : Bool) (right : Right) (text : List ℕ) (error : RuleError) (output : Stream) → rule_read text ≡ Err error
     → ((complaint : Complaint) → rule_named text ≡ Err complaint → right (Err complaint)) → Has output []
-    → Reaches reads true right (Err (rule_complaint error)) output
+    → ReachesText reads true right (Err (rule_complaint error)) output
 Reaches_rule reads right text (rule_error.BadRule place) output is told nothing = (told _ (rw is refl), nothing)
 Reaches_rule reads right text rule_error.BirthZero output is told nothing = (told _ (rw is refl), nothing)
 
@@ -100,10 +103,11 @@ status_of-command ReadFailed is = cc
 status_of-command WriteFailed is = cc
 
 -- a command that ended well has no usage fault
-pub Ends-command : {reads whole : Bool} {right : Right} {status : Status} {output errors : Stream} → Ends reads whole right status output errors
-    → status ≡ statuses.Usage → ⊥
-Ends-command {status = status} {errors = errors} ends is = go ends.outcome ends.told
+pub Ends-command : {task : Task} {known : Option (List ℕ)} {bytes : List ℕ} {status : Status} {output errors : Stream}
+    → Ends task known bytes status output errors → status ≡ statuses.Usage → ⊥
+Ends-command ends is = no_usage ends.outcome (sym ends.status_is ∙ is)
   where
-    go : (outcome : Outcome) → Tells outcome status errors → ⊥
-    go (Ok done) told = let bad : statuses.Done ≡ statuses.Usage = sym told.0 ∙ is in cc
-    go (Err complaint) told = status_of-command complaint (sym told.0 ∙ is)
+    no_usage : (outcome : Outcome) → status_after outcome ≡ statuses.Usage → ⊥
+    no_usage (Ok zero) same = cc
+    no_usage (Ok (suc n)) same = cc
+    no_usage (Err complaint) same = status_of-command complaint same

@@ -1,5 +1,5 @@
 -- How gathering ends.
-use Rattle.std.proofs.Common.{◌≡◌, ◌∙◌, ◌++◌, ◌≤◌, ◌^◌, ℕ, zero, suc, true, inl, inr, List, [], ◌∷◌, Option, Result, Ok, Err, IsOkAnd, ap, is_ok, length, refl, subst, sym}
+use Rattle.std.proofs.Common.{◌≡◌, ◌∙◌, ◌++◌, ◌≤◌, ◌^◌, ◌⊎◌, ℕ, zero, suc, false, inl, inr, List, [], ◌∷◌, Option, Result, Ok, Err, IfErr, ap, length, refl, subst, sym}
 use Rattle.survey_core.specs.declared.job.Job.{Job}
 use Rattle.haul_core.specs.declared.arrival.Arrival.{Arrival}
 use Rattle.haul_core.specs.declared.arrival.Arrival.TheVariants.{Closing}
@@ -15,28 +15,21 @@ use Rattle.commands.specs.declared.complaint.Complaint.TheVariants.{Refused, Out
 use Rattle.commands.specs.declared.profile.ProfileNumbers.{ProfileNumbers}
 use Rattle.commands.specs.declared.refusal.Refusal.{Refusal}
 use Rattle.commands.specs.declared.soup_set.SoupSet.{SoupSet}
-use Rattle.commands.specs.declared.status.Status.{Status}
 use Rattle.commands.specs.declared.status.Status.TheVariants as statuses
 use Rattle.commands.specs.Answers.{NeedsMemory}
-use Rattle.commands.specs.Gather.{EndsGather, Gathering, Gathers, HidesNoOther, IsGathered, IsGathering, IsHaulOver, IsSame, IsSilent, IsStopped}
-use Rattle.commands.specs.Gather.{gather_opens, gather_reads, gather_right, gathered_right, status_after}
-use Rattle.commands.specs.GatherSteps.{EndsLines, HasGatheredShort}
+use Rattle.commands.specs.Complaints.{status_of}
+use Rattle.commands.specs.Ends.{IsSilent, Outcome, Reaches, status_after}
+use Rattle.commands.specs.Finish.{Finishes, IsCensusOf}
+use Rattle.commands.specs.Gather.{BeginsHaul, IsGathered, IsGathering, IsHaulOver, IsSame, gather_opens, gather_right, gather_task, haul_task}
+use Rattle.commands.specs.GatherSteps.{EndsLines, HasBegun, HasGatheredShort}
 use Rattle.commands.specs.GatheredLines.{Gathered}
 use Rattle.commands.specs.Lines.{lines_of}
 use Rattle.commands.specs.SoupSets.{Bad_list, IsRefused, Overlapping, Too_large, job_named}
 use Rattle.commands.specs.Streams.{Stream, Has}
 use Rattle.commands.specs.TakeSteps.{IsOpened, StopsSet}
-use Rattle.commands.proofs.AnswerLemmas.{status_of-command}
+use Rattle.commands.specs.Tasks.{Made, NeedsMemoryAlone}
+use Rattle.commands.proofs.GatherLemmas.{all_begun}
 use Rattle.commands.proofs.TakeLemmas.{job_refused}
-
--- where a haul may be opened, the input is looked at
-pub opens_reads : (set : SoupSet) (workers : ℕ) (numbers : ProfileNumbers) (rule_text : List ℕ) (terms : Terms)
-    → gather_opens set workers numbers rule_text terms → gather_reads set numbers rule_text ≡ true
-opens_reads set workers numbers rule_text terms = go (job_named set numbers rule_text)
-  where
-    go : (named : Result Job Complaint) → IsOkAnd named (λ job. IsHaulOver set workers job terms) → is_ok named ≡ true
-    go (Ok job) over = refl
-    go (Err complaint) over = absurd over
 
 -- memory that runs out over a range list hides only what it is needed for
 list_needs : (set : SoupSet) (refusal : Refusal) → IsListText set.also → IsRefused set refusal → NeedsMemory (Refused refusal)
@@ -45,7 +38,7 @@ list_needs set refusal listed (Too_large ranges named large is) = subst (λ (r :
 list_needs set refusal listed (Overlapping ranges named small overlap is) = subst (λ (r : Refusal). NeedsMemory (Refused r)) (sym is) tt
 
 list_hides : (set : SoupSet) (workers : ℕ) (numbers : ProfileNumbers) (rule_text bytes : List ℕ) (job : Job) → job_named set numbers rule_text ≡ Ok job
-    → IsListText set.also → HidesNoOther (gather_right set workers numbers rule_text bytes)
+    → IsListText set.also → NeedsMemoryAlone (gather_right set workers numbers rule_text bytes)
 list_hides set workers numbers rule_text bytes job named listed (Refused refusal) is = list_needs set refusal listed (rw named at is)
 list_hides set workers numbers rule_text bytes job named listed OutOfMemory is = absurd is
 list_hides set workers numbers rule_text bytes job named listed ReadFailed is = absurd is
@@ -54,7 +47,7 @@ list_hides set workers numbers rule_text bytes job named listed WriteFailed is =
 -- a job that is refused
 pub gathers_job : (set : SoupSet) (workers : ℕ) (numbers : ProfileNumbers) (rule_text bytes : List ℕ) (known : Option (List ℕ)) (complaint : Complaint)
     (output errors : Stream) → job_named set numbers rule_text ≡ Err complaint → IsSilent output errors
-    → Gathers (gather_right set workers numbers rule_text bytes) (gather_opens set workers numbers rule_text) known (Err complaint) output errors
+    → Reaches (gather_task set workers numbers rule_text) known bytes (Err complaint) output errors
 gathers_job set workers numbers rule_text bytes known (Refused refusal) output errors named silent = (rw named refl, silent)
 gathers_job set workers numbers rule_text bytes known OutOfMemory output errors named silent = absurd (job_refused set numbers rule_text OutOfMemory named)
 gathers_job set workers numbers rule_text bytes known ReadFailed output errors named silent = absurd (job_refused set numbers rule_text ReadFailed named)
@@ -63,48 +56,95 @@ gathers_job set workers numbers rule_text bytes known WriteFailed output errors 
 -- a set that is refused, or memory that runs out over it
 pub gathers_set : (set : SoupSet) (workers : ℕ) (numbers : ProfileNumbers) (rule_text bytes : List ℕ) (known : Option (List ℕ)) (job : Job)
     (complaint : Complaint) (output errors : Stream) → job_named set numbers rule_text ≡ Ok job → StopsSet set complaint → IsSilent output errors
-    → Gathers (gather_right set workers numbers rule_text bytes) (gather_opens set workers numbers rule_text) known (Err complaint) output errors
+    → Reaches (gather_task set workers numbers rule_text) known bytes (Err complaint) output errors
 gathers_set set workers numbers rule_text bytes known job (Refused refusal) output errors named stops silent = (rw named stops, silent)
-gathers_set set workers numbers rule_text bytes known job OutOfMemory output errors named stops silent =
-    (list_hides set workers numbers rule_text bytes job named stops, inl silent)
+gathers_set set workers numbers rule_text bytes known job OutOfMemory output errors named stops silent = record {
+  hides = λ _. list_hides set workers numbers rule_text bytes job named stops;
+  left = silent.nothing;
+  told = inl silent.silent;
+  fine = silent.fine;
+}
 gathers_set set workers numbers rule_text bytes known job ReadFailed output errors named stops silent = absurd stops
 gathers_set set workers numbers rule_text bytes known job WriteFailed output errors named stops silent = absurd stops
 
--- a complaint over the lines
-pub gathers_lines : (terms : Terms) (bytes : List ℕ) (known : Option (List ℕ)) (complaint : Complaint) (output errors : Stream)
-    → EndsLines terms known errors.before errors.after errors.failed complaint → Has output []
-    → Gathers (gathered_right terms bytes) (IsSame terms) known (Err complaint) output errors
-gathers_lines terms bytes known (Refused refusal) output errors ends nothing = absurd ends
-gathers_lines terms bytes known OutOfMemory output errors ends nothing =
-    (λ _ is. absurd is, inr (record { terms = terms; opened = refl; begun = ends.0; nothing = nothing; fine = ends.1 }))
-gathers_lines terms bytes known ReadFailed output errors ends nothing =
-    record { terms = terms; opened = refl; begun = ends.0; nothing = nothing; fine = ends.1 }
-gathers_lines terms bytes known WriteFailed output errors ends nothing = inr (record { terms = terms; opened = refl; nothing = nothing; cut = ends })
-
 -- what was gathered
-pub is_gathered : (terms : Terms) (held closed : Held) (census : Census) (known before after : Option (List ℕ))
-    → (all : HasGatheredShort known before after held) → held.terms ≡ terms → closed.terms ≡ held.terms
+is_gathered : (terms : Terms) (held closed : Held) (census : Census) (n : ℕ) (known before after : Option (List ℕ))
+    → (all : HasGatheredShort known before after held) → held.terms ≡ terms → closed.terms ≡ held.terms → closed.taken ≡ held.taken
     → ((arrivals : List Arrival) → StandsFor arrivals held → StandsFor (arrivals ++ Closing ∷ []) closed)
-    → IsCensus closed.terms.job closed.terms.ranges (numbers_in closed.taken) census
-    → IsGathered terms all.2.bytes
-    (record { text = haul_text census; told = all.2.told; missing = length (missing_of closed.terms.ranges closed.taken) })
-is_gathered terms held closed census known before after all same kept closes counted =
+    → IsCensusOf held census → n ≡ length (missing_of held.terms.ranges held.taken)
+    → IsGathered terms all.2.bytes (record { text = haul_text census; told = all.2.told; missing = n })
+is_gathered terms held closed census n known before after all same kept took closes counted many =
     let read = all.2 in
-    let now : closed.terms ≡ terms = kept ∙ same in
     let P : Terms → Type 0 = λ t. Gathered t (lines_of read.bytes) read.met.arrivals read.told in
-    let Q : Terms → Type 0 = λ t. IsCensus t.job t.ranges (numbers_in closed.taken) census in
+    let Q : Terms → Type 0 = λ t. IsCensus t.job t.ranges (numbers_in held.taken) census in
     let stands = closes read.met.arrivals read.met.stands in
     record {
       short = subst (λ (n : ℕ). n ≤ 2 ^ 32) read.size_is all.1;
       arrivals = read.met.arrivals;
       gathered = subst P same read.met.gathered;
-      taken = closed.taken;
-      taken_is = stands.taken ∙ ap (λ (t : Terms). taken_of t (read.met.arrivals ++ Closing ∷ [])) now;
+      taken = held.taken;
+      taken_is = sym took ∙ stands.taken ∙ ap (λ (t : Terms). taken_of t (read.met.arrivals ++ Closing ∷ [])) (kept ∙ same);
       census = census;
-      counted = subst Q now counted;
+      counted = subst Q same counted;
       text_is = refl;
-      missing_is = ap (λ (t : Terms). length (missing_of t.ranges closed.taken)) now;
+      missing_is = many ∙ ap (λ (t : Terms). length (missing_of t.ranges held.taken)) same;
     }
+
+-- memory ran out after some lines
+gathers_memory : (terms : Terms) (bytes : List ℕ) (known : Option (List ℕ)) (output errors : Stream) → HasBegun terms known errors.before errors.after
+    → Has output [] → errors.failed ≡ false → Reaches (haul_task terms) known bytes (Err OutOfMemory) output errors
+gathers_memory terms bytes known output errors begun nothing fine = record {
+  hides = λ _ _ is. absurd is;
+  left = nothing;
+  told = inr (record { terms = terms; opened = refl; begun = begun });
+  fine = fine;
+}
+
+-- a complaint over the lines
+pub gathers_lines : (terms : Terms) (bytes : List ℕ) (known : Option (List ℕ)) (complaint : Complaint) (output errors : Stream)
+    → EndsLines terms known errors.before errors.after errors.failed complaint → Has output []
+    → Reaches (haul_task terms) known bytes (Err complaint) output errors
+gathers_lines terms bytes known (Refused refusal) output errors ends nothing = absurd ends
+gathers_lines terms bytes known OutOfMemory output errors ends nothing = gathers_memory terms bytes known output errors ends.0 nothing ends.1
+gathers_lines terms bytes known ReadFailed output errors ends nothing =
+    record { reads = refl; begun = record { terms = terms; opened = refl; begun = ends.0 }; nothing = nothing; fine = ends.1 }
+gathers_lines terms bytes known WriteFailed output errors ends nothing = inr (record { tells = tt; nothing = nothing; cut = ends })
+
+-- what became of a haul to which all lines have come, when it was finished
+pub gathers_haul : (terms : Terms) (held closed : Held) (known : Option (List ℕ)) (outcome : Outcome) (output errors : Stream)
+    → (all : HasGatheredShort known errors.before errors.after held) → held.terms ≡ terms → closed.terms ≡ held.terms → closed.taken ≡ held.taken
+    → ((arrivals : List Arrival) → StandsFor arrivals held → StandsFor (arrivals ++ Closing ∷ []) closed)
+    → Finishes held outcome output → errors.failed ≡ false → Reaches (haul_task terms) known all.2.bytes outcome output errors
+gathers_haul terms held closed known outcome output errors all same kept took closes finishes fine = go outcome finishes
+  where
+    gathered : (census : Census) (n : ℕ) → IsCensusOf held census → n ≡ length (missing_of held.terms.ranges held.taken)
+        → IsGathered terms all.2.bytes (record { text = haul_text census; told = all.2.told; missing = n })
+    gathered census n counted many = is_gathered terms held closed census n known errors.before errors.after all same kept took closes counted many
+
+    go : (outcome : Outcome) → Finishes held outcome output → Reaches (haul_task terms) known all.2.bytes outcome output errors
+    go (Ok missing) is = record {
+      made = record { text = haul_text is.census; told = all.2.told; missing = missing };
+      is = gathered is.census missing is.counted is.missing_is;
+      missing_is = refl;
+      text = is.text;
+      written = is.fine;
+      told = all.2.written;
+      fine = fine;
+    }
+    go (Err OutOfMemory) nothing =
+        gathers_memory terms all.2.bytes known output errors (all_begun known errors.before errors.after all.0 held terms all.2 same) nothing fine
+    go (Err WriteFailed) is = inl (record {
+      left = (
+        record { text = haul_text is.census; told = all.2.told; missing = length (missing_of held.terms.ranges held.taken) },
+        gathered is.census (length (missing_of held.terms.ranges held.taken)) is.counted refl,
+        is.front,
+        all.2.written,
+      );
+      cut = is.cut;
+      fine = fine;
+    })
+    go (Err ReadFailed) is = absurd is
+    go (Err (Refused refusal)) is = absurd is
 
 -- a haul that was opened is one over the set
 pub is_over : (job : Job) (set : SoupSet) (workers : ℕ) (held : Held) → IsOpened job set workers held → IsHaulOver set workers job held.terms
@@ -120,12 +160,12 @@ is_over job set workers held open_ = record {
 
 -- from what is gathered in an open haul to what is right for the set
 pub gathers_over : (set : SoupSet) (workers : ℕ) (numbers : ProfileNumbers) (rule_text bytes : List ℕ) (known : Option (List ℕ)) (job : Job) (terms : Terms)
-    (outcome : Result ℕ Complaint) (output errors : Stream) → job_named set numbers rule_text ≡ Ok job → IsHaulOver set workers job terms
-    → Gathers (gathered_right terms bytes) (IsSame terms) known outcome output errors
-    → Gathers (gather_right set workers numbers rule_text bytes) (gather_opens set workers numbers rule_text) known outcome output errors
+    (outcome : Outcome) (output errors : Stream) → job_named set numbers rule_text ≡ Ok job → IsHaulOver set workers job terms
+    → Reaches (haul_task terms) known bytes outcome output errors
+    → Reaches (gather_task set workers numbers rule_text) known bytes outcome output errors
 gathers_over set workers numbers rule_text bytes known job terms outcome output errors named over = go outcome
   where
-    right : (gathering : Gathering) → IsGathered terms bytes gathering → gather_right set workers numbers rule_text bytes (Ok gathering)
+    right : (gathering : Made) → IsGathered terms bytes gathering → gather_right set workers numbers rule_text bytes (Ok gathering)
     right gathering is =
         let gathers : IsGathering set workers bytes gathering job = record { terms = terms; opened = over; is = is } in
         rw named gathers
@@ -135,17 +175,23 @@ gathers_over set workers numbers rule_text bytes known job terms outcome output 
         let other : IsHaulOver set workers job others = subst (IsHaulOver set workers job) (sym same) over in
         rw named other
 
-    stopped : IsStopped (IsSame terms) known output errors → IsStopped (gather_opens set workers numbers rule_text) known output errors
-    stopped is = record { terms = is.terms; opened = opens is.terms is.opened; begun = is.begun; nothing = is.nothing; fine = is.fine }
+    begins : BeginsHaul (IsSame terms) known errors.before errors.after
+        → BeginsHaul (gather_opens set workers numbers rule_text) known errors.before errors.after
+    begins is = record { terms = is.terms; opened = opens is.terms is.opened; begun = is.begun }
+
+    told : Has errors [] ⊎ BeginsHaul (IsSame terms) known errors.before errors.after
+        → Has errors [] ⊎ BeginsHaul (gather_opens set workers numbers rule_text) known errors.before errors.after
+    told (inl silent) = inl silent
+    told (inr is) = inr (begins is)
 
     listed : IsListText set.also
     listed = record { ranges = over.named.listed; words = over.named.words; spelled = over.named.spelled }
 
-    go : (outcome : Result ℕ Complaint) → Gathers (gathered_right terms bytes) (IsSame terms) known outcome output errors
-        → Gathers (gather_right set workers numbers rule_text bytes) (gather_opens set workers numbers rule_text) known outcome output errors
+    go : (outcome : Outcome) → Reaches (haul_task terms) known bytes outcome output errors
+        → Reaches (gather_task set workers numbers rule_text) known bytes outcome output errors
     go (Ok missing) is = record {
-      gathering = is.gathering;
-      is = right is.gathering is.is;
+      made = is.made;
+      is = right is.made is.is;
       missing_is = is.missing_is;
       text = is.text;
       written = is.written;
@@ -153,34 +199,33 @@ gathers_over set workers numbers rule_text bytes known job terms outcome output 
       fine = is.fine;
     }
     go (Err (Refused refusal)) is = absurd (is.0)
-    go (Err OutOfMemory) (hides, inl silent) = (list_hides set workers numbers rule_text bytes job named listed, inl silent)
-    go (Err OutOfMemory) (hides, inr is) = (list_hides set workers numbers rule_text bytes job named listed, inr (stopped is))
-    go (Err ReadFailed) is = stopped is
-    go (Err WriteFailed) (inl is) = inl (record {
-      gathering = is.gathering;
-      is = right is.gathering is.is;
-      text = is.text;
-      cut = is.cut;
-      told = is.told;
+    go (Err OutOfMemory) is = record {
+      hides = λ _. list_hides set workers numbers rule_text bytes job named listed;
+      left = is.left;
+      told = told is.told;
       fine = is.fine;
-    })
-    go (Err WriteFailed) (inr is) = inr (record { terms = is.terms; opened = opens is.terms is.opened; nothing = is.nothing; cut = is.cut })
+    }
+    go (Err ReadFailed) is = record { reads = rw named refl; begun = begins is.begun; nothing = is.nothing; fine = is.fine }
+    go (Err WriteFailed) (inl is) =
+        let (made, gathered, front, told) = is.left in
+        inl (record { left = (made, right made gathered, front, told); cut = is.cut; fine = is.fine })
+    go (Err WriteFailed) (inr is) = inr (record { tells = (terms, opens terms refl); nothing = is.nothing; cut = is.cut })
 
--- what is missing is no refusal
-pub not_refused : (missing : ℕ) → status_after (Ok missing) ≡ statuses.Refused → ⊥
-not_refused zero same = cc
-not_refused (suc n) same = cc
+-- ---- what holds only of some complaints
 
-pub not_memory : (missing : ℕ) → status_after (Ok missing) ≡ statuses.OutOfMemory → ⊥
-not_memory zero same = cc
-not_memory (suc n) same = cc
+-- only a complaint has the status of a refusal
+pub if_refused : {P : Type 0} (outcome : Outcome) → status_after outcome ≡ statuses.Refused
+    → IfErr outcome (λ complaint. status_of complaint ≡ statuses.Refused → P) → P
+if_refused (Ok zero) is = cc
+if_refused (Ok (suc n)) is = cc
+if_refused (Err complaint) is = λ so. so is
 
--- gathering has no usage fault
-pub EndsGather-command : {right : Result Gathering Complaint → Type 0} {opens : Terms → Type 0} {known : Option (List ℕ)} {status : Status} {output errors : Stream}
-    → EndsGather right opens known status output errors → status ≡ statuses.Usage → ⊥
-EndsGather-command ends is = no_usage ends.outcome (sym ends.status_is ∙ is)
-  where
-    no_usage : (outcome : Result ℕ Complaint) → status_after outcome ≡ statuses.Usage → ⊥
-    no_usage (Ok zero) same = cc
-    no_usage (Ok (suc n)) same = cc
-    no_usage (Err complaint) same = status_of-command complaint same
+-- only memory that ran out has its status
+pub if_memory : {P : Type 0} (outcome : Outcome) → status_after outcome ≡ statuses.OutOfMemory
+    → IfErr outcome (λ complaint. complaint ≡ OutOfMemory → P) → P
+if_memory (Ok zero) is = cc
+if_memory (Ok (suc n)) is = cc
+if_memory (Err (Refused refusal)) is = cc
+if_memory (Err OutOfMemory) is = λ so. so refl
+if_memory (Err ReadFailed) is = cc
+if_memory (Err WriteFailed) is = cc

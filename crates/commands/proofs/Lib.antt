@@ -6,4 +6,5 @@ pub mod NameLemmas
 pub mod NumberLemmas
 pub mod ShowLemmas
 pub mod TakeLemmas
+mod TextLemmas
 pub mod WorkLemmas

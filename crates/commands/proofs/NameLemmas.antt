@@ -11,7 +11,7 @@ use Rattle.commands.specs.declared.complaint.Complaint.{Complaint}
 use Rattle.commands.specs.declared.profile.ProfileNumbers.{ProfileNumbers}
 use Rattle.commands.specs.declared.complaint.Complaint.TheVariants.{Refused}
 use Rattle.commands.specs.declared.refusal.Refusal.TheVariants.{HorizonBelowPeriod}
-use Rattle.commands.specs.Answers.{Reaches}
+use Rattle.commands.specs.TextSteps.{ReachesText}
 use Rattle.commands.specs.Inputs.{pattern_of, rule_named}
 use Rattle.commands.specs.Name.{finding_text, name_right}
 use Rattle.commands.specs.Profiles.{profile_named, settling}
@@ -24,10 +24,10 @@ name_reads numbers text profile rule profiled ruled = rw (profiled, ruled) refl
 
 -- a refused profile is right, with nothing on the output
 pub Reaches_profile : (reads : Bool) (numbers : ProfileNumbers) (text bytes : List ℕ) (complaint : Complaint) (output : Stream)
-    → profile_named numbers ≡ Err complaint → Has output [] → Reaches reads true (name_right numbers text bytes) (Err complaint) output
+    → profile_named numbers ≡ Err complaint → Has output [] → ReachesText reads true (name_right numbers text bytes) (Err complaint) output
 Reaches_profile reads numbers text bytes complaint output refused nothing = go (nat_le numbers.period numbers.horizon) refl
   where
-    go : (b : Bool) → nat_le numbers.period numbers.horizon ≡ b → Reaches reads true (name_right numbers text bytes) (Err complaint) output
+    go : (b : Bool) → nat_le numbers.period numbers.horizon ≡ b → ReachesText reads true (name_right numbers text bytes) (Err complaint) output
     go true is =
         let named : profile_named numbers ≡ Ok (settling numbers) = rw is refl in
         let bad = sym named ∙ refused in

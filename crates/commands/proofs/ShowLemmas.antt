@@ -9,9 +9,10 @@ use Rattle.code_core.specs.declared.reader.WechslerFault.{WechslerFault}
 use Rattle.code_core.specs.declared.reader.WechslerFault.TheVariants.{TooLong, BadByte, ShortRun, Empty}
 use Rattle.code_core.specs.Reading.{wechsler_read}
 use Rattle.commands.specs.declared.complaint.Complaint.{Complaint}
-use Rattle.commands.specs.Answers.{Reaches, only, text_of}
+use Rattle.commands.specs.Answers.{only}
 use Rattle.commands.specs.Show.{reader_complaint, show_answer, text_in, wechsler_complaint}
 use Rattle.commands.specs.Streams.{Stream, Has}
+use Rattle.commands.specs.TextSteps.{ReachesText}
 
 -- a pattern that was read is the answer
 pub show_answer-pattern : (word text : List ℕ) (cells : List Cell) → text_in word ≡ Ok text → wechsler_read text ≡ Ok cells
@@ -37,7 +38,7 @@ faultless_refused word complaint ok refused = let bad : IsOk {T = List ℕ} (Err
 -- a text that was refused is the answer, with nothing on the output
 pub Reaches_text : (word text : List ℕ) (error : WechslerError) (output : Stream) → text_in word ≡ Ok text
     → ((fault : WechslerFault) → IsErrOf {T = List Cell} (Err error) (Fault fault) ↔ (wechsler_read text ≡ Err fault)) → Has output []
-    → Reaches false true (only (show_answer word)) (Err (reader_complaint error)) output
+    → ReachesText false true (only (show_answer word)) (Err (reader_complaint error)) output
 Reaches_text word text (Fault TooLong) output is faults nothing = (show_answer-fault word text TooLong is ((faults TooLong).0 refl), nothing)
 Reaches_text word text (Fault (BadByte place)) output is faults nothing =
     (show_answer-fault word text (BadByte place) is ((faults (BadByte place)).0 refl), nothing)
@@ -46,5 +47,5 @@ Reaches_text word text (Fault (ShortRun place)) output is faults nothing =
 Reaches_text word text (Fault Empty) output is faults nothing = (show_answer-fault word text Empty is ((faults Empty).0 refl), nothing)
 Reaches_text word text Memory output is faults nothing = (
   λ unread complaint refused. absurd (faultless_refused word complaint (show_answer-faultless word text is faults) refused),
-  λ answer told. ([], text_of answer, refl, nothing),
+  nothing,
 )

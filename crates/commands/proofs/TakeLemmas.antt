@@ -1,5 +1,5 @@
 -- From the steps of `take` to a right answer.
-use Rattle.std.proofs.Common.{◌≡◌, ◌∙◌, ◌≤◌, ◌⊎◌, ℕ, Bool, true, false, cond, inl, inr, nat_eq, nat_le, not, get_or, length}
+use Rattle.std.proofs.Common.{◌≡◌, ◌∙◌, ◌≤◌, ◌⊎◌, ◌↔◌, ℕ, zero, suc, Bool, true, false, cond, inl, inr, nat_eq, nat_le, not, get_or, length}
 use Rattle.std.proofs.Common.{List, [], ◌++◌, map, Option, None, Some, Result, Ok, Err, All, ap, sym, subst, refl, arith}
 use Rattle.std.specs.Prelude.{Contains, IfSome}
 use Rattle.std.proofs.lemmas.Bool.{cases_Bool, leb-false, leb-true}
@@ -35,15 +35,19 @@ use Rattle.commands.specs.declared.refusal.Refusal.TheVariants.{BadRule, BirthZe
 use Rattle.commands.specs.declared.refusal.Refusal.TheVariants.{SeedBadByte, SeedTooLong}
 use Rattle.commands.specs.declared.soup_set.SoupSet.{SoupSet}
 use Rattle.commands.specs.declared.status.Status.{Status}
-use Rattle.commands.specs.Answers.{Ends, NeedsMemory, Reaches, Right, given, given_right, text_of}
+use Rattle.commands.specs.Answers.{NeedsMemory, Right, given, given_right, text_of}
+use Rattle.commands.specs.Ends.{Ends, Outcome, Reaches}
+use Rattle.commands.specs.Finish.{Finishes, IsCensusOf}
 use Rattle.commands.specs.Inputs.{rule_complaint, rule_named}
 use Rattle.commands.specs.Profiles.{profile_named, settling}
 use Rattle.commands.specs.Soup.{seed_complaint, seed_named}
 use Rattle.commands.specs.SoupSets.{AreRangesOf, IsRefused, job_named, right_for_set, Bad_list, Overlapping, Too_large}
-use Rattle.commands.specs.Stopped.{EndsTake, Takes, TellsTake, TellsTaken, right_if, stopped_right}
-use Rattle.commands.specs.Streams.{Stream, Has}
-use Rattle.commands.specs.Take.{TellsAll, take_right}
-use Rattle.commands.specs.TakeSteps.{IsOpened, Stops, StopsSet, list_complaint, numbers_of}
+use Rattle.commands.specs.Stopped.{TellsTaken, gated_task, right_if, stopped_right, taken_right}
+use Rattle.commands.specs.Streams.{Stream, Has, IsStill}
+use Rattle.commands.specs.Take.{TellsAll, take_right, take_task}
+use Rattle.commands.specs.TakeSteps.{EndsCrew, IsOpened, IsTaken, Stops, StopsSet, list_complaint, numbers_of}
+use Rattle.commands.specs.Tasks.{Made, Task, alone}
+use Rattle.commands.specs.TextSteps.{ReachesText}
 use Rattle.commands.proofs.NumberLemmas.{numbers_within}
 
 -- ---- refusals
@@ -81,12 +85,12 @@ Stops_list set text (list_error.BadList place) is complete fault memory =
 Stops_list set text list_error.Memory is complete fault memory = subst IsListText is (memory refl)
 
 -- a complaint that stops the command is what it ends with, with nothing on the output
-pub Reaches_stopped : (whole : Bool) (right : Right) (complaint : Complaint) (output : Stream) → Stops right complaint → Has output []
-    → Reaches false whole right (Err complaint) output
-Reaches_stopped whole right (Refused refusal) output stops nothing = (stops, nothing)
-Reaches_stopped whole right OutOfMemory output stops nothing = (λ unread. stops, λ answer is. ([], text_of answer, refl, nothing))
-Reaches_stopped whole right ReadFailed output stops nothing = absurd stops
-Reaches_stopped whole right WriteFailed output stops nothing = absurd stops
+pub Reaches_stopped : (right : Right) (complaint : Complaint) (output : Stream) → Stops right complaint → Has output []
+    → ReachesText false false right (Err complaint) output
+Reaches_stopped right (Refused refusal) output stops nothing = (stops, nothing)
+Reaches_stopped right OutOfMemory output stops nothing = (λ unread. stops, λ answer is. ([], text_of answer, refl, nothing))
+Reaches_stopped right ReadFailed output stops nothing = absurd stops
+Reaches_stopped right WriteFailed output stops nothing = absurd stops
 
 -- the same for a part of what is right
 pub Stops_given : (set : SoupSet) (numbers : ProfileNumbers) (rule_text : List ℕ) (tells : Job → List Range → List ℕ → Type 0) (job : Job)
@@ -260,30 +264,71 @@ stopped_told may_stop job set opened held census missing open_ h many incomplete
     entries = h.added.taken ∙ ap (λ (ts : List (ℕ × ℕ)). ts ++ map entry h.offers) (none_taken opened open_.stands)
 
 -- what was taken of a haul that was opened, with how many are missing
-pub taken_right : {workers : ℕ} (may_stop : ℕ → ℕ → Type 0) (set : SoupSet) (numbers : ProfileNumbers) (rule_text : List ℕ) (job : Job) (opened held : Held)
-    (census : Census) (missing : Option ℕ) → job_named set numbers rule_text ≡ Ok job → IsOpened job set workers opened → HasTaken workers opened held
-    → (missing ≡ None → AreAll held.terms.ranges (numbers_in held.taken))
-    → IfSome missing (λ n. n ≡ length (missing_of held.terms.ranges held.taken))
-    → IfSome missing (λ n. ¬ IsComplete held.terms.ranges held.taken)
-    → (¬ IsComplete held.terms.ranges held.taken → (worker : ℕ) × StopsAt may_stop (was_missing opened) worker)
-    → IsCensus held.terms.job held.terms.ranges (numbers_in held.taken) census
+taken_told : {workers : ℕ} (may_stop : ℕ → ℕ → Type 0) (set : SoupSet) (numbers : ProfileNumbers) (rule_text : List ℕ) (held : Held) (census : Census)
+    (missing : ℕ) → IsTaken may_stop set workers numbers rule_text held → missing ≡ length (missing_of held.terms.ranges held.taken)
+    → (missing ≡ 0) ↔ IsComplete held.terms.ranges held.taken → IsCensusOf held census
     → right_if (take_right set numbers rule_text) (stopped_right may_stop set numbers rule_text) missing (Ok (haul_text census))
-taken_right may_stop set numbers rule_text job opened held census None named open_ h all many incomplete stops is =
-    right_given set numbers rule_text (λ j. right_for_set set (TellsAll j)) job (haul_text census) named
-    (complete_right job set opened held census open_ h (all refl) is)
-taken_right may_stop set numbers rule_text job opened held census (Some n) named open_ h all many incomplete stops is =
-    right_given set numbers rule_text (λ j. right_for_set set (TellsTaken may_stop n j)) job (haul_text census) named
-    (stopped_told may_stop job set opened held census n open_ h many incomplete (stops incomplete) is)
+taken_told may_stop set numbers rule_text held census missing h many none is = go missing many none h.ends
+  where
+    go : (n : ℕ) → n ≡ length (missing_of held.terms.ranges held.taken) → (n ≡ 0) ↔ IsComplete held.terms.ranges held.taken
+        → EndsCrew may_stop h.opened held
+        → right_if (take_right set numbers rule_text) (stopped_right may_stop set numbers rule_text) n (Ok (haul_text census))
+    go zero many none (inl whole) =
+        right_given set numbers rule_text (λ j. right_for_set set (TellsAll j)) h.job (haul_text census) h.named
+        (complete_right h.job set h.opened held census h.is_opened h.taken whole.1 is)
+    go zero many none (inr less) = absurd (less.0 (none.0 refl))
+    go (suc n) many none (inl whole) = let bad = none.1 whole.0 in cc
+    go (suc n) many none (inr less) =
+        right_given set numbers rule_text (λ j. right_for_set set (TellsTaken may_stop (suc n) j)) h.job (haul_text census) h.named
+        (stopped_told may_stop h.job set h.opened held census (suc n) h.is_opened h.taken many less.0 (less.1, less.2) is)
 
 -- ---- how `take` ends
 
 -- a complaint that stops the command is what it ends with, with nothing on the output
-pub Takes_stopped : (whole : Right) (stopped : ℕ → Right) (complaint : Complaint) (output : Stream) → Stops whole complaint → Has output []
-    → Takes whole stopped (Err complaint) output
-Takes_stopped whole stopped (Refused refusal) output stops nothing = Reaches_stopped true whole (Refused refusal) output stops nothing
-Takes_stopped whole stopped OutOfMemory output stops nothing = Reaches_stopped true whole OutOfMemory output stops nothing
-Takes_stopped whole stopped ReadFailed output stops nothing = absurd stops
-Takes_stopped whole stopped WriteFailed output stops nothing = absurd stops
+pub take_stops : (may_stop : ℕ → ℕ → Type 0) (set : SoupSet) (numbers : ProfileNumbers) (rule_text : List ℕ) (known : Option (List ℕ)) (bytes : List ℕ)
+    (complaint : Complaint) (output errors : Stream) → Stops (take_right set numbers rule_text) complaint → Has output [] → IsStill errors
+    → Reaches (gated_task may_stop set numbers rule_text) known bytes (Err complaint) output errors
+take_stops may_stop set numbers rule_text known bytes (Refused refusal) output errors stops nothing still =
+    (stops, record { nothing = nothing; silent = still.0; fine = still.1 })
+take_stops may_stop set numbers rule_text known bytes OutOfMemory output errors stops nothing still =
+    record { hides = λ unread complaint is. stops complaint is; left = nothing; told = inl still.0; fine = still.1 }
+take_stops may_stop set numbers rule_text known bytes ReadFailed output errors stops nothing still = absurd stops
+take_stops may_stop set numbers rule_text known bytes WriteFailed output errors stops nothing still = absurd stops
+
+-- the haul that was taken, finished
+pub take_finishes : {workers : ℕ} (may_stop : ℕ → ℕ → Type 0) (set : SoupSet) (numbers : ProfileNumbers) (rule_text : List ℕ) (known : Option (List ℕ))
+    (bytes : List ℕ) (held : Held) (outcome : Outcome) (output errors : Stream) → IsTaken may_stop set workers numbers rule_text held
+    → (length (missing_of held.terms.ranges held.taken) ≡ 0) ↔ IsComplete held.terms.ranges held.taken → Finishes held outcome output → IsStill errors
+    → Reaches (gated_task may_stop set numbers rule_text) known bytes outcome output errors
+take_finishes may_stop set numbers rule_text known bytes held (Ok missing) output errors h none finished still =
+    let zero_if : (missing ≡ 0) ↔ IsComplete held.terms.ranges held.taken =
+    subst (λ (n : ℕ). (n ≡ 0) ↔ IsComplete held.terms.ranges held.taken) (sym finished.missing_is) none in
+    record {
+      made = record { text = haul_text finished.census; told = []; missing = missing };
+      is = (taken_told may_stop set numbers rule_text held finished.census missing h finished.missing_is zero_if finished.counted, refl);
+      missing_is = refl;
+      text = finished.text;
+      written = finished.fine;
+      told = still.0;
+      fine = still.1;
+    }
+take_finishes may_stop set numbers rule_text known bytes held (Err OutOfMemory) output errors h none nothing still =
+    take_stops may_stop set numbers rule_text known bytes OutOfMemory output errors (Stops_memory set numbers rule_text h.job h.opened h.named h.is_opened)
+    nothing still
+take_finishes may_stop set numbers rule_text known bytes held (Err WriteFailed) output errors h none half still =
+    let many : ℕ = length (missing_of held.terms.ranges held.taken) in
+    inl (record {
+      left = (
+        record { text = haul_text half.census; told = []; missing = many },
+        (taken_told may_stop set numbers rule_text held half.census many h refl none half.counted, refl),
+        half.front,
+        still.0,
+      );
+      cut = half.cut;
+      fine = still.1;
+    })
+take_finishes may_stop set numbers rule_text known bytes held (Err ReadFailed) output errors h none not still = absurd not
+take_finishes may_stop set numbers rule_text known bytes held (Err (Refused refusal)) output errors h none not still = absurd not
 
 -- a gate that stops nobody stops no haul
 never_right : (may_stop : ℕ → ℕ → Type 0) (set : SoupSet) (numbers : ProfileNumbers) (rule_text : List ℕ) (missing : ℕ) (text : List ℕ)
@@ -294,19 +339,51 @@ never_right may_stop set numbers rule_text missing text never = go (job_named se
     go (Ok job) told = let stops = told.is_told.stops in never stops.0 stops.1 stops.3
     go (Err complaint) is = cc
 
-pub never_stopped : (may_stop : ℕ → ℕ → Type 0) (set : SoupSet) (numbers : ProfileNumbers) (rule_text : List ℕ) (status : Status) (output errors : Stream)
-    → ((worker n : ℕ) → may_stop worker n → ⊥)
-    → EndsTake (take_right set numbers rule_text) (stopped_right may_stop set numbers rule_text) status output errors
-    → Ends false true (take_right set numbers rule_text) status output errors
-never_stopped may_stop set numbers rule_text status output errors never ends = go ends.outcome ends.reached ends.told
+-- so what it makes is a text alone
+never_less : (may_stop : ℕ → ℕ → Type 0) (set : SoupSet) (numbers : ProfileNumbers) (rule_text : List ℕ) (made : Made)
+    → ((worker n : ℕ) → may_stop worker n → ⊥) → taken_right may_stop set numbers rule_text (Ok made) → alone (take_right set numbers rule_text) (Ok made)
+never_less may_stop set numbers rule_text made never is = go made.missing refl is.0
   where
-    go : (outcome : Result (Option ℕ) Complaint) → Takes (take_right set numbers rule_text) (stopped_right may_stop set numbers rule_text) outcome output
-        → TellsTake outcome status errors
-        → Ends false true (take_right set numbers rule_text) status output errors
-    go (Ok None) reached told = record { outcome = Ok tt; reached = reached; told = told }
-    go (Ok (Some n)) reached told = absurd (never_right may_stop set numbers rule_text n reached.0.0 never reached.0.1)
-    go (Err (Refused refusal)) reached told = record { outcome = Err (Refused refusal); reached = reached; told = told }
-    go (Err OutOfMemory) reached told = record { outcome = Err OutOfMemory; reached = reached; told = told }
-    go (Err ReadFailed) reached told = record { outcome = Err ReadFailed; reached = reached; told = told }
-    go (Err WriteFailed) (None, front, failed) told = record { outcome = Err WriteFailed; reached = (front, failed); told = told }
-    go (Err WriteFailed) (Some n, front, failed) told = absurd (never_right may_stop set numbers rule_text n front.0 never front.1)
+    go : (n : ℕ) → made.missing ≡ n
+        → right_if (take_right set numbers rule_text) (stopped_right may_stop set numbers rule_text) n (Ok made.text)
+        → alone (take_right set numbers rule_text) (Ok made)
+    go zero none right = (right, is.1, none)
+    go (suc n) some right = absurd (never_right may_stop set numbers rule_text (suc n) made.text never right)
+
+pub never_stopped : (may_stop : ℕ → ℕ → Type 0) (set : SoupSet) (numbers : ProfileNumbers) (rule_text : List ℕ) (known : Option (List ℕ)) (bytes : List ℕ)
+    (status : Status) (output errors : Stream) → ((worker n : ℕ) → may_stop worker n → ⊥)
+    → Ends (gated_task may_stop set numbers rule_text) known bytes status output errors
+    → Ends (take_task set numbers rule_text) known bytes status output errors
+never_stopped may_stop set numbers rule_text known bytes status output errors never ends = record {
+  outcome = ends.outcome;
+  between = ends.between;
+  from = ends.from;
+  reached = go ends.outcome ends.reached;
+  stays = ends.stays;
+  last = ends.last;
+  status_is = ends.status_is;
+}
+  where
+    gated : Task
+    gated = gated_task may_stop set numbers rule_text
+
+    whole : Task
+    whole = take_task set numbers rule_text
+
+    go : (outcome : Outcome) → Reaches gated known bytes outcome output ends.between → Reaches whole known bytes outcome output ends.between
+    go (Ok missing) is = record {
+      made = is.made;
+      is = never_less may_stop set numbers rule_text is.made never is.is;
+      missing_is = is.missing_is;
+      text = is.text;
+      written = is.written;
+      told = is.told;
+      fine = is.fine;
+    }
+    go (Err (Refused refusal)) is = is
+    go (Err OutOfMemory) is = record { hides = is.hides; left = is.left; told = is.told; fine = is.fine }
+    go (Err ReadFailed) is = record { reads = is.reads; begun = is.begun; nothing = is.nothing; fine = is.fine }
+    go (Err WriteFailed) (inl is) =
+        let (made, right, front, told) = is.left in
+        inl (record { left = (made, never_less may_stop set numbers rule_text made never right, front, told); cut = is.cut; fine = is.fine })
+    go (Err WriteFailed) (inr is) = absurd is.tells

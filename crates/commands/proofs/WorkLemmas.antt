@@ -19,10 +19,11 @@ use Rattle.commands.specs.declared.complaint.Complaint.{Complaint}
 use Rattle.commands.specs.declared.complaint.Complaint.TheVariants.{Refused, OutOfMemory, ReadFailed, WriteFailed}
 use Rattle.commands.specs.declared.profile.ProfileNumbers.{ProfileNumbers}
 use Rattle.commands.specs.declared.soup_set.SoupSet.{SoupSet}
-use Rattle.commands.specs.Answers.{Answer, Outcome, Reaches, Right, text_of}
+use Rattle.commands.specs.Answers.{Answer, Right, text_of}
 use Rattle.commands.specs.SoupSets.{Bad_list, Overlapping, Too_large, job_named, right_for_set}
 use Rattle.commands.specs.Streams.{Stream, Has, HasFront}
 use Rattle.commands.specs.TakeSteps.{IsOpened, numbers_in_range, numbers_of}
+use Rattle.commands.specs.TextSteps.{ReachesText, TextOutcome}
 use Rattle.commands.specs.Work.{AreReportsOn, IsReportOn, TellsReports, work_right}
 use Rattle.commands.specs.WorkSteps.{IsBegun, Puts}
 use Rattle.commands.proofs.NumberLemmas.{range_more}
@@ -78,7 +79,7 @@ puts_failed job worker n report output is wrote told = (
 )
 
 -- reports on some numbers and then on others
-pub puts_then : (job : Job) (worker : ℕ) (ns ms : List ℕ) (outcome : Outcome) (x y z : Option (List ℕ)) (was failed : Bool)
+pub puts_then : (job : Job) (worker : ℕ) (ns ms : List ℕ) (outcome : TextOutcome) (x y z : Option (List ℕ)) (was failed : Bool)
     → Puts job worker ns (Ok tt) (over x y was) → Puts job worker ms outcome (over y z failed) → Puts job worker (ns ++ ms) outcome (over x z failed)
 puts_then job worker ns ms (Ok u) x y z was failed one two = record {
   reports = one.reports ++ two.reports;
@@ -147,7 +148,7 @@ range_split a (suc n) k =
     ∙ ap (λ (more : List ℕ). a ∷ more) (range_split (a + 1) n k ∙ ap (λ (m : ℕ). range_with_len (a + 1) n ++ range_with_len m k) there)
 
 -- one number more of a range
-pub puts_next : (job : Job) (worker first number : ℕ) (outcome : Outcome) (x y z : Option (List ℕ)) (was failed : Bool) → first ≤ number
+pub puts_next : (job : Job) (worker first number : ℕ) (outcome : TextOutcome) (x y z : Option (List ℕ)) (was failed : Bool) → first ≤ number
     → Puts job worker (range_with_len first (number - first)) (Ok tt) (over x y was) → Puts job worker (number ∷ []) outcome (over y z failed)
     → Puts job worker (range_with_len first (number + 1 - first)) outcome (over x z failed)
 puts_next job worker first number outcome x y z was failed low one two =
@@ -168,7 +169,7 @@ puts_short job worker first number count complaint output low high h =
     (puts_stops job worker (range_with_len first k) (range_with_len (first + k) (count - k)) complaint output h)
 
 -- one range more of some
-pub puts_more : (job : Job) (worker : ℕ) (ranges : List Range) (i : ℕ) (d : Range) (outcome : Outcome) (x y z : Option (List ℕ)) (was failed : Bool)
+pub puts_more : (job : Job) (worker : ℕ) (ranges : List Range) (i : ℕ) (d : Range) (outcome : TextOutcome) (x y z : Option (List ℕ)) (was failed : Bool)
     → i < length ranges → Puts job worker (numbers_of (take i ranges)) (Ok tt) (over x y was)
     → Puts job worker (numbers_in_range (get_or ranges i d)) outcome (over y z failed)
     → Puts job worker (numbers_of (take (i + 1) ranges)) outcome (over x z failed)
@@ -270,9 +271,9 @@ begun_whole job worker numbers output begun = record {
 -- what became of the reports on a set that was opened is a right end of the command
 pub reaches_work : {workers : ℕ} → FindingsAreDetermined → OneNormalForm → (set : SoupSet) (worker : ℕ) (numbers : ProfileNumbers) (rule_text : List ℕ) (job : Job)
     (held : Held)
-    (outcome : Outcome) (output : Stream)
+    (outcome : TextOutcome) (output : Stream)
     → job_named set numbers rule_text ≡ Ok job → IsOpened job set workers held → Puts job worker (numbers_of held.terms.ranges) outcome output
-    → Reaches false false (work_right set worker numbers rule_text) outcome output
+    → ReachesText false false (work_right set worker numbers rule_text) outcome output
 reaches_work determined one_form set worker numbers rule_text job held outcome output named opened puts = go outcome puts
   where
     right : Right
@@ -286,7 +287,7 @@ reaches_work determined one_form set worker numbers rule_text job held outcome o
         let told = (tells (Err complaint) is).told in
         cc
 
-    go : (o : Outcome) → Puts job worker (numbers_of held.terms.ranges) o output → Reaches false false right o output
+    go : (o : TextOutcome) → Puts job worker (numbers_of held.terms.ranges) o output → ReachesText false false right o output
     go (Ok u) put =
         let text : List ℕ = flat_map report_text put.reports in
         let is : right_for_set set (TellsReports job worker) (Ok text) = record {

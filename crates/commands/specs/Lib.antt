@@ -1,5 +1,7 @@
 pub mod Answers
 pub mod Complaints
+pub mod Ends
+pub mod Finish
 pub mod Gather
 pub mod GatherSteps
 pub mod GatheredLines
@@ -17,6 +19,8 @@ pub mod Stopped
 pub mod Streams
 pub mod Take
 pub mod TakeSteps
+pub mod Tasks
+pub mod TextSteps
 pub mod Version
 pub mod Work
 pub mod WorkSteps

@@ -1,5 +1,5 @@
 -- What `census name` is asked for.
-use Rattle.std.specs.Prelude.{◌++◌, ℕ, List, Ok, codes, decimal, flat_map}
+use Rattle.std.specs.Prelude.{◌++◌, ◌&&◌, true, is_ok, ℕ, List, Ok, codes, decimal, flat_map}
 use Rattle.plane_core.specs.declared.cell.Cell.{Cell}
 use Rattle.plane_core.specs.Rules.{Numbers}
 use Rattle.survey_core.specs.declared.finding.Finding.{Finding}
@@ -10,6 +10,7 @@ use Rattle.commands.specs.declared.profile.ProfileNumbers.{ProfileNumbers}
 use Rattle.commands.specs.Answers.{Right, given_right, only}
 use Rattle.commands.specs.Inputs.{pattern_of, rule_named}
 use Rattle.commands.specs.Profiles.{profile_named}
+use Rattle.commands.specs.Tasks.{Task, text_task}
 
 -- a code and how many objects have it, as a line
 abbrev pub object_line : List ℕ × ℕ → List ℕ
@@ -28,3 +29,8 @@ TellsFinding rule profile cells answer = (finding : Finding) × IsFinding rule p
 abbrev pub name_right : ProfileNumbers → List ℕ → List ℕ → Right
 name_right numbers rule_text bytes =
     given_right (profile_named numbers) (λ profile. given_right (rule_named rule_text) (λ rule. given_right (pattern_of bytes) (TellsFinding rule profile)))
+
+-- to write the finding of the input's pattern; the input is looked at if the profile and the rule are fine
+abbrev pub name_task : ProfileNumbers → List ℕ → Task
+name_task numbers rule_text =
+    text_task (is_ok (profile_named numbers) && is_ok (rule_named rule_text)) true (λ bytes. name_right numbers rule_text bytes)

@@ -1,5 +1,5 @@
 -- What `census show` is asked for (LifeWiki, "Apgcode").
-use Rattle.std.specs.Prelude.{◌==◌, ◌&&◌, ◌||◌, not, ℕ, Bool, false, List, [], ◌∷◌, Option, Some, None, Result, Ok, Err, length, nat_lt, if◌then◌else◌}
+use Rattle.std.specs.Prelude.{◌==◌, ◌&&◌, ◌||◌, not, ℕ, Bool, true, false, List, [], ◌∷◌, Option, Some, None, Result, Ok, Err, length, nat_lt, if◌then◌else◌}
 use Rattle.std.specs.Char.{is_ascii_digit}
 use Rattle.std.specs.List.{after_first, before_first, list_all, position_or_len}
 use Rattle.std.specs.Result.{result_map_both}
@@ -13,7 +13,8 @@ use Rattle.code_core.specs.Reading.{wechsler_read}
 use Rattle.commands.specs.declared.complaint.Complaint.{Complaint}
 use Rattle.commands.specs.declared.complaint.Complaint.TheVariants.{Refused, OutOfMemory}
 use Rattle.commands.specs.declared.refusal.Refusal.TheVariants.{CodeBadByte, CodeEmpty, CodeShortRun, CodeTooLong, NotACode}
-use Rattle.commands.specs.Answers.{Answer, given}
+use Rattle.commands.specs.Answers.{Answer, given, only}
+use Rattle.commands.specs.Tasks.{Task, text_task}
 
 -- `_`, between the prefix of a code and its text
 abbrev pub is_separator : ℕ → Bool
@@ -71,3 +72,7 @@ shown text = result_map_both (λ cells. cells) wechsler_complaint (wechsler_read
 -- the plaintext of the object that the word names
 abbrev pub show_answer : List ℕ → Answer
 show_answer word = given (text_in word) (λ text. given (shown text) (λ cells. Ok (plain cells)))
+
+-- to write the object that a word names
+abbrev pub show_task : List ℕ → Task
+show_task word = text_task false true (λ bytes. only (show_answer word))

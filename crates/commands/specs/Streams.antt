@@ -1,5 +1,5 @@
 -- What a command leaves on a stream.
-use Rattle.std.specs.Prelude.{ℕ, Bool, List, Option, MatchBool}
+use Rattle.std.specs.Prelude.{◌≡◌, ℕ, Bool, false, List, [], Option, MatchBool}
 use Rattle.std.specs.Io.KnownBytes.{Appends}
 use Rattle.plane_core.specs.Out.{Output, AppendsFront}
 
@@ -24,3 +24,7 @@ HasFront s text = AppendsFront s.before s.after text
 -- the line was added, or a front of it where a write failed
 abbrev pub HasLine : Stream → List ℕ → Type 0
 HasLine s line = MatchBool s.failed (HasFront s line) (Has s line)
+
+-- nothing was added, and no write failed
+abbrev pub IsStill : Stream → Type 0
+IsStill s = Has s [] × (s.failed ≡ false)

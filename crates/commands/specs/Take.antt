@@ -1,5 +1,5 @@
 -- What `census take` is asked for.
-use Rattle.std.specs.Prelude.{◌≡◌, ℕ, List, count_by, nat_eq, if◌then◌else◌}
+use Rattle.std.specs.Prelude.{◌≡◌, ℕ, true, false, List, count_by, nat_eq, if◌then◌else◌}
 use Rattle.survey_core.specs.declared.job.Job.{Job}
 use Rattle.haul_core.specs.declared.census.Census.{Census}
 use Rattle.haul_core.specs.declared.range.Range.{Range}
@@ -10,6 +10,7 @@ use Rattle.commands.specs.declared.profile.ProfileNumbers.{ProfileNumbers}
 use Rattle.commands.specs.declared.soup_set.SoupSet.{SoupSet}
 use Rattle.commands.specs.Answers.{Right, given_right}
 use Rattle.commands.specs.SoupSets.{job_named, right_for_set}
+use Rattle.commands.specs.Tasks.{Task, text_task}
 
 -- each number of the set that the ranges give stands among the numbers once, and no other number does
 abbrev pub AreNumbersOf : List Range → List ℕ → Type 0
@@ -28,3 +29,7 @@ pub record TellsAll (job : Job) (ranges : List Range) (text : List ℕ) : Type 0
 -- the census of the complete haul; what makes up its job is looked at first
 abbrev pub take_right : SoupSet → ProfileNumbers → List ℕ → Right
 take_right set numbers rule_text = given_right (job_named set numbers rule_text) (λ job. right_for_set set (TellsAll job))
+
+-- to take a set
+abbrev pub take_task : SoupSet → ProfileNumbers → List ℕ → Task
+take_task set numbers rule_text = text_task false true (λ bytes. take_right set numbers rule_text)

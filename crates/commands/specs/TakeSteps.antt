@@ -1,19 +1,24 @@
 -- How a haul over a set is opened, and its numbers.
-use Rattle.std.specs.Prelude.{◌≡◌, ℕ, List, [], Err, flat_map}
+use Rattle.std.specs.Prelude.{◌≡◌, ◌⊎◌, ℕ, List, [], Ok, Err, flat_map}
 use Rattle.std.specs.List.{range_with_len}
 use Rattle.survey_core.specs.declared.job.Job.{Job}
 use Rattle.haul_core.specs.declared.range.Range.{Range}
 use Rattle.haul_core.specs.declared.range_list.ListError.{ListError}
 use Rattle.haul_core.specs.declared.range_list.ListError.TheVariants as list_error
 use Rattle.haul_core.specs.Books.{Held, StandsFor}
+use Rattle.haul_core.specs.Keeping.{numbers_in}
+use Rattle.haul_core.specs.Missing.{AreAll, IsComplete}
 use Rattle.haul_core.specs.RangeLists.{IsListText}
 use Rattle.haul_core.specs.Ranges.{AreSmall, IsNormalForm, Overlap}
+use Rattle.crew.specs.Shifts.{StopsAt}
+use Rattle.crew.specs.Takes.{HasTaken, was_missing}
 use Rattle.commands.specs.declared.complaint.Complaint.{Complaint}
 use Rattle.commands.specs.declared.complaint.Complaint.TheVariants.{Refused, OutOfMemory, ReadFailed, WriteFailed}
 use Rattle.commands.specs.declared.refusal.Refusal.TheVariants.{BadList}
+use Rattle.commands.specs.declared.profile.ProfileNumbers.{ProfileNumbers}
 use Rattle.commands.specs.declared.soup_set.SoupSet.{SoupSet}
 use Rattle.commands.specs.Answers.{NeedsMemory, Right}
-use Rattle.commands.specs.SoupSets.{AreRangesOf, IsRefused}
+use Rattle.commands.specs.SoupSets.{AreRangesOf, IsRefused, job_named}
 
 -- the complaint about a call that reads a range list
 abbrev pub list_complaint : ListError → Complaint
@@ -46,6 +51,20 @@ pub record IsOpened (job : Job) (set : SoupSet) (workers : ℕ) (held : Held) : 
   pub job_is : held.terms.job ≡ job
   pub workers_are : held.terms.workers ≡ workers
   pub stands : StandsFor [] held
+
+-- what a crew answered of a haul: all was taken, or else the gate stopped a worker
+abbrev pub EndsCrew : (ℕ → ℕ → Type 0) → Held → Held → Type 0
+EndsCrew may_stop old new = (IsComplete new.terms.ranges new.taken × AreAll new.terms.ranges (numbers_in new.taken))
+    ⊎ ((¬ IsComplete new.terms.ranges new.taken) × (worker : ℕ) × StopsAt may_stop (was_missing old) worker)
+
+-- a crew has taken what it could of a haul that was opened over a set
+pub record IsTaken (may_stop : ℕ → ℕ → Type 0) (set : SoupSet) (workers : ℕ) (numbers : ProfileNumbers) (rule_text : List ℕ) (held : Held) : Type 0 where
+  pub job : Job
+  pub named : job_named set numbers rule_text ≡ Ok job
+  pub opened : Held
+  pub is_opened : IsOpened job set workers opened
+  pub taken : HasTaken workers opened held
+  pub ends : EndsCrew may_stop opened held
 
 -- the numbers of a range, ascending
 abbrev pub numbers_in_range : Range → List ℕ

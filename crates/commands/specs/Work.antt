@@ -1,5 +1,5 @@
 -- What `census work` is asked for.
-use Rattle.std.specs.Prelude.{◌≡◌, ℕ, List, [], ◌∷◌, flat_map}
+use Rattle.std.specs.Prelude.{◌≡◌, ℕ, false, List, [], ◌∷◌, flat_map}
 use Rattle.survey_core.specs.declared.job.Job.{Job}
 use Rattle.haul_core.specs.declared.range.Range.{Range}
 use Rattle.haul_core.specs.Ranges.{IsNormalForm}
@@ -10,6 +10,7 @@ use Rattle.commands.specs.declared.soup_set.SoupSet.{SoupSet}
 use Rattle.commands.specs.Answers.{Right, given_right}
 use Rattle.commands.specs.SoupSets.{job_named, right_for_set}
 use Rattle.commands.specs.TakeSteps.{numbers_of}
+use Rattle.commands.specs.Tasks.{Task, text_task}
 
 -- a worker's report on the soup of a job with this number
 pub record IsReportOn (job : Job) (worker number : ℕ) (report : Reported) : Type 0 where
@@ -36,3 +37,7 @@ pub record TellsReports (job : Job) (worker : ℕ) (ranges : List Range) (text :
 -- the reports of the worker on the whole set; what makes up its job is looked at first
 abbrev pub work_right : SoupSet → ℕ → ProfileNumbers → List ℕ → Right
 work_right set worker numbers rule_text = given_right (job_named set numbers rule_text) (λ job. right_for_set set (TellsReports job worker))
+
+-- to report on a set, line by line
+abbrev pub work_task : SoupSet → ℕ → ProfileNumbers → List ℕ → Task
+work_task set worker numbers rule_text = text_task false false (λ bytes. work_right set worker numbers rule_text)

@@ -4,8 +4,8 @@ use Rattle.survey_core.specs.declared.job.Job.{Job}
 use Rattle.haul_core.specs.ReportLines.{report_text}
 use Rattle.haul_core.specs.Reports.{Reported}
 use Rattle.commands.specs.declared.complaint.Complaint.TheVariants.{Refused, OutOfMemory, ReadFailed, WriteFailed}
-use Rattle.commands.specs.Answers.{Outcome}
 use Rattle.commands.specs.Streams.{Stream, Has, HasFront}
+use Rattle.commands.specs.TextSteps.{TextOutcome}
 use Rattle.commands.specs.Work.{AreReportsOn}
 
 -- reports on the first of some numbers were made, and this was done with their lines
@@ -26,7 +26,7 @@ pub record IsPut (job : Job) (worker : ℕ) (numbers : List ℕ) (output : Strea
 
 -- What became of the reports on some numbers: their lines were written; or memory ran out over one, and the lines of those before
 -- it were; or a write failed, and a front of the lines so far was.
-abbrev pub Puts : Job → ℕ → List ℕ → Outcome → Stream → Type 0
+abbrev pub Puts : Job → ℕ → List ℕ → TextOutcome → Stream → Type 0
 Puts job worker numbers (Ok _) output = IsPut job worker numbers output
 Puts job worker numbers (Err OutOfMemory) output = IsBegun job worker numbers (Has output)
 Puts job worker numbers (Err WriteFailed) output = IsBegun job worker numbers (HasFront output) × (output.failed ≡ true)

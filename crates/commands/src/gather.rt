@@ -9,18 +9,20 @@
 ghost use Rattle.std.specs.Prelude.{◌≡◌, ◌≢◌, ◌<◌, ◌≤◌, Ok, Result, ◌+◌, ◌^◌, ◌++◌, ◌∷◌, [], ℕ, List, Option, Some, IfErr, IfOk, OnOk, false, true, length, take};
 ghost use Rattle.haul_core.specs.Reports.{IsWorker, Reported};
 ghost use Rattle.commands.specs.Answers.{IsInput};
-ghost use Rattle.commands.specs.Complaints.{line_of, status_of};
-ghost use Rattle.commands.specs.Gather.{EndsGather, Gathers, gather_opens, gather_reads, gather_right, gathered_right, last_line, status_after, IsSame};
+ghost use Rattle.commands.specs.Complaints.{status_of};
+ghost use Rattle.commands.specs.Ends.{Ends, Reaches};
+ghost use Rattle.commands.specs.Gather.{gather_reads, gather_task, haul_task};
 ghost use Rattle.commands.specs.Profiles.{AreInRange};
-ghost use Rattle.commands.specs.Streams.{stream, HasLine};
-ghost use Rattle.commands.specs.declared.complaint.Complaint.{Complaint};
+ghost use Rattle.commands.specs.Streams.{stream};
 ghost use Rattle.haul_core.specs.Books.{StandsFor};
 ghost use Rattle.haul_core.specs.declared.arrival.Arrival.{Arrival};
 ghost use Rattle.commands.specs.GatherSteps.{EndsLine, EndsLines, GoesOn, HasGathered, HasGatheredShort, HasMet, IsMetBy, passage};
 ghost use Rattle.commands.specs.GatheredLines.{IsChecked, IsFrontFault, IsLookedAt, Meets, offer_fault};
 ghost use Rattle.haul_core.specs.declared.refusal.Refusal.TheVariants as refusal;
 
-use crate::complaint::{Complaint, put_missing};
+use crate::complaint::Complaint;
+use crate::ending::tell_end;
+use crate::finish::finish;
 use crate::line_fault::LineFault;
 use crate::lines::{LINE_LIMIT, LineEnd, LineRead, read_line};
 use crate::profile::ProfileNumbers;
@@ -31,10 +33,9 @@ use haul_core::claim::Claim;
 use haul_core::claim::check::CheckFault;
 use haul_core::claim::line::LineError;
 use haul_core::haul::Haul;
-use haul_core::haul_text::write_haul;
 use haul_core::refusal::Refusal;
 use haul_core::report::Report;
-use plane_core::output::{Out, WriteError};
+use plane_core::output::Out;
 use std::alloc::{AllocError, Global};
 use std::io::{BufRead, BufReader, Read, Write};
 use survey_core::finding::findings_are_determined;
@@ -70,45 +71,16 @@ pub fn do_gather<R: Read, W: Write, E: Write>(
     requires output { output.old.failed ≡ false }
     requires errors { errors.old.failed ≡ false }
     ensures ends { (bytes : List ℕ) × IsInput (R.remaining input.old) bytes
-        × EndsGather (gather_right set.now workers profile rule_text.now bytes) (gather_opens set.now workers profile rule_text.now)
-        (R.remaining input.old) result
+        × Ends (gather_task set.now workers profile rule_text.now) (R.remaining input.old) bytes result
         (stream W.contents output.old output.new) (stream E.contents errors.old errors.new) }
     ensures unread { gather_reads set.now profile rule_text.now ≡ false → input.new ≡ input.old }
     ensures untouched { result ≡ Status.Refused → (input.new ≡ input.old) × (output.new ≡ output.old) }
     ensures no_memory { result ≡ Status.OutOfMemory → output.new ≡ output.old }
 {
-    match gather(
+    let outcome = gather(
         alloc, set, workers, profile, rule_text, input, output, errors,
-    ) {
-        Ok(missing) => tell_missing(missing, errors),
-        Err(complaint) => tell_complaint(complaint, errors),
-    }
-}
-
-/// Writes how many soups are missing, if some are, and returns the status.
-fn tell_missing<E: Write>(missing: u64, errors: &mut Out<E>) -> Status
-    requires { errors.old.failed ≡ false }
-    ensures status { (outcome : Result ℕ Complaint) → outcome ≡ Ok missing → result ≡ status_after outcome }
-    ensures line { (outcome : Result ℕ Complaint) → outcome ≡ Ok missing
-        → HasLine (stream E.contents errors.old errors.new) (last_line outcome) }
-{
-    if missing == 0 {
-        return Status::Done;
-    }
-    let _ = put_missing(missing, errors);
-    Status::Incomplete
-}
-
-/// Writes the line of a complaint, unless a write failed before, and returns its status.
-fn tell_complaint<E: Write>(complaint: Complaint, errors: &mut Out<E>) -> Status
-    ensures status { result ≡ status_of complaint }
-    ensures line { HasLine (stream E.contents errors.old errors.new) (line_of complaint) }
-    ensures stays { errors.old.failed ≡ true → errors.new.failed ≡ true }
-{
-    if errors.failed() {
-        return complaint.status();
-    }
-    complaint.tell(errors)
+    );
+    tell_end(outcome, errors)
 }
 
 /// Opens the haul, gathers the lines, writes the haul text, and says how many soups are missing.
@@ -127,8 +99,7 @@ fn gather<R: Read, W: Write, E: Write>(
     requires output { output.old.failed ≡ false }
     requires errors { errors.old.failed ≡ false }
     ensures gathers { (bytes : List ℕ) × IsInput (R.remaining input.old) bytes
-        × Gathers (gather_right set.now workers profile rule_text.now bytes) (gather_opens set.now workers profile rule_text.now)
-        (R.remaining input.old) result
+        × Reaches (gather_task set.now workers profile rule_text.now) (R.remaining input.old) bytes result
         (stream W.contents output.old output.new) (stream E.contents errors.old errors.new) }
     ensures fine { OnOk result (errors.new.failed ≡ false) }
     ensures unread { gather_reads set.now profile rule_text.now ≡ false → input.new ≡ input.old }
@@ -153,19 +124,14 @@ fn gather_into<R: Read, W: Write, E: Write>(
     requires output { output.old.failed ≡ false }
     requires errors { errors.old.failed ≡ false }
     ensures gathers { (bytes : List ℕ) × IsInput (R.remaining input.old) bytes
-        × Gathers (gathered_right haul.old.terms bytes) (IsSame haul.old.terms) (R.remaining input.old) result
+        × Reaches (haul_task haul.old.terms) (R.remaining input.old) bytes result
         (stream W.contents output.old output.new) (stream E.contents errors.old errors.new) }
     ensures fine { OnOk result (errors.new.failed ≡ false) }
     ensures accepted { IfErr result (λ complaint. status_of complaint ≢ Status.Refused) }
     ensures no_memory { IfErr result (λ complaint. complaint ≡ Complaint.OutOfMemory → output.new ≡ output.old) }
 {
     gather_input(alloc, input, haul, errors)?;
-    let _ = haul.close();
-    let census = haul.census()?;
-    write_haul(&census, output)?;
-    // So that a line on what is missing says that the text was printed.
-    output.flush()?;
-    Ok(haul.missing_count())
+    finish(haul, output)
 }
 
 /// Reads the input through a buffer, and gathers its lines.

@@ -6,6 +6,10 @@
 
 /// Why a command did not do all that was asked, and the line on standard error that says so.
 pub mod complaint;
+/// How a command ends: its last line on standard error, and its status.
+mod ending;
+/// How a haul is finished.
+mod finish;
 /// `gather`: the haul of report lines.
 pub mod gather;
 /// Inputs, read whole.

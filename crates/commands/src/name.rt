@@ -1,11 +1,13 @@
 ghost use Rattle.std.specs.Prelude.{◌≡◌, ◌&&◌, ◌++◌, ℕ, List, codes, decimal, false, flat_map, is_ok, IsErr, IfErr, IfOk, true};
 ghost use Rattle.plane_core.specs.Out.{Writes};
-ghost use Rattle.commands.specs.Answers.{Ends, IsInput, Reaches};
+ghost use Rattle.commands.specs.Answers.{IsInput};
 ghost use Rattle.commands.specs.Complaints.{status_of};
+ghost use Rattle.commands.specs.Ends.{Ends};
 ghost use Rattle.commands.specs.Inputs.{rule_named};
-ghost use Rattle.commands.specs.Name.{finding_text, name_right, object_line};
+ghost use Rattle.commands.specs.Name.{finding_text, name_right, name_task, object_line};
 ghost use Rattle.commands.specs.Profiles.{AreInRange, profile_named};
 ghost use Rattle.commands.specs.Streams.{stream};
+ghost use Rattle.commands.specs.TextSteps.{ReachesText};
 
 use crate::complaint::Complaint;
 use crate::input::read_pattern;
@@ -43,7 +45,7 @@ pub fn do_name<R: Read, W: Write, E: Write>(
     requires output { output.old.failed ≡ false }
     requires errors { errors.old.failed ≡ false }
     ensures ends { (bytes : List ℕ) × IsInput (R.remaining input.old) bytes
-        × Ends (is_ok (profile_named profile) && is_ok (rule_named rule_text.now)) true (name_right profile rule_text.now bytes) result
+        × Ends (name_task profile rule_text.now) (R.remaining input.old) bytes result
         (stream W.contents output.old output.new) (stream E.contents errors.old errors.new) }
     ensures profile_first { IsErr (profile_named profile) → (result ≡ Status.Refused) × (input.new ≡ input.old) }
     ensures rule_first { IsErr (rule_named rule_text.now) → (result ≡ Status.Refused) × (input.new ≡ input.old) }
@@ -66,7 +68,7 @@ fn name<R: Read, W: Write>(
     requires profile { AreInRange profile }
     requires output { output.old.failed ≡ false }
     ensures reached { (bytes : List ℕ) × IsInput (R.remaining input.old) bytes
-        × Reaches (is_ok (profile_named profile) && is_ok (rule_named rule_text.now)) true (name_right profile rule_text.now bytes) result
+        × ReachesText (is_ok (profile_named profile) && is_ok (rule_named rule_text.now)) true (name_right profile rule_text.now bytes) result
         (stream W.contents output.old output.new) }
     ensures profile_first { IfErr (profile_named profile) (λ complaint.
         (result ≡ Err complaint) × (input.new ≡ input.old)) }

@@ -1,10 +1,12 @@
 ghost use Rattle.std.specs.Prelude.{◌≡◌, ◌≤◌, ℕ, List, false, is_ok, IsErr, IfOk, IfErr, true};
 ghost use Rattle.plane_core.specs.Generations.{after};
-ghost use Rattle.commands.specs.Answers.{Ends, IsInput, Reaches, only};
+ghost use Rattle.commands.specs.Answers.{IsInput, only};
 ghost use Rattle.commands.specs.Complaints.{status_of};
+ghost use Rattle.commands.specs.Ends.{Ends};
 ghost use Rattle.commands.specs.Inputs.{LiesWithin999, rule_named};
-ghost use Rattle.commands.specs.Run.{run_answer};
+ghost use Rattle.commands.specs.Run.{run_answer, run_task};
 ghost use Rattle.commands.specs.Streams.{stream};
+ghost use Rattle.commands.specs.TextSteps.{ReachesText};
 
 use crate::complaint::Complaint;
 use crate::input::read_pattern;
@@ -43,7 +45,7 @@ pub fn do_run<R: Read, W: Write, E: Write>(
     requires output { output.old.failed ≡ false }
     requires errors { errors.old.failed ≡ false }
     ensures ends { (bytes : List ℕ) × IsInput (R.remaining input.old) bytes
-        × Ends (is_ok (rule_named rule_text.now)) true (only (run_answer rule_text.now generations bytes)) result
+        × Ends (run_task rule_text.now generations) (R.remaining input.old) bytes result
         (stream W.contents output.old output.new) (stream E.contents errors.old errors.new) }
     ensures rule_first { IsErr (rule_named rule_text.now) → (result ≡ Status.Refused) × (input.new ≡ input.old) }
     ensures untouched { result ≡ Status.Refused → output.new ≡ output.old }
@@ -65,7 +67,7 @@ fn run<R: Read, W: Write>(
     requires generations { generations ≤ 100000 }
     requires output { output.old.failed ≡ false }
     ensures reached { (bytes : List ℕ) × IsInput (R.remaining input.old) bytes
-        × Reaches (is_ok (rule_named rule_text.now)) true (only (run_answer rule_text.now generations bytes)) result
+        × ReachesText (is_ok (rule_named rule_text.now)) true (only (run_answer rule_text.now generations bytes)) result
         (stream W.contents output.old output.new) }
     ensures rule_first { IfErr (rule_named rule_text.now) (λ complaint.
         (result ≡ Err complaint) × (input.new ≡ input.old)) }

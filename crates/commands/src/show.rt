@@ -1,10 +1,12 @@
-ghost use Rattle.std.specs.Prelude.{◌≡◌, Some, IfErr, IfOk, false, option_map, true};
+ghost use Rattle.std.specs.Prelude.{◌≡◌, ℕ, List, Option, Some, IfErr, IfOk, false, option_map, true};
 ghost use Rattle.std.specs.Char.{is_ascii_digit};
 ghost use Rattle.std.specs.List.{list_all};
-ghost use Rattle.commands.specs.Answers.{Ends, Reaches, only};
+ghost use Rattle.commands.specs.Answers.{only};
 ghost use Rattle.commands.specs.Complaints.{status_of};
-ghost use Rattle.commands.specs.Show.{is_kind, is_number, is_prefix, parted, show_answer, text_in};
+ghost use Rattle.commands.specs.Ends.{Ends};
+ghost use Rattle.commands.specs.Show.{is_kind, is_number, is_prefix, parted, show_answer, show_task, text_in};
 ghost use Rattle.commands.specs.Streams.{stream};
+ghost use Rattle.commands.specs.TextSteps.{ReachesText};
 
 use crate::complaint::Complaint;
 use crate::refusal::Refusal;
@@ -32,7 +34,7 @@ pub fn do_show<W: Write, E: Write>(
 ) -> Status
     requires output { output.old.failed ≡ false }
     requires errors { errors.old.failed ≡ false }
-    ensures ends { Ends false true (only (show_answer code.now)) result
+    ensures ends { (known : Option (List ℕ)) (bytes : List ℕ) → Ends (show_task code.now) known bytes result
         (stream W.contents output.old output.new) (stream E.contents errors.old errors.new) }
     ensures untouched { result ≡ Status.Refused → output.new ≡ output.old }
     ensures no_memory { result ≡ Status.OutOfMemory → output.new ≡ output.old }
@@ -45,7 +47,7 @@ pub fn do_show<W: Write, E: Write>(
 
 fn show<W: Write>(alloc: Global, code: &str, output: &mut Out<W>) -> Result<(), Complaint>
     requires { output.old.failed ≡ false }
-    ensures reached { Reaches false true (only (show_answer code.now)) result (stream W.contents output.old output.new) }
+    ensures reached { ReachesText false true (only (show_answer code.now)) result (stream W.contents output.old output.new) }
     ensures untouched { IfErr result (λ complaint. status_of complaint ≡ Status.Refused → output.new ≡ output.old) }
     ensures no_memory { IfErr result (λ complaint. complaint ≡ Complaint.OutOfMemory → output.new ≡ output.old) }
 {

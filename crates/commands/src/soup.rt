@@ -1,8 +1,10 @@
-ghost use Rattle.std.specs.Prelude.{◌≡◌, ◌<◌, ◌^◌, IfErr, false, true};
-ghost use Rattle.commands.specs.Answers.{Ends, Reaches, only};
+ghost use Rattle.std.specs.Prelude.{◌≡◌, ◌<◌, ◌^◌, ℕ, List, Option, IfErr, false, true};
+ghost use Rattle.commands.specs.Answers.{only};
 ghost use Rattle.commands.specs.Complaints.{status_of};
-ghost use Rattle.commands.specs.Soup.{soup_answer};
+ghost use Rattle.commands.specs.Ends.{Ends};
+ghost use Rattle.commands.specs.Soup.{soup_answer, soup_task};
 ghost use Rattle.commands.specs.Streams.{stream};
+ghost use Rattle.commands.specs.TextSteps.{ReachesText};
 
 use crate::complaint::Complaint;
 use crate::status::Status;
@@ -34,7 +36,7 @@ pub fn do_soup<W: Write, E: Write>(
     requires number { number < 2 ^ 40 }
     requires output { output.old.failed ≡ false }
     requires errors { errors.old.failed ≡ false }
-    ensures ends { Ends false true (only (soup_answer seed_text.now number)) result
+    ensures ends { (known : Option (List ℕ)) (bytes : List ℕ) → Ends (soup_task seed_text.now number) known bytes result
         (stream W.contents output.old output.new) (stream E.contents errors.old errors.new) }
     ensures untouched { result ≡ Status.Refused → output.new ≡ output.old }
     ensures no_memory { result ≡ Status.OutOfMemory → output.new ≡ output.old }
@@ -52,7 +54,7 @@ fn put_soup<W: Write>(
     output: &mut Out<W>,
 ) -> Result<(), Complaint>
     requires { output.old.failed ≡ false }
-    ensures reached { Reaches false true (only (soup_answer seed_text.now number)) result (stream W.contents output.old output.new) }
+    ensures reached { ReachesText false true (only (soup_answer seed_text.now number)) result (stream W.contents output.old output.new) }
     ensures untouched { IfErr result (λ complaint. status_of complaint ≡ Status.Refused → output.new ≡ output.old) }
     ensures no_memory { IfErr result (λ complaint. complaint ≡ Complaint.OutOfMemory → output.new ≡ output.old) }
 {

@@ -1,20 +1,18 @@
-ghost use Rattle.std.specs.Prelude.{◌≡◌, ◌++◌, ◌≤◌, ℕ, List, IfErr, IfOk, IfSome, None, Ok, false, length, true};
-ghost use Rattle.crew.specs.Shifts.{StopsAt};
-ghost use Rattle.crew.specs.Takes.{HasTaken, was_missing};
-ghost use Rattle.haul_core.specs.HaulTexts.{haul_text};
-ghost use Rattle.haul_core.specs.Keeping.{numbers_in};
-ghost use Rattle.haul_core.specs.Missing.{AreAll, IsComplete, missing_of};
+ghost use Rattle.std.specs.Prelude.{◌≡◌, ◌≤◌, ℕ, List, Option, IfErr, IfOk, false};
+ghost use Rattle.crew.specs.Takes.{HasTaken};
 ghost use Rattle.haul_core.specs.Reports.{IsWorker};
-ghost use Rattle.commands.specs.Answers.{Ends};
 ghost use Rattle.commands.specs.Complaints.{status_of};
+ghost use Rattle.commands.specs.Ends.{Ends, Reaches};
 ghost use Rattle.commands.specs.Profiles.{AreInRange};
 ghost use Rattle.commands.specs.SoupSets.{AreRangesOf, job_named};
-ghost use Rattle.commands.specs.Stopped.{EndsTake, Takes, right_if, stopped_right};
-ghost use Rattle.commands.specs.Streams.{stream};
-ghost use Rattle.commands.specs.Take.{take_right};
-ghost use Rattle.commands.specs.TakeSteps.{IsOpened, Stops, StopsSet};
+ghost use Rattle.commands.specs.Stopped.{gated_task};
+ghost use Rattle.commands.specs.Streams.{Stream, stream, IsStill};
+ghost use Rattle.commands.specs.Take.{take_right, take_task};
+ghost use Rattle.commands.specs.TakeSteps.{EndsCrew, IsOpened, IsTaken, Stops, StopsSet};
 
-use crate::complaint::{Complaint, put_missing};
+use crate::complaint::Complaint;
+use crate::ending::tell_end;
+use crate::finish::finish;
 use crate::profile::ProfileNumbers;
 use crate::refusal::Refusal;
 use crate::soup_set::SoupSet;
@@ -22,11 +20,9 @@ use crate::status::Status;
 use crew::gate::{Gate, OpenGate};
 use crew::watch::Watch;
 use crew::workers::{self, CrewError};
-use haul_core::census::Census;
 use haul_core::haul::{Haul, OpenError};
-use haul_core::haul_text::write_haul;
 use haul_core::range::Range;
-use plane_core::output::{Out, WriteError};
+use plane_core::output::Out;
 use plane_core::rule::Rule;
 use std::alloc::{AllocError, Global};
 use std::io::Write;
@@ -64,7 +60,7 @@ pub fn do_take<W: Write, E: Write, R: Threads + Wait + Sync, H: Watch>(
     requires profile { AreInRange profile }
     requires output { output.old.failed ≡ false }
     requires errors { errors.old.failed ≡ false }
-    ensures ends { Ends false true (take_right set.now profile rule_text.now) result
+    ensures ends { (known : Option (List ℕ)) (bytes : List ℕ) → Ends (take_task set.now profile rule_text.now) known bytes result
         (stream W.contents output.old output.new) (stream E.contents errors.old errors.new) }
     ensures untouched { result ≡ Status.Refused → output.new ≡ output.old }
     ensures no_memory { result ≡ Status.OutOfMemory → output.new ≡ output.old }
@@ -96,24 +92,19 @@ pub fn do_take_with<W: Write, E: Write, G: Gate + Sync, R: Threads + Wait + Sync
     requires profile { AreInRange profile }
     requires output { output.old.failed ≡ false }
     requires errors { errors.old.failed ≡ false }
-    ensures ends { EndsTake (take_right set.now profile rule_text.now) (stopped_right (G.may_stop gate.now) set.now profile rule_text.now)
-        result (stream W.contents output.old output.new) (stream E.contents errors.old errors.new) }
+    ensures ends { (known : Option (List ℕ)) (bytes : List ℕ)
+        → Ends (gated_task (G.may_stop gate.now) set.now profile rule_text.now) known bytes result
+        (stream W.contents output.old output.new) (stream E.contents errors.old errors.new) }
     ensures untouched { result ≡ Status.Refused → output.new ≡ output.old }
     ensures no_memory { result ≡ Status.OutOfMemory → output.new ≡ output.old }
 {
-    match take(
+    let outcome = take(
         alloc, rt, set, workers, profile, rule_text, gate, output, watch,
-    ) {
-        Ok(None) => Status::Done,
-        Ok(Some(missing)) => {
-            let _ = put_missing(missing, errors);
-            Status::Incomplete
-        }
-        Err(complaint) => complaint.tell(errors),
-    }
+    );
+    tell_end(outcome, errors)
 }
 
-/// Takes what the gate lets through, writes the haul text, and says how many soups are missing, if some are.
+/// Takes what the gate lets through, writes the haul text, and says how many soups are missing.
 fn take<W: Write, G: Gate + Sync, R: Threads + Wait + Sync, H: Watch>(
     alloc: Global,
     rt: &R,
@@ -124,22 +115,22 @@ fn take<W: Write, G: Gate + Sync, R: Threads + Wait + Sync, H: Watch>(
     gate: &G,
     output: &mut Out<W>,
     watch: &mut H,
-) -> Result<Option<u64>, Complaint>
+) -> Result<u64, Complaint>
     requires workers { IsWorker workers }
     requires profile { AreInRange profile }
     requires output { output.old.failed ≡ false }
-    ensures reached { Takes (take_right set.now profile rule_text.now) (stopped_right (G.may_stop gate.now) set.now profile rule_text.now)
-        result (stream W.contents output.old output.new) }
+    ensures reached { (known : Option (List ℕ)) (bytes : List ℕ) (errors : Stream) → IsStill errors
+        → Reaches (gated_task (G.may_stop gate.now) set.now profile rule_text.now) known bytes result
+        (stream W.contents output.old output.new) errors }
     ensures untouched { IfErr result (λ complaint. status_of complaint ≡ Status.Refused → output.new ≡ output.old) }
     ensures no_memory { IfErr result (λ complaint. complaint ≡ Complaint.OutOfMemory → output.new ≡ output.old) }
 {
-    let (census, missing) = census_of(alloc, rt, set, workers, profile, rule_text, gate, watch)?;
-    write_haul(&census, output)?;
-    Ok(missing)
+    let mut haul = taken_haul(alloc, rt, set, workers, profile, rule_text, gate, watch)?;
+    finish(&mut haul, output)
 }
 
-/// The census of what was taken, and how many soups are missing, if some are.
-fn census_of<G: Gate + Sync, R: Threads + Wait + Sync, H: Watch>(
+/// The haul of what the gate lets through.
+fn taken_haul<G: Gate + Sync, R: Threads + Wait + Sync, H: Watch>(
     alloc: Global,
     rt: &R,
     set: &SoupSet<'_>,
@@ -148,20 +139,16 @@ fn census_of<G: Gate + Sync, R: Threads + Wait + Sync, H: Watch>(
     rule_text: &str,
     gate: &G,
     watch: &mut H,
-) -> Result<(Census, Option<u64>), Complaint>
+) -> Result<Haul, Complaint>
     requires workers { IsWorker workers }
     requires profile { AreInRange profile }
-    ensures right { IfOk result (λ found. right_if (take_right set.now profile rule_text.now)
-        (stopped_right (G.may_stop gate.now) set.now profile rule_text.now) found.1 (Ok (haul_text found.0))) }
+    ensures taken { IfOk result (IsTaken (G.may_stop gate.now) set.now workers profile rule_text.now) }
     ensures stops { IfErr result (Stops (take_right set.now profile rule_text.now)) }
 {
     let job = job(set, profile, rule_text)?;
     let haul = open_haul(alloc, job, set, workers)?;
-    let mut haul = take_by_crew(alloc, rt, haul, workers, gate, watch)?;
-    let missing = missing_in(&haul);
-    let census = haul.census()?;
-    let _ = haul.close();
-    Ok((census, missing))
+    let haul = take_by_crew(alloc, rt, haul, workers, gate, watch)?;
+    Ok(haul)
 }
 
 /// The job that the texts and numbers make.
@@ -232,24 +219,11 @@ fn take_by_crew<G: Gate + Sync, R: Threads + Wait + Sync, H: Watch>(
     requires few { workers ≤ haul.terms.workers }
     requires open { haul.closed ≡ false }
     ensures taken { IfOk result (HasTaken workers haul) }
-    ensures stopped { IfOk result (λ now. ¬ IsComplete now.terms.ranges now.taken
-        → (worker : ℕ) × StopsAt (G.may_stop gate.now) (was_missing haul) worker) }
+    ensures ends { IfOk result (EndsCrew (G.may_stop gate.now) haul) }
 {
     match workers::take(alloc, rt, haul, workers, gate, watch) {
         Ok(haul) => Ok(haul),
         Err((haul, CrewError::Stopped { .. })) => Ok(haul),
         Err(_) => Err(AllocError),
     }
-}
-
-/// How many soups are missing in a haul, if some are.
-fn missing_in(haul: &Haul) -> Option<u64>
-    ensures none { result ≡ None → AreAll haul.now.terms.ranges (numbers_in haul.now.taken) }
-    ensures some { IfSome result (λ n. n ≡ length (missing_of haul.now.terms.ranges haul.now.taken)) }
-    ensures incomplete { IfSome result (λ _. ¬ IsComplete haul.now.terms.ranges haul.now.taken) }
-{
-    if haul.is_complete() {
-        return None;
-    }
-    Some(haul.missing_count())
 }

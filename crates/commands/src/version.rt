@@ -1,7 +1,9 @@
-ghost use Rattle.std.specs.Prelude.{◌≡◌, ◌≢◌, false, true, IfErr};
-ghost use Rattle.commands.specs.Answers.{Ends, Reaches, only};
+ghost use Rattle.std.specs.Prelude.{◌≡◌, ◌≢◌, ℕ, List, Option, false, true, IfErr};
+ghost use Rattle.commands.specs.Answers.{only};
+ghost use Rattle.commands.specs.Ends.{Ends};
 ghost use Rattle.commands.specs.Streams.{stream};
-ghost use Rattle.commands.specs.Version.{version_answer};
+ghost use Rattle.commands.specs.TextSteps.{ReachesText};
+ghost use Rattle.commands.specs.Version.{version_answer, version_task};
 
 use crate::complaint::Complaint;
 use crate::status::Status;
@@ -19,7 +21,7 @@ use std::io::Write;
 pub fn do_version<W: Write, E: Write>(output: &mut Out<W>, errors: &mut Out<E>) -> Status
     requires output { output.old.failed ≡ false }
     requires errors { errors.old.failed ≡ false }
-    ensures ends { Ends false true (only version_answer) result
+    ensures ends { (known : Option (List ℕ)) (bytes : List ℕ) → Ends version_task known bytes result
         (stream W.contents output.old output.new) (stream E.contents errors.old errors.new) }
     ensures status { result ≢ Status.Refused }
     ensures no_memory { result ≢ Status.OutOfMemory }
@@ -32,7 +34,7 @@ pub fn do_version<W: Write, E: Write>(output: &mut Out<W>, errors: &mut Out<E>) 
 
 fn put_version<W: Write>(output: &mut Out<W>) -> Result<(), Complaint>
     requires { output.old.failed ≡ false }
-    ensures reached { Reaches false true (only version_answer) result (stream W.contents output.old output.new) }
+    ensures reached { ReachesText false true (only version_answer) result (stream W.contents output.old output.new) }
     ensures failed { IfErr result (λ complaint. complaint ≡ Complaint.WriteFailed) }
 {
     output.put(b"census 0.1.0\n")?;

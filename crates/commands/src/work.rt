@@ -1,14 +1,15 @@
-ghost use Rattle.std.specs.Prelude.{◌≡◌, ◌<◌, ◌≤◌, ◌∷◌, [], IfErr, false};
+ghost use Rattle.std.specs.Prelude.{◌≡◌, ◌<◌, ◌≤◌, ◌∷◌, [], ℕ, List, Option, IfErr, false};
 ghost use Rattle.haul_core.specs.Ranges.{AreBelow, end_of, number_bound};
 ghost use Rattle.haul_core.specs.ReportLines.{report_text};
 ghost use Rattle.haul_core.specs.Reports.{IsWorker};
 ghost use Rattle.plane_core.specs.Out.{Writes};
-ghost use Rattle.commands.specs.Answers.{Ends, Reaches};
 ghost use Rattle.commands.specs.Complaints.{status_of};
+ghost use Rattle.commands.specs.Ends.{Ends};
 ghost use Rattle.commands.specs.Profiles.{AreInRange};
 ghost use Rattle.commands.specs.Streams.{stream};
 ghost use Rattle.commands.specs.TakeSteps.{numbers_in_range, numbers_of};
-ghost use Rattle.commands.specs.Work.{work_right};
+ghost use Rattle.commands.specs.TextSteps.{ReachesText};
+ghost use Rattle.commands.specs.Work.{work_right, work_task};
 ghost use Rattle.commands.specs.WorkSteps.{Puts};
 
 use crate::complaint::Complaint;
@@ -49,7 +50,7 @@ pub fn do_work<W: Write, E: Write>(
     requires profile { AreInRange profile }
     requires output { output.old.failed ≡ false }
     requires errors { errors.old.failed ≡ false }
-    ensures ends { Ends false false (work_right set.now worker profile rule_text.now) result
+    ensures ends { (known : Option (List ℕ)) (bytes : List ℕ) → Ends (work_task set.now worker profile rule_text.now) known bytes result
         (stream W.contents output.old output.new) (stream E.contents errors.old errors.new) }
     ensures untouched { result ≡ Status.Refused → output.new ≡ output.old }
 {
@@ -70,7 +71,7 @@ fn work<W: Write>(
     requires worker { IsWorker worker }
     requires profile { AreInRange profile }
     requires output { output.old.failed ≡ false }
-    ensures reached { Reaches false false (work_right set.now worker profile rule_text.now) result (stream W.contents output.old output.new) }
+    ensures reached { ReachesText false false (work_right set.now worker profile rule_text.now) result (stream W.contents output.old output.new) }
     ensures untouched { IfErr result (λ complaint. status_of complaint ≡ Status.Refused → output.new ≡ output.old) }
 {
     findings_are_determined();

@@ -230,7 +230,8 @@ impl Haul {
 
     /// How many numbers of the set haven't been taken. It takes the same time for any set.
     pub fn missing_count(&self) -> u64
-        ensures { result ≡ length (missing_of self.now.terms.ranges self.now.taken) }
+        ensures count { result ≡ length (missing_of self.now.terms.ranges self.now.taken) }
+        ensures none { (result ≡ 0) ↔ IsComplete self.now.terms.ranges self.now.taken }
     {
         let Haul { count, taken, .. } = self;
         *count - taken.len() as u64

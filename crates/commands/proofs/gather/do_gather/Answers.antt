@@ -1,43 +1,28 @@
-use Rattle.std.proofs.Common.{◌≡◌, ◌∙◌, Err, Ok, false, refl, sym}
+use Rattle.std.proofs.Common.{◌∙◌, refl, sym}
 use Rattle.commands.specs.Streams.{stream}
-use Rattle.commands.proofs.EndLemmas.{not_memory, not_refused}
+use Rattle.commands.proofs.EndLemmas.{if_memory, if_refused}
 use Rattle.commands.proofs.gather.do_gather.Goals as goal
 
-pub returns-in-Ok-clause-ends : goal.returns-in-Ok-clause-ends
-returns-in-Ok-clause-ends g c =
-    let told = c.in-Ok.ensures.gathers in
-    let line = c.tell_missing.ensures in (
+pub returns-clause-ends : goal.returns-clause-ends
+returns-clause-ends g c =
+    let told = c.gather-outcome.ensures.gathers in (
       told.0,
       told.1,
       record {
-        outcome = Ok c.in-Ok.missing;
-        between = stream g.E.Write.contents c.args.errors.now c.gather.new.errors;
+        outcome = c.gather-outcome.result;
+        between = stream g.E.Write.contents c.args.errors.now c.gather-outcome.new.errors;
         from = refl;
         reached = told.2;
-        stays = λ failed. let fine : c.gather.new.errors.failed ≡ false = c.in-Ok.ensures.fine in cc;
-        last = line.line (Ok c.in-Ok.missing) refl;
-        status_is = line.status (Ok c.in-Ok.missing) refl;
+        stays = c.tell_end.ensures.stays;
+        last = c.tell_end.ensures.last;
+        status_is = c.tell_end.ensures.status;
       },
     )
 
-pub returns-in-Ok-clause-untouched : goal.returns-in-Ok-clause-untouched
-returns-in-Ok-clause-untouched g c refused = absurd (not_refused c.in-Ok.missing (sym (c.tell_missing.ensures.status (Ok c.in-Ok.missing) refl) ∙ refused))
+pub returns-clause-untouched : goal.returns-clause-untouched
+returns-clause-untouched g c refused =
+    if_refused c.gather-outcome.result (sym c.tell_end.ensures.status ∙ refused) c.gather-outcome.ensures.untouched
 
-pub returns-in-Ok-clause-no_memory : goal.returns-in-Ok-clause-no_memory
-returns-in-Ok-clause-no_memory g c refused = absurd (not_memory c.in-Ok.missing (sym (c.tell_missing.ensures.status (Ok c.in-Ok.missing) refl) ∙ refused))
-
-pub returns-in-Err-clause-ends : goal.returns-in-Err-clause-ends
-returns-in-Err-clause-ends g c =
-    let told = c.in-Err.ensures.gathers in (
-      told.0,
-      told.1,
-      record {
-        outcome = Err c.in-Err.complaint;
-        between = stream g.E.Write.contents c.args.errors.now c.gather.new.errors;
-        from = refl;
-        reached = told.2;
-        stays = c.tell_complaint.ensures.stays;
-        last = c.tell_complaint.ensures.line;
-        status_is = c.tell_complaint.ensures.status;
-      },
-    )
+pub returns-clause-no_memory : goal.returns-clause-no_memory
+returns-clause-no_memory g c memory =
+    if_memory c.gather-outcome.result (sym c.tell_end.ensures.status ∙ memory) c.gather-outcome.ensures.no_memory

@@ -1,13 +1,15 @@
 use Rattle.std.proofs.KnownBytes.{Appends-nil}
-use Rattle.commands.specs.Stopped.{stopped_right}
-use Rattle.commands.specs.Take.{take_right}
 use Rattle.commands.proofs.AnswerLemmas.{err_of}
-use Rattle.commands.proofs.TakeLemmas.{Takes_stopped}
+use Rattle.commands.proofs.TakeLemmas.{take_finishes, take_stops}
 use Rattle.commands.proofs.take.take.Goals as goal
 
-pub returns-in_err-census-clause-reached : goal.returns-in_err-census-clause-reached
-returns-in_err-census-clause-reached g c =
+pub returns-in_err-haul-clause-reached : goal.returns-in_err-haul-clause-reached
+returns-in_err-haul-clause-reached g c known bytes errors still =
     rw (err_of _ _ c.from_residual.ensures.1)
-    (Takes_stopped (take_right c.args.set.now c.args.profile c.args.rule_text.now)
-    (stopped_right (g.G.Gate.may_stop c.args.gate.now) c.args.set.now c.args.profile c.args.rule_text.now)
-    c.in_err-census.field-0.0 _ c.in_err-census.ensures.stops (Appends-nil _))
+    (take_stops (g.G.Gate.may_stop c.args.gate.now) c.args.set.now c.args.profile c.args.rule_text.now known bytes c.in_err-haul.field-0.0 _ errors
+    c.in_err-haul.ensures.stops (Appends-nil _) still)
+
+pub returns-clause-reached : goal.returns-clause-reached
+returns-clause-reached g c known bytes errors still =
+    take_finishes (g.G.Gate.may_stop c.args.gate.now) c.args.set.now c.args.profile c.args.rule_text.now known bytes c.in_ok-haul.haul c.finish.result _ errors
+    c.in_ok-haul.ensures.taken c.finish.ensures.none c.finish.ensures.finishes still

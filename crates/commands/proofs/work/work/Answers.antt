@@ -15,7 +15,7 @@ returns-in_err-haul-clause-reached g c =
     let set = c.args.set.now in
     let rule_text = c.args.rule_text.now in
     rw (err_of _ _ c.from_residual-in_err-haul.ensures.1)
-    (Reaches_stopped false (work_right set c.args.worker c.args.profile rule_text) c.in_err-haul.field-0.0 _
+    (Reaches_stopped (work_right set c.args.worker c.args.profile rule_text) c.in_err-haul.field-0.0 _
     (Stops_given set c.args.profile rule_text (λ job. TellsReports job c.args.worker) c.in_ok-job.job c.in_err-haul.field-0.0 (sym c.in_ok-job.ensures)
     c.in_err-haul.ensures.stops)
     (Appends-nil _))

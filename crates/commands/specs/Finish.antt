@@ -1,0 +1,38 @@
+-- How a haul is finished.
+use Rattle.std.specs.Prelude.{◌≡◌, ℕ, true, false, List, [], Ok, Err, length}
+use Rattle.haul_core.specs.declared.census.Census.{Census}
+use Rattle.haul_core.specs.Books.{Held}
+use Rattle.haul_core.specs.Censuses.{IsCensus}
+use Rattle.haul_core.specs.HaulTexts.{haul_text}
+use Rattle.haul_core.specs.Keeping.{numbers_in}
+use Rattle.haul_core.specs.Missing.{missing_of}
+use Rattle.commands.specs.declared.complaint.Complaint.TheVariants.{Refused, OutOfMemory, ReadFailed, WriteFailed}
+use Rattle.commands.specs.Ends.{Outcome}
+use Rattle.commands.specs.Streams.{Stream, Has, HasFront}
+
+-- the census of what a haul has taken
+abbrev pub IsCensusOf : Held → Census → Type 0
+IsCensusOf held census = IsCensus held.terms.job held.terms.ranges (numbers_in held.taken) census
+
+-- the haul text was written, and so many soups are missing
+pub record IsFinished (held : Held) (missing : ℕ) (output : Stream) : Type 0 where
+  pub census : Census
+  pub counted : IsCensusOf held census
+  pub missing_is : missing ≡ length (missing_of held.terms.ranges held.taken)
+  pub text : Has output (haul_text census)
+  pub fine : output.failed ≡ false
+
+-- a front of it was, and the output failed
+pub record IsHalfFinished (held : Held) (output : Stream) : Type 0 where
+  pub census : Census
+  pub counted : IsCensusOf held census
+  pub front : HasFront output (haul_text census)
+  pub cut : output.failed ≡ true
+
+-- what became of the haul text; nothing of it was written if memory ran out
+abbrev pub Finishes : Held → Outcome → Stream → Type 0
+Finishes held (Ok missing) output = IsFinished held missing output
+Finishes held (Err OutOfMemory) output = Has output []
+Finishes held (Err WriteFailed) output = IsHalfFinished held output
+Finishes held (Err ReadFailed) output = ⊥
+Finishes held (Err (Refused refusal)) output = ⊥

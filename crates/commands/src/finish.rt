@@ -1,0 +1,36 @@
+ghost use Rattle.std.specs.Prelude.{◌≡◌, ◌≢◌, ◌↔◌, ◌++◌, ◌∷◌, [], IfErr, List, false, length};
+ghost use Rattle.haul_core.specs.Books.{StandsFor};
+ghost use Rattle.haul_core.specs.Missing.{IsComplete, missing_of};
+ghost use Rattle.haul_core.specs.declared.arrival.Arrival.{Arrival};
+ghost use Rattle.haul_core.specs.declared.arrival.Arrival.TheVariants as arrival;
+ghost use Rattle.commands.specs.Complaints.{status_of};
+ghost use Rattle.commands.specs.Finish.{Finishes};
+ghost use Rattle.commands.specs.Streams.{stream};
+
+use crate::complaint::Complaint;
+use crate::status::Status;
+use haul_core::haul::Haul;
+use haul_core::haul_text::write_haul;
+use plane_core::output::Out;
+use std::io::Write;
+
+/// Closes a haul, writes its haul text, and says how many soups are missing.
+pub(crate) fn finish<W: Write>(haul: &mut Haul, output: &mut Out<W>) -> Result<u64, Complaint>
+    requires { output.old.failed ≡ false }
+    ensures finishes { Finishes haul.old result (stream W.contents output.old output.new) }
+    ensures none { (length (missing_of haul.old.terms.ranges haul.old.taken) ≡ 0) ↔ IsComplete haul.old.terms.ranges haul.old.taken }
+    ensures stands { (arrivals : List Arrival) → StandsFor arrivals haul.old
+        → StandsFor (arrivals ++ arrival.Closing ∷ []) haul.new }
+    ensures taken { haul.new.taken ≡ haul.old.taken }
+    ensures terms { haul.new.terms ≡ haul.old.terms }
+    ensures accepted { IfErr result (λ complaint. status_of complaint ≢ Status.Refused) }
+    ensures no_memory { IfErr result (λ complaint. complaint ≡ Complaint.OutOfMemory → output.new ≡ output.old) }
+{
+    let missing = haul.missing_count();
+    let _ = haul.close();
+    let census = haul.census()?;
+    write_haul(&census, output)?;
+    // So that a line on what is missing says that the text was printed.
+    output.flush()?;
+    Ok(missing)
+}

@@ -1,0 +1,203 @@
+"""A page of a haul: one file of HTML 5 that loads nothing, with a picture of each object and of each sample soup."""
+
+from __future__ import annotations
+
+import re
+import shlex
+from collections.abc import Iterator
+from html import escape
+from math import log10
+
+from haul.drawing import picture, soup_path
+from haul.names import NAMES
+from haul.program import Census
+from haul.style import SCRIPT, STYLE
+from haul.text import Haul, Job
+
+STANDARD_PROFILE = (64, 512, 101, 30300)
+PROFILE_OPTIONS = ("--period", "--horizon", "--stride", "--limit")
+LIFE = "b3s23"
+# So many of the most frequent objects have a bar.
+BARS = 20
+
+HEADS = ["Picture", "Code", "Name", "What it is", "Cells", "Total", "One in", "Sample soups"]
+KINDS = {"s": "still life", "p": "oscillator of period", "q": "spaceship of period"}
+
+
+def page_of(census: Census, haul: Haul, least: int) -> Iterator[str]:
+    """The page, piece by piece. Codes with less than so many objects are left out."""
+    codes = sorted((code for code in haul.totals if haul.totals[code] >= least), key=lambda code: (-haul.totals[code], code))
+    drawn = [code for code in codes if not code.startswith("ov_")]
+    soups = sorted({number for code in codes for number in haul.samples[code]})
+    # All is asked before the first byte is written, so a page is whole or not there.
+    shown = census.ask_all([["show", code] for code in drawn], "objects drawn")
+    drawings = {code: text.decode("ascii") for code, text in zip(drawn, shown, strict=True)}
+    seed = f"--seed={haul.job.seed}"
+    asked = census.ask_all([["soup", seed, str(number)] for number in soups], "soups drawn")
+    paths = {number: soup_path(text.decode("ascii")) for number, text in zip(soups, asked, strict=True)}
+
+    yield head(haul)
+    yield from bars(haul, codes[:BARS])
+    yield table_head(len(codes), len(haul.totals), least)
+    for code in codes:
+        yield row(haul, code, drawings.get(code), paths)
+    yield f"</tbody></table>\n</main>\n<script>{SCRIPT}</script>\n</body>\n</html>\n"
+
+
+def head(haul: Haul) -> str:
+    """What census it is, in words, and how it can be checked."""
+    job = haul.job
+    where = "in Conway's Game of Life" if job.rule == LIFE else f"under {rule_name(job.rule)}"
+    title = f"A census of {haul.soups:,} soups {where}"
+    soups = f"{haul.soups:,} of {haul.size():,}" if haul.soups < haul.size() else f"{haul.soups:,}"
+    rate = f"{haul.objects() / haul.soups:.2f}" if haul.soups else "none"
+    facts = [
+        ("Soups", soups), ("Unsettled", f"{haul.unsettled:,}"), ("Settled for good", f"{haul.for_good:,}"),
+        ("Objects", f"{haul.objects():,}"), ("Objects a soup", rate), ("Kinds of object", f"{len(haul.totals):,}"),
+    ]
+    return f"""<!DOCTYPE html>
+<html lang="en">
+<head>
+<meta charset="utf-8">
+<meta name="viewport" content="width=device-width, initial-scale=1">
+<title>{escape(title)}</title>
+<style>{STYLE}</style>
+</head>
+<body>
+<main>
+<h1>{escape(title)}</h1>
+<p>Random patterns of 16 by 16 cells ({seed_words(job.seed)}, numbers {ranges_words(haul)}) were run under the rule
+<code>{escape(job.rule)}</code> ({escape(rule_name(job.rule))}) until they had settled, and the objects that they left were counted.
+{escape(profile_words(job))}</p>
+<dl class="facts">{"".join(f"<div><dt>{name}</dt><dd>{value}</dd></div>" for name, value in facts)}</dl>
+<p>{check_words(haul)}</p>
+"""
+
+
+def rule_name(rule: str) -> str:
+    """As it is mostly written: B3/S23."""
+    births, survivals = rule[1:].split("s")
+    return f"B{births}/S{survivals}"
+
+
+def seed_words(seed: str) -> str:
+    return f"seed <code>{escape(seed)}</code>" if seed else "the empty seed"
+
+
+def ranges_words(haul: Haul) -> str:
+    said = [f"{first} to {first + count - 1}" if count > 1 else f"{first}" for first, count in haul.ranges]
+    if len(said) > 12:
+        said[12:] = [f"{len(said) - 12} more ranges"]
+    return escape(", ".join(said) or "none")
+
+
+def profile_words(job: Job) -> str:
+    period, horizon, stride, limit = job.profile
+    looks = f"one each {stride:,} generations, up to generation {limit:,}" if limit >= stride else "the only one, at generation 0"
+    return (
+        f"A pattern has settled at the first look ({looks}) at which each of its objects comes back within {period} "
+        f"generation{'s' if period > 1 else ''}, and for {horizon:,} generations none comes into another's way. It is settled for "
+        "good if it has no spaceship and all its objects come back together within that time."
+    )
+
+
+def check_words(haul: Haul) -> str:
+    if haul.soups < haul.size():
+        return "Soups are missing of this haul, so it can't be taken again as a whole; <code>haul check --samples</code> runs the samples."
+    return (
+        "Whoever doubts it takes the census again. With the text of this haul in the file <code>all.haul</code>, "
+        "<code>haul check all.haul</code> does that and compares; <code>haul check --samples all.haul</code> runs the sample soups alone."
+    )
+
+
+def bars(haul: Haul, codes: list[str]) -> Iterator[str]:
+    """A bar for each of the most frequent objects, on a logarithmic scale."""
+    if not codes:
+        return
+    most = log10(haul.totals[codes[0]]) or 1.0
+    yield f"<h2>The {len(codes)} most frequent, each mark ten times the one before</h2>\n"
+    height = 18 * len(codes) + 4
+    yield f"<svg class='bars' viewBox='0 0 640 {height}' role='img'><title>Totals of the most frequent objects</title>\n"
+    scale = 330 / max(most, 1)
+    for power in range(int(most) + 1):
+        x = 200 + power * scale
+        yield f"<path class='mark' d='M{x:.1f} 0V{height}'/>"
+    for place, code in enumerate(codes):
+        total = haul.totals[code]
+        y, length = 18 * place, 2 + log10(total) * scale
+        name = NAMES.get(code, code if len(code) <= 26 else code[:25] + "…")
+        yield (
+            f"<text x='194' y='{y + 15}' text-anchor='end'>{escape(name)}</text>"
+            f"<path class='bar' d='M200 {y + 4}h{length:.1f}v13h-{length:.1f}z'/>"
+            f"<text x='{206 + length:.1f}' y='{y + 15}'>{total:,}</text>\n"
+        )
+    yield "</svg>\n"
+
+
+def table_head(shown: int, there: int, least: int) -> str:
+    left_out = f" {there - shown:,} more have less than {least:,} and are left out." if shown < there else ""
+    heads = "".join(f"<th scope='col'><button type='button'>{name}</button></th>" if name not in ("Picture", "Sample soups")
+                    else f"<th scope='col'>{name}</th>" for name in HEADS)
+    return f"""<h2>All objects</h2>
+<p>{shown:,} kinds, the most frequent first; a click on a column's head turns the order.{left_out} A code leads to Catagolue's page of
+the object. Catagolue takes groups of objects that only lie near each other apart, and this census doesn't, so counts of some codes
+differ by definition.</p>
+<p class="filter"><label>Only codes and names with <input type="search" id="filter" autocomplete="off"></label></p>
+<table id="objects"><thead><tr>{heads}</tr></thead><tbody>
+"""
+
+
+def row(haul: Haul, code: str, drawing: str | None, paths: dict[int, str]) -> str:
+    total, objects = haul.totals[code], haul.objects()
+    name = NAMES.get(code, "")
+    if drawing is None:
+        image, cells = "too large to be drawn", cells_of_large(code)
+    else:
+        image, cells = picture(drawing, name or code), str(drawing.count("O"))
+    once = round(objects / total)
+    samples = "".join(sample(haul.job, number, paths[number]) for number in haul.samples[code])
+    return (
+        f"<tr><td>{image}</td><td>{linked(code, haul.job.rule)}</td><td>{escape(name)}</td><td>{kind_words(code)}</td>"
+        f"<td>{cells}</td><td>{total:,}</td><td>1 in {once:,}</td><td>{samples}</td></tr>\n"
+    )
+
+
+def kind_words(code: str) -> str:
+    """What a code's prefix says: `xs4`, `xp2`, `xq4`, and the same with `ov_` for what is too large for a text."""
+    found = re.match(r"(?:x|ov_)([spq])([0-9]+)", code)
+    if found is None:
+        return "an object"
+    kind = KINDS[found[1]]
+    return kind if found[1] == "s" else f"{kind} {int(found[2])}"
+
+
+def cells_of_large(code: str) -> str:
+    """A still life's number is that of its cells."""
+    return code.removeprefix("ov_s") if code.startswith("ov_s") else ""
+
+
+def linked(code: str, rule: str) -> str:
+    text = escape(code)
+    if code.startswith("ov_"):
+        return f"<code>{text}</code>"
+    return f"<a href='https://catagolue.hatsya.com/object/{text}/{escape(rule)}'>{text}</a>"
+
+
+def sample(job: Job, number: int, path: str) -> str:
+    """A sample soup, which opens to its picture and to the words that show what becomes of it."""
+    return (
+        f"<details><summary>{number}</summary><svg class='soup' viewBox='0 0 16 16'><path d='{path}'/></svg>"
+        f"<code>{escape(commands(job, number))}</code></details>"
+    )
+
+
+def commands(job: Job, number: int) -> str:
+    """What to type into a shell, whatever stands in the seed."""
+    seed = f" --seed={shlex.quote(job.seed)}" if job.seed else ""
+    name = ["census name"]
+    if job.rule != LIFE:
+        name.append(f"--rule={job.rule}")
+    for option, value, standard in zip(PROFILE_OPTIONS, job.profile, STANDARD_PROFILE, strict=True):
+        if value != standard:
+            name.append(f"{option}={value}")
+    return f"census soup{seed} {number} | {' '.join(name)}"

@@ -1,0 +1,70 @@
+"""The style and the script of a page."""
+
+STYLE = """
+:root { color-scheme: light dark; --ink: #1d2733; --paper: #fff; --soft: #eef1f4; --line: #cdd5dd; --link: #0b57a4; --bar: #3a7d5d; }
+@media (prefers-color-scheme: dark) {
+  :root { --ink: #e4e9ee; --paper: #14191f; --soft: #222a33; --line: #3a4653; --link: #8ebdf0; --bar: #6fb591; }
+}
+body { margin: 0; background: var(--paper); color: var(--ink); font: 16px/1.5 system-ui, sans-serif; }
+main { max-width: 76rem; margin: 0 auto; padding: 1rem; }
+h1 { font-size: 1.6rem; line-height: 1.2; } h2 { font-size: 1.15rem; margin: 2rem 0 .5rem; }
+p { max-width: 46rem; } a { color: var(--link); }
+code, td:nth-child(2) { font-family: ui-monospace, monospace; font-size: .9em; overflow-wrap: anywhere; }
+.facts { display: flex; flex-wrap: wrap; gap: .75rem; margin: 1rem 0; }
+.facts div { background: var(--soft); border-radius: .4rem; padding: .4rem .8rem; }
+.facts dt { font-size: .8rem; } .facts dd { margin: 0; font-size: 1.2rem; font-variant-numeric: tabular-nums; }
+.bars { width: 100%; max-width: 46rem; height: auto; font-size: 12px; }
+.bars text { fill: currentColor; } .bar { fill: var(--bar); } .mark { stroke: var(--line); }
+.filter input { font: inherit; padding: .2rem .4rem; width: 14rem; max-width: 100%; }
+table, thead, tbody { display: block; }
+tr { display: grid; grid-template-columns: 164px minmax(7rem, 1fr) 9rem 8rem 4rem 6.5rem 6.5rem 15rem; border-bottom: 1px solid var(--line); }
+/* Rows that are out of sight are laid out when they come into it, so a page of thousands opens at once. */
+tbody tr { content-visibility: auto; contain-intrinsic-size: auto 6rem; }
+thead { position: sticky; top: 0; z-index: 1; background: var(--paper); }
+th, td { text-align: left; padding: .4rem .5rem; min-width: 0; }
+th button { all: unset; cursor: pointer; font-weight: bold; text-decoration: underline dotted; }
+th button:focus-visible { outline: 2px solid var(--link); }
+th[aria-sort=ascending] button::after { content: " \\2191"; } th[aria-sort=descending] button::after { content: " \\2193"; }
+td:nth-child(n+5):nth-child(-n+7) { font-variant-numeric: tabular-nums; }
+td svg { stroke: currentColor; stroke-width: 1; fill: none; shape-rendering: crispEdges; display: block; }
+td > svg { background: var(--soft); }
+.soup { width: 128px; height: 128px; background: var(--soft); margin: .3rem 0; }
+summary { cursor: pointer; font-variant-numeric: tabular-nums; }
+@media (max-width: 56rem) {
+  thead { position: static; } thead tr { display: flex; flex-wrap: wrap; gap: .2rem .9rem; padding-bottom: .4rem; } th { padding: 0; }
+  th:first-child, th:last-child { display: none; }
+  tbody tr { display: block; padding: .5rem 0; contain-intrinsic-size: auto 15rem; }
+  td { display: block; padding: .1rem 0; } td:empty { display: none; }
+  td:nth-child(5)::before { content: "cells: "; } td:nth-child(6)::before { content: "total: "; }
+  td:nth-child(8)::before { content: "sample soups:"; }
+}
+tr[hidden] { display: none; }
+@media print { .filter { display: none; } thead { position: static; } tr { break-inside: avoid; } }
+"""
+
+SCRIPT = """
+'use strict';
+{
+  const table = document.getElementById('objects'), body = table.tBodies[0], heads = [...table.tHead.rows[0].cells];
+  const text = (row, column) => row.cells[column].textContent;
+  // 'Cells', 'Total' and 'One in' are numbers; rare objects have the largest 'One in'.
+  const isNumber = column => column >= 4 && column <= 6;
+  const number = said => Number(said.replace(/^1 in /, '').replace(/,/g, ''));
+  const sort = (column, down) => {
+    const keyed = [...body.rows].map(row => [isNumber(column) ? number(text(row, column)) : text(row, column), row]);
+    keyed.sort(isNumber(column) ? (a, b) => a[0] - b[0] : (a, b) => (a[0] === '') - (b[0] === '') || (a[0] < b[0] ? -1 : a[0] > b[0] ? 1 : 0));
+    if (down) keyed.reverse();
+    body.append(...keyed.map(pair => pair[1]));
+    heads.forEach((head, place) => place === column ? head.setAttribute('aria-sort', down ? 'descending' : 'ascending') : head.removeAttribute('aria-sort'));
+  };
+  heads.forEach((head, column) => head.querySelector('button')?.addEventListener('click', () => {
+    const now = head.getAttribute('aria-sort');
+    sort(column, now ? now === 'ascending' : false);
+  }));
+  heads[5].setAttribute('aria-sort', 'descending');
+  document.getElementById('filter').addEventListener('input', event => {
+    const wanted = event.target.value.trim().toLowerCase();
+    for (const row of body.rows) row.hidden = !(text(row, 1) + ' ' + text(row, 2)).includes(wanted);
+  });
+}
+"""

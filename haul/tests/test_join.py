@@ -1,0 +1,87 @@
+"""Hauls are joined."""
+
+from __future__ import annotations
+
+import io
+import random
+import unittest
+
+from haul.join import CantJoin, Joining
+from haul.tests.drawn import drawn_haul, drawn_job, drawn_ranges
+from haul.tests.test_text import LARGER, SMALL
+from haul.text import Haul, read_hauls, read_one_haul, text_of
+
+
+def joined(hauls: list[Haul]) -> str:
+    joining = Joining()
+    for haul in hauls:
+        joining.add(haul)
+    return text_of(joining.joined())
+
+
+def refusal(text: str) -> str:
+    joining = Joining()
+    for haul in read_hauls(io.BytesIO(text.encode())):
+        joining.add(haul)
+    try:
+        joining.joined()
+    except CantJoin as why:
+        return str(why)
+    return "none"
+
+
+FULL = SMALL.replace("SOUPS 2", "SOUPS 4").replace("UNSETTLED 2", "UNSETTLED 4")
+
+
+class Joined(unittest.TestCase):
+    def test_one_comes_back(self) -> None:
+        haul = read_one_haul(io.BytesIO(LARGER.encode()))
+        self.assertEqual(joined([haul]), LARGER)
+
+    def test_touching_ranges_are_one(self) -> None:
+        after = FULL.replace("@RANGE 0 4", "@RANGE 4 4")
+        hauls = list(read_hauls(io.BytesIO((after + FULL).encode())))
+        wanted = FULL.replace("@RANGE 0 4", "@RANGE 0 8").replace("SOUPS 4", "SOUPS 8").replace("UNSETTLED 4", "UNSETTLED 8")
+        self.assertEqual(joined(hauls), wanted)
+
+    def test_refusals_in_their_order(self) -> None:
+        other = FULL.replace("@RANGE 0 4", "@RANGE 8 4").replace("b3s23", "b36s23")
+        missing = SMALL.replace("@RANGE 0 4", "@RANGE 20 4")
+        self.assertEqual(refusal(FULL + FULL), "ranges overlap at line 15")
+        self.assertEqual(refusal(FULL + FULL + missing), "haul with missing soups at line 29")
+        self.assertEqual(refusal(FULL + FULL + missing + other), "other job at line 43")
+        self.assertEqual(refusal(FULL + FULL.replace("0 4", "3 4")), "ranges overlap at line 15")
+        self.assertEqual(refusal(FULL + FULL.replace("0 4", "4 4")), "none")
+
+    def test_totals_too_large(self) -> None:
+        most = 2**63
+        text = LARGER.replace("OBJECTS 6", f"OBJECTS {most}").replace("xp2_7 2", f"xp2_7 {most - 4}")
+        later = text.replace("RANGE 3 2", "RANGE 30 2").replace("RANGE 10 1", "RANGE 100 1")
+        later = later.replace("xp2_7 3 10", "xp2_7 30 100").replace("3 4 10", "30 31 100")
+        self.assertEqual(refusal(text + later), "totals too large")
+        self.assertEqual(refusal(text + later.replace(str(most), str(most - 1)).replace(str(most - 4), str(most - 5))), "none")
+
+    def test_in_any_order_and_grouping(self) -> None:
+        draw = random.Random("joins")
+        for _ in range(300):
+            job, ranges, parts = drawn_job(draw), drawn_ranges(draw), []
+            for _ in range(4):
+                parts.append(drawn_haul(draw, job, ranges, is_complete=True))
+                end = sum(ranges[-1]) if ranges else 0
+                ranges = drawn_ranges(draw, end + draw.choice([-1, 0]) if end else 0) if draw.random() < 0.8 else []
+                if ranges and any(first < end for first, _ in ranges):
+                    ranges = [(first + 2, count) for first, count in ranges]
+                if not ranges and end:
+                    ranges = [(end, 3)]
+            whole = joined(parts)
+            for _ in range(3):
+                draw.shuffle(parts)
+                self.assertEqual(joined(parts), whole)
+            left = read_one_haul(io.BytesIO(joined(parts[:2]).encode()))
+            right = read_one_haul(io.BytesIO(joined(parts[2:]).encode()))
+            self.assertEqual(joined([left, right]), whole)
+            self.assertEqual(joined([right, left]), whole)
+
+
+if __name__ == "__main__":
+    unittest.main()

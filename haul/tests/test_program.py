@@ -1,0 +1,265 @@
+"""What asks the census program: checks, pages, and the command line. The built program is used, and not the launcher."""
+
+from __future__ import annotations
+
+import io
+import os
+import random
+import re
+import subprocess
+import sys
+import tempfile
+import unittest
+from html import unescape
+from pathlib import Path
+from typing import IO
+
+from haul.page import page_of
+from haul.program import Census, pieces, set_words
+from haul.text import BadHaul, Haul, Job, read_one_haul, text_of
+
+TOP = Path(__file__).resolve().parents[2]
+CENSUS = str(TOP / "crates" / "census" / "out" / "census")
+HAUL = str(TOP / "bin" / "haul")
+
+
+def census(*words: str) -> bytes:
+    return subprocess.run([CENSUS, *words], stdin=subprocess.DEVNULL, stdout=subprocess.PIPE, check=True).stdout
+
+
+def run(*words: str, text: bytes = b"") -> tuple[int, str, str]:
+    """The status of `haul`, and what it prints on both streams."""
+    ended = subprocess.run([sys.executable, HAUL, *words], input=text, capture_output=True, check=False)
+    return ended.returncode, ended.stdout.decode(), ended.stderr.decode()
+
+
+class Kept(Census):
+    """The program, with what each call of `take` printed kept."""
+
+    def __init__(self) -> None:
+        super().__init__(CENSUS)
+        self.known: dict[tuple[str, ...], bytes] = {}
+
+    def take(self, words: list[str], out: IO[bytes]) -> None:
+        asked = tuple(words)
+        if asked not in self.known:
+            self.known[asked] = census("take", *words)
+        out.write(self.known[asked])
+
+
+def says_right(kept: Kept, text: bytes) -> bool:
+    """Whether `haul check` prints `right` of a text."""
+    try:
+        haul = read_one_haul(io.BytesIO(text))
+    except BadHaul:
+        return False
+    return haul.soups == haul.size() and not list(differences(haul, taken_again(kept, haul, 1)))
+
+
+def is_printed(kept: Kept, text: bytes) -> bool:
+    """Whether `take` prints this text, by the words that stand in it."""
+    haul = read_one_haul(io.BytesIO(text))
+    period, horizon, stride, limit = haul.job.profile
+    again = io.BytesIO()
+    kept.take([f"--seed={haul.job.seed}", f"--rule={haul.job.rule}", f"--period={period}", f"--horizon={horizon}",
+               f"--stride={stride}", f"--limit={limit}", *set_words(haul.ranges), "--workers=1"], again)
+    return again.getvalue() == text
+
+
+class Checking(unittest.TestCase):
+    # Small numbers, so that a changed one is taken quickly too, under whatever rule.
+    WORDS = ["--seed=a", "--count=30", "--period=4", "--horizon=8", "--stride=10", "--limit=30"]
+
+    def test_right(self) -> None:
+        self.assertEqual(run("check", text=census("take", *self.WORDS)), (0, "right\n", ""))
+        self.assertEqual(run("check", "--samples", text=census("take", *self.WORDS)), (0, "right\n", ""))
+
+    def test_each_byte_changed(self) -> None:
+        kept, text = Kept(), census("take", *self.WORDS)
+        self.assertTrue(says_right(kept, text))
+        draw = random.Random("bytes")
+        for at, byte in enumerate(text):
+            for other in draw.sample([b for b in range(256) if b != byte], 2) + [draw.choice(b"0123456789") ]:
+                changed = text[:at] + bytes([other]) + text[at + 1 :]
+                if changed != text and says_right(kept, changed):
+                    self.assertTrue(is_printed(kept, changed), changed)
+
+    def test_two_bytes_changed(self) -> None:
+        kept, text = Kept(), census("take", *self.WORDS)
+        draw = random.Random("pairs of bytes")
+        digits = [at for at, byte in enumerate(text) if chr(byte).isdigit()]
+        lawful = 0
+        for _ in range(10000):
+            changed = bytearray(text)
+            for at in draw.sample(digits, 2) if draw.random() < 0.8 else draw.sample(range(len(text)), 2):
+                changed[at] = draw.choice(b"0123456789")
+            if bytes(changed) == text:
+                continue
+            try:
+                read_one_haul(io.BytesIO(changed))
+                lawful += 1
+            except BadHaul:
+                continue
+            if says_right(kept, bytes(changed)):
+                self.assertTrue(is_printed(kept, bytes(changed)), changed)
+        self.assertGreater(lawful, 20)
+
+    def test_what_should_be_otherwise(self) -> None:
+        text = census("take", "--count", "40").decode()
+        changed = text.replace("xp2_7 111", "xp2_7 112").replace("xp2_7e 1\n", "").replace("xp2_7e 37\n", "")
+        changed = changed.replace("xs4_33 277\n", "xs4_32 1\nxs4_33 276\n").replace("xs4_33 0 1 2", "xs4_32 5\nxs4_33 0 1 3")
+        changed = changed.replace("FOR_GOOD 14", "FOR_GOOD 13")
+        status, output, errors = run("check", text=changed.encode())
+        place = {line: number for number, line in enumerate(changed.splitlines(), 1)}
+        self.assertEqual((status, errors), (7, ""))
+        self.assertEqual(output.splitlines(), [
+            "line 9: is @NUM_FOR_GOOD 13, should be @NUM_FOR_GOOD 14",
+            f"line {place['xp2_7 112']}: is xp2_7 112, should be xp2_7 111",
+            "missing: xp2_7e 1",
+            f"line {place['xs4_32 1']}: xs4_32, should not be there",
+            f"line {place['xs4_33 276']}: is xs4_33 276, should be xs4_33 277",
+            f"line {place['xs4_33 0 1 3']}: is xs4_33 0 1 3, should be xs4_33 0 1 2",
+        ])
+
+    def test_samples(self) -> None:
+        text = census("take", "--count", "40").decode()
+        changed = text.replace("xp2_7e 37", "xp2_7e 3")
+        line = changed.splitlines().index("xp2_7e 3") + 1
+        self.assertEqual(run("check", "--samples", text=changed.encode()), (7, f"line {line}: soup 3 leaves no xp2_7e\n", ""))
+
+    def test_missing_soups(self) -> None:
+        lines = b"".join(census("work", "--count", "2", "--worker", "1").splitlines(True)[:1])
+        text = subprocess.run([CENSUS, "gather", "--count", "2"], input=lines, capture_output=True, check=False).stdout
+        self.assertEqual(run("check", text=text), (3, "", "haul: haul with missing soups\n"))
+        self.assertEqual(run("check", "--samples", text=text), (0, "right\n", ""))
+
+    def test_no_census(self) -> None:
+        text = census("take", "--count", "1")
+        self.assertEqual(run("check", "--census", "/nowhere/census", text=text), (2, "", "haul: no census at /nowhere/census\n"))
+
+    def test_a_second_haul(self) -> None:
+        text = census("take", "--count", "0")
+        self.assertEqual(run("check", text=text + text), (3, "", "haul: bad haul at line 15 column 1\n"))
+
+    def test_what_the_program_complains_of(self) -> None:
+        self.assertEqual(run("check", "--census", "/bin/false", text=census("take", "--count", "1"))[0], 1)
+
+    def test_pieces(self) -> None:
+        self.assertEqual(list(pieces([(5, 7), (20, 2)], 4)), [[(5, 4)], [(9, 3), (20, 1)], [(21, 1)]])
+        self.assertEqual(list(pieces([])), [[]])
+
+
+class Joining(unittest.TestCase):
+    def test_four_parts(self) -> None:
+        with tempfile.TemporaryDirectory() as folder:
+            names = []
+            for part in (2, 0, 3, 1):
+                names.append(os.path.join(folder, f"{part}.haul"))
+                Path(names[-1]).write_bytes(census("take", "--first", str(10 * part), "--count", "10"))
+            whole = census("take", "--count", "40").decode()
+            self.assertEqual(run("join", *names), (0, whole, ""))
+            self.assertEqual(run("join", text=b"".join(Path(name).read_bytes() for name in names)), (0, whole, ""))
+            Path(names[1]).write_bytes(b"@VERSION 3\n")
+            self.assertEqual(run("join", *names), (3, "", f"haul: {names[1]}: bad haul at line 1 column 10\n"))
+
+    def test_gathered_parts(self) -> None:
+        parts = b""
+        for part in range(4):
+            where = ["--first", str(10 * part), "--count", "10"]
+            lines = census("work", "--worker", "1", *where)
+            parts += subprocess.run([CENSUS, "gather", *where], input=lines, stdout=subprocess.PIPE, check=True).stdout
+        self.assertEqual(run("join", text=parts), (0, census("take", "--count", "40").decode(), ""))
+
+    def test_nothing(self) -> None:
+        self.assertEqual(run("join"), (3, "", "haul: bad haul at line 1 column 1\n"))
+
+    def test_no_file(self) -> None:
+        self.assertEqual(run("join", "/nowhere/a"), (5, "", "haul: /nowhere/a: No such file or directory\n"))
+
+
+class Streams(unittest.TestCase):
+    def test_closed_pipe(self) -> None:
+        text = census("take", "--count", "40")
+        with subprocess.Popen([sys.executable, HAUL, "join"], stdin=subprocess.PIPE, stdout=subprocess.PIPE, stderr=subprocess.PIPE) as program:
+            assert program.stdin and program.stdout and program.stderr
+            program.stdout.close()
+            program.stdin.write(text)
+            program.stdin.close()
+            self.assertEqual(program.stderr.read(), b"")
+        self.assertEqual(program.returncode, 5)
+
+    def test_full_device(self) -> None:
+        with open("/dev/full", "wb") as full:
+            ended = subprocess.run([sys.executable, HAUL, "join"], input=census("take", "--count", "1"), stdout=full,
+                                   stderr=subprocess.PIPE, check=False)
+        self.assertEqual((ended.returncode, ended.stderr), (5, b"haul: No space left on device\n"))
+
+    def test_usage(self) -> None:
+        self.assertEqual(run("check", "--workers", "17")[0], 2)
+        self.assertEqual(run()[0], 2)
+        self.assertEqual(run("--version"), (0, "haul 0.1.0\n", ""))
+        self.assertEqual(run("--help")[0], 0)
+
+
+class Comparing(unittest.TestCase):
+    def test_two_rules(self) -> None:
+        with tempfile.TemporaryDirectory() as folder:
+            for name, rule in (("a", "b3s23"), ("b", "b36s23")):
+                Path(folder, name).write_bytes(census("take", "--count", "40", "--rule", rule))
+            status, output, errors = run("compare", f"{folder}/a", f"{folder}/b")
+        lines = output.splitlines()
+        self.assertEqual((status, errors, lines[0], lines[2]), (
+            0, "", "A: seed= rule=b3s23 profile=64,512,101,30300", "B: seed= rule=b36s23 profile=64,512,101,30300"))
+        heads = lines[4].split()
+        self.assertTrue(all(len(line.split()) == len(heads) for line in lines[5:-1]))
+        block = next(line.split() for line in lines if line.startswith("xs4_33 "))
+        self.assertEqual(block[1:3], ["block", "277"])
+        self.assertEqual(block[4], f"{277 / 40 * 1_000_000:.2f}")
+        self.assertTrue(lines[-1].startswith("in A alone: "))
+
+
+class Pages(unittest.TestCase):
+    HOSTILE = ["$(touch${IFS}x)", "`touch${IFS}x`", "'", '"', "-x", "</script>", "<b>&amp;", "a'b\"c\\", "!!", "--rule=b1s"]
+
+    def page(self, haul: Haul) -> str:
+        return "".join(page_of(Census(CENSUS), haul, 1))
+
+    def test_hostile_seeds(self) -> None:
+        """What the page shows is run by a shell, and prints what the program prints of that soup."""
+        with tempfile.TemporaryDirectory() as folder:
+            os.symlink(CENSUS, os.path.join(folder, "census"))
+            for seed in self.HOSTILE:
+                with self.subTest(seed=seed):
+                    words = [f"--seed={seed}", "--count=10", "--rule=b36s23", "--limit=303"]
+                    page = self.page(read_one_haul(io.BytesIO(census("take", *words))))
+                    shown = re.search("<summary>([0-9]+)</summary><svg.*?</svg><code>(census soup .*?)</code></details>", page)
+                    assert shown is not None
+                    told = subprocess.run(["bash", "-c", unescape(shown[2])], cwd=folder, capture_output=True, check=False,
+                                          env={"PATH": folder + os.pathsep + os.environ["PATH"]})
+                    soup = census("soup", f"--seed={seed}", shown[1])
+                    wanted = subprocess.run([CENSUS, "name", "--rule=b36s23", "--limit=303"], input=soup, stdout=subprocess.PIPE, check=True)
+                    self.assertEqual((told.stdout, told.stderr), (wanted.stdout, b""))
+                    self.assertEqual(os.listdir(folder), ["census"])
+                    self.assertEqual((page.count("</script>"), page.count("<b>")), (1, 0))
+
+    def test_all_is_there(self) -> None:
+        text = census("take", "--count", "40")
+        page = self.page(read_one_haul(io.BytesIO(text)))
+        self.assertEqual(page.count("<tr><td>"), 30)
+        self.assertEqual(page.count("role='img'"), 31)
+        self.assertIn("href='https://catagolue.hatsya.com/object/xs4_33/b3s23'", page)
+        self.assertIn("<td>traffic light</td>", page)
+        self.assertIn("<td>1 in 3</td>", page)
+        self.assertNotIn("src=", page)
+
+    def test_an_object_that_is_too_large_to_draw(self) -> None:
+        haul = Haul(Job("", "b3s23", (64, 512, 101, 30300)), [(0, 1)], 1, 0, 0, {"ov_s2000": 1}, {"ov_s2000": [0]})
+        page = self.page(read_one_haul(io.BytesIO(text_of(haul).encode())))
+        self.assertIn("too large to be drawn", page)
+
+    def test_no_object(self) -> None:
+        self.assertIn("0 kinds", self.page(read_one_haul(io.BytesIO(census("take", "--count", "0")))))
+
+
+if __name__ == "__main__":
+    unittest.main()

@@ -1,0 +1,195 @@
+"""Haul texts are read and written."""
+
+from __future__ import annotations
+
+import io
+import random
+import unittest
+
+from haul.tests.drawn import any_haul
+from haul.text import BadHaul, Haul, read_hauls, read_one_haul, text_of
+
+# Two of four soups of the empty seed, each unsettled, as docs/FORMATS.md has it.
+SMALL = """\
+@VERSION 2
+@ROOT seed=
+@RULE b3s23
+@SYMMETRY C1
+@PROFILE 1 1 1 0
+@RANGE 0 4
+@NUM_SOUPS 2
+@NUM_UNSETTLED 2
+@NUM_FOR_GOOD 0
+@NUM_OBJECTS 0
+
+@CENSUS TABLE
+
+@SAMPLE_SOUPIDS
+"""
+
+# A haul with two codes.
+LARGER = """\
+@VERSION 2
+@ROOT seed=a
+@RULE b3s23
+@SYMMETRY C1
+@PROFILE 64 512 101 30300
+@RANGE 3 2
+@RANGE 10 1
+@NUM_SOUPS 3
+@NUM_UNSETTLED 0
+@NUM_FOR_GOOD 1
+@NUM_OBJECTS 6
+
+@CENSUS TABLE
+xp2_7 2
+xs4_33 4
+
+@SAMPLE_SOUPIDS
+xp2_7 3 10
+xs4_33 3 4 10
+"""
+
+
+def read(text: str) -> Haul:
+    return read_one_haul(io.BytesIO(text.encode("latin-1")))
+
+
+def fault(text: str) -> str:
+    """What is said of a text that is no haul's."""
+    try:
+        list(read_hauls(io.BytesIO(text.encode("latin-1"))))
+    except BadHaul as bad:
+        return str(bad).removeprefix("bad haul at ")
+    return "none"
+
+
+class Reading(unittest.TestCase):
+    def test_small(self) -> None:
+        haul = read(SMALL)
+        self.assertEqual((haul.soups, haul.unsettled, haul.for_good, haul.ranges, haul.totals), (2, 2, 0, [(0, 4)], {}))
+        self.assertEqual(text_of(haul), SMALL)
+
+    def test_larger(self) -> None:
+        haul = read(LARGER)
+        self.assertEqual(haul.job.profile, (64, 512, 101, 30300))
+        self.assertEqual(haul.totals, {"xp2_7": 2, "xs4_33": 4})
+        self.assertEqual(haul.samples, {"xp2_7": [3, 10], "xs4_33": [3, 4, 10]})
+        self.assertEqual((haul.first_total_line(), haul.first_sample_line()), (14, 18))
+        self.assertEqual(text_of(haul), LARGER)
+
+    def test_no_number(self) -> None:
+        none = SMALL.replace("@RANGE 0 4", "@RANGE 0 0").replace("SOUPS 2", "SOUPS 0").replace("UNSETTLED 2", "UNSETTLED 0")
+        self.assertEqual(text_of(read(none)), none)
+
+    def test_several(self) -> None:
+        hauls = list(read_hauls(io.BytesIO((SMALL + LARGER + SMALL).encode())))
+        self.assertEqual([haul.line for haul in hauls], [1, 15, 34])
+
+    def test_places(self) -> None:
+        for old, new, place in [
+            ("@VERSION 2", "@VERSION 3", "line 1 column 10"),
+            ("@VERSION 2", "@VERSION", "line 1 column 9"),
+            ("@VERSION 2", "@VERSION 2 ", "line 1 column 12"),
+            ("@VERSION 2", "@VERSION  2", "line 1 column 10"),
+            ("@VERSION 2", "", "line 1 column 1"),
+            ("seed=a", "seed=a b", "line 2 column 14"),
+            ("seed=a", "seed=\x7f", "line 2 column 7"),
+            ("seed=a", "seed=" + "a" * 65, "line 2 column 7"),
+            ("b3s23", "b03s23", "line 3 column 7"),
+            ("b3s23", "b3s32", "line 3 column 7"),
+            ("C1", "D2", "line 4 column 11"),
+            ("64 512", "65 512", "line 5 column 10"),
+            ("64 512", "64 63", "line 5 column 13"),
+            ("64 512", "064 512", "line 5 column 10"),
+            ("101 30300", "0 30300", "line 5 column 17"),
+            ("101 30300", "101 100001", "line 5 column 21"),
+            ("@RANGE 10 1", "@RANGE 5 1", "line 7 column 8"),
+            ("@RANGE 10 1", "@RANGE 10 0", "line 7 column 11"),
+            ("@RANGE 10 1", "@RANGE 10", "line 7 column 10"),
+            ("@RANGE 10 1", f"@RANGE {2**40 - 1} 2", "line 7 column 22"),
+            ("@RANGE 10 1", f"@RANGE {2**40} 1", "line 7 column 8"),
+            ("@RANGE 3 2\n", "@RANGE 0 0\n", "line 7 column 1"),
+            ("SOUPS 3", "SOUPS 4", "line 8 column 12"),
+            ("UNSETTLED 0", "UNSETTLED 4", "line 9 column 16"),
+            ("FOR_GOOD 1", "FOR_GOOD 4", "line 10 column 15"),
+            ("OBJECTS 6", "OBJECTS 7", "line 11 column 14"),
+            ("OBJECTS 6", "OBJECTS 06", "line 11 column 14"),
+            ("6\n\n@CENSUS", "6\n@CENSUS", "line 12 column 1"),
+            ("xp2_7 2", "xp2_7 0", "line 14 column 7"),
+            ("xp2_7 2", "xp2_7", "line 14 column 6"),
+            ("xp2_7 2", "xP2_7 2", "line 14 column 1"),
+            ("xs4_33 4\n", "xp2_7 4\n", "line 15 column 1"),
+            ("xs4_33 4\n", "xp2_6 4\n", "line 15 column 1"),
+            ("xs4_33 4\n", f"xs4_33 {2**64}\n", "line 15 column 8"),
+            ("xp2_7 3 10", "xp2_7 10 3", "line 18 column 10"),
+            ("xp2_7 3 10", "xp2_7 3 3", "line 18 column 9"),
+            ("xp2_7 3 10", "xp2_7 3 11", "line 18 column 9"),
+            ("xp2_7 3 10", "xp2_7 3 4 10", "line 18 column 11"),
+            ("xp2_7 3 10", "xp2_7", "line 18 column 6"),
+            ("xp2_7 3 10", "xp2_8 3 10", "line 18 column 1"),
+            ("xs4_33 3 4 10\n", "", "line 19 column 1"),
+            ("xs4_33 3 4 10\n", "xs4_33 3 4 10 11\n", "line 19 column 15"),
+            ("xs4_33 3 4 10\n", "xs4_33 3 4 10\nmore\n", "line 20 column 1"),
+            ("xs4_33 3 4 10\n", "xs4_33 3 4 10", "line 19 column 14"),
+        ]:
+            with self.subTest(new=new):
+                self.assertEqual(LARGER.count(old), 1)
+                self.assertEqual(fault(LARGER.replace(old, new)), place)
+
+    def test_the_sum_comes_after_the_table(self) -> None:
+        wrong = LARGER.replace("OBJECTS 6", "OBJECTS 7")
+        self.assertEqual(fault(wrong.replace("xs4_33 4\n", "xs4_33 x\n")), "line 15 column 8")
+        self.assertEqual(fault(wrong.replace("xp2_7 3 10", "xp2_7 x")), "line 11 column 14")
+
+    def test_lines_go_on_through_the_input(self) -> None:
+        self.assertEqual(fault(SMALL + LARGER.replace("C1", "C2")), "line 18 column 11")
+
+    def test_nothing(self) -> None:
+        self.assertEqual(fault(""), "line 1 column 1")
+
+    def test_cut(self) -> None:
+        """Cut within a word that is no field yet, it is bad where that word begins, and else at the end."""
+        self.assertEqual(fault(LARGER[:5]), "line 1 column 1")
+        self.assertEqual(fault("@VERSION "), "line 1 column 10")
+        self.assertEqual(fault("@VERSION 2"), "line 1 column 11")
+        self.assertEqual(fault("@VERSION 2\n"), "line 2 column 1")
+        for end in range(len(LARGER)):
+            self.assertNotEqual(fault(LARGER[:end]), "none")
+
+
+class Drawn(unittest.TestCase):
+    def test_what_was_written_is_read(self) -> None:
+        draw = random.Random("round trips")
+        for _ in range(2000):
+            haul = any_haul(draw)
+            self.assertEqual(read(text_of(haul)), haul)
+
+    def test_mutations(self) -> None:
+        """A text with a byte changed, added or left out is lawful, and then it is written as it was read, or is refused at or
+        before the change, if not by a field that the change makes wrong: the sum, or what stands later."""
+        draw = random.Random("mutations")
+        refused = 0
+        for _ in range(4000):
+            text = text_of(any_haul(draw))
+            at = draw.randrange(len(text))
+            byte = draw.choice("0123456789 \nabsx@_=+-.\x00\xff")
+            changed = text[:at] + byte + text[at + draw.choice([0, 1]) :]
+            try:
+                self.assertEqual(text_of(read(changed)), changed)
+            except BadHaul as bad:
+                refused += 1
+                line, column = (int(word) for word in str(bad).split() if word.isdigit())
+                lines = changed.split("\n")
+                self.assertLessEqual(line, len(lines))
+                self.assertLessEqual(column, len(lines[line - 1]) + 1)
+                # What stands before the place is the front of a lawful text: that of the haul before the change, if it is whole
+                # and the number of objects isn't told.
+                if not lines[line - 1].startswith("@NUM_OBJECTS"):
+                    before = sum(len(one) + 1 for one in lines[: line - 1]) + column - 1
+                    self.assertGreaterEqual(len(changed), before)
+        self.assertGreater(refused, 2000)
+
+
+if __name__ == "__main__":
+    unittest.main()

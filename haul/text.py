@@ -1,0 +1,354 @@
+"""Haul texts: read, byte for byte as docs/FORMATS.md has them, and written.
+
+A text that is read is one that `census take` or `census gather` prints of some lawful claim, so what is written again is what
+was read.
+"""
+
+from __future__ import annotations
+
+import re
+from bisect import bisect_right
+from collections.abc import Iterable, Iterator
+from dataclasses import dataclass
+from typing import IO
+
+# No soup has this number, or a larger one.
+NUMBER_LIMIT = 2**40
+# No total is as large.
+TOTAL_LIMIT = 2**64
+# The most samples of a code.
+MOST_SAMPLES = 3
+
+DECIMAL = re.compile(rb"0|[1-9][0-9]*")
+RULE = re.compile(rb"b1?2?3?4?5?6?7?8?s0?1?2?3?4?5?6?7?8?")
+SEED = re.compile(rb"seed=[!-~]{0,64}")
+CODE = re.compile(rb"[a-z0-9_]{1,400}")
+# What nearly every row of the two tables is.
+TOTAL_ROW = re.compile(rb"([a-z0-9_]{1,400}) ([1-9][0-9]{0,17})\n")
+SAMPLE_ROW = re.compile(rb"([a-z0-9_]{1,400})((?: [1-9][0-9]{0,12}){1,3})\n")
+
+# Least and most of period, horizon, stride and limit. A horizon isn't below its period, either.
+PROFILE = ((1, 64), (0, 4096), (1, 10000), (0, 100000))
+
+Range = tuple[int, int]
+
+
+class BadHaul(Exception):
+    """A text is not that of a haul, from a place on: line and column count from 1, and a column is a byte."""
+
+    def __init__(self, line: int, column: int) -> None:
+        super().__init__(f"bad haul at line {line} column {column}")
+
+
+@dataclass(frozen=True)
+class Job:
+    """What soups a census runs, and how."""
+
+    seed: str
+    rule: str
+    # Period, horizon, stride and limit.
+    profile: tuple[int, int, int, int]
+
+
+@dataclass
+class Haul:
+    """What a census says of the soups that it has taken."""
+
+    job: Job
+    # First number and how many, ascending; none of them is empty, and none touches the next.
+    ranges: list[Range]
+    soups: int
+    unsettled: int
+    for_good: int
+    # How many objects there are of each code, in the order of the codes.
+    totals: dict[str, int]
+    # The least numbers of soups that left an object of a code, for the same codes.
+    samples: dict[str, list[int]]
+    # The line of the input in which the text begins.
+    line: int = 1
+
+    def objects(self) -> int:
+        return sum(self.totals.values())
+
+    def size(self) -> int:
+        """How many numbers the set has."""
+        return size_of(self.ranges)
+
+    def first_total_line(self) -> int:
+        """The line of the input in which the first total stands. The others follow."""
+        return self.line + 11 + max(1, len(self.ranges))
+
+    def first_sample_line(self) -> int:
+        return self.first_total_line() + len(self.totals) + 2
+
+
+def size_of(ranges: Iterable[Range]) -> int:
+    return sum(count for _, count in ranges)
+
+
+def header_of(haul: Haul) -> list[str]:
+    """The lines before the table of totals."""
+    return [
+        "@VERSION 2",
+        f"@ROOT seed={haul.job.seed}",
+        f"@RULE {haul.job.rule}",
+        "@SYMMETRY C1",
+        "@PROFILE " + " ".join(map(str, haul.job.profile)),
+        *(f"@RANGE {first} {count}" for first, count in haul.ranges or [(0, 0)]),
+        f"@NUM_SOUPS {haul.soups}",
+        f"@NUM_UNSETTLED {haul.unsettled}",
+        f"@NUM_FOR_GOOD {haul.for_good}",
+        f"@NUM_OBJECTS {haul.objects()}",
+        "",
+        "@CENSUS TABLE",
+    ]
+
+
+def lines_of(haul: Haul) -> Iterator[str]:
+    """The lines of a haul's text, without their line feeds."""
+    yield from header_of(haul)
+    for code, total in haul.totals.items():
+        yield f"{code} {total}"
+    yield ""
+    yield "@SAMPLE_SOUPIDS"
+    for code, numbers in haul.samples.items():
+        yield sample_row(code, numbers)
+
+
+def sample_row(code: str, numbers: list[int]) -> str:
+    return " ".join([code, *map(str, numbers)])
+
+
+def text_of(haul: Haul) -> str:
+    return "".join(f"{line}\n" for line in lines_of(haul))
+
+
+class Lines:
+    """The lines of an input, and where reading is: the latest line, its fields, and how many of these have been read."""
+
+    def __init__(self, stream: IO[bytes]) -> None:
+        self.stream = stream
+        self.number = 0
+        self.fields: list[bytes] = []
+        self.is_ended = False
+        self.read = 0
+        # A line that was looked at before it is wanted.
+        self.held: bytes | None = None
+
+    def peek(self) -> bytes:
+        """The next line with its line feed, or no byte at the end of the input."""
+        if self.held is None:
+            self.held = self.stream.readline()
+        return self.held
+
+    def skip(self) -> None:
+        """Takes the next line, which has been looked at whole."""
+        self.held = None
+        self.number += 1
+
+    def next_line(self) -> None:
+        line = self.peek()
+        self.held = None
+        self.number += 1
+        self.is_ended = line.endswith(b"\n")
+        body = line[:-1] if self.is_ended else line
+        # An empty line has no field, and the end of the input none either.
+        self.fields = body.split(b" ") if body else []
+        self.read = 0
+
+    def bad_field(self, back: int = 0) -> BadHaul:
+        """The fault that the field to be read next, or one read before it, isn't as it should be."""
+        before = self.fields[: self.read - back]
+        return BadHaul(self.number, sum(map(len, before)) + len(before) + 1 - (self.is_missing(back)))
+
+    def is_missing(self, back: int) -> int:
+        """1 if there is no such field: what is missing would begin after a space that isn't there."""
+        return 1 if self.read - back >= len(self.fields) and self.fields else 0
+
+    def field(self) -> bytes:
+        """The next field."""
+        if self.read == len(self.fields):
+            raise self.bad_field()
+        self.read += 1
+        return self.fields[self.read - 1]
+
+    def word(self, wanted: bytes) -> None:
+        if self.field() != wanted:
+            raise self.bad_field(1)
+
+    def matched(self, wanted: re.Pattern[bytes]) -> str:
+        found = self.field()
+        if not wanted.fullmatch(found):
+            raise self.bad_field(1)
+        return found.decode("ascii")
+
+    def number_in(self, least: int, most: int) -> int:
+        found = self.field()
+        # A number with more digits than these is too large.
+        if len(found) > 20 or not DECIMAL.fullmatch(found) or not least <= int(found) <= most:
+            raise self.bad_field(1)
+        return int(found)
+
+    def end_line(self) -> None:
+        if self.read < len(self.fields) or not self.is_ended:
+            raise self.bad_field()
+
+    def only_number(self, name: bytes, most: int) -> int:
+        """A line of its own: a name and a number."""
+        self.next_line()
+        self.word(name)
+        number = self.number_in(0, most)
+        self.end_line()
+        return number
+
+    def only_words(self, *words: bytes) -> None:
+        """A line of its own with just these words."""
+        self.next_line()
+        for word in words:
+            self.word(word)
+        self.end_line()
+
+
+def read_hauls(stream: IO[bytes]) -> Iterator[Haul]:
+    """The hauls that stand one after another in an input; at least one. Raises `BadHaul` at the first fault."""
+    lines = Lines(stream)
+    yield read_haul(lines)
+    while lines.peek():
+        yield read_haul(lines)
+
+
+def read_one_haul(stream: IO[bytes]) -> Haul:
+    """The only haul of an input."""
+    lines = Lines(stream)
+    haul = read_haul(lines)
+    if lines.peek():
+        raise BadHaul(lines.number + 1, 1)
+    return haul
+
+
+def read_haul(lines: Lines) -> Haul:
+    begins = lines.number + 1
+    job = read_job(lines)
+    ranges = read_ranges(lines)
+    soups = lines.only_number(b"@NUM_SOUPS", size_of(ranges))
+    unsettled = lines.only_number(b"@NUM_UNSETTLED", soups)
+    for_good = lines.only_number(b"@NUM_FOR_GOOD", soups - unsettled)
+    objects = lines.only_number(b"@NUM_OBJECTS", TOTAL_LIMIT - 1)
+    not_the_sum = lines.bad_field(1)
+    lines.only_words()
+    lines.only_words(b"@CENSUS", b"TABLE")
+    totals = read_totals(lines)
+    if sum(totals.values()) != objects:
+        raise not_the_sum
+    lines.only_words(b"@SAMPLE_SOUPIDS")
+    samples = read_samples(lines, ranges, totals)
+    return Haul(job, ranges, soups, unsettled, for_good, totals, samples, begins)
+
+
+def read_job(lines: Lines) -> Job:
+    lines.only_words(b"@VERSION", b"2")
+    lines.next_line()
+    lines.word(b"@ROOT")
+    seed = lines.matched(SEED).removeprefix("seed=")
+    lines.end_line()
+    lines.next_line()
+    lines.word(b"@RULE")
+    rule = lines.matched(RULE)
+    lines.end_line()
+    lines.only_words(b"@SYMMETRY", b"C1")
+    lines.next_line()
+    lines.word(b"@PROFILE")
+    period = lines.number_in(*PROFILE[0])
+    horizon = lines.number_in(period, PROFILE[1][1])
+    stride = lines.number_in(*PROFILE[2])
+    limit = lines.number_in(*PROFILE[3])
+    lines.end_line()
+    return Job(seed, rule, (period, horizon, stride, limit))
+
+
+def read_ranges(lines: Lines) -> list[Range]:
+    """One range at least, or one that is empty, which begins at 0 and stands for none."""
+    ranges: list[Range] = []
+    least = 0
+    while not ranges or lines.peek().split(b" ")[0] == b"@RANGE":
+        lines.next_line()
+        lines.word(b"@RANGE")
+        first = lines.number_in(least, NUMBER_LIMIT - 1)
+        count = lines.number_in(0 if first == 0 else 1, NUMBER_LIMIT - first)
+        lines.end_line()
+        if count == 0:
+            return []
+        ranges.append((first, count))
+        # A number is left out before the next one.
+        least = first + count + 1
+    return ranges
+
+
+def read_totals(lines: Lines) -> dict[str, int]:
+    """The rows of the census table, and the empty line after them."""
+    totals: dict[str, int] = {}
+    latest = b""
+    while True:
+        row = lines.peek()
+        found = TOTAL_ROW.fullmatch(row)
+        if found is not None and found[1] > latest:
+            lines.skip()
+            latest = found[1]
+            totals[latest.decode("ascii")] = int(found[2])
+        elif row == b"\n":
+            lines.next_line()
+            return totals
+        else:
+            # The row is another one, or none: it is looked at field by field.
+            lines.next_line()
+            code = lines.matched(CODE).encode("ascii")
+            if code <= latest:
+                raise lines.bad_field(1)
+            latest = code
+            totals[code.decode("ascii")] = lines.number_in(1, TOTAL_LIMIT - 1)
+            lines.end_line()
+
+
+def read_samples(lines: Lines, ranges: list[Range], totals: dict[str, int]) -> dict[str, list[int]]:
+    """A row for each code of the census table."""
+    firsts = [first for first, _ in ranges]
+    samples: dict[str, list[int]] = {}
+    for code, total in totals.items():
+        most = min(MOST_SAMPLES, total)
+        samples[code] = plain_numbers(lines, code, most, ranges) or read_numbers(lines, code, most, ranges, firsts)
+    return samples
+
+
+def plain_numbers(lines: Lines, code: str, most: int, ranges: list[Range]) -> list[int] | None:
+    """What nearly every row is: `read_numbers` without a look at each field. `None` for any other row, which is not taken."""
+    found = SAMPLE_ROW.fullmatch(lines.peek())
+    if found is None or found[1].decode("ascii") != code or len(ranges) != 1:
+        return None
+    numbers = list(map(int, found[2].split()))
+    first, count = ranges[0]
+    if len(numbers) > most or numbers[0] < first or numbers[-1] >= first + count:
+        return None
+    if len(numbers) > 1 and not (numbers[0] < numbers[1] and numbers[-2] < numbers[-1]):
+        return None
+    lines.skip()
+    return numbers
+
+
+def read_numbers(lines: Lines, code: str, most: int, ranges: list[Range], firsts: list[int]) -> list[int]:
+    """The row of a code: one number at least, and so many at most, ascending."""
+    lines.next_line()
+    lines.word(code.encode("ascii"))
+    numbers: list[int] = []
+    while not numbers or (lines.read < len(lines.fields) and len(numbers) < most):
+        number = lines.number_in(numbers[-1] + 1 if numbers else 0, NUMBER_LIMIT - 1)
+        if not is_in(number, ranges, firsts):
+            raise lines.bad_field(1)
+        numbers.append(number)
+    lines.end_line()
+    return numbers
+
+
+def is_in(number: int, ranges: list[Range], firsts: list[int]) -> bool:
+    """Whether a number is in one of these ranges, which ascend and begin at these numbers."""
+    place = bisect_right(firsts, number) - 1
+    return place >= 0 and number < ranges[place][0] + ranges[place][1]
