@@ -68,17 +68,13 @@ impl Model for Known {
 }
 
 impl Memo {
-    /// A memo that knows nothing yet, with room for 4,096 shapes. It takes some megabytes at the most.
-    ///
-    /// # Errors
-    ///
-    /// [`AllocError`] if there is no memory.
-    pub fn new(alloc: Global) -> Result<Memo, AllocError> {
-        let mut slots = Vec::with_capacity(alloc, SLOTS)?;
-        for _ in 0..SLOTS {
-            slots.push(None)?;
+    /// A memo that knows nothing yet, with room for 4,096 shapes: half a megabyte, and some three if all of them are large.
+    /// If there is no memory for it, it has no room.
+    pub fn new(alloc: Global) -> Memo {
+        match empty_slots(alloc) {
+            Ok(slots) => Memo { slots },
+            Err(AllocError) => Memo::without_room(alloc),
         }
-        Ok(Memo { slots })
     }
 
     /// A memo without room, which remembers nothing. It takes no memory.
@@ -284,6 +280,15 @@ fn is_same(one: &Rule, other: &Rule) -> bool
     ensures { IsTrue result → one.now ≡ other.now }
 {
     one == other
+}
+
+/// As many slots as a memo has, with nothing in them.
+fn empty_slots(alloc: Global) -> Result<Vec<Option<Known>>, AllocError> {
+    let mut slots = Vec::with_capacity(alloc, SLOTS)?;
+    for _ in 0..SLOTS {
+        slots.push(None)?;
+    }
+    Ok(slots)
 }
 
 /// A sweep, moved, if that can be said in numbers of 32 bits.

@@ -95,7 +95,7 @@ fn fly_gliders(rt: &HostRuntime, generations: u32) -> io::Result<()> {
 /// How many of the first soups of the empty seed settle, in Life and by the standard profile.
 fn settled_count(alloc: Global, job: &Job, soups: u32) -> Result<usize, AllocError> {
     let mut settled = Vec::new(alloc);
-    let mut memo = Memo::new(alloc)?;
+    let mut memo = Memo::new(alloc);
     for number in 0..soups {
         let finding = survey_with(alloc, job, u64::from(number), &mut memo)?;
         if let Finding::Settled { checkpoint, .. } = finding {
