@@ -1,3 +1,4 @@
+mod AloneLemmas
 mod DeterminedLemmas
 mod FindingLemmas
 mod ForGoodLemmas

@@ -25,7 +25,7 @@ ghost use Rattle.plane_core.specs.Clusters.{Partition};
 ghost use Rattle.plane_core.specs.Generations.{lies_within, next};
 ghost use Rattle.survey_core.specs.Groups.{GroupKeeps, ShareNoCell, members, union_of};
 ghost use Rattle.survey_core.specs.Rest.{IsAtRest, KeepApart, RestsAs};
-ghost use Rattle.survey_core.specs.RestLaws.{AtRestForGood, EmptyIsAtRest};
+ghost use Rattle.survey_core.specs.RestLaws.{AtRestForGood, EmptyIsAtRest, GroupsRunAlone, PartsRunAlone};
 
 use crate::groups::groups;
 use crate::memo::Memo;
@@ -320,4 +320,11 @@ fn all_cells(alloc: Global, patterns: &[Pattern]) -> Result<Vec<Cell>, AllocErro
 pub fn at_rest_for_good()
     ensures empty { EmptyIsAtRest }
     ensures forever { AtRestForGood }
+{}
+
+/// The laws of parts that stay apart: what stays more than two cells apart runs as if each part were alone, and so does what
+/// is in groups of which that is true.
+pub fn far_parts_run_alone()
+    ensures parts { PartsRunAlone }
+    ensures groups { GroupsRunAlone }
 {}
