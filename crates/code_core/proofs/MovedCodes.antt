@@ -61,7 +61,7 @@ length-shifted dx dy [] = refl
 length-shifted dx dy (c ∷ cs) = ap suc (length-shifted dx dy cs)
 
 -- a pattern comes back as it does elsewhere
-recurs-shifted : (dx dy : ℤ) (rule : Numbers) (cells : List Cell) (limit : ℕ) (r : Recurrence) → InOrder cells → Recurs rule cells limit r
+pub recurs-shifted : (dx dy : ℤ) (rule : Numbers) (cells : List Cell) (limit : ℕ) (r : Recurrence) → InOrder cells → Recurs rule cells limit r
     → Recurs rule (shifted dx dy cells) limit r
 recurs-shifted dx dy rule cells limit r order h = record {
   some = h.some;

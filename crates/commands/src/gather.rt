@@ -39,6 +39,7 @@ use std::alloc::{AllocError, Global};
 use std::io::{BufRead, BufReader, Read, Write};
 use survey_core::finding::findings_are_determined;
 use survey_core::job::Job;
+use survey_core::memo::Memo;
 
 /// Reads report lines, checks each and offers it to a haul over a set, under a profile and the rule of a text, and writes the
 /// haul text of what was taken.
@@ -178,9 +179,12 @@ fn gather_lines<R: BufRead, E: Write>(
     ensures fine { OnOk result (errors.new.failed ≡ false) }
 {
     let mut line = Vec::new(alloc);
+    let mut memo = Memo::new(alloc);
     let mut size = 0u64;
     for before in 0..INPUT_LIMIT {
-        let read = next_line(alloc, input, &mut line, before, haul, errors)?;
+        let read = next_line(
+            alloc, input, &mut line, before, &mut memo, haul, errors,
+        )?;
         size += read.size;
         if size > INPUT_LIMIT {
             return Err(Complaint::ReadFailed);
@@ -198,6 +202,7 @@ fn next_line<R: BufRead, E: Write>(
     input: &mut R,
     line: &mut Vec<u8>,
     before: u64,
+    memo: &mut Memo,
     haul: &mut Haul,
     errors: &mut Out<E>,
 ) -> Result<LineRead, Complaint>
@@ -214,7 +219,7 @@ fn next_line<R: BufRead, E: Write>(
 {
     let read = read_line(input, line)?;
     if read.size > 0 {
-        take_line(alloc, line.as_slice(), before, haul, errors)?;
+        take_line(alloc, line.as_slice(), before, memo, haul, errors)?;
     }
     Ok(read)
 }
@@ -225,6 +230,7 @@ fn take_line<E: Write>(
     alloc: Global,
     kept: &[u8],
     before: u64,
+    memo: &mut Memo,
     haul: &mut Haul,
     errors: &mut Out<E>,
 ) -> Result<(), Complaint>
@@ -237,7 +243,7 @@ fn take_line<E: Write>(
     ensures fine { OnOk result (errors.new.failed ≡ false) }
     ensures ended { IfErr result (EndsLine errors.old errors.new) }
 {
-    if let Some(fault) = offer_line(alloc, kept, haul)? {
+    if let Some(fault) = offer_line(alloc, kept, memo, haul)? {
         fault.write_line(before + 1, errors)?;
     }
     Ok(())
@@ -245,13 +251,18 @@ fn take_line<E: Write>(
 
 /// Offers the report of a line, of which the slice has the first 2^24 + 1 bytes. The fault is what is told of the line, if
 /// anything is.
-fn offer_line(alloc: Global, kept: &[u8], haul: &mut Haul) -> Result<Option<LineFault>, AllocError>
+fn offer_line(
+    alloc: Global,
+    kept: &[u8],
+    memo: &mut Memo,
+    haul: &mut Haul,
+) -> Result<Option<LineFault>, AllocError>
     ensures terms { haul.new.terms ≡ haul.old.terms }
     ensures met { (line : List ℕ) (arrivals : List Arrival) → kept.now ≡ take (2 ^ 24 + 1) line → StandsFor arrivals haul.old
         → IfOk result (λ fault. (arrived : List Arrival)
         × Meets haul.old.terms arrivals line arrived fault × StandsFor (arrivals ++ arrived) haul.new) }
 {
-    let report = match report_of(alloc, kept, &haul.job())? {
+    let report = match report_of(alloc, kept, &haul.job(), memo)? {
         Ok(report) => report,
         Err(fault) => return Ok(Some(fault)),
     };
@@ -264,14 +275,19 @@ fn offer_line(alloc: Global, kept: &[u8], haul: &mut Haul) -> Result<Option<Line
 }
 
 /// The report that a line stands for, or why there is none. The slice has the line's first 2^24 + 1 bytes.
-fn report_of(alloc: Global, kept: &[u8], job: &Job) -> Result<Result<Report, LineFault>, AllocError>
+fn report_of(
+    alloc: Global,
+    kept: &[u8],
+    job: &Job,
+    memo: &mut Memo,
+) -> Result<Result<Report, LineFault>, AllocError>
     ensures { (line : List ℕ) → kept.now ≡ take (2 ^ 24 + 1) line → IfOk result (IsLookedAt job.now line) }
 {
     if kept.len() > LINE_LIMIT {
         let place = front_fault(alloc, &kept[..LINE_LIMIT])?;
         return Ok(Err(LineFault::BadLine { place }));
     }
-    checked_report(alloc, kept, job)
+    checked_report(alloc, kept, job, memo)
 }
 
 /// Where a line is bad that begins with these 2^24 bytes, and is longer.
@@ -290,6 +306,7 @@ fn checked_report(
     alloc: Global,
     line: &[u8],
     job: &Job,
+    memo: &mut Memo,
 ) -> Result<Result<Report, LineFault>, AllocError>
     ensures { IfOk result (IsChecked job.now line.now) }
 {
@@ -298,7 +315,7 @@ fn checked_report(
         Err(LineError::BadLine { place }) => return Ok(Err(LineFault::BadLine { place })),
         Err(LineError::Memory) => return Err(AllocError),
     };
-    match claim.check(alloc, job) {
+    match claim.check_with(alloc, job, memo) {
         Ok(report) => Ok(Ok(report)),
         Err((_, CheckFault::OtherJob)) => Ok(Err(LineFault::OtherJob)),
         Err((_, CheckFault::Disagrees { .. })) => {

@@ -24,6 +24,7 @@ use std::alloc::Global;
 use std::io::Write;
 use survey_core::finding::findings_are_determined;
 use survey_core::job::Job;
+use survey_core::memo::Memo;
 
 /// Surveys all soups of a set for a worker, 1 to 16, under a profile and the rule of a text, and writes a report line for each,
 /// ascending by the soups' numbers.
@@ -78,7 +79,14 @@ fn work<W: Write>(
     let job = job(set, profile, rule_text)?;
     // No report is offered to this haul: it has the ranges in normal form.
     let haul = open_haul(alloc, job, set, worker)?;
-    put_reports(alloc, &job, worker, haul.ranges(), output)
+    put_reports(
+        alloc,
+        &job,
+        worker,
+        haul.ranges(),
+        &mut Memo::new(alloc),
+        output,
+    )
 }
 
 /// Writes the reports on the soups of some ranges.
@@ -87,6 +95,7 @@ fn put_reports<W: Write>(
     job: &Job,
     worker: u8,
     ranges: &[Range],
+    memo: &mut Memo,
     output: &mut Out<W>,
 ) -> Result<(), Complaint>
     requires worker { IsWorker worker }
@@ -95,7 +104,7 @@ fn put_reports<W: Write>(
     ensures { Puts job.now worker (numbers_of ranges.now) result (stream W.contents output.old output.new) }
 {
     for range in ranges {
-        put_range(alloc, job, worker, *range, output)?;
+        put_range(alloc, job, worker, *range, memo, output)?;
     }
     Ok(())
 }
@@ -106,6 +115,7 @@ fn put_range<W: Write>(
     job: &Job,
     worker: u8,
     range: Range,
+    memo: &mut Memo,
     output: &mut Out<W>,
 ) -> Result<(), Complaint>
     requires worker { IsWorker worker }
@@ -114,7 +124,7 @@ fn put_range<W: Write>(
     ensures { Puts job.now worker (numbers_of_range range) result (stream W.contents output.old output.new) }
 {
     for number in range.first..range.first + range.count {
-        put_report(alloc, job, worker, number, output)?;
+        put_report(alloc, job, worker, number, memo, output)?;
     }
     Ok(())
 }
@@ -125,6 +135,7 @@ fn put_report<W: Write>(
     job: &Job,
     worker: u8,
     number: u64,
+    memo: &mut Memo,
     output: &mut Out<W>,
 ) -> Result<(), Complaint>
     requires worker { IsWorker worker }
@@ -132,7 +143,7 @@ fn put_report<W: Write>(
     requires output { output.old.failed ≡ false }
     ensures { Puts job.now worker (number ∷ []) result (stream W.contents output.old output.new) }
 {
-    let Ok(report) = Report::make(alloc, job, worker, number) else {
+    let Ok(report) = Report::make_with(alloc, job, worker, number, memo) else {
         return Err(Complaint::OutOfMemory);
     };
     put_line(&report, output)?;

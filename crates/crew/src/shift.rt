@@ -15,6 +15,7 @@ use std::alloc::Global;
 use std::sync::Wait;
 use std::sync::atomic::{AtomicU64, Ordering};
 use survey_core::job::Job;
+use survey_core::memo::Memo;
 
 /// What all workers share.
 #[derive(Drop)]
@@ -68,6 +69,7 @@ fn survey_all<G: Gate, R: Wait>(
     ensures stopped { result ≡ End.Stopped → StopsAt (G.may_stop gate.now) site.now.missing.items sender.old.number }
 {
     let worker = sender.number();
+    let mut memo = Memo::new(alloc);
     for _ in rt.forever() {
         let Some(place) = site.tickets.draw(pass) else {
             return End::Drained;
@@ -76,7 +78,7 @@ fn survey_all<G: Gate, R: Wait>(
         if gate.before(worker, number).is_err() {
             return End::Stopped;
         }
-        let Ok(report) = Report::make(alloc, &site.job, worker, number) else {
+        let Ok(report) = Report::make_with(alloc, &site.job, worker, number, &mut memo) else {
             return End::OutOfMemory;
         };
         site.belt.present(rt, sender, Note::Report(report));

@@ -5,8 +5,9 @@ ghost use Rattle.haul_core.specs.declared.report.ReportError.TheVariants.{BadWor
 
 use std::alloc::{AllocError, Global};
 use std::marker::Model;
-use survey_core::finding::{Finding, survey};
+use survey_core::finding::{Finding, survey_with};
 use survey_core::job::Job;
+use survey_core::memo::Memo;
 use thiserror::Error;
 
 /// Why no report was made.
@@ -64,10 +65,34 @@ impl Report {
         ensures report { IfOk result IsReport }
         ensures bad_worker { IsErrOf result BadWorker ↔ ¬ IsWorker worker }
     {
+        Report::make_with(alloc, job, worker, number, &mut Memo::without_room(alloc))
+    }
+
+    /// Surveys the soup with this number, which is below 2^40, for this worker. Whatever the memo remembers, the report is
+    /// the same; a memo that has seen other soups makes it faster.
+    ///
+    /// # Errors
+    ///
+    /// - [`ReportError::BadWorker`] if the worker is not 1 to 16.
+    /// - [`ReportError::Memory`] if memory runs out.
+    pub fn make_with(
+        alloc: Global,
+        job: &Job,
+        worker: u8,
+        number: u64,
+        memo: &mut Memo,
+    ) -> Result<Report, ReportError>
+        requires { number < number_bound }
+        ensures job { IfOk result (λ report. report.job ≡ job.now) }
+        ensures worker { IfOk result (λ report. report.worker ≡ worker) }
+        ensures number { IfOk result (λ report. report.number ≡ number) }
+        ensures report { IfOk result IsReport }
+        ensures bad_worker { IsErrOf result BadWorker ↔ ¬ IsWorker worker }
+    {
         if !is_worker(worker) {
             return Err(ReportError::BadWorker);
         }
-        let finding = survey(alloc, job, number)?;
+        let finding = survey_with(alloc, job, number, memo)?;
         Ok(Report {
             job: *job,
             worker,

@@ -260,6 +260,19 @@ writing_more rule grid start i now old new later columns change far writing next
         let before : bit_at columns b ≡ 0 = omega arith in
         ap (λ (w : ℕ). bit_at w b) (others m apart) ∙ writing.unchanged b m before
 
+-- one word more of the next generation
+pub words_more : (rule : Numbers) (grid : Grid) (now : List ℕ) (from k : ℕ) (words : List ℕ) (word : ℕ) → k < length words
+    → ((m : ℕ) → m < k → IsNextAt rule grid now (from + m) (slice_index words m)) → IsNextAt rule grid now (from + k) word
+    → (m : ℕ) → m < k + 1 → IsNextAt rule grid now (from + m) (slice_index (set words k word) m)
+words_more rule grid now from k words word long before next m low = go (same_or_not m k)
+  where
+    go : (m ≡ k) ⊎ (m ≢ k) → IsNextAt rule grid now (from + m) (slice_index (set words k word) m)
+    go (inl same) =
+        subst (λ (n : ℕ). IsNextAt rule grid now (from + n) (slice_index (set words k word) n)) (sym same)
+        (subst (IsNextAt rule grid now (from + k)) (sym (get_or-set_same words k word 0 long)) next)
+    go (inr apart) =
+        subst (IsNextAt rule grid now (from + m)) (sym (get_or-set_other words k m word 0 apart)) (before m (omega arith))
+
 -- the sixteen words of block j
 pub written_block : (rule : Numbers) (grid : Grid) (j i : ℕ) (now old new : List ℕ) (columns : ℕ) → i ≡ 16 * j + 16
     → IsWriting rule grid (16 * j) i now old new columns → IsWritten rule grid j now old new
@@ -294,6 +307,7 @@ pub next_mark_is : (flags from : ℕ) → flags < 2 ^ 64 → 0 < flags / 2 ^ fro
 next_mark_is flags from small some = record {
   low = omega arith;
   high = inside (less_or_not (from + place) 64);
+  one = moved_down flags from (from + place) (omega arith) ∙ ap (λ (n : ℕ). bit_at (flags / 2 ^ from) n) at ∙ found.1;
   none = λ b l h. moved_down flags from b l ∙ found.2 (b - from) (omega arith);
 }
   where
@@ -303,12 +317,14 @@ next_mark_is flags from small some = record {
     found : (place < 64) × (bit_at (flags / 2 ^ from) place ≡ 1) × ((i : ℕ) → i < place → bit_at (flags / 2 ^ from) i ≡ 0)
     found = bit_at-trailing_zeros w64 (flags / 2 ^ from) some (omega (arith, div-le_self flags (2 ^ from)))
 
+    at : from + place - from ≡ place
+    at = omega arith
+
     inside : (from + place < 64) ⊎ (64 ≤ from + place) → from + place < 64
     inside (inl early) = early
     inside (inr past) =
         let none = bit_at_above flags 64 (from + place) small past in
         let is = moved_down flags from (from + place) (omega arith) in
-        let at : from + place - from ≡ place = omega arith in
         let same = ap (λ (n : ℕ). bit_at (flags / 2 ^ from) n) at in
         absurd (omega (arith, none, is, same, found.1))
 

@@ -1,15 +1,17 @@
 -- The cells that are read off a board.
-use Rattle.std.proofs.Common.{◌≡◌, ◌≢◌, ◌==◌, ◌+◌, ◌*◌, ◌/◌, ◌%◌, ◌<◌, ℕ, ℤ, pos, ◌+ℤ◌, ◌-ℤ◌, ◌≤ℤ◌, Bool, true, false, ◌||◌, List, [], ◌∷◌, ◌++◌}
-use Rattle.std.proofs.Common.{arith, refl, ap, ◌∙◌, sym, subst, inl, inr, ◌⊎◌, slice_index, unsigned_abs}
+use Rattle.std.proofs.Common.{◌≡◌, ◌≢◌, ◌==◌, ◌+◌, ◌*◌, ◌/◌, ◌%◌, ◌-◌, ◌<◌, ◌≤◌, ℕ, ℤ, pos, ◌+ℤ◌, ◌-ℤ◌, ◌≤ℤ◌, Bool, true, false, ◌||◌, List, [], ◌∷◌, ◌++◌}
+use Rattle.std.proofs.Common.{arith, refl, ap, ◌∙◌, sym, subst, inl, inr, ◌⊎◌, bit_or, slice_index, unsigned_abs}
 use Rattle.std.specs.Int.{bit_at}
 use Rattle.std.specs.Cmp.{both_ways as both_true}
 use Rattle.std.proofs.lemmas.Int.{ints}
+use Rattle.std.proofs.lemmas.Nat.Bits.{bit_at_or}
 use Rattle.std.proofs.lemmas.Bool.{false≢true, or_cases, eqb-true}
 use Rattle.plane_core.specs.declared.board.Layout.{Layout}
 use Rattle.plane_core.specs.declared.cell.Cell.{Cell}
 use Rattle.plane_core.specs.Cells.{InOrder, cell_at, has, set_of}
-use Rattle.plane_core.specs.Layouts.{AreAmong, HasRead, HasReadRows, place, index_of, IsShown, HasRoom}
-use Rattle.plane_core.proofs.BoardLemmas.{same_or_not}
+use Rattle.plane_core.specs.Boards.{AreNoMarks}
+use Rattle.plane_core.specs.Layouts.{AreAmong, HasRead, HasReadRow, HasReadRows, IsBandEmpty, place, index_of, IsShown, HasRoom}
+use Rattle.plane_core.proofs.BoardLemmas.{less_or_not, same_or_not}
 use Rattle.plane_core.proofs.LayoutLemmas.{same_cells}
 use Rattle.plane_core.proofs.LoadLemmas.{place_of, spot_inside}
 use Rattle.plane_core.proofs.SetLemmas.{has-append, has-cases, has-head, is_set_of, or_right}
@@ -50,33 +52,33 @@ read_one word first old new i low one read = record {
     at k near bit (inl same) = subst (λ (n : ℕ). has (new ++ c ∷ []) (cell_at (first.x +ℤ pos n) first.y) ≡ true) (sym same) (has-push new c)
     at k near bit (inr apart) = grows-push new c _ (read.complete k (omega arith) bit)
 
-pub read_none : (word : ℕ) (first : Cell) (old new : List Cell) (i : ℕ) → bit_at word i ≢ 1 → HasRead word first old i new
-    → HasRead word first old (i + 1) new
-read_none word first old new i none read = record {
+-- from one place to another there is nothing to read
+pub read_on : (word : ℕ) (first : Cell) (old new : List Cell) (i j : ℕ) → AreNoMarks word i j → HasRead word first old i new → HasRead word first old j new
+read_on word first old new i j none read = record {
   grows = read.grows;
   sound = read.sound;
-  complete = λ k near bit. at k near bit (same_or_not k i);
+  complete = λ k near bit. at k near bit (less_or_not k i);
 }
   where
-    at : (k : ℕ) → k < i + 1 → bit_at word k ≡ 1 → (k ≡ i) ⊎ (k ≢ i) → has new (cell_at (first.x +ℤ pos k) first.y) ≡ true
-    at k near bit (inl same) = absurd (none (ap (λ (n : ℕ). bit_at word n) (sym same) ∙ bit))
-    at k near bit (inr apart) = read.complete k (omega arith) bit
+    at : (k : ℕ) → k < j → bit_at word k ≡ 1 → (k < i) ⊎ (i ≤ k) → has new (cell_at (first.x +ℤ pos k) first.y) ≡ true
+    at k near bit (inl before) = read.complete k before bit
+    at k near bit (inr past) = let zero = none k past near in absurd (omega (arith, zero, bit))
 
--- ---- a strip
+-- ---- a row
 
 pub along_place : (at : Layout) (s r i : ℕ) → cell_at ((place at s r 0).x +ℤ pos i) (place at s r 0).y ≡ place at s r i
 along_place at s r i = same_cells _ _ _ _ (omega (arith, ints)) refl
 
-pub rows-none : (at : Layout) (words : List ℕ) (s : ℕ) (old : List Cell) → HasReadRows at words s old 0 old
-rows-none at words s old = record { grows = λ d e. e; sound = λ others shown among. among; complete = λ r i low. absurd (omega arith) }
+pub row-none : (at : Layout) (words : List ℕ) (r : ℕ) (old : List Cell) → HasReadRow at words r old 0 old
+row-none at words r old = record { grows = λ d e. e; sound = λ others shown among. among; complete = λ s i low. absurd (omega arith) }
 
-pub rows-more : (at : Layout) (words : List ℕ) (s r word : ℕ) (first : Cell) (old new more : List Cell) → s < at.strips → r < 16 * at.blocks
-    → word ≡ slice_index words (index_of at s r) → first ≡ place at s r 0 → HasReadRows at words s old r new → HasRead word first new 64 more
-    → HasReadRows at words s old (r + 1) more
-rows-more at words s r word first old new more hs hr word_is first_is before read = record {
+pub row-more : (at : Layout) (words : List ℕ) (s r word : ℕ) (first : Cell) (old new more : List Cell) → s < at.strips → r < 16 * at.blocks
+    → word ≡ slice_index words (index_of at s r) → first ≡ place at s r 0 → HasReadRow at words r old s new → HasRead word first new 64 more
+    → HasReadRow at words r old (s + 1) more
+row-more at words s r word first old new more hs hr word_is first_is before read = record {
   grows = λ d e. read.grows d (before.grows d e);
   sound = λ others shown among. read.sound others (alive others shown) (before.sound others shown among);
-  complete = λ k i near low bit. found k i near low bit (same_or_not k r);
+  complete = λ k i near low bit. found k i near low bit (same_or_not k s);
 }
   where
     cell : (i : ℕ) → cell_at (first.x +ℤ pos i) first.y ≡ place at s r i
@@ -87,38 +89,86 @@ rows-more at words s r word first old new more hs hr word_is first_is before rea
         ap (λ (c : Cell). has others c) (cell i) ∙ shown s r i hs hr low
         ∙ ap (λ (n : ℕ). n == 1) (ap (λ (w : ℕ). bit_at w i) (sym word_is) ∙ bit)
 
-    found : (k i : ℕ) → k < r + 1 → i < 64 → bit_at (slice_index words (index_of at s k)) i ≡ 1 → (k ≡ r) ⊎ (k ≢ r) → has more (place at s k i) ≡ true
+    found : (k i : ℕ) → k < s + 1 → i < 64 → bit_at (slice_index words (index_of at k r)) i ≡ 1 → (k ≡ s) ⊎ (k ≢ s) → has more (place at k r i) ≡ true
     found k i near low bit (inl same) =
-        let here : bit_at word i ≡ 1 = ap (λ (w : ℕ). bit_at w i) (word_is ∙ ap (λ (n : ℕ). slice_index words (index_of at s n)) (sym same)) ∙ bit in
-        ap (λ (n : ℕ). has more (place at s n i)) same ∙ ap (λ (c : Cell). has more c) (sym (cell i)) ∙ read.complete i low here
-    found k i near low bit (inr apart) = read.grows (place at s k i) (before.complete k i (omega arith) low bit)
+        let here : bit_at word i ≡ 1 = ap (λ (w : ℕ). bit_at w i) (word_is ∙ ap (λ (n : ℕ). slice_index words (index_of at n r)) (sym same)) ∙ bit in
+        ap (λ (n : ℕ). has more (place at n r i)) same ∙ ap (λ (c : Cell). has more c) (sym (cell i)) ∙ read.complete i low here
+    found k i near low bit (inr apart) = read.grows (place at k r i) (before.complete k i (omega arith) low bit)
 
 -- ---- the board
 
--- the first n strips have been read
-pub record HasReadStrips (at : Layout) (words : List ℕ) (n : ℕ) (new : List Cell) : Type 0 where
-  pub sound : (others : List Cell) → IsShown at words others → AreAmong others new
-  pub complete : (s r i : ℕ) → s < n → r < 16 * at.blocks → i < 64 → bit_at (slice_index words (index_of at s r)) i ≡ 1 → has new (place at s r i) ≡ true
-
-pub strips-more : (at : Layout) (words : List ℕ) (s : ℕ) (new more : List Cell) → HasReadStrips at words s new
-    → HasReadRows at words s new (16 * at.blocks) more → HasReadStrips at words (s + 1) more
-strips-more at words s new more before read = record {
+pub rows-more : (at : Layout) (words : List ℕ) (r : ℕ) (new more : List Cell) → HasReadRows at words r new
+    → HasReadRow at words r new at.strips more → HasReadRows at words (r + 1) more
+rows-more at words r new more before read = record {
   sound = λ others shown. read.sound others shown (before.sound others shown);
-  complete = λ k r i near hr low bit. found k r i near hr low bit (same_or_not k s);
+  complete = λ s k i hs near low bit. found s k i hs near low bit (same_or_not k r);
 }
   where
-    found : (k r i : ℕ) → k < s + 1 → r < 16 * at.blocks → i < 64 → bit_at (slice_index words (index_of at k r)) i ≡ 1 → (k ≡ s) ⊎ (k ≢ s)
-        → has more (place at k r i) ≡ true
-    found k r i near hr low bit (inl same) =
-        ap (λ (n : ℕ). has more (place at n r i)) same
-        ∙ read.complete r i hr low (ap (λ (n : ℕ). bit_at (slice_index words (index_of at n r)) i) (sym same) ∙ bit)
-    found k r i near hr low bit (inr apart) = read.grows (place at k r i) (before.complete k r i (omega arith) hr low bit)
+    found : (s k i : ℕ) → s < at.strips → k < r + 1 → i < 64 → bit_at (slice_index words (index_of at s k)) i ≡ 1 → (k ≡ r) ⊎ (k ≢ r)
+        → has more (place at s k i) ≡ true
+    found s k i hs near low bit (inl same) =
+        ap (λ (n : ℕ). has more (place at s n i)) same
+        ∙ read.complete s i hs low (ap (λ (n : ℕ). bit_at (slice_index words (index_of at s n)) i) (sym same) ∙ bit)
+    found s k i hs near low bit (inr apart) = read.grows (place at s k i) (before.complete s k i hs (omega arith) low bit)
+
+pub rows-none : (at : Layout) (words : List ℕ) (cells : List Cell) → cells ≡ [] → HasReadRows at words 0 cells
+rows-none at words cells none = record {
+  sound = λ others shown c e. absurd (false≢true (sym (ap (λ (cs : List Cell). has cs c) none) ∙ e));
+  complete = λ s r i hs low. absurd (omega arith);
+}
+
+-- an empty band has nothing to read
+pub rows-on : (at : Layout) (words : List ℕ) (band : ℕ) (new : List Cell) → IsBandEmpty at words at.strips band → HasReadRows at words (16 * band) new
+    → HasReadRows at words (16 * band + 16) new
+rows-on at words band new empty before = record {
+  sound = before.sound;
+  complete = λ s r i hs near low bit. found s r i hs near low bit (less_or_not r (16 * band));
+}
+  where
+    found : (s r i : ℕ) → s < at.strips → r < 16 * band + 16 → i < 64 → bit_at (slice_index words (index_of at s r)) i ≡ 1
+        → (r < 16 * band) ⊎ (16 * band ≤ r) → has new (place at s r i) ≡ true
+    found s r i hs near low bit (inl done) = before.complete s r i hs done low bit
+    found s r i hs near low bit (inr here) =
+        let row : 16 * band + (r - 16 * band) ≡ r = omega arith in
+        let none = empty s (r - 16 * band) i hs (omega arith) in
+        let same = ap (λ (n : ℕ). bit_at (slice_index words (index_of at s n)) i) row in
+        absurd (omega (arith, none, same, bit))
+
+-- one strip more of a band is empty
+pub band-more : (at : Layout) (words : List ℕ) (s band from columns block : ℕ) → from ≡ index_of at s (16 * band)
+    → ((b k : ℕ) → bit_at block b ≡ 0 → k < 16 → bit_at (slice_index words (from + k)) b ≡ 0)
+    → ((b t k : ℕ) → bit_at columns b ≡ 0 → t < s → k < 16 → bit_at (slice_index words (index_of at t (16 * band + k))) b ≡ 0)
+    → (b t k : ℕ) → bit_at (bit_or columns block) b ≡ 0 → t < s + 1 → k < 16 → bit_at (slice_index words (index_of at t (16 * band + k))) b ≡ 0
+band-more at words s band from columns block is here before b t k none near low = go (same_or_not t s)
+  where
+    go : (t ≡ s) ⊎ (t ≢ s) → bit_at (slice_index words (index_of at t (16 * band + k))) b ≡ 0
+    go (inl same) =
+        let e = bit_at_or columns block b in
+        let block_none : bit_at block b ≡ 0 = omega (arith, e, none) in
+        let spot : index_of at s (16 * band + k) ≡ from + k = omega (arith, is) in
+        ap (λ (n : ℕ). bit_at (slice_index words (index_of at n (16 * band + k))) b) same
+        ∙ ap (λ (n : ℕ). bit_at (slice_index words n) b) spot ∙ here b k block_none low
+    go (inr apart) = let e = bit_at_or columns block b in before b t k (omega (arith, e, none)) (omega arith) low
+
+-- one word more of a block
+pub block-more : (words : List ℕ) (from k columns : ℕ)
+    → ((b m : ℕ) → bit_at columns b ≡ 0 → m < k → bit_at (slice_index words (from + m)) b ≡ 0)
+    → (b m : ℕ) → bit_at (bit_or columns (slice_index words (from + k))) b ≡ 0 → m < k + 1 → bit_at (slice_index words (from + m)) b ≡ 0
+block-more words from k columns before b m none near = go (same_or_not m k)
+  where
+    go : (m ≡ k) ⊎ (m ≢ k) → bit_at (slice_index words (from + m)) b ≡ 0
+    go (inl same) =
+        let e = bit_at_or columns (slice_index words (from + k)) b in
+        ap (λ (n : ℕ). bit_at (slice_index words (from + n)) b) same ∙ omega (arith, e, none)
+    go (inr apart) =
+        let e = bit_at_or columns (slice_index words (from + k)) b in
+        before b m (omega (arith, e, none)) (omega arith)
 
 natural : (d : ℤ) (a : ℤ) (n : ℕ) → (a +ℤ pos n) ≤ℤ d → pos (unsigned_abs (d -ℤ a)) ≡ d -ℤ a
 natural d a n h = omega (arith, ints)
 
 -- what was read off the whole board, in order, is what it shows
-pub read_all : (at : Layout) (words : List ℕ) (S new : List Cell) → InOrder S → HasRoom at 0 S → IsShown at words S → HasReadStrips at words at.strips new
+pub read_all : (at : Layout) (words : List ℕ) (S new : List Cell) → InOrder S → HasRoom at 0 S → IsShown at words S → HasReadRows at words (16 * at.blocks) new
     → set_of new ≡ S
 read_all at words S new o fits shown read = sym (is_set_of S new o (λ c. both_true (has S c) (has new c) (there c) (read.sound S shown c)))
   where

@@ -396,15 +396,6 @@ changed-fewer rule at S m n low h = record {
 -- ---- what the loops pass over and write
 
 -- a row that is written
-pub row_next : (rule : Numbers) (now later : List ℕ) (i word : ℕ) (a b d : Row) → i < length later → a ≡ row_at now window_grid (i - 1)
-    → b ≡ row_at now window_grid i → d ≡ row_at now window_grid (i + 1) → IsNextWord rule a b d word
-    → IsNextAt rule window_grid now i (slice_index (set later i word) i)
-row_next rule now later i word a b d low p q r next =
-    subst (λ (w : ℕ). IsNextAt rule window_grid now i w) (sym (get_or-set_same later i word 0 low))
-    (subst (λ (x : Row). IsNextWord rule (row_at now window_grid (i - 1)) (row_at now window_grid i) x word) r
-    (subst (λ (x : Row). IsNextWord rule (row_at now window_grid (i - 1)) x d word) q
-    (subst (λ (x : Row). IsNextWord rule x b d word) p next)))
-
 pub step_none : (rule : Numbers) (now old : List ℕ) → IsStepped rule 112 now old old
 step_none rule now old = record { next = λ i low high. absurd (omega arith); above = λ i low. refl; below = λ i low. refl }
 

@@ -42,6 +42,7 @@ AreNoMarks flags from to = (b : ℕ) → from ≤ b → b < to → bit_at flags 
 pub record IsNextMark (flags from place : ℕ) : Type 0 where
   pub low : from ≤ place
   pub high : place < 64
+  pub one : bit_at flags place ≡ 1
   pub none : AreNoMarks flags from place
 
 -- where a block isn't marked, its words in `last` are already those of the next generation

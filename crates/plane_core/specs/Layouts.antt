@@ -74,11 +74,20 @@ pub record HasRead (word : ℕ) (first : Cell) (old : List Cell) (n : ℕ) (new 
       → AreAmong others old → AreAmong others new
   pub complete : (i : ℕ) → i < n → bit_at word i ≡ 1 → has new (cell_at (first.x +ℤ pos i) first.y) ≡ true
 
--- the first n rows of a strip have been read
-pub record HasReadRows (at : Layout) (words : List ℕ) (s : ℕ) (old : List Cell) (n : ℕ) (new : List Cell) : Type 0 where
+-- the words of the first n strips in a row have been read
+pub record HasReadRow (at : Layout) (words : List ℕ) (r : ℕ) (old : List Cell) (n : ℕ) (new : List Cell) : Type 0 where
   pub grows : AreAmong new old
   pub sound : (others : List Cell) → IsShown at words others → AreAmong others old → AreAmong others new
-  pub complete : (r i : ℕ) → r < n → i < 64 → bit_at (slice_index words (index_of at s r)) i ≡ 1 → has new (place at s r i) ≡ true
+  pub complete : (s i : ℕ) → s < n → i < 64 → bit_at (slice_index words (index_of at s r)) i ≡ 1 → has new (place at s r i) ≡ true
+
+-- the first n rows have been read
+pub record HasReadRows (at : Layout) (words : List ℕ) (n : ℕ) (new : List Cell) : Type 0 where
+  pub sound : (others : List Cell) → IsShown at words others → AreAmong others new
+  pub complete : (s r i : ℕ) → s < at.strips → r < n → i < 64 → bit_at (slice_index words (index_of at s r)) i ≡ 1 → has new (place at s r i) ≡ true
+
+-- no cell is alive in the first n blocks of a band, which are in its sixteen rows
+abbrev pub IsBandEmpty : Layout → List ℕ → ℕ → ℕ → Type 0
+IsBandEmpty at words n band = (s k b : ℕ) → s < n → k < 16 → bit_at (slice_index words (index_of at s (16 * band + k))) b ≡ 0
 
 -- the sides of a box are at most so far from the origin
 pub record AreSidesWithin (reach : ℕ) (b : Bounds) : Type 0 where

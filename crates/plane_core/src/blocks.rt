@@ -8,8 +8,9 @@
 ghost use Rattle.std.specs.Prelude.{◌≡◌, ◌≢◌, ◌==◌, ◌+◌, ◌-◌, ◌*◌, ◌/◌, ◌%◌, ◌^◌, ◌<◌, ◌≤◌, ◌↔◌, IfNone, IfSome, IsTrue, ℕ, List, length, slice_index};
 ghost use Rattle.std.specs.Int.{bit_at};
 ghost use Rattle.plane_core.specs.Boards.{AreNoMarks, IsBeside, IsClear, IsFar, IsGoing, IsInner, IsNext, IsNextAt, IsNextMark, IsRight, IsStill, IsUnmarked, IsWritten, KeepsMarks, KeepsOuter, TellsChanges, row_at};
+ghost use Rattle.plane_core.specs.Words.{life};
 
-use crate::word::{Answers, Row};
+use crate::word::{self, Answers, Row};
 
 /// How many blocks a strip of a board has, and how many there are in all.
 #[derive(Clone, Copy)]
@@ -48,19 +49,85 @@ fn row_of(words: &[u64], grid: Grid, i: usize) -> Row
     }
 }
 
-/// Writes word i of the next generation, and returns which of its bits have changed.
-fn step_word(answers: &Answers, grid: Grid, now: &[u64], last: &mut [u64], i: usize) -> u64
-    requires long { length last.old ≡ length now.now }
+/// Word i of the next generation.
+#[inline(always)]
+fn next_word(answers: &Answers, grid: Grid, now: &[u64], i: usize) -> u64
     requires low { 16 * grid.blocks + 1 ≤ i }
     requires high { i + 16 * grid.blocks + 1 < length now.now }
-    ensures next { IsNextAt answers.now.rule grid now.now i (slice_index last.new i) }
-    ensures others { (m : ℕ) → m ≢ i → slice_index last.new m ≡ slice_index last.old m }
-    ensures changes { (b : ℕ) → bit_at result b ≡ 0 → bit_at (slice_index last.new i) b ≡ bit_at (slice_index last.old i) b }
+    ensures { IsNextAt answers.now.rule grid now.now i result }
 {
     let above = row_of(now, grid, i - 1);
     let here = row_of(now, grid, i);
     let below = row_of(now, grid, i + 1);
-    let word = answers.next_word(above, here, below);
+    answers.next_word(above, here, below)
+}
+
+/// Word i of the next generation, in Life.
+#[inline(always)]
+fn next_word_of_life(grid: Grid, now: &[u64], i: usize) -> u64
+    requires low { 16 * grid.blocks + 1 ≤ i }
+    requires high { i + 16 * grid.blocks + 1 < length now.now }
+    ensures { IsNextAt life grid now.now i result }
+{
+    let above = row_of(now, grid, i - 1);
+    let here = row_of(now, grid, i);
+    let below = row_of(now, grid, i + 1);
+    word::next_word_of_life(above, here, below)
+}
+
+/// Sixteen words of the next generation, from this one on.
+///
+/// They stand apart from both lists, so that no test is needed whether the lists overlap, and Life has a loop of its own,
+/// so that no branch is in a loop. Then the compiler makes several words at once, where it sees all of it in one place; as
+/// calls these functions would make one word after another.
+#[inline(always)]
+pub(crate) fn next_words(answers: &Answers, grid: Grid, now: &[u64], from: usize) -> [u64; 16]
+    requires low { 16 * grid.blocks + 1 ≤ from }
+    requires high { from + 16 * grid.blocks + 16 < length now.now }
+    ensures { (k : ℕ) → k < 16 → IsNextAt answers.now.rule grid now.now (from + k) (slice_index result k) }
+{
+    if answers.is_life {
+        return next_words_of_life(grid, now, from);
+    }
+    next_words_by_rule(answers, grid, now, from)
+}
+
+/// Sixteen words of the next generation in Life.
+#[inline(always)]
+fn next_words_of_life(grid: Grid, now: &[u64], from: usize) -> [u64; 16]
+    requires low { 16 * grid.blocks + 1 ≤ from }
+    requires high { from + 16 * grid.blocks + 16 < length now.now }
+    ensures { (k : ℕ) → k < 16 → IsNextAt life grid now.now (from + k) (slice_index result k) }
+{
+    let mut words = [0; 16];
+    for k in 0..16 {
+        words[k] = next_word_of_life(grid, now, from + k);
+    }
+    words
+}
+
+/// Sixteen words of the next generation, chosen by the answers of a rule.
+#[inline(always)]
+fn next_words_by_rule(answers: &Answers, grid: Grid, now: &[u64], from: usize) -> [u64; 16]
+    requires low { 16 * grid.blocks + 1 ≤ from }
+    requires high { from + 16 * grid.blocks + 16 < length now.now }
+    ensures { (k : ℕ) → k < 16 → IsNextAt answers.now.rule grid now.now (from + k) (slice_index result k) }
+{
+    let mut words = [0; 16];
+    for k in 0..16 {
+        words[k] = next_word(answers, grid, now, from + k);
+    }
+    words
+}
+
+/// Writes word i, and returns which of its bits have changed.
+fn write_word(last: &mut [u64], i: usize, word: u64) -> u64
+    requires { i < length last.old }
+    ensures word { slice_index last.new i ≡ word }
+    ensures others { (m : ℕ) → m ≢ i → slice_index last.new m ≡ slice_index last.old m }
+    ensures changes { (b : ℕ) → bit_at result b ≡ 0 → bit_at (slice_index last.new i) b ≡ bit_at (slice_index last.old i) b }
+    ensures long { length last.new ≡ length last.old }
+{
     let change = last[i] ^ word;
     last[i] = word;
     change
@@ -135,9 +202,10 @@ fn step_block(answers: &Answers, grid: Grid, now: &[u64], last: &mut [u64], j: u
     let start = 16 * j;
     let end = start + 15;
     let (first, final_row) = (last[start], last[end]);
+    let words = next_words(answers, grid, now, start);
     let mut columns = 0;
-    for i in start..start + 16 {
-        columns |= step_word(answers, grid, now, last, i);
+    for k in 0..16 {
+        columns |= write_word(last, start + k, words[k]);
     }
     Changes {
         columns,
@@ -169,8 +237,8 @@ fn step_one(
     mark_changes(marks, grid, j, changes);
 }
 
-/// The first mark in a word of flags, from this place on.
-fn next_mark(flags: u64, from: usize) -> Option<usize>
+/// The first mark in a word of flags, from this place on: the first bit that is set.
+pub(crate) fn next_mark(flags: u64, from: usize) -> Option<usize>
     requires { from ≤ 64 }
     ensures some { IfSome result (IsNextMark flags from) }
     ensures none { IfNone result (AreNoMarks flags from 64) }

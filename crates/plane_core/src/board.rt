@@ -2,16 +2,16 @@
 //!
 //! A board is laid out so wide that in the generations to come no live cell can reach the outer blocks. The cells are
 //! loaded, run block by block, and read back.
-ghost use Rattle.std.specs.Prelude.{◌≡◌, ◌+◌, ◌*◌, ◌<◌, ◌≤◌, ◌^◌, ◌++◌, ◌∷◌, [], ◌-ℤ◌, ◌+ℤ◌, ℕ, List, length, pos, slice_index, IfOk, IfSome, OnOk, OnSome, ◌-◌, true, false, unsigned_abs};
+ghost use Rattle.std.specs.Prelude.{◌≡◌, ◌+◌, ◌*◌, ◌<◌, ◌≤◌, ◌^◌, ◌++◌, ◌∷◌, [], ◌-ℤ◌, ◌+ℤ◌, ℕ, List, length, pos, slice_index, IfOk, IfSome, IsTrue, OnOk, OnSome, ◌-◌, true, false, unsigned_abs};
 ghost use Rattle.std.specs.Int.{bit_at};
 ghost use Rattle.plane_core.specs.Boards.{IsNext, IsReady, IsStill, KeepsMarks, KeepsOuter};
 ghost use Rattle.plane_core.specs.Bounds.{IsWithin};
 ghost use Rattle.plane_core.specs.Cells.{InOrder, cell_at, has, plane_bound};
 ghost use Rattle.plane_core.specs.Generations.{after, lies_within};
-ghost use Rattle.plane_core.specs.Layouts.{AreSidesWithin, HasRead, HasReadRows, HasRoom, IsDead, IsLaid, IsLoaded, IsShown, grid_of, index_of, place, room};
+ghost use Rattle.plane_core.specs.Layouts.{AreSidesWithin, HasRead, HasReadRow, HasReadRows, HasRoom, IsBandEmpty, IsDead, IsLaid, IsLoaded, IsShown, grid_of, index_of, place, room};
 ghost use Rattle.plane_core.specs.declared.cell.Cell.{Cell};
 
-use crate::blocks::{Grid, generation, mark_near};
+use crate::blocks::{Grid, generation, mark_near, next_mark};
 use crate::bounds::Bounds;
 use crate::cell::{BOUND, Cell};
 use crate::coordinate::{apart, back};
@@ -238,19 +238,16 @@ fn read_word(word: u64, first: Cell, cells: &mut Vec<Cell>) -> Result<(), AllocE
     requires { unsigned_abs first.x ≤ 2 ^ 24 }
     ensures { OnOk result (HasRead word first cells.old.items 64 cells.new.items) }
 {
-    if word == 0 {
-        return Ok(());
-    }
-    for i in 0..64 {
-        if word >> i & 1 == 1 {
-            cells.push(along(first, i))?;
-        }
+    let mut done = 0;
+    while let Some(i) = next_mark(word, done) {
+        cells.push(along(first, i))?;
+        done = i + 1;
     }
     Ok(())
 }
 
 /// The cell so many columns to the right.
-fn along(cell: Cell, columns: u32) -> Cell
+fn along(cell: Cell, columns: usize) -> Cell
     requires cell { unsigned_abs cell.x ≤ 2 ^ 24 }
     requires columns { columns < 64 }
     ensures { result ≡ cell_at (cell.x +ℤ pos columns) cell.y }
@@ -261,34 +258,76 @@ fn along(cell: Cell, columns: u32) -> Cell
     }
 }
 
-/// Reads the cells of a strip, and adds them to a list.
-fn read_strip(
-    at: Layout,
-    words: &[u64],
-    strip: usize,
-    cells: &mut Vec<Cell>,
-) -> Result<(), AllocError>
+/// Reads the cells of a row from the left, and adds them to a list.
+fn read_row(at: Layout, words: &[u64], row: usize, cells: &mut Vec<Cell>) -> Result<(), AllocError>
     requires laid { IsLaid at }
-    requires strip { strip < at.strips }
+    requires row { row < 16 * at.blocks }
     requires long { length words.now ≡ 16 * (at.strips * at.blocks) }
-    ensures { OnOk result (HasReadRows at words.now strip cells.old.items (16 * at.blocks) cells.new.items) }
+    ensures { OnOk result (HasReadRow at words.now row cells.old.items at.strips cells.new.items) }
 {
-    for row in 0..16 * at.blocks {
+    for strip in 0..at.strips {
         let word = words[at.index(strip, row)];
         read_word(word, at.corner(strip, row), cells)?;
     }
     Ok(())
 }
 
-/// Reads all cells of a board.
+/// Reads the cells of a band, which is a block of each strip, row by row, and adds them to a list.
+fn read_band(
+    at: Layout,
+    words: &[u64],
+    band: usize,
+    cells: &mut Vec<Cell>,
+) -> Result<(), AllocError>
+    requires laid { IsLaid at }
+    requires band { band < at.blocks }
+    requires long { length words.now ≡ 16 * (at.strips * at.blocks) }
+    ensures { OnOk result (HasReadRows at words.now (16 * band) cells.old.items → HasReadRows at words.now (16 * band + 16) cells.new.items) }
+{
+    if is_band_empty(at, words, band) {
+        return Ok(());
+    }
+    for row in 16 * band..16 * band + 16 {
+        read_row(at, words, row, cells)?;
+    }
+    Ok(())
+}
+
+/// Whether no cell of a band is alive. Most bands are empty, since a board is laid out for what its cells may become.
+fn is_band_empty(at: Layout, words: &[u64], band: usize) -> bool
+    requires laid { IsLaid at }
+    requires band { band < at.blocks }
+    requires long { length words.now ≡ 16 * (at.strips * at.blocks) }
+    ensures { IsTrue result → IsBandEmpty at words.now at.strips band }
+{
+    let mut columns = 0;
+    for strip in 0..at.strips {
+        columns |= columns_of_block(words, at.index(strip, 16 * band));
+    }
+    columns == 0
+}
+
+/// Which columns have a live cell in sixteen words, from this one on.
+fn columns_of_block(words: &[u64], from: usize) -> u64
+    requires { from + 16 ≤ length words.now }
+    ensures { (b k : ℕ) → bit_at result b ≡ 0 → k < 16 → bit_at (slice_index words.now (from + k)) b ≡ 0 }
+{
+    let mut columns = 0;
+    for k in 0..16 {
+        columns |= words[from + k];
+    }
+    columns
+}
+
+/// Reads all cells of a board. They come in their order, so it costs little to see to that.
 fn read(alloc: Global, at: Layout, words: &[u64]) -> Result<Vec<Cell>, AllocError>
     requires laid { IsLaid at }
     requires long { length words.now ≡ 16 * (at.strips * at.blocks) }
     ensures { IfOk result (λ read. (cells : List Cell) → InOrder cells → HasRoom at 0 cells → IsShown at words.now cells → read.items ≡ cells) }
 {
     let mut cells = Vec::new(alloc);
-    for strip in 0..at.strips {
-        read_strip(at, words, strip, &mut cells)?;
+    for band in 0..at.blocks {
+        read_band(at, words, band, &mut cells)?;
     }
     Ok(in_order(cells))
 }

@@ -85,6 +85,9 @@ fn gathered(alloc: Global, cells: &[Cell], parents: &[usize]) -> Result<Vec<Patt
     Ok(clusters)
 }
 
+/// For how many cells a new cluster has room. Of the clusters that a soup leaves, few have more.
+const COMMON_SIZE: usize = 8;
+
 /// Begins a cluster with this cell, after the others. The result is its number.
 fn begin(alloc: Global, clusters: &mut Vec<Pattern>, cell: Cell) -> Result<usize, AllocError>
     requires { IsPattern (cell ∷ []) }
@@ -92,7 +95,7 @@ fn begin(alloc: Global, clusters: &mut Vec<Pattern>, cell: Cell) -> Result<usize
     ensures cluster { OnOk result (clusters.new.items ≡ clusters.old.items ++ (cell ∷ []) ∷ []) }
 {
     let number = clusters.len();
-    let mut first = Vec::new(alloc);
+    let mut first = Vec::with_capacity(alloc, COMMON_SIZE)?;
     first.push(cell)?;
     clusters.push(Pattern::from_ordered(first))?;
     Ok(number)

@@ -13,22 +13,29 @@
 //! Only the 'no' is sure: what may have come back, or has come to the rim, is run elsewhere.
 ghost use Rattle.std.specs.Prelude.{◌≡◌, ◌≢◌, ◌+◌, ◌-◌, ◌*◌, ◌/◌, ◌%◌, ◌<◌, ◌≤◌, [], ℕ, ℤ, IfSome, IsTrue, List, false, length, slice_index};
 ghost use Rattle.std.specs.Int.{bit_at};
-ghost use Rattle.plane_core.specs.Boards.{IsNext, KeepsOuter, row_at};
+ghost use Rattle.plane_core.specs.Boards.{IsNext, KeepsOuter};
 ghost use Rattle.plane_core.specs.Bounds.{shifted};
 ghost use Rattle.plane_core.specs.Cells.{InOrder};
 ghost use Rattle.plane_core.specs.Generations.{after, next, touches_edge};
 ghost use Rattle.plane_core.specs.Layouts.{AreSidesWithin, HasRoom, IsDead, IsLaid, IsShown, room};
 ghost use Rattle.plane_core.specs.Bounds.{IsWithin};
-ghost use Rattle.plane_core.specs.Windows.{AreSidesClear, HasChanged, IsColumnClear, IsFirst, IsInland, IsRimClear, IsSeen, IsSpot, IsWindow, NeverBack, window_grid};
+ghost use Rattle.plane_core.specs.Windows.{AreSidesClear, HasChanged, IsColumnClear, IsFirst, IsInland, IsRimClear, IsSeen, IsSpot, IsStepped, IsWindow, NeverBack, window_grid};
 ghost use Rattle.plane_core.specs.declared.cell.Cell.{Cell};
 
+use crate::blocks::{Grid, next_words};
 use crate::board::Layout;
 use crate::bounds::Bounds;
 use crate::cell::Cell;
 use crate::coordinate::{apart, back};
 use crate::pattern::Pattern;
 use crate::rule::Rule;
-use crate::word::{Answers, Row};
+use crate::word::Answers;
+
+/// The board of a window: three strips of six blocks. Cells stand in the middle strip, in the blocks 7 to 10 of the list.
+const WINDOW: Grid = Grid {
+    blocks: 6,
+    count: 18,
+};
 
 /// A place in the window: columns and rows from the first cell of its board.
 #[derive(Clone, Copy)]
@@ -181,22 +188,23 @@ fn step(answers: &Answers, now: &[u64], later: &mut [u64])
     ensures outer { KeepsOuter window_grid later.old later.new }
     ensures long { length later.new ≡ 288 }
 {
-    for i in 112..176 {
-        later[i] = answers.next_word(row_of(now, i - 1), row_of(now, i), row_of(now, i + 1));
+    for band in 0..4 {
+        step_sixteen(answers, now, later, 112 + 16 * band);
     }
 }
 
-/// A row of the window, with the empty words beside it.
-fn row_of(words: &[u64], i: usize) -> Row
-    requires long { length words.now ≡ 288 }
-    requires low { 111 ≤ i }
-    requires high { i ≤ 176 }
-    ensures { result ≡ row_at words.now window_grid i }
+/// Makes sixteen rows of the next generation, from this word on.
+fn step_sixteen(answers: &Answers, now: &[u64], later: &mut [u64], from: usize)
+    requires now { length now.now ≡ 288 }
+    requires later { length later.old ≡ 288 }
+    requires low { 112 ≤ from }
+    requires high { from ≤ 160 }
+    ensures stepped { (old : List ℕ) → IsStepped answers.now.rule from now.now old later.old → IsStepped answers.now.rule (from + 16) now.now old later.new }
+    ensures long { length later.new ≡ 288 }
 {
-    Row {
-        before: words[i - 96],
-        here: words[i],
-        after: words[i + 96],
+    let words = next_words(answers, WINDOW, now, from);
+    for k in 0..16 {
+        later[from + k] = words[k];
     }
 }
 

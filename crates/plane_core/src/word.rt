@@ -40,7 +40,7 @@ struct FourDigits {
 #[derive(Clone, Copy)]
 pub(crate) struct Answers {
     rule: Rule,
-    is_life: bool,
+    pub(crate) is_life: bool,
     dead: [u64; 10],
     alive: [u64; 10],
     ghost life: { is_life ≡ true → rule ≡ life },
@@ -68,17 +68,16 @@ impl Answers {
     }
 
     /// The word one generation after that of the middle row.
+    #[inline(always)]
     pub(crate) fn next_word(&self, above: Row, here: Row, below: Row) -> u64
         ensures { IsNextWord self.now.rule above here below result }
     {
         let digits = block_sum(above, here, below);
-        if self.is_life {
-            return life_at_nine(digits, here.here);
-        }
         self.at_nine(digits, here.here)
     }
 
     /// The answer for the sums 0 to 9.
+    #[inline(always)]
     fn at_nine(&self, digits: FourDigits, here: u64) -> u64
         ensures { (i : ℕ) → i < 64 → bit_at digits.ones i + 2 * bit_at digits.twos i + 4 * bit_at digits.fours i + 8 * bit_at digits.eights i ≤ 9
             → bit_at result i ≡ one_if (lives_by self.now.rule (bit_at digits.ones i + 2 * bit_at digits.twos i + 4 * bit_at digits.fours i + 8 * bit_at digits.eights i) (bit_at here i == 1)) }
@@ -119,6 +118,15 @@ impl Answers {
     {
         choice(here, self.alive[n], self.dead[n])
     }
+}
+
+/// The word one generation after that of the middle row, in Life.
+#[inline(always)]
+pub(crate) fn next_word_of_life(above: Row, here: Row, below: Row) -> u64
+    ensures { IsNextWord life above here below result }
+{
+    let digits = block_sum(above, here, below);
+    life_at_nine(digits, here.here)
 }
 
 /// Whether the rule is Life.
@@ -169,6 +177,7 @@ fn from_east(here: u64, after: u64) -> u64
 }
 
 /// How many live cells each block of nine has.
+#[inline(always)]
 fn block_sum(above: Row, here: Row, below: Row) -> FourDigits
     ensures { (i : ℕ) → i < 64 → bit_at result.ones i + 2 * bit_at result.twos i + 4 * bit_at result.fours i + 8 * bit_at result.eights i ≡ block_count above here below i }
 {

@@ -1,9 +1,11 @@
+mod AloneLemmas
 mod DeterminedLemmas
 mod FindingLemmas
 mod ForGoodLemmas
 pub mod GroupLemmas
 mod GroupingLemmas
 mod ImageLemmas
+mod MemoLemmas
 mod ObjectLemmas
 mod PartitionLemmas
 mod PlacedFindings

@@ -2,6 +2,7 @@ pub mod FindingLaws
 pub mod Findings
 pub mod Grouping
 pub mod Groups
+pub mod Memos
 pub mod Objects
 pub mod Profiles
 pub mod Rest

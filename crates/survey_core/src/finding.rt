@@ -6,6 +6,7 @@ ghost use Rattle.survey_core.specs.Rest.{IsAtRest};
 ghost use Rattle.survey_core.specs.Soups.{soup};
 
 use crate::job::Job;
+use crate::memo::Memo;
 use crate::objects::Objects;
 use crate::profile::Profile;
 use crate::rest::clusters_at_rest;
@@ -40,8 +41,26 @@ pub fn survey(alloc: Global, job: &Job, number: u64) -> Result<Finding, AllocErr
     ensures finding { IfOk result (IsFinding job.now.rule job.now.profile (soup job.now.seed number)) }
     ensures few { IfOk result (λ finding. objects_in finding < 2 ^ 64) }
 {
+    survey_with(alloc, job, number, &mut Memo::without_room(alloc))
+}
+
+/// The finding of the soup with this number. It has fewer than 2^64 objects. Whatever the memo remembers, the finding is
+/// the same; a memo that has seen other soups makes it faster.
+///
+/// # Errors
+///
+/// [`AllocError`] if there is no memory.
+pub fn survey_with(
+    alloc: Global,
+    job: &Job,
+    number: u64,
+    memo: &mut Memo,
+) -> Result<Finding, AllocError>
+    ensures finding { IfOk result (IsFinding job.now.rule job.now.profile (soup job.now.seed number)) }
+    ensures few { IfOk result (λ finding. objects_in finding < 2 ^ 64) }
+{
     let pattern = soup(alloc, job, number)?;
-    survey_pattern(alloc, &job.profile, &job.rule, pattern)
+    survey_pattern_with(alloc, &job.profile, &job.rule, pattern, memo)
 }
 
 /// The finding of a pattern, of which no coordinate is over 1,000 in size. It has fewer than 2^64 objects.
@@ -61,17 +80,45 @@ pub fn survey_pattern(
     ensures finding { IfOk result (IsFinding rule.now profile.now pattern) }
     ensures few { IfOk result (λ finding. objects_in finding < 2 ^ 64) }
 {
+    survey_pattern_with(
+        alloc,
+        profile,
+        rule,
+        pattern,
+        &mut Memo::without_room(alloc),
+    )
+}
+
+/// The finding of a pattern, of which no coordinate is over 1,000 in size. It has fewer than 2^64 objects. Whatever the
+/// memo remembers, the finding is the same; a memo that has seen other patterns makes it faster.
+///
+/// It takes time in proportion to the generations that are run and to the cells that live in them.
+///
+/// # Errors
+///
+/// [`AllocError`] if there is no memory. The pattern is given up.
+pub fn survey_pattern_with(
+    alloc: Global,
+    profile: &Profile,
+    rule: &Rule,
+    pattern: Pattern,
+    memo: &mut Memo,
+) -> Result<Finding, AllocError>
+    requires { lies_within 1000 pattern ≡ true }
+    ensures finding { IfOk result (IsFinding rule.now profile.now pattern) }
+    ensures few { IfOk result (λ finding. objects_in finding < 2 ^ 64) }
+{
     let last = profile.limit() / profile.stride();
     let mut latest = pattern;
     for place in 0..last {
         let checkpoint = place * profile.stride();
-        match finding_at(alloc, profile, rule, checkpoint, &latest)? {
+        match finding_at(alloc, profile, rule, checkpoint, &latest, memo)? {
             Some(finding) => return Ok(finding),
             None => latest = run_on(alloc, rule, profile.stride(), &latest)?,
         }
     }
     let checkpoint = last * profile.stride();
-    let finding = finding_at(alloc, profile, rule, checkpoint, &latest)?;
+    let finding = finding_at(alloc, profile, rule, checkpoint, &latest, memo)?;
     Ok(finding.unwrap_or(Finding::Unsettled))
 }
 
@@ -103,16 +150,17 @@ fn finding_at(
     rule: &Rule,
     checkpoint: u32,
     latest: &Pattern,
+    memo: &mut Memo,
 ) -> Result<Option<Finding>, AllocError>
     requires { lies_within 101000 latest.now ≡ true }
     ensures settled { IfOk result (λ found. IfSome found (SettlesAt rule.now profile.now latest.now checkpoint)) }
     ensures moves { IfOk result (λ found. IfNone found (¬ IsAtRest rule.now profile.now latest.now)) }
     ensures few { IfOk result (λ found. IfSome found (λ finding. objects_in finding < 2 ^ 64)) }
 {
-    let Some(clusters) = clusters_at_rest(alloc, profile, rule, latest)? else {
+    let Some(clusters) = clusters_at_rest(alloc, profile, rule, latest, memo)? else {
         return Ok(None);
     };
-    let objects = Objects::of_clusters(alloc, rule, profile.period(), clusters.as_slice())?;
+    let objects = Objects::of_clusters(alloc, rule, profile.period(), clusters.as_slice(), memo)?;
     let for_good = objects.stay_for_good(profile.horizon());
     Ok(Some(Finding::Settled {
         checkpoint,

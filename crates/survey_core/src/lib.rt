@@ -5,6 +5,8 @@
 pub mod finding;
 /// Seed, profile and rule together.
 pub mod job;
+/// What a worker remembers of clusters that came back.
+pub mod memo;
 /// The objects of a finding, with how many there are of each.
 pub mod objects;
 /// When a pattern counts as settled.

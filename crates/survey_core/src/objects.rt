@@ -11,9 +11,8 @@ ghost use Rattle.code_core.specs.declared.apgcode.Kind.TheVariants.{Ship};
 ghost use Rattle.survey_core.specs.Objects.{AreObjects, AreObjectsOf, CountsAreSome, IsCommonMultiple, IsMultiple, StayForGood, count_of, is_code, period_in};
 ghost use Rattle.survey_core.specs.Rest.{ComesBack};
 
+use crate::memo::Memo;
 use code_core::apgcode::{Apgcode, Kind};
-use code_core::name::name;
-use plane_core::generation::StepError;
 use plane_core::pattern::Pattern;
 use plane_core::rule::Rule;
 use std::alloc::{AllocError, Global};
@@ -52,6 +51,7 @@ impl Objects {
         rule: &Rule,
         limit: u32,
         clusters: &[Pattern],
+        memo: &Memo,
     ) -> Result<Objects, AllocError>
         requires least { 1 ≤ limit }
         requires most { limit ≤ 64 }
@@ -63,7 +63,7 @@ impl Objects {
     {
         let mut counts = BTreeMap::new(alloc);
         for cluster in clusters {
-            let code = code_of(alloc, rule, limit, cluster)?;
+            let code = memo.code(alloc, rule, limit, cluster)?;
             count(&mut counts, code)?;
         }
         listed(alloc, counts)
@@ -84,23 +84,6 @@ impl Objects {
             }
         }
         false
-    }
-}
-
-/// The code of a cluster that comes back within so many generations.
-fn code_of(alloc: Global, rule: &Rule, limit: u32, cluster: &Pattern) -> Result<Apgcode, AllocError>
-    requires least { 1 ≤ limit }
-    requires most { limit ≤ 64 }
-    requires some { cluster.now ≢ [] }
-    requires near { lies_within 101000 cluster.now ≡ true }
-    requires back { ComesBack rule.now limit cluster.now }
-    ensures { IfOk result (IsCode rule.now cluster.now limit) }
-{
-    match name(alloc, cluster, rule, limit) {
-        Ok(Some(code)) => Ok(code),
-        Ok(None) => unreachable!(),
-        Err(StepError::Memory) => Err(AllocError),
-        Err(StepError::Edge) => unreachable!(),
     }
 }
 

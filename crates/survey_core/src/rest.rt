@@ -25,11 +25,11 @@ ghost use Rattle.plane_core.specs.Clusters.{Partition};
 ghost use Rattle.plane_core.specs.Generations.{lies_within, next};
 ghost use Rattle.survey_core.specs.Groups.{GroupKeeps, ShareNoCell, members, union_of};
 ghost use Rattle.survey_core.specs.Rest.{IsAtRest, KeepApart, RestsAs};
-ghost use Rattle.survey_core.specs.RestLaws.{AtRestForGood, EmptyIsAtRest};
+ghost use Rattle.survey_core.specs.RestLaws.{AtRestForGood, EmptyIsAtRest, GroupsRunAlone, PartsRunAlone};
 
 use crate::groups::groups;
+use crate::memo::Memo;
 use crate::profile::Profile;
-use crate::sweep::sweeps;
 use plane_core::cell::Cell;
 use plane_core::generation::StepError;
 use plane_core::pattern::{FromCellsError, Pattern};
@@ -42,6 +42,7 @@ pub(crate) fn clusters_at_rest(
     profile: &Profile,
     rule: &Rule,
     pattern: &Pattern,
+    memo: &mut Memo,
 ) -> Result<Option<Vec<Pattern>>, AllocError>
     requires { lies_within 101000 pattern.now ≡ true }
     ensures rest { IfOk result (λ found. IfSome found (λ clusters. RestsAs rule.now profile.now pattern.now clusters.items)) }
@@ -50,7 +51,7 @@ pub(crate) fn clusters_at_rest(
     // That a pattern's cells stand in order is known of them where they are asked for.
     let _in_order = pattern.cells();
     let clusters = pattern.clusters(alloc)?;
-    let sweeps = match sweeps(alloc, rule, profile.period(), clusters.as_slice())? {
+    let sweeps = match memo.sweeps(alloc, rule, profile.period(), clusters.as_slice())? {
         Some(sweeps) => sweeps,
         None => return Ok(None),
     };
@@ -319,4 +320,11 @@ fn all_cells(alloc: Global, patterns: &[Pattern]) -> Result<Vec<Cell>, AllocErro
 pub fn at_rest_for_good()
     ensures empty { EmptyIsAtRest }
     ensures forever { AtRestForGood }
+{}
+
+/// The laws of parts that stay apart: what stays more than two cells apart runs as if each part were alone, and so does what
+/// is in groups of which that is true.
+pub fn far_parts_run_alone()
+    ensures parts { PartsRunAlone }
+    ensures groups { GroupsRunAlone }
 {}

@@ -19,7 +19,7 @@ ghost use Rattle.plane_core.specs.Bounds.{IsWithin};
 ghost use Rattle.plane_core.specs.Cells.{InOrder};
 ghost use Rattle.plane_core.specs.Generations.{after, lies_within};
 ghost use Rattle.survey_core.specs.Rest.{ComesBack};
-ghost use Rattle.survey_core.specs.Sweeps.{AreSweeps, IsSweep, Serves, ShipsMoveByTurns, StayApart, StayClear, is_clear, is_past};
+ghost use Rattle.survey_core.specs.Sweeps.{IsSweep, Serves, ShipsMoveByTurns, StayApart, StayClear, is_clear, is_past};
 
 use crate::rest::next;
 use code_core::recurrence::Recurrence;
@@ -36,34 +36,9 @@ pub(crate) struct Sweep {
     pub(crate) bounds: Bounds,
 }
 
-/// The sweeps of patterns, or `None` if one of them doesn't come back within so many generations.
-pub(crate) fn sweeps(
-    alloc: Global,
-    rule: &Rule,
-    limit: u32,
-    patterns: &[Pattern],
-) -> Result<Option<Vec<Sweep>>, AllocError>
-    requires least { 1 ≤ limit }
-    requires most { limit ≤ 64 }
-    requires order { All InOrder patterns.now }
-    requires some { All (λ pattern. pattern ≢ []) patterns.now }
-    requires near { All (λ pattern. lies_within 101000 pattern ≡ true) patterns.now }
-    ensures sweeps { IfOk result (λ found. IfSome found (λ sweeps. AreSweeps rule.now limit patterns.now sweeps.items)) }
-    ensures never { IfOk result (λ found. IfNone found (¬ All (ComesBack rule.now limit) patterns.now)) }
-{
-    let mut sweeps = Vec::with_capacity(alloc, patterns.len())?;
-    for pattern in patterns {
-        match Sweep::find(alloc, rule, limit, pattern)? {
-            Some(sweep) => sweeps.push(sweep)?,
-            None => return Ok(None),
-        }
-    }
-    Ok(Some(sweeps))
-}
-
 impl Sweep {
     /// The sweep of a pattern, or `None` if it doesn't come back within so many generations.
-    fn find(
+    pub(crate) fn find(
         alloc: Global,
         rule: &Rule,
         limit: u32,

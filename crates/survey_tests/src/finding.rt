@@ -6,8 +6,9 @@ use plane_core::plaintext::PlaintextError;
 use plane_core::rule::Rule;
 use std::alloc::Global;
 use std::test::Fail;
-use survey_core::finding::{Finding, survey, survey_pattern};
+use survey_core::finding::{Finding, survey, survey_pattern, survey_pattern_with};
 use survey_core::job::Job;
+use survey_core::memo::Memo;
 use survey_core::profile::{Profile, ProfileError};
 use survey_core::seed::Seed;
 use survey_core::soup::soup;
@@ -250,5 +251,45 @@ fn refuses_profiles(rt: HostRuntime) -> Result<(), Fail> {
     assert!(rt; Profile::new(2, 1, 1, 0) == Err(ProfileError::Horizon));
     assert!(rt; Profile::new(64, 512, 0, 0) == Err(ProfileError::Stride));
     assert!(rt; Profile::new(64, 512, 101, 100_001) == Err(ProfileError::Limit));
+    Ok(())
+}
+
+/// Whether a picture has the same finding with a memo as without one.
+fn is_same_with(
+    alloc: Global,
+    picture: &str,
+    rule: &str,
+    profile: Profile,
+    memo: &mut Memo,
+) -> Result<bool, Fail> {
+    let without = found(alloc, picture, rule, profile)?;
+    let pattern = drawn(alloc, picture)?;
+    let finding = survey_pattern_with(alloc, &profile, &Rule::read(rule)?, pattern, memo)?;
+    let with = line(alloc, &finding)?;
+    Ok(with.as_str() == without.as_str())
+}
+
+// One memo serves rules and profiles in turn. A row of three comes back in Life, and not within one generation; under b3s0123
+// it becomes something else; a block and a beehive have shapes of as many cells as others that don't come back.
+#[test]
+fn finds_the_same_with_a_memo(rt: HostRuntime) -> Result<(), Fail> {
+    let mut memo = Memo::new(rt.alloc());
+    let mut none = Memo::without_room(rt.alloc());
+    for (picture, rule, profile) in [
+        ("OOO", "b3s23", Profile::standard()),
+        ("O\nO\nO", "b3s23", Profile::standard()),
+        ("OOO", "b3s23", profile(1, 1, 1, 0)?),
+        ("OOO", "b3s0123", Profile::standard()),
+        ("OOO", "b3s23", Profile::standard()),
+        ("OO\nOO", "b3s23", Profile::standard()),
+        ("O.O\nO.O", "b3s23", profile(4, 4, 1, 8)?),
+        (R_PENTOMINO, "b3s23", Profile::standard()),
+        (R_PENTOMINO, "b3s23", Profile::standard()),
+        (GLIDER, "b3s23", Profile::standard()),
+        (GLIDER, "b36s23", Profile::standard()),
+    ] {
+        assert!(rt; is_same_with(rt.alloc(), picture, rule, profile, &mut memo)?);
+        assert!(rt; is_same_with(rt.alloc(), picture, rule, profile, &mut none)?);
+    }
     Ok(())
 }

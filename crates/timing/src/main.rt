@@ -24,8 +24,9 @@ use std::alloc::{AllocError, Global};
 use std::env;
 use std::io::{self, Read};
 use std::time::Instant;
-use survey_core::finding::{Finding, survey};
+use survey_core::finding::{Finding, survey_with};
 use survey_core::job::Job;
+use survey_core::memo::Memo;
 use survey_core::profile::Profile;
 use survey_core::seed::Seed;
 
@@ -94,8 +95,10 @@ fn fly_gliders(rt: &HostRuntime, generations: u32) -> io::Result<()> {
 /// How many of the first soups of the empty seed settle, in Life and by the standard profile.
 fn settled_count(alloc: Global, job: &Job, soups: u32) -> Result<usize, AllocError> {
     let mut settled = Vec::new(alloc);
+    let mut memo = Memo::new(alloc);
     for number in 0..soups {
-        if let Finding::Settled { checkpoint, .. } = survey(alloc, job, u64::from(number))? {
+        let finding = survey_with(alloc, job, u64::from(number), &mut memo)?;
+        if let Finding::Settled { checkpoint, .. } = finding {
             settled.push(checkpoint)?;
         }
     }

@@ -15,6 +15,7 @@ use code_core::apgcode::Apgcode;
 use std::alloc::Global;
 use survey_core::finding::{Finding, findings_are_determined};
 use survey_core::job::Job;
+use survey_core::memo::Memo;
 use survey_core::objects::Objects;
 
 /// Why a claim did not become a report.
@@ -49,11 +50,35 @@ impl Claim {
         ensures fault { IfErr result (λ refused. Fails self job.now refused.1) }
         ensures kept { IfErr result (λ refused. refused.0 ≡ self) }
     {
+        self.check_with(alloc, job, &mut Memo::without_room(alloc))
+    }
+
+    /// Checks the claim as [`check`](Claim::check) does. Whatever the memo remembers, the answer is the same; a memo that has
+    /// seen other soups makes it faster.
+    ///
+    /// # Errors
+    ///
+    /// Those of [`check`](Claim::check).
+    pub fn check_with(
+        self,
+        alloc: Global,
+        job: &Job,
+        memo: &mut Memo,
+    ) -> Result<Report, (Claim, CheckFault)>
+        // The report has the claim's job, worker and number, and each claim that is right becomes its report.
+        ensures report { IfOk result (IsConfirmed self job.now) }
+        ensures complete { (report : Reported) → IsConfirmed self job.now report
+            → MatchResult result (λ made. made ≡ report) (λ refused. refused.1 ≡ OutOfMemory) }
+
+        // Which error it is, and what comes back.
+        ensures fault { IfErr result (λ refused. Fails self job.now refused.1) }
+        ensures kept { IfErr result (λ refused. refused.0 ≡ self) }
+    {
         if !is_same_job(&self.job, job) {
             return Err((self, CheckFault::OtherJob));
         }
         findings_are_determined();
-        let Ok(report) = Report::make(alloc, job, self.worker, self.number) else {
+        let Ok(report) = Report::make_with(alloc, job, self.worker, self.number, memo) else {
             return Err((self, CheckFault::Memory));
         };
         let agrees = agrees(&self, report.finding());

@@ -1,5 +1,6 @@
-use Rattle.plane_core.proofs.ReadLemmas.{HasReadStrips}
+use Rattle.std.proofs.Common.{◌*◌}
+use Rattle.plane_core.specs.Layouts.{HasReadRows}
 use Rattle.plane_core.proofs.board.read.Given as goal
 
-abbrev pub invariant-loop-strip : goal.invariant-loop-strip
-invariant-loop-strip l = HasReadStrips l.at l.words l.strip l.cells.items
+abbrev pub invariant-loop-band : goal.invariant-loop-band
+invariant-loop-band l = HasReadRows l.at l.words (16 * l.band) l.cells.items

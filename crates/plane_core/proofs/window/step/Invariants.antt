@@ -1,5 +1,9 @@
+use Rattle.std.proofs.Common.{◌≡◌, ◌*◌, ◌+◌, length}
 use Rattle.plane_core.specs.Windows.{IsStepped}
 use Rattle.plane_core.proofs.window.step.Given as goal
 
-abbrev pub invariant-loop-i : goal.invariant-loop-i
-invariant-loop-i l = IsStepped l.answers.rule l.i l.now l.fn.later l.later
+abbrev pub invariant-loop-band : goal.invariant-loop-band
+invariant-loop-band l = record {
+  long : length l.later ≡ 288;
+  stepped : IsStepped l.answers.rule (112 + 16 * l.band) l.now l.fn.later l.later;
+}

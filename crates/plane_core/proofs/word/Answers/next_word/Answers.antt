@@ -10,10 +10,3 @@ returns c i low =
     let sum = c.block_sum-digits.ensures i low in
     c.at_nine.ensures i low (omega (arith, sum, block_count-small c.args.above c.args.here c.args.below i))
     ∙ ap (λ (n : ℕ). one_if (lives_by c.args.self.now.rule n (bit_at c.args.here.here i == 1))) sum
-
-pub returns-then-self : goal.returns-then-self
-returns-then-self c i low =
-    let sum = c.block_sum-digits.ensures i low in
-    let rule = c.args.self.now.life c.if-self.true in
-    c.life_at_nine.ensures i low (omega (arith, sum, block_count-small c.args.above c.args.here c.args.below i))
-    ∙ (λ k. one_if (lives_by (sym rule k) (sum k) (bit_at c.args.here.here i == 1)))

@@ -4,8 +4,8 @@ use Rattle.survey_core.specs.Rest.{ComesBack}
 use Rattle.survey_core.proofs.ObjectLemmas.{codes_more, count_by_more, length_more}
 use Rattle.survey_core.proofs.objects.Objects.of_clusters.Goals as goal
 
-pub code_of-requires-clause-back : goal.code_of-requires-clause-back
-code_of-requires-clause-back c =
+pub code-requires-clause-back : goal.code-requires-clause-back
+code-requires-clause-back c =
     subst (ComesBack c.args.rule.now c.args.limit) (sym c.cluster-item.is)
     (c.requires.back c.loop-cluster.cluster-index c.cluster-item.result c.loop-cluster-test.true)
 

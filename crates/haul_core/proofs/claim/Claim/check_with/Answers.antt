@@ -3,7 +3,7 @@ use Rattle.haul_core.specs.ClaimChecks.{Agrees, IsFoundFor}
 use Rattle.haul_core.specs.Jobs.{same_job}
 use Rattle.haul_core.specs.ReportLines.{Claimed}
 use Rattle.haul_core.proofs.CheckLemmas.{IsMade, agrees_if_confirmed, confirmed, found_for, one_report}
-use Rattle.haul_core.proofs.claim.Claim.check.Goals as goal
+use Rattle.haul_core.proofs.claim.Claim.check_with.Goals as goal
 
 pub returns-then-agrees-clause-report : goal.returns-then-agrees-clause-report
 returns-then-agrees-clause-report c =

@@ -7,7 +7,7 @@ use Rattle.survey_core.specs.Profiles.{IsCheckpoint}
 use Rattle.survey_core.specs.Rest.{IsAtRest}
 use Rattle.survey_core.proofs.FindingLemmas.{after-then, finding_from, finding_last, is_checkpoint, no_rest_more, one_more}
 use Rattle.survey_core.proofs.PlaneLemmas.{within_later}
-use Rattle.survey_core.proofs.finding.survey_pattern.Goals as goal
+use Rattle.survey_core.proofs.finding.survey_pattern_with.Goals as goal
 
 pub loop-place-init : goal.loop-place-init
 loop-place-init c = record {

@@ -1,7 +1,7 @@
 use Rattle.std.proofs.Common.{◌≡◌, ◌*◌}
 use Rattle.plane_core.specs.Generations.{after}
 use Rattle.survey_core.specs.Findings.{NoRestBefore}
-use Rattle.survey_core.proofs.finding.survey_pattern.Given as goal
+use Rattle.survey_core.proofs.finding.survey_pattern_with.Given as goal
 
 abbrev pub invariant-loop-place : goal.invariant-loop-place
 invariant-loop-place l = record {

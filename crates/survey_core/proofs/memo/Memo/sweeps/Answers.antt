@@ -2,7 +2,7 @@ use Rattle.std.proofs.Common.{◌∙◌, sym, subst}
 use Rattle.survey_core.specs.Rest.{ComesBack}
 use Rattle.survey_core.specs.Sweeps.{IsSweep}
 use Rattle.survey_core.proofs.SweepLemmas.{sweeps_more}
-use Rattle.survey_core.proofs.sweep.sweeps.Goals as goal
+use Rattle.survey_core.proofs.memo.Memo.sweeps.Goals as goal
 
 -- one that doesn't come back
 pub returns-in-None-clause-never : goal.returns-in-None-clause-never

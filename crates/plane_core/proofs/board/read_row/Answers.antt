@@ -1,0 +1,18 @@
+use Rattle.std.proofs.Common.{ℕ, arith, ap, subst, slice_index}
+use Rattle.plane_core.specs.Layouts.{HasReadRow}
+use Rattle.plane_core.proofs.ReadLemmas.{row-none, row-more}
+use Rattle.plane_core.proofs.board.read_row.Goals as goal
+
+pub loop-strip-init : goal.loop-strip-init
+loop-strip-init c = row-none _ _ _ _
+
+pub loop-strip-preserved : goal.loop-strip-preserved
+loop-strip-preserved c =
+    row-more c.args.at c.args.words.now c.loop-strip.strip c.args.row _ _ _ _ _ (omega arith) c.requires.row
+    (ap (λ (n : ℕ). slice_index c.args.words.now n) c.index.ensures.index) c.corner.ensures.corner c.loop-strip.invariant
+    c.in_ok-read_word.ensures
+
+pub returns : goal.returns
+returns c =
+    subst (λ (n : ℕ). HasReadRow c.args.at c.args.words.now c.args.row c.args.cells.now.items n c.loop-strip.cells.items) (omega arith)
+    c.loop-strip.invariant

@@ -1,0 +1,68 @@
+-- What is known of a shape holds of each pattern that it is about.
+use Rattle.std.proofs.Common.{◌≡◌, ◌∙◌, ◌<◌, ◌+ℤ◌, ◌≤ℤ◌, sym, subst, ℕ, ℤ, List, All, IfSome, Option, None, Some, arith}
+use Rattle.std.proofs.lemmas.Int.{ints}
+use Rattle.std.proofs.lemmas.List.Elements.{All-map}
+use Rattle.plane_core.specs.declared.bounds.Bounds.{Bounds}
+use Rattle.plane_core.specs.declared.cell.Cell.{Cell}
+use Rattle.plane_core.specs.Bounds.{IsWithin, shifted}
+use Rattle.plane_core.specs.Cells.{moved_by}
+use Rattle.plane_core.specs.Generations.{after}
+use Rattle.plane_core.specs.Rules.{Numbers}
+use Rattle.plane_core.proofs.PlacementLemmas.{in_order-shifted}
+use Rattle.code_core.specs.Names.{IsCode}
+use Rattle.code_core.proofs.MovedCodes.{after-shifted, codes_moved, recurs-shifted}
+use Rattle.survey_core.specs.declared.sweep.Sweep.{Sweep}
+use Rattle.survey_core.specs.Memos.{Fact, IsAbout, IsKnown, moved_bounds, moved_sweep}
+use Rattle.survey_core.specs.Sweeps.{IsSweep}
+
+-- a cell moved with its box stays within it
+within_moved : (shift : ℤ × ℤ) (b : Bounds) (c : Cell) → IsWithin b c → IsWithin (moved_bounds shift b) (moved_by shift.0 shift.1 c)
+within_moved shift b c w = record {
+  left = omega (arith, ints, w.left);
+  top = omega (arith, ints, w.top);
+  right = omega (arith, ints, w.right);
+  bottom = omega (arith, ints, w.bottom);
+}
+
+-- the sweep of a moved pattern
+sweep_moved : (shift : ℤ × ℤ) (rule : Numbers) (limit : ℕ) (cells : List Cell) (sweep : Sweep) → IsSweep rule limit cells sweep
+    → IsSweep rule limit (shifted shift.0 shift.1 cells) (moved_sweep shift sweep)
+sweep_moved shift rule limit cells sweep is = record {
+  in_order = in_order-shifted shift.0 shift.1 cells is.in_order;
+  recurs = recurs-shifted shift.0 shift.1 rule cells limit sweep.recurrence is.in_order is.recurs;
+  within = λ g low.
+      subst (All (IsWithin (moved_bounds shift sweep.bounds))) (sym (after-shifted shift.0 shift.1 rule cells g is.in_order))
+      (All-map (IsWithin (moved_bounds shift sweep.bounds)) (moved_by shift.0 shift.1) (after rule cells g)
+      (λ k d there. within_moved shift sweep.bounds _ (is.within g low k d there)));
+}
+
+-- the sweep of a pattern that the fact is about
+pub sweep_known : (rule : Numbers) (limit : ℕ) (cells : List Cell) (shift : ℤ × ℤ) (fact : Fact) → IsKnown fact → IsAbout rule limit cells shift fact
+    → IsSweep rule limit cells (moved_sweep shift fact.sweep)
+sweep_known rule limit cells shift fact known about =
+    subst (λ (r : Numbers). IsSweep r limit cells (moved_sweep shift fact.sweep)) about.rule_is
+    (subst (λ (n : ℕ). IsSweep fact.rule n cells (moved_sweep shift fact.sweep)) about.limit_is
+    (subst (λ (S : List Cell). IsSweep fact.rule fact.limit S (moved_sweep shift fact.sweep)) about.shape_is
+    (sweep_moved shift fact.rule fact.limit fact.shape fact.sweep known.swept)))
+
+-- and its code
+pub code_known : (rule : Numbers) (limit : ℕ) (cells : List Cell) (shift : ℤ × ℤ) (fact : Fact) → IsKnown fact → IsAbout rule limit cells shift fact
+    → IsCode rule cells limit fact.code
+code_known rule limit cells shift fact known about =
+    subst (λ (r : Numbers). IsCode r cells limit fact.code) about.rule_is
+    (subst (λ (n : ℕ). IsCode fact.rule cells n fact.code) about.limit_is
+    (subst (λ (S : List Cell). IsCode fact.rule S fact.limit fact.code) about.shape_is
+    (codes_moved shift.0 shift.1 fact.rule fact.shape fact.limit fact.code known.swept.in_order known.named)))
+
+-- a fact with the rule and the limit is about what its shape is moved to
+pub about_shift : (rule : Numbers) (limit : ℕ) (cells : List Cell) (fact : Fact) (told : Option (ℤ × ℤ)) → fact.rule ≡ rule → fact.limit ≡ limit
+    → IfSome told (λ v. shifted v.0 v.1 fact.shape ≡ cells) → IfSome told (λ v. IsAbout rule limit cells v fact)
+about_shift rule limit cells fact None same_rule same_limit moved = tt
+about_shift rule limit cells fact (Some v) same_rule same_limit moved = record { rule_is = same_rule; limit_is = same_limit; shape_is = moved }
+
+-- the sweep that is told, if it is that of the shape, moved
+pub sweep_told : (rule : Numbers) (limit : ℕ) (cells : List Cell) (shift : ℤ × ℤ) (fact : Fact) (told : Option Sweep) → IsKnown fact
+    → IsAbout rule limit cells shift fact → IfSome told (λ moved. moved ≡ moved_sweep shift fact.sweep) → IfSome told (IsSweep rule limit cells)
+sweep_told rule limit cells shift fact None known about is = tt
+sweep_told rule limit cells shift fact (Some sweep) known about is =
+    subst (IsSweep rule limit cells) (sym is) (sweep_known rule limit cells shift fact known about)

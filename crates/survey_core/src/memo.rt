@@ -1,0 +1,364 @@
+//! What a worker remembers of clusters that came back, since nearly every soup leaves the same few shapes:
+//!
+//! ```text
+//! slot    rule      limit    shape    comes back                     name
+//! 516     b3s23     64       OOO      after 2 generations, in place  xp2_7
+//! 517     -
+//! 518     b3s23     64       OO       after 1 generation, in place   xs4_33
+//!                            OO
+//! ```
+//!
+//! A number that is made of the cells, as they lie from the first one, chooses the slot: so a shape finds its slot wherever
+//! it lies. What stands there is about a cluster if rule and limit are the same, and if some shift makes the shape into the
+//! cluster. Then the cluster comes back as the shape does, has its name, and its sweep is that of the shape, moved. Else the
+//! cluster is run and named, and is what stands in the slot from then on.
+//!
+//! Which slot is chosen and what is kept are free choices: a memo that forgets makes a survey slower, and nothing else.
+
+ghost use Rattle.std.specs.Prelude.{◌≡◌, ◌≢◌, ◌+ℤ◌, ◌≤◌, [], All, IfNone, IfOk, IfSome, IsTrue, true};
+ghost use Rattle.plane_core.specs.Cells.{InOrder};
+ghost use Rattle.plane_core.specs.Generations.{lies_within};
+ghost use Rattle.code_core.specs.Names.{IsCode};
+ghost use Rattle.survey_core.specs.Memos.{IsAbout, IsKnown, moved_bounds, moved_sweep};
+ghost use Rattle.survey_core.specs.Rest.{ComesBack};
+ghost use Rattle.survey_core.specs.Sweeps.{AreSweeps, IsSweep};
+
+use crate::sweep::Sweep;
+use code_core::apgcode::Apgcode;
+use code_core::name::name;
+use plane_core::bounds::Bounds;
+use plane_core::cell::Cell;
+use plane_core::generation::StepError;
+use plane_core::pattern::Pattern;
+use plane_core::rule::Rule;
+use std::alloc::{AllocError, Global};
+use std::marker::Model;
+
+/// How many slots a memo has. Soups leave some hundred shapes again and again, and some thousand once.
+const SLOTS: usize = 4096;
+
+/// How many cells a shape that is kept has at the most. Larger ones hardly ever come twice, and would take memory.
+const MOST_CELLS: usize = 64;
+
+/// What is remembered of clusters that came back. It serves any rule and profile, one after another, and changes no
+/// finding: only how long it takes.
+#[derive(Drop)]
+pub struct Memo {
+    slots: Vec<Option<Known>>,
+}
+
+/// What is known of a shape.
+#[derive(Drop)]
+struct Known {
+    rule: Rule,
+    limit: u32,
+    shape: Pattern,
+    sweep: Sweep,
+    code: Apgcode,
+}
+
+impl Model for Known {
+    ghost use Rattle.survey_core.specs.Memos.{Fact, IsKnown};
+
+    ghost Value = { Fact };
+
+    ghost view = { λ k. record { rule = k.rule; limit = k.limit; shape = k.shape; sweep = k.sweep; code = k.code } };
+
+    ghost invariant = { λ k. IsKnown (record { rule = k.rule; limit = k.limit; shape = k.shape; sweep = k.sweep; code = k.code }) };
+}
+
+impl Memo {
+    /// A memo that knows nothing yet, with room for 4,096 shapes: half a megabyte, and some three if all of them are large.
+    /// If there is no memory for it, it has no room.
+    pub fn new(alloc: Global) -> Memo {
+        match empty_slots(alloc) {
+            Ok(slots) => Memo { slots },
+            Err(AllocError) => Memo::without_room(alloc),
+        }
+    }
+
+    /// A memo without room, which remembers nothing. It takes no memory.
+    pub fn without_room(alloc: Global) -> Memo {
+        Memo {
+            slots: Vec::new(alloc),
+        }
+    }
+
+    /// The sweeps of patterns, or `None` if one of them doesn't come back within so many generations.
+    pub(crate) fn sweeps(
+        &mut self,
+        alloc: Global,
+        rule: &Rule,
+        limit: u32,
+        patterns: &[Pattern],
+    ) -> Result<Option<Vec<Sweep>>, AllocError>
+        requires least { 1 ≤ limit }
+        requires most { limit ≤ 64 }
+        requires order { All InOrder patterns.now }
+        requires some { All (λ pattern. pattern ≢ []) patterns.now }
+        requires near { All (λ pattern. lies_within 101000 pattern ≡ true) patterns.now }
+        ensures sweeps { IfOk result (λ found. IfSome found (λ sweeps. AreSweeps rule.now limit patterns.now sweeps.items)) }
+        ensures never { IfOk result (λ found. IfNone found (¬ All (ComesBack rule.now limit) patterns.now)) }
+    {
+        let mut sweeps = Vec::with_capacity(alloc, patterns.len())?;
+        for pattern in patterns {
+            match self.sweep(alloc, rule, limit, pattern)? {
+                Some(sweep) => sweeps.push(sweep)?,
+                None => return Ok(None),
+            }
+        }
+        Ok(Some(sweeps))
+    }
+
+    /// The sweep of a pattern, or `None` if it doesn't come back within so many generations.
+    fn sweep(
+        &mut self,
+        alloc: Global,
+        rule: &Rule,
+        limit: u32,
+        pattern: &Pattern,
+    ) -> Result<Option<Sweep>, AllocError>
+        requires least { 1 ≤ limit }
+        requires most { limit ≤ 64 }
+        requires order { InOrder pattern.now }
+        requires some { pattern.now ≢ [] }
+        requires near { lies_within 101000 pattern.now ≡ true }
+        ensures sweep { IfOk result (λ found. IfSome found (IsSweep rule.now limit pattern.now)) }
+        ensures never { IfOk result (λ found. IfNone found (¬ ComesBack rule.now limit pattern.now)) }
+    {
+        if let Some(sweep) = self.recalled_sweep(rule, limit, pattern) {
+            return Ok(Some(sweep));
+        }
+        let Some(sweep) = Sweep::find(alloc, rule, limit, pattern)? else {
+            return Ok(None);
+        };
+        if pattern.population() <= MOST_CELLS {
+            self.keep(alloc, rule, limit, pattern, sweep)?;
+        }
+        Ok(Some(sweep))
+    }
+
+    /// The code of a pattern that comes back within so many generations.
+    pub(crate) fn code(
+        &self,
+        alloc: Global,
+        rule: &Rule,
+        limit: u32,
+        pattern: &Pattern,
+    ) -> Result<Apgcode, AllocError>
+        requires least { 1 ≤ limit }
+        requires most { limit ≤ 64 }
+        requires some { pattern.now ≢ [] }
+        requires near { lies_within 101000 pattern.now ≡ true }
+        requires back { ComesBack rule.now limit pattern.now }
+        ensures { IfOk result (IsCode rule.now pattern.now limit) }
+    {
+        match self.recalled_code(alloc, rule, limit, pattern)? {
+            Some(code) => Ok(code),
+            None => code_of(alloc, rule, limit, pattern),
+        }
+    }
+
+    /// The sweep of a pattern, if it is remembered.
+    fn recalled_sweep(&self, rule: &Rule, limit: u32, pattern: &Pattern) -> Option<Sweep>
+        ensures { IfSome result (IsSweep rule.now limit pattern.now) }
+    {
+        self.at(pattern)?.sweep_of(rule, limit, pattern)
+    }
+
+    /// The code of a pattern, if it is remembered.
+    fn recalled_code(
+        &self,
+        alloc: Global,
+        rule: &Rule,
+        limit: u32,
+        pattern: &Pattern,
+    ) -> Result<Option<Apgcode>, AllocError>
+        ensures { IfOk result (λ found. IfSome found (IsCode rule.now pattern.now limit)) }
+    {
+        match self.at(pattern) {
+            Some(known) => known.code_of(alloc, rule, limit, pattern),
+            None => Ok(None),
+        }
+    }
+
+    /// What stands in the slot of a pattern. It may be about another shape.
+    fn at(&self, pattern: &Pattern) -> Option<&Known> {
+        let slots = self.slots.as_slice();
+        slots.get(slot_of(pattern, slots.len()))?.as_ref()
+    }
+
+    /// Names a pattern, and keeps what is known of it in its slot.
+    fn keep(
+        &mut self,
+        alloc: Global,
+        rule: &Rule,
+        limit: u32,
+        pattern: &Pattern,
+        sweep: Sweep,
+    ) -> Result<(), AllocError>
+        requires least { 1 ≤ limit }
+        requires most { limit ≤ 64 }
+        requires some { pattern.now ≢ [] }
+        requires near { lies_within 101000 pattern.now ≡ true }
+        requires sweep { IsSweep rule.now limit pattern.now sweep }
+    {
+        let slot = slot_of(pattern, self.slots.len());
+        if slot < self.slots.len() {
+            let known = Known::of(alloc, rule, limit, pattern, sweep)?;
+            self.slots[slot] = Some(known);
+        }
+        Ok(())
+    }
+}
+
+impl Known {
+    /// What is known of a pattern with this sweep.
+    fn of(
+        alloc: Global,
+        rule: &Rule,
+        limit: u32,
+        pattern: &Pattern,
+        sweep: Sweep,
+    ) -> Result<Known, AllocError>
+        requires least { 1 ≤ limit }
+        requires most { limit ≤ 64 }
+        requires some { pattern.now ≢ [] }
+        requires near { lies_within 101000 pattern.now ≡ true }
+        requires sweep { IsSweep rule.now limit pattern.now sweep }
+    {
+        let code = code_of(alloc, rule, limit, pattern)?;
+        let shape = pattern.copy(alloc)?;
+        Ok(Known {
+            rule: *rule,
+            limit,
+            shape,
+            sweep,
+            code,
+        })
+    }
+
+    /// The sweep of a pattern, if this is about it.
+    fn sweep_of(&self, rule: &Rule, limit: u32, pattern: &Pattern) -> Option<Sweep>
+        ensures { IfSome result (IsSweep rule.now limit pattern.now) }
+    {
+        let shift = self.shift_to(rule, limit, pattern)?;
+        moved_sweep(self.sweep, shift)
+    }
+
+    /// The code of a pattern, if this is about it.
+    fn code_of(
+        &self,
+        alloc: Global,
+        rule: &Rule,
+        limit: u32,
+        pattern: &Pattern,
+    ) -> Result<Option<Apgcode>, AllocError>
+        ensures { IfOk result (λ found. IfSome found (IsCode rule.now pattern.now limit)) }
+    {
+        let Some(_shift) = self.shift_to(rule, limit, pattern) else {
+            return Ok(None);
+        };
+        let code = self.code.copy(alloc)?;
+        Ok(Some(code))
+    }
+
+    /// The shift that makes the shape into the pattern, if this is about it.
+    fn shift_to(&self, rule: &Rule, limit: u32, pattern: &Pattern) -> Option<(i32, i32)>
+        ensures about { IfSome result (λ shift. IsAbout rule.now limit pattern.now shift self.now) }
+        ensures known { IsKnown self.now }
+    {
+        if self.limit != limit || !is_same(&self.rule, rule) {
+            return None;
+        }
+        self.shape.shift_to(pattern)
+    }
+}
+
+/// Whether the rules are the same.
+fn is_same(one: &Rule, other: &Rule) -> bool
+    ensures { IsTrue result → one.now ≡ other.now }
+{
+    one == other
+}
+
+/// As many slots as a memo has, with nothing in them.
+fn empty_slots(alloc: Global) -> Result<Vec<Option<Known>>, AllocError> {
+    let mut slots = Vec::with_capacity(alloc, SLOTS)?;
+    for _ in 0..SLOTS {
+        slots.push(None)?;
+    }
+    Ok(slots)
+}
+
+/// A sweep, moved, if that can be said in numbers of 32 bits.
+fn moved_sweep(sweep: Sweep, shift: (i32, i32)) -> Option<Sweep>
+    ensures { IfSome result (λ moved. moved ≡ moved_sweep shift sweep) }
+{
+    let bounds = moved_bounds(sweep.bounds, shift)?;
+    Some(Sweep {
+        recurrence: sweep.recurrence,
+        bounds,
+    })
+}
+
+/// A box, moved.
+fn moved_bounds(bounds: Bounds, shift: (i32, i32)) -> Option<Bounds>
+    ensures { IfSome result (λ moved. moved ≡ moved_bounds shift bounds) }
+{
+    Some(Bounds {
+        left: moved(bounds.left, shift.0)?,
+        top: moved(bounds.top, shift.1)?,
+        right: moved(bounds.right, shift.0)?,
+        bottom: moved(bounds.bottom, shift.1)?,
+    })
+}
+
+/// A column or row, moved.
+fn moved(at: i32, by: i32) -> Option<i32>
+    ensures { IfSome result (λ to. to ≡ at +ℤ by) }
+{
+    at.checked_add(by)
+}
+
+/// In which of so many slots a pattern belongs, by a number that is the same wherever it lies.
+fn slot_of(pattern: &Pattern, slots: usize) -> usize {
+    let mut hash = 0;
+    if let Some(first) = pattern.cells().first() {
+        hash = hash_from(*first, pattern.cells());
+    }
+    (hash >> 32) as usize % slots.max(1)
+}
+
+/// A number that is made of the cells as they lie from this one. The multiplier is the odd number next to 2^64 divided by
+/// the golden ratio, which spreads what differs in few bits.
+fn hash_from(first: Cell, cells: &[Cell]) -> u64 {
+    let mut hash = 0u64;
+    for cell in cells {
+        let place = from_to(first.y, cell.y).rotate_left(32) ^ from_to(first.x, cell.x);
+        hash = (hash.rotate_left(5) ^ place).wrapping_mul(0x9e37_79b9_7f4a_7c15);
+    }
+    hash
+}
+
+/// How far it is from one column or row to another, and 2^32 more, so that it isn't negative.
+fn from_to(from: i32, to: i32) -> u64 {
+    (i64::from(to) - i64::from(from) + 0x1_0000_0000) as u64
+}
+
+/// The code of a pattern that comes back within so many generations.
+fn code_of(alloc: Global, rule: &Rule, limit: u32, pattern: &Pattern) -> Result<Apgcode, AllocError>
+    requires least { 1 ≤ limit }
+    requires most { limit ≤ 64 }
+    requires some { pattern.now ≢ [] }
+    requires near { lies_within 101000 pattern.now ≡ true }
+    requires back { ComesBack rule.now limit pattern.now }
+    ensures { IfOk result (IsCode rule.now pattern.now limit) }
+{
+    match name(alloc, pattern, rule, limit) {
+        Ok(Some(code)) => Ok(code),
+        Ok(None) => unreachable!(),
+        Err(StepError::Memory) => Err(AllocError),
+        Err(StepError::Edge) => unreachable!(),
+    }
+}
