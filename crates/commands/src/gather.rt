@@ -182,9 +182,7 @@ fn gather_lines<R: BufRead, E: Write>(
     let mut memo = Memo::new(alloc);
     let mut size = 0u64;
     for before in 0..INPUT_LIMIT {
-        let read = next_line(
-            alloc, input, &mut line, before, &mut memo, haul, errors,
-        )?;
+        let read = next_line(alloc, input, &mut line, before, &mut memo, haul, errors)?;
         size += read.size;
         if size > INPUT_LIMIT {
             return Err(Complaint::ReadFailed);

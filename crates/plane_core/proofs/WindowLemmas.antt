@@ -1,6 +1,6 @@
 -- A window: what its rows say of the cells that it shows.
 use Rattle.std.proofs.Common.{◌≡◌, ◌≢◌, ◌==◌, ◌+◌, ◌-◌, ◌*◌, ◌/◌, ◌%◌, ◌^◌, ◌<◌, ◌≤◌, ℕ, ℤ, pos, ◌+ℤ◌, ◌-ℤ◌, ◌≤ℤ◌, Bool, true, false, not, List, [], ◌∷◌, ◌++◌}
-use Rattle.std.proofs.Common.{arith, refl, ap, ◌∙◌, sym, subst, inl, inr, ◌⊎◌, slice_index, unsigned_abs, get_or, get_or-set_same, set, length, bit_or, w64, leb}
+use Rattle.std.proofs.Common.{arith, refl, ap, ◌∙◌, sym, subst, inl, inr, ◌⊎◌, slice_index, unsigned_abs, get_or, set, length, bit_or, w64, leb}
 use Rattle.std.specs.Int.{bit_at, trailing_zeros}
 use Rattle.std.specs.declared.cmp.Ordering.TheVariants.{Less}
 use Rattle.std.proofs.lemmas.Int.{ints}
@@ -11,14 +11,12 @@ use Rattle.plane_core.specs.declared.board.Layout.{Layout}
 use Rattle.plane_core.specs.declared.bounds.Bounds.{Bounds}
 use Rattle.plane_core.specs.declared.cell.Cell.{Cell}
 use Rattle.plane_core.specs.declared.window.Spot.{Spot}
-use Rattle.plane_core.specs.declared.word.Row.{Row}
-use Rattle.plane_core.specs.Boards.{IsInner, IsNext, IsNextAt, KeepsOuter, row_at}
+use Rattle.plane_core.specs.Boards.{IsInner, IsNext, IsNextAt, KeepsOuter}
 use Rattle.plane_core.specs.Bounds.{IsWithin, shifted}
 use Rattle.plane_core.specs.Cells.{InOrder, cell_cmp, distance, has, is_within, moved_by}
 use Rattle.plane_core.specs.Generations.{after, next, touches_edge}
 use Rattle.plane_core.specs.Layouts.{AreSidesWithin, HasRoom, IsDead, IsLaid, IsShown, grid_of, index_of, place, room}
 use Rattle.plane_core.specs.Rules.{Numbers}
-use Rattle.plane_core.specs.Words.{IsNextWord}
 use Rattle.plane_core.specs.Windows.{HasChanged, IsColumnClear, IsFirst, IsInland, IsRimClear, IsSeen, IsSpot, IsStepped, IsWindow, window_grid}
 use Rattle.plane_core.proofs.BoardLemmas.{less_or_not, same_or_not}
 use Rattle.plane_core.proofs.GenerationLemmas.{after-more, after-none, in_order-next}

@@ -1,5 +1,5 @@
 -- Parts that stay apart run as if each were alone.
-use Rattle.std.proofs.Common.{◌≡◌, ◌==◌, ◌∙◌, ◌+◌, ◌<◌, ◌≤◌, ap, sym, refl, subst, ℕ, suc, Bool, true, false, cond, List, [], ◌∷◌, arith, get_or, length}
+use Rattle.std.proofs.Common.{◌≡◌, ◌==◌, ◌∙◌, ◌+◌, ◌<◌, ◌≤◌, ap, refl, ℕ, suc, Bool, true, false, cond, List, [], ◌∷◌, arith, get_or, length}
 use Rattle.std.specs.List.{range_with_len}
 use Rattle.std.proofs.lemmas.Bool.{eqb-true}
 use Rattle.std.proofs.lemmas.List.FromFn.{length-range_with_len}

@@ -1,5 +1,5 @@
 -- Groups of parts that stay apart: the whole runs as the groups do, each alone, and a group as its parts do in the whole.
-use Rattle.std.proofs.Common.{◌≡◌, ◌≢◌, ◌==◌, ◌∙◌, ◌+◌, ◌<◌, ◌≤◌, ◌↔◌, ◌||◌, ap, sym, refl, subst, ℕ, zero, suc, Bool, true, false, cond, List, [], ◌∷◌}
+use Rattle.std.proofs.Common.{◌≡◌, ◌≢◌, ◌==◌, ◌∙◌, ◌+◌, ◌<◌, ◌≤◌, ◌||◌, ap, sym, refl, subst, ℕ, zero, suc, Bool, true, false, cond, List, [], ◌∷◌}
 use Rattle.std.proofs.Common.{All, AllPairs, arith, flat_map, get_or, inl, inr, ◌⊎◌, length, map, nat_lt, take, ◌++◌}
 use Rattle.std.specs.List.{list_any}
 use Rattle.std.proofs.lemmas.Bool.{eqb-true, false≢true, ltb-false, ltb-true}
@@ -7,11 +7,9 @@ use Rattle.std.proofs.lemmas.Bool.Decides.{Decides-eqb}
 use Rattle.std.proofs.lemmas.List.Elements.{All-cons}
 use Rattle.std.proofs.lemmas.List.{get_or_default, get_or-map, length-map, length-take-le, take_more}
 use Rattle.std.proofs.lemmas.List.Kept.{AllPairs-cons}
-use Rattle.std.specs.Cmp.{both_ways as both_true}
-use Rattle.std.proofs.lemmas.List.Folds.{list_any_at}
 use Rattle.plane_core.specs.declared.cell.Cell.{Cell}
-use Rattle.plane_core.specs.Cells.{InOrder, has, king_distance, set_of}
-use Rattle.plane_core.specs.Clusters.{LieApart, Partition}
+use Rattle.plane_core.specs.Cells.{InOrder, has, king_distance}
+use Rattle.plane_core.specs.Clusters.{Partition}
 use Rattle.plane_core.specs.Generations.{after, lives}
 use Rattle.plane_core.specs.Rules.{Numbers}
 use Rattle.plane_core.proofs.GenerationLemmas.{after-none, distance_itself, has-next}

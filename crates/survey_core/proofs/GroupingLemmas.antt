@@ -1,19 +1,19 @@
 -- Groups as they are joined.
 use Rattle.std.proofs.Common.{◌≡◌, ◌≢◌, ◌==◌, ◌∙◌, ◌<◌, ap, sym, refl, subst, ℕ, Bool, true, false, List, All, arith, cond, get_or, inl, inr, length, map}
-use Rattle.std.proofs.Common.{[], ◌∷◌, eq-or-lt_of_le, nat_lt, ◌≤◌, ◌+◌}
+use Rattle.std.proofs.Common.{[], ◌∷◌, eq-or-lt_of_le, nat_lt, ◌≤◌}
 use Rattle.std.proofs.lemmas.Bool.{ltb-false, ltb-true}
 use Rattle.std.proofs.lemmas.Bool.Decides.{Decides-eqb}
 use Rattle.std.proofs.lemmas.List.{get_or-map, get_or_default, length-map}
 use Rattle.std.proofs.lemmas.List.Elements.{All-map}
 use Rattle.plane_core.specs.declared.cell.Cell.{Cell}
-use Rattle.plane_core.specs.Cells.{InOrder, has, king_distance}
+use Rattle.plane_core.specs.Cells.{InOrder, king_distance}
 use Rattle.plane_core.specs.Clusters.{AreClusters, LieApart}
 use Rattle.plane_core.specs.Generations.{after}
 use Rattle.plane_core.specs.Rules.{Numbers}
 use Rattle.plane_core.proofs.ClusterLaws.{partition_law}
 use Rattle.plane_core.proofs.PartLemmas.{turned}
 use Rattle.survey_core.specs.declared.sweep.Sweep.{Sweep}
-use Rattle.survey_core.specs.Grouping.{AreGroups, AreNumbers, Coarser, PairIsRight}
+use Rattle.survey_core.specs.Grouping.{AreGroups, AreNumbers, Coarser}
 use Rattle.survey_core.specs.Groups.{GroupKeeps, GroupsStayApart, renamed}
 use Rattle.survey_core.specs.Profiles.{Settling}
 use Rattle.survey_core.specs.Rest.{RestsAs}

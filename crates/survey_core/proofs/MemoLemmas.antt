@@ -1,5 +1,5 @@
 -- What is known of a shape holds of each pattern that it is about.
-use Rattle.std.proofs.Common.{◌≡◌, ◌∙◌, ◌<◌, ◌+ℤ◌, ◌≤ℤ◌, sym, subst, ℕ, ℤ, List, All, IfSome, Option, None, Some, arith}
+use Rattle.std.proofs.Common.{◌≡◌, sym, subst, ℕ, ℤ, List, All, IfSome, Option, None, Some, arith}
 use Rattle.std.proofs.lemmas.Int.{ints}
 use Rattle.std.proofs.lemmas.List.Elements.{All-map}
 use Rattle.plane_core.specs.declared.bounds.Bounds.{Bounds}

@@ -1,10 +1,10 @@
 -- The test of rest, a generation and a cluster at a time.
-use Rattle.std.proofs.Common.{◌≡◌, ◌≢◌, ◌∙◌, ap, sym, refl, subst, ℕ, ◌+◌, ◌≤◌, ◌↔◌, true, IsTrue, List, [], ◌∷◌, All, map, flat_map}
+use Rattle.std.proofs.Common.{◌≡◌, ◌≢◌, ◌∙◌, ap, sym, refl, subst, ℕ, ◌+◌, ◌≤◌, true, List, [], ◌∷◌, All, map, flat_map}
 use Rattle.std.proofs.Common.{arith, get_or, eq-or-lt_of_le, inl, inr}
 use Rattle.std.proofs.lemmas.Bool.{false≢true}
 use Rattle.std.proofs.lemmas.List.Elements.{All-map}
 use Rattle.plane_core.specs.declared.cell.Cell.{Cell}
-use Rattle.plane_core.specs.Cells.{InOrder, has, is_within, set_of}
+use Rattle.plane_core.specs.Cells.{InOrder, has, is_within}
 use Rattle.plane_core.specs.Clusters.{AreClusters, IsCluster, Partition}
 use Rattle.plane_core.specs.Generations.{after, lies_within, next}
 use Rattle.plane_core.specs.Rules.{Numbers}

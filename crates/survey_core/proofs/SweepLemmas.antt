@@ -1,6 +1,6 @@
 -- Sweeps: where a pattern that comes back lies in each turn, and boxes that stay clear of each other.
-use Rattle.std.proofs.Common.{◌≡◌, ◌≢◌, ◌∙◌, ◌+◌, ◌*◌, ◌/◌, ◌%◌, ◌<◌, ◌≤◌, ◌+ℤ◌, ◌-ℤ◌, ◌≤ℤ◌, ◌<ℤ◌, ap, sym, refl, subst, ℕ, ℤ, pos, zero, suc, List, [], ◌∷◌}
-use Rattle.std.proofs.Common.{All, arith, add_comm, get_or, inl, inr, ◌⊎◌, true, false, zero-add, eq-or-lt_of_le, int_lt, length, mul_comm, take, unsigned_abs, ◌++◌}
+use Rattle.std.proofs.Common.{◌≡◌, ◌∙◌, ◌+◌, ◌*◌, ◌/◌, ◌%◌, ◌<◌, ◌≤◌, ◌+ℤ◌, ◌-ℤ◌, ◌≤ℤ◌, ◌<ℤ◌, ap, sym, refl, subst, ℕ, ℤ, pos, zero, suc, List, [], ◌∷◌}
+use Rattle.std.proofs.Common.{All, arith, get_or, inl, inr, ◌⊎◌, true, zero-add, eq-or-lt_of_le, int_lt, length, mul_comm, take, unsigned_abs, ◌++◌}
 use Rattle.std.proofs.lemmas.Int.{clamps, ints}
 use Rattle.std.proofs.lemmas.List.Elements.{All-map, recursion_from_All}
 use Rattle.std.proofs.lemmas.Bool.{or_cases}
@@ -9,12 +9,11 @@ use Rattle.std.proofs.Math.Nat.{div-add-mod, le-div_iff_mul-le, suc-mul, zero-mu
 use Rattle.plane_core.specs.declared.bounds.Bounds.{Bounds}
 use Rattle.plane_core.specs.declared.cell.Cell.{Cell}
 use Rattle.plane_core.specs.Bounds.{IsWithin, shifted}
-use Rattle.plane_core.specs.Cells.{InOrder, cell_at, distance, has, king_distance, moved_by}
+use Rattle.plane_core.specs.Cells.{cell_at, distance, king_distance, moved_by}
 use Rattle.plane_core.specs.Generations.{after}
 use Rattle.plane_core.specs.Rules.{Numbers}
-use Rattle.plane_core.proofs.GenerationLemmas.{after-none}
 use Rattle.plane_core.proofs.SetLemmas.{has-all}
-use Rattle.code_core.proofs.MovedCodes.{after-shifted, in_order-after}
+use Rattle.code_core.proofs.MovedCodes.{after-shifted}
 use Rattle.survey_core.specs.declared.sweep.Sweep.{Sweep}
 use Rattle.survey_core.specs.Sweeps.{AreSweeps, IsSweep, Serves, ShipsMoveByTurns, StayApart, StayClear, both_boxes, carried, is_clear, is_past, times}
 use Rattle.survey_core.proofs.FindingLemmas.{after-then}

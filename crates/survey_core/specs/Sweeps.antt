@@ -1,5 +1,5 @@
 -- The sweep of a pattern that comes back: a box in which all its phases lie, and which moves along with it.
-use Rattle.std.specs.Prelude.{◌≡◌, ◌≢◌, ◌+◌, ◌*◌, ◌+ℤ◌, ◌<◌, ◌≤◌, ◌⊎◌, ◌||◌, Bool, true, int_lt, ℕ, ℤ, zero, suc, pos, List, [], All, get_or, length}
+use Rattle.std.specs.Prelude.{◌≡◌, ◌+◌, ◌*◌, ◌+ℤ◌, ◌<◌, ◌≤◌, ◌⊎◌, ◌||◌, Bool, true, int_lt, ℕ, ℤ, zero, suc, pos, List, All, get_or, length}
 use Rattle.std.specs.Int.{int_max, int_min}
 use lib.IntN.{◌-ℤ◌}
 use Rattle.plane_core.specs.declared.cell.Cell.{Cell}

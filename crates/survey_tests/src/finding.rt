@@ -269,8 +269,8 @@ fn is_same_with(
     Ok(with.as_str() == without.as_str())
 }
 
-// One memo serves rules and profiles in turn. A row of three comes back in Life, and not within one generation; under b3s0123
-// it becomes something else; a block and a beehive have shapes of as many cells as others that don't come back.
+// One memo serves rules and profiles in turn. A row of three comes back in Life, but not within one generation, and not under
+// b3s0123, where it grows. Four cells that die are as many as a block has.
 #[test]
 fn finds_the_same_with_a_memo(rt: HostRuntime) -> Result<(), Fail> {
     let mut memo = Memo::new(rt.alloc());
@@ -279,7 +279,7 @@ fn finds_the_same_with_a_memo(rt: HostRuntime) -> Result<(), Fail> {
         ("OOO", "b3s23", Profile::standard()),
         ("O\nO\nO", "b3s23", Profile::standard()),
         ("OOO", "b3s23", profile(1, 1, 1, 0)?),
-        ("OOO", "b3s0123", Profile::standard()),
+        ("OOO", "b3s0123", profile(2, 2, 1, 4)?),
         ("OOO", "b3s23", Profile::standard()),
         ("OO\nOO", "b3s23", Profile::standard()),
         ("O.O\nO.O", "b3s23", profile(4, 4, 1, 8)?),

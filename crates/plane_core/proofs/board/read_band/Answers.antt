@@ -1,4 +1,4 @@
-use Rattle.std.proofs.Common.{◌*◌, ◌+◌, ℕ, arith, subst}
+use Rattle.std.proofs.Common.{ℕ, arith, subst}
 use Rattle.plane_core.specs.Layouts.{HasReadRows}
 use Rattle.plane_core.proofs.ReadLemmas.{rows-more, rows-on}
 use Rattle.plane_core.proofs.board.read_band.Goals as goal

@@ -1,4 +1,4 @@
-use Rattle.std.proofs.Common.{◌*◌, ◌+◌, ℕ, arith, subst}
+use Rattle.std.proofs.Common.{ℕ, arith, subst}
 use Rattle.plane_core.specs.Windows.{IsStepped}
 use Rattle.plane_core.proofs.WindowLemmas.{step_none, stepped_next, stepped_outer}
 use Rattle.plane_core.proofs.window.step.Goals as goal

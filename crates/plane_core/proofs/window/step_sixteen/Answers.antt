@@ -1,4 +1,4 @@
-use Rattle.std.proofs.Common.{◌+◌, ◌∙◌, ℕ, List, arith, get_or-set_same, get_or-set_other, length-set, set, slice_index, subst, sym}
+use Rattle.std.proofs.Common.{◌+◌, ◌∙◌, ℕ, arith, get_or-set_same, get_or-set_other, length-set, set, slice_index, subst, sym}
 use Rattle.plane_core.specs.Boards.{IsNextAt}
 use Rattle.plane_core.specs.Windows.{IsStepped, window_grid}
 use Rattle.plane_core.proofs.WindowLemmas.{step_more}

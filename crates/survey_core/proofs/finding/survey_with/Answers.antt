@@ -1,4 +1,4 @@
-use Rattle.std.proofs.Common.{◌≡◌, ◌∙◌, ◌++◌, ap, arith, decimal}
+use Rattle.std.proofs.Common.{◌∙◌, ◌++◌, ap, arith, decimal}
 use Rattle.plane_core.specs.Cells.{set_of}
 use Rattle.plane_core.specs.Generations.{lies_within}
 use Rattle.sha2.specs.Sha256.{sha256}

@@ -1,4 +1,4 @@
-use Rattle.std.proofs.Common.{◌≡◌, ◌∙◌, ◌<◌, ◌≤◌, ◌+◌, ap, sym, subst, ℕ, arith, eq-or-lt_of_le, inl, inr, length}
+use Rattle.std.proofs.Common.{◌<◌, ◌≤◌, sym, subst, ℕ, arith, eq-or-lt_of_le, inl, inr, length}
 use Rattle.survey_core.specs.Grouping.{PairIsRight}
 use Rattle.survey_core.proofs.groups.groups.Goals as goal
 

@@ -1,4 +1,4 @@
-use Rattle.std.proofs.Common.{◌≡◌, ◌∙◌, ◌<◌, ap, sym, refl, subst, ℕ, List, get_or, length}
+use Rattle.std.proofs.Common.{◌<◌, ap, sym, subst, ℕ, List, get_or, length}
 use Rattle.survey_core.proofs.GroupingLemmas.{renamed_coarser, renamed_numbers, renamed_pair, stay_default}
 use Rattle.survey_core.proofs.groups.joined_pair.Goals as goal
 

@@ -1,4 +1,4 @@
-use Rattle.std.proofs.Common.{◌≡◌, ◌∙◌, ◌<◌, ◌≤◌, sym, subst, ℕ, arith, eq-or-lt_of_le, inl, inr, length, refl}
+use Rattle.std.proofs.Common.{◌∙◌, ◌≤◌, sym, subst, arith, eq-or-lt_of_le, inl, inr, refl}
 use Rattle.std.proofs.lemmas.Bool.{false≢true}
 use Rattle.survey_core.specs.Groups.{GroupKeeps}
 use Rattle.survey_core.proofs.rest.groups_keep_apart.Goals as goal

@@ -1,8 +1,7 @@
-use Rattle.std.proofs.Common.{◌≡◌, ◌==◌, ◌∙◌, ◌++◌, ap, sym, subst, ℕ, Bool, List, [], ◌∷◌, cond, get_or, take, false, true}
+use Rattle.std.proofs.Common.{◌≡◌, ◌==◌, ◌∙◌, ◌++◌, ap, sym, Bool, [], ◌∷◌, cond, get_or, take, false, true}
 use Rattle.std.proofs.lemmas.Bool.{eqb-true}
 use Rattle.std.proofs.lemmas.Bool.Decides.{Decides-eqb}
 use Rattle.std.proofs.lemmas.List.{append-nil}
-use Rattle.plane_core.specs.declared.cell.Cell.{Cell}
 use Rattle.plane_core.proofs.PartLemmas.{false_unless}
 use Rattle.survey_core.specs.Groups.{members}
 use Rattle.survey_core.proofs.GroupLemmas.{members-none, members_more}

@@ -1,4 +1,4 @@
-use Rattle.std.proofs.Common.{◌≡◌, ◌∙◌, ◌+◌, ◌≤◌, ◌+ℤ◌, ap, sym, ℤ, ℕ, add-one, arith, unsigned_abs}
+use Rattle.std.proofs.Common.{◌∙◌, ◌+ℤ◌, ap, sym, ℤ, ℕ, add-one, arith}
 use Rattle.survey_core.specs.Sweeps.{is_clear, times}
 use Rattle.survey_core.proofs.SweepLemmas.{clear_more, offset_small, times-none}
 use Rattle.survey_core.proofs.sweep.are_clear_for.Goals as goal

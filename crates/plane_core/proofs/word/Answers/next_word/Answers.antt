@@ -1,4 +1,4 @@
-use Rattle.std.proofs.Common.{ℕ, arith, ap, sym, ◌∙◌, ◌==◌}
+use Rattle.std.proofs.Common.{ℕ, arith, ap, ◌∙◌, ◌==◌}
 use Rattle.std.specs.Int.{bit_at}
 use Rattle.plane_core.specs.Tallies.{lives_by}
 use Rattle.plane_core.specs.Words.{one_if}

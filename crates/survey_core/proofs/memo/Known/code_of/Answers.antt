@@ -1,4 +1,4 @@
-use Rattle.std.proofs.Common.{◌∙◌, ap, sym, subst, ℕ, List}
+use Rattle.std.proofs.Common.{◌∙◌, ap, sym, subst}
 use Rattle.code_core.specs.Names.{IsCode}
 use Rattle.survey_core.specs.Memos.{Fact, IsAbout}
 use Rattle.survey_core.proofs.MemoLemmas.{code_known}
