@@ -140,9 +140,7 @@ fn do_request<T: Threads + Wait + Sync, R: Read, W: Write, E: Write, P: Write, C
             let set = soups_for(&survey.set);
             let profile = numbers_for(survey.profile);
             let rule = survey.rule.as_str();
-            do_gather(
-                alloc, &set, *workers, profile, rule, input, output, errors,
-            )
+            do_gather(alloc, &set, *workers, profile, rule, input, output, errors)
         }
         Request::Version => do_version(output, errors),
     }

@@ -13,8 +13,8 @@ use Rattle.clap.proofs.OnLiterals.{clap_on_literals}
 use Rattle.clap.specs.declared.error.kind.ErrorKind.{ErrorKind}
 use Rattle.clap.specs.declared.error.kind.ErrorKind.TheVariants.{MissingRequiredArgument}
 use Rattle.words.specs.Calls.{AskForTheirValues, AsksForVersion, NoCommandAsksForNothing, survey_given}
-use Rattle.words.specs.Requests.{all_four, asked_by, asks_version, gather_of, name_of, request_in, run_of, set_of_four, show_of, soup_of, survey_in}
-use Rattle.words.specs.Requests.{survey_of_three, take_of, unless_faulty, work_of}
+use Rattle.words.specs.Requests.{all_four, asked_by, asks_version, gather_from, name_from, request_in, run_from, set_of_four, show_from, soup_from, survey_in}
+use Rattle.words.specs.Requests.{survey_of_three, take_from, unless_faulty, work_from}
 use Rattle.words.specs.Table.{Command, Entry, census_app, commands}
 use Rattle.words.specs.Table as table
 use Rattle.words.specs.Uses.{AreUses, IsIn, Use, lacks_some, words_in}
@@ -103,22 +103,22 @@ ask_for_their_values = record {
       let k = known table.run_command (inl refl) in
       let read = all_values table.run_command k.knows uses are whole in
       asks_for table.run_command k program uses are whole
-      ∙ (λ i. run_of (read table.generations (inl refl) i) (read table.rule (inr (inl refl)) i));
+      ∙ (λ i. run_from (read table.generations (inl refl) i) (read table.rule (inr (inl refl)) i));
   name = λ program uses are whole.
       let k = known table.name_command (inr (inl refl)) in
       let read = all_values table.name_command k.knows uses are whole in
       asks_for table.name_command k program uses are whole
-      ∙ (λ i. name_of (all_four (read table.period (inl refl) i) (read table.horizon (inr (inl refl)) i) (read table.stride (inr (inr (inl refl))) i)
+      ∙ (λ i. name_from (all_four (read table.period (inl refl) i) (read table.horizon (inr (inl refl)) i) (read table.stride (inr (inr (inl refl))) i)
       (read table.limit (inr (inr (inr (inl refl)))) i)) (read table.rule (inr (inr (inr (inr (inl refl))))) i));
   show = λ program uses are whole.
       let k = known table.show_command (inr (inr (inl refl))) in
       asks_for table.show_command k program uses are whole
-      ∙ ap show_of (all_values table.show_command k.knows uses are whole table.code (inl refl));
+      ∙ ap show_from (all_values table.show_command k.knows uses are whole table.code (inl refl));
   soup = λ program uses are whole.
       let k = known table.soup_command (inr (inr (inr (inl refl)))) in
       let read = all_values table.soup_command k.knows uses are whole in
       asks_for table.soup_command k program uses are whole
-      ∙ (λ i. soup_of (read table.number (inl refl) i) (read table.seed (inr (inl refl)) i));
+      ∙ (λ i. soup_from (read table.number (inl refl) i) (read table.seed (inr (inl refl)) i));
   take = λ program uses are whole.
       let k = known table.take_command (inr (inr (inr (inr (inl refl))))) in
       let read = all_values table.take_command k.knows uses are whole in
@@ -126,19 +126,19 @@ ask_for_their_values = record {
       let survey = survey_read uses rows (table.workers ∷ table.progress ∷ []) read in
       let workers = read table.workers (tenth table.workers (table.progress ∷ [])) in
       let progress = read table.progress (eleventh table.progress []) in
-      asks_for table.take_command k program uses are whole ∙ (λ i. take_of (progress i) (survey i) (workers i));
+      asks_for table.take_command k program uses are whole ∙ (λ i. take_from (progress i) (survey i) (workers i));
   work = λ program uses are whole.
       let k = known table.work_command (inr (inr (inr (inr (inr (inl refl)))))) in
       let read = all_values table.work_command k.knows uses are whole in
       let survey = survey_read uses (completed (leaf table.work_command) (rows_in uses)) (table.worker ∷ []) read in
       let worker = read table.worker (tenth table.worker []) in
-      asks_for table.work_command k program uses are whole ∙ (λ i. work_of (survey i) (worker i));
+      asks_for table.work_command k program uses are whole ∙ (λ i. work_from (survey i) (worker i));
   gather = λ program uses are whole.
       let k = known table.gather_command (inr (inr (inr (inr (inr (inr (inl refl))))))) in
       let read = all_values table.gather_command k.knows uses are whole in
       let survey = survey_read uses (completed (leaf table.gather_command) (rows_in uses)) (table.workers ∷ []) read in
       let workers = read table.workers (tenth table.workers []) in
-      asks_for table.gather_command k program uses are whole ∙ (λ i. gather_of (survey i) (workers i));
+      asks_for table.gather_command k program uses are whole ∙ (λ i. gather_from (survey i) (workers i));
 }
 
 -- ---- no command

@@ -16,7 +16,7 @@ use Rattle.clap.proofs.ValueTestLemmas.{Accepts-accepts, accepts-Accepts}
 use Rattle.clap.specs.declared.parser.matches.Found.{Found}
 use Rattle.clap.proofs.WalkLemmas.{both, one_text-rows}
 use Rattle.words.specs.Uses.{IsNoNumber, IsNumberFromTo}
-use Rattle.words.specs.Values.{at_least, number_of, number_up_to}
+use Rattle.words.specs.Values.{at_least, number_named, number_up_to}
 use Rattle.words.proofs.WalkLemmas.{no_hyphen}
 
 digits_pass : (ds : List ℕ) → AllDigits 10 ds → list_all (λ d. nat_lt (digit_value d) 10) ds ≡ true
@@ -43,14 +43,14 @@ within most n = cond (nat_le n most) (Some n) None
 
 -- a text that is read as a number of 32 bits
 ok_within : (most : ℕ) (text : Text) (n : ℕ) → IsNumeral 10 (without_leading_plus text) → n ≡ digits_value 10 (without_leading_plus text)
-    → within most n ≡ number_of most text
+    → within most n ≡ number_named most text
 ok_within most text n numeral is = rw (is, is_numeral-passes _ numeral) refl
 
 none_within : (bits most : ℕ) (text : Text) → most < 2 ^ bits
-    → ((IsNumeral 10 (without_leading_plus text) × (digits_value 10 (without_leading_plus text) < 2 ^ bits)) → ⊥) → None ≡ number_of most text
+    → ((IsNumeral 10 (without_leading_plus text) × (digits_value 10 (without_leading_plus text) < 2 ^ bits)) → ⊥) → None ≡ number_named most text
 none_within bits most text fits never = go (is_numeral (without_leading_plus text) && nat_le (digits_value 10 (without_leading_plus text)) most) refl
   where
-    go : (b : Bool) → (is_numeral (without_leading_plus text) && nat_le (digits_value 10 (without_leading_plus text)) most) ≡ b → None ≡ number_of most text
+    go : (b : Bool) → (is_numeral (without_leading_plus text) && nat_le (digits_value 10 (without_leading_plus text)) most) ≡ b → None ≡ number_named most text
     go false t = rw t refl
     go true t =
         let parts = both _ _ t in
@@ -60,7 +60,7 @@ none_within bits most text fits never = go (is_numeral (without_leading_plus tex
 -- the number that is read of a text
 text_within : {E : Type 0} (bits most : ℕ) → most < 2 ^ bits → (G : Text → Result ℕ E → Type 0)
     → ((t : Text) (r : Result ℕ E) → G t r → ParsesUnsigned bits 10 t r) → (text : Text) (found : Option ℕ) → ReadsOne G text found
-    → option_and_then (within most) found ≡ number_of most text
+    → option_and_then (within most) found ≡ number_named most text
 text_within bits most fits G only text (Some n) read = let h = only text (Ok n) read in ok_within most text n h.0.0 h.1
 text_within bits most fits G only text None read = none_within bits most text fits (only text (Err read.0) read.1)
 
@@ -130,7 +130,7 @@ large_refused most n h = go (accepts false (Unsigned 0 most) n) refl
         absurd (h.2 (record { numeral = numeral; low = omega arith; high = high }))
 
 -- what is read of a numeral within a limit
-pub large_read : (most : ℕ) (n : Text) → IsNumberFromTo 0 most n → number_of most n ≡ Some (digits_value 10 n)
+pub large_read : (most : ℕ) (n : Text) → IsNumberFromTo 0 most n → number_named most n ≡ Some (digits_value 10 n)
 large_read most n h =
     let signs = no_sign n h.numeral in
     let passes = is_numeral-passes n h.numeral in
@@ -139,9 +139,9 @@ large_read most n h =
     ∙ ap₂ (λ a b. cond {A = Option ℕ} (a && b) (Some (digits_value 10 n)) None) passes within
 
 pub number_read : (least most : ℕ) (n : Text) → IsNumberFromTo least most n
-    → option_and_then (at_least least) (number_of most (without_minus n)) ≡ Some (digits_value 10 n)
+    → option_and_then (at_least least) (number_named most (without_minus n)) ≡ Some (digits_value 10 n)
 number_read least most n h =
     let bare : without_minus n ≡ n = ap (λ o. unwrap_or o n) (no_hyphen n (no_sign n h.numeral).0) in
     let low : 0 ≤ digits_value 10 n = omega arith in
-    ap (option_and_then (at_least least)) (ap (number_of most) bare ∙ large_read most n (record { numeral = h.numeral; low = low; high = h.high }))
+    ap (option_and_then (at_least least)) (ap (number_named most) bare ∙ large_read most n (record { numeral = h.numeral; low = low; high = h.high }))
     ∙ ap (λ b. cond {A = Option ℕ} b (Some (digits_value 10 n)) None) (le-leb _ _ h.low)

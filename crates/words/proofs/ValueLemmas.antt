@@ -15,7 +15,7 @@ use Rattle.words.specs.declared.options.Kind.TheVariants as kind
 use Rattle.words.specs.Calls.{number_given, text_given}
 use Rattle.words.specs.Table.{Command, Entry}
 use Rattle.words.specs.Uses.{AreUses, IsIn, IsOfKind, Use, entry_in, is_flag, is_required, is_used, lacks_some, value_in}
-use Rattle.words.specs.Values.{at_least, is_given, number_of, number_by, text_in}
+use Rattle.words.specs.Values.{at_least, is_given, number_named, number_by, text_found}
 use Rattle.words.proofs.BuiltLemmas.{built, built_default, built_is, default_by, is_of_kind, kind_by_test, parser_for}
 use Rattle.words.proofs.KnownLemmas.{Knows, at}
 use Rattle.words.proofs.NumberLemmas.{large_read, number_read}
@@ -117,7 +117,7 @@ module _ {s : Shape} (command : Command) (k : Knows s command.arguments) where
 
 -- ---- what is read of them
 
-first_read : (e : Entry) (v : Text) (rows : List Row) → IsFound e v rows → text_in e rows ≡ Some v
+first_read : (e : Entry) (v : Text) (rows : List Row) → IsFound e v rows → text_found e rows ≡ Some v
 first_read e v rows is =
     ap (option_and_then (λ (r : Row). slice_get r.values 0)) is.found ∙ ap (λ vs. slice_get vs 0) is.values
 
@@ -128,7 +128,7 @@ one_read e v rows is =
 
 -- what a request takes of an argument of this kind
 abbrev pub IsRead : List Use → List Row → Entry → Kind → Type 0
-IsRead uses rows e kind.Text = text_in e rows ≡ Some (text_given e uses)
+IsRead uses rows e kind.Text = text_found e rows ≡ Some (text_given e uses)
 IsRead uses rows e kind.Flag = is_given e rows ≡ is_used e.name uses
 IsRead uses rows e (kind.Number least most) = number_by (kind.Number least most) e.name rows ≡ Some (number_given e uses)
 IsRead uses rows e (kind.LargeNumber most) = number_by (kind.LargeNumber most) e.name rows ≡ Some (number_given e uses)
@@ -138,12 +138,12 @@ read_by : (uses : List Use) (rows : List Row) (e : Entry) (c : Kind) → e.kind 
 read_by uses rows e kind.Text is no_flag taken found = first_read e (text_given e uses) rows found
 read_by uses rows e kind.Flag is no_flag taken found = cc
 read_by uses rows e (kind.Number least most) is no_flag taken found =
-    ap (λ o. option_and_then (at_least least) (option_and_then (number_of most) o))
+    ap (λ o. option_and_then (at_least least) (option_and_then (number_named most) o))
     (one_read e (text_given e uses) rows found
     ∙ ap (λ how. Some (read_as how (text_given e uses))) ((built_is e).reads ∙ ap (λ c. reading_of (parser_for c)) is))
     ∙ number_read least most (text_given e uses) taken
 read_by uses rows e (kind.LargeNumber most) is no_flag taken found =
-    ap (option_and_then (number_of most))
+    ap (option_and_then (number_named most))
     (one_read e (text_given e uses) rows found
     ∙ ap (λ how. Some (read_as how (text_given e uses))) ((built_is e).reads ∙ ap (λ c. reading_of (parser_for c)) is))
     ∙ large_read most (text_given e uses) taken

@@ -9,7 +9,7 @@ use Rattle.words.specs.declared.request.Request.TheVariants.{Run, Name, Show, So
 use Rattle.words.specs.declared.request.SoupSet.{SoupSet}
 use Rattle.words.specs.declared.request.Survey.{Survey}
 use Rattle.words.specs.Table.{also, census_app, code, generations, number, progress, rule, worker, workers, count, first, horizon, limit, period, seed, stride}
-use Rattle.words.specs.Values.{IsInRange, is_given, number_in, text_in}
+use Rattle.words.specs.Values.{IsInRange, is_given, number_found, text_found}
 
 -- ---- numbers in their ranges
 
@@ -43,7 +43,7 @@ all_four (Some p) (Some h) (Some k) (Some t) = Some (record { period = p; horizo
 all_four _ _ _ _ = None
 
 abbrev pub profile_in : List Row → Option ProfileNumbers
-profile_in rows = all_four (number_in period rows) (number_in horizon rows) (number_in stride rows) (number_in limit rows)
+profile_in rows = all_four (number_found period rows) (number_found horizon rows) (number_found stride rows) (number_found limit rows)
 
 -- a set of soups, if all four of its parts are there
 abbrev pub set_of_four : Option Text → Option ℕ → Option ℕ → Option Text → Option SoupSet
@@ -51,7 +51,7 @@ set_of_four (Some seed) (Some first) (Some count) (Some also) = Some (record { s
 set_of_four _ _ _ _ = None
 
 abbrev pub set_in : List Row → Option SoupSet
-set_in rows = set_of_four (text_in seed rows) (number_in first rows) (number_in count rows) (text_in also rows)
+set_in rows = set_of_four (text_found seed rows) (number_found first rows) (number_found count rows) (text_found also rows)
 
 -- which soups, and how they are run, if all three parts are there
 abbrev pub survey_of_three : Option SoupSet → Option ProfileNumbers → Option Text → Option Survey
@@ -59,58 +59,58 @@ survey_of_three (Some set) (Some profile) (Some rule) = Some (record { set = set
 survey_of_three _ _ _ = None
 
 abbrev pub survey_in : List Row → Option Survey
-survey_in rows = survey_of_three (set_in rows) (profile_in rows) (text_in rule rows)
+survey_in rows = survey_of_three (set_in rows) (profile_in rows) (text_found rule rows)
 
 -- each command, if its values are there
-abbrev pub run_of : Option ℕ → Option Text → Option Request
-run_of (Some n) (Some rule) = Some (Run n rule)
-run_of _ _ = None
+abbrev pub run_from : Option ℕ → Option Text → Option Request
+run_from (Some n) (Some rule) = Some (Run n rule)
+run_from _ _ = None
 
-abbrev pub name_of : Option ProfileNumbers → Option Text → Option Request
-name_of (Some profile) (Some rule) = Some (Name profile rule)
-name_of _ _ = None
+abbrev pub name_from : Option ProfileNumbers → Option Text → Option Request
+name_from (Some profile) (Some rule) = Some (Name profile rule)
+name_from _ _ = None
 
-abbrev pub show_of : Option Text → Option Request
-show_of (Some code) = Some (Show code)
-show_of None = None
+abbrev pub show_from : Option Text → Option Request
+show_from (Some code) = Some (Show code)
+show_from None = None
 
-abbrev pub soup_of : Option ℕ → Option Text → Option Request
-soup_of (Some n) (Some seed) = Some (Soup seed n)
-soup_of _ _ = None
+abbrev pub soup_from : Option ℕ → Option Text → Option Request
+soup_from (Some n) (Some seed) = Some (Soup seed n)
+soup_from _ _ = None
 
-abbrev pub take_of : Bool → Option Survey → Option ℕ → Option Request
-take_of asked (Some survey) (Some workers) = Some (Take survey workers asked)
-take_of asked _ _ = None
+abbrev pub take_from : Bool → Option Survey → Option ℕ → Option Request
+take_from asked (Some survey) (Some workers) = Some (Take survey workers asked)
+take_from asked _ _ = None
 
-abbrev pub work_of : Option Survey → Option ℕ → Option Request
-work_of (Some survey) (Some worker) = Some (Work survey worker)
-work_of _ _ = None
+abbrev pub work_from : Option Survey → Option ℕ → Option Request
+work_from (Some survey) (Some worker) = Some (Work survey worker)
+work_from _ _ = None
 
-abbrev pub gather_of : Option Survey → Option ℕ → Option Request
-gather_of (Some survey) (Some workers) = Some (Gather survey workers)
-gather_of _ _ = None
+abbrev pub gather_from : Option Survey → Option ℕ → Option Request
+gather_from (Some survey) (Some workers) = Some (Gather survey workers)
+gather_from _ _ = None
 
 -- each command, with what was found for its arguments
 abbrev pub run_in : List Row → Option Request
-run_in rows = run_of (number_in generations rows) (text_in rule rows)
+run_in rows = run_from (number_found generations rows) (text_found rule rows)
 
 abbrev pub name_in : List Row → Option Request
-name_in rows = name_of (profile_in rows) (text_in rule rows)
+name_in rows = name_from (profile_in rows) (text_found rule rows)
 
 abbrev pub show_in : List Row → Option Request
-show_in rows = show_of (text_in code rows)
+show_in rows = show_from (text_found code rows)
 
 abbrev pub soup_in : List Row → Option Request
-soup_in rows = soup_of (number_in number rows) (text_in seed rows)
+soup_in rows = soup_from (number_found number rows) (text_found seed rows)
 
 abbrev pub take_in : List Row → Option Request
-take_in rows = take_of (is_given progress rows) (survey_in rows) (number_in workers rows)
+take_in rows = take_from (is_given progress rows) (survey_in rows) (number_found workers rows)
 
 abbrev pub work_in : List Row → Option Request
-work_in rows = work_of (survey_in rows) (number_in worker rows)
+work_in rows = work_from (survey_in rows) (number_found worker rows)
 
 abbrev pub gather_in : List Row → Option Request
-gather_in rows = gather_of (survey_in rows) (number_in workers rows)
+gather_in rows = gather_from (survey_in rows) (number_found workers rows)
 
 -- the command of this name, with its values
 abbrev pub request_in : Text × List Row → Option Request

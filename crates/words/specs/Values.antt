@@ -10,14 +10,14 @@ use Rattle.words.specs.declared.options.Kind.TheVariants as kind
 use Rattle.words.specs.Table.{Entry}
 
 -- the number up to a limit that a text names: a numeral, before which a plus may stand
-abbrev pub number_of : ℕ → Text → Option ℕ
-number_of most text =
+abbrev pub number_named : ℕ → Text → Option ℕ
+number_named most text =
     let digits = without_leading_plus text in
     if is_numeral digits && nat_le (digits_value 10 digits) most then Some (digits_value 10 digits) else None
 
 -- the number up to a limit that was found for an argument
 abbrev pub number_up_to : ℕ → Text → List Row → Option ℕ
-number_up_to most id rows = option_and_then (number_of most) (one_of id rows)
+number_up_to most id rows = option_and_then (number_named most) (one_of id rows)
 
 -- a number that isn't below the least
 abbrev pub at_least : ℕ → ℕ → Option ℕ
@@ -30,12 +30,12 @@ number_by kind.Flag id rows = None
 number_by (kind.Number least most) id rows = option_and_then (at_least least) (number_up_to most id rows)
 number_by (kind.LargeNumber most) id rows = number_up_to most id rows
 
-abbrev pub number_in : Entry → List Row → Option ℕ
-number_in entry rows = number_by entry.kind entry.name rows
+abbrev pub number_found : Entry → List Row → Option ℕ
+number_found entry rows = number_by entry.kind entry.name rows
 
 -- the text that was found for an argument
-abbrev pub text_in : Entry → List Row → Option Text
-text_in entry rows = first_of entry.name rows
+abbrev pub text_found : Entry → List Row → Option Text
+text_found entry rows = first_of entry.name rows
 
 -- whether a flag was given: then its value is `true`
 abbrev pub is_given : Entry → List Row → Bool

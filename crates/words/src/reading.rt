@@ -6,7 +6,7 @@ ghost use Rattle.words.specs.Requests.{AreInTheirRanges, AreProfileNumbers, AreS
 
 use crate::options;
 use crate::request::{ProfileNumbers, Request, SoupSet, Survey};
-use crate::values::{is_given, number_in, text_in};
+use crate::values::{is_given, number_found, text_found};
 use clap::ArgMatches;
 
 /// The numbers of a profile that were found.
@@ -14,10 +14,10 @@ pub fn profile_in(found: &ArgMatches<'_>) -> Option<ProfileNumbers>
     ensures profile { result ≡ profile_in (rows_of (found_of found.now)) }
     ensures ranges { IfSome result AreProfileNumbers }
 {
-    let period = number_in(found, &options::PERIOD)?;
-    let horizon = number_in(found, &options::HORIZON)?;
-    let stride = number_in(found, &options::STRIDE)?;
-    let limit = number_in(found, &options::LIMIT)?;
+    let period = number_found(found, &options::PERIOD)?;
+    let horizon = number_found(found, &options::HORIZON)?;
+    let stride = number_found(found, &options::STRIDE)?;
+    let limit = number_found(found, &options::LIMIT)?;
     Some(ProfileNumbers {
         period: period as u32,
         horizon: horizon as u32,
@@ -31,10 +31,10 @@ pub fn set_in<'a>(found: &ArgMatches<'a>) -> Option<SoupSet<'a>>
     ensures set { result ≡ set_in (rows_of (found_of found.now)) }
     ensures ranges { IfSome result (λ set. IsInRange first.kind set.first × IsInRange count.kind set.count) }
 {
-    let seed = text_in(found, &options::SEED)?;
-    let first = number_in(found, &options::FIRST)?;
-    let count = number_in(found, &options::COUNT)?;
-    let also = text_in(found, &options::ALSO)?;
+    let seed = text_found(found, &options::SEED)?;
+    let first = number_found(found, &options::FIRST)?;
+    let count = number_found(found, &options::COUNT)?;
+    let also = text_found(found, &options::ALSO)?;
     Some(SoupSet {
         seed,
         first,
@@ -50,7 +50,7 @@ pub fn survey_in<'a>(found: &ArgMatches<'a>) -> Option<Survey<'a>>
 {
     let set = set_in(found)?;
     let profile = profile_in(found)?;
-    let rule = text_in(found, &options::RULE)?;
+    let rule = text_found(found, &options::RULE)?;
     Some(Survey { set, profile, rule })
 }
 
@@ -59,8 +59,8 @@ pub(crate) fn run_in<'a>(found: &ArgMatches<'a>) -> Option<Request<'a>>
     ensures request { result ≡ run_in (rows_of (found_of found.now)) }
     ensures ranges { IfSome result AreInTheirRanges }
 {
-    let generations = number_in(found, &options::GENERATIONS)?;
-    let rule = text_in(found, &options::RULE)?;
+    let generations = number_found(found, &options::GENERATIONS)?;
+    let rule = text_found(found, &options::RULE)?;
     Some(Request::Run {
         generations: generations as u32,
         rule,
@@ -73,7 +73,7 @@ pub(crate) fn name_in<'a>(found: &ArgMatches<'a>) -> Option<Request<'a>>
     ensures ranges { IfSome result AreInTheirRanges }
 {
     let profile = profile_in(found)?;
-    let rule = text_in(found, &options::RULE)?;
+    let rule = text_found(found, &options::RULE)?;
     Some(Request::Name { profile, rule })
 }
 
@@ -81,7 +81,7 @@ pub(crate) fn name_in<'a>(found: &ArgMatches<'a>) -> Option<Request<'a>>
 pub(crate) fn show_in<'a>(found: &ArgMatches<'a>) -> Option<Request<'a>>
     ensures { result ≡ show_in (rows_of (found_of found.now)) }
 {
-    let code = text_in(found, &options::CODE)?;
+    let code = text_found(found, &options::CODE)?;
     Some(Request::Show { code })
 }
 
@@ -90,8 +90,8 @@ pub(crate) fn soup_in<'a>(found: &ArgMatches<'a>) -> Option<Request<'a>>
     ensures request { result ≡ soup_in (rows_of (found_of found.now)) }
     ensures ranges { IfSome result AreInTheirRanges }
 {
-    let number = number_in(found, &options::NUMBER)?;
-    let seed = text_in(found, &options::SEED)?;
+    let number = number_found(found, &options::NUMBER)?;
+    let seed = text_found(found, &options::SEED)?;
     Some(Request::Soup { seed, number })
 }
 
@@ -101,7 +101,7 @@ pub(crate) fn take_in<'a>(found: &ArgMatches<'a>) -> Option<Request<'a>>
     ensures ranges { IfSome result AreInTheirRanges }
 {
     let survey = survey_in(found)?;
-    let workers = number_in(found, &options::WORKERS)?;
+    let workers = number_found(found, &options::WORKERS)?;
     Some(Request::Take {
         survey,
         workers: workers as u8,
@@ -115,7 +115,7 @@ pub(crate) fn work_in<'a>(found: &ArgMatches<'a>) -> Option<Request<'a>>
     ensures ranges { IfSome result AreInTheirRanges }
 {
     let survey = survey_in(found)?;
-    let worker = number_in(found, &options::WORKER)?;
+    let worker = number_found(found, &options::WORKER)?;
     Some(Request::Work {
         survey,
         worker: worker as u8,
@@ -128,7 +128,7 @@ pub(crate) fn gather_in<'a>(found: &ArgMatches<'a>) -> Option<Request<'a>>
     ensures ranges { IfSome result AreInTheirRanges }
 {
     let survey = survey_in(found)?;
-    let reporters = number_in(found, &options::REPORTERS)?;
+    let reporters = number_found(found, &options::REPORTERS)?;
     Some(Request::Gather {
         survey,
         workers: reporters as u8,

@@ -1,7 +1,7 @@
 ghost use Rattle.std.specs.Prelude.{◌≡◌, ◌≤◌, IfSome};
 ghost use Rattle.clap.specs.Words.{found_of, rows_of};
 ghost use Rattle.words.specs.Table.{entry_of};
-ghost use Rattle.words.specs.Values.{IsInRange, is_given, number_in, number_up_to, text_in};
+ghost use Rattle.words.specs.Values.{IsInRange, is_given, number_found, number_up_to, text_found};
 
 use crate::options::{Argument, Kind};
 use crate::word::Word;
@@ -10,8 +10,8 @@ use clap::ArgMatches;
 /// The number that was found for the argument of a row, in its range.
 ///
 /// None if there is none, or if the row is not one of a number.
-pub fn number_in(found: &ArgMatches<'_>, row: &Argument) -> Option<u64>
-    ensures number { result ≡ number_in (entry_of row.now) (rows_of (found_of found.now)) }
+pub fn number_found(found: &ArgMatches<'_>, row: &Argument) -> Option<u64>
+    ensures number { result ≡ number_found (entry_of row.now) (rows_of (found_of found.now)) }
     ensures range { IfSome result (IsInRange row.now.kind) }
 {
     match row.kind {
@@ -40,8 +40,8 @@ fn number_up_to(found: &ArgMatches<'_>, id: &str, most: u64) -> Option<u64>
 }
 
 /// The text that was found for the argument of a row.
-pub fn text_in<'a>(found: &ArgMatches<'a>, row: &Argument) -> Option<Word<'a>>
-    ensures { result ≡ text_in (entry_of row.now) (rows_of (found_of found.now)) }
+pub fn text_found<'a>(found: &ArgMatches<'a>, row: &Argument) -> Option<Word<'a>>
+    ensures { result ≡ text_found (entry_of row.now) (rows_of (found_of found.now)) }
 {
     let text = found.get_str(row.name)?;
     Some(Word::new(text))
