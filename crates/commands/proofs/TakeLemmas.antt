@@ -1,7 +1,7 @@
 -- From the steps of `take` to a right answer.
 use Rattle.std.proofs.Common.{◌≡◌, ◌∙◌, ◌≤◌, ◌⊎◌, ◌↔◌, ℕ, zero, suc, Bool, true, false, cond, inl, inr, nat_eq, nat_le, not, get_or, length}
-use Rattle.std.proofs.Common.{List, [], ◌++◌, map, Option, None, Some, Result, Ok, Err, All, ap, sym, subst, refl, arith}
-use Rattle.std.specs.Prelude.{Contains, IfSome}
+use Rattle.std.proofs.Common.{List, [], ◌++◌, map, Option, Result, Ok, Err, All, ap, sym, subst, refl, arith}
+use Rattle.std.specs.Prelude.{Contains}
 use Rattle.std.proofs.lemmas.Bool.{cases_Bool, leb-false, leb-true}
 use Rattle.std.proofs.lemmas.List.Elements.{All-contains, All-filter, All-map}
 use Rattle.std.specs.List.{IsDistinct}

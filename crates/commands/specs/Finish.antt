@@ -1,5 +1,5 @@
 -- How a haul is finished.
-use Rattle.std.specs.Prelude.{◌≡◌, ℕ, true, false, List, [], Ok, Err, length}
+use Rattle.std.specs.Prelude.{◌≡◌, ℕ, true, false, [], Ok, Err, length}
 use Rattle.haul_core.specs.declared.census.Census.{Census}
 use Rattle.haul_core.specs.Books.{Held}
 use Rattle.haul_core.specs.Censuses.{IsCensus}

@@ -1,5 +1,5 @@
 -- Profiles and counts as fields: where a text is cut, and why nothing else has the field.
-use Rattle.std.proofs.Common.{◌≡◌, ◌∙◌, ◌<◌, ◌≤◌, ◌^◌, ◌++◌, ◌∷◌, ℕ, List, Some, Ok, ap, sym, refl, decimal, arith, length}
+use Rattle.std.proofs.Common.{◌≡◌, ◌∙◌, ◌++◌, ◌∷◌, ℕ, List, Some, Ok, sym, refl, decimal, arith}
 use Rattle.std.proofs.lemmas.Bool.{le-leb}
 use Rattle.std.proofs.lemmas.Fmt.{decimal_injective}
 use Rattle.survey_core.specs.Profiles.{IsProfile, Settling, profile_of}

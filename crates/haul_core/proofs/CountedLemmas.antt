@@ -1,6 +1,6 @@
 -- The counts of a line, one more at a time, and the fault where no count may stand.
-use Rattle.std.proofs.Common.{◌≡◌, ◌≢◌, ◌∙◌, ◌-◌, ◌++◌, ◌⊎◌, ◌∷◌, ℕ, Bool, List, Option, [], Some, None, ap, sym, refl, length, arith, append-nil}
-use Rattle.std.proofs.Common.{append_assoc, codes, decimal, inl, inr, map, subst}
+use Rattle.std.proofs.Common.{◌≡◌, ◌≢◌, ◌∙◌, ◌-◌, ◌++◌, ◌∷◌, ℕ, Bool, List, Option, [], Some, None, ap, sym, refl, length, arith, append-nil}
+use Rattle.std.proofs.Common.{append_assoc, codes, decimal, map, subst}
 use Rattle.std.proofs.lemmas.Fmt.{decimal_injective}
 use Rattle.std.proofs.lemmas.List.{map-append}
 use Rattle.std.proofs.lemmas.List.Elements.{All-push, recursion_from_All}
@@ -8,8 +8,7 @@ use Rattle.std.specs.List.{AllByRecursion}
 use Rattle.haul_core.specs.ClaimSteps.{Follows, HasCounts, HasFront, MayFollow, claimed, head_of, last_code, told_of}
 use Rattle.haul_core.specs.Claims.{BeginClaim, IsClaimLine, IsFirstFaultOf, fields_of}
 use Rattle.haul_core.specs.FieldSteps.{Cuts}
-use Rattle.haul_core.specs.HaulTexts.{line_of}
-use Rattle.haul_core.specs.ReportLines.{Claimed, IsClaim, IsCount, IsFound, IsMark, Told, claim_line, count_field, found_fields, head_fields, mark_field, mark_fields}
+use Rattle.haul_core.specs.ReportLines.{IsCount, IsFound, IsMark, Told, claim_line, count_field, found_fields, head_fields, mark_fields}
 use Rattle.haul_core.specs.declared.front.Front.{Front}
 use Rattle.haul_core.specs.declared.front.Rested.{Rested}
 use Rattle.haul_core.proofs.FaultyLines.{bad_at, follows_more}

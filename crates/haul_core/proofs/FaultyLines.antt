@@ -1,18 +1,18 @@
 -- Where a line stops being that of a claim: a field that may not stand there, or none.
 use Rattle.std.proofs.Common.{◌≡◌, ◌≢◌, ◌∙◌, ◌+◌, ◌-◌, ◌<◌, ◌≤◌, ◌++◌, ◌==◌, ◌⊎◌, ◌∷◌, ℕ, List, Option, [], Some, None, ap, sym, refl, length, arith, append-nil}
-use Rattle.std.proofs.Common.{append_assoc, codes, cond, drop, flat_map, get_or, inl, inr, length-append, rules, subst, take, true, false, Bool}
+use Rattle.std.proofs.Common.{append_assoc, codes, drop, flat_map, get_or, inl, inr, length-append, subst, take, true, false, Bool}
 use Rattle.std.proofs.lemmas.List.{length-take-le, take-append-drop}
 use Rattle.std.proofs.lemmas.Bool.{eqb-true, or_from}
 use Rattle.std.proofs.Math.ListN.{get_or-append}
 use Rattle.std.proofs.Math.Seq.{get_or-append_seam}
-use Rattle.haul_core.specs.ClaimSteps.{Follows, HasFilled, HasHead, IsHead, IsLineOf, claimed, head_of}
-use Rattle.haul_core.specs.Claims.{BeginClaim, IsClaimLine, IsFirstFaultOf, fields_of, followed}
+use Rattle.haul_core.specs.ClaimSteps.{Follows, HasFilled, HasHead, IsLineOf, claimed, head_of}
+use Rattle.haul_core.specs.Claims.{BeginClaim, IsFirstFaultOf, fields_of, followed}
 use Rattle.haul_core.specs.FieldSteps.{Cuts, Lacks}
 use Rattle.haul_core.specs.HaulTexts.{line_of, spaced}
 use Rattle.haul_core.specs.RangeListSteps.{has_byte}
 use Rattle.haul_core.specs.ReportLines.{Claimed, IsClaim, Told, found_fields, head_fields}
 use Rattle.haul_core.specs.declared.front.Front.{Front}
-use Rattle.haul_core.proofs.SpaceLemmas.{claim_line-lined, fields_lack, begin_spaceless, followed-cons, line_of-lined, lined, one_cut}
+use Rattle.haul_core.proofs.SpaceLemmas.{claim_line-lined, fields_lack, begin_spaceless, followed-cons, line_of-lined, one_cut}
 
 -- ---- a field more
 

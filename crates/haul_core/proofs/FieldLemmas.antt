@@ -11,10 +11,10 @@ use Rattle.std.specs.Str.{IsAscii, IsUtf8}
 use Rattle.plane_core.specs.Rules.{IsRule, Numbers, digits, rule_text}
 use Rattle.survey_core.specs.Seeds.{IsSeed, is_invisible, is_visible, seed_read, seed_with_fault}
 use Rattle.survey_core.specs.declared.seed.SeedError.TheVariants.{TooLong}
-use Rattle.haul_core.specs.FieldSteps.{IsNumber, IsSmall, IsState, IsVersion, Lacks, Tells, state_field}
+use Rattle.haul_core.specs.FieldSteps.{IsSmall, IsState, IsVersion, Lacks, Tells, state_field}
 use Rattle.haul_core.specs.ReportLines.{mark_field}
 use Rattle.haul_core.specs.RangeListSteps.{BeginsDecimal, BeginsNoDecimal, has_digit}
-use Rattle.haul_core.proofs.CutLemmas.{Ends, cut}
+use Rattle.haul_core.proofs.CutLemmas.{cut}
 use Rattle.haul_core.proofs.DecimalLemmas.{IsDecimal-decimal}
 use Rattle.haul_core.proofs.FaultLemmas.{first_digit, small_decimal, zero_first}
 

@@ -1,11 +1,11 @@
 -- The head with a field more filled in.
-use Rattle.std.proofs.Common.{◌≡◌, ◌≢◌, ◌∙◌, ◌<◌, ◌^◌, ◌++◌, ◌∷◌, ℕ, List, Option, [], Some, None, ap, sym, refl, codes, decimal, subst}
+use Rattle.std.proofs.Common.{◌≡◌, ◌<◌, ◌^◌, ◌++◌, ◌∷◌, ℕ, List, Option, [], Some, None, ap, sym, codes, decimal}
 use Rattle.plane_core.specs.Rules.{IsRule, Numbers, rule_text}
 use Rattle.survey_core.specs.Profiles.{IsProfile, Settling}
 use Rattle.survey_core.specs.Seeds.{IsSeed}
-use Rattle.haul_core.specs.ClaimSteps.{HasFilled, IsHead, claimed, head_of, told_of}
+use Rattle.haul_core.specs.ClaimSteps.{HasFilled, IsHead, told_of}
 use Rattle.haul_core.specs.FieldSteps.{IsVersion}
-use Rattle.haul_core.specs.ReportLines.{Claimed, IsClaim, IsFound, head_fields, profile_field}
+use Rattle.haul_core.specs.ReportLines.{IsFound, head_fields, profile_field}
 use Rattle.haul_core.specs.Reports.{IsWorker}
 use Rattle.haul_core.specs.declared.front.Front.{Front}
 use Rattle.haul_core.specs.declared.front.Rested.{Rested}

@@ -1,7 +1,7 @@
 -- Jobs are the same exactly if they are equal.
-use Rattle.std.proofs.Common.{◌≡◌, ◌∙◌, ◌-◌, ℕ, Bool, true, List, ◌&&◌, ◌++◌, nat_eq, ap, sym, length, take, replicate, refl}
+use Rattle.std.proofs.Common.{◌≡◌, ◌∙◌, ◌-◌, ℕ, Bool, List, ◌&&◌, ◌++◌, nat_eq, ap, sym, length, take, replicate, refl}
 use Rattle.std.proofs.lemmas.List.{take_at}
-use Rattle.std.specs.Bool.{Decides, beq}
+use Rattle.std.specs.Bool.{Decides}
 use Rattle.std.specs.Cmp.{booleans_Decides}
 use Rattle.std.specs.Cmp.Lexicographic.{pointwise, pointwise_decides}
 use Rattle.std.proofs.lemmas.Bool.Decides.{Decides-and, Decides-eqb, Decides-like, same_from_decides}

@@ -1,6 +1,6 @@
 -- The census of a joined haul has the sums of the two censuses.
 use Rattle.std.proofs.Common.{◌≡◌, ◌∙◌, ◌+◌, ◌++◌, ◌≤◌, ℕ, zero, suc, Bool, true, false, cond, List, [], ◌∷◌, ◌||◌, ◌&&◌}
-use Rattle.std.proofs.Common.{◌⊎◌, Some, ap, sym, subst, refl, arith, drop, filter, get_or, map, nat_le, option_map, sum_by, unwrap_or, inl, inr, zero-add}
+use Rattle.std.proofs.Common.{◌⊎◌, Some, ap, sym, subst, refl, arith, drop, filter, get_or, nat_le, option_map, sum_by, unwrap_or, inl, inr, zero-add}
 use Rattle.std.specs.Cmp.Lexicographic.{slice_cmp}
 use Rattle.std.specs.List.{All, find, list_any}
 use Rattle.std.specs.Ordering.{nat_cmp}

@@ -1,19 +1,19 @@
 -- What a haul keeps, one report at a time.
-use Rattle.std.proofs.Common.{◌≡◌, ◌∙◌, ◌+◌, ◌*◌, ◌-◌, ◌^◌, ◌<◌, ◌≤◌, ℕ, zero, suc, Bool, true, false, cond, nat_eq, nat_le, nat_lt, ◌||◌, List, [], ◌∷◌}
+use Rattle.std.proofs.Common.{◌≡◌, ◌∙◌, ◌+◌, ◌*◌, ◌^◌, ◌<◌, ◌≤◌, ℕ, Bool, true, false, cond, nat_eq, nat_le, nat_lt, ◌||◌, List, [], ◌∷◌}
 use Rattle.std.proofs.Common.{◌++◌, Option, None, Some, ap, sym, subst, refl, arith, inl, inr}
-use Rattle.std.proofs.Common.{◌⊎◌, filter, map, take, length, IfSome, count_by, sum, sum_by, unwrap_or, if◌then◌else◌, add-zero}
+use Rattle.std.proofs.Common.{◌⊎◌, filter, map, take, length, IfSome, unwrap_or, if◌then◌else◌, add-zero}
 use Rattle.std.specs.List.{All, IsDistinct, list_any}
-use Rattle.std.specs.Map.{lookup, values_of}
+use Rattle.std.specs.Map.{lookup}
 use Rattle.std.specs.Cmp.{nat_eq_equiv}
-use Rattle.std.proofs.lemmas.Bool.{cases_Bool, cases_lt, false≢true, le-leb, lt-leb}
-use Rattle.std.proofs.lemmas.List.{append-nil, length-append, length-map, map_push, length_push}
-use Rattle.std.proofs.lemmas.List.Elements.{All-append, All-cons, All-head, All-nil, All-push, All-tail, All-weaker, filter-append}
+use Rattle.std.proofs.lemmas.Bool.{cases_Bool, le-leb}
+use Rattle.std.proofs.lemmas.List.{append-nil, length-map, map_push}
+use Rattle.std.proofs.lemmas.List.Elements.{All-nil, All-push, All-weaker, filter-append}
 use Rattle.std.proofs.lemmas.List.Sums.{count_by-le-length, sum_by-le, sum_by_push}
 use Rattle.std.proofs.lemmas.Map.Entries.{All-lookup}
 use Rattle.std.proofs.lemmas.Map.Keys.{IsDistinct-from_apart, IsDistinct-push}
 use Rattle.std.proofs.lemmas.Map.Steps.{lookup-le-sum}
 use Rattle.survey_core.specs.Findings.{IsFinding, objects_in}
-use Rattle.survey_core.specs.Objects.{AreObjects, count_of, is_code}
+use Rattle.survey_core.specs.Objects.{is_code}
 use Rattle.survey_core.specs.Profiles.{Settling}
 use Rattle.survey_core.specs.Soups.{soup}
 use Rattle.plane_core.specs.Rules.{Numbers}
@@ -27,13 +27,13 @@ use Rattle.haul_core.specs.Jobs.{same_job}
 use Rattle.haul_core.proofs.BookLemmas.{none_holds}
 use Rattle.haul_core.proofs.JobLemmas.{jobs_decide}
 use Rattle.haul_core.specs.Books.{Held, Terms, entry}
-use Rattle.haul_core.specs.Keeping.{AreSums, Keeps, Sums, numbers_in, tally_of}
+use Rattle.haul_core.specs.Keeping.{Keeps, Sums, numbers_in, tally_of}
 use Rattle.haul_core.specs.Ranges.{AreBelow, AreNormal, is_in, number_bound, size_of}
 use Rattle.haul_core.specs.declared.range.Range.{Range}
 use Rattle.haul_core.specs.Reports.{IsReport, IsWorker, Reported}
 use Rattle.haul_core.specs.Samples.{ascending, least_three, with_number}
 use Rattle.haul_core.specs.Tallies.{Extends, HasLawfulObjects, added, found_in, tally_in}
-use Rattle.haul_core.specs.Totals.{AreSurveys, Survey, count_in, for_good, has_object, is_for_good, is_unsettled, samples, total, unsettled}
+use Rattle.haul_core.specs.Totals.{Survey, count_in, has_object, is_for_good, is_unsettled, samples, total}
 use Rattle.haul_core.proofs.SampleLemmas.{ascending_push, take_with}
 use Rattle.haul_core.proofs.TallyLemmas.{tally-Extends}
 

@@ -1,5 +1,5 @@
 -- No line is that of two claims.
-use Rattle.std.proofs.Common.{◌≡◌, ◌≢◌, ◌∙◌, ◌<◌, ◌^◌, ◌++◌, ◌∷◌, ℕ, Bool, List, Option, [], Some, None, Ok, ap, sym, refl, arith, codes, decimal, get_or, map, subst, true, false, ◌==◌}
+use Rattle.std.proofs.Common.{◌≡◌, ◌∙◌, ◌++◌, ◌∷◌, ℕ, Bool, List, Option, [], Some, None, Ok, ap, sym, refl, arith, codes, decimal, get_or, map, subst, true, false, ◌==◌}
 use Rattle.std.proofs.lemmas.Fmt.{decimal_injective}
 use Rattle.std.proofs.lemmas.List.{append_cancel_left}
 use Rattle.std.proofs.lemmas.List.Elements.{recursion_from_All}
@@ -7,7 +7,6 @@ use Rattle.std.specs.List.{AllByRecursion}
 use Rattle.plane_core.proofs.RuleReading.{rule_read-rule_text}
 use Rattle.plane_core.specs.Rules.{IsRule, Numbers, rule_read, rule_text}
 use Rattle.survey_core.specs.Profiles.{IsProfile, Settling}
-use Rattle.survey_core.specs.declared.job.Job.{Job}
 use Rattle.haul_core.specs.Claims.{fields_of}
 use Rattle.haul_core.specs.FieldSteps.{numbers_text}
 use Rattle.haul_core.specs.ReportLines.{Claimed, IsClaim, IsCount, IsFound, IsMark, Told, claim_line, count_field, found_fields, head_fields, mark_field, mark_fields, profile_field}

@@ -1,11 +1,11 @@
 -- What is taken of a worker is a part of what it offered.
-use Rattle.std.proofs.Common.{◌≡◌, ◌∙◌, ◌&&◌, ◌≤◌, ◌+◌, ◌⊎◌, ℕ, Bool, true, false, cond, not, nat_eq, nat_le, List, [], ◌∷◌, All}
+use Rattle.std.proofs.Common.{◌≡◌, ◌∙◌, ◌&&◌, ◌≤◌, ◌⊎◌, ℕ, Bool, true, false, cond, not, nat_eq, nat_le, List, [], ◌∷◌, All}
 use Rattle.std.proofs.Common.{ap, sym, subst, refl, inl, inr, arith, filter, map, count_by, ⊎_elim}
 use Rattle.std.proofs.lemmas.Bool.{cases_Bool, eqb-true, false≢true}
 use Rattle.std.proofs.lemmas.List.Elements.{All-cons, All-filter, All-head, All-map, All-tail, All-weaker, filter_passes}
 use Rattle.haul_core.specs.declared.arrival.Arrival.{Arrival}
-use Rattle.haul_core.specs.BookLaws.{IsSubsequence, IsTakenOf, of_worker}
-use Rattle.haul_core.specs.Books.{Terms, eligible, entry, first_of_each, has_number, is_lawful, offered, taken_of}
+use Rattle.haul_core.specs.BookLaws.{IsSubsequence, IsTakenOf}
+use Rattle.haul_core.specs.Books.{Terms, eligible, entry, first_of_each, has_number, is_lawful, offered}
 use Rattle.haul_core.specs.Jobs.{same_job}
 use Rattle.haul_core.specs.Keeping.{numbers_in}
 use Rattle.haul_core.specs.Ranges.{is_in}

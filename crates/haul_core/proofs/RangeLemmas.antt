@@ -5,14 +5,13 @@ use Rattle.std.proofs.lemmas.Bool.{and_from, and_parts, cases_Bool, cases_lt, fa
 use Rattle.std.proofs.lemmas.Bool.Decides.{nat_tests}
 use Rattle.std.proofs.lemmas.List.{append_assoc, drop_all, drop_more}
 use Rattle.std.proofs.lemmas.List.Elements.{All-cons, All-filter, All-head, All-nil, All-push, All-tail, All-weaker, filter_passes}
-use Rattle.std.proofs.lemmas.List.Folds.{list_any-append}
 use Rattle.std.proofs.lemmas.List.Sorted.{All-permutation, IsNonDecreasingBy-drop, list_any-IsPermutation, sum_by-IsPermutation}
 use Rattle.std.proofs.lemmas.List.Sums.{count_by_more_no, count_by_more_yes, sum_by-cons, sum_by-take-le}
 use Rattle.std.specs.List.{All, filter, list_any}
 use Rattle.std.specs.List.Sorted.{IsNonDecreasingBy, IsPermutation}
 use Rattle.haul_core.specs.declared.range.Range.{Range}
 use Rattle.haul_core.specs.RangeSteps.{Ascending, BeginFrom, has_numbers}
-use Rattle.haul_core.specs.Ranges.{AreBelow, AreNormal, BeginAfter, IsNormalForm, Overlap, end_of, is_in, is_in_range, number_bound, shares, size_of}
+use Rattle.haul_core.specs.Ranges.{AreBelow, AreNormal, IsNormalForm, Overlap, end_of, is_in, is_in_range, number_bound, shares, size_of}
 
 pub in_range : (n : ℕ) (r : Range) → r.first ≤ n → n < end_of r → is_in_range n r ≡ true
 in_range n r low high = and_from _ _ (le-leb r.first n low) (lt-ltb n (end_of r) high)

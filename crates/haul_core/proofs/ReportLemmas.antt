@@ -1,5 +1,5 @@
 -- The line of a report, written a piece after another.
-use Rattle.std.proofs.Common.{◌≡◌, ◌∙◌, ℕ, Bool, List, [], ◌∷◌, ◌++◌, None, Some, ap, sym, arith, append_assoc, codes, decimal, flat_map, map, refl}
+use Rattle.std.proofs.Common.{◌≡◌, ◌∙◌, ℕ, Bool, List, [], ◌++◌, None, Some, ap, sym, arith, append_assoc, codes, decimal, flat_map, map, refl}
 use Rattle.std.proofs.lemmas.Fmt.{decimal_digit}
 use Rattle.std.proofs.lemmas.Grind.{flat_map-append}
 use Rattle.std.proofs.lemmas.List.{append-nil}
@@ -7,7 +7,7 @@ use Rattle.std.proofs.lemmas.List.Folds.{flat_map-map}
 use Rattle.plane_core.specs.Rules.{rule_text}
 use Rattle.survey_core.specs.Profiles.{Settling}
 use Rattle.haul_core.specs.HaulTexts.{line_of, spaced}
-use Rattle.haul_core.specs.ReportLines.{Told, claim_of, count_field, found_fields, claim_line, head_fields, mark_fields, profile_field, report_text, told_in}
+use Rattle.haul_core.specs.ReportLines.{claim_of, count_field, found_fields, claim_line, head_fields, mark_fields, profile_field, report_text, told_in}
 use Rattle.haul_core.specs.Reports.{Reported}
 
 -- ---- the profile

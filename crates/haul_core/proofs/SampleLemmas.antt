@@ -1,10 +1,10 @@
 -- The least three of some numbers, kept while numbers come.
-use Rattle.std.proofs.Common.{◌≡◌, ◌∙◌, ◌+◌, ◌<◌, ◌≤◌, ℕ, zero, suc, Bool, true, false, cond, nat_le, List, []}
+use Rattle.std.proofs.Common.{◌≡◌, ◌∙◌, ◌+◌, ◌<◌, ◌≤◌, ℕ, zero, suc, Bool, cond, List, []}
 use Rattle.std.proofs.Common.{◌∷◌, ◌++◌, ap, sym, subst, refl, arith, length, take, drop, get_or, set, inl, inr, ◌⊎◌, add-zero}
 use Rattle.std.proofs.lemmas.Bool.{cases_lt, cases_order, le-leb, lt-leb}
-use Rattle.std.proofs.lemmas.List.{append_assoc, drop-drop, drop-set-lt, drop_all, drop_more, get_or-drop}
+use Rattle.std.proofs.lemmas.List.{append_assoc, drop-drop, drop-set-lt, drop_more, get_or-drop}
 use Rattle.std.proofs.lemmas.List.{get_or-take, length-set, length-take-le, take-take, take_more, take_more_set}
-use Rattle.haul_core.specs.Samples.{IsAscending, ascending, least_three, with_number}
+use Rattle.haul_core.specs.Samples.{IsAscending, ascending, with_number}
 
 pub with_least : (n x : ℕ) (more : List ℕ) → n ≤ x → with_number n (x ∷ more) ≡ n ∷ x ∷ more
 with_least n x more h = ap (λ (b : Bool). cond b (n ∷ x ∷ more) (x ∷ with_number n more)) (le-leb n x h)

@@ -1,16 +1,15 @@
 -- A text is cut at a byte in one way, and no field of a lawful claim has a space in it.
-use Rattle.std.proofs.Common.{◌≡◌, ◌≢◌, ◌∙◌, ◌+◌, ◌<◌, ◌≤◌, ◌^◌, ◌++◌, ◌==◌, ◌||◌, ◌&&◌, ◌⊎◌, ◌∷◌, ℕ, Bool, true, false, List, [], ap, sym, refl, decimal, length, arith, append-nil}
+use Rattle.std.proofs.Common.{◌≡◌, ◌≢◌, ◌∙◌, ◌+◌, ◌<◌, ◌≤◌, ◌^◌, ◌++◌, ◌==◌, ◌&&◌, ◌⊎◌, ◌∷◌, ℕ, Bool, true, false, List, [], ap, sym, refl, decimal, length, arith}
 use Rattle.std.proofs.Common.{codes, inl, inr, Option, nat_le, None, Some, append_assoc, map, flat_map, rules, subst}
 use Rattle.std.proofs.lemmas.Bool.{eqb-false, leb-true, ne_eqb, or_from, or_parts}
-use Rattle.std.proofs.lemmas.List.{append_cancel_left}
 use Rattle.std.proofs.lemmas.List.Elements.{recursion_from_All}
 use Rattle.std.proofs.lemmas.List.Folds.{list_any-append}
 use Rattle.std.specs.Char.{is_ascii_digit}
-use Rattle.std.specs.List.{AllByRecursion, list_all, list_any}
+use Rattle.std.specs.List.{AllByRecursion, list_all}
 use Rattle.std.specs.Str.{all_ascii_digits}
 use Rattle.code_core.specs.Apgcodes.{is_code_byte}
 use Rattle.code_core.specs.Tokens.{is_character}
-use Rattle.plane_core.specs.Rules.{IsRule, Numbers, digits, rule_text}
+use Rattle.plane_core.specs.Rules.{Numbers, digits, rule_text}
 use Rattle.survey_core.specs.Profiles.{IsProfile, Settling}
 use Rattle.survey_core.specs.Seeds.{is_visible}
 use Rattle.haul_core.specs.Claims.{BeginClaim, IsBadField, IsClaimLine, IsFirstFaultOf, fields_of, followed}

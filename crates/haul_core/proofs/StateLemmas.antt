@@ -1,16 +1,16 @@
 -- What a line says of the soup: that it didn't settle, or when it did, and in version 2 the mark.
 use Rattle.std.proofs.Common.{◌≡◌, ◌≢◌, ◌∙◌, ◌==◌, ◌-◌, ◌≤◌, ◌++◌, ◌⊎◌, ◌∷◌, ℕ, Bool, List, Option, [], Some, None, ap, sym, refl, length, arith, append-nil}
-use Rattle.std.proofs.Common.{append_assoc, codes, decimal, get_or, inl, inr, length-append, map, subst, take, true, false}
+use Rattle.std.proofs.Common.{append_assoc, codes, decimal, get_or, inl, inr, map, subst, take, true, false}
 use Rattle.std.proofs.lemmas.Fmt.{decimal_injective}
 use Rattle.std.proofs.lemmas.List.Elements.{All-nil}
 use Rattle.std.specs.List.Sorted.{IsStrictlySortedBy}
 use Rattle.haul_core.specs.ClaimSteps.{Follows, HasFront, HasHead, IsHead, claimed, head_of, told_of}
 use Rattle.haul_core.specs.Claims.{BeginClaim, IsFirstFaultOf, fields_of}
-use Rattle.haul_core.specs.FieldSteps.{Cuts, IsAnyMark, IsState, Tells, state_field}
+use Rattle.haul_core.specs.FieldSteps.{Cuts, IsAnyMark, IsState, state_field}
 use Rattle.haul_core.specs.ReportLines.{Claimed, IsClaim, IsCount, IsFound, IsMark, Told, count_field, found_fields, head_fields, mark_field, mark_fields}
 use Rattle.haul_core.specs.declared.front.Front.{Front}
 use Rattle.haul_core.specs.declared.front.Rested.{Rested}
-use Rattle.haul_core.proofs.FaultyLines.{bad_at, begin_head, follows_more, head_lacks, lacks_at, over_at}
+use Rattle.haul_core.proofs.FaultyLines.{bad_at, begin_head, follows_more, lacks_at, over_at}
 use Rattle.haul_core.proofs.SpaceLemmas.{version_small}
 
 whole_head : (claim : Claimed) → take 7 (head_of claim) ≡ head_of claim

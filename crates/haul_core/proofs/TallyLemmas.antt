@@ -1,5 +1,5 @@
 -- Rows of codes: how they are found and changed, and that rows with nothing in them change no total.
-use Rattle.std.proofs.Common.{◌≡◌, ◌≢◌, ◌∙◌, ◌+◌, ◌<◌, ◌≤◌, ◌^◌, ℕ, zero, suc, Bool, true, false, cond, List, [], ◌∷◌, ◌++◌, Option, None}
+use Rattle.std.proofs.Common.{◌≡◌, ◌≢◌, ◌∙◌, ◌+◌, ◌<◌, ℕ, zero, suc, Bool, true, false, cond, List, [], ◌∷◌, ◌++◌, Option, None}
 use Rattle.std.proofs.Common.{Some, IsSome, ap, sym, subst, refl, arith, inl, inr, length}
 use Rattle.std.proofs.Common.{take, get_or, nat_eq, unwrap_or, is_some, ◌⊎◌, Result, Ok, Err, is_ok}
 use Rattle.std.specs.Result.{OnOk}
@@ -10,7 +10,7 @@ use Rattle.std.specs.List.{All, position}
 use Rattle.std.specs.Map.{keys_of, lookup}
 use Rattle.std.specs.Option.{option_or}
 use Rattle.std.proofs.lemmas.Bool.{cases_Bool, false≢true, false_from_ne_true}
-use Rattle.std.proofs.lemmas.List.{append_assoc, append-nil, get_or-map, get_or-take, get_or_default, length-map, length-take-le, take_at, take_more}
+use Rattle.std.proofs.lemmas.List.{append_assoc, get_or-map, get_or-take, get_or_default, length-map, length-take-le, take_more}
 use Rattle.std.proofs.lemmas.List.Quantifiers.{position-Some}
 use Rattle.std.proofs.lemmas.List.Elements.{All-append, All-cons, All-head, All-more, All-nil, All-tail, All-weaker}
 use Rattle.std.proofs.lemmas.Map.Keys.{Less-from_sorted}

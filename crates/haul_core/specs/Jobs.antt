@@ -1,5 +1,5 @@
 -- When two jobs are the same.
-use Rattle.std.specs.Prelude.{◌==◌, ◌&&◌, ℕ, Bool, List, nat_eq}
+use Rattle.std.specs.Prelude.{◌==◌, ◌&&◌, Bool, nat_eq}
 use Rattle.std.specs.Bool.{beq}
 use Rattle.std.specs.Cmp.Lexicographic.{pointwise}
 use Rattle.plane_core.specs.Rules.{Numbers}

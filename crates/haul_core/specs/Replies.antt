@@ -2,7 +2,7 @@
 use Rattle.std.specs.Prelude.{◌≡◌, ◌≢◌, ◌++◌, ◌⊎◌, ℕ, List, [], ◌∷◌, Option, None, Some, Result, Ok, Err, map, not, nat_eq, nat_lt, if◌then◌else◌}
 use Rattle.std.specs.Map.{lookup}
 use Rattle.haul_core.specs.declared.refusal.Refusal.{Refusal}
-use Rattle.haul_core.specs.declared.refusal.Refusal.TheVariants.{Closed, Double, Memory, OtherJob, OutOfRange, UnknownWorker}
+use Rattle.haul_core.specs.declared.refusal.Refusal.TheVariants.{Closed, Memory, OtherJob, OutOfRange, UnknownWorker}
 use Rattle.haul_core.specs.declared.refusal.Refused.{Refused}
 use Rattle.haul_core.specs.Books.{Held, StandsFor, Terms, double, refusal_of}
 use Rattle.haul_core.specs.declared.arrival.Arrival.{Arrival}

@@ -1,5 +1,5 @@
 -- Totals over surveyed soups: how many objects of a code they left, and which soups are samples of it.
-use Rattle.std.specs.Prelude.{◌≡◌, ◌+◌, ◌≤◌, ℕ, Bool, true, false, List, count_by, filter, map, nat_le, sum_by}
+use Rattle.std.specs.Prelude.{◌≡◌, ℕ, Bool, true, false, List, count_by, filter, map, nat_le, sum_by}
 use Rattle.std.specs.List.{All}
 use Rattle.survey_core.specs.Findings.{IsFinding}
 use Rattle.survey_core.specs.Objects.{count_of}

@@ -1,4 +1,4 @@
-use Rattle.std.proofs.Common.{List, sym, subst, false}
+use Rattle.std.proofs.Common.{List, sym, subst}
 use Rattle.std.proofs.KnownBytes.{Appends-nil}
 use Rattle.haul_core.specs.declared.range.Range.{Range}
 use Rattle.commands.specs.Streams.{stream}

@@ -1,4 +1,4 @@
-use Rattle.std.proofs.Common.{◌≡◌, ◌∙◌, ◌++◌, ◌∷◌, [], ap, sym, subst, List, Some}
+use Rattle.std.proofs.Common.{◌∙◌, ◌++◌, ◌∷◌, [], ap, sym, subst, Some}
 use Rattle.haul_core.specs.Books.{StandsFor, reply_for, reply_to}
 use Rattle.haul_core.specs.Replies.{IsTakenNext}
 use Rattle.haul_core.specs.declared.arrival.Arrival.{Arrival}

@@ -1,9 +1,8 @@
-use Rattle.std.proofs.Common.{◌≡◌, ◌∙◌, ◌++◌, ◌∷◌, [], ap, sym, subst, List, inr, arith}
+use Rattle.std.proofs.Common.{◌≡◌, ◌∙◌, ◌++◌, ◌∷◌, [], ap, sym, subst, List, arith}
 use Rattle.std.proofs.lemmas.List.{append_assoc}
 use Rattle.std.specs.Vec.Iter.{into_iter_items}
 use Rattle.haul_core.specs.declared.arrival.Arrival.{Arrival}
-use Rattle.haul_core.specs.declared.arrival.Reply.{Reply}
-use Rattle.haul_core.specs.Books.{Held, StandsFor, Terms, replies_to, reply_to}
+use Rattle.haul_core.specs.Books.{StandsFor, Terms, reply_to}
 use Rattle.haul_core.proofs.BookLemmas.{pushed, replies_push, stopped_at, taken_front}
 use Rattle.haul_core.proofs.book.keep_book.Goals as goal
 

@@ -1,5 +1,4 @@
-use Rattle.std.proofs.Common.{◌≡◌, ◌∙◌, ap, ◌^◌, ◌<◌, ℕ, List, Some, true, arith, codes, decimal, option_map, subst, sym, []}
-use Rattle.std.proofs.lemmas.Fmt.{decimal_injective}
+use Rattle.std.proofs.Common.{◌≡◌, ◌∙◌, ap, true, arith, option_map, subst, sym, []}
 use Rattle.code_core.specs.Apgcodes.{HasCodeShape}
 use Rattle.haul_core.specs.FieldSteps.{Cuts}
 use Rattle.haul_core.proofs.CountLemmas.{same_count}

@@ -1,4 +1,4 @@
-use Rattle.std.proofs.Common.{Some, arith, option_map, refl, subst, sym, decimal, ◌∙◌}
+use Rattle.std.proofs.Common.{arith, option_map, refl, subst, sym, decimal, ◌∙◌}
 use Rattle.haul_core.specs.FieldSteps.{Cuts}
 use Rattle.haul_core.proofs.SpaceLemmas.{cut_once, decimal_lacks}
 use Rattle.haul_core.proofs.field.first_number.Goals as goal

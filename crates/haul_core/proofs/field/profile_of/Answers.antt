@@ -1,5 +1,5 @@
-use Rattle.std.proofs.Common.{◌≡◌, ◌∙◌, ◌++◌, ◌∷◌, Ok, Err, [], ap, arith, decimal, sym}
-use Rattle.survey_core.specs.Profiles.{IsProfile, Settling, profile_of}
+use Rattle.std.proofs.Common.{◌≡◌, ◌∙◌, ◌++◌, ◌∷◌, [], ap, arith, decimal, sym}
+use Rattle.survey_core.specs.Profiles.{profile_of}
 use Rattle.haul_core.proofs.CountLemmas.{are_small, profile_accepted, same_first}
 use Rattle.haul_core.proofs.FieldLemmas.{one_number}
 use Rattle.haul_core.proofs.field.profile_of.Goals as goal

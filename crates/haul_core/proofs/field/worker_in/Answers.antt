@@ -1,4 +1,4 @@
-use Rattle.std.proofs.Common.{◌≡◌, ◌∙◌, arith, codes, sym}
+use Rattle.std.proofs.Common.{◌≡◌, arith, codes}
 use Rattle.haul_core.proofs.FieldLemmas.{not_from_to, one_number}
 use Rattle.haul_core.proofs.field.worker_in.Goals as goal
 

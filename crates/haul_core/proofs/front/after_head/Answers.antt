@@ -1,4 +1,4 @@
-use Rattle.std.proofs.Common.{◌∙◌, ap, arith, codes, decimal, ◌++◌, option_map, subst, sym}
+use Rattle.std.proofs.Common.{◌∙◌, ap, arith, codes, decimal, ◌++◌, option_map, subst}
 use Rattle.haul_core.specs.ClaimSteps.{HasHead}
 use Rattle.haul_core.specs.FieldSteps.{state_field}
 use Rattle.haul_core.proofs.FaultyLines.{head_lacks}

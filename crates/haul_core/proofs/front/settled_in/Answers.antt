@@ -1,5 +1,5 @@
-use Rattle.std.proofs.Common.{◌++◌, ◌∷◌, Some, None, [], codes, decimal, option_map, subst, sym}
-use Rattle.haul_core.specs.ClaimSteps.{Follows, HasHead, claimed, head_of}
+use Rattle.std.proofs.Common.{◌++◌, ◌∷◌, [], codes, decimal, option_map, subst}
+use Rattle.haul_core.specs.ClaimSteps.{Follows, claimed, head_of}
 use Rattle.haul_core.proofs.StateLemmas.{mark_bad, mark_lacks, settled_first, settled_second}
 use Rattle.haul_core.proofs.front.settled_in.Goals as goal
 

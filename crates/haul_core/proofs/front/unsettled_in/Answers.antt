@@ -1,4 +1,4 @@
-use Rattle.std.proofs.Common.{◌++◌, ◌∷◌, Some, None, [], codes, option_map, subst}
+use Rattle.std.proofs.Common.{◌++◌, ◌∷◌, [], codes, option_map, subst}
 use Rattle.haul_core.specs.ClaimSteps.{Follows, claimed, head_of}
 use Rattle.haul_core.proofs.StateLemmas.{unsettled_front, unsettled_over}
 use Rattle.haul_core.proofs.front.unsettled_in.Goals as goal

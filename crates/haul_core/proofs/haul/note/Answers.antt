@@ -1,4 +1,4 @@
-use Rattle.std.proofs.Common.{◌≡◌, ◌∙◌, nat_eq, ◌++◌, ◌∷◌, []}
+use Rattle.std.proofs.Common.{◌∙◌, nat_eq}
 use Rattle.indexmap.proofs.CallerLemmas.{insert_entry-new}
 use Rattle.haul_core.proofs.TallyLemmas.{on_ok_at}
 use Rattle.haul_core.proofs.haul.note.Goals as goal

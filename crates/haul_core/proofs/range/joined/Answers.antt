@@ -1,6 +1,5 @@
-use Rattle.std.proofs.Common.{◌≡◌, ◌∙◌, ◌+◌, ◌≤◌, sym, subst, arith, drop, get_or, ◌∷◌, List, ◌++◌, []}
+use Rattle.std.proofs.Common.{sym, subst, arith, List}
 use Rattle.haul_core.specs.declared.range.Range.{Range}
-use Rattle.haul_core.specs.Ranges.{end_of, number_bound}
 use Rattle.haul_core.proofs.RangeLemmas.{Joining, all_joined, gap_at, latest_below, next_below_at, start_from, touch_at}
 use Rattle.haul_core.proofs.range.joined.Goals as goal
 use Rattle.haul_core.proofs.range.joined.Goals.{then-latest-range, else-latest-range+in_ok-push}

@@ -1,7 +1,7 @@
-use Rattle.std.proofs.Common.{◌∙◌, ◌≤◌, sym, subst, refl, ap, arith, ℕ, count_by}
+use Rattle.std.proofs.Common.{◌∙◌, ◌≤◌, sym, subst, refl, arith, count_by}
 use Rattle.std.proofs.lemmas.Bool.{false≢true}
 use Rattle.std.proofs.lemmas.List.{take_all}
-use Rattle.haul_core.specs.Ranges.{Overlap, is_in_range}
+use Rattle.haul_core.specs.Ranges.{is_in_range}
 use Rattle.haul_core.proofs.RangeLemmas.{overlap_met, unmet_more}
 use Rattle.haul_core.proofs.range.overlap.Goals as goal
 

@@ -1,4 +1,4 @@
-use Rattle.std.proofs.Common.{arith, length, ◌≤◌, ◌≡◌}
+use Rattle.std.proofs.Common.{arith, length, ◌≤◌}
 use Rattle.haul_core.proofs.SampleLemmas.{putting_high, putting_low}
 use Rattle.haul_core.proofs.samples.put.Goals as goal
 use Rattle.haul_core.proofs.samples.put.Goals.{then-left-kept, else-left-kept}

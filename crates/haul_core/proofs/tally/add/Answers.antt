@@ -1,4 +1,4 @@
-use Rattle.std.proofs.Common.{◌≡◌, ◌≢◌, ◌∙◌, ◌+◌, ◌<◌, ◌≤◌, ◌^◌, ℕ, List, Some, ap, sym, subst, arith, get_or}
+use Rattle.std.proofs.Common.{◌≡◌, ◌≢◌, ℕ, List, Some, ap, sym, subst, arith}
 use Rattle.haul_core.specs.Tallies.{HasRow, added, tally_in}
 use Rattle.haul_core.proofs.TallyLemmas.{adding_more, adding_next}
 use Rattle.haul_core.proofs.tally.add.Goals as goal

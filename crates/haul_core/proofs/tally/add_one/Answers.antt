@@ -1,7 +1,6 @@
 use Rattle.std.proofs.Common.{◌≡◌, ◌∙◌, sym, cond, List, ℕ, Some, nat_eq}
 use Rattle.std.specs.Cmp.Lexicographic.{pointwise}
 use Rattle.indexmap.specs.IndexMap.{set_value_at}
-use Rattle.haul_core.specs.declared.tally.Tally.{Tally}
 use Rattle.haul_core.specs.Tallies.{added, row_of, tally_in}
 use Rattle.haul_core.proofs.TallyLemmas.{at_code, at_others, rows_stay, tally_written}
 use Rattle.haul_core.proofs.tally.add_one.Goals as goal

@@ -1,5 +1,4 @@
-use Rattle.std.proofs.Common.{◌≡◌, ◌∙◌, ℕ, List, Result, Ok, Err, is_ok, true, sym, subst, false}
-use Rattle.std.specs.Result.{OnOk}
+use Rattle.std.proofs.Common.{◌∙◌, ℕ, List, sym, subst}
 use Rattle.haul_core.specs.Tallies.{HasRow}
 use Rattle.haul_core.proofs.TallyLemmas.{Extends-then, on_ok_at, rows_more}
 use Rattle.haul_core.proofs.tally.make_rows.Goals as goal

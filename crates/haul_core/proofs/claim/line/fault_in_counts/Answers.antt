@@ -1,4 +1,4 @@
-use Rattle.std.proofs.Common.{ℕ, List, ◌++◌, ◌∷◌, Some, [], option_map, subst, sym}
+use Rattle.std.proofs.Common.{ℕ, List, ◌++◌, ◌∷◌, [], option_map, subst, sym}
 use Rattle.haul_core.specs.Claims.{IsFirstFaultOf}
 use Rattle.haul_core.specs.ClaimSteps.{HasCounts}
 use Rattle.haul_core.proofs.CountedLemmas.{counted_bad, counted_claim, counted_first, counted_more}

@@ -1,5 +1,5 @@
 use Rattle.std.proofs.Common.{ℕ, List, ◌≡◌, ◌∙◌, ◌++◌, ◌∷◌, Some, [], ap, option_map, rules, subst, sym}
-use Rattle.haul_core.specs.ClaimSteps.{HasCounts, claimed}
+use Rattle.haul_core.specs.ClaimSteps.{HasCounts}
 use Rattle.haul_core.specs.ReportLines.{claim_line}
 use Rattle.haul_core.proofs.CountedLemmas.{counted_bad, counted_end, counted_more}
 use Rattle.haul_core.proofs.SpaceLemmas.{no_claim}

@@ -1,4 +1,4 @@
-use Rattle.std.proofs.Common.{◌≡◌, ◌∙◌, ◌+◌, ◌≤◌, ◌^◌, ◌<◌, ap, refl, sym, subst, arith, length, List, sum_by}
+use Rattle.std.proofs.Common.{◌≡◌, ◌∙◌, ◌^◌, ◌<◌, ap, refl, sym, subst, arith, length, List, sum_by}
 use Rattle.std.proofs.lemmas.List.{length-map}
 use Rattle.haul_core.specs.declared.census.Census.{Census}
 use Rattle.haul_core.specs.declared.row.Row.{Row}

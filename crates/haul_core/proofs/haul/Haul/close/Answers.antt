@@ -1,4 +1,4 @@
-use Rattle.std.proofs.Common.{◌∙◌, ap, sym, subst, List, true, ◌++◌, ◌∷◌, [], Bool}
+use Rattle.std.proofs.Common.{◌∙◌, ap, sym, subst, ◌++◌, ◌∷◌, [], Bool}
 use Rattle.haul_core.specs.Books.{Held, StandsFor}
 use Rattle.haul_core.specs.declared.arrival.Arrival.TheVariants.{Closing}
 use Rattle.haul_core.proofs.BookLemmas.{stands_closed}

@@ -1,11 +1,11 @@
-use Rattle.std.proofs.Common.{◌≡◌, ◌∙◌, ◌+◌, ◌<◌, ◌≤◌, ◌^◌, ◌++◌, ◌∷◌, [], ℕ, List, None, Some, ap, refl, sym, subst, inl, inr, arith, length, if◌then◌else◌}
+use Rattle.std.proofs.Common.{◌≡◌, ◌∙◌, ◌+◌, ◌++◌, ◌∷◌, [], ℕ, List, None, ap, refl, sym, subst, inl, inr, arith, length, if◌then◌else◌}
 use Rattle.haul_core.specs.Replies.{refusal_at}
 use Rattle.haul_core.specs.Books.{Held, StandsFor, Terms, entry}
 use Rattle.haul_core.specs.Tallies.{added, found_in, tally_in}
 use Rattle.haul_core.specs.Totals.{is_for_good, is_unsettled}
 use Rattle.haul_core.specs.declared.arrival.Arrival.TheVariants.{Offer}
 use Rattle.std.proofs.lemmas.List.{length_push}
-use Rattle.haul_core.specs.Keeping.{Keeps, Sums}
+use Rattle.haul_core.specs.Keeping.{Sums}
 use Rattle.haul_core.proofs.BookLemmas.{same_refusal, stands_refused, stands_taken}
 use Rattle.haul_core.proofs.KeepLemmas.{HasRoom, has_room, lawful_of, keeps_mid, keeps_more, keeps_noted}
 use Rattle.haul_core.proofs.haul.Haul.offer.Goals as goal
