@@ -14,6 +14,7 @@ from html import unescape
 from pathlib import Path
 from typing import IO
 
+from haul.check import differences, taken_again
 from haul.page import page_of
 from haul.program import Census, pieces, set_words
 from haul.text import BadHaul, Haul, Job, read_one_haul, text_of
