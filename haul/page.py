@@ -148,6 +148,8 @@ differ by definition.</p>
 
 
 def row(haul: Haul, code: str, drawing: str | None, paths: dict[int, str]) -> str:
+    """An object's row. Its samples are there for whoever runs no script; else the script makes them when the row comes into sight,
+    since a browser takes long to make thirty thousand of them at once."""
     total, objects = haul.totals[code], haul.objects()
     name = NAMES.get(code, "")
     if drawing is None:
@@ -158,7 +160,7 @@ def row(haul: Haul, code: str, drawing: str | None, paths: dict[int, str]) -> st
     samples = "".join(sample(haul.job, number, paths[number]) for number in haul.samples[code])
     return (
         f"<tr><td>{image}</td><td>{linked(code, haul.job.rule)}</td><td>{escape(name)}</td><td>{kind_words(code)}</td>"
-        f"<td>{cells}</td><td>{total:,}</td><td>1 in {once:,}</td><td>{samples}</td></tr>\n"
+        f"<td>{cells}</td><td>{total:,}</td><td>1 in {once:,}</td><td><noscript>{samples}</noscript></td></tr>\n"
     )
 
 

@@ -47,6 +47,16 @@ SCRIPT = """
 {
   const table = document.getElementById('objects'), body = table.tBodies[0], heads = [...table.tHead.rows[0].cells];
   const text = (row, column) => row.cells[column].textContent;
+  // Sample soups are a text until their row comes into sight, or all is printed.
+  const unfold = row => {
+    const kept = row.cells[7].querySelector('noscript');
+    if (kept) row.cells[7].innerHTML = kept.textContent;
+  };
+  const sight = new IntersectionObserver(entries => {
+    for (const entry of entries) if (entry.isIntersecting) { unfold(entry.target); sight.unobserve(entry.target); }
+  }, { rootMargin: '800px' });
+  for (const row of body.rows) sight.observe(row);
+  addEventListener('beforeprint', () => [...body.rows].forEach(unfold));
   // 'Cells', 'Total' and 'One in' are numbers; rare objects have the largest 'One in'.
   const isNumber = column => column >= 4 && column <= 6;
   const number = said => Number(said.replace(/^1 in /, '').replace(/,/g, ''));
