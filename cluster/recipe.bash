@@ -3,9 +3,11 @@
 # these are of.
 #
 # A recipe sets `here` to the folder that it stands in, loads this file, and then calls `read_folder`, `read_words` and
-# `keep_job`.
+# `keep_job`, and for Slurm `read_array` between them.
 
 census=${CENSUS:-$here/../bin/census}
+# A recipe's further words are tried by this call, which runs no soup. The recipes that take hauls set another one.
+tried=(work --count 0 --worker 1)
 
 # One line that says why nothing is done.
 refuse() {
@@ -31,7 +33,7 @@ is_count() {
     [[ $1 =~ ^[1-9][0-9]{0,12}$ ]]
 }
 
-# Sets `total`, `size` and `parts` from the words TOTAL and SIZE, and looks at those that go on to `census work`. Nothing is
+# Sets `total`, `size` and `parts` from the words TOTAL and SIZE, and looks at those that go on to the program. Nothing is
 # written before the program has understood them.
 read_words() {
     total=$1 size=$2
@@ -48,7 +50,15 @@ read_words() {
                 refuse "${word%%=*} can't be given here: the parts say it themselves" ;;
         esac
     done
-    "$census" work --count 0 --worker 1 "$@" || exit
+    "$census" "${tried[@]}" "$@" > /dev/null || exit
+}
+
+# Refuses more parts than an array job of Slurm may have tasks, before a file is made.
+read_array() {
+    local most
+    most=$(scontrol show config 2> /dev/null | sed -n 's/^MaxArraySize *= *//p')
+    [[ ! $most || $parts -le $most ]] ||
+        refuse "an array job has at most $most tasks here, and these are $parts parts; take a greater SIZE"
 }
 
 # Writes down what census the lines in the folder are of, or refuses what another job says: other words, another SIZE, or fewer

@@ -9,7 +9,7 @@ complete -c census -n __fish_use_subcommand -a take -d 'Run soups until they hav
 complete -c census -n __fish_use_subcommand -a work -d 'Run soups, and print a report line for each'
 complete -c census -n __fish_use_subcommand -a gather -d 'Check report lines, and count the objects of their soups'
 complete -c census -n __fish_use_subcommand -a help -d 'Explain a command'
-complete -c census -n __fish_use_subcommand -l version -d 'Print the version'
+complete -c census -n __fish_use_subcommand -s V -l version -d 'Print the version'
 complete -c census -s h -l help -d 'Explain the words'
 complete -c census -n '__fish_seen_subcommand_from soup take work gather' -l seed -x -d 'The seed'
 complete -c census -n '__fish_seen_subcommand_from take work gather' -l first -x -d 'The number of the first soup'

@@ -2,26 +2,40 @@
 
 from __future__ import annotations
 
+import re
 import tempfile
 from collections.abc import Iterator
 
 from haul.join import Joining
-from haul.program import Census, job_words, pieces, set_words
-from haul.text import Haul, Range, header_of, read_one_haul, sample_row
+from haul.program import Census, job_words, missing, pieces, set_words
+from haul.text import BadHaul, Haul, Job, Range, header_of, read_one_haul, sample_row
 
 # A soup is run by one call with some of its like, so that several calls can run at a time.
 SAMPLES_IN_A_CALL = 500
+# What stands in a report line after the job: a number, and what was found.
+REPORT = re.compile(rb"([0-9]{1,13}) ([a-z0-9_=* ]+)")
 
 
 def taken_again(census: Census, haul: Haul, workers: int) -> Haul:
     """The haul of the same job over the same set, taken by this machine."""
     joining = Joining()
     for ranges in pieces(haul.ranges):
-        with tempfile.TemporaryFile() as text:
-            census.take([*job_words(haul.job), *set_words(ranges), f"--workers={workers}"], text)
-            text.seek(0)
-            joining.add(read_one_haul(text))
+        joining.add(taken(census, haul.job, ranges, workers))
     return joining.joined()
+
+
+def taken(census: Census, job: Job, ranges: list[Range], workers: int) -> Haul:
+    """The haul of a set that one call takes."""
+    with tempfile.TemporaryFile() as text:
+        census.take([*job_words(job), *set_words(ranges), f"--workers={workers}"], text)
+        text.seek(0)
+        try:
+            haul = read_one_haul(text)
+        except BadHaul:
+            raise missing(census.path) from None
+    if (haul.job, haul.ranges, haul.soups) != (job, ranges, haul.size()):
+        raise missing(census.path)
+    return haul
 
 
 def differences(haul: Haul, right: Haul) -> Iterator[str]:
@@ -58,15 +72,24 @@ def wrong_samples(census: Census, haul: Haul) -> Iterator[str]:
 def codes_left(census: Census, haul: Haul) -> dict[int, set[str]]:
     """What each sample soup leaves, by a report line of the program for each."""
     numbers = sorted({number for row in haul.samples.values() for number in row})
-    calls = []
-    for start in range(0, len(numbers), SAMPLES_IN_A_CALL):
-        ranges: list[Range] = [(number, 1) for number in numbers[start : start + SAMPLES_IN_A_CALL]]
-        calls.append(["work", "--worker=1", *job_words(haul.job), *set_words(ranges)])
+    parts = [numbers[start : start + SAMPLES_IN_A_CALL] for start in range(0, len(numbers), SAMPLES_IN_A_CALL)]
     left: dict[int, set[str]] = {}
-    for printed in census.ask_all(calls, f"parts of {len(numbers)} soups"):
-        for line in printed.decode("ascii").splitlines():
-            fields = line.split(" ")
-            # The seventh field is the number, and a field with a star is a code and how many there are.
-            number = int(fields[6].removeprefix("soup="))
-            left[number] = {field.partition("*")[0] for field in fields[7:] if "*" in field}
+    for found in census.each(lambda part: codes_left_by(census, haul.job, part), parts, f"parts of {len(numbers)} soups"):
+        left |= found
+    return left
+
+
+def codes_left_by(census: Census, job: Job, numbers: list[int]) -> dict[int, set[str]]:
+    """What these soups leave, by one call."""
+    printed = census.ask(["work", "--worker=1", *job_words(job), *set_words([(number, 1) for number in numbers])])
+    before = f"report 2 rule={job.rule} profile={','.join(map(str, job.profile))} seed={job.seed} worker=1 soup=".encode("ascii")
+    left: dict[int, set[str]] = {}
+    for line in printed.splitlines():
+        found = REPORT.fullmatch(line.removeprefix(before))
+        if found is None or not line.startswith(before):
+            raise missing(census.path)
+        # A field with a star is a code and how many there are.
+        left[int(found[1])] = {field.partition(b"*")[0].decode("ascii") for field in found[2].split(b" ") if b"*" in field}
+    if list(left) != numbers:
+        raise missing(census.path)
     return left

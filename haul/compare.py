@@ -6,6 +6,7 @@ from collections.abc import Iterator
 
 from haul.names import NAMES
 from haul.text import Haul
+from haul.words import noun
 
 HEADS = ["code", "name", "total_a", "total_b", "per_million_a", "per_million_b", "b_to_a"]
 # In the columns after these a number stands, which is set to the right.
@@ -23,7 +24,8 @@ def job_line(which: str, haul: Haul) -> str:
 
 
 def soups_line(which: str, haul: Haul) -> str:
-    return f"{which}: {haul.soups} soups, {haul.unsettled} unsettled, {haul.for_good} for good, {haul.objects()} objects"
+    soups, objects = noun(haul.soups, "soup"), noun(haul.objects(), "object")
+    return f"{which}: {haul.soups} {soups}, {haul.unsettled} unsettled, {haul.for_good} for good, {haul.objects()} {objects}"
 
 
 def compared(one: Haul, other: Haul, least: int) -> Iterator[str]:

@@ -4,14 +4,14 @@ from __future__ import annotations
 
 import argparse
 import os
-import signal
 import sys
 from collections.abc import Iterator
-from contextlib import contextmanager
+from contextlib import contextmanager, suppress
 from typing import BinaryIO
 
 from haul import VERSION
 from haul.check import differences, taken_again, wrong_samples
+from haul.children import status_of
 from haul.compare import compared
 from haul.join import CantJoin, Joining
 from haul.page import page_of
@@ -178,15 +178,16 @@ COMMANDS = {"check": do_check, "join": do_join, "compare": do_compare, "page": d
 
 
 def complain(line: str, status: int) -> int:
+    """Says why it ends, if that can be written; the status is the same if not."""
     tell("")
-    print(f"haul: {line}", file=sys.stderr)
+    with suppress(OSError):
+        print(f"haul: {line}", file=sys.stderr, flush=True)
     return status
 
 
 def run() -> int:
-    asked = parser().parse_args()
     try:
-        status = COMMANDS[asked.command](asked)
+        status = do_command()
         sys.stdout.flush()
         return status
     except Refused as why:
@@ -198,15 +199,37 @@ def run() -> int:
     except MemoryError:
         return complain("out of memory", NO_MEMORY)
     except BrokenPipeError:
-        # Whoever reads has enough. Nothing more is flushed at the end.
-        os.dup2(os.open(os.devnull, os.O_WRONLY), sys.stdout.fileno())
+        # Whoever reads has enough.
         return FAILED
     except OSError as error:
         reason = error.strerror or "read or write failed"
         return complain(f"{error.filename}: {reason}" if error.filename else reason, FAILED)
 
 
+def do_command() -> int:
+    try:
+        asked = parser().parse_args()
+    except SystemExit as ended:
+        # Help or the version was asked for, or the words weren't understood; either has been told.
+        return DONE if ended.code == 0 else USAGE
+    return COMMANDS[asked.command](asked)
+
+
+def open_streams() -> None:
+    """Makes standard output a buffered stream of UTF-8, whatever the environment says. Where a standard stream is closed, each
+    read or write of it fails from here on, and no file that is opened later takes its place."""
+    for number, stream in enumerate((sys.stdin, sys.stdout, sys.stderr)):
+        if stream is None:
+            # This is the lowest number that is free. What is opened for reading can't be written, and the other way round.
+            os.open(os.devnull, os.O_WRONLY if number == 0 else os.O_RDONLY)
+    if sys.stdin is None:
+        sys.stdin = open(0, encoding="utf-8", closefd=False)
+    sys.stdout = open(1, "w", encoding="utf-8", closefd=False)
+    if sys.stderr is None:
+        sys.stderr = open(2, "w", encoding="utf-8", closefd=False)
+
+
 def main() -> None:
-    # Ctrl-C ends it without a word, as it ends other tools.
-    signal.signal(signal.SIGINT, signal.SIG_DFL)
-    sys.exit(run())
+    open_streams()
+    # Python's own end would write once more what couldn't be written.
+    os._exit(status_of(run))

@@ -13,6 +13,7 @@ from haul.names import NAMES
 from haul.program import Census
 from haul.style import SCRIPT, STYLE
 from haul.text import Haul, Job
+from haul.words import counted
 
 STANDARD_PROFILE = (64, 512, 101, 30300)
 PROFILE_OPTIONS = ("--period", "--horizon", "--stride", "--limit")
@@ -27,14 +28,12 @@ KINDS = {"s": "still life", "p": "oscillator of period", "q": "spaceship of peri
 def page_of(census: Census, haul: Haul, least: int) -> Iterator[str]:
     """The page, piece by piece. Codes with less than so many objects are left out."""
     codes = sorted((code for code in haul.totals if haul.totals[code] >= least), key=lambda code: (-haul.totals[code], code))
-    drawn = [code for code in codes if not code.startswith("ov_")]
+    named = [code for code in codes if not is_large(code)]
     soups = sorted({number for code in codes for number in haul.samples[code]})
     # All is asked before the first byte is written, so a page is whole or not there.
-    shown = census.ask_all([["show", code] for code in drawn], "objects drawn")
-    drawings = {code: text.decode("ascii") for code, text in zip(drawn, shown, strict=True)}
-    seed = f"--seed={haul.job.seed}"
-    asked = census.ask_all([["soup", seed, str(number)] for number in soups], "soups drawn")
-    paths = {number: soup_path(text.decode("ascii")) for number, text in zip(soups, asked, strict=True)}
+    drawings = dict(zip(named, census.each(census.show, named, "objects drawn"), strict=True))
+    drawn = census.each(lambda number: census.draw(["soup", f"--seed={haul.job.seed}", str(number)]), soups, "soups drawn")
+    paths = {number: soup_path(text) for number, text in zip(soups, drawn, strict=True)}
 
     yield head(haul)
     yield from bars(haul, codes[:BARS])
@@ -48,7 +47,7 @@ def head(haul: Haul) -> str:
     """What census it is, in words, and how it can be checked."""
     job = haul.job
     where = "in Conway's Game of Life" if job.rule == LIFE else f"under {rule_name(job.rule)}"
-    title = f"A census of {haul.soups:,} soups {where}"
+    title = f"A census of {counted(haul.soups, 'soup')} {where}"
     soups = f"{haul.soups:,} of {haul.size():,}" if haul.soups < haul.size() else f"{haul.soups:,}"
     rate = f"{haul.objects() / haul.soups:.2f}" if haul.soups else "none"
     facts = [
@@ -87,23 +86,24 @@ def seed_words(seed: str) -> str:
 def ranges_words(haul: Haul) -> str:
     said = [f"{first} to {first + count - 1}" if count > 1 else f"{first}" for first, count in haul.ranges]
     if len(said) > 12:
-        said[12:] = [f"{len(said) - 12} more ranges"]
+        said[12:] = [counted(len(said) - 12, "more range")]
     return escape(", ".join(said) or "none")
 
 
 def profile_words(job: Job) -> str:
     period, horizon, stride, limit = job.profile
-    looks = f"one each {stride:,} generations, up to generation {limit:,}" if limit >= stride else "the only one, at generation 0"
+    each = counted(stride, "generation") if stride > 1 else "generation"
+    looks = f"one each {each}, up to generation {limit:,}" if limit >= stride else "the only one, at generation 0"
     return (
-        f"A pattern has settled at the first look ({looks}) at which each of its objects comes back within {period} "
-        f"generation{'s' if period > 1 else ''}, and for {horizon:,} generations none comes into another's way. It is settled for "
+        f"A pattern has settled at the first look ({looks}) at which each of its objects comes back within "
+        f"{counted(period, 'generation')}, and for {counted(horizon, 'generation')} none comes into another's way. It is settled for "
         "good if it has no spaceship and all its objects come back together within that time."
     )
 
 
 def check_words(haul: Haul) -> str:
     if haul.soups < haul.size():
-        return "Soups are missing of this haul, so it can't be taken again as a whole; <code>haul check --samples</code> runs the samples."
+        return "Soups are missing from this haul, so it can't be taken again as a whole; <code>haul check --samples</code> runs the samples."
     return (
         "Whoever doubts it takes the census again. With the text of this haul in the file <code>all.haul</code>, "
         "<code>haul check all.haul</code> does that and compares; <code>haul check --samples all.haul</code> runs the sample soups alone."
@@ -115,7 +115,8 @@ def bars(haul: Haul, codes: list[str]) -> Iterator[str]:
     if not codes:
         return
     most = log10(haul.totals[codes[0]]) or 1.0
-    yield f"<h2>The {len(codes)} most frequent, each mark ten times the one before</h2>\n"
+    frequent = "The most frequent one" if len(codes) == 1 else f"The {len(codes)} most frequent"
+    yield f"<h2>{frequent}, each mark ten times the one before</h2>\n"
     height = 18 * len(codes) + 4
     yield f"<svg class='bars' viewBox='0 0 640 {height}' role='img'><title>Totals of the most frequent objects</title>\n"
     scale = 330 / max(most, 1)
@@ -135,13 +136,14 @@ def bars(haul: Haul, codes: list[str]) -> Iterator[str]:
 
 
 def table_head(shown: int, there: int, least: int) -> str:
-    left_out = f" {there - shown:,} more have less than {least:,} and are left out." if shown < there else ""
+    less = f"less than {least:,} and"
+    left_out = f" {counted(there - shown, f'more has {less} is', f'more have {less} are')} left out." if shown < there else ""
     heads = "".join(f"<th scope='col'><button type='button'>{name}</button></th>" if name not in ("Picture", "Sample soups")
                     else f"<th scope='col'>{name}</th>" for name in HEADS)
     return f"""<h2>All objects</h2>
-<p>{shown:,} kinds, the most frequent first; a click on a column's head turns the order.{left_out} A code leads to Catagolue's page of
-the object. Catagolue takes groups of objects that only lie near each other apart, and this census doesn't, so counts of some codes
-differ by definition.</p>
+<p>{counted(shown, "kind")}, the most frequent first; a click on a column's head turns the order.{left_out} Names are those
+of LifeWiki. A code leads to Catagolue's page of the object. Catagolue takes groups of objects that only lie near each other apart,
+and this census doesn't, so counts of some codes differ by definition.</p>
 <p class="filter"><label>Only codes and names with <input type="search" id="filter" autocomplete="off"></label></p>
 <table id="objects"><thead><tr>{heads}</tr></thead><tbody>
 """
@@ -152,10 +154,13 @@ def row(haul: Haul, code: str, drawing: str | None, paths: dict[int, str]) -> st
     since a browser takes long to make thirty thousand of them at once."""
     total, objects = haul.totals[code], haul.objects()
     name = NAMES.get(code, "")
-    if drawing is None:
+    if drawing is not None:
+        image, cells = picture(drawing, name or code), str(drawing.count("O"))
+    elif is_large(code):
         image, cells = "too large to be drawn", cells_of_large(code)
     else:
-        image, cells = picture(drawing, name or code), str(drawing.count("O"))
+        # What stands in a haul need not be right: this code names no object that can be shown.
+        image, cells = "can't be drawn", ""
     once = round(objects / total)
     samples = "".join(sample(haul.job, number, paths[number]) for number in haul.samples[code])
     return (
@@ -173,6 +178,11 @@ def kind_words(code: str) -> str:
     return kind if found[1] == "s" else f"{kind} {int(found[2])}"
 
 
+def is_large(code: str) -> bool:
+    """Whether an object has no text that could be drawn."""
+    return code.startswith("ov_")
+
+
 def cells_of_large(code: str) -> str:
     """A still life's number is that of its cells."""
     return code.removeprefix("ov_s") if code.startswith("ov_s") else ""
@@ -180,7 +190,7 @@ def cells_of_large(code: str) -> str:
 
 def linked(code: str, rule: str) -> str:
     text = escape(code)
-    if code.startswith("ov_"):
+    if is_large(code):
         return f"<code>{text}</code>"
     return f"<a href='https://catagolue.hatsya.com/object/{text}/{escape(rule)}'>{text}</a>"
 

@@ -3,25 +3,36 @@
 from __future__ import annotations
 
 import os
+import re
 import shutil
 import subprocess
 import sys
 import threading
-from collections.abc import Iterator
+from collections.abc import Callable, Iterator
 from concurrent.futures import ThreadPoolExecutor
+from contextlib import contextmanager, suppress
 from pathlib import Path
-from typing import IO
+from typing import IO, TypeVar
 
+from haul.children import children
 from haul.text import Job, Range
 
 # The program takes no more numbers in one call.
 NUMBERS_IN_A_CALL = 2**24
 # So many ranges stand in one call at most: a word has at most 131,071 bytes on Linux, and a range 31.
 RANGES_IN_A_CALL = 2000
+# The statuses of the program that are passed on; each other one counts as a read that failed.
+PASSED_ON = (2, 3, 4, 5)
+REFUSED, FAILED = 3, 5
+
+DRAWING = re.compile(rb"(?:[.O]+\n)+")
+
+Asked = TypeVar("Asked")
+Said = TypeVar("Said")
 
 
 class NoCensus(Exception):
-    """There is no program to ask."""
+    """There is no program to ask, or it isn't the census program."""
 
 
 class Ended(Exception):
@@ -29,7 +40,7 @@ class Ended(Exception):
 
     def __init__(self, status: int, line: str) -> None:
         super().__init__(line)
-        self.status = status
+        self.status = status if status in PASSED_ON else FAILED
 
 
 class Census:
@@ -41,36 +52,51 @@ class Census:
             raise NoCensus("no census beside this program or on the PATH")
         self.path = found
 
-    def start(self, words: list[str]) -> subprocess.Popen[bytes]:
-        try:
-            return subprocess.Popen([self.path, *words], stdin=subprocess.DEVNULL, stdout=subprocess.PIPE, stderr=subprocess.PIPE)
-        except OSError:
-            raise NoCensus(f"no census at {self.path}") from None
-
     def ask(self, words: list[str]) -> bytes:
         """What the program prints."""
-        with self.start(words) as program:
+        with started([self.path, *words], subprocess.PIPE) as program:
             printed, errors = program.communicate()
         return checked(program.returncode, printed, errors)
 
-    def ask_all(self, calls: list[list[str]], told: str) -> Iterator[bytes]:
-        """What the program prints for each of these words, several calls at a time."""
+    def each(self, ask: Callable[[Asked], Said], asked: list[Asked], told: str) -> Iterator[Said]:
+        """What is answered to each of these, several calls at a time."""
         with ThreadPoolExecutor(len(os.sched_getaffinity(0))) as pool:
-            for done, printed in enumerate(pool.map(self.ask, calls), 1):
-                tell(f"{done} of {len(calls)} {told}")
-                yield printed
+            for done, said in enumerate(pool.map(ask, asked), 1):
+                tell(f"{done} of {len(asked)} {told}")
+                yield said
         tell("")
+
+    def draw(self, words: list[str]) -> str:
+        """The pattern that the program prints, which has a row."""
+        printed = self.ask(words)
+        if not DRAWING.fullmatch(printed):
+            raise missing(self.path)
+        return printed.decode("ascii")
+
+    def show(self, code: str) -> str | None:
+        """The object that a code names; none for a code that the program refuses."""
+        try:
+            return self.draw(["show", code])
+        except Ended as why:
+            if why.status == REFUSED:
+                return None
+            raise
 
     def take(self, words: list[str], out: IO[bytes]) -> None:
         """Writes the haul of a call of `take`, whose line of progress is shown where this program has a terminal."""
         shows = sys.stderr.isatty()
-        with self.start(["take", *words, *(["--progress"] if shows else [])]) as program:
+        with started([self.path, "take", *words, *(["--progress"] if shows else [])], subprocess.PIPE) as program:
             assert program.stdout and program.stderr
             errors = bytearray()
             watcher = threading.Thread(target=pass_on, args=(program.stderr, errors))
             watcher.start()
-            shutil.copyfileobj(program.stdout, out)
-            watcher.join()
+            try:
+                shutil.copyfileobj(program.stdout, out)
+            except OSError:
+                program.terminate()
+                raise
+            finally:
+                watcher.join()
         checked(program.returncode, b"", bytes(errors))
 
 
@@ -83,16 +109,34 @@ def beside() -> str | None:
     if not (program.parent / "built.bash").is_file():
         return str(program)
     # The program itself is asked, since the launcher looks at all sources at each call.
-    done = subprocess.run([program, "--version"], stdin=subprocess.DEVNULL, stdout=subprocess.DEVNULL, check=False)
-    if done.returncode != 0:
-        raise NoCensus(f"no census at {program}")
+    with started([str(program), "--version"], None) as launcher:
+        launcher.wait()
+    if launcher.returncode != 0:
+        raise missing(str(program))
     return str(built)
+
+
+def missing(path: str) -> NoCensus:
+    """What is said if there is no program at a path, or one that doesn't answer as the census program does."""
+    return NoCensus(f"no census at {path}")
+
+
+@contextmanager
+def started(words: list[str], streams: int | None) -> Iterator[subprocess.Popen[bytes]]:
+    """A program that runs, and has ended after this. Without streams its output is dropped, and it complains by itself."""
+    try:
+        program = children.start(words, subprocess.DEVNULL if streams is None else streams, streams)
+    except OSError:
+        raise missing(words[0]) from None
+    with children.known(program):
+        yield program
 
 
 def checked(status: int, printed: bytes, errors: bytes) -> bytes:
     if status != 0:
         lines = errors.decode("utf-8", "replace").strip().splitlines()
-        raise Ended(status, lines[-1].removeprefix("census: ") if lines else f"census ended with status {status}")
+        how = f"ended with status {status}" if status > 0 else f"was ended by signal {-status}"
+        raise Ended(status, lines[-1].removeprefix("census: ") if lines else f"census {how}")
     return printed
 
 
@@ -102,7 +146,8 @@ def pass_on(stream: IO[bytes], errors: bytearray) -> None:
         errors += piece
         shown, returned, rest = bytes(errors).rpartition(b"\r")
         if returned and sys.stderr.isatty():
-            os.write(sys.stderr.fileno(), shown + returned)
+            with suppress(OSError):
+                os.write(sys.stderr.fileno(), shown + returned)
         errors[:] = rest
 
 
@@ -138,6 +183,8 @@ def pieces(ranges: list[Range], numbers: int = NUMBERS_IN_A_CALL) -> Iterator[li
 
 
 def tell(line: str) -> None:
-    """Writes a line of progress anew, where standard error is a terminal. An empty one wipes it."""
+    """Writes a line of progress anew, where standard error is a terminal. An empty one wipes it. One that can't be written is
+    left out."""
     if sys.stderr.isatty():
-        print(f"\r\033[K{line}", end="", file=sys.stderr, flush=True)
+        with suppress(OSError):
+            print(f"\r\033[K{line}", end="", file=sys.stderr, flush=True)

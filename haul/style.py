@@ -17,7 +17,7 @@ code, td:nth-child(2) { font-family: ui-monospace, monospace; font-size: .9em; o
 .bars text { fill: currentColor; } .bar { fill: var(--bar); } .mark { stroke: var(--line); }
 .filter input { font: inherit; padding: .2rem .4rem; width: 14rem; max-width: 100%; }
 table, thead, tbody { display: block; }
-tr { display: grid; grid-template-columns: 164px minmax(7rem, 1fr) 9rem 8rem 4rem 6.5rem 6.5rem 15rem; border-bottom: 1px solid var(--line); }
+tr { display: grid; grid-template-columns: 176px minmax(7rem, 1fr) 9rem 8rem 4rem 6.5rem 6.5rem 15rem; border-bottom: 1px solid var(--line); }
 /* Rows that are out of sight are laid out when they come into it, so a page of thousands opens at once. */
 tbody tr { content-visibility: auto; contain-intrinsic-size: auto 6rem; }
 thead { position: sticky; top: 0; z-index: 1; background: var(--paper); }
@@ -27,10 +27,10 @@ th button:focus-visible { outline: 2px solid var(--link); }
 th[aria-sort=ascending] button::after { content: " \\2191"; } th[aria-sort=descending] button::after { content: " \\2193"; }
 td:nth-child(n+5):nth-child(-n+7) { font-variant-numeric: tabular-nums; }
 td svg { stroke: currentColor; stroke-width: 1; fill: none; shape-rendering: crispEdges; display: block; }
-td > svg { background: var(--soft); }
+td > svg { background: var(--soft); max-width: 100%; height: auto; }
 .soup { width: 128px; height: 128px; background: var(--soft); margin: .3rem 0; }
 summary { cursor: pointer; font-variant-numeric: tabular-nums; }
-@media (max-width: 56rem) {
+@media (max-width: 70rem) {
   thead { position: static; } thead tr { display: flex; flex-wrap: wrap; gap: .2rem .9rem; padding-bottom: .4rem; } th { padding: 0; }
   th:first-child, th:last-child { display: none; }
   tbody tr { display: block; padding: .5rem 0; contain-intrinsic-size: auto 15rem; }
@@ -47,16 +47,6 @@ SCRIPT = """
 {
   const table = document.getElementById('objects'), body = table.tBodies[0], heads = [...table.tHead.rows[0].cells];
   const text = (row, column) => row.cells[column].textContent;
-  // Sample soups are a text until their row comes into sight, or all is printed.
-  const unfold = row => {
-    const kept = row.cells[7].querySelector('noscript');
-    if (kept) row.cells[7].innerHTML = kept.textContent;
-  };
-  const sight = new IntersectionObserver(entries => {
-    for (const entry of entries) if (entry.isIntersecting) { unfold(entry.target); sight.unobserve(entry.target); }
-  }, { rootMargin: '800px' });
-  for (const row of body.rows) sight.observe(row);
-  addEventListener('beforeprint', () => [...body.rows].forEach(unfold));
   // 'Cells', 'Total' and 'One in' are numbers; rare objects have the largest 'One in'.
   const isNumber = column => column >= 4 && column <= 6;
   const number = said => Number(said.replace(/^1 in /, '').replace(/,/g, ''));
@@ -76,5 +66,18 @@ SCRIPT = """
     const wanted = event.target.value.trim().toLowerCase();
     for (const row of body.rows) row.hidden = !(text(row, 1) + ' ' + text(row, 2)).includes(wanted);
   });
+  // Sample soups are a text until their row comes into sight, or all is printed. A browser that can't tell makes all of them.
+  const unfold = row => {
+    const kept = row.cells[7].querySelector('noscript');
+    if (kept) row.cells[7].innerHTML = kept.textContent;
+  };
+  addEventListener('beforeprint', () => [...body.rows].forEach(unfold));
+  if (typeof IntersectionObserver === 'undefined') [...body.rows].forEach(unfold);
+  else {
+    const sight = new IntersectionObserver(entries => {
+      for (const entry of entries) if (entry.isIntersecting) { unfold(entry.target); sight.unobserve(entry.target); }
+    }, { rootMargin: '800px' });
+    for (const row of body.rows) sight.observe(row);
+  }
 }
 """

@@ -18,6 +18,8 @@ NUMBER_LIMIT = 2**40
 TOTAL_LIMIT = 2**64
 # The most samples of a code.
 MOST_SAMPLES = 3
+# No line of a haul has as many bytes: the longest one is a code of 400 with three numbers. So of a longer line no more is read.
+LINE_LIMIT = 1000
 
 DECIMAL = re.compile(rb"0|[1-9][0-9]*")
 RULE = re.compile(rb"b1?2?3?4?5?6?7?8?s0?1?2?3?4?5?6?7?8?")
@@ -138,7 +140,7 @@ class Lines:
     def peek(self) -> bytes:
         """The next line with its line feed, or no byte at the end of the input."""
         if self.held is None:
-            self.held = self.stream.readline()
+            self.held = self.stream.readline(LINE_LIMIT)
         return self.held
 
     def skip(self) -> None:
@@ -270,7 +272,7 @@ def read_ranges(lines: Lines) -> list[Range]:
     """One range at least, or one that is empty, which begins at 0 and stands for none."""
     ranges: list[Range] = []
     least = 0
-    while not ranges or lines.peek().split(b" ")[0] == b"@RANGE":
+    while not ranges or lines.peek().removesuffix(b"\n").split(b" ")[0] == b"@RANGE":
         lines.next_line()
         lines.word(b"@RANGE")
         first = lines.number_in(least, NUMBER_LIMIT - 1)

@@ -1,4 +1,4 @@
-"""What asks the census program: checks, pages, and the command line. The built program is used, and not the launcher."""
+"""What asks the census program: checks, joins, comparisons and pages. The built program is used, and not the launcher."""
 
 from __future__ import annotations
 
@@ -7,7 +7,6 @@ import os
 import random
 import re
 import subprocess
-import sys
 import tempfile
 import unittest
 from html import unescape
@@ -15,23 +14,11 @@ from pathlib import Path
 from typing import IO
 
 from haul.check import differences, taken_again
+from haul.compare import compared
 from haul.page import page_of
 from haul.program import Census, pieces, set_words
+from haul.tests.called import CENSUS, census, run
 from haul.text import BadHaul, Haul, Job, read_one_haul, text_of
-
-TOP = Path(__file__).resolve().parents[2]
-CENSUS = str(TOP / "crates" / "census" / "out" / "census")
-HAUL = str(TOP / "bin" / "haul")
-
-
-def census(*words: str) -> bytes:
-    return subprocess.run([CENSUS, *words], stdin=subprocess.DEVNULL, stdout=subprocess.PIPE, check=True).stdout
-
-
-def run(*words: str, text: bytes = b"") -> tuple[int, str, str]:
-    """The status of `haul`, and what it prints on both streams."""
-    ended = subprocess.run([sys.executable, HAUL, *words], input=text, capture_output=True, check=False)
-    return ended.returncode, ended.stdout.decode(), ended.stderr.decode()
 
 
 class Kept(Census):
@@ -134,16 +121,22 @@ class Checking(unittest.TestCase):
         self.assertEqual(run("check", text=text), (3, "", "haul: haul with missing soups\n"))
         self.assertEqual(run("check", "--samples", text=text), (0, "right\n", ""))
 
-    def test_no_census(self) -> None:
-        text = census("take", "--count", "1")
-        self.assertEqual(run("check", "--census", "/nowhere/census", text=text), (2, "", "haul: no census at /nowhere/census\n"))
-
     def test_a_second_haul(self) -> None:
         text = census("take", "--count", "0")
         self.assertEqual(run("check", text=text + text), (3, "", "haul: bad haul at line 15 column 1\n"))
 
-    def test_what_the_program_complains_of(self) -> None:
-        self.assertEqual(run("check", "--census", "/bin/false", text=census("take", "--count", "1"))[0], 1)
+    def test_a_haul_that_is_taken_again_in_pieces(self) -> None:
+        """More ranges than one call has words for."""
+        profile = ["--period=1", "--horizon=1", "--stride=1", "--limit=0"]
+        parts = b""
+        for start in (0, 2000):
+            ranges = [(3 * k, 1) for k in range(start, start + 2000)]
+            parts += census("take", *profile, *set_words(ranges))
+        status, joined, _ = run("join", text=parts)
+        self.assertEqual((status, joined.count("@RANGE")), (0, 4000))
+        self.assertEqual(run("check", text=joined.encode()), (0, "right\n", ""))
+        wrong = joined.replace("UNSETTLED 4000", "UNSETTLED 3999")
+        self.assertEqual(run("check", text=wrong.encode()), (7, "line 4007: is @NUM_UNSETTLED 3999, should be @NUM_UNSETTLED 4000\n", ""))
 
     def test_pieces(self) -> None:
         self.assertEqual(list(pieces([(5, 7), (20, 2)], 4)), [[(5, 4)], [(9, 3), (20, 1)], [(21, 1)]])
@@ -178,30 +171,6 @@ class Joining(unittest.TestCase):
         self.assertEqual(run("join", "/nowhere/a"), (5, "", "haul: /nowhere/a: No such file or directory\n"))
 
 
-class Streams(unittest.TestCase):
-    def test_closed_pipe(self) -> None:
-        text = census("take", "--count", "40")
-        with subprocess.Popen([sys.executable, HAUL, "join"], stdin=subprocess.PIPE, stdout=subprocess.PIPE, stderr=subprocess.PIPE) as program:
-            assert program.stdin and program.stdout and program.stderr
-            program.stdout.close()
-            program.stdin.write(text)
-            program.stdin.close()
-            self.assertEqual(program.stderr.read(), b"")
-        self.assertEqual(program.returncode, 5)
-
-    def test_full_device(self) -> None:
-        with open("/dev/full", "wb") as full:
-            ended = subprocess.run([sys.executable, HAUL, "join"], input=census("take", "--count", "1"), stdout=full,
-                                   stderr=subprocess.PIPE, check=False)
-        self.assertEqual((ended.returncode, ended.stderr), (5, b"haul: No space left on device\n"))
-
-    def test_usage(self) -> None:
-        self.assertEqual(run("check", "--workers", "17")[0], 2)
-        self.assertEqual(run()[0], 2)
-        self.assertEqual(run("--version"), (0, "haul 0.1.0\n", ""))
-        self.assertEqual(run("--help")[0], 0)
-
-
 class Comparing(unittest.TestCase):
     def test_two_rules(self) -> None:
         with tempfile.TemporaryDirectory() as folder:
@@ -217,6 +186,12 @@ class Comparing(unittest.TestCase):
         self.assertEqual(block[1:3], ["block", "277"])
         self.assertEqual(block[4], f"{277 / 40 * 1_000_000:.2f}")
         self.assertTrue(lines[-1].startswith("in A alone: "))
+
+    def test_one_soup(self) -> None:
+        status, output, errors = run("compare", "-", "/dev/null", text=census("take", "--count", "1"))
+        self.assertEqual((status, output, errors), (3, "", "haul: /dev/null: bad haul at line 1 column 1\n"))
+        haul = Haul(Job("", "b3s23", (1, 1, 1, 0)), [(0, 1)], 1, 0, 0, {"xs4_33": 1}, {"xs4_33": [0]})
+        self.assertEqual(list(compared(haul, haul, 1))[1], "A: 1 soup, 0 unsettled, 0 for good, 1 object")
 
 
 class Pages(unittest.TestCase):
@@ -257,6 +232,25 @@ class Pages(unittest.TestCase):
         haul = Haul(Job("", "b3s23", (64, 512, 101, 30300)), [(0, 1)], 1, 0, 0, {"ov_s2000": 1}, {"ov_s2000": [0]})
         page = self.page(read_one_haul(io.BytesIO(text_of(haul).encode())))
         self.assertIn("too large to be drawn", page)
+
+    def test_codes_that_name_nothing(self) -> None:
+        """A haul may be lawful with codes that the program can't draw. What else is in it is shown."""
+        codes = ["xs4_33", "xs4_y", "yl3_1", "zz_"]
+        haul = Haul(Job("", "b3s23", (64, 512, 101, 30300)), [(0, 1)], 1, 0, 0, {code: 1 for code in codes}, {code: [0] for code in codes})
+        page = self.page(read_one_haul(io.BytesIO(text_of(haul).encode())))
+        self.assertEqual(page.count("<tr><td>can't be drawn</td>"), 3)
+        self.assertEqual(page.count("<tr><td><svg"), 1)
+
+    def test_one_and_more(self) -> None:
+        haul = Haul(Job("", "b3s23", (1, 1, 1, 0)), [(0, 1)], 1, 0, 0, {"xs4_33": 1}, {"xs4_33": [0]})
+        page = self.page(haul)
+        for said in ("A census of 1 soup in", "<h2>The most frequent one,", "<p>1 kind, the", "within 1 generation, and for 1 generation none"):
+            self.assertIn(said, page)
+        haul = Haul(Job("", "b3s23", (2, 3, 1, 1)), [(0, 2)], 1, 0, 0, {"xs4_33": 1, "xs5_253": 2}, {"xs4_33": [0], "xs5_253": [1]})
+        page = "".join(page_of(Census(CENSUS), haul, 2))
+        for said in ("1 soup in", "Soups are missing from this haul", "1 more has less than 2 and is left out.", "within 2 generations"):
+            self.assertIn(said, page)
+        self.assertIn("2 more have less than 3 and are left out.", "".join(page_of(Census(CENSUS), haul, 3)))
 
     def test_no_object(self) -> None:
         self.assertIn("0 kinds", self.page(read_one_haul(io.BytesIO(census("take", "--count", "0")))))

@@ -107,6 +107,13 @@ class Reading(unittest.TestCase):
             ("@RANGE 10 1", "@RANGE 5 1", "line 7 column 8"),
             ("@RANGE 10 1", "@RANGE 10 0", "line 7 column 11"),
             ("@RANGE 10 1", "@RANGE 10", "line 7 column 10"),
+            ("@RANGE 10 1", "@RANGE", "line 7 column 7"),
+            ("@RANGE 10 1", "@RANGE ", "line 7 column 8"),
+            ("@RANGE 10 1", "@RANGES 10 1", "line 7 column 1"),
+            ("@RANGE 3 2\n", "@RANGE\n", "line 6 column 7"),
+            ("@RANGE 10 1", "@RANGE 10 1" + " " * 10**6, "line 7 column 13"),
+            ("seed=a", "seed=" + "a" * 10**6, "line 2 column 7"),
+            ("xs4_33 4\n", "x" * 10**6 + " 4\n", "line 15 column 1"),
             ("@RANGE 10 1", f"@RANGE {2**40 - 1} 2", "line 7 column 22"),
             ("@RANGE 10 1", f"@RANGE {2**40} 1", "line 7 column 8"),
             ("@RANGE 3 2\n", "@RANGE 0 0\n", "line 7 column 1"),
@@ -154,6 +161,10 @@ class Reading(unittest.TestCase):
         self.assertEqual(fault("@VERSION "), "line 1 column 10")
         self.assertEqual(fault("@VERSION 2"), "line 1 column 11")
         self.assertEqual(fault("@VERSION 2\n"), "line 2 column 1")
+        ranges = LARGER[: LARGER.index("@RANGE 10")]
+        self.assertEqual(fault(ranges + "@RANG"), "line 7 column 1")
+        self.assertEqual(fault(ranges + "@RANGE"), "line 7 column 7")
+        self.assertEqual(fault(ranges + "@RANGE "), "line 7 column 8")
         for end in range(len(LARGER)):
             self.assertNotEqual(fault(LARGER[:end]), "none")
 

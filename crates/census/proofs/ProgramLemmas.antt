@@ -9,13 +9,13 @@ use Rattle.words.specs.declared.request.Request.{Request}
 use Rattle.words.specs.declared.request.Request.TheVariants.{Run, Name, Show, Soup, Take, Work, Gather, Version}
 use Rattle.commands.specs.declared.status.Status.{Status}
 use Rattle.commands.specs.declared.status.Status.TheVariants as statuses
-use Rattle.commands.specs.Complaints.{line_of, status_of}
+use Rattle.commands.specs.Complaints.{complaint_line, status_of}
 use Rattle.commands.specs.Ends.{Ends, HasLast, IsPrinted, LeavesFront, LeavesPart, Outcome, Reaches, last_line, status_after}
 use Rattle.census.specs.Requests.{DoesRequest, is_whole, right_for, task_of}
 use Rattle.commands.specs.Status.{exit_code, has_printed}
 use Rattle.commands.specs.Streams.{Stream, Has, HasLine}
 use Rattle.commands.specs.Tasks.{Made, Makes, Task, text_made}
-use Rattle.census.specs.LastLines.{HasTextAndLine, Says, TellsBefore, tells_lines}
+use Rattle.census.specs.LastLines.{HasTextAndLine, SaysComplaint, TellsBefore, tells_lines}
 use Rattle.census.specs.Program.{Complains, IsDone, IsEndedBy, IsFront, LeavesFrontOf, MayEnd}
 use Rattle.census.specs.Requests.{DoesWords}
 use Rattle.words.specs.Requests.{asked_by}
@@ -190,7 +190,7 @@ record Ended (request : Request) (bytes : List ℕ) (known before below : Option
   pub complaint : Complaint
   pub status_is : status ≡ status_of complaint
   pub may : MayEnd request bytes before below complaint
-  pub says : Says request bytes known complaint errors
+  pub says : SaysComplaint request bytes known complaint errors
 
 -- neither done, nor done but for soups that are missing
 abbrev IsUndone : Status → Type 0
@@ -251,8 +251,8 @@ told_before request bytes WriteFailed known output errors (inr untold) = inr (ga
 -- and then its line
 says_line : (request : Request) (bytes : List ℕ) (complaint : Complaint) (known : Option (List ℕ)) (output between errors : Stream)
     → between.before ≡ errors.before → (between.failed ≡ true → errors.failed ≡ true) → Reaches (task_of request) known bytes (Err complaint) output between
-    → HasLine (record { before = between.after; after = errors.after; failed = errors.failed }) (line_of complaint)
-    → Says request bytes known complaint errors
+    → HasLine (record { before = between.after; after = errors.after; failed = errors.failed }) (complaint_line complaint)
+    → SaysComplaint request bytes known complaint errors
 says_line request bytes complaint known output between errors from stays reached last =
     go (told_before request bytes complaint known output between reached)
   where
@@ -264,7 +264,7 @@ says_line request bytes complaint known output between errors from stays reached
     before_is WriteFailed told = subst (λ (b : Option (List ℕ)). TellsBefore (task_of request) known bytes WriteFailed (record { before = b; after = between.after; failed = false })) from told
 
     go : TellsBefore (task_of request) known bytes complaint between ⊎ ((tells_lines request ≡ true) × (complaint ≡ WriteFailed) × (between.failed ≡ true))
-        → Says request bytes known complaint errors
+        → SaysComplaint request bytes known complaint errors
     go (inl told) = inl (between.after, before_is complaint told, last)
     go (inr cut) = inr (cut.0, cut.1, stays cut.2)
 
@@ -293,7 +293,7 @@ request_ended request bytes known before buffered below held failed status error
 
 -- standard error after a flush that failed: its line, unless a write had failed before
 record Spoken (between spoken : Option (List ℕ)) (was failed : Bool) : Type 0 where
-  pub line : was ≡ false → HasLine (record { before = between; after = spoken; failed = failed }) (line_of WriteFailed)
+  pub line : was ≡ false → HasLine (record { before = between; after = spoken; failed = failed }) (complaint_line WriteFailed)
   pub untold : was ≡ true → failed ≡ true
 
 -- a front of the text is with the writer
@@ -310,7 +310,7 @@ known_left false right before below made is front = inl (made, is, front)
 
 -- the output and the line of a request of which not all could be sent on
 abbrev IsUnsent : Request → List ℕ → (known before below : Option (List ℕ)) → Stream → Type 0
-IsUnsent request bytes known before below after = MayEnd request bytes before below WriteFailed × Says request bytes known WriteFailed after
+IsUnsent request bytes known before below after = MayEnd request bytes before below WriteFailed × SaysComplaint request bytes known WriteFailed after
 
 -- of what was printed
 unsent : (request : Request) (bytes : List ℕ) (known before buffered below : Option (List ℕ)) (held : List ℕ) (failed : Bool) (missing : ℕ)
@@ -489,7 +489,7 @@ pub program_unsent : (words : List Text) (known : Option (List ℕ)) (status : S
     (silent between spoken : Option (List ℕ)) (was is_failed : Bool) → Passes before start buffered below held
     → DoesWords words known status (record { before = start; after = buffered; failed = failed })
     (record { before = silent; after = between; failed = was }) → (status ≡ statuses.Done) ⊎ (status ≡ statuses.Incomplete)
-    → (was ≡ false → HasLine (record { before = between; after = spoken; failed = is_failed }) (line_of WriteFailed)) → (was ≡ true → is_failed ≡ true)
+    → (was ≡ false → HasLine (record { before = between; after = spoken; failed = is_failed }) (complaint_line WriteFailed)) → (was ≡ true → is_failed ≡ true)
     → Complains words known (exit_code statuses.Failed) before below (record { before = silent; after = spoken; failed = is_failed })
 program_unsent words known status before start buffered below held failed silent between spoken was is_failed passes does (inl done) line untold =
     let errors : Stream = record { before = silent; after = between; failed = was } in

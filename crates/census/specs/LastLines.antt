@@ -5,7 +5,7 @@ use Rattle.commands.specs.declared.complaint.Complaint.{Complaint}
 use Rattle.commands.specs.declared.complaint.Complaint.TheVariants.{Refused, OutOfMemory, ReadFailed, WriteFailed}
 use Rattle.words.specs.declared.request.Request.{Request}
 use Rattle.words.specs.declared.request.Request.TheVariants.{Gather}
-use Rattle.commands.specs.Complaints.{line_of}
+use Rattle.commands.specs.Complaints.{complaint_line}
 use Rattle.commands.specs.Ends.{last_line}
 use Rattle.census.specs.Requests.{task_of}
 use Rattle.commands.specs.Streams.{Stream, Has, HasLine}
@@ -37,8 +37,8 @@ TellsBefore task known bytes ReadFailed told = task.begins known told.before tol
 TellsBefore task known bytes WriteFailed told = HasToldAll task.whole (task.right bytes) told
 
 -- what was told of the input, and then the line of a complaint; or standard error failed under what `gather` tells
-abbrev pub Says : Request → List ℕ → Option (List ℕ) → Complaint → Stream → Type 0
-Says request bytes known complaint errors =
+abbrev pub SaysComplaint : Request → List ℕ → Option (List ℕ) → Complaint → Stream → Type 0
+SaysComplaint request bytes known complaint errors =
     ((between : Option (List ℕ)) × TellsBefore (task_of request) known bytes complaint (record { before = errors.before; after = between; failed = false })
-    × HasLine (record { before = between; after = errors.after; failed = errors.failed }) (line_of complaint))
+    × HasLine (record { before = between; after = errors.after; failed = errors.failed }) (complaint_line complaint))
     ⊎ ((tells_lines request ≡ true) × (complaint ≡ WriteFailed) × (errors.failed ≡ true))

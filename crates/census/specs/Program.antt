@@ -6,14 +6,14 @@ use Rattle.commands.specs.declared.complaint.Complaint.{Complaint}
 use Rattle.commands.specs.declared.complaint.Complaint.TheVariants.{Refused, OutOfMemory, ReadFailed, WriteFailed}
 use Rattle.words.specs.declared.request.Request.{Request}
 use Rattle.commands.specs.Answers.{IsInput}
-use Rattle.commands.specs.Complaints.{line_of, status_of}
+use Rattle.commands.specs.Complaints.{complaint_line, status_of}
 use Rattle.commands.specs.Ends.{last_line}
 use Rattle.census.specs.Requests.{is_whole, reads_input, refuses_input, right_for}
 use Rattle.commands.specs.Status.{exit_code}
 use Rattle.commands.specs.Streams.{Stream, HasLine}
 use Rattle.commands.specs.Tasks.{Made, Makes, NeedsMemoryAlone, text_made}
 use Rattle.words.specs.Requests.{Text}
-use Rattle.census.specs.LastLines.{HasTextAndLine, Says, tells_lines}
+use Rattle.census.specs.LastLines.{HasTextAndLine, SaysComplaint, tells_lines}
 use Rattle.words.specs.Requests.{asked_by}
 
 -- the stream of a writer that was handed over, and is given back with whether a write failed
@@ -74,13 +74,13 @@ pub record IsEndedBy (complaint : Complaint) (known before after : Option (List 
   pub bytes : List ℕ
   pub input : IsInput known bytes
   pub may : MayEnd request bytes before after complaint
-  pub says : Says request bytes known complaint errors
+  pub says : SaysComplaint request bytes known complaint errors
 
 -- there was no memory for the words
 pub record LacksWords (complaint : Complaint) (before after : Option (List ℕ)) (errors : Stream) : Type 0 where
   pub memory : complaint ≡ OutOfMemory
   pub nothing : IsFront before after []
-  pub line : HasLine errors (line_of complaint)
+  pub line : HasLine errors (complaint_line complaint)
 
 -- the code and the line are those of a complaint: of memory for the words, or of what they ask for
 pub record Complains (words : List Text) (known : Option (List ℕ)) (number : ℕ) (before after : Option (List ℕ)) (errors : Stream) : Type 0 where

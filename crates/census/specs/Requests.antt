@@ -6,7 +6,7 @@ use Rattle.commands.specs.declared.soup_set.SoupSet.{SoupSet}
 use Rattle.commands.specs.declared.status.Status.{Status}
 use Rattle.commands.specs.declared.status.Status.TheVariants.{OutOfMemory}
 use Rattle.commands.specs.Answers.{IsInput}
-use Rattle.commands.specs.Complaints.{line_of}
+use Rattle.commands.specs.Complaints.{complaint_line}
 use Rattle.commands.specs.Ends.{Ends}
 use Rattle.commands.specs.Gather.{gather_task}
 use Rattle.commands.specs.Name.{name_task}
@@ -68,7 +68,7 @@ pub record DoesRequest (known : Option (List ℕ)) (status : Status) (output err
 pub record LacksMemory (status : Status) (output errors : Stream) : Type 0 where
   pub told : status ≡ OutOfMemory
   pub nothing : Has output []
-  pub line : HasLine errors (line_of complaint.OutOfMemory)
+  pub line : HasLine errors (complaint_line complaint.OutOfMemory)
 
 -- what the words ask for was done, or there was no memory to read them
 abbrev pub DoesWords : List Text → Option (List ℕ) → Status → Stream → Stream → Type 0

@@ -1,7 +1,8 @@
-ghost use Rattle.std.specs.Prelude.{◌≡◌, ◌≢◌, ℕ, suc, [], IsErr, None, Some, IfOk, IfErr, IfNone, IfSome, IsOkAnd, IsSomeAnd, true, false, map, string_bytes};
+ghost use Rattle.std.specs.Prelude.{◌≡◌, ◌≢◌, ℕ, suc, [], IsErr, None, Some, IfOk, IfErr, IfNone, IfSome, IsOkAnd};
+ghost use Rattle.std.specs.Prelude.{IsSomeAnd, true, false, map, string_bytes};
 ghost use Rattle.std.specs.Io.Buffered.{writer_buffer, writer_contents, writer_inner};
 ghost use Rattle.std.specs.IoError.{error_kind};
-ghost use Rattle.commands.specs.Complaints.{line_of};
+ghost use Rattle.commands.specs.Complaints.{complaint_line};
 ghost use Rattle.commands.specs.Status.{exit_code};
 ghost use Rattle.commands.specs.Streams.{Has, HasLine, stream};
 ghost use Rattle.census.specs.LastLines.{tells_lines};
@@ -35,9 +36,9 @@ pub struct Ended<W: Write + Drop, E: Write + Drop> {
 /// What the program does, from its words to the number that the process ends with.
 ///
 /// The words are as `std::env::args` gives them: the first is the program's name, and words that are not UTF-8 are an
-/// error. Output goes through a buffer. With code 0, and with code 6 if soups are missing, the whole text of what was asked for is
-/// with the writer below it. How far a haul has come is said on `line`, which has a writer of its own, and nothing else depends on
-/// it.
+/// error. Output goes through a buffer. With code 0, and with code 6 if soups are missing, the whole text of what was
+/// asked for is with the writer below it. How far a haul has come is said on `line`, which has a writer of its own, and
+/// nothing else depends on it.
 pub fn run_program<
     T: Threads + Wait + Sync,
     R: Read,
@@ -54,7 +55,8 @@ pub fn run_program<
     errors: E,
     line: &mut Progress<P, C>,
 ) -> Ended<W, E>
-    // Code 0: what the words ask for was done, and its whole text is with the writer. Only `gather` writes to standard error.
+    // Code 0: what the words ask for was done, and its whole text is with the writer. Only `gather` writes to standard
+    // error.
     ensures done { result.code ≡ 0 → IsOkAnd words (λ list. IsSomeAnd result.output (λ writer.
         IsDone (map string_bytes list.items) (R.remaining input.old) (W.contents output) (W.contents writer)
         (returned E.contents errors result.errors) 0)) }
@@ -63,7 +65,8 @@ pub fn run_program<
 
     // Code 6: what the words ask for was done, but for soups that are missing.
     ensures incomplete { result.code ≡ 6 → IsOkAnd words (λ list. IsSomeAnd result.output (λ writer.
-        (less : ℕ) × IsDone (map string_bytes list.items) (R.remaining input.old) (W.contents output) (W.contents writer)
+        (less : ℕ) × IsDone (map string_bytes list.items) (R.remaining input.old) (W.contents output)
+        (W.contents writer)
         (returned E.contents errors result.errors) (suc less))) }
 
     // Code 2: the words ask for nothing, and nothing was read or written.
@@ -77,7 +80,8 @@ pub fn run_program<
     ensures refused { result.code ≡ 3 → result.output ≡ Some output }
     ensures unread_refused { result.code ≡ 3 → IfOk words (λ list. IfSome (asked_by (map string_bytes list.items)) (λ request.
         refuses_input request ≡ false → input.new ≡ input.old)) }
-    ensures nothing_left { result.code ≡ 4 → IfOk words (λ list. IfSome (asked_by (map string_bytes list.items)) (λ request.
+    ensures nothing_left { result.code ≡ 4
+        → IfOk words (λ list. IfSome (asked_by (map string_bytes list.items)) (λ request.
         is_whole request ≡ true → IfSome result.output (λ writer. writer ≡ output))) }
 
     // Words that ask for a command that doesn't look at its input.
@@ -88,7 +92,7 @@ pub fn run_program<
     ensures not_text { IfErr words (λ error. error_kind error ≢ ErrorKind.OutOfMemory → (result.code ≡ 2)
         × HasLine (returned E.contents errors result.errors) not_text_line) }
     ensures no_memory { IfErr words (λ error. error_kind error ≡ ErrorKind.OutOfMemory → (result.code ≡ 4)
-        × HasLine (returned E.contents errors result.errors) (line_of Complaint.OutOfMemory)) }
+        × HasLine (returned E.contents errors result.errors) (complaint_line Complaint.OutOfMemory)) }
     ensures unread_words { IsErr words → (input.new ≡ input.old) × (result.output ≡ Some output) }
 {
     let mut errors = Out::new(errors);
@@ -170,7 +174,7 @@ fn tell_unread_words<E: Write>(error: &io::Error, errors: &mut Out<E>) -> Status
     ensures not_text { error_kind error.now ≢ ErrorKind.OutOfMemory → (result ≡ Status.Usage)
         × HasLine (stream E.contents errors.old errors.new) not_text_line }
     ensures no_memory { error_kind error.now ≡ ErrorKind.OutOfMemory → (result ≡ Status.OutOfMemory)
-        × HasLine (stream E.contents errors.old errors.new) (line_of Complaint.OutOfMemory) }
+        × HasLine (stream E.contents errors.old errors.new) (complaint_line Complaint.OutOfMemory) }
 {
     if error.kind() == ErrorKind::OutOfMemory {
         return Complaint::OutOfMemory.tell(errors);

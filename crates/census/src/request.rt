@@ -2,7 +2,8 @@ ghost use Rattle.std.specs.Prelude.{◌≡◌, ◌≢◌, IfSome, false, true, i
 ghost use Rattle.words.specs.Requests.{AreInTheirRanges, AreProfileNumbers, asked_by};
 ghost use Rattle.commands.specs.Profiles.{AreInRange};
 ghost use Rattle.commands.specs.Streams.{stream};
-ghost use Rattle.census.specs.Requests.{DoesRequest, DoesWords, is_whole, numbers_for, reads_input, refuses_input, soups_for};
+ghost use Rattle.census.specs.Requests.{DoesRequest, DoesWords, is_whole, numbers_for, reads_input, refuses_input};
+ghost use Rattle.census.specs.Requests.{soups_for};
 
 use commands::complaint::Complaint;
 use commands::gather::do_gather;

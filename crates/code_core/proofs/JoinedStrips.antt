@@ -7,21 +7,21 @@ use Rattle.std.proofs.lemmas.List.FromFn.{map-range_with_len_more}
 use Rattle.plane_core.specs.declared.cell.Cell.{Cell}
 use Rattle.code_core.specs.declared.token.Token.{Token}
 use Rattle.code_core.specs.declared.token.Token.TheVariants.{NextStrip}
-use Rattle.code_core.specs.Texts.{joined, strip, strip_tokens, tokens_of}
+use Rattle.code_core.specs.Texts.{joined_strips, strip, strip_tokens, tokens_of}
 use Rattle.code_core.specs.Tokens.{spelling}
 use Rattle.code_core.proofs.StripLemmas.{spelled}
 
 -- one strip more below others
-pub joined-push : (s : List Token) (strips : List (List Token)) (t : List Token) → joined (s ∷ (strips ++ t ∷ [])) ≡ joined (s ∷ strips) ++ NextStrip ∷ t
+pub joined-push : (s : List Token) (strips : List (List Token)) (t : List Token) → joined_strips (s ∷ (strips ++ t ∷ [])) ≡ joined_strips (s ∷ strips) ++ NextStrip ∷ t
 joined-push s [] t = refl
-joined-push s (r ∷ strips) t = ap (λ ts. s ++ NextStrip ∷ ts) (joined-push r strips t) ∙ sym (append_assoc s (NextStrip ∷ joined (r ∷ strips)) (NextStrip ∷ t))
+joined-push s (r ∷ strips) t = ap (λ ts. s ++ NextStrip ∷ ts) (joined-push r strips t) ∙ sym (append_assoc s (NextStrip ∷ joined_strips (r ∷ strips)) (NextStrip ∷ t))
 
 abbrev pub strip_of : List Cell → ℕ → ℕ → List Token
 strip_of cells width k = strip_tokens (strip cells width k)
 
 -- the text of the first strips
 unfoldable pub strips_text : List Cell → ℕ → ℕ → List ℕ
-strips_text cells width n = spelled (joined (map (strip_of cells width) (range_with_len 0 n)))
+strips_text cells width n = spelled (joined_strips (map (strip_of cells width) (range_with_len 0 n)))
 
 pub strips_begin : (cells : List Cell) (width : ℕ) → strips_text cells width 1 ≡ flat_map spelling (strip_tokens (strip cells width 0))
 unfolding strips_text
@@ -35,10 +35,10 @@ strips_more cells width (suc n) h =
     let f = strip_of cells width in
     let last = f (suc n) in
     let before = range_with_len 0 (suc n) in
-    ap (λ strips. spelled (joined strips)) (map-range_with_len_more f 0 (suc n) (suc n) (omega arith))
+    ap (λ strips. spelled (joined_strips strips)) (map-range_with_len_more f 0 (suc n) (suc n) (omega arith))
     ∙ ap spelled (joined-push (f 0) (map f (range_with_len 1 n)) last)
-    ∙ flat_map-append spelling (joined (map f before)) (NextStrip ∷ last)
-    ∙ sym (append_assoc (spelled (joined (map f before))) (122 ∷ []) (spelled last))
+    ∙ flat_map-append spelling (joined_strips (map f before)) (NextStrip ∷ last)
+    ∙ sym (append_assoc (spelled (joined_strips (map f before))) (122 ∷ []) (spelled last))
 
 pub strips_are : (cells : List Cell) (right bottom : ℕ) → flat_map spelling (tokens_of cells right bottom) ≡ strips_text cells (right + 1) (bottom / 5 + 1)
 unfolding strips_text tokens_of

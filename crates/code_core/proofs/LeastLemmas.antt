@@ -15,7 +15,7 @@ use Rattle.plane_core.specs.Generations.{after}
 use Rattle.plane_core.specs.Orientations.{orientations, turned}
 use Rattle.plane_core.specs.Rules.{Numbers}
 use Rattle.plane_core.specs.declared.orientation.Orientation.TheVariants.{Same, Quarter, Half, ThreeQuarter, Mirror, Flip, Diagonal, AntiDiagonal}
-use Rattle.code_core.specs.Least.{Among, IsImage, IsImageAt, IsImageOf, earlier_of}
+use Rattle.code_core.specs.Least.{Among, IsImage, IsImageAt, IsImageOf, earlier_text}
 use Rattle.code_core.proofs.TextLaw.{texts_have_their_shape}
 
 -- the order is total
@@ -74,7 +74,7 @@ among_cases IsIn n t (k, low, is) =
 
 -- the first of two firsts
 first_of_two : (P Q R : List ℕ → Type 0) (a b : Option (List ℕ)) → ((t : List ℕ) → P t → R t) → ((t : List ℕ) → Q t → R t) → ((t : List ℕ) → R t → P t ⊎ Q t)
-    → IsLeastOf P a → IsLeastOf Q b → IsLeastOf R (earlier_of a b)
+    → IsLeastOf P a → IsLeastOf Q b → IsLeastOf R (earlier_text a b)
 first_of_two P Q R None None left right split p q = λ t r. elim (split t r) [ inl is ↦ p t is | inr is ↦ q t is ]
 first_of_two P Q R None (Some b) left right split p q = (right b q.0, λ t r. elim (split t r) [ inl is ↦ absurd (p t is) | inr is ↦ q.1 t is ])
 first_of_two P Q R (Some a) None left right split p q = (left a p.0, λ t r. elim (split t r) [ inl is ↦ p.1 t is | inr is ↦ absurd (q t is) ])
@@ -99,7 +99,7 @@ first_of_two P Q R (Some a) (Some b) left right split p q = go (text_cmp a b) re
 
 -- one group more
 pub least_of_more : (IsIn : ℕ → List ℕ → Type 0) (n : ℕ) (a b : Option (List ℕ)) → IsLeastOf (Among IsIn n) a → IsLeastOf (IsIn n) b
-    → IsLeastOf (Among IsIn (n + 1)) (earlier_of a b)
+    → IsLeastOf (Among IsIn (n + 1)) (earlier_text a b)
 least_of_more IsIn n a b p q = first_of_two (Among IsIn n) (IsIn n) (Among IsIn (n + 1)) a b (λ t one. (one.0, omega (arith, one.1), one.2))
     (λ t one. (n, omega arith, one)) (among_cases IsIn n) p q
 

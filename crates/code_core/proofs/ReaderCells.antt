@@ -17,7 +17,7 @@ use Rattle.plane_core.specs.Cells.{cell_at, cell_cmp, on_plane, off_plane, put, 
 use Rattle.code_core.specs.declared.token.Token.{Token}
 use Rattle.code_core.specs.declared.token.Token.TheVariants.{Column, Gap, NextStrip}
 use Rattle.code_core.specs.declared.reader.WechslerFault.TheVariants.{Empty}
-use Rattle.code_core.specs.Columns.{is_lit, lit_cells, cells_from, cells_of}
+use Rattle.code_core.specs.Columns.{is_lit, lit_cells, cells_from, token_cells}
 use Rattle.code_core.specs.Tokens.{IsToken}
 use Rattle.code_core.specs.Reading.{unless_empty}
 use Rattle.code_core.specs.ReadingSteps.{is_column}
@@ -113,10 +113,10 @@ unless_empty-set_of : (cells : List Cell) → 0 < length cells → unless_empty 
 unless_empty-set_of [] h = absurd (omega arith)
 unless_empty-set_of (c ∷ cells) h = unless_empty-put c (set_of cells)
 
-pub unless_empty-some : (tokens : List Token) → All IsToken tokens → list_any is_column tokens ≡ true → unless_empty (cells_of tokens) ≡ Ok (cells_of tokens)
+pub unless_empty-some : (tokens : List Token) → All IsToken tokens → list_any is_column tokens ≡ true → unless_empty (token_cells tokens) ≡ Ok (token_cells tokens)
 unless_empty-some tokens each h = unless_empty-set_of (cells_from 0 0 tokens) (length-cells_from tokens each 0 0 h)
 
-pub unless_empty-none : (tokens : List Token) → list_any is_column tokens ≡ false → unless_empty (cells_of tokens) ≡ Err Empty
+pub unless_empty-none : (tokens : List Token) → list_any is_column tokens ≡ false → unless_empty (token_cells tokens) ≡ Err Empty
 unless_empty-none tokens h = ap (λ (cells : List Cell). unless_empty (set_of cells)) (cells_from-none tokens 0 0 h)
 
 -- the cells of a token come before those of the next

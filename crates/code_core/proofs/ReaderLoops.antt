@@ -12,10 +12,10 @@ use Rattle.plane_core.specs.Cells.{on_plane}
 use Rattle.code_core.specs.declared.token.Token.{Token}
 use Rattle.code_core.specs.declared.reader.WechslerFault.{WechslerFault}
 use Rattle.code_core.specs.declared.reader.WechslerFault.TheVariants.{BadByte, ShortRun, Empty}
-use Rattle.code_core.specs.Columns.{cells_from, cells_of}
+use Rattle.code_core.specs.Columns.{cells_from, token_cells}
 use Rattle.code_core.specs.Tokens.{spelling, IsToken, Spells, is_character}
 use Rattle.code_core.specs.Reading.{with_token, tokens_at, unless_empty, wechsler_pattern}
-use Rattle.code_core.specs.ReadingSteps.{Begins, IsStuck, fault_at, is_column}
+use Rattle.code_core.specs.ReadingSteps.{Begins, IsStuck, fault_without_token, is_column}
 use Rattle.code_core.proofs.TokenReading.{tokens_at-bad, tokens_at-short_run, tokens_at-stops, tokens_at-spelled, tokens_at-token, tokens_at-Spells}
 use Rattle.code_core.proofs.TokenReading.{Spells-tokens_at, length-Begins, length-spelled}
 use Rattle.code_core.proofs.ReaderCells.{unless_empty-some, unless_empty-none, cells_from-on_plane}
@@ -49,7 +49,7 @@ Passed_more text rest after token has_cell p b = record {
 }
 
 -- where no token begins, the fault is known
-tokens_at-stuck : (place : ℕ) (rest : List ℕ) (fault : WechslerFault) → IsStuck rest → fault_at place rest ≡ Some fault → tokens_at place rest ≡ Err fault
+tokens_at-stuck : (place : ℕ) (rest : List ℕ) (fault : WechslerFault) → IsStuck rest → fault_without_token place rest ≡ Some fault → tokens_at place rest ≡ Err fault
 tokens_at-stuck place [] fault stuck e = absurd (cc)
 tokens_at-stuck place (b ∷ rest) fault stuck e = go (is_character b) refl
   where
@@ -61,7 +61,7 @@ tokens_at-stuck place (b ∷ rest) fault stuck e = go (is_character b) refl
         rw s.0 (tokens_at-short_run place rest s.1 ∙ ap (λ (f : WechslerFault). Err f) f)
 
 pub Passed_fault : (text rest : List ℕ) (has_cell : Bool) (fault : WechslerFault) → Passed text rest has_cell → IsStuck rest
-    → fault_at (length text - length rest) rest ≡ Some fault → result_err (wechsler_pattern text) ≡ Some fault
+    → fault_without_token (length text - length rest) rest ≡ Some fault → result_err (wechsler_pattern text) ≡ Some fault
 Passed_fault text rest has_cell fault p stuck e =
     let at : length text - length rest ≡ 0 + length (flat_map spelling p.tokens) =
     omega (arith, ap length p.whole, length-append (flat_map spelling p.tokens) rest) in
@@ -69,20 +69,20 @@ Passed_fault text rest has_cell fault p stuck e =
     (tokens_at-stuck (length text - length rest) rest fault stuck e)) refl
 
 -- and at the end it is known whether there is a cell
-fault_at-none : (place : ℕ) (rest : List ℕ) → fault_at place rest ≡ None → rest ≡ []
+fault_at-none : (place : ℕ) (rest : List ℕ) → fault_without_token place rest ≡ None → rest ≡ []
 fault_at-none place [] e = refl
 fault_at-none place (b ∷ rest) e = absurd (cc)
 
-Passed_spells : (text rest : List ℕ) (has_cell : Bool) (place : ℕ) (p : Passed text rest has_cell) → fault_at place rest ≡ None → tokens_at 0 text ≡ Ok p.tokens
+Passed_spells : (text rest : List ℕ) (has_cell : Bool) (place : ℕ) (p : Passed text rest has_cell) → fault_without_token place rest ≡ None → tokens_at 0 text ≡ Ok p.tokens
 Passed_spells text rest has_cell place p e =
     ap (λ (t : List ℕ). tokens_at 0 t) (p.whole ∙ ap (λ (more : List ℕ). flat_map spelling p.tokens ++ more) (fault_at-none place rest e)
     ∙ append-nil (flat_map spelling p.tokens)) ∙ tokens_at-spelled p.tokens p.each 0
 
-pub Passed_empty : (text rest : List ℕ) (has_cell : Bool) (place : ℕ) → Passed text rest has_cell → fault_at place rest ≡ None → has_cell ≡ false
+pub Passed_empty : (text rest : List ℕ) (has_cell : Bool) (place : ℕ) → Passed text rest has_cell → fault_without_token place rest ≡ None → has_cell ≡ false
     → result_err (wechsler_pattern text) ≡ Some Empty
 Passed_empty text rest has_cell place p e none = rw (Passed_spells text rest has_cell place p e, unless_empty-none p.tokens (sym p.columns ∙ none)) refl
 
-pub Passed_cells : (text rest : List ℕ) (has_cell : Bool) (place : ℕ) → Passed text rest has_cell → fault_at place rest ≡ None → has_cell ≡ true
+pub Passed_cells : (text rest : List ℕ) (has_cell : Bool) (place : ℕ) → Passed text rest has_cell → fault_without_token place rest ≡ None → has_cell ≡ true
     → result_err (wechsler_pattern text) ≡ None
 Passed_cells text rest has_cell place p e some = rw (Passed_spells text rest has_cell place p e, unless_empty-some p.tokens p.each (sym p.columns ∙ some)) refl
 
@@ -160,18 +160,18 @@ Gathered_all text rest cells strip x g stuck tokens s =
 pub record IsSound (text : List ℕ) : Type 0 where
   pub tokens : List Token
   pub spells : Spells tokens text
-  pub pattern : wechsler_pattern text ≡ Ok (cells_of tokens)
+  pub pattern : wechsler_pattern text ≡ Ok (token_cells tokens)
 
 pub sound : (text : List ℕ) → result_err (wechsler_pattern text) ≡ None → IsSound text
 sound text h = go (tokens_at 0 text) refl
   where
-    some : (tokens : List Token) (cells : List Cell) → cells ≡ cells_of tokens → tokens_at 0 text ≡ Ok tokens
-        → result_err (unless_empty cells) ≡ None → wechsler_pattern text ≡ Ok (cells_of tokens)
+    some : (tokens : List Token) (cells : List Cell) → cells ≡ token_cells tokens → tokens_at 0 text ≡ Ok tokens
+        → result_err (unless_empty cells) ≡ None → wechsler_pattern text ≡ Ok (token_cells tokens)
     some tokens [] is e none = absurd (cc)
     some tokens (c ∷ cells) is e none = rw (e, ← is) refl
 
     go : (r : Result (List Token) WechslerFault) → tokens_at 0 text ≡ r → IsSound text
-    go (Ok tokens) e = record { tokens = tokens; spells = Spells-tokens_at tokens text 0 e; pattern = some tokens (cells_of tokens) refl e (rw e at h) }
+    go (Ok tokens) e = record { tokens = tokens; spells = Spells-tokens_at tokens text 0 e; pattern = some tokens (token_cells tokens) refl e (rw e at h) }
     go (Err fault) e = absurd (let k = rw e at h in cc)
 
 -- the cells of a short text lie on the plane

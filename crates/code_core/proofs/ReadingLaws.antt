@@ -12,9 +12,9 @@ use Rattle.code_core.specs.declared.reader.WechslerError.{WechslerError}
 use Rattle.code_core.specs.declared.reader.WechslerError.TheVariants.{Fault, Memory}
 use Rattle.code_core.specs.declared.reader.WechslerFault.{WechslerFault}
 use Rattle.code_core.specs.declared.reader.WechslerFault.TheVariants.{TooLong, BadByte, ShortRun, Empty}
-use Rattle.code_core.specs.Columns.{cells_of}
+use Rattle.code_core.specs.Columns.{token_cells}
 use Rattle.code_core.specs.Tokens.{spelling, is_character}
-use Rattle.code_core.specs.Reading.{tokens_at, unless_empty, pattern_of, wechsler_pattern, wechsler_read, Says, IsBadByte, IsShortRun}
+use Rattle.code_core.specs.Reading.{tokens_at, unless_empty, pattern_of_tokens, wechsler_pattern, wechsler_read, Says, IsBadByte, IsShortRun}
 use Rattle.code_core.specs.ReadingSteps.{has_character}
 use Rattle.code_core.proofs.TokenReading.{Outcome, tokens_at-outcome, Stops, IsBad, IsShort, Stops-bad, Stops-short, tokens_at-Stops_bad}
 use Rattle.code_core.proofs.TokenReading.{tokens_at-Stops_short, tokens_at-Spells, Spells-tokens_at}
@@ -35,10 +35,10 @@ short-read text cells e = go (nat_lt 10000 (length text)) refl
     go false h = grind (arith, nat_tests)
 
 -- the tokens and the cells of a pattern that is read
-Says-pattern_of : (text : List ℕ) (r : Result (List Token) WechslerFault) (cells : List Cell) → tokens_at 0 text ≡ r → pattern_of r ≡ Ok cells → Says text cells
-Says-pattern_of text (Ok tokens) cells t e = record { tokens = tokens; spells = Spells-tokens_at tokens text 0 t; pattern = go (cells_of tokens) refl e }
+Says-pattern_of : (text : List ℕ) (r : Result (List Token) WechslerFault) (cells : List Cell) → tokens_at 0 text ≡ r → pattern_of_tokens r ≡ Ok cells → Says text cells
+Says-pattern_of text (Ok tokens) cells t e = record { tokens = tokens; spells = Spells-tokens_at tokens text 0 t; pattern = go (token_cells tokens) refl e }
   where
-    go : (ds : List Cell) → cells_of tokens ≡ ds → unless_empty ds ≡ Ok cells → cells ≡ cells_of tokens
+    go : (ds : List Cell) → token_cells tokens ≡ ds → unless_empty ds ≡ Ok cells → cells ≡ token_cells tokens
     go [] is h = absurd (cc)
     go (d ∷ ds) is h = let k : d ∷ ds ≡ cells = cc in sym k ∙ sym is
 Says-pattern_of text (Err fault) cells t e = absurd (cc)
@@ -56,8 +56,8 @@ wechsler_read-Says text cells s some short =
     read-short text short ∙ rw (tokens_at-Spells s.tokens text 0 s.spells, ← s.pattern) (unless_empty-some cells some)
 
 -- a fault other than that of no cell is one of the tokens
-pattern_of-err : (r : Result (List Token) WechslerFault) (fault : WechslerFault) → fault ≢ Empty → pattern_of r ≡ Err fault → r ≡ Err fault
-pattern_of-err (Ok tokens) fault other e = absurd (go (cells_of tokens) e)
+pattern_of-err : (r : Result (List Token) WechslerFault) (fault : WechslerFault) → fault ≢ Empty → pattern_of_tokens r ≡ Err fault → r ≡ Err fault
+pattern_of-err (Ok tokens) fault other e = absurd (go (token_cells tokens) e)
   where
     go : (cells : List Cell) → unless_empty cells ≡ Err fault → ⊥
     go [] h = other (cc)
@@ -84,8 +84,8 @@ no_cell text short = (
       ∙ rw (tokens_at-Spells s.tokens text 0 s.spells, ← s.pattern) refl,
 )
   where
-    there : (r : Result (List Token) WechslerFault) → tokens_at 0 text ≡ r → pattern_of r ≡ Err Empty → Says text []
-    there (Ok tokens) t e = record { tokens = tokens; spells = Spells-tokens_at tokens text 0 t; pattern = go (cells_of tokens) e }
+    there : (r : Result (List Token) WechslerFault) → tokens_at 0 text ≡ r → pattern_of_tokens r ≡ Err Empty → Says text []
+    there (Ok tokens) t e = record { tokens = tokens; spells = Spells-tokens_at tokens text 0 t; pattern = go (token_cells tokens) e }
       where
         go : (cells : List Cell) → unless_empty cells ≡ Err Empty → [] ≡ cells
         go [] h = refl

@@ -2,7 +2,7 @@
 use Rattle.std.proofs.Common.{◌≡◌, ◌∙◌, ap, refl, ℕ, ◌≤◌, false, List, [], ◌∷◌, Some, Ok, arith, length, nat_lt, le-ltb}
 use Rattle.plane_core.specs.declared.cell.Cell.{Cell}
 use Rattle.plane_core.specs.Bounds.{at_corner}
-use Rattle.code_core.specs.Reading.{TextsAreRead, pattern_of, unless_empty, wechsler_pattern, wechsler_read}
+use Rattle.code_core.specs.Reading.{TextsAreRead, pattern_of_tokens, unless_empty, wechsler_pattern, wechsler_read}
 use Rattle.code_core.specs.Texts.{text}
 use Rattle.code_core.proofs.TokenReading.{tokens_at-Spells}
 use Rattle.code_core.proofs.TextLaw.{texts_have_their_shape, texts_spell_patterns}
@@ -21,6 +21,6 @@ pub texts_are_read : TextsAreRead
 texts_are_read cells t order is =
     let spelled = texts_spell_patterns cells t order is in
     looked_at t (omega (arith, (texts_have_their_shape cells t is).short))
-    ∙ ap pattern_of (tokens_at-Spells spelled.0 t 0 spelled.1)
+    ∙ ap pattern_of_tokens (tokens_at-Spells spelled.0 t 0 spelled.1)
     ∙ ap unless_empty spelled.3
     ∙ not_empty cells t is

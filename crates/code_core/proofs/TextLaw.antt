@@ -14,7 +14,7 @@ use Rattle.plane_core.proofs.PlacementLemmas.{in_order-shifted}
 use Rattle.plane_core.proofs.PlaintextBox.{within-box_of}
 use Rattle.plane_core.proofs.SetLemmas.{has-all, has-append, has-filter, has-head, is_set_of, or_right}
 use Rattle.code_core.specs.declared.token.Token.{Token}
-use Rattle.code_core.specs.Columns.{cells_of}
+use Rattle.code_core.specs.Columns.{token_cells}
 use Rattle.code_core.specs.Texts.{HasTextShape, TextsHaveTheirShape, TextsSpellPatterns, boxed_text, fits_forty_square, text, tokens_of}
 use Rattle.code_core.proofs.StripLemmas.{spelled}
 use Rattle.code_core.proofs.TextLemmas.{tokens_of-lawful, tokens_of-shape}
@@ -67,7 +67,7 @@ size_of z h = omega (arith, ints)
 abbrev LiesInside : List Cell → ℕ → ℕ → Type 0
 LiesInside cells right bottom = (c : Cell) → has cells c ≡ true → (x : ℕ) × (y : ℕ) × (c ≡ cell_at (pos x) (pos y)) × (x ≤ right) × (y ≤ bottom)
 
-cells_of-tokens : (cells : List Cell) (right bottom : ℕ) → InOrder cells → LiesInside cells right bottom → cells_of (tokens_of cells right bottom) ≡ cells
+cells_of-tokens : (cells : List Cell) (right bottom : ℕ) → InOrder cells → LiesInside cells right bottom → token_cells (tokens_of cells right bottom) ≡ cells
 unfolding tokens_of
 cells_of-tokens cells right bottom o inside =
     let width = right + 1 in

@@ -12,7 +12,7 @@ use Rattle.plane_core.specs.declared.cell.Cell.{Cell}
 use Rattle.code_core.specs.declared.token.Token.{Token}
 use Rattle.code_core.specs.declared.token.Token.TheVariants.{Column, Gap, NextStrip}
 use Rattle.code_core.specs.Columns.{column, value_of}
-use Rattle.code_core.specs.Texts.{HasTextShape, before, joined, strip, strip_tokens, tokens_of}
+use Rattle.code_core.specs.Texts.{HasTextShape, before, joined_strips, strip, strip_tokens, tokens_of}
 use Rattle.code_core.specs.Tokens.{IsToken, character, gap_text, is_character, spelling}
 use Rattle.code_core.proofs.StripLemmas.{spelled}
 use Rattle.code_core.proofs.TokenReading.{is_character-character}
@@ -63,12 +63,12 @@ lawful-strip (value ∷ values) most few =
     lawful-before value (strip_tokens values) (most 0 0 (omega arith)) (omega (arith, reach-strip (value ∷ values)))
     (lawful-strip values (All-tail (λ value. value ≤ 31) value values most) (omega arith))
 
-lawful-joined : (strips : List (List Token)) → All (All IsToken) strips → All IsToken (joined strips)
+lawful-joined : (strips : List (List Token)) → All (All IsToken) strips → All IsToken (joined_strips strips)
 lawful-joined [] all = All-nil IsToken
 lawful-joined (tokens ∷ []) all = all 0 [] (omega arith)
 lawful-joined (tokens ∷ more ∷ strips) all =
-    All-append IsToken tokens (NextStrip ∷ joined (more ∷ strips)) (all 0 [] (omega arith))
-    (All-cons IsToken NextStrip (joined (more ∷ strips)) tt (lawful-joined (more ∷ strips) (All-tail (All IsToken) tokens (more ∷ strips) all)))
+    All-append IsToken tokens (NextStrip ∷ joined_strips (more ∷ strips)) (all 0 [] (omega arith))
+    (All-cons IsToken NextStrip (joined_strips (more ∷ strips)) tt (lawful-joined (more ∷ strips) (All-tail (All IsToken) tokens (more ∷ strips) all)))
 
 -- a strip of a box that is at most 40 wide
 lawful-strip_of : (cells : List Cell) (right k : ℕ) → right < 40 → All IsToken (strip_tokens (strip cells (right + 1) k))
@@ -121,15 +121,15 @@ length-strip_of cells right k h = omega (arith, length-strip (strip cells (right
 
 -- each strip adds at most 40 bytes, and one to begin the next
 length-joined : (tokens : List Token) (strips : List (List Token)) → All (λ tokens. length (spelled tokens) ≤ 40) (tokens ∷ strips)
-    → length (spelled (joined (tokens ∷ strips))) ≤ 41 * length strips + 40
+    → length (spelled (joined_strips (tokens ∷ strips))) ≤ 41 * length strips + 40
 length-joined tokens [] all = let h = all 0 [] (omega arith) in omega arith
 length-joined tokens (more ∷ strips) all =
     let h = all 0 [] (omega arith) in
     let rest = length-joined more strips (All-tail (λ tokens. length (spelled tokens) ≤ 40) tokens (more ∷ strips) all) in
-    rw (flat_map-append spelling tokens (NextStrip ∷ joined (more ∷ strips)), length-append) (omega arith)
+    rw (flat_map-append spelling tokens (NextStrip ∷ joined_strips (more ∷ strips)), length-append) (omega arith)
 
 -- at most eight strips
-few_strips : (strips : List (List Token)) → All (λ tokens. length (spelled tokens) ≤ 40) strips → length strips ≤ 8 → length (spelled (joined strips)) ≤ 327
+few_strips : (strips : List (List Token)) → All (λ tokens. length (spelled tokens) ≤ 40) strips → length strips ≤ 8 → length (spelled (joined_strips strips)) ≤ 327
 few_strips [] all few = omega arith
 few_strips (tokens ∷ strips) all few = omega (arith, length-joined tokens strips all)
 

@@ -9,7 +9,7 @@ use Rattle.plane_core.specs.Cells.{cell_at, has}
 use Rattle.code_core.specs.declared.token.Token.{Token}
 use Rattle.code_core.specs.declared.token.Token.TheVariants.{Column, Gap, NextStrip}
 use Rattle.code_core.specs.Columns.{cells_from, column, is_lit, lit_cells, value_of}
-use Rattle.code_core.specs.Texts.{before, joined, strip, strip_tokens}
+use Rattle.code_core.specs.Texts.{before, joined_strips, strip, strip_tokens}
 use Rattle.code_core.proofs.TextLemmas.{one_at_most}
 
 -- ---- a column's value has each of its cells in it
@@ -146,7 +146,7 @@ strip_next k tokens a b = refl
 
 -- the cells of the tokens of some strips, from strip k on
 pub cells_from-joined : (cells : List Cell) (width k n : ℕ) → cells_from k 0
-    (joined (map (λ k. strip_tokens (strip cells width k)) (range_with_len k n))) ≡ filter (has cells) (box_cells width k n)
+    (joined_strips (map (λ k. strip_tokens (strip cells width k)) (range_with_len k n))) ≡ filter (has cells) (box_cells width k n)
 unfolding cells_from
 cells_from-joined cells width k zero = refl
 cells_from-joined cells width k (suc zero) =
@@ -156,7 +156,7 @@ cells_from-joined cells width k (suc zero) =
     ∙ sym (filter-append p (strip_cells width k) [])
 cells_from-joined cells width k (suc (suc n)) =
     let p = has cells in
-    let rest = joined (map (λ k. strip_tokens (strip cells width k)) (range_with_len (k + 1) (suc n))) in
+    let rest = joined_strips (map (λ k. strip_tokens (strip cells width k)) (range_with_len (k + 1) (suc n))) in
     cells_from-strip cells k 0 width (NextStrip ∷ rest) (strip_next k rest)
     ∙ ap (λ cs. filter p (strip_cells width k) ++ cs) (cells_from-joined cells width (k + 1) (suc n))
     ∙ sym (filter-append p (strip_cells width k) (box_cells width (k + 1) (suc n)))

@@ -4,7 +4,7 @@ use Rattle.std.specs.List.{AllByRecursion, range_with_len}
 use Rattle.plane_core.specs.declared.cell.Cell.{Cell}
 use Rattle.code_core.specs.declared.token.Token.{Token}
 use Rattle.code_core.specs.declared.token.Token.TheVariants.{Column, Gap, NextStrip}
-use Rattle.code_core.specs.Texts.{BeginsWithColumn, GapsAreWhole, before, joined, strip, strip_tokens, tokens_of}
+use Rattle.code_core.specs.Texts.{BeginsWithColumn, GapsAreWhole, before, joined_strips, strip, strip_tokens, tokens_of}
 
 -- the gaps are whole, and there is one strip
 abbrev IsWholeStrip : List Token → Type 0
@@ -43,10 +43,10 @@ whole-alone (Gap n ∷ tokens) one = (one.0, whole-alone tokens one.1)
 whole-alone (Column value ∷ tokens) one = whole-alone tokens one
 whole-alone (NextStrip ∷ tokens) one = absurd one
 
-whole-joined : (strips : List (List Token)) → AllByRecursion IsWholeStrip strips → GapsAreWhole (joined strips)
+whole-joined : (strips : List (List Token)) → AllByRecursion IsWholeStrip strips → GapsAreWhole (joined_strips strips)
 whole-joined [] all = tt
 whole-joined (tokens ∷ []) all = whole-alone tokens all.0
-whole-joined (tokens ∷ more ∷ strips) all = whole-then tokens (joined (more ∷ strips)) all.0 (whole-joined (more ∷ strips) all.1)
+whole-joined (tokens ∷ more ∷ strips) all = whole-then tokens (joined_strips (more ∷ strips)) all.0 (whole-joined (more ∷ strips) all.1)
 
 whole-each : (cells : List Cell) (width : ℕ) (ks : List ℕ) → AllByRecursion IsWholeStrip (map (λ k. strip_tokens (strip cells width k)) ks)
 whole-each cells width [] = tt

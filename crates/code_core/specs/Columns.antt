@@ -16,12 +16,12 @@ abbrev pub is_lit : ℕ → ℕ → Bool
 is_lit value i = (value / 2 ^ i) % 2 == 1
 
 -- the five rows of strip k, from row 5k on
-abbrev pub rows_of : ℕ → List ℕ
-rows_of k = range_with_len (5 * k) 5
+abbrev pub strip_rows : ℕ → List ℕ
+strip_rows k = range_with_len (5 * k) 5
 
 -- the value of column x of strip k, of which the top cell counts 1
 unfoldable pub column : List Cell → ℕ → ℕ → ℕ
-column cells k x = value_of (map (λ y. has cells (cell_at (pos x) (pos y))) (rows_of k))
+column cells k x = value_of (map (λ y. has cells (cell_at (pos x) (pos y))) (strip_rows k))
 
 -- the cells that a value stands for, as column x of strip k
 unfoldable pub lit_cells : ℕ → ℕ → ℕ → List Cell
@@ -35,5 +35,5 @@ cells_from k x (Gap n ∷ tokens) = cells_from k (x + n) tokens
 cells_from k x (NextStrip ∷ tokens) = cells_from (k + 1) 0 tokens
 
 -- the pattern of some tokens, whose first strip has its top left at (0, 0)
-abbrev pub cells_of : List Token → List Cell
-cells_of tokens = set_of (cells_from 0 0 tokens)
+abbrev pub token_cells : List Token → List Cell
+token_cells tokens = set_of (cells_from 0 0 tokens)

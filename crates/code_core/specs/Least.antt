@@ -11,10 +11,10 @@ use Rattle.code_core.specs.Names.{IsLeastOf, kind_of, number_of, text_cmp}
 use Rattle.code_core.specs.Texts.{text}
 
 -- the earlier of two texts, where there are two
-abbrev pub earlier_of : Option (List ℕ) → Option (List ℕ) → Option (List ℕ)
-earlier_of None b = b
-earlier_of (Some a) None = Some a
-earlier_of (Some a) (Some b) = match_ordering (text_cmp a b) (Some a) (Some a) (Some b)
+abbrev pub earlier_text : Option (List ℕ) → Option (List ℕ) → Option (List ℕ)
+earlier_text None b = b
+earlier_text (Some a) None = Some a
+earlier_text (Some a) (Some b) = match_ordering (text_cmp a b) (Some a) (Some a) (Some b)
 
 -- a text of one of the first n groups
 abbrev pub Among : (ℕ → List ℕ → Type 0) → ℕ → List ℕ → Type 0

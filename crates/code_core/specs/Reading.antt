@@ -8,7 +8,7 @@ use Rattle.code_core.specs.declared.token.Token.{Token}
 use Rattle.code_core.specs.declared.token.Token.TheVariants.{Column, Gap, NextStrip}
 use Rattle.code_core.specs.declared.reader.WechslerFault.{WechslerFault}
 use Rattle.code_core.specs.declared.reader.WechslerFault.TheVariants.{TooLong, BadByte, ShortRun, Empty}
-use Rattle.code_core.specs.Columns.{cells_of}
+use Rattle.code_core.specs.Columns.{token_cells}
 use Rattle.code_core.specs.Texts.{text}
 use Rattle.code_core.specs.Tokens.{Spells, is_character}
 
@@ -55,13 +55,13 @@ unless_empty [] = Err Empty
 unless_empty (c ∷ cs) = Ok (c ∷ cs)
 
 -- the pattern of the tokens, or the fault
-abbrev pub pattern_of : Result (List Token) WechslerFault → Result (List Cell) WechslerFault
-pattern_of (Ok tokens) = unless_empty (cells_of tokens)
-pattern_of (Err fault) = Err fault
+abbrev pub pattern_of_tokens : Result (List Token) WechslerFault → Result (List Cell) WechslerFault
+pattern_of_tokens (Ok tokens) = unless_empty (token_cells tokens)
+pattern_of_tokens (Err fault) = Err fault
 
 -- the pattern of a text
 abbrev pub wechsler_pattern : List ℕ → Result (List Cell) WechslerFault
-wechsler_pattern text = pattern_of (tokens_at 0 text)
+wechsler_pattern text = pattern_of_tokens (tokens_at 0 text)
 
 -- the pattern of a text of at most 10,000 bytes: this project's choice, far above the 327 of the longest text of a pattern
 abbrev pub wechsler_read : List ℕ → Result (List Cell) WechslerFault
@@ -71,7 +71,7 @@ wechsler_read text = if nat_lt 10000 (length text) then Err TooLong else wechsle
 pub record Says (text : List ℕ) (cells : List Cell) : Type 0 where
   pub tokens : List Token
   pub spells : Spells tokens text
-  pub pattern : cells ≡ cells_of tokens
+  pub pattern : cells ≡ token_cells tokens
 
 -- tokens spell the bytes before the place, and the byte there is no character
 pub record IsBadByte (text : List ℕ) (place : ℕ) : Type 0 where

@@ -22,9 +22,9 @@ IsStuck [] = Unit {0}
 IsStuck (b ∷ rest) = is_character b ≡ true → (b ≡ 121) × (has_character rest ≡ false)
 
 -- the fault at this place, where no token begins
-abbrev pub fault_at : ℕ → List ℕ → Option WechslerFault
-fault_at place [] = None
-fault_at place (b ∷ rest) = Some (if is_character b then ShortRun place else BadByte place)
+abbrev pub fault_without_token : ℕ → List ℕ → Option WechslerFault
+fault_without_token place [] = None
+fault_without_token place (b ∷ rest) = Some (if is_character b then ShortRun place else BadByte place)
 
 -- the token is a column, which has a live cell
 abbrev pub is_column : Token → Bool

@@ -8,7 +8,7 @@ use Rattle.plane_core.specs.Bounds.{at_corner, box_of}
 use Rattle.plane_core.specs.Cells.{InOrder, distance}
 use Rattle.code_core.specs.declared.token.Token.{Token}
 use Rattle.code_core.specs.declared.token.Token.TheVariants.{Column, Gap, NextStrip}
-use Rattle.code_core.specs.Columns.{cells_of, column}
+use Rattle.code_core.specs.Columns.{token_cells, column}
 use Rattle.code_core.specs.Tokens.{Spells, is_character, spelling}
 
 -- a column before the tokens of a strip: an empty one is left out at the strip's end, and else it lengthens the gap that follows or makes one
@@ -28,14 +28,14 @@ abbrev pub strip : List Cell → ℕ → ℕ → List ℕ
 strip cells width k = map (column cells k) (range_with_len 0 width)
 
 -- strips one below another
-abbrev pub joined : List (List Token) → List Token
-joined [] = []
-joined (tokens ∷ []) = tokens
-joined (tokens ∷ more ∷ strips) = tokens ++ NextStrip ∷ joined (more ∷ strips)
+abbrev pub joined_strips : List (List Token) → List Token
+joined_strips [] = []
+joined_strips (tokens ∷ []) = tokens
+joined_strips (tokens ∷ more ∷ strips) = tokens ++ NextStrip ∷ joined_strips (more ∷ strips)
 
 -- the tokens of a pattern that lies at the corner and whose cells have columns up to right and rows up to bottom: a strip for each five rows
 unfoldable pub tokens_of : List Cell → ℕ → ℕ → List Token
-tokens_of cells right bottom = joined (map (λ k. strip_tokens (strip cells (right + 1) k)) (range_with_len 0 (bottom / 5 + 1)))
+tokens_of cells right bottom = joined_strips (map (λ k. strip_tokens (strip cells (right + 1) k)) (range_with_len 0 (bottom / 5 + 1)))
 
 -- the box is at most 40 columns by 40 rows: a larger object has no text (LifeWiki, "Apgcode")
 abbrev pub fits_forty_square : Bounds → Bool
@@ -70,7 +70,7 @@ GapsAreWhole (NextStrip ∷ tokens) = GapsAreWhole tokens
 -- each text is that of tokens whose gaps are whole, and whose cells are the pattern, moved to the corner
 abbrev pub TextsSpellPatterns : Type 0
 TextsSpellPatterns = (cells : List Cell) (t : List ℕ) → InOrder cells → text cells ≡ Some t
-    → (tokens : List Token) × Spells tokens t × GapsAreWhole tokens × (cells_of tokens ≡ at_corner cells)
+    → (tokens : List Token) × Spells tokens t × GapsAreWhole tokens × (token_cells tokens ≡ at_corner cells)
 
 -- a text has at most 327 bytes, which is 40 for each of eight strips and a `z` between each two, and all are `0` to `9` and `a` to `z`
 pub record HasTextShape (t : List ℕ) : Type 0 where

@@ -1,7 +1,9 @@
-ghost use Rattle.std.specs.Prelude.{◌≡◌, ◌<◌, ◌^◌, ℕ, Some, ◌++◌, IfOk, OnOk, IfSome, List, Option, nat_eq, option_map, refl, string_bytes};
+ghost use Rattle.std.specs.Prelude.{◌≡◌, ◌<◌, ◌^◌, ℕ, Some, ◌++◌, IfOk, OnOk, IfSome, List, Option, nat_eq, option_map};
+ghost use Rattle.std.specs.Prelude.{refl, string_bytes};
 ghost use Rattle.std.specs.Ordering.{nat_cmp};
 ghost use Rattle.std.specs.Hash as fed;
-ghost use Rattle.std.specs.Cmp.Lexicographic.{pointwise, slice_cmp, nat_list_eq_equiv, nat_list_cmp_total, texts_ties, texts_po};
+ghost use Rattle.std.specs.Cmp.Lexicographic.{pointwise, slice_cmp, nat_list_eq_equiv, nat_list_cmp_total, texts_ties};
+ghost use Rattle.std.specs.Cmp.Lexicographic.{texts_po};
 ghost use Rattle.std.specs.Cmp.{partial_equiv_from_equiv};
 ghost use Rattle.std.specs.Cmp.Rules.{hashing};
 ghost use Rattle.std.proofs.Common.{rules};
@@ -63,7 +65,8 @@ impl Model for Apgcode {
 
     ghost view = { λ a. string_bytes a.text };
 
-    ghost invariant = { λ a. (kind_in (string_bytes a.text) ≡ a.kind) × (number_in (string_bytes a.text) ≡ a.number) × HasCodeShape (string_bytes a.text) };
+    ghost invariant = { λ a. (kind_in (string_bytes a.text) ≡ a.kind) × (number_in (string_bytes a.text) ≡ a.number)
+        × HasCodeShape (string_bytes a.text) };
 }
 
 impl Apgcode {
@@ -126,7 +129,8 @@ impl Apgcode {
 #[tactic(auto, using(crate::proofs::ApgcodeLemmas::kind_of_name, crate::proofs::ApgcodeLemmas::number_of_name))]
 pub fn readings()
     ensures kind { (kind : Kind) (number : ℕ) (text : Option (List ℕ)) → kind_in (code_text kind number text) ≡ kind }
-    ensures number { (kind : Kind) (number : ℕ) (text : Option (List ℕ)) → number < 2 ^ 64 → number_in (code_text kind number text) ≡ number }
+    ensures number { (kind : Kind) (number : ℕ) (text : Option (List ℕ)) → number < 2 ^ 64
+        → number_in (code_text kind number text) ≡ number }
 {}
 
 /// The text of a name.
@@ -154,7 +158,8 @@ fn opening(text: Option<&str>) -> &'static str
 
 /// Adds the end of a name.
 fn push_ending(code: &mut String, text: Option<&str>) -> Result<(), AllocError>
-    ensures { OnOk result (string_bytes code.new ≡ string_bytes code.old ++ ending (option_map (λ t. t.now) text.entry)) }
+    ensures { OnOk result
+        (string_bytes code.new ≡ string_bytes code.old ++ ending (option_map (λ t. t.now) text.entry)) }
 {
     let Some(text) = text else {
         return Ok(());

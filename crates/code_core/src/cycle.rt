@@ -1,4 +1,5 @@
-ghost use Rattle.std.specs.Prelude.{◌≡◌, ◌≢◌, ◌++◌, ◌<◌, ◌≤◌, ◌+◌, ℕ, suc, [], ◌∷◌, Err, true, IfOk, IfSome, IfNone, OnOk, IsErrOf};
+ghost use Rattle.std.specs.Prelude.{◌≡◌, ◌≢◌, ◌++◌, ◌<◌, ◌≤◌, ◌+◌, ℕ, suc, [], ◌∷◌, Err, true, IfOk, IfSome, IfNone};
+ghost use Rattle.std.specs.Prelude.{OnOk, IsErrOf};
 ghost use Rattle.plane_core.specs.Cells.{plane_bound};
 ghost use Rattle.plane_core.specs.Generations.{lies_within, touches_edge};
 ghost use Rattle.code_core.specs.Recurrences.{IsNew, MeetsEdge, Recurs, StaysInside, phases};
@@ -27,12 +28,14 @@ pub(crate) fn follow(
     requires pattern { pattern.now ≢ [] }
     requires least { 1 ≤ limit }
     ensures recurs { IfOk result (λ found. IfSome found (λ cycle. Recurs rule.now pattern.now limit cycle.recurrence)) }
-    ensures phases { IfOk result (λ found. IfSome found (λ cycle. cycle.phases.items ≡ phases rule.now pattern.now cycle.recurrence.period)) }
+    ensures phases { IfOk result
+        (λ found. IfSome found (λ cycle. cycle.phases.items ≡ phases rule.now pattern.now cycle.recurrence.period)) }
     ensures never { IfOk result (λ found. IfNone found (IsNew rule.now pattern.now limit)) }
     ensures inside { OnOk result (StaysInside rule.now pattern.now limit) }
     ensures edge { IsErrOf result StepError.Edge → MeetsEdge rule.now pattern.now limit }
     ensures edge_first { touches_edge pattern.now ≡ true → result ≡ Err StepError.Edge }
-    ensures never_edge { (reach : ℕ) → lies_within reach pattern.now ≡ true → reach + limit ≤ plane_bound → result ≢ Err StepError.Edge }
+    ensures never_edge { (reach : ℕ) → lies_within reach pattern.now ≡ true → reach + limit ≤ plane_bound
+        → result ≢ Err StepError.Edge }
 {
     if touches_edge(pattern) {
         return Err(StepError::Edge);

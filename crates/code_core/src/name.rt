@@ -13,15 +13,17 @@
 //!
 //! Each phase is made once and kept, and no text is made of a pattern that doesn't come back.
 
-ghost use Rattle.std.specs.Prelude.{Option, ℕ, ◌≡◌, ◌≢◌, ◌<◌, ◌≤◌, ◌+◌, [], Some, Err, true, length, option_map, string_bytes};
+ghost use Rattle.std.specs.Prelude.{Option, ℕ, ◌≡◌, ◌≢◌, ◌<◌, ◌≤◌, ◌+◌, [], Some, Err, true, length, option_map};
+ghost use Rattle.std.specs.Prelude.{string_bytes};
 ghost use Rattle.std.specs.Prelude.{IfOk, IfSome, IfNone, OnOk, IsErrOf};
 ghost use Rattle.std.specs.Cmp.{IsTotalOrder};
 ghost use Rattle.plane_core.specs.Cells.{plane_bound};
 ghost use Rattle.plane_core.specs.Generations.{lies_within, touches_edge};
 ghost use Rattle.plane_core.specs.Orientations.{turned};
-ghost use Rattle.code_core.specs.Names.{CodesAreDetermined, CodesHaveTheirShape, CodesLater, CodesMoved, CodesTurned, IsCode, OnlyEqualTextsTie};
+ghost use Rattle.code_core.specs.Names.{CodesAreDetermined, CodesHaveTheirShape, CodesLater, CodesMoved, CodesTurned};
+ghost use Rattle.code_core.specs.Names.{IsCode, OnlyEqualTextsTie};
 ghost use Rattle.code_core.specs.Names.{IsLeastOf, kind_of, number_of, text_cmp};
-ghost use Rattle.code_core.specs.Least.{Among, IsImageAt, IsImageOf, IsNameBy, earlier_of};
+ghost use Rattle.code_core.specs.Least.{Among, IsImageAt, IsImageOf, IsNameBy, earlier_text};
 ghost use Rattle.code_core.specs.Recurrences.{IsNew, MeetsEdge, StaysInside};
 ghost use Rattle.code_core.specs.Texts.{text};
 
@@ -67,7 +69,8 @@ pub fn name(
     // The edge comes before memory where the pattern lies on it.
     ensures edge_first { touches_edge pattern.now ≡ true → result ≡ Err StepError.Edge }
     // No pattern gets to the edge faster than a cell a generation.
-    ensures never_edge { (reach : ℕ) → lies_within reach pattern.now ≡ true → reach + limit ≤ plane_bound → result ≢ Err StepError.Edge }
+    ensures never_edge { (reach : ℕ) → lies_within reach pattern.now ≡ true → reach + limit ≤ plane_bound
+        → result ≢ Err StepError.Edge }
 {
     match follow(alloc, pattern, rule, limit)? {
         Some(cycle) => Ok(Some(name_of(alloc, pattern, &cycle)?)),
@@ -93,7 +96,8 @@ pub fn codes_have_their_shape()
     ensures { CodesHaveTheirShape }
 {}
 
-/// The laws that a pattern keeps its name when it is moved, when it is turned or mirrored, and in each later generation.
+/// The laws that a pattern keeps its name when it is moved, when it is turned or mirrored, and in each later
+/// generation.
 #[tactic(auto, using(crate::proofs::MovedCodes::codes_moved, crate::proofs::TurnedCodes::codes_turned, crate::proofs::LaterCodes::codes_later))]
 pub fn codes_are_of_objects()
     ensures moved { CodesMoved }
@@ -134,7 +138,8 @@ fn kind_of(recurrence: Recurrence) -> Kind
 
 /// The least text of the phases in all orientations.
 fn least_text(alloc: Global, phases: &[Pattern]) -> Result<Option<String>, AllocError>
-    ensures { IfOk result (λ found. IsLeastOf (Among (IsImageOf phases.now) (length phases.now)) (option_map string_bytes found)) }
+    ensures { IfOk result
+        (λ found. IsLeastOf (Among (IsImageOf phases.now) (length phases.now)) (option_map string_bytes found)) }
 {
     let mut least = None;
     for phase in phases {
@@ -150,7 +155,9 @@ fn least_image(
     pattern: &Pattern,
     orientations: &[Orientation],
 ) -> Result<Option<String>, AllocError>
-    ensures { IfOk result (λ found. IsLeastOf (Among (IsImageAt orientations.now pattern.now) (length orientations.now)) (option_map string_bytes found)) }
+    ensures { IfOk result
+        (λ found. IsLeastOf (Among (IsImageAt orientations.now pattern.now) (length orientations.now))
+        (option_map string_bytes found)) }
 {
     let mut least = None;
     for orientation in orientations {
@@ -160,7 +167,8 @@ fn least_image(
     Ok(least)
 }
 
-/// The text of a pattern in an orientation, if it has one. An image that doesn't fit the plane is far too large for one.
+/// The text of a pattern in an orientation, if it has one. An image that doesn't fit the plane is far too large for
+/// one.
 fn image_text(
     alloc: Global,
     pattern: &Pattern,
@@ -177,7 +185,8 @@ fn image_text(
 
 /// The earlier of two texts, where there are two.
 fn earlier(one: Option<String>, other: Option<String>) -> Option<String>
-    ensures { option_map string_bytes result ≡ earlier_of (option_map string_bytes one) (option_map string_bytes other) }
+    ensures { option_map string_bytes result
+        ≡ earlier_text (option_map string_bytes one) (option_map string_bytes other) }
 {
     let Some(first) = one else {
         return other;

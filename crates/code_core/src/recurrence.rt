@@ -50,7 +50,8 @@ impl Recurrence {
         // The edge comes before memory where the pattern lies on it.
         ensures edge_first { touches_edge pattern.now ≡ true → result ≡ Err StepError.Edge }
         // No pattern gets to the edge faster than a cell a generation.
-        ensures never_edge { (reach : ℕ) → lies_within reach pattern.now ≡ true → reach + limit ≤ plane_bound → result ≢ Err StepError.Edge }
+        ensures never_edge { (reach : ℕ) → lies_within reach pattern.now ≡ true → reach + limit ≤ plane_bound
+            → result ≢ Err StepError.Edge }
     {
         let found = follow(alloc, pattern, rule, limit)?;
         Ok(found.map(|cycle| cycle.recurrence))

@@ -15,12 +15,14 @@
 //! So this pattern's text is `3x1zw1`. A column with a live cell is written together with the run of empty columns
 //! before it, and so nothing is written of a run that ends a strip.
 
-ghost use Rattle.std.specs.Prelude.{◌≡◌, ◌+◌, ◌<◌, ◌≤◌, ◌++◌, ◌∷◌, [], pos, Some, IfOk, OnOk, flat_map, option_map, replicate, if◌then◌else◌, ◌==◌};
+ghost use Rattle.std.specs.Prelude.{◌≡◌, ◌+◌, ◌<◌, ◌≤◌, ◌++◌, ◌∷◌, [], pos, Some, IfOk, OnOk, flat_map, option_map};
+ghost use Rattle.std.specs.Prelude.{replicate, if◌then◌else◌, ◌==◌};
 ghost use Rattle.std.specs.String.{string_bytes};
 ghost use Rattle.plane_core.specs.Bounds.{at_corner, box_of};
 ghost use Rattle.plane_core.specs.Cells.{cell_at, distance, has};
 ghost use Rattle.code_core.specs.Columns.{column};
-ghost use Rattle.code_core.specs.Texts.{TextsHaveTheirShape, TextsSpellPatterns, fits_forty_square, strip, strip_tokens, text, tokens_of};
+ghost use Rattle.code_core.specs.Texts.{TextsHaveTheirShape, TextsSpellPatterns, fits_forty_square, strip};
+ghost use Rattle.code_core.specs.Texts.{strip_tokens, text, tokens_of};
 ghost use Rattle.code_core.specs.Tokens.{character, gap_text, spelling};
 
 use plane_core::bounds::Bounds;
@@ -59,9 +61,9 @@ pub fn wechsler(alloc: Global, pattern: &Pattern) -> Result<Option<String>, Allo
     Ok(Some(text_in(alloc, pattern, bounds)?))
 }
 
-/// The laws of the texts of all patterns: each is spelled by tokens whose cells are the pattern, moved to the corner, with
-/// each run of empty columns in one piece and none at a strip's end; and it has at most 327 bytes, each one of `0` to
-/// `9` and `a` to `z`.
+/// The laws of the texts of all patterns: each is spelled by tokens whose cells are the pattern, moved to the corner,
+/// with each run of empty columns in one piece and none at a strip's end; and it has at most 327 bytes, each one of `0`
+/// to `9` and `a` to `z`.
 pub fn texts_spell_patterns()
     ensures spell { TextsSpellPatterns }
     ensures shape { TextsHaveTheirShape }

@@ -152,8 +152,8 @@ fn names_each_orientation(rt: HostRuntime) -> Result<(), Fail> {
     Ok(())
 }
 
-/// Blocks in 13 rows and 13 columns, which fill 40 by 40 cells: one empty row or column lies between two blocks, and two
-/// lie after the first and before the last.
+/// Blocks in 13 rows and 13 columns, which fill 40 by 40 cells: one empty row or column lies between two blocks, and
+/// two lie after the first and before the last.
 fn grid_of_blocks(alloc: Global) -> Result<Vec<Cell>, AllocError> {
     let starts: [i32; 13] = [0, 4, 7, 10, 13, 16, 19, 22, 25, 28, 31, 34, 38];
     let mut cells = Vec::new(alloc);

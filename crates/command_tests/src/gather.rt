@@ -18,7 +18,8 @@ pub(crate) const SMALL: ProfileNumbers = ProfileNumbers {
     limit: 0,
 };
 
-/// Lines of version 1 on soups 0 to 3 of the empty seed: none is a still life. The third comes twice, and the last is cut.
+/// Lines of version 1 on soups 0 to 3 of the empty seed: none is a still life. The third comes twice, and the last is
+/// cut.
 pub(crate) const LINES: &[u8] =
     b"report 1 rule=b3s23 profile=1,1,1,0 seed= worker=1 soup=3 unsettled\n\
     report 1 rule=b3s23 profile=1,1,1,0 seed= worker=2 soup=0 unsettled\n\
@@ -75,7 +76,7 @@ pub(crate) fn set_of(seed: &str, first: u64, count: u64) -> SoupSet<'_> {
 }
 
 /// What gathering an input for two workers leaves.
-fn gathered(rt: &impl AllocGlobal, set: SoupSet<'_>, input: &[u8]) -> Left {
+pub(crate) fn gathered(rt: &impl AllocGlobal, set: SoupSet<'_>, input: &[u8]) -> Left {
     let mut input = input;
     let mut output = Out::new(Vec::new(rt.alloc()));
     let mut errors = Out::new(Vec::new(rt.alloc()));

@@ -6,6 +6,8 @@ pub mod call;
 #[cfg(test)]
 mod gather;
 #[cfg(test)]
+mod large;
+#[cfg(test)]
 mod name;
 #[cfg(test)]
 mod progress;

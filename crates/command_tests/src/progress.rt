@@ -30,9 +30,15 @@ pub(crate) fn line_on<W: Write>(
     Progress::new(rt.alloc(), writer, Ticking(Cell::new(0)), is_shown)
 }
 
-/// Tells the line of twelve soups, of which some are taken in the first 400 milliseconds.
+/// Tells the line of twelve soups, of which some are taken in the first 400 milliseconds, by sixteen workers.
 fn tell(line: &mut impl Watch) {
-    line.begin(12);
+    tell_by(line, 16);
+}
+
+/// The same if so many of sixteen workers were started.
+fn tell_by(line: &mut impl Watch, started: u8) {
+    line.begin(12, 16);
+    line.started(started);
     for count in [1, 2, 2, 3] {
         line.taken(count);
     }
@@ -64,6 +70,30 @@ fn tells_nothing_unless_it_is_to_be_shown(rt: HostRuntime) {
     assert!(rt; screen.is_empty());
     let mut line = line_on(&rt, &mut screen, false);
     line.ask(true);
+    tell(&mut line);
+    assert_eq!(rt; screen.as_slice(), TOLD);
+}
+
+// As above, with 17 characters more where the workers are named.
+const TOLD_OF_THREE: &[u8] = b"\r0 of 12 soups\
+    \r2 of 12 soups, 10 a second, 3 of 16 workers\
+    \r3 of 12 soups, 7 a second, 3 of 16 workers \
+    \r                                           \r";
+
+#[test]
+fn tells_how_many_workers_were_started(rt: HostRuntime) {
+    let mut screen = Vec::new(rt.alloc());
+    let mut line = line_on(&rt, &mut screen, true);
+    tell_by(&mut line, 3);
+    assert_eq!(rt; screen.as_slice(), TOLD_OF_THREE);
+}
+
+// A line on a terminal is shown whether it is asked for or not.
+#[test]
+fn tells_its_line_where_nobody_asks(rt: HostRuntime) {
+    let mut screen = Vec::new(rt.alloc());
+    let mut line = line_on(&rt, &mut screen, true);
+    line.ask(false);
     tell(&mut line);
     assert_eq!(rt; screen.as_slice(), TOLD);
 }

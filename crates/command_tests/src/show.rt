@@ -35,7 +35,8 @@ fn assert_refuses<R: Abort + AllocGlobal>(rt: &R, code: &str, line: &str) {
     assert_eq!(rt; errors.into_inner().as_slice(), line.as_bytes(), "{code:?}");
 }
 
-// A column of the eater is `1`, its top cell, `7`, the three upper ones, `8`, the fourth, and `c`, the third and fourth.
+// A column of the eater is `1`, its top cell, `7`, the three upper ones, `8`, the fourth, and `c`, the third and
+// fourth.
 #[test]
 fn shows_codes(rt: HostRuntime) {
     assert_shows(&rt, "xs7_178c", EATER);

@@ -204,7 +204,8 @@ fn tells_each_failed_write(rt: HostRuntime) {
     assert_eq!(rt; taken_by(&rt, FOUR.len(), Status::Done).as_slice(), FOUR);
 }
 
-// The lines are due at 0, 200, 400 and 600 milliseconds. The line is told before each of the five notes, and at the end.
+// The lines are due at 0, 200, 400 and 600 milliseconds. The line is told before each of the five notes, and at the
+// end.
 #[test]
 fn takes_soups_under_a_line_of_progress(rt: HostRuntime) {
     let mut output = Out::new(Vec::new(rt.alloc()));

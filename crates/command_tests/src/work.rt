@@ -148,3 +148,43 @@ fn sends_each_line_on(rt: HostRuntime) {
         assert_eq!(rt; output.into_inner().sent.as_slice(), &TWO[..flushes * LINE]);
     }
 }
+
+/// A writer that counts the flushes, and the bytes that were not flushed before a next line.
+#[derive(Drop)]
+struct Counting {
+    flushes: u64,
+    is_open: bool,
+    late: u64,
+}
+
+impl Write for Counting {
+    fn write(&mut self, buf: &[u8]) -> io::Result<usize> {
+        if self.is_open && buf.starts_with(b"report") {
+            self.late = self.late.saturating_add(1);
+        }
+        self.is_open = true;
+        Ok(buf.len())
+    }
+
+    fn flush(&mut self) -> io::Result<()> {
+        self.flushes = self.flushes.saturating_add(1);
+        self.is_open = false;
+        Ok(())
+    }
+}
+
+// So it is for each of many soups, of whatever number.
+#[test]
+fn sends_each_of_many_lines_on(rt: HostRuntime) {
+    let mut output = Out::new(Counting {
+        flushes: 0,
+        is_open: false,
+        late: 0,
+    });
+    let mut errors = Out::new(Vec::new(rt.alloc()));
+    let set = set_of(0, 2000, "1099511627774+2");
+    let found = do_work(rt.alloc(), &set, 2, SMALL, LIFE, &mut output, &mut errors);
+    assert_eq!(rt; found, Status::Done);
+    let counted = output.into_inner();
+    assert_eq!(rt; (counted.flushes, counted.late), (2002, 0));
+}

@@ -9,7 +9,7 @@ use Rattle.haul_core.specs.Censuses.{IsCensus}
 use Rattle.haul_core.specs.HaulTexts.{haul_text}
 use Rattle.haul_core.specs.Keeping.{numbers_in}
 use Rattle.haul_core.specs.Missing.{missing_of}
-use Rattle.haul_core.specs.RangeLists.{IsListText}
+use Rattle.ranges.specs.RangeLists.{IsListText}
 use Rattle.commands.specs.declared.complaint.Complaint.{Complaint}
 use Rattle.commands.specs.declared.complaint.Complaint.TheVariants.{Refused, OutOfMemory, ReadFailed, WriteFailed}
 use Rattle.commands.specs.declared.profile.ProfileNumbers.{ProfileNumbers}
@@ -23,7 +23,7 @@ use Rattle.commands.specs.Finish.{Finishes, IsCensusOf}
 use Rattle.commands.specs.Gather.{BeginsHaul, IsGathered, IsGathering, IsHaulOver, IsSame, gather_opens, gather_right, gather_task, haul_task}
 use Rattle.commands.specs.GatherSteps.{EndsLines, HasBegun, HasGatheredShort}
 use Rattle.commands.specs.GatheredLines.{Gathered}
-use Rattle.commands.specs.Lines.{lines_of}
+use Rattle.commands.specs.Lines.{input_lines}
 use Rattle.commands.specs.SoupSets.{Bad_list, IsRefused, Overlapping, Too_large, job_named}
 use Rattle.commands.specs.Streams.{Stream, Has}
 use Rattle.commands.specs.TakeSteps.{IsOpened, StopsSet}
@@ -75,7 +75,7 @@ is_gathered : (terms : Terms) (held closed : Held) (census : Census) (n : ℕ) (
     → IsGathered terms all.2.bytes (record { text = haul_text census; told = all.2.told; missing = n })
 is_gathered terms held closed census n known before after all same kept took closes counted many =
     let read = all.2 in
-    let P : Terms → Type 0 = λ t. Gathered t (lines_of read.bytes) read.met.arrivals read.told in
+    let P : Terms → Type 0 = λ t. Gathered t (input_lines read.bytes) read.met.arrivals read.told in
     let Q : Terms → Type 0 = λ t. IsCensus t.job t.ranges (numbers_in held.taken) census in
     let stands = closes read.met.arrivals read.met.stands in
     record {

@@ -25,9 +25,9 @@ use Rattle.commands.specs.declared.lines.LineEnd.{LineEnd}
 use Rattle.commands.specs.declared.lines.LineEnd.TheVariants.{Feed, Input}
 use Rattle.commands.specs.declared.lines.LineRead.{LineRead}
 use Rattle.commands.specs.GatherSteps.{EndsLine, EndsLines, GoesOn, HasBegun, HasGathered, HasGatheredAll, HasMet, IsMetBy, Passage, passage}
-use Rattle.commands.specs.Lines.{HasRead, IsOneLine, lines_of, with_end}
+use Rattle.commands.specs.Lines.{HasReadLine, IsOneLine, input_lines, with_end}
 use Rattle.commands.proofs.LineLemmas.{all_read, ended_more, lines_bare, lines_ended, all_lines, first_lines}
-use Rattle.commands.specs.GatheredLines.{Faulty, Front, Gathered, IsChecked, IsFrontFault, IsLookedAt, IsWrong, Meets, Next, Offered, Start, Whole, offer_fault, told_of}
+use Rattle.commands.specs.GatheredLines.{Faulty, Front, Gathered, IsChecked, IsFrontFault, IsLookedAt, IsWrong, Meets, Next, Offered, Start, Whole, offer_fault, told_fault}
 
 -- nothing arrives by a line with a fault
 pub faulty : {terms : Terms} {line : List ℕ} {fault : LineFault} {held : Held} (arrivals : List Arrival) → IsLookedAt terms.job line (Err fault)
@@ -74,11 +74,11 @@ wrong unique claim found is differs finding right agrees =
 pub met_more : (terms : Terms) (lines : List (List ℕ)) (line told : List ℕ) (old new : Held) (before : ℕ) (fault : Option LineFault)
     → before ≡ length lines → (met : HasMet terms lines old told)
     → (arrived : List Arrival) × Meets terms met.arrivals line arrived fault × StandsFor (met.arrivals ++ arrived) new
-    → HasMet terms (lines ++ line ∷ []) new (told ++ told_of (before + 1) fault)
+    → HasMet terms (lines ++ line ∷ []) new (told ++ told_fault (before + 1) fault)
 met_more terms lines line told old new before fault count met step = record {
   arrivals = met.arrivals ++ step.0;
   gathered =
-      let P : ℕ → Type 0 = λ n. Gathered terms (lines ++ line ∷ []) (met.arrivals ++ step.0) (told ++ told_of n fault) in
+      let P : ℕ → Type 0 = λ n. Gathered terms (lines ++ line ∷ []) (met.arrivals ++ step.0) (told ++ told_fault n fault) in
       let number : before + 1 ≡ suc (length lines) = omega (arith, count) in
       subst P (sym number) (Next lines met.arrivals told line step.0 fault met.gathered step.1);
   stands = step.2;
@@ -100,7 +100,7 @@ none_gathered known before held stands = record {
 
 -- no line is left
 pub no_more : (known left new before after : Option (List ℕ)) (count size : ℕ) (held : Held) (kept : List ℕ) (line : LineRead)
-    → HasGathered (passage known left before after count size) held → (read : HasRead left new kept line) → line.size ≡ 0
+    → HasGathered (passage known left before after count size) held → (read : HasReadLine left new kept line) → line.size ≡ 0
     → GoesOn (passage known new before after (count + 1) (size + line.size)) held line.end
 no_more known left new before after count size held kept line gathered read none = go line.end refl
   where
@@ -126,7 +126,7 @@ no_more known left new before after count size held kept line gathered read none
 
 -- a line more, after which others may follow or none
 pub goes_on : (known left new before after later : Option (List ℕ)) (count size : ℕ) (held next : Held) (kept : List ℕ) (line : LineRead)
-    → (gathered : HasGathered (passage known left before after count size) held) → (read : HasRead left new kept line) → 0 < line.size
+    → (gathered : HasGathered (passage known left before after count size) held) → (read : HasReadLine left new kept line) → 0 < line.size
     → IsMetBy held.terms gathered.lines read.line next gathered.told after later → next.terms ≡ held.terms
     → GoesOn (passage known new before later (count + 1) (size + line.size)) next line.end
 goes_on known left new before after later count size held next kept line gathered read some by same = go line.end refl
@@ -186,12 +186,12 @@ begun way held terms gathered same = record {
 pub all_begun : (known before after : Option (List ℕ)) (size : ℕ) (held : Held) (terms : Terms) → HasGatheredAll known before after size held
     → held.terms ≡ terms → HasBegun terms known before after
 all_begun known before after size held terms all same = record {
-  lines = lines_of all.bytes;
+  lines = input_lines all.bytes;
   first = all_lines known all.bytes all.input;
   arrivals = all.met.arrivals;
   told = all.told;
   gathered =
-      let P : Terms → Type 0 = λ t. Gathered t (lines_of all.bytes) all.met.arrivals all.told in
+      let P : Terms → Type 0 = λ t. Gathered t (input_lines all.bytes) all.met.arrivals all.told in
       subst P same all.met.gathered;
   written = all.written;
 }

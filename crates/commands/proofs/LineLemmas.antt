@@ -9,7 +9,7 @@ use Rattle.commands.specs.Answers.{IsInput}
 use Rattle.commands.specs.declared.lines.LineEnd.TheVariants.{Feed, Input}
 use Rattle.commands.specs.declared.lines.Piece.{Piece}
 use Rattle.commands.specs.GatherSteps.{AreEnded}
-use Rattle.commands.specs.Lines.{HasPiece, IsOneLine, IsSpent, begun_with, lines_of, piece_end, with_end}
+use Rattle.commands.specs.Lines.{HasPiece, IsOneLine, IsSpent, begun_with, input_lines, piece_end, with_end}
 
 abbrev IsNotFeed : ℕ → Type 0
 IsNotFeed byte = byte ≢ 10
@@ -79,40 +79,40 @@ ended_more read lines line before one = record {
 }
 
 -- the first line, and those after it
-first_line : (line more : List ℕ) → IsOneLine line → lines_of ((line ++ 10 ∷ []) ++ more) ≡ line ∷ lines_of more
+first_line : (line more : List ℕ) → IsOneLine line → input_lines ((line ++ 10 ∷ []) ++ more) ≡ line ∷ input_lines more
 first_line [] more one = refl
 first_line (x ∷ xs) more one =
     let miss = ne_eqb x 10 (All-head IsNotFeed x xs one) in
-    let rest = lines_of ((xs ++ 10 ∷ []) ++ more) in
+    let rest = input_lines ((xs ++ 10 ∷ []) ++ more) in
     ap (λ b. cond b ([] ∷ rest) (begun_with x rest)) miss ∙ ap (begun_with x) (first_line xs more (All-tail IsNotFeed x xs one))
 
 -- the lines that were ended, and those after them
-ended_lines : (lines : List (List ℕ)) (more : List ℕ) → All IsOneLine lines → lines_of (flat_map (with_end Feed) lines ++ more) ≡ lines ++ lines_of more
+ended_lines : (lines : List (List ℕ)) (more : List ℕ) → All IsOneLine lines → input_lines (flat_map (with_end Feed) lines ++ more) ≡ lines ++ input_lines more
 ended_lines [] more whole = refl
 ended_lines (line ∷ lines) more whole =
     let rest = flat_map (with_end Feed) lines in
-    ap lines_of (append_assoc (line ++ 10 ∷ []) rest more) ∙ first_line line (rest ++ more) (All-head IsOneLine line lines whole)
+    ap input_lines (append_assoc (line ++ 10 ∷ []) rest more) ∙ first_line line (rest ++ more) (All-head IsOneLine line lines whole)
     ∙ ap (λ l. line ∷ l) (ended_lines lines more (All-tail IsOneLine line lines whole))
 
 -- a last line that no line feed ends
-bare_line : (x : ℕ) (xs : List ℕ) → IsOneLine (x ∷ xs) → lines_of (x ∷ xs) ≡ (x ∷ xs) ∷ []
+bare_line : (x : ℕ) (xs : List ℕ) → IsOneLine (x ∷ xs) → input_lines (x ∷ xs) ≡ (x ∷ xs) ∷ []
 bare_line x [] one = ap (λ b. cond b ([] ∷ []) (begun_with x [])) (ne_eqb x 10 (All-head IsNotFeed x [] one))
 bare_line x (y ∷ ys) one =
-    let rest = lines_of (y ∷ ys) in
+    let rest = input_lines (y ∷ ys) in
     ap (λ b. cond b ([] ∷ rest) (begun_with x rest)) (ne_eqb x 10 (All-head IsNotFeed x (y ∷ ys) one))
     ∙ ap (begun_with x) (bare_line y ys (All-tail IsNotFeed x (y ∷ ys) one))
 
 -- the lines of all that was read, if nothing stands after the last line feed
-pub lines_ended : (read : List ℕ) (lines : List (List ℕ)) → AreEnded read lines → lines_of (read ++ []) ≡ lines
+pub lines_ended : (read : List ℕ) (lines : List (List ℕ)) → AreEnded read lines → input_lines (read ++ []) ≡ lines
 lines_ended read lines ended =
-    ap (λ l. lines_of (l ++ [])) ended.spelled ∙ ended_lines lines [] ended.whole ∙ append-nil lines
+    ap (λ l. input_lines (l ++ [])) ended.spelled ∙ ended_lines lines [] ended.whole ∙ append-nil lines
 
 -- and if a line stands there
 pub lines_bare : (read : List ℕ) (lines : List (List ℕ)) (line : List ℕ) → AreEnded read lines → IsOneLine line → 0 < length line
-    → lines_of (read ++ line) ≡ lines ++ line ∷ []
+    → input_lines (read ++ line) ≡ lines ++ line ∷ []
 lines_bare read lines [] ended one some = absurd (omega (arith, some))
 lines_bare read lines (x ∷ xs) ended one some =
-    ap (λ l. lines_of (l ++ x ∷ xs)) ended.spelled ∙ ended_lines lines (x ∷ xs) ended.whole ∙ ap (λ l. lines ++ l) (bare_line x xs one)
+    ap (λ l. input_lines (l ++ x ∷ xs)) ended.spelled ∙ ended_lines lines (x ∷ xs) ended.whole ∙ ap (λ l. lines ++ l) (bare_line x xs one)
 
 -- an empty line, and one that isn't
 pub no_bytes : (line : List ℕ) → (length line == 0) ≡ true → line ≡ []
@@ -125,14 +125,14 @@ some_bytes (x ∷ xs) some = omega arith
 
 -- the lines that were read are the first of the input
 pub first_lines : (known left : Option (List ℕ)) (read : List ℕ) (lines : List (List ℕ)) → Consumes known left read → AreEnded read lines
-    → IfSome known (λ bytes. (more : List (List ℕ)) × (lines_of bytes ≡ lines ++ more))
+    → IfSome known (λ bytes. (more : List (List ℕ)) × (input_lines bytes ≡ lines ++ more))
 first_lines None left read lines consumed ended = tt
 first_lines (Some bytes) None read lines consumed ended = absurd consumed
 first_lines (Some bytes) (Some more) read lines consumed ended =
-    (lines_of more, ap lines_of (consumed ∙ ap (λ l. l ++ more) ended.spelled) ∙ ended_lines lines more ended.whole)
+    (input_lines more, ap input_lines (consumed ∙ ap (λ l. l ++ more) ended.spelled) ∙ ended_lines lines more ended.whole)
 
 -- and if all was read, they are all
 pub all_lines : (known : Option (List ℕ)) (read : List ℕ) → IsInput known read
-    → IfSome known (λ bytes. (more : List (List ℕ)) × (lines_of bytes ≡ lines_of read ++ more))
+    → IfSome known (λ bytes. (more : List (List ℕ)) × (input_lines bytes ≡ input_lines read ++ more))
 all_lines None read input = tt
-all_lines (Some bytes) read input = ([], ap lines_of (sym input) ∙ sym (append-nil (lines_of read)))
+all_lines (Some bytes) read input = ([], ap input_lines (sym input) ∙ sym (append-nil (input_lines read)))

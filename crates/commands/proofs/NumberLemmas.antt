@@ -6,8 +6,8 @@ use Rattle.std.proofs.lemmas.Bool.{le-leb, lt-ltb, or_left, or_right}
 use Rattle.std.proofs.lemmas.List.Elements.{All-append, All-cons, All-nil}
 use Rattle.std.specs.List.{All}
 use Rattle.std.specs.List.{range_with_len}
-use Rattle.haul_core.specs.declared.range.Range.{Range}
-use Rattle.haul_core.specs.Ranges.{end_of, is_in}
+use Rattle.ranges.specs.declared.range.Range.{Range}
+use Rattle.ranges.specs.Ranges.{end_of, is_in}
 use Rattle.haul_core.specs.Missing.{numbers_of_range, numbers_of}
 
 range_push : (a n : ℕ) → range_with_len a (suc n) ≡ range_with_len a n ++ (a + n) ∷ []

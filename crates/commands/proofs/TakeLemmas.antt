@@ -15,16 +15,16 @@ use Rattle.survey_core.specs.declared.seed.SeedError.TheVariants as seed_error
 use Rattle.survey_core.specs.Profiles.{Settling}
 use Rattle.survey_core.specs.Seeds.{seed_read}
 use Rattle.haul_core.specs.declared.census.Census.{Census}
-use Rattle.haul_core.specs.declared.range.Range.{Range}
-use Rattle.haul_core.specs.declared.range_list.ListError.{ListError}
-use Rattle.haul_core.specs.declared.range_list.ListError.TheVariants as list_error
+use Rattle.ranges.specs.declared.range.Range.{Range}
+use Rattle.ranges.specs.declared.range_list.ListError.{ListError}
+use Rattle.ranges.specs.declared.range_list.ListError.TheVariants as list_error
 use Rattle.haul_core.specs.Books.{Held, StandsFor, Terms, entry}
 use Rattle.haul_core.specs.Censuses.{IsCensus}
 use Rattle.haul_core.specs.HaulTexts.{haul_text}
 use Rattle.haul_core.specs.Keeping.{numbers_in}
 use Rattle.haul_core.specs.Missing.{AreAll, IsComplete, is_taken, missing_of, numbers_of}
-use Rattle.haul_core.specs.RangeLists.{AreWords, IsFirstFault, IsListText, list_text}
-use Rattle.haul_core.specs.Ranges.{AreSmall, IsNormalForm, is_in}
+use Rattle.ranges.specs.RangeLists.{AreWords, IsFirstListFault, IsListText, list_text}
+use Rattle.ranges.specs.Ranges.{AreSmall, IsNormalForm, is_in}
 use Rattle.crew.specs.Shifts.{StopsAt}
 use Rattle.crew.specs.Takes.{HasTaken, was_missing}
 use Rattle.commands.specs.declared.complaint.Complaint.{Complaint}
@@ -35,7 +35,7 @@ use Rattle.commands.specs.declared.refusal.Refusal.TheVariants.{BadRule, BirthZe
 use Rattle.commands.specs.declared.refusal.Refusal.TheVariants.{SeedBadByte, SeedTooLong}
 use Rattle.commands.specs.declared.soup_set.SoupSet.{SoupSet}
 use Rattle.commands.specs.declared.status.Status.{Status}
-use Rattle.commands.specs.Answers.{NeedsMemory, Right, given, given_right, text_of}
+use Rattle.commands.specs.Answers.{NeedsMemory, Right, given, given_right, output_text}
 use Rattle.commands.specs.Ends.{Ends, Outcome, Reaches}
 use Rattle.commands.specs.Finish.{Finishes, IsCensusOf}
 use Rattle.commands.specs.Inputs.{rule_complaint, rule_named}
@@ -43,7 +43,7 @@ use Rattle.commands.specs.Profiles.{profile_named, settling}
 use Rattle.commands.specs.Soup.{seed_complaint, seed_named}
 use Rattle.commands.specs.SoupSets.{AreRangesOf, IsRefused, job_named, right_for_set, Bad_list, Overlapping, Too_large}
 use Rattle.commands.specs.Stopped.{TellsTaken, gated_task, right_if, stopped_right, taken_right}
-use Rattle.commands.specs.Streams.{Stream, Has, IsStill}
+use Rattle.commands.specs.Streams.{Stream, Has, IsUntouched}
 use Rattle.commands.specs.Take.{TellsAll, take_right, take_task}
 use Rattle.commands.specs.TakeSteps.{EndsCrew, IsOpened, IsTaken, Stops, StopsSet, list_complaint}
 use Rattle.commands.specs.Tasks.{Made, Task, alone}
@@ -76,19 +76,19 @@ Stops_set set tells WriteFailed stops = absurd stops
 -- a range list that is not read stops the command
 pub Stops_list : (set : SoupSet) (text : List ℕ) (error : ListError) → text ≡ set.also
     → ((ranges : List Range) → AreWords ranges → list_text ranges ≡ text → error ≡ list_error.Memory)
-    → ((place : ℕ) → error ≡ list_error.BadList place → IsFirstFault text place) → (error ≡ list_error.Memory → IsListText text)
+    → ((place : ℕ) → error ≡ list_error.BadList place → IsFirstListFault text place) → (error ≡ list_error.Memory → IsListText text)
     → StopsSet set (list_complaint error)
 Stops_list set text (list_error.BadList place) is complete fault memory =
     let not_list : IsListText set.also → ⊥ =
     λ list. let bad : list_error.BadList place ≡ list_error.Memory = complete list.ranges list.words (list.spelled ∙ sym is) in cc in
-    Bad_list not_list place (subst (λ (t : List ℕ). IsFirstFault t place) is (fault place refl)) refl
+    Bad_list not_list place (subst (λ (t : List ℕ). IsFirstListFault t place) is (fault place refl)) refl
 Stops_list set text list_error.Memory is complete fault memory = subst IsListText is (memory refl)
 
 -- a complaint that stops the command is what it ends with, with nothing on the output
 pub Reaches_stopped : (right : Right) (complaint : Complaint) (output : Stream) → Stops right complaint → Has output []
     → ReachesText false false right (Err complaint) output
 Reaches_stopped right (Refused refusal) output stops nothing = (stops, nothing)
-Reaches_stopped right OutOfMemory output stops nothing = (λ unread. stops, λ answer is. ([], text_of answer, refl, nothing))
+Reaches_stopped right OutOfMemory output stops nothing = (λ unread. stops, λ answer is. ([], output_text answer, refl, nothing))
 Reaches_stopped right ReadFailed output stops nothing = absurd stops
 Reaches_stopped right WriteFailed output stops nothing = absurd stops
 
@@ -286,7 +286,7 @@ taken_told may_stop set numbers rule_text held census missing h many none is = g
 
 -- a complaint that stops the command is what it ends with, with nothing on the output
 pub take_stops : (may_stop : ℕ → ℕ → Type 0) (set : SoupSet) (numbers : ProfileNumbers) (rule_text : List ℕ) (known : Option (List ℕ)) (bytes : List ℕ)
-    (complaint : Complaint) (output errors : Stream) → Stops (take_right set numbers rule_text) complaint → Has output [] → IsStill errors
+    (complaint : Complaint) (output errors : Stream) → Stops (take_right set numbers rule_text) complaint → Has output [] → IsUntouched errors
     → Reaches (gated_task may_stop set numbers rule_text) known bytes (Err complaint) output errors
 take_stops may_stop set numbers rule_text known bytes (Refused refusal) output errors stops nothing still =
     (stops, record { nothing = nothing; silent = still.0; fine = still.1 })
@@ -298,7 +298,7 @@ take_stops may_stop set numbers rule_text known bytes WriteFailed output errors 
 -- the haul that was taken, finished
 pub take_finishes : {workers : ℕ} (may_stop : ℕ → ℕ → Type 0) (set : SoupSet) (numbers : ProfileNumbers) (rule_text : List ℕ) (known : Option (List ℕ))
     (bytes : List ℕ) (held : Held) (outcome : Outcome) (output errors : Stream) → IsTaken may_stop set workers numbers rule_text held
-    → (length (missing_of held.terms.ranges held.taken) ≡ 0) ↔ IsComplete held.terms.ranges held.taken → Finishes held outcome output → IsStill errors
+    → (length (missing_of held.terms.ranges held.taken) ≡ 0) ↔ IsComplete held.terms.ranges held.taken → Finishes held outcome output → IsUntouched errors
     → Reaches (gated_task may_stop set numbers rule_text) known bytes outcome output errors
 take_finishes may_stop set numbers rule_text known bytes held (Ok missing) output errors h none finished still =
     let zero_if : (missing ≡ 0) ↔ IsComplete held.terms.ranges held.taken =

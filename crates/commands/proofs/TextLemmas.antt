@@ -6,9 +6,9 @@ use Rattle.commands.specs.declared.complaint.Complaint.TheVariants.{Refused, Out
 use Rattle.commands.specs.declared.status.Status.{Status}
 use Rattle.commands.specs.declared.status.Status.TheVariants as statuses
 use Rattle.commands.specs.Answers.{Right}
-use Rattle.commands.specs.Complaints.{line_of, status_of}
+use Rattle.commands.specs.Complaints.{complaint_line, status_of}
 use Rattle.commands.specs.Ends.{Ends, LeavesFront, LeavesPart, Reaches}
-use Rattle.commands.specs.Streams.{Stream, HasFront, HasLine, IsStill}
+use Rattle.commands.specs.Streams.{Stream, HasFront, HasLine, IsUntouched}
 use Rattle.commands.specs.Tasks.{Made, alone, text_made, text_task}
 use Rattle.commands.specs.TextSteps.{LeavesTextFront, LeavesTextPart, ReachesText}
 
@@ -21,14 +21,14 @@ part_of false right output left = go
     go (Ok made) is = left (Ok made.text) is.0
     go (Err complaint) is = left (Err complaint) is
 
-front_of : (whole : Bool) (right : Right) (output errors : Stream) → LeavesTextFront whole right output → IsStill errors
+front_of : (whole : Bool) (right : Right) (output errors : Stream) → LeavesTextFront whole right output → IsUntouched errors
     → LeavesFront whole (alone right) output errors
 front_of true right output errors (text, is, front) still = (record { text = text; told = []; missing = 0 }, (is, refl, refl), front, still.0)
 front_of false right output errors (never, fronts) still = (never, λ made is. fronts made.text is.0, still.0)
 
 -- a complaint ended the text, and nothing was told yet
 reaches_text : (reads whole : Bool) (right : List ℕ → Right) (known : Option (List ℕ)) (bytes : List ℕ) (complaint : Complaint) (output errors : Stream)
-    → ReachesText reads whole (right bytes) (Err complaint) output → IsStill errors
+    → ReachesText reads whole (right bytes) (Err complaint) output → IsUntouched errors
     → Reaches (text_task reads whole right) known bytes (Err complaint) output errors
 reaches_text reads whole right known bytes (Refused refusal) output errors (is, nothing) still =
     (is, record { nothing = nothing; silent = still.0; fine = still.1 })
@@ -41,7 +41,7 @@ reaches_text reads whole right known bytes WriteFailed output errors (left, cut)
 
 -- the text was written
 pub text_done : (reads whole : Bool) (right : List ℕ → Right) (known : Option (List ℕ)) (bytes : List ℕ) (output errors : Stream)
-    → ReachesText reads whole (right bytes) (Ok tt) output → IsStill errors
+    → ReachesText reads whole (right bytes) (Ok tt) output → IsUntouched errors
     → Ends (text_task reads whole right) known bytes statuses.Done output errors
 text_done reads whole right known bytes output errors ((text, is, has), fine) still = record {
   outcome = Ok 0;
@@ -64,7 +64,7 @@ text_done reads whole right known bytes output errors ((text, is, has), fine) st
 -- a complaint ended it, and its line was told
 pub text_complains : (reads whole : Bool) (right : List ℕ → Right) (known : Option (List ℕ)) (bytes : List ℕ) (complaint : Complaint) (status : Status)
     (output errors : Stream)
-    → ReachesText reads whole (right bytes) (Err complaint) output → status ≡ status_of complaint → HasLine errors (line_of complaint)
+    → ReachesText reads whole (right bytes) (Err complaint) output → status ≡ status_of complaint → HasLine errors (complaint_line complaint)
     → Ends (text_task reads whole right) known bytes status output errors
 text_complains reads whole right known bytes complaint status output errors reached is line =
     let between : Stream = record { before = errors.before; after = errors.before; failed = false } in

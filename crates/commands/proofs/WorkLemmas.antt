@@ -10,16 +10,16 @@ use Rattle.survey_core.specs.declared.job.Job.{Job}
 use Rattle.survey_core.specs.FindingLaws.{FindingsAreDetermined}
 use Rattle.survey_core.specs.Findings.{IsFinding}
 use Rattle.survey_core.specs.Soups.{soup}
-use Rattle.haul_core.specs.declared.range.Range.{Range}
+use Rattle.ranges.specs.declared.range.Range.{Range}
 use Rattle.haul_core.specs.Books.{Held}
-use Rattle.haul_core.specs.Ranges.{AreSmall, OneNormalForm, Overlap, is_in}
+use Rattle.ranges.specs.Ranges.{AreSmall, OneNormalForm, Overlap, is_in}
 use Rattle.haul_core.specs.ReportLines.{report_text}
 use Rattle.haul_core.specs.Reports.{Reported}
 use Rattle.commands.specs.declared.complaint.Complaint.{Complaint}
 use Rattle.commands.specs.declared.complaint.Complaint.TheVariants.{Refused, OutOfMemory, ReadFailed, WriteFailed}
 use Rattle.commands.specs.declared.profile.ProfileNumbers.{ProfileNumbers}
 use Rattle.commands.specs.declared.soup_set.SoupSet.{SoupSet}
-use Rattle.commands.specs.Answers.{Answer, Right, text_of}
+use Rattle.commands.specs.Answers.{Answer, Right, output_text}
 use Rattle.commands.specs.SoupSets.{Bad_list, Overlapping, Too_large, job_named, right_for_set}
 use Rattle.commands.specs.Streams.{Stream, Has, HasFront}
 use Rattle.haul_core.specs.Missing.{numbers_of_range, numbers_of}
@@ -247,13 +247,13 @@ only_text one_form job worker set held opened (Err WriteFailed) is = absurd is
 
 -- the lines of the first reports are a front of each right text
 front_of : FindingsAreDetermined → (job : Job) (worker : ℕ) (numbers : List ℕ) (answer : Answer) (output : Stream) → Tells job worker numbers answer
-    → IsBegun job worker numbers (HasFront output) → HasFront output (text_of answer)
+    → IsBegun job worker numbers (HasFront output) → HasFront output (output_text answer)
 front_of determined job worker numbers answer output tells begun =
     let every = subst (λ (ns : List ℕ). AreReportsOn job worker ns tells.reports) begun.parts tells.each in
     let rest = first_reports determined job worker begun.done begun.more begun.reports tells.reports begun.each every in
     let lines : flat_map report_text tells.reports ≡ flat_map report_text begun.reports ++ flat_map report_text rest.0 =
     ap (flat_map report_text) rest.1 ∙ lines-append begun.reports rest.0 in
-    let is : text_of answer ≡ flat_map report_text begun.reports ++ flat_map report_text rest.0 = ap text_of tells.told ∙ lines in
+    let is : output_text answer ≡ flat_map report_text begun.reports ++ flat_map report_text rest.0 = ap output_text tells.told ∙ lines in
     subst (HasFront output) (sym is)
     (AppendsFront-longer output.before output.after (flat_map report_text begun.reports) (flat_map report_text rest.0) begun.is_written)
 

@@ -10,8 +10,8 @@ abbrev pub Answer : Type 0
 Answer = Result (List ℕ) Complaint
 
 -- the text for standard output: none where there is a complaint
-abbrev pub text_of : Answer → List ℕ
-text_of answer = result_unwrap_or answer []
+abbrev pub output_text : Answer → List ℕ
+output_text answer = result_unwrap_or answer []
 
 -- the next step takes what the step before gave, and a complaint stops them
 abbrev pub given : {A B : Type 0} → Result A Complaint → (A → Result B Complaint) → Result B Complaint

@@ -28,11 +28,11 @@ refusal_line RangeTooLarge = codes "census: range too large\n"
 refusal_line RangesOverlap = codes "census: ranges overlap\n"
 
 -- the line of a complaint
-abbrev pub line_of : Complaint → List ℕ
-line_of (Refused refusal) = refusal_line refusal
-line_of OutOfMemory = codes "census: out of memory\n"
-line_of ReadFailed = codes "census: read failed\n"
-line_of WriteFailed = codes "census: write failed\n"
+abbrev pub complaint_line : Complaint → List ℕ
+complaint_line (Refused refusal) = refusal_line refusal
+complaint_line OutOfMemory = codes "census: out of memory\n"
+complaint_line ReadFailed = codes "census: read failed\n"
+complaint_line WriteFailed = codes "census: write failed\n"
 
 -- the line of how many soups are missing
 abbrev pub missing_line : ℕ → List ℕ

@@ -4,7 +4,7 @@ use Rattle.commands.specs.declared.complaint.Complaint.{Complaint}
 use Rattle.commands.specs.declared.complaint.Complaint.TheVariants.{Refused, OutOfMemory, ReadFailed, WriteFailed}
 use Rattle.commands.specs.declared.status.Status.{Status}
 use Rattle.commands.specs.declared.status.Status.TheVariants as statuses
-use Rattle.commands.specs.Complaints.{line_of, missing_line, status_of}
+use Rattle.commands.specs.Complaints.{complaint_line, missing_line, status_of}
 use Rattle.commands.specs.Streams.{Stream, Has, HasFront, HasLine}
 use Rattle.commands.specs.Tasks.{Made, Makes, NeedsMemoryAlone, Task, text_made}
 
@@ -56,7 +56,7 @@ LeavesFront false right output errors = ((complaint : Complaint) → right (Err 
     × ((made : Made) → right (Ok made) → HasFront output made.text) × Has errors []
 
 -- standard output failed
-pub record IsCut (task : Task) (bytes : List ℕ) (output errors : Stream) : Type 0 where
+pub record IsCutShort (task : Task) (bytes : List ℕ) (output errors : Stream) : Type 0 where
   pub left : LeavesFront task.whole (task.right bytes) output errors
   pub cut : output.failed ≡ true
   pub fine : errors.failed ≡ false
@@ -73,13 +73,13 @@ Reaches task known bytes (Ok missing) output errors = IsPrinted (task.right byte
 Reaches task known bytes (Err (Refused refusal)) output errors = task.right bytes (Err (Refused refusal)) × IsSilent output errors
 Reaches task known bytes (Err OutOfMemory) output errors = HasRunOut task known bytes output errors
 Reaches task known bytes (Err ReadFailed) output errors = IsCutOff task known output errors
-Reaches task known bytes (Err WriteFailed) output errors = IsCut task bytes output errors ⊎ IsUntold task output errors
+Reaches task known bytes (Err WriteFailed) output errors = IsCutShort task bytes output errors ⊎ IsUntold task output errors
 
 -- the last line of standard error: how many soups are missing, or the complaint; and none if all was done
 abbrev pub last_line : Outcome → List ℕ
 last_line (Ok zero) = []
 last_line (Ok (suc n)) = missing_line (suc n)
-last_line (Err complaint) = line_of complaint
+last_line (Err complaint) = complaint_line complaint
 
 abbrev pub status_after : Outcome → Status
 status_after (Ok zero) = statuses.Done
@@ -90,7 +90,7 @@ status_after (Err complaint) = status_of complaint
 abbrev pub HasLast : Outcome → Stream → Type 0
 HasLast (Ok zero) errors = Has errors [] × (errors.failed ≡ false)
 HasLast (Ok (suc n)) errors = HasLine errors (missing_line (suc n))
-HasLast (Err complaint) errors = HasLine errors (line_of complaint)
+HasLast (Err complaint) errors = HasLine errors (complaint_line complaint)
 
 -- How a command ends that was to do a task with an input: `between` is standard error before its last line.
 pub record Ends (task : Task) (known : Option (List ℕ)) (bytes : List ℕ) (status : Status) (output errors : Stream) : Type 0 where

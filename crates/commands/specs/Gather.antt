@@ -3,20 +3,20 @@ use Rattle.std.specs.Prelude.{◌≡◌, ◌≤◌, ◌^◌, ◌++◌, ◌∷◌
 use Rattle.haul_core.specs.declared.arrival.Arrival.{Arrival}
 use Rattle.haul_core.specs.declared.arrival.Arrival.TheVariants.{Closing}
 use Rattle.haul_core.specs.declared.census.Census.{Census}
-use Rattle.haul_core.specs.declared.range.Range.{Range}
+use Rattle.ranges.specs.declared.range.Range.{Range}
 use Rattle.haul_core.specs.Books.{Terms, taken_of}
 use Rattle.haul_core.specs.Censuses.{IsCensus}
 use Rattle.haul_core.specs.HaulTexts.{haul_text}
 use Rattle.haul_core.specs.Keeping.{numbers_in}
 use Rattle.haul_core.specs.Missing.{missing_of}
-use Rattle.haul_core.specs.Ranges.{AreSmall, IsNormalForm, Overlap}
+use Rattle.ranges.specs.Ranges.{AreSmall, IsNormalForm, Overlap}
 use Rattle.survey_core.specs.declared.job.Job.{Job}
 use Rattle.commands.specs.declared.complaint.Complaint.TheVariants.{Refused}
 use Rattle.commands.specs.declared.profile.ProfileNumbers.{ProfileNumbers}
 use Rattle.commands.specs.declared.soup_set.SoupSet.{SoupSet}
 use Rattle.commands.specs.GatherSteps.{HasBegun}
 use Rattle.commands.specs.GatheredLines.{Gathered}
-use Rattle.commands.specs.Lines.{lines_of}
+use Rattle.commands.specs.Lines.{input_lines}
 use Rattle.commands.specs.SoupSets.{AreRangesOf, IsRefused, job_named}
 use Rattle.commands.specs.Tasks.{Made, Makes, Task}
 
@@ -35,7 +35,7 @@ pub record IsHaulOver (set : SoupSet) (workers : ℕ) (job : Job) (terms : Terms
 pub record IsGathered (terms : Terms) (bytes : List ℕ) (gathering : Made) : Type 0 where
   pub short : length bytes ≤ 2 ^ 32
   pub arrivals : List Arrival
-  pub gathered : Gathered terms (lines_of bytes) arrivals gathering.told
+  pub gathered : Gathered terms (input_lines bytes) arrivals gathering.told
   pub taken : List (ℕ × ℕ)
   pub taken_is : taken ≡ taken_of terms (arrivals ++ Closing ∷ [])
   pub census : Census

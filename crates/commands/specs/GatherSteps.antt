@@ -10,7 +10,7 @@ use Rattle.commands.specs.declared.lines.LineEnd.{LineEnd}
 use Rattle.commands.specs.declared.lines.LineEnd.TheVariants.{Feed, Input}
 use Rattle.commands.specs.Answers.{IsInput}
 use Rattle.commands.specs.GatheredLines.{Gathered}
-use Rattle.commands.specs.Lines.{IsOneLine, lines_of, with_end}
+use Rattle.commands.specs.Lines.{IsOneLine, input_lines, with_end}
 
 -- the bytes are these lines, each ended by a line feed
 pub record AreEnded (bytes : List ℕ) (lines : List (List ℕ)) : Type 0 where
@@ -58,7 +58,7 @@ pub record HasGathered (passage : Passage) (held : Held) : Type 0 where
 -- The first lines of an input have come to a haul, and standard error has what is told of them.
 pub record HasBegun (terms : Terms) (known before after : Option (List ℕ)) : Type 0 where
   pub lines : List (List ℕ)
-  pub first : IfSome known (λ bytes. (more : List (List ℕ)) × (lines_of bytes ≡ lines ++ more))
+  pub first : IfSome known (λ bytes. (more : List (List ℕ)) × (input_lines bytes ≡ lines ++ more))
   pub arrivals : List Arrival
   pub told : List ℕ
   pub gathered : Gathered terms lines arrivals told
@@ -70,7 +70,7 @@ pub record HasGatheredAll (known before after : Option (List ℕ)) (size : ℕ) 
   pub input : IsInput known bytes
   pub size_is : size ≡ length bytes
   pub told : List ℕ
-  pub met : HasMet held.terms (lines_of bytes) held told
+  pub met : HasMet held.terms (input_lines bytes) held told
   pub written : Appends before after told
 
 -- there may be more lines, or all have come

@@ -68,13 +68,13 @@ fault_words (Double number worker) = codes "double of " ++ decimal number ++ (co
 abbrev pub fault_line : ℕ → LineFault → List ℕ
 fault_line number fault = codes "line " ++ decimal number ++ (codes ": " ++ (fault_words fault ++ codes "\n"))
 
-abbrev pub told_of : ℕ → Option LineFault → List ℕ
-told_of number None = []
-told_of number (Some fault) = fault_line number fault
+abbrev pub told_fault : ℕ → Option LineFault → List ℕ
+told_fault number None = []
+told_fault number (Some fault) = fault_line number fault
 
 -- Lines one after another, at a haul to which nothing has come: what arrives, and what is told of them.
 pub data Gathered (terms : Terms) : List (List ℕ) → List Arrival → List ℕ → Type 0 where
   Start : Gathered terms [] [] []
   Next : (lines : List (List ℕ)) (before : List Arrival) (told : List ℕ) (line : List ℕ) (arrived : List Arrival) (fault : Option LineFault)
       → Gathered terms lines before told → Meets terms before line arrived fault
-      → Gathered terms (lines ++ line ∷ []) (before ++ arrived) (told ++ told_of (suc (length lines)) fault)
+      → Gathered terms (lines ++ line ∷ []) (before ++ arrived) (told ++ told_fault (suc (length lines)) fault)

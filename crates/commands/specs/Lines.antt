@@ -12,9 +12,9 @@ begun_with byte [] = (byte ∷ []) ∷ []
 begun_with byte (line ∷ more) = (byte ∷ line) ∷ more
 
 -- the lines of an input: a line feed (10) ends a line, and the last may lack it
-abbrev pub lines_of : List ℕ → List (List ℕ)
-lines_of [] = []
-lines_of (byte ∷ more) = if byte == 10 then [] ∷ lines_of more else begun_with byte (lines_of more)
+abbrev pub input_lines : List ℕ → List (List ℕ)
+input_lines [] = []
+input_lines (byte ∷ more) = if byte == 10 then [] ∷ input_lines more else begun_with byte (input_lines more)
 
 -- no line feed is among the bytes
 abbrev pub IsOneLine : List ℕ → Type 0
@@ -34,7 +34,7 @@ abbrev pub IsSpent : Option (List ℕ) → Option (List ℕ) → Type 0
 IsSpent old new = IfSome old (λ _. IsAtEnd new)
 
 -- A line of at most 2^32 bytes was read, of which the first 2^24 + 1 are kept. If no line feed ends it, the input is at its end.
-pub record HasRead (old new : Option (List ℕ)) (kept : List ℕ) (read : LineRead) : Type 0 where
+pub record HasReadLine (old new : Option (List ℕ)) (kept : List ℕ) (read : LineRead) : Type 0 where
   pub line : List ℕ
   pub kept_is : kept ≡ take (2 ^ 24 + 1) line
   pub one : IsOneLine line

@@ -1,9 +1,9 @@
 -- The soups that commands are asked for.
 use Rattle.std.specs.Prelude.{◌≡◌, ◌++◌, ℕ, List, [], ◌∷◌, Result, Ok, Err}
 use Rattle.survey_core.specs.declared.job.Job.{Job}
-use Rattle.haul_core.specs.declared.range.Range.{Range}
-use Rattle.haul_core.specs.RangeLists.{AreWords, IsFirstFault, IsListText, list_text}
-use Rattle.haul_core.specs.Ranges.{AreSmall, Overlap}
+use Rattle.ranges.specs.declared.range.Range.{Range}
+use Rattle.ranges.specs.RangeLists.{AreWords, IsFirstListFault, IsListText, list_text}
+use Rattle.ranges.specs.Ranges.{AreSmall, Overlap}
 use Rattle.commands.specs.declared.complaint.Complaint.{Complaint}
 use Rattle.commands.specs.declared.complaint.Complaint.TheVariants.{Refused, OutOfMemory, ReadFailed, WriteFailed}
 use Rattle.commands.specs.declared.profile.ProfileNumbers.{ProfileNumbers}
@@ -34,12 +34,12 @@ pub record AreRangesOf (set : SoupSet) (ranges : List Range) : Type 0 where
 
 -- What is refused of a set: its list first, then ranges that are too large for a haul, and then ranges that share a number.
 pub data IsRefused (set : SoupSet) (refusal : Refusal) : Type 0 where
-  Bad_list : ¬ IsListText set.also → (place : ℕ) → IsFirstFault set.also place → refusal ≡ BadList place → IsRefused set refusal
+  Bad_list : ¬ IsListText set.also → (place : ℕ) → IsFirstListFault set.also place → refusal ≡ BadList place → IsRefused set refusal
   Too_large : (ranges : List Range) → AreRangesOf set ranges → ¬ AreSmall ranges → refusal ≡ RangeTooLarge → IsRefused set refusal
   Overlapping : (ranges : List Range) → AreRangesOf set ranges → AreSmall ranges → Overlap ranges → refusal ≡ RangesOverlap → IsRefused set refusal
 
 -- the ranges of a set are fine, and the text is one that is to be told of them
-pub record IsTold (set : SoupSet) (tells : List Range → List ℕ → Type 0) (text : List ℕ) : Type 0 where
+pub record IsToldOf (set : SoupSet) (tells : List Range → List ℕ → Type 0) (text : List ℕ) : Type 0 where
   pub ranges : List Range
   pub named : AreRangesOf set ranges
   pub small : AreSmall ranges
@@ -48,7 +48,7 @@ pub record IsTold (set : SoupSet) (tells : List Range → List ℕ → Type 0) (
 
 -- which answer is right for a set, where this is to be told of its ranges
 abbrev pub right_for_set : SoupSet → (List Range → List ℕ → Type 0) → Right
-right_for_set set tells (Ok text) = IsTold set tells text
+right_for_set set tells (Ok text) = IsToldOf set tells text
 right_for_set set tells (Err (Refused refusal)) = IsRefused set refusal
 right_for_set set tells (Err OutOfMemory) = ⊥
 right_for_set set tells (Err ReadFailed) = ⊥

@@ -26,5 +26,5 @@ abbrev pub HasLine : Stream → List ℕ → Type 0
 HasLine s line = MatchBool s.failed (HasFront s line) (Has s line)
 
 -- nothing was added, and no write failed
-abbrev pub IsStill : Stream → Type 0
-IsStill s = Has s [] × (s.failed ≡ false)
+abbrev pub IsUntouched : Stream → Type 0
+IsUntouched s = Has s [] × (s.failed ≡ false)

@@ -2,11 +2,11 @@
 use Rattle.std.specs.Prelude.{◌≡◌, ℕ, true, false, List}
 use Rattle.survey_core.specs.declared.job.Job.{Job}
 use Rattle.haul_core.specs.declared.census.Census.{Census}
-use Rattle.haul_core.specs.declared.range.Range.{Range}
+use Rattle.ranges.specs.declared.range.Range.{Range}
 use Rattle.haul_core.specs.Censuses.{IsCensus}
 use Rattle.haul_core.specs.HaulTexts.{haul_text}
 use Rattle.haul_core.specs.Missing.{AreAll}
-use Rattle.haul_core.specs.Ranges.{IsNormalForm}
+use Rattle.ranges.specs.Ranges.{IsNormalForm}
 use Rattle.commands.specs.declared.profile.ProfileNumbers.{ProfileNumbers}
 use Rattle.commands.specs.declared.soup_set.SoupSet.{SoupSet}
 use Rattle.commands.specs.Answers.{Right, given_right}

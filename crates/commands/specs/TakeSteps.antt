@@ -1,14 +1,14 @@
 -- How a haul over a set is opened, and its numbers.
 use Rattle.std.specs.Prelude.{◌≡◌, ◌⊎◌, ℕ, List, [], Ok, Err}
 use Rattle.survey_core.specs.declared.job.Job.{Job}
-use Rattle.haul_core.specs.declared.range.Range.{Range}
-use Rattle.haul_core.specs.declared.range_list.ListError.{ListError}
-use Rattle.haul_core.specs.declared.range_list.ListError.TheVariants as list_error
+use Rattle.ranges.specs.declared.range.Range.{Range}
+use Rattle.ranges.specs.declared.range_list.ListError.{ListError}
+use Rattle.ranges.specs.declared.range_list.ListError.TheVariants as list_error
 use Rattle.haul_core.specs.Books.{Held, StandsFor}
 use Rattle.haul_core.specs.Keeping.{numbers_in}
 use Rattle.haul_core.specs.Missing.{AreAll, IsComplete}
-use Rattle.haul_core.specs.RangeLists.{IsListText}
-use Rattle.haul_core.specs.Ranges.{AreSmall, IsNormalForm, Overlap}
+use Rattle.ranges.specs.RangeLists.{IsListText}
+use Rattle.ranges.specs.Ranges.{AreSmall, IsNormalForm, Overlap}
 use Rattle.crew.specs.Shifts.{StopsAt}
 use Rattle.crew.specs.Takes.{HasTaken, was_missing}
 use Rattle.commands.specs.declared.complaint.Complaint.{Complaint}

@@ -2,7 +2,7 @@
 use Rattle.std.specs.Prelude.{◌≡◌, Bool, true, false, ℕ, List, [], Result, Ok, Err}
 use Rattle.commands.specs.declared.complaint.Complaint.{Complaint}
 use Rattle.commands.specs.declared.complaint.Complaint.TheVariants.{Refused, OutOfMemory, ReadFailed, WriteFailed}
-use Rattle.commands.specs.Answers.{Answer, NeedsMemory, Right, text_of}
+use Rattle.commands.specs.Answers.{Answer, NeedsMemory, Right, output_text}
 use Rattle.commands.specs.Streams.{Stream, Has, HasFront}
 
 -- the text was written, or there is a complaint
@@ -26,7 +26,7 @@ LeavesTextFront false right output =
 -- the same if memory ran out
 abbrev pub LeavesTextPart : Bool → Right → Stream → Type 0
 LeavesTextPart true right output = Has output []
-LeavesTextPart false right output = (answer : Answer) → right answer → HasFront output (text_of answer)
+LeavesTextPart false right output = (answer : Answer) → right answer → HasFront output (output_text answer)
 
 -- what stands on standard output after the text of a right answer was to be written to it
 abbrev pub ReachesText : Bool → Bool → Right → TextOutcome → Stream → Type 0

@@ -1,9 +1,9 @@
 -- What `census work` is asked for.
 use Rattle.std.specs.Prelude.{◌≡◌, ℕ, false, List, [], ◌∷◌, flat_map}
 use Rattle.survey_core.specs.declared.job.Job.{Job}
-use Rattle.haul_core.specs.declared.range.Range.{Range}
+use Rattle.ranges.specs.declared.range.Range.{Range}
 use Rattle.haul_core.specs.Missing.{numbers_of}
-use Rattle.haul_core.specs.Ranges.{IsNormalForm}
+use Rattle.ranges.specs.Ranges.{IsNormalForm}
 use Rattle.haul_core.specs.ReportLines.{report_text}
 use Rattle.haul_core.specs.Reports.{IsReport, Reported}
 use Rattle.commands.specs.declared.profile.ProfileNumbers.{ProfileNumbers}

@@ -1,6 +1,6 @@
 ghost use Rattle.std.specs.Prelude.{◌≡◌, false};
 ghost use Rattle.plane_core.specs.Out.{Writes};
-ghost use Rattle.commands.specs.Complaints.{line_of, missing_line, status_of};
+ghost use Rattle.commands.specs.Complaints.{complaint_line, missing_line, status_of};
 ghost use Rattle.commands.specs.Streams.{stream, HasLine};
 
 use crate::input::InputFault;
@@ -9,10 +9,10 @@ use crate::refusal::Refusal;
 use crate::status::Status;
 use code_core::reader::{WechslerError, WechslerFault};
 use haul_core::decimal::put_number;
-use haul_core::range_list::ListError;
 use plane_core::output::{Out, WriteError};
 use plane_core::plaintext::{PlaintextError, PlaintextFault};
 use plane_core::rule::RuleError;
+use ranges::range_list::ListError;
 use std::alloc::AllocError;
 use std::io::Write;
 use survey_core::seed::SeedError;
@@ -49,7 +49,7 @@ impl Complaint {
     /// [`WriteError`] if a write fails.
     pub fn write_line<E: Write>(self, errors: &mut Out<E>) -> Result<(), WriteError>
         requires { errors.old.failed ≡ false }
-        ensures { Writes E.contents errors.old errors.new result (line_of self) }
+        ensures { Writes E.contents errors.old errors.new result (complaint_line self) }
     {
         let mut line = Out::new(LineBuffer::new());
         match self.put_line(&mut line) {
@@ -61,7 +61,7 @@ impl Complaint {
     /// Writes the line piece by piece.
     fn put_line<E: Write>(self, errors: &mut Out<E>) -> Result<(), WriteError>
         requires { errors.old.failed ≡ false }
-        ensures { Writes E.contents errors.old errors.new result (line_of self) }
+        ensures { Writes E.contents errors.old errors.new result (complaint_line self) }
     {
         match self {
             Complaint::Refused(refusal) => refusal.put_line(errors),
@@ -75,7 +75,7 @@ impl Complaint {
     pub fn tell<E: Write>(self, errors: &mut Out<E>) -> Status
         requires { errors.old.failed ≡ false }
         ensures status { result ≡ status_of self }
-        ensures line { HasLine (stream E.contents errors.old errors.new) (line_of self) }
+        ensures line { HasLine (stream E.contents errors.old errors.new) (complaint_line self) }
     {
         let _ = self.write_line(errors);
         self.status()

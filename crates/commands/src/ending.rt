@@ -1,5 +1,5 @@
 ghost use Rattle.std.specs.Prelude.{◌≡◌, OnOk, false, true};
-ghost use Rattle.commands.specs.Complaints.{line_of, status_of};
+ghost use Rattle.commands.specs.Complaints.{complaint_line, status_of};
 ghost use Rattle.commands.specs.Ends.{HasLast, Outcome, status_after};
 ghost use Rattle.commands.specs.Streams.{stream, HasLine};
 
@@ -30,7 +30,7 @@ pub(crate) fn tell_end<E: Write>(outcome: Result<u64, Complaint>, errors: &mut O
 /// Writes the line of a complaint, unless a write failed before, and returns its status.
 fn tell_complaint<E: Write>(complaint: Complaint, errors: &mut Out<E>) -> Status
     ensures status { result ≡ status_of complaint }
-    ensures line { HasLine (stream E.contents errors.old errors.new) (line_of complaint) }
+    ensures line { HasLine (stream E.contents errors.old errors.new) (complaint_line complaint) }
     ensures stays { errors.old.failed ≡ true → errors.new.failed ≡ true }
 {
     if errors.failed() {

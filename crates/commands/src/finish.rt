@@ -18,7 +18,8 @@ use std::io::Write;
 pub(crate) fn finish<W: Write>(haul: &mut Haul, output: &mut Out<W>) -> Result<u64, Complaint>
     requires { output.old.failed ≡ false }
     ensures finishes { Finishes haul.old result (stream W.contents output.old output.new) }
-    ensures none { (length (missing_of haul.old.terms.ranges haul.old.taken) ≡ 0) ↔ IsComplete haul.old.terms.ranges haul.old.taken }
+    ensures none { (length (missing_of haul.old.terms.ranges haul.old.taken) ≡ 0)
+        ↔ IsComplete haul.old.terms.ranges haul.old.taken }
     ensures stands { (arrivals : List Arrival) → StandsFor arrivals haul.old
         → StandsFor (arrivals ++ arrival.Closing ∷ []) haul.new }
     ensures taken { haul.new.taken ≡ haul.old.taken }

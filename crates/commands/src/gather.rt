@@ -6,7 +6,8 @@
 //!            └───────┴─────────┴── a line on standard error, if it isn't taken
 //! ```
 
-ghost use Rattle.std.specs.Prelude.{◌≡◌, ◌≢◌, ◌<◌, ◌≤◌, Ok, Result, ◌+◌, ◌^◌, ◌++◌, ◌∷◌, [], ℕ, List, Option, Some, IfErr, IfOk, OnOk, false, true, length, take};
+ghost use Rattle.std.specs.Prelude.{◌≡◌, ◌≢◌, ◌<◌, ◌≤◌, Ok, Result, ◌+◌, ◌^◌, ◌++◌, ◌∷◌, [], ℕ, List, Option, Some};
+ghost use Rattle.std.specs.Prelude.{IfErr, IfOk, OnOk, false, true, length, take};
 ghost use Rattle.haul_core.specs.Reports.{IsWorker, Reported};
 ghost use Rattle.commands.specs.Answers.{IsInput};
 ghost use Rattle.commands.specs.Complaints.{status_of};
@@ -16,7 +17,8 @@ ghost use Rattle.commands.specs.Profiles.{AreInRange};
 ghost use Rattle.commands.specs.Streams.{stream};
 ghost use Rattle.haul_core.specs.Books.{StandsFor};
 ghost use Rattle.haul_core.specs.declared.arrival.Arrival.{Arrival};
-ghost use Rattle.commands.specs.GatherSteps.{EndsLine, EndsLines, GoesOn, HasGathered, HasGatheredShort, HasMet, IsMetBy, passage};
+ghost use Rattle.commands.specs.GatherSteps.{EndsLine, EndsLines, GoesOn, HasGathered, HasGatheredShort, HasMet};
+ghost use Rattle.commands.specs.GatherSteps.{IsMetBy, passage};
 ghost use Rattle.commands.specs.GatheredLines.{IsChecked, IsFrontFault, IsLookedAt, Meets, offer_fault};
 ghost use Rattle.haul_core.specs.declared.refusal.Refusal.TheVariants as refusal;
 
@@ -41,21 +43,22 @@ use survey_core::finding::findings_are_determined;
 use survey_core::job::Job;
 use survey_core::memo::Memo;
 
-/// Reads report lines, checks each and offers it to a haul over a set, under a profile and the rule of a text, and writes the
-/// haul text of what was taken.
+/// Reads report lines, checks each and offers it to a haul over a set, under a profile and the rule of a text, and
+/// writes the haul text of what was taken.
 ///
-/// A line is ended by a line feed, which the last may lack. A line that is not taken is told on `errors`, by its number from 1
-/// on, and the next one is read. Of a line no more than the first 2^24 bytes are looked at: a longer one is bad at the first fault
-/// of these, or at 2^24. Each of the profile's numbers is in its range, there are 1 to 16 workers, and neither writer
-/// may have failed. What is refused is looked for in the order of [`do_take`](crate::take::do_take), before anything is read.
-/// One line is kept at a time, and the haul. A read that a signal interrupts is tried again. `census gather` is this call over the standard streams.
+/// A line is ended by a line feed, which the last may lack. A line that is not taken is told on `errors`, by its number
+/// from 1 on, and the next one is read. Of a line no more than the first 2^24 bytes are looked at: a longer one is bad
+/// at the first fault of these, or at 2^24. Each of the profile's numbers is in its range, there are 1 to 16 workers,
+/// and neither writer may have failed. What is refused is looked for in the order of [`do_take`](crate::take::do_take),
+/// before anything is read. One line is kept at a time, and the haul. A read that a signal interrupts is tried again.
+/// `census gather` is this call over the standard streams.
 ///
 /// # Errors
 ///
-/// The status is `Incomplete` if soups are missing: then the haul was written, and a line on `errors` says how many. It is
-/// `Refused` as of `do_take`; `OutOfMemory`; or `Failed` if the input can't be read or is over 2^32 bytes long, or if the output
-/// or a line on a report line can't be written. With `Refused` and `OutOfMemory`, and after a failed read, nothing was written
-/// to the output. A failure to write the last line on `errors` is not reported.
+/// The status is `Incomplete` if soups are missing: then the haul was written, and a line on `errors` says how many. It
+/// is `Refused` as of `do_take`; `OutOfMemory`; or `Failed` if the input can't be read or is over 2^32 bytes long, or
+/// if the output or a line on a report line can't be written. With `Refused` and `OutOfMemory`, and after a failed
+/// read, nothing was written to the output. A failure to write the last line on `errors` is not reported.
 pub fn do_gather<R: Read, W: Write, E: Write>(
     alloc: Global,
     set: &SoupSet<'_>,
@@ -194,7 +197,8 @@ fn gather_lines<R: BufRead, E: Write>(
     Err(Complaint::ReadFailed)
 }
 
-/// Reads the line after so many others, checks it, offers its report and tells what is wrong with it. Says what was read.
+/// Reads the line after so many others, checks it, offers its report and tells what is wrong with it. Says what was
+/// read.
 fn next_line<R: BufRead, E: Write>(
     alloc: Global,
     input: &mut R,
@@ -210,7 +214,8 @@ fn next_line<R: BufRead, E: Write>(
     ensures short { IfOk result (λ read. read.size ≤ 2 ^ 32) }
     ensures going { (known first : Option (List ℕ)) (size : ℕ)
         → HasGathered (passage known (R.remaining input.old) first (E.contents errors.old.writer) before size) haul.old
-        → IfOk result (λ read. GoesOn (passage known (R.remaining input.new) first (E.contents errors.new.writer) (before + 1) (size + read.size))
+        → IfOk result (λ read. GoesOn
+        (passage known (R.remaining input.new) first (E.contents errors.new.writer) (before + 1) (size + read.size))
         haul.new read.end) }
     ensures fine { OnOk result (errors.new.failed ≡ false) }
     ensures ended { IfErr result (EndsLine errors.old errors.new) }
@@ -222,8 +227,8 @@ fn next_line<R: BufRead, E: Write>(
     Ok(read)
 }
 
-/// Offers the report of the line after so many others, and tells what is wrong with the line. The slice has the line's first
-/// 2^24 + 1 bytes.
+/// Offers the report of the line after so many others, and tells what is wrong with the line. The slice has the line's
+/// first 2^24 + 1 bytes.
 fn take_line<E: Write>(
     alloc: Global,
     kept: &[u8],
@@ -235,9 +240,11 @@ fn take_line<E: Write>(
     requires before { before < 2 ^ 32 }
     requires errors { errors.old.failed ≡ false }
     ensures terms { haul.new.terms ≡ haul.old.terms }
-    ensures met { (line : List ℕ) (lines : List (List ℕ)) (told : List ℕ) → kept.now ≡ take (2 ^ 24 + 1) line → before ≡ length lines
+    ensures met { (line : List ℕ) (lines : List (List ℕ)) (told : List ℕ) → kept.now ≡ take (2 ^ 24 + 1) line
+        → before ≡ length lines
         → HasMet haul.old.terms lines haul.old told
-        → OnOk result (IsMetBy haul.old.terms lines line haul.new told (E.contents errors.old.writer) (E.contents errors.new.writer)) }
+        → OnOk result (IsMetBy haul.old.terms lines line haul.new told (E.contents errors.old.writer)
+        (E.contents errors.new.writer)) }
     ensures fine { OnOk result (errors.new.failed ≡ false) }
     ensures ended { IfErr result (EndsLine errors.old errors.new) }
 {
@@ -247,8 +254,8 @@ fn take_line<E: Write>(
     Ok(())
 }
 
-/// Offers the report of a line, of which the slice has the first 2^24 + 1 bytes. The fault is what is told of the line, if
-/// anything is.
+/// Offers the report of a line, of which the slice has the first 2^24 + 1 bytes. The fault is what is told of the line,
+/// if anything is.
 fn offer_line(
     alloc: Global,
     kept: &[u8],
@@ -256,7 +263,8 @@ fn offer_line(
     haul: &mut Haul,
 ) -> Result<Option<LineFault>, AllocError>
     ensures terms { haul.new.terms ≡ haul.old.terms }
-    ensures met { (line : List ℕ) (arrivals : List Arrival) → kept.now ≡ take (2 ^ 24 + 1) line → StandsFor arrivals haul.old
+    ensures met { (line : List ℕ) (arrivals : List Arrival) → kept.now ≡ take (2 ^ 24 + 1) line
+        → StandsFor arrivals haul.old
         → IfOk result (λ fault. (arrived : List Arrival)
         × Meets haul.old.terms arrivals line arrived fault × StandsFor (arrivals ++ arrived) haul.new) }
 {

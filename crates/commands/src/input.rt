@@ -52,8 +52,8 @@ pub fn read_input<R: Read>(alloc: Global, input: &mut R) -> Result<Vec<u8>, Inpu
 ///
 /// # Errors
 ///
-/// `ReadFailed` if a read fails or there are more than [`INPUT_LIMIT`] bytes, else `BadByte` or `PatternTooLarge` if the
-/// bytes are not a pattern, and `OutOfMemory`.
+/// `ReadFailed` if a read fails or there are more than [`INPUT_LIMIT`] bytes, else `BadByte` or `PatternTooLarge` if
+/// the bytes are not a pattern, and `OutOfMemory`.
 pub fn read_pattern<R: Read>(alloc: Global, input: &mut R) -> Result<Pattern, Complaint>
     ensures read { (bytes : List ℕ) × IsInput (R.remaining input.old) bytes × Reads (pattern_of bytes) result }
     ensures small { IfOk result LiesWithin999 }

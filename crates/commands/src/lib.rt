@@ -1,7 +1,7 @@
 //! What each command of the census program does, over values, readers and writers.
 //!
-//! Each command is a function of plain values, as [`do_run`](run::do_run). The program reads them from its words, and lends the
-//! process's streams.
+//! Each command is a function of plain values, as [`do_run`](run::do_run). The program reads them from its words, and
+//! lends the process's streams.
 #![tactic(auto)]
 
 /// Why a command did not do all that was asked, and the line on standard error that says so.

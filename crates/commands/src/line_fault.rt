@@ -77,7 +77,8 @@ impl LineFault {
 /// Writes which soup was taken before, and from whom.
 fn put_double<E: Write>(errors: &mut Out<E>, number: u64, worker: u8) -> Result<(), WriteError>
     requires { errors.old.failed ≡ false }
-    ensures { Writes E.contents errors.old errors.new result (codes "double of " ++ decimal number ++ (codes " by " ++ decimal worker)) }
+    ensures { Writes E.contents errors.old errors.new result
+        (codes "double of " ++ decimal number ++ (codes " by " ++ decimal worker)) }
 {
     put_number(errors, b"double of ", number)?;
     put_number(errors, b" by ", worker)

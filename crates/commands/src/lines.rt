@@ -6,11 +6,11 @@
 //! end     Feed         Feed               Input
 //! ```
 //!
-//! No more of a line is kept than its first 2^24 bytes and the byte after them, so an input without a line feed takes no more
-//! memory than that.
+//! No more of a line is kept than its first 2^24 bytes and the byte after them, so an input without a line feed takes
+//! no more memory than that.
 
 ghost use Rattle.std.specs.Prelude.{◌≡◌, ◌≤◌, ◌+◌, ◌^◌, IfOk, None, length};
-ghost use Rattle.commands.specs.Lines.{HasPiece, HasRead, IsPieceOf};
+ghost use Rattle.commands.specs.Lines.{HasPiece, HasReadLine, IsPieceOf};
 
 use crate::input::InputFault;
 use memchr::memchr;
@@ -51,8 +51,9 @@ struct Piece {
     end: Option<LineEnd>,
 }
 
-/// Reads the next line of the input, and puts its first 2^24 + 1 bytes, without the line feed that ends it, into `line`. A read that a
-/// signal interrupts is tried again. Where the input is at its end, nothing is read, and the line is empty.
+/// Reads the next line of the input, and puts its first 2^24 + 1 bytes, without the line feed that ends it, into
+/// `line`. A read that a signal interrupts is tried again. Where the input is at its end, nothing is read, and the line
+/// is empty.
 ///
 /// # Errors
 ///
@@ -61,7 +62,7 @@ pub(crate) fn read_line<R: BufRead>(
     input: &mut R,
     line: &mut Vec<u8>,
 ) -> Result<LineRead, InputFault>
-    ensures { IfOk result (HasRead (R.remaining input.old) (R.remaining input.new) line.new.items) }
+    ensures { IfOk result (HasReadLine (R.remaining input.old) (R.remaining input.new) line.new.items) }
 {
     line.clear();
     let mut size = 0u64;

@@ -1,4 +1,5 @@
-ghost use Rattle.std.specs.Prelude.{◌≡◌, ◌&&◌, ◌++◌, ℕ, List, codes, decimal, false, flat_map, is_ok, IsErr, IfErr, IfOk, true};
+ghost use Rattle.std.specs.Prelude.{◌≡◌, ◌&&◌, ◌++◌, ℕ, List, codes, decimal, false, flat_map, is_ok, IsErr, IfErr};
+ghost use Rattle.std.specs.Prelude.{IfOk, true};
 ghost use Rattle.plane_core.specs.Out.{Writes};
 ghost use Rattle.commands.specs.Answers.{IsInput};
 ghost use Rattle.commands.specs.Complaints.{status_of};
@@ -21,18 +22,18 @@ use std::alloc::Global;
 use std::io::{Read, Write};
 use survey_core::finding::{Finding, survey_pattern};
 
-/// Reads a plaintext pattern and writes its finding: the generation of the first look at which it is at rest, and then a
-/// line for each code, in ASCII order, with how many objects have it; or that it doesn't settle.
+/// Reads a plaintext pattern and writes its finding: the generation of the first look at which it is at rest, and then
+/// a line for each code, in ASCII order, with how many objects have it; or that it doesn't settle.
 ///
-/// Each of the profile's numbers is in its range, and neither writer may have failed. The profile is looked at first, and
-/// then the rule: if one of them is refused, nothing of the input is read. `census name` is this call over the standard
-/// streams.
+/// Each of the profile's numbers is in its range, and neither writer may have failed. The profile is looked at first,
+/// and then the rule: if one of them is refused, nothing of the input is read. `census name` is this call over the
+/// standard streams.
 ///
 /// # Errors
 ///
-/// The status is `Refused` if the horizon is below the period, or for a text that is not a rule or an input that is not a
-/// pattern, `OutOfMemory`, or `Failed` if the input can't be read or the output can't be written. Then one line stands on
-/// `errors`; a failure to write that line is not reported.
+/// The status is `Refused` if the horizon is below the period, or for a text that is not a rule or an input that is not
+/// a pattern, `OutOfMemory`, or `Failed` if the input can't be read or the output can't be written. Then one line
+/// stands on `errors`; a failure to write that line is not reported.
 pub fn do_name<R: Read, W: Write, E: Write>(
     alloc: Global,
     profile: ProfileNumbers,
@@ -68,11 +69,13 @@ fn name<R: Read, W: Write>(
     requires profile { AreInRange profile }
     requires output { output.old.failed ≡ false }
     ensures reached { (bytes : List ℕ) × IsInput (R.remaining input.old) bytes
-        × ReachesText (is_ok (profile_named profile) && is_ok (rule_named rule_text.now)) true (name_right profile rule_text.now bytes) result
+        × ReachesText (is_ok (profile_named profile) && is_ok (rule_named rule_text.now)) true
+        (name_right profile rule_text.now bytes) result
         (stream W.contents output.old output.new) }
     ensures profile_first { IfErr (profile_named profile) (λ complaint.
         (result ≡ Err complaint) × (input.new ≡ input.old)) }
-    ensures rule_first { IsErr (rule_named rule_text.now) → IfErr result (λ complaint. status_of complaint ≡ Status.Refused) × (input.new ≡ input.old) }
+    ensures rule_first { IsErr (rule_named rule_text.now)
+        → IfErr result (λ complaint. status_of complaint ≡ Status.Refused) × (input.new ≡ input.old) }
     ensures untouched { IfErr result (λ complaint. status_of complaint ≡ Status.Refused → output.new ≡ output.old) }
     ensures no_memory { IfErr result (λ complaint. complaint ≡ Complaint.OutOfMemory → output.new ≡ output.old) }
 {

@@ -1,7 +1,7 @@
 ghost use Rattle.std.specs.Prelude.{◌≡◌, ◌≢◌, true, false, []};
 ghost use Rattle.std.specs.Io.Buffered.{writer_buffer, writer_contents};
 ghost use Rattle.std.specs.Io.KnownBytes.{Keeps};
-ghost use Rattle.commands.specs.Complaints.{line_of};
+ghost use Rattle.commands.specs.Complaints.{complaint_line};
 ghost use Rattle.commands.specs.Status.{has_printed};
 ghost use Rattle.commands.specs.Streams.{stream, HasLine};
 
@@ -12,16 +12,16 @@ use plane_core::output::Out;
 use std::alloc::Global;
 use std::io::{BufWriter, Write};
 
-/// Room for a line of standard error, so that it is written at once and lines of other programs don't come in between. Each line
-/// that is written is shorter: one that weren't would be written piece by piece.
+/// Room for a line of standard error, so that it is written at once and lines of other programs don't come in between.
+/// Each line that is written is shorter: one that weren't would be written piece by piece.
 pub(crate) type LineBuffer = ArrayVec<u8, 128>;
 
 /// Sends on what a command has left in the buffer, and returns the status that the process ends with: that of the
 /// command, or `Failed` if the command printed its text and not all of it could be sent on.
 ///
-/// A text is printed by a command that was done, or was done but for soups that are missing. After any other nothing more is
-/// written: then the buffer is not touched. The line of a failure goes to
-/// `errors`; a failure to write that line is not reported.
+/// A text is printed by a command that was done, or was done but for soups that are missing. After any other nothing
+/// more is written: then the buffer is not touched. The line of a failure goes to `errors`; a failure to write that
+/// line is not reported.
 pub fn send_buffered<W: Write + Drop, E: Write>(
     status: Status,
     buffered: &mut BufWriter<W, Global>,
@@ -36,7 +36,7 @@ pub fn send_buffered<W: Write + Drop, E: Write>(
     ensures failed { result ≢ status → result ≡ Status.Failed }
     ensures stays { errors.old.failed ≡ true → errors.new.failed ≡ true }
     ensures line { result ≢ status → errors.old.failed ≡ false
-        → HasLine (stream E.contents errors.old errors.new) (line_of Complaint.WriteFailed) }
+        → HasLine (stream E.contents errors.old errors.new) (complaint_line Complaint.WriteFailed) }
 {
     if !has_printed(status) || buffered.flush().is_ok() {
         return status;

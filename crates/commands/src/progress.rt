@@ -7,11 +7,12 @@ use std::time::{Clock, Instant};
 /// How long a line stands at least before it is written anew, in milliseconds.
 const PAUSE: u128 = 200;
 
-/// A line on a terminal that says how many soups of a haul are taken, and how many a second.
+/// A line on a terminal that says how many soups of a haul are taken, and how many a second; and how many workers there
+/// are, where the system started fewer than were asked for.
 ///
-/// It is written when the haul is begun, then now and then, each time over the line before, and is wiped at the end. A line
-/// for which there is no memory is left out. After a write that fails nothing more is written, and nothing at all if the clock
-/// can't be read at the beginning.
+/// It is written when the haul is begun, then now and then, each time over the line before, and is wiped at the end. A
+/// line for which there is no memory is left out. After a write that fails nothing more is written, and nothing at all
+/// if the clock can't be read at the beginning.
 #[derive(Drop)]
 pub struct Progress<W: Write, C: Clock> {
     alloc: Global,
@@ -19,6 +20,8 @@ pub struct Progress<W: Write, C: Clock> {
     clock: C,
     is_shown: bool,
     whole: u64,
+    workers: u8,
+    at_work: u8,
     started: Option<Instant>,
     latest: Option<Instant>,
     width: usize,
@@ -33,6 +36,8 @@ impl<W: Write, C: Clock> Progress<W, C> {
             clock,
             is_shown,
             whole: 0,
+            workers: 0,
+            at_work: 0,
             started: None,
             latest: None,
             width: 0,
@@ -53,7 +58,8 @@ impl<W: Write, C: Clock> Progress<W, C> {
         }
     }
 
-    /// Writes these characters from the screen's left edge, blanks as far as a line has come so far, and what is to follow.
+    /// Writes these characters from the screen's left edge, blanks as far as a line has come so far, and what is to
+    /// follow.
     fn put(&mut self, line: &str, after: &str) {
         let width = self.width;
         let Ok(text) = format!(in self.alloc; "\r{line:<width$}{after}") else {
@@ -67,10 +73,19 @@ impl<W: Write, C: Clock> Progress<W, C> {
     /// What the line says.
     fn line(&self, count: u64, now: Instant) -> Result<String, AllocError> {
         let whole = self.whole;
+        let crew = self.crew()?;
         match self.rate(count, now) {
-            Some(rate) => format!(in self.alloc; "{count} of {whole} soups, {rate} a second"),
-            None => format!(in self.alloc; "{count} of {whole} soups"),
+            Some(rate) => format!(in self.alloc; "{count} of {whole} soups, {rate} a second{crew}"),
+            None => format!(in self.alloc; "{count} of {whole} soups{crew}"),
         }
+    }
+
+    /// What the line says of the workers: nothing if all were started.
+    fn crew(&self) -> Result<String, AllocError> {
+        if self.at_work == self.workers {
+            return Ok(String::new(self.alloc));
+        }
+        format!(in self.alloc; ", {} of {} workers", self.at_work, self.workers)
     }
 
     /// How many of so many soups were taken a second. None at the very beginning.
@@ -81,7 +96,7 @@ impl<W: Write, C: Clock> Progress<W, C> {
 }
 
 impl<W: Write, C: Clock> Watch for Progress<W, C> {
-    fn begin(&mut self, whole: u64) {
+    fn begin(&mut self, whole: u64, workers: u8) {
         if !self.is_shown {
             return;
         }
@@ -89,8 +104,14 @@ impl<W: Write, C: Clock> Watch for Progress<W, C> {
             return;
         };
         self.whole = whole;
+        self.workers = workers;
+        self.at_work = workers;
         self.started = Some(now);
         self.show(0, now);
+    }
+
+    fn started(&mut self, workers: u8) {
+        self.at_work = workers;
     }
 
     fn taken(&mut self, count: u64) {

@@ -47,7 +47,8 @@ pub fn do_show<W: Write, E: Write>(
 
 fn show<W: Write>(alloc: Global, code: &str, output: &mut Out<W>) -> Result<(), Complaint>
     requires { output.old.failed ≡ false }
-    ensures reached { ReachesText false true (only (show_answer code.now)) result (stream W.contents output.old output.new) }
+    ensures reached { ReachesText false true (only (show_answer code.now)) result
+        (stream W.contents output.old output.new) }
     ensures untouched { IfErr result (λ complaint. status_of complaint ≡ Status.Refused → output.new ≡ output.old) }
     ensures no_memory { IfErr result (λ complaint. complaint ≡ Complaint.OutOfMemory → output.new ≡ output.old) }
 {

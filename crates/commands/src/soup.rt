@@ -54,7 +54,8 @@ fn put_soup<W: Write>(
     output: &mut Out<W>,
 ) -> Result<(), Complaint>
     requires { output.old.failed ≡ false }
-    ensures reached { ReachesText false true (only (soup_answer seed_text.now number)) result (stream W.contents output.old output.new) }
+    ensures reached { ReachesText false true (only (soup_answer seed_text.now number)) result
+        (stream W.contents output.old output.new) }
     ensures untouched { IfErr result (λ complaint. status_of complaint ≡ Status.Refused → output.new ≡ output.old) }
     ensures no_memory { IfErr result (λ complaint. complaint ≡ Complaint.OutOfMemory → output.new ≡ output.old) }
 {

@@ -5,7 +5,7 @@ ghost use Rattle.commands.specs.Complaints.{status_of};
 ghost use Rattle.commands.specs.Ends.{Ends, Reaches};
 ghost use Rattle.commands.specs.Profiles.{AreInRange};
 ghost use Rattle.commands.specs.Stopped.{gated_task};
-ghost use Rattle.commands.specs.Streams.{Stream, stream, IsStill};
+ghost use Rattle.commands.specs.Streams.{Stream, stream, IsUntouched};
 ghost use Rattle.commands.specs.Take.{take_right, take_task};
 ghost use Rattle.commands.specs.TakeSteps.{EndsCrew, IsTaken, Stops};
 
@@ -25,20 +25,21 @@ use std::io::Write;
 use std::sync::Wait;
 use std::thread::Threads;
 
-/// Surveys all soups of a set by so many workers, 1 to 16, under a profile and the rule of a text, and writes the haul text of
-/// what they left.
+/// Surveys all soups of a set by so many workers, 1 to 16, under a profile and the rule of a text, and writes the haul
+/// text of what they left.
 ///
-/// Each worker has a thread of its own, and what is written is the same for any number of them. Each of the profile's numbers is
-/// in its range, and neither writer may have failed. The seed is looked at first, then the profile, the rule, the range list,
-/// how large the ranges are, and last whether two of them share a number. Nothing is written before the haul is complete. The
-/// watch hears how many soups are taken, and nothing else depends on it. `census take` is this call over the standard streams.
+/// Each worker has a thread of its own, and what is written is the same for any number of them. Each of the profile's
+/// numbers is in its range, and neither writer may have failed. The seed is looked at first, then the profile, the
+/// rule, the range list, how large the ranges are, and last whether two of them share a number. Nothing is written
+/// before the haul is complete. The watch hears how many soups are taken, and nothing else depends on it. `census take`
+/// is this call over the standard streams.
 ///
 /// # Errors
 ///
-/// The status is `Refused` for a text that is not a seed, a horizon below the period, a text that is not a rule or a range
-/// list, ranges that go past 2^40 or have over 2^24 numbers together, or ranges that share a number; `OutOfMemory`, also if a
-/// thread could not be started; or `Failed` if the output can't be written. Then one line stands on `errors`; a failure to write
-/// that line is not reported.
+/// The status is `Refused` for a text that is not a seed, a horizon below the period, a text that is not a rule or a
+/// range list, ranges that go past 2^40 or have over 2^24 numbers together, or ranges that share a number;
+/// `OutOfMemory`, also if a thread could not be started; or `Failed` if the output can't be written. Then one line
+/// stands on `errors`; a failure to write that line is not reported.
 pub fn do_take<W: Write, E: Write, R: Threads + Wait + Sync, H: Watch>(
     alloc: Global,
     rt: &R,
@@ -54,7 +55,8 @@ pub fn do_take<W: Write, E: Write, R: Threads + Wait + Sync, H: Watch>(
     requires profile { AreInRange profile }
     requires output { output.old.failed ≡ false }
     requires errors { errors.old.failed ≡ false }
-    ensures ends { (known : Option (List ℕ)) (bytes : List ℕ) → Ends (take_task set.now profile rule_text.now) known bytes result
+    ensures ends { (known : Option (List ℕ)) (bytes : List ℕ)
+        → Ends (take_task set.now profile rule_text.now) known bytes result
         (stream W.contents output.old output.new) (stream E.contents errors.old errors.new) }
     ensures untouched { result ≡ Status.Refused → output.new ≡ output.old }
     ensures no_memory { result ≡ Status.OutOfMemory → output.new ≡ output.old }
@@ -68,8 +70,8 @@ pub fn do_take<W: Write, E: Write, R: Threads + Wait + Sync, H: Watch>(
 ///
 /// # Errors
 ///
-/// As of `do_take`, and `Incomplete` if the gate stopped a worker and soups are missing: then the haul text of what was taken was
-/// written, and a line on `errors` says how many are missing.
+/// As of `do_take`, and `Incomplete` if the gate stopped a worker and soups are missing: then the haul text of what was
+/// taken was written, and a line on `errors` says how many are missing.
 pub fn do_take_with<W: Write, E: Write, G: Gate + Sync, R: Threads + Wait + Sync, H: Watch>(
     alloc: Global,
     rt: &R,
@@ -113,7 +115,7 @@ fn take<W: Write, G: Gate + Sync, R: Threads + Wait + Sync, H: Watch>(
     requires workers { IsWorker workers }
     requires profile { AreInRange profile }
     requires output { output.old.failed ≡ false }
-    ensures reached { (known : Option (List ℕ)) (bytes : List ℕ) (errors : Stream) → IsStill errors
+    ensures reached { (known : Option (List ℕ)) (bytes : List ℕ) (errors : Stream) → IsUntouched errors
         → Reaches (gated_task (G.may_stop gate.now) set.now profile rule_text.now) known bytes result
         (stream W.contents output.old output.new) errors }
     ensures untouched { IfErr result (λ complaint. status_of complaint ≡ Status.Refused → output.new ≡ output.old) }

@@ -1,5 +1,5 @@
 ghost use Rattle.std.specs.Prelude.{◌≡◌, ◌<◌, ◌≤◌, ◌∷◌, [], ℕ, List, Option, IfErr, false};
-ghost use Rattle.haul_core.specs.Ranges.{AreBelow, end_of, number_bound};
+ghost use Rattle.ranges.specs.Ranges.{AreBelow, end_of, number_bound};
 ghost use Rattle.haul_core.specs.ReportLines.{report_text};
 ghost use Rattle.haul_core.specs.Reports.{IsWorker};
 ghost use Rattle.plane_core.specs.Out.{Writes};
@@ -16,27 +16,27 @@ use crate::complaint::Complaint;
 use crate::profile::ProfileNumbers;
 use crate::soup_set::{SoupSet, job, open_haul};
 use crate::status::Status;
-use haul_core::range::{Range, one_normal_form};
 use haul_core::report::Report;
 use haul_core::report_line::write_report_line;
 use plane_core::output::{Out, WriteError};
+use ranges::range::{Range, one_normal_form};
 use std::alloc::Global;
 use std::io::Write;
 use survey_core::finding::findings_are_determined;
 use survey_core::job::Job;
 use survey_core::memo::Memo;
 
-/// Surveys all soups of a set for a worker, 1 to 16, under a profile and the rule of a text, and writes a report line for each,
-/// ascending by the soups' numbers.
+/// Surveys all soups of a set for a worker, 1 to 16, under a profile and the rule of a text, and writes a report line
+/// for each, ascending by the soups' numbers.
 ///
-/// Each line is sent on as soon as it is whole. Each of the profile's numbers is in its range, and neither writer may have
-/// failed. What is refused is looked for in the order of [`do_take`](crate::take::do_take). `census work` is this call over the
-/// standard streams.
+/// Each line is sent on as soon as it is whole. Each of the profile's numbers is in its range, and neither writer may
+/// have failed. What is refused is looked for in the order of [`do_take`](crate::take::do_take). `census work` is this
+/// call over the standard streams.
 ///
 /// # Errors
 ///
-/// The status is `Refused` as of `do_take`; `OutOfMemory`, and then the lines before stand whole; or `Failed` if the output can't
-/// be written. Then one line stands on `errors`; a failure to write that line is not reported.
+/// The status is `Refused` as of `do_take`; `OutOfMemory`, and then the lines before stand whole; or `Failed` if the
+/// output can't be written. Then one line stands on `errors`; a failure to write that line is not reported.
 pub fn do_work<W: Write, E: Write>(
     alloc: Global,
     set: &SoupSet<'_>,
@@ -50,7 +50,8 @@ pub fn do_work<W: Write, E: Write>(
     requires profile { AreInRange profile }
     requires output { output.old.failed ≡ false }
     requires errors { errors.old.failed ≡ false }
-    ensures ends { (known : Option (List ℕ)) (bytes : List ℕ) → Ends (work_task set.now worker profile rule_text.now) known bytes result
+    ensures ends { (known : Option (List ℕ)) (bytes : List ℕ)
+        → Ends (work_task set.now worker profile rule_text.now) known bytes result
         (stream W.contents output.old output.new) (stream E.contents errors.old errors.new) }
     ensures untouched { result ≡ Status.Refused → output.new ≡ output.old }
 {
@@ -71,7 +72,8 @@ fn work<W: Write>(
     requires worker { IsWorker worker }
     requires profile { AreInRange profile }
     requires output { output.old.failed ≡ false }
-    ensures reached { ReachesText false false (work_right set.now worker profile rule_text.now) result (stream W.contents output.old output.new) }
+    ensures reached { ReachesText false false (work_right set.now worker profile rule_text.now) result
+        (stream W.contents output.old output.new) }
     ensures untouched { IfErr result (λ complaint. status_of complaint ≡ Status.Refused → output.new ≡ output.old) }
 {
     findings_are_determined();

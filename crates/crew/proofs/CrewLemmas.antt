@@ -11,7 +11,7 @@ use Rattle.haul_core.specs.Books.{Held, StandsFor, Terms, entry, eligible, refus
 use Rattle.haul_core.specs.Reports.{Reported}
 use Rattle.haul_core.specs.declared.arrival.Arrival.{Arrival}
 use Rattle.haul_core.specs.declared.arrival.Arrival.TheVariants.{Offer}
-use Rattle.crew.specs.Belts.{GotOne, Line, Received}
+use Rattle.handover.specs.Belts.{GotOne, Line, Received}
 use Rattle.crew.specs.Crews.{Collected, HasAdded, HasLost, HasMetAll, IsPart, dones, is_done, report_in, reports_in}
 use Rattle.crew.specs.declared.note.Note.{Note}
 use Rattle.crew.specs.declared.note.Note.TheVariants.{Done, Report}
@@ -93,14 +93,18 @@ module _ {started left : ℕ} {before after : Received Note} {old mid : Held} {a
       subst (λ (l : List Reported). IsPart (part ++ more) l) (sym (reports_push c.notes (sender, Report r)))
       (part_append part (reports_in c.notes) more (r ∷ []) p q)
 
-  lost_more : (r : Reported) (sender : ℕ) → HasLost (reports_in c.notes) old → HasLost (reports_in (c.notes ++ (sender, Report r) ∷ [])) old
-  lost_more r sender lost =
-      let front = lost.before ++ lost.report ∷ [] in
+  -- one was lost before, and of this report the haul has taken `more`
+  lost_more : (r : Reported) (sender : ℕ) (more : List Reported) → IsPart more (r ∷ []) → HasLost (reports_in c.notes) c.part old
+      → HasLost (reports_in (c.notes ++ (sender, Report r) ∷ [])) (c.part ++ more) old
+  lost_more r sender more q lost =
       record {
         before = lost.before;
         report = lost.report;
-        some = subst (λ (l : List Reported). IsPart l (reports_in (c.notes ++ (sender, Report r) ∷ []))) (append-nil front)
-            (some_more r sender front [] lost.some (part_none (r ∷ [])));
+        later = lost.later ++ more;
+        taken = ap (λ (l : List Reported). l ++ more) lost.taken ∙ append_assoc lost.before lost.later more;
+        some = subst (λ (l : List Reported). IsPart l (reports_in (c.notes ++ (sender, Report r) ∷ [])))
+            (append_assoc lost.before (lost.report ∷ lost.later) more)
+            (some_more r sender (lost.before ++ lost.report ∷ lost.later) more lost.some q);
         eligible = lost.eligible;
       }
 
@@ -109,6 +113,7 @@ module _ {started left : ℕ} {before after : Received Note} {old mid : Held} {a
     part : List Reported
     some : IsPart part (reports_in (c.notes ++ (sender, Report r) ∷ []))
     added : HasAdded part old new
+    lost : HasLost (reports_in c.notes) c.part old → HasLost (reports_in (c.notes ++ (sender, Report r) ∷ [])) part old
 
   takes : (r : Reported) (sender : ℕ) (new : Held) → (new ≡ mid) ⊎ HasAdded (r ∷ []) mid new → Takes r sender new
   takes r sender new added =
@@ -118,11 +123,14 @@ module _ {started left : ℕ} {before after : Received Note} {old mid : Held} {a
         some = subst (λ (l : List Reported). IsPart l (reports_in (c.notes ++ (sender, Report r) ∷ []))) (append-nil c.part)
             (some_more r sender c.part [] c.some (part_none (r ∷ [])));
         added = subst (HasAdded c.part old) (sym same) c.added;
+        lost = λ lost. subst (λ (l : List Reported). HasLost (reports_in (c.notes ++ (sender, Report r) ∷ [])) l old) (append-nil c.part)
+            (lost_more r sender [] (part_none (r ∷ [])) lost);
       })
       (λ (more : HasAdded (r ∷ []) mid new). record {
         part = c.part ++ r ∷ [];
         some = some_more r sender c.part (r ∷ []) c.some (part_all (r ∷ []));
         added = added_more c.part (r ∷ []) old mid new c.added more;
+        lost = lost_more r sender (r ∷ []) (part_all (r ∷ []));
       }) added
 
 module _ {started left : ℕ} {before after next : Received Note} {old mid : Held} {answered : Bool}
@@ -156,7 +164,7 @@ module _ {started left : ℕ} {before after next : Received Note} {old mid : Hel
         added = t.added;
         all = λ yes. subst (λ (l : List Reported). HasMetAll l old new) (sym whole)
             (met_more (reports_in c.notes) (r ∷ []) old mid new (c.all yes) met);
-        lost = λ no. lost_more c r g.sender (c.lost no);
+        lost = λ no. t.lost (c.lost no);
       }
 
   -- a report for which there was no memory
@@ -164,7 +172,6 @@ module _ {started left : ℕ} {before after next : Received Note} {old mid : Hel
       → ((arrivals : List Arrival) → StandsFor arrivals mid → refusal_of mid.terms arrivals r ≡ None)
       → Collected started left before next old new false
   collected_unheard r new g some same eligible =
-      let t = takes c r g.sender new (inl same) in
       record {
         notes = c.notes ++ (g.sender, Report r) ∷ [];
         belt = g.belt ∙ c.belt;
@@ -172,13 +179,16 @@ module _ {started left : ℕ} {before after next : Received Note} {old mid : Hel
         senders = sender_in (Report r) g;
         done = let a = dones_push c.notes (g.sender, Report r) in let b = c.done in omega arith;
         ends = inl some;
-        part = t.part;
-        some = t.some;
-        added = t.added;
+        part = c.part;
+        some = subst (λ (l : List Reported). IsPart l (reports_in (c.notes ++ (g.sender, Report r) ∷ []))) (append-nil c.part)
+            (some_more c r g.sender c.part [] c.some (part_none (r ∷ [])));
+        added = subst (HasAdded c.part old) (sym same) c.added;
         all = λ yes. absurd (true≢false (sym yes));
         lost = λ no. record {
           before = c.part;
           report = r;
+          later = [];
+          taken = sym (append-nil c.part);
           some = some_more c r g.sender c.part (r ∷ []) c.some (part_all (r ∷ []));
           eligible = λ arrivals s. subst (λ (t : Terms). refusal_of t (arrivals ++ map Offer c.part) r ≡ None) c.added.terms
               (eligible (arrivals ++ map Offer c.part) (c.added.stands arrivals s));
@@ -201,5 +211,5 @@ module _ {started left : ℕ} {before after next : Received Note} {old mid : Hel
         some = subst (λ (l : List Reported). IsPart c.part l) (sym whole) c.some;
         added = c.added;
         all = λ yes. subst (λ (l : List Reported). HasMetAll l old mid) (sym whole) (c.all yes);
-        lost = λ no. subst (λ (l : List Reported). HasLost l old) (sym whole) (c.lost no);
+        lost = λ no. subst (λ (l : List Reported). HasLost l c.part old) (sym whole) (c.lost no);
       }

@@ -1,6 +1,3 @@
-mod BeltLemmas
 mod CrewLemmas
 mod ShiftLemmas
-mod SumLemmas
 mod TakeLemmas
-mod TicketLemmas

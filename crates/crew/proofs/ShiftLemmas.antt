@@ -8,7 +8,7 @@ use Rattle.std.proofs.lemmas.List.Quantifiers.{all_pairs_push}
 use Rattle.atomic_table.specs.Seated.{TableId}
 use Rattle.survey_core.specs.declared.job.Job.{Job}
 use Rattle.haul_core.specs.Reports.{Reported}
-use Rattle.crew.specs.Belts.{Presented, silent, with_note}
+use Rattle.handover.specs.Belts.{Presented, silent, with_note}
 use Rattle.crew.specs.Crews.{report_in}
 use Rattle.crew.specs.Shifts.{AreBack, HasReported, HasWorked, Leaves, StopsAt, reported, sender_numbers}
 use Rattle.crew.specs.declared.note.Note.{Note}

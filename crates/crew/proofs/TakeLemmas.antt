@@ -18,13 +18,13 @@ use Rattle.survey_core.specs.declared.job.Job.{Job}
 use Rattle.haul_core.specs.Books.{Held, entry}
 use Rattle.haul_core.specs.Keeping.{numbers_in}
 use Rattle.haul_core.specs.Reports.{Reported}
-use Rattle.crew.specs.Belts.{IsWhole, Line, Presented, Received, deaf, notes_of, silent}
+use Rattle.handover.specs.Belts.{IsWhole, Line, Presented, Received, deaf, notes_of, silent}
 use Rattle.crew.specs.Crews.{Collected, IsPart, report_in, reports_in}
 use Rattle.crew.specs.Shifts.{HasWorked, StopsAt, reported, sender_numbers}
 use Rattle.crew.specs.Takes.{HasTaken, taken_by, was_missing}
 use Rattle.crew.specs.declared.note.Note.{Note}
 use Rattle.crew.specs.declared.note.Note.TheVariants.{Done, Report}
-use Rattle.crew.proofs.BeltLemmas.{notes_first, notes_other}
+use Rattle.handover.proofs.BeltLemmas.{notes_first, notes_other}
 use Rattle.crew.proofs.CrewLemmas.{added_none}
 
 abbrev Rises : List ℕ → Type 0

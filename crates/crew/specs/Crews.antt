@@ -4,7 +4,7 @@ use Rattle.haul_core.specs.Books.{Held, StandsFor, entry, refusal_of}
 use Rattle.haul_core.specs.Reports.{Reported}
 use Rattle.haul_core.specs.declared.arrival.Arrival.{Arrival}
 use Rattle.haul_core.specs.declared.arrival.Arrival.TheVariants.{Offer}
-use Rattle.crew.specs.Belts.{Received}
+use Rattle.handover.specs.Belts.{Received}
 use Rattle.crew.specs.declared.note.Note.{Note}
 use Rattle.crew.specs.declared.note.Note.TheVariants.{Done, Report}
 
@@ -44,11 +44,13 @@ pub record HasAdded (reports : List Reported) (old new : Held) : Type 0 where
 abbrev pub HasMetAll : List Reported → Held → Held → Type 0
 HasMetAll reports old new = (arrivals : List Arrival) → StandsFor arrivals old → StandsFor (arrivals ++ map Offer reports) new
 
--- One of these reports was lost, which the book takes after others of them that came before it.
-pub record HasLost (reports : List Reported) (old : Held) : Type 0 where
+-- Of these reports a haul has taken a part, and one that came among them was lost, which the book takes after those taken before it.
+pub record HasLost (reports part : List Reported) (old : Held) : Type 0 where
   pub before : List Reported
   pub report : Reported
-  pub some : IsPart (before ++ report ∷ []) reports
+  pub later : List Reported
+  pub taken : part ≡ before ++ later
+  pub some : IsPart (before ++ report ∷ later) reports
   pub eligible : (arrivals : List Arrival) → StandsFor arrivals old → refusal_of old.terms (arrivals ++ map Offer before) report ≡ None
 
 -- Notes were received until so many workers were done, all but the last few. Of the reports in them a haul has taken some: all that
@@ -64,4 +66,4 @@ pub record Collected (started left : ℕ) (before after : Received Note) (old ne
   pub some : IsPart part (reports_in notes)
   pub added : HasAdded part old new
   pub all : answered ≡ true → HasMetAll (reports_in notes) old new
-  pub lost : answered ≡ false → HasLost (reports_in notes) old
+  pub lost : answered ≡ false → HasLost (reports_in notes) part old

@@ -3,7 +3,7 @@ use Rattle.std.specs.Prelude.{◌≡◌, ◌<◌, ◌++◌, ◌∷◌, [], ℕ, 
 use Rattle.atomic_table.specs.Seated.{TableId}
 use Rattle.survey_core.specs.declared.job.Job.{Job}
 use Rattle.haul_core.specs.Reports.{Reported}
-use Rattle.crew.specs.Belts.{Presented}
+use Rattle.handover.specs.Belts.{Presented}
 use Rattle.crew.specs.Crews.{report_in}
 use Rattle.crew.specs.declared.note.Note.{Note}
 use Rattle.crew.specs.declared.note.Note.TheVariants.{Done}

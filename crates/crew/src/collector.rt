@@ -4,9 +4,9 @@ ghost use Rattle.haul_core.specs.Books.{StandsFor, refusal_of};
 ghost use Rattle.haul_core.specs.declared.arrival.Arrival.{Arrival};
 ghost use Rattle.crew.specs.Crews.{Collected, HasAdded, HasMetAll};
 
-use crate::belt::{Belt, ReceiverPass};
 use crate::note::Note;
 use crate::watch::Watch;
+use handover::belt::{Belt, ReceiverPass};
 use haul_core::haul::Haul;
 use haul_core::refusal::Refusal;
 use haul_core::report::Report;
@@ -19,8 +19,8 @@ use std::sync::Wait;
 ///
 /// # Errors
 ///
-/// [`AllocError`] if memory ran out for a report that the haul would have taken. All other reports have been offered then
-/// too.
+/// [`AllocError`] if memory ran out for a report that the haul would have taken. All other reports have been offered
+/// then too.
 pub fn collect<R: Wait, H: Watch>(
     rt: &R,
     belt: &Belt<Note>,

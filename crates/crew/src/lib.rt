@@ -1,9 +1,6 @@
 //! What threads need to take the soups of one haul together, with no lock.
 #![tactic(auto)]
 
-mod bell;
-/// A queue from several senders to one receiver.
-pub mod belt;
 /// The collector, which offers what it receives to a haul.
 pub mod collector;
 /// Gates, which may stop a worker.
@@ -11,8 +8,6 @@ pub mod gate;
 /// What a worker says to the collector.
 pub mod note;
 mod shift;
-/// Numbers that threads draw, each once.
-pub mod tickets;
 /// The workers, and the call that runs them.
 pub mod workers;
 /// Who hears how far a haul has come.

@@ -1,15 +1,15 @@
 //! A worker's shift: it draws, asks the gate, surveys and reports, until none is left or it has to stop.
 ghost use Rattle.std.specs.Prelude.{◌≡◌, ◌<◌, ◌⊎◌, All, vec_len};
-ghost use Rattle.haul_core.specs.Ranges.{number_bound};
-ghost use Rattle.crew.specs.Belts.{silent};
+ghost use Rattle.ranges.specs.Ranges.{number_bound};
+ghost use Rattle.handover.specs.Belts.{silent};
 ghost use Rattle.crew.specs.Shifts.{EndsByDone, HasWorked, StopsAt};
-ghost use Rattle.crew.specs.Tickets.{fresh};
+ghost use Rattle.handover.specs.Tickets.{fresh};
 ghost use Rattle.crew.specs.declared.shift.End.TheVariants as End;
 
-use crate::belt::{Belt, SenderPass};
 use crate::gate::Gate;
 use crate::note::Note;
-use crate::tickets::{Pass, Tickets};
+use handover::belt::{Belt, SenderPass};
+use handover::tickets::{Pass, Tickets};
 use haul_core::report::Report;
 use std::alloc::Global;
 use std::sync::Wait;
@@ -51,8 +51,8 @@ pub(crate) struct Shift {
     pub(crate) end: End,
 }
 
-/// Surveys what is left, one number after another, until none is left, the gate stops the worker, or memory runs out. Each
-/// report is presented.
+/// Surveys what is left, one number after another, until none is left, the gate stops the worker, or memory runs out.
+/// Each report is presented.
 #[tactic(auto, using(crate::proofs::ShiftLemmas::reported_none, crate::proofs::ShiftLemmas::reported_more))]
 fn survey_all<G: Gate, R: Wait>(
     alloc: Global,

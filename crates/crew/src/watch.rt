@@ -2,8 +2,11 @@
 ///
 /// No contract speaks of it, so nothing that a call returns or writes to its output depends on what is heard here.
 pub trait Watch {
-    /// A haul of so many soups is to be completed.
-    fn begin(&mut self, _whole: u64) {}
+    /// A haul of so many soups is to be completed, by so many workers.
+    fn begin(&mut self, _whole: u64, _workers: u8) {}
+
+    /// So many of the workers have been started. The others work on nothing, since the system started no more threads.
+    fn started(&mut self, _workers: u8) {}
 
     /// So many soups of the haul are taken by now.
     fn taken(&mut self, count: u64);

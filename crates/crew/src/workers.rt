@@ -1,24 +1,26 @@
 //! The workers of a crew, and the call that runs them.
-ghost use Rattle.std.specs.Prelude.{◌≡◌, ◌<◌, ◌≤◌, ◌+◌, ◌++◌, ◌∷◌, ◌⊎◌, [], ◌≢◌, ℕ, All, Bool, Err, IfErr, IfOk, IfSome, MatchResult, None, Some, false, length, map, nat_eq, true, vec_capacity, vec_len};
+ghost use Rattle.std.specs.Prelude.{◌≡◌, ◌<◌, ◌≤◌, ◌+◌, ◌++◌, ◌∷◌, ◌⊎◌, [], ◌≢◌, ℕ, All, Bool, Err, IfErr, IfOk};
+ghost use Rattle.std.specs.Prelude.{IfSome, MatchResult, None, Some, false, length, map, nat_eq, true, vec_capacity};
+ghost use Rattle.std.specs.Prelude.{vec_len};
 ghost use Rattle.std.specs.List.{IsDistinct, range_with_len};
 ghost use Rattle.std.specs.List.Sorted.{IsStrictlyIncreasing};
 ghost use Rattle.haul_core.specs.Keeping.{numbers_in};
 ghost use Rattle.haul_core.specs.Missing.{AreAll, IsComplete};
-ghost use Rattle.crew.specs.Belts.{IsWhole, deaf, silent};
+ghost use Rattle.handover.specs.Belts.{IsWhole, deaf, silent};
 ghost use Rattle.crew.specs.Crews.{Collected};
 ghost use Rattle.crew.specs.Shifts.{AreBack, Leaves, StopsAt, sender_numbers};
 ghost use Rattle.crew.specs.Takes.{HasTaken, was_missing};
-ghost use Rattle.crew.specs.Tickets.{fresh};
+ghost use Rattle.handover.specs.Tickets.{fresh};
 ghost use Rattle.crew.specs.declared.workers.CrewError.TheVariants as CrewError;
 ghost use Rattle.crew.specs.declared.shift.End.TheVariants as End;
 
-use crate::belt::{Belt, ReceiverPass, SenderPass};
 use crate::collector::collect;
 use crate::gate::Gate;
 use crate::note::Note;
 use crate::shift::{End, Shift, Site, work};
-use crate::tickets::{Pass, Tickets};
 use crate::watch::Watch;
+use handover::belt::{Belt, ReceiverPass, SenderPass};
+use handover::tickets::{Pass, Tickets};
 use haul_core::haul::Haul;
 use std::alloc::{AllocError, Global};
 use std::sync::Wait;
@@ -47,8 +49,8 @@ pub enum CrewError {
 /// Lets so many workers survey what is missing in a haul, each in a thread of its own, and offers what they report.
 ///
 /// There are at least one and at most as many workers as the haul has. A worker asks the gate before each survey, and
-/// surveys nothing more once the gate stops it. The haul stays open. The watch hears how many soups of the haul are taken,
-/// in the thread of the call.
+/// surveys nothing more once the gate stops it. The haul stays open. The watch hears how many soups of the haul are
+/// taken, in the thread of the call.
 ///
 /// # Errors
 ///
@@ -71,17 +73,22 @@ pub fn take<G: Gate + Sync, R: Threads + Wait + Sync, H: Watch>(
     requires few { workers ≤ haul.terms.workers }
     ensures closed { haul.closed ≡ true → result ≡ Err (haul, CrewError.Closed) }
     ensures open { IfErr result (λ back. back.1 ≡ CrewError.Closed → haul.closed ≡ true) }
-    ensures taken { haul.closed ≡ false → MatchResult result (HasTaken workers haul) (λ back. HasTaken workers haul back.0) }
+    ensures taken { haul.closed ≡ false
+        → MatchResult result (HasTaken workers haul) (λ back. HasTaken workers haul back.0) }
     ensures complete { IfOk result (λ done. IsComplete done.terms.ranges done.taken) }
     ensures all { IfOk result (λ done. AreAll done.terms.ranges (numbers_in done.taken)) }
-    ensures stopped { (worker : ℕ) → IfErr result (λ back. back.1 ≡ CrewError.Stopped worker → StopsAt (G.may_stop gate.now) (was_missing haul) worker) }
-    ensures within { (worker : ℕ) → IfErr result (λ back. back.1 ≡ CrewError.Stopped worker → (1 ≤ worker) × (worker ≤ workers)) }
-    ensures incomplete { IfErr result (λ back. back.1 ≢ CrewError.Closed → ¬ IsComplete back.0.terms.ranges back.0.taken) }
+    ensures stopped { (worker : ℕ)
+        → IfErr result (λ back. back.1 ≡ CrewError.Stopped worker
+        → StopsAt (G.may_stop gate.now) (was_missing haul) worker) }
+    ensures within { (worker : ℕ)
+        → IfErr result (λ back. back.1 ≡ CrewError.Stopped worker → (1 ≤ worker) × (worker ≤ workers)) }
+    ensures incomplete { IfErr result
+        (λ back. back.1 ≢ CrewError.Closed → ¬ IsComplete back.0.terms.ranges back.0.taken) }
 {
     if haul.is_closed() {
         return Err((haul, CrewError::Closed));
     }
-    watch.begin(haul.count());
+    watch.begin(haul.count(), workers);
     let (haul, stopped) = take_missing(alloc, rt, haul, workers, gate, watch);
     watch.end();
     if haul.is_complete() {
@@ -149,7 +156,9 @@ struct Duty<'s, G> {
 }
 
 impl<'s, G: Gate> Promise<Shift> for Duty<'s, G> {
-    ghost kept_by = { λ d shift. Leaves (G.may_stop d.gate.now) d.site.now.belt.name d.site.now.job d.site.now.missing.items d.worker shift.sender (shift.end ≡ End.Stopped) };
+    ghost kept_by = { λ d shift. Leaves
+        (G.may_stop d.gate.now) d.site.now.belt.name d.site.now.job d.site.now.missing.items d.worker shift.sender
+        (shift.end ≡ End.Stopped) };
 }
 
 /// The haul, what its collector has received, and what the workers have left that are back.
@@ -183,15 +192,21 @@ fn run_crew<'s, E, G: Gate + Sync, R: Threads + Wait + Sync, H: Watch>(
     requires few { crew.away + length senders.items ≤ 255 }
     requires receiver { crew.receiver.belt ≡ site.now.belt }
     requires room { length crew.senders.items + length senders.items ≤ vec_capacity crew.senders }
-    requires back { AreBack (G.may_stop gate.now) site.now.belt.name site.now.job site.now.missing.items crew.senders.items crew.stopped }
-    ensures back { AreBack (G.may_stop gate.now) site.now.belt.name site.now.job site.now.missing.items result.senders.items result.stopped }
-    ensures numbers { sender_numbers result.senders.items ≡ sender_numbers crew.senders.items ++ sender_numbers senders.items }
+    requires back { AreBack
+        (G.may_stop gate.now) site.now.belt.name site.now.job site.now.missing.items crew.senders.items crew.stopped }
+    ensures back { AreBack
+        (G.may_stop gate.now) site.now.belt.name site.now.job site.now.missing.items result.senders.items
+        result.stopped }
+    ensures numbers { sender_numbers result.senders.items
+        ≡ sender_numbers crew.senders.items ++ sender_numbers senders.items }
     ensures many { length result.senders.items ≡ length crew.senders.items + length senders.items }
     ensures room { vec_capacity result.senders ≡ vec_capacity crew.senders }
     ensures away { result.away ≡ crew.away }
-    ensures collected { (started : ℕ) × (answered : Bool) × Collected started 0 crew.receiver result.receiver crew.haul result.haul answered }
+    ensures collected { (started : ℕ) × (answered : Bool)
+        × Collected started 0 crew.receiver result.receiver crew.haul result.haul answered }
 {
     let Some(sender) = senders.pop() else {
+        watch.started(crew.away);
         let _ = collect(
             rt,
             &site.belt,
@@ -209,7 +224,8 @@ fn run_crew<'s, E, G: Gate + Sync, R: Threads + Wait + Sync, H: Watch>(
     let duty = Duty { worker, site, gate };
     let shift = move || -> Shift
         requires { (pass ≡ fresh site.now.tickets) × (sender ≡ silent site.now.belt.name sender.number) }
-        ensures { Leaves (G.may_stop gate.entry.now) site.entry.now.belt.name site.entry.now.job site.entry.now.missing.items sender.number result.sender (result.end ≡ End.Stopped) }
+        ensures { Leaves (G.may_stop gate.entry.now) site.entry.now.belt.name site.entry.now.job
+            site.entry.now.missing.items sender.number result.sender (result.end ≡ End.Stopped) }
     { work(alloc, rt, site, gate, pass, sender) };
     match scope.spawn_with(duty, shift) {
         Ok(handle) => {
@@ -233,7 +249,8 @@ fn with_shift(crew: Crew, shift: Shift) -> Crew
     requires room { length crew.senders.items < vec_capacity crew.senders }
     ensures senders { result.senders.items ≡ crew.senders.items ++ shift.sender ∷ [] }
     ensures room { vec_capacity result.senders ≡ vec_capacity crew.senders }
-    ensures stopped { IfSome result.stopped (λ w. (crew.stopped ≡ Some w) ⊎ ((shift.end ≡ End.Stopped) × (w ≡ shift.sender.number))) }
+    ensures stopped { IfSome result.stopped
+        (λ w. (crew.stopped ≡ Some w) ⊎ ((shift.end ≡ End.Stopped) × (w ≡ shift.sender.number))) }
     ensures first { IfSome crew.stopped (λ w. result.stopped ≡ Some w) }
     ensures noted { crew.stopped ≡ None → shift.end ≡ End.Stopped → result.stopped ≡ Some shift.sender.number }
     ensures haul { result.haul ≡ crew.haul }
@@ -269,7 +286,8 @@ impl Start {
         ensures workers { IfOk result (λ start. start.site.belt.workers ≡ workers) }
         ensures passes { IfOk result (λ start. All (λ p. p ≡ fresh start.site.tickets) start.passes.items) }
         ensures many { IfOk result (λ start. length start.passes.items ≡ workers) }
-        ensures senders { IfOk result (λ start. start.senders.items ≡ map (silent start.site.belt.name) (range_with_len 1 workers)) }
+        ensures senders { IfOk result
+            (λ start. start.senders.items ≡ map (silent start.site.belt.name) (range_with_len 1 workers)) }
         ensures receiver { IfOk result (λ start. start.receiver ≡ deaf start.site.belt) }
         ensures back { IfOk result (λ start. start.back.items ≡ []) }
         ensures room { IfOk result (λ start. workers ≤ vec_capacity start.back) }
@@ -314,10 +332,15 @@ fn run_in_scope<G: Gate + Sync, R: Threads + Wait + Sync, H: Watch>(
     requires few { crew.away + length senders.items ≤ 255 }
     requires receiver { crew.receiver.belt ≡ site.now.belt }
     requires room { length crew.senders.items + length senders.items ≤ vec_capacity crew.senders }
-    requires back { AreBack (G.may_stop gate.now) site.now.belt.name site.now.job site.now.missing.items crew.senders.items crew.stopped }
-    ensures back { AreBack (G.may_stop gate.now) site.now.belt.name site.now.job site.now.missing.items result.senders.items result.stopped }
-    ensures numbers { sender_numbers result.senders.items ≡ sender_numbers crew.senders.items ++ sender_numbers senders.items }
-    ensures collected { (started : ℕ) × (answered : Bool) × Collected started 0 crew.receiver result.receiver crew.haul result.haul answered }
+    requires back { AreBack
+        (G.may_stop gate.now) site.now.belt.name site.now.job site.now.missing.items crew.senders.items crew.stopped }
+    ensures back { AreBack
+        (G.may_stop gate.now) site.now.belt.name site.now.job site.now.missing.items result.senders.items
+        result.stopped }
+    ensures numbers { sender_numbers result.senders.items
+        ≡ sender_numbers crew.senders.items ++ sender_numbers senders.items }
+    ensures collected { (started : ℕ) × (answered : Bool)
+        × Collected started 0 crew.receiver result.receiver crew.haul result.haul answered }
 {
     thread::scope(
         thread::scope_env(),
@@ -329,10 +352,15 @@ fn run_in_scope<G: Gate + Sync, R: Threads + Wait + Sync, H: Watch>(
                 × (crew.away + length senders.items ≤ 255)
                 × (crew.receiver.belt ≡ site.now.belt)
                 × (length crew.senders.items + length senders.items ≤ vec_capacity crew.senders)
-                × AreBack (G.may_stop gate.now) site.now.belt.name site.now.job site.now.missing.items crew.senders.items crew.stopped }
-            ensures back { AreBack (G.may_stop gate.entry.now) site.entry.now.belt.name site.entry.now.job site.entry.now.missing.items result.senders.items result.stopped }
-            ensures numbers { sender_numbers result.senders.items ≡ sender_numbers crew.senders.items ++ sender_numbers senders.items }
-            ensures collected { (started : ℕ) × (answered : Bool) × Collected started 0 crew.receiver result.receiver crew.haul result.haul answered }
+                × AreBack (G.may_stop gate.now) site.now.belt.name site.now.job site.now.missing.items
+                crew.senders.items crew.stopped }
+            ensures back { AreBack
+                (G.may_stop gate.entry.now) site.entry.now.belt.name site.entry.now.job site.entry.now.missing.items
+                result.senders.items result.stopped }
+            ensures numbers { sender_numbers result.senders.items
+                ≡ sender_numbers crew.senders.items ++ sender_numbers senders.items }
+            ensures collected { (started : ℕ) × (answered : Bool)
+                × Collected started 0 crew.receiver result.receiver crew.haul result.haul answered }
         { run_crew(alloc, rt, scope, site, gate, passes, senders, crew, watch) },
     )
 }

@@ -1,10 +1,10 @@
 ghost use Rattle.std.specs.Prelude.{◌≡◌, ◌<◌};
 
 use crate::small::{haul_of, small_job};
-use crew::belt::{Belt, ReceiverPass, SenderPass};
 use crew::collector::collect;
 use crew::note::Note;
 use crew::watch::Unwatched;
+use handover::belt::{Belt, ReceiverPass, SenderPass};
 use haul_core::report::Report;
 use std::alloc::Global;
 use std::sync::Wait;
@@ -64,8 +64,8 @@ fn present_hundred<R: Wait>(
     pass
 }
 
-/// Receives so many notes. What it returns is, for each of the two senders, the number that would come next, if its numbers
-/// came from 0 and from 100 on in their order, and how many senders are done.
+/// Receives so many notes. What it returns is, for each of the two senders, the number that would come next, if its
+/// numbers came from 0 and from 100 on in their order, and how many senders are done.
 fn receive_all<R: Wait>(
     rt: &R,
     belt: &Belt<Note>,

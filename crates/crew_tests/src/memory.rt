@@ -1,5 +1,5 @@
-//! Each of these tests passes, or fails for want of memory alone, whichever allocation is refused. `bin/try-memory` refuses each
-//! in turn.
+//! Each of these tests passes, or fails for want of memory alone, whichever allocation is refused. `bin/try-memory`
+//! refuses each in turn.
 ghost use Rattle.std.specs.Prelude.{◌≡◌, ◌≤◌};
 
 use crate::small::{haul_of, small_job};
@@ -49,8 +49,9 @@ fn without_memory_two_workers_leave_the_haul_open(rt: HostRuntime) -> Result<(),
     assert_taken(&rt, small_job()?, 4, 2)
 }
 
-// A worker whose thread can't be started has to leave alone what the others survey: the belt has room for 64 notes, and nobody
-// receives any before all threads are started. By this rule all cells die at once, so a soup takes few allocations.
+// A worker whose thread can't be started has to leave alone what the others survey: the belt has room for 64 notes, and
+// nobody receives any before all threads are started. By this rule all cells die at once, so a soup takes few
+// allocations.
 #[test]
 fn without_memory_two_hundred_soups_are_taken(rt: HostRuntime) -> Result<(), Fail> {
     let job = Job {

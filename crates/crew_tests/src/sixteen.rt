@@ -3,11 +3,14 @@ ghost use Rattle.std.specs.Prelude.{◌≡◌};
 
 use crate::gates::{Patience, count_of, take_some};
 use crate::small::{haul_of, small_job};
-use crew::gate::{Gate, Stop};
+use crew::gate::{Gate, OpenGate, Stop};
+use crew::watch::Watch;
+use crew::workers::take;
 use std::sync::atomic::{AtomicU64, Ordering};
 use std::test::Fail;
 
-/// A gate that holds each worker at its first soup until sixteen have come. A worker comes once before it is let through.
+/// A gate that holds each worker at its first soup until sixteen have come. A worker comes once before it is let
+/// through.
 #[derive(Drop)]
 struct Muster {
     come: AtomicU64,
@@ -110,6 +113,40 @@ fn tells_the_least_that_is_stopped(rt: HostRuntime) -> Result<(), Fail> {
         let (haul, stopped) = take_some(alloc, &rt, haul, 16, &gate);
         assert_eq!(rt; stopped, Some(worker));
         assert!(rt; haul.missing_count() > 0);
+    }
+    Ok(())
+}
+
+/// Notes how many workers were asked for, and how many were started.
+#[derive(Clone, Copy, Debug, PartialEq, Eq)]
+struct Roll {
+    asked: u8,
+    started: u8,
+}
+
+impl Watch for Roll {
+    fn begin(&mut self, _whole: u64, workers: u8) {
+        self.asked = workers;
+    }
+
+    fn started(&mut self, workers: u8) {
+        self.started = workers;
+    }
+
+    fn taken(&mut self, _count: u64) {}
+}
+
+#[test]
+fn tells_the_watch_how_many_were_started(rt: HostRuntime) -> Result<(), Fail> {
+    let alloc = rt.alloc();
+    for workers in 1..17 {
+        let mut roll = Roll {
+            asked: 0,
+            started: 0,
+        };
+        let haul = haul_of(alloc, small_job()?, 20, 16)?;
+        assert!(rt; take(alloc, &rt, haul, workers, &OpenGate, &mut roll).is_ok());
+        assert_eq!(rt; (roll.asked, roll.started), (workers, workers));
     }
     Ok(())
 }

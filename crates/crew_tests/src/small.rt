@@ -1,8 +1,8 @@
 ghost use Rattle.std.specs.Prelude.{◌≡◌, IfOk};
 
 use haul_core::haul::Haul;
-use haul_core::range::Range;
 use plane_core::rule::Rule;
+use ranges::range::Range;
 use std::alloc::Global;
 use std::test::Fail;
 use survey_core::job::Job;

@@ -1,7 +1,7 @@
 ghost use Rattle.std.specs.Prelude.{◌≡◌, All, IfOk};
 ghost use Rattle.std.specs.Thread.{IsSync};
 
-use crew::tickets::{Pass, Tickets, TicketsError};
+use handover::tickets::{Pass, Tickets, TicketsError};
 use std::alloc::Global;
 use std::sync::atomic::{AtomicU64, Ordering};
 use std::test::Fail;

@@ -19,7 +19,7 @@ use Rattle.haul_core.specs.Books.{Held, IsReply, StandsFor, Terms, double, eligi
 use Rattle.haul_core.specs.Books.{has_closing, has_number, is_closing, is_lawful, offered, refusal_of, replies_to, reply_to, taken_of}
 use Rattle.haul_core.specs.declared.arrival.Reply.{Reply}
 use Rattle.haul_core.specs.Jobs.{same_job}
-use Rattle.haul_core.specs.Ranges.{is_in}
+use Rattle.ranges.specs.Ranges.{is_in}
 use Rattle.haul_core.specs.Reports.{Reported}
 
 -- ---- one offer more

@@ -5,7 +5,7 @@ use Rattle.std.proofs.lemmas.Fmt.{decimal_injective}
 use Rattle.std.proofs.lemmas.List.{map-append}
 use Rattle.std.proofs.lemmas.List.Elements.{All-push, recursion_from_All}
 use Rattle.std.specs.List.{AllByRecursion}
-use Rattle.haul_core.specs.ClaimSteps.{Follows, HasCounts, HasFront, MayFollow, claimed, head_of, last_code, told_of}
+use Rattle.haul_core.specs.ClaimSteps.{FollowsFields, HasCounts, HasReadFront, MayFollow, claimed, head_of, last_code, told_of}
 use Rattle.haul_core.specs.Claims.{BeginClaim, IsClaimLine, IsFirstFaultOf, fields_of}
 use Rattle.haul_core.specs.FieldSteps.{Cuts}
 use Rattle.haul_core.specs.ReportLines.{IsCount, IsFound, IsMark, Told, claim_line, count_field, found_fields, head_fields, mark_fields}
@@ -19,7 +19,7 @@ use Rattle.haul_core.proofs.StateLemmas.{at_other, cut_head, same_version}
 abbrev Counts : Type 0
 Counts = List (List ℕ × ℕ)
 
-pub counted_first : (line : List ℕ) (front : Front) (rest : Option (List ℕ)) → HasFront line front rest → HasCounts line front [] None rest
+pub counted_first : (line : List ℕ) (front : Front) (rest : Option (List ℕ)) → HasReadFront line front rest → HasCounts line front [] None rest
 counted_first line front rest h = record { lawful = h.lawful; follows = h.follows; settled = h.settled; latest = refl }
 
 -- ---- a count more
@@ -67,8 +67,8 @@ counted_more line front counts last here field more object h c k e =
         number = own.number;
         found = found_more front.version front.settled counts object n own.found after;
       };
-      follows = subst (λ (fields : List (List ℕ)). Follows line fields more) (sym (all_fields_more front counts object n))
-          (subst (λ (t : List ℕ). Follows line (fields_of (claimed front counts) ++ t ∷ []) more) e
+      follows = subst (λ (fields : List (List ℕ)). FollowsFields line fields more) (sym (all_fields_more front counts object n))
+          (subst (λ (t : List ℕ). FollowsFields line (fields_of (claimed front counts) ++ t ∷ []) more) e
           (follows_more line (fields_of (claimed front counts)) here field more h.follows c));
       settled = λ there f. n;
       latest = sym (last_code-push counts object);

@@ -5,11 +5,11 @@ use Rattle.std.proofs.lemmas.List.{length-take-le, take-append-drop}
 use Rattle.std.proofs.lemmas.Bool.{eqb-true, or_from}
 use Rattle.std.proofs.Math.ListN.{get_or-append}
 use Rattle.std.proofs.Math.Seq.{get_or-append_seam}
-use Rattle.haul_core.specs.ClaimSteps.{Follows, HasFilled, HasHead, IsLineOf, claimed, head_of}
+use Rattle.haul_core.specs.ClaimSteps.{FollowsFields, HasFilled, HasHead, IsLineOf, claimed, head_of}
 use Rattle.haul_core.specs.Claims.{BeginClaim, IsFirstFaultOf, fields_of, followed}
 use Rattle.haul_core.specs.FieldSteps.{Cuts, Lacks}
 use Rattle.haul_core.specs.HaulTexts.{line_of, spaced}
-use Rattle.haul_core.specs.RangeListSteps.{has_byte}
+use Rattle.ranges.specs.RangeListSteps.{has_byte}
 use Rattle.haul_core.specs.ReportLines.{Claimed, IsClaim, Told, found_fields, head_fields}
 use Rattle.haul_core.specs.declared.front.Front.{Front}
 use Rattle.haul_core.proofs.SpaceLemmas.{claim_line-lined, fields_lack, begin_spaceless, followed-cons, line_of-lined, one_cut}
@@ -33,9 +33,9 @@ followed_last (b ∷ before) field rest =
     ∙ sym (followed-cons b (before ++ field ∷ []) rest)
 
 -- past the next field
-pub follows_more : (line : List ℕ) (before : List (List ℕ)) (here field : List ℕ) (more : Option (List ℕ)) → Follows line before (Some here)
+pub follows_more : (line : List ℕ) (before : List (List ℕ)) (here field : List ℕ) (more : Option (List ℕ)) → FollowsFields line before (Some here)
     → Cuts 32 here field more
-    → Follows line (before ++ field ∷ []) more
+    → FollowsFields line (before ++ field ∷ []) more
 follows_more line before here field None f c =
     subst (IsLineOf (before ++ field ∷ [])) (sym (f ∙ ap (λ (t : List ℕ). followed before ++ t) c.0)) (lined_last before field)
 follows_more line before here field (Some rest) f c =
@@ -56,7 +56,7 @@ ends None = inl refl
 ends (Some more) = inr refl
 
 -- a field that no lawful claim has there
-pub bad_at : (line : List ℕ) (before : List (List ℕ)) (here field : List ℕ) (more : Option (List ℕ)) → Follows line before (Some here) → Cuts 32 here field more
+pub bad_at : (line : List ℕ) (before : List (List ℕ)) (here field : List ℕ) (more : Option (List ℕ)) → FollowsFields line before (Some here) → Cuts 32 here field more
     → BeginClaim before → ((claim : Claimed) → IsClaim claim → (rest : List (List ℕ)) → fields_of claim ≡ before ++ field ∷ rest → ⊥)
     → IsFirstFaultOf line (length line - length here)
 bad_at line before here field more f c b none =
@@ -73,7 +73,7 @@ bad_at line before here field more f c b none =
     })
 
 -- a field is missing
-pub lacks_at : (line : List ℕ) (before : List (List ℕ)) (there : List ℕ) → Follows line before None → there ≡ [] → BeginClaim before
+pub lacks_at : (line : List ℕ) (before : List (List ℕ)) (there : List ℕ) → FollowsFields line before None → there ≡ [] → BeginClaim before
     → ((claim : Claimed) → IsClaim claim → fields_of claim ≢ before) → IsFirstFaultOf line (length line - length there)
 lacks_at line [] there f e b none = absurd f
 lacks_at line (first ∷ more) there f e b none = inr (record {
@@ -107,7 +107,7 @@ cut_anywhere (b ∷ text) = go (b == 32) refl (cut_anywhere text)
         more front (Some rest) k = record { front = b ∷ front; rest = Some rest; cut = (ap (λ (t : List ℕ). b ∷ t) k.0, or_from _ _ e k.1) }
 
 -- nothing may follow
-pub over_at : (line : List ℕ) (before : List (List ℕ)) (here : List ℕ) → Follows line before (Some here) → BeginClaim before
+pub over_at : (line : List ℕ) (before : List (List ℕ)) (here : List ℕ) → FollowsFields line before (Some here) → BeginClaim before
     → ((claim : Claimed) → IsClaim claim → (field : List ℕ) (rest : List (List ℕ)) → fields_of claim ≡ before ++ field ∷ rest → ⊥)
     → IsFirstFaultOf line (length line - length here)
 over_at line before here f b none =
@@ -167,6 +167,6 @@ pub head_more : (line : List ℕ) (place : ℕ) (head next : Front) (here field 
     → Cuts 32 here field more → HasFilled place head next field → HasHead line (place + 1) next more
 head_more line place head next here field more h c f = record {
   head = record { lawful = f.lawful; none = f.none };
-  follows = subst (λ (fields : List (List ℕ)). Follows line fields more) (sym f.spelled)
+  follows = subst (λ (fields : List (List ℕ)). FollowsFields line fields more) (sym f.spelled)
       (follows_more line (take place (head_of (claimed head []))) here field more h.follows c);
 }

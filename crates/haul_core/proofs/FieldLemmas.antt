@@ -13,10 +13,10 @@ use Rattle.survey_core.specs.Seeds.{IsSeed, is_invisible, is_visible, seed_read,
 use Rattle.survey_core.specs.declared.seed.SeedError.TheVariants.{TooLong}
 use Rattle.haul_core.specs.FieldSteps.{IsSmall, IsState, IsVersion, Lacks, Tells, state_field}
 use Rattle.haul_core.specs.ReportLines.{mark_field}
-use Rattle.haul_core.specs.RangeListSteps.{BeginsDecimal, BeginsNoDecimal, has_digit}
-use Rattle.haul_core.proofs.CutLemmas.{cut}
-use Rattle.haul_core.proofs.DecimalLemmas.{IsDecimal-decimal}
-use Rattle.haul_core.proofs.FaultLemmas.{first_digit, small_decimal, zero_first}
+use Rattle.ranges.specs.RangeListSteps.{BeginsDecimal, BeginsNoDecimal, has_digit}
+use Rattle.ranges.proofs.CutLemmas.{cut}
+use Rattle.ranges.proofs.DecimalLemmas.{IsDecimal-decimal}
+use Rattle.ranges.proofs.FaultLemmas.{first_digit, small_decimal, zero_first}
 
 -- a decimal that ends the text is the text
 pub whole_decimal : (text : List ℕ) (n : ℕ) (rest : List ℕ) → BeginsDecimal text n rest → (length rest == 0) ≡ true → text ≡ decimal n

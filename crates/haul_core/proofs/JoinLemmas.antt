@@ -12,15 +12,15 @@ use Rattle.std.proofs.lemmas.List.Sums.{count_by-le-length, sum_by-append, sum_b
 use Rattle.survey_core.specs.Findings.{IsFinding, objects_in}
 use Rattle.survey_core.specs.Soups.{soup}
 use Rattle.survey_core.specs.declared.job.Job.{Job}
-use Rattle.haul_core.specs.declared.range.Range.{Range}
+use Rattle.ranges.specs.declared.range.Range.{Range}
 use Rattle.haul_core.specs.declared.tally.Tally.{Tally}
 use Rattle.haul_core.specs.Books.{Held}
 use Rattle.haul_core.specs.Joins.{CanJoin}
-use Rattle.haul_core.specs.Keeping.{Keeps, Sums, numbers_in, tally_of}
-use Rattle.haul_core.specs.Ranges.{AreBelow, AreNormal, BeginAfter, IsNormalForm, ShareNumber, end_of, is_in, is_in_range, number_bound, size_of}
-use Rattle.haul_core.specs.Samples.{least_three, with_each}
+use Rattle.haul_core.specs.Keeping.{KeepsBook, Sums, numbers_in, samples, tally_of}
+use Rattle.ranges.specs.Ranges.{AreBelow, AreNormal, BeginAfter, IsNormalForm, ShareNumber, end_of, is_in, is_in_range, number_bound, size_of}
+use Rattle.haul_core.specs.SampleSteps.{least_three, with_each}
 use Rattle.haul_core.specs.Tallies.{no_tally, tally_in, together}
-use Rattle.haul_core.specs.Totals.{Survey, count_in, has_object, is_for_good, is_unsettled, samples, total}
+use Rattle.haul_core.specs.Totals.{Survey, count_in, has_object, is_for_good, is_unsettled, total}
 use Rattle.haul_core.proofs.JobLemmas.{jobs_decide}
 use Rattle.haul_core.proofs.JoinedSamples.{least_of_both}
 use Rattle.haul_core.proofs.KeepLemmas.{same_length, total_small}
@@ -141,7 +141,7 @@ pub record HaveRoom (sa sb : Sums) : Type 0 where
   pub unsettled_room : sa.unsettled + sb.unsettled < 2 ^ 64
   pub for_good_room : sa.for_good + sb.for_good < 2 ^ 64
 
-module _ (a b : Held) (ca cb : ℕ) (wa wb : List (ℕ × ℕ)) (sa sb : Sums) (ka : Keeps a ca wa sa) (kb : Keeps b cb wb sb) where
+module _ (a b : Held) (ca cb : ℕ) (wa wb : List (ℕ × ℕ)) (sa sb : Sums) (ka : KeepsBook a ca wa sa) (kb : KeepsBook b cb wb sb) where
   pub have_room : length a.taken + length b.taken + 1 < 2 ^ 64 → HaveRoom sa sb
   have_room short =
       let la : length ka.surveys ≡ length a.taken = same_length a ca wa sa ka in
@@ -178,7 +178,7 @@ module _ (a b : Held) (ca cb : ℕ) (wa wb : List (ℕ × ℕ)) (sa sb : Sums) (
       → taken ≡ a.taken ++ b.taken → by ≡ map (λ (t : ℕ × ℕ). (t.1, t.0)) taken
       → ((code : List ℕ) → tally_in sums.rows code ≡ together (together no_tally (tally_in sa.rows code)) (tally_in sb.rows code))
       → sums.unsettled ≡ sa.unsettled + sb.unsettled → sums.for_good ≡ sa.for_good + sb.for_good
-      → Keeps (record { terms = record { job = a.terms.job; ranges = ranges; workers = workers }; closed = true; taken = taken }) (ca + cb) by sums
+      → KeepsBook (record { terms = record { job = a.terms.job; ranges = ranges; workers = workers }; closed = true; taken = taken }) (ca + cb) by sums
   keeps_joined ranges workers taken by sums can form below size w t n rows u g =
       let job : a.terms.job ≡ b.terms.job = (jobs_decide a.terms.job b.terms.job).0 can.job in
       record {

@@ -2,7 +2,8 @@
 use Rattle.std.proofs.Common.{◌≡◌, ◌∙◌, ◌≤◌, ◌<◌, ◌++◌, ℕ, zero, suc, List, [], ◌∷◌, take, ap, sym, refl, arith, subst, inl, inr, ◌⊎◌}
 use Rattle.std.proofs.lemmas.Bool.{cases_lt}
 use Rattle.std.proofs.lemmas.List.{append_assoc, append-nil}
-use Rattle.haul_core.specs.Samples.{IsAscending, ascending, least_three, with_each, with_number}
+use Rattle.haul_core.specs.SampleSteps.{ascending, least_three, with_each, with_number}
+use Rattle.haul_core.specs.Samples.{IsAscending}
 use Rattle.haul_core.proofs.SampleLemmas.{ascending_push, take_with, with_first, with_greater, with_least}
 
 -- with a number more the numbers still ascend
@@ -22,11 +23,11 @@ with-ascending n (x ∷ y ∷ xs) h = go (cases_lt x n) (cases_lt y n) (with-asc
     go (inl more) (inr here) rest = subst IsAscending (sym (with_greater n x (y ∷ xs) more ∙ ap (λ (t : List ℕ). x ∷ t) (with_least n y xs here)))
         (omega arith, subst IsAscending (with_least n y xs here) rest)
 
-ascending-ascending : (xs : List ℕ) → IsAscending (ascending xs)
+pub ascending-ascending : (xs : List ℕ) → IsAscending (ascending xs)
 ascending-ascending [] = tt
 ascending-ascending (x ∷ xs) = with-ascending x (ascending xs) (ascending-ascending xs)
 
-take-ascending : (k : ℕ) (xs : List ℕ) → IsAscending xs → IsAscending (take k xs)
+pub take-ascending : (k : ℕ) (xs : List ℕ) → IsAscending xs → IsAscending (take k xs)
 take-ascending zero xs h = tt
 take-ascending (suc k) [] h = tt
 take-ascending (suc k) (x ∷ []) h = go k

@@ -27,13 +27,13 @@ use Rattle.haul_core.specs.Jobs.{same_job}
 use Rattle.haul_core.proofs.BookLemmas.{none_holds}
 use Rattle.haul_core.proofs.JobLemmas.{jobs_decide}
 use Rattle.haul_core.specs.Books.{Held, Terms, entry}
-use Rattle.haul_core.specs.Keeping.{Keeps, Sums, numbers_in, tally_of}
-use Rattle.haul_core.specs.Ranges.{AreBelow, AreNormal, is_in, number_bound, size_of}
-use Rattle.haul_core.specs.declared.range.Range.{Range}
+use Rattle.haul_core.specs.Keeping.{KeepsBook, Sums, numbers_in, samples, tally_of}
+use Rattle.ranges.specs.Ranges.{AreBelow, AreNormal, is_in, number_bound, size_of}
+use Rattle.ranges.specs.declared.range.Range.{Range}
 use Rattle.haul_core.specs.Reports.{IsReport, IsWorker, Reported}
-use Rattle.haul_core.specs.Samples.{ascending, least_three, with_number}
+use Rattle.haul_core.specs.SampleSteps.{ascending, least_three, with_number}
 use Rattle.haul_core.specs.Tallies.{Extends, HasLawfulObjects, added, found_in, tally_in}
-use Rattle.haul_core.specs.Totals.{Survey, count_in, has_object, is_for_good, is_unsettled, samples, total}
+use Rattle.haul_core.specs.Totals.{Survey, count_in, has_object, is_for_good, is_unsettled, total}
 use Rattle.haul_core.proofs.SampleLemmas.{ascending_push, take_with}
 use Rattle.haul_core.proofs.TallyLemmas.{tally-Extends}
 
@@ -104,13 +104,13 @@ total_small surveys code few short =
 
 -- ---- a haul
 
-pub same_length : (held : Held) (count : ℕ) (workers : List (ℕ × ℕ)) (sums : Sums) (k : Keeps held count workers sums) → length k.surveys ≡ length held.taken
+pub same_length : (held : Held) (count : ℕ) (workers : List (ℕ × ℕ)) (sums : Sums) (k : KeepsBook held count workers sums) → length k.surveys ≡ length held.taken
 same_length held count workers sums k =
     sym (length-map k.surveys (λ s. s.number)) ∙ ap length k.surveyed.each ∙ length-map held.taken (λ t. t.1)
 
 -- rows with nothing in them change nothing
 pub keeps_extended : (held : Held) (count : ℕ) (workers : List (ℕ × ℕ)) (old new : Sums) → Extends old.rows new.rows → new.unsettled ≡ old.unsettled
-    → new.for_good ≡ old.for_good → Keeps held count workers old → Keeps held count workers new
+    → new.for_good ≡ old.for_good → KeepsBook held count workers old → KeepsBook held count workers new
 keeps_extended held count workers old new x u g k = record {
   normal = k.normal;
   below = k.below;
@@ -145,8 +145,8 @@ pub keeps_more : (terms : Terms) (closed : Bool) (taken : List (ℕ × ℕ)) (co
     → HasLawfulObjects r.finding → refusal_at (record { terms = terms; closed = closed; taken = taken }) r ≡ None
     → ((code : List ℕ) → tally_in new.rows code ≡ added (found_in code r.finding) r.number (tally_in old.rows code))
     → new.unsettled ≡ old.unsettled + (if is_unsettled r.finding then 1 else 0) → new.for_good ≡ old.for_good + (if is_for_good r.finding then 1 else 0)
-    → Keeps (record { terms = terms; closed = closed; taken = taken }) count workers old
-    → Keeps (record { terms = terms; closed = closed; taken = taken ++ entry r ∷ [] }) count (workers ++ (r.number, r.worker) ∷ []) new
+    → KeepsBook (record { terms = terms; closed = closed; taken = taken }) count workers old
+    → KeepsBook (record { terms = terms; closed = closed; taken = taken ++ entry r ∷ [] }) count (workers ++ (r.number, r.worker) ∷ []) new
 keeps_more terms closed taken count workers old new r is lawful e rows u g k =
     let h = none_holds closed (same_job terms.job r.job) (nat_lt terms.workers r.worker) (is_in terms.ranges r.number) (worker_in r.number taken) e in
     let job : terms.job ≡ r.job = (jobs_decide terms.job r.job).0 h.own_job in
@@ -183,7 +183,7 @@ pub record HasRoom (sums : Sums) : Type 0 where
   pub unsettled_room : sums.unsettled + 1 < 2 ^ 64
   pub for_good_room : sums.for_good + 1 < 2 ^ 64
 
-pub has_room : (held : Held) (count : ℕ) (workers : List (ℕ × ℕ)) (sums : Sums) → length held.taken + 1 < 2 ^ 64 → Keeps held count workers sums
+pub has_room : (held : Held) (count : ℕ) (workers : List (ℕ × ℕ)) (sums : Sums) → length held.taken + 1 < 2 ^ 64 → KeepsBook held count workers sums
     → HasRoom sums
 has_room held count workers sums short k =
     let long : length k.surveys ≡ length held.taken = same_length held count workers sums k in
@@ -196,22 +196,22 @@ has_room held count workers sums short k =
 -- after room was made
 pub keeps_mid : (terms : Terms) (closed : Bool) (taken more_taken : List (ℕ × ℕ)) (count : ℕ) (workers more_workers : List (ℕ × ℕ)) (old new : Sums)
     → more_taken ≡ taken → more_workers ≡ workers → Extends old.rows new.rows → new.unsettled ≡ old.unsettled → new.for_good ≡ old.for_good
-    → Keeps (record { terms = terms; closed = closed; taken = taken }) count workers old
-    → Keeps (record { terms = terms; closed = closed; taken = more_taken }) count more_workers new
+    → KeepsBook (record { terms = terms; closed = closed; taken = taken }) count workers old
+    → KeepsBook (record { terms = terms; closed = closed; taken = more_taken }) count more_workers new
 keeps_mid terms closed taken more_taken count workers more_workers old new t w x u g k =
     keeps_extended (record { terms = terms; closed = closed; taken = more_taken }) count more_workers old new x u g
-    (subst (λ (ts : List (ℕ × ℕ)). Keeps (record { terms = terms; closed = closed; taken = ts }) count more_workers old) (sym t)
-    (subst (λ (ws : List (ℕ × ℕ)). Keeps (record { terms = terms; closed = closed; taken = taken }) count ws old) (sym w) k))
+    (subst (λ (ts : List (ℕ × ℕ)). KeepsBook (record { terms = terms; closed = closed; taken = ts }) count more_workers old) (sym t)
+    (subst (λ (ws : List (ℕ × ℕ)). KeepsBook (record { terms = terms; closed = closed; taken = taken }) count ws old) (sym w) k))
 
 -- and after the report was noted
 pub keeps_noted : (terms : Terms) (closed : Bool) (taken new_taken : List (ℕ × ℕ)) (count : ℕ) (workers new_workers : List (ℕ × ℕ)) (sums : Sums) (t w : ℕ × ℕ) (r : Reported)
     → new_taken ≡ taken ++ t ∷ [] → new_workers ≡ workers ++ w ∷ [] → t ≡ entry r → w ≡ (r.number, r.worker)
-    → Keeps (record { terms = terms; closed = closed; taken = taken ++ entry r ∷ [] }) count (workers ++ (r.number, r.worker) ∷ []) sums
-    → Keeps (record { terms = terms; closed = closed; taken = new_taken }) count new_workers sums
+    → KeepsBook (record { terms = terms; closed = closed; taken = taken ++ entry r ∷ [] }) count (workers ++ (r.number, r.worker) ∷ []) sums
+    → KeepsBook (record { terms = terms; closed = closed; taken = new_taken }) count new_workers sums
 keeps_noted terms closed taken new_taken count workers new_workers sums t w r et ew et' ew' k =
-    subst (λ (ts : List (ℕ × ℕ)). Keeps (record { terms = terms; closed = closed; taken = ts }) count new_workers sums)
+    subst (λ (ts : List (ℕ × ℕ)). KeepsBook (record { terms = terms; closed = closed; taken = ts }) count new_workers sums)
     (sym (et ∙ ap (λ (x : ℕ × ℕ). taken ++ x ∷ []) et'))
-    (subst (λ (ws : List (ℕ × ℕ)). Keeps (record { terms = terms; closed = closed; taken = taken ++ entry r ∷ [] }) count ws sums)
+    (subst (λ (ws : List (ℕ × ℕ)). KeepsBook (record { terms = terms; closed = closed; taken = taken ++ entry r ∷ [] }) count ws sums)
     (sym (ew ∙ ap (λ (x : ℕ × ℕ). workers ++ x ∷ []) ew')) k)
 
 -- the objects of a finding are lawful
@@ -224,9 +224,9 @@ lawful_of rule profile cells Unsettled h = tt
 pub keeps_none : (job : Job) (ranges : List Range) (workers count : ℕ) (taken numbers : List (ℕ × ℕ)) (sums : Sums) → AreNormal ranges
     → AreBelow number_bound ranges
     → count ≡ size_of ranges → IsWorker workers → taken ≡ [] → numbers ≡ [] → sums.rows ≡ [] → sums.unsettled ≡ 0 → sums.for_good ≡ 0
-    → Keeps (record { terms = record { job = job; ranges = ranges; workers = workers }; closed = false; taken = taken }) count numbers sums
+    → KeepsBook (record { terms = record { job = job; ranges = ranges; workers = workers }; closed = false; taken = taken }) count numbers sums
 keeps_none job ranges workers count taken numbers sums normal below size worker t n rows u g =
-    subst (λ (ts : List (ℕ × ℕ)). Keeps (record {
+    subst (λ (ts : List (ℕ × ℕ)). KeepsBook (record {
       terms = record { job = job; ranges = ranges; workers = workers };
       closed = false;
       taken =

@@ -15,15 +15,16 @@ use Rattle.survey_core.specs.declared.finding.Finding.{Finding}
 use Rattle.survey_core.specs.declared.finding.Finding.TheVariants.{Unsettled}
 use Rattle.survey_core.specs.declared.job.Job.{Job}
 use Rattle.haul_core.specs.declared.census.Census.{Census}
-use Rattle.haul_core.specs.declared.range.Range.{Range}
+use Rattle.ranges.specs.declared.range.Range.{Range}
 use Rattle.haul_core.specs.declared.row.Row.{Row}
 use Rattle.haul_core.specs.Censuses.{IsCensus}
 use Rattle.haul_core.specs.HaulLaws.{AreSameNumbers, CompleteHaulsPrintTheSame, SameSoupsPrintTheSame}
 use Rattle.haul_core.specs.HaulTexts.{haul_text}
-use Rattle.haul_core.specs.Ranges.{size_of}
-use Rattle.haul_core.specs.Samples.{least_three}
-use Rattle.haul_core.specs.Totals.{AreSurveys, Survey, count_in, for_good, has_object, is_for_good, is_unsettled, samples, total, unsettled}
-use Rattle.haul_core.proofs.NormalLemmas.{normal_forms}
+use Rattle.ranges.specs.Ranges.{size_of}
+use Rattle.haul_core.specs.SampleSteps.{least_three}
+use Rattle.haul_core.specs.Keeping.{samples}
+use Rattle.haul_core.specs.Totals.{AreSurveys, Survey, count_in, for_good, has_object, is_for_good, is_unsettled, total, unsettled}
+use Rattle.ranges.proofs.NormalLemmas.{normal_forms}
 use Rattle.haul_core.proofs.NumberLemmas.{same_least, same_length, same_member, same_sum}
 use Rattle.haul_core.proofs.RowLemmas.{same_rows}
 

@@ -3,9 +3,6 @@ mod CensusLemmas
 mod CheckLemmas
 mod CountLemmas
 mod CountedLemmas
-mod CutLemmas
-mod DecimalLemmas
-mod FaultLemmas
 mod FaultyLines
 mod FieldLemmas
 mod HeadLemmas
@@ -16,15 +13,13 @@ mod JoinedSums
 mod JoinedTallies
 mod KeepLemmas
 mod LawLemmas
-mod ListLemmas
+mod LeastLemmas
 mod MissingLemmas
-mod NormalLemmas
 mod NumberLemmas
 mod OneClaim
 mod OnePlace
 mod OrderLemmas
 mod PartLemmas
-mod RangeLemmas
 mod ReportLemmas
 mod RowLemmas
 mod SampleLemmas
@@ -34,4 +29,3 @@ mod StateLemmas
 mod SumLemmas
 mod TallyLemmas
 mod TextLemmas
-mod UnionLemmas

@@ -17,11 +17,11 @@ use Rattle.std.proofs.lemmas.List.Kept.{IsStrictlyIncreasing-filter}
 use Rattle.std.proofs.lemmas.List.Sums.{count_by-le-length, sum_by-append, sum_by-cons}
 use Rattle.std.proofs.lemmas.Map.Keys.{IsDistinct-head, IsDistinct-tail, IsStrictlyIncreasing-from_sorted}
 use Rattle.std.proofs.lemmas.Map.Made.{is_some-lookup}
-use Rattle.haul_core.specs.declared.range.Range.{Range}
+use Rattle.ranges.specs.declared.range.Range.{Range}
 use Rattle.haul_core.specs.Keeping.{numbers_in}
 use Rattle.haul_core.specs.Missing.{AreAll, IsComplete, is_taken, missing_of, numbers_of, numbers_of_range}
 use Rattle.haul_core.specs.MissingSteps.{has_no_worker}
-use Rattle.haul_core.specs.Ranges.{AreBelow, AreNormal, BeginAfter, end_of, is_in, is_in_range, size_of}
+use Rattle.ranges.specs.Ranges.{AreBelow, AreNormal, BeginAfter, end_of, is_in, is_in_range, size_of}
 
 -- how often a number stands in a list
 abbrev pub counted : ℕ → List ℕ → ℕ

@@ -6,7 +6,7 @@ use Rattle.std.specs.List.{AllByRecursion, list_any}
 use Rattle.std.proofs.lemmas.Bool.{cases_lt, cases_order, le-leb, ne_eqb}
 use Rattle.std.proofs.lemmas.List.Sums.{sum_by-cons}
 use Rattle.haul_core.specs.HaulLaws.{AreSameNumbers}
-use Rattle.haul_core.specs.Samples.{ascending, least_three, with_number}
+use Rattle.haul_core.specs.SampleSteps.{ascending, least_three, with_number}
 use Rattle.haul_core.proofs.MissingLemmas.{count_no, count_yes, counted, counted_filter}
 use Rattle.haul_core.proofs.SampleLemmas.{with_greater, with_least}
 
@@ -33,18 +33,18 @@ sum_ascending f (x ∷ xs) =
 
 -- ---- ascending lists with the same numbers are one
 
-abbrev IsUp : List ℕ → Type 0
+abbrev pub IsUp : List ℕ → Type 0
 IsUp [] = Unit {0}
 IsUp (x ∷ xs) = AllByRecursion (λ y. x ≤ y) xs × IsUp xs
 
-all_with : (p n : ℕ) (xs : List ℕ) → p ≤ n → AllByRecursion (λ y. p ≤ y) xs → AllByRecursion (λ y. p ≤ y) (with_number n xs)
+pub all_with : (p n : ℕ) (xs : List ℕ) → p ≤ n → AllByRecursion (λ y. p ≤ y) xs → AllByRecursion (λ y. p ≤ y) (with_number n xs)
 all_with p n [] low all = (low, tt)
 all_with p n (x ∷ xs) low all = elim (cases_lt x n) [
   | inl greater ↦ subst (AllByRecursion (λ y. p ≤ y)) (sym (with_greater n x xs greater)) (all.0, all_with p n xs low all.1)
   | inr least ↦ subst (AllByRecursion (λ y. p ≤ y)) (sym (with_least n x xs least)) (low, all)
 ]
 
-all_lower : (p q : ℕ) (xs : List ℕ) → p ≤ q → AllByRecursion (λ y. q ≤ y) xs → AllByRecursion (λ y. p ≤ y) xs
+pub all_lower : (p q : ℕ) (xs : List ℕ) → p ≤ q → AllByRecursion (λ y. q ≤ y) xs → AllByRecursion (λ y. p ≤ y) xs
 all_lower p q [] low all = tt
 all_lower p q (x ∷ xs) low all = let first : q ≤ x = all.0 in (omega arith, all_lower p q xs low all.1)
 
@@ -57,7 +57,7 @@ up_with n (x ∷ xs) up = elim (cases_lt x n) [
   | inr least ↦ subst IsUp (sym (with_least n x xs least)) ((least, all_lower n x xs least up.0), up)
 ]
 
-up_ascending : (xs : List ℕ) → IsUp (ascending xs)
+pub up_ascending : (xs : List ℕ) → IsUp (ascending xs)
 up_ascending [] = tt
 up_ascending (x ∷ xs) = up_with x (ascending xs) (up_ascending xs)
 
@@ -71,7 +71,7 @@ uncounted_low n p (x ∷ xs) low all =
 counted_first : (x : ℕ) (xs : List ℕ) → counted x (x ∷ xs) ≡ 1 + counted x xs
 counted_first x xs = count_yes (nat_eq x) x xs (nat_eq_equiv.refl x)
 
-one_up : (xs ys : List ℕ) → IsUp xs → IsUp ys → AreSameNumbers xs ys → xs ≡ ys
+pub one_up : (xs ys : List ℕ) → IsUp xs → IsUp ys → AreSameNumbers xs ys → xs ≡ ys
 one_up [] [] h k same = refl
 one_up [] (y ∷ ys) h k same =
     let none : 0 ≡ counted y (y ∷ ys) = same y in

@@ -8,7 +8,7 @@ use Rattle.haul_core.specs.BookLaws.{IsSubsequence, IsTakenOf}
 use Rattle.haul_core.specs.Books.{Terms, eligible, entry, first_of_each, has_number, is_lawful, offered}
 use Rattle.haul_core.specs.Jobs.{same_job}
 use Rattle.haul_core.specs.Keeping.{numbers_in}
-use Rattle.haul_core.specs.Ranges.{is_in}
+use Rattle.ranges.specs.Ranges.{is_in}
 use Rattle.haul_core.specs.Reports.{Reported}
 use Rattle.haul_core.proofs.MissingLemmas.{count_no, count_yes}
 

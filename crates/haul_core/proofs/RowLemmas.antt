@@ -12,7 +12,9 @@ use Rattle.std.proofs.lemmas.List.Elements.{All-head, All-tail}
 use Rattle.survey_core.specs.Objects.{is_code}
 use Rattle.haul_core.specs.declared.row.Row.{Row}
 use Rattle.haul_core.specs.Rows.{AreRowsOf, IsRowOf, codes_of}
-use Rattle.haul_core.specs.Totals.{Survey, samples, total}
+use Rattle.haul_core.specs.Keeping.{samples}
+use Rattle.haul_core.specs.Totals.{Survey, numbers_with, total}
+use Rattle.haul_core.proofs.LeastLemmas.{one_least}
 use Rattle.haul_core.proofs.TallyLemmas.{code_same, is_code-same}
 
 -- ---- codes in order
@@ -99,7 +101,8 @@ rows_by surveys [] each = refl
 rows_by surveys (row ∷ rows) each =
     let is : IsRowOf surveys row = All-head (IsRowOf surveys) row rows each in
     let rest : rows ≡ map (row_at surveys) (codes_of rows) = rows_by surveys rows (All-tail (IsRowOf surveys) row rows each) in
-    λ i. record { code = row.code; total = is.total_is i; samples = is.samples_are i } ∷ rest i
+    let least : row.samples ≡ samples surveys row.code = one_least (numbers_with surveys row.code) row.samples is.samples_are in
+    λ i. record { code = row.code; total = is.total_is i; samples = least i } ∷ rest i
 
 pub same_rows : (surveys others : List Survey) (rows more : List Row) → ((code : List ℕ) → total surveys code ≡ total others code)
     → ((code : List ℕ) → samples surveys code ≡ samples others code) → AreRowsOf surveys rows → AreRowsOf others more → rows ≡ more

@@ -4,7 +4,8 @@ use Rattle.std.proofs.Common.{◌∷◌, ◌++◌, ap, sym, subst, refl, arith, 
 use Rattle.std.proofs.lemmas.Bool.{cases_lt, cases_order, le-leb, lt-leb}
 use Rattle.std.proofs.lemmas.List.{append_assoc, drop-drop, drop-set-lt, drop_more, get_or-drop}
 use Rattle.std.proofs.lemmas.List.{get_or-take, length-set, length-take-le, take-take, take_more, take_more_set}
-use Rattle.haul_core.specs.Samples.{IsAscending, ascending, with_number}
+use Rattle.haul_core.specs.SampleSteps.{ascending, with_number}
+use Rattle.haul_core.specs.Samples.{IsAscending}
 
 pub with_least : (n x : ℕ) (more : List ℕ) → n ≤ x → with_number n (x ∷ more) ≡ n ∷ x ∷ more
 with_least n x more h = ap (λ (b : Bool). cond b (n ∷ x ∷ more) (x ∷ with_number n more)) (le-leb n x h)

@@ -15,9 +15,9 @@ use Rattle.survey_core.specs.Seeds.{is_visible}
 use Rattle.haul_core.specs.Claims.{BeginClaim, IsBadField, IsClaimLine, IsFirstFaultOf, fields_of, followed}
 use Rattle.haul_core.specs.FieldSteps.{Lacks, numbers_text}
 use Rattle.haul_core.specs.HaulTexts.{line_of, spaced}
-use Rattle.haul_core.specs.RangeListSteps.{has_byte}
+use Rattle.ranges.specs.RangeListSteps.{has_byte}
 use Rattle.haul_core.specs.ReportLines.{Claimed, IsClaim, IsCount, IsFound, Told, claim_line, count_field, found_fields, head_fields, mark_field, mark_fields, profile_field}
-use Rattle.haul_core.proofs.DecimalLemmas.{IsDecimal-decimal}
+use Rattle.ranges.proofs.DecimalLemmas.{IsDecimal-decimal}
 
 -- ---- texts without a byte
 

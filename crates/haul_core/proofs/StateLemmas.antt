@@ -4,7 +4,7 @@ use Rattle.std.proofs.Common.{append_assoc, codes, decimal, get_or, inl, inr, ma
 use Rattle.std.proofs.lemmas.Fmt.{decimal_injective}
 use Rattle.std.proofs.lemmas.List.Elements.{All-nil}
 use Rattle.std.specs.List.Sorted.{IsStrictlySortedBy}
-use Rattle.haul_core.specs.ClaimSteps.{Follows, HasFront, HasHead, IsHead, claimed, head_of, told_of}
+use Rattle.haul_core.specs.ClaimSteps.{FollowsFields, HasReadFront, HasHead, IsHead, claimed, head_of, told_of}
 use Rattle.haul_core.specs.Claims.{BeginClaim, IsFirstFaultOf, fields_of}
 use Rattle.haul_core.specs.FieldSteps.{Cuts, IsAnyMark, IsState, state_field}
 use Rattle.haul_core.specs.ReportLines.{Claimed, IsClaim, IsCount, IsFound, IsMark, Told, count_field, found_fields, head_fields, mark_field, mark_fields}
@@ -27,16 +27,16 @@ same_version c d h k e = decimal_injective c.version d.version (version_small c 
 
 -- ---- the state
 
-follows_head : (line : List ℕ) (head : Front) (rest : Option (List ℕ)) → HasHead line 7 head rest → Follows line (head_of (claimed head [])) rest
-follows_head line head rest h = subst (λ (fields : List (List ℕ)). Follows line fields rest) (whole_head (claimed head [])) h.follows
+follows_head : (line : List ℕ) (head : Front) (rest : Option (List ℕ)) → HasHead line 7 head rest → FollowsFields line (head_of (claimed head [])) rest
+follows_head line head rest h = subst (λ (fields : List (List ℕ)). FollowsFields line fields rest) (whole_head (claimed head [])) h.follows
 
 begin_state : (head : Front) → IsHead head → BeginClaim (head_of (claimed head []))
 begin_state head h = subst BeginClaim (whole_head (claimed head [])) (begin_head 7 (claimed head []) h.lawful)
 
 pub state_more : (line : List ℕ) (head : Front) (here field text : List ℕ) (more : Option (List ℕ)) → HasHead line 7 head (Some here) → Cuts 32 here field more
-    → field ≡ text → Follows line (head_of (claimed head []) ++ text ∷ []) more
+    → field ≡ text → FollowsFields line (head_of (claimed head []) ++ text ∷ []) more
 state_more line head here field text more h c e =
-    subst (λ (t : List ℕ). Follows line (head_of (claimed head []) ++ t ∷ []) more) e
+    subst (λ (t : List ℕ). FollowsFields line (head_of (claimed head []) ++ t ∷ []) more) e
     (follows_more line (head_of (claimed head [])) here field more (follows_head line head (Some here) h) c)
 
 state_of : (version : ℕ) (found : Option Told) (field : List ℕ) (rest : List (List ℕ)) → IsFound version found → found_fields found ≡ field ∷ rest
@@ -62,11 +62,11 @@ found_none (Some rested) e = absurd (cc)
 unsettled_fields : (head : Front) → IsHead head → fields_of (claimed head []) ≡ head_of (claimed head []) ++ codes "unsettled" ∷ []
 unsettled_fields head h = ap (λ (t : List (List ℕ)). head_of (claimed head []) ++ t) (found_none head.settled h.none)
 
-pub unsettled_front : (line : List ℕ) (head : Front) → IsHead head → Follows line (head_of (claimed head []) ++ codes "unsettled" ∷ []) None
-    → HasFront line head None
+pub unsettled_front : (line : List ℕ) (head : Front) → IsHead head → FollowsFields line (head_of (claimed head []) ++ codes "unsettled" ∷ []) None
+    → HasReadFront line head None
 unsettled_front line head h f = record {
   lawful = h.lawful;
-  follows = subst (λ (fields : List (List ℕ)). Follows line fields None) (sym (unsettled_fields head h)) f;
+  follows = subst (λ (fields : List (List ℕ)). FollowsFields line fields None) (sym (unsettled_fields head h)) f;
   settled = λ here e. absurd (cc);
 }
 
@@ -79,7 +79,7 @@ nothing_after None field rest e = absurd (cc)
 nothing_after (Some told) field rest e = at_other told.checkpoint (let h : codes "at=" ++ decimal told.checkpoint ≡ codes "unsettled" = cc in h)
 
 pub unsettled_over : (line : List ℕ) (head : Front) (there : List ℕ) → IsHead head
-    → Follows line (head_of (claimed head []) ++ codes "unsettled" ∷ []) (Some there)
+    → FollowsFields line (head_of (claimed head []) ++ codes "unsettled" ∷ []) (Some there)
     → IsFirstFaultOf line (length line - length there)
 unsettled_over line head there h f =
     let own = claimed head [] in
@@ -122,20 +122,20 @@ rested_fields head checkpoint for_good =
     ap (λ (t : List (List ℕ)). head_of (claimed head []) ++ at_field checkpoint ∷ t) (append-nil (mark_fields for_good))
 
 is_settled : (line : List ℕ) (head : Front) (checkpoint : ℕ) (for_good : Option Bool) (rest : Option (List ℕ)) → IsHead head → checkpoint ≤ 100000
-    → IsMark head.version for_good → Follows line (head_of (claimed head []) ++ at_field checkpoint ∷ mark_fields for_good) rest
-    → HasFront line (rested head checkpoint for_good) rest
+    → IsMark head.version for_good → FollowsFields line (head_of (claimed head []) ++ at_field checkpoint ∷ mark_fields for_good) rest
+    → HasReadFront line (rested head checkpoint for_good) rest
 is_settled line head checkpoint for_good rest h most mark f = record {
   lawful = rested_lawful head checkpoint for_good h most mark;
-  follows = subst (λ (fields : List (List ℕ)). Follows line fields rest) (sym (rested_fields head checkpoint for_good)) f;
+  follows = subst (λ (fields : List (List ℕ)). FollowsFields line fields rest) (sym (rested_fields head checkpoint for_good)) f;
   settled = λ here e g. absurd (cc);
 }
 
 -- version 1 has no mark
 pub settled_first : (line : List ℕ) (head front : Front) (checkpoint : ℕ) (rest : Option (List ℕ)) → IsHead head → checkpoint ≤ 100000 → head.version ≡ 1
-    → Follows line (head_of (claimed head []) ++ at_field checkpoint ∷ []) rest → front ≡ rested head checkpoint None → HasFront line front rest
+    → FollowsFields line (head_of (claimed head []) ++ at_field checkpoint ∷ []) rest → front ≡ rested head checkpoint None → HasReadFront line front rest
 unfolding mark_fields
 settled_first line head front checkpoint rest h most one f e =
-    subst (λ (r : Front). HasFront line r rest) (sym e) (is_settled line head checkpoint None rest h most one f)
+    subst (λ (r : Front). HasReadFront line r rest) (sym e) (is_settled line head checkpoint None rest h most one f)
 
 pub is_second : (head : Front) → IsHead head → head.version ≢ 1 → head.version ≡ 2
 is_second head h n = go h.lawful.version
@@ -146,16 +146,16 @@ is_second head h n = go h.lawful.version
 
 -- version 2 has one
 pub settled_second : (line : List ℕ) (head front : Front) (checkpoint : ℕ) (here field : List ℕ) (for_good : Bool) (more : Option (List ℕ)) → IsHead head
-    → checkpoint ≤ 100000 → head.version ≢ 1 → Follows line (head_of (claimed head []) ++ at_field checkpoint ∷ []) (Some here) → Cuts 32 here field more
-    → field ≡ mark_field for_good → front ≡ rested head checkpoint (Some for_good) → HasFront line front more
+    → checkpoint ≤ 100000 → head.version ≢ 1 → FollowsFields line (head_of (claimed head []) ++ at_field checkpoint ∷ []) (Some here) → Cuts 32 here field more
+    → field ≡ mark_field for_good → front ≡ rested head checkpoint (Some for_good) → HasReadFront line front more
 unfolding mark_fields
 settled_second line head front checkpoint here field for_good more h most n f c e g =
     let own = claimed head [] in
-    let k : Follows line ((head_of own ++ at_field checkpoint ∷ []) ++ mark_field for_good ∷ []) more =
-    subst (λ (t : List ℕ). Follows line ((head_of own ++ at_field checkpoint ∷ []) ++ t ∷ []) more) e
+    let k : FollowsFields line ((head_of own ++ at_field checkpoint ∷ []) ++ mark_field for_good ∷ []) more =
+    subst (λ (t : List ℕ). FollowsFields line ((head_of own ++ at_field checkpoint ∷ []) ++ t ∷ []) more) e
     (follows_more line (head_of own ++ at_field checkpoint ∷ []) here field more f c) in
-    subst (λ (r : Front). HasFront line r more) (sym g) (is_settled line head checkpoint (Some for_good) more h most (is_second head h n)
-    (subst (λ (fields : List (List ℕ)). Follows line fields more) (append_assoc (head_of own) (at_field checkpoint ∷ []) (mark_field for_good ∷ [])) k))
+    subst (λ (r : Front). HasReadFront line r more) (sym g) (is_settled line head checkpoint (Some for_good) more h most (is_second head h n)
+    (subst (λ (fields : List (List ℕ)). FollowsFields line fields more) (append_assoc (head_of own) (at_field checkpoint ∷ []) (mark_field for_good ∷ [])) k))
 
 begin_mark : (head : Front) (checkpoint : ℕ) → IsHead head → checkpoint ≤ 100000 → head.version ≡ 2
     → BeginClaim (head_of (claimed head []) ++ at_field checkpoint ∷ [])
@@ -181,7 +181,7 @@ marked version (Some told) checkpoint rest two h e = go told.for_good h.mark (le
     go (Some for_good) two t = (for_good, (map count_field told.counts, sym t))
 
 pub mark_lacks : (line : List ℕ) (head : Front) (checkpoint : ℕ) (there : List ℕ) → IsHead head → checkpoint ≤ 100000 → head.version ≢ 1
-    → Follows line (head_of (claimed head []) ++ at_field checkpoint ∷ []) None → there ≡ [] → IsFirstFaultOf line (length line - length there)
+    → FollowsFields line (head_of (claimed head []) ++ at_field checkpoint ∷ []) None → there ≡ [] → IsFirstFaultOf line (length line - length there)
 mark_lacks line head checkpoint there h most n f e =
     let own = claimed head [] in
     let two = is_second head h n in
@@ -192,7 +192,7 @@ mark_lacks line head checkpoint there h most n f e =
 
 pub mark_bad : (line : List ℕ) (head : Front) (checkpoint : ℕ) (here field : List ℕ) (more : Option (List ℕ)) → IsHead head → checkpoint ≤ 100000
     → head.version ≢ 1
-    → Follows line (head_of (claimed head []) ++ at_field checkpoint ∷ []) (Some here) → Cuts 32 here field more
+    → FollowsFields line (head_of (claimed head []) ++ at_field checkpoint ∷ []) (Some here) → Cuts 32 here field more
     → ((for_good : Bool) → IsAnyMark for_good → field ≢ mark_field for_good) → IsFirstFaultOf line (length line - length here)
 mark_bad line head checkpoint here field more h most n f c none =
     let own = claimed head [] in

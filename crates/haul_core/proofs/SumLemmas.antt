@@ -20,7 +20,9 @@ use Rattle.haul_core.specs.Keeping.{tally_of}
 use Rattle.haul_core.specs.RowSteps.{AreRowsFrom, with_objects}
 use Rattle.haul_core.specs.Rows.{AreRowsOf, IsRowOf, codes_of}
 use Rattle.haul_core.specs.Tallies.{no_tally, row_of, tally_in}
-use Rattle.haul_core.specs.Totals.{Survey, count_in, total}
+use Rattle.haul_core.specs.Samples.{AreLeastThree}
+use Rattle.haul_core.specs.Totals.{Survey, count_in, numbers_with, total}
+use Rattle.haul_core.proofs.LeastLemmas.{least_is}
 
 with_objects_some : (o : Option Tally) (t : Tally) → with_objects o ≡ Some t → (o ≡ Some t) × (1 ≤ t.total)
 with_objects_some None t h = absurd (cc)
@@ -49,7 +51,7 @@ rows_of_surveys tallies surveys rows from same = record {
         record {
           some = h.1;
           total_is = ap (λ (t : Tally). t.total) told;
-          samples_are = ap (λ (t : Tally). t.samples) told;
+          samples_are = subst (AreLeastThree (numbers_with surveys row.code)) (sym (ap (λ (t : Tally). t.samples) told)) (least_is (numbers_with surveys row.code));
         }
 
     found : (code : List ℕ) (o : Option Tally) → row_of tallies code ≡ o → 1 ≤ total surveys code → IsSome (with_objects (row_of tallies code))

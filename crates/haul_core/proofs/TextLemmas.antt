@@ -8,9 +8,9 @@ use Rattle.std.proofs.lemmas.List.Folds.{flat_map-map}
 use Rattle.plane_core.specs.Rules.{rule_text}
 use Rattle.survey_core.specs.declared.job.Job.{Job}
 use Rattle.haul_core.specs.declared.census.Census.{Census}
-use Rattle.haul_core.specs.declared.range.Range.{Range}
+use Rattle.ranges.specs.declared.range.Range.{Range}
 use Rattle.haul_core.specs.declared.row.Row.{Row}
-use Rattle.haul_core.specs.HaulTexts.{ended, haul_lines, haul_text, head_lines, line_of, numbered, profile_line, range_line, range_lines, sample_line}
+use Rattle.haul_core.specs.HaulTexts.{ended, haul_lines, haul_text, head_lines, line_of, line_of_numbers, profile_line, range_line, range_lines, sample_line}
 use Rattle.haul_core.specs.HaulTexts.{sample_lines, spaced, sum_lines, text_of, total_line, total_lines}
 
 -- the text of what is left begins with that of the next item
@@ -70,7 +70,7 @@ some_spelled (range ∷ more) h = sym (flat_map-map ended range_line (range ∷ 
 -- ---- the sums
 
 abbrev pub sum_line : List ℕ → ℕ → List ℕ
-sum_line word n = ended (numbered word (n ∷ []))
+sum_line word n = ended (line_of_numbers word (n ∷ []))
 
 abbrev pub after_for_good : Census → List ℕ
 after_for_good census = sum_line (codes "@NUM_OBJECTS") census.objects

@@ -4,13 +4,13 @@ use Rattle.std.specs.List.{find, list_any}
 use Rattle.survey_core.specs.declared.job.Job.{Job}
 use Rattle.haul_core.specs.declared.arrival.Arrival.{Arrival}
 use Rattle.haul_core.specs.declared.arrival.Arrival.TheVariants.{Closing, Offer}
-use Rattle.haul_core.specs.declared.range.Range.{Range}
+use Rattle.ranges.specs.declared.range.Range.{Range}
 use Rattle.haul_core.specs.declared.refusal.Refusal.{Refusal}
 use Rattle.haul_core.specs.declared.refusal.Refusal.TheVariants.{Closed, Double, Memory, OtherJob, OutOfRange, UnknownWorker}
 use Rattle.haul_core.specs.declared.arrival.Reply.{Reply}
 use Rattle.haul_core.specs.declared.arrival.Reply.TheVariants.{AlreadyClosed, NowClosed, Refused, Taken}
 use Rattle.haul_core.specs.Jobs.{same_job}
-use Rattle.haul_core.specs.Ranges.{is_in}
+use Rattle.ranges.specs.Ranges.{is_in}
 use Rattle.haul_core.specs.Reports.{Reported}
 
 -- what a haul is opened for: a job, the set of its soup numbers, and how many workers there are

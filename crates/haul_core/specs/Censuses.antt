@@ -2,8 +2,8 @@
 use Rattle.std.specs.Prelude.{◌≡◌, ℕ, List, length, sum_by}
 use Rattle.survey_core.specs.declared.job.Job.{Job}
 use Rattle.haul_core.specs.declared.census.Census.{Census}
-use Rattle.haul_core.specs.declared.range.Range.{Range}
-use Rattle.haul_core.specs.Ranges.{size_of}
+use Rattle.ranges.specs.declared.range.Range.{Range}
+use Rattle.ranges.specs.Ranges.{size_of}
 use Rattle.haul_core.specs.Rows.{AreRowsOf}
 use Rattle.haul_core.specs.Totals.{AreSurveys, Survey, for_good, unsettled}
 

@@ -32,9 +32,9 @@ IsLineOf [] line = ⊥
 IsLineOf (first ∷ more) line = line ≡ line_of first more
 
 -- the line is these fields, and then the rest after a space, if there is one
-abbrev pub Follows : List ℕ → List (List ℕ) → Option (List ℕ) → Type 0
-Follows line fields None = IsLineOf fields line
-Follows line fields (Some rest) = line ≡ followed fields ++ rest
+abbrev pub FollowsFields : List ℕ → List (List ℕ) → Option (List ℕ) → Type 0
+FollowsFields line fields None = IsLineOf fields line
+FollowsFields line fields (Some rest) = line ≡ followed fields ++ rest
 
 -- the head with what the field at this place says: the fields before it stay
 pub record HasFilled (place : ℕ) (head more : Front) (field : List ℕ) : Type 0 where
@@ -55,12 +55,12 @@ pub record IsHead (head : Front) : Type 0 where
 -- so many fields of the head have been read
 pub record HasHead (line : List ℕ) (place : ℕ) (front : Front) (rest : Option (List ℕ)) : Type 0 where
   pub head : IsHead front
-  pub follows : Follows line (take place (head_of (claimed front []))) rest
+  pub follows : FollowsFields line (take place (head_of (claimed front []))) rest
 
 -- all before the counts has been read; only a soup that settled has counts
-pub record HasFront (line : List ℕ) (front : Front) (rest : Option (List ℕ)) : Type 0 where
+pub record HasReadFront (line : List ℕ) (front : Front) (rest : Option (List ℕ)) : Type 0 where
   pub lawful : IsClaim (claimed front [])
-  pub follows : Follows line (fields_of (claimed front [])) rest
+  pub follows : FollowsFields line (fields_of (claimed front [])) rest
   pub settled : (here : List ℕ) → rest ≡ Some here → front.settled ≢ None
 
 -- the last code, if there is one
@@ -81,6 +81,6 @@ MayFollow last object = IsCount object × IsAfter last object.0
 -- these counts have been read, after all that stands before them
 pub record HasCounts (line : List ℕ) (front : Front) (counts : List (List ℕ × ℕ)) (last rest : Option (List ℕ)) : Type 0 where
   pub lawful : IsClaim (claimed front counts)
-  pub follows : Follows line (fields_of (claimed front counts)) rest
+  pub follows : FollowsFields line (fields_of (claimed front counts)) rest
   pub settled : (here : List ℕ) → rest ≡ Some here → front.settled ≢ None
   pub latest : last ≡ last_code counts

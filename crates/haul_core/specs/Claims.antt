@@ -2,7 +2,7 @@
 use Rattle.std.specs.Prelude.{◌≡◌, ◌⊎◌, ◌++◌, ℕ, List, [], ◌∷◌, codes, flat_map, length}
 use Rattle.haul_core.specs.FieldSteps.{Lacks}
 use Rattle.haul_core.specs.HaulTexts.{line_of}
-use Rattle.haul_core.specs.RangeListSteps.{has_byte}
+use Rattle.ranges.specs.RangeListSteps.{has_byte}
 use Rattle.haul_core.specs.ReportLines.{Claimed, IsClaim, claim_line, found_fields, head_fields}
 
 -- the bytes are the line of a lawful claim

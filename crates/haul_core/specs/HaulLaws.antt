@@ -4,12 +4,12 @@ use Rattle.std.specs.List.{find}
 use Rattle.survey_core.specs.Objects.{is_code}
 use Rattle.survey_core.specs.declared.job.Job.{Job}
 use Rattle.haul_core.specs.declared.census.Census.{Census}
-use Rattle.haul_core.specs.declared.range.Range.{Range}
+use Rattle.ranges.specs.declared.range.Range.{Range}
 use Rattle.haul_core.specs.declared.row.Row.{Row}
 use Rattle.haul_core.specs.Censuses.{IsCensus}
 use Rattle.haul_core.specs.HaulTexts.{haul_text}
 use Rattle.haul_core.specs.Missing.{AreAll}
-use Rattle.haul_core.specs.Ranges.{AreNormal, is_in}
+use Rattle.ranges.specs.Ranges.{AreNormal, is_in}
 
 -- the ranges give one set
 abbrev pub GiveOneSet : List Range → List Range → Type 0

@@ -4,7 +4,7 @@ use Rattle.plane_core.specs.Rules.{rule_text}
 use Rattle.survey_core.specs.Profiles.{Settling}
 use Rattle.survey_core.specs.declared.job.Job.{Job}
 use Rattle.haul_core.specs.declared.census.Census.{Census}
-use Rattle.haul_core.specs.declared.range.Range.{Range}
+use Rattle.ranges.specs.declared.range.Range.{Range}
 use Rattle.haul_core.specs.declared.row.Row.{Row}
 
 -- a word with a space before it
@@ -16,12 +16,12 @@ unfoldable pub line_of : List ℕ → List (List ℕ) → List ℕ
 line_of first more = first ++ flat_map spaced more
 
 -- a line of a word and numbers in decimal
-abbrev pub numbered : List ℕ → List ℕ → List ℕ
-numbered word numbers = line_of word (map decimal numbers)
+abbrev pub line_of_numbers : List ℕ → List ℕ → List ℕ
+line_of_numbers word numbers = line_of word (map decimal numbers)
 
 -- the four numbers of a profile
 abbrev pub profile_line : Settling → List ℕ
-profile_line p = numbered (codes "@PROFILE") (p.period ∷ p.horizon ∷ p.stride ∷ p.limit ∷ [])
+profile_line p = line_of_numbers (codes "@PROFILE") (p.period ∷ p.horizon ∷ p.stride ∷ p.limit ∷ [])
 
 -- what was surveyed, and how
 unfoldable pub head_lines : Job → List (List ℕ)
@@ -35,7 +35,7 @@ head_lines job =
 
 -- the first number of a range, and how many there are
 abbrev pub range_line : Range → List ℕ
-range_line range = numbered (codes "@RANGE") (range.first ∷ range.count ∷ [])
+range_line range = line_of_numbers (codes "@RANGE") (range.first ∷ range.count ∷ [])
 
 -- a line for each range; if there is none, that of an empty range alone
 abbrev pub range_lines : List Range → List (List ℕ)
@@ -45,19 +45,19 @@ range_lines (range ∷ more) = map range_line (range ∷ more)
 -- how many soups and objects there are
 unfoldable pub sum_lines : Census → List (List ℕ)
 sum_lines census =
-    numbered (codes "@NUM_SOUPS") (census.soups ∷ [])
-    ∷ numbered (codes "@NUM_UNSETTLED") (census.unsettled ∷ [])
-    ∷ numbered (codes "@NUM_FOR_GOOD") (census.for_good ∷ [])
-    ∷ numbered (codes "@NUM_OBJECTS") (census.objects ∷ [])
+    line_of_numbers (codes "@NUM_SOUPS") (census.soups ∷ [])
+    ∷ line_of_numbers (codes "@NUM_UNSETTLED") (census.unsettled ∷ [])
+    ∷ line_of_numbers (codes "@NUM_FOR_GOOD") (census.for_good ∷ [])
+    ∷ line_of_numbers (codes "@NUM_OBJECTS") (census.objects ∷ [])
     ∷ []
 
 -- a code and how many objects have it
 abbrev pub total_line : Row → List ℕ
-total_line row = numbered row.code (row.total ∷ [])
+total_line row = line_of_numbers row.code (row.total ∷ [])
 
 -- a code and the least numbers of soups that left one
 abbrev pub sample_line : Row → List ℕ
-sample_line row = numbered row.code row.samples
+sample_line row = line_of_numbers row.code row.samples
 
 -- the table of totals: an empty line, the title, and a line for each code
 unfoldable pub total_lines : List Row → List (List ℕ)

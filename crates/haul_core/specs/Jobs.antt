@@ -1,5 +1,5 @@
 -- When two jobs are the same.
-use Rattle.std.specs.Prelude.{◌==◌, ◌&&◌, Bool, nat_eq}
+use Rattle.std.specs.Prelude.{◌≡◌, ◌==◌, ◌&&◌, ◌↔◌, Bool, true, nat_eq}
 use Rattle.std.specs.Bool.{beq}
 use Rattle.std.specs.Cmp.Lexicographic.{pointwise}
 use Rattle.plane_core.specs.Rules.{Numbers}
@@ -15,3 +15,7 @@ same_rule r s = pointwise beq r.births s.births && pointwise beq r.survivals s.s
 -- two jobs have the same seed, profile and rule
 abbrev pub same_job : Job → Job → Bool
 same_job a b = pointwise nat_eq a.seed b.seed && (same_profile a.profile b.profile && same_rule a.rule b.rule)
+
+-- two jobs are the same exactly if they are equal
+abbrev pub SameJobsAreEqual : Type 0
+SameJobsAreEqual = (a b : Job) → (same_job a b ≡ true) ↔ (a ≡ b)

@@ -6,7 +6,7 @@ use Rattle.haul_core.specs.declared.haul.join.JoinFault.{JoinFault}
 use Rattle.haul_core.specs.declared.haul.join.JoinFault.TheVariants.{Memory, Open, OtherJob, Overlap}
 use Rattle.haul_core.specs.Books.{Held, Terms, eligible, first_of_each}
 use Rattle.haul_core.specs.Jobs.{same_job}
-use Rattle.haul_core.specs.Ranges.{IsNormalForm, ShareNumber}
+use Rattle.ranges.specs.Ranges.{IsNormalForm, ShareNumber}
 
 -- both hauls are closed
 pub record AreClosed (a b : Held) : Type 0 where

@@ -4,14 +4,19 @@ use Rattle.std.specs.List.{IsDistinct}
 use Rattle.survey_core.specs.Findings.{objects_in}
 use Rattle.haul_core.specs.declared.tally.Tally.{Tally}
 use Rattle.haul_core.specs.Books.{Held}
-use Rattle.haul_core.specs.Ranges.{AreBelow, AreNormal, is_in, number_bound, size_of}
+use Rattle.ranges.specs.Ranges.{AreBelow, AreNormal, is_in, number_bound, size_of}
 use Rattle.haul_core.specs.Reports.{IsWorker}
 use Rattle.haul_core.specs.Tallies.{tally_in}
-use Rattle.haul_core.specs.Totals.{AreSurveys, Survey, for_good, samples, total, unsettled}
+use Rattle.haul_core.specs.SampleSteps.{least_three}
+use Rattle.haul_core.specs.Totals.{AreSurveys, Survey, for_good, numbers_with, total, unsettled}
 
 -- the numbers of the taken soups
 abbrev pub numbers_in : List (ℕ × ℕ) → List ℕ
 numbers_in taken = map (λ t. t.1) taken
+
+-- the least three numbers of soups that left an object with this code
+abbrev pub samples : List Survey → List ℕ → List ℕ
+samples surveys code = least_three (numbers_with surveys code)
 
 -- what a row has to say of a code
 abbrev pub tally_of : List Survey → List ℕ → Tally
@@ -31,7 +36,7 @@ pub record AreSums (surveys : List Survey) (sums : Sums) : Type 0 where
   pub few : All (λ s. objects_in s.finding < 2 ^ 64) surveys
 
 -- what holds of a haul: what it shows, how many numbers its set has, the worker of each number, and its sums
-pub record Keeps (held : Held) (count : ℕ) (workers : List (ℕ × ℕ)) (sums : Sums) : Type 0 where
+pub record KeepsBook (held : Held) (count : ℕ) (workers : List (ℕ × ℕ)) (sums : Sums) : Type 0 where
   pub normal : AreNormal held.terms.ranges
   pub below : AreBelow number_bound held.terms.ranges
   pub size : count ≡ size_of held.terms.ranges

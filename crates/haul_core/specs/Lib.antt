@@ -12,15 +12,12 @@ pub mod Joins
 pub mod Keeping
 pub mod Missing
 pub mod MissingSteps
-pub mod RangeListSteps
-pub mod RangeLists
-pub mod RangeSteps
-pub mod Ranges
 pub mod ReportLines
 pub mod Replies
 pub mod Reports
 pub mod RowSteps
 pub mod Rows
+pub mod SampleSteps
 pub mod Samples
 pub mod Tallies
 pub mod Totals

@@ -1,9 +1,9 @@
 -- Which numbers of a set are taken, and which are missing.
 use Rattle.std.specs.Prelude.{◌≡◌, ℕ, Bool, true, not, List, count_by, filter, flat_map, nat_eq, if◌then◌else◌}
 use Rattle.std.specs.List.{list_any, range_with_len}
-use Rattle.haul_core.specs.declared.range.Range.{Range}
+use Rattle.ranges.specs.declared.range.Range.{Range}
 use Rattle.haul_core.specs.Keeping.{numbers_in}
-use Rattle.haul_core.specs.Ranges.{is_in}
+use Rattle.ranges.specs.Ranges.{is_in}
 
 -- the numbers of a range: so many, from the first on
 abbrev pub numbers_of_range : Range → List ℕ

@@ -8,7 +8,7 @@ use Rattle.haul_core.specs.Books.{Held, StandsFor, Terms, double, refusal_of}
 use Rattle.haul_core.specs.declared.arrival.Arrival.{Arrival}
 use Rattle.haul_core.specs.declared.arrival.Arrival.TheVariants.{Closing, Offer}
 use Rattle.haul_core.specs.Jobs.{same_job}
-use Rattle.haul_core.specs.Ranges.{is_in}
+use Rattle.ranges.specs.Ranges.{is_in}
 use Rattle.haul_core.specs.Reports.{Reported}
 
 -- the reply that an answer gives

@@ -4,7 +4,7 @@ use Rattle.survey_core.specs.Findings.{IsFinding, objects_in}
 use Rattle.survey_core.specs.Soups.{soup}
 use Rattle.survey_core.specs.declared.finding.Finding.{Finding}
 use Rattle.survey_core.specs.declared.job.Job.{Job}
-use Rattle.haul_core.specs.Ranges.{number_bound}
+use Rattle.ranges.specs.Ranges.{number_bound}
 
 -- who surveyed which soup of a job, and what was found
 pub record Reported : Type 0 where

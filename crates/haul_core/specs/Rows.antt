@@ -6,7 +6,8 @@ use Rattle.std.specs.List.Sorted.{IsStrictlySortedBy}
 use Rattle.std.specs.Ordering.{nat_cmp}
 use Rattle.survey_core.specs.Objects.{is_code}
 use Rattle.haul_core.specs.declared.row.Row.{Row}
-use Rattle.haul_core.specs.Totals.{Survey, samples, total}
+use Rattle.haul_core.specs.Samples.{AreLeastThree}
+use Rattle.haul_core.specs.Totals.{Survey, numbers_with, total}
 
 abbrev pub codes_of : List Row → List (List ℕ)
 codes_of rows = map (λ row. row.code) rows
@@ -15,11 +16,11 @@ codes_of rows = map (λ row. row.code) rows
 abbrev pub AreInOrder : List Row → Type 0
 AreInOrder rows = IsStrictlySortedBy (slice_cmp nat_cmp) (codes_of rows)
 
--- the row says of its code what the surveys do, and the soups left at least one object with it
+-- the row says of its code what the surveys do, with the least three soups that have it, and the soups left at least one object with it
 pub record IsRowOf (surveys : List Survey) (row : Row) : Type 0 where
   pub some : 1 ≤ row.total
   pub total_is : row.total ≡ total surveys row.code
-  pub samples_are : row.samples ≡ samples surveys row.code
+  pub samples_are : AreLeastThree (numbers_with surveys row.code) row.samples
 
 -- in ASCII order, a row for each code that the soups left, and no other
 pub record AreRowsOf (surveys : List Survey) (rows : List Row) : Type 0 where

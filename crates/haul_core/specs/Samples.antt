@@ -1,19 +1,5 @@
 -- Samples: the least numbers of a list.
-use Rattle.std.specs.Prelude.{◌≤◌, ℕ, List, [], ◌∷◌, take, nat_le, if◌then◌else◌}
-
--- a number more, before the first that is no less
-abbrev pub with_number : ℕ → List ℕ → List ℕ
-with_number n [] = n ∷ []
-with_number n (x ∷ more) = if nat_le n x then n ∷ x ∷ more else x ∷ with_number n more
-
--- the numbers in ascending order
-abbrev pub ascending : List ℕ → List ℕ
-ascending [] = []
-ascending (n ∷ more) = with_number n (ascending more)
-
--- the least three of the numbers, ascending, or all if there are fewer
-abbrev pub least_three : List ℕ → List ℕ
-least_three numbers = take 3 (ascending numbers)
+use Rattle.std.specs.Prelude.{◌≡◌, ◌≤◌, ◌⊎◌, ◌++◌, ℕ, List, [], ◌∷◌, All, count_by, length, nat_eq}
 
 -- no number is less than the one before
 abbrev pub IsAscending : List ℕ → Type 0
@@ -21,7 +7,15 @@ IsAscending [] = Unit {0}
 IsAscending (x ∷ []) = Unit {0}
 IsAscending (x ∷ y ∷ more) = (x ≤ y) × IsAscending (y ∷ more)
 
--- more numbers, of which the least three are kept after each
-abbrev pub with_each : List ℕ → List ℕ → List ℕ
-with_each xs [] = xs
-with_each xs (n ∷ more) = with_each (take 3 (with_number n xs)) more
+-- The least three of some numbers, ascending, or all if there are fewer: with the others, none of which is less, they are these numbers.
+pub record AreLeastThree (numbers least : List ℕ) : Type 0 where
+  pub others : List ℕ
+  pub all : (n : ℕ) → count_by (nat_eq n) (least ++ others) ≡ count_by (nat_eq n) numbers
+  pub ascending : IsAscending least
+  pub lower : All (λ m. All (λ n. m ≤ n) others) least
+  pub few : length least ≤ 3
+  pub three : (length least ≡ 3) ⊎ (others ≡ [])
+
+-- some numbers have one list of their least three
+abbrev pub LeastThreeAreDetermined : Type 0
+LeastThreeAreDetermined = (numbers one other : List ℕ) → AreLeastThree numbers one → AreLeastThree numbers other → one ≡ other

@@ -6,7 +6,7 @@ use Rattle.survey_core.specs.Objects.{AreObjects, is_code}
 use Rattle.survey_core.specs.declared.finding.Finding.{Finding}
 use Rattle.survey_core.specs.declared.finding.Finding.TheVariants.{Settled, Unsettled}
 use Rattle.haul_core.specs.declared.tally.Tally.{Tally}
-use Rattle.haul_core.specs.Samples.{with_each, with_number}
+use Rattle.haul_core.specs.SampleSteps.{with_each, with_number}
 
 abbrev pub no_tally : Tally
 no_tally = record { total = 0; samples = [] }

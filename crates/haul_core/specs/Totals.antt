@@ -7,7 +7,6 @@ use Rattle.survey_core.specs.Soups.{soup}
 use Rattle.survey_core.specs.declared.finding.Finding.{Finding}
 use Rattle.survey_core.specs.declared.finding.Finding.TheVariants.{Settled, Unsettled}
 use Rattle.survey_core.specs.declared.job.Job.{Job}
-use Rattle.haul_core.specs.Samples.{least_three}
 
 -- how many objects with this code a finding has
 abbrev pub count_in : List ℕ → Finding → ℕ
@@ -40,9 +39,9 @@ total surveys code = sum_by (λ s. count_in code s.finding) surveys
 abbrev pub has_object : List ℕ → Survey → Bool
 has_object code s = nat_le 1 (count_in code s.finding)
 
--- the least three numbers of soups that left an object with this code
-abbrev pub samples : List Survey → List ℕ → List ℕ
-samples surveys code = least_three (map (λ s. s.number) (filter (has_object code) surveys))
+-- the numbers of the soups that left an object with this code
+abbrev pub numbers_with : List Survey → List ℕ → List ℕ
+numbers_with surveys code = map (λ s. s.number) (filter (has_object code) surveys)
 
 abbrev pub unsettled : List Survey → ℕ
 unsettled surveys = count_by (λ s. is_unsettled s.finding) surveys

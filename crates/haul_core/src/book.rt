@@ -11,14 +11,14 @@ use std::alloc::{AllocError, Global};
 
 /// Lets some arrivals come to a haul, one after another, and returns the replies in order.
 ///
-/// Whatever arrived before, and in whatever order reports come, the haul takes each number of its set at most once, keeps
-/// each worker's reports in the order in which they were offered, and refuses doubles, strangers and everything after
-/// closing by name.
+/// Whatever arrived before, and in whatever order reports come, the haul takes each number of its set at most once,
+/// keeps each worker's reports in the order in which they were offered, and refuses doubles, strangers and everything
+/// after closing by name.
 ///
 /// # Errors
 ///
-/// [`AllocError`] if memory runs out: for the replies, and then nothing has come to the haul; or for an offer that the book
-/// takes, and then the arrivals before it have come, and no other.
+/// [`AllocError`] if memory runs out: for the replies, and then nothing has come to the haul; or for an offer that the
+/// book takes, and then the arrivals before it have come, and no other.
 pub fn keep_book(
     alloc: Global,
     haul: &mut Haul,
@@ -40,8 +40,8 @@ pub fn keep_book(
     Ok(replies)
 }
 
-/// The law that what the book takes of a worker is a part of what it offered, in its order, each number at most once and of
-/// the set.
+/// The law that what the book takes of a worker is a part of what it offered, in its order, each number at most once
+/// and of the set.
 pub fn workers_are_taken_in_order()
     ensures { WorkersAreTakenInOrder }
 {}

@@ -1,5 +1,5 @@
-use crate::range::Ranges;
 use crate::row::Rows;
+use ranges::range::Ranges;
 use survey_core::job::Job;
 
 /// What the soups that a haul has taken left.

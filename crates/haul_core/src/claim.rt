@@ -29,9 +29,11 @@ impl Model for Claim {
 
     ghost Value = { Claimed };
 
-    ghost view = { λ c. record { version = c.version; job = c.job; worker = c.worker; number = c.number; found = c.settled } };
+    ghost view = { λ c. record
+        { version = c.version; job = c.job; worker = c.worker; number = c.number; found = c.settled } };
 
-    ghost invariant = { λ c. IsClaim (record { version = c.version; job = c.job; worker = c.worker; number = c.number; found = c.settled }) };
+    ghost invariant = { λ c. IsClaim
+        (record { version = c.version; job = c.job; worker = c.worker; number = c.number; found = c.settled }) };
 }
 
 impl Claim {

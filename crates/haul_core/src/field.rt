@@ -1,17 +1,19 @@
 //! Pieces of a report line: a text is cut at a byte, and each field is read from its whole text.
 
-ghost use Rattle.std.specs.Prelude.{◌≡◌, ◌≢◌, ◌↔◌, ◌<◌, ◌≤◌, ◌^◌, ◌++◌, ◌==◌, ℕ, IsTrue, List, MatchOption, codes, decimal, option_map, position};
+ghost use Rattle.std.specs.Prelude.{◌≡◌, ◌≢◌, ◌↔◌, ◌<◌, ◌≤◌, ◌^◌, ◌++◌, ◌==◌, ℕ, IsTrue, List, MatchOption, codes};
+ghost use Rattle.std.specs.Prelude.{decimal, option_map, position};
 ghost use Rattle.std.specs.List.{list_all};
 ghost use Rattle.plane_core.specs.Rules.{IsRule, rule_text};
 ghost use Rattle.code_core.specs.Apgcodes.{HasCodeShape, is_code_byte};
 ghost use Rattle.survey_core.specs.Seeds.{IsSeed};
-ghost use Rattle.haul_core.specs.FieldSteps.{BeginsNumber, Cuts, IsAnyMark, IsNumber, IsSmall, IsState, IsVersion, Tells, numbers_text, state_field};
+ghost use Rattle.haul_core.specs.FieldSteps.{BeginsNumber, Cuts, IsAnyMark, IsNumber, IsSmall, IsState, IsVersion};
+ghost use Rattle.haul_core.specs.FieldSteps.{Tells, numbers_text, state_field};
 ghost use Rattle.survey_core.specs.Profiles.{IsProfile};
 ghost use Rattle.haul_core.specs.ReportLines.{IsCount, count_field, mark_field, profile_field};
 ghost use Rattle.haul_core.specs.Reports.{IsWorker};
 
-use crate::range_list::first_decimal;
 use plane_core::rule::Rule;
+use ranges::range_list::first_decimal;
 use survey_core::profile::Profile;
 use survey_core::seed::Seed;
 
@@ -50,7 +52,8 @@ pub(crate) fn number_after(word: &[u8], field: &[u8]) -> Option<u64>
 
 /// What stands after a word at the front of a field, if it stands there.
 fn after<'a>(word: &[u8], field: &'a [u8]) -> Option<&'a [u8]>
-    ensures { MatchOption result ((rest : List ℕ) → field.now ≢ word.now ++ rest) (λ rest. field.now ≡ word.now ++ rest.now) }
+    ensures { MatchOption result ((rest : List ℕ) → field.now ≢ word.now ++ rest)
+        (λ rest. field.now ≡ word.now ++ rest.now) }
 {
     field.strip_prefix(word)
 }

@@ -5,8 +5,9 @@
 //! ----------------------- the head ------------------------------- -- the soup --- -- the counts --
 //! ```
 
-ghost use Rattle.std.specs.Prelude.{◌≡◌, ◌<◌, ◌≤◌, ◌-◌, ◌++◌, ◌∷◌, [], IfErr, IfOk, Some, codes, decimal, length, option_map};
-ghost use Rattle.haul_core.specs.ClaimSteps.{Fills, Follows, HasFront, HasHead, IsHead, claimed, head_of};
+ghost use Rattle.std.specs.Prelude.{◌≡◌, ◌<◌, ◌≤◌, ◌-◌, ◌++◌, ◌∷◌, [], IfErr, IfOk, Some, codes, decimal, length};
+ghost use Rattle.std.specs.Prelude.{option_map};
+ghost use Rattle.haul_core.specs.ClaimSteps.{Fills, FollowsFields, HasReadFront, HasHead, IsHead, claimed, head_of};
 ghost use Rattle.haul_core.specs.Claims.{IsFirstFaultOf};
 
 use crate::field::{
@@ -35,10 +36,10 @@ pub(crate) struct Rested {
     pub(crate) for_good: Option<bool>,
 }
 
-/// What a line says before its counts, and the text of the counts, if there are any. If no lawful claim has such a line,
-/// the answer is the text from the first fault on.
+/// What a line says before its counts, and the text of the counts, if there are any. If no lawful claim has such a
+/// line, the answer is the text from the first fault on.
 pub(crate) fn front_in(line: &[u8]) -> Result<(Front, Option<&[u8]>), &[u8]>
-    ensures ok { IfOk result (λ read. HasFront line.now read.0 (option_map (λ rest. rest.now) read.1)) }
+    ensures ok { IfOk result (λ read. HasReadFront line.now read.0 (option_map (λ rest. rest.now) read.1)) }
     ensures err { IfErr result (λ there. IsFirstFaultOf line.now (length line.now - length there.now)) }
 {
     match head_in(line) {
@@ -54,7 +55,7 @@ fn after_head<'a>(
     rest: Option<&'a [u8]>,
 ) -> Result<(Front, Option<&'a [u8]>), &'a [u8]>
     requires { HasHead line.now 7 head (option_map (λ rest. rest.now) rest) }
-    ensures ok { IfOk result (λ read. HasFront line.now read.0 (option_map (λ rest. rest.now) read.1)) }
+    ensures ok { IfOk result (λ read. HasReadFront line.now read.0 (option_map (λ rest. rest.now) read.1)) }
     ensures err { IfErr result (λ there. IsFirstFaultOf line.now (length line.now - length there.now)) }
 {
     let Some(here) = rest else {
@@ -208,8 +209,9 @@ fn unsettled_in<'a>(
     rest: Option<&'a [u8]>,
 ) -> Result<(Front, Option<&'a [u8]>), &'a [u8]>
     requires head { IsHead head }
-    requires follows { Follows line.now (head_of (claimed head []) ++ codes "unsettled" ∷ []) (option_map (λ rest. rest.now) rest) }
-    ensures ok { IfOk result (λ read. HasFront line.now read.0 (option_map (λ rest. rest.now) read.1)) }
+    requires follows { FollowsFields line.now (head_of (claimed head []) ++ codes "unsettled" ∷ [])
+        (option_map (λ rest. rest.now) rest) }
+    ensures ok { IfOk result (λ read. HasReadFront line.now read.0 (option_map (λ rest. rest.now) read.1)) }
     ensures err { IfErr result (λ there. IsFirstFaultOf line.now (length line.now - length there.now)) }
 {
     match rest {
@@ -227,8 +229,9 @@ fn settled_in<'a>(
 ) -> Result<(Front, Option<&'a [u8]>), &'a [u8]>
     requires head { IsHead head }
     requires checkpoint { checkpoint ≤ 100000 }
-    requires follows { Follows line.now (head_of (claimed head []) ++ (codes "at=" ++ decimal checkpoint) ∷ []) (option_map (λ rest. rest.now) rest) }
-    ensures ok { IfOk result (λ read. HasFront line.now read.0 (option_map (λ rest. rest.now) read.1)) }
+    requires follows { FollowsFields line.now (head_of (claimed head []) ++ (codes "at=" ++ decimal checkpoint) ∷ [])
+        (option_map (λ rest. rest.now) rest) }
+    ensures ok { IfOk result (λ read. HasReadFront line.now read.0 (option_map (λ rest. rest.now) read.1)) }
     ensures err { IfErr result (λ there. IsFirstFaultOf line.now (length line.now - length there.now)) }
 {
     if head.version == 1 {

@@ -1,4 +1,6 @@
-ghost use Rattle.std.specs.Prelude.{◌≡◌, ◌⊎◌, ◌↔◌, ◌<◌, ◌≤◌, ◌+◌, ◌^◌, ◌++◌, ◌∷◌, [], ℕ, All, List, Option, None, Some, IfErr, IfOk, IsErrOf, IsTrue, OnErr, OnOk, false, length, true, vec_len, vec_capacity, nat_eq, is_err};
+ghost use Rattle.std.specs.Prelude.{◌≡◌, ◌⊎◌, ◌↔◌, ◌<◌, ◌≤◌, ◌+◌, ◌^◌, ◌++◌, ◌∷◌, [], ℕ, All, List, Option, None, Some};
+ghost use Rattle.std.specs.Prelude.{IfErr, IfOk, IsErrOf, IsTrue, OnErr, OnOk, false, length, true, vec_len};
+ghost use Rattle.std.specs.Prelude.{vec_capacity, nat_eq, is_err};
 ghost use Rattle.std.specs.List.{IsDistinct};
 ghost use Rattle.std.specs.List.Sorted.{IsStrictlyIncreasing};
 ghost use Rattle.indexmap.specs.IndexMap.{get, spare};
@@ -7,7 +9,8 @@ ghost use Rattle.haul_core.specs.Replies.{refusal_at, reply_of, IsAnswered};
 ghost use Rattle.haul_core.specs.Censuses.{IsCensus};
 ghost use Rattle.haul_core.specs.Keeping.{numbers_in};
 ghost use Rattle.haul_core.specs.Missing.{AreAll, IsComplete, missing_of};
-ghost use Rattle.haul_core.specs.Ranges.{AreBelow, AreNormal, AreSmall, IsNormalForm, Overlap, is_in, number_bound, size_of};
+ghost use Rattle.ranges.specs.Ranges.{AreBelow, AreNormal, AreSmall, IsNormalForm, Overlap, is_in, number_bound};
+ghost use Rattle.ranges.specs.Ranges.{size_of};
 ghost use Rattle.haul_core.specs.Reports.{IsWorker};
 ghost use Rattle.haul_core.specs.Tallies.{Extends, HasRows};
 ghost use Rattle.haul_core.specs.declared.arrival.Arrival.{Arrival};
@@ -20,12 +23,12 @@ pub mod join;
 
 use crate::census::Census;
 use crate::missing::missing;
-use crate::range::{Range, Ranges, overlap, small_size};
 use crate::refusal::{Refusal, Refused, is_same_job};
 use crate::report::{Report, is_worker};
 use crate::row::{Rows, sum_of_totals};
 use crate::tally::Totals;
 use indexmap::IndexMap;
+use ranges::range::{Range, Ranges, overlap, small_size};
 use std::alloc::{AllocError, Global};
 use std::marker::Model;
 use survey_core::finding::Finding;
@@ -81,13 +84,23 @@ pub struct Haul {
 
 impl Model for Haul {
     ghost use Rattle.haul_core.specs.Books.{Held};
-    ghost use Rattle.haul_core.specs.Keeping.{Keeps};
+    ghost use Rattle.haul_core.specs.Keeping.{KeepsBook};
 
     ghost Value = { Held };
 
-    ghost view = { λ h. record { terms = record { job = h.job; ranges = h.ranges; workers = h.workers }; closed = h.closed; taken = h.taken.items } };
+    ghost view = { λ h. record {
+      terms = record { job = h.job; ranges = h.ranges; workers = h.workers };
+      closed = h.closed;
+      taken = h.taken.items;
+    } };
 
-    ghost invariant = { λ h. Keeps (record { terms = record { job = h.job; ranges = h.ranges; workers = h.workers }; closed = h.closed; taken = h.taken.items }) h.count h.worker_of.entries (record { rows = h.totals.rows.entries; unsettled = h.totals.unsettled; for_good = h.totals.for_good }) };
+    ghost invariant = { λ h. KeepsBook
+        (record {
+          terms = record { job = h.job; ranges = h.ranges; workers = h.workers };
+          closed = h.closed;
+          taken = h.taken.items;
+        }) h.count h.worker_of.entries
+        (record { rows = h.totals.rows.entries; unsettled = h.totals.unsettled; for_good = h.totals.for_good }) };
 }
 
 impl Haul {
@@ -277,8 +290,8 @@ impl Haul {
         })
     }
 
-    /// Offers a report. It is taken if the haul is open, the report is of its job, of one of its workers, and of a number
-    /// of its set that has not been taken.
+    /// Offers a report. It is taken if the haul is open, the report is of its job, of one of its workers, and of a
+    /// number of its set that has not been taken.
     ///
     /// It takes time in proportion to the report's objects, and to the ranges of the set.
     ///

@@ -1,22 +1,24 @@
 ghost use Rattle.std.specs.Prelude.{◌≡◌, false, flat_map, map};
 ghost use Rattle.plane_core.specs.Out.{Writes};
 ghost use Rattle.haul_core.specs.HaulLaws.{CompleteHaulsPrintTheSame, SameSoupsPrintTheSame};
-ghost use Rattle.haul_core.specs.HaulTexts.{ended, haul_text, head_lines, line_of, profile_line, range_line, range_lines};
-ghost use Rattle.haul_core.specs.HaulTexts.{sample_line, sample_lines, spaced, sum_lines, text_of, total_line, total_lines};
+ghost use Rattle.haul_core.specs.HaulTexts.{ended, haul_text, head_lines, line_of, profile_line, range_line};
+ghost use Rattle.haul_core.specs.HaulTexts.{range_lines};
+ghost use Rattle.haul_core.specs.HaulTexts.{sample_line, sample_lines, spaced, sum_lines, text_of, total_line};
+ghost use Rattle.haul_core.specs.HaulTexts.{total_lines};
 
 use crate::census::Census;
 use crate::decimal::put_number;
-use crate::range::Range;
 use crate::row::Row;
 use itoa::Integer;
 use plane_core::output::{Out, WriteError};
+use ranges::range::Range;
 use std::io::Write;
 use survey_core::finding::findings_are_determined;
 use survey_core::job::Job;
 use survey_core::profile::Profile;
 
-/// Writes the haul text of a census: the job, the set of soup numbers, the sums, and two lines for each code, one with how
-/// many objects have it and one with its samples. The `Out` must not have failed.
+/// Writes the haul text of a census: the job, the set of soup numbers, the sums, and two lines for each code, one with
+/// how many objects have it and one with its samples. The `Out` must not have failed.
 ///
 /// It takes no memory. Each word and number is a write, so the writer should be buffered, as by a `BufWriter`.
 ///
@@ -34,8 +36,8 @@ pub fn write_haul<W: Write>(census: &Census, out: &mut Out<W>) -> Result<(), Wri
     put_samples(out, census.rows.as_slice())
 }
 
-/// The laws that the text doesn't depend on the order in which the soups came: censuses of one job and set have the same
-/// text if they are over the same soups, as those of complete hauls are.
+/// The laws that the text doesn't depend on the order in which the soups came: censuses of one job and set have the
+/// same text if they are over the same soups, as those of complete hauls are.
 pub fn complete_hauls_print_the_same()
     ensures same { SameSoupsPrintTheSame }
     ensures complete { CompleteHaulsPrintTheSame }

@@ -20,10 +20,6 @@ pub mod haul;
 /// What a census says, as text.
 pub mod haul_text;
 mod missing;
-/// Sets of soup numbers.
-pub mod range;
-/// Lists of ranges as texts.
-pub mod range_list;
 /// What a worker reports of a soup.
 pub mod report;
 /// Reports as lines of text.

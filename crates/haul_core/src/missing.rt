@@ -1,10 +1,10 @@
 ghost use Rattle.std.specs.Prelude.{◌≡◌, ◌≤◌, ◌++◌, IfOk, OnOk, filter};
 ghost use Rattle.haul_core.specs.Missing.{numbers_of, numbers_of_range};
 ghost use Rattle.haul_core.specs.MissingSteps.{has_no_worker};
-ghost use Rattle.haul_core.specs.Ranges.{AreBelow, end_of, number_bound};
+ghost use Rattle.ranges.specs.Ranges.{AreBelow, end_of, number_bound};
 
-use crate::range::Range;
 use indexmap::IndexMap;
+use ranges::range::Range;
 use std::alloc::{AllocError, Global};
 
 /// The numbers of the ranges that have no worker, in the order of the ranges.
@@ -14,7 +14,8 @@ pub(crate) fn missing(
     worker_of: &IndexMap<u64, u8>,
 ) -> Result<Vec<u64>, AllocError>
     requires { AreBelow number_bound ranges.now }
-    ensures { IfOk result (λ missing. missing.items ≡ filter (has_no_worker worker_of.now.entries) (numbers_of ranges.now)) }
+    ensures { IfOk result
+        (λ missing. missing.items ≡ filter (has_no_worker worker_of.now.entries) (numbers_of ranges.now)) }
 {
     let mut missing = Vec::new(alloc);
     for range in ranges {

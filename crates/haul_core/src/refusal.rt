@@ -1,5 +1,5 @@
 ghost use Rattle.std.specs.Prelude.{◌≡◌};
-ghost use Rattle.haul_core.specs.Jobs.{same_job};
+ghost use Rattle.haul_core.specs.Jobs.{SameJobsAreEqual, same_job};
 
 use crate::report::Report;
 use survey_core::job::Job;
@@ -34,6 +34,11 @@ pub struct Refused {
     pub report: Report,
     pub reason: Refusal,
 }
+
+/// The law that two jobs are the same exactly if they are equal.
+pub fn same_jobs_are_equal()
+    ensures { SameJobsAreEqual }
+{}
 
 /// Whether the two jobs are the same.
 pub(crate) fn is_same_job(job: &Job, other: &Job) -> bool

@@ -1,5 +1,5 @@
 ghost use Rattle.std.specs.Prelude.{◌≡◌, ◌<◌, ◌↔◌, IfOk, IsErrOf, IsTrue};
-ghost use Rattle.haul_core.specs.Ranges.{number_bound};
+ghost use Rattle.ranges.specs.Ranges.{number_bound};
 ghost use Rattle.haul_core.specs.Reports.{IsReport, IsWorker};
 ghost use Rattle.haul_core.specs.declared.report.ReportError.TheVariants.{BadWorker, Memory};
 
@@ -47,7 +47,8 @@ impl Model for Report {
 
     ghost view = { λ r. record { job = r.job; worker = r.worker; number = r.number; finding = r.finding } };
 
-    ghost invariant = { λ r. IsReport (record { job = r.job; worker = r.worker; number = r.number; finding = r.finding }) };
+    ghost invariant = { λ r. IsReport
+        (record { job = r.job; worker = r.worker; number = r.number; finding = r.finding }) };
 }
 
 impl Report {
@@ -68,8 +69,8 @@ impl Report {
         Report::make_with(alloc, job, worker, number, &mut Memo::without_room(alloc))
     }
 
-    /// Surveys the soup with this number, which is below 2^40, for this worker. Whatever the memo remembers, the report is
-    /// the same; a memo that has seen other soups makes it faster.
+    /// Surveys the soup with this number, which is below 2^40, for this worker. Whatever the memo remembers, the report
+    /// is the same; a memo that has seen other soups makes it faster.
     ///
     /// # Errors
     ///

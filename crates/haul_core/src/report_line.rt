@@ -7,7 +7,8 @@
 ghost use Rattle.std.specs.Prelude.{◌≡◌, ◌++◌, ℕ, List, Some, codes, false, flat_map};
 ghost use Rattle.plane_core.specs.Out.{Writes};
 ghost use Rattle.haul_core.specs.HaulTexts.{line_of, spaced};
-ghost use Rattle.haul_core.specs.ReportLines.{claim_of, count_field, found_fields, head_fields, mark_fields, profile_field, report_text, told_in};
+ghost use Rattle.haul_core.specs.ReportLines.{claim_of, count_field, found_fields, head_fields, mark_fields};
+ghost use Rattle.haul_core.specs.ReportLines.{profile_field, report_text, told_in};
 
 use crate::decimal::put_number;
 use crate::report::Report;
@@ -37,7 +38,8 @@ pub fn write_report_line<W: Write>(report: &Report, out: &mut Out<W>) -> Result<
 /// Writes the fields before the finding.
 fn put_head<W: Write>(out: &mut Out<W>, report: &Report) -> Result<(), WriteError>
     requires { out.old.failed ≡ false }
-    ensures { Writes W.contents out.old out.new result (line_of (codes "report") (head_fields (claim_of 2 report.now))) }
+    ensures { Writes W.contents out.old out.new result
+        (line_of (codes "report") (head_fields (claim_of 2 report.now))) }
 {
     let job = report.job();
     out.put(b"report 2 rule=")?;
@@ -83,7 +85,9 @@ fn put_settled<W: Write>(
     for_good: bool,
 ) -> Result<(), WriteError>
     requires { out.old.failed ≡ false }
-    ensures { Writes W.contents out.old out.new result (flat_map spaced (found_fields (Some (record { checkpoint = checkpoint; for_good = Some for_good; counts = objects.now })))) }
+    ensures { Writes W.contents out.old out.new result
+        (flat_map spaced (found_fields
+        (Some (record { checkpoint = checkpoint; for_good = Some for_good; counts = objects.now })))) }
 {
     put_number(out, b" at=", checkpoint)?;
     put_mark(out, for_good)?;

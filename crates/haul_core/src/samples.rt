@@ -1,5 +1,6 @@
 ghost use Rattle.std.specs.Prelude.{◌≡◌, ◌≤◌, ◌++◌, ◌∷◌, [], take};
-ghost use Rattle.haul_core.specs.Samples.{IsAscending, with_each, with_number};
+ghost use Rattle.haul_core.specs.SampleSteps.{with_each, with_number};
+ghost use Rattle.haul_core.specs.Samples.{IsAscending, LeastThreeAreDetermined};
 
 use std::marker::Model;
 
@@ -87,6 +88,11 @@ impl Samples {
         }
     }
 }
+
+/// The law that some numbers have one list of their least three.
+pub fn least_three_are_determined()
+    ensures { LeastThreeAreDetermined }
+{}
 
 /// Puts a number in its place among the first `count`, and returns the one that then goes last.
 fn put(numbers: &mut [u64; 3], count: usize, number: u64) -> u64

@@ -1,6 +1,6 @@
-//! How the book keeps its totals: a row for each code, with the total and the samples so far. A report's counts are added
-//! in two steps. Codes that are new get a row with total 0, which takes memory; after that nothing can fail, and the
-//! counts are added.
+//! How the book keeps its totals: a row for each code, with the total and the samples so far. A report's counts are
+//! added in two steps. Codes that are new get a row with total 0, which takes memory; after that nothing can fail, and
+//! the counts are added.
 //!
 //! ```text
 //! rows           xs4_33  7 | xp2_7  5            of a report with xs4_33 2, xq4_153 1:
@@ -8,10 +8,12 @@
 //! add            xs4_33  9 | xp2_7  5 | xq4_153  1
 //! ```
 
-ghost use Rattle.std.specs.Prelude.{◌≡◌, ◌≢◌, ◌+◌, ◌<◌, ◌≤◌, ◌^◌, [], ℕ, Some, List, All, IfOk, OnErr, OnOk, if◌then◌else◌};
+ghost use Rattle.std.specs.Prelude.{◌≡◌, ◌≢◌, ◌+◌, ◌<◌, ◌≤◌, ◌^◌, [], ℕ, Some, List, All, IfOk, OnErr, OnOk};
+ghost use Rattle.std.specs.Prelude.{if◌then◌else◌};
 ghost use Rattle.std.specs.Map.{lookup};
 ghost use Rattle.survey_core.specs.Objects.{AreObjects, is_code};
-ghost use Rattle.haul_core.specs.Tallies.{Extends, HasLawfulObjects, HasRow, HasRows, added, found_in, no_tally, tally_in, together};
+ghost use Rattle.haul_core.specs.Tallies.{Extends, HasLawfulObjects, HasRow, HasRows, added, found_in, no_tally};
+ghost use Rattle.haul_core.specs.Tallies.{tally_in, together};
 ghost use Rattle.haul_core.specs.Totals.{is_for_good, is_unsettled};
 
 use crate::samples::Samples;
@@ -76,7 +78,8 @@ impl Totals {
         requires unsettled { self.now.unsettled + other.now.unsettled < 2 ^ 64 }
         requires for_good { self.now.for_good + other.now.for_good < 2 ^ 64 }
         ensures rows { IfOk result (λ totals. (code : List ℕ) → tally_in totals.rows.entries code
-            ≡ together (together no_tally (tally_in self.now.rows.entries code)) (tally_in other.now.rows.entries code)) }
+            ≡ together (together no_tally (tally_in self.now.rows.entries code))
+            (tally_in other.now.rows.entries code)) }
         ensures unsettled { IfOk result (λ totals. totals.unsettled ≡ self.now.unsettled + other.now.unsettled) }
         ensures for_good { IfOk result (λ totals. totals.for_good ≡ self.now.for_good + other.now.for_good) }
     {
@@ -159,7 +162,8 @@ fn add_rows(
     rows: &mut IndexMap<Apgcode, Tally>,
     others: &IndexMap<Apgcode, Tally>,
 ) -> Result<(), AllocError>
-    requires { (code : List ℕ) → (tally_in rows.old.entries code).total + (tally_in others.now.entries code).total < 2 ^ 128 }
+    requires { (code : List ℕ)
+        → (tally_in rows.old.entries code).total + (tally_in others.now.entries code).total < 2 ^ 128 }
     ensures { OnOk result ((code : List ℕ) → tally_in rows.new.entries code
         ≡ together (tally_in rows.old.entries code) (tally_in others.now.entries code)) }
 {
@@ -179,8 +183,10 @@ fn add_row(
     tally: &Tally,
 ) -> Result<(), AllocError>
     requires { (tally_in rows.old.entries code.now).total + tally.now.total < 2 ^ 128 }
-    ensures tally { OnOk result (tally_in rows.new.entries code.now ≡ together (tally_in rows.old.entries code.now) tally.now) }
-    ensures others { OnOk result ((other : List ℕ) → other ≢ code.now → tally_in rows.new.entries other ≡ tally_in rows.old.entries other) }
+    ensures tally { OnOk result
+        (tally_in rows.new.entries code.now ≡ together (tally_in rows.old.entries code.now) tally.now) }
+    ensures others { OnOk result
+        ((other : List ℕ) → other ≢ code.now → tally_in rows.new.entries other ≡ tally_in rows.old.entries other) }
 {
     make_row(alloc, rows, code)?;
     put_together(rows, code, tally);
@@ -192,7 +198,8 @@ fn put_together(rows: &mut IndexMap<Apgcode, Tally>, code: &Apgcode, tally: &Tal
     requires row { HasRow rows.old.entries code.now }
     requires room { (tally_in rows.old.entries code.now).total + tally.now.total < 2 ^ 128 }
     ensures tally { tally_in rows.new.entries code.now ≡ together (tally_in rows.old.entries code.now) tally.now }
-    ensures others { (other : List ℕ) → other ≢ code.now → tally_in rows.new.entries other ≡ tally_in rows.old.entries other }
+    ensures others { (other : List ℕ) → other ≢ code.now
+        → tally_in rows.new.entries other ≡ tally_in rows.old.entries other }
 {
     let Some(index) = rows.get_index_of(code) else {
         return;
@@ -261,8 +268,10 @@ pub(crate) fn add(rows: &mut IndexMap<Apgcode, Tally>, objects: &[(Apgcode, u64)
 fn add_one(rows: &mut IndexMap<Apgcode, Tally>, code: &Apgcode, count: u64, number: u64)
     requires row { HasRow rows.old.entries code.now }
     requires room { (tally_in rows.old.entries code.now).total + count < 2 ^ 128 }
-    ensures tally { tally_in rows.new.entries code.now ≡ added (Some count) number (tally_in rows.old.entries code.now) }
-    ensures others { (other : List ℕ) → other ≢ code.now → tally_in rows.new.entries other ≡ tally_in rows.old.entries other }
+    ensures tally { tally_in rows.new.entries code.now
+        ≡ added (Some count) number (tally_in rows.old.entries code.now) }
+    ensures others { (other : List ℕ) → other ≢ code.now
+        → tally_in rows.new.entries other ≡ tally_in rows.old.entries other }
     ensures rows { (other : List ℕ) → HasRow rows.old.entries other → HasRow rows.new.entries other }
 {
     let Some(index) = rows.get_index_of(code) else {

@@ -3,11 +3,11 @@ use haul_core::book::keep_book;
 use haul_core::census::Census;
 use haul_core::haul::Haul;
 use haul_core::haul::join::JoinFault;
-use haul_core::range::Range;
-use haul_core::range_list::ListError;
 use haul_core::refusal::Refusal;
 use haul_core::report::{Report, ReportError};
 use plane_core::rule::Rule;
+use ranges::range::Range;
+use ranges::range_list::ListError;
 use std::alloc::Global;
 use std::test::Fail;
 use survey_core::job::Job;
@@ -154,9 +154,9 @@ fn has_line(text: &str, line: &str) -> bool {
     false
 }
 
-// The census of soups 0 to 39 of the empty seed under the standard profile, by a program in another language, written from
-// the definitions alone: its sums, and of some codes the total and the samples. The soups come in another order, from three
-// workers.
+// The census of soups 0 to 39 of the empty seed under the standard profile, by a program in another language, written
+// from the definitions alone: its sums, and of some codes the total and the samples. The soups come in another order,
+// from three workers.
 #[test]
 fn counts_what_forty_soups_leave(rt: HostRuntime) -> Result<(), Fail> {
     let alloc = rt.alloc();

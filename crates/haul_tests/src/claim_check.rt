@@ -131,8 +131,8 @@ fn checks_a_settled_soup(rt: HostRuntime) -> Result<(), Fail> {
     Ok(())
 }
 
-/// A job under whose rule nothing is born or dies, so that each soup is at rest at once; or one of Life, under which no soup
-/// is at rest at once.
+/// A job under whose rule nothing is born or dies, so that each soup is at rest at once; or one of Life, under which no
+/// soup is at rest at once.
 fn quick_job(rule: &str) -> Result<Job, Fail> {
     Ok(Job {
         seed: Seed::new("a")?,

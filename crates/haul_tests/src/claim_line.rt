@@ -139,8 +139,8 @@ fn changed(alloc: Global, line: &[u8], place: usize, byte: u8) -> Result<Vec<u8>
     Ok(text)
 }
 
-// With one byte of a field changed a line is read, or its fault is in that field; or, if the byte becomes a space, in the next
-// one. A space that is changed may make two fields one, which a seed allows.
+// With one byte of a field changed a line is read, or its fault is in that field; or, if the byte becomes a space, in
+// the next one. A space that is changed may make two fields one, which a seed allows.
 #[test]
 fn finds_each_change_near(rt: HostRuntime) -> Result<(), Fail> {
     let alloc = rt.alloc();

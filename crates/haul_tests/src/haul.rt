@@ -1,6 +1,6 @@
 use haul_core::haul::{Haul, OpenError};
-use haul_core::range::Range;
 use plane_core::rule::Rule;
+use ranges::range::Range;
 use std::alloc::Global;
 use std::test::Fail;
 use survey_core::job::Job;

@@ -1,9 +1,9 @@
 use haul_core::haul::Haul;
 use haul_core::haul_text::write_haul;
-use haul_core::range::Range;
 use haul_core::report::Report;
 use plane_core::output::Out;
 use plane_core::rule::Rule;
+use ranges::range::Range;
 use std::alloc::Global;
 use std::io;
 use std::io::{ErrorKind, Write};

@@ -1,5 +1,5 @@
-//! Each of these tests passes, or fails for want of memory alone, whichever allocation is refused. `bin/try-memory` refuses each
-//! in turn.
+//! Each of these tests passes, or fails for want of memory alone, whichever allocation is refused. `bin/try-memory`
+//! refuses each in turn.
 
 use crate::book::{job, range, small};
 use haul_core::claim::Claim;
@@ -15,8 +15,8 @@ use std::process::Abort;
 use std::test::Fail;
 use survey_core::job::Job;
 
-/// A haul of soups 0 to 3 that has taken soup 1. Under its rule nothing is born or dies, so a soup is at rest at once, with some
-/// tens of objects.
+/// A haul of soups 0 to 3 that has taken soup 1. Under its rule nothing is born or dies, so a soup is at rest at once,
+/// with some tens of objects.
 fn haul_of_one(alloc: Global) -> Result<Haul, Fail> {
     let job = Job {
         rule: Rule::read("bs012345678")?,

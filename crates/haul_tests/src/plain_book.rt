@@ -4,8 +4,8 @@
 pub(crate) mod counts;
 
 use haul_core::arrival::Reply;
-use haul_core::range::Range;
 use haul_core::refusal::Refusal;
+use ranges::range::Range;
 use std::alloc::{AllocError, Global};
 
 /// What arrives: a closing, or an offer of a report, of the haul's job or of another.

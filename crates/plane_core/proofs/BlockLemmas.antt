@@ -13,7 +13,7 @@ use Rattle.plane_core.specs.declared.cell.Cell.{Cell}
 use Rattle.plane_core.specs.declared.tally.Tally.{Tally}
 use Rattle.plane_core.specs.Cells.{same_cell, king_distance, distance, moved_by}
 use Rattle.plane_core.specs.Generations.{around}
-use Rattle.plane_core.specs.Tallies.{total, one_of}
+use Rattle.plane_core.specs.Tallies.{counted_at, one_of}
 use Rattle.plane_core.proofs.CellLemmas.{same_cell-eq}
 
 -- ---- one coordinate
@@ -97,7 +97,7 @@ one_cell x0 x1 x2 y0 y1 y2 dx dy (inr (inr (inl (a, b, c, e)))) (inr (inr (inl (
 
 -- the live cells in the row of three cells round c, and in the three rows round c
 abbrev pub row_total : List Tally → Cell → ℕ
-row_total ts c = total ts (moved_by (pos 1) (pos 0) c) + (total ts c + total ts (moved_by (negsuc 0) (pos 0) c))
+row_total ts c = counted_at ts (moved_by (pos 1) (pos 0) c) + (counted_at ts c + counted_at ts (moved_by (negsuc 0) (pos 0) c))
 
 abbrev pub block_total : List Tally → Cell → ℕ
 block_total ts c = row_total ts (moved_by (pos 0) (pos 1) c) + (row_total ts c + row_total ts (moved_by (pos 0) (negsuc 0) c))
@@ -106,7 +106,7 @@ pub still : (a : ℤ) → a +ℤ pos 0 ≡ a
 still a = omega (arith, ints)
 
 -- whether one live cell is counted at the cell in column x of row y
-hit : (c d : Cell) (x y : ℤ) → c.x ≡ x → c.y ≡ y → total (one_of d ∷ []) c ≡ cond (int_eq y d.y && int_eq x d.x) 1 0
+hit : (c d : Cell) (x y : ℤ) → c.x ≡ x → c.y ≡ y → counted_at (one_of d ∷ []) c ≡ cond (int_eq y d.y && int_eq x d.x) 1 0
 hit c d x y p q = ap (λ b. cond b 1 0 + 0) (sym (same_cell-eq c d)) ∙ add-zero _ ∙ (λ i. cond (int_eq (q i) d.y && int_eq (p i) d.x) 1 0)
 
 still_moved : (a b : ℤ) → (a +ℤ b) +ℤ pos 0 ≡ a +ℤ b
@@ -120,7 +120,7 @@ hits_of : (c d : Cell) → block_total (one_of d ∷ []) c ≡ cond (king_distan
 hits_of c d = sum_of_hits ∙ sym (one_cell _ _ _ _ _ _ _ _ (near c.x d.x) (near c.y d.y))
     ∙ ap (λ b. cond (king_distance c d == 1) 1 0 + cond b 1 0) (same_cell-eq c d)
   where
-    at : (e : Cell) (x y : ℤ) → e.x ≡ x → e.y ≡ y → total (one_of d ∷ []) e ≡ cond (int_eq y d.y && int_eq x d.x) 1 0
+    at : (e : Cell) (x y : ℤ) → e.x ≡ x → e.y ≡ y → counted_at (one_of d ∷ []) e ≡ cond (int_eq y d.y && int_eq x d.x) 1 0
     at e x y p q = hit e d x y p q
 
     sum_of_hits : block_total (one_of d ∷ []) c
@@ -156,7 +156,7 @@ pub around-cons : (d : Cell) (ds : List Cell) (c : Cell) → around (d ∷ ds) c
 around-cons d ds c = sum_by-cons (λ d. cond (king_distance c d == 1) 1 0) d ds
 
 -- the live cells of the block are the neighbours and, where it is alive, the cell itself
-pub block_total-around : (S : List Cell) (c : Cell) → block_total (map one_of S) c ≡ around S c + total (map one_of S) c
+pub block_total-around : (S : List Cell) (c : Cell) → block_total (map one_of S) c ≡ around S c + counted_at (map one_of S) c
 block_total-around [] c = refl
 block_total-around (d ∷ ds) c =
     omega (arith, block_total-cons (one_of d) (map one_of ds) c, hits_of c d, block_total-around ds c, around-cons d ds c)

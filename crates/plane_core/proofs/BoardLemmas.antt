@@ -233,6 +233,14 @@ pub record IsWriting (rule : Numbers) (grid : Grid) (start i : ℕ) (now old new
   pub behind : (m : ℕ) → i ≤ m → slice_index new m ≡ slice_index old m
   pub unchanged : (b m : ℕ) → bit_at columns b ≡ 0 → bit_at (slice_index new m) b ≡ bit_at (slice_index old m) b
 
+pub writing-none : (rule : Numbers) (grid : Grid) (start : ℕ) (now old : List ℕ) → IsWriting rule grid start start now old old 0
+writing-none rule grid start now old = record {
+  next = λ m low high. absurd (omega (arith, low, high));
+  before = λ m low. refl;
+  behind = λ m low. refl;
+  unchanged = λ b m none. refl;
+}
+
 pub writing_more : (rule : Numbers) (grid : Grid) (start i : ℕ) (now old new later : List ℕ) (columns change : ℕ) → start ≤ i
     → IsWriting rule grid start i now old new columns → IsNextAt rule grid now i (slice_index later i)
     → ((m : ℕ) → m ≢ i → slice_index later m ≡ slice_index new m)

@@ -1,5 +1,5 @@
 -- Forests over the places of a pattern's cells: roots, joined trees, and cursors.
-use Rattle.std.proofs.Common.{◌≡◌, ◌≢◌, ℕ, ℤ, ◌+◌, ◌+ℤ◌, ◌<◌, ◌≤◌, ◌<ℤ◌, max, min, pos, negsuc, true, false, List, arith, refl, ap, ◌∙◌, sym, subst, inl, inr, ◌⊎◌, length, set}
+use Rattle.std.proofs.Common.{◌≡◌, ◌≢◌, ℕ, ℤ, ◌+◌, ◌-◌, ◌+ℤ◌, ◌<◌, ◌≤◌, ◌<ℤ◌, max, min, pos, negsuc, true, false, List, arith, refl, ap, ◌∙◌, sym, subst, inl, inr, ◌⊎◌, length, set}
 use Rattle.std.specs.Cmp.{int_ranks}
 use Rattle.std.specs.Ordering.{int_cmp, is_le, ordering_then, MatchOrdering}
 use Rattle.std.specs.declared.cmp.Ordering.{Ordering}
@@ -10,9 +10,9 @@ use Rattle.std.proofs.lemmas.List.{get_or-set_same, get_or-set_other, length-set
 use Rattle.std.proofs.lemmas.List.Elements.{Contains-get_or}
 use Rattle.std.proofs.lemmas.Map.Keys.{Less-from_sorted}
 use Rattle.plane_core.specs.declared.cell.Cell.{Cell}
-use Rattle.plane_core.specs.Cells.{cell_cmp, distance, king_distance, moved_by, has, InOrder}
+use Rattle.plane_core.specs.Cells.{cell_at, cell_cmp, distance, king_distance, moved_by, has, InOrder}
 use Rattle.plane_core.specs.Clusters.{Linked}
-use Rattle.plane_core.specs.Forest.{cell_of, parent_of, LeadsBack, IsForest, Labels, Joined, Keeps, JoinsLinked, JoinsAll, IsPassed, IsBehind, AreBehind}
+use Rattle.plane_core.specs.Forest.{cell_of, parent_of, LeadsBack, IsForest, Labels, Joined, Keeps, JoinsLinked, JoinsAll, IsBridged, NeedsJoin, IsPassed, IsBehind, AreBehind}
 use Rattle.plane_core.specs.declared.forest.Cursors.{Cursors}
 use Rattle.plane_core.proofs.CellLemmas.{cell_cmp_total, cell_cmp-moved}
 use Rattle.plane_core.proofs.SetLemmas.{Contains-has, greater_turned}
@@ -194,31 +194,153 @@ near_rows c d e near = go (before_cases c d e)
         rows Equal is = inl is
         rows Greater is = absurd (omega (arith, ints, is, above))
 
+-- a cell of a row further up comes before
+before_up : (a b : Cell) → a.y <ℤ b.y → cell_cmp a b ≡ Less
+before_up a b up = go (int_cmp a.y b.y) (int_ranks a.y b.y)
+  where
+    go : (r : Ordering) → MatchOrdering r (a.y <ℤ b.y) (a.y ≡ b.y) (b.y <ℤ a.y) → ordering_then r (int_cmp a.x b.x) ≡ Less
+    go Less is = refl
+    go Equal is = absurd (omega (arith, ints, is, up))
+    go Greater is = absurd (omega (arith, ints, is, up))
+
+-- near cells of a row above that don't lie past the third column from the cell before are near that one too
+pub bridged : (cells : List Cell) (k place : ℕ) (from : Cell) → 1 ≤ place → from.y <ℤ (cell_of cells place).y → InOrder cells → place < length cells
+    → (cell_of cells (place - 1)).y ≡ (cell_of cells place).y → king_distance (cell_of cells (place - 1)) (cell_of cells place) ≤ 2 → k < place
+    → cell_cmp (cell_of cells k) from ≢ Less → cell_cmp (cell_of cells k) (cell_at ((cell_of cells (place - 1)).x +ℤ pos 3) from.y) ≡ Less
+    → king_distance (cell_of cells k) (cell_of cells place) ≤ 2 → IsBridged cells k place
+bridged cells k place from some above o low row right less left early near = record {
+  earlier = elim (cases_lt (k + 1) place) [
+    | inl fine ↦ fine
+    | inr late ↦
+        let same : k ≡ place - 1 = omega (arith, less, late) in
+        let level : c.y ≡ b.y = ap (λ (n : ℕ). (cell_of cells n).y) same in
+        absurd (omega (arith, ints, level, row, above, up))
+  ];
+  left = omega (arith, across, down);
+  right = right;
+}
+  where
+    b : Cell
+    b = cell_of cells (place - 1)
+
+    c : Cell
+    c = cell_of cells k
+
+    d : Cell
+    d = cell_of cells place
+
+    stands : (c.y ≡ from.y) × (c.x <ℤ (b.x +ℤ pos 3))
+    stands = elim (before_cases c (cell_at (b.x +ℤ pos 3) from.y) early) [
+      | inl higher ↦ absurd (left (before_up c from higher))
+      | inr same ↦ same
+    ]
+
+    up : c.y ≡ from.y
+    up = stands.0
+
+    wide : distance c.x d.x ≤ 2
+    wide = omega (arith, near)
+
+    high : distance c.y d.y ≤ 2
+    high = omega (arith, near)
+
+    ahead : b.x <ℤ d.x
+    ahead = elim (before_cases b d (in_places cells (place - 1) place o (omega (arith, some)) low)) [
+      | inl higher ↦ absurd (omega (arith, ints, higher, row))
+      | inr same ↦ same.1
+    ]
+
+    across : distance c.x b.x ≤ 2
+    across = omega (arith, ints, wide, ahead, stands.1)
+
+    down : distance c.y b.y ≤ 2
+    down = omega (arith, ints, high, row)
+
 -- the near places of one row are joined with this one
 abbrev pub JoinsRow : List Cell → List ℕ → ℕ → Cell → Cell → Type 0
 JoinsRow cells parents place from to = (k : ℕ) → k < place → cell_cmp (cell_of cells k) from ≢ Less → cell_cmp to (cell_of cells k) ≢ Less
-    → king_distance (cell_of cells k) (cell_of cells place) ≤ 2 → Joined parents k place
+    → NeedsJoin cells k place → Joined parents k place
 
--- three rows are all that is near and stands earlier
+-- of an earlier cell of the row that is near, the one just before is between them, and so near both
+between : (c b d : Cell) → cell_cmp c b ≡ Less → cell_cmp b d ≡ Less → c.y ≡ (d.y +ℤ pos 0) → king_distance c d ≤ 2
+    → (king_distance c b ≤ 2) × (king_distance b d ≤ 2)
+between c b d first second row near = go (before_cases c b first) (before_cases b d second)
+  where
+    most : distance c.x d.x ≤ 2
+    most = omega (arith, near)
+
+    go : (c.y <ℤ b.y) ⊎ ((c.y ≡ b.y) × (c.x <ℤ b.x)) → (b.y <ℤ d.y) ⊎ ((b.y ≡ d.y) × (b.x <ℤ d.x))
+        → (king_distance c b ≤ 2) × (king_distance b d ≤ 2)
+    go (inl above) (inl under) = absurd (omega (arith, ints, above, under, row))
+    go (inl above) (inr right) = absurd (omega (arith, ints, above, right.0, row))
+    go (inr left) (inl under) = absurd (omega (arith, ints, left.0, under, row))
+    go (inr left) (inr right) =
+        let west : distance c.x b.x ≤ 2 = omega (arith, ints, left.1, right.1, most) in
+        let east : distance b.x d.x ≤ 2 = omega (arith, ints, left.1, right.1, most) in
+        let level : distance c.y b.y ≤ 2 = omega (arith, ints, left.0) in
+        let even : distance b.y d.y ≤ 2 = omega (arith, ints, right.0) in
+        (omega (arith, west, level), omega (arith, east, even))
+
+-- the place before and two rows are all that is near and stands earlier
 pub joins_rows : (cells : List Cell) (a b c : List ℕ) (place : ℕ) → InOrder cells → place < length cells → Keeps a b → Keeps b c
-    → JoinsRow cells a place (moved_by (negsuc 1) (pos 0) (cell_of cells place)) (moved_by (pos 2) (pos 0) (cell_of cells place))
+    → ((k : ℕ) → k + 1 ≡ place → NeedsJoin cells k place → Joined a k place)
     → JoinsRow cells b place (moved_by (negsuc 1) (negsuc 0) (cell_of cells place)) (moved_by (pos 2) (negsuc 0) (cell_of cells place))
     → JoinsRow cells c place (moved_by (negsuc 1) (negsuc 1) (cell_of cells place)) (moved_by (pos 2) (negsuc 1) (cell_of cells place))
-    → (k : ℕ) → k < place → king_distance (cell_of cells k) (cell_of cells place) ≤ 2 → Joined c k place
-joins_rows cells a b c place o low first second here above top k less near =
-    go (near_rows (cell_of cells k) (cell_of cells place) (in_places cells k place o less low) near)
+    → (k : ℕ) → k < place → NeedsJoin cells k place → Joined c k place
+joins_rows cells a b c place o low first second here above top k less need =
+    go (near_rows (cell_of cells k) (cell_of cells place) (in_places cells k place o less low) need.near)
   where
     left : (dy : ℤ) → (cell_of cells k).y ≡ ((cell_of cells place).y +ℤ dy) → cell_cmp (cell_of cells k) (moved_by (negsuc 1) dy (cell_of cells place)) ≢ Less
-    left dy row = not_left (cell_of cells k) (cell_of cells place) dy row near
+    left dy row = not_left (cell_of cells k) (cell_of cells place) dy row need.near
 
     right : (dy : ℤ) → (cell_of cells k).y ≡ ((cell_of cells place).y +ℤ dy) → cell_cmp (moved_by (pos 2) dy (cell_of cells place)) (cell_of cells k) ≢ Less
-    right dy row = not_right (cell_of cells k) (cell_of cells place) dy row near
+    right dy row = not_right (cell_of cells k) (cell_of cells place) dy row need.near
+
+    bridged : k + 1 < place → (cell_of cells k).y ≡ ((cell_of cells place).y +ℤ pos 0) → IsBridged cells k place
+    bridged early row =
+        let both = between (cell_of cells k) (cell_of cells (place - 1)) (cell_of cells place) (in_places cells k (place - 1) o (omega (arith, early)) (omega (arith, early, low)))
+        (in_places cells (place - 1) place o (omega (arith, early)) low) row need.near in
+        record { earlier = early; left = both.0; right = both.1 }
+
+    last : (cell_of cells k).y ≡ ((cell_of cells place).y +ℤ pos 0) → Joined a k place
+    last row = elim (cases_lt (k + 1) place) [
+      | inl early ↦ absurd (need.alone (bridged early row))
+      | inr late ↦ here k (omega (arith, less, late)) need
+    ]
 
     go : ((cell_of cells k).y ≡ ((cell_of cells place).y +ℤ pos 0)) ⊎ (((cell_of cells k).y ≡ ((cell_of cells place).y +ℤ negsuc 0))
         ⊎ ((cell_of cells k).y ≡ ((cell_of cells place).y +ℤ negsuc 1))) → Joined c k place
-    go (inl row) = joined-kept b c k place second (joined-kept a b k place first (here k less (left (pos 0) row) (right (pos 0) row) near))
-    go (inr (inl row)) = joined-kept b c k place second (above k less (left (negsuc 0) row) (right (negsuc 0) row) near)
-    go (inr (inr row)) = top k less (left (negsuc 1) row) (right (negsuc 1) row) near
+    go (inl row) = joined-kept b c k place second (joined-kept a b k place first (last row))
+    go (inr (inl row)) = joined-kept b c k place second (above k less (left (negsuc 0) row) (right (negsuc 0) row) need)
+    go (inr (inr row)) = top k less (left (negsuc 1) row) (right (negsuc 1) row) need
+
+-- what needs no join of its own is joined by the place just before
+pub joins_near : (cells : List Cell) (old new : List ℕ) (place : ℕ) → Keeps old new → JoinsAll cells old place
+    → ((k : ℕ) → k < place → NeedsJoin cells k place → Joined new k place)
+    → (k : ℕ) → k < place → king_distance (cell_of cells k) (cell_of cells place) ≤ 2 → Joined new k place
+joins_near cells old new place keeps all needed k less near = go (cases_lt (k + 1) place)
+  where
+    alone : ¬ IsBridged cells k place → Joined new k place
+    alone free = needed k less (record { near = near; alone = free })
+
+    last : k + 1 < place → king_distance (cell_of cells (place - 1)) (cell_of cells place) ≤ 2 → Joined new (place - 1) place
+    last early right = needed (place - 1) (omega (arith, early)) (record { near = right; alone = λ b. absurd (omega (arith, b.earlier)) })
+
+    through : k + 1 < place → king_distance (cell_of cells k) (cell_of cells (place - 1)) ≤ 2
+        → king_distance (cell_of cells (place - 1)) (cell_of cells place) ≤ 2 → Joined new k place
+    through early left right label labels =
+        joined-kept old new k (place - 1) keeps (all k (place - 1) (omega (arith, early)) (omega (arith, early)) left) label labels
+        ∙ last early right label labels
+
+    go : (k + 1 < place) ⊎ (place ≤ k + 1) → Joined new k place
+    go (inr late) = alone (λ b. absurd (omega (arith, late, b.earlier)))
+    go (inl early) = elim (cases_lt 2 (king_distance (cell_of cells k) (cell_of cells (place - 1)))) [
+      | inl far ↦ alone (λ b. absurd (omega (arith, far, b.left)))
+      | inr left ↦ elim (cases_lt 2 (king_distance (cell_of cells (place - 1)) (cell_of cells place))) [
+        | inl far ↦ alone (λ b. absurd (omega (arith, far, b.right)))
+        | inr right ↦ through early left right
+      ]
+    ]
 
 -- ---- the scan of a row
 
@@ -226,15 +348,15 @@ joins_rows cells a b c place o low first second here above top k less near =
 pub record IsScanning (cells : List Cell) (old new : List ℕ) (place first at : ℕ) : Type 0 where
   pub forest : IsForest cells new
   pub keeps : Keeps old new
-  pub joined : (k : ℕ) → first ≤ k → k < at → king_distance (cell_of cells k) (cell_of cells place) ≤ 2 → Joined new k place
+  pub joined : (k : ℕ) → first ≤ k → k < at → NeedsJoin cells k place → Joined new k place
 
 pub scanning-more : (cells : List Cell) (old now new : List ℕ) (place first at : ℕ) → IsScanning cells old now place first at → IsForest cells new
-    → Keeps now new → (king_distance (cell_of cells at) (cell_of cells place) ≤ 2 → Joined new at place) → IsScanning cells old new place first (at + 1)
+    → Keeps now new → (NeedsJoin cells at place → Joined new at place) → IsScanning cells old new place first (at + 1)
 scanning-more cells old now new place first at s f keeps here = record {
   forest = f;
   keeps = keeps-then old now new s.keeps keeps;
   joined = λ k low less near. elim (cases_eq k at) [
-    | inl same ↦ subst (λ (n : ℕ). Joined new n place) (sym same) (here (subst (λ (n : ℕ). king_distance (cell_of cells n) (cell_of cells place) ≤ 2) same near))
+    | inl same ↦ subst (λ (n : ℕ). Joined new n place) (sym same) (here (subst (λ (n : ℕ). NeedsJoin cells n place) same near))
     | inr different ↦ let few : k < at = omega (arith, less, different) in joined-kept now new k place keeps (s.joined k low few near)
   ];
 }
@@ -242,7 +364,7 @@ scanning-more cells old now new place first at s f keeps here = record {
 -- no cell after the end of a row is between its ends
 pub scanned : (cells : List Cell) (old new : List ℕ) (place first at : ℕ) (to : Cell) → InOrder cells → place < length cells
     → (at < place → cell_cmp to (cell_of cells at) ≡ Less) → IsScanning cells old new place first at → (k : ℕ) → first ≤ k → k < place
-    → cell_cmp to (cell_of cells k) ≢ Less → king_distance (cell_of cells k) (cell_of cells place) ≤ 2 → Joined new k place
+    → cell_cmp to (cell_of cells k) ≢ Less → NeedsJoin cells k place → Joined new k place
 scanned cells old new place first at to o low end s k from less short near = elim (cases_lt k at) [
   | inl few ↦ s.joined k from few near
   | inr more ↦ absurd (short (after k more less))
@@ -273,7 +395,6 @@ joins_more cells old new place keeps before here j k less low near = elim (cases
 -- the cursors serve the next place too
 pub behind_next : (cells : List Cell) (cursors : Cursors) (place : ℕ) → AreBehind cells cursors place → AreBehind cells cursors (place + 1)
 behind_next cells cursors place b = record {
-  here = λ p less low. b.here p (omega (arith, less)) low;
   above = λ p less low. b.above p (omega (arith, less)) low;
   top = λ p less low. b.top p (omega (arith, less)) low;
 }

@@ -10,7 +10,7 @@ use Rattle.plane_core.specs.Cells.{plane_bound, cell_at, same_cell, king_distanc
 use Rattle.plane_core.specs.Cells.{has, set_of, InOrder, on_plane, on_edge, IsPattern}
 use Rattle.plane_core.specs.Generations.{around, lives, triple, block, next, after, touches_edge}
 use Rattle.plane_core.specs.Rules.{Numbers, is_birth, is_survival}
-use Rattle.plane_core.specs.Tallies.{cells_of, total, alive_at, one_of, lives_by, tally_lives, CountsBlocks}
+use Rattle.plane_core.specs.Tallies.{cells_of, counted_at, alive_at, one_of, lives_by, tally_lives, CountsBlocks}
 use Rattle.plane_core.proofs.CellLemmas.{same_cell-same}
 use Rattle.plane_core.proofs.SetLemmas.{IsBefore, has-head, has-append, has-filter, has-set_of, has-before, has-cases, in_order-head}
 use Rattle.plane_core.proofs.SetLemmas.{in_order-tail, in_order-cons, in_order-nil, in_order-filter, in_order-set_of, same_lists, or_right}
@@ -134,11 +134,11 @@ in_order-next rule S = in_order-filter (lives rule S) (set_of (flat_map block S)
 -- ---- counting
 
 -- each live cell counts once at itself
-pub total-ones : (S : List Cell) (c : Cell) → InOrder S → total (map one_of S) c ≡ cond (has S c) 1 0
+pub total-ones : (S : List Cell) (c : Cell) → InOrder S → counted_at (map one_of S) c ≡ cond (has S c) 1 0
 total-ones [] c o = refl
 total-ones (d ∷ ds) c o = go (same_cell c d) refl (total-ones ds c (in_order-tail d ds o))
   where
-    go : (b : Bool) → same_cell c d ≡ b → total (map one_of ds) c ≡ cond (has ds c) 1 0 → cond b 1 0 + total (map one_of ds) c ≡ cond (b || has ds c) 1 0
+    go : (b : Bool) → same_cell c d ≡ b → counted_at (map one_of ds) c ≡ cond (has ds c) 1 0 → cond b 1 0 + counted_at (map one_of ds) c ≡ cond (b || has ds c) 1 0
     go true is ih =
         let absent : has ds c ≡ false = subst (λ (e : Cell). has ds e ≡ false) (sym (same_cell-same c d is)) (has-before d ds (in_order-head d ds o)) in
         let none : cond {A = ℕ} (has ds c) 1 0 ≡ 0 = ap (λ (b : Bool). cond {A = ℕ} b 1 0) absent in
@@ -158,11 +158,11 @@ cells_of-ones [] = refl
 cells_of-ones (c ∷ cs) = ap (λ (ds : List Cell). c ∷ ds) (cells_of-ones cs)
 
 -- nothing is counted at a cell that no tally has
-total-absent : (ts : List Tally) (c : Cell) → has (cells_of ts) c ≡ false → total ts c ≡ 0
+total-absent : (ts : List Tally) (c : Cell) → has (cells_of ts) c ≡ false → counted_at ts c ≡ 0
 total-absent [] c h = refl
 total-absent (t ∷ ts) c h = go (same_cell c t.cell) h (total-absent ts c)
   where
-    go : (b : Bool) → (b || has (cells_of ts) c) ≡ false → (has (cells_of ts) c ≡ false → total ts c ≡ 0) → cond b t.count 0 + total ts c ≡ 0
+    go : (b : Bool) → (b || has (cells_of ts) c) ≡ false → (has (cells_of ts) c ≡ false → counted_at ts c ≡ 0) → cond b t.count 0 + counted_at ts c ≡ 0
     go true h ih = absurd (false≢true (sym h))
     go false h ih = omega (arith, ih h)
 
@@ -195,7 +195,7 @@ in_order-filter_tallies p (t ∷ ts) o = go (p t) (in_order-filter_tallies p ts 
 
 -- which cells are selected, where each cell has one tally
 pub has-selected : (rule : Numbers) (ts : List Tally) (c : Cell) → InOrder (cells_of ts)
-    → has (cells_of (filter (tally_lives rule) ts)) c ≡ (has (cells_of ts) c && lives_by rule (total ts c) (alive_at ts c))
+    → has (cells_of (filter (tally_lives rule) ts)) c ≡ (has (cells_of ts) c && lives_by rule (counted_at ts c) (alive_at ts c))
 has-selected rule [] c o = refl
 has-selected rule (t ∷ ts) c o = go (same_cell c t.cell) refl (has-selected rule ts c (in_order-tail t.cell (cells_of ts) o))
   where
@@ -211,9 +211,9 @@ has-selected rule (t ∷ ts) c o = go (same_cell c t.cell) refl (has-selected ru
 
     one : (r : Bool) → tally_lives rule t ≡ r → same_cell c t.cell ≡ true → c ≡ t.cell
         → has (cells_of (cond r (t ∷ filter (tally_lives rule) ts) (filter (tally_lives rule) ts))) c
-        ≡ lives_by rule (t.count + total ts c) ((true && t.alive) || alive_at ts c)
+        ≡ lives_by rule (t.count + counted_at ts c) ((true && t.alive) || alive_at ts c)
     one r is here same =
-        let count : t.count + total ts c ≡ t.count = omega (arith, total-absent ts c (absent same)) in
+        let count : t.count + counted_at ts c ≡ t.count = omega (arith, total-absent ts c (absent same)) in
         let alive : ((true && t.alive) || alive_at ts c) ≡ t.alive = ap (λ (b : Bool). t.alive || b) (alive_at-absent ts c (absent same)) ∙ or-false t.alive in
         chosen r ∙ sym is ∙ (λ i. lives_by rule (sym count i) (sym alive i))
       where
@@ -226,11 +226,11 @@ has-selected rule (t ∷ ts) c o = go (same_cell c t.cell) refl (has-selected ru
         chosen false = unselected same
 
     go : (b : Bool) → same_cell c t.cell ≡ b
-        → has (cells_of (filter (tally_lives rule) ts)) c ≡ (has (cells_of ts) c && lives_by rule (total ts c) (alive_at ts c))
+        → has (cells_of (filter (tally_lives rule) ts)) c ≡ (has (cells_of ts) c && lives_by rule (counted_at ts c) (alive_at ts c))
         → has (cells_of (cond (tally_lives rule t) (t ∷ filter (tally_lives rule) ts) (filter (tally_lives rule) ts))) c
-        ≡ ((b || has (cells_of ts) c) && lives_by rule (cond b t.count 0 + total ts c) ((b && t.alive) || alive_at ts c))
+        ≡ ((b || has (cells_of ts) c) && lives_by rule (cond b t.count 0 + counted_at ts c) ((b && t.alive) || alive_at ts c))
     go true is ih = one (tally_lives rule t) refl is (same_cell-same c t.cell is)
-    go false is ih = skipped (tally_lives rule t) ∙ ih ∙ (λ i. has (cells_of ts) c && lives_by rule (sym (zero-add (total ts c)) i) (alive_at ts c))
+    go false is ih = skipped (tally_lives rule t) ∙ ih ∙ (λ i. has (cells_of ts) c && lives_by rule (sym (zero-add (counted_at ts c)) i) (alive_at ts c))
       where
         skipped : (q : Bool) → has (cells_of (cond q (t ∷ filter (tally_lives rule) ts) (filter (tally_lives rule) ts))) c
             ≡ has (cells_of (filter (tally_lives rule) ts)) c
@@ -248,7 +248,7 @@ selected-next rule S ts counts =
     by_alive c true is = ap (λ (n : ℕ). is_survival rule n) (omega arith)
     by_alive c false is = ap (λ (n : ℕ). is_birth rule n) (add-zero (around S c))
 
-    by_total : (c : Cell) → lives_by rule (total ts c) (alive_at ts c) ≡ lives rule S c
+    by_total : (c : Cell) → lives_by rule (counted_at ts c) (alive_at ts c) ≡ lives rule S c
     by_total c = (λ i. lives_by rule (counts.totals c i) (counts.alive c i)) ∙ by_alive c (has S c) refl
 
     dead : (c : Cell) (b : Bool) → lives rule S c ≡ b → has (cells_of ts) c ≡ false → false ≡ b
@@ -261,7 +261,7 @@ selected-next rule S ts counts =
           | inr beside ↦ absurd (omega arith)
         ]
 
-    by_count : (c : Cell) (b : Bool) → has (cells_of ts) c ≡ b → (b && lives_by rule (total ts c) (alive_at ts c)) ≡ lives rule S c
+    by_count : (c : Cell) (b : Bool) → has (cells_of ts) c ≡ b → (b && lives_by rule (counted_at ts c) (alive_at ts c)) ≡ lives rule S c
     by_count c true is = by_total c
     by_count c false is = dead c (lives rule S c) refl is
 

@@ -147,6 +147,10 @@ has-at (c ∷ cs) (suc i) d low = or_right (same_cell (get_or cs i d) c) (has cs
 pub shown-empty : (at : Layout) (ws : List ℕ) → ((i : ℕ) → slice_index ws i ≡ 0) → IsShown at ws []
 shown-empty at ws none s r i hs hr hi = ap (λ (n : ℕ). n == 1) (sym (ap (λ (w : ℕ). bit_at w i) (none (index_of at s r)) ∙ bit_at-zero i))
 
+pub shown-none : (at : Layout) (ws : List ℕ) (cells : List Cell) → length cells ≡ 0 → ((i : ℕ) → slice_index ws i ≡ 0) → IsShown at ws cells
+shown-none at ws [] e none = shown-empty at ws none
+shown-none at ws (c ∷ cs) e none = absurd (omega (arith, e))
+
 pub still-empty : (grid : Grid) (flags ws : List ℕ) → ((i : ℕ) → slice_index ws i ≡ 0) → IsStill grid flags [] ws
 still-empty grid flags ws none k i clear = record {
   own = λ _. none i;

@@ -6,13 +6,13 @@ use Rattle.std.proofs.lemmas.Bool.{and_parts, and_from}
 use Rattle.plane_core.specs.declared.cell.Cell.{Cell}
 use Rattle.plane_core.specs.declared.tally.Tally.{Tally}
 use Rattle.plane_core.specs.Cells.{same_cell, InOrder}
-use Rattle.plane_core.specs.Tallies.{cells_of, total, alive_at, count_first, alive_first, rest_at, first_of, earlier_of}
+use Rattle.plane_core.specs.Tallies.{cells_of, counted_at, alive_at, count_first, alive_first, rest_at, first_of, earlier_of}
 use Rattle.plane_core.proofs.TallyLemmas.{total-append, alive_at-append, cells_of-append, total-rest_at, alive_at-rest_at, NoneEarlier, later_than_both}
 use Rattle.plane_core.proofs.TallyLemmas.{one_of_both, itself, none_earlier, begins, push_order, length-rest_at, length-begins}
 
 -- what a merge has done, and what is left of its three lists
 pub record Merging (left middle right sums left_rest middle_rest right_rest : List Tally) : Type 0 where
-  pub totals : (x : Cell) → total sums x + (total left_rest x + (total middle_rest x + total right_rest x)) ≡ total left x + (total middle x + total right x)
+  pub totals : (x : Cell) → counted_at sums x + (counted_at left_rest x + (counted_at middle_rest x + counted_at right_rest x)) ≡ counted_at left x + (counted_at middle x + counted_at right x)
   pub alive : (x : Cell) → (alive_at sums x || alive_at middle_rest x) ≡ alive_at middle x
   pub left_order : InOrder (cells_of sums ++ cells_of left_rest)
   pub middle_order : InOrder (cells_of sums ++ cells_of middle_rest)
@@ -106,29 +106,29 @@ merging_more left middle right sums left_rest middle_rest right_rest c m e =
     }
   where
     totals_more : (x : Cell) (b : Bool) → same_cell x c ≡ b
-        → total (sums ++ added left_rest middle_rest right_rest c ∷ [])
-        x + (total (rest_at c left_rest) x + (total (rest_at c middle_rest) x + total (rest_at c right_rest) x))
-        ≡ total left x + (total middle x + total right x)
+        → counted_at (sums ++ added left_rest middle_rest right_rest c ∷ [])
+        x + (counted_at (rest_at c left_rest) x + (counted_at (rest_at c middle_rest) x + counted_at (rest_at c right_rest) x))
+        ≡ counted_at left x + (counted_at middle x + counted_at right x)
     totals_more x true is =
-        let l : total left_rest x ≡ count_first c left_rest + total (rest_at c left_rest) x =
-        total-rest_at c x left_rest ∙ ap (λ b. cond b (count_first c left_rest) 0 + total (rest_at c left_rest) x) is in
-        let k : total middle_rest x ≡ count_first c middle_rest + total (rest_at c middle_rest) x =
-        total-rest_at c x middle_rest ∙ ap (λ b. cond b (count_first c middle_rest) 0 + total (rest_at c middle_rest) x) is in
-        let r : total right_rest x ≡ count_first c right_rest + total (rest_at c right_rest) x =
-        total-rest_at c x right_rest ∙ ap (λ b. cond b (count_first c right_rest) 0 + total (rest_at c right_rest) x) is in
-        let one : total (added left_rest middle_rest right_rest c ∷ []) x ≡ count_first c left_rest + count_first c middle_rest + count_first c
+        let l : counted_at left_rest x ≡ count_first c left_rest + counted_at (rest_at c left_rest) x =
+        total-rest_at c x left_rest ∙ ap (λ b. cond b (count_first c left_rest) 0 + counted_at (rest_at c left_rest) x) is in
+        let k : counted_at middle_rest x ≡ count_first c middle_rest + counted_at (rest_at c middle_rest) x =
+        total-rest_at c x middle_rest ∙ ap (λ b. cond b (count_first c middle_rest) 0 + counted_at (rest_at c middle_rest) x) is in
+        let r : counted_at right_rest x ≡ count_first c right_rest + counted_at (rest_at c right_rest) x =
+        total-rest_at c x right_rest ∙ ap (λ b. cond b (count_first c right_rest) 0 + counted_at (rest_at c right_rest) x) is in
+        let one : counted_at (added left_rest middle_rest right_rest c ∷ []) x ≡ count_first c left_rest + count_first c middle_rest + count_first c
         right_rest + 0 = ap (λ b. cond b (count_first c left_rest + count_first c middle_rest + count_first c right_rest) 0 + 0) is in
         let all = m.totals x in
         let pushed = total-append sums (added left_rest middle_rest right_rest c ∷ []) x in
         omega arith
     totals_more x false is =
-        let l : total left_rest x ≡ 0 + total (rest_at c left_rest) x =
-        total-rest_at c x left_rest ∙ ap (λ b. cond b (count_first c left_rest) 0 + total (rest_at c left_rest) x) is in
-        let k : total middle_rest x ≡ 0 + total (rest_at c middle_rest) x =
-        total-rest_at c x middle_rest ∙ ap (λ b. cond b (count_first c middle_rest) 0 + total (rest_at c middle_rest) x) is in
-        let r : total right_rest x ≡ 0 + total (rest_at c right_rest) x =
-        total-rest_at c x right_rest ∙ ap (λ b. cond b (count_first c right_rest) 0 + total (rest_at c right_rest) x) is in
-        let one : total (added left_rest middle_rest right_rest c ∷ []) x ≡ 0 + 0 =
+        let l : counted_at left_rest x ≡ 0 + counted_at (rest_at c left_rest) x =
+        total-rest_at c x left_rest ∙ ap (λ b. cond b (count_first c left_rest) 0 + counted_at (rest_at c left_rest) x) is in
+        let k : counted_at middle_rest x ≡ 0 + counted_at (rest_at c middle_rest) x =
+        total-rest_at c x middle_rest ∙ ap (λ b. cond b (count_first c middle_rest) 0 + counted_at (rest_at c middle_rest) x) is in
+        let r : counted_at right_rest x ≡ 0 + counted_at (rest_at c right_rest) x =
+        total-rest_at c x right_rest ∙ ap (λ b. cond b (count_first c right_rest) 0 + counted_at (rest_at c right_rest) x) is in
+        let one : counted_at (added left_rest middle_rest right_rest c ∷ []) x ≡ 0 + 0 =
         ap (λ b. cond b (count_first c left_rest + count_first c middle_rest + count_first c right_rest) 0 + 0) is in
         let all = m.totals x in
         let pushed = total-append sums (added left_rest middle_rest right_rest c ∷ []) x in
@@ -146,13 +146,13 @@ merging_more left middle right sums left_rest middle_rest right_rest c m e =
         ∙ ap (λ b. alive_at sums x || b) (sym (alive_at-rest_at c x middle_rest))
         ∙ m.alive x
 
-first_in_total : (c : Cell) (ts : List Tally) → count_first c ts ≤ total ts c
+first_in_total : (c : Cell) (ts : List Tally) → count_first c ts ≤ counted_at ts c
 first_in_total c [] = omega arith
-first_in_total c (t ∷ ts) = elim (same_cell c t.cell) as (λ b. cond b t.count 0 ≤ cond b t.count 0 + total ts c) [ true ↦ omega arith | false ↦ omega arith ]
+first_in_total c (t ∷ ts) = elim (same_cell c t.cell) as (λ b. cond b t.count 0 ≤ cond b t.count 0 + counted_at ts c) [ true ↦ omega arith | false ↦ omega arith ]
 
 -- the sum at a cell is small where the totals are
 pub sum_small : (left middle right sums left_rest middle_rest right_rest : List Tally) (c : Cell)
-    → Merging left middle right sums left_rest middle_rest right_rest → ((x : Cell) → total left x + (total middle x + total right x) < 256)
+    → Merging left middle right sums left_rest middle_rest right_rest → ((x : Cell) → counted_at left x + (counted_at middle x + counted_at right x) < 256)
     → count_first c left_rest + count_first c middle_rest + count_first c right_rest < 256
 sum_small left middle right sums left_rest middle_rest right_rest c m small =
     omega (arith, m.totals c, small c, first_in_total c left_rest, first_in_total c middle_rest, first_in_total c right_rest)

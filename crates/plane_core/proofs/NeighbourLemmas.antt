@@ -8,7 +8,7 @@ use Rattle.plane_core.specs.declared.cell.Cell.{Cell}
 use Rattle.plane_core.specs.declared.tally.Tally.{Tally}
 use Rattle.plane_core.specs.Cells.{plane_bound, moved_by, has, InOrder, on_plane, near_plane}
 use Rattle.plane_core.specs.Generations.{around}
-use Rattle.plane_core.specs.Tallies.{cells_of, total, one_of, moved_tally, IsMerged, AddsNeighbours, CountsBlocks}
+use Rattle.plane_core.specs.Tallies.{cells_of, counted_at, one_of, moved_tally, IsMerged, AddsNeighbours, CountsBlocks}
 use Rattle.plane_core.proofs.CellLemmas.{cell_cmp-moved}
 use Rattle.plane_core.proofs.SetLemmas.{IsBefore, in_order-head, in_order-tail, in_order-cons, in_order-nil}
 use Rattle.plane_core.proofs.BlockLemmas.{block_total-around}
@@ -21,12 +21,12 @@ int_cmp-on : (a b d : ℤ) → int_cmp a (b +ℤ neg_ℤ d) ≡ int_cmp (a +ℤ 
 int_cmp-on a b d = grind (arith, ints)
 
 -- what moved tallies count at a cell, they counted a step back
-pub total-moved : (dx dy : ℤ) (ts : List Tally) (c : Cell) → total (map (moved_tally dx dy) ts) c ≡ total ts (moved_by (neg_ℤ dx) (neg_ℤ dy) c)
+pub total-moved : (dx dy : ℤ) (ts : List Tally) (c : Cell) → counted_at (map (moved_tally dx dy) ts) c ≡ counted_at ts (moved_by (neg_ℤ dx) (neg_ℤ dy) c)
 total-moved dx dy [] c = refl
 total-moved dx dy (t ∷ ts) c =
     λ i. cond (is_eq (ordering_then (int_cmp-back c.y t.cell.y dy i) (int_cmp-back c.x t.cell.x dx i))) t.count 0 + total-moved dx dy ts c i
 
-pub total-moved_back : (dx dy : ℤ) (ts : List Tally) (c : Cell) → total (map (moved_tally (neg_ℤ dx) (neg_ℤ dy)) ts) c ≡ total ts (moved_by dx dy c)
+pub total-moved_back : (dx dy : ℤ) (ts : List Tally) (c : Cell) → counted_at (map (moved_tally (neg_ℤ dx) (neg_ℤ dy)) ts) c ≡ counted_at ts (moved_by dx dy c)
 total-moved_back dx dy [] c = refl
 total-moved_back dx dy (t ∷ ts) c =
     λ i. cond (is_eq (ordering_then (int_cmp-on c.y t.cell.y dy i) (int_cmp-on c.x t.cell.x dx i))) t.count 0 + total-moved_back dx dy ts c i
@@ -81,7 +81,7 @@ neg_small d h = omega (arith, ints)
 pub adds_neighbours : (dx dy : ℤ) (ts sums : List Tally) → unsigned_abs dx ≤ 1 → unsigned_abs dy ≤ 1
     → IsMerged (map (moved_tally (neg_ℤ dx) (neg_ℤ dy)) ts) ts (map (moved_tally dx dy) ts) sums → AddsNeighbours dx dy ts sums
 adds_neighbours dx dy ts sums u v m = record {
-  totals = λ c. m.totals c ∙ (λ i. total-moved_back dx dy ts c i + (total ts c + total-moved dx dy ts c i));
+  totals = λ c. m.totals c ∙ (λ i. total-moved_back dx dy ts c i + (counted_at ts c + total-moved dx dy ts c i));
   alive = m.alive;
   in_order = m.in_order;
   near = λ on. m.no_others near_plane (all_moved_near (neg_ℤ dx) (neg_ℤ dy) ts (neg_small dx u) (neg_small dy v) on) (all_near (cells_of ts) on)
@@ -90,11 +90,11 @@ adds_neighbours dx dy ts sums u v m = record {
 
 -- ---- a row of three cells, and three rows
 
-pub one_small : (S : List Cell) (c : Cell) → InOrder S → total (map one_of S) c ≤ 1
+pub one_small : (S : List Cell) (c : Cell) → InOrder S → counted_at (map one_of S) c ≤ 1
 one_small S c o = rw (total-ones S c o) (elim (has S c) as (λ b. cond b 1 0 ≤ 1) [ true ↦ omega arith | false ↦ omega arith ])
 
 -- rows of three cells have at most three live ones
-pub row_small : (S : List Cell) (rows : List Tally) (c : Cell) → InOrder S → AddsNeighbours (pos 1) (pos 0) (map one_of S) rows → total rows c ≤ 3
+pub row_small : (S : List Cell) (rows : List Tally) (c : Cell) → InOrder S → AddsNeighbours (pos 1) (pos 0) (map one_of S) rows → counted_at rows c ≤ 3
 row_small S rows c o sums =
     omega (arith, sums.totals c, one_small S (moved_by (pos 1) (pos 0) c) o, one_small S c o, one_small S (moved_by (negsuc 0) (pos 0) c) o)
 

@@ -4,13 +4,13 @@ use Rattle.std.proofs.Common.{arith, refl, ap, ◌∙◌, sym, subst, inl, inr, 
 use Rattle.std.specs.Int.{bit_at}
 use Rattle.std.specs.Cmp.{both_ways as both_true}
 use Rattle.std.proofs.lemmas.Int.{ints}
-use Rattle.std.proofs.lemmas.Nat.Bits.{bit_at_or}
+use Rattle.std.proofs.lemmas.Nat.Bits.{bit_at-zero, bit_at_or}
 use Rattle.std.proofs.lemmas.Bool.{false≢true, or_cases, eqb-true}
 use Rattle.plane_core.specs.declared.board.Layout.{Layout}
 use Rattle.plane_core.specs.declared.cell.Cell.{Cell}
 use Rattle.plane_core.specs.Cells.{InOrder, cell_at, has, set_of}
 use Rattle.plane_core.specs.Boards.{AreNoMarks}
-use Rattle.plane_core.specs.Layouts.{AreAmong, HasRead, HasReadRow, HasReadRows, IsBandEmpty, place, index_of, IsShown, HasRoom}
+use Rattle.plane_core.specs.Layouts.{AreAmong, HasRead, HasReadRow, HasReadRows, IsBandEmpty, IsBlockEmpty, IsRowEmpty, place, index_of, IsShown, HasRoom}
 use Rattle.plane_core.proofs.BoardLemmas.{less_or_not, same_or_not}
 use Rattle.plane_core.proofs.LayoutLemmas.{same_cells}
 use Rattle.plane_core.proofs.LoadLemmas.{place_of, spot_inside}
@@ -72,6 +72,26 @@ along_place at s r i = same_cells _ _ _ _ (omega (arith, ints)) refl
 pub row-none : (at : Layout) (words : List ℕ) (r : ℕ) (old : List Cell) → HasReadRow at words r old 0 old
 row-none at words r old = record { grows = λ d e. e; sound = λ others shown among. among; complete = λ s i low. absurd (omega arith) }
 
+-- strips without a cell have nothing to read
+pub row-on : (at : Layout) (words : List ℕ) (r n m : ℕ) (old new : List Cell) → IsRowEmpty at words r n m → HasReadRow at words r old n new
+    → HasReadRow at words r old m new
+row-on at words r n m old new empty before = record {
+  grows = before.grows;
+  sound = before.sound;
+  complete = λ s i near low bit. found s i near low bit (less_or_not s n);
+}
+  where
+    found : (s i : ℕ) → s < m → i < 64 → bit_at (slice_index words (index_of at s r)) i ≡ 1 → (s < n) ⊎ (n ≤ s) → has new (place at s r i) ≡ true
+    found s i near low bit (inl done) = before.complete s i done low bit
+    found s i near low bit (inr past) = let none = empty s i past near in absurd (omega (arith, none, bit))
+
+-- a row of an empty band is empty
+pub row-empty : (at : Layout) (words : List ℕ) (band r n m : ℕ) → 16 * band ≤ r → r < 16 * band + 16 → IsBandEmpty at words band n m
+    → IsRowEmpty at words r n m
+row-empty at words band r n m low high empty s b past near =
+    let row : 16 * band + (r - 16 * band) ≡ r = omega arith in
+    ap (λ (q : ℕ). bit_at (slice_index words (index_of at s q)) b) (sym row) ∙ empty s past near (r - 16 * band) b (omega arith)
+
 pub row-more : (at : Layout) (words : List ℕ) (s r word : ℕ) (first : Cell) (old new more : List Cell) → s < at.strips → r < 16 * at.blocks
     → word ≡ slice_index words (index_of at s r) → first ≡ place at s r 0 → HasReadRow at words r old s new → HasRead word first new 64 more
     → HasReadRow at words r old (s + 1) more
@@ -118,7 +138,7 @@ rows-none at words cells none = record {
 }
 
 -- an empty band has nothing to read
-pub rows-on : (at : Layout) (words : List ℕ) (band : ℕ) (new : List Cell) → IsBandEmpty at words at.strips band → HasReadRows at words (16 * band) new
+pub rows-on : (at : Layout) (words : List ℕ) (band : ℕ) (new : List Cell) → IsBandEmpty at words band 0 at.strips → HasReadRows at words (16 * band) new
     → HasReadRows at words (16 * band + 16) new
 rows-on at words band new empty before = record {
   sound = before.sound;
@@ -130,25 +150,31 @@ rows-on at words band new empty before = record {
     found s r i hs near low bit (inl done) = before.complete s r i hs done low bit
     found s r i hs near low bit (inr here) =
         let row : 16 * band + (r - 16 * band) ≡ r = omega arith in
-        let none = empty s (r - 16 * band) i hs (omega arith) in
+        let none = empty s (omega arith) hs (r - 16 * band) i (omega arith) in
         let same = ap (λ (n : ℕ). bit_at (slice_index words (index_of at s n)) i) row in
         absurd (omega (arith, none, same, bit))
 
+-- a block without a column is empty
+pub block-empty : (at : Layout) (words : List ℕ) (s band from columns : ℕ) → from ≡ index_of at s (16 * band) → columns ≡ 0
+    → ((b k : ℕ) → bit_at columns b ≡ 0 → k < 16 → bit_at (slice_index words (from + k)) b ≡ 0) → IsBlockEmpty at words band s
+block-empty at words s band from columns is zero here k b low =
+    let spot : index_of at s (16 * band + k) ≡ from + k = omega (arith, is) in
+    ap (λ (n : ℕ). bit_at (slice_index words n) b) spot ∙ here b k (ap (λ (n : ℕ). bit_at n b) zero ∙ bit_at-zero b) low
+
 -- one strip more of a band is empty
-pub band-more : (at : Layout) (words : List ℕ) (s band from columns block : ℕ) → from ≡ index_of at s (16 * band)
-    → ((b k : ℕ) → bit_at block b ≡ 0 → k < 16 → bit_at (slice_index words (from + k)) b ≡ 0)
-    → ((b t k : ℕ) → bit_at columns b ≡ 0 → t < s → k < 16 → bit_at (slice_index words (index_of at t (16 * band + k))) b ≡ 0)
-    → (b t k : ℕ) → bit_at (bit_or columns block) b ≡ 0 → t < s + 1 → k < 16 → bit_at (slice_index words (index_of at t (16 * band + k))) b ≡ 0
-band-more at words s band from columns block is here before b t k none near low = go (same_or_not t s)
-  where
-    go : (t ≡ s) ⊎ (t ≢ s) → bit_at (slice_index words (index_of at t (16 * band + k))) b ≡ 0
-    go (inl same) =
-        let e = bit_at_or columns block b in
-        let block_none : bit_at block b ≡ 0 = omega (arith, e, none) in
-        let spot : index_of at s (16 * band + k) ≡ from + k = omega (arith, is) in
-        ap (λ (n : ℕ). bit_at (slice_index words (index_of at n (16 * band + k))) b) same
-        ∙ ap (λ (n : ℕ). bit_at (slice_index words n) b) spot ∙ here b k block_none low
-    go (inr apart) = let e = bit_at_or columns block b in before b t k (omega (arith, e, none)) (omega arith) low
+pub band-more : (at : Layout) (words : List ℕ) (band n : ℕ) → IsBandEmpty at words band 0 n → IsBlockEmpty at words band n → IsBandEmpty at words band 0 (n + 1)
+band-more at words band n before here s low near = elim (same_or_not s n) [
+  | inl same ↦ subst (λ (t : ℕ). IsBlockEmpty at words band t) (sym same) here
+  | inr apart ↦ before s low (omega (arith, near, apart))
+]
+
+-- and one strip more at its end
+pub band-less : (at : Layout) (words : List ℕ) (band n m : ℕ) → 1 ≤ n → IsBandEmpty at words band n m → IsBlockEmpty at words band (n - 1)
+    → IsBandEmpty at words band (n - 1) m
+band-less at words band n m some before here s low near = elim (same_or_not s (n - 1)) [
+  | inl same ↦ subst (λ (t : ℕ). IsBlockEmpty at words band t) (sym same) here
+  | inr apart ↦ before s (omega (arith, low, apart, some)) near
+]
 
 -- one word more of a block
 pub block-more : (words : List ℕ) (from k columns : ℕ)

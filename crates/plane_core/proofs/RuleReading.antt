@@ -7,7 +7,7 @@ use Rattle.std.proofs.lemmas.Slice.Eq.{starts_is}
 use Rattle.std.proofs.lemmas.Bool.Decides.{Decides-eqb, nat_tests}
 use Rattle.plane_core.specs.declared.rule.RuleError.{RuleError}
 use Rattle.plane_core.specs.declared.rule.RuleError.TheVariants.{BadRule, BirthZero}
-use Rattle.plane_core.specs.Rules.{Numbers, IsRule, BeginsRule, IsFirstFault, Reading, with_answer, digits, rule_text, numbers_at, begins, fault_at, rule_read}
+use Rattle.plane_core.specs.Rules.{Numbers, IsRule, BeginsRule, IsFirstFault, Reading, with_answer, digits, rule_text, numbers_at, begins, rule_fault_at, rule_read}
 use Rattle.plane_core.proofs.OutLemmas.{take-drop-rest}
 use Rattle.plane_core.proofs.RuleNumbers.{numbers_at-hit, numbers_at-miss}
 
@@ -127,12 +127,12 @@ unfolding rule_read
 rule_read-zero text b no_zero = rw (b, no_zero) refl
 
 pub rule_read-no_s : (text : List ℕ) → begins text (codes "b") ≡ true → begins text (codes "b0") ≡ false → begins (births_in text).rest (codes "s") ≡ false
-    → rule_read text ≡ fault_at text (births_in text).rest
+    → rule_read text ≡ rule_fault_at text (births_in text).rest
 unfolding rule_read
 rule_read-no_s text b no_zero s = rw (b, no_zero, s) refl
 
 pub rule_read-more : (text : List ℕ) → begins text (codes "b") ≡ true → begins text (codes "b0") ≡ false → begins (births_in text).rest (codes "s") ≡ true
-    → (length (survivals_in text).rest == 0) ≡ false → rule_read text ≡ fault_at text (survivals_in text).rest
+    → (length (survivals_in text).rest == 0) ≡ false → rule_read text ≡ rule_fault_at text (survivals_in text).rest
 unfolding rule_read
 rule_read-more text b no_zero s end = rw (b, no_zero, s, end) refl
 
@@ -272,7 +272,7 @@ Says_no_b text h = (
         cc
 
 pub Says_no_s : (text : List ℕ) → begins text (codes "b") ≡ true → begins text (codes "b0") ≡ false → begins (births_in text).rest (codes "s") ≡ false
-    → Says text (fault_at text (births_in text).rest)
+    → Says text (rule_fault_at text (births_in text).rest)
 unfolding rule_text
 Says_no_s text b no_zero no_s =
     let births = births_in text in
@@ -314,7 +314,7 @@ pub IsRule-rule_in : (text : List ℕ) → IsRule (rule_in text)
 IsRule-rule_in text = record { births = length-numbers_at 8 1 (drop 1 text); survivals = length-numbers_at 9 0 (drop 1 (births_in text).rest) }
 
 pub Says_more : (text : List ℕ) → begins text (codes "b") ≡ true → begins text (codes "b0") ≡ false → begins (births_in text).rest (codes "s") ≡ true
-    → Says text (fault_at text (survivals_in text).rest)
+    → Says text (rule_fault_at text (survivals_in text).rest)
 unfolding rule_text
 Says_more text b no_zero s =
     let births = births_in text in

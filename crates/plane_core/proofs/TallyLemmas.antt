@@ -10,12 +10,12 @@ use Rattle.std.proofs.lemmas.Bool.{and_parts}
 use Rattle.plane_core.specs.declared.cell.Cell.{Cell}
 use Rattle.plane_core.specs.declared.tally.Tally.{Tally}
 use Rattle.plane_core.specs.Cells.{cell_cmp, same_cell, InOrder}
-use Rattle.plane_core.specs.Tallies.{cells_of, total, alive_at, count_first, alive_first, rest_at, first_of, earlier_of}
+use Rattle.plane_core.specs.Tallies.{cells_of, counted_at, alive_at, count_first, alive_first, rest_at, first_of, earlier_of}
 use Rattle.plane_core.proofs.CellLemmas.{cell_cmp_total, cell_cmp-same, same_cell-same, same_cell-itself}
 use Rattle.plane_core.proofs.SetLemmas.{IsBefore, in_order-head, in_order-tail, in_order-cons, in_order-nil, before-trans, greater_turned}
 
 -- what is counted in two lists, one after the other
-pub total-append : (ts us : List Tally) (x : Cell) → total (ts ++ us) x ≡ total ts x + total us x
+pub total-append : (ts us : List Tally) (x : Cell) → counted_at (ts ++ us) x ≡ counted_at ts x + counted_at us x
 total-append [] us x = omega arith
 total-append (t ∷ ts) us x = omega (arith, total-append ts us x)
 
@@ -33,15 +33,15 @@ cells_of-append [] us = refl
 cells_of-append (t ∷ ts) us = ap (λ (cs : List Cell). t.cell ∷ cs) (cells_of-append ts us)
 
 -- what is taken off a list and what is left make up what it had
-pub total-rest_at : (c x : Cell) (ts : List Tally) → total ts x ≡ cond (same_cell x c) (count_first c ts) 0 + total (rest_at c ts) x
+pub total-rest_at : (c x : Cell) (ts : List Tally) → counted_at ts x ≡ cond (same_cell x c) (count_first c ts) 0 + counted_at (rest_at c ts) x
 total-rest_at c x [] = elim (same_cell x c) as (λ b. 0 ≡ cond b 0 0 + 0) [ true ↦ refl | false ↦ refl ]
 total-rest_at c x (t ∷ ts) = go (same_cell c t.cell) refl
   where
     go : (b : Bool) → same_cell c t.cell ≡ b
-        → cond (same_cell x t.cell) t.count 0 + total ts x ≡ cond (same_cell x c) (cond b t.count 0) 0 + total (cond b ts (t ∷ ts)) x
+        → cond (same_cell x t.cell) t.count 0 + counted_at ts x ≡ cond (same_cell x c) (cond b t.count 0) 0 + counted_at (cond b ts (t ∷ ts)) x
     go true is = rw (same_cell-same c t.cell is) refl
-    go false is = elim (same_cell x c) as (λ b. cond (same_cell x t.cell) t.count 0 + total ts x
-        ≡ cond b 0 0 + (cond (same_cell x t.cell) t.count 0 + total ts x)) [ true ↦ omega arith | false ↦ omega arith ]
+    go false is = elim (same_cell x c) as (λ b. cond (same_cell x t.cell) t.count 0 + counted_at ts x
+        ≡ cond b 0 0 + (cond (same_cell x t.cell) t.count 0 + counted_at ts x)) [ true ↦ omega arith | false ↦ omega arith ]
 
 pub alive_at-rest_at : (c x : Cell) (ts : List Tally) → alive_at ts x ≡ ((same_cell x c && alive_first c ts) || alive_at (rest_at c ts) x)
 alive_at-rest_at c x [] = elim (same_cell x c) as (λ b. false ≡ ((b && false) || false)) [ true ↦ refl | false ↦ refl ]

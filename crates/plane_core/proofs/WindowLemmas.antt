@@ -1,6 +1,6 @@
 -- A window: what its rows say of the cells that it shows.
-use Rattle.std.proofs.Common.{◌≡◌, ◌≢◌, ◌==◌, ◌+◌, ◌-◌, ◌*◌, ◌/◌, ◌%◌, ◌^◌, ◌<◌, ◌≤◌, ℕ, ℤ, pos, ◌+ℤ◌, ◌-ℤ◌, ◌≤ℤ◌, Bool, true, false, not, List, [], ◌∷◌, ◌++◌}
-use Rattle.std.proofs.Common.{arith, refl, ap, ◌∙◌, sym, subst, inl, inr, ◌⊎◌, slice_index, unsigned_abs, get_or, set, length, bit_or, w64, leb}
+use Rattle.std.proofs.Common.{◌≡◌, ◌≢◌, ◌==◌, ◌+◌, ◌-◌, ◌*◌, ◌/◌, ◌%◌, ◌^◌, ◌<◌, ◌≤◌, ℕ, zero, suc, ℤ, pos, ◌+ℤ◌, ◌-ℤ◌, ◌≤ℤ◌, Bool, true, false, not, List, [], ◌∷◌, ◌++◌}
+use Rattle.std.proofs.Common.{arith, refl, ap, ◌∙◌, sym, subst, inl, inr, ◌⊎◌, slice_index, unsigned_abs, cond, get_or, set, length, bit_or, w64, leb}
 use Rattle.std.specs.Int.{bit_at, trailing_zeros}
 use Rattle.std.specs.declared.cmp.Ordering.TheVariants.{Less}
 use Rattle.std.proofs.lemmas.Int.{ints}
@@ -11,13 +11,15 @@ use Rattle.plane_core.specs.declared.board.Layout.{Layout}
 use Rattle.plane_core.specs.declared.bounds.Bounds.{Bounds}
 use Rattle.plane_core.specs.declared.cell.Cell.{Cell}
 use Rattle.plane_core.specs.declared.window.Spot.{Spot}
-use Rattle.plane_core.specs.Boards.{IsInner, IsNext, IsNextAt, KeepsOuter}
+use Rattle.plane_core.specs.Boards.{IsInner, IsNext, IsNextAt, KeepsOuter, row_at}
 use Rattle.plane_core.specs.Bounds.{IsWithin, shifted}
 use Rattle.plane_core.specs.Cells.{InOrder, cell_cmp, distance, has, is_within, moved_by}
 use Rattle.plane_core.specs.Generations.{after, next, touches_edge}
 use Rattle.plane_core.specs.Layouts.{AreSidesWithin, HasRoom, IsDead, IsLaid, IsShown, grid_of, index_of, place, room}
 use Rattle.plane_core.specs.Rules.{Numbers}
-use Rattle.plane_core.specs.Windows.{HasChanged, IsColumnClear, IsFirst, IsInland, IsRimClear, IsSeen, IsSpot, IsStepped, IsWindow, window_grid}
+use Rattle.plane_core.specs.Tallies.{lives_by}
+use Rattle.plane_core.specs.Windows.{HasChanged, IsColumnClear, IsEmptyRound, IsFirst, IsInland, IsRimClear, IsSeen, IsSpot, IsStepped, IsWindow, window_grid}
+use Rattle.plane_core.specs.Words.{block_count, one_if, row_count, west_of}
 use Rattle.plane_core.proofs.BoardLemmas.{less_or_not, same_or_not}
 use Rattle.plane_core.proofs.GenerationLemmas.{after-more, after-none, in_order-next}
 use Rattle.plane_core.proofs.LayoutLemmas.{next_shown, room-after}
@@ -548,3 +550,54 @@ changing_more rule at S n now old later h seen other = record {
   dead = h.seen.dead;
   changed = changed-more rule at S n h.changed seen.room other;
 }
+
+-- ---- rows far from any cell
+
+-- no column of the three strips has a cell
+pub empty_round : (words : List ℕ) (from a b c : ℕ) → bit_or (bit_or a b) c ≡ 0
+    → ((i k : ℕ) → bit_at a i ≡ 0 → k < 18 → bit_at (slice_index words (from - 97 + k)) i ≡ 0)
+    → ((i k : ℕ) → bit_at b i ≡ 0 → k < 18 → bit_at (slice_index words (from - 1 + k)) i ≡ 0)
+    → ((i k : ℕ) → bit_at c i ≡ 0 → k < 18 → bit_at (slice_index words (from + 95 + k)) i ≡ 0) → IsEmptyRound words from
+empty_round words from a b c none first second third = record {
+  west = λ k i low. first i k (let e = bit_at_or (bit_or a b) c i in let f = bit_at_or a b i in omega (arith, e, f, clear i)) low;
+  here = λ k i low. second i k (let e = bit_at_or (bit_or a b) c i in let f = bit_at_or a b i in omega (arith, e, f, clear i)) low;
+  east = λ k i low. third i k (let e = bit_at_or (bit_or a b) c i in omega (arith, e, clear i)) low;
+}
+  where
+    clear : (i : ℕ) → bit_at (bit_or (bit_or a b) c) i ≡ 0
+    clear i = ap (λ (n : ℕ). bit_at n i) none ∙ bit_at-zero i
+
+-- where no cell is near, none is alive in the next generation
+pub next_empty : (rule : Numbers) (words : List ℕ) (from k : ℕ) → 112 ≤ from → k < 16 → IsEmptyRound words from
+    → IsNextAt rule window_grid words (from + k) 0
+next_empty rule words from k low few empty i hi = bit_at-zero i ∙ sym (λ t. one_if (lives_by rule (count t) (dead t == 1)))
+  where
+    bit_here : (m d j : ℕ) → m ≡ from - 1 + d → d < 18 → bit_at (slice_index words m) j ≡ 0
+    bit_here m d j is near = ap (λ (n : ℕ). bit_at (slice_index words n) j) is ∙ empty.here d j near
+
+    west : (m d j : ℕ) → m ≡ from - 1 + d → d < 18 → west_of (row_at words window_grid m).before (row_at words window_grid m).here j ≡ 0
+    west m d zero is near =
+        let at : m - 16 * window_grid.blocks ≡ from - 97 + d = omega (arith, is, low) in
+        ap (λ (n : ℕ). bit_at (slice_index words n) 63) at ∙ empty.west d 63 near
+    west m d (suc j) is near = bit_here m d j is near
+
+    east : (m d : ℕ) (b : Bool) → m ≡ from - 1 + d → d < 18 → (i == 63) ≡ b
+        → cond b (bit_at (row_at words window_grid m).after 0) (bit_at (row_at words window_grid m).here (i + 1)) ≡ 0
+    east m d true is near e =
+        let at : m + 16 * window_grid.blocks ≡ from + 95 + d = omega (arith, is, low) in
+        ap (λ (n : ℕ). bit_at (slice_index words n) 0) at ∙ empty.east d 0 near
+    east m d false is near e = bit_here m d (i + 1) is near
+
+    row : (m d : ℕ) → m ≡ from - 1 + d → d < 18 → row_count (row_at words window_grid m) i ≡ 0
+    row m d is near = omega (arith, west m d i is near, bit_here m d i is near, east m d (i == 63) is near refl)
+
+    dead : bit_at (row_at words window_grid (from + k)).here i ≡ 0
+    dead = bit_here (from + k) (k + 1) i (omega (arith, low)) (omega (arith, few))
+
+    count : block_count (row_at words window_grid (from + k - 1)) (row_at words window_grid (from + k)) (row_at words window_grid (from + k + 1)) i ≡ 0
+    count = omega (
+      arith,
+      row (from + k - 1) k (omega (arith, low)) (omega (arith, few)),
+      row (from + k) (k + 1) (omega (arith, low)) (omega (arith, few)),
+      row (from + k + 1) (k + 2) (omega (arith, low)) (omega (arith, few)),
+    )

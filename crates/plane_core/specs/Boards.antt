@@ -108,6 +108,10 @@ pub record IsFar (grid : Grid) (j m : ℕ) : Type 0 where
   pub west : ¬ IsBeside j (m + grid.blocks)
   pub east : ¬ IsBeside (j + grid.blocks) m
 
+-- block j and those round it are marked
+abbrev pub IsMarkedRound : Grid → List ℕ → ℕ → Type 0
+IsMarkedRound grid flags j = (m : ℕ) → IsClear flags m → IsFar grid j m
+
 -- the lists of a board, before a generation: it is enough to do what isn't marked in `todo`
 pub record IsReady (rule : Numbers) (grid : Grid) (now last todo marks : List ℕ) : Type 0 where
   pub now_long : length now ≡ 16 * grid.count

@@ -1,5 +1,5 @@
 -- How clusters are found: the places of a pattern's list become a forest. Each leads to an earlier place or is a root.
-use Rattle.std.specs.Prelude.{◌≡◌, ◌<◌, ◌≤◌, ◌==◌, ℕ, ℤ, pos, negsuc, List, [], ◌∷◌, cond, get_or, length}
+use Rattle.std.specs.Prelude.{◌≡◌, ◌+◌, ◌-◌, ◌<◌, ◌≤◌, ◌==◌, ℕ, ℤ, pos, negsuc, List, [], ◌∷◌, cond, get_or, length}
 use Rattle.std.specs.declared.cmp.Ordering.TheVariants.{Less}
 use Rattle.plane_core.specs.declared.cell.Cell.{Cell}
 use Rattle.plane_core.specs.declared.forest.Cursors.{Cursors}
@@ -45,6 +45,17 @@ abbrev pub JoinsAll : List Cell → List ℕ → ℕ → Type 0
 JoinsAll cells parents place =
     (j k : ℕ) → j < k → k < place → king_distance (cell_of cells j) (cell_of cells k) ≤ 2 → Joined parents j k
 
+-- the cell at the place just before a place is near that one's cell and an earlier one, so that it joins the two
+pub record IsBridged (cells : List Cell) (k place : ℕ) : Type 0 where
+  pub earlier : k + 1 < place
+  pub left : king_distance (cell_of cells k) (cell_of cells (place - 1)) ≤ 2
+  pub right : king_distance (cell_of cells (place - 1)) (cell_of cells place) ≤ 2
+
+-- near cells that aren't joined by the one between them
+pub record NeedsJoin (cells : List Cell) (k place : ℕ) : Type 0 where
+  pub near : king_distance (cell_of cells k) (cell_of cells place) ≤ 2
+  pub alone : ¬ IsBridged cells k place
+
 -- the places before the cursor are those of cells that come before this one
 abbrev pub IsPassed : List Cell → ℕ → Cell → Type 0
 IsPassed cells cursor from = (k : ℕ) → k < cursor → cell_cmp (cell_of cells k) from ≡ Less
@@ -54,7 +65,6 @@ abbrev pub IsBehind : List Cell → ℕ → ℤ → ℕ → Type 0
 IsBehind cells cursor dy place = (p : ℕ) → place ≤ p → p < length cells → IsPassed cells cursor (moved_by (negsuc 1) dy (cell_of cells p))
 
 pub record AreBehind (cells : List Cell) (cursors : Cursors) (place : ℕ) : Type 0 where
-  pub here : IsBehind cells cursors.here (pos 0) place
   pub above : IsBehind cells cursors.above (negsuc 0) place
   pub top : IsBehind cells cursors.top (negsuc 1) place
 

@@ -85,9 +85,17 @@ pub record HasReadRows (at : Layout) (words : List ℕ) (n : ℕ) (new : List Ce
   pub sound : (others : List Cell) → IsShown at words others → AreAmong others new
   pub complete : (s r i : ℕ) → s < at.strips → r < n → i < 64 → bit_at (slice_index words (index_of at s r)) i ≡ 1 → has new (place at s r i) ≡ true
 
--- no cell is alive in the first n blocks of a band, which are in its sixteen rows
-abbrev pub IsBandEmpty : Layout → List ℕ → ℕ → ℕ → Type 0
-IsBandEmpty at words n band = (s k b : ℕ) → s < n → k < 16 → bit_at (slice_index words (index_of at s (16 * band + k))) b ≡ 0
+-- no cell of the block in a band and a strip is alive
+abbrev pub IsBlockEmpty : Layout → List ℕ → ℕ → ℕ → Type 0
+IsBlockEmpty at words band s = (k b : ℕ) → k < 16 → bit_at (slice_index words (index_of at s (16 * band + k))) b ≡ 0
+
+-- nor of any strip from one to before another
+abbrev pub IsBandEmpty : Layout → List ℕ → ℕ → ℕ → ℕ → Type 0
+IsBandEmpty at words band from to = (s : ℕ) → from ≤ s → s < to → IsBlockEmpty at words band s
+
+-- no cell of a row is alive in these strips
+abbrev pub IsRowEmpty : Layout → List ℕ → ℕ → ℕ → ℕ → Type 0
+IsRowEmpty at words r from to = (s b : ℕ) → from ≤ s → s < to → bit_at (slice_index words (index_of at s r)) b ≡ 0
 
 -- the sides of a box are at most so far from the origin
 pub record AreSidesWithin (reach : ℕ) (b : Bounds) : Type 0 where

@@ -67,8 +67,8 @@ numbers_at (suc more) n text =
     else with_answer false (numbers_at more (n + 1) text)
 
 -- the fault where this rest of the text begins
-abbrev pub fault_at : List ℕ → List ℕ → Result Numbers RuleError
-fault_at text rest = Err (BadRule (length text - length rest))
+abbrev pub rule_fault_at : List ℕ → List ℕ → Result Numbers RuleError
+rule_fault_at text rest = Err (BadRule (length text - length rest))
 
 -- the rule that a text says, or its first fault from the left
 unfoldable pub rule_read : List ℕ → Result Numbers RuleError
@@ -77,6 +77,6 @@ rule_read text =
     let survivals = numbers_at 9 0 (drop 1 births.rest) in
     if not (begins text (codes "b")) then Err (BadRule 0)
     else if begins text (codes "b0") then Err BirthZero
-    else if not (begins births.rest (codes "s")) then fault_at text births.rest
-    else if not (length survivals.rest == 0) then fault_at text survivals.rest
+    else if not (begins births.rest (codes "s")) then rule_fault_at text births.rest
+    else if not (length survivals.rest == 0) then rule_fault_at text survivals.rest
     else Ok (record { births = births.answers; survivals = survivals.answers })

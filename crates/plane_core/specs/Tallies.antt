@@ -13,9 +13,9 @@ abbrev pub cells_of : List Tally → List Cell
 cells_of tallies = map (λ t. t.cell) tallies
 
 -- what was counted at c
-abbrev pub total : List Tally → Cell → ℕ
-total [] c = 0
-total (t ∷ ts) c = (if same_cell c t.cell then t.count else 0) + total ts c
+abbrev pub counted_at : List Tally → Cell → ℕ
+counted_at [] c = 0
+counted_at (t ∷ ts) c = (if same_cell c t.cell then t.count else 0) + counted_at ts c
 
 -- c is marked as alive
 abbrev pub alive_at : List Tally → Cell → Bool
@@ -39,7 +39,7 @@ tally_lives rule t = lives_by rule t.count t.alive
 
 -- the tallies of the live cells in every block: a cell's neighbours and, where it is alive, the cell itself
 pub record CountsBlocks (cells : List Cell) (tallies : List Tally) : Type 0 where
-  pub totals : (c : Cell) → total tallies c ≡ around cells c + (if has cells c then 1 else 0)
+  pub totals : (c : Cell) → counted_at tallies c ≡ around cells c + (if has cells c then 1 else 0)
   pub alive : (c : Cell) → alive_at tallies c ≡ has cells c
   pub in_order : InOrder (cells_of tallies)
 
@@ -68,7 +68,7 @@ earlier_of (Some a) (Some b) = Some (match_ordering (cell_cmp a b) a a b)
 
 -- the sums are the three lists made one: cells in order, counted together, alive as in the middle list
 pub record IsMerged (left middle right sums : List Tally) : Type 0 where
-  pub totals : (c : Cell) → total sums c ≡ total left c + (total middle c + total right c)
+  pub totals : (c : Cell) → counted_at sums c ≡ counted_at left c + (counted_at middle c + counted_at right c)
   pub alive : (c : Cell) → alive_at sums c ≡ alive_at middle c
   pub in_order : InOrder (cells_of sums)
   pub no_others : (p : Cell → Bool) → list_all p (cells_of left) ≡ true → list_all p (cells_of middle) ≡ true → list_all p (cells_of right) ≡ true
@@ -76,7 +76,7 @@ pub record IsMerged (left middle right sums : List Tally) : Type 0 where
 
 -- each cell has its own count and those of the cells a step (dx, dy) from it, one on either side
 pub record AddsNeighbours (dx dy : ℤ) (tallies sums : List Tally) : Type 0 where
-  pub totals : (c : Cell) → total sums c ≡ total tallies (moved_by dx dy c) + (total tallies c + total tallies (moved_by (neg_ℤ dx) (neg_ℤ dy) c))
+  pub totals : (c : Cell) → counted_at sums c ≡ counted_at tallies (moved_by dx dy c) + (counted_at tallies c + counted_at tallies (moved_by (neg_ℤ dx) (neg_ℤ dy) c))
   pub alive : (c : Cell) → alive_at sums c ≡ alive_at tallies c
   pub in_order : InOrder (cells_of sums)
   pub near : list_all on_plane (cells_of tallies) ≡ true → list_all near_plane (cells_of sums) ≡ true

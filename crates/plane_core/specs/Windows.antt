@@ -47,6 +47,12 @@ pub record IsRimClear (words : List ℕ) : Type 0 where
   pub left : IsColumnClear words 176 0
   pub right : IsColumnClear words 176 63
 
+-- no cell is alive in sixteen rows of the window, nor in the words round them
+pub record IsEmptyRound (words : List ℕ) (from : ℕ) : Type 0 where
+  pub west : (k b : ℕ) → k < 18 → bit_at (slice_index words (from - 97 + k)) b ≡ 0
+  pub here : (k b : ℕ) → k < 18 → bit_at (slice_index words (from - 1 + k)) b ≡ 0
+  pub east : (k b : ℕ) → k < 18 → bit_at (slice_index words (from + 95 + k)) b ≡ 0
+
 -- the rows before row n are those of the next generation, and the others are what they were
 pub record IsStepped (rule : Numbers) (n : ℕ) (now old new : List ℕ) : Type 0 where
   pub next : (i : ℕ) → 112 ≤ i → i < n → IsNextAt rule window_grid now i (slice_index new i)

@@ -5,9 +5,12 @@
 //! round it, what it was two generations ago will be what it was one generation ago: `last` has it already. So only
 //! blocks with a change in them or on their ring are marked for the next turn. Each change marks its own block; one in
 //! the top or bottom row marks the block above or below too, and one in the first or last column those to that side.
-ghost use Rattle.std.specs.Prelude.{◌≡◌, ◌≢◌, ◌==◌, ◌+◌, ◌-◌, ◌*◌, ◌/◌, ◌%◌, ◌^◌, ◌<◌, ◌≤◌, ◌↔◌, IfNone, IfSome, IsTrue, ℕ, List, length, slice_index};
+ghost use Rattle.std.specs.Prelude.{◌≡◌, ◌≢◌, ◌==◌, ◌+◌, ◌-◌, ◌*◌, ◌/◌, ◌%◌, ◌^◌, ◌<◌, ◌≤◌, ◌↔◌, IfNone, IfSome};
+ghost use Rattle.std.specs.Prelude.{IsTrue, ℕ, List, length, slice_index};
 ghost use Rattle.std.specs.Int.{bit_at};
-ghost use Rattle.plane_core.specs.Boards.{AreNoMarks, IsBeside, IsClear, IsFar, IsGoing, IsInner, IsNext, IsNextAt, IsNextMark, IsRight, IsStill, IsUnmarked, IsWritten, KeepsMarks, KeepsOuter, TellsChanges, row_at};
+ghost use Rattle.plane_core.specs.Boards.{AreNoMarks, IsBeside, IsClear, IsFar, IsGoing, IsInner, IsMarkedRound};
+ghost use Rattle.plane_core.specs.Boards.{IsNext, IsNextAt, IsNextMark, IsRight, IsStill, IsUnmarked, IsWritten};
+ghost use Rattle.plane_core.specs.Boards.{KeepsMarks, KeepsOuter, TellsChanges, row_at};
 ghost use Rattle.plane_core.specs.Words.{life};
 
 use crate::word::{self, Answers, Row};
@@ -77,9 +80,9 @@ fn next_word_of_life(grid: Grid, now: &[u64], i: usize) -> u64
 
 /// Sixteen words of the next generation, from this one on.
 ///
-/// They stand apart from both lists, so that no test is needed whether the lists overlap, and Life has a loop of its own,
-/// so that no branch is in a loop. Then the compiler makes several words at once, where it sees all of it in one place; as
-/// calls these functions would make one word after another.
+/// They stand apart from both lists, so that no test is needed whether the lists overlap, and Life has a loop of its
+/// own, so that no branch is in a loop. Then the compiler makes several words at once, where it sees all of it in one
+/// place; as calls these functions would make one word after another.
 #[inline(always)]
 pub(crate) fn next_words(answers: &Answers, grid: Grid, now: &[u64], from: usize) -> [u64; 16]
     requires low { 16 * grid.blocks + 1 ≤ from }
@@ -125,7 +128,9 @@ fn write_word(last: &mut [u64], i: usize, word: u64) -> u64
     requires { i < length last.old }
     ensures word { slice_index last.new i ≡ word }
     ensures others { (m : ℕ) → m ≢ i → slice_index last.new m ≡ slice_index last.old m }
-    ensures changes { (b : ℕ) → bit_at result b ≡ 0 → bit_at (slice_index last.new i) b ≡ bit_at (slice_index last.old i) b }
+    ensures changes { (b : ℕ) → bit_at result b ≡ 0
+        → bit_at (slice_index last.new i) b ≡ bit_at (slice_index last.old i) b }
+    ensures none { result ≡ 0 → slice_index last.new i ≡ slice_index last.old i }
     ensures long { length last.new ≡ length last.old }
 {
     let change = last[i] ^ word;
@@ -179,6 +184,20 @@ fn mark_changes(flags: &mut [u64], grid: Grid, j: usize, changes: Changes)
     mark_three(flags, j + grid.blocks, changes.columns >> 63);
 }
 
+/// Marks block j and those round it, unless it is the block of which that was done last.
+pub(crate) fn mark_round(flags: &mut [u64], grid: Grid, j: usize, last: usize)
+    requires inner { IsInner grid j }
+    requires high { grid.count ≤ 64 * length flags.old }
+    requires small { grid.count < 2 ^ 60 }
+    requires marked { IsMarkedRound grid flags.old last }
+    ensures { (m : ℕ) → IsClear flags.new m → IsClear flags.old m × IsFar grid j m }
+{
+    if j == last {
+        return;
+    }
+    mark_near(flags, grid, j);
+}
+
 /// Marks block j and those round it.
 pub(crate) fn mark_near(flags: &mut [u64], grid: Grid, j: usize)
     requires inner { IsInner grid j }
@@ -200,17 +219,17 @@ fn step_block(answers: &Answers, grid: Grid, now: &[u64], last: &mut [u64], j: u
     ensures changes { TellsChanges j result last.old last.new }
 {
     let start = 16 * j;
-    let end = start + 15;
-    let (first, final_row) = (last[start], last[end]);
     let words = next_words(answers, grid, now, start);
-    let mut columns = 0;
-    for k in 0..16 {
+    let top = write_word(last, start, words[0]);
+    let mut columns = top;
+    for k in 1..15 {
         columns |= write_word(last, start + k, words[k]);
     }
+    let bottom = write_word(last, start + 15, words[15]);
     Changes {
-        columns,
-        top: last[start] ^ first,
-        bottom: last[end] ^ final_row,
+        columns: columns | bottom,
+        top,
+        bottom,
     }
 }
 
@@ -280,6 +299,7 @@ fn step_group(
 
 /// Writes the next generation over the last one, of which it is enough to have what isn't marked to do. What changes by
 /// that is marked.
+#[inline(never)]
 pub(crate) fn generation(
     answers: &Answers,
     grid: Grid,

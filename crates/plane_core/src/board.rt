@@ -2,16 +2,19 @@
 //!
 //! A board is laid out so wide that in the generations to come no live cell can reach the outer blocks. The cells are
 //! loaded, run block by block, and read back.
-ghost use Rattle.std.specs.Prelude.{◌≡◌, ◌+◌, ◌*◌, ◌<◌, ◌≤◌, ◌^◌, ◌++◌, ◌∷◌, [], ◌-ℤ◌, ◌+ℤ◌, ℕ, List, length, pos, slice_index, IfOk, IfSome, IsTrue, OnOk, OnSome, ◌-◌, true, false, unsigned_abs};
+ghost use Rattle.std.specs.Prelude.{◌≡◌, ◌+◌, ◌*◌, ◌<◌, ◌≤◌, ◌^◌, ◌++◌, ◌∷◌, [], ◌-ℤ◌, ◌+ℤ◌, ℕ, List, length, pos};
+ghost use Rattle.std.specs.Prelude.{slice_index, IfOk, IfSome, IsTrue, OnOk, OnSome, ◌-◌, true, false, unsigned_abs};
 ghost use Rattle.std.specs.Int.{bit_at};
-ghost use Rattle.plane_core.specs.Boards.{IsNext, IsReady, IsStill, KeepsMarks, KeepsOuter};
+ghost use Rattle.plane_core.specs.Boards.{IsInner, IsMarkedRound, IsNext, IsReady, IsStill, KeepsMarks, KeepsOuter};
 ghost use Rattle.plane_core.specs.Bounds.{IsWithin};
 ghost use Rattle.plane_core.specs.Cells.{InOrder, cell_at, has, plane_bound};
 ghost use Rattle.plane_core.specs.Generations.{after, lies_within};
-ghost use Rattle.plane_core.specs.Layouts.{AreSidesWithin, HasRead, HasReadRow, HasReadRows, HasRoom, IsBandEmpty, IsDead, IsLaid, IsLoaded, IsShown, grid_of, index_of, place, room};
+ghost use Rattle.plane_core.specs.Layouts.{AreSidesWithin, HasRead, HasReadRow, HasReadRows, HasRoom, IsBandEmpty};
+ghost use Rattle.plane_core.specs.Layouts.{IsBlockEmpty, IsDead, IsLaid, IsLoaded, IsRowEmpty, IsShown, grid_of};
+ghost use Rattle.plane_core.specs.Layouts.{index_of, place, room};
 ghost use Rattle.plane_core.specs.declared.cell.Cell.{Cell};
 
-use crate::blocks::{Grid, generation, mark_near, next_mark};
+use crate::blocks::{Grid, generation, mark_near, mark_round, next_mark};
 use crate::bounds::Bounds;
 use crate::cell::{BOUND, Cell};
 use crate::coordinate::{apart, back};
@@ -21,7 +24,8 @@ use crate::word::Answers;
 use std::alloc::{AllocError, Global};
 use std::mem::swap;
 
-/// Where a board lies: its first column and row, how many strips of 64 columns it has, and how many blocks of 16 rows each.
+/// Where a board lies: its first column and row, how many strips of 64 columns it has, and how many blocks of 16 rows
+/// each.
 #[derive(Clone, Copy)]
 pub(crate) struct Layout {
     pub(crate) left: i32,
@@ -49,12 +53,12 @@ pub(crate) fn run(
     for made in 0..generations {
         board.advance(&answers, grid);
     }
-    read(alloc, at, board.now.as_slice())
+    read(alloc, at, board.now.as_slice(), cells.len())
 }
 
 impl Layout {
-    /// A layout round the pattern with room for so many generations, if one is worth it: the pattern has a cell, it won't
-    /// get to the edge of the plane, and there are not many more blocks than cells.
+    /// A layout round the pattern with room for so many generations, if one is worth it: the pattern has a cell, it
+    /// won't get to the edge of the plane, and there are not many more blocks than cells.
     pub(crate) fn round(pattern: &Pattern, generations: u32) -> Option<Layout>
         requires { generations ≤ 1000 }
         ensures laid { IfSome result IsLaid }
@@ -148,6 +152,15 @@ impl Layout {
         }
     }
 
+    /// The block that has the cell.
+    fn block(self, cell: Cell) -> usize
+        requires laid { IsLaid self }
+        requires within { IsWithin (room self 0) cell }
+        ensures { IsInner (grid_of self) result }
+    {
+        self.index(self.across(cell) / 64, self.down(cell)) / 16
+    }
+
     /// How many columns of the board are left of the cell.
     fn across(self, cell: Cell) -> usize
         requires laid { IsLaid self }
@@ -182,7 +195,8 @@ impl Board {
     fn load(alloc: Global, at: Layout, cells: &[Cell]) -> Result<Board, AllocError>
         requires laid { IsLaid at }
         requires room { HasRoom at 0 cells.now }
-        ensures { IfOk result (λ board. IsLoaded at cells.now board.now.items board.last.items board.todo.items board.marks.items) }
+        ensures { IfOk result
+            (λ board. IsLoaded at cells.now board.now.items board.last.items board.todo.items board.marks.items) }
     {
         let count = at.grid().count;
         let last = vec![in alloc; 0u64; 16 * count]?;
@@ -200,7 +214,8 @@ impl Board {
 
     /// Goes on by a generation.
     fn advance(&mut self, answers: &Answers, grid: Grid)
-        requires { IsReady answers.now.rule grid self.old.now.items self.old.last.items self.old.todo.items self.old.marks.items }
+        requires { IsReady answers.now.rule grid self.old.now.items self.old.last.items self.old.todo.items
+            self.old.marks.items }
         ensures next { IsNext answers.now.rule grid self.old.now.items self.new.now.items }
         ensures last { self.new.last.items ≡ self.old.now.items }
         ensures still { IsStill grid self.new.todo.items self.old.last.items self.new.now.items }
@@ -258,21 +273,34 @@ fn along(cell: Cell, columns: usize) -> Cell
     }
 }
 
-/// Reads the cells of a row from the left, and adds them to a list.
-fn read_row(at: Layout, words: &[u64], row: usize, cells: &mut Vec<Cell>) -> Result<(), AllocError>
+/// Reads the cells of a row from the left, and adds them to a list. The strips before the first and from the end on
+/// have none.
+fn read_row(
+    at: Layout,
+    words: &[u64],
+    row: usize,
+    first: usize,
+    end: usize,
+    cells: &mut Vec<Cell>,
+) -> Result<(), AllocError>
     requires laid { IsLaid at }
     requires row { row < 16 * at.blocks }
     requires long { length words.now ≡ 16 * (at.strips * at.blocks) }
+    requires order { first ≤ end }
+    requires end { end ≤ at.strips }
+    requires left { IsRowEmpty at words.now row 0 first }
+    requires right { IsRowEmpty at words.now row end at.strips }
     ensures { OnOk result (HasReadRow at words.now row cells.old.items at.strips cells.new.items) }
 {
-    for strip in 0..at.strips {
+    for strip in first..end {
         let word = words[at.index(strip, row)];
         read_word(word, at.corner(strip, row), cells)?;
     }
     Ok(())
 }
 
-/// Reads the cells of a band, which is a block of each strip, row by row, and adds them to a list.
+/// Reads the cells of a band, which is a block of each strip, row by row, and adds them to a list. Most bands are
+/// empty, and of the others most blocks, since a board is laid out for what its cells may become.
 fn read_band(
     at: Layout,
     words: &[u64],
@@ -282,29 +310,62 @@ fn read_band(
     requires laid { IsLaid at }
     requires band { band < at.blocks }
     requires long { length words.now ≡ 16 * (at.strips * at.blocks) }
-    ensures { OnOk result (HasReadRows at words.now (16 * band) cells.old.items → HasReadRows at words.now (16 * band + 16) cells.new.items) }
+    ensures { OnOk result
+        (HasReadRows at words.now (16 * band) cells.old.items
+        → HasReadRows at words.now (16 * band + 16) cells.new.items) }
 {
-    if is_band_empty(at, words, band) {
+    let first = first_strip(at, words, band);
+    if first == at.strips {
         return Ok(());
     }
+    let end = end_of_strips(at, words, band, first);
     for row in 16 * band..16 * band + 16 {
-        read_row(at, words, row, cells)?;
+        read_row(at, words, row, first, end, cells)?;
     }
     Ok(())
 }
 
-/// Whether no cell of a band is alive. Most bands are empty, since a board is laid out for what its cells may become.
-fn is_band_empty(at: Layout, words: &[u64], band: usize) -> bool
+/// The first strip in which a cell of a band is alive. If there is none, it is how many strips there are.
+fn first_strip(at: Layout, words: &[u64], band: usize) -> usize
     requires laid { IsLaid at }
     requires band { band < at.blocks }
     requires long { length words.now ≡ 16 * (at.strips * at.blocks) }
-    ensures { IsTrue result → IsBandEmpty at words.now at.strips band }
+    ensures most { result ≤ at.strips }
+    ensures empty { IsBandEmpty at words.now band 0 result }
 {
-    let mut columns = 0;
-    for strip in 0..at.strips {
-        columns |= columns_of_block(words, at.index(strip, 16 * band));
+    let mut strip = 0;
+    while strip < at.strips && is_block_empty(at, words, strip, band) {
+        strip += 1;
     }
-    columns == 0
+    strip
+}
+
+/// One more than the last strip, from this one on, in which a cell of a band is alive.
+fn end_of_strips(at: Layout, words: &[u64], band: usize, first: usize) -> usize
+    requires laid { IsLaid at }
+    requires band { band < at.blocks }
+    requires long { length words.now ≡ 16 * (at.strips * at.blocks) }
+    requires first { first ≤ at.strips }
+    ensures least { first ≤ result }
+    ensures most { result ≤ at.strips }
+    ensures empty { IsBandEmpty at words.now band result at.strips }
+{
+    let mut end = at.strips;
+    while end > first && is_block_empty(at, words, end - 1, band) {
+        end -= 1;
+    }
+    end
+}
+
+/// Whether no cell of a block is alive.
+fn is_block_empty(at: Layout, words: &[u64], strip: usize, band: usize) -> bool
+    requires laid { IsLaid at }
+    requires strip { strip < at.strips }
+    requires band { band < at.blocks }
+    requires long { length words.now ≡ 16 * (at.strips * at.blocks) }
+    ensures { IsTrue result → IsBlockEmpty at words.now band strip }
+{
+    columns_of_block(words, at.index(strip, 16 * band)) == 0
 }
 
 /// Which columns have a live cell in sixteen words, from this one on.
@@ -319,13 +380,16 @@ fn columns_of_block(words: &[u64], from: usize) -> u64
     columns
 }
 
-/// Reads all cells of a board. They come in their order, so it costs little to see to that.
-fn read(alloc: Global, at: Layout, words: &[u64]) -> Result<Vec<Cell>, AllocError>
+/// Reads all cells of a board, for so many of which there is room from the start. They come in their order, so it costs
+/// little to see to that.
+fn read(alloc: Global, at: Layout, words: &[u64], room: usize) -> Result<Vec<Cell>, AllocError>
     requires laid { IsLaid at }
     requires long { length words.now ≡ 16 * (at.strips * at.blocks) }
-    ensures { IfOk result (λ read. (cells : List Cell) → InOrder cells → HasRoom at 0 cells → IsShown at words.now cells → read.items ≡ cells) }
+    ensures { IfOk result
+        (λ read. (cells : List Cell) → InOrder cells → HasRoom at 0 cells → IsShown at words.now cells
+        → read.items ≡ cells) }
 {
-    let mut cells = Vec::new(alloc);
+    let mut cells = Vec::with_capacity(alloc, room)?;
     for band in 0..at.blocks {
         read_band(at, words, band, &mut cells)?;
     }
@@ -341,20 +405,24 @@ fn farthest(bounds: Bounds) -> u32
     across.max(down)
 }
 
-/// Puts one more cell on the board, and marks the blocks that it concerns.
-fn put(at: Layout, words: &mut [u64], flags: &mut [u64], cell: Cell)
+/// Puts one more cell on the board, and marks the blocks that it concerns. The result is the block that has it. Mostly
+/// it is that of the cell before, round which all is marked already.
+fn put(at: Layout, words: &mut [u64], flags: &mut [u64], cell: Cell, last: usize) -> usize
     requires laid { IsLaid at }
     requires within { IsWithin (room at 0) cell }
     requires long { length words.old ≡ 16 * (at.strips * at.blocks) }
     requires flags { at.strips * at.blocks ≤ 64 * length flags.old }
+    requires marked { IsMarkedRound (grid_of at) flags.old last }
     ensures shown { (cells : List Cell) → IsShown at words.old cells → IsShown at words.new (cells ++ cell ∷ []) }
     ensures still { IsStill (grid_of at) flags.old [] words.old → IsStill (grid_of at) flags.new [] words.new }
     ensures dead { IsDead (grid_of at) words.old → IsDead (grid_of at) words.new }
+    ensures marked { IsMarkedRound (grid_of at) flags.new result }
 {
     let across = at.across(cell);
     let i = at.index(across / 64, at.down(cell));
     words[i] |= 1 << (across % 64);
-    mark_near(flags, at.grid(), i / 16);
+    mark_round(flags, at.grid(), i / 16, last);
+    i / 16
 }
 
 /// Puts all cells on an empty board.
@@ -368,7 +436,12 @@ fn fill(at: Layout, words: &mut [u64], flags: &mut [u64], cells: &[Cell])
     ensures still { IsStill (grid_of at) flags.new [] words.new }
     ensures dead { IsDead (grid_of at) words.new }
 {
+    if cells.is_empty() {
+        return;
+    }
+    let mut last = at.block(cells[0]);
+    mark_near(flags, at.grid(), last);
     for cell in cells {
-        put(at, words, flags, *cell);
+        last = put(at, words, flags, *cell, last);
     }
 }

@@ -4,13 +4,14 @@
 //!      . . . . . . O          leads to 0  0  2  2  0
 //!      . . . O . . .          cluster  0  0  1  1  0
 //!
-//! The places are gone through in order. A root begins the next cluster; any other place goes into the cluster of the place
-//! to which it leads, which stands earlier. So the clusters come in the order of their first cells, and the cells of each
-//! in their own.
+//! The places are gone through in order. A root begins the next cluster; any other place goes into the cluster of the
+//! place to which it leads, which stands earlier. So the clusters come in the order of their first cells, and the cells
+//! of each in their own.
 ghost use Rattle.std.specs.Prelude.{◌≡◌, ◌<◌, ◌++◌, [], ◌∷◌, length, All, IfOk, OnOk, get_or, set};
 ghost use Rattle.plane_core.specs.Cells.{IsPattern};
 ghost use Rattle.plane_core.specs.Clusters.{AreClusters};
-ghost use Rattle.plane_core.specs.Clusters.{ClustersAreDetermined, ClustersLieApart, ClustersMoveAlong, ClustersPartition, LinkedIsAnEquivalence};
+ghost use Rattle.plane_core.specs.Clusters.{ClustersAreDetermined, ClustersLieApart, ClustersMoveAlong};
+ghost use Rattle.plane_core.specs.Clusters.{ClustersPartition, LinkedIsAnEquivalence};
 ghost use Rattle.plane_core.specs.Forest.{IsForest, JoinsAll};
 
 use crate::cell::Cell;

@@ -1,11 +1,12 @@
 //! The arithmetic of coordinates: each call says how large its numbers may be, so that none overflows.
-ghost use Rattle.std.specs.Prelude.{◌≡◌, ◌+◌, ◌≤◌, ◌+ℤ◌, ◌-ℤ◌, Some, None, if◌then◌else◌, nat_le, neg_ℤ, pos, unsigned_abs};
+ghost use Rattle.std.specs.Prelude.{◌≡◌, ◌+◌, ◌≤◌, ◌+ℤ◌, ◌-ℤ◌, Some, None, if◌then◌else◌, nat_le, neg_ℤ, pos};
+ghost use Rattle.std.specs.Prelude.{unsigned_abs};
 ghost use Rattle.plane_core.specs.Cells.{distance, plane_bound};
 
 use crate::cell::BOUND;
 
-/// The coordinate a step on. The step is at most two cells long, either way, and begins at most one cell past the bound;
-/// it may end past it.
+/// The coordinate a step on. The step is at most two cells long, either way, and begins at most one cell past the
+/// bound; it may end past it.
 pub fn stepped(at: i32, step: i32) -> i32
     requires at { unsigned_abs at ≤ plane_bound + 1 }
     requires step { unsigned_abs step ≤ 2 }
@@ -14,8 +15,8 @@ pub fn stepped(at: i32, step: i32) -> i32
     at + step
 }
 
-/// The coordinate so many cells to the right, or down, of one that lies within the bound: at most [`BOUND`] cells. It may
-/// lie past the bound.
+/// The coordinate so many cells to the right, or down, of one that lies within the bound: at most [`BOUND`] cells. It
+/// may lie past the bound.
 pub fn along(from: i32, cells: u32) -> i32
     requires from { unsigned_abs from ≤ plane_bound }
     requires cells { cells ≤ plane_bound }
@@ -24,8 +25,8 @@ pub fn along(from: i32, cells: u32) -> i32
     from + cells as i32
 }
 
-/// The coordinate so many cells to the left, or up, of one that lies within the bound: at most [`BOUND`] cells. It may lie
-/// past the bound.
+/// The coordinate so many cells to the left, or up, of one that lies within the bound: at most [`BOUND`] cells. It may
+/// lie past the bound.
 pub(crate) fn back(from: i32, cells: u32) -> i32
     requires from { unsigned_abs from ≤ plane_bound }
     requires cells { cells ≤ plane_bound }
@@ -61,8 +62,8 @@ pub fn sum_on_plane(at: i32, by: i32) -> Option<i32>
     }
 }
 
-/// How far it is from one coordinate to another, where both lie within the bound: below 0 if the other is to the left, or
-/// above.
+/// How far it is from one coordinate to another, where both lie within the bound: below 0 if the other is to the left,
+/// or above.
 pub fn difference(from: i32, to: i32) -> i32
     requires from { unsigned_abs from ≤ plane_bound }
     requires to { unsigned_abs to ≤ plane_bound }

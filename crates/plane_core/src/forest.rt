@@ -4,28 +4,31 @@
 //!      . . . . . . O          . . . . . . 3          leads to 0  0  2  2  0
 //!      . . . O . . .          . . . 4 . . .
 //!
-//! Each place leads to an earlier one of its tree, or to itself: then it is a root. At first all are roots. The places are
-//! gone through in order, and each is joined with those before it whose cells are near, at most two columns and two rows
-//! away: of the two roots, the later one leads to the earlier from then on. At the end each tree is a cluster.
+//! Each place leads to an earlier one of its tree, or to itself: then it is a root. At first all are roots. The places
+//! are gone through in order, and each is joined with those before it whose cells are near, at most two columns and two
+//! rows away: of the two roots, the later one leads to the earlier from then on. At the end each tree is a cluster.
 //!
-//! What is near and stands earlier lies in the cell's own row or in the two above. A cursor for each of these rows skips
-//! what lies too far to the left; it never goes back, since the next cell lies further right or further down.
-ghost use Rattle.std.specs.Prelude.{◌≡◌, ◌≢◌, ◌<◌, ◌≤◌, ℕ, true, IfOk, List, length, nat_le, unsigned_abs};
+//! What is near and stands earlier lies in the cell's own row or in the two above. A cursor for each of the two skips
+//! what lies too far to the left; it never goes back, since the next cell lies further right or further down. In its
+//! own row a cell is joined with the one just before it, and that one, if near, has been joined with all that is near
+//! both: so of the rows above mostly one cell is left, or none.
+ghost use Rattle.std.specs.Prelude.{◌≡◌, ◌≢◌, ◌+◌, ◌+ℤ◌, ◌<◌, ◌<ℤ◌, ◌≤◌, ℕ, true, IfOk, List, length, nat_le, pos};
+ghost use Rattle.std.specs.Prelude.{unsigned_abs};
 ghost use Rattle.std.specs.declared.cmp.Ordering.TheVariants.{Less};
-ghost use Rattle.plane_core.specs.Cells.{IsPattern, cell_cmp, king_distance, moved_by, on_plane};
-ghost use Rattle.plane_core.specs.Forest.{AreBehind, IsForest, IsPassed, Joined, JoinsAll, JoinsLinked, Keeps, LeadsBack};
+ghost use Rattle.plane_core.specs.Cells.{IsPattern, cell_at, cell_cmp, king_distance, moved_by, on_plane};
+ghost use Rattle.plane_core.specs.Forest.{AreBehind, IsBridged, IsForest, IsPassed, Joined, JoinsAll, JoinsLinked};
+ghost use Rattle.plane_core.specs.Forest.{Keeps, LeadsBack, NeedsJoin};
 ghost use Rattle.plane_core.specs.Clusters.{Linked};
 ghost use Rattle.plane_core.specs.Forest.{cell_of, parent_of};
 ghost use Rattle.plane_core.specs.declared.cell.Cell.{Cell};
 
 use crate::cell::Cell;
-use crate::coordinate::{apart, stepped};
+use crate::coordinate::{along, apart, stepped};
 use std::alloc::{AllocError, Global};
 
-/// The first places that may be near, in the row of a cell and in the two rows above.
+/// The first places that may be near, in the two rows above a cell.
 #[derive(Clone, Copy, Debug)]
 struct Cursors {
-    here: usize,
     above: usize,
     top: usize,
 }
@@ -60,11 +63,7 @@ fn join_all(cells: &[Cell], parents: &mut [usize])
     ensures forest { IsForest cells.now parents.new }
     ensures joined { JoinsAll cells.now parents.new (length cells.now) }
 {
-    let mut cursors = Cursors {
-        here: 0,
-        above: 0,
-        top: 0,
-    };
+    let mut cursors = Cursors { above: 0, top: 0 };
     for place in 0..cells.len() {
         cursors = join_place(cells, parents, place, cursors);
     }
@@ -78,19 +77,11 @@ fn join_place(cells: &[Cell], parents: &mut [usize], place: usize, cursors: Curs
     requires cursors { AreBehind cells.now cursors place }
     ensures forest { IsForest cells.now parents.new }
     ensures keeps { Keeps parents.old parents.new }
-    ensures joined { (k : ℕ) → k < place → king_distance (cell_of cells.now k) (cell_of cells.now place) ≤ 2
-        → Joined parents.new k place }
+    ensures joined { (k : ℕ) → k < place → NeedsJoin cells.now k place → Joined parents.new k place }
     ensures cursors { AreBehind cells.now result place }
 {
     let cell = cells[place];
-    let here = join_row(
-        cells,
-        parents,
-        place,
-        cursors.here,
-        near(cell, -2, 0),
-        near(cell, 2, 0),
-    );
+    join_before(cells, parents, place);
     let above = join_row(
         cells,
         parents,
@@ -107,11 +98,27 @@ fn join_place(cells: &[Cell], parents: &mut [usize], place: usize, cursors: Curs
         near(cell, -2, -2),
         near(cell, 2, -2),
     );
-    Cursors { here, above, top }
+    Cursors { above, top }
 }
 
-/// Joins this place with those before it whose cells are near and lie between two cells, these included. The result is the
-/// first place that may be one.
+/// Joins this place with the one just before it if their cells are near.
+fn join_before(cells: &[Cell], parents: &mut [usize], place: usize)
+    requires pattern { IsPattern cells.now }
+    requires place { place < length cells.now }
+    requires forest { IsForest cells.now parents.old }
+    ensures forest { IsForest cells.now parents.new }
+    ensures keeps { Keeps parents.old parents.new }
+    ensures joined { (k : ℕ) → k + 1 ≡ place → NeedsJoin cells.now k place → Joined parents.new k place }
+{
+    if place == 0 {
+        return;
+    }
+    join_if_near(cells, parents, place - 1, place);
+}
+
+/// Joins this place with those before it whose cells are near and lie between two cells, these included. The result is
+/// the first place that may be one.
+#[inline(always)]
 fn join_row(
     cells: &[Cell],
     parents: &mut [usize],
@@ -124,27 +131,65 @@ fn join_row(
     requires place { place < length cells.now }
     requires forest { IsForest cells.now parents.old }
     requires cursor { IsPassed cells.now cursor from }
+    requires above { from.y <ℤ (cell_of cells.now place).y }
     ensures forest { IsForest cells.now parents.new }
     ensures keeps { Keeps parents.old parents.new }
-    ensures joined { (k : ℕ) → k < place → cell_cmp (cell_of cells.now k) from ≢ Less → cell_cmp to (cell_of cells.now k) ≢ Less
-        → king_distance (cell_of cells.now k) (cell_of cells.now place) ≤ 2 → Joined parents.new k place }
+    ensures joined { (k : ℕ) → k < place → cell_cmp (cell_of cells.now k) from ≢ Less
+        → cell_cmp to (cell_of cells.now k) ≢ Less
+        → NeedsJoin cells.now k place → Joined parents.new k place }
     ensures cursor { IsPassed cells.now result from }
 {
     let first = skipped(cells, cursor, from);
-    join_up_to(cells, parents, place, first, to);
+    let fresh = fresh_from(cells, place, from);
+    let start = skipped(cells, first, fresh);
+    join_up_to(cells, parents, place, start, to);
     first
 }
 
-/// The first place whose cell doesn't come before this one.
+/// The first place from the cursor on whose cell doesn't come before this one.
 fn skipped(cells: &[Cell], cursor: usize, from: Cell) -> usize
-    requires { IsPassed cells.now cursor from }
-    ensures { IsPassed cells.now result from }
+    ensures { (k : ℕ) → cursor ≤ k → k < result → cell_cmp (cell_of cells.now k) from ≡ Less }
 {
     let mut at = cursor;
     while at < cells.len() && cells[at] < from {
         at += 1;
     }
     at
+}
+
+/// The first cell of a row above this place that needs a join with it, where those from a cell on are near: if the cell
+/// just before stands in the same row and is near, it is the one past all that are near both.
+fn fresh_from(cells: &[Cell], place: usize, from: Cell) -> Cell
+    requires pattern { IsPattern cells.now }
+    requires place { place < length cells.now }
+    requires above { from.y <ℤ (cell_of cells.now place).y }
+    ensures { (k : ℕ) → k < place → cell_cmp (cell_of cells.now k) from ≢ Less
+        → cell_cmp (cell_of cells.now k) result ≡ Less
+        → king_distance (cell_of cells.now k) (cell_of cells.now place) ≤ 2 → IsBridged cells.now k place }
+{
+    if place == 0 {
+        return from;
+    }
+    let before = cells[place - 1];
+    if before.y != cells[place].y {
+        return from;
+    }
+    if !are_near(before, cells[place]) {
+        return from;
+    }
+    past(before, from)
+}
+
+/// The cell three columns further right than this one, in the row of the other.
+#[tactic(auto, unfolding(crate::specs::Cells::on_plane))]
+fn past(cell: Cell, row: Cell) -> Cell
+    requires { on_plane cell ≡ true }
+    ensures { result ≡ cell_at (cell.x +ℤ pos 3) row.y }
+{
+    Cell {
+        y: row.y,
+        x: along(cell.x, 3),
+    }
 }
 
 /// Joins this place with those from the first one on whose cells are near, up to the cell at which it ends.
@@ -155,7 +200,7 @@ fn join_up_to(cells: &[Cell], parents: &mut [usize], place: usize, first: usize,
     ensures forest { IsForest cells.now parents.new }
     ensures keeps { Keeps parents.old parents.new }
     ensures joined { (k : ℕ) → first ≤ k → k < place → cell_cmp to (cell_of cells.now k) ≢ Less
-        → king_distance (cell_of cells.now k) (cell_of cells.now place) ≤ 2 → Joined parents.new k place }
+        → NeedsJoin cells.now k place → Joined parents.new k place }
 {
     let mut at = first;
     while at < place && cells[at] <= to {
@@ -172,7 +217,7 @@ fn join_if_near(cells: &[Cell], parents: &mut [usize], one: usize, other: usize)
     requires forest { IsForest cells.now parents.old }
     ensures forest { IsForest cells.now parents.new }
     ensures keeps { Keeps parents.old parents.new }
-    ensures joined { king_distance (cell_of cells.now one) (cell_of cells.now other) ≤ 2 → Joined parents.new one other }
+    ensures joined { NeedsJoin cells.now one other → Joined parents.new one other }
 {
     if are_near(cells[one], cells[other]) {
         join(parents, one, other);
@@ -201,7 +246,8 @@ fn root(parents: &[usize], place: usize) -> usize
     ensures place { result < length parents.now }
     ensures root { parent_of parents.now result ≡ result }
     ensures joined { Joined parents.now place result }
-    ensures linked { (cells : List Cell) → IsForest cells parents.now → Linked cells (cell_of cells place) (cell_of cells result) }
+    ensures linked { (cells : List Cell) → IsForest cells parents.now
+        → Linked cells (cell_of cells place) (cell_of cells result) }
 {
     let mut at = place;
     while parents[at] != at {

@@ -1,6 +1,7 @@
 ghost use Rattle.std.specs.Prelude.{◌≡◌, ◌≢◌, ℕ, ◌+◌, ◌-◌, ◌<◌, ◌≤◌, true, false, IfOk, IfErr, IfSome, OnOk, IsErrOf};
 ghost use Rattle.plane_core.specs.Cells.{has, plane_bound};
-ghost use Rattle.plane_core.specs.Generations.{next, after, lives, touches_edge, lies_within, NextMoved, NextTurned, SpeedFromOrigin, SpeedOfCells, SpeedOfLight};
+ghost use Rattle.plane_core.specs.Generations.{next, after, lives, touches_edge, lies_within, NextMoved, NextTurned};
+ghost use Rattle.plane_core.specs.Generations.{SpeedFromOrigin, SpeedOfCells, SpeedOfLight};
 ghost use Rattle.plane_core.specs.Layouts.{HasRoom, IsLaid};
 ghost use Rattle.plane_core.specs.Parts.{FarPatternsRunAlone, HasRun};
 ghost use Rattle.plane_core.specs.Refusals.{RefusesStep};
@@ -27,8 +28,8 @@ pub enum StepError {
     Memory,
 }
 
-/// The most generations on one board. Then the pattern is read back and a board is laid out anew, so that it is no wider
-/// than the pattern for long.
+/// The most generations on one board. Then the pattern is read back and a board is laid out anew, so that it is no
+/// wider than the pattern for long.
 const STRETCH: u32 = 128;
 
 /// The most cuts that lead to a part of a pattern. Each is near the middle, so there may be very many parts.
@@ -50,8 +51,8 @@ impl Pattern {
     ///
     /// # Errors
     ///
-    /// `Edge` if a cell has a coordinate of 1,000,000 in size, whether there is memory or not, and even if no cell would
-    /// be born past it. Otherwise `Memory` if memory runs out.
+    /// `Edge` if a cell has a coordinate of 1,000,000 in size, whether there is memory or not, and even if no cell
+    /// would be born past it. Otherwise `Memory` if memory runs out.
     pub fn step(&self, alloc: Global, rule: &Rule) -> Result<Pattern, StepError>
         ensures next { IfOk result (λ pattern. pattern ≡ next rule.now self.now) }
         // For every cell of the plane: it is alive then just where the rule's numbers say so.
@@ -100,10 +101,12 @@ impl Pattern {
         ensures after { IfOk result (λ pattern. pattern ≡ after rule.now self.now generations) }
         ensures inside { OnOk result ((g : ℕ) → g < generations → touches_edge (after rule.now self.now g) ≡ false) }
         // No pattern gets to the edge faster than a cell a generation.
-        ensures never_edge { (reach : ℕ) → lies_within reach self.now ≡ true → reach + generations ≤ plane_bound → result ≢ Err StepError.Edge }
+        ensures never_edge { (reach : ℕ) → lies_within reach self.now ≡ true → reach + generations ≤ plane_bound
+            → result ≢ Err StepError.Edge }
         // An edge that is there from the start is refused as such, whether there is memory or not.
         ensures edge_first { 1 ≤ generations → touches_edge self.now ≡ true → result ≡ Err StepError.Edge }
-        ensures edge { IsErrOf result StepError.Edge → (g : ℕ) × (g < generations) × (touches_edge (after rule.now self.now g) ≡ true) }
+        ensures edge { IsErrOf result StepError.Edge
+            → (g : ℕ) × (g < generations) × (touches_edge (after rule.now self.now g) ≡ true) }
     {
         if generations > 0 && touches(self.cells()) {
             return Err(StepError::Edge);
@@ -124,7 +127,8 @@ impl Pattern {
         ensures some { IfOk result (λ stretch. 0 < stretch.count) }
         ensures most { IfOk result (λ stretch. stretch.count ≤ most) }
         ensures after { IfOk result (λ stretch. stretch.pattern ≡ after rule.now self.now stretch.count) }
-        ensures inside { IfOk result (λ stretch. (g : ℕ) → g < stretch.count → touches_edge (after rule.now self.now g) ≡ false) }
+        ensures inside { IfOk result
+            (λ stretch. (g : ℕ) → g < stretch.count → touches_edge (after rule.now self.now g) ≡ false) }
         ensures edge { IsErrOf result StepError.Edge → touches_edge self.now ≡ true }
     {
         let count = most.min(STRETCH);
@@ -137,8 +141,8 @@ impl Pattern {
         }
     }
 
-    /// The pattern after so many generations, each part that lies far from the others on a board of its own. It is `None`
-    /// if a board isn't worth it for some part. At most so many cuts lead to a part.
+    /// The pattern after so many generations, each part that lies far from the others on a board of its own. It is
+    /// `None` if a board isn't worth it for some part. At most so many cuts lead to a part.
     fn run_in_parts(
         &self,
         alloc: Global,

@@ -1,14 +1,15 @@
 ghost use Rattle.std.specs.Prelude.{◌≡◌, true};
 ghost use Rattle.plane_core.specs.Cells.{cell_at, on_plane};
-ghost use Rattle.plane_core.specs.Orientations.{orientations, turned_cell, OrientationsDiffer, ProductAssociates, SameIsIdentity, TurningBack, TurningMoved, TurningTwice};
+ghost use Rattle.plane_core.specs.Orientations.{orientations, turned_cell, OrientationsDiffer, ProductAssociates};
+ghost use Rattle.plane_core.specs.Orientations.{SameIsIdentity, TurningBack, TurningMoved, TurningTwice};
 
 use crate::cell::Cell;
 use crate::coordinate::negated;
 
 /// The eight ways in which a pattern can lie on the square grid.
 ///
-/// Each takes the cell (x, y) to the cell that is given here. [`Pattern::turn`](crate::pattern::Pattern::turn) then moves
-/// the image so that its least x and its least y are 0.
+/// Each takes the cell (x, y) to the cell that is given here. [`Pattern::turn`](crate::pattern::Pattern::turn) then
+/// moves the image so that its least x and its least y are 0.
 #[derive(Clone, Copy, Debug, PartialEq, Eq)]
 pub enum Orientation {
     /// (x, y)
@@ -70,8 +71,8 @@ impl Orientation {
 
 /// The laws of the eight orientations: they are the group of the square.
 ///
-/// They are different maps, and their product is that of a group. To turn a pattern by one of them and then by another is
-/// to turn it by their product, and a pattern has the same image wherever it lies.
+/// They are different maps, and their product is that of a group. To turn a pattern by one of them and then by another
+/// is to turn it by their product, and a pattern has the same image wherever it lies.
 pub fn square_group()
     ensures associative { ProductAssociates }
     ensures identity { SameIsIdentity }

@@ -55,8 +55,8 @@ impl<V: Write> Out<V> {
         self.writer
     }
 
-    /// Writes the whole piece. The `Out` must not have failed. A write that a signal interrupts is tried again, no other is, and
-    /// nothing is flushed.
+    /// Writes the whole piece. The `Out` must not have failed. A write that a signal interrupts is tried again, no
+    /// other is, and nothing is flushed.
     ///
     /// # Errors
     ///
@@ -79,7 +79,8 @@ impl<V: Write> Out<V> {
         requires { self.old.failed ≡ false }
         ensures told { self.new.failed ≡ is_err result }
         ensures some { IfOk result (λ taken. (0 < taken) × (taken ≤ length piece.now)) }
-        ensures written { IfOk result (λ taken. Appends (V.contents self.old.writer) (V.contents self.new.writer) (take taken piece.now)) }
+        ensures written { IfOk result
+            (λ taken. Appends (V.contents self.old.writer) (V.contents self.new.writer) (take taken piece.now)) }
         ensures nothing { OnErr result (Appends (V.contents self.old.writer) (V.contents self.new.writer) []) }
     {
         for _ in 0..u64::MAX {

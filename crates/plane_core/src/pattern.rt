@@ -1,4 +1,4 @@
-ghost use Rattle.std.specs.Prelude.{◌≡◌, ◌++◌, List, [], ◌∷◌, length, IfOk, IfErr, OnOk, position, None};
+ghost use Rattle.std.specs.Prelude.{◌≡◌, ◌++◌, List, [], ◌∷◌, length, IfOk, IfErr, IsTrue, OnOk, position, None};
 ghost use Rattle.plane_core.specs.Cells.{InOrder, IsPattern, SetsHaveOneList, cell_at, has, set_of, off_plane};
 ghost use Rattle.plane_core.specs.Refusals.{RefusesCells};
 ghost use Rattle.plane_core.specs.declared.cell.Cell.{Cell};
@@ -47,8 +47,8 @@ impl Pattern {
     ///
     /// # Errors
     ///
-    /// `OutOfPlane` if a cell lies past the bound, with the index of the first such cell, counted from 0, whether there is
-    /// memory or not. Otherwise `Memory` if memory runs out.
+    /// `OutOfPlane` if a cell lies past the bound, with the index of the first such cell, counted from 0, whether there
+    /// is memory or not. Otherwise `Memory` if memory runs out.
     pub fn from_cells(alloc: Global, cells: &[Cell]) -> Result<Pattern, FromCellsError>
         ensures set { IfOk result (λ pattern. pattern ≡ set_of cells.now) }
         ensures members { IfOk result (λ pattern. (c : Cell) → has pattern c ≡ has cells.now c) }
@@ -136,12 +136,30 @@ fn is_member(cells: &[Cell], cell: &Cell) -> bool
     cells.binary_search(cell).is_ok()
 }
 
-/// The cells in order, each once.
+/// The cells in order, each once. Those that are read off a board are so already.
 pub(crate) fn in_order(cells: Vec<Cell>) -> Vec<Cell>
     ensures { result.items ≡ set_of cells.items }
 {
+    if are_in_order(cells.as_slice()) {
+        return cells;
+    }
     let mut set = cells;
     set.sort_unstable();
     set.dedup();
     set
+}
+
+/// Whether each cell comes before the next.
+fn are_in_order(cells: &[Cell]) -> bool
+    ensures { IsTrue result → InOrder cells.now }
+{
+    let mut place = 1;
+    while place < cells.len() {
+        let before = cells[place - 1] < cells[place];
+        if !before {
+            return false;
+        }
+        place += 1;
+    }
+    true
 }

@@ -1,4 +1,5 @@
-ghost use Rattle.std.specs.Prelude.{◌≡◌, map, ◌≢◌, nat_le, unsigned_abs, ◌+ℤ◌, ◌-ℤ◌, ◌≤◌, ℤ, true, false, length, IsTrue, ◌↔◌, Some, None, IfOk, IfErr, IfSome, IfNone, OnOk, if◌then◌else◌};
+ghost use Rattle.std.specs.Prelude.{◌≡◌, map, ◌≢◌, nat_le, unsigned_abs, ◌+ℤ◌, ◌-ℤ◌, ◌≤◌, ℤ, true, false, length};
+ghost use Rattle.std.specs.Prelude.{IsTrue, ◌↔◌, Some, None, IfOk, IfErr, IfSome, IfNone, OnOk, if◌then◌else◌};
 ghost use Rattle.std.specs.List.{list_all};
 ghost use Rattle.std.specs.Option.{option_map};
 ghost use Rattle.plane_core.specs.Bounds.{box_of, shifted};
@@ -39,8 +40,8 @@ impl Pattern {
     ///
     /// # Errors
     ///
-    /// `OutOfPlane` if a cell would lie past the bound, whether there is memory or not. Otherwise `Memory` if memory runs
-    /// out.
+    /// `OutOfPlane` if a cell would lie past the bound, whether there is memory or not. Otherwise `Memory` if memory
+    /// runs out.
     pub fn shift(&self, alloc: Global, dx: i32, dy: i32) -> Result<Pattern, PlaceError>
         ensures shifted { IfOk result (λ pattern. pattern ≡ shifted dx dy self.now) }
         ensures plane { OnOk result (list_all on_plane (shifted dx dy self.now) ≡ true) }

@@ -1,4 +1,5 @@
-ghost use Rattle.std.specs.Prelude.{◌≡◌, ◌↔◌, ◌<◌, ◌≤◌, ◌++◌, Option, None, List, [], ◌∷◌, IfOk, IsErrOf, OnOk, length, ℕ, pos, Ok, Err};
+ghost use Rattle.std.specs.Prelude.{◌≡◌, ◌↔◌, ◌<◌, ◌≤◌, ◌++◌, Option, None, List, [], ◌∷◌, IfOk, IsErrOf, OnOk, length};
+ghost use Rattle.std.specs.Prelude.{ℕ, pos, Ok, Err};
 ghost use Rattle.std.specs.Prelude.{Some, IfSome, replicate, true, false, drop};
 ghost use Rattle.std.specs.List.{prefix_len};
 ghost use Rattle.std.specs.Ordering.{int_eq};
@@ -10,7 +11,8 @@ ghost use Rattle.plane_core.specs.Cells.{IsPattern, cell_at, has};
 ghost use Rattle.plane_core.specs.declared.cell.Cell.{Cell};
 ghost use Rattle.plane_core.specs.declared.plaintext.PlaintextFault.{PlaintextFault};
 ghost use Rattle.plane_core.specs.Generations.{lies_within};
-ghost use Rattle.plane_core.specs.Plaintext.{is_live, fault_at, first_fault, live_cells, pattern, row_text, box_text, plain, FitsThousandSquare};
+ghost use Rattle.plane_core.specs.Plaintext.{is_live, fault_at, first_fault, live_cells, pattern, row_text, box_text};
+ghost use Rattle.plane_core.specs.Plaintext.{plain, FitsThousandSquare};
 ghost use Rattle.plane_core.specs.PlaintextPlaces.{Place, byte_at, dot, is_comment, places_of_row, places, side_limit};
 
 use crate::bounds::Bounds;
@@ -71,8 +73,8 @@ impl Pattern {
     ///
     /// # Errors
     ///
-    /// [`PlaintextError::Fault`] with the fault that stands first in the text, whether there is memory or not. Otherwise
-    /// [`PlaintextError::Memory`] if memory runs out.
+    /// [`PlaintextError::Fault`] with the fault that stands first in the text, whether there is memory or not.
+    /// Otherwise [`PlaintextError::Memory`] if memory runs out.
     pub fn read_plaintext(alloc: Global, input: &[u8]) -> Result<Pattern, PlaintextError>
         ensures pattern { IfOk result (λ read. pattern input.now ≡ Ok read) }
         ensures cells { IfOk result (λ read. (x y : ℕ) →
@@ -91,7 +93,8 @@ impl Pattern {
     /// box's left column to its right column with `.` and `O`, and each ended by a line feed. Nothing is written of the
     /// empty pattern. The `Out` must not have failed.
     ///
-    /// It takes no memory. Each live cell is a write of one byte, so the writer should be buffered, as by a `BufWriter`.
+    /// It takes no memory. Each live cell is a write of one byte, so the writer should be buffered, as by a
+    /// `BufWriter`.
     ///
     /// # Errors
     ///
@@ -107,8 +110,8 @@ impl Pattern {
     }
 }
 
-/// A law of all patterns whose box is at most 1,000 by 1,000: what is written is read again, as the pattern moved to the
-/// corner.
+/// A law of all patterns whose box is at most 1,000 by 1,000: what is written is read again, as the pattern moved to
+/// the corner.
 pub fn round_trip()
     ensures { (cells : List Cell) → IsPattern cells → IfSome (box_of cells) FitsThousandSquare
         → pattern (plain cells) ≡ Ok (at_corner cells) }

@@ -1,6 +1,7 @@
 ghost use Rattle.std.specs.Prelude.{◌≡◌, ◌↔◌, ◌+◌, ◌<◌, ◌≤◌, ℕ, true, false, IsTrue, ◌∷◌, [], length, codes, IfOk};
 ghost use Rattle.plane_core.specs.Out.{Writes};
-ghost use Rattle.plane_core.specs.Rules.{Numbers, IsRule, IsFirstFault, is_birth, is_survival, digits, rule_text, begins, numbers_at, rule_read};
+ghost use Rattle.plane_core.specs.Rules.{Numbers, IsRule, IsFirstFault, is_birth, is_survival, digits, rule_text};
+ghost use Rattle.plane_core.specs.Rules.{begins, numbers_at, rule_read};
 
 use crate::output::{Out, WriteError};
 use std::io::Write;
@@ -43,7 +44,8 @@ impl Rule {
     #[tactic(auto, unfolding(crate::specs::Rules::rule_text, crate::specs::Rules::digits))]
     pub fn life() -> Rule
         ensures births { result.births ≡ false ∷ false ∷ true ∷ false ∷ false ∷ false ∷ false ∷ false ∷ [] }
-        ensures survivals { result.survivals ≡ false ∷ false ∷ true ∷ true ∷ false ∷ false ∷ false ∷ false ∷ false ∷ [] }
+        ensures survivals { result.survivals
+            ≡ false ∷ false ∷ true ∷ true ∷ false ∷ false ∷ false ∷ false ∷ false ∷ [] }
         ensures text { rule_text result ≡ codes "b3s23" }
     {
         Rule {
@@ -152,7 +154,8 @@ fn write_digits<V: Write>(out: &mut Out<V>, least: u8, answers: &[bool]) -> Resu
     Ok(())
 }
 
-/// Reads the numbers from `least` on whose digits stand in order at the front of the text, and returns the text after them.
+/// Reads the numbers from `least` on whose digits stand in order at the front of the text, and returns the text after
+/// them.
 fn read_numbers<const N: usize>(text: &[u8], least: u8) -> ([bool; N], &[u8])
     requires { least + N ≤ 10 }
     ensures answers { result.0 ≡ (numbers_at N least text.now).answers }

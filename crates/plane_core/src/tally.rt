@@ -12,10 +12,13 @@
 //!
 //! A live cell is counted in its own block. So the four cells with a 3 are alive next under Life: one is dead and has
 //! three neighbours, and the others are alive and have two.
-ghost use Rattle.std.specs.Prelude.{◌≡◌, true, ℕ, ◌+◌, ◌<◌, ◌^◌, List, [], ◌∷◌, ◌||◌, ◌≤◌, map, filter, IfOk, MatchOption, unsigned_abs, neg_ℤ};
+ghost use Rattle.std.specs.Prelude.{◌≡◌, true, ℕ, ◌+◌, ◌<◌, ◌^◌, List, [], ◌∷◌, ◌||◌, ◌≤◌, map, filter, IfOk};
+ghost use Rattle.std.specs.Prelude.{MatchOption, unsigned_abs, neg_ℤ};
 ghost use Rattle.std.specs.List.{list_all};
 ghost use Rattle.plane_core.specs.Cells.{InOrder, IsPattern, moved_by, near_plane};
-ghost use Rattle.plane_core.specs.Tallies.{AddsNeighbours, CountsBlocks, IsMerged, cells_of, total, alive_at, one_of, moved_tally, tally_lives, count_first, alive_first, rest_at, first_of, earlier_of};
+ghost use Rattle.plane_core.specs.Tallies.{AddsNeighbours, CountsBlocks, IsMerged, cells_of, counted_at, alive_at};
+ghost use Rattle.plane_core.specs.Tallies.{one_of, moved_tally, tally_lives, count_first, alive_first, rest_at};
+ghost use Rattle.plane_core.specs.Tallies.{first_of, earlier_of};
 ghost use Rattle.plane_core.specs.declared.cell.Cell.{Cell};
 ghost use Rattle.plane_core.specs.declared.tally.Tally.{Tally};
 
@@ -96,7 +99,9 @@ fn with_neighbours(
     requires in_order { InOrder (cells_of tallies.now) }
     requires right { unsigned_abs dx ≤ 1 }
     requires down { unsigned_abs dy ≤ 1 }
-    requires small { (c : Cell) → total tallies.now (moved_by dx dy c) + (total tallies.now c + total tallies.now (moved_by (neg_ℤ dx) (neg_ℤ dy) c)) < 256 }
+    requires small { (c : Cell)
+        → counted_at tallies.now (moved_by dx dy c)
+        + (counted_at tallies.now c + counted_at tallies.now (moved_by (neg_ℤ dx) (neg_ℤ dy) c)) < 256 }
     ensures { IfOk result (λ sums. AddsNeighbours dx dy tallies.now sums.items) }
 {
     let left = moved(alloc, tallies, negated(dx), negated(dy))?;
@@ -141,7 +146,7 @@ fn merged(
     right: &[Tally],
 ) -> Result<Vec<Tally>, AllocError>
     requires orders { InOrder (cells_of left.now) × InOrder (cells_of middle.now) × InOrder (cells_of right.now) }
-    requires small { (c : Cell) → total left.now c + (total middle.now c + total right.now c) < 256 }
+    requires small { (c : Cell) → counted_at left.now c + (counted_at middle.now c + counted_at right.now c) < 256 }
     ensures { IfOk result (λ sums. IsMerged left.now middle.now right.now sums.items) }
 {
     let (mut left_rest, mut middle_rest, mut right_rest) = (left, middle, right);

@@ -11,15 +11,17 @@
 //! ```
 //!
 //! Only the 'no' is sure: what may have come back, or has come to the rim, is run elsewhere.
-ghost use Rattle.std.specs.Prelude.{◌≡◌, ◌≢◌, ◌+◌, ◌-◌, ◌*◌, ◌/◌, ◌%◌, ◌<◌, ◌≤◌, [], ℕ, ℤ, IfSome, IsTrue, List, false, length, slice_index};
+ghost use Rattle.std.specs.Prelude.{◌≡◌, ◌≢◌, ◌+◌, ◌-◌, ◌*◌, ◌/◌, ◌%◌, ◌<◌, ◌≤◌, [], ℕ, ℤ, IfSome, IsTrue, List, false};
+ghost use Rattle.std.specs.Prelude.{length, slice_index};
 ghost use Rattle.std.specs.Int.{bit_at};
-ghost use Rattle.plane_core.specs.Boards.{IsNext, KeepsOuter};
+ghost use Rattle.plane_core.specs.Boards.{IsNext, IsNextAt, KeepsOuter};
 ghost use Rattle.plane_core.specs.Bounds.{shifted};
 ghost use Rattle.plane_core.specs.Cells.{InOrder};
 ghost use Rattle.plane_core.specs.Generations.{after, next, touches_edge};
 ghost use Rattle.plane_core.specs.Layouts.{AreSidesWithin, HasRoom, IsDead, IsLaid, IsShown, room};
 ghost use Rattle.plane_core.specs.Bounds.{IsWithin};
-ghost use Rattle.plane_core.specs.Windows.{AreSidesClear, HasChanged, IsColumnClear, IsFirst, IsInland, IsRimClear, IsSeen, IsSpot, IsStepped, IsWindow, NeverBack, window_grid};
+ghost use Rattle.plane_core.specs.Windows.{AreSidesClear, HasChanged, IsColumnClear, IsEmptyRound, IsFirst, IsInland};
+ghost use Rattle.plane_core.specs.Windows.{IsRimClear, IsSeen, IsSpot, IsStepped, IsWindow, NeverBack, window_grid};
 ghost use Rattle.plane_core.specs.declared.cell.Cell.{Cell};
 
 use crate::blocks::{Grid, next_words};
@@ -31,7 +33,8 @@ use crate::pattern::Pattern;
 use crate::rule::Rule;
 use crate::word::Answers;
 
-/// The board of a window: three strips of six blocks. Cells stand in the middle strip, in the blocks 7 to 10 of the list.
+/// The board of a window: three strips of six blocks. Cells stand in the middle strip, in the blocks 7 to 10 of the
+/// list.
 const WINDOW: Grid = Grid {
     blocks: 6,
     count: 18,
@@ -45,8 +48,9 @@ struct Spot {
 }
 
 impl Pattern {
-    /// Whether it is seen at a glance that no generation from 1 to this one is the pattern again, moved or not, and that
-    /// none touches the edge of the plane. `false` says nothing: the pattern may come back, or be or grow too large.
+    /// Whether it is seen at a glance that no generation from 1 to this one is the pattern again, moved or not, and
+    /// that none touches the edge of the plane. `false` says nothing: the pattern may come back, or be or grow too
+    /// large.
     pub fn is_seen_to_change(&self, rule: &Rule, generations: u32) -> bool
         ensures new { IsTrue result → NeverBack rule.now self.now generations }
         ensures inside { IsTrue result → (g : ℕ) → g ≤ generations → touches_edge (after rule.now self.now g) ≡ false }
@@ -129,8 +133,10 @@ fn goes_on(answers: &Answers, at: Layout, start: &[Cell], now: &[u64], later: &m
     requires room { HasRoom at 0 start.now }
     requires now { length now.now ≡ 288 }
     requires later { length later.old ≡ 288 }
-    ensures seen { IsTrue result → (cells : List Cell) → IsDead window_grid later.old → IsSeen at now.now cells → IsSeen at later.new (next answers.now.rule cells) }
-    ensures new { IsTrue result → (cells : List Cell) (dx dy : ℤ) → IsDead window_grid later.old → IsSeen at now.now cells → next answers.now.rule cells ≢ shifted dx dy start.now }
+    ensures seen { IsTrue result → (cells : List Cell) → IsDead window_grid later.old → IsSeen at now.now cells
+        → IsSeen at later.new (next answers.now.rule cells) }
+    ensures new { IsTrue result → (cells : List Cell) (dx dy : ℤ) → IsDead window_grid later.old
+        → IsSeen at now.now cells → next answers.now.rule cells ≢ shifted dx dy start.now }
     ensures long { length later.new ≡ 288 }
 {
     if !is_rim_clear(now) {
@@ -199,13 +205,53 @@ fn step_sixteen(answers: &Answers, now: &[u64], later: &mut [u64], from: usize)
     requires later { length later.old ≡ 288 }
     requires low { 112 ≤ from }
     requires high { from ≤ 160 }
-    ensures stepped { (old : List ℕ) → IsStepped answers.now.rule from now.now old later.old → IsStepped answers.now.rule (from + 16) now.now old later.new }
+    ensures stepped { (old : List ℕ) → IsStepped answers.now.rule from now.now old later.old
+        → IsStepped answers.now.rule (from + 16) now.now old later.new }
     ensures long { length later.new ≡ 288 }
 {
-    let words = next_words(answers, WINDOW, now, from);
+    let words = next_sixteen(answers, now, from);
     for k in 0..16 {
         later[from + k] = words[k];
     }
+}
+
+/// Sixteen rows of the next generation, from this word on. Most are far from any cell, and stay empty.
+fn next_sixteen(answers: &Answers, now: &[u64], from: usize) -> [u64; 16]
+    requires now { length now.now ≡ 288 }
+    requires low { 112 ≤ from }
+    requires high { from ≤ 160 }
+    ensures { (k : ℕ) → k < 16 → IsNextAt answers.now.rule window_grid now.now (from + k) (slice_index result k) }
+{
+    if is_empty_round(now, from) {
+        return [0; 16];
+    }
+    next_words(answers, WINDOW, now, from)
+}
+
+/// Whether no cell is alive in sixteen rows, from this word on, nor in any word round them.
+fn is_empty_round(words: &[u64], from: usize) -> bool
+    requires now { length words.now ≡ 288 }
+    requires low { 112 ≤ from }
+    requires high { from ≤ 160 }
+    ensures { IsTrue result → IsEmptyRound words.now from }
+{
+    let west = columns_from(words, from - 97);
+    let here = columns_from(words, from - 1);
+    let east = columns_from(words, from + 95);
+    let columns = west | here | east;
+    columns == 0
+}
+
+/// Which columns have a cell in eighteen words, from this one on.
+fn columns_from(words: &[u64], from: usize) -> u64
+    requires { from + 18 ≤ length words.now }
+    ensures { (b k : ℕ) → bit_at result b ≡ 0 → k < 18 → bit_at (slice_index words.now (from + k)) b ≡ 0 }
+{
+    let mut columns = 0;
+    for k in 0..18 {
+        columns |= words[from + k];
+    }
+    columns
 }
 
 /// Whether the window may show the start again, moved or not.
@@ -215,7 +261,8 @@ fn may_be(at: Layout, words: &[u64], start: &[Cell]) -> bool
     requires long { length words.now ≡ 288 }
     requires some { 1 ≤ length start.now }
     requires room { HasRoom at 0 start.now }
-    ensures { (cells : List Cell) (dx dy : ℤ) → IsSeen at words.now cells → cells ≡ shifted dx dy start.now → IsTrue result }
+    ensures { (cells : List Cell) (dx dy : ℤ) → IsSeen at words.now cells → cells ≡ shifted dx dy start.now
+        → IsTrue result }
 {
     let Some(to) = first_spot(words) else {
         return true;
@@ -264,7 +311,8 @@ fn is_alive_moved(words: &[u64], spot: Spot, from: Spot, to: Spot) -> bool
     requires long { length words.now ≡ 288 }
     requires across { spot.across + to.across < 1000 }
     requires down { spot.down + to.down < 1000 }
-    ensures { (a d : ℕ) → a + from.across ≡ spot.across + to.across → d + from.down ≡ spot.down + to.down → 64 ≤ a → a < 128 → d < 96
+    ensures { (a d : ℕ) → a + from.across ≡ spot.across + to.across → d + from.down ≡ spot.down + to.down → 64 ≤ a
+        → a < 128 → d < 96
         → bit_at (slice_index words.now (96 + d)) (a - 64) ≡ 1 → IsTrue result }
 {
     let across = spot.across + to.across;
@@ -278,7 +326,8 @@ fn is_alive_moved(words: &[u64], spot: Spot, from: Spot, to: Spot) -> bool
 /// Whether the cell so many columns and rows from the first one of the board lies in the window and is alive.
 fn is_alive(words: &[u64], across: usize, down: usize) -> bool
     requires { length words.now ≡ 288 }
-    ensures { 64 ≤ across → across < 128 → down < 96 → bit_at (slice_index words.now (96 + down)) (across - 64) ≡ 1 → IsTrue result }
+    ensures { 64 ≤ across → across < 128 → down < 96 → bit_at (slice_index words.now (96 + down)) (across - 64) ≡ 1
+        → IsTrue result }
 {
     64 <= across && across < 128 && down < 96 && words[96 + down] >> (across - 64) & 1 == 1
 }

@@ -3,7 +3,8 @@
 //! The live cells of a block of nine are added up in binary digits, each digit a word: first the three cells of each
 //! column, then three such columns. The rule's answer for each of the sums 0 to 9 is a word too, all ones or 0, and the
 //! digits choose between them. So no branch depends on a cell or on the rule.
-ghost use Rattle.std.specs.Prelude.{◌≡◌, ◌==◌, ◌+◌, ◌-◌, ◌*◌, ◌<◌, ◌≤◌, IsTrue, true, ℕ, if◌then◌else◌, length, slice_index};
+ghost use Rattle.std.specs.Prelude.{◌≡◌, ◌==◌, ◌+◌, ◌-◌, ◌*◌, ◌<◌, ◌≤◌, IsTrue, true, ℕ, if◌then◌else◌, length};
+ghost use Rattle.std.specs.Prelude.{slice_index};
 ghost use Rattle.std.specs.Int.{bit_at};
 ghost use Rattle.plane_core.specs.Rules.{Numbers, is_birth, is_survival};
 ghost use Rattle.plane_core.specs.Tallies.{lives_by};
@@ -35,8 +36,8 @@ struct FourDigits {
     eights: u64,
 }
 
-/// The answers of a rule as words, all ones or 0: whether a cell is alive next, where the block of nine has n live cells,
-/// for n from 0 to 9. Life, the rule that is run most, is answered by fewer operations.
+/// The answers of a rule as words, all ones or 0: whether a cell is alive next, where the block of nine has n live
+/// cells, for n from 0 to 9. Life, the rule that is run most, is answered by fewer operations.
 #[derive(Clone, Copy)]
 pub(crate) struct Answers {
     rule: Rule,
@@ -45,7 +46,8 @@ pub(crate) struct Answers {
     alive: [u64; 10],
     ghost life: { is_life ≡ true → rule ≡ life },
     ghost dead_right: { (n i : ℕ) → n < 10 → i < 64 → bit_at (slice_index dead n) i ≡ one_if (is_birth rule n) },
-    ghost alive_right: { (n i : ℕ) → n < 10 → i < 64 → bit_at (slice_index alive n) i ≡ one_if (is_survival rule (n - 1)) },
+    ghost alive_right: { (n i : ℕ) → n < 10 → i < 64
+        → bit_at (slice_index alive n) i ≡ one_if (is_survival rule (n - 1)) },
 }
 
 impl Answers {
@@ -79,8 +81,13 @@ impl Answers {
     /// The answer for the sums 0 to 9.
     #[inline(always)]
     fn at_nine(&self, digits: FourDigits, here: u64) -> u64
-        ensures { (i : ℕ) → i < 64 → bit_at digits.ones i + 2 * bit_at digits.twos i + 4 * bit_at digits.fours i + 8 * bit_at digits.eights i ≤ 9
-            → bit_at result i ≡ one_if (lives_by self.now.rule (bit_at digits.ones i + 2 * bit_at digits.twos i + 4 * bit_at digits.fours i + 8 * bit_at digits.eights i) (bit_at here i == 1)) }
+        ensures { (i : ℕ) → i < 64
+            → bit_at digits.ones i + 2 * bit_at digits.twos i + 4 * bit_at digits.fours i
+            + 8 * bit_at digits.eights i ≤ 9
+            → bit_at result i ≡ one_if
+            (lives_by self.now.rule
+            (bit_at digits.ones i + 2 * bit_at digits.twos i + 4 * bit_at digits.fours i
+            + 8 * bit_at digits.eights i) (bit_at here i == 1)) }
     {
         let high = self.at_two(8, digits, here);
         let low = choice(
@@ -94,7 +101,9 @@ impl Answers {
     /// The answer for the sums n to n + 3.
     fn at_four(&self, n: usize, digits: FourDigits, here: u64) -> u64
         requires { n ≤ 6 }
-        ensures { (i : ℕ) → i < 64 → bit_at result i ≡ one_if (lives_by self.now.rule (n + bit_at digits.ones i + 2 * bit_at digits.twos i) (bit_at here i == 1)) }
+        ensures { (i : ℕ) → i < 64
+            → bit_at result i ≡ one_if
+            (lives_by self.now.rule (n + bit_at digits.ones i + 2 * bit_at digits.twos i) (bit_at here i == 1)) }
     {
         choice(
             digits.twos,
@@ -106,7 +115,8 @@ impl Answers {
     /// The answer for the sums n and n + 1.
     fn at_two(&self, n: usize, digits: FourDigits, here: u64) -> u64
         requires { n ≤ 8 }
-        ensures { (i : ℕ) → i < 64 → bit_at result i ≡ one_if (lives_by self.now.rule (n + bit_at digits.ones i) (bit_at here i == 1)) }
+        ensures { (i : ℕ) → i < 64
+            → bit_at result i ≡ one_if (lives_by self.now.rule (n + bit_at digits.ones i) (bit_at here i == 1)) }
     {
         choice(digits.ones, self.at_one(n + 1, here), self.at_one(n, here))
     }
@@ -138,8 +148,11 @@ fn is_life(rule: &Rule) -> bool
 
 /// The answer of Life for the sums 0 to 9: alive for three, and for four if the cell was alive.
 fn life_at_nine(digits: FourDigits, here: u64) -> u64
-    ensures { (i : ℕ) → i < 64 → bit_at digits.ones i + 2 * bit_at digits.twos i + 4 * bit_at digits.fours i + 8 * bit_at digits.eights i ≤ 9
-        → bit_at result i ≡ one_if (lives_by life (bit_at digits.ones i + 2 * bit_at digits.twos i + 4 * bit_at digits.fours i + 8 * bit_at digits.eights i) (bit_at here i == 1)) }
+    ensures { (i : ℕ) → i < 64
+        → bit_at digits.ones i + 2 * bit_at digits.twos i + 4 * bit_at digits.fours i + 8 * bit_at digits.eights i ≤ 9
+        → bit_at result i ≡ one_if
+        (lives_by life (bit_at digits.ones i + 2 * bit_at digits.twos i + 4 * bit_at digits.fours i
+        + 8 * bit_at digits.eights i) (bit_at here i == 1)) }
 {
     let four = choice(digits.ones | digits.twos, 0, here);
     choice(digits.fours, four, digits.ones & digits.twos)
@@ -157,7 +170,9 @@ fn added(a: u64, b: u64, c: u64) -> TwoDigits
 
 /// The sum of each bit and the bits to its left and right.
 fn row_sum(before: u64, here: u64, after: u64) -> TwoDigits
-    ensures { (i : ℕ) → i < 64 → bit_at result.ones i + 2 * bit_at result.twos i ≡ west_of before here i + bit_at here i + east_of here after i }
+    ensures { (i : ℕ) → i < 64
+        → bit_at result.ones i + 2 * bit_at result.twos i
+        ≡ west_of before here i + bit_at here i + east_of here after i }
 {
     added(from_west(before, here), here, from_east(here, after))
 }
@@ -179,7 +194,9 @@ fn from_east(here: u64, after: u64) -> u64
 /// How many live cells each block of nine has.
 #[inline(always)]
 fn block_sum(above: Row, here: Row, below: Row) -> FourDigits
-    ensures { (i : ℕ) → i < 64 → bit_at result.ones i + 2 * bit_at result.twos i + 4 * bit_at result.fours i + 8 * bit_at result.eights i ≡ block_count above here below i }
+    ensures { (i : ℕ) → i < 64
+        → bit_at result.ones i + 2 * bit_at result.twos i + 4 * bit_at result.fours i + 8 * bit_at result.eights i
+        ≡ block_count above here below i }
 {
     let before = added(above.before, here.before, below.before);
     let middle = added(above.here, here.here, below.here);
@@ -191,7 +208,9 @@ fn block_sum(above: Row, here: Row, below: Row) -> FourDigits
 
 /// The sum of a low and a high pair of digits: the high one counts twice.
 fn joined(low: TwoDigits, high: TwoDigits) -> FourDigits
-    ensures { (i : ℕ) → bit_at result.ones i + 2 * bit_at result.twos i + 4 * bit_at result.fours i + 8 * bit_at result.eights i ≡ bit_at low.ones i + 2 * bit_at low.twos i + 2 * (bit_at high.ones i + 2 * bit_at high.twos i) }
+    ensures { (i : ℕ) → bit_at result.ones i + 2 * bit_at result.twos i + 4 * bit_at result.fours i
+        + 8 * bit_at result.eights i
+        ≡ bit_at low.ones i + 2 * bit_at low.twos i + 2 * (bit_at high.ones i + 2 * bit_at high.twos i) }
 {
     let carry = low.twos & high.ones;
     FourDigits {

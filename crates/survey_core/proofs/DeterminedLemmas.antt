@@ -40,19 +40,19 @@ one_list_of_codes rule limit (x ∷ xs) (y ∷ ys) (z ∷ zs) some h k =
     let rest : ys ≡ zs = one_list_of_codes rule limit xs ys zs (λ i d low. some (suc i) d (omega arith)) h.1 k.1 in
     λ i. first i ∷ rest i
 
-abbrev code_cmp : List ℕ → List ℕ → Ordering
+abbrev pub code_cmp : List ℕ → List ℕ → Ordering
 code_cmp a b = slice_cmp nat_cmp a b
 
 -- the code stands before those of the objects
-abbrev CodeBefore : List ℕ → List (List ℕ × ℕ) → Type 0
+abbrev pub CodeBefore : List ℕ → List (List ℕ × ℕ) → Type 0
 CodeBefore code [] = Unit {0}
 CodeBefore code (object ∷ objects) = (code_cmp code object.0 ≡ Less) × CodeBefore code objects
 
-before-trans : (a b : List ℕ) (objects : List (List ℕ × ℕ)) → code_cmp a b ≡ Less → CodeBefore b objects → CodeBefore a objects
+pub before-trans : (a b : List ℕ) (objects : List (List ℕ × ℕ)) → code_cmp a b ≡ Less → CodeBefore b objects → CodeBefore a objects
 before-trans a b [] e h = tt
 before-trans a b (object ∷ objects) e h = (nat_list_cmp_total.trans a b object.0 e h.0, before-trans a b objects e h.1)
 
-in_order-head : (object : List ℕ × ℕ) (objects : List (List ℕ × ℕ)) → IsStrictlySortedBy (slice_cmp nat_cmp) (keys_of (object ∷ objects))
+pub in_order-head : (object : List ℕ × ℕ) (objects : List (List ℕ × ℕ)) → IsStrictlySortedBy (slice_cmp nat_cmp) (keys_of (object ∷ objects))
     → CodeBefore object.0 objects
 unfolding IsStrictlySortedBy
 in_order-head object objects h = go objects h.0
@@ -61,18 +61,18 @@ in_order-head object objects h = go objects h.0
     go [] h = tt
     go (other ∷ objects) h = (h.0, go objects h.1)
 
-in_order-tail : (object : List ℕ × ℕ) (objects : List (List ℕ × ℕ)) → IsStrictlySortedBy (slice_cmp nat_cmp) (keys_of (object ∷ objects))
+pub in_order-tail : (object : List ℕ × ℕ) (objects : List (List ℕ × ℕ)) → IsStrictlySortedBy (slice_cmp nat_cmp) (keys_of (object ∷ objects))
     → IsStrictlySortedBy (slice_cmp nat_cmp) (keys_of objects)
 unfolding IsStrictlySortedBy
 in_order-tail object objects h = h.1
 
 -- a code before all others isn't counted
-count-before : (code : List ℕ) (objects : List (List ℕ × ℕ)) → CodeBefore code objects → count_of objects code ≡ 0
+pub count-before : (code : List ℕ) (objects : List (List ℕ × ℕ)) → CodeBefore code objects → count_of objects code ≡ 0
 count-before code [] h = refl
 count-before code (object ∷ objects) h =
     ap (λ (o : Ordering). unwrap_or (cond (is_eq o) (Some object.1) (lookup (is_code code) objects)) 0) h.0 ∙ count-before code objects h.1
 
-count-head : (object : List ℕ × ℕ) (objects : List (List ℕ × ℕ)) → count_of (object ∷ objects) object.0 ≡ object.1
+pub count-head : (object : List ℕ × ℕ) (objects : List (List ℕ × ℕ)) → count_of (object ∷ objects) object.0 ≡ object.1
 count-head object objects =
     ap (λ (b : Bool). unwrap_or (cond b (Some object.1) (lookup (is_code object.0) objects)) 0) (ap is_eq (tied_itself nat_list_cmp_total object.0))
 

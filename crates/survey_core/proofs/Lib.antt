@@ -1,4 +1,5 @@
 mod AloneLemmas
+mod CountLaw
 mod DeterminedLemmas
 mod FindingLemmas
 mod ForGoodLemmas

@@ -8,12 +8,18 @@ use Rattle.plane_core.specs.Bounds.{IsWithin, shifted}
 use Rattle.plane_core.specs.Cells.{moved_by}
 use Rattle.plane_core.specs.Generations.{after}
 use Rattle.plane_core.specs.Rules.{Numbers}
+use Rattle.plane_core.specs.Windows.{NeverBack}
 use Rattle.plane_core.proofs.PlacementLemmas.{in_order-shifted}
 use Rattle.code_core.specs.Names.{IsCode}
 use Rattle.code_core.proofs.MovedCodes.{after-shifted, codes_moved, recurs-shifted}
 use Rattle.survey_core.specs.declared.sweep.Sweep.{Sweep}
 use Rattle.survey_core.specs.Memos.{Fact, IsAbout, IsKnown, moved_bounds, moved_sweep}
+use Rattle.survey_core.specs.Rest.{ComesBack}
 use Rattle.survey_core.specs.Sweeps.{IsSweep}
+
+-- what is never itself again doesn't come back
+pub never_back : (rule : Numbers) (limit : ℕ) (cells : List Cell) → NeverBack rule cells limit → ¬ ComesBack rule limit cells
+never_back rule limit cells never (r, recurs) = never r.period r.dx r.dy recurs.some recurs.within recurs.back
 
 -- a cell moved with its box stays within it
 within_moved : (shift : ℤ × ℤ) (b : Bounds) (c : Cell) → IsWithin b c → IsWithin (moved_bounds shift b) (moved_by shift.0 shift.1 c)

@@ -93,9 +93,6 @@ pub clusters_near : (reach : ℕ) (cells : List Cell) (clusters : List (List Cel
     → All (λ part. lies_within reach part ≡ true) clusters
 clusters_near reach cells clusters are near k d low = cluster_within reach cells (get_or clusters k d) near (are.each k d low)
 
-pub clusters_in_order : (cells : List Cell) (clusters : List (List Cell)) → AreClusters cells clusters → All InOrder clusters
-clusters_in_order cells clusters are k d low = (are.each k d low).in_order
-
 pub clusters_some : (cells : List Cell) (clusters : List (List Cell)) → AreClusters cells clusters → All (λ (part : List Cell). part ≢ []) clusters
 clusters_some cells clusters are k d low = cluster_some cells (get_or clusters k d) (are.each k d low)
 

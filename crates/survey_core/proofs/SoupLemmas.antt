@@ -17,32 +17,32 @@ use Rattle.plane_core.proofs.PartLemmas.{false_unless}
 use Rattle.plane_core.proofs.SetLemmas.{all-has, has-cases, has-head, has-set_of}
 use Rattle.sha2.specs.Sha256.{sha256}
 use Rattle.survey_core.proofs.PlaneLemmas.{none_off, within_more}
-use Rattle.survey_core.specs.Soups.{SoupsByCells, is_alive_at, is_set, live_cells, square, square_cell}
+use Rattle.survey_core.specs.Soups.{SoupsByCells, is_alive_at, is_set, live_in_square, square, square_cell}
 
 range-more : (a n : ℕ) → range_with_len a (suc n) ≡ range_with_len a n ++ (a + n) ∷ []
 range-more a zero = ap (λ (k : ℕ). k ∷ []) (sym (add-zero a))
 range-more a (suc n) = ap (λ (xs : List ℕ). a ∷ xs) (range-more (a + 1) n ∙ ap (λ (k : ℕ). range_with_len (a + 1) n ++ k ∷ []) (omega arith))
 
-pub live_cells_none : (digest : List ℕ) → live_cells digest 0 ≡ []
-unfolding live_cells
+pub live_cells_none : (digest : List ℕ) → live_in_square digest 0 ≡ []
+unfolding live_in_square
 live_cells_none digest = refl
 
 -- one place more
-one_more : (digest : List ℕ) (n : ℕ) → live_cells digest (n + 1) ≡ live_cells digest n ++ map square_cell (cond (is_alive_at digest n) (n ∷ []) [])
-unfolding live_cells
+one_more : (digest : List ℕ) (n : ℕ) → live_in_square digest (n + 1) ≡ live_in_square digest n ++ map square_cell (cond (is_alive_at digest n) (n ∷ []) [])
+unfolding live_in_square
 one_more digest n =
     ap (λ (xs : List ℕ). map square_cell (filter (is_alive_at digest) xs))
     (ap (range_with_len 0) (add-one n) ∙ range-more 0 n ∙ ap (λ (k : ℕ). range_with_len 0 n ++ k ∷ []) (zero-add n))
     ∙ ap (map square_cell) (filter-append (is_alive_at digest) (range_with_len 0 n) (n ∷ []))
     ∙ map-append square_cell (filter (is_alive_at digest) (range_with_len 0 n)) (filter (is_alive_at digest) (n ∷ []))
 
-pub live_cells_alive : (digest : List ℕ) (n : ℕ) → is_alive_at digest n ≡ true → live_cells digest (n + 1) ≡ live_cells digest n ++ square_cell n ∷ []
+pub live_cells_alive : (digest : List ℕ) (n : ℕ) → is_alive_at digest n ≡ true → live_in_square digest (n + 1) ≡ live_in_square digest n ++ square_cell n ∷ []
 live_cells_alive digest n alive =
-    one_more digest n ∙ ap (λ (b : Bool). live_cells digest n ++ map square_cell (cond b (n ∷ []) [])) alive
+    one_more digest n ∙ ap (λ (b : Bool). live_in_square digest n ++ map square_cell (cond b (n ∷ []) [])) alive
 
-pub live_cells_dead : (digest : List ℕ) (n : ℕ) → is_alive_at digest n ≡ false → live_cells digest (n + 1) ≡ live_cells digest n
+pub live_cells_dead : (digest : List ℕ) (n : ℕ) → is_alive_at digest n ≡ false → live_in_square digest (n + 1) ≡ live_in_square digest n
 live_cells_dead digest n dead =
-    one_more digest n ∙ ap (λ (b : Bool). live_cells digest n ++ map square_cell (cond b (n ∷ []) [])) dead ∙ append-nil (live_cells digest n)
+    one_more digest n ∙ ap (λ (b : Bool). live_in_square digest n ++ map square_cell (cond b (n ∷ []) [])) dead ∙ append-nil (live_in_square digest n)
 
 near_origin : (place : ℕ) → place < 256 → is_within 15 (square_cell place) ≡ true
 near_origin place low = and_from (nat_le (place % 16) 15) (nat_le (place / 16) 15) (le-leb _ _ (omega arith)) (le-leb _ _ (omega arith))
@@ -57,17 +57,17 @@ all_near p a (suc n) low = go (p a) (all_near p (a + 1) n (omega arith))
         (near_origin a (omega arith)) rest
     go false rest = rest
 
-cells_near : (digest : List ℕ) → list_all (is_within 15) (live_cells digest 256) ≡ true
-unfolding live_cells
+cells_near : (digest : List ℕ) → list_all (is_within 15) (live_in_square digest 256) ≡ true
+unfolding live_in_square
 cells_near digest = all_near (is_alive_at digest) 0 256 (omega arith)
 
-pub soup_is_small : (digest : List ℕ) → lies_within 15 (set_of (live_cells digest 256)) ≡ true
+pub soup_is_small : (digest : List ℕ) → lies_within 15 (set_of (live_in_square digest 256)) ≡ true
 soup_is_small digest =
-    has-list_all (is_within 15) (set_of (live_cells digest 256))
-    (λ c e. list_all-has (is_within 15) (live_cells digest 256) (cells_near digest) c (sym (has-set_of (live_cells digest 256) c) ∙ e))
+    has-list_all (is_within 15) (set_of (live_in_square digest 256))
+    (λ c e. list_all-has (is_within 15) (live_in_square digest 256) (cells_near digest) c (sym (has-set_of (live_in_square digest 256) c) ∙ e))
 
-pub soup_on_plane : (digest : List ℕ) → position off_plane (live_cells digest 256) ≡ None
-soup_on_plane digest = none_off (live_cells digest 256) (within_more 15 999999 (live_cells digest 256) (omega arith) (cells_near digest))
+pub soup_on_plane : (digest : List ℕ) → position off_plane (live_in_square digest 256) ≡ None
+soup_on_plane digest = none_off (live_in_square digest 256) (within_more 15 999999 (live_in_square digest 256) (omega arith) (cells_near digest))
 
 -- ---- cell by cell
 
@@ -111,13 +111,13 @@ present p a (suc n) m low high = elim (eq-or-lt_of_le low) [
     rest false more less = more
 
 pub soups_by_cells : SoupsByCells
-unfolding live_cells is_alive_at
+unfolding live_in_square is_alive_at
 soups_by_cells seed number x y in_row in_column =
     let digest : List ℕ = sha256 (seed ++ decimal number) in
     let column : (16 * y + x) % 16 ≡ x = omega arith in
     let row : (16 * y + x) / 16 ≡ y = omega arith in
-    has-set_of (live_cells digest 256) (cell_at (pos x) (pos y))
-    ∙ ap (has (live_cells digest 256)) (λ i. cell_at (pos (sym column i)) (pos (sym row i)))
+    has-set_of (live_in_square digest 256) (cell_at (pos x) (pos y))
+    ∙ ap (has (live_in_square digest 256)) (λ i. cell_at (pos (sym column i)) (pos (sym row i)))
     ∙ present (is_alive_at digest) 0 256 (16 * y + x) (omega arith) (omega arith)
     ∙ (λ i. is_set digest (column i) (row i))
 
@@ -138,9 +138,9 @@ in_square p a (suc n) low c h = go (p a) h (in_square p (a + 1) n (omega arith) 
     ]
     go false e rest = rest e
 
-pub soup_in_square : (digest : List ℕ) → All (IsWithin square) (set_of (live_cells digest 256))
-unfolding live_cells
+pub soup_in_square : (digest : List ℕ) → All (IsWithin square) (set_of (live_in_square digest 256))
+unfolding live_in_square
 soup_in_square digest =
-    All-from_recursion (IsWithin square) (set_of (live_cells digest 256))
-    (all-has (IsWithin square) (set_of (live_cells digest 256))
-    (λ c e. in_square (is_alive_at digest) 0 256 (omega arith) c (sym (has-set_of (live_cells digest 256) c) ∙ e)))
+    All-from_recursion (IsWithin square) (set_of (live_in_square digest 256))
+    (all-has (IsWithin square) (set_of (live_in_square digest 256))
+    (λ c e. in_square (is_alive_at digest) 0 256 (omega arith) c (sym (has-set_of (live_in_square digest 256) c) ∙ e)))

@@ -1,5 +1,6 @@
 -- Laws of findings.
-use Rattle.std.specs.Prelude.{◌≡◌, ◌≤◌, ℕ, ℤ, true, List}
+use Rattle.std.specs.Prelude.{◌≡◌, ◌≤◌, ℕ, ℤ, true, List, length, sum}
+use Rattle.std.specs.Map.{values_of}
 use Rattle.plane_core.specs.declared.cell.Cell.{Cell}
 use Rattle.plane_core.specs.declared.orientation.Orientation.{Orientation}
 use Rattle.plane_core.specs.Bounds.{shifted}
@@ -10,7 +11,7 @@ use Rattle.plane_core.specs.Rules.{Numbers}
 use Rattle.survey_core.specs.declared.finding.Finding.{Finding}
 use Rattle.survey_core.specs.declared.finding.Finding.TheVariants.{Settled}
 use Rattle.survey_core.specs.Findings.{IsFinding}
-use Rattle.survey_core.specs.Objects.{StayForGood}
+use Rattle.survey_core.specs.Objects.{AreObjectsOf, StayForGood}
 use Rattle.survey_core.specs.Profiles.{Settling}
 use Rattle.survey_core.specs.Rest.{RestsAs}
 use Rattle.survey_core.specs.RestLaws.{RestsForever}
@@ -46,3 +47,8 @@ pub record RestsForGood (rule : Numbers) (profile : Settling) (cells : List Cell
 abbrev pub FindingsForGood : Type 0
 FindingsForGood = (rule : Numbers) (profile : Settling) (cells : List Cell) (t : ℕ) (objects : List (List ℕ × ℕ)) → InOrder cells → profile.period ≤ 64
     → IsFinding rule profile cells (Settled t objects true) → RestsForGood rule profile (after rule cells t) objects
+
+-- the counts of objects add up to the clusters that they are the objects of
+abbrev pub CountsAddUp : Type 0
+CountsAddUp = (rule : Numbers) (limit : ℕ) (clusters : List (List Cell)) (objects : List (List ℕ × ℕ))
+    → AreObjectsOf rule limit clusters objects → sum (values_of objects) ≡ length clusters

@@ -18,12 +18,12 @@ unfoldable pub is_alive_at : List ℕ → ℕ → Bool
 is_alive_at digest place = is_set digest (place % 16) (place / 16)
 
 -- the live cells at the first n places
-unfoldable pub live_cells : List ℕ → ℕ → List Cell
-live_cells digest n = map square_cell (filter (is_alive_at digest) (range_with_len 0 n))
+unfoldable pub live_in_square : List ℕ → ℕ → List Cell
+live_in_square digest n = map square_cell (filter (is_alive_at digest) (range_with_len 0 n))
 
 -- the soup of a digest: the cells of the square, columns 0 to 15 of rows 0 to 15, whose bit is set
 abbrev pub soup_of : List ℕ → List Cell
-soup_of digest = set_of (live_cells digest 256)
+soup_of digest = set_of (live_in_square digest 256)
 
 -- the soup with this number: the message is the seed's bytes and then the number in decimal
 abbrev pub soup : List ℕ → ℕ → List Cell

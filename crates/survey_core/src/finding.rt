@@ -1,6 +1,7 @@
 ghost use Rattle.std.specs.Prelude.{◌≡◌, ◌<◌, ◌≤◌, ◌^◌, IfOk, IfNone, IfSome, true};
 ghost use Rattle.plane_core.specs.Generations.{after, lies_within};
-ghost use Rattle.survey_core.specs.FindingLaws.{FindingsAreDetermined, FindingsForGood, FindingsMoved, FindingsOfImages, FindingsTurned};
+ghost use Rattle.survey_core.specs.FindingLaws.{CountsAddUp, FindingsAreDetermined, FindingsForGood, FindingsMoved};
+ghost use Rattle.survey_core.specs.FindingLaws.{FindingsOfImages, FindingsTurned};
 ghost use Rattle.survey_core.specs.Findings.{IsFinding, SettlesAt, objects_in};
 ghost use Rattle.survey_core.specs.Rest.{IsAtRest};
 ghost use Rattle.survey_core.specs.Soups.{soup};
@@ -44,8 +45,8 @@ pub fn survey(alloc: Global, job: &Job, number: u64) -> Result<Finding, AllocErr
     survey_with(alloc, job, number, &mut Memo::without_room(alloc))
 }
 
-/// The finding of the soup with this number. It has fewer than 2^64 objects. Whatever the memo remembers, the finding is
-/// the same; a memo that has seen other soups makes it faster.
+/// The finding of the soup with this number. It has fewer than 2^64 objects. Whatever the memo remembers, the finding
+/// is the same; a memo that has seen other soups makes it faster.
 ///
 /// # Errors
 ///
@@ -128,6 +129,11 @@ pub fn findings_are_determined()
     ensures { FindingsAreDetermined }
 {}
 
+/// A law of all objects: their counts add up to the clusters that they are the objects of.
+pub fn counts_add_up()
+    ensures { CountsAddUp }
+{}
+
 /// The laws that a pattern keeps its finding when it is moved, and when it is turned or mirrored.
 #[tactic(auto, using(crate::proofs::PlacedFindings::findings_moved, crate::proofs::PlacedFindings::findings_of_images, crate::proofs::PlacedFindings::findings_turned))]
 pub fn findings_are_kept()
@@ -136,8 +142,8 @@ pub fn findings_are_kept()
     ensures turned { FindingsTurned }
 {}
 
-/// A law of all patterns: if a finding says that the objects stay for good, the clusters, each run alone, keep apart and
-/// make up the whole forever, and the pattern comes back after the least common multiple of their periods.
+/// A law of all patterns: if a finding says that the objects stay for good, the clusters, each run alone, keep apart
+/// and make up the whole forever, and the pattern comes back after the least common multiple of their periods.
 #[tactic(auto, using(crate::proofs::ForGoodLemmas::findings_for_good))]
 pub fn findings_for_good()
     ensures { FindingsForGood }

@@ -20,12 +20,12 @@ ghost use Rattle.survey_core.specs.Groups.{renamed};
 use crate::sweep::{Sweep, stay_apart};
 use std::alloc::{AllocError, Global};
 
-/// How many clusters are grouped at the most. More are one group: each pair is looked at, and with so many that takes longer
-/// than running them side by side. A soup leaves some hundred.
+/// How many clusters are grouped at the most. More are one group: each pair is looked at, and with so many that takes
+/// longer than running them side by side. A soup leaves some hundred.
 const MOST_GROUPED: usize = 4096;
 
-/// The groups of clusters with these sweeps: for each the number of its group. Those of different groups stay apart up to
-/// the horizon.
+/// The groups of clusters with these sweeps: for each the number of its group. Those of different groups stay apart up
+/// to the horizon.
 pub(crate) fn groups(
     alloc: Global,
     horizon: u32,

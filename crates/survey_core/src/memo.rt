@@ -8,10 +8,10 @@
 //!                            OO
 //! ```
 //!
-//! A number that is made of the cells, as they lie from the first one, chooses the slot: so a shape finds its slot wherever
-//! it lies. What stands there is about a cluster if rule and limit are the same, and if some shift makes the shape into the
-//! cluster. Then the cluster comes back as the shape does, has its name, and its sweep is that of the shape, moved. Else the
-//! cluster is run and named, and is what stands in the slot from then on.
+//! A number that is made of the cells, as they lie from the first one, chooses the slot: so a shape finds its slot
+//! wherever it lies. What stands there is about a cluster if rule and limit are the same, and if some shift makes the
+//! shape into the cluster. Then the cluster comes back as the shape does, has its name, and its sweep is that of the
+//! shape, moved. Else the cluster is run and named, and is what stands in the slot from then on.
 //!
 //! Which slot is chosen and what is kept are free choices: a memo that forgets makes a survey slower, and nothing else.
 
@@ -64,12 +64,13 @@ impl Model for Known {
 
     ghost view = { λ k. record { rule = k.rule; limit = k.limit; shape = k.shape; sweep = k.sweep; code = k.code } };
 
-    ghost invariant = { λ k. IsKnown (record { rule = k.rule; limit = k.limit; shape = k.shape; sweep = k.sweep; code = k.code }) };
+    ghost invariant = { λ k. IsKnown
+        (record { rule = k.rule; limit = k.limit; shape = k.shape; sweep = k.sweep; code = k.code }) };
 }
 
 impl Memo {
-    /// A memo that knows nothing yet, with room for 4,096 shapes: half a megabyte, and some three if all of them are large.
-    /// If there is no memory for it, it has no room.
+    /// A memo that knows nothing yet, with room for 4,096 shapes: half a megabyte, and some three if all of them are
+    /// large. If there is no memory for it, it has no room.
     pub fn new(alloc: Global) -> Memo {
         match empty_slots(alloc) {
             Ok(slots) => Memo { slots },
@@ -97,9 +98,14 @@ impl Memo {
         requires order { All InOrder patterns.now }
         requires some { All (λ pattern. pattern ≢ []) patterns.now }
         requires near { All (λ pattern. lies_within 101000 pattern ≡ true) patterns.now }
-        ensures sweeps { IfOk result (λ found. IfSome found (λ sweeps. AreSweeps rule.now limit patterns.now sweeps.items)) }
+        ensures sweeps { IfOk result
+            (λ found. IfSome found (λ sweeps. AreSweeps rule.now limit patterns.now sweeps.items)) }
         ensures never { IfOk result (λ found. IfNone found (¬ All (ComesBack rule.now limit) patterns.now)) }
     {
+        // A large pattern takes long to be followed, and mostly a small one says no at a glance.
+        if self.sees_change(rule, limit, patterns) {
+            return Ok(None);
+        }
         let mut sweeps = Vec::with_capacity(alloc, patterns.len())?;
         for pattern in patterns {
             match self.sweep(alloc, rule, limit, pattern)? {
@@ -108,6 +114,30 @@ impl Memo {
             }
         }
         Ok(Some(sweeps))
+    }
+
+    /// Whether it is seen at a glance that one of the patterns doesn't come back within so many generations.
+    fn sees_change(&self, rule: &Rule, limit: u32, patterns: &[Pattern]) -> bool
+        ensures { IsTrue result → ¬ All (ComesBack rule.now limit) patterns.now }
+    {
+        for pattern in patterns {
+            let seen = self.sees_that_it_changes(rule, limit, pattern);
+            if seen {
+                return true;
+            }
+        }
+        false
+    }
+
+    /// Whether it is seen at a glance that a pattern doesn't come back within so many generations. One that is
+    /// remembered does.
+    fn sees_that_it_changes(&self, rule: &Rule, limit: u32, pattern: &Pattern) -> bool
+        ensures { IsTrue result → ¬ ComesBack rule.now limit pattern.now }
+    {
+        if self.recalled_sweep(rule, limit, pattern).is_some() {
+            return false;
+        }
+        pattern.is_seen_to_change(rule, limit)
     }
 
     /// The sweep of a pattern, or `None` if it doesn't come back within so many generations.
@@ -330,8 +360,8 @@ fn slot_of(pattern: &Pattern, slots: usize) -> usize {
     (hash >> 32) as usize % slots.max(1)
 }
 
-/// A number that is made of the cells as they lie from this one. The multiplier is the odd number next to 2^64 divided by
-/// the golden ratio, which spreads what differs in few bits.
+/// A number that is made of the cells as they lie from this one. The multiplier is the odd number next to 2^64 divided
+/// by the golden ratio, which spreads what differs in few bits.
 fn hash_from(first: Cell, cells: &[Cell]) -> u64 {
     let mut hash = 0u64;
     for cell in cells {

@@ -1,4 +1,5 @@
-ghost use Rattle.std.specs.Prelude.{◌≡◌, ◌+◌, ◌<◌, ◌≤◌, ◌^◌, ◌↔◌, ◌≢◌, [], ℕ, All, IfOk, IsTrue, List, OnOk, length, sum, true, if◌then◌else◌};
+ghost use Rattle.std.specs.Prelude.{◌≡◌, ◌+◌, ◌<◌, ◌≤◌, ◌^◌, ◌↔◌, ◌≢◌, [], ℕ, All, IfOk, IsTrue, List, OnOk, length};
+ghost use Rattle.std.specs.Prelude.{sum, true, if◌then◌else◌};
 ghost use Rattle.std.specs.BTreeMap.{IsOrdered};
 ghost use Rattle.std.specs.Cmp.Lexicographic.{slice_cmp};
 ghost use Rattle.std.specs.Map.{values_of};
@@ -8,7 +9,8 @@ ghost use Rattle.plane_core.specs.Generations.{lies_within};
 ghost use Rattle.code_core.specs.Apgcodes.{kind_in};
 ghost use Rattle.code_core.specs.Names.{IsCode};
 ghost use Rattle.code_core.specs.declared.apgcode.Kind.TheVariants.{Ship};
-ghost use Rattle.survey_core.specs.Objects.{AreObjects, AreObjectsOf, CountsAreSome, IsCommonMultiple, IsMultiple, StayForGood, count_of, is_code, period_in};
+ghost use Rattle.survey_core.specs.Objects.{AreObjects, AreObjectsOf, CountsAreSome, IsCommonMultiple, IsMultiple};
+ghost use Rattle.survey_core.specs.Objects.{StayForGood, count_of, is_code, period_in};
 ghost use Rattle.survey_core.specs.Rest.{ComesBack};
 
 use crate::memo::Memo;
@@ -19,7 +21,8 @@ use std::alloc::{AllocError, Global};
 use std::collections::BTreeMap;
 use std::marker::Model;
 
-/// The objects of a finding: their codes in ASCII order, each once, and beside each code how many there are, at least 1.
+/// The objects of a finding: their codes in ASCII order, each once, and beside each code how many there are, at least
+/// 1.
 #[derive(Debug, Drop)]
 pub struct Objects {
     counted: Vec<(Apgcode, u64)>,
@@ -91,7 +94,9 @@ impl Objects {
 fn count(counts: &mut BTreeMap<Apgcode, u64>, code: Apgcode) -> Result<(), AllocError>
     requires room { (c : List ℕ) → count_of counts.old.entries c + 1 < 2 ^ 64 }
     requires some { CountsAreSome counts.old.entries }
-    ensures counts { OnOk result ((c : List ℕ) → count_of counts.new.entries c ≡ count_of counts.old.entries c + (if is_code c code then 1 else 0)) }
+    ensures counts { OnOk result
+        ((c : List ℕ) → count_of counts.new.entries c
+        ≡ count_of counts.old.entries c + (if is_code c code then 1 else 0)) }
     ensures some { OnOk result (CountsAreSome counts.new.entries) }
     ensures number { OnOk result (sum (values_of counts.new.entries) ≡ sum (values_of counts.old.entries) + 1) }
 {

@@ -43,7 +43,8 @@ impl Model for Profile {
 
     ghost inverse = { λ p. record { period = p.period; horizon = p.horizon; stride = p.stride; limit = p.limit } };
 
-    ghost invariant = { λ p. IsProfile (record { period = p.period; horizon = p.horizon; stride = p.stride; limit = p.limit }) };
+    ghost invariant = { λ p. IsProfile
+        (record { period = p.period; horizon = p.horizon; stride = p.stride; limit = p.limit }) };
 }
 
 impl Profile {

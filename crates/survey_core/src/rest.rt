@@ -1,5 +1,6 @@
-//! A pattern is at rest if each of its clusters comes back, and if the clusters, each run alone, are the whole pattern in
-//! every generation up to the horizon. Two blinkers with two empty rows between them show why the second is asked for:
+//! A pattern is at rest if each of its clusters comes back, and if the clusters, each run alone, are the whole pattern
+//! in every generation up to the horizon. Two blinkers with two empty rows between them show why the second is asked
+//! for:
 //!
 //! ```text
 //! generation 0    generation 1    generation 2,    generation 2,
@@ -12,14 +13,15 @@
 //!                     .O.
 //! ```
 //!
-//! Most patterns that are looked at are not at rest, and nearly always some cluster doesn't come back. So that is
-//! asked first, and the sweep of each cluster is kept. Sweeps tell which clusters may come near each other: these are a
-//! group, and clusters of different groups are never run side by side. In a group the whole and its clusters are stepped, a
-//! generation at a time, until a generation differs, or until each cluster is itself again in its place: then the whole is
-//! what it was as well, and all that follows has been seen. Even before that a cluster that is itself again isn't stepped,
-//! since its next generation is known.
+//! Most patterns that are looked at are not at rest, and nearly always some cluster doesn't come back. So that is asked
+//! first, and the sweep of each cluster is kept. Sweeps tell which clusters may come near each other: these are a
+//! group, and clusters of different groups are never run side by side. In a group the whole and its clusters are
+//! stepped, a generation at a time, until a generation differs, or until each cluster is itself again in its place:
+//! then the whole is what it was as well, and all that follows has been seen. Even before that a cluster that is itself
+//! again isn't stepped, since its next generation is known.
 
-ghost use Rattle.std.specs.Prelude.{◌≡◌, ◌<◌, ◌≤◌, ◌↔◌, ℕ, All, IfNone, IfOk, IfSome, IsTrue, flat_map, length, map, true};
+ghost use Rattle.std.specs.Prelude.{◌≡◌, ◌<◌, ◌≤◌, ◌↔◌, ℕ, All, IfNone, IfOk, IfSome, IsTrue, flat_map, length, map};
+ghost use Rattle.std.specs.Prelude.{true};
 ghost use Rattle.plane_core.specs.Cells.{InOrder};
 ghost use Rattle.plane_core.specs.Clusters.{Partition};
 ghost use Rattle.plane_core.specs.Generations.{lies_within, next};
@@ -45,7 +47,8 @@ pub(crate) fn clusters_at_rest(
     memo: &mut Memo,
 ) -> Result<Option<Vec<Pattern>>, AllocError>
     requires { lies_within 101000 pattern.now ≡ true }
-    ensures rest { IfOk result (λ found. IfSome found (λ clusters. RestsAs rule.now profile.now pattern.now clusters.items)) }
+    ensures rest { IfOk result
+        (λ found. IfSome found (λ clusters. RestsAs rule.now profile.now pattern.now clusters.items)) }
     ensures moves { IfOk result (λ found. IfNone found (¬ IsAtRest rule.now profile.now pattern.now)) }
 {
     // That a pattern's cells stand in order is known of them where they are asked for.
@@ -82,7 +85,9 @@ fn groups_keep_apart(
     requires order { All InOrder clusters.now }
     requires off { ShareNoCell clusters.now }
     requires count { length groups.now ≡ length clusters.now }
-    ensures { IfOk result (λ apart. IsTrue apart ↔ ((k : ℕ) → k < length clusters.now → GroupKeeps rule.now groups.now clusters.now horizon k)) }
+    ensures { IfOk result
+        (λ apart. IsTrue apart
+        ↔ ((k : ℕ) → k < length clusters.now → GroupKeeps rule.now groups.now clusters.now horizon k)) }
 {
     for number in 0..clusters.len() {
         let keeps = group_keeps_apart(alloc, rule, horizon, clusters, groups, number)?;
@@ -164,7 +169,8 @@ fn keep_apart(
     requires each_near { All (λ cluster. lies_within 101000 cluster ≡ true) clusters.now }
     requires order { All InOrder clusters.now }
     requires parts { Partition pattern.now clusters.now }
-    ensures { IfOk result (λ apart. IsTrue apart ↔ ((g : ℕ) → g ≤ horizon → KeepApart rule.now pattern.now clusters.now g)) }
+    ensures { IfOk result
+        (λ apart. IsTrue apart ↔ ((g : ℕ) → g ≤ horizon → KeepApart rule.now pattern.now clusters.now g)) }
 {
     let mut whole = pattern.copy(alloc)?;
     let mut alone = copies(alloc, clusters)?;
@@ -314,16 +320,16 @@ fn all_cells(alloc: Global, patterns: &[Pattern]) -> Result<Vec<Cell>, AllocErro
     Ok(cells)
 }
 
-/// The laws of patterns at rest: the empty pattern is at rest, and a pattern whose objects stay for good keeps them apart
-/// in every later generation, and comes back after the least common multiple of their periods.
+/// The laws of patterns at rest: the empty pattern is at rest, and a pattern whose objects stay for good keeps them
+/// apart in every later generation, and comes back after the least common multiple of their periods.
 #[tactic(auto, using(crate::proofs::ForGoodLemmas::empty_is_at_rest))]
 pub fn at_rest_for_good()
     ensures empty { EmptyIsAtRest }
     ensures forever { AtRestForGood }
 {}
 
-/// The laws of parts that stay apart: what stays more than two cells apart runs as if each part were alone, and so does what
-/// is in groups of which that is true.
+/// The laws of parts that stay apart: what stays more than two cells apart runs as if each part were alone, and so does
+/// what is in groups of which that is true.
 pub fn far_parts_run_alone()
     ensures parts { PartsRunAlone }
     ensures groups { GroupsRunAlone }

@@ -36,9 +36,12 @@ impl Model for Seed {
 
     ghost view = { λ s. take s.count s.padded };
 
-    ghost inverse = { λ bytes. record { padded = bytes ++ replicate (most_bytes - length bytes) 0; count = length bytes } };
+    ghost inverse = { λ bytes. record
+        { padded = bytes ++ replicate (most_bytes - length bytes) 0; count = length bytes } };
 
-    ghost invariant = { λ s. (take s.count s.padded ++ replicate (most_bytes - length (take s.count s.padded)) 0 ≡ s.padded) × (length (take s.count s.padded) ≡ s.count) × IsSeed (take s.count s.padded) };
+    ghost invariant = { λ s.
+        (take s.count s.padded ++ replicate (most_bytes - length (take s.count s.padded)) 0 ≡ s.padded)
+        × (length (take s.count s.padded) ≡ s.count) × IsSeed (take s.count s.padded) };
 }
 
 impl Seed {

@@ -12,7 +12,8 @@
 ghost use Rattle.std.specs.Prelude.{◌≡◌, ◌<◌, ◌++◌, decimal, All, IfOk};
 ghost use Rattle.plane_core.specs.Bounds.{IsWithin};
 ghost use Rattle.sha2.specs.Sha256.{sha256};
-ghost use Rattle.survey_core.specs.Soups.{SoupsByCells, is_alive_at, live_cells, soup, soup_of, square, square_cell};
+ghost use Rattle.survey_core.specs.Soups.{SoupsByCells, is_alive_at, live_in_square, soup, soup_of, square};
+ghost use Rattle.survey_core.specs.Soups.{square_cell};
 
 use crate::job::Job;
 use crate::seed::Seed;
@@ -35,8 +36,8 @@ pub fn soup(alloc: Global, job: &Job, number: u64) -> Result<Pattern, AllocError
     soup_of_digest(alloc, &digest(&job.seed, number))
 }
 
-/// The soup of a digest: the cell in column x of row y, both 0 to 15, is bit 7 - x mod 8 of byte 2y + x div 8, where bit
-/// 7 is the greatest.
+/// The soup of a digest: the cell in column x of row y, both 0 to 15, is bit 7 - x mod 8 of byte 2y + x div 8, where
+/// bit 7 is the greatest.
 ///
 /// # Errors
 ///
@@ -62,7 +63,7 @@ pub fn soups_by_cells()
 /// The live cells of the square.
 #[tactic(auto, using(crate::proofs::SoupLemmas::live_cells_none, crate::proofs::SoupLemmas::live_cells_alive, crate::proofs::SoupLemmas::live_cells_dead))]
 fn live_cells(alloc: Global, digest: &[u8; 32]) -> Result<Vec<Cell>, AllocError>
-    ensures { IfOk result (λ cells. cells.items ≡ live_cells digest.now 256) }
+    ensures { IfOk result (λ cells. cells.items ≡ live_in_square digest.now 256) }
 {
     let mut cells = Vec::new(alloc);
     for place in 0..256 {

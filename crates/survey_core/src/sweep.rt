@@ -9,11 +9,12 @@
 //!                                      +---+
 //! ```
 //!
-//! Two clusters stay apart if their sweeps, one of them grown by 2, do so in every turn up to the horizon. Only the step
-//! of the one against the other counts, and once they part they never meet again. What doesn't move has turns of any
-//! length; two that move with different periods are taken to come near each other, and are run.
+//! Two clusters stay apart if their sweeps, one of them grown by 2, do so in every turn up to the horizon. Only the
+//! step of the one against the other counts, and once they part they never meet again. What doesn't move has turns of
+//! any length; two that move with different periods are taken to come near each other, and are run.
 
-ghost use Rattle.std.specs.Prelude.{◌≡◌, ◌≢◌, ◌↔◌, ◌+◌, ◌*◌, ◌-ℤ◌, ◌+ℤ◌, ◌<◌, ◌≤◌, ◌<ℤ◌, ◌≤ℤ◌, ◌⊎◌, ◌^◌, [], ℕ, pos, All, IfNone, IfOk, IfSome, IsTrue, true, unsigned_abs};
+ghost use Rattle.std.specs.Prelude.{◌≡◌, ◌≢◌, ◌↔◌, ◌+◌, ◌*◌, ◌-ℤ◌, ◌+ℤ◌, ◌<◌, ◌≤◌, ◌<ℤ◌, ◌≤ℤ◌, ◌⊎◌, ◌^◌, [], ℕ, pos};
+ghost use Rattle.std.specs.Prelude.{All, IfNone, IfOk, IfSome, IsTrue, true, unsigned_abs};
 ghost use Rattle.std.specs.Int.{int_max, int_min};
 ghost use Rattle.plane_core.specs.Bounds.{IsWithin};
 ghost use Rattle.plane_core.specs.Cells.{InOrder};
@@ -167,7 +168,8 @@ fn is_still(sweep: &Sweep) -> bool
     sweep.recurrence.dx == 0 && sweep.recurrence.dy == 0
 }
 
-/// Whether the boxes are clear of each other for so many turns. Where neither moves against the other, one turn shows it.
+/// Whether the boxes are clear of each other for so many turns. Where neither moves against the other, one turn shows
+/// it.
 fn are_clear_for(one: &Sweep, other: &Sweep, turns: u32) -> bool
     requires { turns ≤ 4097 }
     ensures { IsTrue result → StayClear turns one.now other.now }
@@ -275,8 +277,8 @@ fn two_past(at: i64) -> i64
     at + 2
 }
 
-/// A law of all patterns that come back after p generations, moved by a shift: after n times p and r generations they are
-/// what they are after r, moved by n times the shift.
+/// A law of all patterns that come back after p generations, moved by a shift: after n times p and r generations they
+/// are what they are after r, moved by n times the shift.
 #[tactic(auto, using(crate::proofs::SweepLemmas::after_turns))]
 pub fn ships_move_by_turns()
     ensures { ShipsMoveByTurns }

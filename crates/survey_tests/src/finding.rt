@@ -56,9 +56,9 @@ fn profile(period: u32, horizon: u32, stride: u32, limit: u32) -> Result<Profile
     Ok(Profile::new(period, horizon, stride, limit)?)
 }
 
-// The R-pentomino comes to rest in generation 1103 with these 25 objects (LifeWiki, "R-pentomino"), and 1111 is the first
-// multiple of 101 after that. The codes are those of LifeWiki's pages on these objects; what becomes of the T-tetromino,
-// the row of seven and the diehard stands on theirs.
+// The R-pentomino comes to rest in generation 1103 with these 25 objects (LifeWiki, "R-pentomino"), and 1111 is the
+// first multiple of 101 after that. The codes are those of LifeWiki's pages on these objects; what becomes of the
+// T-tetromino, the row of seven and the diehard stands on theirs.
 #[test]
 fn finds_known_patterns(rt: HostRuntime) -> Result<(), Fail> {
     for (picture, expected) in [
@@ -124,8 +124,8 @@ const GLIDER_GUN: &str =
                           ...........O...O....OO............OO\nOO........O.....O...OO\nOO........O...O.OO....O.O\n\
                           ..........O.....O.......O\n...........O...O\n............OO";
 
-// The findings were made by another program, which was written from the definitions alone in another language. That of the
-// glider gun is for the limit 505, and that of the spaceship of Seeds (LifeWiki, "Seeds") for the limit 0.
+// The findings were made by another program, which was written from the definitions alone in another language. That of
+// the glider gun is for the limit 505, and that of the spaceship of Seeds (LifeWiki, "Seeds") for the limit 0.
 #[test]
 fn agrees_with_another_program(rt: HostRuntime) -> Result<(), Fail> {
     for (picture, rule, limit, expected) in [
@@ -269,8 +269,8 @@ fn is_same_with(
     Ok(with.as_str() == without.as_str())
 }
 
-// One memo serves rules and profiles in turn. A row of three comes back in Life, but not within one generation, and not under
-// b3s0123, where it grows. Four cells that die are as many as a block has.
+// One memo serves rules and profiles in turn. A row of three comes back in Life, but not within one generation, and not
+// under b3s0123, where it grows. Four cells that die are as many as a block has.
 #[test]
 fn finds_the_same_with_a_memo(rt: HostRuntime) -> Result<(), Fail> {
     let mut memo = Memo::new(rt.alloc());

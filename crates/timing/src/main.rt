@@ -13,13 +13,13 @@ ghost use Rattle.plane_core.specs.declared.cell.Cell.{Cell as Place};
 use code_core::apgcode::Apgcode;
 use code_core::name::name;
 use haul_core::haul::{Haul, OpenError};
-use haul_core::range::Range;
 use haul_core::report::Report;
 use plane_core::cell::Cell;
 use plane_core::clusters::clusters_are_determined;
 use plane_core::generation::StepError;
 use plane_core::pattern::Pattern;
 use plane_core::rule::Rule;
+use ranges::range::Range;
 use std::alloc::{AllocError, Global};
 use std::env;
 use std::io::{self, Read};
@@ -32,7 +32,8 @@ use survey_core::seed::Seed;
 
 /// How many clusters the pattern has.
 fn cluster_count(alloc: Global, pattern: &Pattern) -> Result<usize, AllocError>
-    ensures { IfOk result (λ count. (clusters : List (List Place)) → AreClusters pattern.now clusters → count ≡ length clusters) }
+    ensures { IfOk result
+        (λ count. (clusters : List (List Place)) → AreClusters pattern.now clusters → count ≡ length clusters) }
 {
     clusters_are_determined();
     let clusters = pattern.clusters(alloc)?;

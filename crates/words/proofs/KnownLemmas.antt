@@ -15,6 +15,7 @@ use Rattle.clap.specs.Walk.{arg_by_id, arg_by_index, arg_by_long, has_long, take
 use Rattle.clap.proofs.OnLiterals.{clap_on_literals}
 use Rattle.words.specs.declared.options.Kind.TheVariants as kind
 use Rattle.words.specs.Table.{Command, Entry, census_app, commands, shape_in}
+use Rattle.words.specs.Requests.{is_version}
 use Rattle.words.specs.Table as table
 use Rattle.words.specs.Uses.{IsIn, is_flag, is_required}
 use Rattle.words.proofs.BuiltLemmas.{built, is_of_kind, is_small}
@@ -81,7 +82,7 @@ at f g (x ∷ es) e same (inr more) = at f g es e (ap (drop 1) same) more
 pub record KnowsCommand (command : Command) : Type 0 where
   pub has : HasCommand census_built command.name (leaf command)
   pub knows : Knows (leaf command) command.arguments
-  pub no_version : bytes_eq command.name (codes "--version") ≡ false
+  pub no_version : is_version command.name ≡ false
 
 run_known : KnowsCommand table.run_command
 unfolding clap_on_literals

@@ -13,7 +13,7 @@ use Rattle.clap.proofs.OnLiterals.{clap_on_literals}
 use Rattle.clap.specs.declared.error.kind.ErrorKind.{ErrorKind}
 use Rattle.clap.specs.declared.error.kind.ErrorKind.TheVariants.{MissingRequiredArgument}
 use Rattle.words.specs.Calls.{AskForTheirValues, AsksForVersion, NoCommandAsksForNothing, survey_given}
-use Rattle.words.specs.Requests.{all_four, asked_by, asks_version, gather_from, name_from, request_in, run_from, set_of_four, show_from, soup_from, survey_in}
+use Rattle.words.specs.Requests.{all_four, asked_by, asks_version, gather_from, is_version, name_from, request_in, run_from, set_of_four, show_from, soup_from, survey_in}
 use Rattle.words.specs.Requests.{survey_of_three, take_from, unless_faulty, work_from}
 use Rattle.words.specs.Table.{Command, Entry, census_app, commands}
 use Rattle.words.specs.Table as table
@@ -28,8 +28,8 @@ use Rattle.words.proofs.WalkLemmas.{command_fault, command_rows, completed, leve
 
 -- ---- any command
 
--- the name of a command and words after it aren't `--version` alone
-not_version : (program name : Text) (words : List Text) → bytes_eq name (codes "--version") ≡ false → asks_version (program ∷ name ∷ words) ≡ false
+-- the name of a command and words after it don't ask for the version
+not_version : (program name : Text) (words : List Text) → is_version name ≡ false → asks_version (program ∷ name ∷ words) ≡ false
 not_version program name [] other = other
 not_version program name (w ∷ ws) other = refl
 
@@ -144,9 +144,9 @@ ask_for_their_values = record {
 -- ---- no command
 
 pub asks_for_version : AsksForVersion
-asks_for_version program = refl
+asks_for_version = record { long = λ program. refl; short = λ program. refl }
 
--- a value isn't `--version`
+-- a value doesn't ask for the version
 value_no_version : (program word : Text) (words : List Text) → starts_with_minus word ≡ false → asks_version (program ∷ word ∷ words) ≡ false
 value_no_version program [] [] h = refl
 value_no_version program (x ∷ xs) [] h = rw h refl

@@ -80,9 +80,10 @@ pub record AskForNothing (command : Command) : Type 0 where
 abbrev pub OthersAskForNothing : Type 0
 OthersAskForNothing = (command : Command) → IsIn command commands → AskForNothing command
 
--- `--version` alone
-abbrev pub AsksForVersion : Type 0
-AsksForVersion = (program : Text) → asked_by (program ∷ codes "--version" ∷ []) ≡ Some Version
+-- `--version` alone, and `-V`
+pub record AsksForVersion : Type 0 where
+  pub long : (program : Text) → asked_by (program ∷ codes "--version" ∷ []) ≡ Some Version
+  pub short : (program : Text) → asked_by (program ∷ codes "-V" ∷ []) ≡ Some Version
 
 -- no command, another word in its place, whatever comes after it, and a call for help
 pub record NoCommandAsksForNothing : Type 0 where

@@ -1,5 +1,5 @@
 -- The request that a command's values make.
-use Rattle.std.specs.Prelude.{ℕ, Bool, false, List, [], ◌∷◌, Option, None, Some, codes, option_and_then, if◌then◌else◌}
+use Rattle.std.specs.Prelude.{◌||◌, ℕ, Bool, false, List, [], ◌∷◌, Option, None, Some, codes, option_and_then, if◌then◌else◌}
 use Rattle.std.specs.Str.{bytes_eq}
 use Rattle.clap.specs.Words.{Kinds, Row, fault_of, subcommand_of}
 pub use Rattle.clap.specs.Words.{Text}
@@ -129,9 +129,12 @@ abbrev pub unless_faulty : Kinds → Option Request → Option Request
 unless_faulty [] request = request
 unless_faulty (kind ∷ kinds) request = None
 
--- the program's name and `--version` alone
+abbrev pub is_version : Text → Bool
+is_version word = bytes_eq word (codes "--version") || bytes_eq word (codes "-V")
+
+-- the program's name and `--version` or `-V` alone
 abbrev pub asks_version : List Text → Bool
-asks_version (program ∷ word ∷ []) = bytes_eq word (codes "--version")
+asks_version (program ∷ word ∷ []) = is_version word
 asks_version _ = false
 
 -- what `clap` makes of the words: no request if it finds a fault in them, or they ask for help

@@ -171,7 +171,12 @@ abbrev pub with_commands : App → List Shape → App
 with_commands app [] = app
 with_commands app (shape ∷ more) = with_commands (with_subcommand app shape) more
 
--- the program, of which a command must be named
+-- the program, which has a version, and of which a command must be named; help is shown where no word follows
+abbrev pub program : App
+program = record {
+  top = record ((new_app (codes "census")).top) { has_version = true; subcommand_required = true; arg_required_else_help = true };
+  subs = [];
+}
+
 abbrev pub census_app : App
-census_app =
-    with_commands (record { top = record ((new_app (codes "census")).top) { subcommand_required = true }; subs = [] }) (map shape_in commands)
+census_app = with_commands program (map shape_in commands)

@@ -1,13 +1,17 @@
 ghost use Rattle.std.specs.Prelude.{◌≡◌, IfOk, map, true, false};
 ghost use Rattle.clap.specs.Words.{app_of, rule_of, shape_of};
 ghost use Rattle.clap.specs.declared.builder.command.Command.TheViews.{out-Command as fields_of};
-ghost use Rattle.words.specs.Table.{census_app, command_of, entry_of, named, placed, rule_in, shape_in, with_commands, with_rules};
+ghost use Rattle.words.specs.Table.{census_app, command_of, entry_of, named, placed, rule_in, shape_in, with_commands};
+ghost use Rattle.words.specs.Table.{with_rules};
 
 use crate::commands::{COMMANDS, CommandRow};
 use crate::options::{Argument, Kind, Place};
 use clap::builder::ValueParser;
 use clap::{Arg, ArgAction, Command};
 use std::alloc::{AllocError, Global};
+
+/// The program's version, as `clap` prints it.
+const VERSION: &str = "0.1.0";
 
 /// The program as `clap` reads its words.
 ///
@@ -22,8 +26,16 @@ pub fn census_command<'a>(alloc: Global) -> Result<Command<'a>, AllocError>
             "Runs patterns of Conway's Game of Life and its kin, names and draws their\n\
              objects, makes soups, and counts what they leave",
         )
-        .after_help("`census --version` prints the name and version.")
-        .subcommand_required(true);
+        .version(VERSION)
+        .after_help(
+            "To begin with:\n  \
+             census take --seed abc --count 100     a census of 100 soups\n  \
+             census soup --seed abc 12              one of its soups\n  \
+             census show xs7_178c                   draws an object\n\n\
+             `census help take` tells all of `take`, and so for each command.",
+        )
+        .subcommand_required(true)
+        .arg_required_else_help(true);
     with_commands(alloc, command, &COMMANDS)
 }
 
@@ -112,6 +124,10 @@ fn with_place<'a>(alloc: Global, row: &Argument) -> Arg<'a>
     ensures local { result.global ≡ false }
 {
     let argument = Arg::new(alloc, row.name).help(row.help);
+    let argument = match row.heading {
+        Some(heading) => argument.help_heading(heading),
+        None => argument,
+    };
     match row.place {
         Place::Position => argument,
         Place::Named(shown) => argument.long(row.name).value_name(shown),

@@ -68,7 +68,7 @@ pub fn others_ask_for_nothing()
     ensures { OthersAskForNothing }
 {}
 
-/// A law of all words: what `--version` asks for.
+/// A law of all words: what `--version` and `-V` ask for.
 #[tactic(auto, using(crate::proofs::LawLemmas::asks_for_version))]
 pub fn asks_for_version()
     ensures { AsksForVersion }
@@ -80,12 +80,12 @@ pub fn no_command_asks_for_nothing()
     ensures { NoCommandAsksForNothing }
 {}
 
-/// Whether the words are the program's name and `--version` alone.
+/// Whether the words are the program's name and `--version` or `-V` alone.
 fn asks_version<S: AsStr>(words: &[S]) -> bool
     ensures { result ≡ asks_version (map S.text words.now) }
 {
     match words {
-        [_, word] => word.as_str() == "--version",
+        [_, word] => word.as_str() == "--version" || word.as_str() == "-V",
         _ => false,
     }
 }

@@ -36,9 +36,14 @@ pub struct Argument {
     pub kind: Kind,
     /// The value that is meant if it isn't given. Without one it must be given, unless it is a flag.
     pub default: Option<&'static str>,
+    /// The heading under which help shows it. Without one it stands with the others.
+    pub heading: Option<&'static str>,
     /// What help says of it.
     pub help: &'static str,
 }
+
+/// Help shows what nearly nobody changes under a heading of its own.
+const SETTLING: Option<&'static str> = Some("When a soup has settled");
 
 /// The number of generations to run.
 pub const GENERATIONS: Argument = Argument {
@@ -46,6 +51,7 @@ pub const GENERATIONS: Argument = Argument {
     place: Place::Position,
     kind: Kind::Number(0, 100_000),
     default: None,
+    heading: None,
     help: "How many generations to run, from 0 to 100000",
 };
 
@@ -55,6 +61,7 @@ pub const CODE: Argument = Argument {
     place: Place::Position,
     kind: Kind::Text,
     default: None,
+    heading: None,
     help: "An apgcode, as xs7_178c or xp2_7, or the text after its `_`. The\n\
          number in it isn't checked",
 };
@@ -65,6 +72,7 @@ pub const NUMBER: Argument = Argument {
     place: Place::Position,
     kind: Kind::LargeNumber(1_099_511_627_775),
     default: None,
+    heading: None,
     help: "The number of the soup, from 0 to 1099511627775",
 };
 
@@ -74,6 +82,7 @@ pub const RULE: Argument = Argument {
     place: Place::Named("RULE"),
     kind: Kind::Text,
     default: Some("b3s23"),
+    heading: None,
     help: "The rule: `b`, the numbers of live neighbours that give birth, `s`,\n\
          the numbers on which a live cell survives. Life is b3s23, which\n\
          others write B3/S23",
@@ -85,6 +94,7 @@ pub const SEED: Argument = Argument {
     place: Place::Named("SEED"),
     kind: Kind::Text,
     default: Some(""),
+    heading: None,
     help: "The seed: at most 64 visible ASCII characters",
 };
 
@@ -94,6 +104,7 @@ pub const FIRST: Argument = Argument {
     place: Place::Named("NUMBER"),
     kind: Kind::LargeNumber(1_099_511_627_776),
     default: Some("0"),
+    heading: None,
     help: "The number of the first soup, from 0 to 1099511627776",
 };
 
@@ -103,6 +114,7 @@ pub const COUNT: Argument = Argument {
     place: Place::Named("COUNT"),
     kind: Kind::Number(0, 16_777_216),
     default: None,
+    heading: None,
     help: "How many soups, from 0 to 16777216",
 };
 
@@ -112,6 +124,7 @@ pub const ALSO: Argument = Argument {
     place: Place::Named("LIST"),
     kind: Kind::Text,
     default: Some(""),
+    heading: None,
     help: "A list of further ranges of numbers, as 100+20,500+1: the numbers\n\
          100 to 119, and 500",
 };
@@ -122,6 +135,7 @@ pub const PERIOD: Argument = Argument {
     place: Place::Named("PERIOD"),
     kind: Kind::Number(1, 64),
     default: Some("64"),
+    heading: SETTLING,
     help: "The longest period that counts, from 1 to 64",
 };
 
@@ -131,6 +145,7 @@ pub const HORIZON: Argument = Argument {
     place: Place::Named("HORIZON"),
     kind: Kind::Number(0, 4096),
     default: Some("512"),
+    heading: SETTLING,
     help: "For how many generations objects may not come into each other's way,\n\
          from PERIOD to 4096",
 };
@@ -141,6 +156,7 @@ pub const STRIDE: Argument = Argument {
     place: Place::Named("STRIDE"),
     kind: Kind::Number(1, 10_000),
     default: Some("101"),
+    heading: SETTLING,
     help: "How many generations lie between two looks, from 1 to 10000",
 };
 
@@ -150,6 +166,7 @@ pub const LIMIT: Argument = Argument {
     place: Place::Named("LIMIT"),
     kind: Kind::Number(0, 100_000),
     default: Some("30300"),
+    heading: SETTLING,
     help: "The last generation at which there may be a look, from 0 to 100000.\n\
          A pattern that explodes under its rule takes ever more memory and\n\
          time up to there",
@@ -161,6 +178,7 @@ pub const WORKERS: Argument = Argument {
     place: Place::Named("WORKERS"),
     kind: Kind::Number(1, 16),
     default: Some("1"),
+    heading: None,
     help: "How many workers run soups at a time, at most 16, each in a thread\n\
          of its own. More than there are processors gain nothing. The haul is\n\
          the same. Fewer work where the system starts no more threads",
@@ -172,6 +190,7 @@ pub const REPORTERS: Argument = Argument {
     place: Place::Named("WORKERS"),
     kind: Kind::Number(1, 16),
     default: Some("1"),
+    heading: None,
     help: "The greatest number of a worker whose lines are taken, at most 16:\n\
          lines of worker 3 need `--workers 3`",
 };
@@ -182,6 +201,7 @@ pub const WORKER: Argument = Argument {
     place: Place::Named("WORKER"),
     kind: Kind::Number(1, 16),
     default: None,
+    heading: None,
     help: "The number of the worker that reports, from 1 to 16",
 };
 
@@ -191,6 +211,7 @@ pub const PROGRESS: Argument = Argument {
     place: Place::Named(""),
     kind: Kind::Flag,
     default: None,
+    heading: None,
     help: "Says on standard error how many soups are run, also if that is no\n\
          terminal. The line is wiped at the end",
 };

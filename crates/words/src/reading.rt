@@ -2,7 +2,8 @@ ghost use Rattle.std.specs.Prelude.{◌≡◌, IfSome};
 ghost use Rattle.clap.specs.Words.{found_of, rows_of};
 ghost use Rattle.words.specs.Table.{count, first};
 ghost use Rattle.words.specs.Values.{IsInRange};
-ghost use Rattle.words.specs.Requests.{AreInTheirRanges, AreProfileNumbers, AreSurveyNumbers, gather_in, name_in, profile_in, run_in, set_in, show_in, soup_in, survey_in, take_in, work_in};
+ghost use Rattle.words.specs.Requests.{AreInTheirRanges, AreProfileNumbers, AreSurveyNumbers, gather_in, name_in};
+ghost use Rattle.words.specs.Requests.{profile_in, run_in, set_in, show_in, soup_in, survey_in, take_in, work_in};
 
 use crate::options;
 use crate::request::{ProfileNumbers, Request, SoupSet, Survey};

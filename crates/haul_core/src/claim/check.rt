@@ -30,8 +30,8 @@ pub enum CheckFault {
 }
 
 impl Claim {
-    /// Surveys the soup that the claim is about, and makes the claim a report if it is of this job and says what was found.
-    /// A claim of version 1 is compared without the mark, which it doesn't have.
+    /// Surveys the soup that the claim is about, and makes the claim a report if it is of this job and says what was
+    /// found. A claim of version 1 is compared without the mark, which it doesn't have.
     ///
     /// # Errors
     ///
@@ -53,8 +53,8 @@ impl Claim {
         self.check_with(alloc, job, &mut Memo::without_room(alloc))
     }
 
-    /// Checks the claim as [`check`](Claim::check) does. Whatever the memo remembers, the answer is the same; a memo that has
-    /// seen other soups makes it faster.
+    /// Checks the claim as [`check`](Claim::check) does. Whatever the memo remembers, the answer is the same; a memo
+    /// that has seen other soups makes it faster.
     ///
     /// # Errors
     ///
@@ -118,7 +118,12 @@ fn says(
     objects: &Objects,
     for_good: bool,
 ) -> bool
-    ensures { IsTrue result ↔ (said.now ≡ record { checkpoint = checkpoint; for_good = if version == 1 then None else Some for_good; counts = objects.now }) }
+    ensures { IsTrue result
+        ↔ (said.now ≡ record {
+          checkpoint = checkpoint;
+          for_good = if version == 1 then None else Some for_good;
+          counts = objects.now;
+        }) }
 {
     let mark = if version == 1 { None } else { Some(for_good) };
     said.checkpoint == checkpoint
@@ -149,8 +154,8 @@ fn is_same_count(count: &(Code, u64), object: &(Apgcode, u64)) -> bool
     count.0.bytes() == object.0.text().as_bytes() && count.1 == object.1
 }
 
-/// The law that a report's line is that of a claim, and that the claim is found to be right: checking it gives the report
-/// back, if there is memory.
+/// The law that a report's line is that of a claim, and that the claim is found to be right: checking it gives the
+/// report back, if there is memory.
 #[tactic(auto, using(crate::proofs::CheckLemmas::report_is_claim, crate::proofs::CheckLemmas::report_is_confirmed))]
 pub fn reports_are_claims(report: &Report)
     ensures claim { IsClaim (claim_of 2 report.now) }

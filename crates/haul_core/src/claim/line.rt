@@ -1,8 +1,11 @@
-//! How a report line is read: in one pass without memory for the first fault, and then, if there is none, with its counts.
+//! How a report line is read: in one pass without memory for the first fault, and then, if there is none, with its
+//! counts.
 
-ghost use Rattle.std.specs.Prelude.{◌≡◌, ◌↔◌, ◌-◌, ℕ, IfNone, IfOk, IfSome, IsErrOf, IsTrue, MatchResult, length, option_map};
-ghost use Rattle.haul_core.specs.ClaimSteps.{HasFront, IsAfter, MayFollow, claimed};
-ghost use Rattle.haul_core.specs.Claims.{FaultyLinesHaveNoClaim, IsClaimLine, IsFirstFaultOf, LinesHaveOneClaim, LinesHaveOneFault};
+ghost use Rattle.std.specs.Prelude.{◌≡◌, ◌↔◌, ◌-◌, ℕ, IfNone, IfOk, IfSome, IsErrOf, IsTrue, MatchResult, length};
+ghost use Rattle.std.specs.Prelude.{option_map};
+ghost use Rattle.haul_core.specs.ClaimSteps.{HasReadFront, IsAfter, MayFollow, claimed};
+ghost use Rattle.haul_core.specs.Claims.{FaultyLinesHaveNoClaim, IsClaimLine, IsFirstFaultOf, LinesHaveOneClaim};
+ghost use Rattle.haul_core.specs.Claims.{LinesHaveOneFault};
 ghost use Rattle.haul_core.specs.FieldSteps.{Tells};
 ghost use Rattle.haul_core.specs.ReportLines.{Claimed, IsClaim, claim_line, count_field};
 ghost use Rattle.haul_core.specs.declared.front.Front.{Front as Before};
@@ -40,8 +43,8 @@ impl Claim {
     ///
     /// # Errors
     ///
-    /// - [`LineError::BadLine`] if the line is not that of a claim, whether there is memory or not. Its place is where the
-    ///   first field that is wrong begins; if all are right, but one is missing, it is the length of the line.
+    /// - [`LineError::BadLine`] if the line is not that of a claim, whether there is memory or not. Its place is where
+    ///   the first field that is wrong begins; if all are right, but one is missing, it is the length of the line.
     /// - [`LineError::Memory`] if memory runs out.
     pub fn read_line(alloc: Global, line: &[u8]) -> Result<Claim, LineError>
         // What is read has the line as its one line, and each claim is read from its line.
@@ -76,7 +79,7 @@ fn fault_in(line: &[u8]) -> Option<usize>
 
 /// The place of the first fault among the counts of a line.
 fn fault_in_counts(line: &[u8], counts: Option<&[u8]>) -> Option<usize>
-    requires { (front : Before) × HasFront line.now front (option_map (λ rest. rest.now) counts) }
+    requires { (front : Before) × HasReadFront line.now front (option_map (λ rest. rest.now) counts) }
     ensures fault { IfSome result (IsFirstFaultOf line.now) }
     ensures refused { IfSome result (λ _. ¬ IsClaimLine line.now) }
     ensures none { IfNone result (IsClaimLine line.now) }
@@ -122,7 +125,7 @@ fn with_counts(
     counts: Option<&[u8]>,
 ) -> Result<Claim, AllocError>
     requires line { IsClaimLine line.now }
-    requires front { HasFront line.now front (option_map (λ rest. rest.now) counts) }
+    requires front { HasReadFront line.now front (option_map (λ rest. rest.now) counts) }
     ensures lawful { IfOk result IsClaim }
     ensures line { IfOk result (λ claim. claim_line claim ≡ line.now) }
 {
@@ -166,7 +169,8 @@ fn claim_of(front: Front, counts: Vec<(Code, u64)>) -> Claim
 
 /// The code and the number of a count that may stand after this code.
 fn count_after<'a>(last: Option<&[u8]>, field: &'a [u8]) -> Option<(&'a [u8], u64)>
-    ensures { Tells (MayFollow (option_map (λ own. own.now) last.entry)) count_field field.now (option_map (λ object. (object.0.now, object.1)) result) }
+    ensures { Tells (MayFollow (option_map (λ own. own.now) last.entry)) count_field field.now
+        (option_map (λ object. (object.0.now, object.1)) result) }
 {
     let (code, count) = count_in(field)?;
     if is_after(last, code) {
@@ -186,8 +190,8 @@ fn is_after(last: Option<&[u8]>, code: &[u8]) -> bool
     }
 }
 
-/// The laws of lines: a line is that of one claim at most, a line with a fault is that of none, and a line has its first
-/// fault at one place.
+/// The laws of lines: a line is that of one claim at most, a line with a fault is that of none, and a line has its
+/// first fault at one place.
 #[tactic(auto, using(crate::proofs::OneClaim::one_claim))]
 pub fn lines_tell_claims()
     ensures one { LinesHaveOneClaim }

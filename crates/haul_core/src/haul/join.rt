@@ -33,8 +33,8 @@ pub enum JoinFault {
 }
 
 impl Haul {
-    /// The two hauls as one. It is closed, and has taken what the first has and then what the second has. It has as many
-    /// workers as the one that has more, and may have more than 2^24 numbers.
+    /// The two hauls as one. It is closed, and has taken what the first has and then what the second has. It has as
+    /// many workers as the one that has more, and may have more than 2^24 numbers.
     ///
     /// # Errors
     ///
@@ -62,8 +62,8 @@ impl Haul {
     }
 }
 
-/// The law that the census of a joined haul has the sums of the two censuses: of soups, of unsettled ones, of those that
-/// stay for good, of objects, and of the total of each code.
+/// The law that the census of a joined haul has the sums of the two censuses: of soups, of unsettled ones, of those
+/// that stay for good, of objects, and of the total of each code.
 pub fn joined_hauls_add_up()
     ensures { JoinedHaulsAddUp }
 {

@@ -1,5 +1,5 @@
 use Rattle.std.proofs.Common.{◌≡◌, ◌∙◌, ◌++◌, ◌∷◌, [], List, Err, ap, sym}
-use Rattle.haul_core.specs.declared.range.Range.{Range}
+use Rattle.ranges.specs.declared.range.Range.{Range}
 use Rattle.commands.specs.SoupSets.{own_range}
 use Rattle.commands.proofs.AnswerLemmas.{err_of}
 use Rattle.commands.proofs.TakeLemmas.{Stops_list}

@@ -1,6 +1,6 @@
 use Rattle.std.proofs.Common.{List, sym, subst}
 use Rattle.std.proofs.KnownBytes.{Appends-nil}
-use Rattle.haul_core.specs.declared.range.Range.{Range}
+use Rattle.ranges.specs.declared.range.Range.{Range}
 use Rattle.commands.specs.Streams.{stream}
 use Rattle.haul_core.specs.Missing.{numbers_of}
 use Rattle.commands.specs.Work.{TellsReports, work_right}

@@ -1,6 +1,6 @@
 use Rattle.std.proofs.Common.{◌<◌, ◌∙◌, ap, arith, length}
 use Rattle.std.proofs.lemmas.List.{get_or_read}
-use Rattle.crew.specs.Tickets.{Drawn}
+use Rattle.handover.specs.Tickets.{Drawn}
 use Rattle.crew.proofs.ShiftLemmas.{reported_next}
 use Rattle.crew.proofs.shift.survey_all.Goals as goal
 

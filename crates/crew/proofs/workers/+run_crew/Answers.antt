@@ -2,8 +2,8 @@ use Rattle.std.proofs.Common.{◌≡◌, Some, subst, sym}
 use Rattle.crew.specs.Shifts.{Leaves}
 use Rattle.crew.specs.declared.shift.End.TheVariants.{Stopped}
 use Rattle.std.proofs.lemmas.List.Elements.{All-pop}
-use Rattle.crew.specs.Belts.{Presented, silent}
-use Rattle.crew.specs.Tickets.{Drawn, fresh}
+use Rattle.handover.specs.Belts.{Presented, silent}
+use Rattle.handover.specs.Tickets.{Drawn, fresh}
 use Rattle.crew.specs.declared.note.Note.{Note}
 use Rattle.crew.proofs.ShiftLemmas.{back_more}
 use Rattle.crew.proofs.workers.+run_crew.Goals as goal

@@ -1,6 +1,6 @@
 use Rattle.std.proofs.Common.{◌≡◌, ◌∙◌, All, ap, arith, length, subst, sym}
 use Rattle.std.specs.List.{range_with_len}
-use Rattle.crew.specs.Belts.{Presented, Received, silent}
+use Rattle.handover.specs.Belts.{Presented, Received, silent}
 use Rattle.crew.specs.declared.note.Note.{Note}
 use Rattle.crew.proofs.TakeLemmas.{all_silent, belts_of, crew_has_taken, crew_stops, crew_within, silent_length}
 use Rattle.crew.proofs.workers.take_missing.Goals as goal

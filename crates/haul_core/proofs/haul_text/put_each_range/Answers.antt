@@ -1,6 +1,6 @@
 use Rattle.std.proofs.Common.{◌++◌, ◌+◌, ℕ, List, drop, flat_map, get_or, sym}
 use Rattle.plane_core.proofs.OutLemmas.{Writes_same, Writes_then, Writes_stops}
-use Rattle.haul_core.specs.declared.range.Range.{Range}
+use Rattle.ranges.specs.declared.range.Range.{Range}
 use Rattle.haul_core.specs.HaulTexts.{ended, range_line}
 use Rattle.haul_core.proofs.TextLemmas.{text_more_at}
 use Rattle.haul_core.proofs.haul_text.put_each_range.Goals as goal

@@ -1,6 +1,6 @@
 use Rattle.std.proofs.Common.{◌≡◌, ◌∙◌, ◌++◌, ℕ, List, true, false, ap, sym, is_some, nat_eq}
 use Rattle.std.specs.Map.{lookup}
-use Rattle.haul_core.specs.Ranges.{end_of}
+use Rattle.ranges.specs.Ranges.{end_of}
 use Rattle.haul_core.proofs.MissingLemmas.{adds_no, adds_yes}
 use Rattle.haul_core.proofs.missing.add_missing.Goals as goal
 use Rattle.haul_core.proofs.missing.add_missing.Goals.{then-not-contains_key+in_ok-push, else-not-contains_key}

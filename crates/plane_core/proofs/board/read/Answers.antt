@@ -4,7 +4,7 @@ use Rattle.plane_core.proofs.ReadLemmas.{read_all, rows-none}
 use Rattle.plane_core.proofs.board.read.Goals as goal
 
 pub loop-band-init : goal.loop-band-init
-loop-band-init c = rows-none c.args.at c.args.words.now _ c.new-cells.ensures.items
+loop-band-init c = rows-none c.args.at c.args.words.now _ c.in_ok-cells.ensures.items
 
 pub loop-band-preserved : goal.loop-band-preserved
 loop-band-preserved c =

@@ -1,12 +1,14 @@
 use Rattle.std.proofs.Common.{arith, ◌<◌}
-use Rattle.plane_core.proofs.ForestLemmas.{behind_next, joins_more}
+use Rattle.plane_core.proofs.ForestLemmas.{behind_next, joins_more, joins_near}
 use Rattle.plane_core.proofs.forest.join_all.Goals as goal
 
 pub loop-place-preserved : goal.loop-place-preserved
 loop-place-preserved c = (
   c.join_place-cursors.ensures.forest,
   joins_more c.args.cells.now c.loop-place.parents c.join_place-cursors.new.parents c.loop-place.place c.join_place-cursors.ensures.keeps
-      c.loop-place.invariant.1 c.join_place-cursors.ensures.joined,
+      c.loop-place.invariant.1
+      (joins_near c.args.cells.now c.loop-place.parents c.join_place-cursors.new.parents c.loop-place.place c.join_place-cursors.ensures.keeps
+      c.loop-place.invariant.1 c.join_place-cursors.ensures.joined),
   behind_next c.args.cells.now c.join_place-cursors.result c.loop-place.place c.join_place-cursors.ensures.cursors,
 )
 

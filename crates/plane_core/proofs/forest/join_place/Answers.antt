@@ -7,40 +7,34 @@ use Rattle.plane_core.proofs.forest.join_place.Goals as goal
 
 pub returns-clause-keeps : goal.returns-clause-keeps
 returns-clause-keeps c =
-    keeps-then c.args.parents.now c.join_row-here.new.parents c.join_row-top.new.parents c.join_row-here.ensures.keeps
-    (keeps-then c.join_row-here.new.parents c.join_row-above.new.parents c.join_row-top.new.parents c.join_row-above.ensures.keeps
+    keeps-then c.args.parents.now c.join_before.new.parents c.join_row-top.new.parents c.join_before.ensures.keeps
+    (keeps-then c.join_before.new.parents c.join_row-above.new.parents c.join_row-top.new.parents c.join_row-above.ensures.keeps
     c.join_row-top.ensures.keeps)
 
--- the ends of the three rows
+-- the ends of the two rows
 pub returns-clause-joined : goal.returns-clause-joined
 returns-clause-joined c =
     let cells = c.args.cells.now in
-    let a = c.join_row-here.new.parents in
+    let a = c.join_before.new.parents in
     let b = c.join_row-above.new.parents in
     let d = c.join_row-top.new.parents in
-    let from_here : c.near.result ≡ moved_by (negsuc 1) (pos 0) (cell_of cells c.args.place) = c.near.ensures in
-    let to_here : c.near-2.result ≡ moved_by (pos 2) (pos 0) (cell_of cells c.args.place) = c.near-2.ensures in
-    let from_above : c.near-3.result ≡ moved_by (negsuc 1) (negsuc 0) (cell_of cells c.args.place) = c.near-3.ensures in
-    let to_above : c.near-4.result ≡ moved_by (pos 2) (negsuc 0) (cell_of cells c.args.place) = c.near-4.ensures in
-    let from_top : c.near-5.result ≡ moved_by (negsuc 1) (negsuc 1) (cell_of cells c.args.place) = c.near-5.ensures in
-    let to_top : c.near-6.result ≡ moved_by (pos 2) (negsuc 1) (cell_of cells c.args.place) = c.near-6.ensures in
+    let from_above : c.near.result ≡ moved_by (negsuc 1) (negsuc 0) (cell_of cells c.args.place) = c.near.ensures in
+    let to_above : c.near-2.result ≡ moved_by (pos 2) (negsuc 0) (cell_of cells c.args.place) = c.near-2.ensures in
+    let from_top : c.near-3.result ≡ moved_by (negsuc 1) (negsuc 1) (cell_of cells c.args.place) = c.near-3.ensures in
+    let to_top : c.near-4.result ≡ moved_by (pos 2) (negsuc 1) (cell_of cells c.args.place) = c.near-4.ensures in
     joins_rows cells a b d c.args.place c.requires.pattern.in_order c.requires.place c.join_row-above.ensures.keeps c.join_row-top.ensures.keeps
-    (subst (λ (x : Cell). JoinsRow cells a c.args.place x (moved_by (pos 2) (pos 0) (cell_of cells c.args.place))) from_here
-    (subst (λ (x : Cell). JoinsRow cells a c.args.place c.near.result x) to_here c.join_row-here.ensures.joined))
+    c.join_before.ensures.joined
     (subst (λ (x : Cell). JoinsRow cells b c.args.place x (moved_by (pos 2) (negsuc 0) (cell_of cells c.args.place))) from_above
-    (subst (λ (x : Cell). JoinsRow cells b c.args.place c.near-3.result x) to_above c.join_row-above.ensures.joined))
+    (subst (λ (x : Cell). JoinsRow cells b c.args.place c.near.result x) to_above c.join_row-above.ensures.joined))
     (subst (λ (x : Cell). JoinsRow cells d c.args.place x (moved_by (pos 2) (negsuc 1) (cell_of cells c.args.place))) from_top
-    (subst (λ (x : Cell). JoinsRow cells d c.args.place c.near-5.result x) to_top c.join_row-top.ensures.joined))
+    (subst (λ (x : Cell). JoinsRow cells d c.args.place c.near-3.result x) to_top c.join_row-top.ensures.joined))
 
 pub returns-clause-cursors : goal.returns-clause-cursors
 returns-clause-cursors c =
     let cells = c.args.cells.now in
-    let from_here : c.near.result ≡ moved_by (negsuc 1) (pos 0) (cell_of cells c.args.place) = c.near.ensures in
-    let from_above : c.near-3.result ≡ moved_by (negsuc 1) (negsuc 0) (cell_of cells c.args.place) = c.near-3.ensures in
-    let from_top : c.near-5.result ≡ moved_by (negsuc 1) (negsuc 1) (cell_of cells c.args.place) = c.near-5.ensures in
+    let from_above : c.near.result ≡ moved_by (negsuc 1) (negsuc 0) (cell_of cells c.args.place) = c.near.ensures in
+    let from_top : c.near-3.result ≡ moved_by (negsuc 1) (negsuc 1) (cell_of cells c.args.place) = c.near-3.ensures in
     record {
-      here = all_behind cells c.join_row-here.result c.args.place (pos 0) c.requires.pattern.in_order
-          (subst (λ (x : Cell). IsPassed cells c.join_row-here.result x) from_here c.join_row-here.ensures.cursor);
       above = all_behind cells c.join_row-above.result c.args.place (negsuc 0) c.requires.pattern.in_order
           (subst (λ (x : Cell). IsPassed cells c.join_row-above.result x) from_above c.join_row-above.ensures.cursor);
       top = all_behind cells c.join_row-top.result c.args.place (negsuc 1) c.requires.pattern.in_order

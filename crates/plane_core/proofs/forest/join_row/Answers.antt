@@ -2,9 +2,21 @@ use Rattle.std.proofs.Common.{inl, inr}
 use Rattle.std.proofs.lemmas.Bool.{cases_lt}
 use Rattle.plane_core.proofs.forest.join_row.Goals as goal
 
--- a place that was skipped is of a cell before the first that may be near
+-- a place that was skipped is of a cell before the first that may be near, or of one that the place before joins
 pub returns-clause-joined : goal.returns-clause-joined
-returns-clause-joined c k less left right near = elim (cases_lt k c.skipped-first.result) [
-  | inl few ↦ absurd (left (c.skipped-first.ensures k few))
-  | inr more ↦ c.join_up_to.ensures.joined k more less right near
+returns-clause-joined c k less left right need = elim (cases_lt k c.skipped-start.result) [
+  | inr more ↦ c.join_up_to.ensures.joined k more less right need
+  | inl few ↦ elim (cases_lt k c.skipped-first.result) [
+    | inl passed ↦ elim (cases_lt k c.args.cursor) [
+      | inl before ↦ absurd (left (c.requires.cursor k before))
+      | inr after ↦ absurd (left (c.skipped-first.ensures k after passed))
+    ]
+    | inr ahead ↦ absurd (need.alone (c.fresh_from-fresh.ensures k less left (c.skipped-start.ensures k ahead few) need.near))
+  ]
+]
+
+pub returns-clause-cursor : goal.returns-clause-cursor
+returns-clause-cursor c k low = elim (cases_lt k c.args.cursor) [
+  | inl before ↦ c.requires.cursor k before
+  | inr after ↦ c.skipped-first.ensures k after low
 ]

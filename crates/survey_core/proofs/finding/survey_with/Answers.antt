@@ -2,7 +2,7 @@ use Rattle.std.proofs.Common.{◌∙◌, ◌++◌, ap, arith, decimal}
 use Rattle.plane_core.specs.Cells.{set_of}
 use Rattle.plane_core.specs.Generations.{lies_within}
 use Rattle.sha2.specs.Sha256.{sha256}
-use Rattle.survey_core.specs.Soups.{live_cells}
+use Rattle.survey_core.specs.Soups.{live_in_square}
 use Rattle.survey_core.proofs.PlaneLemmas.{within_more}
 use Rattle.survey_core.proofs.SoupLemmas.{soup_is_small}
 use Rattle.survey_core.proofs.finding.survey_with.Goals as goal
@@ -12,4 +12,4 @@ pub survey_pattern_with-requires : goal.survey_pattern_with-requires
 survey_pattern_with-requires c =
     let digest = sha256 (c.args.job.now.seed ++ decimal c.args.number) in
     ap (lies_within 1000) c.in_ok-pattern.ensures.soup
-    ∙ within_more 15 1000 (set_of (live_cells digest 256)) (omega arith) (soup_is_small digest)
+    ∙ within_more 15 1000 (set_of (live_in_square digest 256)) (omega arith) (soup_is_small digest)

@@ -2,7 +2,7 @@ use Rattle.std.proofs.Common.{ℕ, List}
 use Rattle.std.specs.Prelude.{option_map}
 use Rattle.haul_core.specs.ClaimSteps.{HasCounts}
 use Rattle.haul_core.specs.declared.front.Front.{Front}
-use Rattle.haul_core.proofs.ListLemmas.{left_of}
+use Rattle.ranges.proofs.ListLemmas.{left_of}
 use Rattle.haul_core.proofs.claim.line.fault_in_counts.Given as goal
 
 abbrev pub invariant-loop-rest : goal.invariant-loop-rest

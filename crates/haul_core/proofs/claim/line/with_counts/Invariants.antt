@@ -1,6 +1,6 @@
 use Rattle.std.specs.Prelude.{option_map}
 use Rattle.haul_core.specs.ClaimSteps.{HasCounts}
-use Rattle.haul_core.proofs.ListLemmas.{left_of}
+use Rattle.ranges.proofs.ListLemmas.{left_of}
 use Rattle.haul_core.proofs.claim.line.with_counts.Given as goal
 
 abbrev pub invariant-loop-rest : goal.invariant-loop-rest

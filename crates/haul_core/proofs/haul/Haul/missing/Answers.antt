@@ -1,11 +1,11 @@
 use Rattle.std.proofs.Common.{◌≡◌, ◌<◌, ◌∙◌, ℕ, All, IfOk, List, ap, filter, subst, sym}
 use Rattle.std.specs.List.Sorted.{IsStrictlyIncreasing}
 use Rattle.std.proofs.lemmas.Result.{IfOk-weaker}
-use Rattle.haul_core.specs.declared.range.Range.{Range}
+use Rattle.ranges.specs.declared.range.Range.{Range}
 use Rattle.haul_core.specs.Books.{Held}
 use Rattle.haul_core.specs.Missing.{missing_of, numbers_of}
 use Rattle.haul_core.specs.MissingSteps.{has_no_worker}
-use Rattle.haul_core.specs.Ranges.{AreBelow, AreNormal, number_bound}
+use Rattle.ranges.specs.Ranges.{AreBelow, AreNormal, number_bound}
 use Rattle.haul_core.proofs.MissingLemmas.{missing_ascends, missing_below, same_missing}
 use Rattle.haul_core.proofs.haul.Haul.missing.Goals as goal
 

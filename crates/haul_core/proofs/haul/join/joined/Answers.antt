@@ -3,7 +3,7 @@ use Rattle.std.specs.List.{IsDistinct}
 use Rattle.haul_core.specs.Books.{Held}
 use Rattle.haul_core.specs.Joins.{CanJoin, IsJoined}
 use Rattle.haul_core.specs.Keeping.{numbers_in}
-use Rattle.haul_core.specs.Ranges.{number_bound}
+use Rattle.ranges.specs.Ranges.{number_bound}
 use Rattle.haul_core.proofs.JoinLemmas.{distinct_both, have_room, keeps_joined, size_below}
 use Rattle.haul_core.proofs.haul.join.joined.Goals as goal
 

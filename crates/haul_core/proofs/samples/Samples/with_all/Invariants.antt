@@ -1,5 +1,5 @@
 use Rattle.std.proofs.Common.{◌≡◌, drop}
-use Rattle.haul_core.specs.Samples.{with_each}
+use Rattle.haul_core.specs.SampleSteps.{with_each}
 use Rattle.haul_core.proofs.samples.Samples.with_all.Given as goal
 
 abbrev pub invariant-loop-number : goal.invariant-loop-number

@@ -1,5 +1,0 @@
-use Rattle.std.proofs.Common.{◌≡◌}
-use Rattle.crew.proofs.belt.Belt.present.Given as goal
-
-abbrev pub invariant-loop : goal.invariant-loop
-invariant-loop g l = (l.pass ≡ l.fn.pass) × (l.note ≡ l.fn.note)

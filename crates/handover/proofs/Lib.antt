@@ -1,0 +1,3 @@
+pub mod BeltLemmas
+mod SumLemmas
+mod TicketLemmas

@@ -1,0 +1,86 @@
+-- The rule of the belt's queue. It holds between any two atomic steps, whatever the threads do.
+use Rattle.std.specs.Prelude.{◌≡◌, ◌<◌, ◌≤◌, ◌+◌, ◌++◌, ◌⊎◌, ℕ, Bool, true, false, List, [], ◌∷◌, All, count_by, cond, drop, length, map, nat_eq}
+use Rattle.std.specs.List.{sum_by}
+use mathlib.Core.Option.{some}
+use lib.ListN.{get_elem?}
+use Rattle.handover.specs.Belts.{Presented, notes_of}
+use Rattle.handover.specs.declared.belt.Share.{Share}
+
+module _ {N : Type 0} where
+  abbrev pub share : List (ℕ × List N) → Bool → ℕ → List (ℕ × N) → Share N
+  share senders receives made got = record { senders = senders; receives = receives; made = made; got = got }
+
+  -- the first pass receives, and makes the senders
+  abbrev pub first_share : Share N
+  first_share = share [] true 0 []
+
+  abbrev pub spent_share : Share N
+  spent_share = share [] false 0 []
+
+  -- the receiver after it made a sender more, and that sender
+  abbrev pub with_sender : Share N → Share N
+  with_sender v = share v.senders v.receives (v.made + 1) v.got
+
+  abbrev pub new_sender : Share N → Share N
+  new_sender v = share ((v.made + 1, []) ∷ []) false 0 []
+
+  -- a pass that took another in
+  abbrev pub both_shares : Share N → Share N → Share N
+  both_shares v w = share (w.senders ++ v.senders) v.receives v.made v.got
+
+  -- number and notes of a sender's pass
+  abbrev pub entry_of : Presented N → ℕ × List N
+  entry_of pass = (pass.number, pass.notes)
+
+  -- the receiver that took in these passes
+  abbrev pub with_senders : List (Presented N) → Share N → Share N
+  with_senders passes v = share (map entry_of passes ++ v.senders) v.receives v.made v.got
+
+  abbrev pub first_notes : List (ℕ × List N) → List N
+  first_notes [] = []
+  first_notes (e ∷ more) = e.1
+
+  -- how often p is among the senders of a pass, and of all passes
+  abbrev pub owns : ℕ → Share N → ℕ
+  owns p v = count_by (λ e. nat_eq p e.0) v.senders
+
+  abbrev pub owners : List (Share N) → ℕ → ℕ
+  owners views p = sum_by (owns p) views
+
+  abbrev pub receives : Share N → ℕ
+  receives v = cond v.receives 1 0
+
+  -- Each sender of a pass has presented what was got of it and what the queue holds of it. The receiver has got what was got, and the senders that it
+  -- has not made have presented nothing
+  pub record Holds (all got : List (ℕ × N)) (owned : ℕ → ℕ) (v : Share N) : Type 0 where
+    pub senders : All (λ e. e.1 ≡ notes_of e.0 all) v.senders
+    pub got_is : v.receives ≡ true → v.got ≡ got
+    pub unmade : v.receives ≡ true → (p : ℕ) → (p ≡ 0) ⊎ (v.made < p) → (notes_of p all ≡ []) × (owned p ≡ 0)
+
+  -- what was presented is what was got and what the queue holds; each sender's part, and the receiver's, is in one pass
+  pub record Delivers (items : List (ℕ × N)) (views : List (Share N)) : Type 0 where
+    pub got : List (ℕ × N)
+    pub one_sender : (p : ℕ) → owners views p ≤ 1
+    pub one_receiver : sum_by receives views ≤ 1
+    pub holds : (seat : ℕ) (v : Share N) → get_elem? views seat ≡ some v → Holds (got ++ items) got (owners views) v
+
+  -- a note presented
+  abbrev pub Puts : Share N → ℕ × N → Share N → Type 0
+  Puts v x w = w ≡ share ((x.0, first_notes v.senders ++ x.1 ∷ []) ∷ []) v.receives v.made v.got
+
+  abbrev pub IsFront : List N → List N → Type 0
+  IsFront front whole = (rest : List N) × (whole ≡ front ++ rest)
+
+  -- a note got
+  pub record Gets (v : Share N) (x : ℕ × N) (w : Share N) : Type 0 where
+    pub got : w ≡ share v.senders v.receives v.made (v.got ++ x ∷ [])
+    pub made : (1 ≤ x.0) × (x.0 ≤ v.made)
+    pub fronts : All (λ e. IsFront (notes_of e.0 (v.got ++ x ∷ [])) e.1) v.senders
+
+  -- what is left of an entry once these were got
+  abbrev pub left_over : List (ℕ × N) → ℕ × List N → ℕ × List N
+  left_over got e = (e.0, drop (length (notes_of e.0 got)) e.1)
+
+  -- what the queue holds is what was presented and not got
+  abbrev pub Tells : Share N → List (ℕ × N) → Type 0
+  Tells v items = All (λ e. e.1 ≡ notes_of e.0 (v.got ++ items)) v.senders

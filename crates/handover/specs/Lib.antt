@@ -1,0 +1,4 @@
+pub mod BeltRule
+pub mod Belts
+pub mod TicketRule
+pub mod Tickets

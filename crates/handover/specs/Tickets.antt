@@ -1,0 +1,51 @@
+-- Tickets: numbers that threads draw, each once.
+use Rattle.std.specs.Prelude.{◌≡◌, ◌≤◌, ℕ, Bool, true, false, List, [], ◌∷◌, ◌++◌, count_by, flat_map, nat_eq, nat_lt, if◌then◌else◌}
+use Rattle.atomic_table.specs.Seated.{TableId}
+
+-- a series of tickets: what tells it from any other, how many numbers it has, and how many passes were made for it
+pub record Series : Type 0 where
+  pub name : TableId
+  pub count : ℕ
+  pub passes : ℕ
+
+-- what a pass is seen as: its series, the numbers that it drew, in order, and whether it heard that none is left
+pub record Drawn : Type 0 where
+  pub series : Series
+  pub numbers : List ℕ
+  pub heard_none : Bool
+
+-- a pass that has drawn nothing
+abbrev pub fresh : Series → Drawn
+fresh series = record { series = series; numbers = []; heard_none = false }
+
+-- the pass after it drew n
+abbrev pub with_drawn : ℕ → Drawn → Drawn
+with_drawn n pass = record { series = pass.series; numbers = pass.numbers ++ n ∷ []; heard_none = pass.heard_none }
+
+-- the pass after it heard that none is left
+abbrev pub with_none : Drawn → Drawn
+with_none pass = record { series = pass.series; numbers = pass.numbers; heard_none = true }
+
+-- all numbers that the passes drew
+abbrev pub drawn_by_all : List Drawn → List ℕ
+drawn_by_all passes = flat_map (λ p. p.numbers) passes
+
+-- how many of the passes heard that none is left
+abbrev pub how_many_heard : List Drawn → ℕ
+how_many_heard passes = count_by (λ p. p.heard_none) passes
+
+-- 1 for a number below m
+abbrev pub once_below : ℕ → ℕ → ℕ
+once_below m n = if nat_lt n m then 1 else 0
+
+-- numbers below m, none of them twice
+abbrev pub AreSomeBelow : ℕ → List ℕ → Type 0
+AreSomeBelow m numbers = (n : ℕ) → count_by (nat_eq n) numbers ≤ once_below m n
+
+-- all numbers below m, each once, in any order
+abbrev pub AreAllBelow : ℕ → List ℕ → Type 0
+AreAllBelow m numbers = (n : ℕ) → count_by (nat_eq n) numbers ≡ once_below m n
+
+-- 1 to 16 passes, as many as there may be workers
+abbrev pub AreFew : ℕ → Type 0
+AreFew passes = (1 ≤ passes) × (passes ≤ 16)

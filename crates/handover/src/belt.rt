@@ -1,0 +1,363 @@
+//! A queue from several senders to one receiver, which keeps each sender's notes in their order.
+//!
+//! ```text
+//! sender 1   a b      presents c         1: a b c
+//! queue      2 x, 1 b                    2 x, 1 b, 1 c
+//! receiver   1 a      receives 2 x       1 a, 2 x
+//! ```
+ghost use Rattle.std.specs.Prelude.{◌≡◌, ◌<◌, ◌≤◌, ◌+◌, ◌∷◌, [], All, IfNone, IfOk, IfSome, MatchResult, MatchOption};
+ghost use Rattle.std.specs.Prelude.{length, map, vec_capacity, true};
+ghost use Rattle.std.specs.List.{range_with_len};
+ghost use Rattle.crossbeam_queue.specs.Passes.{IsPassOf, IsSamePass, view};
+ghost use Rattle.handover.specs.Belts.{GotOne, IsWhole, NothingLeft, TookFirst, deaf, left_of, silent, with_note};
+ghost use Rattle.handover.specs.BeltRule.{first_share, share, with_senders};
+
+use crate::bell::Bell;
+use crossbeam_queue::protocol::{Join, Lesson, Outcome, Protocol, Split};
+use crossbeam_queue::{Pass, RuledArrayQueue};
+use std::alloc::{AllocError, Global};
+use std::collections::LinkedList;
+use std::marker::Model;
+use std::sync::Wait;
+
+/// What a pass knows. No value of it is made.
+struct Share<N> {
+    senders: LinkedList<(u8, LinkedList<N>)>,
+    receives: bool,
+    made: u8,
+    got: LinkedList<(u8, N)>,
+}
+
+struct InOrder;
+
+impl<N> Protocol<(u8, N), Share<N>> for InOrder {
+    ghost use Rattle.handover.specs.BeltRule.{Delivers, first_share};
+
+    ghost holds = { Delivers };
+
+    ghost first = { first_share };
+}
+
+struct NewSender;
+
+impl<N> Split<Share<N>> for NewSender {
+    ghost use Rattle.handover.specs.BeltRule.{new_sender, with_sender};
+
+    ghost left = { with_sender };
+
+    ghost right = { new_sender };
+}
+
+struct TakeIn;
+
+impl<N> Join<Share<N>> for TakeIn {
+    ghost use Rattle.handover.specs.BeltRule.{both_shares, spent_share};
+
+    ghost both = { both_shares };
+
+    ghost spent = { spent_share };
+}
+
+struct Put;
+
+impl<N> Outcome<(u8, N), Share<N>> for Put {
+    ghost use Rattle.handover.specs.BeltRule.{Puts};
+
+    ghost then = { Puts };
+}
+
+struct Get;
+
+impl<N> Outcome<(u8, N), Share<N>> for Get {
+    ghost use Rattle.handover.specs.BeltRule.{Gets};
+
+    ghost then = { Gets };
+}
+
+impl<N> Lesson<(u8, N), Share<N>> for Get {
+    ghost use Rattle.handover.specs.BeltRule.{Tells};
+
+    ghost fact = { Tells };
+}
+
+type Queue<N> = RuledArrayQueue<(u8, N), Share<N>, InOrder>;
+
+/// A queue from several senders, numbered from 1 on, to one receiver.
+#[derive(Drop)]
+pub struct Belt<N: Drop> {
+    queue: Queue<N>,
+    workers: u8,
+    /// Rings after each note that is presented.
+    arrived: Bell,
+    /// Rings after each note that is received.
+    left: Bell,
+}
+
+impl<N: Drop> Model for Belt<N> {
+    ghost use Rattle.handover.specs.Belts.{Line};
+
+    ghost Value = { Line };
+
+    ghost view = { λ b. record { name = b.queue.table.shared.table_id; workers = b.workers } };
+}
+
+/// What a sender presents notes with. Contracts see the notes that it presented, in order.
+#[derive(Drop)]
+pub struct SenderPass<N> {
+    pass: Pass<(u8, N), Share<N>>,
+    number: u8,
+}
+
+impl<N> Model for SenderPass<N> {
+    ghost use Rattle.std.specs.Prelude.{◌≡◌, [], ◌∷◌};
+    ghost use Rattle.handover.specs.Belts.{Presented};
+    ghost use Rattle.handover.specs.BeltRule.{first_notes};
+
+    ghost Value = { Presented N };
+
+    ghost view = { λ s. record
+        { belt = s.pass.table_id; number = s.number; notes = first_notes s.pass.me.0.client.senders } };
+
+    ghost invariant = { λ s. (s.pass.me.0.client.senders ≡ (s.number, first_notes s.pass.me.0.client.senders) ∷ [])
+        × (s.pass.me.1 ≡ []) };
+}
+
+impl<N> SenderPass<N> {
+    /// The sender's number.
+    pub fn number(&self) -> u8
+        ensures { result ≡ self.now.number }
+    {
+        self.number
+    }
+}
+
+/// What the receiver receives notes with. Contracts see the notes that it got, each with its sender's number, in order.
+#[derive(Drop)]
+pub struct ReceiverPass<N> {
+    pass: Pass<(u8, N), Share<N>>,
+}
+
+impl<N> Model for ReceiverPass<N> {
+    ghost use Rattle.std.specs.Prelude.{◌≡◌, [], true};
+    ghost use Rattle.handover.specs.Belts.{Received};
+
+    ghost Value = { Received N };
+
+    ghost view = { λ r. record
+        { belt = record { name = r.pass.table_id; workers = r.pass.me.0.client.made }; got = r.pass.me.0.client.got } };
+
+    ghost invariant = { λ r. (r.pass.me.0.client.receives ≡ true) × (r.pass.me.0.client.senders ≡ [])
+        × (r.pass.me.1 ≡ []) };
+}
+
+/// What is left on a belt. Contracts see how many senders were made, and one list for each sender's pass that was
+/// handed back: its number, and the notes of it that are left, in order.
+#[derive(Drop)]
+pub struct Rest<N: Drop> {
+    queue: Queue<N>,
+    pass: Pass<(u8, N), Share<N>>,
+}
+
+impl<N: Drop> Model for Rest<N> {
+    ghost use Rattle.std.specs.Prelude.{◌≡◌, All, [], map, true};
+    ghost use Rattle.handover.specs.Belts.{Left, notes_of};
+    ghost use Rattle.handover.specs.BeltRule.{IsFront, left_over};
+
+    ghost Value = { Left N };
+
+    ghost view = { λ r. record {
+      workers = r.pass.me.0.client.made;
+      lists = map (left_over r.pass.me.0.client.got) r.pass.me.0.client.senders;
+    } };
+
+    ghost invariant = { λ r. (r.pass.table_id ≡ r.queue.table.shared.table_id) × (r.pass.me.1 ≡ [])
+        × (r.pass.me.0.client.receives ≡ true)
+        × All (λ e. IsFront (notes_of e.0 r.pass.me.0.client.got) e.1) r.pass.me.0.client.senders };
+}
+
+impl<N: Drop> Belt<N> {
+    /// A belt with room for so many notes, and the passes: one for each sender, numbered from 1 on, and the receiver's.
+    ///
+    /// # Errors
+    ///
+    /// [`AllocError`] if memory runs out.
+    pub fn open(
+        alloc: Global,
+        room: usize,
+        workers: u8,
+    ) -> Result<(Belt<N>, Vec<SenderPass<N>>, ReceiverPass<N>), AllocError>
+        requires { 0 < room }
+        ensures workers { IfOk result (λ made. made.0.workers ≡ workers) }
+        ensures senders { IfOk result (λ made. made.1.items ≡ map (silent made.0.name) (range_with_len 1 workers)) }
+        ensures receiver { IfOk result (λ made. made.2 ≡ deaf made.0) }
+    {
+        let mut senders = Vec::with_capacity(alloc, usize::from(workers))?;
+        let (queue, mut pass) = Queue::ruled(alloc, room)?;
+        make_senders(&queue, &mut pass, workers, &mut senders);
+        let belt = Belt {
+            queue,
+            workers,
+            arrived: Bell::new(),
+            left: Bell::new(),
+        };
+        Ok((belt, senders, ReceiverPass { pass }))
+    }
+
+    /// Presents a note. It sleeps while the queue is full.
+    pub fn present<R: Wait>(&self, rt: &R, pass: &mut SenderPass<N>, note: N)
+        requires { pass.old.belt ≡ self.now.name }
+        ensures { pass.new ≡ with_note note pass.old }
+    {
+        let mut note = note;
+        for _ in rt.forever() {
+            let rings = self.left.rings();
+            match self.try_present(pass, note) {
+                Ok(()) => {
+                    self.arrived.ring();
+                    return;
+                }
+                Err(back) => note = back,
+            }
+            self.left.sleep(rt, rings);
+        }
+        unreachable!()
+    }
+
+    /// Receives a note. It sleeps while the queue is empty.
+    pub fn receive<R: Wait>(&self, rt: &R, pass: &mut ReceiverPass<N>) -> N
+        requires { pass.old.belt ≡ self.now }
+        ensures { GotOne pass.old pass.new result }
+    {
+        for _ in rt.forever() {
+            let rings = self.arrived.rings();
+            if let Some(note) = self.try_receive(pass) {
+                self.left.ring();
+                return note;
+            }
+            self.arrived.sleep(rt, rings);
+        }
+        unreachable!()
+    }
+
+    /// Ends the belt: what is left on it of the senders whose passes are handed back.
+    pub fn gather(self, senders: Vec<SenderPass<N>>, receiver: ReceiverPass<N>) -> Rest<N>
+        requires senders { All (λ s. s.belt ≡ self.name) senders.items }
+        requires receiver { receiver.belt ≡ self }
+        ensures workers { result.workers ≡ self.workers }
+        ensures left { result.lists ≡ map (left_of receiver.got) senders.items }
+        ensures whole { All (IsWhole receiver.got) senders.items }
+    {
+        let Belt { queue, .. } = self;
+        let ReceiverPass { mut pass } = receiver;
+        take_in(&queue, &mut pass, senders);
+        queue.learn_as::<Get>(&mut pass);
+        Rest { queue, pass }
+    }
+
+    /// Presents a note if there is room.
+    fn try_present(&self, pass: &mut SenderPass<N>, note: N) -> Result<(), N>
+        requires { pass.old.belt ≡ self.now.name }
+        ensures { MatchResult result (λ _. pass.new ≡ with_note note pass.old)
+            (λ back. (back ≡ note) × (pass.new ≡ pass.old)) }
+    {
+        match self
+            .queue
+            .try_push_as::<Put>(&mut pass.pass, (pass.number, note))
+        {
+            Ok(()) => Ok(()),
+            Err((_, back)) => Err(back),
+        }
+    }
+
+    /// Receives a note if there is one.
+    fn try_receive(&self, pass: &mut ReceiverPass<N>) -> Option<N>
+        requires { pass.old.belt ≡ self.now }
+        ensures { MatchOption result (pass.new ≡ pass.old) (GotOne pass.old pass.new) }
+    {
+        let (_, note) = self.queue.try_pop_as::<Get>(&mut pass.pass)?;
+        Some(note)
+    }
+}
+
+impl<N: Drop> Rest<N> {
+    /// Takes out a note, which is the first that is left of its sender. `None` if nothing is left of the senders whose
+    /// passes were handed back.
+    pub fn next<R: Wait>(&mut self, rt: &R) -> Option<N>
+        ensures taken { IfSome result (TookFirst self.old self.new) }
+        ensures none { IfNone result (NothingLeft self.old) }
+        ensures kept { IfNone result (self.new ≡ self.old) }
+    {
+        let (_, note) = self.queue.pop_as::<Get, R>(rt, &mut self.pass)?;
+        Some(note)
+    }
+}
+
+/// Makes the senders of a new queue. There is room for them.
+#[tactic(auto, using(crate::proofs::BeltLemmas::senders_more))]
+fn make_senders<N: Drop>(
+    queue: &Queue<N>,
+    pass: &mut Pass<(u8, N), Share<N>>,
+    workers: u8,
+    senders: &mut Vec<SenderPass<N>>,
+)
+    requires queue { IsPassOf queue.now pass.old }
+    requires first { view pass.old ≡ first_share }
+    requires room { (senders.old.items ≡ []) × (workers ≤ vec_capacity senders.old) }
+    ensures queue { IsSamePass pass.old pass.new }
+    ensures made { view pass.new ≡ share [] true workers [] }
+    ensures senders { senders.new.items ≡ map (silent queue.now.table.shared.table_id) (range_with_len 1 workers) }
+{
+    let mut made = 0;
+    while made < workers {
+        let sender = make_sender(queue, pass, made);
+        senders.push_reserved(sender);
+        made += 1;
+    }
+}
+
+/// Makes one sender more.
+fn make_sender<N: Drop>(
+    queue: &Queue<N>,
+    pass: &mut Pass<(u8, N), Share<N>>,
+    made: u8,
+) -> SenderPass<N>
+    requires queue { IsPassOf queue.now pass.old }
+    requires made { view pass.old ≡ share [] true made [] }
+    requires room { made < 255 }
+    ensures queue { IsSamePass pass.old pass.new }
+    ensures made { view pass.new ≡ share [] true (made + 1) [] }
+    ensures sender { result ≡ silent queue.now.table.shared.table_id (made + 1) }
+{
+    let sender = queue.another::<NewSender>(pass);
+    SenderPass {
+        pass: sender,
+        number: made + 1,
+    }
+}
+
+/// Takes in the passes of senders.
+fn take_in<N: Drop>(
+    queue: &Queue<N>,
+    pass: &mut Pass<(u8, N), Share<N>>,
+    mut senders: Vec<SenderPass<N>>,
+)
+    requires queue { IsPassOf queue.now pass.old }
+    requires senders { All (λ s. s.belt ≡ queue.now.table.shared.table_id) senders.items }
+    ensures queue { IsSamePass pass.old pass.new }
+    ensures taken { view pass.new ≡ with_senders senders.items (view pass.old) }
+{
+    while let Some(sender) = senders.pop() {
+        take_in_one(queue, pass, sender);
+    }
+}
+
+/// Takes in the pass of one sender.
+fn take_in_one<N: Drop>(queue: &Queue<N>, pass: &mut Pass<(u8, N), Share<N>>, sender: SenderPass<N>)
+    requires queue { IsPassOf queue.now pass.old }
+    requires sender { sender.belt ≡ queue.now.table.shared.table_id }
+    ensures queue { IsSamePass pass.old pass.new }
+    ensures taken { view pass.new ≡ with_senders (sender ∷ []) (view pass.old) }
+{
+    let SenderPass { pass: other, .. } = sender;
+    queue.absorb::<TakeIn>(pass, other);
+}

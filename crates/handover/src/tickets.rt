@@ -1,0 +1,299 @@
+//! Numbers that threads draw, each once.
+//!
+//! There is one word, which begins with 0. A draw adds 1 to it in one atomic step, and what it finds is the number
+//! drawn:
+//!
+//! ```text
+//! open(3, 2)   word 0   A: -      B: -
+//! A draws 0    word 1   A: 0      B: -
+//! B draws 1    word 2   A: 0      B: 1
+//! A draws 2    word 3   A: 0 2    B: 1
+//! B: None      word 4   A: 0 2    B: 1, none left
+//! ```
+//!
+//! No thread waits for another.
+ghost use Rattle.std.specs.Prelude.{◌≡◌, ◌<◌, ◌≤◌, ◌^◌, ◌++◌, ◌∷◌, ◌↔◌, All, IfNone, IfOk, IfSome, IsErrOf, None, OnOk};
+ghost use Rattle.std.specs.Prelude.{[], length, true, vec_capacity, vec_len};
+ghost use Rattle.atomic_table.specs.Seated.{TableId};
+ghost use Rattle.handover.specs.Tickets.{AreAllBelow, AreSomeBelow, AreFew, fresh, how_many_heard, drawn_by_all};
+ghost use Rattle.handover.specs.Tickets.{with_none, with_drawn};
+ghost use Rattle.handover.specs.TicketRule.{Gathers, Joining, hand, series_of};
+ghost use Rattle.handover.specs.declared.tickets.TicketsError.TheVariants.{BadCount, BadPasses, Memory};
+
+use atomic_table::{Join, Play, Seat, Shared, Split, Table, TableRule};
+use std::alloc::{AllocError, Global};
+use std::collections::LinkedList;
+use std::marker::Model;
+use thiserror::Error;
+
+/// How many numbers there may be: as many as a haul may have.
+const MOST_NUMBERS: u64 = 1 << 24;
+
+/// How many passes there may be: as many as a haul may have workers.
+const MOST_PASSES: u8 = 16;
+
+/// Why no tickets were opened.
+#[derive(Clone, Copy, Debug, PartialEq, Eq, Error)]
+pub enum TicketsError {
+    /// There are over 2^24 numbers.
+    #[error("too many numbers")]
+    BadCount,
+    /// There are not 1 to 16 passes.
+    #[error("bad number of passes")]
+    BadPasses,
+    /// Memory ran out.
+    #[error("out of memory")]
+    Memory,
+}
+
+impl From<AllocError> for TicketsError {
+    ghost from_gives = { λ _ e. e ≡ Memory };
+
+    fn from(_e: AllocError) -> TicketsError {
+        TicketsError::Memory
+    }
+}
+
+/// What tickets are opened for.
+#[derive(Clone, Copy)]
+struct Issue {
+    count: u64,
+    passes: u64,
+}
+
+/// What a pass knows of its own draws. No value of it is made.
+struct Hand {
+    issue: Issue,
+    shares: u64,
+    marks: u64,
+    numbers: LinkedList<u64>,
+}
+
+struct Law;
+
+impl TableRule<(), Hand, Issue> for Law {
+    ghost use Rattle.handover.specs.TicketRule.{IsLawful, first_hand};
+
+    ghost holds = { IsLawful };
+
+    ghost first = { first_hand };
+}
+
+struct Draw;
+
+impl Play<(), Hand> for Draw {
+    ghost use Rattle.handover.specs.TicketRule.{Draws};
+
+    ghost then = { Draws };
+}
+
+struct Cut;
+
+impl Split<Hand> for Cut {
+    ghost use Rattle.handover.specs.TicketRule.{kept_part, new_part};
+
+    ghost left = { kept_part };
+
+    ghost right = { new_part };
+}
+
+struct TakeIn;
+
+impl Join<Hand> for TakeIn {
+    ghost use Rattle.handover.specs.TicketRule.{both_hands, spent_hand};
+
+    ghost both = { both_hands };
+
+    ghost spent = { spent_hand };
+}
+
+/// The numbers from 0 to below a count, of which threads draw the next one with a [`Pass`] each.
+#[derive(Drop)]
+pub struct Tickets {
+    table: Table<(), Hand, Issue, Law, Global>,
+    count: u64,
+}
+
+impl Model for Tickets {
+    ghost use Rattle.std.specs.Prelude.{◌≡◌, ◌<◌};
+    ghost use Rattle.handover.specs.Tickets.{Series};
+
+    ghost Value = { Series };
+
+    ghost view = { λ t. record
+        { name = t.table.shared.table_id; count = t.count; passes = t.table.shared.key.passes } };
+
+    ghost invariant = { λ t. (t.count ≡ t.table.shared.key.count) × (t.table.shared.table_id.words ≡ 1)
+        × (t.table.shared.table_id.slots ≡ 0) × (0 < t.table.shared.key.passes) };
+}
+
+/// What a thread draws with. Contracts see the numbers that it drew, in order, and whether it heard that none is left.
+#[derive(Drop)]
+pub struct Pass {
+    seat: Seat<(), Hand>,
+    heard_none: bool,
+}
+
+impl Model for Pass {
+    ghost use Rattle.std.specs.Prelude.{◌≡◌, [], if◌then◌else◌};
+    ghost use Rattle.handover.specs.Tickets.{Drawn};
+
+    ghost Value = { Drawn };
+
+    ghost view = { λ p. record {
+      series = record {
+        name = p.seat.table_id;
+        count = p.seat.me.0.issue.count;
+        passes = p.seat.me.0.issue.passes;
+      };
+      numbers = p.seat.me.0.numbers;
+      heard_none = p.heard_none;
+    } };
+
+    ghost invariant = { λ p. (p.seat.me.0.shares ≡ 1) × (p.seat.me.0.marks ≡ (if p.heard_none then 1 else 0))
+        × (p.seat.me.1 ≡ []) };
+}
+
+impl Tickets {
+    /// Tickets for the numbers from 0 to below `count`, and the passes to draw them.
+    ///
+    /// # Errors
+    ///
+    /// The first of these that holds:
+    ///
+    /// - [`TicketsError::BadCount`] if there are over 2^24 numbers.
+    /// - [`TicketsError::BadPasses`] if there are not 1 to 16 passes.
+    /// - [`TicketsError::Memory`] if memory runs out.
+    #[tactic(auto, using(crate::proofs::TicketLemmas::begins))]
+    pub fn open(alloc: Global, count: u64, passes: u8) -> Result<(Tickets, Vec<Pass>), TicketsError>
+        // As many numbers as were asked for, and as many passes, which have drawn nothing.
+        ensures count { IfOk result (λ made. made.0.count ≡ count) }
+        ensures passes { IfOk result (λ made. made.0.passes ≡ passes) }
+        ensures many { IfOk result (λ made. length made.1.items ≡ passes) }
+        ensures fresh { IfOk result (λ made. All (λ p. p ≡ fresh made.0) made.1.items) }
+
+        // Which error it is.
+        ensures bad_count { IsErrOf result BadCount ↔ (2 ^ 24 < count) }
+        ensures bad_passes { IsErrOf result BadPasses ↔ ((count ≤ 2 ^ 24) × ¬ AreFew passes) }
+    {
+        if MOST_NUMBERS < count {
+            return Err(TicketsError::BadCount);
+        }
+        if passes < 1 || MOST_PASSES < passes {
+            return Err(TicketsError::BadPasses);
+        }
+        let issue = Issue {
+            count,
+            passes: u64::from(passes),
+        };
+        let mut made = Vec::with_capacity(alloc, usize::from(passes))?;
+        let (table, seat) = Table::of_words(alloc, &[0], &issue)?;
+        cut_up(&table.shared, seat, issue.passes, &mut made);
+        Ok((Tickets { table, count }, made))
+    }
+
+    /// Draws the next number, which is below the count and greater than each number that this pass drew before. `None`
+    /// once none is left.
+    #[tactic(auto, using(crate::proofs::TicketLemmas::draws))]
+    pub fn draw(&self, pass: &mut Pass) -> Option<u64>
+        requires { pass.old.series ≡ self.now }
+        ensures below { IfSome result (λ n. n < self.now.count) }
+        ensures greater { IfSome result (λ n. All (λ m. m < n) pass.old.numbers) }
+        ensures drawn { IfSome result (λ n. pass.new ≡ with_drawn n pass.old) }
+        ensures none { IfNone result (pass.new ≡ with_none pass.old) }
+        ensures heard { pass.old.heard_none ≡ true → result ≡ None }
+        ensures series { pass.new.series ≡ pass.old.series }
+    {
+        if pass.heard_none {
+            return None;
+        }
+        let number = self.table.shared.fetch_add::<Draw>(&mut pass.seat, 0, 1);
+        if number < self.count {
+            Some(number)
+        } else {
+            pass.heard_none = true;
+            None
+        }
+    }
+
+    /// Ends the drawing: how many numbers were drawn.
+    pub fn gather(self, passes: Vec<Pass>) -> u64
+        requires { All (λ p. p.series ≡ self) passes.items }
+        ensures most { result ≤ self.count }
+        ensures once { AreSomeBelow result (drawn_by_all passes.items) }
+        ensures all { length passes.items ≡ self.passes → AreAllBelow result (drawn_by_all passes.items) }
+        ensures drained { 0 < how_many_heard passes.items → result ≡ self.count }
+    {
+        let mut passes = passes;
+        match passes.pop() {
+            Some(first) => gather_with(self, first, passes),
+            None => {
+                let Tickets { table, count } = self;
+                let closed = table.close();
+                let word = closed.word(0);
+                closed.free();
+                word.min(count)
+            }
+        }
+    }
+}
+
+/// Ends the drawing with one pass and others.
+fn gather_with(tickets: Tickets, first: Pass, passes: Vec<Pass>) -> u64
+    requires first { first.series ≡ tickets }
+    requires passes { All (λ p. p.series ≡ tickets) passes.items }
+    ensures most { result ≤ tickets.count }
+    ensures gathers { Gathers tickets (passes.items ++ first ∷ []) result }
+{
+    let Tickets { table, count } = tickets;
+    let Pass { mut seat, .. } = first;
+    join_all(&table.shared, &mut seat, passes);
+    let closed = table.close_with(seat);
+    let word = closed.word(0);
+    closed.free();
+    word.min(count)
+}
+
+/// Cuts a seat with some shares into as many passes. There is room for them.
+#[tactic(auto, using(crate::proofs::TicketLemmas::cuts))]
+fn cut_up(
+    shared: &Shared<(), Hand, Issue, Law>,
+    mut seat: Seat<(), Hand>,
+    passes: u64,
+    made: &mut Vec<Pass>,
+)
+    requires seat { (seat.table_id ≡ shared.now.table_id) × (0 < shared.now.table_id.words) }
+    requires hand { seat.me ≡ (hand shared.now.key passes 0 [], []) }
+    requires some { 0 < passes }
+    requires room { (made.old.items ≡ []) × (passes ≤ vec_capacity made.old) }
+    ensures many { vec_len made.new ≡ passes }
+    ensures fresh { All (λ p. p ≡ fresh (series_of shared.now.table_id shared.now.key)) made.new.items }
+{
+    let mut left = passes;
+    while 1 < left {
+        let part = shared.split_seat::<Cut>(&mut seat);
+        made.push_reserved(Pass {
+            seat: part,
+            heard_none: false,
+        });
+        left -= 1;
+    }
+    made.push_reserved(Pass {
+        seat,
+        heard_none: false,
+    });
+}
+
+/// Joins the passes to the seat.
+#[tactic(auto, using(crate::proofs::TicketLemmas::joins, crate::proofs::TicketLemmas::joining_none, crate::proofs::TicketLemmas::joining_more))]
+fn join_all(shared: &Shared<(), Hand, Issue, Law>, seat: &mut Seat<(), Hand>, mut passes: Vec<Pass>)
+    requires seat { (seat.old.table_id ≡ shared.now.table_id) × (0 < shared.now.table_id.words) }
+    requires passes { All (λ p. p.series.name ≡ shared.now.table_id) passes.items }
+    ensures seat { (seat.new.table_id ≡ seat.old.table_id) × (seat.new.id ≡ seat.old.id) }
+    ensures joined { Joining passes.items [] seat.old.me.0 seat.new.me.0 }
+{
+    while let Some(pass) = passes.pop() {
+        let Pass { seat: other, .. } = pass;
+        shared.join_seat::<TakeIn>(seat, other);
+    }
+}

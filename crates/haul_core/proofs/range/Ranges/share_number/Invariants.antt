@@ -1,6 +1,0 @@
-use Rattle.std.proofs.Common.{take}
-use Rattle.haul_core.specs.Ranges.{ShareNumber}
-use Rattle.haul_core.proofs.range.Ranges.share_number.Given as goal
-
-abbrev pub invariant-loop-range : goal.invariant-loop-range
-invariant-loop-range l = ¬ ShareNumber l.fn.self (take l.range-index l.fn.other)

@@ -1,7 +1,0 @@
-use Rattle.std.proofs.Common.{◌≤◌, ℕ, take, count_by}
-use Rattle.haul_core.specs.Ranges.{is_in_range}
-use Rattle.haul_core.proofs.range.overlap.Given as goal
-
--- no number stands in two of the ranges so far
-abbrev pub invariant-loop-place : goal.invariant-loop-place
-invariant-loop-place l = (n : ℕ) → count_by (is_in_range n) (take l.place l.ranges) ≤ 1

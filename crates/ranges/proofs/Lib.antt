@@ -1,0 +1,8 @@
+pub mod CutLemmas
+pub mod DecimalLemmas
+pub mod FaultLemmas
+mod FaultPlaces
+pub mod ListLemmas
+pub mod NormalLemmas
+mod RangeLemmas
+mod UnionLemmas

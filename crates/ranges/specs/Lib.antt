@@ -1,0 +1,4 @@
+pub mod RangeListSteps
+pub mod RangeLists
+pub mod RangeSteps
+pub mod Ranges

@@ -1,0 +1,75 @@
+-- How a list of ranges is read, a range at a time.
+use Rattle.std.specs.Prelude.{◌≡◌, ◌≢◌, ◌<◌, ◌^◌, ◌⊎◌, ◌++◌, ℕ, Bool, false, true, List, [], ◌∷◌, Option, None, Some, decimal}
+use Rattle.std.specs.Char.{is_ascii_digit}
+use Rattle.ranges.specs.declared.range.Range.{Range}
+use Rattle.ranges.specs.RangeLists.{BeginsLargeDecimal, list_text, pair_text, written}
+
+-- a digit stands at the front
+abbrev pub has_digit : List ℕ → Bool
+has_digit [] = false
+has_digit (b ∷ rest) = is_ascii_digit b
+
+-- the byte stands at the front
+abbrev pub has_byte : ℕ → List ℕ → Type 0
+has_byte b [] = ⊥
+has_byte b (c ∷ rest) = b ≡ c
+
+-- a number of 64 bits begins the text, and its decimal ends before the rest
+pub record BeginsDecimal (text : List ℕ) (n : ℕ) (rest : List ℕ) : Type 0 where
+  pub word : n < 2 ^ 64
+  pub spelled : text ≡ decimal n ++ rest
+  pub ends : has_digit rest ≡ true → n ≡ 0
+
+-- no digit begins the text, or those that do are a number of 2^64 or more
+abbrev pub BeginsNoDecimal : List ℕ → Type 0
+BeginsNoDecimal text = has_digit text ≡ true → BeginsLargeDecimal text
+
+-- a range begins the text, and its count ends before the rest
+pub record BeginsRange (text : List ℕ) (r : Range) (rest : List ℕ) : Type 0 where
+  pub first : r.first < 2 ^ 64
+  pub count : r.count < 2 ^ 64
+  pub spelled : text ≡ pair_text (written r) ++ rest
+  pub ends : has_digit rest ≡ true → r.count ≡ 0
+
+-- a first number begins the text, and the rest is no `+` (43)
+pub record LacksPlus (text rest : List ℕ) : Type 0 where
+  pub n : ℕ
+  pub begins : BeginsDecimal text n rest
+  pub other : ¬ has_byte 43 rest
+
+-- a first number and a `+` (43) begin the text, and no count follows
+pub record LacksCount (text rest : List ℕ) : Type 0 where
+  pub n : ℕ
+  pub begins : BeginsDecimal text n (43 ∷ rest)
+  pub none : BeginsNoDecimal rest
+
+-- no range begins the text: the rest is where the fault is
+abbrev pub IsNoRange : List ℕ → List ℕ → Type 0
+IsNoRange text rest = ((rest ≡ text) × BeginsNoDecimal text) ⊎ (LacksPlus text rest ⊎ LacksCount text rest)
+
+-- a range begins the text, and after it there is neither the end nor a `,` (44)
+pub record LacksComma (text rest : List ℕ) : Type 0 where
+  pub range : Range
+  pub begins : BeginsRange text range rest
+  pub some : rest ≢ []
+  pub other : ¬ has_byte 44 rest
+
+-- where the first range begins, if there is one
+abbrev pub Starts : List ℕ → Option (List ℕ) → Type 0
+Starts text None = text ≡ []
+Starts text (Some rest) = (rest ≡ text) × (rest ≢ [])
+
+-- a range is passed, and either it ends the text or the next one begins after a `,` (44)
+abbrev pub Passes : List ℕ → Range → Option (List ℕ) → Type 0
+Passes text r None = BeginsRange text r []
+Passes text r (Some rest) = BeginsRange text r (44 ∷ rest)
+
+-- ranges with a `,` (44) after each
+abbrev pub ranges_and_commas : List Range → List ℕ
+ranges_and_commas [] = []
+ranges_and_commas (r ∷ more) = pair_text (written r) ++ 44 ∷ ranges_and_commas more
+
+-- these ranges have been passed, and the next one begins the rest, if there is one
+abbrev pub HasPassed : List ℕ → List Range → Option (List ℕ) → Type 0
+HasPassed text ranges None = list_text ranges ≡ text
+HasPassed text ranges (Some rest) = text ≡ ranges_and_commas ranges ++ rest

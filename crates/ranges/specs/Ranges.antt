@@ -1,0 +1,62 @@
+-- Sets of soup numbers, given by ranges.
+use Rattle.std.specs.Prelude.{◌≡◌, ◌+◌, ◌<◌, ◌≤◌, ◌^◌, ◌&&◌, ℕ, Bool, true, List, [], ◌∷◌, count_by, nat_le, nat_lt, sum_by}
+use Rattle.std.specs.List.{All, list_any}
+use Rattle.ranges.specs.declared.range.Range.{Range}
+
+-- the first number after a range
+abbrev pub end_of : Range → ℕ
+end_of r = r.first + r.count
+
+-- n is one of the range's numbers: so many, from the first on
+abbrev pub is_in_range : ℕ → Range → Bool
+is_in_range n r = nat_le r.first n && nat_lt n (end_of r)
+
+-- n is in the set that the ranges give
+abbrev pub is_in : List Range → ℕ → Bool
+is_in ranges n = list_any (is_in_range n) ranges
+
+-- how many numbers the ranges have together
+abbrev pub size_of : List Range → ℕ
+size_of ranges = sum_by (λ r. r.count) ranges
+
+-- some number stands in two of the ranges
+abbrev pub Overlap : List Range → Type 0
+Overlap ranges = (n : ℕ) × (2 ≤ count_by (is_in_range n) ranges)
+
+-- some number is in both sets
+pub record ShareNumber (a b : List Range) : Type 0 where
+  pub number : ℕ
+  pub first : is_in a number ≡ true
+  pub second : is_in b number ≡ true
+
+-- no range goes past the bound
+abbrev pub AreBelow : ℕ → List Range → Type 0
+AreBelow bound ranges = All (λ r. end_of r ≤ bound) ranges
+
+-- soup numbers lie below this: the project's choice
+abbrev pub number_bound : ℕ
+number_bound = 2 ^ 40
+
+-- small enough for a haul: no number over the bound, and at most 2^24 numbers, which is the project's choice too
+pub record AreSmall (ranges : List Range) : Type 0 where
+  pub below : AreBelow number_bound ranges
+  pub few : size_of ranges ≤ 2 ^ 24
+
+-- the next range, if there is one, begins after the place: so the number at the place is left out
+abbrev pub BeginAfter : ℕ → List Range → Type 0
+BeginAfter place [] = Unit {0}
+BeginAfter place (r ∷ more) = place < r.first
+
+-- Normal form: the ranges ascend, none is empty, and between two of them a number is left out.
+abbrev pub AreNormal : List Range → Type 0
+AreNormal [] = Unit {0}
+AreNormal (r ∷ more) = (1 ≤ r.count) × BeginAfter (end_of r) more × AreNormal more
+
+-- ranges in normal form that give the same set
+pub record IsNormalForm (ranges normal : List Range) : Type 0 where
+  pub normal_form : AreNormal normal
+  pub same : (n : ℕ) → is_in normal n ≡ is_in ranges n
+
+-- a set has one normal form: ranges in normal form that give the same set are the same list
+abbrev pub OneNormalForm : Type 0
+OneNormalForm = (a b : List Range) → AreNormal a → AreNormal b → ((n : ℕ) → is_in a n ≡ is_in b n) → a ≡ b

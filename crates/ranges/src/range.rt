@@ -1,0 +1,238 @@
+ghost use Rattle.std.specs.Prelude.{◌≡◌, ◌↔◌, ◌≤◌, ◌+◌, ◌++◌, IfOk, IfNone, IfSome, IsTrue, All, OnOk, if◌then◌else◌};
+ghost use Rattle.std.specs.List.{filter, list_any};
+ghost use Rattle.std.specs.List.Sorted.{IsNonDecreasingBy, IsPermutation};
+ghost use Rattle.ranges.specs.RangeSteps.{Ascending, has_numbers, shares};
+ghost use Rattle.ranges.specs.Ranges.{AreBelow, AreNormal, AreSmall, IsNormalForm, OneNormalForm, Overlap, ShareNumber};
+ghost use Rattle.ranges.specs.Ranges.{end_of, is_in, is_in_range, number_bound, size_of};
+
+use std::alloc::{AllocError, Global};
+use std::marker::Model;
+
+/// Soup numbers lie below this, so that there are enough of them for anybody, and sums over them stay small.
+pub const NUMBER_BOUND: u64 = 1 << 40;
+
+/// The most numbers of a haul that is opened, so that a haul fits into memory.
+pub const MOST_NUMBERS: u64 = 1 << 24;
+
+/// The soup numbers from `first` on, `count` of them.
+#[derive(Clone, Copy, Debug, PartialEq, Eq)]
+pub struct Range {
+    pub first: u64,
+    pub count: u64,
+}
+
+impl Range {
+    /// Whether the number is one of the range's.
+    fn has(&self, number: u64) -> bool
+        ensures { result ≡ is_in_range number self.now }
+    {
+        self.first <= number && number - self.first < self.count
+    }
+
+    /// Whether the range doesn't go past 2^40.
+    fn is_below(&self) -> bool
+        ensures { IsTrue result ↔ (end_of self.now ≤ number_bound) }
+    {
+        self.first <= NUMBER_BOUND && self.count <= NUMBER_BOUND - self.first
+    }
+
+    /// Whether the two have a number in common.
+    fn shares(&self, other: &Range) -> bool
+        requires own { end_of self.now ≤ number_bound }
+        requires others { end_of other.now ≤ number_bound }
+        ensures { result ≡ shares self.now other.now }
+    {
+        let first = self.first.max(other.first);
+        let end = (self.first + self.count).min(other.first + other.count);
+        first < end
+    }
+}
+
+/// Ranges in normal form: they ascend, none is empty, and between two of them a number is left out.
+#[derive(Debug, Drop)]
+pub struct Ranges {
+    ranges: Vec<Range>,
+}
+
+impl Model for Ranges {
+    ghost use Rattle.std.specs.Prelude.{List};
+    ghost use Rattle.ranges.specs.Ranges.{AreBelow, AreNormal, number_bound};
+    ghost use Rattle.ranges.specs.declared.range.Range.{Range as Numbers};
+
+    ghost Value = { List Numbers };
+
+    ghost view = { λ r. r.ranges.items };
+
+    ghost invariant = { λ r. AreNormal r.ranges.items × AreBelow number_bound r.ranges.items };
+}
+
+impl Ranges {
+    /// The ranges, in ascending order.
+    pub fn as_slice(&self) -> &[Range]
+        ensures ranges { result.now ≡ self.now }
+        ensures normal { AreNormal self.now }
+        ensures below { AreBelow number_bound self.now }
+    {
+        self.ranges.as_slice()
+    }
+
+    /// Whether the number is in the set.
+    pub fn has(&self, number: u64) -> bool
+        ensures { result ≡ is_in self.now number }
+    {
+        for range in self.as_slice() {
+            if range.has(number) {
+                return true;
+            }
+        }
+        false
+    }
+
+    /// The normal form of ranges of which no two share a number.
+    pub fn normal_form(alloc: Global, ranges: &[Range]) -> Result<Ranges, AllocError>
+        requires below { AreBelow number_bound ranges.now }
+        requires apart { ¬ Overlap ranges.now }
+        ensures form { IfOk result (IsNormalForm ranges.now) }
+        ensures size { IfOk result (λ normal. size_of normal ≡ size_of ranges.now) }
+        ensures below { IfOk result (AreBelow number_bound) }
+    {
+        let ascending = ascending(alloc, ranges)?;
+        let ranges = joined(alloc, ascending.as_slice())?;
+        Ok(Ranges { ranges })
+    }
+
+    /// The normal form of the numbers of both, which share none.
+    pub fn union(&self, alloc: Global, other: &Ranges) -> Result<Ranges, AllocError>
+        requires apart { ¬ ShareNumber self.now other.now }
+        ensures form { IfOk result (IsNormalForm (self.now ++ other.now)) }
+        ensures size { IfOk result (λ union. size_of union ≡ size_of self.now + size_of other.now) }
+        ensures below { IfOk result (AreBelow number_bound) }
+    {
+        let mut both = Vec::from_slice(alloc, self.as_slice())?;
+        both.extend_from_slice(other.as_slice())?;
+        Ranges::normal_form(alloc, both.as_slice())
+    }
+
+    /// Whether a number is in both sets.
+    pub fn share_number(&self, other: &Ranges) -> bool
+        ensures { IsTrue result ↔ ShareNumber self.now other.now }
+    {
+        let ranges = self.as_slice();
+        for range in other.as_slice() {
+            if shares_any(*range, ranges) {
+                return true;
+            }
+        }
+        false
+    }
+
+    /// Equal ranges.
+    pub fn copy(&self, alloc: Global) -> Result<Ranges, AllocError>
+        ensures { IfOk result (λ ranges. ranges ≡ self.now) }
+    {
+        let Ranges { ranges } = self;
+        let ranges = Vec::from_slice(alloc, ranges.as_slice())?;
+        Ok(Ranges { ranges })
+    }
+}
+
+/// The law that a set has one normal form: ranges in normal form that give the same set are the same list.
+#[tactic(auto, using(crate::proofs::NormalLemmas::normal_forms))]
+pub fn one_normal_form()
+    ensures { OneNormalForm }
+{}
+
+/// How many numbers the ranges have together, if none goes past 2^40 and they have at most 2^24.
+pub fn small_size(ranges: &[Range]) -> Option<u64>
+    ensures small { IfSome result (λ size. (size ≡ size_of ranges.now) × AreSmall ranges.now) }
+    ensures large { IfNone result (¬ AreSmall ranges.now) }
+{
+    let mut size = 0;
+    for range in ranges {
+        let below = range.is_below();
+        if !below {
+            return None;
+        }
+        if range.count > MOST_NUMBERS - size {
+            return None;
+        }
+        size += range.count;
+    }
+    Some(size)
+}
+
+/// The ranges that aren't empty, in ascending order.
+fn ascending(alloc: Global, ranges: &[Range]) -> Result<Vec<Range>, AllocError>
+    ensures ordered { IfOk result (λ ordered. IsNonDecreasingBy (λ r. r.first) ordered.items) }
+    ensures same { IfOk result (λ ordered. IsPermutation (filter has_numbers ranges.now) ordered.items) }
+{
+    let mut ordered = with_numbers(alloc, ranges)?;
+    ordered.sort_by_key(|range| range.first)?;
+    Ok(ordered)
+}
+
+/// The ranges that aren't empty.
+fn with_numbers(alloc: Global, ranges: &[Range]) -> Result<Vec<Range>, AllocError>
+    ensures { IfOk result (λ some. some.items ≡ filter has_numbers ranges.now) }
+{
+    let mut some = Vec::new(alloc);
+    for range in ranges {
+        if range.count > 0 {
+            some.push(*range)?;
+        }
+    }
+    Ok(some)
+}
+
+/// Ascending ranges, of which touching ones are made one.
+fn joined(alloc: Global, ascending: &[Range]) -> Result<Vec<Range>, AllocError>
+    requires ascending { Ascending ascending.now }
+    requires below { AreBelow number_bound ascending.now }
+    ensures form { IfOk result (λ joined. IsNormalForm ascending.now joined.items) }
+    ensures size { IfOk result (λ joined. size_of joined.items ≡ size_of ascending.now) }
+    ensures below { IfOk result (λ joined. AreBelow number_bound joined.items) }
+{
+    let mut joined = Vec::new(alloc);
+    let Some((first, more)) = ascending.split_first() else {
+        return Ok(joined);
+    };
+    let mut latest = *first;
+    for range in more {
+        if latest.first + latest.count == range.first {
+            latest.count += range.count;
+        } else {
+            joined.push(latest)?;
+            latest = *range;
+        }
+    }
+    joined.push(latest)?;
+    Ok(joined)
+}
+
+/// Whether a number stands in two of the ranges.
+pub fn overlap(ranges: &[Range]) -> bool
+    requires { AreBelow number_bound ranges.now }
+    ensures { IsTrue result ↔ Overlap ranges.now }
+{
+    for (place, range) in ranges.iter().enumerate() {
+        let met = shares_any(*range, &ranges[..place]);
+        if met {
+            return true;
+        }
+    }
+    false
+}
+
+/// Whether the range has a number in common with one of the others.
+fn shares_any(range: Range, others: &[Range]) -> bool
+    requires own { end_of range ≤ number_bound }
+    requires others { AreBelow number_bound others.now }
+    ensures { result ≡ list_any (shares range) others.now }
+{
+    for other in others {
+        if range.shares(other) {
+            return true;
+        }
+    }
+    false
+}

@@ -1,0 +1,206 @@
+//! How a list of ranges is read: in one pass without memory for the first fault, and then, if there is none, range by
+//! range.
+//!
+//! ```text
+//! 0+4,10+2     whole ranges are passed one after another: 0+4, then 10+2
+//!     ^        the rest, where the next range begins
+//! ```
+
+ghost use Rattle.std.specs.Prelude.{◌≡◌, ◌≢◌, ◌⊎◌, ◌≤◌, ◌+◌, ◌*◌, ◌^◌, ◌∷◌, [], ℕ, List, false, option_map, IfErr};
+ghost use Rattle.std.specs.Prelude.{IfNone, IfOk, IfSome, IsErrOf, MatchResult};
+ghost use Rattle.ranges.specs.RangeListSteps.{BeginsDecimal, BeginsNoDecimal, BeginsRange, IsNoRange, LacksComma};
+ghost use Rattle.ranges.specs.RangeListSteps.{Passes, Starts, has_digit};
+ghost use Rattle.ranges.specs.RangeLists.{AreWords, BeginsLargeDecimal, IsFirstListFault, IsListText};
+ghost use Rattle.ranges.specs.RangeLists.{TextsHaveOneFault, TextsHaveOneList, list_text};
+ghost use Rattle.ranges.specs.declared.range.Range.{Range as Numbers};
+ghost use Rattle.ranges.specs.declared.range_list.ListError.TheVariants.{BadList, Memory};
+
+use crate::range::Range;
+use std::alloc::{AllocError, Global};
+use thiserror::Error;
+
+/// Why a text is not read as a list of ranges.
+#[derive(Clone, Copy, Debug, PartialEq, Eq, Error)]
+pub enum ListError {
+    /// The byte at `place` can't stand there, or the text ends there too early, or a decimal of 2^64 or more begins
+    /// there. Places count bytes from 0.
+    #[error("bad range list at {place}")]
+    BadList { place: usize },
+    /// Memory ran out.
+    #[error("out of memory")]
+    Memory,
+}
+
+impl From<AllocError> for ListError {
+    ghost from_gives = { λ _ e. e ≡ Memory };
+
+    fn from(_e: AllocError) -> ListError {
+        ListError::Memory
+    }
+}
+
+impl Range {
+    /// Reads a list of ranges as in `0+4,10+2`: of each range the first number, a `+` and the count, and a `,` between
+    /// two. Numbers are decimals below 2^64 without leading zeros. The empty text has no range.
+    ///
+    /// # Errors
+    ///
+    /// - [`ListError::BadList`] if the text is not that of a list, whether there is memory or not. Its place is that of
+    ///   the first fault from the left.
+    /// - [`ListError::Memory`] if memory runs out.
+    pub fn read_list(alloc: Global, text: &str) -> Result<Vec<Range>, ListError>
+        // What is read has the text as its one text, and each list of ranges is read from its text.
+        ensures words { IfOk result (λ read. AreWords read.items) }
+        ensures ranges { IfOk result (λ read. list_text read.items ≡ text.now) }
+        ensures complete { (ranges : List Numbers) → AreWords ranges → list_text ranges ≡ text.now
+            → MatchResult result (λ read. read.items ≡ ranges) (λ error. error ≡ Memory) }
+
+        // Which error it is.
+        ensures bad_list { (place : ℕ) → IsErrOf result (BadList place) → IsFirstListFault text.now place }
+        ensures memory { IsErrOf result Memory → IsListText text.now }
+    {
+        let text = text.as_bytes();
+        if let Some(place) = fault_in(text) {
+            return Err(ListError::BadList { place });
+        }
+        let ranges = ranges_in(alloc, text)?;
+        Ok(ranges)
+    }
+}
+
+/// The laws that a text is that of one list of ranges, and that one without a list has its first fault at one place.
+pub fn list_texts_tell_ranges()
+    ensures one { TextsHaveOneList }
+    ensures place { TextsHaveOneFault }
+{}
+
+/// The place of the first fault of a text, if it is not that of a list of ranges.
+#[tactic(auto, using(crate::proofs::ListLemmas::passed_first))]
+fn fault_in(text: &[u8]) -> Option<usize>
+    ensures fault { IfSome result (IsFirstListFault text.now) }
+    ensures refused { IfSome result (λ _. ¬ IsListText text.now) }
+    ensures none { IfNone result (IsListText text.now) }
+{
+    let mut rest = unless_empty(text);
+    while let Some(here) = rest {
+        match next_range(here) {
+            Ok((_, more)) => rest = more,
+            Err(there) => return Some(text.len() - there.len()),
+        }
+    }
+    None
+}
+
+/// The ranges of a text that has no fault.
+#[tactic(auto, using(crate::proofs::ListLemmas::passed_first))]
+fn ranges_in(alloc: Global, text: &[u8]) -> Result<Vec<Range>, AllocError>
+    requires { IsListText text.now }
+    ensures words { IfOk result (λ read. AreWords read.items) }
+    ensures text { IfOk result (λ read. list_text read.items ≡ text.now) }
+{
+    let mut ranges = Vec::new(alloc);
+    let mut rest = unless_empty(text);
+    while let Some(here) = rest {
+        match next_range(here) {
+            Ok((range, more)) => {
+                ranges.push(range)?;
+                rest = more;
+            }
+            Err(_) => unreachable!(),
+        }
+    }
+    Ok(ranges)
+}
+
+/// Where the first range begins, if there is one.
+fn unless_empty(text: &[u8]) -> Option<&[u8]>
+    ensures { Starts text.now (option_map (λ rest. rest.now) result) }
+{
+    if text.is_empty() { None } else { Some(text) }
+}
+
+/// The range at the front of a text, and where the next one begins if a comma follows. If no range stands there, or
+/// neither the end nor a comma after it, the answer is the text from the fault on.
+fn next_range(text: &[u8]) -> Result<(Range, Option<&[u8]>), &[u8]>
+    ensures ok { IfOk result (λ next. Passes text.now next.0 (option_map (λ rest. rest.now) next.1)) }
+    ensures err { IfErr result (λ rest. IsNoRange text.now rest.now ⊎ LacksComma text.now rest.now) }
+{
+    let (range, rest) = first_range(text)?;
+    match rest {
+        [] => Ok((range, None)),
+        [b',', more @ ..] => Ok((range, Some(more))),
+        _ => Err(rest),
+    }
+}
+
+/// The range at the front of a text and the text after it, or the text from the fault on.
+fn first_range(text: &[u8]) -> Result<(Range, &[u8]), &[u8]>
+    ensures ok { IfOk result (λ first. BeginsRange text.now first.0 first.1.now) }
+    ensures err { IfErr result (λ rest. IsNoRange text.now rest.now) }
+{
+    let Some((first, rest)) = first_decimal(text) else {
+        return Err(text);
+    };
+    let [b'+', rest @ ..] = rest else {
+        return Err(rest);
+    };
+    let Some((count, rest)) = first_decimal(rest) else {
+        return Err(rest);
+    };
+    Ok((Range { first, count }, rest))
+}
+
+/// The decimal at the front of a text and the text after it. There is none if no digit stands there, or if the number
+/// is 2^64 or more. After a `0` the decimal ends.
+#[tactic(auto, using(crate::proofs::DecimalLemmas::begins_zero))]
+pub fn first_decimal(text: &[u8]) -> Option<(u64, &[u8])>
+    ensures some { IfSome result (λ first. BeginsDecimal text.now first.0 first.1.now) }
+    ensures none { IfNone result (BeginsNoDecimal text.now) }
+{
+    let (digit, rest) = first_digit(text)?;
+    if digit == 0 {
+        return Some((0, rest));
+    }
+    more_digits(digit, rest)
+}
+
+/// The decimal of a first digit that isn't 0 and of those at the front of a text, and the text after them. There is
+/// none if the number is 2^64 or more.
+#[tactic(auto, using(crate::proofs::DecimalLemmas::reading_first, crate::proofs::DecimalLemmas::reading_done))]
+fn more_digits(first: u8, text: &[u8]) -> Option<(u64, &[u8])>
+    requires least { 1 ≤ first }
+    requires most { first ≤ 9 }
+    ensures some { IfSome result (λ read. BeginsDecimal ((48 + first) ∷ text.now) read.0 read.1.now) }
+    ensures none { IfNone result (BeginsLargeDecimal ((48 + first) ∷ text.now)) }
+{
+    let mut number = u64::from(first);
+    let mut rest = text;
+    while let Some((digit, more)) = first_digit(rest) {
+        number = with_digit(number, digit)?;
+        rest = more;
+    }
+    Some((number, rest))
+}
+
+/// The number with a digit more at its end, if it is below 2^64.
+fn with_digit(number: u64, digit: u8) -> Option<u64>
+    requires { digit ≤ 9 }
+    ensures some { IfSome result (λ more. more ≡ 10 * number + digit) }
+    ensures none { IfNone result (2 ^ 64 ≤ 10 * number + digit) }
+{
+    number.checked_mul(10)?.checked_add(u64::from(digit))
+}
+
+/// The digit at the front of a text, and the text after it.
+fn first_digit(text: &[u8]) -> Option<(u8, &[u8])>
+    ensures some { IfSome result (λ first. text.now ≡ (48 + first.0) ∷ first.1.now) }
+    ensures digit { IfSome result (λ first. first.0 ≤ 9) }
+    ensures none { IfNone result (has_digit text.now ≡ false) }
+{
+    let (byte, rest) = text.split_first()?;
+    if byte.is_ascii_digit() {
+        Some((*byte - b'0', rest))
+    } else {
+        None
+    }
+}

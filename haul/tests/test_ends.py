@@ -1,0 +1,198 @@
+"""How `haul` ends: its statuses and lines where a stream, the census program or the user lets it down, and what it leaves running."""
+
+from __future__ import annotations
+
+import signal
+import subprocess
+import sys
+import tempfile
+import time
+import unittest
+from contextlib import suppress
+from pathlib import Path
+
+from haul.tests.called import HAUL, census, run
+from haul.tests.test_text import SMALL
+
+# A haul over so many soups that its census takes hours. It isn't right.
+LONG = SMALL.replace("@RANGE 0 4", f"@RANGE 0 {2**24}").replace("SOUPS 2", f"SOUPS {2**24}").replace("@PROFILE 1 1 1 0", "@PROFILE 64 512 101 30300")
+
+
+def in_shell(command: str, script: str = "") -> tuple[int, str, str]:
+    """The status and both outputs of a shell's command, in which `haul` is the companion, `small` a haul of two soups, `three` one
+    of three, and `other` a program with this script."""
+    with tempfile.TemporaryDirectory() as folder:
+        Path(folder, "small").write_bytes(census("take", "--count", "2"))
+        Path(folder, "three").write_bytes(census("take", "--count", "3"))
+        Path(folder, "other").write_text(f"#!/bin/sh\n{script}\n")
+        Path(folder, "other").chmod(0o755)
+        shell = f'haul() {{ "{sys.executable}" "{HAUL}" "$@"; }}; {command}'
+        ended = subprocess.run(["bash", "-c", shell], cwd=folder, stdin=subprocess.DEVNULL, capture_output=True, check=False)
+    return ended.returncode, ended.stdout.decode(), ended.stderr.decode()
+
+
+class Streams(unittest.TestCase):
+    def test_closed_pipe(self) -> None:
+        text = census("take", "--count", "40")
+        with subprocess.Popen([sys.executable, HAUL, "join"], stdin=subprocess.PIPE, stdout=subprocess.PIPE, stderr=subprocess.PIPE) as program:
+            assert program.stdin and program.stdout and program.stderr
+            program.stdout.close()
+            program.stdin.write(text)
+            program.stdin.close()
+            self.assertEqual(program.stderr.read(), b"")
+        self.assertEqual(program.returncode, 5)
+
+    def test_full_device(self) -> None:
+        for words in ("join small", "compare small small", "check small", "page small", "--version", "--help"):
+            with self.subTest(words=words):
+                self.assertEqual(in_shell(f"haul {words} > /dev/full"), (5, "", "haul: No space left on device\n"))
+
+    def test_closed_input(self) -> None:
+        bad = "haul: Bad file descriptor\n"
+        for words in ("join", "check", "page", "compare - small"):
+            with self.subTest(words=words):
+                self.assertEqual(in_shell(f"haul {words} <&-"), (5, "", bad))
+        self.assertEqual(in_shell("haul check small <&-"), (0, "right\n", ""))
+
+    def test_closed_output(self) -> None:
+        bad = "haul: Bad file descriptor\n"
+        for words in ("join small", "check small", "page small", "compare small small", "--version"):
+            with self.subTest(words=words):
+                self.assertEqual(in_shell(f"haul {words} >&-"), (5, "", bad))
+        # The files that are read don't get the number of the output.
+        self.assertEqual(in_shell("haul join small nowhere >&-"), (5, "", "haul: nowhere: No such file or directory\n"))
+
+    def test_closed_errors(self) -> None:
+        self.assertEqual(in_shell("haul check small 2>&-"), (0, "right\n", ""))
+        self.assertEqual(in_shell("haul join nowhere 2>&-"), (5, "", ""))
+        self.assertEqual(in_shell("echo x | haul join 2>&-"), (3, "", ""))
+        self.assertEqual(in_shell("haul check --census nowhere small 2>&-"), (2, "", ""))
+        self.assertEqual(in_shell("haul join nowhere 2> /dev/full"), (5, "", ""))
+        self.assertEqual(in_shell("haul join small <&- >&- 2>&-"), (5, "", ""))
+
+    def test_an_input_without_end(self) -> None:
+        self.assertEqual(in_shell("haul join < /dev/zero"), (3, "", "haul: bad haul at line 1 column 1\n"))
+
+    def test_unbuffered(self) -> None:
+        self.assertEqual(in_shell("PYTHONUNBUFFERED=1 haul --version > /dev/full")[0], 5)
+
+    def test_a_page_is_in_utf_8_whatever_the_language_is(self) -> None:
+        status, page, errors = in_shell("PYTHONIOENCODING=latin-1 LC_ALL=C haul page small")
+        self.assertEqual((status, errors), (0, ""))
+        self.assertIn('<meta charset="utf-8">', page)
+
+
+class Usage(unittest.TestCase):
+    def test_usage(self) -> None:
+        self.assertEqual(run("check", "--workers", "17")[0], 2)
+        self.assertEqual(run()[0], 2)
+        self.assertEqual(run("--version"), (0, census("--version").decode().replace("census", "haul"), ""))
+        self.assertEqual(run("--help")[0], 0)
+
+    def test_an_older_python(self) -> None:
+        older = f"import runpy, sys; sys.version_info = (3, 9, 2); runpy.run_path({HAUL!r}, run_name='__main__')"
+        ended = subprocess.run([sys.executable, "-c", older], capture_output=True, check=False)
+        self.assertEqual((ended.returncode, ended.stdout, ended.stderr), (2, b"", b"haul: Python 3.10 or later is needed, and this is 3.9\n"))
+
+
+class OtherPrograms(unittest.TestCase):
+    """What stands at the path isn't the census program."""
+
+    # A program that ends well, and answers nothing, its words, bytes that are no text, a haul that wasn't asked for, a line of
+    # another job, and something like a pattern.
+    ANSWERS = ["true", 'echo "$@"', r"printf '\377\376\n'", "cat small", "echo report 2 rule=b3s23 profile=1,1,1,0 seed= worker=1 soup=0 unsettled",
+               "echo OxO", "echo"]
+    COMMANDS = ["check", "check --samples", "page"]
+
+    def answer(self, script: str, command: str) -> tuple[int, str, str]:
+        """What `haul` says of a haul of three soups, if this shell script is the program that it asks."""
+        return in_shell(f"haul {command} --census ./other three", script)
+
+    def test_none(self) -> None:
+        for command in self.COMMANDS:
+            self.assertEqual(in_shell(f"haul {command} --census /nowhere/census small"), (2, "", "haul: no census at /nowhere/census\n"))
+
+    def test_other_answers(self) -> None:
+        for script in self.ANSWERS:
+            for command in self.COMMANDS:
+                with self.subTest(script=script, command=command):
+                    self.assertEqual(self.answer(script, command), (2, "", "haul: no census at ./other\n"))
+
+    def test_a_program_that_is_none(self) -> None:
+        self.assertEqual(in_shell("printf x > other; haul check --census ./other small"), (2, "", "haul: no census at ./other\n"))
+
+    def test_statuses(self) -> None:
+        for command in self.COMMANDS:
+            for status in (1, 6, 7, 70, 255):
+                with self.subTest(status=status, command=command):
+                    self.assertEqual(self.answer(f"exit {status}", command), (5, "", f"haul: census ended with status {status}\n"))
+            for status in (2, 4, 5):
+                with self.subTest(status=status, command=command):
+                    self.assertEqual(self.answer(f"echo census: because >&2; exit {status}", command), (status, "", "haul: because\n"))
+            self.assertEqual(self.answer("kill -9 $$", command), (5, "", "haul: census was ended by signal 9\n"))
+        self.assertEqual(self.answer("exit 3", "check")[0], 3)
+
+
+class Signals(unittest.TestCase):
+    """A signal that ends `haul` ends the programs that it has started."""
+
+    def running(self) -> dict[int, int]:
+        """The processes that run, as `ps` lists them, each with its parent; none that is dead and only not yet waited for."""
+        found: dict[int, int] = {}
+        for folder in Path("/proc").glob("[0-9]*"):
+            with suppress(OSError):
+                # After the name, which is in brackets and may be any, come the state and the parent.
+                state, parent = (folder / "stat").read_text().rpartition(")")[2].split()[:2]
+                if state not in "ZX":
+                    found[int(folder.name)] = int(parent)
+        return found
+
+    def ended_by(self, number: int, words: list[str]) -> None:
+        with tempfile.TemporaryDirectory() as folder:
+            Path(folder, "long").write_text(LONG)
+            # A program that would go on for long, and answers nothing.
+            Path(folder, "sleeps").write_text("#!/bin/sh\nexec sleep 1000\n")
+            Path(folder, "sleeps").chmod(0o755)
+            Path(folder, "three").write_bytes(census("take", "--count", "3"))
+            # Who runs tests in the background takes no notice of SIGINT, and neither would the program.
+            program = subprocess.Popen([sys.executable, HAUL, *words], cwd=folder, stdout=subprocess.DEVNULL, stderr=subprocess.PIPE,
+                                       preexec_fn=lambda: signal.signal(number, signal.SIG_DFL))
+            started: list[int] = []
+            for _ in range(200):
+                started = [process for process, parent in self.running().items() if parent == program.pid]
+                if started:
+                    break
+                time.sleep(0.05)
+            self.assertTrue(started)
+            program.send_signal(number)
+            errors = program.communicate(timeout=20)[1]
+            self.assertEqual((program.returncode, errors), (-number, b""))
+            for _ in range(100):
+                if not self.running().keys() & started:
+                    break
+                time.sleep(0.05)
+            self.assertFalse(self.running().keys() & started)
+
+    def test_a_census_ends(self) -> None:
+        for number in (signal.SIGINT, signal.SIGTERM, signal.SIGHUP):
+            with self.subTest(number=number):
+                self.ended_by(number, ["check", "long"])
+
+    def test_several_calls_end(self) -> None:
+        for words in (["page", "--census", "./sleeps", "three"], ["check", "--samples", "--census", "./sleeps", "three"]):
+            for number in (signal.SIGINT, signal.SIGTERM):
+                with self.subTest(number=number, words=words):
+                    self.ended_by(number, words)
+
+    def test_a_signal_that_is_ignored(self) -> None:
+        """As `nohup` has it."""
+        with tempfile.TemporaryDirectory() as folder:
+            Path(folder, "slow").write_text("#!/bin/sh\nkill -HUP $PPID\nexit 4\n")
+            Path(folder, "slow").chmod(0o755)
+            ended = subprocess.run([sys.executable, HAUL, "check", "--census", "./slow"], cwd=folder, input=census("take", "--count", "1"),
+                                   capture_output=True, check=False, preexec_fn=lambda: signal.signal(signal.SIGHUP, signal.SIG_IGN))
+        self.assertEqual(ended.returncode, 4)
+
+
+if __name__ == "__main__":
+    unittest.main()
