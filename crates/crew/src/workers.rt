@@ -26,7 +26,7 @@ use std::alloc::{AllocError, Global};
 use std::sync::Wait;
 use std::sync::atomic::{AtomicU64, Ordering};
 use std::thread;
-use std::thread::{Promise, Scope, Threads};
+use std::thread::{Promise, PromisedHandle, Scope, Threads};
 use thiserror::Error;
 
 /// How many notes there is room for on the belt.
@@ -221,6 +221,35 @@ fn run_crew<'s, E, G: Gate + Sync, R: Threads + Wait + Sync, H: Watch>(
         unreachable!()
     };
     let worker = sender.number();
+    let begun = begin_shift(alloc, rt, scope, site, gate, pass, sender);
+    let started = u8::from(begun.is_ok());
+    crew.away += started;
+    let mut crew = run_crew(alloc, rt, scope, site, gate, passes, senders, crew, watch);
+    crew.away -= started;
+    with_shift(crew, end_shift(rt, Duty { worker, site, gate }, begun))
+}
+
+/// Begins a worker's shift in a thread of its own. Where none can be started the worker is called off, and its shift ends
+/// here.
+fn begin_shift<'s, E, G: Gate + Sync, R: Threads + Wait + Sync>(
+    alloc: Global,
+    rt: &'s R,
+    scope: &'s Scope<'s, E>,
+    site: &'s Site,
+    gate: &'s G,
+    pass: Pass,
+    sender: SenderPass<Note>,
+) -> Result<PromisedHandle<Shift, Duty<'s, G>>, Shift>
+    requires pass { pass ≡ fresh site.now.tickets }
+    requires sender { sender ≡ silent site.now.belt.name sender.number }
+    ensures worker { IfOk result (λ handle. handle.promise.worker ≡ sender.number) }
+    ensures site { IfOk result (λ handle. handle.promise.site ≡ site.entry) }
+    ensures gate { IfOk result (λ handle. handle.promise.gate ≡ gate.entry) }
+    ensures here { IfErr result (λ shift. Leaves
+        (G.may_stop gate.now) site.now.belt.name site.now.job site.now.missing.items
+        sender.number shift.sender (shift.end ≡ End.Stopped)) }
+{
+    let worker = sender.number();
     let duty = Duty { worker, site, gate };
     let shift = move || -> Shift
         requires { (pass ≡ fresh site.now.tickets) × (sender ≡ silent site.now.belt.name sender.number) }
@@ -228,19 +257,31 @@ fn run_crew<'s, E, G: Gate + Sync, R: Threads + Wait + Sync, H: Watch>(
             site.entry.now.missing.items sender.number result.sender (result.end ≡ End.Stopped) }
     { work(alloc, rt, site, gate, pass, sender) };
     match scope.spawn_with(duty, shift) {
-        Ok(handle) => {
-            crew.away += 1;
-            let mut crew = run_crew(alloc, rt, scope, site, gate, passes, senders, crew, watch);
-            let shift = handle.join(rt);
-            crew.away -= 1;
-            with_shift(crew, shift)
-        }
+        Ok(handle) => Ok(handle),
         Err(here) => {
             site.called_off.store(u64::from(worker), Ordering::SeqCst);
-            let shift = (here.value)();
-            let crew = run_crew(alloc, rt, scope, site, gate, passes, senders, crew, watch);
-            with_shift(crew, shift)
+            Err((here.value)())
         }
+    }
+}
+
+/// What a worker leaves, once its shift has ended.
+fn end_shift<'s, G: Gate, R: Threads>(
+    rt: &R,
+    duty: Duty<'s, G>,
+    begun: Result<PromisedHandle<Shift, Duty<'s, G>>, Shift>,
+) -> Shift
+    requires thread { IfOk begun (λ handle. handle.promise ≡ duty) }
+    requires here { IfErr begun (λ shift. Leaves
+        (G.may_stop duty.gate.now) duty.site.now.belt.name duty.site.now.job
+        duty.site.now.missing.items duty.worker shift.sender (shift.end ≡ End.Stopped)) }
+    ensures { Leaves
+        (G.may_stop duty.entry.gate.now) duty.entry.site.now.belt.name duty.entry.site.now.job
+        duty.entry.site.now.missing.items duty.entry.worker result.sender (result.end ≡ End.Stopped) }
+{
+    match begun {
+        Ok(handle) => handle.join(rt),
+        Err(shift) => shift,
     }
 }
 
