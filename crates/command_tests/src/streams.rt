@@ -115,13 +115,19 @@ fn tells_a_refusal_in_one_write(rt: HostRuntime) {
     let status = do_show(rt.alloc(), "33y", &mut output, &mut errors);
     assert_eq!(rt; status, Status::Refused);
     let told = errors.into_inner();
-    assert_eq!(rt; told.taken.as_slice(), b"census: short run in code at 2\n".as_slice());
+    assert_eq!(rt;
+        told.taken.as_slice(),
+        b"census: short run in code at 2\n".as_slice()
+    );
     assert_eq!(rt; told.writes, 1);
     let mut errors = Out::new(writer(&rt));
     let mut input = b"..\n.x".as_slice();
     let status = do_run(rt.alloc(), 1, LIFE, &mut input, &mut output, &mut errors);
     assert_eq!(rt; status, Status::Refused);
     let told = errors.into_inner();
-    assert_eq!(rt; told.taken.as_slice(), b"census: bad byte at line 2 column 2\n".as_slice());
+    assert_eq!(rt;
+        told.taken.as_slice(),
+        b"census: bad byte at line 2 column 2\n".as_slice()
+    );
     assert_eq!(rt; told.writes, 1);
 }

@@ -195,8 +195,12 @@ fn counts_120_codes(rt: HostRuntime) -> Result<(), Fail> {
     let picture = lines(alloc, 120)?;
     let pattern = drawn(alloc, picture.as_str())?;
     let rule = Rule::read("bs012345678")?;
-    let Finding::Settled { objects, .. } =
-        survey_pattern(alloc, &profile(1, 1, 1, 0)?, &rule, pattern)?
+    let Finding::Settled { objects, .. } = survey_pattern(
+        alloc,
+        &profile(1, 1, 1, 0)?,
+        &rule,
+        pattern,
+    )?
     else {
         return Err(Fail::new("unsettled"));
     };
