@@ -4,6 +4,7 @@ use crate::gather::{LINES, SMALL, TOLD, TWO_OF_FOUR, set_of};
 use crate::requests::{BLINKER, LIFE, UPRIGHT};
 use commands::gather::do_gather;
 use commands::run::do_run;
+use commands::show::do_show;
 use commands::status::Status;
 use plane_core::output::Out;
 use std::io;
@@ -104,4 +105,29 @@ fn tells_each_line_in_one_write(rt: HostRuntime) {
     let told = errors.into_inner();
     assert_eq!(rt; told.taken.as_slice(), TOLD);
     assert_eq!(rt; told.writes, 3);
+}
+
+// These lines are made of two pieces and of four.
+#[test]
+fn tells_a_refusal_in_one_write(rt: HostRuntime) {
+    let mut output = Out::new(Vec::new(rt.alloc()));
+    let mut errors = Out::new(writer(&rt));
+    let status = do_show(rt.alloc(), "33y", &mut output, &mut errors);
+    assert_eq!(rt; status, Status::Refused);
+    let told = errors.into_inner();
+    assert_eq!(rt;
+        told.taken.as_slice(),
+        b"census: short run in code at 2\n".as_slice()
+    );
+    assert_eq!(rt; told.writes, 1);
+    let mut errors = Out::new(writer(&rt));
+    let mut input = b"..\n.x".as_slice();
+    let status = do_run(rt.alloc(), 1, LIFE, &mut input, &mut output, &mut errors);
+    assert_eq!(rt; status, Status::Refused);
+    let told = errors.into_inner();
+    assert_eq!(rt;
+        told.taken.as_slice(),
+        b"census: bad byte at line 2 column 2\n".as_slice()
+    );
+    assert_eq!(rt; told.writes, 1);
 }

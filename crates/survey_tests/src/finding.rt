@@ -4,7 +4,7 @@ ghost use Rattle.plane_core.specs.Generations.{lies_within};
 use plane_core::pattern::Pattern;
 use plane_core::plaintext::PlaintextError;
 use plane_core::rule::Rule;
-use std::alloc::Global;
+use std::alloc::{AllocError, Global};
 use std::test::Fail;
 use survey_core::finding::{Finding, survey, survey_pattern, survey_pattern_with};
 use survey_core::job::Job;
@@ -173,6 +173,41 @@ fn names_a_wide_object(rt: HostRuntime) -> Result<(), Fail> {
     let picture = format!(in rt.alloc(); "{row}\n{row}")?;
     let found = found(rt.alloc(), picture.as_str(), "b3s23", Profile::standard())?;
     assert!(rt; found.as_str() == "0 ov_s56 1 good");
+    Ok(())
+}
+
+/// So many upright lines, two empty columns apart: the first has one cell, and each one more than that before.
+fn lines(alloc: Global, count: usize) -> Result<String, AllocError> {
+    let mut picture = String::new(alloc);
+    for row in 0..count {
+        for line in 0..count {
+            picture.push_str(if line < row { "..." } else { "O.." })?;
+        }
+        picture.push_str("\n")?;
+    }
+    Ok(picture)
+}
+
+// Where nothing is born or dies, each line is a still life, and each has a population of its own.
+#[test]
+fn counts_120_codes(rt: HostRuntime) -> Result<(), Fail> {
+    let alloc = rt.alloc();
+    let picture = lines(alloc, 120)?;
+    let pattern = drawn(alloc, picture.as_str())?;
+    let rule = Rule::read("bs012345678")?;
+    let Finding::Settled { objects, .. } = survey_pattern(
+        alloc,
+        &profile(1, 1, 1, 0)?,
+        &rule,
+        pattern,
+    )?
+    else {
+        return Err(Fail::new("unsettled"));
+    };
+    assert_eq!(rt; objects.as_slice().len(), 120);
+    for object in objects.as_slice() {
+        assert_eq!(rt; object.1, 1);
+    }
     Ok(())
 }
 
