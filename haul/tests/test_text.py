@@ -205,9 +205,9 @@ class Drawn(unittest.TestCase):
             if not lines[line - 1].startswith("@NUM_OBJECTS "):
                 # A whole haul may stand before it.
                 self.assertIn(fault(changed[:before]), (place, "none"))
-                end = re.compile("[ \n]|$").search(changed, before).end()
-                if end > before and changed[end - 1] in " \n":
-                    self.assertEqual(fault(changed[:end] + "*\n"), place)
+                field_and_after = re.match("[^ \n]*[ \n]", changed[before:])
+                if field_and_after:
+                    self.assertEqual(fault(changed[:before] + field_and_after[0] + "*\n"), place)
         self.assertGreater(refused, 2000)
 
 
