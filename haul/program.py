@@ -131,14 +131,16 @@ class Census:
             assert program.stdout and program.stderr
             errors = bytearray()
             watcher = threading.Thread(target=pass_on, args=(program.stderr, errors))
-            watcher.start()
             try:
+                watcher.start()
                 shutil.copyfileobj(program.stdout, out)
-            except OSError:
+            except BaseException:
+                # Else it would be waited for, perhaps for hours.
                 program.terminate()
                 raise
             finally:
-                watcher.join()
+                if watcher.ident is not None:
+                    watcher.join()
         checked(program.returncode, b"", bytes(errors))
 
 

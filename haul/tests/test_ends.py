@@ -25,16 +25,17 @@ CODES = [f"xs4_{number}" for number in range(1000, 1300)]
 MANY = text_of(Haul(Job("", "b3s23", (1, 1, 1, 0)), [(0, 1)], 1, 0, 0, {code: 1 for code in CODES}, {code: [0] for code in CODES}))
 
 
-def in_shell(command: str, script: str = "") -> tuple[int, str, str]:
+def in_shell(command: str, script: str = "", few: str = "") -> tuple[int, str, str]:
     """The status and both outputs of a shell's command, in which `haul` is the companion, `small` a haul of two soups, `three` one
-    of three, and `other` a program with this script."""
+    of three, `other` a program with this script, and `$few` a text of Python."""
     with tempfile.TemporaryDirectory() as folder:
         Path(folder, "small").write_bytes(census("take", "--count", "2"))
         Path(folder, "three").write_bytes(census("take", "--count", "3"))
         Path(folder, "other").write_text(f"#!/bin/sh\n{script}\n")
         Path(folder, "other").chmod(0o755)
         shell = f'haul() {{ "{sys.executable}" "{HAUL}" "$@"; }}; {command}'
-        ended = subprocess.run(["bash", "-c", shell], cwd=folder, stdin=subprocess.DEVNULL, capture_output=True, check=False)
+        ended = subprocess.run(["bash", "-c", shell], cwd=folder, stdin=subprocess.DEVNULL, capture_output=True, check=False,
+                               env=os.environ | {"few": few})
     return ended.returncode, ended.stdout.decode(), ended.stderr.decode()
 
 
@@ -100,6 +101,18 @@ class Usage(unittest.TestCase):
         older = f"import runpy, sys; sys.version_info = (3, 9, 2); runpy.run_path({HAUL!r}, run_name='__main__')"
         ended = subprocess.run([sys.executable, "-c", older], capture_output=True, check=False)
         self.assertEqual((ended.returncode, ended.stdout, ended.stderr), (2, b"", b"haul: Python 3.10 or later is needed, and this is 3.9\n"))
+
+
+class NoThreads(unittest.TestCase):
+    """The system starts no more threads, of which the first one is that in which all is done."""
+
+    def test_each_is_told(self) -> None:
+        for least, words in ((0, "--version"), (1, "page three"), (1, "check three"), (1, "check --samples three")):
+            with self.subTest(words=words):
+                few = (f"import runpy, sys, threading; start, left = threading.Thread.start, [0] * {least}\n"
+                       "def start_few(thread):\n    if not left: raise RuntimeError('no thread')\n    left.pop(); start(thread)\n"
+                       f"threading.Thread.start = start_few; sys.argv[0] = {HAUL!r}; runpy.run_path({HAUL!r}, run_name='__main__')")
+                self.assertEqual(in_shell(f'"{sys.executable}" -c "$few" {words}', few=few), (4, "", "haul: no thread\n"))
 
 
 class OtherPrograms(unittest.TestCase):
