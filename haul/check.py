@@ -72,9 +72,8 @@ def wrong_samples(census: Census, haul: Haul) -> Iterator[str]:
 def codes_left(census: Census, haul: Haul) -> dict[int, set[str]]:
     """What each sample soup leaves, by a report line of the program for each."""
     numbers = sorted({number for row in haul.samples.values() for number in row})
-    parts = [numbers[start : start + SAMPLES_IN_A_CALL] for start in range(0, len(numbers), SAMPLES_IN_A_CALL)]
     left: dict[int, set[str]] = {}
-    for found in census.each(lambda part: codes_left_by(census, haul.job, part), parts, f"parts of {len(numbers)} soups"):
+    for found in census.each(lambda part: codes_left_by(census, haul.job, part), numbers, SAMPLES_IN_A_CALL, "soups run"):
         left |= found
     return left
 

@@ -7,7 +7,7 @@ import signal
 import subprocess
 import threading
 from collections.abc import Callable, Iterator
-from contextlib import contextmanager
+from contextlib import contextmanager, suppress
 
 # What ends this program, unless it was started so that it takes no notice of it.
 ENDING = (signal.SIGINT, signal.SIGTERM, signal.SIGHUP)
@@ -19,15 +19,16 @@ class Children:
     """The programs that run."""
 
     def __init__(self) -> None:
-        self.running: set[subprocess.Popen[bytes]] = set()
+        # With each stands whether it leads a group, in which are the programs that it starts itself.
+        self.running: dict[subprocess.Popen[bytes], bool] = {}
         # Held while one is started, so that each that runs is known.
         self.starts = threading.Lock()
 
-    def start(self, words: list[str], stdout: int, stderr: int | None) -> subprocess.Popen[bytes]:
+    def start(self, words: list[str], stdout: int, stderr: int | None, leads: bool) -> subprocess.Popen[bytes]:
         """Starts a program. Raises `OSError` if that fails."""
         with self.starts:
-            program = subprocess.Popen(words, stdin=subprocess.DEVNULL, stdout=stdout, stderr=stderr)
-            self.running.add(program)
+            program = subprocess.Popen(words, stdin=subprocess.DEVNULL, stdout=stdout, stderr=stderr, start_new_session=leads)
+            self.running[program] = leads
         return program
 
     @contextmanager
@@ -37,13 +38,15 @@ class Children:
             with program:
                 yield
         finally:
-            self.running.discard(program)
+            del self.running[program]
 
     def end(self) -> None:
         """Ends all of them. None is started from here on, since the lock is kept."""
         self.starts.acquire()
-        for program in list(self.running):
-            program.terminate()
+        for program, leads in list(self.running.items()):
+            if program.poll() is None:
+                with suppress(ProcessLookupError):
+                    os.kill(-program.pid if leads else program.pid, signal.SIGTERM)
 
 
 # All of them are here, since a signal is for the whole program.

@@ -198,6 +198,9 @@ def run() -> int:
         return complain(str(why), why.status)
     except MemoryError:
         return complain("out of memory", NO_MEMORY)
+    except RuntimeError as error:
+        # No thread can be started: there is no memory for one, or the system starts no more.
+        return complain(str(error), NO_MEMORY)
     except BrokenPipeError:
         # Whoever reads has enough.
         return FAILED
@@ -231,5 +234,9 @@ def open_streams() -> None:
 
 def main() -> None:
     open_streams()
+    try:
+        status = status_of(run)
+    except RuntimeError as error:
+        status = complain(str(error), NO_MEMORY)
     # Python's own end would write once more what couldn't be written.
-    os._exit(status_of(run))
+    os._exit(status)

@@ -31,9 +31,8 @@ def page_of(census: Census, haul: Haul, least: int) -> Iterator[str]:
     named = [code for code in codes if not is_large(code)]
     soups = sorted({number for code in codes for number in haul.samples[code]})
     # All is asked before the first byte is written, so a page is whole or not there.
-    drawings = dict(zip(named, census.each(census.show, named, "objects drawn"), strict=True))
-    drawn = census.each(lambda number: census.draw(["soup", f"--seed={haul.job.seed}", str(number)]), soups, "soups drawn")
-    paths = {number: soup_path(text) for number, text in zip(soups, drawn, strict=True)}
+    drawings = dict(zip(named, census.objects(named), strict=True))
+    paths = {number: soup_path(text) for number, text in zip(soups, census.soups(haul.job.seed, soups), strict=True)}
 
     yield head(haul)
     yield from bars(haul, codes[:BARS])

@@ -27,6 +27,24 @@ REFUSED, FAILED = 3, 5
 
 DRAWING = re.compile(rb"(?:[.O]+\n)+")
 
+# Thousands of calls are made by shells, since a shell starts a program with less work than Python does, and Python starts one at
+# a time whatever the number of its threads. A shell makes the calls for some words, one after another: the program, its command
+# and an option come first, and then the word. After each drawing it prints the status in a line. It ends at the first one that is
+# neither 0 nor 3.
+WORDS_OF_A_SHELL = 100
+CALLS = """
+program=$1 command=$2 option=$3
+shift 3
+for word do
+    "$program" "$command" "$option" "$word"
+    status=$?
+    echo "$status"
+    case $status in 0 | 3) ;; *) exit ;; esac
+done
+"""
+# What is printed of a call.
+ANSWER = re.compile(rb"((?:[.O]+\n)*)([0-9]+)\n")
+
 Asked = TypeVar("Asked")
 Said = TypeVar("Said")
 
@@ -54,14 +72,17 @@ class Census:
 
     def ask(self, words: list[str]) -> bytes:
         """What the program prints."""
-        with started([self.path, *words], subprocess.PIPE) as program:
+        with started([self.path, *words], subprocess.PIPE, subprocess.PIPE) as program:
             printed, errors = program.communicate()
         return checked(program.returncode, printed, errors)
 
-    def each(self, ask: Callable[[Asked], Said], asked: list[Asked], told: str) -> Iterator[Said]:
-        """What is answered to each of these, several calls at a time."""
+    def each(self, ask: Callable[[list[Asked]], Said], asked: list[Asked], size: int, told: str) -> Iterator[Said]:
+        """What is answered to these, so many at once, and several times so many at a time."""
+        parts = [asked[start : start + size] for start in range(0, len(asked), size)]
+        done = 0
         with ThreadPoolExecutor(len(os.sched_getaffinity(0))) as pool:
-            for done, said in enumerate(pool.map(ask, asked), 1):
+            for part, said in zip(parts, pool.map(ask, parts), strict=True):
+                done += len(part)
                 tell(f"{done} of {len(asked)} {told}")
                 yield said
         tell("")
@@ -73,30 +94,53 @@ class Census:
             raise missing(self.path)
         return printed.decode("ascii")
 
-    def show(self, code: str) -> str | None:
-        """The object that a code names; none for a code that the program refuses."""
-        try:
-            return self.draw(["show", code])
-        except Ended as why:
-            if why.status == REFUSED:
-                return None
-            raise
+    def objects(self, codes: list[str]) -> Iterator[str | None]:
+        """The objects that codes name; none for a code that the program refuses."""
+        # No code is taken for an option.
+        return self.drawings("show", "--", codes, "objects drawn")
+
+    def soups(self, seed: str, numbers: list[int]) -> Iterator[str]:
+        """The soups of a seed with these numbers, none of which the program refuses."""
+        option, words = f"--seed={seed}", [str(number) for number in numbers]
+        for word, drawing in zip(words, self.drawings("soup", option, words, "soups drawn"), strict=True):
+            yield drawing or self.draw(["soup", option, word])
+
+    def drawings(self, command: str, option: str, words: list[str], told: str) -> Iterator[str | None]:
+        """What a command draws for each of these words; none for a word that it refuses."""
+        for drawn in self.each(lambda part: list(self.drawn(command, option, part)), words, WORDS_OF_A_SHELL, told):
+            yield from drawn
+
+    def drawn(self, command: str, option: str, words: list[str]) -> Iterator[str | None]:
+        """The same, by one shell. What it doesn't answer as it should is asked by a call of its own, which tells what is wrong."""
+        printed = by_a_shell([self.path, command, option, *words])
+        place = 0
+        for word in words:
+            answer = ANSWER.match(printed, place)
+            place = answer.end() if answer else len(printed)
+            if answer and answer[1] and answer[2] == b"0":
+                yield answer[1].decode("ascii")
+            elif answer and answer[2] == b"3":
+                yield None
+            else:
+                yield self.draw([command, option, word])
 
     def take(self, words: list[str], out: IO[bytes]) -> None:
         """Writes the haul of a call of `take`, whose line of progress is shown where this program has a terminal."""
         shows = sys.stderr.isatty()
-        with started([self.path, "take", *words, *(["--progress"] if shows else [])], subprocess.PIPE) as program:
+        with started([self.path, "take", *words, *(["--progress"] if shows else [])], subprocess.PIPE, subprocess.PIPE) as program:
             assert program.stdout and program.stderr
             errors = bytearray()
             watcher = threading.Thread(target=pass_on, args=(program.stderr, errors))
-            watcher.start()
             try:
+                watcher.start()
                 shutil.copyfileobj(program.stdout, out)
-            except OSError:
+            except BaseException:
+                # Else it would be waited for, perhaps for hours.
                 program.terminate()
                 raise
             finally:
-                watcher.join()
+                if watcher.ident is not None:
+                    watcher.join()
         checked(program.returncode, b"", bytes(errors))
 
 
@@ -109,7 +153,7 @@ def beside() -> str | None:
     if not (program.parent / "built.bash").is_file():
         return str(program)
     # The program itself is asked, since the launcher looks at all sources at each call.
-    with started([str(program), "--version"], None) as launcher:
+    with started([str(program), "--version"], subprocess.DEVNULL, None) as launcher:
         launcher.wait()
     if launcher.returncode != 0:
         raise missing(str(program))
@@ -122,14 +166,21 @@ def missing(path: str) -> NoCensus:
 
 
 @contextmanager
-def started(words: list[str], streams: int | None) -> Iterator[subprocess.Popen[bytes]]:
-    """A program that runs, and has ended after this. Without streams its output is dropped, and it complains by itself."""
+def started(words: list[str], stdout: int, stderr: int | None, leads: bool = False) -> Iterator[subprocess.Popen[bytes]]:
+    """A program that runs, and has ended after this. With no number for the errors, it complains by itself."""
     try:
-        program = children.start(words, subprocess.DEVNULL if streams is None else streams, streams)
+        program = children.start(words, stdout, stderr, leads)
     except OSError:
         raise missing(words[0]) from None
     with children.known(program):
         yield program
+
+
+def by_a_shell(words: list[str]) -> bytes:
+    """What a shell prints of the calls with these words; nothing if there is no shell."""
+    with suppress(NoCensus), started(["/bin/sh", "-c", CALLS, "sh", *words], subprocess.PIPE, subprocess.DEVNULL, leads=True) as shell:
+        return shell.communicate()[0]
+    return b""
 
 
 def checked(status: int, printed: bytes, errors: bytes) -> bytes:

@@ -9,7 +9,7 @@ body { margin: 0; background: var(--paper); color: var(--ink); font: 16px/1.5 sy
 main { max-width: 76rem; margin: 0 auto; padding: 1rem; }
 h1 { font-size: 1.6rem; line-height: 1.2; } h2 { font-size: 1.15rem; margin: 2rem 0 .5rem; }
 p { max-width: 46rem; } a { color: var(--link); }
-code, td:nth-child(2) { font-family: ui-monospace, monospace; font-size: .9em; overflow-wrap: anywhere; }
+code, td:nth-child(2) { font-family: ui-monospace, monospace; font-size: .9em; }
 .facts { display: flex; flex-wrap: wrap; gap: .75rem; margin: 1rem 0; }
 .facts div { background: var(--soft); border-radius: .4rem; padding: .4rem .8rem; }
 .facts dt { font-size: .8rem; } .facts dd { margin: 0; font-size: 1.2rem; font-variant-numeric: tabular-nums; }
@@ -22,6 +22,7 @@ tr { display: grid; grid-template-columns: 176px minmax(7rem, 1fr) 9rem 8rem 4re
 tbody tr { content-visibility: auto; contain-intrinsic-size: auto 6rem; }
 thead { position: sticky; top: 0; z-index: 1; background: var(--paper); }
 th, td { text-align: left; padding: .4rem .5rem; min-width: 0; }
+td { overflow-wrap: anywhere; }
 th button { all: unset; cursor: pointer; font-weight: bold; text-decoration: underline dotted; }
 th button:focus-visible { outline: 2px solid var(--link); }
 th[aria-sort=ascending] button::after { content: " \\2191"; } th[aria-sort=descending] button::after { content: " \\2193"; }
@@ -30,7 +31,7 @@ td svg { stroke: currentColor; stroke-width: 1; fill: none; shape-rendering: cri
 td > svg { background: var(--soft); max-width: 100%; height: auto; }
 .soup { width: 128px; height: 128px; background: var(--soft); margin: .3rem 0; }
 summary { cursor: pointer; font-variant-numeric: tabular-nums; }
-@media (max-width: 70rem) {
+@media screen and (max-width: 70rem) {
   thead { position: static; } thead tr { display: flex; flex-wrap: wrap; gap: .2rem .9rem; padding-bottom: .4rem; } th { padding: 0; }
   th:first-child, th:last-child { display: none; }
   tbody tr { display: block; padding: .5rem 0; contain-intrinsic-size: auto 15rem; }
@@ -39,7 +40,10 @@ summary { cursor: pointer; font-variant-numeric: tabular-nums; }
   td:nth-child(8)::before { content: "sample soups:"; }
 }
 tr[hidden] { display: none; }
-@media print { .filter { display: none; } thead { position: static; } tr { break-inside: avoid; } }
+@media print {
+  .filter { display: none; } thead { position: static; } .soup { width: 96px; height: 96px; }
+  tr { break-inside: avoid; font-size: .75rem; grid-template-columns: 7rem minmax(5.5rem, 1fr) 4.5rem 4.5rem 2.6rem 4rem 4.2rem 7rem; }
+}
 """
 
 SCRIPT = """

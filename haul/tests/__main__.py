@@ -3,7 +3,7 @@
 import sys
 import unittest
 
-NAMES = ["haul.tests.test_text", "haul.tests.test_join", "haul.tests.test_program", "haul.tests.test_ends"]
+NAMES = ["haul.tests.test_text", "haul.tests.test_faults", "haul.tests.test_join", "haul.tests.test_program", "haul.tests.test_ends"]
 
 suite = unittest.defaultTestLoader.loadTestsFromNames(NAMES)
 result = unittest.TextTestRunner(stream=sys.stdout).run(suite)

@@ -2,6 +2,8 @@
 
 from __future__ import annotations
 
+import io
+import os
 import signal
 import subprocess
 import sys
@@ -11,23 +13,29 @@ import unittest
 from contextlib import suppress
 from pathlib import Path
 
-from haul.tests.called import HAUL, census, run
+from haul.tests.called import CENSUS, HAUL, census, run
 from haul.tests.test_text import SMALL
+from haul.text import Haul, Job, read_one_haul, text_of
 
 # A haul over so many soups that its census takes hours. It isn't right.
 LONG = SMALL.replace("@RANGE 0 4", f"@RANGE 0 {2**24}").replace("SOUPS 2", f"SOUPS {2**24}").replace("@PROFILE 1 1 1 0", "@PROFILE 64 512 101 30300")
 
+# A haul of so many codes that they are asked by several shells. It isn't right.
+CODES = [f"xs4_{number}" for number in range(1000, 1300)]
+MANY = text_of(Haul(Job("", "b3s23", (1, 1, 1, 0)), [(0, 1)], 1, 0, 0, {code: 1 for code in CODES}, {code: [0] for code in CODES}))
 
-def in_shell(command: str, script: str = "") -> tuple[int, str, str]:
+
+def in_shell(command: str, script: str = "", few: str = "") -> tuple[int, str, str]:
     """The status and both outputs of a shell's command, in which `haul` is the companion, `small` a haul of two soups, `three` one
-    of three, and `other` a program with this script."""
+    of three, `other` a program with this script, and `$few` a text of Python."""
     with tempfile.TemporaryDirectory() as folder:
         Path(folder, "small").write_bytes(census("take", "--count", "2"))
         Path(folder, "three").write_bytes(census("take", "--count", "3"))
         Path(folder, "other").write_text(f"#!/bin/sh\n{script}\n")
         Path(folder, "other").chmod(0o755)
         shell = f'haul() {{ "{sys.executable}" "{HAUL}" "$@"; }}; {command}'
-        ended = subprocess.run(["bash", "-c", shell], cwd=folder, stdin=subprocess.DEVNULL, capture_output=True, check=False)
+        ended = subprocess.run(["bash", "-c", shell], cwd=folder, stdin=subprocess.DEVNULL, capture_output=True, check=False,
+                               env=os.environ | {"few": few})
     return ended.returncode, ended.stdout.decode(), ended.stderr.decode()
 
 
@@ -95,6 +103,18 @@ class Usage(unittest.TestCase):
         self.assertEqual((ended.returncode, ended.stdout, ended.stderr), (2, b"", b"haul: Python 3.10 or later is needed, and this is 3.9\n"))
 
 
+class NoThreads(unittest.TestCase):
+    """The system starts no more threads, of which the first one is that in which all is done."""
+
+    def test_each_is_told(self) -> None:
+        for least, words in ((0, "--version"), (1, "page three"), (1, "check three"), (1, "check --samples three")):
+            with self.subTest(words=words):
+                few = (f"import runpy, sys, threading; start, left = threading.Thread.start, [0] * {least}\n"
+                       "def start_few(thread):\n    if not left: raise RuntimeError('no thread')\n    left.pop(); start(thread)\n"
+                       f"threading.Thread.start = start_few; sys.argv[0] = {HAUL!r}; runpy.run_path({HAUL!r}, run_name='__main__')")
+                self.assertEqual(in_shell(f'"{sys.executable}" -c "$few" {words}', few=few), (4, "", "haul: no thread\n"))
+
+
 class OtherPrograms(unittest.TestCase):
     """What stands at the path isn't the census program."""
 
@@ -133,56 +153,114 @@ class OtherPrograms(unittest.TestCase):
         self.assertEqual(self.answer("exit 3", "check")[0], 3)
 
 
+class ManyCalls(unittest.TestCase):
+    """A page asks for each object and each sample soup by calls of many shells. In these scripts `real` is the census program."""
+
+    # Notes the words of the call, and answers as the program does.
+    NOTES = f'echo "$*" >> calls; real() {{ "{CENSUS}" "$@"; }}; '
+
+    def page(self, script: str, count: int = 400) -> tuple[int, str, str, list[str]]:
+        """What `haul page` of so many soups ends with and prints, if this script is the program, and the calls that it made."""
+        command = f'"{CENSUS}" take --count {count} > many; haul page --census ./other many; status=$?; cat calls >&3; exit $status'
+        with tempfile.NamedTemporaryFile() as calls:
+            status, page, errors = in_shell(f"exec 3> {calls.name}; {command}", self.NOTES + script)
+            return status, page, errors, calls.read().decode().splitlines()
+
+    def right(self) -> str:
+        return run("page", text=census("take", "--count", "400"))[1]
+
+    def test_each_is_asked_once(self) -> None:
+        haul = read_one_haul(io.BytesIO(census("take", "--count", "400")))
+        soups = {number for numbers in haul.samples.values() for number in numbers}
+        wanted = [f"show -- {code}" for code in haul.totals] + [f"soup --seed= {number}" for number in soups]
+        status, page, errors, calls = self.page('real "$@"')
+        self.assertEqual((status, errors, sorted(calls)), (0, "", sorted(wanted)))
+        self.assertEqual(page, self.right())
+
+    def test_a_call_that_fails_once(self) -> None:
+        """As if memory had been short for a moment: it is asked again, and nothing is said of it."""
+        for failing in ("exit 4", "kill -9 $$", "exit 0"):
+            with self.subTest(failing=failing):
+                status, page, errors, calls = self.page(
+                    f"case $3 in 1 | xs4_252) [ -e $3 ] || {{ : > $3; {failing}; }} ;; esac; real \"$@\"")
+                self.assertEqual((status, errors), (0, ""))
+                self.assertEqual(page, self.right())
+                self.assertEqual(len(calls), len(set(calls)) + sum(call.endswith((" 1", " xs4_252")) for call in set(calls)))
+
+    def test_a_call_that_fails(self) -> None:
+        """What it said is told, and nothing of the page is printed."""
+        for word in ("xs4_252", "1"):
+            for failing, status, line in (("echo census: because >&2; exit 4", 4, "because"), ("exit 70", 5, "census ended with status 70"),
+                                          ("kill -15 $$", 5, "census was ended by signal 15"), ("echo O.x", 2, "no census at ./other"),
+                                          ("echo 0", 2, "no census at ./other")):
+                with self.subTest(word=word, failing=failing):
+                    ended = self.page(f'case $3 in {word}) {failing}; exit ;; esac; real "$@"', count=40)
+                    self.assertEqual(ended[:3], (status, "", f"haul: {line}\n"))
+
+
 class Signals(unittest.TestCase):
     """A signal that ends `haul` ends the programs that it has started."""
 
-    def running(self) -> dict[int, int]:
-        """The processes that run, as `ps` lists them, each with its parent; none that is dead and only not yet waited for."""
-        found: dict[int, int] = {}
+    def running(self) -> dict[int, tuple[str, int]]:
+        """The processes that run, each with its name and its parent; none that is dead and only not yet waited for."""
+        found: dict[int, tuple[str, int]] = {}
         for folder in Path("/proc").glob("[0-9]*"):
             with suppress(OSError):
-                # After the name, which is in brackets and may be any, come the state and the parent.
-                state, parent = (folder / "stat").read_text().rpartition(")")[2].split()[:2]
+                # The name is in brackets and may be any; after it come the state and the parent.
+                before, _, after = (folder / "stat").read_text().rpartition(")")
+                state, parent = after.split()[:2]
                 if state not in "ZX":
-                    found[int(folder.name)] = int(parent)
+                    found[int(folder.name)] = before.partition("(")[2], int(parent)
         return found
 
-    def ended_by(self, number: int, words: list[str]) -> None:
+    def below(self, process: int) -> dict[int, str]:
+        """What a process has started, and what these have, by name."""
+        running = self.running()
+        found: dict[int, str] = {}
+        above = {process}
+        while above:
+            above = {number for number, (_, parent) in running.items() if parent in above}
+            found |= {number: running[number][0] for number in above}
+        return found
+
+    def ended_by(self, number: int, words: list[str], least: int) -> None:
+        """A signal ends `haul`, and so many calls of the program at least that run then, with all that was started for them."""
         with tempfile.TemporaryDirectory() as folder:
             Path(folder, "long").write_text(LONG)
+            Path(folder, "many").write_text(MANY)
             # A program that would go on for long, and answers nothing.
             Path(folder, "sleeps").write_text("#!/bin/sh\nexec sleep 1000\n")
             Path(folder, "sleeps").chmod(0o755)
-            Path(folder, "three").write_bytes(census("take", "--count", "3"))
             # Who runs tests in the background takes no notice of SIGINT, and neither would the program.
             program = subprocess.Popen([sys.executable, HAUL, *words], cwd=folder, stdout=subprocess.DEVNULL, stderr=subprocess.PIPE,
                                        preexec_fn=lambda: signal.signal(number, signal.SIG_DFL))
-            started: list[int] = []
+            started: dict[int, str] = {}
             for _ in range(200):
-                started = [process for process, parent in self.running().items() if parent == program.pid]
-                if started:
+                started = self.below(program.pid)
+                if sum(name in ("census", "sleep") for name in started.values()) >= least:
                     break
                 time.sleep(0.05)
-            self.assertTrue(started)
+            self.assertGreaterEqual(sum(name in ("census", "sleep") for name in started.values()), least)
             program.send_signal(number)
             errors = program.communicate(timeout=20)[1]
             self.assertEqual((program.returncode, errors), (-number, b""))
             for _ in range(100):
-                if not self.running().keys() & started:
+                if not self.running().keys() & started.keys():
                     break
                 time.sleep(0.05)
-            self.assertFalse(self.running().keys() & started)
+            self.assertFalse(self.running().keys() & started.keys())
 
     def test_a_census_ends(self) -> None:
         for number in (signal.SIGINT, signal.SIGTERM, signal.SIGHUP):
             with self.subTest(number=number):
-                self.ended_by(number, ["check", "long"])
+                self.ended_by(number, ["check", "long"], 1)
 
     def test_several_calls_end(self) -> None:
-        for words in (["page", "--census", "./sleeps", "three"], ["check", "--samples", "--census", "./sleeps", "three"]):
-            for number in (signal.SIGINT, signal.SIGTERM):
+        shells = min(3, len(os.sched_getaffinity(0)))
+        for words, least in ((["page"], shells), (["check", "--samples"], 1)):
+            for number in (signal.SIGINT, signal.SIGTERM, signal.SIGHUP):
                 with self.subTest(number=number, words=words):
-                    self.ended_by(number, words)
+                    self.ended_by(number, [*words, "--census", "./sleeps", "many"], least)
 
     def test_a_signal_that_is_ignored(self) -> None:
         """As `nohup` has it."""

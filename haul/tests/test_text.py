@@ -4,6 +4,7 @@ from __future__ import annotations
 
 import io
 import random
+import re
 import unittest
 
 from haul.tests.drawn import any_haul
@@ -149,6 +150,11 @@ class Reading(unittest.TestCase):
         self.assertEqual(fault(wrong.replace("xs4_33 4\n", "xs4_33 x\n")), "line 15 column 8")
         self.assertEqual(fault(wrong.replace("xp2_7 3 10", "xp2_7 x")), "line 11 column 14")
 
+    def test_the_sum_is_below_two_to_the_64(self) -> None:
+        for four, place in ((2**64 - 3, "none"), (2**64 - 2, "line 11 column 14")):
+            text = LARGER.replace("OBJECTS 6", f"OBJECTS {four + 2}").replace("xs4_33 4\n", f"xs4_33 {four}\n")
+            self.assertEqual(fault(text), place)
+
     def test_lines_go_on_through_the_input(self) -> None:
         self.assertEqual(fault(SMALL + LARGER.replace("C1", "C2")), "line 18 column 11")
 
@@ -176,9 +182,10 @@ class Drawn(unittest.TestCase):
             haul = any_haul(draw)
             self.assertEqual(read(text_of(haul)), haul)
 
-    def test_mutations(self) -> None:
-        """A text with a byte changed, added or left out is lawful, and then it is written as it was read, or is refused at or
-        before the change, if not by a field that the change makes wrong: the sum, or what stands later."""
+    def test_changed_bytes(self) -> None:
+        """A text with a byte changed, added or left out is lawful, and then it is written as it was read, or it is refused at a
+        place. What stands before that is refused only where it ends, and whatever comes after the field at that place, it is
+        refused there."""
         draw = random.Random("mutations")
         refused = 0
         for _ in range(4000):
@@ -186,19 +193,21 @@ class Drawn(unittest.TestCase):
             at = draw.randrange(len(text))
             byte = draw.choice("0123456789 \nabsx@_=+-.\x00\xff")
             changed = text[:at] + byte + text[at + draw.choice([0, 1]) :]
-            try:
+            place = fault(changed)
+            if place == "none":
                 self.assertEqual(text_of(read(changed)), changed)
-            except BadHaul as bad:
-                refused += 1
-                line, column = (int(word) for word in str(bad).split() if word.isdigit())
-                lines = changed.split("\n")
-                self.assertLessEqual(line, len(lines))
-                self.assertLessEqual(column, len(lines[line - 1]) + 1)
-                # What stands before the place is the front of a lawful text: that of the haul before the change, if it is whole
-                # and the number of objects isn't told.
-                if not lines[line - 1].startswith("@NUM_OBJECTS"):
-                    before = sum(len(one) + 1 for one in lines[: line - 1]) + column - 1
-                    self.assertGreaterEqual(len(changed), before)
+                continue
+            refused += 1
+            line, column = (int(word) for word in place.split() if word.isdigit())
+            lines = changed.split("\n")
+            before = sum(len(one) + 1 for one in lines[: line - 1]) + column - 1
+            # That the number of objects isn't the sum is seen later.
+            if not lines[line - 1].startswith("@NUM_OBJECTS "):
+                # A whole haul may stand before it.
+                self.assertIn(fault(changed[:before]), (place, "none"))
+                field_and_after = re.match("[^ \n]*[ \n]", changed[before:])
+                if field_and_after:
+                    self.assertEqual(fault(changed[:before] + field_and_after[0] + "*\n"), place)
         self.assertGreater(refused, 2000)
 
 

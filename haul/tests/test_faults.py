@@ -1,0 +1,137 @@
+"""Hauls with one fault, whose place is known from how it was made and not from what reads it."""
+
+from __future__ import annotations
+
+import io
+import random
+import unittest
+from collections.abc import Iterator
+
+from haul.tests.drawn import any_haul
+from haul.text import BadHaul, Haul, lines_of, read_one_haul
+
+# A line and a column, both from 1.
+Place = tuple[int, int]
+# No field is any of these; an empty one is two spaces in a row, or one at the end of a line.
+NO_FIELDS = ["", "*", "\x01", "\xff", "@", "-1", "x.y"]
+
+
+class Fields:
+    """The lines of a haul, each cut into its fields, and where its parts begin."""
+
+    def __init__(self, haul: Haul) -> None:
+        self.lines = [line.split(" ") if line else [] for line in lines_of(haul)]
+        self.soups = 5 + max(1, len(haul.ranges))
+        self.totals = self.soups + 6
+        self.samples = self.totals + len(haul.totals) + 2
+
+    def text(self) -> str:
+        return "".join(" ".join(line) + "\n" for line in self.lines)
+
+    def place(self, line: int, field: int) -> Place:
+        return line + 1, sum(len(word) + 1 for word in self.lines[line][:field]) + 1
+
+    def with_line(self, line: int, fields: list[str]) -> str:
+        return "".join(" ".join(fields if k == line else it) + "\n" for k, it in enumerate(self.lines))
+
+    def with_field(self, line: int, field: int, word: str) -> str:
+        return self.with_line(line, [word if k == field else it for k, it in enumerate(self.lines[line])])
+
+
+def wrong_fields(haul: Haul, at: Fields) -> Iterator[tuple[str, Place]]:
+    """A field that isn't as it should be, whatever the others are."""
+    for line, fields in enumerate(at.lines):
+        for field in range(len(fields)):
+            for word in NO_FIELDS:
+                yield at.with_field(line, field, word), at.place(line, field)
+        yield at.with_line(line, [*fields, "*"]), (line + 1, len(" ".join(fields)) + (2 if fields else 1))
+        if len(fields) > 2 and line < at.samples or len(fields) == 2:
+            yield at.with_line(line, fields[:-1]), (line + 1, len(" ".join(fields[:-1])) + 1)
+
+
+def wrong_numbers(haul: Haul, at: Fields) -> Iterator[tuple[int, int, int]]:
+    """Lines and fields with numbers out of their ranges."""
+    period = haul.job.profile[0]
+    yield from ((4, 1, 0), (4, 1, 65), (4, 2, period - 1), (4, 2, 4097), (4, 3, 0), (4, 3, 10001), (4, 4, 100001))
+    yield from ((at.soups, 1, haul.size() + 1), (at.soups + 1, 1, haul.soups + 1), (at.soups + 2, 1, haul.soups - haul.unsettled + 1))
+    yield from ((at.soups + 3, 1, haul.objects() + 1), (at.soups + 3, 1, 2**64))
+    for line, (first, count) in enumerate(haul.ranges, 5):
+        yield from ((line, 1, 2**40), (line, 2, 0), (line, 2, 2**40 - first + 1))
+    for line, (first, count) in enumerate(haul.ranges[:-1], 6):
+        yield from ((line, 1, first), (line, 1, first + count - 1), (line, 1, first + count))
+    for line in range(at.totals, at.totals + len(haul.totals)):
+        yield from ((line, 1, 0), (line, 1, 2**64))
+    for line, numbers in enumerate(haul.samples.values(), at.samples):
+        yield from ((line, 1, haul.ranges[0][0] - 1), (line, len(numbers), sum(haul.ranges[-1])))
+        yield from ((line, field, numbers[field - 2]) for field in range(2, len(numbers) + 1))
+
+
+def wrong_writing(haul: Haul, at: Fields) -> Iterator[tuple[str, Place]]:
+    """Numbers that aren't written as numbers are, or are out of their ranges."""
+    for line, field, number in wrong_numbers(haul, at):
+        if number >= 0:
+            yield at.with_field(line, field, str(number)), at.place(line, field)
+    for line, fields in enumerate(at.lines):
+        for field, word in enumerate(fields):
+            if word.isdigit() and field > 0:
+                for other in ("0" + word, "+" + word, word + "x", word + ".0", "9" * 10**3):
+                    yield at.with_field(line, field, other), at.place(line, field)
+
+
+def wrong_lines(haul: Haul, at: Fields) -> Iterator[tuple[str, Place]]:
+    """A line that is left out or stands twice, two that have changed places, and a sample too many."""
+    lines = at.text().splitlines(True)
+    is_row = range(at.totals, at.totals + len(haul.totals))
+    for line in range(len(lines)):
+        if line in is_row:
+            yield "".join(lines[:line] + lines[line + 1 :]), at.place(at.soups + 3, 1)
+        elif len(haul.ranges) < 2 or at.lines[line][:1] != ["@RANGE"]:
+            yield "".join(lines[:line] + lines[line + 1 :]), (line + 1, 1)
+        is_range = bool(haul.ranges) and at.lines[line][:1] == ["@RANGE"]
+        yield "".join(lines[: line + 1] + lines[line:]), (line + 2, 8 if is_range else 1)
+    for line in is_row[:-1]:
+        yield "".join(lines[:line] + [lines[line + 1], lines[line]] + lines[line + 2 :]), (line + 2, 1)
+    for line in range(at.samples, len(lines) - 1):
+        yield "".join(lines[:line] + [lines[line + 1], lines[line]] + lines[line + 2 :]), (line + 1, 1)
+    for line, (code, numbers) in enumerate(haul.samples.items(), at.samples):
+        if len(numbers) == min(3, haul.totals[code]):
+            more = [*at.lines[line], str(sum(haul.ranges[-1]) - 1)]
+            yield at.with_line(line, more), (line + 1, len(" ".join(at.lines[line])) + 2)
+
+
+def cut(haul: Haul, at: Fields) -> Iterator[tuple[str, Place]]:
+    """An input that ends before a field, or after a line's last one: bad at its end. In a word that is no field: where that begins."""
+    text = ""
+    for line, fields in enumerate(at.lines):
+        for field, word in enumerate(fields):
+            yield text, at.place(line, field)
+            if word.startswith(("@", "seed=")):
+                yield text + word[: len(word) // 2 if word[0] == "@" else 3], at.place(line, field)
+            text += word + (" " if field < len(fields) - 1 else "")
+        yield text, (line + 1, len(" ".join(fields)) + 1)
+        text += "\n"
+
+
+class Faults(unittest.TestCase):
+    def test_each_is_told_at_its_place(self) -> None:
+        draw = random.Random("faults")
+        for _ in range(60):
+            haul = any_haul(draw)
+            at = Fields(haul)
+            for kind in (wrong_fields, wrong_writing, wrong_lines, cut):
+                for text, place in kind(haul, at):
+                    self.assertEqual(place_of(text), place, (kind.__name__, text))
+
+
+def place_of(text: str) -> Place | None:
+    """Where a text is no haul's."""
+    try:
+        read_one_haul(io.BytesIO(text.encode("latin-1")))
+    except BadHaul as bad:
+        line, column = (int(word) for word in str(bad).split() if word.isdigit())
+        return line, column
+    return None
+
+
+if __name__ == "__main__":
+    unittest.main()
