@@ -1,3 +1,4 @@
 mod CrewLemmas
 mod ShiftLemmas
+mod StepLemmas
 mod TakeLemmas

@@ -1,3 +1,4 @@
+pub mod CrewSteps
 pub mod Crews
 pub mod Shifts
 pub mod Takes

@@ -7,6 +7,7 @@ pub mod collector;
 pub mod gate;
 /// What a worker says to the collector.
 pub mod note;
+mod posts;
 mod shift;
 /// The workers, and the call that runs them.
 pub mod workers;

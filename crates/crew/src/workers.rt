@@ -1,14 +1,14 @@
 //! The workers of a crew, and the call that runs them.
 ghost use Rattle.std.specs.Prelude.{◌≡◌, ◌<◌, ◌≤◌, ◌+◌, ◌++◌, ◌∷◌, ◌⊎◌, [], ◌≢◌, ℕ, All, Bool, Err, IfErr, IfOk};
 ghost use Rattle.std.specs.Prelude.{IfSome, MatchResult, None, Some, false, length, map, nat_eq, true, vec_capacity};
-ghost use Rattle.std.specs.Prelude.{vec_len};
 ghost use Rattle.std.specs.List.{IsDistinct, range_with_len};
 ghost use Rattle.std.specs.List.Sorted.{IsStrictlyIncreasing};
 ghost use Rattle.haul_core.specs.Keeping.{numbers_in};
 ghost use Rattle.haul_core.specs.Missing.{AreAll, IsComplete};
 ghost use Rattle.handover.specs.Belts.{IsWhole, deaf, silent};
+ghost use Rattle.crew.specs.CrewSteps.{HasRun, IsReady};
 ghost use Rattle.crew.specs.Crews.{Collected};
-ghost use Rattle.crew.specs.Shifts.{AreBack, Leaves, StopsAt, sender_numbers};
+ghost use Rattle.crew.specs.Shifts.{Leaves, StopsAt};
 ghost use Rattle.crew.specs.Takes.{HasTaken, was_missing};
 ghost use Rattle.handover.specs.Tickets.{fresh};
 ghost use Rattle.crew.specs.declared.workers.CrewError.TheVariants as CrewError;
@@ -17,6 +17,7 @@ ghost use Rattle.crew.specs.declared.shift.End.TheVariants as End;
 use crate::collector::collect;
 use crate::gate::Gate;
 use crate::note::Note;
+use crate::posts::Posts;
 use crate::shift::{End, Shift, Site, work};
 use crate::watch::Watch;
 use handover::belt::{Belt, ReceiverPass, SenderPass};
@@ -131,8 +132,7 @@ fn take_missing<G: Gate + Sync, R: Threads + Wait + Sync, H: Watch>(
     };
     let Start {
         site,
-        passes,
-        senders,
+        posts,
         receiver,
         back,
     } = start;
@@ -143,7 +143,7 @@ fn take_missing<G: Gate + Sync, R: Threads + Wait + Sync, H: Watch>(
         away: 0,
         stopped: None,
     };
-    let crew = run_in_scope(alloc, rt, &site, gate, passes, senders, crew, watch);
+    let crew = run_in_scope(alloc, rt, &site, gate, posts, crew, watch);
     end_crew(site, crew)
 }
 
@@ -173,60 +173,53 @@ struct Crew {
     stopped: Option<u8>,
 }
 
-/// Starts a worker for each pass and sender, from the last on, collects what they report, and waits for them. The first
-/// worker comes back first.
+/// Starts a worker for each post, from the last on, collects what they report, and waits for them. The first worker
+/// comes back first.
 fn run_crew<'s, E, G: Gate + Sync, R: Threads + Wait + Sync, H: Watch>(
     alloc: Global,
     rt: &'s R,
     scope: &'s Scope<'s, E>,
     site: &'s Site,
     gate: &'s G,
-    mut passes: Vec<Pass>,
-    mut senders: Vec<SenderPass<Note>>,
-    mut crew: Crew,
+    posts: &mut Posts,
+    crew: &mut Crew,
     watch: &mut H,
-) -> Crew
-    requires passes { All (λ p. p ≡ fresh site.now.tickets) passes.items }
-    requires senders { All (λ s. s ≡ silent site.now.belt.name s.number) senders.items }
-    requires many { length passes.items ≡ length senders.items }
-    requires few { crew.away + length senders.items ≤ 255 }
-    requires receiver { crew.receiver.belt ≡ site.now.belt }
-    requires room { length crew.senders.items + length senders.items ≤ vec_capacity crew.senders }
-    requires back { AreBack
-        (G.may_stop gate.now) site.now.belt.name site.now.job site.now.missing.items crew.senders.items crew.stopped }
-    ensures back { AreBack
-        (G.may_stop gate.now) site.now.belt.name site.now.job site.now.missing.items result.senders.items
-        result.stopped }
-    ensures numbers { sender_numbers result.senders.items
-        ≡ sender_numbers crew.senders.items ++ sender_numbers senders.items }
-    ensures many { length result.senders.items ≡ length crew.senders.items + length senders.items }
-    ensures room { vec_capacity result.senders ≡ vec_capacity crew.senders }
-    ensures away { result.away ≡ crew.away }
-    ensures collected { (started : ℕ) × (answered : Bool)
-        × Collected started 0 crew.receiver result.receiver crew.haul result.haul answered }
+)
+    requires { IsReady (G.may_stop gate.now) site.now posts.old crew.old }
+    ensures { HasRun (G.may_stop gate.now) site.now posts.old crew.old crew.new }
 {
-    let Some(sender) = senders.pop() else {
-        watch.started(crew.away);
-        let _ = collect(
-            rt,
-            &site.belt,
-            &mut crew.receiver,
-            &mut crew.haul,
-            crew.away,
-            watch,
-        );
-        return crew;
-    };
-    let Some(pass) = passes.pop() else {
-        unreachable!()
+    let Some((pass, sender)) = posts.next() else {
+        receive_all(rt, site, crew, watch);
+        return;
     };
     let worker = sender.number();
     let begun = begin_shift(alloc, rt, scope, site, gate, pass, sender);
     let started = u8::from(begun.is_ok());
     crew.away += started;
-    let mut crew = run_crew(alloc, rt, scope, site, gate, passes, senders, crew, watch);
+    run_crew(alloc, rt, scope, site, gate, posts, crew, watch);
     crew.away -= started;
-    with_shift(crew, end_shift(rt, Duty { worker, site, gate }, begun))
+    note_shift(crew, end_shift(rt, Duty { worker, site, gate }, begun));
+}
+
+/// Collects what the workers report that have been started, until the last of them is done.
+fn receive_all<R: Wait, H: Watch>(rt: &R, site: &Site, crew: &mut Crew, watch: &mut H)
+    requires { crew.old.receiver.belt ≡ site.now.belt }
+    ensures collected { (answered : Bool)
+        × Collected crew.old.away 0 crew.old.receiver crew.new.receiver crew.old.haul crew.new.haul answered }
+    ensures senders { crew.new.senders ≡ crew.old.senders }
+    ensures stopped { crew.new.stopped ≡ crew.old.stopped }
+    ensures away { crew.new.away ≡ crew.old.away }
+{
+    let away = crew.away;
+    watch.started(away);
+    let _ = collect(
+        rt,
+        &site.belt,
+        &mut crew.receiver,
+        &mut crew.haul,
+        away,
+        watch,
+    );
 }
 
 /// Begins a worker's shift in a thread of its own. Where none can be started the worker is called off, and its shift ends
@@ -285,34 +278,31 @@ fn end_shift<'s, G: Gate, R: Threads>(
     }
 }
 
-/// The crew with one worker more that is back.
-fn with_shift(crew: Crew, shift: Shift) -> Crew
-    requires room { length crew.senders.items < vec_capacity crew.senders }
-    ensures senders { result.senders.items ≡ crew.senders.items ++ shift.sender ∷ [] }
-    ensures room { vec_capacity result.senders ≡ vec_capacity crew.senders }
-    ensures stopped { IfSome result.stopped
-        (λ w. (crew.stopped ≡ Some w) ⊎ ((shift.end ≡ End.Stopped) × (w ≡ shift.sender.number))) }
-    ensures first { IfSome crew.stopped (λ w. result.stopped ≡ Some w) }
-    ensures noted { crew.stopped ≡ None → shift.end ≡ End.Stopped → result.stopped ≡ Some shift.sender.number }
-    ensures haul { result.haul ≡ crew.haul }
-    ensures receiver { result.receiver ≡ crew.receiver }
-    ensures away { result.away ≡ crew.away }
+/// Notes that one worker more is back.
+fn note_shift(crew: &mut Crew, shift: Shift)
+    requires room { length crew.old.senders.items < vec_capacity crew.old.senders }
+    ensures senders { crew.new.senders.items ≡ crew.old.senders.items ++ shift.sender ∷ [] }
+    ensures room { vec_capacity crew.new.senders ≡ vec_capacity crew.old.senders }
+    ensures stopped { IfSome crew.new.stopped
+        (λ w. (crew.old.stopped ≡ Some w) ⊎ ((shift.end ≡ End.Stopped) × (w ≡ shift.sender.number))) }
+    ensures first { IfSome crew.old.stopped (λ w. crew.new.stopped ≡ Some w) }
+    ensures noted { crew.old.stopped ≡ None → shift.end ≡ End.Stopped → crew.new.stopped ≡ Some shift.sender.number }
+    ensures haul { crew.new.haul ≡ crew.old.haul }
+    ensures receiver { crew.new.receiver ≡ crew.old.receiver }
+    ensures away { crew.new.away ≡ crew.old.away }
 {
     let Shift { sender, end } = shift;
-    let mut crew = crew;
     if crew.stopped.is_none() && end == End::Stopped {
         crew.stopped = Some(sender.number());
     }
     crew.senders.push_reserved(sender);
-    crew
 }
 
 /// What a crew begins with.
 #[derive(Drop)]
 struct Start {
     site: Site,
-    passes: Vec<Pass>,
-    senders: Vec<SenderPass<Note>>,
+    posts: Posts,
     receiver: ReceiverPass<Note>,
     /// Room for the senders that come back.
     back: Vec<SenderPass<Note>>,
@@ -325,10 +315,10 @@ impl Start {
         ensures missing { IfOk result (λ start. start.site.missing.items ≡ was_missing haul.now) }
         ensures ascending { IfOk result (λ start. IsStrictlyIncreasing start.site.missing.items) }
         ensures workers { IfOk result (λ start. start.site.belt.workers ≡ workers) }
-        ensures passes { IfOk result (λ start. All (λ p. p ≡ fresh start.site.tickets) start.passes.items) }
-        ensures many { IfOk result (λ start. length start.passes.items ≡ workers) }
+        ensures passes { IfOk result (λ start. All (λ p. p ≡ fresh start.site.tickets) start.posts.passes.items) }
+        ensures many { IfOk result (λ start. length start.posts.passes.items ≡ workers) }
         ensures senders { IfOk result
-            (λ start. start.senders.items ≡ map (silent start.site.belt.name) (range_with_len 1 workers)) }
+            (λ start. start.posts.senders.items ≡ map (silent start.site.belt.name) (range_with_len 1 workers)) }
         ensures receiver { IfOk result (λ start. start.receiver ≡ deaf start.site.belt) }
         ensures back { IfOk result (λ start. start.back.items ≡ []) }
         ensures room { IfOk result (λ start. workers ≤ vec_capacity start.back) }
@@ -348,8 +338,7 @@ impl Start {
         };
         Ok(Start {
             site,
-            passes,
-            senders,
+            posts: Posts { passes, senders },
             receiver,
             back,
         })
@@ -362,47 +351,24 @@ fn run_in_scope<G: Gate + Sync, R: Threads + Wait + Sync, H: Watch>(
     rt: &R,
     site: &Site,
     gate: &G,
-    passes: Vec<Pass>,
-    senders: Vec<SenderPass<Note>>,
+    posts: Posts,
     crew: Crew,
     watch: &mut H,
 ) -> Crew
-    requires passes { All (λ p. p ≡ fresh site.now.tickets) passes.items }
-    requires senders { All (λ s. s ≡ silent site.now.belt.name s.number) senders.items }
-    requires many { length passes.items ≡ length senders.items }
-    requires few { crew.away + length senders.items ≤ 255 }
-    requires receiver { crew.receiver.belt ≡ site.now.belt }
-    requires room { length crew.senders.items + length senders.items ≤ vec_capacity crew.senders }
-    requires back { AreBack
-        (G.may_stop gate.now) site.now.belt.name site.now.job site.now.missing.items crew.senders.items crew.stopped }
-    ensures back { AreBack
-        (G.may_stop gate.now) site.now.belt.name site.now.job site.now.missing.items result.senders.items
-        result.stopped }
-    ensures numbers { sender_numbers result.senders.items
-        ≡ sender_numbers crew.senders.items ++ sender_numbers senders.items }
-    ensures collected { (started : ℕ) × (answered : Bool)
-        × Collected started 0 crew.receiver result.receiver crew.haul result.haul answered }
+    requires { IsReady (G.may_stop gate.now) site.now posts crew }
+    ensures { HasRun (G.may_stop gate.now) site.now posts crew result }
 {
     thread::scope(
         thread::scope_env(),
         rt,
         move |scope| -> Crew
-            requires { All (λ p. p ≡ fresh site.now.tickets) passes.items
-                × All (λ s. s ≡ silent site.now.belt.name s.number) senders.items
-                × (length passes.items ≡ length senders.items)
-                × (crew.away + length senders.items ≤ 255)
-                × (crew.receiver.belt ≡ site.now.belt)
-                × (length crew.senders.items + length senders.items ≤ vec_capacity crew.senders)
-                × AreBack (G.may_stop gate.now) site.now.belt.name site.now.job site.now.missing.items
-                crew.senders.items crew.stopped }
-            ensures back { AreBack
-                (G.may_stop gate.entry.now) site.entry.now.belt.name site.entry.now.job site.entry.now.missing.items
-                result.senders.items result.stopped }
-            ensures numbers { sender_numbers result.senders.items
-                ≡ sender_numbers crew.senders.items ++ sender_numbers senders.items }
-            ensures collected { (started : ℕ) × (answered : Bool)
-                × Collected started 0 crew.receiver result.receiver crew.haul result.haul answered }
-        { run_crew(alloc, rt, scope, site, gate, passes, senders, crew, watch) },
+            requires { IsReady (G.may_stop gate.now) site.now posts crew }
+            ensures { HasRun (G.may_stop gate.entry.now) site.entry.now posts crew result }
+        {
+            let (mut posts, mut crew) = (posts, crew);
+            run_crew(alloc, rt, scope, site, gate, &mut posts, &mut crew, watch);
+            crew
+        },
     )
 }
 

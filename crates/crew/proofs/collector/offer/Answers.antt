@@ -1,8 +1,4 @@
-use Rattle.std.proofs.Common.{rules, ◌≡◌, ◌≢◌, ◌∷◌, ◌⊎◌, inl, [], List, None, Some, false, is_ok, true, ℕ, ◌++◌}
-use Rattle.haul_core.specs.Books.{StandsFor, refusal_of}
-use Rattle.haul_core.specs.Replies.{IsAnswered, reply_of}
-use Rattle.haul_core.specs.declared.arrival.Arrival.{Arrival}
-use Rattle.crew.specs.Crews.{Collected, HasAdded, HasMetAll}
+use Rattle.std.proofs.Common.{inl}
 use Rattle.crew.proofs.collector.offer.Goals as goal
 
 -- src/collector.rt:55:1

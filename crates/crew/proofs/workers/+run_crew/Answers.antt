@@ -1,24 +1,16 @@
-use Rattle.std.proofs.Common.{◌≡◌, Some}
-use Rattle.std.proofs.lemmas.List.Elements.{All-pop}
-use Rattle.handover.specs.Belts.{Presented, silent}
-use Rattle.handover.specs.Tickets.{Drawn, fresh}
-use Rattle.crew.specs.declared.note.Note.{Note}
+use Rattle.std.proofs.Common.{◌≡◌, subst}
+use Rattle.crew.specs.Shifts.{Leaves}
 use Rattle.crew.specs.declared.shift.End.TheVariants.{Stopped}
-use Rattle.crew.proofs.ShiftLemmas.{back_more}
+use Rattle.crew.proofs.StepLemmas.{run_more}
 use Rattle.crew.proofs.workers.+run_crew.Goals as goal
 
-pub run_crew-crew-requires-clause-passes : goal.run_crew-crew-requires-clause-passes
-run_crew-crew-requires-clause-passes g t c κs within =
-    (All-pop (λ (p : Drawn). p ≡ fresh c.args.site.now.tickets) c.args.passes.items c.pop-2.new.self.items (Some c.in-Some-pop.pass)
-    c.in-Some-pop.ensures.items c.requires.passes).0
-
-pub run_crew-crew-requires-clause-senders : goal.run_crew-crew-requires-clause-senders
-run_crew-crew-requires-clause-senders g t c κs within =
-    (All-pop (λ (s : Presented Note). s ≡ silent c.args.site.now.belt.name s.number) c.args.senders.items c.pop.new.self.items (Some c.in-Some.sender)
-    c.in-Some.ensures.items c.requires.senders).0
-
-pub returns-clause-back : goal.returns-clause-back
-returns-clause-back g t c =
-    back_more c.run_crew-crew.result.senders.items c.with_shift.result.senders.items c.end_shift.result.sender
-    c.run_crew-crew.result.stopped c.with_shift.result.stopped c.number-worker.result (c.end_shift.result.end ≡ Stopped)
-    c.run_crew-crew.ensures.back c.end_shift.ensures c.with_shift.ensures.senders c.with_shift.ensures.stopped
+pub returns : goal.returns
+returns g t c =
+    let site = c.args.site.now in
+    let noted = c.note_shift.ensures in
+    let stops = c.end_shift.result.end ≡ Stopped in
+    run_more c.args.posts.now c.next.new.self c.args.crew.now c.run_crew.new.crew c.note_shift.new.crew (c.in-Some.pass, c.in-Some.sender)
+    c.end_shift.result.sender c.from-started.result stops c.in-Some.ensures.next c.run_crew.ensures
+    (subst (λ w. Leaves (g.G.Gate.may_stop c.args.gate.now) site.belt.name site.job site.missing.items w c.end_shift.result.sender stops)
+    c.number-worker.ensures c.end_shift.ensures)
+    noted.senders noted.room noted.stopped noted.haul noted.receiver noted.away

@@ -1,31 +1,15 @@
-use Rattle.std.proofs.Common.{◌≡◌, ◌∙◌, All, ap, arith, length, subst, sym}
-use Rattle.std.specs.List.{range_with_len}
-use Rattle.handover.specs.Belts.{Presented, Received, silent}
+use Rattle.std.proofs.Common.{◌∙◌, ap, arith, refl}
+use Rattle.handover.specs.Belts.{Received}
 use Rattle.crew.specs.declared.note.Note.{Note}
-use Rattle.crew.proofs.TakeLemmas.{all_silent, belts_of, crew_has_taken, crew_stops, crew_within, silent_length}
+use Rattle.crew.proofs.StepLemmas.{ready_first}
+use Rattle.crew.proofs.TakeLemmas.{belts_of, crew_has_taken, crew_stops, crew_within}
 use Rattle.crew.proofs.workers.take_missing.Goals as goal
 
-pub run_in_scope-crew-requires-clause-senders : goal.run_in_scope-crew-requires-clause-senders
-run_in_scope-crew-requires-clause-senders g c κs within =
-    let name = c.in-Ok.start.site.belt.name in
-    subst (All (λ (s : Presented Note). s ≡ silent name s.number)) (sym c.in-Ok.ensures.senders) (all_silent name (range_with_len 1 c.args.workers))
-
-pub run_in_scope-crew-requires-clause-many : goal.run_in_scope-crew-requires-clause-many
-run_in_scope-crew-requires-clause-many g c κs within =
-    c.in-Ok.ensures.many ∙ sym (ap length c.in-Ok.ensures.senders ∙ silent_length c.in-Ok.start.site.belt.name c.args.workers)
-
-pub run_in_scope-crew-requires-clause-few : goal.run_in_scope-crew-requires-clause-few
-run_in_scope-crew-requires-clause-few g c =
-    let many : length c.in-Ok.start.senders.items ≡ c.args.workers = ap length c.in-Ok.ensures.senders
-    ∙ silent_length c.in-Ok.start.site.belt.name c.args.workers in
-    omega (arith, many, c.ranges.workers.fits)
-
-pub run_in_scope-crew-requires-clause-room : goal.run_in_scope-crew-requires-clause-room
-run_in_scope-crew-requires-clause-room g c =
-    let many : length c.in-Ok.start.senders.items ≡ c.args.workers = ap length c.in-Ok.ensures.senders
-    ∙ silent_length c.in-Ok.start.site.belt.name c.args.workers in
-    let none : length c.in-Ok.start.back.items ≡ 0 = ap length c.in-Ok.ensures.back in
-    omega (arith, many, none, c.in-Ok.ensures.room)
+pub run_in_scope-crew-requires-after_bounds : goal.run_in_scope-crew-requires-after_bounds
+run_in_scope-crew-requires-after_bounds g c κs within =
+    let start = c.in-Ok.ensures in
+    ready_first c.in-Ok.start.site c.in-Ok.start.posts _ c.args.workers start.passes start.many start.senders (omega (arith, c.ranges.workers.fits)) refl
+    (ap (λ (r : Received Note). r.belt) start.receiver) start.back start.room refl
 
 pub end_crew-requires-clause-senders : goal.end_crew-requires-clause-senders
 end_crew-requires-clause-senders g c =
@@ -40,7 +24,7 @@ returns-clause-taken g c =
     let start = c.in-Ok.ensures in
     let crew = c.run_in_scope-crew.ensures in
     crew_has_taken c.in-Ok.start.site.belt c.args.workers c.in-Ok.start.site.missing.items c.run_in_scope-crew.result.senders.items
-    c.in-Ok.start.senders.items c.in-Ok.start.back.items crew.collected.2 start.receiver start.workers start.missing start.ascending start.senders start.back
+    c.in-Ok.start.posts.senders.items c.in-Ok.start.back.items crew.collected.2 start.receiver start.workers start.missing start.ascending start.senders start.back
     crew.numbers crew.back.worked c.end_crew.ensures.whole c.end_crew.result.0 c.end_crew.ensures.haul c.end_crew.ensures.distinct start.job
 
 pub returns-clause-stopped : goal.returns-clause-stopped
@@ -52,6 +36,6 @@ returns-clause-stopped g c =
 pub returns-clause-within : goal.returns-clause-within
 returns-clause-within g c =
     let start = c.in-Ok.ensures in
-    crew_within c.in-Ok.start.site.belt.name c.args.workers c.in-Ok.start.senders.items c.in-Ok.start.back.items c.run_in_scope-crew.result.senders.items
+    crew_within c.in-Ok.start.site.belt.name c.args.workers c.in-Ok.start.posts.senders.items c.in-Ok.start.back.items c.run_in_scope-crew.result.senders.items
     c.run_in_scope-crew.result.stopped c.end_crew.result.1 c.run_in_scope-crew.ensures.back.one start.senders start.back c.run_in_scope-crew.ensures.numbers
     c.end_crew.ensures.stopped

@@ -1,0 +1,29 @@
+//! The workers of a crew that are still to be started.
+ghost use Rattle.std.specs.Prelude.{◌≡◌, [], IfNone, IfSome, length};
+ghost use Rattle.crew.specs.CrewSteps.{IsNext};
+
+use crate::note::Note;
+use handover::belt::SenderPass;
+use handover::tickets::Pass;
+
+/// What workers are started with that aren't yet: a pass and a sender for each.
+#[derive(Drop)]
+pub(crate) struct Posts {
+    pub(crate) passes: Vec<Pass>,
+    pub(crate) senders: Vec<SenderPass<Note>>,
+}
+
+impl Posts {
+    /// Takes out the last one.
+    pub(crate) fn next(&mut self) -> Option<(Pass, SenderPass<Note>)>
+        requires { length self.old.passes.items ≡ length self.old.senders.items }
+        ensures none { IfNone result (self.old.senders.items ≡ []) }
+        ensures next { IfSome result (λ post. IsNext post self.old self.new) }
+    {
+        let sender = self.senders.pop()?;
+        let Some(pass) = self.passes.pop() else {
+            unreachable!()
+        };
+        Some((pass, sender))
+    }
+}
