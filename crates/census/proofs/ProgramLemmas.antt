@@ -40,6 +40,22 @@ front_sent (Some xs) (Some ys) (Some zs) held front more wrote kept = (
   sym (append_assoc zs held more) ∙ ap (λ l. l ++ more) (kept ∙ wrote ∙ ap (λ l. l ++ front) (append-nil xs)) ∙ append_assoc xs front more,
 )
 
+-- What can't be, each told apart here: `cc` looks at all that is known, and where a request's end is known that is much.
+truth_isnt_falsity : true ≡ false → ⊥
+truth_isnt_falsity is = cc
+
+incomplete_isnt_done : statuses.Incomplete ≡ statuses.Done → ⊥
+incomplete_isnt_done is = cc
+
+done_is_not_for_memory : statuses.Done ≡ statuses.OutOfMemory → ⊥
+done_is_not_for_memory is = cc
+
+incomplete_is_not_for_memory : statuses.Incomplete ≡ statuses.OutOfMemory → ⊥
+incomplete_is_not_for_memory is = cc
+
+none_isnt_some : (n : ℕ) → zero ≡ suc n → ⊥
+none_isnt_some n is = cc
+
 -- no complaint has the status of a command that was done
 status_of-done : (complaint : Complaint) → status_of complaint ≡ statuses.Done → ⊥
 status_of-done (Refused refusal) is = cc
@@ -101,7 +117,7 @@ text_alone (Show code) bytes made quiet is = (is.1, is.2)
 text_alone (Soup seed n) bytes made quiet is = (is.1, is.2)
 text_alone (Take survey workers progress) bytes made quiet is = (is.1, is.2)
 text_alone (Work survey worker) bytes made quiet is = (is.1, is.2)
-text_alone (Gather survey workers) bytes made quiet is = let bad : true ≡ false = quiet in cc
+text_alone (Gather survey workers) bytes made quiet is = absurd (truth_isnt_falsity quiet)
 text_alone Version bytes made quiet is = (is.1, is.2)
 
 -- so where soups are missing, lines may be told
@@ -113,8 +129,7 @@ tells_missing request bytes made n is missing = go (tells_lines request) refl
     go true e = refl
     go false e =
         let none : made.missing ≡ 0 = (text_alone request bytes made e is).1 in
-        let bad : zero ≡ suc n = sym none ∙ missing in
-        cc
+        absurd (none_isnt_some n (sym none ∙ missing))
 
 -- ---- a request that was done, or done but for soups that are missing
 
@@ -147,7 +162,7 @@ task_done task known bytes output errors ends = go ends.outcome ends.reached end
         → status_after outcome ≡ statuses.Done → Printed (task.right bytes) 0 output errors
     go (Ok zero) reached last same =
         printed_with (task.right bytes) 0 output ends.between errors ends.from reached (no_line ends.between.after errors.after errors.failed last.0)
-    go (Ok (suc n)) reached last same = let bad : statuses.Incomplete ≡ statuses.Done = same in cc
+    go (Ok (suc n)) reached last same = absurd (incomplete_isnt_done same)
     go (Err complaint) reached last same = absurd (status_of-done complaint same)
 
 task_incomplete : (task : Task) (known : Option (List ℕ)) (bytes : List ℕ) (output errors : Stream)
@@ -157,7 +172,7 @@ task_incomplete task known bytes output errors ends = go ends.outcome ends.reach
     go : (outcome : Outcome) → Reaches task known bytes outcome output ends.between
         → HasLast outcome (record { before = ends.between.after; after = errors.after; failed = errors.failed })
         → status_after outcome ≡ statuses.Incomplete → (less : ℕ) × Printed (task.right bytes) (suc less) output errors
-    go (Ok zero) reached last same = let bad : statuses.Done ≡ statuses.Incomplete = same in cc
+    go (Ok zero) reached last same = absurd (incomplete_isnt_done (sym same))
     go (Ok (suc n)) reached last same = (n, printed_with (task.right bytes) (suc n) output ends.between errors ends.from reached last)
     go (Err complaint) reached last same = absurd (status_of-incomplete complaint same)
 
@@ -169,7 +184,7 @@ task_fine task known bytes output errors ends = go ends.outcome ends.last (sym e
     go : (outcome : Outcome) → HasLast outcome (record { before = ends.between.after; after = errors.after; failed = errors.failed })
         → status_after outcome ≡ statuses.Done → Appends ends.between.after errors.after [] × (errors.failed ≡ false)
     go (Ok zero) last same = last
-    go (Ok (suc n)) last same = let bad : statuses.Incomplete ≡ statuses.Done = same in cc
+    go (Ok (suc n)) last same = absurd (incomplete_isnt_done same)
     go (Err complaint) last same = absurd (status_of-done complaint same)
 
 -- but for a gathering, it left nothing there
@@ -352,7 +367,7 @@ request_unsent request bytes known before buffered below held failed silent betw
     let errors : Stream = record { before = silent; after = between; failed = was } in
     let fine : was ≡ false = (task_fine (task_of request) known bytes output errors ends).1 in
     unsent request bytes known before buffered below held failed 0 silent between spoken was is_failed
-    (task_done (task_of request) known bytes output errors ends) (λ cut. let bad : false ≡ true = sym fine ∙ cut in cc) kept said
+    (task_done (task_of request) known bytes output errors ends) (λ cut. absurd (truth_isnt_falsity (sym cut ∙ fine))) kept said
 
 request_unsent_less : (request : Request) (bytes : List ℕ) (known before buffered below : Option (List ℕ)) (held : List ℕ) (failed : Bool)
     (silent between spoken : Option (List ℕ)) (was is_failed : Bool)
@@ -427,7 +442,7 @@ pub program_done : (words : List Text) (known : Option (List ℕ)) (status : Sta
     → status ≡ statuses.Done → held ≡ [] → IsDone words known before below errors 0
 program_done words known status before start buffered below held failed errors passes does done empty =
     let at_done = subst (λ (s : Status). DoesWords words known s (record { before = start; after = buffered; failed = failed }) errors) done does in
-    let d = doing words known statuses.Done _ errors (from_start words known statuses.Done before start buffered failed errors passes.starts at_done) (λ is. cc) in
+    let d = doing words known statuses.Done _ errors (from_start words known statuses.Done before start buffered failed errors passes.starts at_done) done_is_not_for_memory in
     is_done words known before buffered below failed statuses.Done 0 errors d (task_done (task_of d.request) known d.does.bytes _ errors d.does.ends)
     (subst (λ (h : List ℕ). Keeps buffered (append_known below h)) empty passes.kept)
 
@@ -439,7 +454,7 @@ pub program_incomplete : (words : List Text) (known : Option (List ℕ)) (status
 program_incomplete words known status before start buffered below held failed errors passes does done empty =
     let at_done = subst (λ (s : Status). DoesWords words known s (record { before = start; after = buffered; failed = failed }) errors) done does in
     let d = doing words known statuses.Incomplete _ errors (from_start words known statuses.Incomplete before start buffered failed errors passes.starts at_done)
-    (λ is. cc) in
+    incomplete_is_not_for_memory in
     let printed = task_incomplete (task_of d.request) known d.does.bytes _ errors d.does.ends in (
       printed.0,
       is_done words known before buffered below failed statuses.Incomplete (suc printed.0) errors d printed.1
@@ -495,7 +510,7 @@ program_unsent words known status before start buffered below held failed silent
     let errors : Stream = record { before = silent; after = between; failed = was } in
     let after : Stream = record { before = silent; after = spoken; failed = is_failed } in
     let at_done = subst (λ (s : Status). DoesWords words known s (record { before = start; after = buffered; failed = failed }) errors) done does in
-    let d = doing words known statuses.Done _ errors (from_start words known statuses.Done before start buffered failed errors passes.starts at_done) (λ is. cc) in
+    let d = doing words known statuses.Done _ errors (from_start words known statuses.Done before start buffered failed errors passes.starts at_done) done_is_not_for_memory in
     let unsent = request_unsent d.request d.does.bytes known before buffered below held failed silent between spoken was is_failed d.does.ends passes.kept
     (record { line = line; untold = untold }) in
     complains_of words known before below (exit_code statuses.Failed) after d.request WriteFailed d.asked refl
@@ -505,7 +520,7 @@ program_unsent words known status before start buffered below held failed silent
     let after : Stream = record { before = silent; after = spoken; failed = is_failed } in
     let at_less = subst (λ (s : Status). DoesWords words known s (record { before = start; after = buffered; failed = failed }) errors) less does in
     let d = doing words known statuses.Incomplete _ errors (from_start words known statuses.Incomplete before start buffered failed errors passes.starts at_less)
-    (λ is. cc) in
+    incomplete_is_not_for_memory in
     let unsent = request_unsent_less d.request d.does.bytes known before buffered below held failed silent between spoken was is_failed d.does.ends passes.kept
     (record { line = line; untold = untold }) in
     complains_of words known before below (exit_code statuses.Failed) after d.request WriteFailed d.asked refl
@@ -534,7 +549,7 @@ printed_or_not statuses.Incomplete = inl (inr refl)
 pub program_silent : (words : List Text) (known : Option (List ℕ)) (status : Status) (output errors : Stream) → DoesWords words known status output errors
     → status ≡ statuses.Done → IfSome (asked_by words) (λ request. tells_lines request ≡ false → Has errors [])
 program_silent words known status output errors does done =
-    let d = doing words known statuses.Done output errors (subst (λ (s : Status). DoesWords words known s output errors) done does) (λ is. cc) in
+    let d = doing words known statuses.Done output errors (subst (λ (s : Status). DoesWords words known s output errors) done does) done_is_not_for_memory in
     let quiet : IfSome (Some d.request) (λ request. tells_lines request ≡ false → Has errors []) =
     λ q. request_silent d.request known d.does.bytes output errors q d.does.ends in
     subst (λ (o : Option Request). IfSome o (λ request. tells_lines request ≡ false → Has errors [])) (sym d.asked) quiet

@@ -1,9 +1,11 @@
-ghost use Rattle.std.specs.Prelude.{◌≡◌, ◌≢◌, IfSome, false, true, is_some, map};
+ghost use Rattle.std.specs.Prelude.{◌≡◌, ◌≢◌, ℕ, Bool, IfSome, List, Option, false, true, is_some, map};
 ghost use Rattle.words.specs.Requests.{AreInTheirRanges, AreProfileNumbers, asked_by};
+ghost use Rattle.words.specs.declared.request.Request.TheVariants as request;
+ghost use Rattle.commands.specs.Ends.{Ends};
 ghost use Rattle.commands.specs.Profiles.{AreInRange};
 ghost use Rattle.commands.specs.Streams.{stream};
 ghost use Rattle.census.specs.Requests.{DoesRequest, DoesWords, is_whole, numbers_for, reads_input, refuses_input};
-ghost use Rattle.census.specs.Requests.{soups_for};
+ghost use Rattle.census.specs.Requests.{soups_for, task_of};
 
 use commands::complaint::Complaint;
 use commands::gather::do_gather;
@@ -27,7 +29,7 @@ use std::sync::Wait;
 use std::thread::Threads;
 use std::time::Clock;
 use words::calls::{Unasked, request_of};
-use words::request::Request;
+use words::request::{Request, Survey};
 
 /// Does what the words ask for, and returns how that ended. The first word is the program's name.
 ///
@@ -124,27 +126,90 @@ fn do_request<T: Threads + Wait + Sync, R: Read, W: Write, E: Write, P: Write, C
             progress,
         } => {
             line.ask(*progress);
-            let set = soups_for(&survey.set);
-            let profile = numbers_for(survey.profile);
-            let rule = survey.rule.as_str();
-            do_take(
-                alloc, rt, &set, *workers, profile, rule, output, errors, line,
-            )
+            take_soups(alloc, rt, survey, *workers, output, errors, line)
         }
         Request::Work { survey, worker } => {
-            let set = soups_for(&survey.set);
-            let profile = numbers_for(survey.profile);
-            let rule = survey.rule.as_str();
-            do_work(alloc, &set, *worker, profile, rule, output, errors)
+            work_on_soups(alloc, survey, *worker, output, errors)
         }
         Request::Gather { survey, workers } => {
-            let set = soups_for(&survey.set);
-            let profile = numbers_for(survey.profile);
-            let rule = survey.rule.as_str();
-            do_gather(alloc, &set, *workers, profile, rule, input, output, errors)
+            gather_lines(alloc, survey, *workers, input, output, errors)
         }
         Request::Version => do_version(output, errors),
     }
+}
+
+/// Takes the soups that a request names, by so many workers.
+fn take_soups<T: Threads + Wait + Sync, W: Write, E: Write, P: Write, C: Clock>(
+    alloc: Global,
+    rt: &T,
+    survey: &Survey<'_>,
+    workers: u8,
+    output: &mut Out<W>,
+    errors: &mut Out<E>,
+    line: &mut Progress<P, C>,
+) -> Status
+    requires request { AreInTheirRanges (request.Take survey.now workers true) }
+    requires output { output.old.failed ≡ false }
+    requires errors { errors.old.failed ≡ false }
+    ensures ends { (progress : Bool) (known : Option (List ℕ)) (bytes : List ℕ)
+        → Ends (task_of (request.Take survey.now workers progress)) known bytes result
+        (stream W.contents output.old output.new) (stream E.contents errors.old errors.new) }
+    ensures untouched { result ≡ Status.Refused → output.new ≡ output.old }
+    ensures no_memory { result ≡ Status.OutOfMemory → output.new ≡ output.old }
+{
+    let set = soups_for(&survey.set);
+    let profile = numbers_for(survey.profile);
+    let rule = survey.rule.as_str();
+    do_take(
+        alloc, rt, &set, workers, profile, rule, output, errors, line,
+    )
+}
+
+/// Writes this worker's report lines of the soups that a request names.
+fn work_on_soups<W: Write, E: Write>(
+    alloc: Global,
+    survey: &Survey<'_>,
+    worker: u8,
+    output: &mut Out<W>,
+    errors: &mut Out<E>,
+) -> Status
+    requires request { AreInTheirRanges (request.Work survey.now worker) }
+    requires output { output.old.failed ≡ false }
+    requires errors { errors.old.failed ≡ false }
+    ensures ends { (known : Option (List ℕ)) (bytes : List ℕ)
+        → Ends (task_of (request.Work survey.now worker)) known bytes result
+        (stream W.contents output.old output.new) (stream E.contents errors.old errors.new) }
+    ensures untouched { result ≡ Status.Refused → output.new ≡ output.old }
+{
+    let set = soups_for(&survey.set);
+    let profile = numbers_for(survey.profile);
+    let rule = survey.rule.as_str();
+    do_work(alloc, &set, worker, profile, rule, output, errors)
+}
+
+/// Gathers the input's report lines of the soups that a request names, which so many workers took.
+fn gather_lines<R: Read, W: Write, E: Write>(
+    alloc: Global,
+    survey: &Survey<'_>,
+    workers: u8,
+    input: &mut R,
+    output: &mut Out<W>,
+    errors: &mut Out<E>,
+) -> Status
+    requires request { AreInTheirRanges (request.Gather survey.now workers) }
+    requires output { output.old.failed ≡ false }
+    requires errors { errors.old.failed ≡ false }
+    ensures ends { DoesRequest (R.remaining input.old) result
+        (stream W.contents output.old output.new) (stream E.contents errors.old errors.new)
+        (request.Gather survey.now workers) }
+    ensures unread { reads_input (request.Gather survey.now workers) ≡ false → input.new ≡ input.old }
+    ensures untouched { result ≡ Status.Refused → (input.new ≡ input.old) × (output.new ≡ output.old) }
+    ensures no_memory { result ≡ Status.OutOfMemory → output.new ≡ output.old }
+{
+    let set = soups_for(&survey.set);
+    let profile = numbers_for(survey.profile);
+    let rule = survey.rule.as_str();
+    do_gather(alloc, &set, workers, profile, rule, input, output, errors)
 }
 
 /// The text of a word.

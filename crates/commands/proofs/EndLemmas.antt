@@ -1,5 +1,6 @@
 -- How gathering ends.
-use Rattle.std.proofs.Common.{◌≡◌, ◌∙◌, ◌++◌, ◌≤◌, ◌^◌, ◌⊎◌, ℕ, zero, suc, false, inl, inr, List, [], ◌∷◌, Option, Ok, Err, IfErr, ap, length, refl, subst, sym}
+use Rattle.std.proofs.Common.{◌≡◌, ◌∙◌, ◌++◌, ◌≤◌, ◌^◌, ◌⊎◌, ℕ, zero, suc, false, inl, inr, List, [], ◌∷◌, Option, Ok, Err, IfErr, ap, length, refl, subst, sym, true}
+use Rattle.std.specs.Prelude.{is_ok}
 use Rattle.survey_core.specs.declared.job.Job.{Job}
 use Rattle.haul_core.specs.declared.arrival.Arrival.{Arrival}
 use Rattle.haul_core.specs.declared.arrival.Arrival.TheVariants.{Closing}
@@ -20,13 +21,13 @@ use Rattle.commands.specs.Answers.{NeedsMemory}
 use Rattle.commands.specs.Complaints.{status_of}
 use Rattle.commands.specs.Ends.{IsSilent, Outcome, Reaches, status_after}
 use Rattle.commands.specs.Finish.{Finishes, IsCensusOf}
-use Rattle.commands.specs.Gather.{BeginsHaul, IsGathered, IsGathering, IsHaulOver, IsSame, gather_opens, gather_right, gather_task, haul_task}
+use Rattle.commands.specs.Gather.{BeginsHaul, IsGathered, IsGathering, IsHaulOver, IsSame, gather_opens, gather_reads, gather_right, gather_task, haul_task}
 use Rattle.commands.specs.GatherSteps.{EndsLines, HasBegun, HasGatheredShort}
 use Rattle.commands.specs.GatheredLines.{Gathered}
 use Rattle.commands.specs.Lines.{input_lines}
 use Rattle.commands.specs.SoupSets.{Bad_list, IsRefused, Overlapping, Too_large, job_named}
 use Rattle.commands.specs.Streams.{Stream, Has}
-use Rattle.commands.specs.TakeSteps.{IsOpened, StopsSet}
+use Rattle.commands.specs.TakeSteps.{IsOpened, StopsOpening, StopsSet}
 use Rattle.commands.specs.Tasks.{Made, NeedsMemoryAlone}
 use Rattle.commands.proofs.GatherLemmas.{all_begun}
 use Rattle.commands.proofs.TakeLemmas.{job_refused}
@@ -45,7 +46,7 @@ list_hides set workers numbers rule_text bytes job named listed ReadFailed is = 
 list_hides set workers numbers rule_text bytes job named listed WriteFailed is = absurd is
 
 -- a job that is refused
-pub gathers_job : (set : SoupSet) (workers : ℕ) (numbers : ProfileNumbers) (rule_text bytes : List ℕ) (known : Option (List ℕ)) (complaint : Complaint)
+gathers_job : (set : SoupSet) (workers : ℕ) (numbers : ProfileNumbers) (rule_text bytes : List ℕ) (known : Option (List ℕ)) (complaint : Complaint)
     (output errors : Stream) → job_named set numbers rule_text ≡ Err complaint → IsSilent output errors
     → Reaches (gather_task set workers numbers rule_text) known bytes (Err complaint) output errors
 gathers_job set workers numbers rule_text bytes known (Refused refusal) output errors named silent = (rw named refl, silent)
@@ -54,7 +55,7 @@ gathers_job set workers numbers rule_text bytes known ReadFailed output errors n
 gathers_job set workers numbers rule_text bytes known WriteFailed output errors named silent = absurd (job_refused set numbers rule_text WriteFailed named)
 
 -- a set that is refused, or memory that runs out over it
-pub gathers_set : (set : SoupSet) (workers : ℕ) (numbers : ProfileNumbers) (rule_text bytes : List ℕ) (known : Option (List ℕ)) (job : Job)
+gathers_set : (set : SoupSet) (workers : ℕ) (numbers : ProfileNumbers) (rule_text bytes : List ℕ) (known : Option (List ℕ)) (job : Job)
     (complaint : Complaint) (output errors : Stream) → job_named set numbers rule_text ≡ Ok job → StopsSet set complaint → IsSilent output errors
     → Reaches (gather_task set workers numbers rule_text) known bytes (Err complaint) output errors
 gathers_set set workers numbers rule_text bytes known job (Refused refusal) output errors named stops silent = (rw named stops, silent)
@@ -66,6 +67,20 @@ gathers_set set workers numbers rule_text bytes known job OutOfMemory output err
 }
 gathers_set set workers numbers rule_text bytes known job ReadFailed output errors named stops silent = absurd stops
 gathers_set set workers numbers rule_text bytes known job WriteFailed output errors named stops silent = absurd stops
+
+-- a haul that was not opened
+pub gathers_opening : (set : SoupSet) (workers : ℕ) (numbers : ProfileNumbers) (rule_text bytes : List ℕ) (known : Option (List ℕ)) (complaint : Complaint)
+    (output errors : Stream) → StopsOpening set numbers rule_text complaint → IsSilent output errors
+    → Reaches (gather_task set workers numbers rule_text) known bytes (Err complaint) output errors
+gathers_opening set workers numbers rule_text bytes known complaint output errors (inl refused) silent =
+    gathers_job set workers numbers rule_text bytes known complaint output errors refused silent
+gathers_opening set workers numbers rule_text bytes known complaint output errors (inr (job, named, stops)) silent =
+    gathers_set set workers numbers rule_text bytes known job complaint output errors named stops silent
+
+-- a job that is named is read for
+pub reads_named : (set : SoupSet) (numbers : ProfileNumbers) (rule_text : List ℕ) (job : Job) → job_named set numbers rule_text ≡ Ok job
+    → gather_reads set numbers rule_text ≡ false → ⊥
+reads_named set numbers rule_text job named unread = let bad : true ≡ false = sym (ap is_ok named) ∙ unread in cc
 
 -- what was gathered
 is_gathered : (terms : Terms) (held closed : Held) (census : Census) (n : ℕ) (known before after : Option (List ℕ))

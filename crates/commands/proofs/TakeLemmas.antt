@@ -1,7 +1,7 @@
 -- From the steps of `take` to a right answer.
 use Rattle.std.proofs.Common.{◌≡◌, ◌∙◌, ◌≤◌, ◌⊎◌, ◌↔◌, ℕ, zero, suc, Bool, true, false, cond, inl, inr, nat_eq, nat_le, not, get_or, length}
 use Rattle.std.proofs.Common.{List, [], ◌++◌, map, Option, Result, Ok, Err, All, ap, sym, subst, refl, arith}
-use Rattle.std.specs.Prelude.{Contains}
+use Rattle.std.specs.Prelude.{Contains, IfErr, IfOk}
 use Rattle.std.proofs.lemmas.Bool.{cases_Bool, leb-false, leb-true}
 use Rattle.std.proofs.lemmas.List.Elements.{All-contains, All-filter, All-map}
 use Rattle.std.specs.List.{IsDistinct}
@@ -45,7 +45,7 @@ use Rattle.commands.specs.SoupSets.{AreRangesOf, IsRefused, job_named, right_for
 use Rattle.commands.specs.Stopped.{TellsTaken, gated_task, right_if, stopped_right, taken_right}
 use Rattle.commands.specs.Streams.{Stream, Has, IsUntouched}
 use Rattle.commands.specs.Take.{TellsAll, take_right, take_task}
-use Rattle.commands.specs.TakeSteps.{EndsCrew, IsOpened, IsTaken, Stops, StopsSet, list_complaint}
+use Rattle.commands.specs.TakeSteps.{EndsCrew, IsOpened, IsOpenedFor, IsTaken, Stops, StopsOpening, StopsSet, list_complaint}
 use Rattle.commands.specs.Tasks.{Made, Task, alone}
 use Rattle.commands.specs.TextSteps.{ReachesText}
 use Rattle.commands.proofs.NumberLemmas.{numbers_within}
@@ -158,6 +158,25 @@ Stops_job set numbers rule_text next OutOfMemory refused = absurd (job_refused s
 Stops_job set numbers rule_text next ReadFailed refused = absurd (job_refused set numbers rule_text ReadFailed refused)
 Stops_job set numbers rule_text next WriteFailed refused = absurd (job_refused set numbers rule_text WriteFailed refused)
 
+-- what ends a command before its haul is open stops it
+pub Stops_opening : (set : SoupSet) (numbers : ProfileNumbers) (rule_text : List ℕ) (tells : Job → List Range → List ℕ → Type 0) (complaint : Complaint)
+    → StopsOpening set numbers rule_text complaint
+    → Stops (given_right (job_named set numbers rule_text) (λ j. right_for_set set (tells j))) complaint
+Stops_opening set numbers rule_text tells complaint (inl refused) =
+    Stops_job set numbers rule_text (λ j. right_for_set set (tells j)) complaint refused
+Stops_opening set numbers rule_text tells complaint (inr (job, named, stops)) = Stops_given set numbers rule_text tells job complaint named stops
+
+-- a haul that is opened for the job is one for the job that is named
+pub opened_for : (set : SoupSet) (workers : ℕ) (numbers : ProfileNumbers) (rule_text : List ℕ) (job : Job) → job_named set numbers rule_text ≡ Ok job
+    → (answer : Result Held Complaint) → IfOk answer (IsOpened job set workers) → IfOk answer (IsOpenedFor set workers numbers rule_text)
+opened_for set workers numbers rule_text job named (Ok held) is = record { job = job; named = named; opened = is }
+opened_for set workers numbers rule_text job named (Err complaint) is = tt
+
+pub not_opened : (set : SoupSet) (numbers : ProfileNumbers) (rule_text : List ℕ) (job : Job) → job_named set numbers rule_text ≡ Ok job
+    → (answer : Result Held Complaint) → IfErr answer (StopsSet set) → IfErr answer (StopsOpening set numbers rule_text)
+not_opened set numbers rule_text job named (Ok held) stops = tt
+not_opened set numbers rule_text job named (Err complaint) stops = inr (job, named, stops)
+
 -- what is right for the job is right
 pub right_given : (set : SoupSet) (numbers : ProfileNumbers) (rule_text : List ℕ) (next : Job → Right) (job : Job) (text : List ℕ)
     → job_named set numbers rule_text ≡ Ok job → next job (Ok text) → given_right (job_named set numbers rule_text) next (Ok text)
@@ -168,10 +187,10 @@ pub listed : (set : SoupSet) (ranges : List Range) → AreRangesOf set ranges �
 listed set ranges of = record { ranges = of.listed; words = of.words; spelled = of.spelled }
 
 -- memory that runs out over a haul that was opened stops the command
-pub Stops_memory : {workers : ℕ} (set : SoupSet) (numbers : ProfileNumbers) (rule_text : List ℕ) (job : Job) (held : Held) → job_named set numbers rule_text ≡ Ok job
-    → IsOpened job set workers held → Stops (take_right set numbers rule_text) OutOfMemory
-Stops_memory set numbers rule_text job held named opened =
-    Stops_given set numbers rule_text TellsAll job OutOfMemory named (listed set opened.ranges opened.named)
+Stops_memory : {workers : ℕ} (set : SoupSet) (numbers : ProfileNumbers) (rule_text : List ℕ) (held : Held)
+    → IsOpenedFor set workers numbers rule_text held → Stops (take_right set numbers rule_text) OutOfMemory
+Stops_memory set numbers rule_text held is =
+    Stops_given set numbers rule_text TellsAll is.job OutOfMemory is.named (listed set is.opened.ranges is.opened.named)
 
 -- ---- a haul that was opened
 
@@ -274,13 +293,13 @@ taken_told may_stop set numbers rule_text held census missing h many none is = g
         → EndsCrew may_stop h.opened held
         → right_if (take_right set numbers rule_text) (stopped_right may_stop set numbers rule_text) n (Ok (haul_text census))
     go zero many none (inl whole) =
-        right_given set numbers rule_text (λ j. right_for_set set (TellsAll j)) h.job (haul_text census) h.named
-        (complete_right h.job set h.opened held census h.is_opened h.taken whole.1 is)
+        right_given set numbers rule_text (λ j. right_for_set set (TellsAll j)) h.is.job (haul_text census) h.is.named
+        (complete_right h.is.job set h.opened held census h.is.opened h.taken whole.1 is)
     go zero many none (inr less) = absurd (less.0 (none.0 refl))
     go (suc n) many none (inl whole) = let bad = none.1 whole.0 in cc
     go (suc n) many none (inr less) =
-        right_given set numbers rule_text (λ j. right_for_set set (TellsTaken may_stop (suc n) j)) h.job (haul_text census) h.named
-        (stopped_told may_stop h.job set h.opened held census (suc n) h.is_opened h.taken many less.0 (less.1, less.2) is)
+        right_given set numbers rule_text (λ j. right_for_set set (TellsTaken may_stop (suc n) j)) h.is.job (haul_text census) h.is.named
+        (stopped_told may_stop h.is.job set h.opened held census (suc n) h.is.opened h.taken many less.0 (less.1, less.2) is)
 
 -- ---- how `take` ends
 
@@ -296,7 +315,7 @@ take_stops may_stop set numbers rule_text known bytes ReadFailed output errors s
 take_stops may_stop set numbers rule_text known bytes WriteFailed output errors stops nothing still = absurd stops
 
 -- the haul that was taken, finished
-pub take_finishes : {workers : ℕ} (may_stop : ℕ → ℕ → Type 0) (set : SoupSet) (numbers : ProfileNumbers) (rule_text : List ℕ) (known : Option (List ℕ))
+take_finishes : {workers : ℕ} (may_stop : ℕ → ℕ → Type 0) (set : SoupSet) (numbers : ProfileNumbers) (rule_text : List ℕ) (known : Option (List ℕ))
     (bytes : List ℕ) (held : Held) (outcome : Outcome) (output errors : Stream) → IsTaken may_stop set workers numbers rule_text held
     → (length (missing_of held.terms.ranges held.taken) ≡ 0) ↔ IsComplete held.terms.ranges held.taken → Finishes held outcome output → IsUntouched errors
     → Reaches (gated_task may_stop set numbers rule_text) known bytes outcome output errors
@@ -313,7 +332,7 @@ take_finishes may_stop set numbers rule_text known bytes held (Ok missing) outpu
       fine = still.1;
     }
 take_finishes may_stop set numbers rule_text known bytes held (Err OutOfMemory) output errors h none nothing still =
-    take_stops may_stop set numbers rule_text known bytes OutOfMemory output errors (Stops_memory set numbers rule_text h.job h.opened h.named h.is_opened)
+    take_stops may_stop set numbers rule_text known bytes OutOfMemory output errors (Stops_memory set numbers rule_text h.opened h.is)
     nothing still
 take_finishes may_stop set numbers rule_text known bytes held (Err WriteFailed) output errors h none half still =
     let many : ℕ = length (missing_of held.terms.ranges held.taken) in
@@ -329,6 +348,21 @@ take_finishes may_stop set numbers rule_text known bytes held (Err WriteFailed) 
     })
 take_finishes may_stop set numbers rule_text known bytes held (Err ReadFailed) output errors h none not still = absurd not
 take_finishes may_stop set numbers rule_text known bytes held (Err (Refused refusal)) output errors h none not still = absurd not
+
+-- the same, or memory ran out before the haul was complete
+pub take_ends : {workers : ℕ} {E : Type 0} (may_stop : ℕ → ℕ → Type 0) (set : SoupSet) (numbers : ProfileNumbers) (rule_text : List ℕ)
+    (known : Option (List ℕ)) (bytes : List ℕ) (opened held : Held) (taken : Result (Unit {0}) E) (outcome : Outcome) (output errors : Stream)
+    → IsOpenedFor set workers numbers rule_text opened → HasTaken workers opened held → IfOk taken (λ _. EndsCrew may_stop opened held)
+    → IfOk taken (λ _. Finishes held outcome output)
+    → IfOk taken (λ _. (length (missing_of held.terms.ranges held.taken) ≡ 0) ↔ IsComplete held.terms.ranges held.taken)
+    → IfErr taken (λ _. (outcome ≡ Err OutOfMemory) × Has output []) → IsUntouched errors
+    → Reaches (gated_task may_stop set numbers rule_text) known bytes outcome output errors
+take_ends may_stop set numbers rule_text known bytes opened held (Ok u) outcome output errors is taken ends finishes none gives_up still =
+    take_finishes may_stop set numbers rule_text known bytes held outcome output errors
+    (record { opened = opened; is = is; taken = taken; ends = ends }) none finishes still
+take_ends may_stop set numbers rule_text known bytes opened held (Err e) outcome output errors is taken ends finishes none gives_up still =
+    subst (λ (o : Outcome). Reaches (gated_task may_stop set numbers rule_text) known bytes o output errors) (sym gives_up.0)
+    (take_stops may_stop set numbers rule_text known bytes OutOfMemory output errors (Stops_memory set numbers rule_text opened is) gives_up.1 still)
 
 -- a gate that stops nobody stops no haul
 never_right : (may_stop : ℕ → ℕ → Type 0) (set : SoupSet) (numbers : ProfileNumbers) (rule_text : List ℕ) (missing : ℕ) (text : List ℕ)

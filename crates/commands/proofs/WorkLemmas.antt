@@ -23,7 +23,7 @@ use Rattle.commands.specs.Answers.{Answer, Right, output_text}
 use Rattle.commands.specs.SoupSets.{Bad_list, Overlapping, Too_large, job_named, right_for_set}
 use Rattle.commands.specs.Streams.{Stream, Has, HasFront}
 use Rattle.haul_core.specs.Missing.{numbers_of_range, numbers_of}
-use Rattle.commands.specs.TakeSteps.{IsOpened}
+use Rattle.commands.specs.TakeSteps.{IsOpened, IsOpenedFor}
 use Rattle.commands.specs.TextSteps.{ReachesText, TextOutcome}
 use Rattle.commands.specs.Work.{AreReportsOn, IsReportOn, TellsReports, work_right}
 use Rattle.commands.specs.WorkSteps.{IsBegun, Puts}
@@ -270,18 +270,21 @@ begun_whole job worker numbers output begun = record {
 }
 
 -- what became of the reports on a set that was opened is a right end of the command
-pub reaches_work : {workers : ℕ} → FindingsAreDetermined → OneNormalForm → (set : SoupSet) (worker : ℕ) (numbers : ProfileNumbers) (rule_text : List ℕ) (job : Job)
-    (held : Held)
-    (outcome : TextOutcome) (output : Stream)
-    → job_named set numbers rule_text ≡ Ok job → IsOpened job set workers held → Puts job worker (numbers_of held.terms.ranges) outcome output
+pub reaches_work : {workers : ℕ} → FindingsAreDetermined → OneNormalForm → (set : SoupSet) (worker : ℕ) (numbers : ProfileNumbers) (rule_text : List ℕ)
+    (held : Held) (outcome : TextOutcome) (output : Stream) → IsOpenedFor set workers numbers rule_text held
+    → Puts held.terms.job worker (numbers_of held.terms.ranges) outcome output
     → ReachesText false false (work_right set worker numbers rule_text) outcome output
-reaches_work determined one_form set worker numbers rule_text job held outcome output named opened puts = go outcome puts
+reaches_work determined one_form set worker numbers rule_text held outcome output is puts =
+    go outcome (subst (λ (j : Job). Puts j worker (numbers_of held.terms.ranges) outcome output) is.opened.job_is puts)
   where
+    job : Job
+    job = is.job
+
     right : Right
     right = work_right set worker numbers rule_text
 
     tells : (answer : Answer) → right answer → Tells job worker (numbers_of held.terms.ranges) answer
-    tells answer is = only_text one_form job worker set held opened answer (rw named at is)
+    tells answer right_is = only_text one_form job worker set held is.opened answer (rw is.named at right_is)
 
     never : (complaint : Complaint) → right (Err complaint) → ⊥
     never complaint is =
@@ -291,14 +294,14 @@ reaches_work determined one_form set worker numbers rule_text job held outcome o
     go : (o : TextOutcome) → Puts job worker (numbers_of held.terms.ranges) o output → ReachesText false false right o output
     go (Ok u) put =
         let text : List ℕ = flat_map report_text put.reports in
-        let is : right_for_set set (TellsReports job worker) (Ok text) = record {
-          ranges = opened.ranges;
-          named = opened.named;
-          small = opened.small;
-          apart = opened.apart;
-          is_told = record { normal = held.terms.ranges; form = opened.form; reports = put.reports; each = put.each; told = refl };
+        let told : right_for_set set (TellsReports job worker) (Ok text) = record {
+          ranges = is.opened.ranges;
+          named = is.opened.named;
+          small = is.opened.small;
+          apart = is.opened.apart;
+          is_told = record { normal = held.terms.ranges; form = is.opened.form; reports = put.reports; each = put.each; told = refl };
         } in
-        ((text, rw named is, put.is_written), put.fine)
+        ((text, rw is.named told, put.is_written), put.fine)
     go (Err OutOfMemory) begun = (
       λ unread complaint is. absurd (never complaint is),
       λ answer is. front_of determined job worker (numbers_of held.terms.ranges) answer output (tells answer is)

@@ -51,6 +51,17 @@ pub record IsOpened (job : Job) (set : SoupSet) (workers : ℕ) (held : Held) : 
   pub workers_are : held.terms.workers ≡ workers
   pub stands : StandsFor [] held
 
+-- a haul over a set, for so many workers and the job that is named, to which nothing has come
+pub record IsOpenedFor (set : SoupSet) (workers : ℕ) (numbers : ProfileNumbers) (rule_text : List ℕ) (held : Held) : Type 0 where
+  pub job : Job
+  pub named : job_named set numbers rule_text ≡ Ok job
+  pub opened : IsOpened job set workers held
+
+-- A complaint that ends a command before a haul over a set is open: about what makes up its job, or over the set.
+abbrev pub StopsOpening : SoupSet → ProfileNumbers → List ℕ → Complaint → Type 0
+StopsOpening set numbers rule_text complaint = (job_named set numbers rule_text ≡ Err complaint)
+    ⊎ ((job : Job) × (job_named set numbers rule_text ≡ Ok job) × StopsSet set complaint)
+
 -- what a crew answered of a haul: all was taken, or else the gate stopped a worker
 abbrev pub EndsCrew : (ℕ → ℕ → Type 0) → Held → Held → Type 0
 EndsCrew may_stop old new = (IsComplete new.terms.ranges new.taken × AreAll new.terms.ranges (numbers_in new.taken))
@@ -58,9 +69,7 @@ EndsCrew may_stop old new = (IsComplete new.terms.ranges new.taken × AreAll new
 
 -- a crew has taken what it could of a haul that was opened over a set
 pub record IsTaken (may_stop : ℕ → ℕ → Type 0) (set : SoupSet) (workers : ℕ) (numbers : ProfileNumbers) (rule_text : List ℕ) (held : Held) : Type 0 where
-  pub job : Job
-  pub named : job_named set numbers rule_text ≡ Ok job
   pub opened : Held
-  pub is_opened : IsOpened job set workers opened
+  pub is : IsOpenedFor set workers numbers rule_text opened
   pub taken : HasTaken workers opened held
   pub ends : EndsCrew may_stop opened held

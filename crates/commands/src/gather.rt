@@ -6,8 +6,8 @@
 //!            └───────┴─────────┴── a line on standard error, if it isn't taken
 //! ```
 
-ghost use Rattle.std.specs.Prelude.{◌≡◌, ◌≢◌, ◌<◌, ◌≤◌, Ok, Result, ◌+◌, ◌^◌, ◌++◌, ◌∷◌, [], ℕ, List, Option, Some};
-ghost use Rattle.std.specs.Prelude.{IfErr, IfOk, OnOk, false, true, length, take};
+ghost use Rattle.std.specs.Prelude.{◌≡◌, ◌≢◌, ◌<◌, ◌≤◌, Ok, Result, ◌+◌, ◌^◌, ◌++◌, [], ℕ, List, Option, Some};
+ghost use Rattle.std.specs.Prelude.{IfErr, IfOk, OnOk, false, length, take};
 ghost use Rattle.haul_core.specs.Reports.{IsWorker, Reported};
 ghost use Rattle.commands.specs.Answers.{IsInput};
 ghost use Rattle.commands.specs.Complaints.{status_of};
@@ -28,7 +28,7 @@ use crate::finish::finish;
 use crate::line_fault::LineFault;
 use crate::lines::{LINE_LIMIT, LineEnd, LineRead, read_line};
 use crate::profile::ProfileNumbers;
-use crate::soup_set::{SoupSet, job, open_haul};
+use crate::soup_set::{SoupSet, open_haul};
 use crate::status::Status;
 use haul_core::claim::Claim;
 use haul_core::claim::check::CheckFault;
@@ -110,8 +110,7 @@ fn gather<R: Read, W: Write, E: Write>(
         → (input.new ≡ input.old) × (output.new ≡ output.old)) }
     ensures no_memory { IfErr result (λ complaint. complaint ≡ Complaint.OutOfMemory → output.new ≡ output.old) }
 {
-    let job = job(set, profile, rule_text)?;
-    let mut haul = open_haul(alloc, job, set, workers)?;
+    let mut haul = open_haul(alloc, set, workers, profile, rule_text)?;
     gather_into(alloc, &mut haul, input, output, errors)
 }
 

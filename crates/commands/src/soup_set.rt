@@ -2,7 +2,7 @@ ghost use Rattle.std.specs.Prelude.{◌≡◌, List, IfErr, IfOk};
 ghost use Rattle.haul_core.specs.Reports.{IsWorker};
 ghost use Rattle.commands.specs.Profiles.{AreInRange};
 ghost use Rattle.commands.specs.SoupSets.{AreRangesOf, job_named};
-ghost use Rattle.commands.specs.TakeSteps.{IsOpened, StopsSet};
+ghost use Rattle.commands.specs.TakeSteps.{IsOpened, IsOpenedFor, StopsOpening, StopsSet};
 
 use crate::complaint::Complaint;
 use crate::profile::ProfileNumbers;
@@ -30,8 +30,26 @@ pub struct SoupSet<'a> {
     pub also: Word<'a>,
 }
 
+/// A haul over the soups of a set, for so many workers, 1 to 16, and the job that the seed, the profile's numbers and
+/// the rule's text make. What makes up the job is looked at first.
+pub(crate) fn open_haul(
+    alloc: Global,
+    set: &SoupSet<'_>,
+    workers: u8,
+    profile: ProfileNumbers,
+    rule_text: &str,
+) -> Result<Haul, Complaint>
+    requires workers { IsWorker workers }
+    requires profile { AreInRange profile }
+    ensures opened { IfOk result (IsOpenedFor set.now workers profile rule_text.now) }
+    ensures stops { IfErr result (StopsOpening set.now profile rule_text.now) }
+{
+    let job = job(set, profile, rule_text)?;
+    haul_for(alloc, job, set, workers)
+}
+
 /// The job that the texts and numbers make.
-pub(crate) fn job(
+fn job(
     set: &SoupSet<'_>,
     profile: ProfileNumbers,
     rule_text: &str,
@@ -49,8 +67,8 @@ pub(crate) fn job(
     })
 }
 
-/// A haul over the ranges of a set, for so many workers, 1 to 16.
-pub(crate) fn open_haul(
+/// A haul over the ranges of a set, for a job and so many workers.
+fn haul_for(
     alloc: Global,
     job: Job,
     set: &SoupSet<'_>,

@@ -1,19 +1,21 @@
-ghost use Rattle.std.specs.Prelude.{◌≡◌, ◌≤◌, ℕ, List, Option, IfErr, IfOk, false};
+ghost use Rattle.std.specs.Prelude.{◌≡◌, ◌≢◌, ◌≤◌, ◌↔◌, [], ℕ, Err, List, Option, IfErr, IfOk, false, length};
 ghost use Rattle.crew.specs.Takes.{HasTaken};
+ghost use Rattle.haul_core.specs.Missing.{IsComplete, missing_of};
 ghost use Rattle.haul_core.specs.Reports.{IsWorker};
 ghost use Rattle.commands.specs.Complaints.{status_of};
 ghost use Rattle.commands.specs.Ends.{Ends, Reaches};
+ghost use Rattle.commands.specs.Finish.{Finishes};
 ghost use Rattle.commands.specs.Profiles.{AreInRange};
 ghost use Rattle.commands.specs.Stopped.{gated_task};
-ghost use Rattle.commands.specs.Streams.{Stream, stream, IsUntouched};
-ghost use Rattle.commands.specs.Take.{take_right, take_task};
-ghost use Rattle.commands.specs.TakeSteps.{EndsCrew, IsTaken, Stops};
+ghost use Rattle.commands.specs.Streams.{Stream, Has, stream, IsUntouched};
+ghost use Rattle.commands.specs.Take.{take_task};
+ghost use Rattle.commands.specs.TakeSteps.{EndsCrew};
 
 use crate::complaint::Complaint;
 use crate::ending::tell_end;
 use crate::finish::finish;
 use crate::profile::ProfileNumbers;
-use crate::soup_set::{SoupSet, job, open_haul};
+use crate::soup_set::{SoupSet, open_haul};
 use crate::status::Status;
 use crew::gate::{Gate, OpenGate};
 use crew::watch::Watch;
@@ -121,33 +123,13 @@ fn take<W: Write, G: Gate + Sync, R: Threads + Wait + Sync, H: Watch>(
     ensures untouched { IfErr result (λ complaint. status_of complaint ≡ Status.Refused → output.new ≡ output.old) }
     ensures no_memory { IfErr result (λ complaint. complaint ≡ Complaint.OutOfMemory → output.new ≡ output.old) }
 {
-    let mut haul = taken_haul(alloc, rt, set, workers, profile, rule_text, gate, watch)?;
-    finish(&mut haul, output)
+    let haul = open_haul(alloc, set, workers, profile, rule_text)?;
+    let (mut haul, taken) = take_by_crew(alloc, rt, haul, workers, gate, watch);
+    finish_taken(&mut haul, taken, output)
 }
 
-/// The haul of what the gate lets through.
-fn taken_haul<G: Gate + Sync, R: Threads + Wait + Sync, H: Watch>(
-    alloc: Global,
-    rt: &R,
-    set: &SoupSet<'_>,
-    workers: u8,
-    profile: ProfileNumbers,
-    rule_text: &str,
-    gate: &G,
-    watch: &mut H,
-) -> Result<Haul, Complaint>
-    requires workers { IsWorker workers }
-    requires profile { AreInRange profile }
-    ensures taken { IfOk result (IsTaken (G.may_stop gate.now) set.now workers profile rule_text.now) }
-    ensures stops { IfErr result (Stops (take_right set.now profile rule_text.now)) }
-{
-    let job = job(set, profile, rule_text)?;
-    let haul = open_haul(alloc, job, set, workers)?;
-    let haul = take_by_crew(alloc, rt, haul, workers, gate, watch)?;
-    Ok(haul)
-}
-
-/// Lets workers take what is missing in an open haul. If it isn't complete then, the gate stopped one of them.
+/// Lets workers take what is missing in an open haul, and gives it back. Unless memory ran out it is complete then, or
+/// the gate stopped one of them.
 fn take_by_crew<G: Gate + Sync, R: Threads + Wait + Sync, H: Watch>(
     alloc: Global,
     rt: &R,
@@ -155,16 +137,37 @@ fn take_by_crew<G: Gate + Sync, R: Threads + Wait + Sync, H: Watch>(
     workers: u8,
     gate: &G,
     watch: &mut H,
-) -> Result<Haul, AllocError>
+) -> (Haul, Result<(), AllocError>)
     requires some { 1 ≤ workers }
     requires few { workers ≤ haul.terms.workers }
     requires open { haul.closed ≡ false }
-    ensures taken { IfOk result (HasTaken workers haul) }
-    ensures ends { IfOk result (EndsCrew (G.may_stop gate.now) haul) }
+    ensures taken { HasTaken workers haul result.0 }
+    ensures ends { IfOk result.1 (λ _. EndsCrew (G.may_stop gate.now) haul result.0) }
 {
     match workers::take(alloc, rt, haul, workers, gate, watch) {
-        Ok(haul) => Ok(haul),
-        Err((haul, CrewError::Stopped { .. })) => Ok(haul),
-        Err(_) => Err(AllocError),
+        Ok(haul) => (haul, Ok(())),
+        Err((haul, CrewError::Stopped { .. })) => (haul, Ok(())),
+        Err((haul, CrewError::Closed | CrewError::Memory)) => (haul, Err(AllocError)),
+    }
+}
+
+/// Finishes a haul of which a crew has taken what it could, unless memory ran out.
+fn finish_taken<W: Write>(
+    haul: &mut Haul,
+    taken: Result<(), AllocError>,
+    output: &mut Out<W>,
+) -> Result<u64, Complaint>
+    requires { output.old.failed ≡ false }
+    ensures finishes { IfOk taken (λ _. Finishes haul.old result (stream W.contents output.old output.new)) }
+    ensures none { IfOk taken (λ _. (length (missing_of haul.old.terms.ranges haul.old.taken) ≡ 0)
+        ↔ IsComplete haul.old.terms.ranges haul.old.taken) }
+    ensures gives_up { IfErr taken (λ _. (result ≡ Err Complaint.OutOfMemory)
+        × Has (stream W.contents output.old output.new) []) }
+    ensures accepted { IfErr result (λ complaint. status_of complaint ≢ Status.Refused) }
+    ensures no_memory { IfErr result (λ complaint. complaint ≡ Complaint.OutOfMemory → output.new ≡ output.old) }
+{
+    match taken {
+        Ok(()) => finish(haul, output),
+        Err(_) => Err(Complaint::OutOfMemory),
     }
 }

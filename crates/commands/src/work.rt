@@ -14,8 +14,9 @@ ghost use Rattle.commands.specs.WorkSteps.{Puts};
 
 use crate::complaint::Complaint;
 use crate::profile::ProfileNumbers;
-use crate::soup_set::{SoupSet, job, open_haul};
+use crate::soup_set::{SoupSet, open_haul};
 use crate::status::Status;
+use haul_core::haul::Haul;
 use haul_core::report::Report;
 use haul_core::report_line::write_report_line;
 use plane_core::output::{Out, WriteError};
@@ -76,19 +77,27 @@ fn work<W: Write>(
         (stream W.contents output.old output.new) }
     ensures untouched { IfErr result (λ complaint. status_of complaint ≡ Status.Refused → output.new ≡ output.old) }
 {
+    // No report is offered to this haul: it has the ranges in normal form.
+    let haul = open_haul(alloc, set, worker, profile, rule_text)?;
     findings_are_determined();
     one_normal_form();
-    let job = job(set, profile, rule_text)?;
-    // No report is offered to this haul: it has the ranges in normal form.
-    let haul = open_haul(alloc, job, set, worker)?;
-    put_reports(
-        alloc,
-        &job,
-        worker,
-        haul.ranges(),
-        &mut Memo::new(alloc),
-        output,
-    )
+    put_all(alloc, worker, &haul, output)
+}
+
+/// Writes the reports on all soups of a haul's set.
+fn put_all<W: Write>(
+    alloc: Global,
+    worker: u8,
+    haul: &Haul,
+    output: &mut Out<W>,
+) -> Result<(), Complaint>
+    requires worker { IsWorker worker }
+    requires output { output.old.failed ≡ false }
+    ensures { Puts haul.now.terms.job worker (numbers_of haul.now.terms.ranges) result
+        (stream W.contents output.old output.new) }
+{
+    let mut memo = Memo::new(alloc);
+    put_reports(alloc, &haul.job(), worker, haul.ranges(), &mut memo, output)
 }
 
 /// Writes the reports on the soups of some ranges.

@@ -2,17 +2,13 @@ use Rattle.std.proofs.Common.{◌≡◌, ℕ, List, [], Option, refl, subst}
 use Rattle.commands.specs.declared.status.Status.{Status}
 use Rattle.commands.specs.Answers.{IsInput}
 use Rattle.commands.specs.Ends.{Ends}
-use Rattle.commands.specs.Gather.{gather_task}
 use Rattle.commands.specs.Show.{show_task}
 use Rattle.commands.specs.Soup.{soup_task}
 use Rattle.commands.specs.Streams.{Stream}
-use Rattle.commands.specs.Take.{take_task}
 use Rattle.commands.specs.Tasks.{Task}
-use Rattle.commands.specs.Version.{version_task}
-use Rattle.commands.specs.Work.{work_task}
 use Rattle.commands.proofs.AnswerLemmas.{some_input, Ends-command}
 use Rattle.words.specs.declared.request.Request.{Request}
-use Rattle.words.specs.declared.request.Request.TheVariants.{Show, Soup, Take, Work, Gather, Version}
+use Rattle.words.specs.declared.request.Request.TheVariants.{Show, Soup}
 use Rattle.census.specs.Requests.{DoesRequest, task_of}
 use Rattle.census.proofs.request.do_request.Goals as goal
 
@@ -43,39 +39,23 @@ returns-in-Soup-clause-command g c = Ends-command (c.do_soup.ensures.ends (g.R.R
 pub returns-in-Take-clause-ends : goal.returns-in-Take-clause-ends
 returns-in-Take-clause-ends g c =
     let some = some_input (g.R.Read.remaining c.args.input.now) in
-    let set = c.soups_for-set in
-    let numbers = c.numbers_for-profile-in-Take in
-    rw c.in-Take.is (does (Take c.in-Take.survey c.in-Take.workers c.in-Take.progress) (take_task set.result numbers.result c.as_str-rule.result.now) some.0
-    (λ i. take_task (set.ensures i) (numbers.ensures.numbers i) (c.as_str-rule.ensures i)) some.1 (c.do_take.ensures.ends _ some.0))
+    rw c.in-Take.is (record { bytes = some.0; input = some.1; ends = c.take_soups.ensures.ends c.in-Take.progress _ some.0 })
 
 pub returns-in-Take-clause-command : goal.returns-in-Take-clause-command
-returns-in-Take-clause-command g c = Ends-command (c.do_take.ensures.ends (g.R.Read.remaining c.args.input.now) [])
+returns-in-Take-clause-command g c = Ends-command (c.take_soups.ensures.ends c.in-Take.progress (g.R.Read.remaining c.args.input.now) [])
 
 pub returns-in-Work-clause-ends : goal.returns-in-Work-clause-ends
 returns-in-Work-clause-ends g c =
     let some = some_input (g.R.Read.remaining c.args.input.now) in
-    let set = c.soups_for-set-in-Work in
-    let numbers = c.numbers_for-profile-in-Work in
-    let worker = c.in-Work.worker in
-    rw c.in-Work.is (does (Work c.in-Work.survey worker) (work_task set.result worker numbers.result c.as_str-rule-in-Work.result.now) some.0
-    (λ i. work_task (set.ensures i) worker (numbers.ensures.numbers i) (c.as_str-rule-in-Work.ensures i)) some.1 (c.do_work.ensures.ends _ some.0))
+    rw c.in-Work.is (record { bytes = some.0; input = some.1; ends = c.work_on_soups.ensures.ends _ some.0 })
 
 pub returns-in-Work-clause-command : goal.returns-in-Work-clause-command
-returns-in-Work-clause-command g c = Ends-command (c.do_work.ensures.ends (g.R.Read.remaining c.args.input.now) [])
-
-pub returns-in-Gather-clause-ends : goal.returns-in-Gather-clause-ends
-returns-in-Gather-clause-ends g c =
-    let ended = c.do_gather.ensures.ends in
-    let set = c.soups_for-set-in-Gather in
-    let numbers = c.numbers_for-profile-in-Gather in
-    let workers = c.in-Gather.workers in
-    rw c.in-Gather.is (does (Gather c.in-Gather.survey workers) (gather_task set.result workers numbers.result c.as_str-rule-in-Gather.result.now) ended.0
-    (λ i. gather_task (set.ensures i) workers (numbers.ensures.numbers i) (c.as_str-rule-in-Gather.ensures i)) ended.1 ended.2)
+returns-in-Work-clause-command g c = Ends-command (c.work_on_soups.ensures.ends (g.R.Read.remaining c.args.input.now) [])
 
 pub returns-in-Version-clause-ends : goal.returns-in-Version-clause-ends
 returns-in-Version-clause-ends g c =
     let some = some_input (g.R.Read.remaining c.args.input.now) in
-    rw c.in-Version.is (does Version version_task some.0 refl some.1 (c.do_version.ensures.ends _ some.0))
+    rw c.in-Version.is (record { bytes = some.0; input = some.1; ends = c.do_version.ensures.ends _ some.0 })
 
 pub returns-in-Version-clause-command : goal.returns-in-Version-clause-command
 returns-in-Version-clause-command g c = Ends-command (c.do_version.ensures.ends (g.R.Read.remaining c.args.input.now) [])

@@ -1,34 +1,16 @@
-use Rattle.std.proofs.Common.{◌∙◌, refl, sym, subst}
-use Rattle.commands.specs.SoupSets.{AreRangesOf, Overlapping, Too_large}
+use Rattle.std.proofs.Common.{inl, sym}
 use Rattle.commands.proofs.AnswerLemmas.{err_of}
-use Rattle.commands.proofs.TakeLemmas.{small_from}
+use Rattle.commands.proofs.TakeLemmas.{opened_for, not_opened}
 use Rattle.commands.proofs.soup_set.open_haul.Goals as goal
 
-pub returns-in_err-ranges-clause-stops : goal.returns-in_err-ranges-clause-stops
-returns-in_err-ranges-clause-stops c = rw (err_of _ _ c.from_residual.ensures.1) c.in_err-ranges.ensures.stops
+pub returns-in_err-job-clause-stops : goal.returns-in_err-job-clause-stops
+returns-in_err-job-clause-stops c = rw (err_of _ _ c.from_residual.ensures.1) (inl (sym c.in_err-job.ensures))
 
-pub returns-in-Ok-clause-opened : goal.returns-in-Ok-clause-opened
-returns-in-Ok-clause-opened c =
-    let told = c.in-Ok.ensures in
-    let small = small_from c.as_slice.result.now (λ large. let bad = told.bad_range.1 (c.requires, large) in cc) in
-    record {
-      ranges = c.as_slice.result.now;
-      named = subst (AreRangesOf c.args.set.now) (sym c.as_slice.ensures.value) c.in_ok-ranges.ensures.named;
-      only = λ others of. c.in_ok-ranges.ensures.only others of ∙ sym c.as_slice.ensures.value;
-      small = small;
-      apart = λ overlap. let bad = told.overlap.1 (c.requires, small, overlap) in cc;
-      form = told.ranges;
-      job_is = told.job;
-      workers_are = told.workers;
-      stands = told.stands;
-    }
+pub returns-clause-opened : goal.returns-clause-opened
+returns-clause-opened c =
+    opened_for c.args.set.now c.args.workers c.args.profile c.args.rule_text.now c.in_ok-job.job (sym c.in_ok-job.ensures) c.haul_for.result
+    c.haul_for.ensures.opened
 
-pub returns-in-Err-BadRange-clause-stops : goal.returns-in-Err-BadRange-clause-stops
-returns-in-Err-BadRange-clause-stops c =
-    let told = (rw c.in-Err-BadRange.field-0-is at c.in-Err-BadRange.ensures.bad_range).0 refl in
-    Too_large c.as_slice.result.now (subst (AreRangesOf c.args.set.now) (sym c.as_slice.ensures.value) c.in_ok-ranges.ensures.named) told.1 refl
-
-pub returns-in-Err-Overlap-clause-stops : goal.returns-in-Err-Overlap-clause-stops
-returns-in-Err-Overlap-clause-stops c =
-    let told = (rw c.in-Err-Overlap.field-0-is at c.in-Err-Overlap.ensures.overlap).0 refl in
-    Overlapping c.as_slice.result.now (subst (AreRangesOf c.args.set.now) (sym c.as_slice.ensures.value) c.in_ok-ranges.ensures.named) told.1 told.2 refl
+pub returns-clause-stops : goal.returns-clause-stops
+returns-clause-stops c =
+    not_opened c.args.set.now c.args.profile c.args.rule_text.now c.in_ok-job.job (sym c.in_ok-job.ensures) c.haul_for.result c.haul_for.ensures.stops
