@@ -166,8 +166,6 @@ fn finish_taken<W: Write>(
     ensures accepted { IfErr result (λ complaint. status_of complaint ≢ Status.Refused) }
     ensures no_memory { IfErr result (λ complaint. complaint ≡ Complaint.OutOfMemory → output.new ≡ output.old) }
 {
-    match taken {
-        Ok(()) => finish(haul, output),
-        Err(_) => Err(Complaint::OutOfMemory),
-    }
+    taken?;
+    finish(haul, output)
 }

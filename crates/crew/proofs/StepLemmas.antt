@@ -7,7 +7,7 @@ use Rattle.std.proofs.lemmas.List.Elements.{All-nil}
 use Rattle.haul_core.specs.Books.{Held}
 use Rattle.handover.specs.Belts.{Presented, Received, silent}
 use Rattle.handover.specs.Tickets.{Drawn, fresh}
-use Rattle.crew.specs.CrewSteps.{HasRun, IsNext, IsReady}
+use Rattle.crew.specs.CrewSteps.{HasRunAll, IsNextPost, MayRun}
 use Rattle.crew.specs.Crews.{Collected}
 use Rattle.crew.specs.Shifts.{AreBack, HasWorked, Leaves, sender_numbers}
 use Rattle.crew.specs.declared.note.Note.{Note}
@@ -26,7 +26,7 @@ with_away crew started =
 pub ready_first : {may_stop : ℕ → ℕ → Type 0} (site : Site) (posts : Posts) (crew : Crew) (workers : ℕ) → All (λ p. p ≡ fresh site.tickets) posts.passes.items
     → length posts.passes.items ≡ workers → posts.senders.items ≡ map (silent site.belt.name) (range_with_len 1 workers) → workers ≤ 255 → crew.away ≡ 0
     → crew.receiver.belt ≡ site.belt → crew.senders.items ≡ [] → workers ≤ vec_capacity crew.senders → crew.stopped ≡ None
-    → IsReady may_stop site posts crew
+    → MayRun may_stop site posts crew
 ready_first {may_stop} site posts crew workers passes many senders few away receiver none room stopped =
     let count : length posts.senders.items ≡ workers = ap length senders ∙ silent_length site.belt.name workers in
     let back : length crew.senders.items ≡ 0 = ap length none in
@@ -46,11 +46,11 @@ ready_first {may_stop} site posts crew workers passes many senders few away rece
 module _ {may_stop : ℕ → ℕ → Type 0} {site : Site} where
   -- the others are back, and then the worker that was started first of these
   pub run_more : (posts next : Posts) (crew mid new : Crew) (post : Drawn × Presented Note) (shift : Presented Note) (started : ℕ)
-      (Stopped : Type 0) → IsNext post posts next → HasRun may_stop site next (with_away crew started) mid
+      (Stopped : Type 0) → IsNextPost post posts next → HasRunAll may_stop site next (with_away crew started) mid
       → Leaves may_stop site.belt.name site.job site.missing.items post.1.number shift Stopped
       → new.senders.items ≡ mid.senders.items ++ shift ∷ [] → vec_capacity new.senders ≡ vec_capacity mid.senders
       → IfSome new.stopped (λ w. (mid.stopped ≡ Some w) ⊎ (Stopped × (w ≡ shift.number))) → new.haul ≡ mid.haul → new.receiver ≡ mid.receiver
-      → new.away ≡ mid.away - started → HasRun may_stop site posts crew new
+      → new.away ≡ mid.away - started → HasRunAll may_stop site posts crew new
   run_more posts next crew mid new post shift started Stopped is ran leaves senders room stopped haul receiver away = record {
     back = back_more mid.senders.items new.senders.items shift mid.stopped new.stopped post.1.number Stopped ran.back leaves senders stopped;
     numbers =

@@ -10,12 +10,12 @@ use Rattle.crew.specs.declared.workers.Crew.{Crew}
 use Rattle.crew.specs.declared.posts.Posts.{Posts}
 
 -- the last post was taken out
-pub record IsNext (post : Drawn × Presented Note) (old new : Posts) : Type 0 where
+pub record IsNextPost (post : Drawn × Presented Note) (old new : Posts) : Type 0 where
   pub passes : old.passes.items ≡ new.passes.items ++ post.0 ∷ []
   pub senders : old.senders.items ≡ new.senders.items ++ post.1 ∷ []
 
 -- a worker can be started with each post: nothing was done with one yet, and there is room for all who come back
-pub record IsReady (may_stop : ℕ → ℕ → Type 0) (site : Site) (posts : Posts) (crew : Crew) : Type 0 where
+pub record MayRun (may_stop : ℕ → ℕ → Type 0) (site : Site) (posts : Posts) (crew : Crew) : Type 0 where
   pub passes : All (λ p. p ≡ fresh site.tickets) posts.passes.items
   pub senders : All (λ s. s ≡ silent site.belt.name s.number) posts.senders.items
   pub many : length posts.passes.items ≡ length posts.senders.items
@@ -25,7 +25,7 @@ pub record IsReady (may_stop : ℕ → ℕ → Type 0) (site : Site) (posts : Po
   pub back : AreBack may_stop site.belt.name site.job site.missing.items crew.senders.items crew.stopped
 
 -- each was, all who were started are back, and what they reported was collected
-pub record HasRun (may_stop : ℕ → ℕ → Type 0) (site : Site) (posts : Posts) (old new : Crew) : Type 0 where
+pub record HasRunAll (may_stop : ℕ → ℕ → Type 0) (site : Site) (posts : Posts) (old new : Crew) : Type 0 where
   pub back : AreBack may_stop site.belt.name site.job site.missing.items new.senders.items new.stopped
   pub numbers : sender_numbers new.senders.items ≡ sender_numbers old.senders.items ++ sender_numbers posts.senders.items
   pub room : vec_capacity new.senders ≡ vec_capacity old.senders

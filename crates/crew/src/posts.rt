@@ -1,6 +1,6 @@
 //! The workers of a crew that are still to be started.
 ghost use Rattle.std.specs.Prelude.{◌≡◌, [], IfNone, IfSome, length};
-ghost use Rattle.crew.specs.CrewSteps.{IsNext};
+ghost use Rattle.crew.specs.CrewSteps.{IsNextPost};
 
 use crate::note::Note;
 use handover::belt::SenderPass;
@@ -18,7 +18,7 @@ impl Posts {
     pub(crate) fn next(&mut self) -> Option<(Pass, SenderPass<Note>)>
         requires { length self.old.passes.items ≡ length self.old.senders.items }
         ensures none { IfNone result (self.old.senders.items ≡ []) }
-        ensures next { IfSome result (λ post. IsNext post self.old self.new) }
+        ensures next { IfSome result (λ post. IsNextPost post self.old self.new) }
     {
         let sender = self.senders.pop()?;
         let Some(pass) = self.passes.pop() else {

@@ -6,7 +6,7 @@ ghost use Rattle.std.specs.List.Sorted.{IsStrictlyIncreasing};
 ghost use Rattle.haul_core.specs.Keeping.{numbers_in};
 ghost use Rattle.haul_core.specs.Missing.{AreAll, IsComplete};
 ghost use Rattle.handover.specs.Belts.{IsWhole, deaf, silent};
-ghost use Rattle.crew.specs.CrewSteps.{HasRun, IsReady};
+ghost use Rattle.crew.specs.CrewSteps.{HasRunAll, MayRun};
 ghost use Rattle.crew.specs.Crews.{Collected};
 ghost use Rattle.crew.specs.Shifts.{Leaves, StopsAt};
 ghost use Rattle.crew.specs.Takes.{HasTaken, was_missing};
@@ -185,8 +185,8 @@ fn run_crew<'s, E, G: Gate + Sync, R: Threads + Wait + Sync, H: Watch>(
     crew: &mut Crew,
     watch: &mut H,
 )
-    requires { IsReady (G.may_stop gate.now) site.now posts.old crew.old }
-    ensures { HasRun (G.may_stop gate.now) site.now posts.old crew.old crew.new }
+    requires { MayRun (G.may_stop gate.now) site.now posts.old crew.old }
+    ensures { HasRunAll (G.may_stop gate.now) site.now posts.old crew.old crew.new }
 {
     let Some((pass, sender)) = posts.next() else {
         receive_all(rt, site, crew, watch);
@@ -355,15 +355,15 @@ fn run_in_scope<G: Gate + Sync, R: Threads + Wait + Sync, H: Watch>(
     crew: Crew,
     watch: &mut H,
 ) -> Crew
-    requires { IsReady (G.may_stop gate.now) site.now posts crew }
-    ensures { HasRun (G.may_stop gate.now) site.now posts crew result }
+    requires { MayRun (G.may_stop gate.now) site.now posts crew }
+    ensures { HasRunAll (G.may_stop gate.now) site.now posts crew result }
 {
     thread::scope(
         thread::scope_env(),
         rt,
         move |scope| -> Crew
-            requires { IsReady (G.may_stop gate.now) site.now posts crew }
-            ensures { HasRun (G.may_stop gate.entry.now) site.entry.now posts crew result }
+            requires { MayRun (G.may_stop gate.now) site.now posts crew }
+            ensures { HasRunAll (G.may_stop gate.entry.now) site.entry.now posts crew result }
         {
             let (mut posts, mut crew) = (posts, crew);
             run_crew(alloc, rt, scope, site, gate, &mut posts, &mut crew, watch);
