@@ -11,7 +11,7 @@ use plane_core::rule::Rule;
 use std::alloc::{AllocError, Global};
 
 /// A pattern that recurs: its phases, from the pattern itself on, and how it comes back.
-#[derive(Debug, Drop)]
+#[derive(Drop)]
 pub(crate) struct Cycle {
     pub(crate) phases: Vec<Pattern>,
     pub(crate) recurrence: Recurrence,

@@ -1,5 +1,5 @@
 /// A piece of a text in extended Wechsler format.
-#[derive(Clone, Copy, Debug, PartialEq, Eq)]
+#[derive(Clone, Copy)]
 pub(crate) enum Token {
     /// A column with a live cell, by its value from 1 to 31.
     Column(u8),

@@ -27,7 +27,7 @@ use crate::coordinate::{along, apart, stepped};
 use std::alloc::{AllocError, Global};
 
 /// The first places that may be near, in the two rows above a cell.
-#[derive(Clone, Copy, Debug)]
+#[derive(Clone, Copy)]
 struct Cursors {
     above: usize,
     top: usize,

@@ -29,7 +29,7 @@ use std::alloc::{AllocError, Global};
 use std::cmp::Ordering;
 
 /// A cell with how many live cells were counted there, and whether it is alive itself.
-#[derive(Clone, Copy, Debug)]
+#[derive(Clone, Copy)]
 pub(crate) struct Tally {
     pub(crate) cell: Cell,
     pub(crate) count: u8,

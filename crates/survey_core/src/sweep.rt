@@ -31,7 +31,7 @@ use plane_core::rule::Rule;
 use std::alloc::{AllocError, Global};
 
 /// How a cluster comes back, and a box in which all its phases lie.
-#[derive(Clone, Copy, Debug)]
+#[derive(Clone, Copy)]
 pub(crate) struct Sweep {
     pub(crate) recurrence: Recurrence,
     pub(crate) bounds: Bounds,
