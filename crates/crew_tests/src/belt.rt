@@ -55,7 +55,9 @@ fn collected<R: Abort + AllocGlobal + Threads + Wait + Sync>(
     let (_, others) = join(
         rt,
         || present_hundred(alloc, rt, &belt, first, job, 0),
-        || {
+        || -> (SenderPass<Note>, bool)
+            requires { (second.belt ≡ belt.name) × (receiver.belt ≡ belt) }
+        {
             join(
                 rt,
                 || present_hundred(alloc, rt, &belt, second, job, 100),

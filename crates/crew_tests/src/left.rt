@@ -34,7 +34,7 @@ impl Left {
 }
 
 fn counts_in(taken: &[(u8, u64)]) -> [u64; 17] {
-    let mut counts = [0; 17];
+    let mut counts = [0u64; 17];
     for (worker, _) in taken {
         if let Some(count) = counts.get_mut(usize::from(*worker)) {
             *count = count.saturating_add(1);
