@@ -67,8 +67,8 @@ impl Gate for Lockstep {
     // Nobody draws a number of the next sixteen before all have come with these.
     fn before(&self, _worker: u8, number: u64) -> Result<(), Stop> {
         self.patience.come();
-        let before = number - number % 16;
-        self.patience.wait_for(before.saturating_add(16))
+        let rounds = (number / 16).saturating_add(1);
+        self.patience.wait_for(rounds.saturating_mul(16))
     }
 }
 

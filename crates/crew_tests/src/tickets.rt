@@ -32,12 +32,6 @@ fn counts_what_was_drawn_by_passes_that_are_gone(rt: HostRuntime) -> Result<(), 
     Ok(())
 }
 
-#[test]
-fn opens_none_and_the_most(rt: HostRuntime) {
-    assert!(rt; Tickets::open(rt.alloc(), 0, 1).is_ok());
-    assert!(rt; Tickets::open(rt.alloc(), 1 << 24, 16).is_ok());
-}
-
 /// Draws until none is left, and counts for each number how often it was drawn.
 fn draw_all(tickets: &Tickets, counts: &[AtomicU64], pass: Pass) -> Pass
     requires { pass.series ≡ tickets.now }
