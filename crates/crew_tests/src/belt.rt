@@ -7,7 +7,7 @@ use crew::watch::Unwatched;
 use handover::belt::{Belt, SenderPass};
 use haul_core::haul::Haul;
 use haul_core::report::Report;
-use std::alloc::Global;
+use std::alloc::{AllocError, Global};
 use std::process::Abort;
 use std::sync::Wait;
 use std::test::Fail;
@@ -43,7 +43,7 @@ fn collected<R: Abort + AllocGlobal + Threads + Wait + Sync>(
     rt: &R,
     job: &Job,
     haul: &mut Haul,
-) -> Result<bool, Fail> {
+) -> Result<bool, AllocError> {
     let alloc = rt.alloc();
     let (belt, mut senders, mut receiver) = Belt::open(alloc, 1, 2)?;
     let Some(second) = senders.pop() else {
@@ -72,7 +72,7 @@ fn collected<R: Abort + AllocGlobal + Threads + Wait + Sync>(
 fn collects_from_threads(rt: HostRuntime) -> Result<(), Fail> {
     let job = small_job()?;
     let mut haul = haul_of(rt.alloc(), job, 200, 2)?;
-    assert!(rt; collected(&rt, &job, &mut haul)?);
+    assert!(rt; collected(&rt, &job, &mut haul).unwrap_or(false));
     assert!(rt; haul.missing_count() == 0);
     Ok(())
 }

@@ -1,5 +1,5 @@
 //! Crews under gates that stop workers, or hold them until others have come.
-use crate::left::left_by;
+use crate::left::{Left, left_by};
 use crate::small::small_job;
 use crew::gate::{Gate, OpenGate, Stop};
 use crew::workers::CrewError;
@@ -7,8 +7,10 @@ use plane_core::cell::Cell;
 use plane_core::pattern::{FromCellsError, Pattern};
 use plane_core::rule::Rule;
 use std::alloc::Global;
+use std::sync::Wait;
 use std::sync::atomic::{AtomicU64, Ordering};
 use std::test::Fail;
+use std::thread::Threads;
 
 /// How often a gate looks for other workers before it gives up.
 const TURNS: u32 = 1_000_000;
@@ -74,10 +76,11 @@ impl Gate for Lockstep {
 
 #[test]
 fn works_in_sixteen_threads(rt: HostRuntime) -> Result<(), Fail> {
+    let job = small_job()?;
     let gate = Lockstep {
         patience: Patience::new(rt.alloc())?,
     };
-    let left = left_by(&rt, small_job()?, 48, 16, &gate)?;
+    let left = left_by(&rt, job, 48, 16, &gate)?;
     assert!(rt; left.missing == 0);
     for worker in 1..17 {
         assert!(rt; left.count_of(worker) == 3, "worker {worker}");
@@ -106,20 +109,25 @@ impl Gate for StopsSome {
     }
 }
 
-fn stops(alloc: Global, first: u8, last: u8) -> Result<StopsSome, FromCellsError> {
-    let patience = Patience::new(alloc)?;
-    Ok(StopsSome {
+/// What sixteen workers leave of forty soups if these of them are stopped.
+fn left_by_stops<R: AllocGlobal + Threads + Wait + Sync>(
+    rt: &R,
+    first: u8,
+    last: u8,
+) -> Result<Left, Fail> {
+    let job = small_job()?;
+    let gate = StopsSome {
         first,
         last,
-        patience,
-    })
+        patience: Patience::new(rt.alloc())?,
+    };
+    left_by(rt, job, 40, 16, &gate)
 }
 
 #[test]
 fn tells_each_of_sixteen_that_is_stopped(rt: HostRuntime) -> Result<(), Fail> {
     for worker in 1..17 {
-        let gate = stops(rt.alloc(), worker, worker)?;
-        let left = left_by(&rt, small_job()?, 40, 16, &gate)?;
+        let left = left_by_stops(&rt, worker, worker)?;
         assert!(rt;
             left.fault == Some(CrewError::Stopped { worker }),
             "worker {worker}"
@@ -137,8 +145,7 @@ fn tells_each_of_sixteen_that_is_stopped(rt: HostRuntime) -> Result<(), Fail> {
 #[test]
 fn tells_the_least_that_is_stopped(rt: HostRuntime) -> Result<(), Fail> {
     for worker in 1..17 {
-        let gate = stops(rt.alloc(), worker, 16)?;
-        let left = left_by(&rt, small_job()?, 40, 16, &gate)?;
+        let left = left_by_stops(&rt, worker, 16)?;
         assert!(rt;
             left.fault == Some(CrewError::Stopped { worker }),
             "worker {worker}"
