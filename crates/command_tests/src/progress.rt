@@ -1,4 +1,4 @@
-use crate::requests::FailingWriter;
+use crate::streams::slow_writer;
 use commands::progress::Progress;
 use crew::watch::Watch;
 use std::cell::Cell;
@@ -58,20 +58,24 @@ fn tells_and_wipes_its_line(rt: HostRuntime) {
     tell(&mut line);
     line.taken(4);
     line.end();
-    assert_eq!(rt; screen.as_slice(), TOLD);
+    assert!(rt; screen.as_slice() == TOLD);
 }
 
+/// What stands on the screen after a line that is shown anyway, or is asked for.
+fn told(rt: &impl AllocGlobal, is_shown: bool, is_asked: bool) -> Vec<u8> {
+    let mut screen = Vec::new(rt.alloc());
+    let mut line = line_on(rt, &mut screen, is_shown);
+    line.ask(is_asked);
+    tell(&mut line);
+    screen
+}
+
+// A line on a terminal is shown whether it is asked for or not.
 #[test]
 fn tells_nothing_unless_it_is_to_be_shown(rt: HostRuntime) {
-    let mut screen = Vec::new(rt.alloc());
-    let mut line = line_on(&rt, &mut screen, false);
-    line.ask(false);
-    tell(&mut line);
-    assert!(rt; screen.is_empty());
-    let mut line = line_on(&rt, &mut screen, false);
-    line.ask(true);
-    tell(&mut line);
-    assert_eq!(rt; screen.as_slice(), TOLD);
+    assert!(rt; told(&rt, false, false).is_empty());
+    assert!(rt; told(&rt, false, true).as_slice() == TOLD);
+    assert!(rt; told(&rt, true, false).as_slice() == TOLD);
 }
 
 // As above, with 17 characters more where the workers are named.
@@ -85,27 +89,13 @@ fn tells_how_many_workers_were_started(rt: HostRuntime) {
     let mut screen = Vec::new(rt.alloc());
     let mut line = line_on(&rt, &mut screen, true);
     tell_by(&mut line, 3);
-    assert_eq!(rt; screen.as_slice(), TOLD_OF_THREE);
-}
-
-// A line on a terminal is shown whether it is asked for or not.
-#[test]
-fn tells_its_line_where_nobody_asks(rt: HostRuntime) {
-    let mut screen = Vec::new(rt.alloc());
-    let mut line = line_on(&rt, &mut screen, true);
-    line.ask(false);
-    tell(&mut line);
-    assert_eq!(rt; screen.as_slice(), TOLD);
+    assert!(rt; screen.as_slice() == TOLD_OF_THREE);
 }
 
 #[test]
 fn a_failed_write_is_the_last(rt: HostRuntime) {
-    let mut screen = FailingWriter {
-        taken: Vec::new(rt.alloc()),
-        writes: 20,
-        takes_none: false,
-    };
+    let mut screen = slow_writer(rt.alloc(), 21);
     let mut line = line_on(&rt, &mut screen, true);
     tell(&mut line);
-    assert_eq!(rt; screen.taken.as_slice(), &TOLD[..20]);
+    assert!(rt; screen.taken.as_slice() == &TOLD[..20]);
 }

@@ -1,27 +1,33 @@
-//! Streams that a signal interrupts, and lines of standard error, each of which is one write.
-
-use crate::gather::{LINES, SMALL, TOLD, TWO_OF_FOUR, set_of};
-use crate::requests::{BLINKER, LIFE, UPRIGHT};
-use commands::gather::do_gather;
-use commands::run::do_run;
-use commands::show::do_show;
+//! Streams that have a fault, and what a command leaves on them.
 use commands::status::Status;
 use plane_core::output::Out;
-use std::io;
-use std::io::{ErrorKind, Read, Write};
+use std::alloc::Global;
+use std::io::{self, ErrorKind, Read, Write};
 
-/// A reader that is interrupted at each other read, from the first on, and gives a byte at the others.
+/// Gives a text byte by byte. Its read number `bad` is an error of this kind.
 #[derive(Drop)]
-struct InterruptedReader<'a> {
+pub(crate) struct FaultyReader<'a> {
     text: &'a [u8],
-    is_next: bool,
+    reads: usize,
+    bad: usize,
+    kind: ErrorKind,
 }
 
-impl Read for InterruptedReader<'_> {
+/// A reader with a fault at one of its reads, which are counted from 1.
+pub(crate) fn reader(text: &[u8], bad: usize, kind: ErrorKind) -> FaultyReader<'_> {
+    FaultyReader {
+        text,
+        reads: 0,
+        bad,
+        kind,
+    }
+}
+
+impl Read for FaultyReader<'_> {
     fn read(&mut self, buf: &mut [u8]) -> io::Result<usize> {
-        self.is_next = !self.is_next;
-        if self.is_next {
-            return Err(io::Error::from(ErrorKind::Interrupted));
+        self.reads = self.reads.saturating_add(1);
+        if self.reads == self.bad {
+            return Err(io::Error::from(self.kind));
         }
         let Some((first, rest)) = self.text.split_first() else {
             return Ok(0);
@@ -35,23 +41,47 @@ impl Read for InterruptedReader<'_> {
     }
 }
 
-/// A writer that is interrupted at each other write, from the first on, and takes all at the others. It counts those.
+/// Takes so many bytes at most in a write. Its write number `bad` is an error of this kind.
 #[derive(Drop)]
-struct InterruptedWriter {
-    taken: Vec<u8>,
-    is_next: bool,
-    writes: usize,
+pub(crate) struct FaultyWriter {
+    pub(crate) taken: Vec<u8>,
+    pub(crate) writes: usize,
+    most: usize,
+    bad: usize,
+    kind: ErrorKind,
 }
 
-impl Write for InterruptedWriter {
+/// A writer that takes a byte in a write, with a fault at one of its writes, which are counted from 1.
+pub(crate) fn slow_writer(alloc: Global, bad: usize) -> FaultyWriter {
+    FaultyWriter {
+        taken: Vec::new(alloc),
+        writes: 0,
+        most: 1,
+        bad,
+        kind: ErrorKind::Other,
+    }
+}
+
+/// A writer that takes all that it is given, and is interrupted at one of its writes.
+pub(crate) fn interrupted_writer(alloc: Global, bad: usize) -> FaultyWriter {
+    FaultyWriter {
+        taken: Vec::new(alloc),
+        writes: 0,
+        most: usize::MAX,
+        bad,
+        kind: ErrorKind::Interrupted,
+    }
+}
+
+impl Write for FaultyWriter {
     fn write(&mut self, buf: &[u8]) -> io::Result<usize> {
-        self.is_next = !self.is_next;
-        if self.is_next {
-            return Err(io::Error::from(ErrorKind::Interrupted));
-        }
         self.writes = self.writes.saturating_add(1);
-        self.taken.extend_from_slice(buf)?;
-        Ok(buf.len())
+        if self.writes == self.bad {
+            return Err(io::Error::from(self.kind));
+        }
+        let count = buf.len().min(self.most);
+        self.taken.extend_from_slice(&buf[..count])?;
+        Ok(count)
     }
 
     fn flush(&mut self) -> io::Result<()> {
@@ -59,75 +89,31 @@ impl Write for InterruptedWriter {
     }
 }
 
-fn writer(rt: &impl AllocGlobal) -> InterruptedWriter {
-    InterruptedWriter {
-        taken: Vec::new(rt.alloc()),
-        is_next: false,
-        writes: 0,
+/// What a command left: its status, and its two writers.
+#[derive(Drop)]
+pub(crate) struct Left {
+    pub(crate) status: Status,
+    pub(crate) output: FaultyWriter,
+    pub(crate) errors: FaultyWriter,
+}
+
+impl Left {
+    pub(crate) fn new(
+        status: Status,
+        output: Out<FaultyWriter>,
+        errors: Out<FaultyWriter>,
+    ) -> Left {
+        Left {
+            status,
+            output: output.into_inner(),
+            errors: errors.into_inner(),
+        }
     }
-}
 
-#[test]
-fn runs_a_pattern_over_interrupted_streams(rt: HostRuntime) {
-    let mut input = InterruptedReader {
-        text: BLINKER,
-        is_next: false,
-    };
-    let mut output = Out::new(writer(&rt));
-    let mut errors = Out::new(writer(&rt));
-    let status = do_run(rt.alloc(), 1, LIFE, &mut input, &mut output, &mut errors);
-    assert_eq!(rt; status, Status::Done);
-    assert_eq!(rt; output.into_inner().taken.as_slice(), UPRIGHT);
-    assert!(rt; errors.into_inner().taken.is_empty());
-}
-
-#[test]
-fn tells_each_line_in_one_write(rt: HostRuntime) {
-    let mut input = InterruptedReader {
-        text: LINES,
-        is_next: false,
-    };
-    let mut output = Out::new(writer(&rt));
-    let mut errors = Out::new(writer(&rt));
-    let set = set_of("", 0, 4);
-    let status = do_gather(
-        rt.alloc(),
-        &set,
-        2,
-        SMALL,
-        LIFE,
-        &mut input,
-        &mut output,
-        &mut errors,
-    );
-    assert_eq!(rt; status, Status::Incomplete);
-    assert_eq!(rt; output.into_inner().taken.as_slice(), TWO_OF_FOUR);
-    let told = errors.into_inner();
-    assert_eq!(rt; told.taken.as_slice(), TOLD);
-    assert_eq!(rt; told.writes, 3);
-}
-
-// These lines are made of two pieces and of four.
-#[test]
-fn tells_a_refusal_in_one_write(rt: HostRuntime) {
-    let mut output = Out::new(Vec::new(rt.alloc()));
-    let mut errors = Out::new(writer(&rt));
-    let status = do_show(rt.alloc(), "33y", &mut output, &mut errors);
-    assert_eq!(rt; status, Status::Refused);
-    let told = errors.into_inner();
-    assert_eq!(rt;
-        told.taken.as_slice(),
-        b"census: short run in code at 2\n".as_slice()
-    );
-    assert_eq!(rt; told.writes, 1);
-    let mut errors = Out::new(writer(&rt));
-    let mut input = b"..\n.x".as_slice();
-    let status = do_run(rt.alloc(), 1, LIFE, &mut input, &mut output, &mut errors);
-    assert_eq!(rt; status, Status::Refused);
-    let told = errors.into_inner();
-    assert_eq!(rt;
-        told.taken.as_slice(),
-        b"census: bad byte at line 2 column 2\n".as_slice()
-    );
-    assert_eq!(rt; told.writes, 1);
+    /// Whether the command ended with this status and these bytes on its streams.
+    pub(crate) fn is(&self, status: Status, output: &[u8], errors: &[u8]) -> bool {
+        self.status == status
+            && self.output.taken.as_slice() == output
+            && self.errors.taken.as_slice() == errors
+    }
 }

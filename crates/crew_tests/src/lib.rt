@@ -1,4 +1,5 @@
-//! Tests of the public calls of `crew`. They stand in a crate of their own, so that `crew` is proved once.
+//! Tests of the public calls of `crew` and `handover`. They stand in a crate of their own, so that these are proved
+//! once.
 #![tactic(auto)]
 
 #[cfg(test)]
@@ -6,10 +7,12 @@ mod belt;
 #[cfg(test)]
 mod gates;
 #[cfg(test)]
-mod memory;
+mod left;
 #[cfg(test)]
-mod sixteen;
+mod memory;
 #[cfg(test)]
 mod small;
 #[cfg(test)]
 mod tickets;
+#[cfg(test)]
+mod watch;

@@ -1,11 +1,11 @@
 //! Each of these tests passes, or fails for want of memory alone, whichever allocation is refused. `bin/try-memory`
 //! refuses each in turn.
-ghost use Rattle.std.specs.Prelude.{◌≡◌, ◌≤◌};
+ghost use Rattle.std.specs.Prelude.{◌≤◌};
 
-use crate::small::{haul_of, small_job};
+use crate::left::left_by;
+use crate::small::small_job;
 use crew::gate::{Gate, OpenGate, Stop};
-use crew::watch::Unwatched;
-use crew::workers::{CrewError, take};
+use crew::workers::CrewError;
 use plane_core::rule::Rule;
 use std::process::Abort;
 use std::sync::Wait;
@@ -23,19 +23,9 @@ fn assert_taken<R: Abort + AllocGlobal + Threads + Wait + Sync>(
 ) -> Result<(), Fail>
     requires { 1 ≤ workers }
 {
-    let alloc = rt.alloc();
-    let haul = haul_of(alloc, job, count, workers)?;
-    match take(alloc, rt, haul, workers, &OpenGate, &mut Unwatched) {
-        Ok(haul) => assert_eq!(rt; haul.missing_count(), 0),
-        Err((haul, fault)) => {
-            assert_eq!(rt; fault, CrewError::Memory);
-            assert!(rt; !haul.is_closed());
-            let Ok(haul) = take(alloc, rt, haul, workers, &OpenGate, &mut Unwatched) else {
-                panic!(rt; "not complete")
-            };
-            assert_eq!(rt; haul.missing_count(), 0);
-        }
-    }
+    let left = left_by(rt, job, count, workers, &OpenGate)?;
+    assert!(rt; left.fault.is_none() || left.fault == Some(CrewError::Memory));
+    assert!(rt; left.completed);
     Ok(())
 }
 
@@ -82,22 +72,16 @@ impl Gate for StopsSecond {
 // Where a worker was stopped and another one had no memory, the stop is told.
 #[test]
 fn without_memory_a_stop_is_told(rt: HostRuntime) -> Result<(), Fail> {
-    let alloc = rt.alloc();
-    let haul = haul_of(alloc, small_job()?, 8, 2)?;
     let gate = StopsSecond {
         stops: AtomicU64::new(0),
     };
-    match take(alloc, &rt, haul, 2, &gate, &mut Unwatched) {
-        Ok(haul) => assert_eq!(rt; haul.missing_count(), 0),
-        Err((haul, fault)) => {
-            assert!(rt; haul.missing_count() > 0);
-            let told = if gate.stops.load(Ordering::SeqCst) == 0 {
-                CrewError::Memory
-            } else {
-                CrewError::Stopped { worker: 2 }
-            };
-            assert_eq!(rt; fault, told);
-        }
-    }
+    let left = left_by(&rt, small_job()?, 8, 2, &gate)?;
+    let told = if gate.stops.load(Ordering::SeqCst) == 0 {
+        CrewError::Memory
+    } else {
+        CrewError::Stopped { worker: 2 }
+    };
+    assert!(rt; left.fault.is_none() || left.fault == Some(told));
+    assert!(rt; left.fault.is_none() == (left.missing == 0));
     Ok(())
 }

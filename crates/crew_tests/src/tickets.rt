@@ -1,121 +1,35 @@
-ghost use Rattle.std.specs.Prelude.{◌≡◌, All, IfOk};
+ghost use Rattle.std.specs.Prelude.{◌≡◌, All};
 ghost use Rattle.std.specs.Thread.{IsSync};
 
-use handover::tickets::{Pass, Tickets, TicketsError};
+use handover::tickets::{Pass, Tickets};
 use std::alloc::Global;
 use std::sync::atomic::{AtomicU64, Ordering};
 use std::test::Fail;
 use std::thread::{Threads, join};
 
+/// Opens three tickets for two passes, draws a number by each, and gathers the first pass if it is handed back. The
+/// second is dropped.
+fn gathered(alloc: Global, is_back: bool) -> Result<u64, Fail> {
+    let (tickets, mut passes) = Tickets::open(alloc, 3, 2)?;
+    if let Some(mut second) = passes.pop() {
+        let _ = tickets.draw(&mut second);
+    }
+    let Some(mut first) = passes.pop() else {
+        return Ok(0);
+    };
+    let _ = tickets.draw(&mut first);
+    if is_back {
+        passes.push(first)?;
+    }
+    Ok(tickets.gather(passes))
+}
+
+// No clause speaks of what passes drew that are gone.
 #[test]
-fn draws_each_number_once(rt: HostRuntime) -> Result<(), Fail> {
-    let (tickets, mut passes) = Tickets::open(rt.alloc(), 3, 2)?;
-    let Some(mut b) = passes.pop() else {
-        panic!(rt; "no second pass")
-    };
-    let Some(mut a) = passes.pop() else {
-        panic!(rt; "no first pass")
-    };
-    let drawn = [
-        tickets.draw(&mut a),
-        tickets.draw(&mut a),
-        tickets.draw(&mut b),
-        tickets.draw(&mut a),
-        tickets.draw(&mut a),
-        tickets.draw(&mut b),
-    ];
-    assert_eq!(rt; drawn, [Some(0), Some(1), Some(2), None, None, None]);
-    let back = both(rt.alloc(), a, b)?;
-    assert_eq!(rt; tickets.gather(back), 3);
+fn counts_what_was_drawn_by_passes_that_are_gone(rt: HostRuntime) -> Result<(), Fail> {
+    assert!(rt; gathered(rt.alloc(), true)? == 2);
+    assert!(rt; gathered(rt.alloc(), false)? == 2);
     Ok(())
-}
-
-/// A list of two passes of one series.
-fn both(alloc: Global, a: Pass, b: Pass) -> Result<Vec<Pass>, Fail>
-    requires { b.series ≡ a.series }
-    ensures { IfOk result (λ passes. All (λ p. p.series ≡ a.series) passes.items) }
-{
-    let mut passes = Vec::new(alloc);
-    passes.push(a)?;
-    passes.push(b)?;
-    Ok(passes)
-}
-
-#[test]
-fn gathers_one_pass_of_two(rt: HostRuntime) -> Result<(), Fail> {
-    let (tickets, mut passes) = Tickets::open(rt.alloc(), 3, 2)?;
-    let Some(mut b) = passes.pop() else {
-        panic!(rt; "no second pass")
-    };
-    let Some(mut a) = passes.pop() else {
-        panic!(rt; "no first pass")
-    };
-    let drawn = [tickets.draw(&mut a), tickets.draw(&mut b)];
-    assert_eq!(rt; drawn, [Some(0), Some(1)]);
-    passes.push(a)?;
-    assert_eq!(rt; tickets.gather(passes), 2);
-    Ok(())
-}
-
-#[test]
-fn gathers_without_passes(rt: HostRuntime) -> Result<(), Fail> {
-    let (tickets, mut passes) = Tickets::open(rt.alloc(), 3, 2)?;
-    let Some(mut pass) = passes.pop() else {
-        panic!(rt; "no pass")
-    };
-    assert_eq!(rt;
-        [tickets.draw(&mut pass), tickets.draw(&mut pass)],
-        [Some(0), Some(1)]
-    );
-    drop(pass);
-    drop(passes);
-    assert_eq!(rt; tickets.gather(Vec::new(rt.alloc())), 2);
-    let (tickets, mut passes) = Tickets::open(rt.alloc(), 1, 1)?;
-    let Some(mut pass) = passes.pop() else {
-        panic!(rt; "no pass")
-    };
-    assert_eq!(rt;
-        [tickets.draw(&mut pass), tickets.draw(&mut pass)],
-        [Some(0), None]
-    );
-    drop(pass);
-    assert_eq!(rt; tickets.gather(Vec::new(rt.alloc())), 1);
-    Ok(())
-}
-
-#[test]
-fn draws_none_of_none(rt: HostRuntime) -> Result<(), Fail> {
-    let (tickets, mut passes) = Tickets::open(rt.alloc(), 0, 1)?;
-    let Some(mut a) = passes.pop() else {
-        panic!(rt; "no pass")
-    };
-    assert_eq!(rt; tickets.draw(&mut a), None);
-    passes.push(a)?;
-    assert_eq!(rt; tickets.gather(passes), 0);
-    Ok(())
-}
-
-#[test]
-fn refuses_counts_and_passes(rt: HostRuntime) {
-    let most = 1 << 24;
-    assert_eq!(rt;
-        Tickets::open(rt.alloc(), 1, 0).err(),
-        Some(TicketsError::BadPasses)
-    );
-    assert_eq!(rt;
-        Tickets::open(rt.alloc(), 1, 17).err(),
-        Some(TicketsError::BadPasses)
-    );
-    assert_eq!(rt;
-        Tickets::open(rt.alloc(), most + 1, 0).err(),
-        Some(TicketsError::BadCount)
-    );
-    assert_eq!(rt;
-        Tickets::open(rt.alloc(), most + 1, 1).err(),
-        Some(TicketsError::BadCount)
-    );
-    assert!(rt; Tickets::open(rt.alloc(), most, 16).is_ok());
-    assert!(rt; Tickets::open(rt.alloc(), 0, 1).is_ok());
 }
 
 /// Draws until none is left, and counts for each number how often it was drawn.
@@ -169,10 +83,10 @@ fn draws_in_sixteen_threads(rt: HostRuntime) -> Result<(), Fail> {
         counts.push(AtomicU64::new(0))?;
     }
     let passes = draw_in_threads(&rt, &tickets, counts.as_slice(), passes);
-    assert_eq!(rt; passes.len(), 16);
-    assert_eq!(rt; tickets.gather(passes), 1000);
+    assert!(rt; passes.len() == 16);
+    assert!(rt; tickets.gather(passes) == 1000);
     for count in counts.as_slice() {
-        assert_eq!(rt; count.load(Ordering::SeqCst), 1);
+        assert!(rt; count.load(Ordering::SeqCst) == 1);
     }
     Ok(())
 }

@@ -2,20 +2,8 @@
 #![tactic(auto)]
 
 #[cfg(test)]
-mod clusters;
-#[cfg(test)]
-mod generation;
-#[cfg(test)]
 mod output;
 #[cfg(test)]
-mod pattern;
-#[cfg(test)]
-mod placement;
-#[cfg(test)]
-mod plaintext;
-#[cfg(test)]
-mod rule;
+mod pictures;
 #[cfg(test)]
 mod sizes;
-#[cfg(test)]
-mod window;

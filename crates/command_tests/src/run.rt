@@ -1,0 +1,138 @@
+use crate::streams::{FaultyReader, FaultyWriter, Left, interrupted_writer, reader, slow_writer};
+use commands::output::send_buffered;
+use commands::run::do_run;
+use commands::show::do_show;
+use commands::status::Status;
+use plane_core::output::Out;
+use std::alloc::Global;
+use std::io::{self, BufWriter, ErrorKind, Write};
+use std::test::Fail;
+
+const BLINKER: &[u8] = b"OOO\n";
+
+const UPRIGHT: &[u8] = b"O\nO\nO\n";
+
+/// Runs an input for one generation of Life.
+fn left_by(
+    mut input: FaultyReader<'_>,
+    output: FaultyWriter,
+    errors: FaultyWriter,
+    alloc: Global,
+) -> Left {
+    let mut output = Out::new(output);
+    let mut errors = Out::new(errors);
+    let status = do_run(alloc, 1, "b3s23", &mut input, &mut output, &mut errors);
+    Left::new(status, output, errors)
+}
+
+/// Runs the blinker, whose read with this number has a fault.
+fn left_by_reads(alloc: Global, bad: usize, kind: ErrorKind) -> Left {
+    left_by(
+        reader(BLINKER, bad, kind),
+        slow_writer(alloc, 0),
+        slow_writer(alloc, 0),
+        alloc,
+    )
+}
+
+/// Runs the blinker. The write of its output with this number has a fault.
+fn left_by_writes(alloc: Global, output: FaultyWriter) -> Left {
+    left_by(
+        reader(BLINKER, 0, ErrorKind::Other),
+        output,
+        slow_writer(alloc, 0),
+        alloc,
+    )
+}
+
+// Four bytes, and the read that finds the end. There is none after that.
+#[test]
+fn tells_each_failed_read(rt: HostRuntime) {
+    for bad in 1..6 {
+        let left = left_by_reads(rt.alloc(), bad, ErrorKind::Other);
+        assert!(rt;
+            left.is(Status::Failed, b"", b"census: read failed\n"),
+            "read {bad}"
+        );
+    }
+    let left = left_by_reads(rt.alloc(), 6, ErrorKind::Other);
+    assert!(rt; left.is(Status::Done, UPRIGHT, b""));
+}
+
+#[test]
+fn tells_each_failed_write(rt: HostRuntime) {
+    for bad in 1..7 {
+        let left = left_by_writes(rt.alloc(), slow_writer(rt.alloc(), bad));
+        let taken = &UPRIGHT[..bad - 1];
+        assert!(rt;
+            left.is(Status::Failed, taken, b"census: write failed\n"),
+            "write {bad}"
+        );
+    }
+    let left = left_by_writes(rt.alloc(), slow_writer(rt.alloc(), 7));
+    assert!(rt; left.is(Status::Done, UPRIGHT, b""));
+}
+
+#[test]
+fn goes_on_after_a_signal(rt: HostRuntime) {
+    for bad in 1..6 {
+        let left = left_by_reads(rt.alloc(), bad, ErrorKind::Interrupted);
+        assert!(rt; left.is(Status::Done, UPRIGHT, b""), "read {bad}");
+        let left = left_by_writes(rt.alloc(), interrupted_writer(rt.alloc(), bad));
+        assert!(rt; left.is(Status::Done, UPRIGHT, b""), "write {bad}");
+    }
+}
+
+// These lines are made of two pieces and of four.
+#[test]
+fn tells_a_refusal_in_one_write(rt: HostRuntime) {
+    let alloc = rt.alloc();
+    let input = reader(b"..\n.x", 0, ErrorKind::Other);
+    let left = left_by(
+        input,
+        slow_writer(alloc, 0),
+        interrupted_writer(alloc, 0),
+        alloc,
+    );
+    assert!(rt;
+        left.is(
+            Status::Refused,
+            b"",
+            b"census: bad byte at line 2 column 2\n"
+        )
+    );
+    assert!(rt; left.errors.writes == 1);
+    let mut output = Out::new(slow_writer(alloc, 0));
+    let mut errors = Out::new(interrupted_writer(alloc, 0));
+    let status = do_show(alloc, "33y", &mut output, &mut errors);
+    let left = Left::new(status, output, errors);
+    assert!(rt; left.is(Status::Refused, b"", b"census: short run in code at 2\n"));
+    assert!(rt; left.errors.writes == 1);
+}
+
+/// A writer whose writes go well and whose flush fails.
+#[derive(Drop)]
+struct Unflushed;
+
+impl Write for Unflushed {
+    fn write(&mut self, buf: &[u8]) -> io::Result<usize> {
+        Ok(buf.len())
+    }
+
+    fn flush(&mut self) -> io::Result<()> {
+        Err(io::Error::from(ErrorKind::Other))
+    }
+}
+
+// The status is told by a line, and is the same if the line can't be written.
+#[test]
+fn tells_a_failed_flush(rt: HostRuntime) -> Result<(), Fail> {
+    let mut buffered = BufWriter::new(rt.alloc(), Unflushed)?;
+    let mut errors = Out::new(slow_writer(rt.alloc(), 22));
+    for before in [Status::Done, Status::Incomplete, Status::Done] {
+        let status = send_buffered(before, &mut buffered, &mut errors);
+        assert!(rt; status == Status::Failed);
+    }
+    assert!(rt; errors.into_inner().taken.as_slice() == b"census: write failed\n".as_slice());
+    Ok(())
+}

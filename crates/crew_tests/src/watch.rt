@@ -1,0 +1,57 @@
+ghost use Rattle.std.specs.Prelude.{◌≤◌};
+
+use crate::left::go_on;
+use crate::small::{haul_of, small_job};
+use crew::gate::OpenGate;
+use crew::watch::Watch;
+use std::sync::Wait;
+use std::test::Fail;
+use std::thread::Threads;
+
+/// Notes how many workers were asked for, and how many were started.
+#[derive(Clone, Copy)]
+struct Roll {
+    asked: u8,
+    started: u8,
+}
+
+impl Watch for Roll {
+    fn begin(&mut self, _whole: u64, workers: u8) {
+        self.asked = workers;
+    }
+
+    fn started(&mut self, workers: u8) {
+        self.started = workers;
+    }
+
+    fn taken(&mut self, _count: u64) {}
+}
+
+/// What the watch hears where so many workers take soups. It hears of none if the haul isn't complete.
+fn heard_by<R: AllocGlobal + Threads + Wait + Sync>(rt: &R, workers: u8) -> Result<Roll, Fail>
+    requires some { 1 ≤ workers }
+    requires few { workers ≤ 16 }
+{
+    let mut roll = Roll {
+        asked: 0,
+        started: 0,
+    };
+    let haul = haul_of(rt.alloc(), small_job()?, 20, 16)?;
+    let (_, fault) = go_on(rt, haul, workers, &OpenGate, &mut roll);
+    if fault.is_some() {
+        roll.asked = 0;
+    }
+    Ok(roll)
+}
+
+#[test]
+fn tells_the_watch_how_many_were_started(rt: HostRuntime) -> Result<(), Fail> {
+    for workers in 1..17 {
+        let roll = heard_by(&rt, workers)?;
+        assert!(rt;
+            roll.asked == workers && roll.started == workers,
+            "{workers} workers"
+        );
+    }
+    Ok(())
+}
