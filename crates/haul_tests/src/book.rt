@@ -8,19 +8,17 @@ use std::alloc::Global;
 use std::test::Fail;
 use survey_core::job::Job;
 
-/// An offer: the seed of its job, the worker and the number. Where there is none, a closing.
-type Offered = Option<(&'static str, u8, u32)>;
-
-/// Eight arrivals at a haul of the soups 0 to 3 of the empty seed, and two workers.
-const ARRIVALS: [Offered; 8] = [
-    Some(("", 1, 3)),
-    Some(("", 2, 3)),
-    Some(("", 3, 0)),
-    Some(("x", 1, 0)),
-    Some(("", 2, 4)),
-    None,
-    Some(("", 2, 0)),
-    None,
+/// Eight arrivals at a haul of the soups 0 to 3 and two workers: whether an offer is of the haul's job, its worker and
+/// its number. Worker 0 stands for a closing.
+const ARRIVALS: [(bool, u8, u32); 8] = [
+    (true, 1, 3),
+    (true, 2, 3),
+    (true, 3, 0),
+    (false, 1, 0),
+    (true, 2, 4),
+    (true, 0, 0),
+    (true, 2, 0),
+    (true, 0, 0),
 ];
 
 /// What is replied to them, by the book's rule.
@@ -35,29 +33,40 @@ const REPLIES: [Reply; 8] = [
     Reply::AlreadyClosed,
 ];
 
-/// What arrives.
-fn arrival(alloc: Global, offered: Offered) -> Result<Arrival, Fail> {
-    let Some((seed, worker, number)) = offered else {
-        return Ok(Arrival::Closing);
-    };
-    let report = Report::make(alloc, &quick_job(seed)?, worker, u64::from(number))?;
-    Ok(Arrival::Offer(report))
+/// What arrives, if a haul is of the first job.
+fn arrivals(alloc: Global, job: &Job, other: &Job) -> Result<Vec<Arrival>, Fail> {
+    let mut arrivals = Vec::new(alloc);
+    for (is_own, worker, number) in ARRIVALS {
+        if worker == 0 {
+            arrivals.push(Arrival::Closing)?;
+        } else {
+            let job = if is_own { job } else { other };
+            push_offer(alloc, &mut arrivals, job, worker, number)?;
+        }
+    }
+    Ok(arrivals)
 }
 
-/// Makes all of them arrive in one call.
-fn replies(alloc: Global, haul: &mut Haul) -> Result<Vec<Reply>, Fail> {
-    let mut arrivals = Vec::new(alloc);
-    for offered in ARRIVALS {
-        arrivals.push(arrival(alloc, offered)?)?;
-    }
-    Ok(keep_book(alloc, haul, arrivals)?)
+/// Adds an offer.
+fn push_offer(
+    alloc: Global,
+    arrivals: &mut Vec<Arrival>,
+    job: &Job,
+    worker: u8,
+    number: u32,
+) -> Result<(), Fail> {
+    let report = Report::make(alloc, job, worker, u64::from(number))?;
+    Ok(arrivals.push(Arrival::Offer(report))?)
 }
 
 #[test]
 fn replies_to_eight_arrivals(rt: HostRuntime) -> Result<(), Fail> {
-    let mut haul = Haul::open(rt.alloc(), quick_job("")?, &[range(0, 4)], 2)?;
-    let replies = replies(rt.alloc(), &mut haul)?;
-    assert!(rt; replies.as_slice() == REPLIES.as_slice());
+    let job = quick_job("")?;
+    let arrivals = arrivals(rt.alloc(), &job, &quick_job("x")?)?;
+    let mut haul = Haul::open(rt.alloc(), job, &[range(0, 4)], 2).expect(&rt, "a haul");
+    let replies = keep_book(rt.alloc(), &mut haul, arrivals);
+    drop(haul);
+    assert!(rt; replies?.as_slice() == REPLIES.as_slice());
     Ok(())
 }
 
@@ -65,8 +74,7 @@ fn replies_to_eight_arrivals(rt: HostRuntime) -> Result<(), Fail> {
 fn offers(alloc: Global, job: &Job, count: u32) -> Result<Vec<Arrival>, Fail> {
     let mut offers = Vec::new(alloc);
     for number in 0..count {
-        let report = Report::make(alloc, job, 1, u64::from(number))?;
-        offers.push(Arrival::Offer(report))?;
+        push_offer(alloc, &mut offers, job, 1, number)?;
     }
     Ok(offers)
 }
@@ -75,6 +83,10 @@ fn offers(alloc: Global, job: &Job, count: u32) -> Result<Vec<Arrival>, Fail> {
 pub(crate) fn whole_haul(alloc: Global, job: Job, count: u32) -> Result<Haul, Fail> {
     let offers = offers(alloc, &job, count)?;
     let mut haul = Haul::open(alloc, job, &[range(0, u64::from(count))], 1)?;
-    keep_book(alloc, &mut haul, offers)?;
+    let replies = keep_book(alloc, &mut haul, offers);
+    if replies.is_err() {
+        drop(haul);
+        return Err(Fail::new("no memory"));
+    }
     Ok(haul)
 }

