@@ -15,8 +15,8 @@ fn standard_job() -> Result<Job, Fail> {
 }
 
 /// A closed haul of this soup alone, which it has taken.
-fn haul_of(alloc: Global, job: Job, number: u32) -> Result<Haul, OpenError> {
-    let mut haul = Haul::open(alloc, job, &[range(u64::from(number), 1)], 1)?;
+fn haul_of(alloc: Global, job: &Job, number: u32) -> Result<Haul, OpenError> {
+    let mut haul = Haul::open(alloc, *job, &[range(u64::from(number), 1)], 1)?;
     offer(alloc, &mut haul, number);
     Ok(closed(haul))
 }
@@ -25,8 +25,8 @@ fn haul_of(alloc: Global, job: Job, number: u32) -> Result<Haul, OpenError> {
 #[test]
 fn joins_hauls_that_have_objects(rt: HostRuntime) -> Result<(), Fail> {
     let job = standard_job()?;
-    let first = haul_of(rt.alloc(), job, 101).expect(&rt, "a haul");
-    let second = haul_of(rt.alloc(), job, 107).expect(&rt, "a haul");
+    let first = haul_of(rt.alloc(), &job, 101).expect(&rt, "a haul");
+    let second = haul_of(rt.alloc(), &job, 107).expect(&rt, "a haul");
     let joined = first.join(second).ok().expect(&rt, "a joined haul");
     let text = text_of(rt.alloc(), &joined);
     drop(joined);
@@ -62,17 +62,17 @@ xs7_2596 101
 ";
 
 /// A closed haul of 2^24 numbers from this multiple of that many on.
-fn large_haul(alloc: Global, job: Job, part: u32) -> Result<Haul, OpenError> {
+fn large_haul(alloc: Global, job: &Job, part: u32) -> Result<Haul, OpenError> {
     let first = u64::from(part) << 24;
-    let haul = Haul::open(alloc, job, &[range(first, 1 << 24)], 1)?;
+    let haul = Haul::open(alloc, *job, &[range(first, 1 << 24)], 1)?;
     Ok(closed(haul))
 }
 
 #[test]
 fn joins_hauls_of_2_to_the_25_numbers(rt: HostRuntime) -> Result<(), Fail> {
     let job = quick_job("")?;
-    let first = large_haul(rt.alloc(), job, 0).expect(&rt, "a haul");
-    let second = large_haul(rt.alloc(), job, 1).expect(&rt, "a haul");
+    let first = large_haul(rt.alloc(), &job, 0).expect(&rt, "a haul");
+    let second = large_haul(rt.alloc(), &job, 1).expect(&rt, "a haul");
     let joined = first.join(second).ok().expect(&rt, "a joined haul");
     let count = joined.count();
     drop(joined);

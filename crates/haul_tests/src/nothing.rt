@@ -8,8 +8,8 @@ use std::test::Fail;
 use survey_core::job::Job;
 
 /// A closed haul of no soup.
-fn empty_haul(alloc: Global, job: Job) -> Result<Haul, OpenError> {
-    let haul = Haul::open(alloc, job, &[range(1 << 40, 0)], 1)?;
+fn empty_haul(alloc: Global, job: &Job) -> Result<Haul, OpenError> {
+    let haul = Haul::open(alloc, *job, &[range(1 << 40, 0)], 1)?;
     Ok(closed(haul))
 }
 
@@ -32,8 +32,8 @@ fn nothing_comes_to_a_haul_of_no_soup(rt: HostRuntime) -> Result<(), Fail> {
 #[test]
 fn joins_hauls_of_no_soup(rt: HostRuntime) -> Result<(), Fail> {
     let job = quick_job("")?;
-    let first = empty_haul(rt.alloc(), job).expect(&rt, "a haul");
-    let second = empty_haul(rt.alloc(), job).expect(&rt, "a haul");
+    let first = empty_haul(rt.alloc(), &job).expect(&rt, "a haul");
+    let second = empty_haul(rt.alloc(), &job).expect(&rt, "a haul");
     let joined = first.join(second).ok().expect(&rt, "a joined haul");
     let text = text_of(rt.alloc(), &joined);
     drop(joined);
