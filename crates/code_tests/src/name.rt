@@ -51,7 +51,8 @@ fn names_a_glider(rt: HostRuntime) -> Result<(), Fail> {
 fn finds_when_a_glider_comes_back(rt: HostRuntime) -> Result<(), Fail> {
     let glider = placed(rt.alloc(), &GLIDER)?;
     let found = Recurrence::find(rt.alloc(), &glider, &Rule::life(), 4)?;
-    assert!(rt; found.is_some_and(|found| (found.period, found.dx, found.dy) == (4, 1, 1)));
+    let (period, dx, dy) = (4, 1, 1);
+    assert!(rt; found == Some(Recurrence { period, dx, dy }));
     Ok(())
 }
 
@@ -60,9 +61,18 @@ fn push_block(cells: &mut Vec<Cell>, top: u8, left: u8) -> Result<(), AllocError
     let (top, left) = (i32::from(top), i32::from(left));
     cells.extend_from_slice(&[
         Cell { y: top, x: left },
-        Cell { y: top, x: left + 1 },
-        Cell { y: top + 1, x: left },
-        Cell { y: top + 1, x: left + 1 },
+        Cell {
+            y: top,
+            x: left + 1,
+        },
+        Cell {
+            y: top + 1,
+            x: left,
+        },
+        Cell {
+            y: top + 1,
+            x: left + 1,
+        },
     ])
 }
 
@@ -102,7 +112,10 @@ fn names_a_full_grid_of_blocks(rt: HostRuntime) -> Result<(), Fail> {
 // Two cells as far apart as can be named: nothing is born, and a cell without a neighbour lives on.
 #[test]
 fn names_what_is_as_wide_as_the_plane(rt: HostRuntime) -> Result<(), Fail> {
-    let far = placed(rt.alloc(), &[Cell { y: 0, x: -999_999 }, Cell { y: 0, x: 999_999 }])?;
+    let far = placed(
+        rt.alloc(),
+        &[Cell { y: 0, x: -999_999 }, Cell { y: 0, x: 999_999 }],
+    )?;
     let code = name(rt.alloc(), &far, &Rule::read("bs0")?, 1)?;
     assert!(rt; code.is_some_and(|code| code.text() == "ov_s2"));
     Ok(())

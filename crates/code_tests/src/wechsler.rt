@@ -11,43 +11,164 @@ fn is_text(alloc: Global, picture: &str, text: &str) -> Result<bool, Fail> {
     Ok(found.is_some_and(|found| found.as_str() == text))
 }
 
-// The block's and the beehive's texts are those of their names, `xs4_33` and `xs6_696` (LifeWiki, "Apgcode"). Then come
-// four columns that grow, gaps, strips, and the eight orientations of the eater, each with the values of its columns.
-const TEXTS: [(&str, &str); 25] = [
-    ("OO\nOO", "33"),
-    (".O.\nO.O\nO.O\n.O.", "696"),
-    ("OOOOO\n.OOOO\n..OOO\n...OO\n....O", "137fv"),
-    ("OO", "11"),
-    ("O.O", "101"),
-    ("O..O", "1w1"),
-    ("O...O", "1x1"),
-    ("O....O", "1y01"),
-    ("O.............O", "1y91"),
-    ("O..............O", "1ya1"),
-    ("O......................................O", "1yy1"),
-    ("O\n\n\n\nO", "h"),
-    ("O\n\n\n\n\nO", "1z1"),
-    ("O\n\n\n\n\n\n\n\n\nO", "1zg"),
-    ("O\n\n\n\n\n\n\n\n\n\nO", "1zz1"),
-    ("O...\n\n\n\n\n..O\n\n...O", "1zw14"),
-    ("..OO\n\n\n\n\nO", "w11z1"),
-    ("..OO\n..O.\nO.O.\nOO..", "c871"),
-    ("OO..\nO...\n.OOO\n...O", "354c"),
-    ("..OO\n.O.O\n.O..\nOO..", "8e13"),
-    ("O...\nOOO.\n...O\n..OO", "32ac"),
-    ("OO..\n.O..\n.O.O\n..OO", "178c"),
-    ("OO..\nO.O.\n..O.\n..OO", "31e8"),
-    ("..OO\n...O\nOOO.\nO...", "c453"),
-    ("...O\n.OOO\nO...\nOO..", "ca23"),
-];
-
 #[test]
 fn spells_texts(rt: HostRuntime) -> Result<(), Fail> {
-    for (picture, text) in TEXTS {
+    for drawn in TEXTS.split("\n\n") {
+        let (text, picture) = drawn.split_once('\n').expect(&rt, "a text and a picture");
         assert!(rt; is_text(rt.alloc(), picture, text)?, "{text}");
     }
     Ok(())
 }
+
+// Texts, each with its picture: those of a block and a beehive, which are in their names `xs4_33` and `xs6_696`
+// (LifeWiki, "Apgcode"); columns that grow, gaps, strips, and the eight orientations of the eater.
+const TEXTS: &str = "\
+33
+OO
+OO
+
+696
+.O.
+O.O
+O.O
+.O.
+
+137fv
+OOOOO
+.OOOO
+..OOO
+...OO
+....O
+
+11
+OO
+
+101
+O.O
+
+1w1
+O..O
+
+1x1
+O...O
+
+1y01
+O....O
+
+1y91
+O.............O
+
+1ya1
+O..............O
+
+1yy1
+O......................................O
+
+h
+O
+.
+.
+.
+O
+
+1z1
+O
+.
+.
+.
+.
+O
+
+1zg
+O
+.
+.
+.
+.
+.
+.
+.
+.
+O
+
+1zz1
+O
+.
+.
+.
+.
+.
+.
+.
+.
+.
+O
+
+1zw14
+O...
+.
+.
+.
+.
+..O
+.
+...O
+
+w11z1
+..OO
+.
+.
+.
+.
+O
+
+c871
+..OO
+..O.
+O.O.
+OO..
+
+354c
+OO..
+O...
+.OOO
+...O
+
+8e13
+..OO
+.O.O
+.O..
+OO..
+
+32ac
+O...
+OOO.
+...O
+..OO
+
+178c
+OO..
+.O..
+.O.O
+..OO
+
+31e8
+OO..
+O.O.
+..O.
+..OO
+
+c453
+..OO
+...O
+OOO.
+O...
+
+ca23
+...O
+.OOO
+O...
+OO..";
 
 /// All cells of 40 rows and columns.
 fn full_square(alloc: Global) -> Result<Vec<Cell>, AllocError> {
@@ -63,9 +184,7 @@ fn full_square(alloc: Global) -> Result<Vec<Cell>, AllocError> {
 /// Whether a text is eight strips of 40 full columns each.
 fn is_full(text: &str) -> bool {
     text.len() == 327
-        && text
-            .split('z')
-            .all(|strip| strip == "vvvvvvvvvvvvvvvvvvvvvvvvvvvvvvvvvvvvvvvv")
+        && text.split('z').all(|strip| strip == "vvvvvvvvvvvvvvvvvvvvvvvvvvvvvvvvvvvvvvvv")
 }
 
 #[test]

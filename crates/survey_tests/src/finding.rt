@@ -56,7 +56,8 @@ fn tells_what_stays_for_good(rt: HostRuntime) -> Result<(), Fail> {
     Ok(())
 }
 
-const PULSAR_AND_BLINKER: &str = "..OO.....OO..............OOO\n...OO...OO...\nO..O.O.O.O..O\nOOO.OO.OO.OOO\n\
+const PULSAR_AND_BLINKER: &str =
+    "..OO.....OO..............OOO\n...OO...OO...\nO..O.O.O.O..O\nOOO.OO.OO.OOO\n\
                                   .O.O.O.O.O.O.\n..OOO...OOO..\n.............\n..OOO...OOO..\n.O.O.O.O.O.O.\n\
                                   OOO.OO.OO.OOO\nO..O.O.O.O..O\n...OO...OO...\n..OO.....OO..";
 
@@ -80,21 +81,27 @@ fn lines(alloc: Global, count: usize) -> Result<String, AllocError> {
     Ok(picture)
 }
 
-/// How many codes a picture has where nothing is born or dies.
-fn codes_of(alloc: Global, picture: &str) -> Result<Option<usize>, Fail> {
+/// How many codes it has, if it settled.
+fn code_count(finding: &Finding) -> Option<usize> {
+    match finding {
+        Finding::Settled { objects, .. } => Some(objects.as_slice().len()),
+        Finding::Unsettled => None,
+    }
+}
+
+/// The finding of a picture where nothing is born or dies.
+fn of_still_picture(alloc: Global, picture: &str) -> Result<Finding, Fail> {
     let pattern = drawn(alloc, picture)?;
     let rule = Rule::read("bs012345678")?;
-    match survey_pattern(alloc, &at_once(1, 1)?, &rule, pattern)? {
-        Finding::Settled { objects, .. } => Ok(Some(objects.as_slice().len())),
-        Finding::Unsettled => Ok(None),
-    }
+    Ok(survey_pattern(alloc, &at_once(1, 1)?, &rule, pattern)?)
 }
 
 // Each line is a still life, and each has a population of its own.
 #[test]
 fn counts_120_codes(rt: HostRuntime) -> Result<(), Fail> {
     let picture = lines(rt.alloc(), 120)?;
-    assert!(rt; codes_of(rt.alloc(), picture.as_str())? == Some(120));
+    let finding = of_still_picture(rt.alloc(), picture.as_str())?;
+    assert!(rt; code_count(&finding) == Some(120));
     Ok(())
 }
 
