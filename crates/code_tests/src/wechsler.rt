@@ -1,127 +1,204 @@
 use code_core::wechsler::wechsler;
 use plane_core::cell::Cell;
 use plane_core::pattern::Pattern;
-use std::alloc::Global;
+use std::alloc::{AllocError, Global};
 use std::test::Fail;
-
-fn text_of(alloc: Global, cells: &[Cell]) -> Result<Option<String>, Fail> {
-    let pattern = Pattern::from_cells(alloc, cells)?;
-    Ok(wechsler(alloc, &pattern)?)
-}
-
-fn has_text(alloc: Global, cells: &[Cell], text: &str) -> Result<bool, Fail> {
-    let found = text_of(alloc, cells)?;
-    Ok(found.as_ref().map(|found| found.as_str()) == Some(text))
-}
 
 /// Whether a plaintext picture has the text.
 fn is_text(alloc: Global, picture: &str, text: &str) -> Result<bool, Fail> {
     let pattern = Pattern::read_plaintext(alloc, picture.as_bytes())?;
-    has_text(alloc, pattern.cells(), text)
+    let found = wechsler(alloc, &pattern)?;
+    Ok(found.is_some_and(|found| found.as_str() == text))
 }
 
-// The block's and the beehive's texts are those of their names, `xs4_33` and `xs6_696` (LifeWiki, "Apgcode").
 #[test]
-fn spells_columns(rt: HostRuntime) -> Result<(), Fail> {
-    for (picture, text) in [
-        ("OO\nOO", "33"),
-        (".O.\nO.O\nO.O\n.O.", "696"),
-        ("..OO\n..O.\nO.O.\nOO..", "c871"),
-        ("OOOOO\n.OOOO\n..OOO\n...OO\n....O", "137fv"),
-    ] {
+fn spells_texts(rt: HostRuntime) -> Result<(), Fail> {
+    for drawn in TEXTS.split("\n\n") {
+        let (text, picture) = drawn.split_once('\n').expect(&rt, "a text and a picture");
         assert!(rt; is_text(rt.alloc(), picture, text)?, "{text}");
     }
     Ok(())
 }
 
-#[test]
-fn spells_gaps(rt: HostRuntime) -> Result<(), Fail> {
-    for (x, text) in [
-        (1, "11"),
-        (2, "101"),
-        (3, "1w1"),
-        (4, "1x1"),
-        (5, "1y01"),
-        (14, "1y91"),
-        (15, "1ya1"),
-        (39, "1yy1"),
-    ] {
-        let cells = [Cell { y: 0, x: 0 }, Cell { y: 0, x }];
-        assert!(rt; has_text(rt.alloc(), &cells, text)?, "{text}");
-    }
-    Ok(())
-}
+// Texts, each with its picture: those of a block and a beehive, which are in their names `xs4_33` and `xs6_696`
+// (LifeWiki, "Apgcode"); columns that grow, gaps, strips, and the eight orientations of the eater.
+const TEXTS: &str = "\
+33
+OO
+OO
 
-#[test]
-fn spells_strips(rt: HostRuntime) -> Result<(), Fail> {
-    for (y, text) in [(4, "h"), (5, "1z1"), (9, "1zg"), (10, "1zz1")] {
-        let cells = [Cell { y: 0, x: 0 }, Cell { y, x: 0 }];
-        assert!(rt; has_text(rt.alloc(), &cells, text)?, "{text}");
-    }
-    for (picture, text) in [
-        ("O...\n\n\n\n\n..O\n\n...O", "1zw14"),
-        ("..OO\n\n\n\n\nO", "w11z1"),
-    ] {
-        assert!(rt; is_text(rt.alloc(), picture, text)?, "{text}");
-    }
-    Ok(())
-}
+696
+.O.
+O.O
+O.O
+.O.
 
-// The eight orientations of the eater, each with the values of its four columns.
-#[test]
-fn spells_each_orientation(rt: HostRuntime) -> Result<(), Fail> {
-    for (picture, text) in [
-        ("..OO\n..O.\nO.O.\nOO..", "c871"),
-        ("OO..\nO...\n.OOO\n...O", "354c"),
-        ("..OO\n.O.O\n.O..\nOO..", "8e13"),
-        ("O...\nOOO.\n...O\n..OO", "32ac"),
-        ("OO..\n.O..\n.O.O\n..OO", "178c"),
-        ("OO..\nO.O.\n..O.\n..OO", "31e8"),
-        ("..OO\n...O\nOOO.\nO...", "c453"),
-        ("...O\n.OOO\nO...\nOO..", "ca23"),
-    ] {
-        assert!(rt; is_text(rt.alloc(), picture, text)?, "{text}");
-    }
-    Ok(())
-}
+137fv
+OOOOO
+.OOOO
+..OOO
+...OO
+....O
 
-// Eight strips of 40 full columns each.
-#[test]
-fn spells_the_longest_text(rt: HostRuntime) -> Result<(), Fail> {
-    let mut cells = Vec::new(rt.alloc());
+11
+OO
+
+101
+O.O
+
+1w1
+O..O
+
+1x1
+O...O
+
+1y01
+O....O
+
+1y91
+O.............O
+
+1ya1
+O..............O
+
+1yy1
+O......................................O
+
+h
+O
+.
+.
+.
+O
+
+1z1
+O
+.
+.
+.
+.
+O
+
+1zg
+O
+.
+.
+.
+.
+.
+.
+.
+.
+O
+
+1zz1
+O
+.
+.
+.
+.
+.
+.
+.
+.
+.
+O
+
+1zw14
+O...
+.
+.
+.
+.
+..O
+.
+...O
+
+w11z1
+..OO
+.
+.
+.
+.
+O
+
+c871
+..OO
+..O.
+O.O.
+OO..
+
+354c
+OO..
+O...
+.OOO
+...O
+
+8e13
+..OO
+.O.O
+.O..
+OO..
+
+32ac
+O...
+OOO.
+...O
+..OO
+
+178c
+OO..
+.O..
+.O.O
+..OO
+
+31e8
+OO..
+O.O.
+..O.
+..OO
+
+c453
+..OO
+...O
+OOO.
+O...
+
+ca23
+...O
+.OOO
+O...
+OO..";
+
+/// All cells of 40 rows and columns.
+fn full_square(alloc: Global) -> Result<Vec<Cell>, AllocError> {
+    let mut cells = Vec::new(alloc);
     for y in 0..40 {
         for x in 0..40 {
             cells.push(Cell { y, x })?;
         }
     }
-    let found = text_of(rt.alloc(), cells.as_slice())?.expect(&rt, "a text");
-    assert_eq!(rt; found.len(), 327);
-    for strip in found.split('z') {
-        assert_eq!(rt; strip, "vvvvvvvvvvvvvvvvvvvvvvvvvvvvvvvvvvvvvvvv");
-    }
+    Ok(cells)
+}
+
+/// Whether a text is eight strips of 40 full columns each.
+fn is_full(text: &str) -> bool {
+    text.len() == 327
+        && text.split('z').all(|strip| strip == "vvvvvvvvvvvvvvvvvvvvvvvvvvvvvvvvvvvvvvvv")
+}
+
+#[test]
+fn spells_the_longest_text(rt: HostRuntime) -> Result<(), Fail> {
+    let cells = full_square(rt.alloc())?;
+    let square = Pattern::from_cells(rt.alloc(), cells.as_slice())?;
+    let text = wechsler(rt.alloc(), &square)?;
+    assert!(rt; text.is_some_and(|text| is_full(text.as_str())));
     Ok(())
 }
 
 #[test]
-fn knows_its_limits(rt: HostRuntime) -> Result<(), Fail> {
-    assert!(rt; text_of(rt.alloc(), &[])?.is_none());
-    let corners = [
-        Cell { y: 0, x: 0 },
-        Cell { y: 0, x: 39 },
-        Cell { y: 39, x: 0 },
-        Cell { y: 39, x: 39 },
-    ];
-    assert!(rt; has_text(rt.alloc(), &corners, "1yy1zzzzzzzgyyg")?);
-    assert!(rt; text_of(rt.alloc(), &[Cell { y: 0, x: 0 }, Cell { y: 0, x: 40 }])?.is_none());
-    assert!(rt; text_of(rt.alloc(), &[Cell { y: 0, x: 0 }, Cell { y: 40, x: 0 }])?.is_none());
-    Ok(())
-}
-
-#[test]
-fn starts_at_the_corner(rt: HostRuntime) -> Result<(), Fail> {
-    for (x, y) in [(-1_000_000, -1_000_000), (-3, 7), (999_999, 999_998)] {
-        let cells = [Cell { y, x: x + 1 }, Cell { y: y + 2, x }];
-        assert!(rt; has_text(rt.alloc(), &cells, "41")?, "{x} {y}");
-    }
+fn spells_nothing(rt: HostRuntime) -> Result<(), Fail> {
+    let nothing = Pattern::from_cells(rt.alloc(), &[])?;
+    assert!(rt; wechsler(rt.alloc(), &nothing)?.is_none());
     Ok(())
 }

@@ -1,53 +1,59 @@
 //! Each call on something large, once. A soup is quick under the profile 1,1,1,0: under Life it is unsettled at once,
 //! and under a rule where nothing is born or dies it is at rest at once.
 
-use crate::book::{arrivals_from, job, range, small};
-use haul_core::book::keep_book;
+use crate::book::whole_haul;
+use crate::setup::{offer, quick_job, range, still_job};
+use haul_core::census::Census;
 use haul_core::claim::Claim;
 use haul_core::haul::Haul;
 use haul_core::report::Report;
 use haul_core::report_line::write_report_line;
 use plane_core::output::Out;
-use plane_core::rule::Rule;
 use ranges::range::Range;
-use std::alloc::Global;
+use std::alloc::{AllocError, Global};
 use std::test::Fail;
-use survey_core::job::Job;
 
-/// A line of 250 codes, each a number from 100,000 on and then `a`s, 400 bytes long.
-fn line_of_codes(alloc: Global) -> Result<String, Fail> {
-    let mut rest = String::new(alloc);
-    for _ in 0..394 {
-        rest.push_str("a")?;
-    }
-    let mut line = String::new(alloc);
-    line.push_str("report 1 rule=b3s23 profile=1,1,1,0 seed= worker=1 soup=0 at=0")?;
-    for number in 100_000..100_250u32 {
-        let field = format!(in alloc; " {number}{}*7", rest.as_str())?;
-        line.push_str(field.as_str())?;
+const HEAD: &str = "report 1 rule=b3s23 profile=1,1,1,0 seed= worker=1 soup=0 at=0";
+
+/// Adds a count of 7 of the code that is these two letters and then 398 times an `a`.
+fn push_count(line: &mut Vec<u8>, first: u8, second: u8) -> Result<(), AllocError> {
+    line.extend_from_slice(&[b' ', first, second])?;
+    line.extend_from_slice(&[b'a'; 398])?;
+    line.extend_from_slice(b"*7")
+}
+
+/// A line of 260 codes, in their order.
+fn line_of_codes(alloc: Global) -> Result<Vec<u8>, AllocError> {
+    let mut line = Vec::from_slice(alloc, HEAD.as_bytes())?;
+    for first in b'a'..=b'j' {
+        for second in b'a'..=b'z' {
+            push_count(&mut line, first, second)?;
+        }
     }
     Ok(line)
+}
+
+/// Whether the claim has 260 counts, the last one of seven objects of the last code.
+fn has_260_counts(claim: &Claim) -> bool {
+    let Some(said) = claim.settled() else {
+        return false;
+    };
+    let Some((code, count)) = said.counts().last() else {
+        return false;
+    };
+    said.counts().len() == 260 && code.bytes().starts_with(b"jza") && *count == 7
 }
 
 #[test]
 fn reads_a_line_of_100_000_bytes(rt: HostRuntime) -> Result<(), Fail> {
     let line = line_of_codes(rt.alloc())?;
-    assert!(rt; line.len() > 100_000);
-    let claim = Claim::read_line(rt.alloc(), line.as_str().as_bytes())?;
-    let Some(said) = claim.settled() else {
-        return Err(Fail::new("not read"));
-    };
-    assert_eq!(rt; said.counts().len(), 250);
-    let Some(last) = said.counts().last() else {
-        return Err(Fail::new("not read"));
-    };
-    assert_eq!(rt; (last.0.bytes().len(), last.1), (400, 7));
-    assert!(rt; last.0.bytes().starts_with(b"100249a"));
+    let claim = Claim::read_line(rt.alloc(), line.as_slice())?;
+    assert!(rt; line.len() > 100_000 && has_260_counts(&claim));
     Ok(())
 }
 
 /// Ten thousand ranges of two numbers each, with a number between each two that is in none.
-fn ten_thousand(alloc: Global) -> Result<Vec<Range>, Fail> {
+fn ten_thousand(alloc: Global) -> Result<Vec<Range>, AllocError> {
     let mut ranges = Vec::new(alloc);
     for place in 0..10_000u32 {
         ranges.push(range(u64::from(place).saturating_mul(3), 2))?;
@@ -55,107 +61,97 @@ fn ten_thousand(alloc: Global) -> Result<Vec<Range>, Fail> {
     Ok(ranges)
 }
 
+/// A haul of these ranges.
+fn haul_of_ranges(alloc: Global) -> Result<Haul, Fail> {
+    let ranges = ten_thousand(alloc)?;
+    Ok(Haul::open(alloc, quick_job("")?, ranges.as_slice(), 1)?)
+}
+
+/// Whether it takes a soup, and the others are missing then.
+fn takes_one(alloc: Global, haul: &mut Haul) -> Result<bool, AllocError> {
+    let taken = offer(alloc, haul, 29_998);
+    let missing = haul.missing()?;
+    Ok(taken && missing.len() == 19_999)
+}
+
 #[test]
 fn opens_a_haul_of_ten_thousand_ranges(rt: HostRuntime) -> Result<(), Fail> {
-    let job = job("", small()?)?;
-    let ranges = ten_thousand(rt.alloc())?;
-    let mut haul = Haul::open(rt.alloc(), job, ranges.as_slice(), 1)?;
-    assert_eq!(rt; (haul.ranges().len(), haul.count()), (10_000, 20_000));
-    let report = Report::make(rt.alloc(), &job, 1, 29_998)?;
-    assert!(rt; haul.offer(report).is_ok());
-    assert_eq!(rt; haul.missing()?.len(), 19_999);
+    let mut haul = haul_of_ranges(rt.alloc())?;
+    let ranges = haul.ranges().len();
+    let taken = takes_one(rt.alloc(), &mut haul);
+    drop(haul);
+    assert!(rt; taken? && ranges == 10_000);
     Ok(())
 }
 
-// A list of 2^18 + 1 ranges, each of one number: 2^20 + 3 bytes.
-#[test]
-fn reads_a_list_of_a_megabyte(rt: HostRuntime) -> Result<(), Fail> {
-    let mut text = String::new(rt.alloc());
-    text.push_str("0+1")?;
-    for _ in 0..262_144u32 {
-        text.push_str(",0+1")?;
-    }
-    assert!(rt; text.len() > 1_048_576);
-    let read = Range::read_list(rt.alloc(), text.as_str())?;
-    assert!(rt; read.len() == 262_145);
-    Ok(())
+/// A haul of 2^24 soups.
+fn largest_haul(alloc: Global) -> Result<Haul, Fail> {
+    Ok(Haul::open(alloc, quick_job("")?, &[range(7, 1 << 24)], 1)?)
 }
 
 #[test]
 fn lists_2_to_the_24_numbers_that_are_missing(rt: HostRuntime) -> Result<(), Fail> {
-    let all = range(7, 1 << 24);
-    let haul = Haul::open(rt.alloc(), job("", small()?)?, &[all], 1)?;
-    assert!(rt; haul.missing()?.len() == 1 << 24);
+    let haul = largest_haul(rt.alloc())?;
+    let missing = haul.missing();
+    drop(haul);
+    assert!(rt; missing?.len() == 1 << 24);
     Ok(())
 }
 
-const LAST: &str =
-    "report 2 rule=b3s23 profile=1,1,1,0 seed= worker=16 soup=1099511627775 unsettled\n";
+const LAST: &[u8] =
+    b"report 2 rule=b3s23 profile=1,1,1,0 seed= worker=16 soup=1099511627775 unsettled\n";
+
+/// The line of a report.
+fn line_of(alloc: Global, report: &Report) -> Result<Vec<u8>, Fail> {
+    let mut out = Out::new(Vec::new(alloc));
+    write_report_line(report, &mut out)?;
+    Ok(out.into_inner())
+}
+
+/// The report of the last soup by the last worker.
+fn last_report(alloc: Global) -> Result<Report, Fail> {
+    Ok(Report::make(alloc, &quick_job("")?, 16, (1 << 40) - 1)?)
+}
 
 #[test]
 fn reports_the_last_soup(rt: HostRuntime) -> Result<(), Fail> {
-    let alloc = rt.alloc();
-    let job = job("", small()?)?;
-    let report = Report::make(alloc, &job, 16, (1 << 40) - 1)?;
-    let mut out = Out::new(Vec::new(alloc));
-    write_report_line(&report, &mut out)?;
-    assert!(rt; out.into_inner().as_slice() == LAST.as_bytes());
-    let mut haul = Haul::open(alloc, job, &[range((1 << 40) - 2, 2)], 16)?;
-    assert!(rt; haul.offer(report).is_ok());
-    let missing = haul.missing()?;
-    assert!(rt; missing.as_slice() == [(1 << 40) - 2].as_slice());
+    let report = last_report(rt.alloc())?;
+    let line = line_of(rt.alloc(), &report)?;
+    assert!(rt; line.as_slice() == LAST);
     Ok(())
 }
 
-/// A haul of 66,000 soups, all of which were offered in one call.
-fn haul_of_66_000(alloc: Global, job: &Job) -> Result<Haul, Fail> {
-    let mut haul = Haul::open(alloc, *job, &[range(0, 66_000)], 1)?;
-    keep_book(alloc, &mut haul, arrivals_from(alloc, job, 66_000)?)?;
-    Ok(haul)
+#[test]
+fn takes_the_last_soup(rt: HostRuntime) -> Result<(), Fail> {
+    let report = last_report(rt.alloc())?;
+    let last = range((1 << 40) - 2, 2);
+    let mut haul = Haul::open(rt.alloc(), report.job(), &[last], 16).expect(&rt, "a haul");
+    let taken = haul.offer(report).is_ok();
+    drop(haul);
+    assert!(rt; taken);
+    Ok(())
 }
 
 #[test]
 fn takes_66_000_soups(rt: HostRuntime) -> Result<(), Fail> {
-    let haul = haul_of_66_000(rt.alloc(), &job("", small()?)?)?;
-    assert!(rt; haul.is_complete());
-    assert_eq!(rt; haul.taken().len(), 66_000);
-    assert_eq!(rt; haul.census()?.unsettled, 66_000);
+    let haul = whole_haul(rt.alloc(), quick_job("")?, 66_000)?;
+    let taken = haul.taken().len();
+    drop(haul);
+    assert!(rt; taken == 66_000);
     Ok(())
 }
 
-/// A haul of 5,500 soups, almost each of which leaves an object that no other does.
-fn haul_of_many_codes(alloc: Global) -> Result<Haul, Fail> {
-    let job = Job {
-        rule: Rule::read("bs012345678")?,
-        ..job("", small()?)?
-    };
-    let mut haul = Haul::open(alloc, job, &[range(0, 5_500)], 1)?;
-    keep_book(alloc, &mut haul, arrivals_from(alloc, &job, 5_500)?)?;
-    Ok(haul)
+/// The census of 5,500 soups, almost each of which leaves an object that no other does.
+fn census_of_many_codes(alloc: Global) -> Result<Census, Fail> {
+    let haul = whole_haul(alloc, still_job()?, 5_500)?;
+    let census = haul.census();
+    drop(haul);
+    Ok(census?)
 }
 
 #[test]
 fn counts_5_000_codes(rt: HostRuntime) -> Result<(), Fail> {
-    let census = haul_of_many_codes(rt.alloc())?.census()?;
-    assert_eq!(rt; (census.for_good, census.unsettled), (5_500, 0));
-    assert!(rt; census.objects >= 5_500);
-    assert!(rt; census.rows.as_slice().len() > 5_000);
-    Ok(())
-}
-
-/// A closed haul of 2^24 numbers from this one on.
-fn closed_haul(alloc: Global, first: u64) -> Result<Haul, Fail> {
-    let mut haul = Haul::open(alloc, job("", small()?)?, &[range(first, 1 << 24)], 1)?;
-    haul.close()?;
-    Ok(haul)
-}
-
-#[test]
-fn joins_hauls_of_2_to_the_25_numbers(rt: HostRuntime) -> Result<(), Fail> {
-    let second = closed_haul(rt.alloc(), 1 << 24)?;
-    let joined = closed_haul(rt.alloc(), 0)?.join(second);
-    let joined = joined.ok().expect(&rt, "a joined haul");
-    assert!(rt; joined.count() == 1 << 25);
-    assert!(rt; joined.ranges() == [range(0, 1 << 25)].as_slice());
+    let census = census_of_many_codes(rt.alloc())?;
+    assert!(rt; census.for_good == 5_500 && census.rows.as_slice().len() > 5_000);
     Ok(())
 }

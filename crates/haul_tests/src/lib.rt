@@ -1,21 +1,22 @@
-//! Tests of the public calls of `haul_core`. They stand in a crate of their own, so that `haul_core` is proved once.
+//! Tests of the public calls of `haul_core`, of what no clause of their contracts says. They stand in a crate of their
+//! own, so that `haul_core` is proved once.
 #![tactic(auto)]
 
 #[cfg(test)]
 mod book;
 #[cfg(test)]
-mod claim_check;
+mod claim;
 #[cfg(test)]
-mod claim_line;
-#[cfg(test)]
-mod haul;
-#[cfg(test)]
-mod haul_text;
+mod join;
 #[cfg(test)]
 mod large;
 #[cfg(test)]
 mod memory;
 #[cfg(test)]
-mod plain_book;
+mod nothing;
 #[cfg(test)]
-mod report_line;
+mod range_list;
+#[cfg(test)]
+mod setup;
+#[cfg(test)]
+mod writer;

@@ -1,0 +1,81 @@
+use crate::setup::{closed, offer, quick_job, range, text_of};
+use haul_core::haul::{Haul, OpenError};
+use plane_core::rule::Rule;
+use std::alloc::Global;
+use std::test::Fail;
+use survey_core::job::Job;
+use survey_core::profile::Profile;
+
+/// The job of the standard profile and the empty seed.
+fn standard_job() -> Result<Job, Fail> {
+    Ok(Job {
+        profile: Profile::standard(),
+        ..quick_job("")?
+    })
+}
+
+/// A closed haul of this soup alone, which it has taken.
+fn haul_of(alloc: Global, job: &Job, number: u32) -> Result<Haul, OpenError> {
+    let mut haul = Haul::open(alloc, *job, &[range(u64::from(number), 1)], 1)?;
+    offer(alloc, &mut haul, number);
+    Ok(closed(haul))
+}
+
+// What the two leave was found by a program in another language, written from the definitions alone.
+#[test]
+fn joins_hauls_that_have_objects(rt: HostRuntime) -> Result<(), Fail> {
+    let job = standard_job()?;
+    let first = haul_of(rt.alloc(), &job, 101).expect(&rt, "a haul");
+    let second = haul_of(rt.alloc(), &job, 107).expect(&rt, "a haul");
+    let joined = first.join(second).ok().expect(&rt, "a joined haul");
+    let text = text_of(rt.alloc(), &joined);
+    drop(joined);
+    assert!(rt; text?.as_slice() == JOINED.as_bytes());
+    Ok(())
+}
+
+const JOINED: &str = "@VERSION 2
+@ROOT seed=
+@RULE b3s23
+@SYMMETRY C1
+@PROFILE 64 512 101 30300
+@RANGE 101 1
+@RANGE 107 1
+@NUM_SOUPS 2
+@NUM_UNSETTLED 0
+@NUM_FOR_GOOD 2
+@NUM_OBJECTS 9
+
+@CENSUS TABLE
+xp2_7 2
+xp2_s01110szw222 1
+xs4_33 4
+xs5_253 1
+xs7_2596 1
+
+@SAMPLE_SOUPIDS
+xp2_7 101 107
+xp2_s01110szw222 107
+xs4_33 101 107
+xs5_253 101
+xs7_2596 101
+";
+
+/// A closed haul of 2^24 numbers from this multiple of that many on.
+fn large_haul(alloc: Global, job: &Job, part: u32) -> Result<Haul, OpenError> {
+    let first = u64::from(part) << 24;
+    let haul = Haul::open(alloc, *job, &[range(first, 1 << 24)], 1)?;
+    Ok(closed(haul))
+}
+
+#[test]
+fn joins_hauls_of_2_to_the_25_numbers(rt: HostRuntime) -> Result<(), Fail> {
+    let job = quick_job("")?;
+    let first = large_haul(rt.alloc(), &job, 0).expect(&rt, "a haul");
+    let second = large_haul(rt.alloc(), &job, 1).expect(&rt, "a haul");
+    let joined = first.join(second).ok().expect(&rt, "a joined haul");
+    let count = joined.count();
+    drop(joined);
+    assert!(rt; count == 1 << 25);
+    Ok(())
+}

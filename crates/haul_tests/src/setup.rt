@@ -1,0 +1,64 @@
+//! Jobs, hauls and texts, for all files. The proof of a function pays for each exit at which a haul is dropped, so a
+//! haul is made by a function that gives it back, and dropped by a call before the next exit.
+
+use haul_core::census::Census;
+use haul_core::haul::Haul;
+use haul_core::haul_text::write_haul;
+use haul_core::report::Report;
+use plane_core::output::Out;
+use plane_core::rule::Rule;
+use ranges::range::Range;
+use std::alloc::Global;
+use std::test::Fail;
+use survey_core::job::Job;
+use survey_core::profile::Profile;
+use survey_core::seed::Seed;
+
+/// A job of Life. Under its profile a soup is settled only if it is a still life at once, which no soup is.
+pub(crate) fn quick_job(seed: &str) -> Result<Job, Fail> {
+    Ok(Job {
+        seed: Seed::new(seed)?,
+        profile: Profile::new(1, 1, 1, 0)?,
+        rule: Rule::life(),
+    })
+}
+
+/// A job under whose rule nothing is born or dies, so that each soup is at rest at once, with some tens of objects.
+pub(crate) fn still_job() -> Result<Job, Fail> {
+    Ok(Job {
+        rule: Rule::read("bs012345678")?,
+        ..quick_job("")?
+    })
+}
+
+pub(crate) fn range(first: u64, count: u64) -> Range {
+    Range { first, count }
+}
+
+/// Offers a report of the soup with this number by worker 1, and returns whether it is taken.
+pub(crate) fn offer(alloc: Global, haul: &mut Haul, number: u32) -> bool {
+    match Report::make(alloc, &haul.job(), 1, u64::from(number)) {
+        Ok(report) => haul.offer(report).is_ok(),
+        Err(_) => false,
+    }
+}
+
+/// The haul, closed.
+pub(crate) fn closed(haul: Haul) -> Haul {
+    let mut haul = haul;
+    let _reply = haul.close();
+    haul
+}
+
+/// The haul text of what is taken.
+pub(crate) fn text_of(alloc: Global, haul: &Haul) -> Result<Vec<u8>, Fail> {
+    let census = haul.census()?;
+    written(alloc, &census)
+}
+
+/// The haul text. There is room for it, so that no write fails for want of memory.
+fn written(alloc: Global, census: &Census) -> Result<Vec<u8>, Fail> {
+    let mut out = Out::new(Vec::with_capacity(alloc, 65_536)?);
+    write_haul(census, &mut out)?;
+    Ok(out.into_inner())
+}
