@@ -1,5 +1,5 @@
-//! Tests of the public calls of `commands`. They stand in a crate of their own, so that `commands` is proved once. What the
-//! built program can be asked is asked by the cases.
+//! Tests of the public calls of `commands`. They stand in a crate of their own, so that `commands` is proved once.
+//! What the built program can be asked is asked by the cases.
 #![tactic(auto)]
 
 #[cfg(test)]
