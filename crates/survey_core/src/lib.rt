@@ -21,3 +21,5 @@ pub mod soup;
 pub mod sweep;
 /// Groups of clusters that may meet.
 mod groups;
+/// An early no, from the clusters near a place.
+mod nearby;

@@ -45,6 +45,7 @@ const MOST_CELLS: usize = 64;
 #[derive(Drop)]
 pub struct Memo {
     slots: Vec<Option<Known>>,
+    change: Option<Cell>,
 }
 
 /// What is known of a shape.
@@ -73,7 +74,10 @@ impl Memo {
     /// large. If there is no memory for it, it has no room.
     pub fn new(alloc: Global) -> Memo {
         match empty_slots(alloc) {
-            Ok(slots) => Memo { slots },
+            Ok(slots) => Memo {
+                slots,
+                change: None,
+            },
             Err(AllocError) => Memo::without_room(alloc),
         }
     }
@@ -82,6 +86,7 @@ impl Memo {
     pub fn without_room(alloc: Global) -> Memo {
         Memo {
             slots: Vec::new(alloc),
+            change: None,
         }
     }
 
@@ -117,12 +122,13 @@ impl Memo {
     }
 
     /// Whether it is seen at a glance that one of the patterns doesn't come back within so many generations.
-    fn sees_change(&self, rule: &Rule, limit: u32, patterns: &[Pattern]) -> bool
+    fn sees_change(&mut self, rule: &Rule, limit: u32, patterns: &[Pattern]) -> bool
         ensures { IsTrue result → ¬ All (ComesBack rule.now limit) patterns.now }
     {
         for pattern in patterns {
             let seen = self.sees_that_it_changes(rule, limit, pattern);
             if seen {
+                self.note_change(pattern);
                 return true;
             }
         }
@@ -131,13 +137,25 @@ impl Memo {
 
     /// Whether it is seen at a glance that a pattern doesn't come back within so many generations. One that is
     /// remembered does.
-    fn sees_that_it_changes(&self, rule: &Rule, limit: u32, pattern: &Pattern) -> bool
+    pub(crate) fn sees_that_it_changes(&self, rule: &Rule, limit: u32, pattern: &Pattern) -> bool
         ensures { IsTrue result → ¬ ComesBack rule.now limit pattern.now }
     {
         if self.recalled_sweep(rule, limit, pattern).is_some() {
             return false;
         }
         pattern.is_seen_to_change(rule, limit)
+    }
+
+    /// Where the last cluster was that was seen not to come back. What changes next mostly lies near it.
+    pub(crate) fn last_change(&self) -> Option<Cell> {
+        self.change
+    }
+
+    /// Notes where a pattern lies that was seen not to come back.
+    pub(crate) fn note_change(&mut self, pattern: &Pattern) {
+        if let Some(first) = pattern.cells().first() {
+            self.change = Some(*first);
+        }
     }
 
     /// The sweep of a pattern, or `None` if it doesn't come back within so many generations.
