@@ -14,6 +14,7 @@
 //! shape, moved. Else the cluster is run and named, and is what stands in the slot from then on.
 //!
 //! Which slot is chosen and what is kept are free choices: a memo that forgets makes a survey slower, and nothing else.
+//! So is where it says that the last change was.
 
 ghost use Rattle.std.specs.Prelude.{◌≡◌, ◌≢◌, ◌+ℤ◌, ◌≤◌, [], All, IfNone, IfOk, IfSome, IsTrue, true};
 ghost use Rattle.plane_core.specs.Cells.{InOrder};
@@ -23,6 +24,7 @@ ghost use Rattle.survey_core.specs.Memos.{IsAbout, IsKnown, moved_bounds, moved_
 ghost use Rattle.survey_core.specs.Rest.{ComesBack};
 ghost use Rattle.survey_core.specs.Sweeps.{AreSweeps, IsSweep};
 
+use crate::slot::slot_of;
 use crate::sweep::Sweep;
 use code_core::apgcode::Apgcode;
 use code_core::name::name;
@@ -367,31 +369,6 @@ fn moved(at: i32, by: i32) -> Option<i32>
     ensures { IfSome result (λ to. to ≡ at +ℤ by) }
 {
     at.checked_add(by)
-}
-
-/// In which of so many slots a pattern belongs, by a number that is the same wherever it lies.
-fn slot_of(pattern: &Pattern, slots: usize) -> usize {
-    let mut hash = 0;
-    if let Some(first) = pattern.cells().first() {
-        hash = hash_from(*first, pattern.cells());
-    }
-    (hash >> 32) as usize % slots.max(1)
-}
-
-/// A number that is made of the cells as they lie from this one. The multiplier is the odd number next to 2^64 divided
-/// by the golden ratio, which spreads what differs in few bits.
-fn hash_from(first: Cell, cells: &[Cell]) -> u64 {
-    let mut hash = 0u64;
-    for cell in cells {
-        let place = from_to(first.y, cell.y).rotate_left(32) ^ from_to(first.x, cell.x);
-        hash = (hash.rotate_left(5) ^ place).wrapping_mul(0x9e37_79b9_7f4a_7c15);
-    }
-    hash
-}
-
-/// How far it is from one column or row to another, and 2^32 more, so that it isn't negative.
-fn from_to(from: i32, to: i32) -> u64 {
-    (i64::from(to) - i64::from(from) + 0x1_0000_0000) as u64
 }
 
 /// The code of a pattern that comes back within so many generations.
