@@ -1,8 +1,9 @@
 -- A generation of a board, in terms of its list of words.
 use Rattle.std.proofs.Common.{◌≡◌, ◌≢◌, ◌==◌, ◌+◌, ◌-◌, ◌*◌, ◌/◌, ◌%◌, ◌^◌, ◌<◌, ◌≤◌, ℕ, zero, suc, Bool}
-use Rattle.std.proofs.Common.{true, false, cond, List, length, nat_lt, arith, refl, ap, ◌∙◌, sym, subst, inl, inr, ◌⊎◌}
+use Rattle.std.proofs.Common.{true, false, not, cond, List, length, nat_lt, arith, refl, ap, ◌∙◌, sym, subst, inl, inr, ◌⊎◌}
 use Rattle.std.proofs.Common.{get_or, set, get_or-set_same, get_or-set_other, bit_or, bit_xor, w64, slice_index}
-use Rattle.std.specs.Int.{bit_at}
+use Rattle.std.specs.Int.{bit_at, from_bool}
+use Rattle.std.specs.Int.Bits.{or_zero_r}
 use Rattle.std.proofs.lemmas.Bool.{eqb-true, eqb-false, ltb-true, ltb-false}
 use Rattle.std.proofs.lemmas.Nat.Bits.{bit_at-zero, bit_at-lt, bit_at_xor, bit_at_set_same, bit_at_set_other, bit_at_or, same_from_bits}
 use Rattle.std.proofs.lemmas.Nat.Bits.{bit_at_above, bit_at_cat_high, bit_at-trailing_zeros}
@@ -18,6 +19,13 @@ use Rattle.plane_core.specs.Words.{one_if, west_of, row_count, IsNextWord}
 use Rattle.plane_core.specs.Boards.{row_at, AreNoMarks, IsClear, IsGoing, IsInner, IsNext, IsNextAt, IsNextMark, IsQuiet, IsRight, IsStill, IsUnmarked, IsWritten, TellsChanges}
 
 -- ---- marks
+
+pub same_or_not : (a b : ℕ) → (a ≡ b) ⊎ (a ≢ b)
+same_or_not a b = split (a == b) refl
+  where
+    split : (t : Bool) → (a == b) ≡ t → (a ≡ b) ⊎ (a ≢ b)
+    split true e = inl (eqb-true a b e)
+    split false e = inr (eqb-false a b e)
 
 -- a block that isn't marked after one was: it wasn't before, and isn't that one
 pub clear_after_mark : (flags : List ℕ) (k m : ℕ) → k < 64 * length flags
@@ -49,6 +57,24 @@ clear_after_mark flags k m low h = word (m / 64 == k / 64) refl
         let at = get_or-set_other flags (k / 64) (m / 64) new 0 apart in
         (ap (λ (n : ℕ). bit_at n (m % 64)) (sym at) ∙ h, λ is. apart (ap (λ (n : ℕ). n / 64) is))
 
+-- where that is done only if there is a change, what isn't marked either is another block, or there is none
+pub clear_after_mark_if : (flags : List ℕ) (k m change : ℕ) (b : Bool) → (change == 0) ≡ b → k < 64 * length flags
+    → IsClear (set flags (k / 64) (bit_or (get_or flags (k / 64) 0) (from_bool (not b) * 2 ^ (k % 64) % 2 ^ 64))) m → IsClear flags m × (m ≡ k → change ≡ 0)
+clear_after_mark_if flags k m change false e low h = let marked = clear_after_mark flags k m low h in (marked.0, λ is. absurd (marked.1 is))
+clear_after_mark_if flags k m change true e low h = (ap (λ (n : ℕ). bit_at n (m % 64)) (kept (same_or_not (m / 64) (k / 64))) ∙ h, λ is. eqb-true change 0 e)
+  where
+    new : ℕ
+    new = bit_or (get_or flags (k / 64) 0) (from_bool (not true) * 2 ^ (k % 64) % 2 ^ 64)
+
+    none : from_bool (not true) * 2 ^ (k % 64) % 2 ^ 64 ≡ 0
+    none = omega arith
+
+    kept : (m / 64 ≡ k / 64) ⊎ (m / 64 ≢ k / 64) → slice_index flags (m / 64) ≡ slice_index (set flags (k / 64) new) (m / 64)
+    kept (inl same) =
+        ap (λ (n : ℕ). get_or flags n 0) same ∙ sym (ap (λ (n : ℕ). bit_or (get_or flags (k / 64) 0) n) none ∙ or_zero_r (get_or flags (k / 64) 0))
+        ∙ sym (ap (λ (n : ℕ). get_or (set flags (k / 64) new) n 0) same ∙ get_or-set_same flags (k / 64) new 0 (omega arith))
+    kept (inr apart) = sym (get_or-set_other flags (k / 64) (m / 64) new 0 apart)
+
 -- ---- two generations ago
 
 -- as far as three cells of a row go, two rows are the same
@@ -74,19 +100,19 @@ next_same rule a h b c k d w above here below next n low =
     next n low
     ∙ (λ i. one_if (lives_by rule (same_count a c above n i + same_count h k here n i + same_count b d below n i) (bit_at (here.here i) n == 1)))
 
-block_above : (i : ℕ) → 1 ≤ i → ((i - 1) / 16 ≡ i / 16) ⊎ (((i - 1) / 16 + 1 ≡ i / 16) × ((i - 1) % 16 ≡ 15))
-block_above i low = split (i % 16 == 0) refl
+block_above : (i : ℕ) → 1 ≤ i → ((i - 1) / 8 ≡ i / 8) ⊎ (((i - 1) / 8 + 1 ≡ i / 8) × ((i - 1) % 8 ≡ 7))
+block_above i low = split (i % 8 == 0) refl
   where
-    split : (b : Bool) → (i % 16 == 0) ≡ b → ((i - 1) / 16 ≡ i / 16) ⊎ (((i - 1) / 16 + 1 ≡ i / 16) × ((i - 1) % 16 ≡ 15))
-    split true e = let first : i % 16 ≡ 0 = eqb-true (i % 16) 0 e in inr (omega arith, omega arith)
-    split false e = let apart = eqb-false (i % 16) 0 e in let inside : 0 < i % 16 = omega arith in inl (omega arith)
+    split : (b : Bool) → (i % 8 == 0) ≡ b → ((i - 1) / 8 ≡ i / 8) ⊎ (((i - 1) / 8 + 1 ≡ i / 8) × ((i - 1) % 8 ≡ 7))
+    split true e = let first : i % 8 ≡ 0 = eqb-true (i % 8) 0 e in inr (omega arith, omega arith)
+    split false e = let apart = eqb-false (i % 8) 0 e in let inside : 0 < i % 8 = omega arith in inl (omega arith)
 
-block_below : (i : ℕ) → ((i + 1) / 16 ≡ i / 16) ⊎ (((i + 1) / 16 ≡ i / 16 + 1) × ((i + 1) % 16 ≡ 0))
-block_below i = split (i % 16 == 15) refl
+block_below : (i : ℕ) → ((i + 1) / 8 ≡ i / 8) ⊎ (((i + 1) / 8 ≡ i / 8 + 1) × ((i + 1) % 8 ≡ 0))
+block_below i = split (i % 8 == 7) refl
   where
-    split : (b : Bool) → (i % 16 == 15) ≡ b → ((i + 1) / 16 ≡ i / 16) ⊎ (((i + 1) / 16 ≡ i / 16 + 1) × ((i + 1) % 16 ≡ 0))
-    split true e = let last : i % 16 ≡ 15 = eqb-true (i % 16) 15 e in inr (omega arith, omega arith)
-    split false e = let apart = eqb-false (i % 16) 15 e in let inside : i % 16 < 15 = omega arith in inl (omega arith)
+    split : (b : Bool) → (i % 8 == 7) ≡ b → ((i + 1) / 8 ≡ i / 8) ⊎ (((i + 1) / 8 ≡ i / 8 + 1) × ((i + 1) % 8 ≡ 0))
+    split true e = let last : i % 8 ≡ 7 = eqb-true (i % 8) 7 e in inr (omega arith, omega arith)
+    split false e = let apart = eqb-false (i % 8) 7 e in let inside : i % 8 < 7 = omega arith in inl (omega arith)
 
 -- A block that is with its ring what it was two generations ago will be what it was one generation ago.
 pub two_generations_ago : (rule : Numbers) (grid : Grid) (before now after marks : List ℕ) → IsNext rule grid before now → IsStill grid marks before after
@@ -95,13 +121,13 @@ two_generations_ago rule grid before now after marks next still i inner clear =
     next_same rule _ _ _ _ _ _ (slice_index now i) (row (i - 1) (omega arith) (omega arith) above) (row i (omega arith) (omega arith) (own i refl))
     (row (i + 1) (omega arith) (omega arith) below) (next i inner)
   where
-    low : grid.blocks + 1 ≤ i / 16
+    low : grid.blocks + 1 ≤ i / 8
     low = inner.low
 
-    quiet : (m : ℕ) → IsQuiet grid (i / 16) m (slice_index before m) (slice_index after m)
-    quiet m = still (i / 16) m clear
+    quiet : (m : ℕ) → IsQuiet grid (i / 8) m (slice_index before m) (slice_index after m)
+    quiet m = still (i / 8) m clear
 
-    own : (m : ℕ) → m / 16 ≡ i / 16 → slice_index before m ≡ slice_index after m
+    own : (m : ℕ) → m / 8 ≡ i / 8 → slice_index before m ≡ slice_index after m
     own m same = sym ((quiet m).own same)
 
     above : slice_index before (i - 1) ≡ slice_index after (i - 1)
@@ -112,9 +138,9 @@ two_generations_ago rule grid before now after marks next still i inner clear =
 
     row : (m : ℕ) → i ≤ m + 1 → m ≤ i + 1 → slice_index before m ≡ slice_index after m → IsSameRow (row_at before grid m) (row_at after grid m)
     row m l h same = record {
-      before = sym ((quiet (m - 16 * grid.blocks)).west (omega arith, omega arith));
+      before = sym ((quiet (m - 8 * grid.blocks)).west (omega arith, omega arith));
       here = same;
-      after = sym ((quiet (m + 16 * grid.blocks)).east (omega arith, omega arith));
+      after = sym ((quiet (m + 8 * grid.blocks)).east (omega arith, omega arith));
     }
 
 -- ---- a generation as far as it has come
@@ -148,22 +174,22 @@ less_or_not a b = split (nat_lt a b) refl
 pub going_skip : (rule : Numbers) (grid : Grid) (j l : ℕ) (now old new first marks todo : List ℕ) → j ≤ l → IsRight rule grid now old todo
     → ((k : ℕ) → j ≤ k → k < l → IsInner grid k → IsClear todo k) → IsGoing rule grid j now old new first marks → IsGoing rule grid l now old new first marks
 going_skip rule grid j l now old new first marks todo far right clear going = record {
-  done = λ i low inner. done i low inner (less_or_not (i / 16) j);
-  ahead = λ i low. ahead i low (less_or_not (i / 16) j);
+  done = λ i low inner. done i low inner (less_or_not (i / 8) j);
+  ahead = λ i low. ahead i low (less_or_not (i / 8) j);
   outer = going.outer;
-  still = λ k i low unmarked. still k i unmarked (less_or_not (i / 16) j);
+  still = λ k i low unmarked. still k i unmarked (less_or_not (i / 8) j);
   kept = going.kept;
 }
   where
-    done : (i : ℕ) → i / 16 < l → IsInner grid (i / 16) → (i / 16 < j) ⊎ (j ≤ i / 16) → IsNextAt rule grid now i (slice_index new i)
+    done : (i : ℕ) → i / 8 < l → IsInner grid (i / 8) → (i / 8 < j) ⊎ (j ≤ i / 8) → IsNextAt rule grid now i (slice_index new i)
     done i low inner (inl before) = going.done i before inner
-    done i low inner (inr past) = subst (λ (w : ℕ). IsNextAt rule grid now i w) (sym (going.ahead i past)) (right i inner (clear (i / 16) past low inner))
+    done i low inner (inr past) = subst (λ (w : ℕ). IsNextAt rule grid now i w) (sym (going.ahead i past)) (right i inner (clear (i / 8) past low inner))
 
-    ahead : (i : ℕ) → l ≤ i / 16 → (i / 16 < j) ⊎ (j ≤ i / 16) → slice_index new i ≡ slice_index old i
+    ahead : (i : ℕ) → l ≤ i / 8 → (i / 8 < j) ⊎ (j ≤ i / 8) → slice_index new i ≡ slice_index old i
     ahead i low (inl before) = absurd (omega arith)
     ahead i low (inr past) = going.ahead i past
 
-    still : (k i : ℕ) → IsClear marks k → (i / 16 < j) ⊎ (j ≤ i / 16) → IsQuiet grid k i (slice_index old i) (slice_index new i)
+    still : (k i : ℕ) → IsClear marks k → (i / 8 < j) ⊎ (j ≤ i / 8) → IsQuiet grid k i (slice_index old i) (slice_index new i)
     still k i unmarked (inl before) = going.still k i before unmarked
     still k i unmarked (inr past) = same_quiet grid k i (slice_index old i) (slice_index new i) (going.ahead i past)
 
@@ -178,45 +204,38 @@ no_difference a b e = same_from_bits a b (λ k. bit k)
         let none : bit_at (bit_xor a b) k ≡ bit_at 0 k = ap (λ (n : ℕ). bit_at n k) e in
         omega (arith, none, bit_at-zero k, bit_at_xor a b k, bit_at-lt a k, bit_at-lt b k)
 
-quiet_written : (grid : Grid) (j : ℕ) (changes : Changes) (flags old new : List ℕ) (k i : ℕ) → i / 16 ≡ j → TellsChanges j changes old new
+quiet_written : (grid : Grid) (j : ℕ) (changes : Changes) (flags old new : List ℕ) (k i : ℕ) → i / 8 ≡ j → TellsChanges j changes old new
     → IsUnmarked grid j changes flags k → IsQuiet grid k i (slice_index old i) (slice_index new i)
 quiet_written grid j changes flags old new k i at tells unmarked = record {
   own = λ same. same_from_bits (slice_index new i) (slice_index old i)
       (λ b. tells.columns b i (ap (λ (n : ℕ). bit_at n b) (unmarked.own (omega arith)) ∙ bit_at-zero b));
   above = λ up last.
-      let is : i ≡ 16 * j + 15 = omega arith in
+      let is : i ≡ 8 * j + 7 = omega arith in
       ap (λ (n : ℕ). slice_index new n) is ∙ tells.bottom (unmarked.below (omega arith)) ∙ ap (λ (n : ℕ). slice_index old n) (sym is);
   below = λ down first.
-      let is : i ≡ 16 * j = omega arith in
+      let is : i ≡ 8 * j = omega arith in
       ap (λ (n : ℕ). slice_index new n) is ∙ tells.top (unmarked.above (omega arith)) ∙ ap (λ (n : ℕ). slice_index old n) (sym is);
   west = λ (low, high). tells.columns 63 i (unmarked.east (omega arith, omega arith));
   east = λ (low, high). tells.columns 0 i (unmarked.west (omega arith, omega arith));
 }
-
-pub same_or_not : (a b : ℕ) → (a ≡ b) ⊎ (a ≢ b)
-same_or_not a b = split (a == b) refl
-  where
-    split : (t : Bool) → (a == b) ≡ t → (a ≡ b) ⊎ (a ≢ b)
-    split true e = inl (eqb-true a b e)
-    split false e = inr (eqb-false a b e)
 
 -- an inner block that is written, with what its changes concern marked
 pub going_written : (rule : Numbers) (grid : Grid) (j : ℕ) (changes : Changes) (now old new later first marks more : List ℕ) → IsInner grid j
     → IsWritten rule grid j now new later → TellsChanges j changes new later → ((m : ℕ) → IsClear more m → IsUnmarked grid j changes marks m)
     → IsGoing rule grid j now old new first marks → IsGoing rule grid (j + 1) now old later first more
 going_written rule grid j changes now old new later first marks more inner written tells unmarked going = record {
-  done = λ i low inside. done i low inside (same_or_not (i / 16) j);
+  done = λ i low inside. done i low inside (same_or_not (i / 8) j);
   ahead = λ i low. written.others i (λ e. absurd (omega arith)) ∙ going.ahead i (omega arith);
   outer = λ i outside. written.others i (λ e. outside (subst (λ (k : ℕ). IsInner grid k) (sym e) inner)) ∙ going.outer i outside;
-  still = λ k i low clear. still k i low clear (same_or_not (i / 16) j);
+  still = λ k i low clear. still k i low clear (same_or_not (i / 8) j);
   kept = λ k clear. going.kept k (unmarked k clear).before;
 }
   where
-    done : (i : ℕ) → i / 16 < j + 1 → IsInner grid (i / 16) → (i / 16 ≡ j) ⊎ (i / 16 ≢ j) → IsNextAt rule grid now i (slice_index later i)
+    done : (i : ℕ) → i / 8 < j + 1 → IsInner grid (i / 8) → (i / 8 ≡ j) ⊎ (i / 8 ≢ j) → IsNextAt rule grid now i (slice_index later i)
     done i low inside (inl same) = written.next i same
     done i low inside (inr apart) = subst (λ (w : ℕ). IsNextAt rule grid now i w) (sym (written.others i apart)) (going.done i (omega arith) inside)
 
-    still : (k i : ℕ) → i / 16 < j + 1 → IsClear more k → (i / 16 ≡ j) ⊎ (i / 16 ≢ j) → IsQuiet grid k i (slice_index old i) (slice_index later i)
+    still : (k i : ℕ) → i / 8 < j + 1 → IsClear more k → (i / 8 ≡ j) ⊎ (i / 8 ≢ j) → IsQuiet grid k i (slice_index old i) (slice_index later i)
     still k i low clear (inl same) =
         subst (λ (w : ℕ). IsQuiet grid k i w (slice_index later i)) (going.ahead i (omega arith)) (quiet_written grid j changes marks new later k i same tells (unmarked k clear))
     still k i low clear (inr apart) =
@@ -281,15 +300,15 @@ words_more rule grid now from k words word long before next m low = go (same_or_
     go (inr apart) =
         subst (IsNextAt rule grid now (from + m)) (sym (get_or-set_other words k m word 0 apart)) (before m (omega arith))
 
--- the sixteen words of block j
-pub written_block : (rule : Numbers) (grid : Grid) (j i : ℕ) (now old new : List ℕ) (columns : ℕ) → i ≡ 16 * j + 16
-    → IsWriting rule grid (16 * j) i now old new columns → IsWritten rule grid j now old new
+-- the eight words of block j
+pub written_block : (rule : Numbers) (grid : Grid) (j i : ℕ) (now old new : List ℕ) (columns : ℕ) → i ≡ 8 * j + 8
+    → IsWriting rule grid (8 * j) i now old new columns → IsWritten rule grid j now old new
 written_block rule grid j i now old new columns end writing = record {
   next = λ m at. writing.next m (omega arith) (omega arith);
-  others = λ m apart. others m apart (less_or_not m (16 * j));
+  others = λ m apart. others m apart (less_or_not m (8 * j));
 }
   where
-    others : (m : ℕ) → m / 16 ≢ j → (m < 16 * j) ⊎ (16 * j ≤ m) → slice_index new m ≡ slice_index old m
+    others : (m : ℕ) → m / 8 ≢ j → (m < 8 * j) ⊎ (8 * j ≤ m) → slice_index new m ≡ slice_index old m
     others m apart (inl before) = writing.before m before
     others m apart (inr past) = writing.behind m (omega arith)
 
@@ -363,8 +382,8 @@ going_skip_one rule grid j now old new first marks todo right clear going =
 -- at the end, what isn't marked is still
 pub going_end : (rule : Numbers) (grid : Grid) (j : ℕ) (now old new first marks : List ℕ) → IsGoing rule grid j now old new first marks
     → IsStill grid marks old new
-going_end rule grid j now old new first marks going k i clear = at (less_or_not (i / 16) j)
+going_end rule grid j now old new first marks going k i clear = at (less_or_not (i / 8) j)
   where
-    at : (i / 16 < j) ⊎ (j ≤ i / 16) → IsQuiet grid k i (slice_index old i) (slice_index new i)
+    at : (i / 8 < j) ⊎ (j ≤ i / 8) → IsQuiet grid k i (slice_index old i) (slice_index new i)
     at (inl before) = going.still k i before clear
     at (inr past) = same_quiet grid k i (slice_index old i) (slice_index new i) (going.ahead i past)

@@ -47,9 +47,9 @@ lies_round S b n least sides = has-list_all (is_within n) S (λ c e. near c (in_
 -- a layout that is made so
 pub record IsRound (b : Bounds) (margin : ℕ) (at : Layout) : Type 0 where
   pub left : at.left ≡ b.left -ℤ pos (margin + 64)
-  pub top : at.top ≡ b.top -ℤ pos (margin + 16)
+  pub top : at.top ≡ b.top -ℤ pos (margin + 8)
   pub strips : at.strips ≡ (distance b.left b.right + 2 * margin + 65) / 64 + 2
-  pub blocks : at.blocks ≡ (distance b.top b.bottom + 2 * margin + 17) / 16 + 2
+  pub blocks : at.blocks ≡ (distance b.top b.bottom + 2 * margin + 9) / 8 + 2
 
 pub round_is_laid : (b : Bounds) (margin : ℕ) (at : Layout) → margin ≤ 1000 → AreSidesWithin plane_bound b → IsRound b margin at → IsLaid at
 round_is_laid b margin at low sides is =

@@ -24,15 +24,15 @@ use Rattle.plane_core.proofs.SpeedLemmas.{boxed-after}
 -- ---- the list's indexes
 
 -- a strip to the left or right is a strip's length away
-pub index_east : (at : Layout) (s r : ℕ) → index_of at (s + 1) r ≡ index_of at s r + 16 * at.blocks
+pub index_east : (at : Layout) (s r : ℕ) → index_of at (s + 1) r ≡ index_of at s r + 8 * at.blocks
 index_east at s r = omega arith
 
-pub index_west : (at : Layout) (s r : ℕ) → 1 ≤ s → index_of at (s - 1) r + 16 * at.blocks ≡ index_of at s r
+pub index_west : (at : Layout) (s r : ℕ) → 1 ≤ s → index_of at (s - 1) r + 8 * at.blocks ≡ index_of at s r
 index_west at s r low = let is : s ≡ s - 1 + 1 = omega arith in omega (arith, index_east at (s - 1) r, ap (λ (n : ℕ). index_of at n r) is)
 
 -- ---- the live cells of a row of three
 
-bit_if : (S : List Cell) (ws : List ℕ) (at : Layout) → IsShown at ws S → (e : Cell) (s r i : ℕ) → s < at.strips → r < 16 * at.blocks → i < 64
+bit_if : (S : List Cell) (ws : List ℕ) (at : Layout) → IsShown at ws S → (e : Cell) (s r i : ℕ) → s < at.strips → r < 8 * at.blocks → i < 64
     → e ≡ place at s r i
     → cond {A = ℕ} (has S e) 1 0 ≡ bit_at (slice_index ws (index_of at s r)) i
 bit_if S ws at shown e s r i hs hr hi is =
@@ -47,13 +47,13 @@ bit_if S ws at shown e s r i hs hr hi is =
 pub same_cells : (x y v w : ℤ) → x ≡ v → y ≡ w → cell_at x y ≡ cell_at v w
 same_cells x y v w p q i = cell_at (p i) (q i)
 
-row_shown : (S : List Cell) (ws : List ℕ) (at : Layout) → InOrder S → IsShown at ws S → (e : Cell) (s r i : ℕ) → 1 ≤ s → s + 1 < at.strips → r < 16 * at.blocks
+row_shown : (S : List Cell) (ws : List ℕ) (at : Layout) → InOrder S → IsShown at ws S → (e : Cell) (s r i : ℕ) → 1 ≤ s → s + 1 < at.strips → r < 8 * at.blocks
     → i < 64 → e ≡ place at s r i → row_total (map one_of S) e ≡ row_count (row_at ws (grid_of at) (index_of at s r)) i
 row_shown S ws at o shown e s r i low high hr hi is =
     omega (arith, total-ones S (moved_by (pos 1) (pos 0) e) o, total-ones S e o, total-ones S (moved_by (negsuc 0) (pos 0) e) o, here, west i hi is, east (i == 63) refl)
   where
     h : ℕ
-    h = 16 * at.blocks
+    h = 8 * at.blocks
 
     here : cond {A = ℕ} (has S e) 1 0 ≡ bit_at (slice_index ws (index_of at s r)) i
     here = bit_if S ws at shown e s r i (omega arith) hr hi is
@@ -85,7 +85,7 @@ row_shown S ws at o shown e s r i low high hr hi is =
 -- ---- the block of nine
 
 block_shown : (S : List Cell) (ws : List ℕ) (at : Layout) → InOrder S → IsShown at ws S → (s r i : ℕ) → 1 ≤ s → s + 1 < at.strips → 1 ≤ r
-    → r + 1 < 16 * at.blocks → i < 64
+    → r + 1 < 8 * at.blocks → i < 64
     → block_count (row_at ws (grid_of at) (index_of at s r - 1)) (row_at ws (grid_of at) (index_of at s r)) (row_at ws (grid_of at) (index_of at s r + 1)) i
     ≡ around S (place at s r i) + cond (has S (place at s r i)) 1 0
 block_shown S ws at o shown s r i low high top bottom hi =
@@ -106,8 +106,8 @@ block_shown S ws at o shown s r i low high top bottom hi =
 pub record IsInside (at : Layout) (s r : ℕ) : Type 0 where
   pub left : 1 ≤ s
   pub right : s + 1 < at.strips
-  pub top : 16 ≤ r
-  pub bottom : r + 16 < 16 * at.blocks
+  pub top : 8 ≤ r
+  pub bottom : r + 8 < 8 * at.blocks
 
 pub inside-room : (at : Layout) (n s r i : ℕ) → i < 64 → IsWithin (room at n) (place at s r i) → IsInside at s r
 inside-room at n s r i low within = record {
@@ -118,12 +118,12 @@ inside-room at n s r i low within = record {
 }
 
 -- an inside cell's word is in an inner block
-pub inner-inside : (at : Layout) (s r : ℕ) → IsInside at s r → IsInner (grid_of at) (index_of at s r / 16)
+pub inner-inside : (at : Layout) (s r : ℕ) → IsInside at s r → IsInner (grid_of at) (index_of at s r / 8)
 inner-inside at s r inside =
     let many : at.strips ≡ s + 2 + (at.strips - (s + 2)) = let h = inside.right in omega arith in
     let whole : at.strips * at.blocks ≡ (s + 2 + (at.strips - (s + 2))) * at.blocks = ap (λ (m : ℕ). m * at.blocks) many in
     let more : s ≡ s - 1 + 1 = let h = inside.left in omega arith in
-    let first : s * (16 * at.blocks) ≡ (s - 1 + 1) * (16 * at.blocks) = ap (λ (m : ℕ). m * (16 * at.blocks)) more in
+    let first : s * (8 * at.blocks) ≡ (s - 1 + 1) * (8 * at.blocks) = ap (λ (m : ℕ). m * (8 * at.blocks)) more in
     record {
       low = let h = inside.top in omega (arith, first);
       high = let h = inside.bottom in omega (arith, whole);
@@ -170,9 +170,9 @@ room-after rule S at n g k low h c e =
 
 -- a row so near the edge that no cell lies in it, nor in the next one
 abbrev IsQuietRow : Layout → ℕ → Type 0
-IsQuietRow at r = (r ≤ 16) ⊎ (16 * at.blocks ≤ r + 17)
+IsQuietRow at r = (r ≤ 8) ⊎ (8 * at.blocks ≤ r + 9)
 
-dead_bit : (S : List Cell) (ws : List ℕ) (at : Layout) → IsShown at ws S → HasRoom at 1 S → (s r k : ℕ) → s < at.strips → r < 16 * at.blocks → k < 64
+dead_bit : (S : List Cell) (ws : List ℕ) (at : Layout) → IsShown at ws S → HasRoom at 1 S → (s r k : ℕ) → s < at.strips → r < 8 * at.blocks → k < 64
     → IsQuietRow at r → bit_at (slice_index ws (index_of at s r)) k ≡ 0
 dead_bit S ws at shown fits s r k hs hr hk quiet =
     not_one (bit_at (slice_index ws (index_of at s r)) k) (bit_at-lt (slice_index ws (index_of at s r)) k)
@@ -184,13 +184,13 @@ dead_bit S ws at shown fits s r k hs hr hk quiet =
     none true e (inr low) = absurd (let h = (fits (place at s r k) e).bottom in omega (arith, ints))
 
 dead_row : (S : List Cell) (ws : List ℕ) (at : Layout) → IsShown at ws S → HasRoom at 1 S → (m s r i : ℕ) → m ≡ index_of at s r → 1 ≤ s → s + 1 < at.strips
-    → r < 16 * at.blocks → i < 64 → IsQuietRow at r → row_count (row_at ws (grid_of at) m) i ≡ 0
+    → r < 8 * at.blocks → i < 64 → IsQuietRow at r → row_count (row_at ws (grid_of at) m) i ≡ 0
 dead_row S ws at shown fits m s r i is low high hr hi quiet =
     ap (λ (n : ℕ). row_count (row_at ws (grid_of at) n) i) is
     ∙ omega (arith, dead_bit S ws at shown fits s r i (omega arith) hr hi quiet, west i hi, east (i == 63) refl)
   where
     h : ℕ
-    h = 16 * at.blocks
+    h = 8 * at.blocks
 
     west : (i : ℕ) → i < 64 → west_of (slice_index ws (index_of at s r - h)) (slice_index ws (index_of at s r)) i ≡ 0
     west zero hi =
@@ -210,9 +210,9 @@ pub record IsRim (at : Layout) (s r : ℕ) : Type 0 where
   pub left : 1 ≤ s
   pub right : s + 1 < at.strips
   pub tall : 2 ≤ at.blocks
-  pub ends : ((r < 16) × (2 ≤ s)) ⊎ ((16 * at.blocks ≤ r + 16) × (s + 2 < at.strips))
+  pub ends : ((r < 8) × (2 ≤ s)) ⊎ ((8 * at.blocks ≤ r + 8) × (s + 2 < at.strips))
 
-dead_block : (S : List Cell) (ws : List ℕ) (at : Layout) → IsShown at ws S → HasRoom at 1 S → (s r i : ℕ) → r < 16 * at.blocks → i < 64 → IsRim at s r
+dead_block : (S : List Cell) (ws : List ℕ) (at : Layout) → IsShown at ws S → HasRoom at 1 S → (s r i : ℕ) → r < 8 * at.blocks → i < 64 → IsRim at s r
     → (block_count (row_at ws (grid_of at) (index_of at s r - 1)) (row_at ws (grid_of at) (index_of at s r)) (row_at ws (grid_of at) (index_of at s r + 1)) i ≡ 0)
     × (bit_at (slice_index ws (index_of at s r)) i ≡ 0)
 dead_block S ws at shown fits s r i hr hi rim = (
@@ -220,7 +220,7 @@ dead_block S ws at shown fits s r i hr hi rim = (
     arith,
     above (less_or_not r 1) rim.ends,
     dead_row S ws at shown fits (index_of at s r) s r i refl rim.left rim.right hr hi (here rim.ends),
-    below (less_or_not (r + 1) (16 * at.blocks)) rim.ends,
+    below (less_or_not (r + 1) (8 * at.blocks)) rim.ends,
   ),
   dead_bit S ws at shown fits s r i (let h = rim.right in omega arith) hr hi (here rim.ends),
 )
@@ -231,16 +231,16 @@ dead_block S ws at shown fits s r i hr hi rim = (
     high : s + 1 < at.strips
     high = rim.right
 
-    here : ((r < 16) × (2 ≤ s)) ⊎ ((16 * at.blocks ≤ r + 16) × (s + 2 < at.strips)) → IsQuietRow at r
+    here : ((r < 8) × (2 ≤ s)) ⊎ ((8 * at.blocks ≤ r + 8) × (s + 2 < at.strips)) → IsQuietRow at r
     here (inl (a, b)) = inl (omega arith)
     here (inr (a, b)) = inr (omega arith)
 
     first : 2 ≤ s → r ≡ 0 → row_count (row_at ws (grid_of at) (index_of at s r - 1)) i ≡ 0
     first far is =
-        dead_row S ws at shown fits (index_of at s r - 1) (s - 1) (16 * at.blocks - 1) i (omega (arith, index_west at s 0 low)) (omega arith) (omega arith)
+        dead_row S ws at shown fits (index_of at s r - 1) (s - 1) (8 * at.blocks - 1) i (omega (arith, index_west at s 0 low)) (omega arith) (omega arith)
         (omega arith) hi (inr (omega arith))
 
-    above : (r < 1) ⊎ (1 ≤ r) → ((r < 16) × (2 ≤ s)) ⊎ ((16 * at.blocks ≤ r + 16) × (s + 2 < at.strips))
+    above : (r < 1) ⊎ (1 ≤ r) → ((r < 8) × (2 ≤ s)) ⊎ ((8 * at.blocks ≤ r + 8) × (s + 2 < at.strips))
         → row_count (row_at ws (grid_of at) (index_of at s r - 1)) i ≡ 0
     above (inl none) (inl (a, b)) = first b (omega arith)
     above (inl none) (inr (a, b)) = absurd (let h = rim.tall in omega arith)
@@ -249,7 +249,7 @@ dead_block S ws at shown fits s r i hr hi rim = (
     above (inr some) (inr (a, b)) =
         dead_row S ws at shown fits (index_of at s r - 1) s (r - 1) i (omega arith) low high (omega arith) hi (inr (omega arith))
 
-    below : (r + 1 < 16 * at.blocks) ⊎ (16 * at.blocks ≤ r + 1) → ((r < 16) × (2 ≤ s)) ⊎ ((16 * at.blocks ≤ r + 16) × (s + 2 < at.strips))
+    below : (r + 1 < 8 * at.blocks) ⊎ (8 * at.blocks ≤ r + 1) → ((r < 8) × (2 ≤ s)) ⊎ ((8 * at.blocks ≤ r + 8) × (s + 2 < at.strips))
         → row_count (row_at ws (grid_of at) (index_of at s r + 1)) i ≡ 0
     below (inl some) (inl (a, b)) = dead_row S ws at shown fits (index_of at s r + 1) s (r + 1) i (omega arith) low high some hi (inl (omega arith))
     below (inl some) (inr (a, b)) = dead_row S ws at shown fits (index_of at s r + 1) s (r + 1) i (omega arith) low high some hi (inr (omega arith))
@@ -258,26 +258,26 @@ dead_block S ws at shown fits s r i hr hi rim = (
         dead_row S ws at shown fits (index_of at s r + 1) (s + 1) 0 i (omega (arith, index_east at s 0)) (omega arith) (omega arith) (omega arith) hi (inl (omega arith))
 
 -- an inner block of the list that isn't all inside
-rim_of : (at : Layout) (s r : ℕ) → 2 ≤ at.blocks → s < at.strips → r < 16 * at.blocks → IsInner (grid_of at) (index_of at s r / 16) → ¬ IsInside at s r
+rim_of : (at : Layout) (s r : ℕ) → 2 ≤ at.blocks → s < at.strips → r < 8 * at.blocks → IsInner (grid_of at) (index_of at s r / 8) → ¬ IsInside at s r
     → IsRim at s r
 rim_of at s r tall hs hr inner outside = record {
   left = left;
   right = right;
   tall = tall;
   ends =
-      ends (less_or_not r 16) (less_or_not (r + 16) (16 * at.blocks));
+      ends (less_or_not r 8) (less_or_not (r + 8) (8 * at.blocks));
 }
   where
-    low : at.blocks + 1 ≤ index_of at s r / 16
+    low : at.blocks + 1 ≤ index_of at s r / 8
     low = inner.low
 
-    high : index_of at s r / 16 + at.blocks + 1 < at.strips * at.blocks
+    high : index_of at s r / 8 + at.blocks + 1 < at.strips * at.blocks
     high = inner.high
 
     left : 1 ≤ s
     left = elim (less_or_not s 1) [
-      | inl none ↦ absurd (let zero_is : s * (16 * at.blocks) ≡ 0 * (16 * at.blocks) =
-          ap (λ (n : ℕ). n * (16 * at.blocks)) (omega arith) in omega (arith, zero_is))
+      | inl none ↦ absurd (let zero_is : s * (8 * at.blocks) ≡ 0 * (8 * at.blocks) =
+          ap (λ (n : ℕ). n * (8 * at.blocks)) (omega arith) in omega (arith, zero_is))
       | inr some ↦ some
     ]
 
@@ -287,30 +287,30 @@ rim_of at s r tall hs hr inner outside = record {
       | inr past ↦ absurd (let whole : at.strips * at.blocks ≡ (s + 1) * at.blocks = ap (λ (n : ℕ). n * at.blocks) (omega arith) in omega (arith, whole))
     ]
 
-    second : r < 16 → 2 ≤ s
+    second : r < 8 → 2 ≤ s
     second near = elim (less_or_not s 2) [
-      | inl first ↦ absurd (let one_is : s * (16 * at.blocks) ≡ 1 * (16 * at.blocks) =
-          ap (λ (n : ℕ). n * (16 * at.blocks)) (omega (arith, left)) in omega (arith, one_is))
+      | inl first ↦ absurd (let one_is : s * (8 * at.blocks) ≡ 1 * (8 * at.blocks) =
+          ap (λ (n : ℕ). n * (8 * at.blocks)) (omega (arith, left)) in omega (arith, one_is))
       | inr some ↦ some
     ]
 
-    before_last : 16 * at.blocks ≤ r + 16 → s + 2 < at.strips
+    before_last : 8 * at.blocks ≤ r + 8 → s + 2 < at.strips
     before_last far = elim (less_or_not (s + 2) at.strips) [
       | inl inside ↦ inside
       | inr past ↦ absurd (let whole : at.strips * at.blocks ≡ (s + 2) * at.blocks =
           ap (λ (n : ℕ). n * at.blocks) (omega (arith, right)) in omega (arith, whole))
     ]
 
-    ends : (r < 16) ⊎ (16 ≤ r) → (r + 16 < 16 * at.blocks) ⊎ (16 * at.blocks ≤ r + 16)
-        → ((r < 16) × (2 ≤ s)) ⊎ ((16 * at.blocks ≤ r + 16) × (s + 2 < at.strips))
+    ends : (r < 8) ⊎ (8 ≤ r) → (r + 8 < 8 * at.blocks) ⊎ (8 * at.blocks ≤ r + 8)
+        → ((r < 8) × (2 ≤ s)) ⊎ ((8 * at.blocks ≤ r + 8) × (s + 2 < at.strips))
     ends (inl near) q = inl (near, second near)
     ends (inr p) (inr far) = inr (far, before_last far)
     ends (inr p) (inl q) = absurd (outside (record { left = left; right = right; top = p; bottom = q }))
 
 inside_or_not : (at : Layout) (s r : ℕ) → IsInside at s r ⊎ (IsInside at s r → ⊥)
-inside_or_not at s r = go (less_or_not s 1) (less_or_not (s + 1) at.strips) (less_or_not r 16) (less_or_not (r + 16) (16 * at.blocks))
+inside_or_not at s r = go (less_or_not s 1) (less_or_not (s + 1) at.strips) (less_or_not r 8) (less_or_not (r + 8) (8 * at.blocks))
   where
-    go : (s < 1) ⊎ (1 ≤ s) → (s + 1 < at.strips) ⊎ (at.strips ≤ s + 1) → (r < 16) ⊎ (16 ≤ r) → (r + 16 < 16 * at.blocks) ⊎ (16 * at.blocks ≤ r + 16)
+    go : (s < 1) ⊎ (1 ≤ s) → (s + 1 < at.strips) ⊎ (at.strips ≤ s + 1) → (r < 8) ⊎ (8 ≤ r) → (r + 8 < 8 * at.blocks) ⊎ (8 * at.blocks ≤ r + 8)
         → IsInside at s r ⊎ (IsInside at s r → ⊥)
     go (inr a) (inl b) (inr c) (inl d) = inl (record { left = a; right = b; top = c; bottom = d })
     go (inl a) q t u = inr (λ h. let k = h.left in omega arith)
@@ -337,7 +337,7 @@ next_shown rule S ws later at tall o fits stays shown step dead s r i hs hr hi =
     none false e outside = refl
     none true e outside = absurd (outside (inside-room at 0 s r i hi (stays (place at s r i) e)))
 
-    zero_bit : IsInner (grid_of at) (index_of at s r / 16) ⊎ (IsInner (grid_of at) (index_of at s r / 16) → ⊥) → (IsInside at s r → ⊥)
+    zero_bit : IsInner (grid_of at) (index_of at s r / 8) ⊎ (IsInner (grid_of at) (index_of at s r / 8) → ⊥) → (IsInside at s r → ⊥)
         → bit_at (slice_index later (index_of at s r)) i ≡ 0
     zero_bit (inr outer) outside = ap (λ (w : ℕ). bit_at w i) (dead (index_of at s r) outer) ∙ bit_at-zero i
     zero_bit (inl inner) outside =
@@ -348,4 +348,4 @@ next_shown rule S ws later at tall o fits stays shown step dead s r i hs hr hi =
     go (inl inside) = next_inside rule S ws later at o shown step s r i inside hi
     go (inr outside) =
         none (has (next rule S) (place at s r i)) refl outside
-        ∙ ap (λ (n : ℕ). n == 1) (sym (zero_bit (inner_or_not (grid_of at) (index_of at s r / 16)) outside))
+        ∙ ap (λ (n : ℕ). n == 1) (sym (zero_bit (inner_or_not (grid_of at) (index_of at s r / 8)) outside))

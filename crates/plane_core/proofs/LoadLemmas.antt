@@ -23,7 +23,7 @@ use Rattle.plane_core.proofs.LayoutLemmas.{IsInside, inside-room, inner-inside, 
 -- ---- places
 
 -- a row's place in the list is inside it, and isn't large
-pub index-inside : (at : Layout) (s r : ℕ) → s < at.strips → r < 16 * at.blocks → index_of at s r < 16 * (at.strips * at.blocks)
+pub index-inside : (at : Layout) (s r : ℕ) → s < at.strips → r < 8 * at.blocks → index_of at s r < 8 * (at.strips * at.blocks)
 index-inside at s r hs hr =
     let many : at.strips ≡ s + 1 + (at.strips - (s + 1)) = omega arith in
     let whole : at.strips * at.blocks ≡ (s + 1 + (at.strips - (s + 1))) * at.blocks = ap (λ (m : ℕ). m * at.blocks) many in
@@ -74,7 +74,7 @@ or_one : (a : Bool) → (a || (true || false)) ≡ true
 or_one true = refl
 or_one false = refl
 
-pub shown_more : (at : Layout) (ws : List ℕ) (S : List Cell) (c : Cell) (s d i : ℕ) → s < at.strips → d < 16 * at.blocks → i < 64 → c ≡ place at s d i
+pub shown_more : (at : Layout) (ws : List ℕ) (S : List Cell) (c : Cell) (s d i : ℕ) → s < at.strips → d < 8 * at.blocks → i < 64 → c ≡ place at s d i
     → index_of at s d < length ws → IsShown at ws S
     → IsShown at (set ws (index_of at s d) (bit_or (get_or ws (index_of at s d) 0) (1 * 2 ^ i % 2 ^ 64))) (S ++ c ∷ [])
 shown_more at ws S c s d i hs hd hi is low shown t y k ht hy hk = has-append S (c ∷ []) p ∙ row (same_or_not (index_of at t y) (index_of at s d))
@@ -111,17 +111,17 @@ shown_more at ws S c s d i hs hd hi is low shown t y k ht hy hk = has-append S (
     row : (index_of at t y ≡ m) ⊎ (index_of at t y ≢ m)
         → (has S p || (same_cell p c || false)) ≡ (bit_at (slice_index (set ws m new) (index_of at t y)) k == 1)
     row (inl here) =
-        bit here (same_spot (16 * at.blocks) t y s d here hy hd) (same_or_not k i)
+        bit here (same_spot (8 * at.blocks) t y s d here hy hd) (same_or_not k i)
         ∙ ap (λ (w : ℕ). bit_at w k == 1) (sym (ap (λ (n : ℕ). slice_index (set ws m new) n) here ∙ get_or-set_same ws m new 0 low))
     row (inr apart) = kept (slice_index (set ws m new) (index_of at t y)) (get_or-set_other ws m (index_of at t y) new 0 apart)
         (λ (u, v, w). apart (λ j. index_of at (u j) (v j)))
 
-pub dead_more : (grid : Grid) (ws : List ℕ) (m v : ℕ) → IsInner grid (m / 16) → IsDead grid ws → IsDead grid (set ws m v)
+pub dead_more : (grid : Grid) (ws : List ℕ) (m v : ℕ) → IsInner grid (m / 8) → IsDead grid ws → IsDead grid (set ws m v)
 dead_more grid ws m v inner dead i outer =
-    get_or-set_other ws m i v 0 (λ e. outer (subst (λ (n : ℕ). IsInner grid (n / 16)) (sym e) inner)) ∙ dead i outer
+    get_or-set_other ws m i v 0 (λ e. outer (subst (λ (n : ℕ). IsInner grid (n / 8)) (sym e) inner)) ∙ dead i outer
 
 -- the blocks round the cell are marked, and nothing else has changed
-pub still_more : (grid : Grid) (ws flags more : List ℕ) (m v : ℕ) → ((k : ℕ) → IsClear more k → IsClear flags k × IsFar grid (m / 16) k)
+pub still_more : (grid : Grid) (ws flags more : List ℕ) (m v : ℕ) → ((k : ℕ) → IsClear more k → IsClear flags k × IsFar grid (m / 8) k)
     → IsStill grid flags [] ws → IsStill grid more [] (set ws m v)
 still_more grid ws flags more m v far still k i clear = go (same_or_not i m)
   where
@@ -163,11 +163,11 @@ still-empty grid flags ws none k i clear = record {
 -- ---- what `put` writes
 
 pub spot_inner : (at : Layout) (c : Cell) (a d m : ℕ) → IsWithin (room at 0) c → pos a ≡ c.x -ℤ at.left → pos d ≡ c.y -ℤ at.top → m ≡ index_of at (a / 64) d
-    → IsInner (grid_of at) (m / 16)
+    → IsInner (grid_of at) (m / 8)
 spot_inner at c a d m within p q is =
-    subst (λ (n : ℕ). IsInner (grid_of at) (n / 16)) (sym is) (inner-inside at (a / 64) d (spot_inside at c a d within p q))
+    subst (λ (n : ℕ). IsInner (grid_of at) (n / 8)) (sym is) (inner-inside at (a / 64) d (spot_inside at c a d within p q))
 
-pub put_shown : (at : Layout) (ws : List ℕ) (S : List Cell) (c : Cell) (a d m : ℕ) → length ws ≡ 16 * (at.strips * at.blocks) → IsWithin (room at 0) c
+pub put_shown : (at : Layout) (ws : List ℕ) (S : List Cell) (c : Cell) (a d m : ℕ) → length ws ≡ 8 * (at.strips * at.blocks) → IsWithin (room at 0) c
     → pos a ≡ c.x -ℤ at.left → pos d ≡ c.y -ℤ at.top → m ≡ index_of at (a / 64) d → IsShown at ws S
     → IsShown at (set ws m (bit_or (get_or ws m 0) (1 * 2 ^ (a % 64) % 2 ^ 64))) (S ++ c ∷ [])
 put_shown at ws S c a d m long within p q is shown =
@@ -175,7 +175,7 @@ put_shown at ws S c a d m long within p q is shown =
     let right = inside.right in
     let bottom = inside.bottom in
     let hs : a / 64 < at.strips = omega arith in
-    let hd : d < 16 * at.blocks = omega arith in
+    let hd : d < 8 * at.blocks = omega arith in
     let low : index_of at (a / 64) d < length ws = omega (arith, index-inside at (a / 64) d hs hd) in
     subst (λ (n : ℕ). IsShown at (set ws n (bit_or (get_or ws n 0) (1 * 2 ^ (a % 64) % 2 ^ 64))) (S ++ c ∷ [])) (sym is)
     (shown_more at ws S c (a / 64) d (a % 64) hs hd (omega arith) (place_of at c a d p q) low shown)

@@ -86,13 +86,13 @@ row-on at words r n m old new empty before = record {
     found s i near low bit (inr past) = let none = empty s i past near in absurd (omega (arith, none, bit))
 
 -- a row of an empty band is empty
-pub row-empty : (at : Layout) (words : List ℕ) (band r n m : ℕ) → 16 * band ≤ r → r < 16 * band + 16 → IsBandEmpty at words band n m
+pub row-empty : (at : Layout) (words : List ℕ) (band r n m : ℕ) → 8 * band ≤ r → r < 8 * band + 8 → IsBandEmpty at words band n m
     → IsRowEmpty at words r n m
 row-empty at words band r n m low high empty s b past near =
-    let row : 16 * band + (r - 16 * band) ≡ r = omega arith in
-    ap (λ (q : ℕ). bit_at (slice_index words (index_of at s q)) b) (sym row) ∙ empty s past near (r - 16 * band) b (omega arith)
+    let row : 8 * band + (r - 8 * band) ≡ r = omega arith in
+    ap (λ (q : ℕ). bit_at (slice_index words (index_of at s q)) b) (sym row) ∙ empty s past near (r - 8 * band) b (omega arith)
 
-pub row-more : (at : Layout) (words : List ℕ) (s r word : ℕ) (first : Cell) (old new more : List Cell) → s < at.strips → r < 16 * at.blocks
+pub row-more : (at : Layout) (words : List ℕ) (s r word : ℕ) (first : Cell) (old new more : List Cell) → s < at.strips → r < 8 * at.blocks
     → word ≡ slice_index words (index_of at s r) → first ≡ place at s r 0 → HasReadRow at words r old s new → HasRead word first new 64 more
     → HasReadRow at words r old (s + 1) more
 row-more at words s r word first old new more hs hr word_is first_is before read = record {
@@ -138,27 +138,27 @@ rows-none at words cells none = record {
 }
 
 -- an empty band has nothing to read
-pub rows-on : (at : Layout) (words : List ℕ) (band : ℕ) (new : List Cell) → IsBandEmpty at words band 0 at.strips → HasReadRows at words (16 * band) new
-    → HasReadRows at words (16 * band + 16) new
+pub rows-on : (at : Layout) (words : List ℕ) (band : ℕ) (new : List Cell) → IsBandEmpty at words band 0 at.strips → HasReadRows at words (8 * band) new
+    → HasReadRows at words (8 * band + 8) new
 rows-on at words band new empty before = record {
   sound = before.sound;
-  complete = λ s r i hs near low bit. found s r i hs near low bit (less_or_not r (16 * band));
+  complete = λ s r i hs near low bit. found s r i hs near low bit (less_or_not r (8 * band));
 }
   where
-    found : (s r i : ℕ) → s < at.strips → r < 16 * band + 16 → i < 64 → bit_at (slice_index words (index_of at s r)) i ≡ 1
-        → (r < 16 * band) ⊎ (16 * band ≤ r) → has new (place at s r i) ≡ true
+    found : (s r i : ℕ) → s < at.strips → r < 8 * band + 8 → i < 64 → bit_at (slice_index words (index_of at s r)) i ≡ 1
+        → (r < 8 * band) ⊎ (8 * band ≤ r) → has new (place at s r i) ≡ true
     found s r i hs near low bit (inl done) = before.complete s r i hs done low bit
     found s r i hs near low bit (inr here) =
-        let row : 16 * band + (r - 16 * band) ≡ r = omega arith in
-        let none = empty s (omega arith) hs (r - 16 * band) i (omega arith) in
+        let row : 8 * band + (r - 8 * band) ≡ r = omega arith in
+        let none = empty s (omega arith) hs (r - 8 * band) i (omega arith) in
         let same = ap (λ (n : ℕ). bit_at (slice_index words (index_of at s n)) i) row in
         absurd (omega (arith, none, same, bit))
 
 -- a block without a column is empty
-pub block-empty : (at : Layout) (words : List ℕ) (s band from columns : ℕ) → from ≡ index_of at s (16 * band) → columns ≡ 0
-    → ((b k : ℕ) → bit_at columns b ≡ 0 → k < 16 → bit_at (slice_index words (from + k)) b ≡ 0) → IsBlockEmpty at words band s
+pub block-empty : (at : Layout) (words : List ℕ) (s band from columns : ℕ) → from ≡ index_of at s (8 * band) → columns ≡ 0
+    → ((b k : ℕ) → bit_at columns b ≡ 0 → k < 8 → bit_at (slice_index words (from + k)) b ≡ 0) → IsBlockEmpty at words band s
 block-empty at words s band from columns is zero here k b low =
-    let spot : index_of at s (16 * band + k) ≡ from + k = omega (arith, is) in
+    let spot : index_of at s (8 * band + k) ≡ from + k = omega (arith, is) in
     ap (λ (n : ℕ). bit_at (slice_index words n) b) spot ∙ here b k (ap (λ (n : ℕ). bit_at n b) zero ∙ bit_at-zero b) low
 
 -- one strip more of a band is empty
@@ -194,7 +194,7 @@ natural : (d : ℤ) (a : ℤ) (n : ℕ) → (a +ℤ pos n) ≤ℤ d → pos (uns
 natural d a n h = omega (arith, ints)
 
 -- what was read off the whole board, in order, is what it shows
-pub read_all : (at : Layout) (words : List ℕ) (S new : List Cell) → InOrder S → HasRoom at 0 S → IsShown at words S → HasReadRows at words (16 * at.blocks) new
+pub read_all : (at : Layout) (words : List ℕ) (S new : List Cell) → InOrder S → HasRoom at 0 S → IsShown at words S → HasReadRows at words (8 * at.blocks) new
     → set_of new ≡ S
 read_all at words S new o fits shown read = sym (is_set_of S new o (λ c. both_true (has S c) (has new c) (there c) (read.sound S shown c)))
   where
@@ -204,13 +204,13 @@ read_all at words S new o fits shown read = sym (is_set_of S new o (λ c. both_t
         let a = unsigned_abs (c.x -ℤ at.left) in
         let d = unsigned_abs (c.y -ℤ at.top) in
         let p : pos a ≡ c.x -ℤ at.left = natural c.x at.left 64 within.left in
-        let q : pos d ≡ c.y -ℤ at.top = natural c.y at.top 16 within.top in
+        let q : pos d ≡ c.y -ℤ at.top = natural c.y at.top 8 within.top in
         let is = place_of at c a d p q in
         let inside = spot_inside at c a d within p q in
         let right = inside.right in
         let bottom = inside.bottom in
         let hs : a / 64 < at.strips = omega arith in
-        let hr : d < 16 * at.blocks = omega arith in
+        let hr : d < 8 * at.blocks = omega arith in
         let alive : has S (place at (a / 64) d (a % 64)) ≡ true = ap (λ (x : Cell). has S x) (sym is) ∙ e in
         let bit : (bit_at (slice_index words (index_of at (a / 64) d)) (a % 64) == 1) ≡ true = sym (shown (a / 64) d (a % 64) hs hr (omega arith)) ∙ alive in
         ap (λ (x : Cell). has new x) is ∙ read.complete (a / 64) d (a % 64) hs hr (omega arith) (eqb-true _ 1 bit)

@@ -46,7 +46,7 @@ first_right rule grid now last todo none still i inner clear =
 -- and before the second one: what isn't marked was empty, is so and stays so
 second_right : (rule : Numbers) (grid : Grid) (now last todo : List ℕ) → IsStill grid todo [] last → IsStill grid todo [] now → IsRight rule grid now last todo
 second_right rule grid now last todo was still i inner clear =
-    subst (λ (w : ℕ). IsNextAt rule grid now i w) (sym ((was (i / 16) i clear).own refl))
+    subst (λ (w : ℕ). IsNextAt rule grid now i w) (sym ((was (i / 8) i clear).own refl))
     (two_generations_ago rule grid [] [] now todo (empty_next rule grid) still i inner clear)
 
 -- ---- a run

@@ -35,8 +35,8 @@ use Rattle.plane_core.proofs.SetLemmas.{has-all, has-cases, has-head, in_order-h
 grid_is : (at : Layout) → IsWindow at → grid_of at ≡ window_grid
 grid_is at w = λ i. record { blocks = w.blocks i; count = w.strips i * w.blocks i }
 
-pub index_is : (at : Layout) (s r : ℕ) → IsWindow at → index_of at s r ≡ s * 96 + r
-index_is at s r w = ap (λ (h : ℕ). s * (16 * h) + r) w.blocks
+pub index_is : (at : Layout) (s r : ℕ) → IsWindow at → index_of at s r ≡ s * 80 + r
+index_is at s r w = ap (λ (h : ℕ). s * (8 * h) + r) w.blocks
 
 -- ---- live cells
 
@@ -46,9 +46,9 @@ pub record IsLit (at : Layout) (words : List ℕ) (c : Cell) (a d : ℕ) : Type 
   pub down : pos d ≡ c.y -ℤ at.top
   pub left : 64 ≤ a
   pub right : a < 128
-  pub top : 16 ≤ d
-  pub bottom : d < 80
-  pub bit : bit_at (slice_index words (96 + d)) (a - 64) ≡ 1
+  pub top : 8 ≤ d
+  pub bottom : d < 72
+  pub bit : bit_at (slice_index words (80 + d)) (a - 64) ≡ 1
 
 natural : (d a : ℤ) (n : ℕ) → (a +ℤ pos n) ≤ℤ d → pos (unsigned_abs (d -ℤ a)) ≡ d -ℤ a
 natural d a n h = omega (arith, ints)
@@ -59,13 +59,13 @@ pub record IsPlaced (at : Layout) (c : Cell) (a d : ℕ) : Type 0 where
   pub down : pos d ≡ c.y -ℤ at.top
   pub left : 64 ≤ a
   pub right : a < 128
-  pub top : 16 ≤ d
-  pub bottom : d < 80
+  pub top : 8 ≤ d
+  pub bottom : d < 72
 
 pub placed : (at : Layout) (c : Cell) (a d : ℕ) → IsWindow at → IsWithin (room at 0) c → pos a ≡ c.x -ℤ at.left → pos d ≡ c.y -ℤ at.top → IsPlaced at c a d
 placed at c a d w within p q =
     let three = w.strips in
-    let six = w.blocks in
+    let ten = w.blocks in
     let l = within.left in
     let t = within.top in
     let r = within.right in
@@ -97,7 +97,7 @@ lit_of at words T c a d w shown e p = record {
     r : a < 128
     r = p.right
 
-    b : d < 80
+    b : d < 72
     b = p.bottom
 
     is : c ≡ place at 1 d (a - 64)
@@ -109,12 +109,12 @@ lit_of at words T c a d w shown e p = record {
         rest : a % 64 ≡ a - 64
         rest = omega arith
 
-    bit : bit_at (slice_index words (96 + d)) (a - 64) ≡ 1
+    bit : bit_at (slice_index words (80 + d)) (a - 64) ≡ 1
     bit =
         let strips : 1 < at.strips = let s = w.strips in omega arith in
-        let rows : d < 16 * at.blocks = let s = w.blocks in omega arith in
+        let rows : d < 8 * at.blocks = let s = w.blocks in omega arith in
         let one = shown 1 d (a - 64) strips rows (omega arith) in
-        let index : index_of at 1 d ≡ 96 + d = index_is at 1 d w in
+        let index : index_of at 1 d ≡ 80 + d = index_is at 1 d w in
         ap (λ (n : ℕ). bit_at (slice_index words n) (a - 64)) (sym index)
         ∙ eqb-true (bit_at (slice_index words (index_of at 1 d)) (a - 64)) 1 (sym one ∙ ap (has T) (sym is) ∙ e)
 
@@ -128,7 +128,7 @@ lit at words T c w seen e =
       a,
       d,
       lit_of at words T c a d w seen.shown e
-          (placed at c a d w within (natural c.x at.left 64 (let l = within.left in omega (arith, ints))) (natural c.y at.top 16 (let t = within.top in omega (arith, ints)))),
+          (placed at c a d w within (natural c.x at.left 64 (let l = within.left in omega (arith, ints))) (natural c.y at.top 8 (let t = within.top in omega (arith, ints)))),
     )
 
 -- ---- the rim
@@ -157,8 +157,8 @@ rim_room at words T w seen clear c e = go (lit at words T c w seen e)
         three : at.strips ≡ 3
         three = w.strips
 
-        six : at.blocks ≡ 6
-        six = w.blocks
+        ten : at.blocks ≡ 10
+        ten = w.blocks
 
         low : 64 ≤ a
         low = l.left
@@ -166,40 +166,40 @@ rim_room at words T w seen clear c e = go (lit at words T c w seen e)
         high : a < 128
         high = l.right
 
-        top : 16 ≤ d
+        top : 8 ≤ d
         top = l.top
 
-        bottom : d < 80
+        bottom : d < 72
         bottom = l.bottom
 
         off_left : 65 ≤ a
         off_left = elim (less_or_not 64 a) [
           | inl past ↦ omega arith
-          | inr at_rim ↦ absurd (let k = clear.left (96 + d) (omega arith) (omega arith) in
+          | inr at_rim ↦ absurd (let k = clear.left (80 + d) (omega arith) (omega arith) in
               let same : a - 64 ≡ 0 = omega arith in
-              let m = ap (λ (n : ℕ). bit_at (slice_index words (96 + d)) n) same in let one = l.bit in omega arith)
+              let m = ap (λ (n : ℕ). bit_at (slice_index words (80 + d)) n) same in let one = l.bit in omega arith)
         ]
 
         off_right : a < 127
         off_right = elim (less_or_not a 127) [
           | inl before ↦ before
-          | inr at_rim ↦ absurd (let k = clear.right (96 + d) (omega arith) (omega arith) in
+          | inr at_rim ↦ absurd (let k = clear.right (80 + d) (omega arith) (omega arith) in
               let same : a - 64 ≡ 63 = omega arith in
-              let m = ap (λ (n : ℕ). bit_at (slice_index words (96 + d)) n) same in let one = l.bit in omega arith)
+              let m = ap (λ (n : ℕ). bit_at (slice_index words (80 + d)) n) same in let one = l.bit in omega arith)
         ]
 
-        off_top : 17 ≤ d
-        off_top = elim (less_or_not 16 d) [
+        off_top : 9 ≤ d
+        off_top = elim (less_or_not 8 d) [
           | inl past ↦ omega arith
-          | inr at_rim ↦ absurd (let same : 96 + d ≡ 112 = omega arith in
-              none (slice_index words (96 + d)) (a - 64) (ap (λ (n : ℕ). slice_index words n) same ∙ clear.top) l.bit)
+          | inr at_rim ↦ absurd (let same : 80 + d ≡ 88 = omega arith in
+              none (slice_index words (80 + d)) (a - 64) (ap (λ (n : ℕ). slice_index words n) same ∙ clear.top) l.bit)
         ]
 
-        off_bottom : d < 79
-        off_bottom = elim (less_or_not d 79) [
+        off_bottom : d < 71
+        off_bottom = elim (less_or_not d 71) [
           | inl before ↦ before
-          | inr at_rim ↦ absurd (let same : 96 + d ≡ 175 = omega arith in
-              none (slice_index words (96 + d)) (a - 64) (ap (λ (n : ℕ). slice_index words n) same ∙ clear.bottom) l.bit)
+          | inr at_rim ↦ absurd (let same : 80 + d ≡ 151 = omega arith in
+              none (slice_index words (80 + d)) (a - 64) (ap (λ (n : ℕ). slice_index words n) same ∙ clear.bottom) l.bit)
         ]
 
 -- one word more of which columns have a cell
@@ -217,7 +217,7 @@ columns_more words n columns before b none i low high = go (same_or_not i n)
 -- ---- a generation
 
 -- a row more
-pub step_more : (rule : Numbers) (n : ℕ) (now old new later : List ℕ) → 112 ≤ n → IsStepped rule n now old new
+pub step_more : (rule : Numbers) (n : ℕ) (now old new later : List ℕ) → 88 ≤ n → IsStepped rule n now old new
     → IsNextAt rule window_grid now n (slice_index later n) → ((m : ℕ) → m ≢ n → slice_index later m ≡ slice_index new m)
     → IsStepped rule (n + 1) now old later
 step_more rule n now old new later far before next others = record {
@@ -226,20 +226,20 @@ step_more rule n now old new later far before next others = record {
   below = λ m low. others m (λ e. absurd (omega arith)) ∙ before.below m (omega arith);
 }
   where
-    done : (m : ℕ) → 112 ≤ m → m < n + 1 → (m ≡ n) ⊎ (m ≢ n) → IsNextAt rule window_grid now m (slice_index later m)
+    done : (m : ℕ) → 88 ≤ m → m < n + 1 → (m ≡ n) ⊎ (m ≢ n) → IsNextAt rule window_grid now m (slice_index later m)
     done m low high (inl same) = subst (λ (k : ℕ). IsNextAt rule window_grid now k (slice_index later k)) (sym same) next
     done m low high (inr apart) = subst (λ (v : ℕ). IsNextAt rule window_grid now m v) (sym (others m apart)) (before.next m low (omega arith))
 
-pub stepped_next : (rule : Numbers) (n : ℕ) (now old new : List ℕ) → n ≡ 176 → IsStepped rule n now old new → IsNext rule window_grid now new
+pub stepped_next : (rule : Numbers) (n : ℕ) (now old new : List ℕ) → n ≡ 152 → IsStepped rule n now old new → IsNext rule window_grid now new
 stepped_next rule n now old new all h i inner =
     let low = inner.low in
     let high = inner.high in
     h.next i (omega arith) (omega arith)
 
-pub stepped_outer : (rule : Numbers) (n : ℕ) (now old new : List ℕ) → n ≡ 176 → IsStepped rule n now old new → KeepsOuter window_grid old new
-stepped_outer rule n now old new all h i outer = go (less_or_not i 112) (less_or_not i 176)
+pub stepped_outer : (rule : Numbers) (n : ℕ) (now old new : List ℕ) → n ≡ 152 → IsStepped rule n now old new → KeepsOuter window_grid old new
+stepped_outer rule n now old new all h i outer = go (less_or_not i 88) (less_or_not i 152)
   where
-    go : (i < 112) ⊎ (112 ≤ i) → (i < 176) ⊎ (176 ≤ i) → slice_index new i ≡ slice_index old i
+    go : (i < 88) ⊎ (88 ≤ i) → (i < 152) ⊎ (152 ≤ i) → slice_index new i ≡ slice_index old i
     go (inl low) q = h.above i low
     go (inr far) (inr past) = h.below i (omega arith)
     go (inr far) (inl near) = absurd (outer (record { low = omega arith; high = omega arith }))
@@ -249,7 +249,7 @@ pub seen_next : (rule : Numbers) (at : Layout) (now old new : List ℕ) (T : Lis
 seen_next rule at now old new T w clear dead step outer seen = record {
   in_order = in_order-next rule T;
   room = stays;
-  shown = next_shown rule T now new at (let six = w.blocks in omega arith) seen.in_order fits stays seen.shown
+  shown = next_shown rule T now new at (let ten = w.blocks in omega arith) seen.in_order fits stays seen.shown
       (subst (λ (g : Grid). IsNext rule g now new) (sym (grid_is at w)) step) (subst (λ (g : Grid). IsDead g new) (sym (grid_is at w)) still);
   dead = still;
 }
@@ -276,10 +276,10 @@ first_is_head at words h rest s a d w seen first l = go (has-cases h rest f ther
     right : s.across < 128
     right = first.right
 
-    top : 16 ≤ s.down
+    top : 8 ≤ s.down
     top = first.top
 
-    bottom : s.down < 80
+    bottom : s.down < 72
     bottom = first.bottom
 
     f : Cell
@@ -300,7 +300,7 @@ first_is_head at words h rest s a d w seen first l = go (has-cases h rest f ther
     low : 64 ≤ a
     low = l.left
 
-    high : 16 ≤ d
+    high : 8 ≤ d
     high = l.top
 
     row : (d < s.down) → ⊥
@@ -315,7 +315,7 @@ first_is_head at words h rest s a d w seen first l = go (has-cases h rest f ther
     column same less =
         let none = first.before (a - 64) (omega arith) in
         let bit = l.bit in
-        let k = ap (λ (n : ℕ). bit_at (slice_index words (96 + n)) (a - 64)) same in
+        let k = ap (λ (n : ℕ). bit_at (slice_index words (80 + n)) (a - 64)) same in
         absurd (omega arith)
 
     go : (f ≡ h) ⊎ (has rest f ≡ true) → (a ≡ s.across) × (d ≡ s.down)
@@ -340,8 +340,8 @@ first_is_head at words h rest s a d w seen first l = go (has-cases h rest f ther
 pub moved_lit : (at : Layout) (words : List ℕ) (c0 : Cell) (start : List Cell) (c : Cell) (dx dy : ℤ) (spot from to : Spot) → IsWindow at
     → IsSeen at words (shifted dx dy (c0 ∷ start)) → IsFirst words to → IsSpot at c0 from.across from.down → IsSpot at c spot.across spot.down
     → has (c0 ∷ start) c ≡ true
-    → ((a d : ℕ) → a + from.across ≡ spot.across + to.across → d + from.down ≡ spot.down + to.down → 64 ≤ a → a < 128 → d < 96
-    → bit_at (slice_index words (96 + d)) (a - 64) ≡ 1 → ⊥)
+    → ((a d : ℕ) → a + from.across ≡ spot.across + to.across → d + from.down ≡ spot.down + to.down → 64 ≤ a → a < 128 → d < 80
+    → bit_at (slice_index words (80 + d)) (a - 64) ≡ 1 → ⊥)
     → ⊥
 moved_lit at words c0 start c dx dy spot from to w seen first f s e none =
     go (lit at words whole (moved_by dx dy c0) w seen (has-head (moved_by dx dy c0) (shifted dx dy start)))
@@ -396,54 +396,54 @@ changed-fewer rule at S m n low h = record {
 -- ---- what the loops pass over and write
 
 -- a row that is written
-pub step_none : (rule : Numbers) (now old : List ℕ) → IsStepped rule 112 now old old
+pub step_none : (rule : Numbers) (now old : List ℕ) → IsStepped rule 88 now old old
 step_none rule now old = record { next = λ i low high. absurd (omega arith); above = λ i low. refl; below = λ i low. refl }
 
-pub empty_more : (words : List ℕ) (n : ℕ) → slice_index words (96 + n) ≡ 0 → ((r : ℕ) → 16 ≤ r → r < n → slice_index words (96 + r) ≡ 0)
-    → (r : ℕ) → 16 ≤ r → r < n + 1 → slice_index words (96 + r) ≡ 0
+pub empty_more : (words : List ℕ) (n : ℕ) → slice_index words (80 + n) ≡ 0 → ((r : ℕ) → 8 ≤ r → r < n → slice_index words (80 + r) ≡ 0)
+    → (r : ℕ) → 8 ≤ r → r < n + 1 → slice_index words (80 + r) ≡ 0
 empty_more words n none before r low high = go (same_or_not r n)
   where
-    go : (r ≡ n) ⊎ (r ≢ n) → slice_index words (96 + r) ≡ 0
-    go (inl same) = ap (λ (m : ℕ). slice_index words (96 + m)) same ∙ none
+    go : (r ≡ n) ⊎ (r ≢ n) → slice_index words (80 + r) ≡ 0
+    go (inl same) = ap (λ (m : ℕ). slice_index words (80 + m)) same ∙ none
     go (inr apart) = before r low (omega arith)
 
-pub first_found : (words : List ℕ) (r : ℕ) → 16 ≤ r → r < 80 → 0 < slice_index words (96 + r) → slice_index words (96 + r) < 2 ^ 64
-    → ((k : ℕ) → 16 ≤ k → k < r → slice_index words (96 + k) ≡ 0)
-    → IsFirst words (record { across = 64 + trailing_zeros w64 (slice_index words (96 + r)); down = r })
+pub first_found : (words : List ℕ) (r : ℕ) → 8 ≤ r → r < 72 → 0 < slice_index words (80 + r) → slice_index words (80 + r) < 2 ^ 64
+    → ((k : ℕ) → 8 ≤ k → k < r → slice_index words (80 + k) ≡ 0)
+    → IsFirst words (record { across = 64 + trailing_zeros w64 (slice_index words (80 + r)); down = r })
 first_found words r low high some small none =
-    let found = bit_at-trailing_zeros w64 (slice_index words (96 + r)) some small in
-    let place : 64 + trailing_zeros w64 (slice_index words (96 + r)) - 64 ≡ trailing_zeros w64 (slice_index words (96 + r)) = omega arith in
+    let found = bit_at-trailing_zeros w64 (slice_index words (80 + r)) some small in
+    let place : 64 + trailing_zeros w64 (slice_index words (80 + r)) - 64 ≡ trailing_zeros w64 (slice_index words (80 + r)) = omega arith in
     record {
       left = omega arith;
       right = omega (arith, found.0);
       top = low;
       bottom = high;
-      alive = ap (λ (n : ℕ). bit_at (slice_index words (96 + r)) n) place ∙ found.1;
+      alive = ap (λ (n : ℕ). bit_at (slice_index words (80 + r)) n) place ∙ found.1;
       above = none;
       before = λ b near. found.2 b (omega (arith, near, place));
     }
 
 -- one cell more in the window
-pub put_in_window : (at : Layout) (ws : List ℕ) (S : List Cell) (c : Cell) (a d : ℕ) → IsWindow at → length ws ≡ 288 → IsWithin (room at 0) c
+pub put_in_window : (at : Layout) (ws : List ℕ) (S : List Cell) (c : Cell) (a d : ℕ) → IsWindow at → length ws ≡ 240 → IsWithin (room at 0) c
     → IsSpot at c a d → IsShown at ws S
-    → IsShown at (set ws (a / 64 * 96 + d) (bit_or (get_or ws (a / 64 * 96 + d) 0) (1 * 2 ^ (a % 64) % 2 ^ 64))) (S ++ c ∷ [])
+    → IsShown at (set ws (a / 64 * 80 + d) (bit_or (get_or ws (a / 64 * 80 + d) 0) (1 * 2 ^ (a % 64) % 2 ^ 64))) (S ++ c ∷ [])
 put_in_window at ws S c a d w long within p shown =
-    put_shown at ws S c a d (a / 64 * 96 + d) (long ∙ sym (λ i. 16 * (w.strips i * w.blocks i))) within p.across_is p.down_is (sym (index_is at (a / 64) d w)) shown
+    put_shown at ws S c a d (a / 64 * 80 + d) (long ∙ sym (λ i. 8 * (w.strips i * w.blocks i))) within p.across_is p.down_is (sym (index_is at (a / 64) d w)) shown
 
 pub dead_in_window : (at : Layout) (ws : List ℕ) (c : Cell) (a d v : ℕ) → IsWindow at → IsWithin (room at 0) c → IsSpot at c a d
-    → IsDead window_grid ws → IsDead window_grid (set ws (a / 64 * 96 + d) v)
+    → IsDead window_grid ws → IsDead window_grid (set ws (a / 64 * 80 + d) v)
 dead_in_window at ws c a d v w within p dead =
-    dead_more window_grid ws (a / 64 * 96 + d) v
-    (subst (λ (g : Grid). IsInner g ((a / 64 * 96 + d) / 16)) (grid_is at w)
-    (spot_inner at c a d (a / 64 * 96 + d) within p.across_is p.down_is (sym (index_is at (a / 64) d w)))) dead
+    dead_more window_grid ws (a / 64 * 80 + d) v
+    (subst (λ (g : Grid). IsInner g ((a / 64 * 80 + d) / 8)) (grid_is at w)
+    (spot_inner at c a d (a / 64 * 80 + d) within p.across_is p.down_is (sym (index_is at (a / 64) d w)))) dead
 
 -- ---- a window round a box
 
 pub record IsRoundWindow (b : Bounds) (width height : ℕ) (at : Layout) : Type 0 where
   pub left : at.left ≡ b.left -ℤ pos (64 + (63 - width) / 2)
-  pub top : at.top ≡ b.top -ℤ pos (16 + (63 - height) / 2)
+  pub top : at.top ≡ b.top -ℤ pos (8 + (63 - height) / 2)
   pub strips : at.strips ≡ 3
-  pub blocks : at.blocks ≡ 6
+  pub blocks : at.blocks ≡ 10
   pub across : width ≡ distance b.left b.right
   pub down : height ≡ distance b.top b.bottom
   pub wide : width ≤ 61
@@ -515,8 +515,8 @@ window_is_inland b width height at sides is =
 pub not_again : (at : Layout) (words : List ℕ) (start : List Cell) (z c : Cell) (cells : List Cell) (dx dy : ℤ) (spot from to : Spot) → IsWindow at
     → 1 ≤ length start → IsSeen at words cells → cells ≡ shifted dx dy start → IsFirst words to → IsSpot at (get_or start 0 z) from.across from.down
     → IsSpot at c spot.across spot.down → has start c ≡ true
-    → ((a d : ℕ) → a + from.across ≡ spot.across + to.across → d + from.down ≡ spot.down + to.down → 64 ≤ a → a < 128 → d < 96
-    → bit_at (slice_index words (96 + d)) (a - 64) ≡ 1 → ⊥)
+    → ((a d : ℕ) → a + from.across ≡ spot.across + to.across → d + from.down ≡ spot.down + to.down → 64 ≤ a → a < 128 → d < 80
+    → bit_at (slice_index words (80 + d)) (a - 64) ≡ 1 → ⊥)
     → ⊥
 not_again at words [] z c cells dx dy spot from to w some seen same first f s e none = absurd (omega arith)
 not_again at words (c0 ∷ rest) z c cells dx dy spot from to w some seen same first f s e none =
@@ -555,9 +555,9 @@ changing_more rule at S n now old later h seen other = record {
 
 -- no column of the three strips has a cell
 pub empty_round : (words : List ℕ) (from a b c : ℕ) → bit_or (bit_or a b) c ≡ 0
-    → ((i k : ℕ) → bit_at a i ≡ 0 → k < 18 → bit_at (slice_index words (from - 97 + k)) i ≡ 0)
-    → ((i k : ℕ) → bit_at b i ≡ 0 → k < 18 → bit_at (slice_index words (from - 1 + k)) i ≡ 0)
-    → ((i k : ℕ) → bit_at c i ≡ 0 → k < 18 → bit_at (slice_index words (from + 95 + k)) i ≡ 0) → IsEmptyRound words from
+    → ((i k : ℕ) → bit_at a i ≡ 0 → k < 10 → bit_at (slice_index words (from - 81 + k)) i ≡ 0)
+    → ((i k : ℕ) → bit_at b i ≡ 0 → k < 10 → bit_at (slice_index words (from - 1 + k)) i ≡ 0)
+    → ((i k : ℕ) → bit_at c i ≡ 0 → k < 10 → bit_at (slice_index words (from + 79 + k)) i ≡ 0) → IsEmptyRound words from
 empty_round words from a b c none first second third = record {
   west = λ k i low. first i k (let e = bit_at_or (bit_or a b) c i in let f = bit_at_or a b i in omega (arith, e, f, clear i)) low;
   here = λ k i low. second i k (let e = bit_at_or (bit_or a b) c i in let f = bit_at_or a b i in omega (arith, e, f, clear i)) low;
@@ -568,27 +568,27 @@ empty_round words from a b c none first second third = record {
     clear i = ap (λ (n : ℕ). bit_at n i) none ∙ bit_at-zero i
 
 -- where no cell is near, none is alive in the next generation
-pub next_empty : (rule : Numbers) (words : List ℕ) (from k : ℕ) → 112 ≤ from → k < 16 → IsEmptyRound words from
+pub next_empty : (rule : Numbers) (words : List ℕ) (from k : ℕ) → 88 ≤ from → k < 8 → IsEmptyRound words from
     → IsNextAt rule window_grid words (from + k) 0
 next_empty rule words from k low few empty i hi = bit_at-zero i ∙ sym (λ t. one_if (lives_by rule (count t) (dead t == 1)))
   where
-    bit_here : (m d j : ℕ) → m ≡ from - 1 + d → d < 18 → bit_at (slice_index words m) j ≡ 0
+    bit_here : (m d j : ℕ) → m ≡ from - 1 + d → d < 10 → bit_at (slice_index words m) j ≡ 0
     bit_here m d j is near = ap (λ (n : ℕ). bit_at (slice_index words n) j) is ∙ empty.here d j near
 
-    west : (m d j : ℕ) → m ≡ from - 1 + d → d < 18 → west_of (row_at words window_grid m).before (row_at words window_grid m).here j ≡ 0
+    west : (m d j : ℕ) → m ≡ from - 1 + d → d < 10 → west_of (row_at words window_grid m).before (row_at words window_grid m).here j ≡ 0
     west m d zero is near =
-        let at : m - 16 * window_grid.blocks ≡ from - 97 + d = omega (arith, is, low) in
+        let at : m - 8 * window_grid.blocks ≡ from - 81 + d = omega (arith, is, low) in
         ap (λ (n : ℕ). bit_at (slice_index words n) 63) at ∙ empty.west d 63 near
     west m d (suc j) is near = bit_here m d j is near
 
-    east : (m d : ℕ) (b : Bool) → m ≡ from - 1 + d → d < 18 → (i == 63) ≡ b
+    east : (m d : ℕ) (b : Bool) → m ≡ from - 1 + d → d < 10 → (i == 63) ≡ b
         → cond b (bit_at (row_at words window_grid m).after 0) (bit_at (row_at words window_grid m).here (i + 1)) ≡ 0
     east m d true is near e =
-        let at : m + 16 * window_grid.blocks ≡ from + 95 + d = omega (arith, is, low) in
+        let at : m + 8 * window_grid.blocks ≡ from + 79 + d = omega (arith, is, low) in
         ap (λ (n : ℕ). bit_at (slice_index words n) 0) at ∙ empty.east d 0 near
     east m d false is near e = bit_here m d (i + 1) is near
 
-    row : (m d : ℕ) → m ≡ from - 1 + d → d < 18 → row_count (row_at words window_grid m) i ≡ 0
+    row : (m d : ℕ) → m ≡ from - 1 + d → d < 10 → row_count (row_at words window_grid m) i ≡ 0
     row m d is near = omega (arith, west m d i is near, bit_here m d i is near, east m d (i == 63) is near refl)
 
     dead : bit_at (row_at words window_grid (from + k)).here i ≡ 0

@@ -1,4 +1,4 @@
--- A board: a rectangle of cells in words, all in one list. A strip is 64 columns wide, a word of it is a row, and 16 words are a
+-- A board: a rectangle of cells in words, all in one list. A strip is 64 columns wide, a word of it is a row, and 8 words are a
 -- block. The words of a strip stand one after another, and so do the strips. So the words above and below a word stand beside it
 -- in the list, and those to its left and right a strip's length away.
 use Rattle.std.specs.Prelude.{◌≡◌, ◌≢◌, ◌+◌, ◌-◌, ◌*◌, ◌/◌, ◌%◌, ◌<◌, ◌≤◌, ◌^◌, ℕ, List, length, slice_index}
@@ -12,9 +12,9 @@ use Rattle.plane_core.specs.Words.{IsNextWord}
 -- word i with its neighbours in the row
 abbrev pub row_at : List ℕ → Grid → ℕ → Row
 row_at words grid i = record {
-  before = slice_index words (i - 16 * grid.blocks);
+  before = slice_index words (i - 8 * grid.blocks);
   here = slice_index words i;
-  after = slice_index words (i + 16 * grid.blocks);
+  after = slice_index words (i + 8 * grid.blocks);
 }
 
 -- the word is word i, one generation later
@@ -28,7 +28,7 @@ pub record IsInner (grid : Grid) (j : ℕ) : Type 0 where
 
 -- the second list is the first one, one generation later
 abbrev pub IsNext : Numbers → Grid → List ℕ → List ℕ → Type 0
-IsNext rule grid now later = (i : ℕ) → IsInner grid (i / 16) → IsNextAt rule grid now i (slice_index later i)
+IsNext rule grid now later = (i : ℕ) → IsInner grid (i / 8) → IsNextAt rule grid now i (slice_index later i)
 
 -- block k isn't marked: flags have a bit for each block, in words of 64
 abbrev pub IsClear : List ℕ → ℕ → Type 0
@@ -47,7 +47,7 @@ pub record IsNextMark (flags from place : ℕ) : Type 0 where
 
 -- where a block isn't marked, its words in `last` are already those of the next generation
 abbrev pub IsRight : Numbers → Grid → List ℕ → List ℕ → List ℕ → Type 0
-IsRight rule grid now last todo = (i : ℕ) → IsInner grid (i / 16) → IsClear todo (i / 16) → IsNextAt rule grid now i (slice_index last i)
+IsRight rule grid now last todo = (i : ℕ) → IsInner grid (i / 8) → IsClear todo (i / 8) → IsNextAt rule grid now i (slice_index last i)
 
 -- the two blocks are one, or the one stands directly above the other
 abbrev pub IsBeside : ℕ → ℕ → Type 0
@@ -56,11 +56,11 @@ IsBeside j k = (j ≤ k + 1) × (k ≤ j + 1)
 -- As far as block k with the ring of cells round it goes, word i is what it was: all of it in the block itself, in the last row of
 -- the block above and in the first row of the one below, and one bit in the blocks to the left and right.
 pub record IsQuiet (grid : Grid) (k i old new : ℕ) : Type 0 where
-  pub own : i / 16 ≡ k → new ≡ old
-  pub above : i / 16 + 1 ≡ k → i % 16 ≡ 15 → new ≡ old
-  pub below : i / 16 ≡ k + 1 → i % 16 ≡ 0 → new ≡ old
-  pub west : IsBeside (i / 16 + grid.blocks) k → bit_at new 63 ≡ bit_at old 63
-  pub east : IsBeside (i / 16) (k + grid.blocks) → bit_at new 0 ≡ bit_at old 0
+  pub own : i / 8 ≡ k → new ≡ old
+  pub above : i / 8 + 1 ≡ k → i % 8 ≡ 7 → new ≡ old
+  pub below : i / 8 ≡ k + 1 → i % 8 ≡ 0 → new ≡ old
+  pub west : IsBeside (i / 8 + grid.blocks) k → bit_at new 63 ≡ bit_at old 63
+  pub east : IsBeside (i / 8) (k + grid.blocks) → bit_at new 0 ≡ bit_at old 0
 
 -- every block that isn't marked is what it was, with the ring of cells round it
 abbrev pub IsStill : Grid → List ℕ → List ℕ → List ℕ → Type 0
@@ -68,7 +68,7 @@ IsStill grid marks old new = (k i : ℕ) → IsClear marks k → IsQuiet grid k 
 
 -- the outer blocks are what they were
 abbrev pub KeepsOuter : Grid → List ℕ → List ℕ → Type 0
-KeepsOuter grid old new = (i : ℕ) → ¬ IsInner grid (i / 16) → slice_index new i ≡ slice_index old i
+KeepsOuter grid old new = (i : ℕ) → ¬ IsInner grid (i / 8) → slice_index new i ≡ slice_index old i
 
 -- a mark stays
 abbrev pub KeepsMarks : List ℕ → List ℕ → Type 0
@@ -76,14 +76,14 @@ KeepsMarks old new = (k : ℕ) → IsClear new k → IsClear old k
 
 -- block j is that of the next generation, and the others are what they were
 pub record IsWritten (rule : Numbers) (grid : Grid) (j : ℕ) (now old new : List ℕ) : Type 0 where
-  pub next : (i : ℕ) → i / 16 ≡ j → IsNextAt rule grid now i (slice_index new i)
-  pub others : (i : ℕ) → i / 16 ≢ j → slice_index new i ≡ slice_index old i
+  pub next : (i : ℕ) → i / 8 ≡ j → IsNextAt rule grid now i (slice_index new i)
+  pub others : (i : ℕ) → i / 8 ≢ j → slice_index new i ≡ slice_index old i
 
 -- what isn't among the changes of block j is what it was
 pub record TellsChanges (j : ℕ) (changes : Changes) (old new : List ℕ) : Type 0 where
   pub columns : (b i : ℕ) → bit_at changes.columns b ≡ 0 → bit_at (slice_index new i) b ≡ bit_at (slice_index old i) b
-  pub top : changes.top ≡ 0 → slice_index new (16 * j) ≡ slice_index old (16 * j)
-  pub bottom : changes.bottom ≡ 0 → slice_index new (16 * j + 15) ≡ slice_index old (16 * j + 15)
+  pub top : changes.top ≡ 0 → slice_index new (8 * j) ≡ slice_index old (8 * j)
+  pub bottom : changes.bottom ≡ 0 → slice_index new (8 * j + 7) ≡ slice_index old (8 * j + 7)
 
 -- block m isn't marked: it wasn't before, and the changes of block j don't concern it
 pub record IsUnmarked (grid : Grid) (j : ℕ) (changes : Changes) (old : List ℕ) (m : ℕ) : Type 0 where
@@ -96,10 +96,10 @@ pub record IsUnmarked (grid : Grid) (j : ℕ) (changes : Changes) (old : List �
 
 -- A generation as far as it has come: blocks before j are those of the next generation, and what has changed is marked.
 pub record IsGoing (rule : Numbers) (grid : Grid) (j : ℕ) (now old new first marks : List ℕ) : Type 0 where
-  pub done : (i : ℕ) → i / 16 < j → IsInner grid (i / 16) → IsNextAt rule grid now i (slice_index new i)
-  pub ahead : (i : ℕ) → j ≤ i / 16 → slice_index new i ≡ slice_index old i
+  pub done : (i : ℕ) → i / 8 < j → IsInner grid (i / 8) → IsNextAt rule grid now i (slice_index new i)
+  pub ahead : (i : ℕ) → j ≤ i / 8 → slice_index new i ≡ slice_index old i
   pub outer : KeepsOuter grid old new
-  pub still : (k i : ℕ) → i / 16 < j → IsClear marks k → IsQuiet grid k i (slice_index old i) (slice_index new i)
+  pub still : (k i : ℕ) → i / 8 < j → IsClear marks k → IsQuiet grid k i (slice_index old i) (slice_index new i)
   pub kept : KeepsMarks first marks
 
 -- block m is neither block j nor one of those round it
@@ -114,8 +114,8 @@ IsMarkedRound grid flags j = (m : ℕ) → IsClear flags m → IsFar grid j m
 
 -- the lists of a board, before a generation: it is enough to do what isn't marked in `todo`
 pub record IsReady (rule : Numbers) (grid : Grid) (now last todo marks : List ℕ) : Type 0 where
-  pub now_long : length now ≡ 16 * grid.count
-  pub last_long : length last ≡ 16 * grid.count
+  pub now_long : length now ≡ 8 * grid.count
+  pub last_long : length last ≡ 8 * grid.count
   pub todo_long : grid.count ≤ 64 * length todo
   pub marks_long : grid.count ≤ 64 * length marks
   pub todo_small : length todo < 2 ^ 40

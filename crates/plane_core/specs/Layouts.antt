@@ -19,20 +19,20 @@ place at s r i = cell_at (at.left +ℤ pos (64 * s + i)) (at.top +ℤ pos r)
 
 -- that row's place in the list
 abbrev pub index_of : Layout → ℕ → ℕ → ℕ
-index_of at s r = s * (16 * at.blocks) + r
+index_of at s r = s * (8 * at.blocks) + r
 
 -- in the board's rectangle, the bits that are 1 are the cells of the list
 abbrev pub IsShown : Layout → List ℕ → List Cell → Type 0
-IsShown at words cells = (s r i : ℕ) → s < at.strips → r < 16 * at.blocks → i < 64
+IsShown at words cells = (s r i : ℕ) → s < at.strips → r < 8 * at.blocks → i < 64
     → has cells (place at s r i) ≡ (bit_at (slice_index words (index_of at s r)) i == 1)
 
 -- what the board has inside its outer blocks, less n columns and rows on each side
 abbrev pub room : Layout → ℕ → Bounds
 room at n = record {
   left = at.left +ℤ pos (64 + n);
-  top = at.top +ℤ pos (16 + n);
+  top = at.top +ℤ pos (8 + n);
   right = at.left +ℤ (pos (64 * at.strips) -ℤ pos (65 + n));
-  bottom = at.top +ℤ (pos (16 * at.blocks) -ℤ pos (17 + n));
+  bottom = at.top +ℤ (pos (8 * at.blocks) -ℤ pos (9 + n));
 }
 
 -- the cells lie so far inside that they can't reach the outer blocks in n generations
@@ -41,7 +41,7 @@ HasRoom at n cells = (c : Cell) → has cells c ≡ true → IsWithin (room at n
 
 -- the outer blocks have no live cell
 abbrev pub IsDead : Grid → List ℕ → Type 0
-IsDead grid words = (i : ℕ) → ¬ IsInner grid (i / 16) → slice_index words i ≡ 0
+IsDead grid words = (i : ℕ) → ¬ IsInner grid (i / 8) → slice_index words i ≡ 0
 
 -- a board round cells of the plane
 pub record IsLaid (at : Layout) : Type 0 where
@@ -57,8 +57,8 @@ AreAmong others cells = (c : Cell) → has cells c ≡ true → has others c ≡
 
 -- The lists of a board just after the cells were put on it. Before there was nothing: what isn't marked is empty still.
 pub record IsLoaded (at : Layout) (cells : List Cell) (now last todo marks : List ℕ) : Type 0 where
-  pub now_long : length now ≡ 16 * (at.strips * at.blocks)
-  pub last_long : length last ≡ 16 * (at.strips * at.blocks)
+  pub now_long : length now ≡ 8 * (at.strips * at.blocks)
+  pub last_long : length last ≡ 8 * (at.strips * at.blocks)
   pub todo_long : at.strips * at.blocks ≤ 64 * length todo
   pub todo_small : length todo < 2 ^ 40
   pub marks_same : marks ≡ todo
@@ -87,7 +87,7 @@ pub record HasReadRows (at : Layout) (words : List ℕ) (n : ℕ) (new : List Ce
 
 -- no cell of the block in a band and a strip is alive
 abbrev pub IsBlockEmpty : Layout → List ℕ → ℕ → ℕ → Type 0
-IsBlockEmpty at words band s = (k b : ℕ) → k < 16 → bit_at (slice_index words (index_of at s (16 * band + k))) b ≡ 0
+IsBlockEmpty at words band s = (k b : ℕ) → k < 8 → bit_at (slice_index words (index_of at s (8 * band + k))) b ≡ 0
 
 -- nor of any strip from one to before another
 abbrev pub IsBandEmpty : Layout → List ℕ → ℕ → ℕ → ℕ → Type 0

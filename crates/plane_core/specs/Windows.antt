@@ -1,5 +1,5 @@
 -- A window: 64 columns by 64 rows, in which a pattern is run for as long as no cell stands on the rim. It is the inside of a board of
--- three strips of six blocks, of which the outer blocks stay empty.
+-- three strips of ten blocks, of which the outer blocks stay empty.
 use Rattle.std.specs.Prelude.{◌≡◌, ◌≢◌, ◌+◌, ◌-◌, ◌<◌, ◌≤◌, ℕ, ℤ, ◌-ℤ◌, pos, List, slice_index, unsigned_abs}
 use Rattle.std.specs.Int.{bit_at}
 use Rattle.plane_core.specs.declared.blocks.Grid.{Grid}
@@ -14,11 +14,11 @@ use Rattle.plane_core.specs.Layouts.{HasRoom, IsDead, IsShown}
 use Rattle.plane_core.specs.Rules.{Numbers}
 
 abbrev pub window_grid : Grid
-window_grid = record { blocks = 6; count = 18 }
+window_grid = record { blocks = 10; count = 30 }
 
 pub record IsWindow (at : Layout) : Type 0 where
   pub strips : at.strips ≡ 3
-  pub blocks : at.blocks ≡ 6
+  pub blocks : at.blocks ≡ 10
 
 -- and one that lies far from the edge of the plane
 pub record IsInland (at : Layout) : Type 0 where
@@ -34,7 +34,7 @@ pub record IsSeen (at : Layout) (words : List ℕ) (cells : List Cell) : Type 0 
 
 -- in the rows of the window, up to a row, a column is empty
 abbrev pub IsColumnClear : List ℕ → ℕ → ℕ → Type 0
-IsColumnClear words n b = (i : ℕ) → 112 ≤ i → i < n → bit_at (slice_index words i) b ≡ 0
+IsColumnClear words n b = (i : ℕ) → 88 ≤ i → i < n → bit_at (slice_index words i) b ≡ 0
 
 -- neither the first nor the last column is among these
 abbrev pub AreSidesClear : ℕ → Type 0
@@ -42,21 +42,21 @@ AreSidesClear columns = (bit_at columns 0 ≡ 0) × (bit_at columns 63 ≡ 0)
 
 -- no cell stands in the first or last row, or in the first or last column
 pub record IsRimClear (words : List ℕ) : Type 0 where
-  pub top : slice_index words 112 ≡ 0
-  pub bottom : slice_index words 175 ≡ 0
-  pub left : IsColumnClear words 176 0
-  pub right : IsColumnClear words 176 63
+  pub top : slice_index words 88 ≡ 0
+  pub bottom : slice_index words 151 ≡ 0
+  pub left : IsColumnClear words 152 0
+  pub right : IsColumnClear words 152 63
 
--- no cell is alive in sixteen rows of the window, nor in the words round them
+-- no cell is alive in eight rows of the window, nor in the words round them
 pub record IsEmptyRound (words : List ℕ) (from : ℕ) : Type 0 where
-  pub west : (k b : ℕ) → k < 18 → bit_at (slice_index words (from - 97 + k)) b ≡ 0
-  pub here : (k b : ℕ) → k < 18 → bit_at (slice_index words (from - 1 + k)) b ≡ 0
-  pub east : (k b : ℕ) → k < 18 → bit_at (slice_index words (from + 95 + k)) b ≡ 0
+  pub west : (k b : ℕ) → k < 10 → bit_at (slice_index words (from - 81 + k)) b ≡ 0
+  pub here : (k b : ℕ) → k < 10 → bit_at (slice_index words (from - 1 + k)) b ≡ 0
+  pub east : (k b : ℕ) → k < 10 → bit_at (slice_index words (from + 79 + k)) b ≡ 0
 
 -- the rows before row n are those of the next generation, and the others are what they were
 pub record IsStepped (rule : Numbers) (n : ℕ) (now old new : List ℕ) : Type 0 where
-  pub next : (i : ℕ) → 112 ≤ i → i < n → IsNextAt rule window_grid now i (slice_index new i)
-  pub above : (i : ℕ) → i < 112 → slice_index new i ≡ slice_index old i
+  pub next : (i : ℕ) → 88 ≤ i → i < n → IsNextAt rule window_grid now i (slice_index new i)
+  pub above : (i : ℕ) → i < 88 → slice_index new i ≡ slice_index old i
   pub below : (i : ℕ) → n ≤ i → slice_index new i ≡ slice_index old i
 
 -- the cell is so many columns and rows from the first cell of the board
@@ -68,11 +68,11 @@ pub record IsSpot (at : Layout) (c : Cell) (across down : ℕ) : Type 0 where
 pub record IsFirst (words : List ℕ) (s : Spot) : Type 0 where
   pub left : 64 ≤ s.across
   pub right : s.across < 128
-  pub top : 16 ≤ s.down
-  pub bottom : s.down < 80
-  pub alive : bit_at (slice_index words (96 + s.down)) (s.across - 64) ≡ 1
-  pub above : (r : ℕ) → 16 ≤ r → r < s.down → slice_index words (96 + r) ≡ 0
-  pub before : (b : ℕ) → b < s.across - 64 → bit_at (slice_index words (96 + s.down)) b ≡ 0
+  pub top : 8 ≤ s.down
+  pub bottom : s.down < 72
+  pub alive : bit_at (slice_index words (80 + s.down)) (s.across - 64) ≡ 1
+  pub above : (r : ℕ) → 8 ≤ r → r < s.down → slice_index words (80 + r) ≡ 0
+  pub before : (b : ℕ) → b < s.across - 64 → bit_at (slice_index words (80 + s.down)) b ≡ 0
 
 -- none of the generations from 1 to n is the pattern itself again, moved or not
 abbrev pub NeverBack : Numbers → List Cell → ℕ → Type 0

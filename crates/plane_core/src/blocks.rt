@@ -41,22 +41,22 @@ impl Grid {
 
 /// Word i with its neighbours in the row.
 fn row_of(words: &[u64], grid: Grid, i: usize) -> Row
-    requires low { 16 * grid.blocks ≤ i }
-    requires high { i + 16 * grid.blocks < length words.now }
+    requires low { 8 * grid.blocks ≤ i }
+    requires high { i + 8 * grid.blocks < length words.now }
     ensures { result ≡ row_at words.now grid i }
 {
     Row {
-        before: words[i - 16 * grid.blocks],
+        before: words[i - 8 * grid.blocks],
         here: words[i],
-        after: words[i + 16 * grid.blocks],
+        after: words[i + 8 * grid.blocks],
     }
 }
 
 /// Word i of the next generation.
 #[inline(always)]
 fn next_word(answers: &Answers, grid: Grid, now: &[u64], i: usize) -> u64
-    requires low { 16 * grid.blocks + 1 ≤ i }
-    requires high { i + 16 * grid.blocks + 1 < length now.now }
+    requires low { 8 * grid.blocks + 1 ≤ i }
+    requires high { i + 8 * grid.blocks + 1 < length now.now }
     ensures { IsNextAt answers.now.rule grid now.now i result }
 {
     let above = row_of(now, grid, i - 1);
@@ -68,8 +68,8 @@ fn next_word(answers: &Answers, grid: Grid, now: &[u64], i: usize) -> u64
 /// Word i of the next generation, in Life.
 #[inline(always)]
 fn next_word_of_life(grid: Grid, now: &[u64], i: usize) -> u64
-    requires low { 16 * grid.blocks + 1 ≤ i }
-    requires high { i + 16 * grid.blocks + 1 < length now.now }
+    requires low { 8 * grid.blocks + 1 ≤ i }
+    requires high { i + 8 * grid.blocks + 1 < length now.now }
     ensures { IsNextAt life grid now.now i result }
 {
     let above = row_of(now, grid, i - 1);
@@ -78,16 +78,16 @@ fn next_word_of_life(grid: Grid, now: &[u64], i: usize) -> u64
     word::next_word_of_life(above, here, below)
 }
 
-/// Sixteen words of the next generation, from this one on.
+/// Eight words of the next generation, from this one on.
 ///
 /// They stand apart from both lists, so that no test is needed whether the lists overlap, and Life has a loop of its
 /// own, so that no branch is in a loop. Then the compiler makes several words at once, where it sees all of it in one
 /// place; as calls these functions would make one word after another.
 #[inline(always)]
-pub(crate) fn next_words(answers: &Answers, grid: Grid, now: &[u64], from: usize) -> [u64; 16]
-    requires low { 16 * grid.blocks + 1 ≤ from }
-    requires high { from + 16 * grid.blocks + 16 < length now.now }
-    ensures { (k : ℕ) → k < 16 → IsNextAt answers.now.rule grid now.now (from + k) (slice_index result k) }
+pub(crate) fn next_words(answers: &Answers, grid: Grid, now: &[u64], from: usize) -> [u64; 8]
+    requires low { 8 * grid.blocks + 1 ≤ from }
+    requires high { from + 8 * grid.blocks + 8 < length now.now }
+    ensures { (k : ℕ) → k < 8 → IsNextAt answers.now.rule grid now.now (from + k) (slice_index result k) }
 {
     if answers.is_life {
         return next_words_of_life(grid, now, from);
@@ -95,29 +95,29 @@ pub(crate) fn next_words(answers: &Answers, grid: Grid, now: &[u64], from: usize
     next_words_by_rule(answers, grid, now, from)
 }
 
-/// Sixteen words of the next generation in Life.
+/// Eight words of the next generation in Life.
 #[inline(always)]
-fn next_words_of_life(grid: Grid, now: &[u64], from: usize) -> [u64; 16]
-    requires low { 16 * grid.blocks + 1 ≤ from }
-    requires high { from + 16 * grid.blocks + 16 < length now.now }
-    ensures { (k : ℕ) → k < 16 → IsNextAt life grid now.now (from + k) (slice_index result k) }
+fn next_words_of_life(grid: Grid, now: &[u64], from: usize) -> [u64; 8]
+    requires low { 8 * grid.blocks + 1 ≤ from }
+    requires high { from + 8 * grid.blocks + 8 < length now.now }
+    ensures { (k : ℕ) → k < 8 → IsNextAt life grid now.now (from + k) (slice_index result k) }
 {
-    let mut words = [0; 16];
-    for k in 0..16 {
+    let mut words = [0; 8];
+    for k in 0..8 {
         words[k] = next_word_of_life(grid, now, from + k);
     }
     words
 }
 
-/// Sixteen words of the next generation, chosen by the answers of a rule.
+/// Eight words of the next generation, chosen by the answers of a rule.
 #[inline(always)]
-fn next_words_by_rule(answers: &Answers, grid: Grid, now: &[u64], from: usize) -> [u64; 16]
-    requires low { 16 * grid.blocks + 1 ≤ from }
-    requires high { from + 16 * grid.blocks + 16 < length now.now }
-    ensures { (k : ℕ) → k < 16 → IsNextAt answers.now.rule grid now.now (from + k) (slice_index result k) }
+fn next_words_by_rule(answers: &Answers, grid: Grid, now: &[u64], from: usize) -> [u64; 8]
+    requires low { 8 * grid.blocks + 1 ≤ from }
+    requires high { from + 8 * grid.blocks + 8 < length now.now }
+    ensures { (k : ℕ) → k < 8 → IsNextAt answers.now.rule grid now.now (from + k) (slice_index result k) }
 {
-    let mut words = [0; 16];
-    for k in 0..16 {
+    let mut words = [0; 8];
+    for k in 0..8 {
         words[k] = next_word(answers, grid, now, from + k);
     }
     words
@@ -146,14 +146,12 @@ fn mark(flags: &mut [u64], k: usize)
     flags[k / 64] |= 1 << (k % 64);
 }
 
-/// Marks block k if there is a change.
+/// Marks block k if there is a change. No branch depends on that: which blocks change can't be foreseen.
 fn mark_if(flags: &mut [u64], k: usize, change: u64)
     requires { k < 64 * length flags.old }
     ensures { (m : ℕ) → IsClear flags.new m → IsClear flags.old m × (m ≡ k → change ≡ 0) }
 {
-    if change != 0 {
-        mark(flags, k);
-    }
+    flags[k / 64] |= u64::from(change != 0) << (k % 64);
 }
 
 /// Marks block k and those above and below it if there is a change.
@@ -214,18 +212,18 @@ pub(crate) fn mark_near(flags: &mut [u64], grid: Grid, j: usize)
 fn step_block(answers: &Answers, grid: Grid, now: &[u64], last: &mut [u64], j: usize) -> Changes
     requires inner { IsInner grid j }
     requires long { length last.old ≡ length now.now }
-    requires size { length now.now ≡ 16 * grid.count }
+    requires size { length now.now ≡ 8 * grid.count }
     ensures written { IsWritten answers.now.rule grid j now.now last.old last.new }
     ensures changes { TellsChanges j result last.old last.new }
 {
-    let start = 16 * j;
+    let start = 8 * j;
     let words = next_words(answers, grid, now, start);
     let top = write_word(last, start, words[0]);
     let mut columns = top;
-    for k in 1..15 {
+    for k in 1..7 {
         columns |= write_word(last, start + k, words[k]);
     }
-    let bottom = write_word(last, start + 15, words[15]);
+    let bottom = write_word(last, start + 7, words[7]);
     Changes {
         columns: columns | bottom,
         top,
@@ -243,7 +241,7 @@ fn step_one(
     j: usize,
 )
     requires long { length last.old ≡ length now.now }
-    requires size { length now.now ≡ 16 * grid.count }
+    requires size { length now.now ≡ 8 * grid.count }
     requires flags { grid.count ≤ 64 * length marks.old }
     ensures { (old first todo : List ℕ) → IsRight answers.now.rule grid now.now old todo
         → IsGoing answers.now.rule grid j now.now old last.old first marks.old
@@ -283,7 +281,7 @@ fn step_group(
     flags: u64,
 )
     requires long { length last.old ≡ length now.now }
-    requires size { length now.now ≡ 16 * grid.count }
+    requires size { length now.now ≡ 8 * grid.count }
     requires flags { grid.count ≤ 64 * length marks.old }
     requires small { w < 2 ^ 40 }
     ensures { (old first todo : List ℕ) → slice_index todo w ≡ flags → IsRight answers.now.rule grid now.now old todo
@@ -309,7 +307,7 @@ pub(crate) fn generation(
     marks: &mut [u64],
 )
     requires long { length last.old ≡ length now.now }
-    requires size { length now.now ≡ 16 * grid.count }
+    requires size { length now.now ≡ 8 * grid.count }
     requires flags { grid.count ≤ 64 * length marks.old }
     requires todo { grid.count ≤ 64 * length todo.now }
     requires small { length todo.now < 2 ^ 40 }

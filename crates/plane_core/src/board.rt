@@ -24,7 +24,7 @@ use crate::word::Answers;
 use std::alloc::{AllocError, Global};
 use std::mem::swap;
 
-/// Where a board lies: its first column and row, how many strips of 64 columns it has, and how many blocks of 16 rows
+/// Where a board lies: its first column and row, how many strips of 64 columns it has, and how many blocks of 8 rows
 /// each.
 #[derive(Clone, Copy)]
 pub(crate) struct Layout {
@@ -97,22 +97,22 @@ impl Layout {
         ensures room { (c : Cell) → IsWithin bounds c → IsWithin (room result margin) c }
     {
         let width = apart(bounds.left, bounds.right) + 2 * margin + 65;
-        let height = apart(bounds.top, bounds.bottom) + 2 * margin + 17;
+        let height = apart(bounds.top, bounds.bottom) + 2 * margin + 9;
         Layout {
             left: back(bounds.left, margin + 64),
-            top: back(bounds.top, margin + 16),
+            top: back(bounds.top, margin + 8),
             strips: (width / 64 + 2) as usize,
-            blocks: (height / 16 + 2) as usize,
+            blocks: (height / 8 + 2) as usize,
         }
     }
 
-    /// Whether there are many more blocks than cells: over 16,384, which take 4 megabytes, and sixteen a cell.
+    /// Whether there are many more blocks than cells: over 32,768, which take 4 megabytes, and 32 a cell.
     fn is_sparse(self, population: usize) -> bool
         requires { IsLaid self }
-        ensures { result ≡ false → self.strips * self.blocks ≤ 16 * population + 16400 }
+        ensures { result ≡ false → self.strips * self.blocks ≤ 32 * population + 32800 }
     {
         let count = self.grid().count;
-        count > 16_384 && (count - 16_384) / 16 > population
+        count > 32_768 && (count - 32_768) / 32 > population
     }
 
     /// How many blocks there are.
@@ -130,19 +130,19 @@ impl Layout {
     fn index(self, strip: usize, row: usize) -> usize
         requires laid { IsLaid self }
         requires strip { strip < self.strips }
-        requires row { row < 16 * self.blocks }
+        requires row { row < 8 * self.blocks }
         ensures index { result ≡ index_of self strip row }
-        ensures inside { result < 16 * (self.strips * self.blocks) }
+        ensures inside { result < 8 * (self.strips * self.blocks) }
         ensures small { result < 2 ^ 40 }
     {
-        strip * (16 * self.blocks) + row
+        strip * (8 * self.blocks) + row
     }
 
     /// The first cell of a row of a strip.
     fn corner(self, strip: usize, row: usize) -> Cell
         requires laid { IsLaid self }
         requires strip { strip < self.strips }
-        requires row { row < 16 * self.blocks }
+        requires row { row < 8 * self.blocks }
         ensures corner { result ≡ place self strip row 0 }
         ensures small { unsigned_abs result.x ≤ 2 ^ 24 }
     {
@@ -158,7 +158,7 @@ impl Layout {
         requires within { IsWithin (room self 0) cell }
         ensures { IsInner (grid_of self) result }
     {
-        self.index(self.across(cell) / 64, self.down(cell)) / 16
+        self.index(self.across(cell) / 64, self.down(cell)) / 8
     }
 
     /// How many columns of the board are left of the cell.
@@ -199,8 +199,8 @@ impl Board {
             (λ board. IsLoaded at cells.now board.now.items board.last.items board.todo.items board.marks.items) }
     {
         let count = at.grid().count;
-        let last = vec![in alloc; 0u64; 16 * count]?;
-        let mut now = vec![in alloc; 0u64; 16 * count]?;
+        let last = vec![in alloc; 0u64; 8 * count]?;
+        let mut now = vec![in alloc; 0u64; 8 * count]?;
         let mut todo = vec![in alloc; 0u64; count / 64 + 1]?;
         fill(at, now.as_mut_slice(), todo.as_mut_slice(), cells);
         let marks = Vec::from_slice(alloc, todo.as_slice())?;
@@ -284,8 +284,8 @@ fn read_row(
     cells: &mut Vec<Cell>,
 ) -> Result<(), AllocError>
     requires laid { IsLaid at }
-    requires row { row < 16 * at.blocks }
-    requires long { length words.now ≡ 16 * (at.strips * at.blocks) }
+    requires row { row < 8 * at.blocks }
+    requires long { length words.now ≡ 8 * (at.strips * at.blocks) }
     requires order { first ≤ end }
     requires end { end ≤ at.strips }
     requires left { IsRowEmpty at words.now row 0 first }
@@ -309,17 +309,17 @@ fn read_band(
 ) -> Result<(), AllocError>
     requires laid { IsLaid at }
     requires band { band < at.blocks }
-    requires long { length words.now ≡ 16 * (at.strips * at.blocks) }
+    requires long { length words.now ≡ 8 * (at.strips * at.blocks) }
     ensures { OnOk result
-        (HasReadRows at words.now (16 * band) cells.old.items
-        → HasReadRows at words.now (16 * band + 16) cells.new.items) }
+        (HasReadRows at words.now (8 * band) cells.old.items
+        → HasReadRows at words.now (8 * band + 8) cells.new.items) }
 {
     let first = first_strip(at, words, band);
     if first == at.strips {
         return Ok(());
     }
     let end = end_of_strips(at, words, band, first);
-    for row in 16 * band..16 * band + 16 {
+    for row in 8 * band..8 * band + 8 {
         read_row(at, words, row, first, end, cells)?;
     }
     Ok(())
@@ -329,7 +329,7 @@ fn read_band(
 fn first_strip(at: Layout, words: &[u64], band: usize) -> usize
     requires laid { IsLaid at }
     requires band { band < at.blocks }
-    requires long { length words.now ≡ 16 * (at.strips * at.blocks) }
+    requires long { length words.now ≡ 8 * (at.strips * at.blocks) }
     ensures most { result ≤ at.strips }
     ensures empty { IsBandEmpty at words.now band 0 result }
 {
@@ -344,7 +344,7 @@ fn first_strip(at: Layout, words: &[u64], band: usize) -> usize
 fn end_of_strips(at: Layout, words: &[u64], band: usize, first: usize) -> usize
     requires laid { IsLaid at }
     requires band { band < at.blocks }
-    requires long { length words.now ≡ 16 * (at.strips * at.blocks) }
+    requires long { length words.now ≡ 8 * (at.strips * at.blocks) }
     requires first { first ≤ at.strips }
     ensures least { first ≤ result }
     ensures most { result ≤ at.strips }
@@ -362,19 +362,19 @@ fn is_block_empty(at: Layout, words: &[u64], strip: usize, band: usize) -> bool
     requires laid { IsLaid at }
     requires strip { strip < at.strips }
     requires band { band < at.blocks }
-    requires long { length words.now ≡ 16 * (at.strips * at.blocks) }
+    requires long { length words.now ≡ 8 * (at.strips * at.blocks) }
     ensures { IsTrue result → IsBlockEmpty at words.now band strip }
 {
-    columns_of_block(words, at.index(strip, 16 * band)) == 0
+    columns_of_block(words, at.index(strip, 8 * band)) == 0
 }
 
-/// Which columns have a live cell in sixteen words, from this one on.
+/// Which columns have a live cell in eight words, from this one on.
 fn columns_of_block(words: &[u64], from: usize) -> u64
-    requires { from + 16 ≤ length words.now }
-    ensures { (b k : ℕ) → bit_at result b ≡ 0 → k < 16 → bit_at (slice_index words.now (from + k)) b ≡ 0 }
+    requires { from + 8 ≤ length words.now }
+    ensures { (b k : ℕ) → bit_at result b ≡ 0 → k < 8 → bit_at (slice_index words.now (from + k)) b ≡ 0 }
 {
     let mut columns = 0;
-    for k in 0..16 {
+    for k in 0..8 {
         columns |= words[from + k];
     }
     columns
@@ -384,7 +384,7 @@ fn columns_of_block(words: &[u64], from: usize) -> u64
 /// little to see to that.
 fn read(alloc: Global, at: Layout, words: &[u64], room: usize) -> Result<Vec<Cell>, AllocError>
     requires laid { IsLaid at }
-    requires long { length words.now ≡ 16 * (at.strips * at.blocks) }
+    requires long { length words.now ≡ 8 * (at.strips * at.blocks) }
     ensures { IfOk result
         (λ read. (cells : List Cell) → InOrder cells → HasRoom at 0 cells → IsShown at words.now cells
         → read.items ≡ cells) }
@@ -410,7 +410,7 @@ fn farthest(bounds: Bounds) -> u32
 fn put(at: Layout, words: &mut [u64], flags: &mut [u64], cell: Cell, last: usize) -> usize
     requires laid { IsLaid at }
     requires within { IsWithin (room at 0) cell }
-    requires long { length words.old ≡ 16 * (at.strips * at.blocks) }
+    requires long { length words.old ≡ 8 * (at.strips * at.blocks) }
     requires flags { at.strips * at.blocks ≤ 64 * length flags.old }
     requires marked { IsMarkedRound (grid_of at) flags.old last }
     ensures shown { (cells : List Cell) → IsShown at words.old cells → IsShown at words.new (cells ++ cell ∷ []) }
@@ -421,15 +421,15 @@ fn put(at: Layout, words: &mut [u64], flags: &mut [u64], cell: Cell, last: usize
     let across = at.across(cell);
     let i = at.index(across / 64, at.down(cell));
     words[i] |= 1 << (across % 64);
-    mark_round(flags, at.grid(), i / 16, last);
-    i / 16
+    mark_round(flags, at.grid(), i / 8, last);
+    i / 8
 }
 
 /// Puts all cells on an empty board.
 fn fill(at: Layout, words: &mut [u64], flags: &mut [u64], cells: &[Cell])
     requires laid { IsLaid at }
     requires room { HasRoom at 0 cells.now }
-    requires long { length words.old ≡ 16 * (at.strips * at.blocks) }
+    requires long { length words.old ≡ 8 * (at.strips * at.blocks) }
     requires flags { at.strips * at.blocks ≤ 64 * length flags.old }
     requires empty { (i : ℕ) → slice_index words.old i ≡ 0 }
     ensures shown { IsShown at words.new cells.now }

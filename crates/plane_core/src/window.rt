@@ -33,11 +33,11 @@ use crate::pattern::Pattern;
 use crate::rule::Rule;
 use crate::word::Answers;
 
-/// The board of a window: three strips of six blocks. Cells stand in the middle strip, in the blocks 7 to 10 of the
+/// The board of a window: three strips of ten blocks. Cells stand in the middle strip, in the blocks 11 to 18 of the
 /// list.
 const WINDOW: Grid = Grid {
-    blocks: 6,
-    count: 18,
+    blocks: 10,
+    count: 30,
 };
 
 /// A place in the window: columns and rows from the first cell of its board.
@@ -83,9 +83,9 @@ fn window_round(pattern: &Pattern) -> Option<Layout>
     }
     Some(Layout {
         left: back(bounds.left, 64 + (63 - width) / 2),
-        top: back(bounds.top, 16 + (63 - height) / 2),
+        top: back(bounds.top, 8 + (63 - height) / 2),
         strips: 3,
-        blocks: 6,
+        blocks: 10,
     })
 }
 
@@ -109,8 +109,8 @@ fn changes_in(at: Layout, rule: &Rule, cells: &[Cell], generations: u32) -> bool
     ensures { IsTrue result → HasChanged rule.now at cells.now generations }
 {
     let answers = Answers::new(rule);
-    let mut now = [0; 288];
-    let mut later = [0; 288];
+    let mut now = [0; 240];
+    let mut later = [0; 240];
     fill(at, &mut now, cells);
     for half in 0..generations / 2 + 1 {
         let changed = goes_on(&answers, at, cells, &now, &mut later);
@@ -131,13 +131,13 @@ fn goes_on(answers: &Answers, at: Layout, start: &[Cell], now: &[u64], later: &m
     requires window { IsWindow at }
     requires some { 1 ≤ length start.now }
     requires room { HasRoom at 0 start.now }
-    requires now { length now.now ≡ 288 }
-    requires later { length later.old ≡ 288 }
+    requires now { length now.now ≡ 240 }
+    requires later { length later.old ≡ 240 }
     ensures seen { IsTrue result → (cells : List Cell) → IsDead window_grid later.old → IsSeen at now.now cells
         → IsSeen at later.new (next answers.now.rule cells) }
     ensures new { IsTrue result → (cells : List Cell) (dx dy : ℤ) → IsDead window_grid later.old
         → IsSeen at now.now cells → next answers.now.rule cells ≢ shifted dx dy start.now }
-    ensures long { length later.new ≡ 288 }
+    ensures long { length later.new ≡ 240 }
 {
     if !is_rim_clear(now) {
         return false;
@@ -162,13 +162,13 @@ fn are_sides_clear(columns: u64) -> bool
 
 /// Whether no cell stands on the rim.
 fn is_rim_clear(words: &[u64]) -> bool
-    requires { length words.now ≡ 288 }
+    requires { length words.now ≡ 240 }
     ensures { IsTrue result → IsRimClear words.now }
 {
-    if words[112] != 0 {
+    if words[88] != 0 {
         return false;
     }
-    if words[175] != 0 {
+    if words[151] != 0 {
         return false;
     }
     are_sides_clear(columns_of(words))
@@ -176,11 +176,11 @@ fn is_rim_clear(words: &[u64]) -> bool
 
 /// Which columns have a cell.
 fn columns_of(words: &[u64]) -> u64
-    requires { length words.now ≡ 288 }
-    ensures { (b : ℕ) → bit_at result b ≡ 0 → IsColumnClear words.now 176 b }
+    requires { length words.now ≡ 240 }
+    ensures { (b : ℕ) → bit_at result b ≡ 0 → IsColumnClear words.now 152 b }
 {
     let mut columns = 0;
-    for i in 112..176 {
+    for i in 88..152 {
         columns |= words[i];
     }
     columns
@@ -188,67 +188,67 @@ fn columns_of(words: &[u64]) -> u64
 
 /// Makes the next generation.
 fn step(answers: &Answers, now: &[u64], later: &mut [u64])
-    requires now { length now.now ≡ 288 }
-    requires later { length later.old ≡ 288 }
+    requires now { length now.now ≡ 240 }
+    requires later { length later.old ≡ 240 }
     ensures next { IsNext answers.now.rule window_grid now.now later.new }
     ensures outer { KeepsOuter window_grid later.old later.new }
-    ensures long { length later.new ≡ 288 }
+    ensures long { length later.new ≡ 240 }
 {
-    for band in 0..4 {
-        step_sixteen(answers, now, later, 112 + 16 * band);
+    for band in 0..8 {
+        step_eight(answers, now, later, 88 + 8 * band);
     }
 }
 
-/// Makes sixteen rows of the next generation, from this word on.
-fn step_sixteen(answers: &Answers, now: &[u64], later: &mut [u64], from: usize)
-    requires now { length now.now ≡ 288 }
-    requires later { length later.old ≡ 288 }
-    requires low { 112 ≤ from }
-    requires high { from ≤ 160 }
+/// Makes eight rows of the next generation, from this word on.
+fn step_eight(answers: &Answers, now: &[u64], later: &mut [u64], from: usize)
+    requires now { length now.now ≡ 240 }
+    requires later { length later.old ≡ 240 }
+    requires low { 88 ≤ from }
+    requires high { from ≤ 144 }
     ensures stepped { (old : List ℕ) → IsStepped answers.now.rule from now.now old later.old
-        → IsStepped answers.now.rule (from + 16) now.now old later.new }
-    ensures long { length later.new ≡ 288 }
+        → IsStepped answers.now.rule (from + 8) now.now old later.new }
+    ensures long { length later.new ≡ 240 }
 {
-    let words = next_sixteen(answers, now, from);
-    for k in 0..16 {
+    let words = next_eight(answers, now, from);
+    for k in 0..8 {
         later[from + k] = words[k];
     }
 }
 
-/// Sixteen rows of the next generation, from this word on. Most are far from any cell, and stay empty.
-fn next_sixteen(answers: &Answers, now: &[u64], from: usize) -> [u64; 16]
-    requires now { length now.now ≡ 288 }
-    requires low { 112 ≤ from }
-    requires high { from ≤ 160 }
-    ensures { (k : ℕ) → k < 16 → IsNextAt answers.now.rule window_grid now.now (from + k) (slice_index result k) }
+/// Eight rows of the next generation, from this word on. Most are far from any cell, and stay empty.
+fn next_eight(answers: &Answers, now: &[u64], from: usize) -> [u64; 8]
+    requires now { length now.now ≡ 240 }
+    requires low { 88 ≤ from }
+    requires high { from ≤ 144 }
+    ensures { (k : ℕ) → k < 8 → IsNextAt answers.now.rule window_grid now.now (from + k) (slice_index result k) }
 {
     if is_empty_round(now, from) {
-        return [0; 16];
+        return [0; 8];
     }
     next_words(answers, WINDOW, now, from)
 }
 
-/// Whether no cell is alive in sixteen rows, from this word on, nor in any word round them.
+/// Whether no cell is alive in eight rows, from this word on, nor in any word round them.
 fn is_empty_round(words: &[u64], from: usize) -> bool
-    requires now { length words.now ≡ 288 }
-    requires low { 112 ≤ from }
-    requires high { from ≤ 160 }
+    requires now { length words.now ≡ 240 }
+    requires low { 88 ≤ from }
+    requires high { from ≤ 144 }
     ensures { IsTrue result → IsEmptyRound words.now from }
 {
-    let west = columns_from(words, from - 97);
+    let west = columns_from(words, from - 81);
     let here = columns_from(words, from - 1);
-    let east = columns_from(words, from + 95);
+    let east = columns_from(words, from + 79);
     let columns = west | here | east;
     columns == 0
 }
 
 /// Which columns have a cell in eighteen words, from this one on.
 fn columns_from(words: &[u64], from: usize) -> u64
-    requires { from + 18 ≤ length words.now }
-    ensures { (b k : ℕ) → bit_at result b ≡ 0 → k < 18 → bit_at (slice_index words.now (from + k)) b ≡ 0 }
+    requires { from + 10 ≤ length words.now }
+    ensures { (b k : ℕ) → bit_at result b ≡ 0 → k < 10 → bit_at (slice_index words.now (from + k)) b ≡ 0 }
 {
     let mut columns = 0;
-    for k in 0..18 {
+    for k in 0..10 {
         columns |= words[from + k];
     }
     columns
@@ -258,7 +258,7 @@ fn columns_from(words: &[u64], from: usize) -> u64
 fn may_be(at: Layout, words: &[u64], start: &[Cell]) -> bool
     requires laid { IsLaid at }
     requires window { IsWindow at }
-    requires long { length words.now ≡ 288 }
+    requires long { length words.now ≡ 240 }
     requires some { 1 ≤ length start.now }
     requires room { HasRoom at 0 start.now }
     ensures { (cells : List Cell) (dx dy : ℤ) → IsSeen at words.now cells → cells ≡ shifted dx dy start.now
@@ -278,11 +278,11 @@ fn may_be(at: Layout, words: &[u64], start: &[Cell]) -> bool
 
 /// Where the first live cell is.
 fn first_spot(words: &[u64]) -> Option<Spot>
-    requires { length words.now ≡ 288 }
+    requires { length words.now ≡ 240 }
     ensures { IfSome result (IsFirst words.now) }
 {
-    for down in 16..80 {
-        let word = words[96 + down];
+    for down in 8..72 {
+        let word = words[80 + down];
         if word != 0 {
             let across = 64 + word.trailing_zeros() as usize;
             return Some(Spot { across, down });
@@ -298,7 +298,7 @@ fn spot_of(at: Layout, cell: Cell) -> Spot
     requires within { IsWithin (room at 0) cell }
     ensures spot { IsSpot at cell result.across result.down }
     ensures across { result.across < 128 }
-    ensures down { result.down < 80 }
+    ensures down { result.down < 72 }
 {
     Spot {
         across: (cell.x - at.left) as usize,
@@ -308,12 +308,12 @@ fn spot_of(at: Layout, cell: Cell) -> Spot
 
 /// Whether the cell is alive that is as far from the one place as this one is from the other.
 fn is_alive_moved(words: &[u64], spot: Spot, from: Spot, to: Spot) -> bool
-    requires long { length words.now ≡ 288 }
+    requires long { length words.now ≡ 240 }
     requires across { spot.across + to.across < 1000 }
     requires down { spot.down + to.down < 1000 }
     ensures { (a d : ℕ) → a + from.across ≡ spot.across + to.across → d + from.down ≡ spot.down + to.down → 64 ≤ a
-        → a < 128 → d < 96
-        → bit_at (slice_index words.now (96 + d)) (a - 64) ≡ 1 → IsTrue result }
+        → a < 128 → d < 80
+        → bit_at (slice_index words.now (80 + d)) (a - 64) ≡ 1 → IsTrue result }
 {
     let across = spot.across + to.across;
     let down = spot.down + to.down;
@@ -325,11 +325,11 @@ fn is_alive_moved(words: &[u64], spot: Spot, from: Spot, to: Spot) -> bool
 
 /// Whether the cell so many columns and rows from the first one of the board lies in the window and is alive.
 fn is_alive(words: &[u64], across: usize, down: usize) -> bool
-    requires { length words.now ≡ 288 }
-    ensures { 64 ≤ across → across < 128 → down < 96 → bit_at (slice_index words.now (96 + down)) (across - 64) ≡ 1
+    requires { length words.now ≡ 240 }
+    ensures { 64 ≤ across → across < 128 → down < 80 → bit_at (slice_index words.now (80 + down)) (across - 64) ≡ 1
         → IsTrue result }
 {
-    64 <= across && across < 128 && down < 96 && words[96 + down] >> (across - 64) & 1 == 1
+    64 <= across && across < 128 && down < 80 && words[80 + down] >> (across - 64) & 1 == 1
 }
 
 /// Puts the cells into an empty window.
@@ -337,14 +337,14 @@ fn fill(at: Layout, words: &mut [u64], cells: &[Cell])
     requires laid { IsLaid at }
     requires window { IsWindow at }
     requires room { HasRoom at 0 cells.now }
-    requires long { length words.old ≡ 288 }
+    requires long { length words.old ≡ 240 }
     requires empty { (i : ℕ) → slice_index words.old i ≡ 0 }
     ensures shown { IsShown at words.new cells.now }
     ensures dead { IsDead window_grid words.new }
-    ensures long { length words.new ≡ 288 }
+    ensures long { length words.new ≡ 240 }
 {
     for cell in cells {
         let spot = spot_of(at, *cell);
-        words[spot.across / 64 * 96 + spot.down] |= 1 << (spot.across % 64);
+        words[spot.across / 64 * 80 + spot.down] |= 1 << (spot.across % 64);
     }
 }

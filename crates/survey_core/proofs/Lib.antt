@@ -7,6 +7,7 @@ pub mod GroupLemmas
 mod GroupingLemmas
 mod ImageLemmas
 mod MemoLemmas
+mod NearbyLemmas
 mod ObjectLemmas
 mod PartitionLemmas
 mod PlacedFindings

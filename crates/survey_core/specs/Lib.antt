@@ -3,6 +3,7 @@ pub mod Findings
 pub mod Grouping
 pub mod Groups
 pub mod Memos
+pub mod Nearby
 pub mod Objects
 pub mod Profiles
 pub mod Rest

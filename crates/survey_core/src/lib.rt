@@ -21,3 +21,7 @@ pub mod soup;
 pub mod sweep;
 /// Groups of clusters that may meet.
 mod groups;
+/// An early no, from the clusters near a place.
+mod nearby;
+/// In which slot of a memo a pattern belongs.
+mod slot;

@@ -14,6 +14,7 @@
 //! shape, moved. Else the cluster is run and named, and is what stands in the slot from then on.
 //!
 //! Which slot is chosen and what is kept are free choices: a memo that forgets makes a survey slower, and nothing else.
+//! So is where it says that the last change was.
 
 ghost use Rattle.std.specs.Prelude.{◌≡◌, ◌≢◌, ◌+ℤ◌, ◌≤◌, [], All, IfNone, IfOk, IfSome, IsTrue, true};
 ghost use Rattle.plane_core.specs.Cells.{InOrder};
@@ -23,6 +24,7 @@ ghost use Rattle.survey_core.specs.Memos.{IsAbout, IsKnown, moved_bounds, moved_
 ghost use Rattle.survey_core.specs.Rest.{ComesBack};
 ghost use Rattle.survey_core.specs.Sweeps.{AreSweeps, IsSweep};
 
+use crate::slot::slot_of;
 use crate::sweep::Sweep;
 use code_core::apgcode::Apgcode;
 use code_core::name::name;
@@ -45,6 +47,7 @@ const MOST_CELLS: usize = 64;
 #[derive(Drop)]
 pub struct Memo {
     slots: Vec<Option<Known>>,
+    change: Option<Cell>,
 }
 
 /// What is known of a shape.
@@ -73,7 +76,10 @@ impl Memo {
     /// large. If there is no memory for it, it has no room.
     pub fn new(alloc: Global) -> Memo {
         match empty_slots(alloc) {
-            Ok(slots) => Memo { slots },
+            Ok(slots) => Memo {
+                slots,
+                change: None,
+            },
             Err(AllocError) => Memo::without_room(alloc),
         }
     }
@@ -82,6 +88,7 @@ impl Memo {
     pub fn without_room(alloc: Global) -> Memo {
         Memo {
             slots: Vec::new(alloc),
+            change: None,
         }
     }
 
@@ -117,12 +124,13 @@ impl Memo {
     }
 
     /// Whether it is seen at a glance that one of the patterns doesn't come back within so many generations.
-    fn sees_change(&self, rule: &Rule, limit: u32, patterns: &[Pattern]) -> bool
+    fn sees_change(&mut self, rule: &Rule, limit: u32, patterns: &[Pattern]) -> bool
         ensures { IsTrue result → ¬ All (ComesBack rule.now limit) patterns.now }
     {
         for pattern in patterns {
             let seen = self.sees_that_it_changes(rule, limit, pattern);
             if seen {
+                self.note_change(pattern);
                 return true;
             }
         }
@@ -131,13 +139,25 @@ impl Memo {
 
     /// Whether it is seen at a glance that a pattern doesn't come back within so many generations. One that is
     /// remembered does.
-    fn sees_that_it_changes(&self, rule: &Rule, limit: u32, pattern: &Pattern) -> bool
+    pub(crate) fn sees_that_it_changes(&self, rule: &Rule, limit: u32, pattern: &Pattern) -> bool
         ensures { IsTrue result → ¬ ComesBack rule.now limit pattern.now }
     {
         if self.recalled_sweep(rule, limit, pattern).is_some() {
             return false;
         }
         pattern.is_seen_to_change(rule, limit)
+    }
+
+    /// Where the last cluster was that was seen not to come back. What changes next mostly lies near it.
+    pub(crate) fn last_change(&self) -> Option<Cell> {
+        self.change
+    }
+
+    /// Notes where a pattern lies that was seen not to come back.
+    pub(crate) fn note_change(&mut self, pattern: &Pattern) {
+        if let Some(first) = pattern.cells().first() {
+            self.change = Some(*first);
+        }
     }
 
     /// The sweep of a pattern, or `None` if it doesn't come back within so many generations.
@@ -349,31 +369,6 @@ fn moved(at: i32, by: i32) -> Option<i32>
     ensures { IfSome result (λ to. to ≡ at +ℤ by) }
 {
     at.checked_add(by)
-}
-
-/// In which of so many slots a pattern belongs, by a number that is the same wherever it lies.
-fn slot_of(pattern: &Pattern, slots: usize) -> usize {
-    let mut hash = 0;
-    if let Some(first) = pattern.cells().first() {
-        hash = hash_from(*first, pattern.cells());
-    }
-    (hash >> 32) as usize % slots.max(1)
-}
-
-/// A number that is made of the cells as they lie from this one. The multiplier is the odd number next to 2^64 divided
-/// by the golden ratio, which spreads what differs in few bits.
-fn hash_from(first: Cell, cells: &[Cell]) -> u64 {
-    let mut hash = 0u64;
-    for cell in cells {
-        let place = from_to(first.y, cell.y).rotate_left(32) ^ from_to(first.x, cell.x);
-        hash = (hash.rotate_left(5) ^ place).wrapping_mul(0x9e37_79b9_7f4a_7c15);
-    }
-    hash
-}
-
-/// How far it is from one column or row to another, and 2^32 more, so that it isn't negative.
-fn from_to(from: i32, to: i32) -> u64 {
-    (i64::from(to) - i64::from(from) + 0x1_0000_0000) as u64
 }
 
 /// The code of a pattern that comes back within so many generations.

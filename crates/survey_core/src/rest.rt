@@ -31,6 +31,7 @@ ghost use Rattle.survey_core.specs.RestLaws.{AtRestForGood, EmptyIsAtRest, Group
 
 use crate::groups::groups;
 use crate::memo::Memo;
+use crate::nearby::changes_nearby;
 use crate::profile::Profile;
 use plane_core::cell::Cell;
 use plane_core::generation::StepError;
@@ -53,8 +54,13 @@ pub(crate) fn clusters_at_rest(
 {
     // That a pattern's cells stand in order is known of them where they are asked for.
     let _in_order = pattern.cells();
+    let limit = profile.period();
+    let changes = changes_nearby(alloc, rule, limit, pattern, memo)?;
+    if changes {
+        return Ok(None);
+    }
     let clusters = pattern.clusters(alloc)?;
-    let sweeps = match memo.sweeps(alloc, rule, profile.period(), clusters.as_slice())? {
+    let sweeps = match memo.sweeps(alloc, rule, limit, clusters.as_slice())? {
         Some(sweeps) => sweeps,
         None => return Ok(None),
     };

@@ -5,6 +5,6 @@ use Rattle.plane_core.proofs.blocks.next_words_of_life.Given as goal
 
 abbrev pub invariant-loop-k : goal.invariant-loop-k
 invariant-loop-k l = record {
-  long : length l.words ≡ 16;
+  long : length l.words ≡ 8;
   next : (m : ℕ) → m < l.k → IsNextAt life l.grid l.now (l.from + m) (slice_index l.words m);
 }

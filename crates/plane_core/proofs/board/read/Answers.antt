@@ -12,5 +12,5 @@ loop-band-preserved c =
 
 pub returns : goal.returns
 returns c cells o fits shown =
-    let all = subst (λ (n : ℕ). HasReadRows c.args.at c.args.words.now (16 * n) c.loop-band.cells.items) (omega arith) c.loop-band.invariant in
+    let all = subst (λ (n : ℕ). HasReadRows c.args.at c.args.words.now (8 * n) c.loop-band.cells.items) (omega arith) c.loop-band.invariant in
     c.in_order.ensures ∙ read_all c.args.at c.args.words.now cells c.loop-band.cells.items o fits shown all

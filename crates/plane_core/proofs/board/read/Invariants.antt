@@ -3,4 +3,4 @@ use Rattle.plane_core.specs.Layouts.{HasReadRows}
 use Rattle.plane_core.proofs.board.read.Given as goal
 
 abbrev pub invariant-loop-band : goal.invariant-loop-band
-invariant-loop-band l = HasReadRows l.at l.words (16 * l.band) l.cells.items
+invariant-loop-band l = HasReadRows l.at l.words (8 * l.band) l.cells.items

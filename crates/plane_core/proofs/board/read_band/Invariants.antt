@@ -3,4 +3,4 @@ use Rattle.plane_core.specs.Layouts.{HasReadRows}
 use Rattle.plane_core.proofs.board.read_band.Given as goal
 
 abbrev pub invariant-loop-row : goal.invariant-loop-row
-invariant-loop-row l = HasReadRows l.at l.words (16 * l.band) l.fn.cells.items → HasReadRows l.at l.words l.row l.cells.items
+invariant-loop-row l = HasReadRows l.at l.words (8 * l.band) l.fn.cells.items → HasReadRows l.at l.words l.row l.cells.items

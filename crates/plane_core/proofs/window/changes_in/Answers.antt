@@ -5,11 +5,11 @@ use Rattle.plane_core.proofs.WindowLemmas.{IsChanging, changed-fewer, changing_m
 use Rattle.plane_core.proofs.window.changes_in.Goals as goal
 
 pub fill-requires-clause-empty : goal.fill-requires-clause-empty
-fill-requires-clause-empty c i = zeros 288 i
+fill-requires-clause-empty c i = zeros 240 i
 
 pub loop-half-init : goal.loop-half-init
 loop-half-init c =
-    changing_start _ c.args.at c.args.cells.now _ _ c.requires.order c.requires.room c.fill.ensures.shown c.fill.ensures.dead (λ i outer. zeros 288 i)
+    changing_start _ c.args.at c.args.cells.now _ _ c.requires.order c.requires.room c.fill.ensures.shown c.fill.ensures.dead (λ i outer. zeros 240 i)
 
 pub loop-half-preserved : goal.loop-half-preserved
 loop-half-preserved c =

@@ -2,4 +2,4 @@ use Rattle.std.proofs.Common.{◌≡◌, ◌+◌, ◌<◌, ◌≤◌, ℕ, slice
 use Rattle.plane_core.proofs.window.first_spot.Given as goal
 
 abbrev pub invariant-loop-down : goal.invariant-loop-down
-invariant-loop-down l = (r : ℕ) → 16 ≤ r → r < l.down → slice_index l.words (96 + r) ≡ 0
+invariant-loop-down l = (r : ℕ) → 8 ≤ r → r < l.down → slice_index l.words (80 + r) ≡ 0

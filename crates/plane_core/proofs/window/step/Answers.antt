@@ -8,9 +8,9 @@ loop-band-init c = record { long = c.requires.later; stepped = step_none _ _ _ }
 
 pub loop-band-preserved : goal.loop-band-preserved
 loop-band-preserved c = record {
-  long = c.step_sixteen.ensures.long;
-  stepped = subst (λ (n : ℕ). IsStepped c.args.answers.now.rule n c.args.now.now c.args.later.now c.step_sixteen.new.later) (omega arith)
-      (c.step_sixteen.ensures.stepped c.args.later.now c.loop-band.invariant.stepped);
+  long = c.step_eight.ensures.long;
+  stepped = subst (λ (n : ℕ). IsStepped c.args.answers.now.rule n c.args.now.now c.args.later.now c.step_eight.new.later) (omega arith)
+      (c.step_eight.ensures.stepped c.args.later.now c.loop-band.invariant.stepped);
 }
 
 pub returns-clause-next : goal.returns-clause-next

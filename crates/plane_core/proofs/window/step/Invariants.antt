@@ -4,6 +4,6 @@ use Rattle.plane_core.proofs.window.step.Given as goal
 
 abbrev pub invariant-loop-band : goal.invariant-loop-band
 invariant-loop-band l = record {
-  long : length l.later ≡ 288;
-  stepped : IsStepped l.answers.rule (112 + 16 * l.band) l.now l.fn.later l.later;
+  long : length l.later ≡ 240;
+  stepped : IsStepped l.answers.rule (88 + 8 * l.band) l.now l.fn.later l.later;
 }

@@ -5,7 +5,7 @@ use Rattle.plane_core.proofs.WindowLemmas.{IsRoundWindow, window_is_inland, wind
 use Rattle.plane_core.proofs.window.window_round.Goals as goal
 
 is_round : (c : goal.After-back-2) → IsRoundWindow c.in_ok-bounds.bounds c.apart-width.result c.apart-height.result
-    (record { left = c.back.result; top = c.back-2.result; strips = 3; blocks = 6 })
+    (record { left = c.back.result; top = c.back-2.result; strips = 3; blocks = 10 })
 is_round c =
     let left : FitsSigned w32 c.in_ok-bounds.bounds.left = search rules in
     let top : FitsSigned w32 c.in_ok-bounds.bounds.top = search rules in
@@ -32,7 +32,7 @@ pub returns-clause-room : goal.returns-clause-room
 returns-clause-room c =
     let left : FitsSigned w32 c.back.result = search rules in
     let top : FitsSigned w32 c.back-2.result = search rules in
-    simp to_z-of_z (room_round c.args.pattern.now c.in_ok-bounds.bounds (record { left = c.back.result; top = c.back-2.result; strips = 3; blocks = 6 }) 0
+    simp to_z-of_z (room_round c.args.pattern.now c.in_ok-bounds.bounds (record { left = c.back.result; top = c.back-2.result; strips = 3; blocks = 10 }) 0
     c.in_ok-bounds.ensures.least (window_has_room c.in_ok-bounds.bounds _ _ _ (is_round c)))
 
 pub returns-clause-inland : goal.returns-clause-inland

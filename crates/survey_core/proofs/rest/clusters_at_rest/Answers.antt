@@ -9,6 +9,8 @@ use Rattle.survey_core.specs.Groups.{GroupKeeps, ShareNoCell}
 use Rattle.survey_core.specs.Rest.{ComesBack, RestsAs}
 use Rattle.survey_core.specs.Sweeps.{AreSweeps}
 use Rattle.survey_core.proofs.GroupingLemmas.{groups_of_rest, rest_by_groups}
+use Rattle.survey_core.specs.Nearby.{EachComesBack}
+use Rattle.survey_core.proofs.NearbyLemmas.{rest_comes_back}
 use Rattle.survey_core.proofs.RestLemmas.{clusters_near, clusters_off, clusters_some, same_clusters}
 use Rattle.survey_core.proofs.rest.clusters_at_rest.Goals as goal
 
@@ -22,13 +24,20 @@ sweeps-requires-clause-near c =
     subst (All (λ (part : List Cell). lies_within 101000 part ≡ true)) (sym c.as_slice.ensures.value)
     (clusters_near 101000 c.args.pattern.now c.in_ok-clusters.clusters.items c.in_ok-clusters.ensures.clusters c.requires)
 
--- a cluster doesn't come back
+-- a cluster near the last change doesn't come back
+pub returns-then-changes-clause-moves : goal.returns-then-changes-clause-moves
+returns-then-changes-clause-moves c = λ rest.
+    c.in_ok-changes.ensures c.if-changes.true
+    (subst (λ (p : ℕ). EachComesBack c.args.rule.now p c.args.pattern.now) (sym c.period-limit.ensures.period)
+    (rest_comes_back c.args.rule.now c.args.profile.now c.args.pattern.now rest))
+
+-- or some cluster doesn't
 pub returns-in-None-clause-moves : goal.returns-in-None-clause-moves
 returns-in-None-clause-moves c = λ rest.
     let same : RestsAs c.args.rule.now c.args.profile.now c.args.pattern.now c.in_ok-clusters.clusters.items =
     same_clusters c.args.rule.now c.args.profile.now c.args.pattern.now c.in_ok-clusters.clusters.items c.in_ok-clusters.ensures.clusters rest in
-    let never : ¬ All (ComesBack c.args.rule.now c.period.result) c.as_slice.result.now = rw c.in-None.is at c.in_ok-sweeps.ensures.never in
-    never (subst (λ (p : ℕ). All (ComesBack c.args.rule.now p) c.as_slice.result.now) (sym c.period.ensures.period)
+    let never : ¬ All (ComesBack c.args.rule.now c.period-limit.result) c.as_slice.result.now = rw c.in-None.is at c.in_ok-sweeps.ensures.never in
+    never (subst (λ (p : ℕ). All (ComesBack c.args.rule.now p) c.as_slice.result.now) (sym c.period-limit.ensures.period)
     (subst (All (ComesBack c.args.rule.now c.args.profile.now.period)) (sym c.as_slice.ensures.value) same.back))
 
 pub groups_keep_apart-requires-clause-near : goal.groups_keep_apart-requires-clause-near
@@ -45,8 +54,8 @@ groups_keep_apart-requires-clause-off c =
 pub returns-then-not-apart-clause-moves : goal.returns-then-not-apart-clause-moves
 returns-then-not-apart-clause-moves c = λ rest.
     let found : AreSweeps c.args.rule.now c.args.profile.now.period c.in_ok-clusters.clusters.items c.in-Some.sweeps.items =
-    subst (λ (p : ℕ). AreSweeps c.args.rule.now p c.in_ok-clusters.clusters.items c.in-Some.sweeps.items) c.period.ensures.period
-    (subst (λ (parts : List (List Cell)). AreSweeps c.args.rule.now c.period.result parts c.in-Some.sweeps.items) c.as_slice.ensures.value
+    subst (λ (p : ℕ). AreSweeps c.args.rule.now p c.in_ok-clusters.clusters.items c.in-Some.sweeps.items) c.period-limit.ensures.period
+    (subst (λ (parts : List (List Cell)). AreSweeps c.args.rule.now c.period-limit.result parts c.in-Some.sweeps.items) c.as_slice.ensures.value
     (rw c.in-Some.is at c.in_ok-sweeps.ensures.sweeps)) in
     let right : AreGroups c.args.profile.now.horizon c.in-Some.sweeps.items c.in_ok-groups.groups.items =
     subst (λ (h : ℕ). AreGroups h c.in-Some.sweeps.items c.in_ok-groups.groups.items) c.horizon.ensures.horizon
@@ -64,8 +73,8 @@ returns-then-not-apart-clause-moves c = λ rest.
 pub returns-clause-rest : goal.returns-clause-rest
 returns-clause-rest c =
     let found : AreSweeps c.args.rule.now c.args.profile.now.period c.in_ok-clusters.clusters.items c.in-Some.sweeps.items =
-    subst (λ (p : ℕ). AreSweeps c.args.rule.now p c.in_ok-clusters.clusters.items c.in-Some.sweeps.items) c.period.ensures.period
-    (subst (λ (parts : List (List Cell)). AreSweeps c.args.rule.now c.period.result parts c.in-Some.sweeps.items) c.as_slice.ensures.value
+    subst (λ (p : ℕ). AreSweeps c.args.rule.now p c.in_ok-clusters.clusters.items c.in-Some.sweeps.items) c.period-limit.ensures.period
+    (subst (λ (parts : List (List Cell)). AreSweeps c.args.rule.now c.period-limit.result parts c.in-Some.sweeps.items) c.as_slice.ensures.value
     (rw c.in-Some.is at c.in_ok-sweeps.ensures.sweeps)) in
     let right : AreGroups c.args.profile.now.horizon c.in-Some.sweeps.items c.in_ok-groups.groups.items =
     subst (λ (h : ℕ). AreGroups h c.in-Some.sweeps.items c.in_ok-groups.groups.items) c.horizon.ensures.horizon

@@ -13,7 +13,7 @@ returns c =
     let flags_long : length c.fill.new.flags ≡ c.in_ok-todo.todo.len = omega (arith, c.fill.auto.flags, c.as_mut_slice-2.ensures.len) in
     let words = with_items_is c.in_ok-now.now c.fill.new.words long in
     let flags = with_items_is c.in_ok-todo.todo c.fill.new.flags flags_long in
-    let last : c.in_ok-last.last.items ≡ replicate (16 * c.grid-count.result.count) 0 = c.in_ok-last.ensures.items_if_clones_equal (λ y h. h) in
+    let last : c.in_ok-last.last.items ≡ replicate (8 * c.grid-count.result.count) 0 = c.in_ok-last.ensures.items_if_clones_equal (λ y h. h) in
     rw (words, flags) record {
       now_long = omega (arith, long, c.in_ok-now.ensures.len, count);
       last_long = omega (arith, c.in_ok-last.ensures.len, c.in_ok-last.last.ok.0, count);

@@ -7,7 +7,7 @@ is_round : (c : goal.After-back-2) → IsRound c.args.bounds c.args.margin (reco
   left = c.back.result;
   top = c.back-2.result;
   strips = (c.apart.result + 2 * c.args.margin + 65) / 64 + 2;
-  blocks = (c.apart-2.result + 2 * c.args.margin + 17) / 16 + 2;
+  blocks = (c.apart-2.result + 2 * c.args.margin + 9) / 8 + 2;
 })
 is_round c =
     let left : FitsSigned w32 c.args.bounds.left = search rules in
@@ -18,7 +18,7 @@ is_round c =
       left = simp to_z-of_z at c.back.ensures;
       top = simp to_z-of_z at c.back-2.ensures;
       strips = ap (λ (n : ℕ). (n + 2 * c.args.margin + 65) / 64 + 2) (simp to_z-of_z at c.apart.ensures);
-      blocks = ap (λ (n : ℕ). (n + 2 * c.args.margin + 17) / 16 + 2) (simp to_z-of_z at c.apart-2.ensures);
+      blocks = ap (λ (n : ℕ). (n + 2 * c.args.margin + 9) / 8 + 2) (simp to_z-of_z at c.apart-2.ensures);
     }
 
 pub returns-clause-laid : goal.returns-clause-laid
