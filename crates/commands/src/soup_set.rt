@@ -49,11 +49,7 @@ pub(crate) fn open_haul(
 }
 
 /// The job that the texts and numbers make.
-fn job(
-    set: &SoupSet<'_>,
-    profile: ProfileNumbers,
-    rule_text: &str,
-) -> Result<Job, Complaint>
+fn job(set: &SoupSet<'_>, profile: ProfileNumbers, rule_text: &str) -> Result<Job, Complaint>
     requires { AreInRange profile }
     ensures { result ≡ job_named set.now profile rule_text.now }
 {
@@ -68,12 +64,7 @@ fn job(
 }
 
 /// A haul over the ranges of a set, for a job and so many workers.
-fn haul_for(
-    alloc: Global,
-    job: Job,
-    set: &SoupSet<'_>,
-    workers: u8,
-) -> Result<Haul, Complaint>
+fn haul_for(alloc: Global, job: Job, set: &SoupSet<'_>, workers: u8) -> Result<Haul, Complaint>
     requires { IsWorker workers }
     ensures opened { IfOk result (IsOpened job set.now workers) }
     ensures stops { IfErr result (StopsSet set.now) }

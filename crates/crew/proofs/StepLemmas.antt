@@ -65,7 +65,7 @@ module _ {may_stop : ℕ → ℕ → Type 0} {site : Site} where
       ran.collected.0,
       ran.collected.1,
       subst (λ (h : Held). Collected ran.collected.0 0 crew.receiver new.receiver crew.haul h ran.collected.1) (sym haul)
-      (subst (λ (r : Received Note). Collected ran.collected.0 0 crew.receiver r crew.haul mid.haul ran.collected.1) (sym receiver) ran.collected.2),
+          (subst (λ (r : Received Note). Collected ran.collected.0 0 crew.receiver r crew.haul mid.haul ran.collected.1) (sym receiver) ran.collected.2),
     );
   }
     where
