@@ -138,7 +138,8 @@ fn do_request<T: Threads + Wait + Sync, R: Read, W: Write, E: Write, P: Write, C
     }
 }
 
-/// Takes the soups that a request names, by so many workers.
+/// Takes the soups that a request names, by so many workers. Whether a line of progress is asked for is no number, so
+/// either value serves in the condition on the numbers' ranges.
 fn take_soups<T: Threads + Wait + Sync, W: Write, E: Write, P: Write, C: Clock>(
     alloc: Global,
     rt: &T,
@@ -187,7 +188,7 @@ fn work_on_soups<W: Write, E: Write>(
     do_work(alloc, &set, worker, profile, rule, output, errors)
 }
 
-/// Gathers the input's report lines of the soups that a request names, which so many workers took.
+/// Gathers the input's report lines of the soups that a request names, of so many workers.
 fn gather_lines<R: Read, W: Write, E: Write>(
     alloc: Global,
     survey: &Survey<'_>,

@@ -57,7 +57,7 @@ pub record IsOpenedFor (set : SoupSet) (workers : ℕ) (numbers : ProfileNumbers
   pub named : job_named set numbers rule_text ≡ Ok job
   pub opened : IsOpened job set workers held
 
--- A complaint that ends a command before a haul over a set is open: about what makes up its job, or over the set.
+-- A complaint that ends a command before its haul is open: the seed, the profile or the rule is refused, or it is over the set.
 abbrev pub StopsOpening : SoupSet → ProfileNumbers → List ℕ → Complaint → Type 0
 StopsOpening set numbers rule_text complaint = (job_named set numbers rule_text ≡ Err complaint)
     ⊎ ((job : Job) × (job_named set numbers rule_text ≡ Ok job) × StopsSet set complaint)

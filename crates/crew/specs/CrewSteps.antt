@@ -1,4 +1,4 @@
--- How a crew is run: a worker more each time, and then all that it was run with are back.
+-- How a crew is run: one worker more is started at a time, and at the end all are back.
 use Rattle.std.specs.Prelude.{◌≡◌, ◌≤◌, ◌+◌, ◌++◌, ◌∷◌, [], ℕ, All, Bool, length, vec_capacity}
 use Rattle.handover.specs.Belts.{Presented, silent}
 use Rattle.handover.specs.Tickets.{Drawn, fresh}
@@ -14,7 +14,7 @@ pub record IsNextPost (post : Drawn × Presented Note) (old new : Posts) : Type 
   pub passes : old.passes.items ≡ new.passes.items ++ post.0 ∷ []
   pub senders : old.senders.items ≡ new.senders.items ++ post.1 ∷ []
 
--- a worker can be started with each post: nothing was done with one yet, and there is room for all who come back
+-- a worker can be started with each post: none was used yet, there is room for all who will come back, and a byte counts them
 pub record MayRun (may_stop : ℕ → ℕ → Type 0) (site : Site) (posts : Posts) (crew : Crew) : Type 0 where
   pub passes : All (λ p. p ≡ fresh site.tickets) posts.passes.items
   pub senders : All (λ s. s ≡ silent site.belt.name s.number) posts.senders.items
@@ -24,7 +24,7 @@ pub record MayRun (may_stop : ℕ → ℕ → Type 0) (site : Site) (posts : Pos
   pub room : length crew.senders.items + length posts.senders.items ≤ vec_capacity crew.senders
   pub back : AreBack may_stop site.belt.name site.job site.missing.items crew.senders.items crew.stopped
 
--- each was, all who were started are back, and what they reported was collected
+-- All workers of the posts are back, as many are away as before, and the notes of those that were started were collected.
 pub record HasRunAll (may_stop : ℕ → ℕ → Type 0) (site : Site) (posts : Posts) (old new : Crew) : Type 0 where
   pub back : AreBack may_stop site.belt.name site.job site.missing.items new.senders.items new.stopped
   pub numbers : sender_numbers new.senders.items ≡ sender_numbers old.senders.items ++ sender_numbers posts.senders.items

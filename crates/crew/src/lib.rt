@@ -7,7 +7,9 @@ pub mod collector;
 pub mod gate;
 /// What a worker says to the collector.
 pub mod note;
+/// What workers get that are still to be started.
 mod posts;
+/// A worker's shift.
 mod shift;
 /// The workers, and the call that runs them.
 pub mod workers;

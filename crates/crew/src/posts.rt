@@ -6,7 +6,7 @@ use crate::note::Note;
 use handover::belt::SenderPass;
 use handover::tickets::Pass;
 
-/// What workers are started with that aren't yet: a pass and a sender for each.
+/// What the workers get that are still to be started: a pass and a sender for each.
 #[derive(Drop)]
 pub(crate) struct Posts {
     pub(crate) passes: Vec<Pass>,
@@ -14,7 +14,7 @@ pub(crate) struct Posts {
 }
 
 impl Posts {
-    /// Takes out the last one.
+    /// Takes out what the last of them gets.
     pub(crate) fn next(&mut self) -> Option<(Pass, SenderPass<Note>)>
         requires { length self.old.passes.items ≡ length self.old.senders.items }
         ensures none { IfNone result (self.old.senders.items ≡ []) }

@@ -212,6 +212,7 @@ fn receive_all<R: Wait, H: Watch>(rt: &R, site: &Site, crew: &mut Crew, watch: &
 {
     let away = crew.away;
     watch.started(away);
+    // Where memory ran out the haul isn't complete, and `take` sees that.
     let _ = collect(
         rt,
         &site.belt,

@@ -1,5 +1,5 @@
-//! Tests of the public calls of `haul_core`, of what no clause of their contracts says. They stand in a crate of their
-//! own, so that `haul_core` is proved once.
+//! Tests of the public calls of `haul_core` and `ranges`, of what no clause of their contracts says. They stand in a
+//! crate of their own, so that these are proved once.
 #![tactic(auto)]
 
 #[cfg(test)]

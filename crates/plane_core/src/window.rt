@@ -242,7 +242,7 @@ fn is_empty_round(words: &[u64], from: usize) -> bool
     columns == 0
 }
 
-/// Which columns have a cell in eighteen words, from this one on.
+/// Which columns have a cell in ten words, from this one on.
 fn columns_from(words: &[u64], from: usize) -> u64
     requires { from + 10 ≤ length words.now }
     ensures { (b k : ℕ) → bit_at result b ≡ 0 → k < 10 → bit_at (slice_index words.now (from + k)) b ≡ 0 }

@@ -22,6 +22,6 @@ sure_reach = 22
 abbrev pub EachComesBack : Numbers → ℕ → List Cell → Type 0
 EachComesBack rule limit cells = (cluster : List Cell) → IsCluster cells cluster → ComesBack rule limit cluster
 
--- and each of these that lies so near
+-- of some clusters, each that is surely whole in the square round the place comes back
 abbrev pub NearComeBack : Numbers → ℕ → Cell → List (List Cell) → Type 0
 NearComeBack rule limit place clusters = All (λ cluster. list_all (is_near place sure_reach) cluster ≡ true → ComesBack rule limit cluster) clusters

@@ -14,7 +14,7 @@
 //! shape, moved. Else the cluster is run and named, and is what stands in the slot from then on.
 //!
 //! Which slot is chosen and what is kept are free choices: a memo that forgets makes a survey slower, and nothing else.
-//! So is where it says that the last change was.
+//! It also keeps where the last cluster was that was seen not to come back, for `nearby`: a free choice as well.
 
 ghost use Rattle.std.specs.Prelude.{◌≡◌, ◌≢◌, ◌+ℤ◌, ◌≤◌, [], All, IfNone, IfOk, IfSome, IsTrue, true};
 ghost use Rattle.plane_core.specs.Cells.{InOrder};
@@ -42,11 +42,12 @@ const SLOTS: usize = 4096;
 /// How many cells a shape that is kept has at the most. Larger ones hardly ever come twice, and would take memory.
 const MOST_CELLS: usize = 64;
 
-/// What is remembered of clusters that came back. It serves any rule and profile, one after another, and changes no
+/// What is remembered of clusters: of those that came back, and where the last was that didn't. It serves any rule and profile, one after another, and changes no
 /// finding: only how long it takes.
 #[derive(Drop)]
 pub struct Memo {
     slots: Vec<Option<Known>>,
+    /// The first cell of the last cluster that was seen not to come back.
     change: Option<Cell>,
 }
 
@@ -84,7 +85,7 @@ impl Memo {
         }
     }
 
-    /// A memo without room, which remembers nothing. It takes no memory.
+    /// A memo without room, which remembers no shape. It takes no memory.
     pub fn without_room(alloc: Global) -> Memo {
         Memo {
             slots: Vec::new(alloc),

@@ -2,11 +2,15 @@
 //! look before. So a square round that place is cut out of the pattern, and only its clusters are found at first:
 //!
 //! ```text
-//! +-----------+
-//! | OO     O  |    A cluster that keeps two cells off the rim of the square is a cluster of the pattern too, so if it
-//! | OO     O O|O   doesn't come back, the pattern isn't at rest. One that comes nearer to the rim may go on outside.
-//! |    OO     |
-//! +-----------+
+//! +-------------+
+//! |             |    A cluster that keeps two cells off the rim of the square is a cluster of the pattern too, so if it
+//! |             |    doesn't come back, the pattern isn't at rest. One that comes nearer to the rim may go on outside.
+//! |  OO      O  |
+//! |  OO      O O|O
+//! |    OO       |
+//! |             |
+//! |             |
+//! +-------------+
 //! ```
 //!
 //! A place that is ill chosen costs some time, and nothing else.
@@ -24,8 +28,8 @@ use plane_core::pattern::{FromCellsError, Pattern};
 use plane_core::rule::Rule;
 use std::alloc::{AllocError, Global};
 
-/// How far the square reaches from its middle. In a wider one more clusters are whole, and it takes longer to find
-/// them.
+/// How far the square reaches from its middle: the best of those tried. In a wider one more clusters are whole, and it
+/// takes longer to find them.
 const SQUARE_REACH: u32 = 24;
 
 /// How far from the middle the clusters that are surely whole reach at the most.

@@ -14,7 +14,8 @@
 //! ```
 //!
 //! Most patterns that are looked at are not at rest, and nearly always some cluster doesn't come back. So that is asked
-//! first, and the sweep of each cluster is kept. Sweeps tell which clusters may come near each other: these are a
+//! first, of the clusters near the last change before the others are even found (`nearby`), and the sweep of each
+//! cluster is kept. Sweeps tell which clusters may come near each other: these are a
 //! group, and clusters of different groups are never run side by side. In a group the whole and its clusters are
 //! stepped, a generation at a time, until a generation differs, or until each cluster is itself again in its place:
 //! then the whole is what it was as well, and all that follows has been seen. Even before that a cluster that is itself
