@@ -42,8 +42,8 @@ const SLOTS: usize = 4096;
 /// How many cells a shape that is kept has at the most. Larger ones hardly ever come twice, and would take memory.
 const MOST_CELLS: usize = 64;
 
-/// What is remembered of clusters: of those that came back, and where the last was that didn't. It serves any rule and profile, one after another, and changes no
-/// finding: only how long it takes.
+/// What is remembered of clusters: of those that came back, and where the last was that didn't. It serves any rule and
+/// profile, one after another, and changes no finding: only how long it takes.
 #[derive(Drop)]
 pub struct Memo {
     slots: Vec<Option<Known>>,
