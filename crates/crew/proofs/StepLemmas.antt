@@ -7,7 +7,7 @@ use Rattle.std.proofs.lemmas.List.Elements.{All-nil}
 use Rattle.haul_core.specs.Books.{Held}
 use Rattle.handover.specs.Belts.{Presented, Received, silent}
 use Rattle.handover.specs.Tickets.{Drawn, fresh}
-use Rattle.crew.specs.CrewSteps.{HasRunAll, IsNextPost, MayRun}
+use Rattle.crew.specs.CrewSteps.{HasRunAll, IsTakenOut, MayRun}
 use Rattle.crew.specs.Crews.{Collected}
 use Rattle.crew.specs.Shifts.{AreBack, HasWorked, Leaves, sender_numbers}
 use Rattle.crew.specs.declared.note.Note.{Note}
@@ -46,7 +46,7 @@ ready_first {may_stop} site posts crew workers passes many senders few away rece
 module _ {may_stop : ℕ → ℕ → Type 0} {site : Site} where
   -- the others are back, and then the worker that was started first of these
   pub run_more : (posts next : Posts) (crew mid new : Crew) (post : Drawn × Presented Note) (shift : Presented Note) (started : ℕ)
-      (Stopped : Type 0) → IsNextPost post posts next → HasRunAll may_stop site next (with_away crew started) mid
+      (Stopped : Type 0) → IsTakenOut post posts next → HasRunAll may_stop site next (with_away crew started) mid
       → Leaves may_stop site.belt.name site.job site.missing.items post.1.number shift Stopped
       → new.senders.items ≡ mid.senders.items ++ shift ∷ [] → vec_capacity new.senders ≡ vec_capacity mid.senders
       → IfSome new.stopped (λ w. (mid.stopped ≡ Some w) ⊎ (Stopped × (w ≡ shift.number))) → new.haul ≡ mid.haul → new.receiver ≡ mid.receiver

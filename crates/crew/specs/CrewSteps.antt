@@ -10,7 +10,7 @@ use Rattle.crew.specs.declared.workers.Crew.{Crew}
 use Rattle.crew.specs.declared.posts.Posts.{Posts}
 
 -- the last post was taken out
-pub record IsNextPost (post : Drawn × Presented Note) (old new : Posts) : Type 0 where
+pub record IsTakenOut (post : Drawn × Presented Note) (old new : Posts) : Type 0 where
   pub passes : old.passes.items ≡ new.passes.items ++ post.0 ∷ []
   pub senders : old.senders.items ≡ new.senders.items ++ post.1 ∷ []
 

@@ -1,6 +1,6 @@
 //! The workers of a crew that are still to be started.
 ghost use Rattle.std.specs.Prelude.{◌≡◌, [], IfNone, IfSome, length};
-ghost use Rattle.crew.specs.CrewSteps.{IsNextPost};
+ghost use Rattle.crew.specs.CrewSteps.{IsTakenOut};
 
 use crate::note::Note;
 use handover::belt::SenderPass;
@@ -15,10 +15,10 @@ pub(crate) struct Posts {
 
 impl Posts {
     /// Takes out what the last of them gets.
-    pub(crate) fn next(&mut self) -> Option<(Pass, SenderPass<Note>)>
+    pub(crate) fn take_last(&mut self) -> Option<(Pass, SenderPass<Note>)>
         requires { length self.old.passes.items ≡ length self.old.senders.items }
         ensures none { IfNone result (self.old.senders.items ≡ []) }
-        ensures next { IfSome result (λ post. IsNextPost post self.old self.new) }
+        ensures taken_out { IfSome result (λ post. IsTakenOut post self.old self.new) }
     {
         let sender = self.senders.pop()?;
         let Some(pass) = self.passes.pop() else {

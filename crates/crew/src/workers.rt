@@ -188,7 +188,7 @@ fn run_crew<'s, E, G: Gate + Sync, R: Threads + Wait + Sync, H: Watch>(
     requires { MayRun (G.may_stop gate.now) site.now posts.old crew.old }
     ensures { HasRunAll (G.may_stop gate.now) site.now posts.old crew.old crew.new }
 {
-    let Some((pass, sender)) = posts.next() else {
+    let Some((pass, sender)) = posts.take_last() else {
         receive_all(rt, site, crew, watch);
         return;
     };
@@ -223,8 +223,8 @@ fn receive_all<R: Wait, H: Watch>(rt: &R, site: &Site, crew: &mut Crew, watch: &
     );
 }
 
-/// Begins a worker's shift in a thread of its own. Where none can be started the worker is called off, and its shift ends
-/// here.
+/// Begins a worker's shift in a thread of its own. Where none can be started the worker is called off, and its shift
+/// ends here.
 fn begin_shift<'s, E, G: Gate + Sync, R: Threads + Wait + Sync>(
     alloc: Global,
     rt: &'s R,

@@ -3,8 +3,8 @@
 //!
 //! ```text
 //! +-------------+
-//! |             |    A cluster that keeps two cells off the rim of the square is a cluster of the pattern too, so if it
-//! |             |    doesn't come back, the pattern isn't at rest. One that comes nearer to the rim may go on outside.
+//! |             |   A cluster that keeps two cells off the rim of the square is a cluster of the pattern too, so if it
+//! |             |   doesn't come back, the pattern isn't at rest. One that comes nearer to the rim may go on outside.
 //! |  OO      O  |
 //! |  OO      O O|O
 //! |    OO       |
