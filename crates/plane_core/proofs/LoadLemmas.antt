@@ -9,7 +9,7 @@ use Rattle.std.proofs.lemmas.List.{take_more}
 use Rattle.std.proofs.lemmas.Nat.Bits.{bit_at-zero, bit_at_set_same, bit_at_set_other}
 use Rattle.std.proofs.Math.Nat.{mul-le-mul}
 use Rattle.plane_core.specs.declared.blocks.Grid.{Grid}
-use Rattle.plane_core.specs.declared.board.Layout.{Layout}
+use Rattle.plane_core.specs.declared.layout.Layout.{Layout}
 use Rattle.plane_core.specs.declared.cell.Cell.{Cell}
 use Rattle.plane_core.specs.Bounds.{IsWithin}
 use Rattle.plane_core.specs.Boards.{IsClear, IsFar, IsInner, IsQuiet, IsStill}

@@ -4,7 +4,7 @@ use Rattle.std.proofs.Common.{arith, refl, ap, ◌∙◌, sym, subst, inl, inr, 
 use Rattle.std.specs.Int.{bit_at}
 use Rattle.std.proofs.lemmas.Nat.Bits.{bit_at-zero}
 use Rattle.plane_core.specs.declared.blocks.Grid.{Grid}
-use Rattle.plane_core.specs.declared.board.Layout.{Layout}
+use Rattle.plane_core.specs.declared.layout.Layout.{Layout}
 use Rattle.plane_core.specs.declared.cell.Cell.{Cell}
 use Rattle.plane_core.specs.Boards.{row_at, IsNext, IsNextAt, IsQuiet, IsReady, IsRight, IsStill, KeepsMarks, KeepsOuter}
 use Rattle.plane_core.specs.Cells.{InOrder, IsPattern, plane_bound, on_plane}

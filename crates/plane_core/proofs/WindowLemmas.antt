@@ -7,7 +7,7 @@ use Rattle.std.proofs.lemmas.Int.{ints}
 use Rattle.std.proofs.lemmas.Bool.{false≢true, eqb-true, le-leb, and_from}
 use Rattle.std.proofs.lemmas.Nat.Bits.{bit_at-zero, bit_at_or, bit_at-trailing_zeros}
 use Rattle.plane_core.specs.declared.blocks.Grid.{Grid}
-use Rattle.plane_core.specs.declared.board.Layout.{Layout}
+use Rattle.plane_core.specs.declared.layout.Layout.{Layout}
 use Rattle.plane_core.specs.declared.bounds.Bounds.{Bounds}
 use Rattle.plane_core.specs.declared.cell.Cell.{Cell}
 use Rattle.plane_core.specs.declared.window.Spot.{Spot}

@@ -8,12 +8,12 @@ ghost use Rattle.plane_core.specs.Refusals.{RefusesStep};
 ghost use Rattle.plane_core.specs.declared.cell.Cell.{Cell};
 ghost use Rattle.plane_core.specs.declared.generation.StepError.TheVariants.{Memory};
 
-use crate::board::{self, Layout};
 use crate::cell::Cell;
+use crate::layout::Layout;
 use crate::parts::Cut;
 use crate::pattern::Pattern;
 use crate::rule::Rule;
-use crate::tally;
+use crate::{board, tally};
 use std::alloc::{AllocError, Global};
 use thiserror::Error;
 

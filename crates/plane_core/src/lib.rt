@@ -17,6 +17,7 @@ pub mod coordinate;
 mod forest;
 /// The next generation, and later ones.
 pub mod generation;
+mod layout;
 /// The eight orientations.
 pub mod orientation;
 /// A writer that remembers that it failed.

@@ -25,10 +25,10 @@ ghost use Rattle.plane_core.specs.Windows.{IsRimClear, IsSeen, IsSpot, IsStepped
 ghost use Rattle.plane_core.specs.declared.cell.Cell.{Cell};
 
 use crate::blocks::{Grid, next_words};
-use crate::board::Layout;
 use crate::bounds::Bounds;
 use crate::cell::Cell;
 use crate::coordinate::{apart, back};
+use crate::layout::Layout;
 use crate::pattern::Pattern;
 use crate::rule::Rule;
 use crate::word::Answers;

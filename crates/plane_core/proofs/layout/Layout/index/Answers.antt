@@ -1,6 +1,6 @@
 use Rattle.std.proofs.Common.{arith}
 use Rattle.plane_core.proofs.LoadLemmas.{board-small, index-inside}
-use Rattle.plane_core.proofs.board.Layout.index.Goals as goal
+use Rattle.plane_core.proofs.layout.Layout.index.Goals as goal
 
 pub returns-clause-inside : goal.returns-clause-inside
 returns-clause-inside c = index-inside c.args.self c.args.strip c.args.row c.requires.strip c.requires.row

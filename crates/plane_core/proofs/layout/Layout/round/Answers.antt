@@ -1,6 +1,6 @@
 use Rattle.std.proofs.Common.{arith}
 use Rattle.plane_core.proofs.LayLemmas.{room_round, lies_round, fewer_sides}
-use Rattle.plane_core.proofs.board.Layout.round.Goals as goal
+use Rattle.plane_core.proofs.layout.Layout.round.Goals as goal
 
 pub returns-clause-room : goal.returns-clause-room
 returns-clause-room c =
