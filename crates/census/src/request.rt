@@ -5,11 +5,12 @@ ghost use Rattle.commands.specs.Ends.{Ends};
 ghost use Rattle.commands.specs.Profiles.{AreInRange};
 ghost use Rattle.commands.specs.Streams.{stream};
 ghost use Rattle.census.specs.Requests.{DoesRequest, DoesWords, is_whole, numbers_for, reads_input, refuses_input};
-ghost use Rattle.census.specs.Requests.{soups_for, task_of};
+ghost use Rattle.census.specs.Requests.{plan_for, soups_for, task_of};
 
 use commands::complaint::Complaint;
 use commands::gather::do_gather;
 use commands::name::do_name;
+use commands::plan::Plan;
 use commands::profile::ProfileNumbers;
 use commands::progress::Progress;
 use commands::run::do_run;
@@ -158,12 +159,8 @@ fn take_soups<T: Threads + Wait + Sync, W: Write, E: Write, P: Write, C: Clock>(
     ensures untouched { result ≡ Status.Refused → output.new ≡ output.old }
     ensures no_memory { result ≡ Status.OutOfMemory → output.new ≡ output.old }
 {
-    let set = soups_for(&survey.set);
-    let profile = numbers_for(survey.profile);
-    let rule = survey.rule.as_str();
-    do_take(
-        alloc, rt, &set, workers, profile, rule, output, errors, line,
-    )
+    let plan = plan_for(survey);
+    do_take(alloc, rt, &plan, workers, output, errors, line)
 }
 
 /// Writes this worker's report lines of the soups that a request names.
@@ -182,10 +179,8 @@ fn work_on_soups<W: Write, E: Write>(
         (stream W.contents output.old output.new) (stream E.contents errors.old errors.new) }
     ensures untouched { result ≡ Status.Refused → output.new ≡ output.old }
 {
-    let set = soups_for(&survey.set);
-    let profile = numbers_for(survey.profile);
-    let rule = survey.rule.as_str();
-    do_work(alloc, &set, worker, profile, rule, output, errors)
+    let plan = plan_for(survey);
+    do_work(alloc, &plan, worker, output, errors)
 }
 
 /// Gathers the input's report lines of the soups that a request names, of so many workers.
@@ -207,10 +202,8 @@ fn gather_lines<R: Read, W: Write, E: Write>(
     ensures untouched { result ≡ Status.Refused → (input.new ≡ input.old) × (output.new ≡ output.old) }
     ensures no_memory { result ≡ Status.OutOfMemory → output.new ≡ output.old }
 {
-    let set = soups_for(&survey.set);
-    let profile = numbers_for(survey.profile);
-    let rule = survey.rule.as_str();
-    do_gather(alloc, &set, workers, profile, rule, input, output, errors)
+    let plan = plan_for(survey);
+    do_gather(alloc, &plan, workers, input, output, errors)
 }
 
 /// The text of a word.
@@ -231,6 +224,19 @@ fn numbers_for(numbers: words::request::ProfileNumbers) -> ProfileNumbers
         horizon: numbers.horizon,
         stride: numbers.stride,
         limit: numbers.limit,
+    }
+}
+
+/// The plan of a census.
+fn plan_for<'a>(survey: &Survey<'a>) -> Plan<'a>
+    requires { AreProfileNumbers survey.now.profile }
+    ensures plan { result ≡ plan_for survey.now }
+    ensures ranges { AreInRange result.profile }
+{
+    Plan {
+        set: soups_for(&survey.set),
+        profile: numbers_for(survey.profile),
+        rule: word_for(&survey.rule),
     }
 }
 

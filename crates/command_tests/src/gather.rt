@@ -1,5 +1,6 @@
 use crate::streams::{FaultyReader, FaultyWriter, Left, interrupted_writer, reader, slow_writer};
 use commands::gather::do_gather;
+use commands::plan::Plan;
 use commands::profile::ProfileNumbers;
 use commands::soup_set::SoupSet;
 use commands::status::Status;
@@ -9,7 +10,7 @@ use std::alloc::Global;
 use std::io::ErrorKind;
 
 /// Under this profile a soup is settled only if it is a still life at once.
-pub(crate) const SMALL: ProfileNumbers = ProfileNumbers {
+const SMALL: ProfileNumbers = ProfileNumbers {
     period: 1,
     horizon: 1,
     stride: 1,
@@ -45,13 +46,18 @@ const TWO_OF_FOUR: &[u8] = b"@VERSION 2\n\
     \n\
     @SAMPLE_SOUPIDS\n";
 
-/// So many soups of the empty seed, and those of a list.
-pub(crate) fn set_of(count: u64, also: &str) -> SoupSet<'_> {
-    SoupSet {
+/// So many soups of the empty seed, and those of a list, in Life under a small profile.
+pub(crate) fn plan_of(count: u64, also: &str) -> Plan<'_> {
+    let set = SoupSet {
         seed: Word::new(""),
         first: 0,
         count,
         also: Word::new(also),
+    };
+    Plan {
+        set,
+        profile: SMALL,
+        rule: Word::new("b3s23"),
     }
 }
 
@@ -64,17 +70,8 @@ fn left_by(
 ) -> Left {
     let mut output = Out::new(output);
     let mut errors = Out::new(errors);
-    let set = set_of(4, "");
-    let status = do_gather(
-        alloc,
-        &set,
-        2,
-        SMALL,
-        "b3s23",
-        &mut input,
-        &mut output,
-        &mut errors,
-    );
+    let plan = plan_of(4, "");
+    let status = do_gather(alloc, &plan, 2, &mut input, &mut output, &mut errors);
     Left::new(status, output, errors)
 }
 

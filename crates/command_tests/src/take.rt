@@ -1,6 +1,6 @@
 ghost use Rattle.haul_core.specs.Reports.{IsWorker};
 
-use crate::gather::{SMALL, set_of};
+use crate::gather::plan_of;
 use crate::progress::line_on;
 use crate::streams::{Left, slow_writer};
 use commands::status::Status;
@@ -55,14 +55,12 @@ fn left_by<G: Gate + Sync, R: AllocGlobal + Threads + Wait + Sync, H: Watch>(
 {
     let mut output = Out::new(slow_writer(rt.alloc(), 0));
     let mut errors = Out::new(slow_writer(rt.alloc(), 0));
-    let set = set_of(count, "");
+    let plan = plan_of(count, "");
     let status = do_take_with(
         rt.alloc(),
         rt,
-        &set,
+        &plan,
         workers,
-        SMALL,
-        "b3s23",
         gate,
         &mut output,
         &mut errors,

@@ -1,4 +1,4 @@
-use crate::gather::{SMALL, set_of};
+use crate::gather::plan_of;
 use commands::status::Status;
 use commands::work::do_work;
 use plane_core::output::Out;
@@ -51,8 +51,8 @@ fn left_by(alloc: Global, count: u64, also: &str, most: u64) -> (Status, Countin
         late: 0,
     });
     let mut errors = Out::new(Vec::new(alloc));
-    let set = set_of(count, also);
-    let status = do_work(alloc, &set, 2, SMALL, "b3s23", &mut output, &mut errors);
+    let plan = plan_of(count, also);
+    let status = do_work(alloc, &plan, 2, &mut output, &mut errors);
     (status, output.into_inner())
 }
 

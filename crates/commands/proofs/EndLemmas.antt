@@ -13,6 +13,7 @@ use Rattle.haul_core.specs.Missing.{missing_of}
 use Rattle.ranges.specs.RangeLists.{IsListText}
 use Rattle.commands.specs.declared.complaint.Complaint.{Complaint}
 use Rattle.commands.specs.declared.complaint.Complaint.TheVariants.{Refused, OutOfMemory, ReadFailed, WriteFailed}
+use Rattle.commands.specs.declared.plan.Plan.{Plan}
 use Rattle.commands.specs.declared.profile.ProfileNumbers.{ProfileNumbers}
 use Rattle.commands.specs.declared.refusal.Refusal.{Refusal}
 use Rattle.commands.specs.declared.soup_set.SoupSet.{SoupSet}
@@ -38,49 +39,49 @@ list_needs set refusal listed (Bad_list not place fault is) = absurd (not listed
 list_needs set refusal listed (Too_large ranges named large is) = subst (λ (r : Refusal). NeedsMemory (Refused r)) (sym is) tt
 list_needs set refusal listed (Overlapping ranges named small overlap is) = subst (λ (r : Refusal). NeedsMemory (Refused r)) (sym is) tt
 
-list_hides : (set : SoupSet) (workers : ℕ) (numbers : ProfileNumbers) (rule_text bytes : List ℕ) (job : Job) → job_named set numbers rule_text ≡ Ok job
-    → IsListText set.also → NeedsMemoryAlone (gather_right set workers numbers rule_text bytes)
-list_hides set workers numbers rule_text bytes job named listed (Refused refusal) is = list_needs set refusal listed (rw named at is)
-list_hides set workers numbers rule_text bytes job named listed OutOfMemory is = absurd is
-list_hides set workers numbers rule_text bytes job named listed ReadFailed is = absurd is
-list_hides set workers numbers rule_text bytes job named listed WriteFailed is = absurd is
+list_hides : (plan : Plan) (workers : ℕ) (bytes : List ℕ) (job : Job) → job_named plan ≡ Ok job
+    → IsListText plan.set.also → NeedsMemoryAlone (gather_right plan workers bytes)
+list_hides plan workers bytes job named listed (Refused refusal) is = list_needs plan.set refusal listed (rw named at is)
+list_hides plan workers bytes job named listed OutOfMemory is = absurd is
+list_hides plan workers bytes job named listed ReadFailed is = absurd is
+list_hides plan workers bytes job named listed WriteFailed is = absurd is
 
 -- a job that is refused
-gathers_job : (set : SoupSet) (workers : ℕ) (numbers : ProfileNumbers) (rule_text bytes : List ℕ) (known : Option (List ℕ)) (complaint : Complaint)
-    (output errors : Stream) → job_named set numbers rule_text ≡ Err complaint → IsSilent output errors
-    → Reaches (gather_task set workers numbers rule_text) known bytes (Err complaint) output errors
-gathers_job set workers numbers rule_text bytes known (Refused refusal) output errors named silent = (rw named refl, silent)
-gathers_job set workers numbers rule_text bytes known OutOfMemory output errors named silent = absurd (job_refused set numbers rule_text OutOfMemory named)
-gathers_job set workers numbers rule_text bytes known ReadFailed output errors named silent = absurd (job_refused set numbers rule_text ReadFailed named)
-gathers_job set workers numbers rule_text bytes known WriteFailed output errors named silent = absurd (job_refused set numbers rule_text WriteFailed named)
+gathers_job : (plan : Plan) (workers : ℕ) (bytes : List ℕ) (known : Option (List ℕ)) (complaint : Complaint)
+    (output errors : Stream) → job_named plan ≡ Err complaint → IsSilent output errors
+    → Reaches (gather_task plan workers) known bytes (Err complaint) output errors
+gathers_job plan workers bytes known (Refused refusal) output errors named silent = (rw named refl, silent)
+gathers_job plan workers bytes known OutOfMemory output errors named silent = absurd (job_refused plan OutOfMemory named)
+gathers_job plan workers bytes known ReadFailed output errors named silent = absurd (job_refused plan ReadFailed named)
+gathers_job plan workers bytes known WriteFailed output errors named silent = absurd (job_refused plan WriteFailed named)
 
 -- a set that is refused, or memory that runs out over it
-gathers_set : (set : SoupSet) (workers : ℕ) (numbers : ProfileNumbers) (rule_text bytes : List ℕ) (known : Option (List ℕ)) (job : Job)
-    (complaint : Complaint) (output errors : Stream) → job_named set numbers rule_text ≡ Ok job → StopsSet set complaint → IsSilent output errors
-    → Reaches (gather_task set workers numbers rule_text) known bytes (Err complaint) output errors
-gathers_set set workers numbers rule_text bytes known job (Refused refusal) output errors named stops silent = (rw named stops, silent)
-gathers_set set workers numbers rule_text bytes known job OutOfMemory output errors named stops silent = record {
-  hides = λ _. list_hides set workers numbers rule_text bytes job named stops;
+gathers_set : (plan : Plan) (workers : ℕ) (bytes : List ℕ) (known : Option (List ℕ)) (job : Job)
+    (complaint : Complaint) (output errors : Stream) → job_named plan ≡ Ok job → StopsSet plan.set complaint → IsSilent output errors
+    → Reaches (gather_task plan workers) known bytes (Err complaint) output errors
+gathers_set plan workers bytes known job (Refused refusal) output errors named stops silent = (rw named stops, silent)
+gathers_set plan workers bytes known job OutOfMemory output errors named stops silent = record {
+  hides = λ _. list_hides plan workers bytes job named stops;
   left = silent.nothing;
   told = inl silent.silent;
   fine = silent.fine;
 }
-gathers_set set workers numbers rule_text bytes known job ReadFailed output errors named stops silent = absurd stops
-gathers_set set workers numbers rule_text bytes known job WriteFailed output errors named stops silent = absurd stops
+gathers_set plan workers bytes known job ReadFailed output errors named stops silent = absurd stops
+gathers_set plan workers bytes known job WriteFailed output errors named stops silent = absurd stops
 
 -- a haul that was not opened
-pub gathers_opening : (set : SoupSet) (workers : ℕ) (numbers : ProfileNumbers) (rule_text bytes : List ℕ) (known : Option (List ℕ)) (complaint : Complaint)
-    (output errors : Stream) → StopsOpening set numbers rule_text complaint → IsSilent output errors
-    → Reaches (gather_task set workers numbers rule_text) known bytes (Err complaint) output errors
-gathers_opening set workers numbers rule_text bytes known complaint output errors (inl refused) silent =
-    gathers_job set workers numbers rule_text bytes known complaint output errors refused silent
-gathers_opening set workers numbers rule_text bytes known complaint output errors (inr (job, named, stops)) silent =
-    gathers_set set workers numbers rule_text bytes known job complaint output errors named stops silent
+pub gathers_opening : (plan : Plan) (workers : ℕ) (bytes : List ℕ) (known : Option (List ℕ)) (complaint : Complaint)
+    (output errors : Stream) → StopsOpening plan complaint → IsSilent output errors
+    → Reaches (gather_task plan workers) known bytes (Err complaint) output errors
+gathers_opening plan workers bytes known complaint output errors (inl refused) silent =
+    gathers_job plan workers bytes known complaint output errors refused silent
+gathers_opening plan workers bytes known complaint output errors (inr (job, named, stops)) silent =
+    gathers_set plan workers bytes known job complaint output errors named stops silent
 
 -- a job that is named is read for
-pub reads_named : (set : SoupSet) (numbers : ProfileNumbers) (rule_text : List ℕ) (job : Job) → job_named set numbers rule_text ≡ Ok job
-    → gather_reads set numbers rule_text ≡ false → ⊥
-reads_named set numbers rule_text job named unread = let bad : true ≡ false = sym (ap is_ok named) ∙ unread in cc
+pub reads_named : (plan : Plan) (job : Job) → job_named plan ≡ Ok job
+    → gather_reads plan ≡ false → ⊥
+reads_named plan job named unread = let bad : true ≡ false = sym (ap is_ok named) ∙ unread in cc
 
 -- what was gathered
 is_gathered : (terms : Terms) (held closed : Held) (census : Census) (n : ℕ) (known before after : Option (List ℕ))
@@ -174,36 +175,36 @@ is_over job set workers held open_ = record {
 }
 
 -- from what is gathered in an open haul to what is right for the set
-pub gathers_over : (set : SoupSet) (workers : ℕ) (numbers : ProfileNumbers) (rule_text bytes : List ℕ) (known : Option (List ℕ)) (job : Job) (terms : Terms)
-    (outcome : Outcome) (output errors : Stream) → job_named set numbers rule_text ≡ Ok job → IsHaulOver set workers job terms
+pub gathers_over : (plan : Plan) (workers : ℕ) (bytes : List ℕ) (known : Option (List ℕ)) (job : Job) (terms : Terms)
+    (outcome : Outcome) (output errors : Stream) → job_named plan ≡ Ok job → IsHaulOver plan.set workers job terms
     → Reaches (haul_task terms) known bytes outcome output errors
-    → Reaches (gather_task set workers numbers rule_text) known bytes outcome output errors
-gathers_over set workers numbers rule_text bytes known job terms outcome output errors named over = go outcome
+    → Reaches (gather_task plan workers) known bytes outcome output errors
+gathers_over plan workers bytes known job terms outcome output errors named over = go outcome
   where
-    right : (gathering : Made) → IsGathered terms bytes gathering → gather_right set workers numbers rule_text bytes (Ok gathering)
+    right : (gathering : Made) → IsGathered terms bytes gathering → gather_right plan workers bytes (Ok gathering)
     right gathering is =
-        let gathers : IsGathering set workers bytes gathering job = record { terms = terms; opened = over; is = is } in
+        let gathers : IsGathering plan.set workers bytes gathering job = record { terms = terms; opened = over; is = is } in
         rw named gathers
 
-    opens : (others : Terms) → others ≡ terms → gather_opens set workers numbers rule_text others
+    opens : (others : Terms) → others ≡ terms → gather_opens plan workers others
     opens others same =
-        let other : IsHaulOver set workers job others = subst (IsHaulOver set workers job) (sym same) over in
+        let other : IsHaulOver plan.set workers job others = subst (IsHaulOver plan.set workers job) (sym same) over in
         rw named other
 
     begins : BeginsHaul (IsSame terms) known errors.before errors.after
-        → BeginsHaul (gather_opens set workers numbers rule_text) known errors.before errors.after
+        → BeginsHaul (gather_opens plan workers) known errors.before errors.after
     begins is = record { terms = is.terms; opened = opens is.terms is.opened; begun = is.begun }
 
     told : Has errors [] ⊎ BeginsHaul (IsSame terms) known errors.before errors.after
-        → Has errors [] ⊎ BeginsHaul (gather_opens set workers numbers rule_text) known errors.before errors.after
+        → Has errors [] ⊎ BeginsHaul (gather_opens plan workers) known errors.before errors.after
     told (inl silent) = inl silent
     told (inr is) = inr (begins is)
 
-    listed : IsListText set.also
+    listed : IsListText plan.set.also
     listed = record { ranges = over.named.listed; words = over.named.words; spelled = over.named.spelled }
 
     go : (outcome : Outcome) → Reaches (haul_task terms) known bytes outcome output errors
-        → Reaches (gather_task set workers numbers rule_text) known bytes outcome output errors
+        → Reaches (gather_task plan workers) known bytes outcome output errors
     go (Ok missing) is = record {
       made = is.made;
       is = right is.made is.is;
@@ -215,7 +216,7 @@ gathers_over set workers numbers rule_text bytes known job terms outcome output 
     }
     go (Err (Refused refusal)) is = absurd (is.0)
     go (Err OutOfMemory) is = record {
-      hides = λ _. list_hides set workers numbers rule_text bytes job named listed;
+      hides = λ _. list_hides plan workers bytes job named listed;
       left = is.left;
       told = told is.told;
       fine = is.fine;

@@ -29,6 +29,7 @@ use Rattle.crew.specs.Shifts.{StopsAt}
 use Rattle.crew.specs.Takes.{HasTaken, was_missing}
 use Rattle.commands.specs.declared.complaint.Complaint.{Complaint}
 use Rattle.commands.specs.declared.complaint.Complaint.TheVariants.{Refused, OutOfMemory, ReadFailed, WriteFailed}
+use Rattle.commands.specs.declared.plan.Plan.{Plan}
 use Rattle.commands.specs.declared.profile.ProfileNumbers.{ProfileNumbers}
 use Rattle.commands.specs.declared.refusal.Refusal.{Refusal}
 use Rattle.commands.specs.declared.refusal.Refusal.TheVariants.{BadRule, BirthZero, HorizonBelowPeriod}
@@ -93,14 +94,14 @@ Reaches_stopped right ReadFailed output stops nothing = absurd stops
 Reaches_stopped right WriteFailed output stops nothing = absurd stops
 
 -- the same for a part of what is right
-pub Stops_given : (set : SoupSet) (numbers : ProfileNumbers) (rule_text : List ℕ) (tells : Job → List Range → List ℕ → Type 0) (job : Job)
+pub Stops_given : (plan : Plan) (tells : Job → List Range → List ℕ → Type 0) (job : Job)
     (complaint : Complaint)
-    → job_named set numbers rule_text ≡ Ok job → StopsSet set complaint
-    → Stops (given_right (job_named set numbers rule_text) (λ j. right_for_set set (tells j))) complaint
-Stops_given set numbers rule_text tells job complaint named stops = go complaint (Stops_set set (tells job) complaint stops)
+    → job_named plan ≡ Ok job → StopsSet plan.set complaint
+    → Stops (given_right (job_named plan) (λ j. right_for_set plan.set (tells j))) complaint
+Stops_given plan tells job complaint named stops = go complaint (Stops_set plan.set (tells job) complaint stops)
   where
-    go : (c : Complaint) → Stops (right_for_set set (tells job)) c
-        → Stops (given_right (job_named set numbers rule_text) (λ j. right_for_set set (tells j))) c
+    go : (c : Complaint) → Stops (right_for_set plan.set (tells job)) c
+        → Stops (given_right (job_named plan) (λ j. right_for_set plan.set (tells j))) c
     go (Refused refusal) is = rw named is
     go OutOfMemory is = λ c right. is c (rw named at right)
     go ReadFailed is = absurd is
@@ -138,59 +139,59 @@ given_refused (Err c) next complaint own more e =
     let is : c ≡ complaint = cc in
     own complaint (ap Err is)
 
-pub job_refused : (set : SoupSet) (numbers : ProfileNumbers) (rule_text : List ℕ) (complaint : Complaint) → job_named set numbers rule_text ≡ Err complaint
+pub job_refused : (plan : Plan) (complaint : Complaint) → job_named plan ≡ Err complaint
     → IsRefusal complaint
-job_refused set numbers rule_text complaint =
-    given_refused (seed_named set.seed) (λ seed. given (profile_named numbers) (λ profile. given (rule_named rule_text) (λ rule. job_of seed profile rule)))
-    complaint (λ c e. seed_refused (seed_read set.seed) c e)
-    (λ seed c. given_refused (profile_named numbers) (λ profile. given (rule_named rule_text) (λ rule. job_of seed profile rule)) c
-    (λ c e. profile_refused (nat_le numbers.period numbers.horizon) (settling numbers) c e)
-    (λ profile c. given_refused (rule_named rule_text) (λ rule. job_of seed profile rule) c (λ c e. rule_refused (rule_read rule_text) c e) (λ rule c e. cc)))
+job_refused plan complaint =
+    given_refused (seed_named plan.set.seed) (λ seed. given (profile_named plan.profile) (λ profile. given (rule_named plan.rule) (λ rule. job_of seed profile rule)))
+    complaint (λ c e. seed_refused (seed_read plan.set.seed) c e)
+    (λ seed c. given_refused (profile_named plan.profile) (λ profile. given (rule_named plan.rule) (λ rule. job_of seed profile rule)) c
+    (λ c e. profile_refused (nat_le plan.profile.period plan.profile.horizon) (settling plan.profile) c e)
+    (λ profile c. given_refused (rule_named plan.rule) (λ rule. job_of seed profile rule) c (λ c e. rule_refused (rule_read plan.rule) c e) (λ rule c e. cc)))
   where
     job_of : List ℕ → Settling → Numbers → Result Job Complaint
     job_of seed profile rule = Ok (record { seed = seed; profile = profile; rule = rule })
 
 -- what makes up the job is refused
-pub Stops_job : (set : SoupSet) (numbers : ProfileNumbers) (rule_text : List ℕ) (next : Job → Right) (complaint : Complaint)
-    → job_named set numbers rule_text ≡ Err complaint → Stops (given_right (job_named set numbers rule_text) next) complaint
-Stops_job set numbers rule_text next (Refused refusal) refused = rw refused refl
-Stops_job set numbers rule_text next OutOfMemory refused = absurd (job_refused set numbers rule_text OutOfMemory refused)
-Stops_job set numbers rule_text next ReadFailed refused = absurd (job_refused set numbers rule_text ReadFailed refused)
-Stops_job set numbers rule_text next WriteFailed refused = absurd (job_refused set numbers rule_text WriteFailed refused)
+pub Stops_job : (plan : Plan) (next : Job → Right) (complaint : Complaint)
+    → job_named plan ≡ Err complaint → Stops (given_right (job_named plan) next) complaint
+Stops_job plan next (Refused refusal) refused = rw refused refl
+Stops_job plan next OutOfMemory refused = absurd (job_refused plan OutOfMemory refused)
+Stops_job plan next ReadFailed refused = absurd (job_refused plan ReadFailed refused)
+Stops_job plan next WriteFailed refused = absurd (job_refused plan WriteFailed refused)
 
 -- what ends a command before its haul is open stops it
-pub Stops_opening : (set : SoupSet) (numbers : ProfileNumbers) (rule_text : List ℕ) (tells : Job → List Range → List ℕ → Type 0) (complaint : Complaint)
-    → StopsOpening set numbers rule_text complaint
-    → Stops (given_right (job_named set numbers rule_text) (λ j. right_for_set set (tells j))) complaint
-Stops_opening set numbers rule_text tells complaint (inl refused) =
-    Stops_job set numbers rule_text (λ j. right_for_set set (tells j)) complaint refused
-Stops_opening set numbers rule_text tells complaint (inr (job, named, stops)) = Stops_given set numbers rule_text tells job complaint named stops
+pub Stops_opening : (plan : Plan) (tells : Job → List Range → List ℕ → Type 0) (complaint : Complaint)
+    → StopsOpening plan complaint
+    → Stops (given_right (job_named plan) (λ j. right_for_set plan.set (tells j))) complaint
+Stops_opening plan tells complaint (inl refused) =
+    Stops_job plan (λ j. right_for_set plan.set (tells j)) complaint refused
+Stops_opening plan tells complaint (inr (job, named, stops)) = Stops_given plan tells job complaint named stops
 
 -- a haul that is opened for the job is one for the job that is named
-pub opened_for : (set : SoupSet) (workers : ℕ) (numbers : ProfileNumbers) (rule_text : List ℕ) (job : Job) → job_named set numbers rule_text ≡ Ok job
-    → (answer : Result Held Complaint) → IfOk answer (IsOpened job set workers) → IfOk answer (IsOpenedFor set workers numbers rule_text)
-opened_for set workers numbers rule_text job named (Ok held) is = record { job = job; named = named; opened = is }
-opened_for set workers numbers rule_text job named (Err complaint) is = tt
+pub opened_for : (plan : Plan) (workers : ℕ) (job : Job) → job_named plan ≡ Ok job
+    → (answer : Result Held Complaint) → IfOk answer (IsOpened job plan.set workers) → IfOk answer (IsOpenedFor plan workers)
+opened_for plan workers job named (Ok held) is = record { job = job; named = named; opened = is }
+opened_for plan workers job named (Err complaint) is = tt
 
-pub not_opened : (set : SoupSet) (numbers : ProfileNumbers) (rule_text : List ℕ) (job : Job) → job_named set numbers rule_text ≡ Ok job
-    → (answer : Result Held Complaint) → IfErr answer (StopsSet set) → IfErr answer (StopsOpening set numbers rule_text)
-not_opened set numbers rule_text job named (Ok held) stops = tt
-not_opened set numbers rule_text job named (Err complaint) stops = inr (job, named, stops)
+pub not_opened : (plan : Plan) (job : Job) → job_named plan ≡ Ok job
+    → (answer : Result Held Complaint) → IfErr answer (StopsSet plan.set) → IfErr answer (StopsOpening plan)
+not_opened plan job named (Ok held) stops = tt
+not_opened plan job named (Err complaint) stops = inr (job, named, stops)
 
 -- what is right for the job is right
-pub right_given : (set : SoupSet) (numbers : ProfileNumbers) (rule_text : List ℕ) (next : Job → Right) (job : Job) (text : List ℕ)
-    → job_named set numbers rule_text ≡ Ok job → next job (Ok text) → given_right (job_named set numbers rule_text) next (Ok text)
-right_given set numbers rule_text next job text named right = rw named right
+pub right_given : (plan : Plan) (next : Job → Right) (job : Job) (text : List ℕ)
+    → job_named plan ≡ Ok job → next job (Ok text) → given_right (job_named plan) next (Ok text)
+right_given plan next job text named right = rw named right
 
 -- a set whose ranges are known has a list
 pub listed : (set : SoupSet) (ranges : List Range) → AreRangesOf set ranges → IsListText set.also
 listed set ranges of = record { ranges = of.listed; words = of.words; spelled = of.spelled }
 
 -- memory that runs out over a haul that was opened stops the command
-Stops_memory : {workers : ℕ} (set : SoupSet) (numbers : ProfileNumbers) (rule_text : List ℕ) (held : Held)
-    → IsOpenedFor set workers numbers rule_text held → Stops (take_right set numbers rule_text) OutOfMemory
-Stops_memory set numbers rule_text held is =
-    Stops_given set numbers rule_text TellsAll is.job OutOfMemory is.named (listed set is.opened.ranges is.opened.named)
+Stops_memory : {workers : ℕ} (plan : Plan) (held : Held)
+    → IsOpenedFor plan workers held → Stops (take_right plan) OutOfMemory
+Stops_memory plan held is =
+    Stops_given plan TellsAll is.job OutOfMemory is.named (listed plan.set is.opened.ranges is.opened.named)
 
 -- ---- a haul that was opened
 
@@ -283,112 +284,112 @@ stopped_told may_stop job set opened held census missing open_ h many incomplete
     entries = h.added.taken ∙ ap (λ (ts : List (ℕ × ℕ)). ts ++ map entry h.offers) (none_taken opened open_.stands)
 
 -- what was taken of a haul that was opened, with how many are missing
-taken_told : {workers : ℕ} (may_stop : ℕ → ℕ → Type 0) (set : SoupSet) (numbers : ProfileNumbers) (rule_text : List ℕ) (held : Held) (census : Census)
-    (missing : ℕ) → IsTaken may_stop set workers numbers rule_text held → missing ≡ length (missing_of held.terms.ranges held.taken)
+taken_told : {workers : ℕ} (may_stop : ℕ → ℕ → Type 0) (plan : Plan) (held : Held) (census : Census)
+    (missing : ℕ) → IsTaken may_stop plan workers held → missing ≡ length (missing_of held.terms.ranges held.taken)
     → (missing ≡ 0) ↔ IsComplete held.terms.ranges held.taken → IsCensusOf held census
-    → right_if (take_right set numbers rule_text) (stopped_right may_stop set numbers rule_text) missing (Ok (haul_text census))
-taken_told may_stop set numbers rule_text held census missing h many none is = go missing many none h.ends
+    → right_if (take_right plan) (stopped_right may_stop plan) missing (Ok (haul_text census))
+taken_told may_stop plan held census missing h many none is = go missing many none h.ends
   where
     go : (n : ℕ) → n ≡ length (missing_of held.terms.ranges held.taken) → (n ≡ 0) ↔ IsComplete held.terms.ranges held.taken
         → EndsCrew may_stop h.opened held
-        → right_if (take_right set numbers rule_text) (stopped_right may_stop set numbers rule_text) n (Ok (haul_text census))
+        → right_if (take_right plan) (stopped_right may_stop plan) n (Ok (haul_text census))
     go zero many none (inl whole) =
-        right_given set numbers rule_text (λ j. right_for_set set (TellsAll j)) h.is.job (haul_text census) h.is.named
-        (complete_right h.is.job set h.opened held census h.is.opened h.taken whole.1 is)
+        right_given plan (λ j. right_for_set plan.set (TellsAll j)) h.is.job (haul_text census) h.is.named
+        (complete_right h.is.job plan.set h.opened held census h.is.opened h.taken whole.1 is)
     go zero many none (inr less) = absurd (less.0 (none.0 refl))
     go (suc n) many none (inl whole) = let bad = none.1 whole.0 in cc
     go (suc n) many none (inr less) =
-        right_given set numbers rule_text (λ j. right_for_set set (TellsTaken may_stop (suc n) j)) h.is.job (haul_text census) h.is.named
-        (stopped_told may_stop h.is.job set h.opened held census (suc n) h.is.opened h.taken many less.0 (less.1, less.2) is)
+        right_given plan (λ j. right_for_set plan.set (TellsTaken may_stop (suc n) j)) h.is.job (haul_text census) h.is.named
+        (stopped_told may_stop h.is.job plan.set h.opened held census (suc n) h.is.opened h.taken many less.0 (less.1, less.2) is)
 
 -- ---- how `take` ends
 
 -- a complaint that stops the command is what it ends with, with nothing on the output
-pub take_stops : (may_stop : ℕ → ℕ → Type 0) (set : SoupSet) (numbers : ProfileNumbers) (rule_text : List ℕ) (known : Option (List ℕ)) (bytes : List ℕ)
-    (complaint : Complaint) (output errors : Stream) → Stops (take_right set numbers rule_text) complaint → Has output [] → IsUntouched errors
-    → Reaches (gated_task may_stop set numbers rule_text) known bytes (Err complaint) output errors
-take_stops may_stop set numbers rule_text known bytes (Refused refusal) output errors stops nothing still =
+pub take_stops : (may_stop : ℕ → ℕ → Type 0) (plan : Plan) (known : Option (List ℕ)) (bytes : List ℕ)
+    (complaint : Complaint) (output errors : Stream) → Stops (take_right plan) complaint → Has output [] → IsUntouched errors
+    → Reaches (gated_task may_stop plan) known bytes (Err complaint) output errors
+take_stops may_stop plan known bytes (Refused refusal) output errors stops nothing still =
     (stops, record { nothing = nothing; silent = still.0; fine = still.1 })
-take_stops may_stop set numbers rule_text known bytes OutOfMemory output errors stops nothing still =
+take_stops may_stop plan known bytes OutOfMemory output errors stops nothing still =
     record { hides = λ unread complaint is. stops complaint is; left = nothing; told = inl still.0; fine = still.1 }
-take_stops may_stop set numbers rule_text known bytes ReadFailed output errors stops nothing still = absurd stops
-take_stops may_stop set numbers rule_text known bytes WriteFailed output errors stops nothing still = absurd stops
+take_stops may_stop plan known bytes ReadFailed output errors stops nothing still = absurd stops
+take_stops may_stop plan known bytes WriteFailed output errors stops nothing still = absurd stops
 
 -- the haul that was taken, finished
-take_finishes : {workers : ℕ} (may_stop : ℕ → ℕ → Type 0) (set : SoupSet) (numbers : ProfileNumbers) (rule_text : List ℕ) (known : Option (List ℕ))
-    (bytes : List ℕ) (held : Held) (outcome : Outcome) (output errors : Stream) → IsTaken may_stop set workers numbers rule_text held
+take_finishes : {workers : ℕ} (may_stop : ℕ → ℕ → Type 0) (plan : Plan) (known : Option (List ℕ))
+    (bytes : List ℕ) (held : Held) (outcome : Outcome) (output errors : Stream) → IsTaken may_stop plan workers held
     → (length (missing_of held.terms.ranges held.taken) ≡ 0) ↔ IsComplete held.terms.ranges held.taken → Finishes held outcome output → IsUntouched errors
-    → Reaches (gated_task may_stop set numbers rule_text) known bytes outcome output errors
-take_finishes may_stop set numbers rule_text known bytes held (Ok missing) output errors h none finished still =
+    → Reaches (gated_task may_stop plan) known bytes outcome output errors
+take_finishes may_stop plan known bytes held (Ok missing) output errors h none finished still =
     let zero_if : (missing ≡ 0) ↔ IsComplete held.terms.ranges held.taken =
     subst (λ (n : ℕ). (n ≡ 0) ↔ IsComplete held.terms.ranges held.taken) (sym finished.missing_is) none in
     record {
       made = record { text = haul_text finished.census; told = []; missing = missing };
-      is = (taken_told may_stop set numbers rule_text held finished.census missing h finished.missing_is zero_if finished.counted, refl);
+      is = (taken_told may_stop plan held finished.census missing h finished.missing_is zero_if finished.counted, refl);
       missing_is = refl;
       text = finished.text;
       written = finished.fine;
       told = still.0;
       fine = still.1;
     }
-take_finishes may_stop set numbers rule_text known bytes held (Err OutOfMemory) output errors h none nothing still =
-    take_stops may_stop set numbers rule_text known bytes OutOfMemory output errors (Stops_memory set numbers rule_text h.opened h.is)
+take_finishes may_stop plan known bytes held (Err OutOfMemory) output errors h none nothing still =
+    take_stops may_stop plan known bytes OutOfMemory output errors (Stops_memory plan h.opened h.is)
     nothing still
-take_finishes may_stop set numbers rule_text known bytes held (Err WriteFailed) output errors h none half still =
+take_finishes may_stop plan known bytes held (Err WriteFailed) output errors h none half still =
     let many : ℕ = length (missing_of held.terms.ranges held.taken) in
     inl (record {
       left = (
         record { text = haul_text half.census; told = []; missing = many },
-        (taken_told may_stop set numbers rule_text held half.census many h refl none half.counted, refl),
+        (taken_told may_stop plan held half.census many h refl none half.counted, refl),
         half.front,
         still.0,
       );
       cut = half.cut;
       fine = still.1;
     })
-take_finishes may_stop set numbers rule_text known bytes held (Err ReadFailed) output errors h none not still = absurd not
-take_finishes may_stop set numbers rule_text known bytes held (Err (Refused refusal)) output errors h none not still = absurd not
+take_finishes may_stop plan known bytes held (Err ReadFailed) output errors h none not still = absurd not
+take_finishes may_stop plan known bytes held (Err (Refused refusal)) output errors h none not still = absurd not
 
 -- the same, or memory ran out before the haul was complete
-pub take_ends : {workers : ℕ} {E : Type 0} (may_stop : ℕ → ℕ → Type 0) (set : SoupSet) (numbers : ProfileNumbers) (rule_text : List ℕ)
+pub take_ends : {workers : ℕ} {E : Type 0} (may_stop : ℕ → ℕ → Type 0) (plan : Plan)
     (known : Option (List ℕ)) (bytes : List ℕ) (opened held : Held) (taken : Result (Unit {0}) E) (outcome : Outcome) (output errors : Stream)
-    → IsOpenedFor set workers numbers rule_text opened → HasTaken workers opened held → IfOk taken (λ _. EndsCrew may_stop opened held)
+    → IsOpenedFor plan workers opened → HasTaken workers opened held → IfOk taken (λ _. EndsCrew may_stop opened held)
     → IfOk taken (λ _. Finishes held outcome output)
     → IfOk taken (λ _. (length (missing_of held.terms.ranges held.taken) ≡ 0) ↔ IsComplete held.terms.ranges held.taken)
     → IfErr taken (λ _. (outcome ≡ Err OutOfMemory) × Has output []) → IsUntouched errors
-    → Reaches (gated_task may_stop set numbers rule_text) known bytes outcome output errors
-take_ends may_stop set numbers rule_text known bytes opened held (Ok u) outcome output errors is taken ends finishes none gives_up still =
-    take_finishes may_stop set numbers rule_text known bytes held outcome output errors
+    → Reaches (gated_task may_stop plan) known bytes outcome output errors
+take_ends may_stop plan known bytes opened held (Ok u) outcome output errors is taken ends finishes none gives_up still =
+    take_finishes may_stop plan known bytes held outcome output errors
     (record { opened = opened; is = is; taken = taken; ends = ends }) none finishes still
-take_ends may_stop set numbers rule_text known bytes opened held (Err e) outcome output errors is taken ends finishes none gives_up still =
-    subst (λ (o : Outcome). Reaches (gated_task may_stop set numbers rule_text) known bytes o output errors) (sym gives_up.0)
-    (take_stops may_stop set numbers rule_text known bytes OutOfMemory output errors (Stops_memory set numbers rule_text opened is) gives_up.1 still)
+take_ends may_stop plan known bytes opened held (Err e) outcome output errors is taken ends finishes none gives_up still =
+    subst (λ (o : Outcome). Reaches (gated_task may_stop plan) known bytes o output errors) (sym gives_up.0)
+    (take_stops may_stop plan known bytes OutOfMemory output errors (Stops_memory plan opened is) gives_up.1 still)
 
 -- a gate that stops nobody stops no haul
-never_right : (may_stop : ℕ → ℕ → Type 0) (set : SoupSet) (numbers : ProfileNumbers) (rule_text : List ℕ) (missing : ℕ) (text : List ℕ)
-    → ((worker n : ℕ) → may_stop worker n → ⊥) → stopped_right may_stop set numbers rule_text missing (Ok text) → ⊥
-never_right may_stop set numbers rule_text missing text never = go (job_named set numbers rule_text)
+never_right : (may_stop : ℕ → ℕ → Type 0) (plan : Plan) (missing : ℕ) (text : List ℕ)
+    → ((worker n : ℕ) → may_stop worker n → ⊥) → stopped_right may_stop plan missing (Ok text) → ⊥
+never_right may_stop plan missing text never = go (job_named plan)
   where
-    go : (r : Result Job Complaint) → given_right r (λ job. right_for_set set (TellsTaken may_stop missing job)) (Ok text) → ⊥
+    go : (r : Result Job Complaint) → given_right r (λ job. right_for_set plan.set (TellsTaken may_stop missing job)) (Ok text) → ⊥
     go (Ok job) told = let stops = told.is_told.stops in never stops.0 stops.1 stops.3
     go (Err complaint) is = cc
 
 -- so what it makes is a text alone
-never_less : (may_stop : ℕ → ℕ → Type 0) (set : SoupSet) (numbers : ProfileNumbers) (rule_text : List ℕ) (made : Made)
-    → ((worker n : ℕ) → may_stop worker n → ⊥) → taken_right may_stop set numbers rule_text (Ok made) → alone (take_right set numbers rule_text) (Ok made)
-never_less may_stop set numbers rule_text made never is = go made.missing refl is.0
+never_less : (may_stop : ℕ → ℕ → Type 0) (plan : Plan) (made : Made)
+    → ((worker n : ℕ) → may_stop worker n → ⊥) → taken_right may_stop plan (Ok made) → alone (take_right plan) (Ok made)
+never_less may_stop plan made never is = go made.missing refl is.0
   where
     go : (n : ℕ) → made.missing ≡ n
-        → right_if (take_right set numbers rule_text) (stopped_right may_stop set numbers rule_text) n (Ok made.text)
-        → alone (take_right set numbers rule_text) (Ok made)
+        → right_if (take_right plan) (stopped_right may_stop plan) n (Ok made.text)
+        → alone (take_right plan) (Ok made)
     go zero none right = (right, is.1, none)
-    go (suc n) some right = absurd (never_right may_stop set numbers rule_text (suc n) made.text never right)
+    go (suc n) some right = absurd (never_right may_stop plan (suc n) made.text never right)
 
-pub never_stopped : (may_stop : ℕ → ℕ → Type 0) (set : SoupSet) (numbers : ProfileNumbers) (rule_text : List ℕ) (known : Option (List ℕ)) (bytes : List ℕ)
+pub never_stopped : (may_stop : ℕ → ℕ → Type 0) (plan : Plan) (known : Option (List ℕ)) (bytes : List ℕ)
     (status : Status) (output errors : Stream) → ((worker n : ℕ) → may_stop worker n → ⊥)
-    → Ends (gated_task may_stop set numbers rule_text) known bytes status output errors
-    → Ends (take_task set numbers rule_text) known bytes status output errors
-never_stopped may_stop set numbers rule_text known bytes status output errors never ends = record {
+    → Ends (gated_task may_stop plan) known bytes status output errors
+    → Ends (take_task plan) known bytes status output errors
+never_stopped may_stop plan known bytes status output errors never ends = record {
   outcome = ends.outcome;
   between = ends.between;
   from = ends.from;
@@ -399,15 +400,15 @@ never_stopped may_stop set numbers rule_text known bytes status output errors ne
 }
   where
     gated : Task
-    gated = gated_task may_stop set numbers rule_text
+    gated = gated_task may_stop plan
 
     whole : Task
-    whole = take_task set numbers rule_text
+    whole = take_task plan
 
     go : (outcome : Outcome) → Reaches gated known bytes outcome output ends.between → Reaches whole known bytes outcome output ends.between
     go (Ok missing) is = record {
       made = is.made;
-      is = never_less may_stop set numbers rule_text is.made never is.is;
+      is = never_less may_stop plan is.made never is.is;
       missing_is = is.missing_is;
       text = is.text;
       written = is.written;
@@ -419,5 +420,5 @@ never_stopped may_stop set numbers rule_text known bytes status output errors ne
     go (Err ReadFailed) is = record { reads = is.reads; begun = is.begun; nothing = is.nothing; fine = is.fine }
     go (Err WriteFailed) (inl is) =
         let (made, right, front, told) = is.left in
-        inl (record { left = (made, never_less may_stop set numbers rule_text made never right, front, told); cut = is.cut; fine = is.fine })
+        inl (record { left = (made, never_less may_stop plan made never right, front, told); cut = is.cut; fine = is.fine })
     go (Err WriteFailed) (inr is) = absurd is.tells

@@ -17,6 +17,7 @@ use Rattle.haul_core.specs.ReportLines.{report_text}
 use Rattle.haul_core.specs.Reports.{Reported}
 use Rattle.commands.specs.declared.complaint.Complaint.{Complaint}
 use Rattle.commands.specs.declared.complaint.Complaint.TheVariants.{Refused, OutOfMemory, ReadFailed, WriteFailed}
+use Rattle.commands.specs.declared.plan.Plan.{Plan}
 use Rattle.commands.specs.declared.profile.ProfileNumbers.{ProfileNumbers}
 use Rattle.commands.specs.declared.soup_set.SoupSet.{SoupSet}
 use Rattle.commands.specs.Answers.{Answer, Right, output_text}
@@ -270,21 +271,21 @@ begun_whole job worker numbers output begun = record {
 }
 
 -- what became of the reports on a set that was opened is a right end of the command
-pub reaches_work : {workers : ℕ} → FindingsAreDetermined → OneNormalForm → (set : SoupSet) (worker : ℕ) (numbers : ProfileNumbers) (rule_text : List ℕ)
-    (held : Held) (outcome : TextOutcome) (output : Stream) → IsOpenedFor set workers numbers rule_text held
+pub reaches_work : {workers : ℕ} → FindingsAreDetermined → OneNormalForm → (plan : Plan) (worker : ℕ)
+    (held : Held) (outcome : TextOutcome) (output : Stream) → IsOpenedFor plan workers held
     → Puts held.terms.job worker (numbers_of held.terms.ranges) outcome output
-    → ReachesText false false (work_right set worker numbers rule_text) outcome output
-reaches_work determined one_form set worker numbers rule_text held outcome output is puts =
+    → ReachesText false false (work_right plan worker) outcome output
+reaches_work determined one_form plan worker held outcome output is puts =
     go outcome (subst (λ (j : Job). Puts j worker (numbers_of held.terms.ranges) outcome output) is.opened.job_is puts)
   where
     job : Job
     job = is.job
 
     right : Right
-    right = work_right set worker numbers rule_text
+    right = work_right plan worker
 
     tells : (answer : Answer) → right answer → Tells job worker (numbers_of held.terms.ranges) answer
-    tells answer right_is = only_text one_form job worker set held is.opened answer (rw is.named at right_is)
+    tells answer right_is = only_text one_form job worker plan.set held is.opened answer (rw is.named at right_is)
 
     never : (complaint : Complaint) → right (Err complaint) → ⊥
     never complaint is =
@@ -294,7 +295,7 @@ reaches_work determined one_form set worker numbers rule_text held outcome outpu
     go : (o : TextOutcome) → Puts job worker (numbers_of held.terms.ranges) o output → ReachesText false false right o output
     go (Ok u) put =
         let text : List ℕ = flat_map report_text put.reports in
-        let told : right_for_set set (TellsReports job worker) (Ok text) = record {
+        let told : right_for_set plan.set (TellsReports job worker) (Ok text) = record {
           ranges = is.opened.ranges;
           named = is.opened.named;
           small = is.opened.small;

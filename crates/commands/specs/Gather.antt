@@ -12,6 +12,7 @@ use Rattle.haul_core.specs.Missing.{missing_of}
 use Rattle.ranges.specs.Ranges.{AreSmall, IsNormalForm, Overlap}
 use Rattle.survey_core.specs.declared.job.Job.{Job}
 use Rattle.commands.specs.declared.complaint.Complaint.TheVariants.{Refused}
+use Rattle.commands.specs.declared.plan.Plan.{Plan}
 use Rattle.commands.specs.declared.profile.ProfileNumbers.{ProfileNumbers}
 use Rattle.commands.specs.declared.soup_set.SoupSet.{SoupSet}
 use Rattle.commands.specs.GatherSteps.{HasBegun}
@@ -58,23 +59,23 @@ pub record IsGathering (set : SoupSet) (workers : ℕ) (bytes : List ℕ) (gathe
   pub is : IsGathered terms bytes gathering
 
 -- which gathering, or which complaint, is right for a set; what makes up its job is looked at first
-abbrev pub gather_right : SoupSet → ℕ → ProfileNumbers → List ℕ → List ℕ → Makes
-gather_right set workers numbers rule_text bytes (Ok gathering) = IsOkAnd (job_named set numbers rule_text) (IsGathering set workers bytes gathering)
-gather_right set workers numbers rule_text bytes (Err (Refused refusal)) =
-    MatchResult (job_named set numbers rule_text) (λ job. IsRefused set refusal) (λ complaint. complaint ≡ Refused refusal)
-gather_right set workers numbers rule_text bytes (Err _) = ⊥
+abbrev pub gather_right : Plan → ℕ → List ℕ → Makes
+gather_right plan workers bytes (Ok gathering) = IsOkAnd (job_named plan) (IsGathering plan.set workers bytes gathering)
+gather_right plan workers bytes (Err (Refused refusal)) =
+    MatchResult (job_named plan) (λ job. IsRefused plan.set refusal) (λ complaint. complaint ≡ Refused refusal)
+gather_right plan workers bytes (Err _) = ⊥
 
 -- a property of hauls, by their terms
 abbrev pub Hauls : Type 1
 Hauls = Terms → Type 0
 
 -- which hauls may be opened for a set
-abbrev pub gather_opens : SoupSet → ℕ → ProfileNumbers → List ℕ → Hauls
-gather_opens set workers numbers rule_text terms = IsOkAnd (job_named set numbers rule_text) (λ job. IsHaulOver set workers job terms)
+abbrev pub gather_opens : Plan → ℕ → Hauls
+gather_opens plan workers terms = IsOkAnd (job_named plan) (λ job. IsHaulOver plan.set workers job terms)
 
 -- the input is looked at, if the job is one
-abbrev pub gather_reads : SoupSet → ProfileNumbers → List ℕ → Bool
-gather_reads set numbers rule_text = is_ok (job_named set numbers rule_text)
+abbrev pub gather_reads : Plan → Bool
+gather_reads plan = is_ok (job_named plan)
 
 -- a haul was opened, and what stands on standard error is what is told of the first lines
 pub record BeginsHaul (opens : Hauls) (known before after : Option (List ℕ)) : Type 0 where
@@ -83,14 +84,14 @@ pub record BeginsHaul (opens : Hauls) (known before after : Option (List ℕ)) :
   pub begun : HasBegun terms known before after
 
 -- to gather report lines over a set: only a haul that was opened is told lines
-abbrev pub gather_task : SoupSet → ℕ → ProfileNumbers → List ℕ → Task
-gather_task set workers numbers rule_text = record {
-  right = gather_right set workers numbers rule_text;
-  reads = gather_reads set numbers rule_text;
+abbrev pub gather_task : Plan → ℕ → Task
+gather_task plan workers = record {
+  right = gather_right plan workers;
+  reads = gather_reads plan;
   refuses = false;
   whole = true;
-  begins = BeginsHaul (gather_opens set workers numbers rule_text);
-  may_tell = (terms : Terms) × gather_opens set workers numbers rule_text terms;
+  begins = BeginsHaul (gather_opens plan workers);
+  may_tell = (terms : Terms) × gather_opens plan workers terms;
 }
 
 -- the same for a haul that is open

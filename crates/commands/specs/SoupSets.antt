@@ -6,6 +6,7 @@ use Rattle.ranges.specs.RangeLists.{AreWords, IsFirstListFault, IsListText, list
 use Rattle.ranges.specs.Ranges.{AreSmall, Overlap}
 use Rattle.commands.specs.declared.complaint.Complaint.{Complaint}
 use Rattle.commands.specs.declared.complaint.Complaint.TheVariants.{Refused, OutOfMemory, ReadFailed, WriteFailed}
+use Rattle.commands.specs.declared.plan.Plan.{Plan}
 use Rattle.commands.specs.declared.profile.ProfileNumbers.{ProfileNumbers}
 use Rattle.commands.specs.declared.refusal.Refusal.{Refusal}
 use Rattle.commands.specs.declared.refusal.Refusal.TheVariants.{BadList, RangeTooLarge, RangesOverlap}
@@ -16,9 +17,9 @@ use Rattle.commands.specs.Profiles.{profile_named}
 use Rattle.commands.specs.Soup.{seed_named}
 
 -- the job of a set under a profile and a rule; the seed is looked at first, then the profile and then the rule
-abbrev pub job_named : SoupSet → ProfileNumbers → List ℕ → Result Job Complaint
-job_named set numbers rule_text =
-    given (seed_named set.seed) (λ seed. given (profile_named numbers) (λ profile. given (rule_named rule_text) (λ rule.
+abbrev pub job_named : Plan → Result Job Complaint
+job_named plan =
+    given (seed_named plan.set.seed) (λ seed. given (profile_named plan.profile) (λ profile. given (rule_named plan.rule) (λ rule.
     Ok (record { seed = seed; profile = profile; rule = rule }))))
 
 -- the range that the first number and the count of a set give

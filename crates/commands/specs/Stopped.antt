@@ -9,6 +9,7 @@ use Rattle.haul_core.specs.HaulTexts.{haul_text}
 use Rattle.haul_core.specs.Keeping.{numbers_in}
 use Rattle.haul_core.specs.Missing.{IsComplete, missing_of}
 use Rattle.ranges.specs.Ranges.{IsNormalForm, is_in}
+use Rattle.commands.specs.declared.plan.Plan.{Plan}
 use Rattle.commands.specs.declared.profile.ProfileNumbers.{ProfileNumbers}
 use Rattle.commands.specs.declared.soup_set.SoupSet.{SoupSet}
 use Rattle.commands.specs.Answers.{Right, given_right}
@@ -36,9 +37,9 @@ pub record TellsTaken (may_stop : ℕ → ℕ → Type 0) (missing : ℕ) (job :
   pub told : text ≡ haul_text census
 
 -- the census of a haul of which so many numbers are missing; what makes up its job is looked at first
-abbrev pub stopped_right : (ℕ → ℕ → Type 0) → SoupSet → ProfileNumbers → List ℕ → ℕ → Right
-stopped_right may_stop set numbers rule_text missing =
-    given_right (job_named set numbers rule_text) (λ job. right_for_set set (TellsTaken may_stop missing job))
+abbrev pub stopped_right : (ℕ → ℕ → Type 0) → Plan → ℕ → Right
+stopped_right may_stop plan missing =
+    given_right (job_named plan) (λ job. right_for_set plan.set (TellsTaken may_stop missing job))
 
 -- what is right if all was taken, or if so many numbers are missing
 abbrev pub right_if : Right → (ℕ → Right) → ℕ → Right
@@ -46,11 +47,11 @@ right_if whole stopped zero = whole
 right_if whole stopped (suc n) = stopped (suc n)
 
 -- what `take` makes under a gate: the haul text, with nothing missing or with what the gate may have to do with
-abbrev pub taken_right : (ℕ → ℕ → Type 0) → SoupSet → ProfileNumbers → List ℕ → Makes
-taken_right may_stop set numbers rule_text (Ok made) =
-    right_if (take_right set numbers rule_text) (stopped_right may_stop set numbers rule_text) made.missing (Ok made.text) × (made.told ≡ [])
-taken_right may_stop set numbers rule_text (Err complaint) = take_right set numbers rule_text (Err complaint)
+abbrev pub taken_right : (ℕ → ℕ → Type 0) → Plan → Makes
+taken_right may_stop plan (Ok made) =
+    right_if (take_right plan) (stopped_right may_stop plan) made.missing (Ok made.text) × (made.told ≡ [])
+taken_right may_stop plan (Err complaint) = take_right plan (Err complaint)
 
 -- to take a set under a gate
-abbrev pub gated_task : (ℕ → ℕ → Type 0) → SoupSet → ProfileNumbers → List ℕ → Task
-gated_task may_stop set numbers rule_text = silent_task false true (λ bytes. taken_right may_stop set numbers rule_text)
+abbrev pub gated_task : (ℕ → ℕ → Type 0) → Plan → Task
+gated_task may_stop plan = silent_task false true (λ bytes. taken_right may_stop plan)

@@ -7,6 +7,7 @@ use Rattle.haul_core.specs.Censuses.{IsCensus}
 use Rattle.haul_core.specs.HaulTexts.{haul_text}
 use Rattle.haul_core.specs.Missing.{AreAll}
 use Rattle.ranges.specs.Ranges.{IsNormalForm}
+use Rattle.commands.specs.declared.plan.Plan.{Plan}
 use Rattle.commands.specs.declared.profile.ProfileNumbers.{ProfileNumbers}
 use Rattle.commands.specs.declared.soup_set.SoupSet.{SoupSet}
 use Rattle.commands.specs.Answers.{Right, given_right}
@@ -24,9 +25,9 @@ pub record TellsAll (job : Job) (ranges : List Range) (text : List ℕ) : Type 0
   pub told : text ≡ haul_text census
 
 -- the census of the complete haul; what makes up its job is looked at first
-abbrev pub take_right : SoupSet → ProfileNumbers → List ℕ → Right
-take_right set numbers rule_text = given_right (job_named set numbers rule_text) (λ job. right_for_set set (TellsAll job))
+abbrev pub take_right : Plan → Right
+take_right plan = given_right (job_named plan) (λ job. right_for_set plan.set (TellsAll job))
 
 -- to take a set
-abbrev pub take_task : SoupSet → ProfileNumbers → List ℕ → Task
-take_task set numbers rule_text = text_task false true (λ bytes. take_right set numbers rule_text)
+abbrev pub take_task : Plan → Task
+take_task plan = text_task false true (λ bytes. take_right plan)

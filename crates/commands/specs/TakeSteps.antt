@@ -14,6 +14,7 @@ use Rattle.crew.specs.Takes.{HasTaken, was_missing}
 use Rattle.commands.specs.declared.complaint.Complaint.{Complaint}
 use Rattle.commands.specs.declared.complaint.Complaint.TheVariants.{Refused, OutOfMemory, ReadFailed, WriteFailed}
 use Rattle.commands.specs.declared.refusal.Refusal.TheVariants.{BadList}
+use Rattle.commands.specs.declared.plan.Plan.{Plan}
 use Rattle.commands.specs.declared.profile.ProfileNumbers.{ProfileNumbers}
 use Rattle.commands.specs.declared.soup_set.SoupSet.{SoupSet}
 use Rattle.commands.specs.Answers.{NeedsMemory, Right}
@@ -52,15 +53,15 @@ pub record IsOpened (job : Job) (set : SoupSet) (workers : ℕ) (held : Held) : 
   pub stands : StandsFor [] held
 
 -- a haul over a set, for so many workers and the job that is named, to which nothing has come
-pub record IsOpenedFor (set : SoupSet) (workers : ℕ) (numbers : ProfileNumbers) (rule_text : List ℕ) (held : Held) : Type 0 where
+pub record IsOpenedFor (plan : Plan) (workers : ℕ) (held : Held) : Type 0 where
   pub job : Job
-  pub named : job_named set numbers rule_text ≡ Ok job
-  pub opened : IsOpened job set workers held
+  pub named : job_named plan ≡ Ok job
+  pub opened : IsOpened job plan.set workers held
 
 -- A complaint that ends a command before its haul is open: the seed, the profile or the rule is refused, or it is over the set.
-abbrev pub StopsOpening : SoupSet → ProfileNumbers → List ℕ → Complaint → Type 0
-StopsOpening set numbers rule_text complaint = (job_named set numbers rule_text ≡ Err complaint)
-    ⊎ ((job : Job) × (job_named set numbers rule_text ≡ Ok job) × StopsSet set complaint)
+abbrev pub StopsOpening : Plan → Complaint → Type 0
+StopsOpening plan complaint = (job_named plan ≡ Err complaint)
+    ⊎ ((job : Job) × (job_named plan ≡ Ok job) × StopsSet plan.set complaint)
 
 -- what a crew answered of a haul: all was taken, or else the gate stopped a worker
 abbrev pub EndsCrew : (ℕ → ℕ → Type 0) → Held → Held → Type 0
@@ -68,8 +69,8 @@ EndsCrew may_stop old new = (IsComplete new.terms.ranges new.taken × AreAll new
     ⊎ ((¬ IsComplete new.terms.ranges new.taken) × (worker : ℕ) × StopsAt may_stop (was_missing old) worker)
 
 -- a crew has taken what it could of a haul that was opened over a set
-pub record IsTaken (may_stop : ℕ → ℕ → Type 0) (set : SoupSet) (workers : ℕ) (numbers : ProfileNumbers) (rule_text : List ℕ) (held : Held) : Type 0 where
+pub record IsTaken (may_stop : ℕ → ℕ → Type 0) (plan : Plan) (workers : ℕ) (held : Held) : Type 0 where
   pub opened : Held
-  pub is : IsOpenedFor set workers numbers rule_text opened
+  pub is : IsOpenedFor plan workers opened
   pub taken : HasTaken workers opened held
   pub ends : EndsCrew may_stop opened held

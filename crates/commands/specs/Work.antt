@@ -6,6 +6,7 @@ use Rattle.haul_core.specs.Missing.{numbers_of}
 use Rattle.ranges.specs.Ranges.{IsNormalForm}
 use Rattle.haul_core.specs.ReportLines.{report_text}
 use Rattle.haul_core.specs.Reports.{IsReport, Reported}
+use Rattle.commands.specs.declared.plan.Plan.{Plan}
 use Rattle.commands.specs.declared.profile.ProfileNumbers.{ProfileNumbers}
 use Rattle.commands.specs.declared.soup_set.SoupSet.{SoupSet}
 use Rattle.commands.specs.Answers.{Right, given_right}
@@ -35,9 +36,9 @@ pub record TellsReports (job : Job) (worker : ℕ) (ranges : List Range) (text :
   pub told : text ≡ flat_map report_text reports
 
 -- the reports of the worker on the whole set; what makes up its job is looked at first
-abbrev pub work_right : SoupSet → ℕ → ProfileNumbers → List ℕ → Right
-work_right set worker numbers rule_text = given_right (job_named set numbers rule_text) (λ job. right_for_set set (TellsReports job worker))
+abbrev pub work_right : Plan → ℕ → Right
+work_right plan worker = given_right (job_named plan) (λ job. right_for_set plan.set (TellsReports job worker))
 
 -- to report on a set, line by line
-abbrev pub work_task : SoupSet → ℕ → ProfileNumbers → List ℕ → Task
-work_task set worker numbers rule_text = text_task false false (λ bytes. work_right set worker numbers rule_text)
+abbrev pub work_task : Plan → ℕ → Task
+work_task plan worker = text_task false false (λ bytes. work_right plan worker)

@@ -27,8 +27,7 @@ use crate::ending::tell_end;
 use crate::finish::finish;
 use crate::line_fault::LineFault;
 use crate::lines::{LINE_LIMIT, LineEnd, LineRead, read_line};
-use crate::profile::ProfileNumbers;
-use crate::soup_set::{SoupSet, open_haul};
+use crate::plan::{Plan, open_haul};
 use crate::status::Status;
 use haul_core::claim::Claim;
 use haul_core::claim::check::CheckFault;
@@ -43,8 +42,8 @@ use survey_core::finding::findings_are_determined;
 use survey_core::job::Job;
 use survey_core::memo::Memo;
 
-/// Reads report lines, checks each and offers it to a haul over a set, under a profile and the rule of a text, and
-/// writes the haul text of what was taken.
+/// Reads report lines, checks each and offers it to a haul over the soups of a plan, and writes the haul text of what
+/// was taken.
 ///
 /// A line is ended by a line feed, which the last may lack. A line that is not taken is told on `errors`, by its number
 /// from 1 on, and the next one is read. Of a line no more than the first 2^24 bytes are looked at: a longer one is bad
@@ -61,56 +60,50 @@ use survey_core::memo::Memo;
 /// read, nothing was written to the output. A failure to write the last line on `errors` is not reported.
 pub fn do_gather<R: Read, W: Write, E: Write>(
     alloc: Global,
-    set: &SoupSet<'_>,
+    plan: &Plan<'_>,
     workers: u8,
-    profile: ProfileNumbers,
-    rule_text: &str,
     input: &mut R,
     output: &mut Out<W>,
     errors: &mut Out<E>,
 ) -> Status
     requires workers { IsWorker workers }
-    requires profile { AreInRange profile }
+    requires profile { AreInRange plan.now.profile }
     requires output { output.old.failed ≡ false }
     requires errors { errors.old.failed ≡ false }
     ensures ends { (bytes : List ℕ) × IsInput (R.remaining input.old) bytes
-        × Ends (gather_task set.now workers profile rule_text.now) (R.remaining input.old) bytes result
+        × Ends (gather_task plan.now workers) (R.remaining input.old) bytes result
         (stream W.contents output.old output.new) (stream E.contents errors.old errors.new) }
-    ensures unread { gather_reads set.now profile rule_text.now ≡ false → input.new ≡ input.old }
+    ensures unread { gather_reads plan.now ≡ false → input.new ≡ input.old }
     ensures untouched { result ≡ Status.Refused → (input.new ≡ input.old) × (output.new ≡ output.old) }
     ensures no_memory { result ≡ Status.OutOfMemory → output.new ≡ output.old }
 {
-    let outcome = gather(
-        alloc, set, workers, profile, rule_text, input, output, errors,
-    );
+    let outcome = gather(alloc, plan, workers, input, output, errors);
     tell_end(outcome, errors)
 }
 
 /// Opens the haul, gathers the lines, writes the haul text, and says how many soups are missing.
 fn gather<R: Read, W: Write, E: Write>(
     alloc: Global,
-    set: &SoupSet<'_>,
+    plan: &Plan<'_>,
     workers: u8,
-    profile: ProfileNumbers,
-    rule_text: &str,
     input: &mut R,
     output: &mut Out<W>,
     errors: &mut Out<E>,
 ) -> Result<u64, Complaint>
     requires workers { IsWorker workers }
-    requires profile { AreInRange profile }
+    requires profile { AreInRange plan.now.profile }
     requires output { output.old.failed ≡ false }
     requires errors { errors.old.failed ≡ false }
     ensures gathers { (bytes : List ℕ) × IsInput (R.remaining input.old) bytes
-        × Reaches (gather_task set.now workers profile rule_text.now) (R.remaining input.old) bytes result
+        × Reaches (gather_task plan.now workers) (R.remaining input.old) bytes result
         (stream W.contents output.old output.new) (stream E.contents errors.old errors.new) }
     ensures fine { OnOk result (errors.new.failed ≡ false) }
-    ensures unread { gather_reads set.now profile rule_text.now ≡ false → input.new ≡ input.old }
+    ensures unread { gather_reads plan.now ≡ false → input.new ≡ input.old }
     ensures untouched { IfErr result (λ complaint. status_of complaint ≡ Status.Refused
         → (input.new ≡ input.old) × (output.new ≡ output.old)) }
     ensures no_memory { IfErr result (λ complaint. complaint ≡ Complaint.OutOfMemory → output.new ≡ output.old) }
 {
-    let mut haul = open_haul(alloc, set, workers, profile, rule_text)?;
+    let mut haul = open_haul(alloc, plan, workers)?;
     gather_into(alloc, &mut haul, input, output, errors)
 }
 

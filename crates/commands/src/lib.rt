@@ -22,6 +22,8 @@ mod lines;
 pub mod name;
 /// Output that is buffered until a command has ended.
 pub mod output;
+/// Plans of a census: soups, profile and rule.
+pub mod plan;
 /// Profiles, as words ask for them.
 pub mod profile;
 /// The line that says how far a haul has come.

@@ -1,19 +1,15 @@
 ghost use Rattle.std.specs.Prelude.{◌≡◌, List, IfErr, IfOk};
 ghost use Rattle.haul_core.specs.Reports.{IsWorker};
-ghost use Rattle.commands.specs.Profiles.{AreInRange};
-ghost use Rattle.commands.specs.SoupSets.{AreRangesOf, job_named};
-ghost use Rattle.commands.specs.TakeSteps.{IsOpened, IsOpenedFor, StopsOpening, StopsSet};
+ghost use Rattle.commands.specs.SoupSets.{AreRangesOf};
+ghost use Rattle.commands.specs.TakeSteps.{IsOpened, StopsSet};
 
 use crate::complaint::Complaint;
-use crate::profile::ProfileNumbers;
 use crate::refusal::Refusal;
 use crate::word::Word;
 use haul_core::haul::{Haul, OpenError};
-use plane_core::rule::Rule;
 use ranges::range::Range;
 use std::alloc::Global;
 use survey_core::job::Job;
-use survey_core::seed::Seed;
 
 /// The soups that words ask for: those of a seed whose numbers stand in a range, or in the ranges of a list beside it.
 ///
@@ -30,41 +26,13 @@ pub struct SoupSet<'a> {
     pub also: Word<'a>,
 }
 
-/// A haul over the soups of a set, for so many workers, 1 to 16, and the job that the seed, the profile's numbers and
-/// the rule's text make. What makes up the job is looked at first.
-pub(crate) fn open_haul(
+/// A haul over the ranges of a set, for a job and so many workers.
+pub(crate) fn haul_for(
     alloc: Global,
+    job: Job,
     set: &SoupSet<'_>,
     workers: u8,
-    profile: ProfileNumbers,
-    rule_text: &str,
 ) -> Result<Haul, Complaint>
-    requires workers { IsWorker workers }
-    requires profile { AreInRange profile }
-    ensures opened { IfOk result (IsOpenedFor set.now workers profile rule_text.now) }
-    ensures stops { IfErr result (StopsOpening set.now profile rule_text.now) }
-{
-    let job = job(set, profile, rule_text)?;
-    haul_for(alloc, job, set, workers)
-}
-
-/// The job that the texts and numbers make.
-fn job(set: &SoupSet<'_>, profile: ProfileNumbers, rule_text: &str) -> Result<Job, Complaint>
-    requires { AreInRange profile }
-    ensures { result ≡ job_named set.now profile rule_text.now }
-{
-    let seed = Seed::new(set.seed.as_str())?;
-    let profile = profile.profile()?;
-    let rule = Rule::read(rule_text)?;
-    Ok(Job {
-        seed,
-        profile,
-        rule,
-    })
-}
-
-/// A haul over the ranges of a set, for a job and so many workers.
-fn haul_for(alloc: Global, job: Job, set: &SoupSet<'_>, workers: u8) -> Result<Haul, Complaint>
     requires { IsWorker workers }
     ensures opened { IfOk result (IsOpened job set.now workers) }
     ensures stops { IfErr result (StopsSet set.now) }

@@ -14,8 +14,7 @@ ghost use Rattle.commands.specs.TakeSteps.{EndsCrew};
 use crate::complaint::Complaint;
 use crate::ending::tell_end;
 use crate::finish::finish;
-use crate::profile::ProfileNumbers;
-use crate::soup_set::{SoupSet, open_haul};
+use crate::plan::{Plan, open_haul};
 use crate::status::Status;
 use crew::gate::{Gate, OpenGate};
 use crew::watch::Watch;
@@ -27,8 +26,7 @@ use std::io::Write;
 use std::sync::Wait;
 use std::thread::Threads;
 
-/// Surveys all soups of a set by so many workers, 1 to 16, under a profile and the rule of a text, and writes the haul
-/// text of what they left.
+/// Surveys all soups of a plan by so many workers, 1 to 16, and writes the haul text of what they left.
 ///
 /// Each worker has a thread of its own, and what is written is the same for any number of them. Each of the profile's
 /// numbers is in its range, and neither writer may have failed. The seed is looked at first, then the profile, the
@@ -45,27 +43,23 @@ use std::thread::Threads;
 pub fn do_take<W: Write, E: Write, R: Threads + Wait + Sync, H: Watch>(
     alloc: Global,
     rt: &R,
-    set: &SoupSet<'_>,
+    plan: &Plan<'_>,
     workers: u8,
-    profile: ProfileNumbers,
-    rule_text: &str,
     output: &mut Out<W>,
     errors: &mut Out<E>,
     watch: &mut H,
 ) -> Status
     requires workers { IsWorker workers }
-    requires profile { AreInRange profile }
+    requires profile { AreInRange plan.now.profile }
     requires output { output.old.failed ≡ false }
     requires errors { errors.old.failed ≡ false }
     ensures ends { (known : Option (List ℕ)) (bytes : List ℕ)
-        → Ends (take_task set.now profile rule_text.now) known bytes result
+        → Ends (take_task plan.now) known bytes result
         (stream W.contents output.old output.new) (stream E.contents errors.old errors.new) }
     ensures untouched { result ≡ Status.Refused → output.new ≡ output.old }
     ensures no_memory { result ≡ Status.OutOfMemory → output.new ≡ output.old }
 {
-    do_take_with(
-        alloc, rt, set, workers, profile, rule_text, &OpenGate, output, errors, watch,
-    )
+    do_take_with(alloc, rt, plan, workers, &OpenGate, output, errors, watch)
 }
 
 /// [`do_take`] under a gate, which may stop workers.
@@ -77,28 +71,24 @@ pub fn do_take<W: Write, E: Write, R: Threads + Wait + Sync, H: Watch>(
 pub fn do_take_with<W: Write, E: Write, G: Gate + Sync, R: Threads + Wait + Sync, H: Watch>(
     alloc: Global,
     rt: &R,
-    set: &SoupSet<'_>,
+    plan: &Plan<'_>,
     workers: u8,
-    profile: ProfileNumbers,
-    rule_text: &str,
     gate: &G,
     output: &mut Out<W>,
     errors: &mut Out<E>,
     watch: &mut H,
 ) -> Status
     requires workers { IsWorker workers }
-    requires profile { AreInRange profile }
+    requires profile { AreInRange plan.now.profile }
     requires output { output.old.failed ≡ false }
     requires errors { errors.old.failed ≡ false }
     ensures ends { (known : Option (List ℕ)) (bytes : List ℕ)
-        → Ends (gated_task (G.may_stop gate.now) set.now profile rule_text.now) known bytes result
+        → Ends (gated_task (G.may_stop gate.now) plan.now) known bytes result
         (stream W.contents output.old output.new) (stream E.contents errors.old errors.new) }
     ensures untouched { result ≡ Status.Refused → output.new ≡ output.old }
     ensures no_memory { result ≡ Status.OutOfMemory → output.new ≡ output.old }
 {
-    let outcome = take(
-        alloc, rt, set, workers, profile, rule_text, gate, output, watch,
-    );
+    let outcome = take(alloc, rt, plan, workers, gate, output, watch);
     tell_end(outcome, errors)
 }
 
@@ -106,24 +96,22 @@ pub fn do_take_with<W: Write, E: Write, G: Gate + Sync, R: Threads + Wait + Sync
 fn take<W: Write, G: Gate + Sync, R: Threads + Wait + Sync, H: Watch>(
     alloc: Global,
     rt: &R,
-    set: &SoupSet<'_>,
+    plan: &Plan<'_>,
     workers: u8,
-    profile: ProfileNumbers,
-    rule_text: &str,
     gate: &G,
     output: &mut Out<W>,
     watch: &mut H,
 ) -> Result<u64, Complaint>
     requires workers { IsWorker workers }
-    requires profile { AreInRange profile }
+    requires profile { AreInRange plan.now.profile }
     requires output { output.old.failed ≡ false }
     ensures reached { (known : Option (List ℕ)) (bytes : List ℕ) (errors : Stream) → IsUntouched errors
-        → Reaches (gated_task (G.may_stop gate.now) set.now profile rule_text.now) known bytes result
+        → Reaches (gated_task (G.may_stop gate.now) plan.now) known bytes result
         (stream W.contents output.old output.new) errors }
     ensures untouched { IfErr result (λ complaint. status_of complaint ≡ Status.Refused → output.new ≡ output.old) }
     ensures no_memory { IfErr result (λ complaint. complaint ≡ Complaint.OutOfMemory → output.new ≡ output.old) }
 {
-    let haul = open_haul(alloc, set, workers, profile, rule_text)?;
+    let haul = open_haul(alloc, plan, workers)?;
     let (mut haul, taken) = take_by_crew(alloc, rt, haul, workers, gate, watch);
     finish_taken(&mut haul, taken, output)
 }

@@ -13,8 +13,7 @@ ghost use Rattle.commands.specs.Work.{work_right, work_task};
 ghost use Rattle.commands.specs.WorkSteps.{Puts};
 
 use crate::complaint::Complaint;
-use crate::profile::ProfileNumbers;
-use crate::soup_set::{SoupSet, open_haul};
+use crate::plan::{Plan, open_haul};
 use crate::status::Status;
 use haul_core::haul::Haul;
 use haul_core::report::Report;
@@ -27,8 +26,8 @@ use survey_core::finding::findings_are_determined;
 use survey_core::job::Job;
 use survey_core::memo::Memo;
 
-/// Surveys all soups of a set for a worker, 1 to 16, under a profile and the rule of a text, and writes a report line
-/// for each, ascending by the soups' numbers.
+/// Surveys all soups of a plan for a worker, 1 to 16, and writes a report line for each, ascending by the soups'
+/// numbers.
 ///
 /// Each line is sent on as soon as it is whole. Each of the profile's numbers is in its range, and neither writer may
 /// have failed. What is refused is looked for in the order of [`do_take`](crate::take::do_take). `census work` is this
@@ -40,23 +39,21 @@ use survey_core::memo::Memo;
 /// output can't be written. Then one line stands on `errors`; a failure to write that line is not reported.
 pub fn do_work<W: Write, E: Write>(
     alloc: Global,
-    set: &SoupSet<'_>,
+    plan: &Plan<'_>,
     worker: u8,
-    profile: ProfileNumbers,
-    rule_text: &str,
     output: &mut Out<W>,
     errors: &mut Out<E>,
 ) -> Status
     requires worker { IsWorker worker }
-    requires profile { AreInRange profile }
+    requires profile { AreInRange plan.now.profile }
     requires output { output.old.failed ≡ false }
     requires errors { errors.old.failed ≡ false }
     ensures ends { (known : Option (List ℕ)) (bytes : List ℕ)
-        → Ends (work_task set.now worker profile rule_text.now) known bytes result
+        → Ends (work_task plan.now worker) known bytes result
         (stream W.contents output.old output.new) (stream E.contents errors.old errors.new) }
     ensures untouched { result ≡ Status.Refused → output.new ≡ output.old }
 {
-    match work(alloc, set, worker, profile, rule_text, output) {
+    match work(alloc, plan, worker, output) {
         Ok(()) => Status::Done,
         Err(complaint) => complaint.tell(errors),
     }
@@ -64,21 +61,19 @@ pub fn do_work<W: Write, E: Write>(
 
 fn work<W: Write>(
     alloc: Global,
-    set: &SoupSet<'_>,
+    plan: &Plan<'_>,
     worker: u8,
-    profile: ProfileNumbers,
-    rule_text: &str,
     output: &mut Out<W>,
 ) -> Result<(), Complaint>
     requires worker { IsWorker worker }
-    requires profile { AreInRange profile }
+    requires profile { AreInRange plan.now.profile }
     requires output { output.old.failed ≡ false }
-    ensures reached { ReachesText false false (work_right set.now worker profile rule_text.now) result
+    ensures reached { ReachesText false false (work_right plan.now worker) result
         (stream W.contents output.old output.new) }
     ensures untouched { IfErr result (λ complaint. status_of complaint ≡ Status.Refused → output.new ≡ output.old) }
 {
     // No report is offered to this haul: it has the ranges in normal form.
-    let haul = open_haul(alloc, set, worker, profile, rule_text)?;
+    let haul = open_haul(alloc, plan, worker)?;
     findings_are_determined();
     one_normal_form();
     put_all(alloc, worker, &haul, output)

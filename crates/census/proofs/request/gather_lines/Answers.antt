@@ -15,5 +15,5 @@ returns-clause-ends g c =
       bytes = ended.0;
       input = ended.1;
       ends = subst (λ (t : Task). Ends t known ended.0 c.do_gather.result output errors)
-          (λ i. gather_task (c.soups_for-set.ensures i) c.args.workers (c.numbers_for-profile.ensures.numbers i) (c.as_str-rule.ensures i)) ended.2;
+          (λ i. gather_task (c.plan_for-plan.ensures.plan i) c.args.workers) ended.2;
     }

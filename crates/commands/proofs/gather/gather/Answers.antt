@@ -9,7 +9,7 @@ returns-in_err-haul-clause-gathers g c =
       some.0,
       some.1,
       rw (err_of _ _ c.from_residual.ensures.1)
-          (gathers_opening c.args.set.now c.args.workers c.args.profile c.args.rule_text.now some.0 _ c.in_err-haul.field-0.0 _ _
+          (gathers_opening c.args.plan.now c.args.workers some.0 _ c.in_err-haul.field-0.0 _ _
           c.in_err-haul.ensures.stops (record { nothing = Appends-nil _; silent = Appends-nil _; fine = c.requires.errors })),
     )
 
@@ -22,9 +22,9 @@ returns-clause-gathers g c =
     let told = c.gather_into.ensures.gathers in (
       told.0,
       told.1,
-      gathers_over c.args.set.now c.args.workers c.args.profile c.args.rule_text.now told.0 _ is.job _ _ _ _ is.named (is_over _ _ _ _ is.opened) told.2,
+      gathers_over c.args.plan.now c.args.workers told.0 _ is.job _ _ _ _ is.named (is_over _ _ _ _ is.opened) told.2,
     )
 
 pub returns-clause-unread : goal.returns-clause-unread
 returns-clause-unread g c unread =
-    absurd (reads_named c.args.set.now c.args.profile c.args.rule_text.now c.in_ok-haul.ensures.opened.job c.in_ok-haul.ensures.opened.named unread)
+    absurd (reads_named c.args.plan.now c.in_ok-haul.ensures.opened.job c.in_ok-haul.ensures.opened.named unread)

@@ -7,14 +7,13 @@ use Rattle.commands.proofs.work.work.Goals as goal
 
 pub returns-in_err-haul-clause-reached : goal.returns-in_err-haul-clause-reached
 returns-in_err-haul-clause-reached g c =
-    let set = c.args.set.now in
-    let rule_text = c.args.rule_text.now in
+    let plan = c.args.plan.now in
     rw (err_of _ _ c.from_residual.ensures.1)
-    (Reaches_stopped (work_right set c.args.worker c.args.profile rule_text) c.in_err-haul.field-0.0 _
-    (Stops_opening set c.args.profile rule_text (λ job. TellsReports job c.args.worker) c.in_err-haul.field-0.0 c.in_err-haul.ensures.stops)
+    (Reaches_stopped (work_right plan c.args.worker) c.in_err-haul.field-0.0 _
+    (Stops_opening plan (λ job. TellsReports job c.args.worker) c.in_err-haul.field-0.0 c.in_err-haul.ensures.stops)
     (Appends-nil _))
 
 pub returns-clause-reached : goal.returns-clause-reached
 returns-clause-reached g c =
-    reaches_work c.findings_are_determined.ensures c.one_normal_form.ensures c.args.set.now c.args.worker c.args.profile c.args.rule_text.now
+    reaches_work c.findings_are_determined.ensures c.one_normal_form.ensures c.args.plan.now c.args.worker
     c.in_ok-haul.haul c.put_all.result _ c.in_ok-haul.ensures.opened c.put_all.ensures
