@@ -1,9 +1,9 @@
 -- Sweeps: where a pattern that comes back lies in each turn, and boxes that stay clear of each other.
 use Rattle.std.proofs.Common.{◌≡◌, ◌∙◌, ◌+◌, ◌*◌, ◌/◌, ◌%◌, ◌<◌, ◌≤◌, ◌+ℤ◌, ◌-ℤ◌, ◌≤ℤ◌, ◌<ℤ◌, ap, sym, refl, subst, ℕ, ℤ, pos, zero, suc, List, [], ◌∷◌}
-use Rattle.std.proofs.Common.{All, arith, get_or, inl, inr, ◌⊎◌, true, zero-add, eq-or-lt_of_le, int_lt, length, mul_comm, take, unsigned_abs, ◌++◌}
+use Rattle.std.proofs.Common.{All, Bool, arith, get_or, inl, inr, ◌⊎◌, ◌&&◌, ◌||◌, true, zero-add, eq-or-lt_of_le, int_le, int_lt, length, mul_comm, take, unsigned_abs, ◌++◌}
 use Rattle.std.proofs.lemmas.Int.{clamps, ints}
 use Rattle.std.proofs.lemmas.List.Elements.{All-map, recursion_from_All}
-use Rattle.std.proofs.lemmas.Bool.{or_cases}
+use Rattle.std.proofs.lemmas.Bool.{and_parts, cases_lt, or_cases, or_left, or_right}
 use Rattle.std.proofs.lemmas.List.{get_or_append_left, get_or_push, length-append, take_more}
 use Rattle.std.proofs.Math.Nat.{div-add-mod, le-div_iff_mul-le, suc-mul, zero-mul}
 use Rattle.plane_core.specs.declared.bounds.Bounds.{Bounds}
@@ -15,7 +15,7 @@ use Rattle.plane_core.specs.Rules.{Numbers}
 use Rattle.plane_core.proofs.SetLemmas.{has-all}
 use Rattle.code_core.proofs.MovedCodes.{after-shifted}
 use Rattle.survey_core.specs.declared.sweep.Sweep.{Sweep}
-use Rattle.survey_core.specs.Sweeps.{AreSweeps, IsSweep, Serves, ShipsMoveByTurns, StayApart, StayClear, both_boxes, carried, is_clear, is_past, times}
+use Rattle.survey_core.specs.Sweeps.{AreSweeps, IsSweep, Serves, ShipsMoveByTurns, StayApart, StayClear, both_boxes, carried, is_clear, is_parting, is_past, times}
 use Rattle.survey_core.proofs.FindingLemmas.{after-then}
 use Rattle.survey_core.proofs.ForGoodLemmas.{after_rest, shifted-none}
 
@@ -201,6 +201,54 @@ clear_more one other n x y is_x is_y before now m low = elim (eq-or-lt_of_le (m_
   where
     m_low : (m : ℕ) → m < n + 1 → m ≤ n
     m_low m h = omega arith
+
+-- what holds in a turn, and in the turn after each in which it holds, holds in all later turns
+in_later_turns : (P : ℕ → Type 0) (n : ℕ) → ((m : ℕ) → P m → P (suc m)) → P n → (m : ℕ) → n ≤ m → P m
+in_later_turns P n more now zero low = subst P (omega (arith, low)) now
+in_later_turns P n more now (suc m) low = elim (eq-or-lt_of_le low) [
+  | inl same ↦ subst P same now
+  | inr less ↦ more m (in_later_turns P n more now m (omega (arith, less)))
+]
+
+-- what begins past an end, and isn't led back, stays past it
+past_later : (end begin d : ℤ) (n m : ℕ) → n ≤ m → (is_past end (pos 0) begin (times n d) && int_le (pos 0) d) ≡ true
+    → is_past end (pos 0) begin (times m d) ≡ true
+past_later end begin d n m low h =
+    let parts = and_parts (is_past end (pos 0) begin (times n d)) (int_le (pos 0) d) h in
+    in_later_turns (λ (k : ℕ). is_past end (pos 0) begin (times k d) ≡ true) n (λ k there. one (times k d) there parts.1) parts.0 m low
+  where
+    one : (t : ℤ) → is_past end (pos 0) begin t ≡ true → int_le (pos 0) d ≡ true → is_past end (pos 0) begin (t +ℤ d) ≡ true
+    one t there on = grind (arith, ints)
+
+-- and so does what is left behind
+ahead_later : (end begin d : ℤ) (n m : ℕ) → n ≤ m → (is_past end (times n d) begin (pos 0) && int_le d (pos 0)) ≡ true
+    → is_past end (times m d) begin (pos 0) ≡ true
+ahead_later end begin d n m low h =
+    let parts = and_parts (is_past end (times n d) begin (pos 0)) (int_le d (pos 0)) h in
+    in_later_turns (λ (k : ℕ). is_past end (times k d) begin (pos 0) ≡ true) n (λ k there. one (times k d) there parts.1) parts.0 m low
+  where
+    one : (t : ℤ) → is_past end t begin (pos 0) ≡ true → int_le d (pos 0) ≡ true → is_past end (t +ℤ d) begin (pos 0) ≡ true
+    one t there on = grind (arith, ints)
+
+either : {a b c d : Bool} → (a ≡ true → c ≡ true) → (b ≡ true → d ≡ true) → (a || b) ≡ true → (c || d) ≡ true
+either {a} {b} {c} {d} one other some = elim (or_cases a b some) [ inl e ↦ or_left c d (one e) | inr e ↦ or_right c d (other e) ]
+
+-- boxes that part are clear in all later turns
+parting_clear : (one other : Bounds) (dx dy : ℤ) (n m : ℕ) → n ≤ m → is_parting one other (times n dx) (times n dy) dx dy ≡ true
+    → is_clear one other (times m dx) (times m dy) ≡ true
+parting_clear one other dx dy n m low =
+    either (either (either (past_later one.right other.left dx n m low) (ahead_later other.right one.left dx n m low))
+    (past_later one.bottom other.top dy n m low)) (ahead_later other.bottom one.top dy n m low)
+
+-- so once they part nothing more has to be asked
+pub clear_from_here : (one other : Sweep) (n turns : ℕ) (x y s t : ℤ) → s ≡ other.recurrence.dx -ℤ one.recurrence.dx
+    → t ≡ other.recurrence.dy -ℤ one.recurrence.dy → x ≡ times n s → y ≡ times n t → StayClear n one other
+    → is_parting one.bounds other.bounds x y s t ≡ true → StayClear turns one other
+clear_from_here one other n turns x y s t is_s is_t is_x is_y before part m low = elim (cases_lt m n) [
+  | inl early ↦ before m early
+  | inr late ↦ parting_clear one.bounds other.bounds (other.recurrence.dx -ℤ one.recurrence.dx) (other.recurrence.dy -ℤ one.recurrence.dy) n m late
+      ((λ i. is_parting one.bounds other.bounds (sym (is_x ∙ ap (times n) is_s) i) (sym (is_y ∙ ap (times n) is_t) i) (sym is_s i) (sym is_t i)) ∙ part)
+]
 
 -- ---- the box of all phases
 

@@ -1,5 +1,5 @@
 -- The sweep of a pattern that comes back: a box in which all its phases lie, and which moves along with it.
-use Rattle.std.specs.Prelude.{◌≡◌, ◌+◌, ◌*◌, ◌+ℤ◌, ◌<◌, ◌≤◌, ◌⊎◌, ◌||◌, Bool, true, int_lt, ℕ, ℤ, zero, suc, pos, List, All, get_or, length}
+use Rattle.std.specs.Prelude.{◌≡◌, ◌+◌, ◌*◌, ◌+ℤ◌, ◌<◌, ◌≤◌, ◌⊎◌, ◌||◌, ◌&&◌, Bool, true, int_le, int_lt, ℕ, ℤ, zero, suc, pos, List, All, get_or, length}
 use Rattle.std.specs.Int.{int_max, int_min}
 use lib.IntN.{◌-ℤ◌}
 use Rattle.plane_core.specs.declared.cell.Cell.{Cell}
@@ -49,6 +49,11 @@ is_past end t begin s = int_lt ((end +ℤ t) +ℤ pos 2) (begin +ℤ s)
 abbrev pub is_clear : Bounds → Bounds → ℤ → ℤ → Bool
 is_clear one other x y = is_past one.right (pos 0) other.left x || is_past other.right x one.left (pos 0)
     || is_past one.bottom (pos 0) other.top y || is_past other.bottom y one.top (pos 0)
+
+-- and that on a side over which no step by (dx, dy) leads back
+abbrev pub is_parting : Bounds → Bounds → ℤ → ℤ → ℤ → ℤ → Bool
+is_parting one other x y dx dy = is_past one.right (pos 0) other.left x && int_le (pos 0) dx || is_past other.right x one.left (pos 0) && int_le dx (pos 0)
+    || is_past one.bottom (pos 0) other.top y && int_le (pos 0) dy || is_past other.bottom y one.top (pos 0) && int_le dy (pos 0)
 
 -- the least box that has both in it
 abbrev pub both_boxes : Bounds → Bounds → Bounds

@@ -10,8 +10,9 @@
 //! ```
 //!
 //! Two clusters stay apart if their sweeps, one of them grown by 2, do so in every turn up to the horizon. Only the
-//! step of the one against the other counts, and once they part they never meet again. What doesn't move has turns of
-//! any length; two that move with different periods are taken to come near each other, and are run.
+//! step of the one against the other counts. Once the one lies past a side of the other, and no step leads back over
+//! that side, they never meet again, and no later turn is looked at. What doesn't move has turns of any length; two
+//! that move with different periods are taken to come near each other, and are run.
 
 ghost use Rattle.std.specs.Prelude.{◌≡◌, ◌≢◌, ◌↔◌, ◌+◌, ◌*◌, ◌-ℤ◌, ◌+ℤ◌, ◌<◌, ◌≤◌, ◌<ℤ◌, ◌≤ℤ◌, ◌⊎◌, ◌^◌, [], ℕ, pos};
 ghost use Rattle.std.specs.Prelude.{All, IfNone, IfOk, IfSome, IsTrue, true, unsigned_abs};
@@ -20,7 +21,8 @@ ghost use Rattle.plane_core.specs.Bounds.{IsWithin};
 ghost use Rattle.plane_core.specs.Cells.{InOrder};
 ghost use Rattle.plane_core.specs.Generations.{after, lies_within};
 ghost use Rattle.survey_core.specs.Rest.{ComesBack};
-ghost use Rattle.survey_core.specs.Sweeps.{IsSweep, Serves, ShipsMoveByTurns, StayApart, StayClear, is_clear, is_past};
+ghost use Rattle.survey_core.specs.Sweeps.{IsSweep, Serves, ShipsMoveByTurns, StayApart, StayClear};
+ghost use Rattle.survey_core.specs.Sweeps.{is_clear, is_parting, is_past};
 
 use crate::rest::next;
 use code_core::recurrence::Recurrence;
@@ -168,18 +170,19 @@ fn is_still(sweep: &Sweep) -> bool
     sweep.recurrence.dx == 0 && sweep.recurrence.dy == 0
 }
 
-/// Whether the boxes are clear of each other for so many turns. Where neither moves against the other, one turn shows
-/// it.
+/// Whether the boxes are clear of each other for so many turns. Once they part, or where neither moves against the
+/// other, no later turn is looked at.
 fn are_clear_for(one: &Sweep, other: &Sweep, turns: u32) -> bool
     requires { turns ≤ 4097 }
     ensures { IsTrue result → StayClear turns one.now other.now }
 {
     let step = step(one, other);
-    if step.is_none() {
-        return are_clear(one.bounds, other.bounds, step);
-    }
     let mut offset = Offset { x: 0, y: 0 };
     for _ in 0..turns {
+        let parting = are_parting(one.bounds, other.bounds, offset, step);
+        if parting {
+            return true;
+        }
         let clear = are_clear(one.bounds, other.bounds, offset);
         if !clear {
             return false;
@@ -197,13 +200,6 @@ struct Offset {
 }
 
 impl Offset {
-    /// Whether nothing is moved.
-    fn is_none(self) -> bool
-        ensures { IsTrue result ↔ ((self.x ≡ pos 0) × (self.y ≡ pos 0)) }
-    {
-        self.x == 0 && self.y == 0
-    }
-
     /// The offset a step later.
     fn moved(self, step: Offset) -> Offset
         requires across { unsigned_abs self.x + unsigned_abs step.x ≤ 2 ^ 46 }
@@ -237,6 +233,18 @@ fn difference(one: i32, other: i32) -> i64
     ensures small { unsigned_abs result ≤ 2 ^ 33 }
 {
     i64::from(other) - i64::from(one)
+}
+
+/// Whether the box and the other, moved, are clear of each other on a side over which no step leads back.
+fn are_parting(one: Bounds, other: Bounds, offset: Offset, step: Offset) -> bool
+    requires across { unsigned_abs offset.x ≤ 2 ^ 46 }
+    requires down { unsigned_abs offset.y ≤ 2 ^ 46 }
+    ensures { result ≡ is_parting one other offset.x offset.y step.x step.y }
+{
+    (is_past(one.right, 0, other.left, offset.x) & (step.x >= 0))
+        | (is_past(other.right, offset.x, one.left, 0) & (step.x <= 0))
+        | (is_past(one.bottom, 0, other.top, offset.y) & (step.y >= 0))
+        | (is_past(other.bottom, offset.y, one.top, 0) & (step.y <= 0))
 }
 
 /// Whether the box and the other, moved, have at least two empty columns or rows between them.
