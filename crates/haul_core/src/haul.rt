@@ -314,18 +314,16 @@ impl Haul {
             return Err(Refused { report, reason });
         }
         let finding = report.finding();
-        let made = make_room(
+        let Ok(()) = make_room(
             self.alloc,
             &mut self.taken,
             &mut self.worker_of,
             &mut self.totals,
             finding,
-        )
-        .is_ok();
-        if !made {
+        ) else {
             let reason = Refusal::Memory;
             return Err(Refused { report, reason });
-        }
+        };
         note(
             &mut self.taken,
             &mut self.worker_of,

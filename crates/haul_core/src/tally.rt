@@ -219,12 +219,24 @@ pub(crate) fn make_rows(
     ensures err { OnErr result (rows.new.entries ≡ rows.old.entries) }
 {
     let before = rows.len();
+    let made = make_each_row(alloc, rows, objects);
+    if made.is_err() {
+        rows.truncate(before);
+    }
+    made
+}
+
+/// Makes a row for each code that has none. If there is no memory some of them are made.
+fn make_each_row(
+    alloc: Global,
+    rows: &mut IndexMap<Apgcode, Tally>,
+    objects: &[(Apgcode, u64)],
+) -> Result<(), AllocError>
+    ensures extends { Extends rows.old.entries rows.new.entries }
+    ensures rows { OnOk result (All (λ object. HasRow rows.new.entries object.0) objects.now) }
+{
     for object in objects {
-        let made = make_row(alloc, rows, &object.0).is_ok();
-        if !made {
-            rows.truncate(before);
-            return Err(AllocError);
-        }
+        make_row(alloc, rows, &object.0)?;
     }
     Ok(())
 }

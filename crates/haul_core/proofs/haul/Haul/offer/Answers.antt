@@ -26,8 +26,8 @@ invariant_of-self c =
     (record { rows = c.make_room.new.totals.rows.entries; unsettled = c.make_room.new.totals.unsettled; for_good = c.make_room.new.totals.for_good })
     c.make_room.ensures.taken c.make_room.ensures.workers c.make_room.ensures.extends c.make_room.ensures.unsettled c.make_room.ensures.for_good c.self.invariant
 
-pub returns-then-not-made-clause-reply : goal.returns-then-not-made-clause-reply
-returns-then-not-made-clause-reply c = λ arrivals s. inr (
+pub returns-in_default-make_room-clause-reply : goal.returns-in_default-make_room-clause-reply
+returns-in_default-make_room-clause-reply c = λ arrivals s. inr (
   refl,
   same_refusal arrivals c.args.self.now c.args.report s ∙ sym c.refusal.ensures
       ∙ c.in_default.is,

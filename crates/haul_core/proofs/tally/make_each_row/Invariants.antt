@@ -1,7 +1,7 @@
 use Rattle.std.proofs.Common.{take}
 use Rattle.std.specs.List.{All}
 use Rattle.haul_core.specs.Tallies.{Extends, HasRow}
-use Rattle.haul_core.proofs.tally.make_rows.Given as goal
+use Rattle.haul_core.proofs.tally.make_each_row.Given as goal
 
 abbrev pub invariant-loop-object : goal.invariant-loop-object
 invariant-loop-object l = record {
