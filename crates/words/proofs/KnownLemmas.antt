@@ -1,25 +1,31 @@
--- Facts on the table that compute: what each command has, as `clap` builds it.
-use Rattle.std.proofs.Common.{◌≡◌, ◌||◌, ◌&&◌, ◌++◌, Bool, true, false, None, Some, List, [], ◌∷◌, codes, inl, inr, not, refl, ap, subst}
-use Rattle.std.proofs.Common.{drop, get_or, if◌then◌else◌, is_some, map}
+-- What `clap` makes of the seven commands and of their arguments: one equation, which computes.
+use Rattle.std.proofs.Common.{◌≡◌, ◌∙◌, ◌||◌, ◌&&◌, ◌++◌, ℕ, Bool, true, false, cond, Option, None, Some, List, [], ◌∷◌, codes, inl, inr, not, refl, sym, ap, subst}
+use Rattle.std.proofs.Common.{drop, get_or, is_some, map, option_and_then, option_map, slice_get, unwrap_or}
 use Rattle.std.specs.List.{find, list_any}
 use Rattle.std.specs.Option.{option_map_or}
 use Rattle.std.specs.Str.{bytes_eq}
-use Rattle.clap.specs.Words.{App, Row, Rule, Shape, Text}
-use Rattle.clap.specs.Faults.{check_fault, default_fault}
-use Rattle.clap.specs.Kinds.{check_kinds}
-use Rattle.clap.specs.Lexer.{long_of}
-use Rattle.clap.specs.Simple.{built_leaf, filled, help_rule, inherited, marked_built, with_index, with_leaf_noted}
+use Rattle.std.specs.Str.Parse.{digits_value}
+use Rattle.std.proofs.lemmas.Option.{same_Some}
+use Rattle.clap.specs.Words.{App, Kinds, Row, Rule, Shape, Text, reading_of}
+use Rattle.clap.specs.Faults.{check_fault, default_fault, other_fault, repeat_fault, settle_fault, step_fault, turn_fault}
+use Rattle.clap.specs.Kinds.{check_kinds, or_else, values_kinds}
+use Rattle.clap.specs.Simple.{built_leaf, inherited, label_of, marked_built, names_of, with_leaf_noted}
 use Rattle.clap.specs.Simple as simple
-use Rattle.clap.specs.Takes.{is_given}
-use Rattle.clap.specs.Walk.{arg_by_id, arg_by_index, arg_by_long, has_long, takes_several}
+use Rattle.clap.specs.Takes as takes
+use Rattle.clap.specs.Walk.{Held, Step, Walk, answers_to, arg_by_index, has_long, idle, next, nothing_held, option, plain_word, pushed, reading_by, row_text}
+use Rattle.clap.specs.Walk.{settled, settled_rows, takes_several, to_positional, value, walk_from, walked, with_values, without}
+use Rattle.clap.specs.declared.error.kind.ErrorKind.TheVariants.{DisplayHelp}
+use Rattle.clap.specs.declared.parser.matches.ValueSource.{ValueSource}
+use Rattle.clap.specs.declared.parser.matches.ValueSource.TheVariants.{CommandLine, DefaultValue}
 use Rattle.clap.proofs.OnLiterals.{clap_on_literals}
+use Rattle.words.specs.declared.options.Kind.{Kind}
 use Rattle.words.specs.declared.options.Kind.TheVariants as kind
-use Rattle.words.specs.Table.{Command, Entry, census_app, commands, shape_in}
 use Rattle.words.specs.Requests.{is_version}
-use Rattle.words.specs.Table as table
+use Rattle.words.specs.Table.{Command, Entry, census_app, commands, shape_in}
 use Rattle.words.specs.Uses.{IsIn, is_flag, is_required}
-use Rattle.words.proofs.BuiltLemmas.{built, is_of_kind, is_small}
-use Rattle.words.proofs.WalkLemmas.{HasCommand}
+use Rattle.words.specs.Values.{at_least, number_named}
+use Rattle.words.proofs.NumberLemmas.{is_small, parser_for}
+use Rattle.words.proofs.WalkLemmas.{Met, at, met}
 
 -- the program and a command, as `clap` builds them
 abbrev pub census_built : App
@@ -32,155 +38,206 @@ leaf command = built_leaf (inherited (with_leaf_noted (marked_built census_app.t
 abbrev pub help_entry : Entry
 help_entry = record { name = codes "help"; is_named = true; kind = kind.Flag; default = None }
 
-abbrev pub has_name : Entry → Bool
-has_name e = e.is_named || is_flag e.kind
+-- an argument that takes a value after its name, and one that takes it alone
+abbrev pub takes_value : Entry → Bool
+takes_value e = e.is_named && not (is_flag e.kind)
 
+abbrev pub stands_alone : Entry → Bool
+stands_alone e = not e.is_named && not (is_flag e.kind)
+
+-- the name of the argument without one, of which a command has one at most
+abbrev pub lone : Command → Text
+lone command = option_map_or (λ e. e.name) (find stands_alone command.arguments) []
+
+-- ---- one use of an argument
+
+-- the row of an argument
+abbrev pub row_of : Entry → Text → ValueSource → Row
+row_of e v source = record { id = e.name; values = v ∷ []; count = None; source = Some source; reading = reading_of (parser_for e.kind) }
+
+-- the rows after a use with this value, and its faults
+abbrev pub rows_with : Entry → Text → List Row → List Row
+rows_with e v rows = with_values e.name (reading_of (parser_for e.kind)) CommandLine (v ∷ []) (without e.name rows)
+
+abbrev pub faults_of : Entry → Text → List Row → Kinds
+faults_of e v rows = or_else (repeat_fault false e.name rows) (values_kinds false (parser_for e.kind) (v ∷ []))
+
+-- a word with the whole use, which settles what is held before
+abbrev pub reacts : Shape → Held → Entry → Text → Met
+reacts s h e v = (
+  (record { rows = rows_with e v (settled s.rules h).rows; pending = None; skip = h.skip }, next idle),
+  or_else (settle_fault s.rules s.args_override_self h) (faults_of e v (settled s.rules h).rows),
+)
+
+-- a word with the name alone, after which values of the argument wait
+abbrev pub asks : Shape → Held → Entry → Met
+asks s h e = (
+  (record { rows = (settled s.rules h).rows; pending = Some (e.name, []); skip = h.skip }, next (option e.name)),
+  settle_fault s.rules s.args_override_self h,
+)
+
+-- while several values are taken, nothing is settled before the next
+abbrev pub keeps_on : Held → Entry → Bool
+keeps_on h e = option_map_or (λ (q : Text × List Text). bytes_eq q.0 e.name) h.pending false && false
+
+-- ---- what a request takes
+
+pub data Value : Type 0 where
+  text : Option Text → Value
+  flag : Bool → Value
+  number : Option ℕ → Value
+
+abbrev pub text_of : Value → Option Text
+text_of (text t) = t
+text_of other = None
+
+abbrev pub flag_of : Value → Bool
+flag_of (flag b) = b
+flag_of other = false
+
+abbrev pub number_of : Value → Option ℕ
+number_of (number n) = n
+number_of other = None
+
+-- of the row that was found for an argument of this kind
+abbrev pub taken : Kind → Option Row → Value
+taken kind.Text row = text (option_and_then (λ (r : Row). slice_get r.values 0) row)
+taken kind.Flag row = flag (option_map_or (λ t. bytes_eq t (codes "true")) (option_and_then (λ (r : Row). slice_get r.values 0) row) false)
+taken (kind.Number least most) row = number (option_and_then (at_least least) (option_and_then (number_named most) (option_and_then row_text row)))
+taken (kind.LargeNumber most) row = number (option_and_then (number_named most) (option_and_then row_text row))
+
+-- where the argument has this value, or the flag is used or not
+abbrev pub given : Kind → Text → Bool → Value
+given kind.Text v used = text (Some v)
+given kind.Flag v used = flag used
+given (kind.Number least most) v used = number (Some (digits_value 10 v))
+given (kind.LargeNumber most) v used = number (Some (digits_value 10 v))
+
+-- the row of the default of an argument
+abbrev pub default_row : Rule → Row
+default_row a = record { id = a.id; values = a.defaults; count = None; source = Some DefaultValue; reading = reading_by a }
+
+abbrev pub has_some : List Text → Bool
+has_some [] = false
+has_some (v ∷ vs) = true
+
+abbrev pub default_for : Text → List Rule → Option Row
+default_for id c = option_map default_row (find (λ a. has_some a.defaults && bytes_eq a.id id) c)
+
+-- ---- what is known of a command
+
+-- something of each argument of which a test holds
+abbrev pub if_so : {X : Type 0} → Bool → X → Option X
+if_so b x = cond b (Some x) None
+
+-- the built command has a long name
 abbrev pub takes_name : Text → Rule → Bool
 takes_name name a = not (is_some a.index) && has_long a name
 
--- how a built command with these arguments finds them; one without a name is called `lone`
-pub record Finds (s : Shape) (es : List Entry) (lone : Text) : Type 0 where
-  pub lone_is : map (λ e. bytes_eq e.name lone) es ≡ map (λ e. not (has_name e)) es
-  pub no_second : arg_by_index s.rules 2 ≡ None
-  pub by_id : map (λ e. arg_by_id s.rules e.name) es ≡ map (λ e. Some (built e)) es
-  pub by_place : map (λ e. if has_name e then arg_by_long s.rules e.name else arg_by_index s.rules 1) es ≡ map (λ e. Some (built e)) es
-  pub apart : map (λ e. find (λ x. bytes_eq x.name e.name) es) es ≡ map (λ e. Some e) es
+pub record Facts : Type 0 where
+  -- how words lead on from a place: a flag, `--name=value`, `--name` before a value, that value, and a value alone
+  pub flags : Held → ℕ → List (Option Met)
+  pub attached : Held → ℕ → Text → List (Option Met)
+  pub named : Held → ℕ → List (Option Met)
+  pub valued : List Row → ℕ → Text → List (Held × Step)
+  pub alone : Held → Text → List (Option (Walk × Kinds))
+  -- and how a value that is held is settled
+  pub settles : List Row → ℕ → Text → List (Option (Kinds × List Row))
+  -- no value alone is a second one, and no argument has two names
+  pub lone_is : List Bool
+  pub second : Option Rule
+  pub apart : List (Option Entry)
+  pub several : Bool
+  -- values
+  pub small : List Bool
+  pub defaults : List (Option Value)
+  pub default_faults : List Kinds
+  pub checks : List Row → Kinds
+  -- other words
+  pub long_names : Text → Bool
+  pub help : Held → Kinds
+  -- the word that names the command
+  pub walks : Walk
+  pub fault : Kinds
+  pub found : Option Shape
+  pub version : Bool
 
--- how their names stand in words, and that the numbers of the table are lawful
-pub record Spells (es : List Entry) : Type 0 where
-  pub words : map (λ e. long_of (codes "--" ++ e.name)) es ≡ map (λ e. Some (e.name, None)) es
-  pub dashes : map (λ e. bytes_eq (codes "--" ++ e.name) (codes "--")) es ≡ map (λ e. false) es
-  pub attached : (v : Text) → map (λ e. long_of (codes "--" ++ (e.name ++ (codes "=" ++ v)))) es ≡ map (λ e. Some (e.name, Some v)) es
-  pub differs : (v : Text) → map (λ e. bytes_eq (codes "--" ++ (e.name ++ (codes "=" ++ v))) (codes "--")) es ≡ map (λ e. false) es
-  pub small : map (λ e. is_small e.kind) es ≡ map (λ e. true) es
-  pub defaults : map (λ e. option_map_or (is_of_kind e.kind) e.default true) es ≡ map (λ e. true) es
+-- as `clap` has it
+abbrev pub by_clap : Command → Facts
+by_clap command =
+    let s = leaf command in
+    let es = command.arguments in
+    record {
+      flags = λ h i. map (λ e. if_so (is_flag e.kind) (met s idle h i (codes "--" ++ e.name))) es;
+      attached = λ h i v. map (λ e. if_so (takes_value e) (met s idle h i (codes "--" ++ (e.name ++ (codes "=" ++ v))))) es;
+      named = λ h i. map (λ e. if_so (takes_value e) (met s idle h i (codes "--" ++ e.name))) es;
+      valued = λ rows skip v. map (λ e. plain_word s.rules (option e.name) v (record { rows = rows; pending = Some (e.name, []); skip = skip })) es;
+      alone = λ h v. map (λ e. if_so (stands_alone e) (to_positional s.rules (arg_by_index s.rules 1) v (at h 1) h, step_fault s 1 h value)) es;
+      settles = λ rows skip v. map (λ e. if_so (not (is_flag e.kind)) (
+        settle_fault s.rules s.args_override_self (record { rows = rows; pending = Some (e.name, v ∷ []); skip = skip }),
+        settled_rows s.rules (Some (e.name, v ∷ [])) rows,
+      )) es;
+      lone_is = map (λ e. bytes_eq e.name (lone command)) es;
+      second = arg_by_index s.rules 2;
+      apart = map (λ e. find (λ x. bytes_eq x.name e.name) es) es;
+      several = list_any takes_several s.rules;
+      small = map (λ e. is_small e.kind) es;
+      defaults = map (λ e. if_so (not (is_required e)) (taken e.kind (default_for e.name s.rules))) es;
+      default_faults = map (default_fault []) s.rules;
+      checks = λ rows. check_fault s rows false;
+      long_names = λ name. list_any (takes_name name) s.rules;
+      help = λ h. other_fault s None (codes "--help") h;
+      walks = walked census_built.top.rules (names_of census_built) (walk_from nothing_held) command.name;
+      fault = turn_fault census_built.top (names_of census_built) (walk_from nothing_held) command.name;
+      found = find (λ sub. answers_to command.name (label_of sub)) census_built.subs;
+      version = is_version command.name;
+    }
 
--- what it checks
-pub record Checks (s : Shape) (es : List Entry) : Type 0 where
-  pub no_fault : map (default_fault []) s.rules ≡ map (λ _. []) s.rules
-  pub again : s.args_override_self ≡ false
-  pub several : map takes_several s.rules ≡ map (λ _. false) s.rules
-  pub tests : (rows : List Row) → check_fault s rows false ≡ check_kinds false false (list_any (λ a. a.required && not (is_given a.id rows)) s.rules)
-  pub required : (g : Text → Bool) → list_any (λ a. a.required && not (g a.id)) s.rules ≡ list_any (λ e. is_required e && not (g e.name)) es
-  pub named : (name : Text) → list_any (takes_name name) s.rules ≡ list_any (λ e. e.is_named && (bytes_eq e.name name || false)) (es ++ help_entry ∷ [])
-  pub help : arg_by_long s.rules (codes "help") ≡ Some (with_index 1 (filled help_rule))
+-- and as the table has it
+abbrev pub by_table : Command → Facts
+by_table command =
+    let s = leaf command in
+    let es = command.arguments in
+    record {
+      flags = λ h i. map (λ e. if_so (is_flag e.kind) (reacts s h e (codes "true"))) es;
+      attached = λ h i v. map (λ e. if_so (takes_value e) (reacts s h e v)) es;
+      named = λ h i. map (λ e. if_so (takes_value e) (asks s h e)) es;
+      valued = λ rows skip v. map (λ (e : Entry). (record { rows = rows; pending = Some (e.name, v ∷ []); skip = skip }, next idle)) es;
+      alone = λ h v. map (λ e. if_so (stands_alone e) (
+        at (pushed e.name v (cond (keeps_on h e) h (settled s.rules h))) 2,
+        cond (keeps_on h e) [] (settle_fault s.rules s.args_override_self h),
+      )) es;
+      settles = λ rows skip v. map (λ e. if_so (not (is_flag e.kind)) (faults_of e v rows, rows_with e v rows)) es;
+      lone_is = map stands_alone es;
+      second = None;
+      apart = map (λ e. Some e) es;
+      several = false;
+      small = map (λ e. true) es;
+      defaults = map (λ e. if_so (not (is_required e)) (given e.kind (unwrap_or e.default []) false)) es;
+      default_faults = map (λ a. []) s.rules;
+      checks = λ rows. check_kinds false false (list_any (λ e. is_required e && not (takes.is_given e.name rows)) es);
+      long_names = λ name. list_any (λ e. e.is_named && (bytes_eq e.name name || false)) (es ++ help_entry ∷ []);
+      help = λ h. or_else (settle_fault s.rules s.args_override_self h) (DisplayHelp ∷ []);
+      walks = record { held = nothing_held; waiting = idle; position = 1; is_trailing = false; stopped = Some (command.name, []) };
+      fault = [];
+      found = Some s;
+      version = false;
+    }
 
-pub record Knows (s : Shape) (es : List Entry) : Type 0 where
-  pub lone : Text
-  pub finds : Finds s es lone
-  pub spells : Spells es
-  pub checks : Checks s es
-
--- one of two lists of facts on the same arguments
-pub at : {X : Type 0} (f g : Entry → X) (es : List Entry) (e : Entry) → map f es ≡ map g es → IsIn e es → f e ≡ g e
-at f g [] e same here = absurd here
-at f g (x ∷ es) e same (inl is) = subst (λ y. f y ≡ g y) is (ap (λ l. get_or l 0 (f x)) same)
-at f g (x ∷ es) e same (inr more) = at f g es e (ap (drop 1) same) more
-
--- ---- the commands
-
-pub record KnowsCommand (command : Command) : Type 0 where
-  pub has : HasCommand census_built command.name (leaf command)
-  pub knows : Knows (leaf command) command.arguments
-  pub no_version : is_version command.name ≡ false
-
-run_known : KnowsCommand table.run_command
+all_known : map by_clap commands ≡ map by_table commands
 unfolding clap_on_literals
-run_known = record {
-  has = record { named = refl; found = refl; no_help = refl; defaults = refl; checked = refl };
-  knows = record {
-    lone = codes "N";
-    finds = record { lone_is = refl; no_second = refl; by_id = refl; by_place = refl; apart = refl };
-    spells = record { words = refl; dashes = refl; attached = λ v. refl; differs = λ v. refl; small = refl; defaults = refl };
-    checks = record { no_fault = refl; again = refl; several = refl; tests = λ rows. refl; required = λ g. refl; named = λ name. refl; help = refl };
-  };
-  no_version = refl;
-}
+all_known = refl
 
-name_known : KnowsCommand table.name_command
-unfolding clap_on_literals
-name_known = record {
-  has = record { named = refl; found = refl; no_help = refl; defaults = refl; checked = refl };
-  knows = record {
-    lone = [];
-    finds = record { lone_is = refl; no_second = refl; by_id = refl; by_place = refl; apart = refl };
-    spells = record { words = refl; dashes = refl; attached = λ v. refl; differs = λ v. refl; small = refl; defaults = refl };
-    checks = record { no_fault = refl; again = refl; several = refl; tests = λ rows. refl; required = λ g. refl; named = λ name. refl; help = refl };
-  };
-  no_version = refl;
-}
+-- one of two lists of facts on the same things
+pub at_one : {X Y : Type 0} (f g : X → Y) (xs : List X) (x : X) → map f xs ≡ map g xs → IsIn x xs → f x ≡ g x
+at_one f g [] x same here = absurd here
+at_one f g (y ∷ xs) x same (inl is) = subst (λ z. f z ≡ g z) is (ap (λ l. get_or l 0 (f y)) same)
+at_one f g (y ∷ xs) x same (inr more) = at_one f g xs x (ap (drop 1) same) more
 
-show_known : KnowsCommand table.show_command
-unfolding clap_on_literals
-show_known = record {
-  has = record { named = refl; found = refl; no_help = refl; defaults = refl; checked = refl };
-  knows = record {
-    lone = codes "CODE";
-    finds = record { lone_is = refl; no_second = refl; by_id = refl; by_place = refl; apart = refl };
-    spells = record { words = refl; dashes = refl; attached = λ v. refl; differs = λ v. refl; small = refl; defaults = refl };
-    checks = record { no_fault = refl; again = refl; several = refl; tests = λ rows. refl; required = λ g. refl; named = λ name. refl; help = refl };
-  };
-  no_version = refl;
-}
+pub if_so_at : {Y : Type 0} (test : Entry → Bool) (f g : Entry → Y) (es : List Entry) (e : Entry)
+    → map (λ e. if_so (test e) (f e)) es ≡ map (λ e. if_so (test e) (g e)) es → IsIn e es → test e ≡ true → f e ≡ g e
+if_so_at test f g es e same here so = same_Some (f e) (g e)
+    (sym (ap (λ b. if_so b (f e)) so) ∙ at_one (λ e. if_so (test e) (f e)) (λ e. if_so (test e) (g e)) es e same here ∙ ap (λ b. if_so b (g e)) so)
 
-soup_known : KnowsCommand table.soup_command
-unfolding clap_on_literals
-soup_known = record {
-  has = record { named = refl; found = refl; no_help = refl; defaults = refl; checked = refl };
-  knows = record {
-    lone = codes "N";
-    finds = record { lone_is = refl; no_second = refl; by_id = refl; by_place = refl; apart = refl };
-    spells = record { words = refl; dashes = refl; attached = λ v. refl; differs = λ v. refl; small = refl; defaults = refl };
-    checks = record { no_fault = refl; again = refl; several = refl; tests = λ rows. refl; required = λ g. refl; named = λ name. refl; help = refl };
-  };
-  no_version = refl;
-}
-
-take_known : KnowsCommand table.take_command
-unfolding clap_on_literals
-take_known = record {
-  has = record { named = refl; found = refl; no_help = refl; defaults = refl; checked = refl };
-  knows = record {
-    lone = [];
-    finds = record { lone_is = refl; no_second = refl; by_id = refl; by_place = refl; apart = refl };
-    spells = record { words = refl; dashes = refl; attached = λ v. refl; differs = λ v. refl; small = refl; defaults = refl };
-    checks = record { no_fault = refl; again = refl; several = refl; tests = λ rows. refl; required = λ g. refl; named = λ name. refl; help = refl };
-  };
-  no_version = refl;
-}
-
-work_known : KnowsCommand table.work_command
-unfolding clap_on_literals
-work_known = record {
-  has = record { named = refl; found = refl; no_help = refl; defaults = refl; checked = refl };
-  knows = record {
-    lone = [];
-    finds = record { lone_is = refl; no_second = refl; by_id = refl; by_place = refl; apart = refl };
-    spells = record { words = refl; dashes = refl; attached = λ v. refl; differs = λ v. refl; small = refl; defaults = refl };
-    checks = record { no_fault = refl; again = refl; several = refl; tests = λ rows. refl; required = λ g. refl; named = λ name. refl; help = refl };
-  };
-  no_version = refl;
-}
-
-gather_known : KnowsCommand table.gather_command
-unfolding clap_on_literals
-gather_known = record {
-  has = record { named = refl; found = refl; no_help = refl; defaults = refl; checked = refl };
-  knows = record {
-    lone = [];
-    finds = record { lone_is = refl; no_second = refl; by_id = refl; by_place = refl; apart = refl };
-    spells = record { words = refl; dashes = refl; attached = λ v. refl; differs = λ v. refl; small = refl; defaults = refl };
-    checks = record { no_fault = refl; again = refl; several = refl; tests = λ rows. refl; required = λ g. refl; named = λ name. refl; help = refl };
-  };
-  no_version = refl;
-}
-
-pub known : (command : Command) → IsIn command commands → KnowsCommand command
-known command (inl is) = subst KnowsCommand is run_known
-known command (inr (inl is)) = subst KnowsCommand is name_known
-known command (inr (inr (inl is))) = subst KnowsCommand is show_known
-known command (inr (inr (inr (inl is)))) = subst KnowsCommand is soup_known
-known command (inr (inr (inr (inr (inl is))))) = subst KnowsCommand is take_known
-known command (inr (inr (inr (inr (inr (inl is)))))) = subst KnowsCommand is work_known
-known command (inr (inr (inr (inr (inr (inr (inl is))))))) = subst KnowsCommand is gather_known
-known command (inr (inr (inr (inr (inr (inr (inr never))))))) = absurd never
+pub known : (command : Command) → IsIn command commands → by_clap command ≡ by_table command
+known command here = at_one by_clap by_table commands command all_known here

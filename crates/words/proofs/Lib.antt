@@ -1,10 +1,8 @@
-mod BuiltLemmas
 mod KnownLemmas
 pub mod LawLemmas
 mod NumberLemmas
 mod ParseLemmas
 pub mod RefuseLemmas
-mod RowLemmas
 mod StuckLemmas
 mod TableLemmas
 mod UseLemmas
