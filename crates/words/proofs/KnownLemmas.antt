@@ -126,63 +126,72 @@ default_for id c = option_map default_row (find (λ a. has_some a.defaults && by
 
 -- ---- what is known of a command
 
--- something of each argument of which a test holds
+-- something where a test holds
 abbrev pub if_so : {X : Type 0} → Bool → X → Option X
 if_so b x = cond b (Some x) None
 
--- the built command has a long name
+pub so : {X : Type 0} {b : Bool} {x y : X} → if_so b x ≡ if_so b y → b ≡ true → x ≡ y
+so {X} {b} {x} {y} same holds = same_Some x y (sym (ap (λ b. if_so b x) holds) ∙ same ∙ ap (λ b. if_so b y) holds)
+
+-- a rule has this long name
 abbrev pub takes_name : Text → Rule → Bool
 takes_name name a = not (is_some a.index) && has_long a name
 
-pub record Facts : Type 0 where
-  -- how words lead on from a place: a flag, `--name=value`, `--name` before a value, that value, and a value alone
-  pub flags : Held → ℕ → List (Option Met)
-  pub attached : Held → ℕ → Text → List (Option Met)
-  pub named : Held → ℕ → List (Option Met)
-  pub valued : List Row → ℕ → Text → List (Held × Step)
-  pub alone : Held → Text → List (Option (Walk × Kinds))
-  -- and how a value that is held is settled
-  pub settles : List Row → ℕ → Text → List (Option (Kinds × List Row))
-  -- no value alone is a second one, and no argument has two names
-  pub lone_is : List Bool
+-- of one of its arguments: how words lead on from a place (a flag, `--name=value`, `--name` before a value, that value, and a value
+-- alone), how a value that is held is settled, and what is taken of its default
+pub record ArgumentFacts : Type 0 where
+  pub flagged : Held → ℕ → Option Met
+  pub attached : Held → ℕ → Text → Option Met
+  pub spaced : Held → ℕ → Option Met
+  pub valued : List Row → ℕ → Text → Held × Step
+  pub alone : Held → Text → Option (Walk × Kinds)
+  pub settles : List Row → ℕ → Text → Option (Kinds × List Row)
+  pub is_lone : Bool
+  pub same_name : Option Entry
+  pub small : Bool
+  pub default : Option Value
+
+-- and of the command: that no value alone is a second one, its defaults and checks, other words, and the word that names it
+pub record CommandFacts : Type 0 where
+  pub arguments : List ArgumentFacts
   pub second : Option Rule
-  pub apart : List (Option Entry)
   pub several : Bool
-  -- values
-  pub small : List Bool
-  pub defaults : List (Option Value)
   pub default_faults : List Kinds
   pub checks : List Row → Kinds
-  -- other words
   pub long_names : Text → Bool
   pub help : Held → Kinds
-  -- the word that names the command
   pub walks : Walk
   pub fault : Kinds
   pub found : Option Shape
   pub version : Bool
 
 -- as `clap` has it
-abbrev pub by_clap : Command → Facts
-by_clap command =
+abbrev pub argument_by_clap : Command → Entry → ArgumentFacts
+argument_by_clap command e =
     let s = leaf command in
-    let es = command.arguments in
     record {
-      flags = λ h i. map (λ e. if_so (is_flag e.kind) (met s idle h i (codes "--" ++ e.name))) es;
-      attached = λ h i v. map (λ e. if_so (takes_value e) (met s idle h i (codes "--" ++ (e.name ++ (codes "=" ++ v))))) es;
-      named = λ h i. map (λ e. if_so (takes_value e) (met s idle h i (codes "--" ++ e.name))) es;
-      valued = λ rows skip v. map (λ e. plain_word s.rules (option e.name) v (record { rows = rows; pending = Some (e.name, []); skip = skip })) es;
-      alone = λ h v. map (λ e. if_so (stands_alone e) (to_positional s.rules (arg_by_index s.rules 1) v (at h 1) h, step_fault s 1 h value)) es;
-      settles = λ rows skip v. map (λ e. if_so (not (is_flag e.kind)) (
+      flagged = λ h i. if_so (is_flag e.kind) (met s idle h i (codes "--" ++ e.name));
+      attached = λ h i v. if_so (takes_value e) (met s idle h i (codes "--" ++ (e.name ++ (codes "=" ++ v))));
+      spaced = λ h i. if_so (takes_value e) (met s idle h i (codes "--" ++ e.name));
+      valued = λ rows skip v. plain_word s.rules (option e.name) v (record { rows = rows; pending = Some (e.name, []); skip = skip });
+      alone = λ h v. if_so (stands_alone e) (to_positional s.rules (arg_by_index s.rules 1) v (at h 1) h, step_fault s 1 h value);
+      settles = λ rows skip v. if_so (not (is_flag e.kind)) (
         settle_fault s.rules s.args_override_self (record { rows = rows; pending = Some (e.name, v ∷ []); skip = skip }),
         settled_rows s.rules (Some (e.name, v ∷ [])) rows,
-      )) es;
-      lone_is = map (λ e. bytes_eq e.name (lone command)) es;
+      );
+      is_lone = bytes_eq e.name (lone command);
+      same_name = find (λ x. bytes_eq x.name e.name) command.arguments;
+      small = is_small e.kind;
+      default = if_so (not (is_required e)) (taken e.kind (default_for e.name s.rules));
+    }
+
+abbrev pub by_clap : Command → CommandFacts
+by_clap command =
+    let s = leaf command in
+    record {
+      arguments = map (argument_by_clap command) command.arguments;
       second = arg_by_index s.rules 2;
-      apart = map (λ e. find (λ x. bytes_eq x.name e.name) es) es;
       several = list_any takes_several s.rules;
-      small = map (λ e. is_small e.kind) es;
-      defaults = map (λ e. if_so (not (is_required e)) (taken e.kind (default_for e.name s.rules))) es;
       default_faults = map (default_fault []) s.rules;
       checks = λ rows. check_fault s rows false;
       long_names = λ name. list_any (takes_name name) s.rules;
@@ -194,29 +203,35 @@ by_clap command =
     }
 
 -- and as the table has it
-abbrev pub by_table : Command → Facts
-by_table command =
+abbrev pub argument_by_table : Command → Entry → ArgumentFacts
+argument_by_table command e =
     let s = leaf command in
-    let es = command.arguments in
     record {
-      flags = λ h i. map (λ e. if_so (is_flag e.kind) (reacts s h e (codes "true"))) es;
-      attached = λ h i v. map (λ e. if_so (takes_value e) (reacts s h e v)) es;
-      named = λ h i. map (λ e. if_so (takes_value e) (asks s h e)) es;
-      valued = λ rows skip v. map (λ (e : Entry). (record { rows = rows; pending = Some (e.name, v ∷ []); skip = skip }, next idle)) es;
-      alone = λ h v. map (λ e. if_so (stands_alone e) (
+      flagged = λ h i. if_so (is_flag e.kind) (reacts s h e (codes "true"));
+      attached = λ h i v. if_so (takes_value e) (reacts s h e v);
+      spaced = λ h i. if_so (takes_value e) (asks s h e);
+      valued = λ rows skip v. (record { rows = rows; pending = Some (e.name, v ∷ []); skip = skip }, next idle);
+      alone = λ h v. if_so (stands_alone e) (
         at (pushed e.name v (cond (keeps_on h e) h (settled s.rules h))) 2,
         cond (keeps_on h e) [] (settle_fault s.rules s.args_override_self h),
-      )) es;
-      settles = λ rows skip v. map (λ e. if_so (not (is_flag e.kind)) (faults_of e v rows, rows_with e v rows)) es;
-      lone_is = map stands_alone es;
+      );
+      settles = λ rows skip v. if_so (not (is_flag e.kind)) (faults_of e v rows, rows_with e v rows);
+      is_lone = stands_alone e;
+      same_name = Some e;
+      small = true;
+      default = if_so (not (is_required e)) (given e.kind (unwrap_or e.default []) false);
+    }
+
+abbrev pub by_table : Command → CommandFacts
+by_table command =
+    let s = leaf command in
+    record {
+      arguments = map (argument_by_table command) command.arguments;
       second = None;
-      apart = map (λ e. Some e) es;
       several = false;
-      small = map (λ e. true) es;
-      defaults = map (λ e. if_so (not (is_required e)) (given e.kind (unwrap_or e.default []) false)) es;
       default_faults = map (λ a. []) s.rules;
-      checks = λ rows. check_kinds false false (list_any (λ e. is_required e && not (takes.is_given e.name rows)) es);
-      long_names = λ name. list_any (λ e. e.is_named && (bytes_eq e.name name || false)) (es ++ help_entry ∷ []);
+      checks = λ rows. check_kinds false false (list_any (λ e. is_required e && not (takes.is_given e.name rows)) command.arguments);
+      long_names = λ name. list_any (λ e. e.is_named && (bytes_eq e.name name || false)) (command.arguments ++ help_entry ∷ []);
       help = λ h. or_else (settle_fault s.rules s.args_override_self h) (DisplayHelp ∷ []);
       walks = record { held = nothing_held; waiting = idle; position = 1; is_trailing = false; stopped = Some (command.name, []) };
       fault = [];
@@ -229,15 +244,15 @@ unfolding clap_on_literals
 all_known = refl
 
 -- one of two lists of facts on the same things
-pub at_one : {X Y : Type 0} (f g : X → Y) (xs : List X) (x : X) → map f xs ≡ map g xs → IsIn x xs → f x ≡ g x
+at_one : {X Y : Type 0} (f g : X → Y) (xs : List X) (x : X) → map f xs ≡ map g xs → IsIn x xs → f x ≡ g x
 at_one f g [] x same here = absurd here
 at_one f g (y ∷ xs) x same (inl is) = subst (λ z. f z ≡ g z) is (ap (λ l. get_or l 0 (f y)) same)
 at_one f g (y ∷ xs) x same (inr more) = at_one f g xs x (ap (drop 1) same) more
 
-pub if_so_at : {Y : Type 0} (test : Entry → Bool) (f g : Entry → Y) (es : List Entry) (e : Entry)
-    → map (λ e. if_so (test e) (f e)) es ≡ map (λ e. if_so (test e) (g e)) es → IsIn e es → test e ≡ true → f e ≡ g e
-if_so_at test f g es e same here so = same_Some (f e) (g e)
-    (sym (ap (λ b. if_so b (f e)) so) ∙ at_one (λ e. if_so (test e) (f e)) (λ e. if_so (test e) (g e)) es e same here ∙ ap (λ b. if_so b (g e)) so)
-
 pub known : (command : Command) → IsIn command commands → by_clap command ≡ by_table command
 known command here = at_one by_clap by_table commands command all_known here
+
+pub known_of : (command : Command) → IsIn command commands → (e : Entry) → IsIn e command.arguments
+    → argument_by_clap command e ≡ argument_by_table command e
+known_of command here e there = at_one (argument_by_clap command) (argument_by_table command) command.arguments e
+    (ap (λ (f : CommandFacts). f.arguments) (known command here)) there

@@ -18,7 +18,7 @@ use Rattle.words.specs.Requests.{survey_of_three, take_from, unless_faulty, work
 use Rattle.words.specs.Table.{Command, Entry, census_app, commands}
 use Rattle.words.specs.Table as table
 use Rattle.words.specs.Uses.{AreUses, IsIn, Use, is_required, is_used, lacks_some, words_in}
-use Rattle.words.proofs.KnownLemmas.{Facts, census_built, flag_of, given, known, leaf, number_of, taken, text_of}
+use Rattle.words.proofs.KnownLemmas.{CommandFacts, census_built, flag_of, given, known, leaf, number_of, taken, text_of}
 use Rattle.words.proofs.ParseLemmas.{asked_by-called}
 use Rattle.words.proofs.StuckLemmas.{IsFaulty, faulty_first, stray, turn_kinds}
 use Rattle.words.proofs.UseLemmas.{all_read, rows_in}
@@ -66,19 +66,19 @@ module _ (command : Command) (here : IsIn command commands) (program : Text) whe
       let k = known command here in
       let s = leaf command in
       let a = census_built in
-      let walks = ap (λ (f : Facts). f.walks) k in
+      let walks = ap (λ (f : CommandFacts). f.walks) k in
       let fine : walk_fault a.top (names_of a) (walk_from nothing_held) (command.name ∷ words) ≡ [] =
-      ap₂ (λ ks w. or_else ks (walk_fault a.top (names_of a) w words)) (ap (λ (f : Facts). f.fault) k) walks ∙ left_fault a.top (names_of a) command.name [] words in
+      ap₂ (λ ks w. or_else ks (walk_fault a.top (names_of a) w words)) (ap (λ (f : CommandFacts). f.fault) k) walks ∙ left_fault a.top (names_of a) command.name [] words in
       let ends : fold (walked a.top.rules (names_of a)) (walk_from nothing_held) (command.name ∷ words) ≡ left command.name words =
       ap (λ w. fold (walked a.top.rules (names_of a)) w words) walks ∙ left_walk a.top.rules (names_of a) command.name [] words in
       let end : Kinds → Option (Text × List Row) → Option Request = λ ks found. unless_faulty ks (option_and_then request_in found) in
-      asked_by-called (program ∷ command.name ∷ words) (not_version program command.name words (ap (λ (f : Facts). f.version) k))
+      asked_by-called (program ∷ command.name ∷ words) (not_version program command.name words (ap (λ (f : CommandFacts). f.version) k))
       ∙ ap₂ (λ ks (w : Walk). end (or_else ks (or_else (entered_fault a w.stopped)
       (or_else (settle_fault a.top.rules a.top.args_override_self w.held) (or_else (defaults_fault (settled a.top.rules w.held).rows a.top.rules)
       (check_fault a.top (finished a.top.rules w.held) (is_some (entered a w.stopped))))))) (entered a w.stopped)) fine ends
       ∙ ap (λ (o : Option Shape). end (or_else (option_map_or (λ s. level_fault s [] nothing_held words false []) o [])
       (or_else (defaults_fault [] a.top.rules) (check_fault a.top (finished a.top.rules nothing_held) (is_some (option_map (λ s. rows_at s words) o)))))
-      (option_map (λ s. rows_at s words) o)) (ap (λ (f : Facts). f.found) k)
+      (option_map (λ s. rows_at s words) o)) (ap (λ (f : CommandFacts). f.found) k)
       ∙ ap (λ ks. end (or_else (level_fault s [] nothing_held words false []) ks) (Some (rows_at s words))) top_fine
 
   -- arguments that are lawful, of which some that must be there are missing or not
@@ -95,8 +95,8 @@ module _ (command : Command) (here : IsIn command commands) (program : Text) whe
       asks (words_in uses) ∙ ap (asked_of s) (ap (run s (at nothing_held 1)) (sym (append-nil (words_in uses))) ∙ read.runs [])
       ∙ (λ j. end (or_else (read.is.settles j) (or_else (defaults_fault (read.is.found j) s.rules) (check_fault s (fold with_default (read.is.found j) s.rules) false)))
       (fold with_default (read.is.found j) s.rules))
-      ∙ ap (λ ks. end ks rows) (ap₂ or_else (no_default_fault s.rules (rows_in uses) (ap (λ (f : Facts). f.default_faults) k))
-      (ap (λ (f : Facts). f.checks rows) k
+      ∙ ap (λ ks. end ks rows) (ap₂ or_else (no_default_fault s.rules (rows_in uses) (ap (λ (f : CommandFacts). f.default_faults) k))
+      (ap (λ (f : CommandFacts). f.checks rows) k
       ∙ (λ j. check_kinds false false (list_any (λ e. is_required e && not (given_used command here e.name uses j)) command.arguments))
       ∙ ap (check_kinds false false) lacks))
 

@@ -4,7 +4,6 @@ mod NumberLemmas
 mod ParseLemmas
 pub mod RefuseLemmas
 mod StuckLemmas
-mod TableLemmas
 mod UseLemmas
 mod ValueLemmas
 mod WalkLemmas

@@ -20,6 +20,10 @@ use Rattle.words.specs.declared.options.Kind.TheVariants as kind
 use Rattle.words.specs.Uses.{IsNotOfKind, IsNumberFromTo, IsOfKind}
 use Rattle.words.specs.Values.{at_least, number_named, number_up_to, within}
 
+pub refuted : (b : Bool) → (b ≡ true → ⊥) → b ≡ false
+refuted true never = absurd (never refl)
+refuted false never = refl
+
 digits_pass : (ds : List ℕ) → AllDigits 10 ds → list_all (λ d. nat_lt (digit_value d) 10) ds ≡ true
 digits_pass [] h = refl
 digits_pass (d ∷ ds) h = rw (lt-ltb (digit_value d) 10 h.0) (digits_pass ds h.1)
@@ -52,14 +56,10 @@ tests-pass bits least most n fits h =
     rw (is_numeral-passes n h.numeral, lt-ltb _ _ small, le-leb _ _ h.low, le-leb _ _ high) refl
 
 tests-fail : (bits least most : ℕ) (n : Text) → (IsNumberFromTo least most n → ⊥) → tests bits least most n ≡ false
-tests-fail bits least most n never = go (tests bits least most n) refl
-  where
-    go : (b : Bool) → tests bits least most n ≡ b → b ≡ false
-    go false e = refl
-    go true e =
-        let numeral = both _ _ e in
-        let ends = both _ _ (both _ _ numeral.1).1 in
-        absurd (never (record { numeral = is_numeral-from n numeral.0; low = leb-true _ _ ends.0; high = leb-true _ _ ends.1 }))
+tests-fail bits least most n never = refuted (tests bits least most n) (λ e.
+    let numeral = both _ _ e in
+    let ends = both _ _ (both _ _ numeral.1).1 in
+    never (record { numeral = is_numeral-from n numeral.0; low = leb-true _ _ ends.0; high = leb-true _ _ ends.1 }))
 
 -- so `clap` tests a text without a sign
 signed_tests : (least most : ℕ) (n : Text) → starts_with_minus n ≡ false → without_leading_plus n ≡ n
@@ -126,14 +126,10 @@ number_read least most n h =
 -- a text that isn't read as one is none within the limit
 none_within : (most : ℕ) (ds : Text) → most < 2 ^ 64 → ((IsNumeral 10 ds × (digits_value 10 ds < 2 ^ 64)) → ⊥)
     → (is_numeral ds && nat_le (digits_value 10 ds) most) ≡ false
-none_within most ds fits never = go (is_numeral ds && nat_le (digits_value 10 ds) most) refl
-  where
-    go : (b : Bool) → (is_numeral ds && nat_le (digits_value 10 ds) most) ≡ b → b ≡ false
-    go false e = refl
-    go true e =
-        let parts = both _ _ e in
-        let small = leb-true _ _ parts.1 in
-        absurd (never (is_numeral-from ds parts.0, omega arith))
+none_within most ds fits never = refuted (is_numeral ds && nat_le (digits_value 10 ds) most) (λ e.
+    let parts = both _ _ e in
+    let small = leb-true _ _ parts.1 in
+    never (is_numeral-from ds parts.0, omega arith))
 
 -- the number of an argument is the one that is read of its text, where it is within the limit
 pub found_within : {E : Type 0} (most : ℕ) (id : Text) → most < 2 ^ 64 → (G : Text → Result ℕ E → Type 0)

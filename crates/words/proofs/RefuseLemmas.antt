@@ -18,8 +18,8 @@ use Rattle.words.specs.Calls.{OthersAskForNothing}
 use Rattle.words.specs.Requests.{asked_by}
 use Rattle.words.specs.Table.{Command, Entry, commands}
 use Rattle.words.specs.Uses.{AreUses, IsIn, IsNotOfKind, IsUnknown, Stands, Use, alone, attached, entry_in, flagged, spaced, value_in, words_in, words_of}
-use Rattle.words.proofs.KnownLemmas.{Facts, faults_of, help_entry, known, leaf, lone, takes_name}
-use Rattle.words.proofs.NumberLemmas.{kind_refused, parser_for}
+use Rattle.words.proofs.KnownLemmas.{CommandFacts, faults_of, help_entry, known, leaf, lone, takes_name}
+use Rattle.words.proofs.NumberLemmas.{kind_refused, parser_for, refuted}
 use Rattle.words.proofs.LawLemmas.{asked_of, asks, asks_uses, no_request}
 use Rattle.words.proofs.StuckLemmas.{IsFaulty, all_stuck, faulty_first, faulty_last, stray, turn_kinds, word_faulty}
 use Rattle.words.proofs.UseLemmas.{Fits, HasOrLacks, IsAt, all_read, bare_value, rows_in, use_step}
@@ -38,13 +38,8 @@ range_faulty e v rows refused = faulty_last (repeat_fault false e.name rows) (va
     (subst IsFaulty (sym (ap (λ b. or_else (cond {A = Kinds} b [] (refused_kind (parser_for e.kind) ∷ [])) []) (kind_refused e.kind v refused))) tt)
 
 not_dashes : (word name : Text) (v : Option Text) → long_of word ≡ Some (name, v) → bytes_eq word (codes "--") ≡ false
-not_dashes word name v is = go (bytes_eq word (codes "--")) refl
-  where
-    go : (b : Bool) → bytes_eq word (codes "--") ≡ b → b ≡ false
-    go false e = refl
-    go true e =
-        let bad : false ≡ true = ap is_some (sym (ap long_of ((bytes_eq-Decides word (codes "--")).0 e)) ∙ is) in
-        cc
+not_dashes word name v is = refuted (bytes_eq word (codes "--")) (λ e.
+    let bad : false ≡ true = ap is_some (sym (ap long_of ((bytes_eq-Decides word (codes "--")).0 e)) ∙ is) in cc)
 
 -- ---- at a place in the words of a command
 
@@ -65,7 +60,7 @@ module _ (command : Command) (here : IsIn command commands) {h : Held} {position
       λ j. record { rows = step.held.rows; pending = step.held.pending; skip = (step.skip ∙ is.no_skip) j } in
       let stuck : IsFaulty (settle_fault s.rules s.args_override_self step.held) → IsFaulty (faults_by s (run s (at step.held step.end) more)) =
       subst (λ (x : Held). IsFaulty (settle_fault s.rules s.args_override_self x) → IsFaulty (faults_by s (run s (at x step.end) more))) (sym bare)
-      (λ f. all_stuck s step.held.rows step.held.pending (ap (λ (f : Facts). f.several) (known command here)) f more step.end false) in
+      (λ f. all_stuck s step.held.rows step.held.pending (ap (λ (f : CommandFacts). f.several) (known command here)) f more step.end false) in
       subst (λ r. IsFaulty (faults_by s r)) (sym (step.runs more)) (go step.told step.held step.end (subst IsFaulty (sym step.faults) bad) stuck)
     where
       go : (told : Kinds) (held : Held) (end : ℕ) → IsFaulty (or_else told (settle_fault s.rules s.args_override_self held))
@@ -78,7 +73,7 @@ module _ (command : Command) (here : IsIn command commands) {h : Held} {position
   second_faulty : (v : Text) → starts_with_minus v ≡ false → position ≡ 2 → Refused (v ∷ more)
   second_faulty v bare second = word_faulty s h position v more (subst IsFaulty (sym (ap (turn_kinds s position) (plain_met s idle h position v bare)
       ∙ (λ j. option_map_or (λ a. positional_fault s.rules s.args_override_self a h) (arg_by_index s.rules (second j)) (stray_fault s))
-      ∙ ap (λ o. option_map_or (λ a. positional_fault s.rules s.args_override_self a h) o (stray_fault s)) (ap (λ (f : Facts). f.second) (known command here))))
+      ∙ ap (λ o. option_map_or (λ a. positional_fault s.rules s.args_override_self a h) o (stray_fault s)) (ap (λ (f : CommandFacts). f.second) (known command here))))
       (stray s))
 
   refused : (u : Use) → IsIn (entry_in u) command.arguments → Stands u → HasOrLacks u → IsFaulty (faults_of (entry_in u) (value_in u) rows)
@@ -100,7 +95,7 @@ module _ (command : Command) (here : IsIn command commands) {h : Held} {position
   -- `--help`
   refused_help : Refused (codes "--help" ∷ more)
   refused_help = refused_word (codes "--help") (DisplayHelp ∷ [])
-      (ap (λ (f : Facts). f.help h) (known command here) ∙ ap (λ ks. or_else ks (DisplayHelp ∷ [])) is.settles) tt
+      (ap (λ (f : CommandFacts). f.help h) (known command here) ∙ ap (λ ks. or_else ks (DisplayHelp ∷ [])) is.settles) tt
 
   -- an option that is unknown
   refused_unknown : (word : Text) → IsUnknown command word → Refused (word ∷ more)
@@ -108,7 +103,7 @@ module _ (command : Command) (here : IsIn command commands) {h : Held} {position
       let es = command.arguments in
       let named : Entry → Bool = λ e. e.is_named && (bytes_eq e.name u.name || false) in
       let none : list_any (takes_name u.name) s.rules ≡ false =
-      ap (λ (f : Facts). f.long_names u.name) (known command here) ∙ list_any-append named es (help_entry ∷ [])
+      ap (λ (f : CommandFacts). f.long_names u.name) (known command here) ∙ list_any-append named es (help_entry ∷ [])
       ∙ ap₂ (λ a b. a || ((b || false) || false)) ((λ i. list_any (λ e. e.is_named && or_nothing (bytes_eq e.name u.name) i) es) ∙ u.no_option) u.no_help in
       let differs : bytes_eq word (codes "--") ≡ false = not_dashes word u.name u.value u.is_option in
       refused_word word (UnknownArgument ∷ [])

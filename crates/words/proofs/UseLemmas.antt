@@ -9,7 +9,7 @@ use Rattle.clap.specs.Words.{Kinds, Row, Shape, Text, reading_of}
 use Rattle.clap.specs.Faults.{settle_fault, step_fault}
 use Rattle.clap.specs.Kinds.{or_else}
 use Rattle.clap.specs.Values.{refused_kind}
-use Rattle.clap.specs.Walk.{Held, arg_by_index, has_row, idle, more_values, next, nothing_held, option, plain_word, pushed, settled, settled_rows, to_positional, value, with_values}
+use Rattle.clap.specs.Walk.{Held, arg_by_index, has_row, idle, more_values, next, nothing_held, option, pushed, settled, to_positional, value, with_values}
 use Rattle.clap.specs.declared.error.kind.ErrorKind.TheVariants.{ArgumentConflict}
 use Rattle.clap.specs.declared.parser.matches.ValueSource.TheVariants.{CommandLine}
 use Rattle.words.specs.declared.options.Kind.{Kind}
@@ -17,8 +17,8 @@ use Rattle.words.specs.declared.options.Kind.TheVariants as kind
 use Rattle.words.specs.Table.{Command, Entry, commands}
 use Rattle.words.specs.Uses.{AreUses, IsBare, IsIn, IsNotOfKind, IsOfKind, IsUse, Stands, Use, alone, attached, entry_in, flagged, is_flag, is_used, spaced}
 use Rattle.words.specs.Uses.{value_in, words_in, words_of}
-use Rattle.words.proofs.KnownLemmas.{Facts, asks, at_one, faults_of, if_so_at, keeps_on, known, leaf, lone, reacts, row_of, rows_with, stands_alone, takes_value}
-use Rattle.words.proofs.NumberLemmas.{is_small, kind_accepted, no_sign, parser_for}
+use Rattle.words.proofs.KnownLemmas.{ArgumentFacts, so, known_of, faults_of, leaf, lone, reacts, row_of, rows_with, stands_alone, takes_value}
+use Rattle.words.proofs.NumberLemmas.{refuted, kind_accepted, no_sign, parser_for}
 use Rattle.words.proofs.WalkLemmas.{after, at, at_row_none, met, or_else_nil, plain_met, run, turn}
 
 -- the row of a use
@@ -101,9 +101,7 @@ module _ (command : Command) (here : IsIn command commands) {h : Held} {position
   hold_step : (e : Entry) (v : Text) (words : List Text) (end : ℕ) → IsIn e es → is_flag e.kind ≡ false → end ≡ cond {A = ℕ} (stands_alone e) 2 position
       → ((more : List Text) → run s (at h position) (words ++ more) ≡ run s (at (held_value e v) end) more) → Step s h position rows words e v
   hold_step e v words end there no_flag ends runs =
-      let settles = if_so_at (λ e. not (is_flag e.kind))
-      (λ e. (settle_fault s.rules s.args_override_self (held_value e v), settled_rows s.rules (Some (e.name, v ∷ [])) rows))
-      (λ e. (faults_of e v rows, rows_with e v rows)) es e (ap (λ (f : Facts). f.settles rows h.skip v) (known command here)) there (ap not no_flag) in
+      let settles = so (ap (λ (f : ArgumentFacts). f.settles rows h.skip v) (known_of command here e there)) (ap not no_flag) in
       record {
         told = [];
         held = held_value e v;
@@ -120,9 +118,7 @@ module _ (command : Command) (here : IsIn command commands) {h : Held} {position
   alone_step e v there lonely no_flag first bare =
       let goes : (to_positional s.rules (arg_by_index s.rules position) v (at h position) h, step_fault s position h value) ≡ (at (held_value e v) 2, []) =
       (λ j. (to_positional s.rules (arg_by_index s.rules (first j)) v (at h (first j)) h, step_fault s (first j) h value))
-      ∙ if_so_at stands_alone (λ e. (to_positional s.rules (arg_by_index s.rules 1) v (at h 1) h, step_fault s 1 h value))
-      (λ e. (at (pushed e.name v (cond (keeps_on h e) h (settled s.rules h))) 2, cond (keeps_on h e) [] (settle_fault s.rules s.args_override_self h)))
-      es e (ap (λ (f : Facts). f.alone h v) (known command here)) there lonely
+      ∙ so (ap (λ (f : ArgumentFacts). f.alone h v) (known_of command here e there)) lonely
       ∙ ap (λ b. (at (pushed e.name v (cond b h (settled s.rules h))) 2, cond {A = Kinds} b [] (settle_fault s.rules s.args_override_self h))) (and_false _)
       ∙ (λ j. (at (record { rows = is.found j; pending = Some (e.name, v ∷ []); skip = h.skip }) 2, is.settles j)) in
       hold_step e v (v ∷ []) 2 there no_flag (sym (ap (λ b. cond {A = ℕ} b 2 position) lonely))
@@ -134,13 +130,11 @@ module _ (command : Command) (here : IsIn command commands) {h : Held} {position
       let word : Text = codes "--" ++ e.name in
       let asking : Held = record { rows = rows; pending = Some (e.name, []); skip = h.skip } in
       let first : met s idle h position word ≡ ((asking, next (option e.name)), []) =
-      if_so_at takes_value (λ e. met s idle h position (codes "--" ++ e.name)) (λ e. asks s h e)
-      es e (ap (λ (f : Facts). f.named h position) (known command here)) there takes
+      so (ap (λ (f : ArgumentFacts). f.spaced h position) (known_of command here e there)) takes
       ∙ (λ j. ((record { rows = is.found j; pending = Some (e.name, []); skip = h.skip }, next (option e.name)), is.settles j)) in
       let second : met s (option e.name) asking position v ≡ ((held_value e v, next idle), []) =
       plain_met s (option e.name) asking position v bare
-      ∙ ap (λ m. (m, [])) (at_one (λ e. plain_word s.rules (option e.name) v (record { rows = rows; pending = Some (e.name, []); skip = h.skip }))
-      (λ e. (held_value e v, next idle)) es e (ap (λ (f : Facts). f.valued rows h.skip v) (known command here)) there) in
+      ∙ ap (λ (f : ArgumentFacts). (f.valued rows h.skip v, [])) (known_of command here e there) in
       hold_step e v (word ∷ v ∷ []) position there no_flag (sym (ap (λ b. cond {A = ℕ} b 2 position) named))
       (λ more. turn s idle h position word (v ∷ more) _ first ∙ turn s (option e.name) asking position v more _ second)
 
@@ -157,12 +151,10 @@ module _ (command : Command) (here : IsIn command commands) {h : Held} {position
       (bare_value e.kind v stands.1 stands.2 of)
   use_step (attached e v) there stands of fits =
       react_step e v (codes "--" ++ (e.name ++ (codes "=" ++ v))) (ap (λ a. not a && not (is_flag e.kind)) stands.0)
-      (if_so_at takes_value (λ e. met s idle h position (codes "--" ++ (e.name ++ (codes "=" ++ v)))) (λ e. reacts s h e v)
-      es e (ap (λ (f : Facts). f.attached h position v) (known command here)) there (ap₂ (λ a b. a && not b) stands.0 stands.1))
+      (so (ap (λ (f : ArgumentFacts). f.attached h position v) (known_of command here e there)) (ap₂ (λ a b. a && not b) stands.0 stands.1))
   use_step (flagged e) there stands of fits =
       react_step e (codes "true") (codes "--" ++ e.name) (ap (λ b. not e.is_named && not b) stands ∙ and_false (not e.is_named))
-      (if_so_at (λ e. is_flag e.kind) (λ e. met s idle h position (codes "--" ++ e.name)) (λ e. reacts s h e (codes "true"))
-      es e (ap (λ (f : Facts). f.flags h position) (known command here)) there stands)
+      (so (ap (λ (f : ArgumentFacts). f.flagged h position) (known_of command here e there)) stands)
 
 -- ---- words that are read
 
@@ -191,33 +183,23 @@ fresh_rows e v rows fresh =
 
 -- no row is one of these arguments
 abbrev AreFresh : List Row → List Use → Type 0
-AreFresh rows [] = Unit {0}
-AreFresh rows (u ∷ more) = (has_row (entry_in u).name rows ≡ false) × AreFresh rows more
+AreFresh rows uses = (name : Text) → is_used name uses ≡ true → has_row name rows ≡ false
 
 pub neither : (a b : Bool) → (a || b) ≡ false → (a ≡ false) × (b ≡ false)
 neither true b h = cc
 neither false b h = (refl, h)
 
-turned : (a b : Text) → bytes_eq a b ≡ false → bytes_eq b a ≡ false
-turned a b differ = go (bytes_eq b a) refl
-  where
-    go : (t : Bool) → bytes_eq b a ≡ t → t ≡ false
-    go false e = refl
-    go true e = sym ((bytes_eq-Decides a b).1 (sym ((bytes_eq-Decides b a).0 e))) ∙ differ
+or_true : (a b : Bool) → b ≡ true → (a || b) ≡ true
+or_true true b h = refl
+or_true false b h = h
 
-still_fresh : (rows : List Row) (u : Use) (more : List Use) → AreFresh rows more → is_used (entry_in u).name more ≡ false
+still_fresh : (rows : List Row) (u : Use) (more : List Use) → AreFresh rows (u ∷ more) → is_used (entry_in u).name more ≡ false
     → AreFresh (rows ++ row_in u ∷ []) more
-still_fresh rows u [] fresh other = tt
-still_fresh rows u (m ∷ more) fresh other =
-    let parts = neither _ _ other in (
-      list_any-append (λ (r : Row). bytes_eq r.id (entry_in m).name) rows (row_in u ∷ [])
-          ∙ ap₂ (λ a b. a || (b || false)) fresh.0 (turned (entry_in m).name (entry_in u).name parts.0),
-      still_fresh rows u more fresh.1 parts.1,
-    )
-
-all_fresh : (uses : List Use) → AreFresh [] uses
-all_fresh [] = tt
-all_fresh (u ∷ more) = (refl, all_fresh more)
+still_fresh rows u more fresh other name used =
+    list_any-append (λ (r : Row). bytes_eq r.id name) rows (row_in u ∷ [])
+    ∙ ap₂ (λ a b. a || (b || false)) (fresh name (or_true (bytes_eq (entry_in u).name name) (is_used name more) used))
+    (refuted (bytes_eq (entry_in u).name name) (λ is.
+    let bad : true ≡ false = sym used ∙ ap (λ n. is_used n more) (sym ((bytes_eq-Decides (entry_in u).name name).0 is)) ∙ other in cc))
 
 module _ (command : Command) (here : IsIn command commands) where
   abbrev shape : Shape
@@ -230,7 +212,7 @@ module _ (command : Command) (here : IsIn command commands) where
   Reads h position words rows = ReadsOn shape name h position words rows
 
   is_lone : (e : Entry) → IsIn e command.arguments → bytes_eq e.name name ≡ stands_alone e
-  is_lone e there = at_one (λ e. bytes_eq e.name name) stands_alone command.arguments e (ap (λ (f : Facts). f.lone_is) (known command here)) there
+  is_lone e there = ap (λ (f : ArgumentFacts). f.is_lone) (known_of command here e there)
 
   -- one use more
   read_more : (u : Use) (h : Held) (position : ℕ) (rows : List Row) → IsUse command u → has_row (entry_in u).name rows ≡ false
@@ -239,7 +221,7 @@ module _ (command : Command) (here : IsIn command commands) where
       let e = entry_in u in
       let v = value_in u in
       let step = use_step command here is u lawful.argument lawful.stands (inl lawful.taken) (fits u lawful fresh) in
-      let small = at_one (λ e. is_small e.kind) (λ e. true) command.arguments e (ap (λ (f : Facts). f.small) (known command here)) lawful.argument in
+      let small = ap (λ (f : ArgumentFacts). f.small) (known_of command here e lawful.argument) in
       let fine : faults_of e v rows ≡ [] = ap₂ (λ x y. or_else (cond {A = Kinds} (x && true) (ArgumentConflict ∷ []) [])
       (or_else (cond {A = Kinds} y [] (refused_kind (parser_for e.kind) ∷ [])) [])) fresh (kind_accepted e.kind v small lawful.taken) in
       let none = both_nil _ _ (step.faults ∙ fine) in
@@ -272,8 +254,9 @@ module _ (command : Command) (here : IsIn command commands) where
   uses_read [] h position rows are fresh is =
       record { held = h; end = position; is = subst (IsAt shape name h position) (sym (append-nil rows)) is; runs = λ more. refl }
   uses_read (u ∷ more) h position rows are fresh is =
-      let one = read_more u h position rows are.0 fresh.0 is in
-      let rest = uses_read more one.held one.end (rows ++ row_in u ∷ []) are.2 (still_fresh rows u more fresh.1 are.1) one.is in
+      let first = fresh (entry_in u).name (ap (λ b. b || is_used (entry_in u).name more) ((bytes_eq-Decides (entry_in u).name (entry_in u).name).1 refl)) in
+      let one = read_more u h position rows are.0 first is in
+      let rest = uses_read more one.held one.end (rows ++ row_in u ∷ []) are.2 (still_fresh rows u more fresh are.1) one.is in
       record {
         held = rest.held;
         end = rest.end;
@@ -284,4 +267,4 @@ module _ (command : Command) (here : IsIn command commands) where
 
   pub all_read : (uses : List Use) → AreUses command uses → Reads nothing_held 1 (words_in uses) (rows_in uses)
   all_read uses are =
-      uses_read uses nothing_held 1 [] are (all_fresh uses) (record { settles = refl; found = refl; place = refl; no_skip = refl })
+      uses_read uses nothing_held 1 [] are (λ name used. refl) (record { settles = refl; found = refl; place = refl; no_skip = refl })

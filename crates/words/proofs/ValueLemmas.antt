@@ -1,6 +1,6 @@
 -- The values of a call: those of its arguments, and the defaults of the others.
 use Rattle.std.proofs.Common.{◌≡◌, ◌∙◌, ◌||◌, ◌&&◌, Bool, true, false, cond, Option, None, Some, List, [], ◌∷◌, codes, is_some, not}
-use Rattle.std.proofs.Common.{drop, get_or, inl, inr, map, option_map, unwrap_or, refl, sym, ap, ap₂, subst}
+use Rattle.std.proofs.Common.{drop, get_or, inl, inr, map, option_map, refl, sym, ap, ap₂, subst}
 use Rattle.std.specs.List.{find, fold, list_any}
 use Rattle.std.specs.Option.{option_map_or, option_or}
 use Rattle.std.specs.Str.{bytes_eq}
@@ -19,7 +19,7 @@ use Rattle.words.specs.declared.options.Kind.TheVariants as kind
 use Rattle.words.specs.Calls.{text_given}
 use Rattle.words.specs.Table.{Command, Entry, commands}
 use Rattle.words.specs.Uses.{AreUses, IsIn, IsOfKind, Use, entry_in, is_required, is_used, lacks_some, value_in}
-use Rattle.words.proofs.KnownLemmas.{Facts, at_one, default_for, default_row, flag, given, has_some, if_so_at, known, leaf, number, taken}
+use Rattle.words.proofs.KnownLemmas.{ArgumentFacts, so, known_of, default_for, default_row, flag, given, has_some, leaf, number, taken}
 use Rattle.words.proofs.NumberLemmas.{large_read, number_read, parser_for}
 use Rattle.words.proofs.UseLemmas.{neither, row_in, rows_in}
 use Rattle.words.proofs.WalkLemmas.{at_row_none}
@@ -161,10 +161,9 @@ module _ (command : Command) (here : IsIn command commands) where
   -- arguments of one name are one
   same_entry : (e e' : Entry) → IsIn e command.arguments → IsIn e' command.arguments → bytes_eq e'.name e.name ≡ true → e' ≡ e
   same_entry e e' there there' named =
-      let es = command.arguments in
-      let alone : (x : Entry) → IsIn x es → find (λ y. bytes_eq y.name x.name) es ≡ Some x =
-      λ x at. at_one (λ e. find (λ y. bytes_eq y.name e.name) es) (λ e. Some e) es x (ap (λ (f : Facts). f.apart) (known command here)) at in
-      same_Some e' e (sym (alone e' there') ∙ ap (λ n. find (λ y. bytes_eq y.name n) es) ((bytes_eq-Decides e'.name e.name).0 named) ∙ alone e there)
+      let alone : (x : Entry) → IsIn x command.arguments → find (λ y. bytes_eq y.name x.name) command.arguments ≡ Some x =
+      λ x at. ap (λ (f : ArgumentFacts). f.same_name) (known_of command here x at) in
+      same_Some e' e (sym (alone e' there') ∙ ap (λ n. find (λ y. bytes_eq y.name n) command.arguments) ((bytes_eq-Decides e'.name e.name).0 named) ∙ alone e there)
 
   -- what is found of an argument that doesn't lack, in the rows of these uses or in its default
   abbrev IsTaken : Entry → Option Row → Text → Bool → Type 0
@@ -172,9 +171,7 @@ module _ (command : Command) (here : IsIn command commands) where
 
   uses_taken : (e : Entry) (uses : List Use) → IsIn e command.arguments → AreUses command uses → (is_required e && not (is_used e.name uses)) ≡ false
       → IsTaken e (lookup e.name (rows_in uses)) (text_given e uses) (is_used e.name uses)
-  uses_taken e [] there are whole = if_so_at (λ e. not (is_required e)) (λ e. taken e.kind (default_for e.name c))
-      (λ e. given e.kind (unwrap_or e.default []) false) command.arguments e (ap (λ (f : Facts). f.defaults) (known command here)) there
-      (optional (is_required e) whole)
+  uses_taken e [] there are whole = so (ap (λ (f : ArgumentFacts). f.default) (known_of command here e there)) (optional (is_required e) whole)
   uses_taken e (u ∷ more) there are whole = go (bytes_eq (entry_in u).name e.name) refl (uses_taken e more there are.2)
     where
       go : (b : Bool) → bytes_eq (entry_in u).name e.name ≡ b
