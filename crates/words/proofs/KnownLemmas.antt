@@ -165,81 +165,55 @@ pub record CommandFacts : Type 0 where
   pub found : Option Shape
   pub version : Bool
 
--- as `clap` has it
-abbrev pub argument_by_clap : Command → Entry → ArgumentFacts
-argument_by_clap command e =
+-- each fact twice: as `clap` has it (true), and as the table has it
+abbrev pub argument_facts : Bool → Command → Entry → ArgumentFacts
+argument_facts clap command e =
     let s = leaf command in
+    let word : Text = codes "--" ++ e.name in
     record {
-      flagged = λ h i. if_so (is_flag e.kind) (met s idle h i (codes "--" ++ e.name));
-      attached = λ h i v. if_so (takes_value e) (met s idle h i (codes "--" ++ (e.name ++ (codes "=" ++ v))));
-      spaced = λ h i. if_so (takes_value e) (met s idle h i (codes "--" ++ e.name));
-      valued = λ rows skip v. plain_word s.rules (option e.name) v (record { rows = rows; pending = Some (e.name, []); skip = skip });
-      alone = λ h v. if_so (stands_alone e) (to_positional s.rules (arg_by_index s.rules 1) v (at h 1) h, step_fault s 1 h value);
-      settles = λ rows skip v. if_so (not (is_flag e.kind)) (
-        settle_fault s.rules s.args_override_self (record { rows = rows; pending = Some (e.name, v ∷ []); skip = skip }),
-        settled_rows s.rules (Some (e.name, v ∷ [])) rows,
-      );
-      is_lone = bytes_eq e.name (lone command);
-      same_name = find (λ x. bytes_eq x.name e.name) command.arguments;
-      small = is_small e.kind;
-      default = if_so (not (is_required e)) (taken e.kind (default_for e.name s.rules));
-    }
-
-abbrev pub by_clap : Command → CommandFacts
-by_clap command =
-    let s = leaf command in
-    record {
-      arguments = map (argument_by_clap command) command.arguments;
-      second = arg_by_index s.rules 2;
-      several = list_any takes_several s.rules;
-      default_faults = map (default_fault []) s.rules;
-      checks = λ rows. check_fault s rows false;
-      long_names = λ name. list_any (takes_name name) s.rules;
-      help = λ h. other_fault s None (codes "--help") h;
-      walks = walked census_built.top.rules (names_of census_built) (walk_from nothing_held) command.name;
-      fault = turn_fault census_built.top (names_of census_built) (walk_from nothing_held) command.name;
-      found = find (λ sub. answers_to command.name (label_of sub)) census_built.subs;
-      version = is_version command.name;
-    }
-
--- and as the table has it
-abbrev pub argument_by_table : Command → Entry → ArgumentFacts
-argument_by_table command e =
-    let s = leaf command in
-    record {
-      flagged = λ h i. if_so (is_flag e.kind) (reacts s h e (codes "true"));
-      attached = λ h i v. if_so (takes_value e) (reacts s h e v);
-      spaced = λ h i. if_so (takes_value e) (asks s h e);
-      valued = λ rows skip v. (record { rows = rows; pending = Some (e.name, v ∷ []); skip = skip }, next idle);
-      alone = λ h v. if_so (stands_alone e) (
+      flagged = λ h i. if_so (is_flag e.kind) (cond clap (met s idle h i word) (reacts s h e (codes "true")));
+      attached = λ h i v. if_so (takes_value e) (cond clap (met s idle h i (codes "--" ++ (e.name ++ (codes "=" ++ v)))) (reacts s h e v));
+      spaced = λ h i. if_so (takes_value e) (cond clap (met s idle h i word) (asks s h e));
+      valued = λ rows skip v. cond clap (plain_word s.rules (option e.name) v (record { rows = rows; pending = Some (e.name, []); skip = skip }))
+          (record { rows = rows; pending = Some (e.name, v ∷ []); skip = skip }, next idle);
+      alone = λ h v. if_so (stands_alone e) (cond clap (to_positional s.rules (arg_by_index s.rules 1) v (at h 1) h, step_fault s 1 h value) (
         at (pushed e.name v (cond (keeps_on h e) h (settled s.rules h))) 2,
         cond (keeps_on h e) [] (settle_fault s.rules s.args_override_self h),
-      );
-      settles = λ rows skip v. if_so (not (is_flag e.kind)) (faults_of e v rows, rows_with e v rows);
-      is_lone = stands_alone e;
-      same_name = Some e;
-      small = true;
-      default = if_so (not (is_required e)) (given e.kind (unwrap_or e.default []) false);
+      ));
+      settles = λ rows skip v. if_so (not (is_flag e.kind)) (cond clap (
+        settle_fault s.rules s.args_override_self (record { rows = rows; pending = Some (e.name, v ∷ []); skip = skip }),
+        settled_rows s.rules (Some (e.name, v ∷ [])) rows,
+      ) (faults_of e v rows, rows_with e v rows));
+      is_lone = cond clap (bytes_eq e.name (lone command)) (stands_alone e);
+      same_name = cond clap (find (λ x. bytes_eq x.name e.name) command.arguments) (Some e);
+      small = cond clap (is_small e.kind) true;
+      default = if_so (not (is_required e))
+          (cond clap (taken e.kind (default_for e.name s.rules)) (given e.kind (unwrap_or e.default []) false));
     }
 
-abbrev pub by_table : Command → CommandFacts
-by_table command =
+abbrev pub command_facts : Bool → Command → CommandFacts
+command_facts clap command =
     let s = leaf command in
+    let es = command.arguments in
+    let top = census_built.top in
     record {
-      arguments = map (argument_by_table command) command.arguments;
-      second = None;
-      several = false;
-      default_faults = map (λ a. []) s.rules;
-      checks = λ rows. check_kinds false false (list_any (λ e. is_required e && not (takes.is_given e.name rows)) command.arguments);
-      long_names = λ name. list_any (λ e. e.is_named && (bytes_eq e.name name || false)) (command.arguments ++ help_entry ∷ []);
-      help = λ h. or_else (settle_fault s.rules s.args_override_self h) (DisplayHelp ∷ []);
-      walks = record { held = nothing_held; waiting = idle; position = 1; is_trailing = false; stopped = Some (command.name, []) };
-      fault = [];
-      found = Some s;
-      version = false;
+      arguments = map (argument_facts clap command) es;
+      second = cond clap (arg_by_index s.rules 2) None;
+      several = cond clap (list_any takes_several s.rules) false;
+      default_faults = cond clap (map (default_fault []) s.rules) (map (λ a. []) s.rules);
+      checks = λ rows. cond clap (check_fault s rows false)
+          (check_kinds false false (list_any (λ e. is_required e && not (takes.is_given e.name rows)) es));
+      long_names = λ name. cond clap (list_any (takes_name name) s.rules)
+          (list_any (λ e. e.is_named && (bytes_eq e.name name || false)) (es ++ help_entry ∷ []));
+      help = λ h. cond clap (other_fault s None (codes "--help") h) (or_else (settle_fault s.rules s.args_override_self h) (DisplayHelp ∷ []));
+      walks = cond clap (walked top.rules (names_of census_built) (walk_from nothing_held) command.name)
+          (record { held = nothing_held; waiting = idle; position = 1; is_trailing = false; stopped = Some (command.name, []) });
+      fault = cond clap (turn_fault top (names_of census_built) (walk_from nothing_held) command.name) [];
+      found = cond clap (find (λ sub. answers_to command.name (label_of sub)) census_built.subs) (Some s);
+      version = cond clap (is_version command.name) false;
     }
 
-all_known : map by_clap commands ≡ map by_table commands
+all_known : map (command_facts true) commands ≡ map (command_facts false) commands
 unfolding clap_on_literals
 all_known = refl
 
@@ -249,10 +223,10 @@ at_one f g [] x same here = absurd here
 at_one f g (y ∷ xs) x same (inl is) = subst (λ z. f z ≡ g z) is (ap (λ l. get_or l 0 (f y)) same)
 at_one f g (y ∷ xs) x same (inr more) = at_one f g xs x (ap (drop 1) same) more
 
-pub known : (command : Command) → IsIn command commands → by_clap command ≡ by_table command
-known command here = at_one by_clap by_table commands command all_known here
+pub known : (command : Command) → IsIn command commands → command_facts true command ≡ command_facts false command
+known command here = at_one (command_facts true) (command_facts false) commands command all_known here
 
 pub known_of : (command : Command) → IsIn command commands → (e : Entry) → IsIn e command.arguments
-    → argument_by_clap command e ≡ argument_by_table command e
-known_of command here e there = at_one (argument_by_clap command) (argument_by_table command) command.arguments e
+    → argument_facts true command e ≡ argument_facts false command e
+known_of command here e there = at_one (argument_facts true command) (argument_facts false command) command.arguments e
     (ap (λ (f : CommandFacts). f.arguments) (known command here)) there

@@ -1,29 +1,64 @@
 -- What the calls of the program ask for.
-use Rattle.std.proofs.Common.{◌≡◌, ◌∙◌, ◌++◌, ◌||◌, ◌&&◌, Bool, true, false, None, Some, Option, List, [], ◌∷◌, append-nil, append_assoc, codes, option_and_then, option_map, inl, inr, is_some, not, refl, sym, ap, ap₂, subst}
+use Rattle.std.proofs.Common.{◌≡◌, ◌∙◌, ◌++◌, ◌&&◌, Bool, true, false, None, Some, Option, List, [], ◌∷◌, append-nil, append_assoc}
+use Rattle.std.proofs.Common.{option_and_then, option_map, inl, inr, is_some, not, refl, sym, ap, ap₂, subst, ◌⊎◌}
 use Rattle.std.specs.List.{fold, list_any}
 use Rattle.std.specs.Option.{option_map_or}
-use Rattle.std.specs.Str.{bytes_eq}
-use Rattle.std.specs.Str.Parse.{starts_with_minus}
-use Rattle.std.proofs.lemmas.List.Folds.{list_any-append}
-use Rattle.clap.specs.Words.{Kinds, Row, Shape, Text}
-use Rattle.clap.specs.Faults.{check_fault, defaults_fault, entered_fault, level_fault, other_fault, settle_fault, walk_fault}
+use Rattle.clap.specs.Words.{Kinds, Row, Shape, Text, App, IsAmong, fault_of, is_simple, is_simple_and_free, subcommand_of}
+use Rattle.clap.specs.Faults.{check_fault, defaults_fault, entered_fault, level_fault, settle_fault, walk_fault}
 use Rattle.clap.specs.Simple.{entered, names_of, rows_at}
 use Rattle.clap.specs.Kinds.{check_kinds, or_else}
-use Rattle.clap.specs.Walk.{Names, Rule, Walk, answers_to, finished, idle, nothing_held, settled, subcommand_met, subcommand_or_other, walk_from, walked, with_default}
+use Rattle.clap.specs.Walk.{Names, Rule, Walk, finished, idle, nothing_held, settled, walk_from, walked}
+use Rattle.clap.specs.Walk.{with_default}
 use Rattle.clap.proofs.OnLiterals.{clap_on_literals}
 use Rattle.words.specs.declared.request.Request.{Request}
-use Rattle.words.specs.Calls.{AskForTheirValues, AsksForVersion, NoCommandAsksForNothing, AsksFor, survey_given, text_given}
-use Rattle.words.specs.Requests.{all_four, asked_by, asks_version, gather_from, is_version, name_from, request_in, run_from, set_of_four, show_from, soup_from, survey_in}
-use Rattle.words.specs.Requests.{survey_of_three, take_from, unless_faulty, work_from}
+use Rattle.words.specs.Calls.{AskForTheirValues, AsksForVersion, AsksFor, survey_given, text_given}
+use Rattle.words.specs.Requests.{all_four, asked_by, asks_version, gather_from, is_version, name_from, request_in, run_from, set_of_four, show_from, soup_from}
+use Rattle.words.specs.Requests.{survey_in, survey_of_three, take_from, unless_faulty, work_from, called_by}
 use Rattle.words.specs.Table.{Command, Entry, census_app, commands}
-use Rattle.words.specs.Table as table
 use Rattle.words.specs.Uses.{AreUses, IsIn, Use, is_required, is_used, lacks_some, words_in}
 use Rattle.words.proofs.KnownLemmas.{CommandFacts, census_built, flag_of, given, known, leaf, number_of, taken, text_of}
-use Rattle.words.proofs.ParseLemmas.{asked_by-called}
-use Rattle.words.proofs.StuckLemmas.{IsFaulty, faulty_first, stray, turn_kinds}
 use Rattle.words.proofs.UseLemmas.{all_read, rows_in}
-use Rattle.words.proofs.ValueLemmas.{Each, all_taken, completed, find_none, given_used, lookup, no_default_fault, or_nothing}
-use Rattle.words.proofs.WalkLemmas.{at, faults_by, plain_met, run}
+use Rattle.words.proofs.ValueLemmas.{Each, all_taken, completed, given_used, lookup, no_default_fault}
+use Rattle.words.proofs.WalkLemmas.{at, faults_by, run}
+use Rattle.clap.specs.declared.error.kind.ErrorKind.{ErrorKind}
+use Rattle.clap.specs.declared.error.kind.ErrorKind.TheVariants.{OutOfMemory}
+use Rattle.words.specs.Table as table
+
+-- ---- what a parse finds
+
+-- words other than `--version` are read by `clap`
+pub asked_by-called : (words : List Text) → asks_version words ≡ false → asked_by words ≡ called_by words
+asked_by-called words other = rw other refl
+
+-- `clap` says of the program which matches words have, and which faults
+census_is_simple : is_simple census_app ≡ true
+unfolding clap_on_literals
+census_is_simple = refl
+
+census_is_free : is_simple_and_free census_app ≡ true
+unfolding clap_on_literals
+census_is_free = refl
+
+module _ (app : App) (words : List Text) (is : app ≡ census_app) (other : false ≡ asks_version words) where
+  -- what a parse finds is what the words ask for
+  pub asked_by-found : (found : Option (Text × List Row)) → (is_simple_and_free app ≡ true → fault_of app words ≡ [])
+      → (is_simple app ≡ true → found ≡ subcommand_of app words) → asked_by words ≡ option_and_then request_in found
+  asked_by-found found faultless finds =
+      let none : fault_of census_app words ≡ [] = ap (λ (a : App). fault_of a words) (sym is) ∙ faultless (ap is_simple_and_free is ∙ census_is_free) in
+      let same : found ≡ subcommand_of census_app words = finds (ap is_simple is ∙ census_is_simple) ∙ ap (λ (a : App). subcommand_of a words) is in
+      asked_by-called words (sym other) ∙ rw (none, same) refl
+
+  -- a failure that isn't one of memory comes of words that ask for nothing
+  pub asked_by-none : (kind : ErrorKind) → (is_simple_and_free app ≡ true → (kind ≡ OutOfMemory) ⊎ IsAmong kind (fault_of app words))
+      → (kind ≡ OutOfMemory → ⊥) → asked_by words ≡ None
+  asked_by-none kind fails enough = asked_by-called words (sym other)
+      ∙ go (fault_of census_app words) _ (subst (λ (a : App). (kind ≡ OutOfMemory) ⊎ IsAmong kind (fault_of a words)) is
+      (fails (ap is_simple_and_free is ∙ census_is_free)))
+    where
+      go : (faults : Kinds) (request : Option Request) → (kind ≡ OutOfMemory) ⊎ IsAmong kind faults → unless_faulty faults request ≡ None
+      go [] request (inl memory) = absurd (enough memory)
+      go [] request (inr never) = absurd never
+      go (k ∷ ks) request among = refl
 
 -- ---- the name of a command
 
@@ -49,10 +84,6 @@ top_fine = refl
 -- what a walk over the words of a command asks for
 abbrev pub asked_of : Shape → Kinds × Walk → Option Request
 asked_of s r = unless_faulty (or_else (faults_by s r) []) (request_in (s.name, finished s.rules r.1.held))
-
-pub no_request : (kinds : Kinds) (request : Option Request) → IsFaulty kinds → unless_faulty kinds request ≡ None
-no_request [] request f = absurd f
-no_request (kind ∷ kinds) request f = refl
 
 -- the name of a command and words after it don't ask for the version
 not_version : (program name : Text) (words : List Text) → is_version name ≡ false → asks_version (program ∷ name ∷ words) ≡ false
@@ -149,47 +180,3 @@ ask_for_their_values = record {
 
 pub asks_for_version : AsksForVersion
 asks_for_version = record { long = λ program. refl; short = λ program. refl }
-
--- a value doesn't ask for the version
-value_no_version : (program word : Text) (words : List Text) → starts_with_minus word ≡ false → asks_version (program ∷ word ∷ words) ≡ false
-value_no_version program [] [] h = refl
-value_no_version program (x ∷ xs) [] h = rw h refl
-value_no_version program word (w ∷ ws) h = refl
-
--- a word that isn't the name of a command
-abbrev help_command : Command
-help_command = record { name = codes "help"; arguments = [] }
-
-listed_names : (word : Text)
-    → list_any (answers_to word) (names_of census_built) ≡ list_any (λ (c : Command). bytes_eq c.name word || false) (commands ++ help_command ∷ [])
-unfolding clap_on_literals
-listed_names word = refl
-
-unnamed : (word : Text) → list_any (λ (c : Command). bytes_eq c.name word) commands ≡ false → bytes_eq (codes "help") word ≡ false
-    → subcommand_met (names_of census_built) idle word ≡ None
-unnamed word none no_help = ap (option_map (λ (s : Text × List Text). s.0)) (find_none (answers_to word) (names_of census_built)
-    (listed_names word ∙ list_any-append (λ (c : Command). bytes_eq c.name word || false) commands (help_command ∷ [])
-    ∙ ap₂ (λ a b. a || ((b || false) || false)) ((λ i. list_any (λ (c : Command). or_nothing (bytes_eq c.name word) i) commands) ∙ none) no_help))
-
-asks_unknown : (program word : Text) (words : List Text) → starts_with_minus word ≡ false
-    → list_any (λ (c : Command). bytes_eq c.name word) commands ≡ false → bytes_eq (codes "help") word ≡ false → asked_by (program ∷ word ∷ words) ≡ None
-unfolding walk_fault
-asks_unknown program word words is_value none no_help =
-    let top = census_built.top in
-    let met_by : Option Text → Kinds =
-    λ o. turn_kinds top 1 (subcommand_or_other top.rules o idle 1 word nothing_held, other_fault top o word nothing_held) in
-    let is = ap met_by (unnamed word none no_help) ∙ ap (turn_kinds top 1) (plain_met top idle nothing_held 1 word is_value) in
-    asked_by-called (program ∷ word ∷ words) (value_no_version program word words is_value)
-    ∙ no_request _ _ (faulty_first (walk_fault top (names_of census_built) (walk_from nothing_held) (word ∷ words)) _
-    (faulty_first (met_by (subcommand_met (names_of census_built) idle word)) _ (subst IsFaulty (sym is) (stray top))))
-
-none_named : (program : Text) → asked_by (program ∷ []) ≡ None
-unfolding clap_on_literals
-none_named program = refl
-
-asks_help : (program : Text) → asked_by (program ∷ codes "--help" ∷ []) ≡ None
-unfolding clap_on_literals
-asks_help program = refl
-
-pub no_command_asks_for_nothing : NoCommandAsksForNothing
-no_command_asks_for_nothing = record { no_command = none_named; unknown = asks_unknown; help = asks_help }

@@ -1,9 +1,7 @@
 mod KnownLemmas
 pub mod LawLemmas
 mod NumberLemmas
-mod ParseLemmas
 pub mod RefuseLemmas
-mod StuckLemmas
 mod UseLemmas
 mod ValueLemmas
 mod WalkLemmas

@@ -1,30 +1,148 @@
--- Words of a command that are faults, after arguments that are lawful.
-use Rattle.std.proofs.Common.{◌≡◌, ◌∙◌, ◌++◌, ◌||◌, ◌&&◌, ℕ, Bool, true, false, cond, Option, None, Some, List, [], ◌∷◌, codes}
-use Rattle.std.proofs.Common.{ap, ap₂, inl, inr, is_some, refl, sym, subst}
+-- Words that ask for nothing: faults after arguments that are lawful, whatever comes after them, and calls without a command.
+use Rattle.std.proofs.Common.{◌≡◌, ◌∙◌, ◌++◌, ◌||◌, ◌&&◌, ℕ, Bool, true, false, cond, Option, None, Some, List, [], ◌∷◌, codes, ap, ap₂, inl, inr, is_some}
+use Rattle.std.proofs.Common.{refl, sym, subst, ◌==◌, length, option_map}
 use Rattle.std.specs.List.{list_any}
 use Rattle.std.specs.Option.{option_map_or}
-use Rattle.std.specs.Str.{bytes_eq}
+use Rattle.std.specs.Str.{bytes_eq, chars}
 use Rattle.std.specs.Str.Parse.{starts_with_minus}
 use Rattle.std.proofs.lemmas.List.Folds.{list_any-append}
 use Rattle.std.proofs.lemmas.Slice.Eq.{bytes_eq-Decides}
-use Rattle.clap.specs.Words.{Kinds, Row, Shape, Text}
-use Rattle.clap.specs.Faults.{long_fault, other_fault, positional_fault, repeat_fault, settle_fault, stray_fault}
+use Rattle.clap.specs.Words.{Kinds, Row, Shape, Text, Rule}
+use Rattle.clap.specs.Faults.{long_fault, other_fault, positional_fault, repeat_fault, settle_fault, stray_fault, bundle_fault, bundle_step_fault}
+use Rattle.clap.specs.Faults.{flag_word_fault, flags_fault, option_fault, react_fault, short_fault, step_fault, walk_fault}
 use Rattle.clap.specs.Kinds.{or_else, values_kinds}
-use Rattle.clap.specs.Lexer.{long_of}
+use Rattle.clap.specs.Lexer.{long_of, short_of}
 use Rattle.clap.specs.Values.{refused_kind}
-use Rattle.clap.specs.Walk.{Held, arg_by_index, has_row, idle}
-use Rattle.clap.specs.declared.error.kind.ErrorKind.TheVariants.{DisplayHelp, UnknownArgument}
-use Rattle.words.specs.Calls.{OthersAskForNothing}
-use Rattle.words.specs.Requests.{asked_by}
+use Rattle.clap.specs.Walk.{Held, arg_by_index, has_row, idle, Walk, after_flag, arg_by_long, arg_by_short, attached_value, bundle_met, bundle_step, is_pending}
+use Rattle.clap.specs.Walk.{long_or_other, plain, short_or_plain, short_word, takes_several, takes_values, trailing, value, walked, Rule}
+use Rattle.clap.specs.Walk.{answers_to, nothing_held, subcommand_met, subcommand_or_other, walk_from}
+use Rattle.clap.specs.declared.error.kind.ErrorKind.TheVariants.{DisplayHelp, UnknownArgument, InvalidSubcommand, TooManyValues}
+use Rattle.words.specs.Calls.{OthersAskForNothing, NoCommandAsksForNothing}
+use Rattle.words.specs.Requests.{asked_by, asks_version}
+use Rattle.words.specs.Requests.{unless_faulty}
 use Rattle.words.specs.Table.{Command, Entry, commands}
 use Rattle.words.specs.Uses.{AreUses, IsIn, IsNotOfKind, IsUnknown, Stands, Use, alone, attached, entry_in, flagged, spaced, value_in, words_in, words_of}
-use Rattle.words.proofs.KnownLemmas.{CommandFacts, faults_of, help_entry, known, leaf, lone, takes_name}
+use Rattle.words.proofs.KnownLemmas.{CommandFacts, faults_of, help_entry, known, leaf, lone, takes_name, census_built}
 use Rattle.words.proofs.NumberLemmas.{kind_refused, parser_for, refuted}
-use Rattle.words.proofs.LawLemmas.{asked_of, asks, asks_uses, no_request}
-use Rattle.words.proofs.StuckLemmas.{IsFaulty, all_stuck, faulty_first, faulty_last, stray, turn_kinds, word_faulty}
-use Rattle.words.proofs.UseLemmas.{Fits, HasOrLacks, IsAt, all_read, bare_value, rows_in, use_step}
+use Rattle.words.proofs.UseLemmas.{Fits, HasOrLacks, IsAt, all_read, bare_value, rows_in, use_step, and_false, neither}
 use Rattle.words.proofs.ValueLemmas.{find_none, or_nothing, rows_have}
-use Rattle.words.proofs.WalkLemmas.{after, at, faults_by, plain_met, run}
+use Rattle.words.proofs.WalkLemmas.{after, at, faults_by, plain_met, run, Met, goes_on, met}
+use Rattle.std.specs.Prelude.{slice_get}
+use Rattle.clap.specs.Simple.{names_of}
+use Rattle.clap.proofs.OnLiterals.{clap_on_literals}
+use Rattle.words.specs.declared.request.Request.{Request}
+use Rattle.words.proofs.LawLemmas.{asked_by-called, asked_of, asks, asks_uses}
+
+-- there is a fault
+abbrev pub IsFaulty : Kinds → Type 0
+IsFaulty [] = ⊥
+IsFaulty (kind ∷ kinds) = Unit {0}
+
+pub faulty_first : (one two : Kinds) → IsFaulty one → IsFaulty (or_else one two)
+faulty_first [] two f = absurd f
+faulty_first (kind ∷ kinds) two f = tt
+
+pub faulty_last : (one two : Kinds) → IsFaulty two → IsFaulty (or_else one two)
+faulty_last [] two f = f
+faulty_last (kind ∷ kinds) two f = tt
+
+either_faulty : (b : Bool) (one two : Kinds) → IsFaulty one → IsFaulty two → IsFaulty (cond b one two)
+either_faulty true one two f g = f
+either_faulty false one two f g = g
+
+pub stray : (s : Shape) → IsFaulty (stray_fault s)
+stray s = either_faulty s.is_leaf (UnknownArgument ∷ []) (UnknownArgument ∷ InvalidSubcommand ∷ []) tt tt
+
+-- a word that is a fault is one whatever comes after it
+abbrev pub turn_kinds : Shape → ℕ → Met → Kinds
+turn_kinds s position m = or_else m.1 (step_fault s position m.0.0 m.0.1)
+
+pub word_faulty : (s : Shape) (h : Held) (position : ℕ) (word : Text) (more : List Text) → IsFaulty (turn_kinds s position (met s idle h position word))
+    → IsFaulty (faults_by s (run s (at h position) (word ∷ more)))
+unfolding walked walk_fault
+word_faulty s h position word more f = faulty_first (goes_on s idle h position word more (met s idle h position word)).0 _ (faulty_first (turn_kinds s position (met s idle h position word)) _ f)
+
+-- What is held is settled with a fault. No argument takes several values.
+module _ (s : Shape) (rows : List Row) (p : Option (Text × List Text)) (single : list_any takes_several s.rules ≡ false)
+    (settles : IsFaulty (settle_fault s.rules s.args_override_self (record { rows = rows; pending = p; skip = 0 }))) where
+  abbrev h : Held
+  h = record { rows = rows; pending = p; skip = 0 }
+
+  abbrev again : Bool
+  again = s.args_override_self
+
+  -- a value alone
+  value_stuck : (c : List Rule) (i : ℕ) → list_any takes_several c ≡ false
+      → IsFaulty (option_map_or (λ a. positional_fault s.rules again a h) (arg_by_index c i) (stray_fault s))
+  value_stuck [] i none = stray s
+  value_stuck (a ∷ c) i none = go (option_map_or (λ k. k == i) a.index false) (value_stuck c i (neither _ _ none).1)
+    where
+      go : (b : Bool) → IsFaulty (option_map_or (λ a. positional_fault s.rules again a h) (arg_by_index c i) (stray_fault s))
+          → IsFaulty (option_map_or (λ a. positional_fault s.rules again a h) (cond b (Some a) (arg_by_index c i)) (stray_fault s))
+      go true rest =
+          let one : (is_pending a p && takes_several a) ≡ false = ap (λ b. is_pending a p && b) (neither _ _ none).0 ∙ and_false (is_pending a p) in
+          subst IsFaulty (sym (ap (λ b. cond {A = Kinds} b [] (settle_fault s.rules again h)) one)) settles
+      go false rest = rest
+
+  react_stuck : (a : Rule) (values : List Text) → IsFaulty (react_fault s.rules again a values h)
+  react_stuck a values = faulty_first (settle_fault s.rules again h) _ settles
+
+  option_stuck : (a : Rule) (v : Option Text) → IsFaulty (option_fault s.rules again a v h)
+  option_stuck a None = settles
+  option_stuck a (Some v) = react_stuck a (v ∷ [])
+
+  long_stuck : (o : Option Rule) (v : Option Text) → IsFaulty (long_fault s.rules again o v h)
+  long_stuck None v = tt
+  long_stuck (Some a) None = either_faulty (takes_values a) _ _ settles (react_stuck a [])
+  long_stuck (Some a) (Some v) = either_faulty (takes_values a) _ (TooManyValues ∷ []) (react_stuck a (v ∷ [])) tt
+
+  short_stuck : (o : Option Rule) (rest : Text) (more : Held → Kinds) → IsFaulty (short_fault s.rules again o rest h more)
+  short_stuck None rest more = tt
+  short_stuck (Some a) rest more =
+      either_faulty (takes_values a) _ _ (option_stuck a (attached_value rest)) (faulty_first (react_fault s.rules again a [] h) _ (react_stuck a []))
+
+  -- `-abc`
+  bundle_stuck : (i : ℕ) (word flags : Text) → IsFaulty (turn_kinds s i (short_word s.rules idle word flags h, bundle_fault s.rules again flags h))
+  unfolding flags_fault bundle_met
+  bundle_stuck i word [] = value_stuck s.rules i single
+  bundle_stuck i word (x ∷ xs) = go (slice_get (chars (x ∷ xs)) 0)
+    where
+      go : (o : Option ℕ) → IsFaulty (turn_kinds s i (
+        after_flag s.rules idle word (bundle_step s.rules o (x ∷ xs) 0 plain h (bundle_met s.rules (length xs))).0
+            (bundle_step s.rules o (x ∷ xs) 0 plain h (bundle_met s.rules (length xs))).1,
+        bundle_step_fault s.rules again o (x ∷ xs) 0 h (flags_fault s.rules again (length xs)),
+      ))
+      go None = value_stuck s.rules i single
+      go (Some y) = faulty_first (short_fault s.rules again (arg_by_short s.rules y) _ h _) _ (short_stuck (arg_by_short s.rules y) _ _)
+
+  word_stuck : (i : ℕ) (word : Text) (o : Option (Text × Option Text))
+      → IsFaulty (turn_kinds s i (long_or_other s.rules idle word o h, flag_word_fault s.rules again o word h))
+  word_stuck i word (Some q) = faulty_first (long_fault s.rules again (arg_by_long s.rules q.0) q.1 h) _ (long_stuck (arg_by_long s.rules q.0) q.1)
+  word_stuck i word None = go (short_of word)
+    where
+      go : (o : Option Text)
+          → IsFaulty (turn_kinds s i (short_or_plain s.rules idle word o h, option_map_or (λ flags. bundle_fault s.rules again flags h) o []))
+      go None = value_stuck s.rules i single
+      go (Some flags) = bundle_stuck i word flags
+
+  abbrev stuck_at : ℕ → Bool → Walk
+  stuck_at i t = record { held = h; waiting = idle; position = i; is_trailing = t; stopped = None }
+
+  -- a word that may be `--`
+  abbrev met_by : ℕ → Text → Bool → Met
+  met_by i word b =
+      (cond b (h, trailing i) (long_or_other s.rules idle word (long_of word) h), cond b [] (flag_word_fault s.rules again (long_of word) word h))
+
+  -- whatever words come, there is a fault in them, or at their end
+  pub all_stuck : (more : List Text) (i : ℕ) (t : Bool) → IsFaulty (faults_by s (run s (stuck_at i t) more))
+  unfolding walk_fault walked
+  all_stuck [] i t = faulty_first (settle_fault s.rules again h) _ settles
+  all_stuck (word ∷ more) i true = faulty_first (or_else (step_fault s i h value) _) _ (faulty_first (step_fault s i h value) _ (value_stuck s.rules i single))
+  all_stuck (word ∷ more) i false = go (bytes_eq word (45 ∷ 45 ∷ [])) (all_stuck more i true)
+    where
+      go : (b : Bool) → IsFaulty (faults_by s (run s (stuck_at i true) more)) → IsFaulty (faults_by s (goes_on s idle h i word more (met_by i word b)))
+      go true rest = rest
+      go false rest = faulty_first (or_else (turn_kinds s i (met_by i word false)) _) _ (faulty_first (turn_kinds s i (met_by i word false)) _ (word_stuck i word (long_of word)))
 
 -- ---- why a use is refused
 
@@ -109,7 +227,11 @@ module _ (command : Command) (here : IsIn command commands) {h : Held} {position
       refused_word word (UnknownArgument ∷ [])
       (rw (differs, u.is_option) (ap (λ o. long_fault s.rules s.args_override_self o u.value h) (find_none (takes_name u.name) s.rules none))) tt
 
--- ---- the law
+-- ---- the laws
+
+pub no_request : (kinds : Kinds) (request : Option Request) → IsFaulty kinds → unless_faulty kinds request ≡ None
+no_request [] request f = absurd f
+no_request (kind ∷ kinds) request f = refl
 
 module _ (command : Command) (here : IsIn command commands) (program : Text) (uses : List Use) (are : AreUses command uses) where
   abbrev s' : Shape
@@ -137,3 +259,49 @@ others_ask_for_nothing command here = record {
   help = λ program uses more are. none_asked command here program uses are (codes "--help" ∷ more)
       (refused_help command here (all_read command here uses are).is more);
 }
+
+-- ---- no command
+
+-- a value doesn't ask for the version
+value_no_version : (program word : Text) (words : List Text) → starts_with_minus word ≡ false → asks_version (program ∷ word ∷ words) ≡ false
+value_no_version program [] [] h = refl
+value_no_version program (x ∷ xs) [] h = rw h refl
+value_no_version program word (w ∷ ws) h = refl
+
+-- a word that isn't the name of a command
+abbrev help_command : Command
+help_command = record { name = codes "help"; arguments = [] }
+
+listed_names : (word : Text)
+    → list_any (answers_to word) (names_of census_built) ≡ list_any (λ (c : Command). bytes_eq c.name word || false) (commands ++ help_command ∷ [])
+unfolding clap_on_literals
+listed_names word = refl
+
+unnamed : (word : Text) → list_any (λ (c : Command). bytes_eq c.name word) commands ≡ false → bytes_eq (codes "help") word ≡ false
+    → subcommand_met (names_of census_built) idle word ≡ None
+unnamed word none no_help = ap (option_map (λ (s : Text × List Text). s.0)) (find_none (answers_to word) (names_of census_built)
+    (listed_names word ∙ list_any-append (λ (c : Command). bytes_eq c.name word || false) commands (help_command ∷ [])
+    ∙ ap₂ (λ a b. a || ((b || false) || false)) ((λ i. list_any (λ (c : Command). or_nothing (bytes_eq c.name word) i) commands) ∙ none) no_help))
+
+asks_unknown : (program word : Text) (words : List Text) → starts_with_minus word ≡ false
+    → list_any (λ (c : Command). bytes_eq c.name word) commands ≡ false → bytes_eq (codes "help") word ≡ false → asked_by (program ∷ word ∷ words) ≡ None
+unfolding walk_fault
+asks_unknown program word words is_value none no_help =
+    let top = census_built.top in
+    let met_by : Option Text → Kinds =
+    λ o. turn_kinds top 1 (subcommand_or_other top.rules o idle 1 word nothing_held, other_fault top o word nothing_held) in
+    let is = ap met_by (unnamed word none no_help) ∙ ap (turn_kinds top 1) (plain_met top idle nothing_held 1 word is_value) in
+    asked_by-called (program ∷ word ∷ words) (value_no_version program word words is_value)
+    ∙ no_request _ _ (faulty_first (walk_fault top (names_of census_built) (walk_from nothing_held) (word ∷ words)) _
+    (faulty_first (met_by (subcommand_met (names_of census_built) idle word)) _ (subst IsFaulty (sym is) (stray top))))
+
+none_named : (program : Text) → asked_by (program ∷ []) ≡ None
+unfolding clap_on_literals
+none_named program = refl
+
+asks_help : (program : Text) → asked_by (program ∷ codes "--help" ∷ []) ≡ None
+unfolding clap_on_literals
+asks_help program = refl
+
+pub no_command_asks_for_nothing : NoCommandAsksForNothing
+no_command_asks_for_nothing = record { no_command = none_named; unknown = asks_unknown; help = asks_help }

@@ -1,6 +1,6 @@
 use Rattle.std.proofs.Common.{◌∙◌, sym, map}
 use Rattle.clap.specs.Words.{app_of, kind_of, subcommand_rows_of}
-use Rattle.words.proofs.ParseLemmas.{asked_by-found, asked_by-none}
+use Rattle.words.proofs.LawLemmas.{asked_by-found, asked_by-none}
 use Rattle.words.proofs.calls.request_of.Goals as goal
 
 pub returns-in-Some-clause-asked : goal.returns-in-Some-clause-asked
