@@ -21,6 +21,14 @@ use Rattle.census.specs.Requests.{DoesWords, is_whole, right_for, task_of}
 
 -- ---- bytes
 
+-- a buffer that was empty, over a writer that held these bytes
+abbrev buffer : (before buffered : Option (List ℕ)) → Bool → Stream
+buffer before buffered failed = record { before = append_known before []; after = buffered; failed = failed }
+
+-- what was added to a stream since then
+abbrev since : Option (List ℕ) → Stream → Stream
+since before s = record { before = before; after = s.after; failed = s.failed }
+
 -- an empty buffer holds nothing back
 whole_sent : (before buffered below : Option (List ℕ)) (text : List ℕ) → Appends (append_known before []) buffered text
     → Keeps buffered (append_known below []) → Appends before below text
@@ -65,15 +73,18 @@ record IsQuiet (task : Task) : Type 0 where
   pub never : task.may_tell → ⊥
 
 -- only gathering tells
-told_apart : (request : Request) → (tells_lines request ≡ true) ⊎ ((tells_lines request ≡ false) × IsQuiet (task_of request))
-told_apart (Run n rule) = inr (refl, record { alone = λ bytes made is. (is.1, is.2); never = λ tells. tells })
-told_apart (Name profile rule) = inr (refl, record { alone = λ bytes made is. (is.1, is.2); never = λ tells. tells })
-told_apart (Show code) = inr (refl, record { alone = λ bytes made is. (is.1, is.2); never = λ tells. tells })
-told_apart (Soup seed n) = inr (refl, record { alone = λ bytes made is. (is.1, is.2); never = λ tells. tells })
-told_apart (Take survey workers progress) = inr (refl, record { alone = λ bytes made is. (is.1, is.2); never = λ tells. tells })
-told_apart (Work survey worker) = inr (refl, record { alone = λ bytes made is. (is.1, is.2); never = λ tells. tells })
+abbrev IsApart : Request → Type 0
+IsApart request = (tells_lines request ≡ true) ⊎ IsQuiet (task_of request)
+
+told_apart : (request : Request) → IsApart request
+told_apart (Run n rule) = inr (record { alone = λ bytes made is. (is.1, is.2); never = λ tells. tells })
+told_apart (Name profile rule) = inr (record { alone = λ bytes made is. (is.1, is.2); never = λ tells. tells })
+told_apart (Show code) = inr (record { alone = λ bytes made is. (is.1, is.2); never = λ tells. tells })
+told_apart (Soup seed n) = inr (record { alone = λ bytes made is. (is.1, is.2); never = λ tells. tells })
+told_apart (Take survey workers progress) = inr (record { alone = λ bytes made is. (is.1, is.2); never = λ tells. tells })
+told_apart (Work survey worker) = inr (record { alone = λ bytes made is. (is.1, is.2); never = λ tells. tells })
 told_apart (Gather survey workers) = inl refl
-told_apart Version = inr (refl, record { alone = λ bytes made is. (is.1, is.2); never = λ tells. tells })
+told_apart Version = inr (record { alone = λ bytes made is. (is.1, is.2); never = λ tells. tells })
 
 -- ---- a request that printed what it made
 
@@ -93,41 +104,6 @@ unprinted OutOfMemory = refl
 unprinted ReadFailed = refl
 unprinted WriteFailed = refl
 
-printed : (request : Request) {known : Option (List ℕ)} {bytes : List ℕ} {status : Status} {output errors : Stream}
-    → Ends (task_of request) known bytes status output errors → has_printed status ≡ true
-    → (missing : ℕ) × (status ≡ status_after (Ok missing)) × Printed request bytes missing output errors
-printed request {known} {bytes} {status} {output} {errors} ends prints = go ends.outcome ends.reached ends.last ends.status_is
-  where
-    shown : (missing : ℕ) → Reaches (task_of request) known bytes (Ok missing) output ends.between
-        → HasLine (record { before = ends.between.after; after = errors.after; failed = errors.failed }) (last_line (Ok missing))
-        → (errors.failed ≡ true → tells_lines request ≡ true) → Printed request bytes missing output errors
-    shown missing reached last cut = record {
-      made = reached.made;
-      is = reached.is;
-      missing_is = sym reached.missing_is;
-      wrote = reached.text;
-      told = record { between = ends.between.after; whole = subst (λ b. Appends b ends.between.after reached.made.told) ends.from reached.told; last = last };
-      cut = cut;
-    }
-
-    tells : (n : ℕ) (made : Made) → right_for request bytes (Ok made) → suc n ≡ made.missing
-        → (tells_lines request ≡ true) ⊎ ((tells_lines request ≡ false) × IsQuiet (task_of request)) → tells_lines request ≡ true
-    tells n made is missing (inl t) = t
-    tells n made is missing (inr quiet) = let bad : suc n ≡ 0 = missing ∙ (quiet.1.alone bytes made is).1 in cc
-
-    go : (outcome : Outcome) → Reaches (task_of request) known bytes outcome output ends.between
-        → HasLast outcome (record { before = ends.between.after; after = errors.after; failed = errors.failed })
-        → status ≡ status_after outcome → (missing : ℕ) × (status ≡ status_after (Ok missing)) × Printed request bytes missing output errors
-    go (Ok zero) reached last same = (
-      0,
-      same,
-      shown 0 reached (subst (λ b. MatchBool b (HasFront (record { before = ends.between.after; after = errors.after; failed = errors.failed }) [])
-          (Has (record { before = ends.between.after; after = errors.after; failed = errors.failed }) [])) (sym last.1) last.0)
-          (λ cut. let bad : true ≡ false = sym cut ∙ last.1 in cc),
-    )
-    go (Ok (suc n)) reached last same = (suc n, same, shown (suc n) reached last (λ _. tells n reached.made reached.is reached.missing_is (told_apart request)))
-    go (Err complaint) reached last same = let bad : true ≡ false = sym prints ∙ ap has_printed same ∙ unprinted complaint in cc
-
 not_true : (b : Bool) → (b ≡ true → ⊥) → b ≡ false
 not_true true never = absurd (never refl)
 not_true false never = refl
@@ -137,13 +113,13 @@ leaves_nothing : (request : Request) {bytes : List ℕ} {output errors : Stream}
     → Has errors []
 leaves_nothing request {bytes} {output} {errors} p quiet = go (told_apart request)
   where
-    go : (tells_lines request ≡ true) ⊎ ((tells_lines request ≡ false) × IsQuiet (task_of request)) → Has errors []
+    go : IsApart request → Has errors []
     go (inl tells) = let bad : true ≡ false = sym tells ∙ quiet in cc
     go (inr is) =
         let fine : errors.failed ≡ false = not_true errors.failed (λ cut. let bad : true ≡ false = sym (p.cut cut) ∙ quiet in cc) in
         appends_then errors.before p.told.between errors.after [] []
-        (subst (λ t. Appends errors.before p.told.between t) (is.1.alone bytes p.made p.is).0 p.told.whole)
-        (whole_line (record { before = p.told.between; after = errors.after; failed = errors.failed }) [] fine p.told.last)
+        (subst (λ t. Appends errors.before p.told.between t) (is.alone bytes p.made p.is).0 p.told.whole)
+        (whole_line (since p.told.between errors) [] fine p.told.last)
 
 -- of a text that could not all be sent on the line is told, unless standard error had failed
 says_unsent : (request : Request) {bytes : List ℕ} {missing : ℕ} {output errors : Stream} (known spoken : Option (List ℕ)) (cut : Bool)
@@ -155,7 +131,7 @@ says_unsent request {bytes} {missing} {output} {errors} known spoken cut p line 
     go : (b : Bool) → errors.failed ≡ b → SaysComplaint request bytes known WriteFailed (record { before = errors.before; after = spoken; failed = cut })
     go true e = inr (p.cut e, refl, stays e)
     go false e =
-        let last = whole_line (record { before = p.told.between; after = errors.after; failed = errors.failed }) (last_line (Ok missing)) e p.told.last in
+        let last = whole_line (since p.told.between errors) (last_line (Ok missing)) e p.told.last in
         let both = appends_then errors.before p.told.between errors.after p.made.told (last_line (Ok missing)) p.told.whole last in
         inl (
           errors.after,
@@ -170,13 +146,13 @@ module _ (request : Request) (bytes : List ℕ) (known before buffered below : O
   tells_of : (task_of request).may_tell → tells_lines request ≡ true
   tells_of may = go (told_apart request)
     where
-      go : (tells_lines request ≡ true) ⊎ ((tells_lines request ≡ false) × IsQuiet (task_of request)) → tells_lines request ≡ true
+      go : IsApart request → tells_lines request ≡ true
       go (inl tells) = tells
-      go (inr quiet) = absurd (quiet.1.never may)
+      go (inr quiet) = absurd (quiet.never may)
 
   -- what is below the buffer, of a text that was cut off
   front_left : (whole : Bool) (right : Makes) (failed : Bool) (errors : Stream)
-      → LeavesFront whole right (record { before = append_known before []; after = buffered; failed = failed }) errors → LeavesFrontOf whole right before below
+      → LeavesFront whole right (buffer before buffered failed) errors → LeavesFrontOf whole right before below
   front_left true right failed errors (made, is, (front, rest, parts, wrote), told) =
       (made, is, subst (IsFront before below) (sym parts) (front_sent before buffered below held front rest wrote kept))
   front_left false right failed errors (never, fronts, told) = inr (
@@ -186,7 +162,7 @@ module _ (request : Request) (bytes : List ℕ) (known before buffered below : O
   )
 
   part_left : (whole : Bool) (right : Makes) (failed : Bool) (answer : Result Made Complaint)
-      → LeavesPart whole right (record { before = append_known before []; after = buffered; failed = failed }) → right answer
+      → LeavesPart whole right (buffer before buffered failed) → right answer
       → IsFront before below (text_made answer)
   part_left true right failed answer nothing is = front_sent before buffered below held [] (text_made answer) nothing kept
   part_left false right failed answer fronts is =
@@ -202,7 +178,7 @@ module _ (request : Request) (bytes : List ℕ) (known before buffered below : O
   MayLeave complaint errors = MayEnd request bytes before below complaint × SaysComplaint request bytes known complaint errors
 
   left : (complaint : Complaint) (failed : Bool) (between : Stream) (after : Option (List ℕ)) (cut : Bool)
-      → Reaches (task_of request) known bytes (Err complaint) (record { before = append_known before []; after = buffered; failed = failed }) between
+      → Reaches (task_of request) known bytes (Err complaint) (buffer before buffered failed) between
       → (between.failed ≡ true → cut ≡ true) → HasLine (record { before = between.after; after = after; failed = cut }) (complaint_line complaint)
       → MayLeave complaint (record { before = between.before; after = after; failed = cut })
   left (Refused refusal) failed between after cut reached stays last =
@@ -213,28 +189,54 @@ module _ (request : Request) (bytes : List ℕ) (known before buffered below : O
       ((reached.reads, front_sent before buffered below held [] [] reached.nothing kept), inl (between.after, reached.begun, last))
   left WriteFailed failed between after cut (inl short) stays last = (
     inl (front_left (is_whole request) (right_for request bytes) failed between short.left),
-    inl (between.after, told_all (is_whole request) (right_for request bytes) (record { before = append_known before []; after = buffered; failed = failed }) between short.left, last),
+    inl (between.after, told_all (is_whole request) (right_for request bytes) (buffer before buffered failed) between short.left, last),
   )
   left WriteFailed failed between after cut (inr untold) stays last = (
     inr (tells_of untold.tells, front_sent before buffered below held [] [] untold.nothing kept),
     inr (tells_of untold.tells, refl, stays untold.cut),
   )
 
-  ended : {status : Status} {failed : Bool} {errors : Stream}
-      → Ends (task_of request) known bytes status (record { before = append_known before []; after = buffered; failed = failed }) errors
-      → has_printed status ≡ false → (complaint : Complaint) × (status ≡ status_of complaint) × MayLeave complaint errors
-  ended {status} {failed} {errors} ends failing = go ends.outcome ends.reached ends.last ends.status_is
+  shown : {output between errors : Stream} (missing : ℕ) → between.before ≡ errors.before → Reaches (task_of request) known bytes (Ok missing) output between
+      → HasLine (since between.after errors) (last_line (Ok missing)) → (errors.failed ≡ true → tells_lines request ≡ true)
+      → Printed request bytes missing output errors
+  shown {output} {between} {errors} missing from reached last cut = record {
+    made = reached.made;
+    is = reached.is;
+    missing_is = sym reached.missing_is;
+    wrote = reached.text;
+    told = record { between = between.after; whole = subst (λ b. Appends b between.after reached.made.told) from reached.told; last = last };
+    cut = cut;
+  }
+
+  -- a request printed what it made, or a complaint ended it
+  abbrev Ending : Status → Bool → Stream → Type 0
+  Ending status failed errors =
+      ((missing : ℕ) × (status ≡ status_after (Ok missing)) × Printed request bytes missing (buffer before buffered failed) errors)
+      ⊎ ((complaint : Complaint) × (status ≡ status_of complaint) × MayLeave complaint errors)
+
+  ending : {status : Status} {failed : Bool} {errors : Stream} → Ends (task_of request) known bytes status (buffer before buffered failed) errors
+      → Ending status failed errors
+  ending {status} {failed} {errors} ends = go ends.outcome ends.reached ends.last ends.status_is
     where
-      go : (outcome : Outcome)
-          → Reaches (task_of request) known bytes outcome (record { before = append_known before []; after = buffered; failed = failed }) ends.between
-          → HasLast outcome (record { before = ends.between.after; after = errors.after; failed = errors.failed }) → status ≡ status_after outcome
-          → (complaint : Complaint) × (status ≡ status_of complaint) × MayLeave complaint errors
-      go (Ok zero) reached last same = let bad : true ≡ false = sym (ap has_printed same) ∙ failing in cc
-      go (Ok (suc n)) reached last same = let bad : true ≡ false = sym (ap has_printed same) ∙ failing in cc
-      go (Err complaint) reached last same = (
+      tells : (n : ℕ) (made : Made) → right_for request bytes (Ok made) → suc n ≡ made.missing
+          → IsApart request → tells_lines request ≡ true
+      tells n made is missing (inl t) = t
+      tells n made is missing (inr quiet) = let bad : suc n ≡ 0 = missing ∙ (quiet.alone bytes made is).1 in cc
+
+      go : (outcome : Outcome) → Reaches (task_of request) known bytes outcome (buffer before buffered failed) ends.between
+          → HasLast outcome (since ends.between.after errors) → status ≡ status_after outcome → Ending status failed errors
+      go (Ok zero) reached last same = inl (
+        0,
+        same,
+        shown 0 ends.from reached (subst (λ b. MatchBool b (HasFront (since ends.between.after errors) []) (Has (since ends.between.after errors) []))
+            (sym last.1) last.0) (λ cut. let bad : true ≡ false = sym cut ∙ last.1 in cc),
+      )
+      go (Ok (suc n)) reached last same =
+          inl (suc n, same, shown (suc n) ends.from reached last (λ _. tells n reached.made reached.is reached.missing_is (told_apart request)))
+      go (Err complaint) reached last same = inr (
         complaint,
         same,
-        subst (λ b. MayLeave complaint (record { before = b; after = errors.after; failed = errors.failed }))
+        subst (λ b. MayLeave complaint (since b errors))
             ends.from (left complaint failed ends.between errors.after errors.failed reached ends.stays last),
       )
 
@@ -243,6 +245,16 @@ module _ (request : Request) (bytes : List ℕ) (known before buffered below : O
 some_and : {X : Type 0} {P : X → Type 0} (o : Option X) → IsSomeAnd o P → (x : X) × (o ≡ Some x) × P x
 some_and None h = absurd h
 some_and (Some x) h = (x, refl, h)
+
+-- the words asked for a request that a complaint ended
+complains_of : {words : List Text} {known before below : Option (List ℕ)} {number : ℕ} {errors : Stream} {request : Request}
+    → asked_by words ≡ Some request → (complaint : Complaint) → number ≡ exit_code (status_of complaint)
+    → IsEndedBy complaint known before below errors request → Complains words known number before below errors
+complains_of {words} {known} {before} {below} {number} {errors} asked complaint code by = record {
+  complaint = complaint;
+  code = code;
+  why = inr (subst (λ o. IsSomeAnd o (IsEndedBy complaint known before below errors)) (sym asked) by);
+}
 
 -- a front of a right text that is known is left, however the text was written
 known_left : (whole : Bool) (right : Makes) (before below : Option (List ℕ)) (made : Made) → right (Ok made) → IsFront before below made.text
@@ -263,66 +275,62 @@ pub record Prints (words : List Text) (known before below : Option (List ℕ)) (
 
 module _ (words : List Text) (known before buffered below : Option (List ℕ)) (held : List ℕ) (failed : Bool) (status : Status) (errors : Stream)
     (kept : Keeps buffered (append_known below held))
-    (does : DoesWords words known status (record { before = append_known before []; after = buffered; failed = failed }) errors) where
-  pub prints : has_printed status ≡ true → Prints words known before below held status errors
-  prints printing = go does
-    where
-      go : DoesWords words known status (record { before = append_known before []; after = buffered; failed = failed }) errors
-          → Prints words known before below held status errors
-      go (inr lacks) = let bad : true ≡ false = sym printing ∙ ap has_printed lacks.told in cc
-      go (inl does) =
-          let (request, asked, done) = some_and (asked_by words) does in
-          let (missing, status_is, p) = printed request done.ends printing in
-          let front : IsFront before below p.made.text =
-          subst (IsFront before below) (append-nil p.made.text) (front_sent before buffered below held p.made.text [] p.wrote kept) in
-          record {
-            missing = missing;
-            status_is = status_is;
-            done = λ empty. record {
-              request = request;
-              asked = asked;
-              bytes = done.bytes;
-              input = done.input;
-              made = p.made;
-              right = p.is;
-              missing_is = p.missing_is;
-              written = whole_sent before buffered below p.made.text p.wrote (subst (λ h. Keeps buffered (append_known below h)) empty kept);
-              told = p.told;
-            };
-            silent = λ none. subst (λ o. IfSome o (λ request. tells_lines request ≡ false → Has errors [])) (sym asked)
-                (leaves_nothing request (subst (λ n. Printed request done.bytes n (record { before = append_known before []; after = buffered; failed = failed }) errors) none p));
-            unsent = λ spoken cut line stays. record {
-              complaint = WriteFailed;
-              code = refl;
-              why = inr (subst (λ o. IsSomeAnd o (IsEndedBy WriteFailed known before below (record { before = errors.before; after = spoken; failed = cut })))
-                  (sym asked) (record {
-                    bytes = done.bytes;
-                    input = done.input;
-                    may = inl (known_left (is_whole request) (right_for request done.bytes) before below p.made p.is front);
-                    says = says_unsent request known spoken cut p line stays;
-                  }));
-            };
-          }
+    (does : DoesWords words known status (buffer before buffered failed) errors) where
+  abbrev EndsWith : Type 0
+  EndsWith = Prints words known before below held status errors ⊎ ((has_printed status ≡ false) × Complains words known (exit_code status) before below errors)
 
-  pub complains : has_printed status ≡ false → Complains words known (exit_code status) before below errors
-  complains failing = go does
+  pub ends_with : EndsWith
+  ends_with = go does
     where
-      go : DoesWords words known status (record { before = append_known before []; after = buffered; failed = failed }) errors
-          → Complains words known (exit_code status) before below errors
-      go (inr lacks) = record {
-        complaint = OutOfMemory;
-        code = ap exit_code lacks.told;
-        why = inl (record { memory = refl; nothing = front_sent before buffered below held [] [] lacks.nothing kept; line = lacks.line });
-      }
+      go : DoesWords words known status (buffer before buffered failed) errors → EndsWith
+      go (inr lacks) = inr (
+        ap has_printed lacks.told,
+        record {
+          complaint = OutOfMemory;
+          code = ap exit_code lacks.told;
+          why = inl (record { memory = refl; nothing = front_sent before buffered below held [] [] lacks.nothing kept; line = lacks.line });
+        },
+      )
       go (inl does) =
-          let (request, asked, done) = some_and (asked_by words) does in
-          let (complaint, same, (may, says)) = ended request done.bytes known before buffered below held kept done.ends failing in
-          record {
-            complaint = complaint;
-            code = ap exit_code same;
-            why = inr (subst (λ o. IsSomeAnd o (IsEndedBy complaint known before below errors)) (sym asked)
-                (record { bytes = done.bytes; input = done.input; may = may; says = says }));
-          }
+          let (request, asked, d) = some_and (asked_by words) does in
+          elim (ending request d.bytes known before buffered below held kept d.ends) [
+            | inl shown ↦ let (missing, status_is, p) = shown in
+                inl (record {
+                  missing = missing;
+                  status_is = status_is;
+                  done = λ empty. record {
+                    request = request;
+                    asked = asked;
+                    bytes = d.bytes;
+                    input = d.input;
+                    made = p.made;
+                    right = p.is;
+                    missing_is = p.missing_is;
+                    written = whole_sent before buffered below p.made.text p.wrote (subst (λ h. Keeps buffered (append_known below h)) empty kept);
+                    told = p.told;
+                  };
+                  silent = λ none. subst (λ o. IfSome o (λ request. tells_lines request ≡ false → Has errors [])) (sym asked)
+                      (leaves_nothing request (subst (λ n. Printed request d.bytes n (buffer before buffered failed) errors) none p));
+                  unsent = λ spoken cut line stays. complains_of asked WriteFailed refl (record {
+                    bytes = d.bytes;
+                    input = d.input;
+                    may = inl (known_left (is_whole request) (right_for request d.bytes) before below p.made p.is
+                        (subst (IsFront before below) (append-nil p.made.text) (front_sent before buffered below held p.made.text [] p.wrote kept)));
+                    says = says_unsent request known spoken cut p line stays;
+                  });
+                })
+            | inr ended ↦ let (complaint, same, leaves) = ended in
+                inr (
+                  ap has_printed same ∙ unprinted complaint,
+                  complains_of asked complaint (ap exit_code same)
+                      (record { bytes = d.bytes; input = d.input; may = leaves.0; says = leaves.1 }),
+                )
+          ]
+
+-- a command that printed didn't complain
+pub prints : {A B : Type 0} {b : Bool} → A ⊎ ((b ≡ false) × B) → b ≡ true → A
+prints (inl a) printed = a
+prints (inr complains) printed = let bad : true ≡ false = sym printed ∙ complains.0 in cc
 
 -- the status of a command that printed, by what is missing
 pub at_done : (P : ℕ → Type 0) (missing : ℕ) → status_after (Ok missing) ≡ statuses.Done → P missing → P 0
@@ -336,16 +344,3 @@ at_incomplete P (suc n) is p = (n, p)
 pub at_either : (P : Status → Type 0) (missing : ℕ) → P statuses.Done → P statuses.Incomplete → P (status_after (Ok missing))
 at_either P zero done less = done
 at_either P (suc n) done less = less
-
-pub whether : {P : Type 0} (b : Bool) → (b ≡ true → P) → (b ≡ false → P) → P
-whether true so other = so refl
-whether false so other = other refl
-
--- only a refusal has its code
-pub code_refused : (status : Status) → exit_code status ≡ 3 → status ≡ statuses.Refused
-code_refused statuses.Done is = cc
-code_refused statuses.Usage is = cc
-code_refused statuses.Refused is = refl
-code_refused statuses.OutOfMemory is = cc
-code_refused statuses.Failed is = cc
-code_refused statuses.Incomplete is = cc

@@ -1,4 +1,4 @@
-use Rattle.std.proofs.Common.{◌≡◌, ◌≢◌, ◌∙◌, [], true, false, map, string_bytes, refl, rules, sym, ap, ap₂, inl}
+use Rattle.std.proofs.Common.{◌≡◌, ◌≢◌, ◌∙◌, [], true, false, map, string_bytes, refl, rules, sym, ap, ap₂, inl, inr}
 use Rattle.std.specs.Io.Buffered.{writer_buffer, writer_contents}
 use Rattle.std.specs.Io.KnownBytes.{Keeps, append_known}
 use Rattle.commands.specs.declared.complaint.Complaint.TheVariants.{OutOfMemory}
@@ -6,8 +6,7 @@ use Rattle.commands.specs.declared.status.Status.TheVariants as statuses
 use Rattle.commands.specs.Streams.{stream}
 use Rattle.commands.specs.Status.{exit_code, has_printed}
 use Rattle.census.specs.Program.{IsDone}
-use Rattle.census.specs.Requests.{DoesWords}
-use Rattle.census.proofs.ProgramLemmas.{Prints, at_done, at_either, at_incomplete, complains, front_of_nothing, prints, whether}
+use Rattle.census.proofs.ProgramLemmas.{Prints, at_done, at_either, at_incomplete, ends_with, front_of_nothing, prints}
 use Rattle.census.proofs.program.do_buffered.Goals as goal
 
 pub returns-in_default-clause-complains : goal.returns-in_default-clause-complains
@@ -33,14 +32,12 @@ returns g c =
     c.new-output.ensures.writer ∙ ap₂ append_known (ap g.W.Write.contents c.in-Ok.ensures.inner) c.in-Ok.ensures.empty in
     let kept : Keeps (writer_contents g.W.Write.contents c.do_words-status.new.output.writer) (append_known below held) =
     rw (c.into_parts-writer.ensures.inner, ← c.into_inner-buffered.ensures) sent.bytes in
-    let does : status ≢ statuses.Usage → DoesWords words known status
-    (record { before = append_known before []; after = writer_contents g.W.Write.contents c.do_words-status.new.output.writer; failed = c.do_words-status.new.output.failed }) errors =
-    λ command. rw (← starts) (c.do_words-status.ensures.command command) in
     let after = writer_contents g.W.Write.contents c.do_words-status.new.output.writer in
     let failed = c.do_words-status.new.output.failed in
+    let ended = λ (command : status ≢ statuses.Usage). ends_with words known before after below held failed status errors kept
+    (rw (← starts) (c.do_words-status.ensures.command command)) in
     let printed : has_printed status ≡ true → Prints words known before below held status errors =
-    λ is. prints words known before after below held failed status errors kept
-    (does (λ usage. let bad : true ≡ false = sym is ∙ ap has_printed usage in cc)) is in
+    λ is. prints (ended (λ usage. let bad : true ≡ false = sym is ∙ ap has_printed usage in cc)) is in
     record {
       done = λ done. let p = printed (ap has_printed (sent.done done).0) in
           rw (sent.silent (done ∙ sym (sent.done done).0))
@@ -53,14 +50,15 @@ returns g c =
       silent = λ done. let p = printed (ap has_printed (sent.done done).0) in
           rw (sent.silent (done ∙ sym (sent.done done).0))
           (p.silent (at_done (λ n. p.missing ≡ n) p.missing (sym p.status_is ∙ (sent.done done).0) refl));
-      complains = λ undone no_usage complete. whether (has_printed status)
-          (λ is. let p = printed is in
-          let changed : c.send_buffered-status.result ≢ status =
-          λ same. at_either (λ s. c.send_buffered-status.result ≢ s) p.missing undone complete (same ∙ p.status_is) in
-          rw (sent.failed changed) (p.unsent _ _ (sent.line changed) sent.stays))
-          (λ is. let stays = sent.kept is in
-          rw (stays.0, stays.1)
-          (complains words known before after below held failed status errors kept (does (λ usage. no_usage (stays.0 ∙ usage))) is));
+      complains = λ undone no_usage complete.
+          elim (ended (λ usage. no_usage ((sent.kept (ap has_printed usage)).0 ∙ usage))) [
+            | inl p ↦
+                let changed : c.send_buffered-status.result ≢ status =
+                λ same. at_either (λ s. c.send_buffered-status.result ≢ s) p.missing undone complete (same ∙ p.status_is) in
+                rw (sent.failed changed) (p.unsent _ _ (sent.line changed) sent.stays)
+            | inr told ↦ let stays = sent.kept told.0 in
+                rw (stays.0, stays.1) told.1
+          ];
       refused = search rules;
       unread_refused = search rules;
       nothing_left = search rules;
