@@ -109,7 +109,6 @@ fn do_request<T: Threads + Wait + Sync, R: Read, W: Write, E: Write, P: Write, C
     ensures unread_refused { result ≡ Status.Refused → refuses_input request.now ≡ false → input.new ≡ input.old }
     ensures untouched { result ≡ Status.Refused → output.new ≡ output.old }
     ensures no_memory { result ≡ Status.OutOfMemory → is_whole request.now ≡ true → output.new ≡ output.old }
-    ensures command { result ≢ Status.Usage }
 {
     match request {
         Request::Run { generations, rule } => {
