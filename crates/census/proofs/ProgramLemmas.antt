@@ -81,9 +81,9 @@ told_apart (Run n rule) = inr (record { alone = λ bytes made is. (is.1, is.2); 
 told_apart (Name profile rule) = inr (record { alone = λ bytes made is. (is.1, is.2); never = λ tells. tells })
 told_apart (Show code) = inr (record { alone = λ bytes made is. (is.1, is.2); never = λ tells. tells })
 told_apart (Soup seed n) = inr (record { alone = λ bytes made is. (is.1, is.2); never = λ tells. tells })
-told_apart (Take survey workers progress) = inr (record { alone = λ bytes made is. (is.1, is.2); never = λ tells. tells })
-told_apart (Work survey worker) = inr (record { alone = λ bytes made is. (is.1, is.2); never = λ tells. tells })
-told_apart (Gather survey workers) = inl refl
+told_apart (Take plan workers progress) = inr (record { alone = λ bytes made is. (is.1, is.2); never = λ tells. tells })
+told_apart (Work plan worker) = inr (record { alone = λ bytes made is. (is.1, is.2); never = λ tells. tells })
+told_apart (Gather plan workers) = inl refl
 told_apart Version = inr (record { alone = λ bytes made is. (is.1, is.2); never = λ tells. tells })
 
 -- ---- a request that printed what it made

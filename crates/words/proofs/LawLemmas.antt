@@ -11,9 +11,9 @@ use Rattle.clap.specs.Walk.{Names, Rule, Walk, finished, idle, nothing_held, set
 use Rattle.clap.specs.Walk.{with_default}
 use Rattle.clap.proofs.OnLiterals.{clap_on_literals}
 use Rattle.words.specs.declared.request.Request.{Request}
-use Rattle.words.specs.Calls.{AskForTheirValues, AsksForVersion, AsksFor, survey_given, text_given}
+use Rattle.words.specs.Calls.{AskForTheirValues, AsksForVersion, AsksFor, plan_given, text_given}
 use Rattle.words.specs.Requests.{all_four, asked_by, asks_version, gather_from, is_version, name_from, request_in, run_from, set_of_four, show_from, soup_from}
-use Rattle.words.specs.Requests.{survey_in, survey_of_three, take_from, unless_faulty, work_from, called_by}
+use Rattle.words.specs.Requests.{plan_in, plan_of_three, take_from, unless_faulty, work_from, called_by}
 use Rattle.words.specs.Table.{Command, Entry, census_app, commands}
 use Rattle.words.specs.Uses.{AreUses, IsIn, Use, is_required, is_used, lacks_some, words_in}
 use Rattle.words.proofs.KnownLemmas.{CommandFacts, census_built, flag_of, given, known, leaf, number_of, taken, text_of}
@@ -142,11 +142,11 @@ abbrev rows_for : Command → List Use → List Row
 rows_for command uses = completed (leaf command) (rows_in uses)
 
 -- the arguments that say which soups, and how they are run, are the first nine of three commands
-survey_taken : (uses : List Use) (rows : List Row) (more : List Entry) → AllTaken (table.seed ∷ table.first ∷ table.count ∷ table.also
+plan_taken : (uses : List Use) (rows : List Row) (more : List Entry) → AllTaken (table.seed ∷ table.first ∷ table.count ∷ table.also
     ∷ table.period ∷ table.horizon ∷ table.stride ∷ table.limit ∷ table.rule ∷ more) uses rows
-    → (survey_in rows ≡ Some (survey_given uses)) × AllTaken more uses rows
-survey_taken uses rows more (seed, (first, (count, (also, (period, (horizon, (stride, (limit, (rule, others))))))))) = (
-  λ i. survey_of_three (set_of_four (text_of (seed i)) (number_of (first i)) (number_of (count i)) (text_of (also i)))
+    → (plan_in rows ≡ Some (plan_given uses)) × AllTaken more uses rows
+plan_taken uses rows more (seed, (first, (count, (also, (period, (horizon, (stride, (limit, (rule, others))))))))) = (
+  λ i. plan_of_three (set_of_four (text_of (seed i)) (number_of (first i)) (number_of (count i)) (text_of (also i)))
       (all_four (number_of (period i)) (number_of (horizon i)) (number_of (stride i)) (number_of (limit i))) (text_of (rule i)),
   others,
 )
@@ -166,14 +166,14 @@ ask_for_their_values = record {
   show = asks_for table.show_command (inr (inr (inl refl))) _ (λ uses all. let (code, more) = all in λ i. show_from (text_of (code i)));
   soup = asks_for table.soup_command (inr (inr (inr (inl refl)))) _ (λ uses all. let (n, (seed, more)) = all in λ i. soup_from (number_of (n i)) (text_of (seed i)));
   take = asks_for table.take_command (inr (inr (inr (inr (inl refl))))) _ (λ uses all.
-      let (survey, (workers, (progress, more))) = survey_taken uses (rows_for table.take_command uses) (table.workers ∷ table.progress ∷ []) all in
-      λ i. take_from (flag_of (progress i)) (survey i) (number_of (workers i)));
+      let (plan, (workers, (progress, more))) = plan_taken uses (rows_for table.take_command uses) (table.workers ∷ table.progress ∷ []) all in
+      λ i. take_from (flag_of (progress i)) (plan i) (number_of (workers i)));
   work = asks_for table.work_command (inr (inr (inr (inr (inr (inl refl)))))) _ (λ uses all.
-      let (survey, (worker, more)) = survey_taken uses (rows_for table.work_command uses) (table.worker ∷ []) all in
-      λ i. work_from (survey i) (number_of (worker i)));
+      let (plan, (worker, more)) = plan_taken uses (rows_for table.work_command uses) (table.worker ∷ []) all in
+      λ i. work_from (plan i) (number_of (worker i)));
   gather = asks_for table.gather_command (inr (inr (inr (inr (inr (inr (inl refl))))))) _ (λ uses all.
-      let (survey, (workers, more)) = survey_taken uses (rows_for table.gather_command uses) (table.workers ∷ []) all in
-      λ i. gather_from (survey i) (number_of (workers i)));
+      let (plan, (workers, more)) = plan_taken uses (rows_for table.gather_command uses) (table.workers ∷ []) all in
+      λ i. gather_from (plan i) (number_of (workers i)));
 }
 
 -- ---- no command
