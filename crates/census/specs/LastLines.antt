@@ -13,7 +13,7 @@ use Rattle.commands.specs.Tasks.{Made, Makes, Task}
 
 -- the request is for a haul of report lines, of which those that are refused are told
 abbrev pub tells_lines : Request → Bool
-tells_lines (Gather survey workers) = true
+tells_lines (Gather plan workers) = true
 tells_lines request = false
 
 -- a text was added, and then a line, or a front of the line where a write failed

@@ -23,7 +23,7 @@ use Rattle.words.specs.declared.request.ProfileNumbers.{ProfileNumbers as Number
 use Rattle.words.specs.declared.request.Request.{Request}
 use Rattle.words.specs.declared.request.Request.TheVariants.{Run, Name, Show, Soup, Take, Work, Gather, Version}
 use Rattle.words.specs.declared.request.SoupSet.{SoupSet as Soups}
-use Rattle.words.specs.declared.request.Survey.{Survey}
+use Rattle.words.specs.declared.request.Plan.{Plan as Asked}
 use Rattle.words.specs.Requests.{Text, asked_by}
 
 -- the values of a request, as the commands take them
@@ -33,8 +33,8 @@ numbers_for n = record { period = n.period; horizon = n.horizon; stride = n.stri
 abbrev pub soups_for : Soups → SoupSet
 soups_for set = record { seed = set.seed; first = set.first; count = set.count; also = set.also }
 
-abbrev pub plan_for : Survey → Plan
-plan_for survey = record { set = soups_for survey.set; profile = numbers_for survey.profile; rule = survey.rule }
+abbrev pub plan_for : Asked → Plan
+plan_for plan = record { set = soups_for plan.set; profile = numbers_for plan.profile; rule = plan.rule }
 
 -- what a request is to do
 abbrev pub task_of : Request → Task
@@ -42,9 +42,9 @@ task_of (Run generations rule) = run_task rule generations
 task_of (Name profile rule) = name_task (numbers_for profile) rule
 task_of (Show code) = show_task code
 task_of (Soup seed number) = soup_task seed number
-task_of (Take survey workers progress) = take_task (plan_for survey)
-task_of (Work survey worker) = work_task (plan_for survey) worker
-task_of (Gather survey workers) = gather_task (plan_for survey) workers
+task_of (Take plan workers progress) = take_task (plan_for plan)
+task_of (Work plan worker) = work_task (plan_for plan) worker
+task_of (Gather plan workers) = gather_task (plan_for plan) workers
 task_of Version = version_task
 
 -- the command looks at its input: `run` does, if its rule is one, `name`, if its profile is one too, and `gather`, if its seed is too

@@ -30,7 +30,7 @@ use std::sync::Wait;
 use std::thread::Threads;
 use std::time::Clock;
 use words::calls::{Unasked, request_of};
-use words::request::{Request, Survey};
+use words::request::Request;
 
 /// Does what the words ask for, and returns how that ended. The first word is the program's name.
 ///
@@ -109,7 +109,6 @@ fn do_request<T: Threads + Wait + Sync, R: Read, W: Write, E: Write, P: Write, C
     ensures unread_refused { result ≡ Status.Refused → refuses_input request.now ≡ false → input.new ≡ input.old }
     ensures untouched { result ≡ Status.Refused → output.new ≡ output.old }
     ensures no_memory { result ≡ Status.OutOfMemory → is_whole request.now ≡ true → output.new ≡ output.old }
-    ensures command { result ≢ Status.Usage }
 {
     match request {
         Request::Run { generations, rule } => {
@@ -122,18 +121,18 @@ fn do_request<T: Threads + Wait + Sync, R: Read, W: Write, E: Write, P: Write, C
         Request::Show { code } => do_show(alloc, code.as_str(), output, errors),
         Request::Soup { seed, number } => { do_soup(alloc, seed.as_str(), *number, output, errors) }
         Request::Take {
-            survey,
+            plan,
             workers,
             progress,
         } => {
             line.ask(*progress);
-            take_soups(alloc, rt, survey, *workers, output, errors, line)
+            take_soups(alloc, rt, plan, *workers, output, errors, line)
         }
-        Request::Work { survey, worker } => {
-            work_on_soups(alloc, survey, *worker, output, errors)
+        Request::Work { plan, worker } => {
+            work_on_soups(alloc, plan, *worker, output, errors)
         }
-        Request::Gather { survey, workers } => {
-            gather_lines(alloc, survey, *workers, input, output, errors)
+        Request::Gather { plan, workers } => {
+            gather_lines(alloc, plan, *workers, input, output, errors)
         }
         Request::Version => do_version(output, errors),
     }
@@ -144,65 +143,65 @@ fn do_request<T: Threads + Wait + Sync, R: Read, W: Write, E: Write, P: Write, C
 fn take_soups<T: Threads + Wait + Sync, W: Write, E: Write, P: Write, C: Clock>(
     alloc: Global,
     rt: &T,
-    survey: &Survey<'_>,
+    asked: &words::request::Plan<'_>,
     workers: u8,
     output: &mut Out<W>,
     errors: &mut Out<E>,
     line: &mut Progress<P, C>,
 ) -> Status
-    requires request { AreInTheirRanges (request.Take survey.now workers true) }
+    requires request { AreInTheirRanges (request.Take asked.now workers true) }
     requires output { output.old.failed ≡ false }
     requires errors { errors.old.failed ≡ false }
     ensures ends { (progress : Bool) (known : Option (List ℕ)) (bytes : List ℕ)
-        → Ends (task_of (request.Take survey.now workers progress)) known bytes result
+        → Ends (task_of (request.Take asked.now workers progress)) known bytes result
         (stream W.contents output.old output.new) (stream E.contents errors.old errors.new) }
     ensures untouched { result ≡ Status.Refused → output.new ≡ output.old }
     ensures no_memory { result ≡ Status.OutOfMemory → output.new ≡ output.old }
 {
-    let plan = plan_for(survey);
+    let plan = plan_for(asked);
     do_take(alloc, rt, &plan, workers, output, errors, line)
 }
 
 /// Writes this worker's report lines of the soups that a request names.
 fn work_on_soups<W: Write, E: Write>(
     alloc: Global,
-    survey: &Survey<'_>,
+    asked: &words::request::Plan<'_>,
     worker: u8,
     output: &mut Out<W>,
     errors: &mut Out<E>,
 ) -> Status
-    requires request { AreInTheirRanges (request.Work survey.now worker) }
+    requires request { AreInTheirRanges (request.Work asked.now worker) }
     requires output { output.old.failed ≡ false }
     requires errors { errors.old.failed ≡ false }
     ensures ends { (known : Option (List ℕ)) (bytes : List ℕ)
-        → Ends (task_of (request.Work survey.now worker)) known bytes result
+        → Ends (task_of (request.Work asked.now worker)) known bytes result
         (stream W.contents output.old output.new) (stream E.contents errors.old errors.new) }
     ensures untouched { result ≡ Status.Refused → output.new ≡ output.old }
 {
-    let plan = plan_for(survey);
+    let plan = plan_for(asked);
     do_work(alloc, &plan, worker, output, errors)
 }
 
 /// Gathers the input's report lines of the soups that a request names, of so many workers.
 fn gather_lines<R: Read, W: Write, E: Write>(
     alloc: Global,
-    survey: &Survey<'_>,
+    asked: &words::request::Plan<'_>,
     workers: u8,
     input: &mut R,
     output: &mut Out<W>,
     errors: &mut Out<E>,
 ) -> Status
-    requires request { AreInTheirRanges (request.Gather survey.now workers) }
+    requires request { AreInTheirRanges (request.Gather asked.now workers) }
     requires output { output.old.failed ≡ false }
     requires errors { errors.old.failed ≡ false }
     ensures ends { DoesRequest (R.remaining input.old) result
         (stream W.contents output.old output.new) (stream E.contents errors.old errors.new)
-        (request.Gather survey.now workers) }
-    ensures unread { reads_input (request.Gather survey.now workers) ≡ false → input.new ≡ input.old }
+        (request.Gather asked.now workers) }
+    ensures unread { reads_input (request.Gather asked.now workers) ≡ false → input.new ≡ input.old }
     ensures untouched { result ≡ Status.Refused → (input.new ≡ input.old) × (output.new ≡ output.old) }
     ensures no_memory { result ≡ Status.OutOfMemory → output.new ≡ output.old }
 {
-    let plan = plan_for(survey);
+    let plan = plan_for(asked);
     do_gather(alloc, &plan, workers, input, output, errors)
 }
 
@@ -228,15 +227,15 @@ fn numbers_for(numbers: words::request::ProfileNumbers) -> ProfileNumbers
 }
 
 /// The plan of a census.
-fn plan_for<'a>(survey: &Survey<'a>) -> Plan<'a>
-    requires { AreProfileNumbers survey.now.profile }
-    ensures plan { result ≡ plan_for survey.now }
+fn plan_for<'a>(asked: &words::request::Plan<'a>) -> Plan<'a>
+    requires { AreProfileNumbers asked.now.profile }
+    ensures plan { result ≡ plan_for asked.now }
     ensures ranges { AreInRange result.profile }
 {
     Plan {
-        set: soups_for(&survey.set),
-        profile: numbers_for(survey.profile),
-        rule: word_for(&survey.rule),
+        set: soups_for(&asked.set),
+        profile: numbers_for(asked.profile),
+        rule: word_for(&asked.rule),
     }
 }
 

@@ -1,25 +1,31 @@
--- Facts on the table that compute: what each command has, as `clap` builds it.
-use Rattle.std.proofs.Common.{◌≡◌, ◌||◌, ◌&&◌, ◌++◌, Bool, true, false, None, Some, List, [], ◌∷◌, codes, inl, inr, not, refl, ap, subst}
-use Rattle.std.proofs.Common.{drop, get_or, if◌then◌else◌, is_some, map}
+-- What `clap` makes of the seven commands and of their arguments: one equation, which computes.
+use Rattle.std.proofs.Common.{◌≡◌, ◌∙◌, ◌||◌, ◌&&◌, ◌++◌, ℕ, Bool, true, false, cond, Option, None, Some, List, [], ◌∷◌, codes, inl, inr, not, refl, sym, ap, subst}
+use Rattle.std.proofs.Common.{drop, get_or, is_some, map, option_and_then, option_map, slice_get, unwrap_or}
 use Rattle.std.specs.List.{find, list_any}
 use Rattle.std.specs.Option.{option_map_or}
 use Rattle.std.specs.Str.{bytes_eq}
-use Rattle.clap.specs.Words.{App, Row, Rule, Shape, Text}
-use Rattle.clap.specs.Faults.{check_fault, default_fault}
-use Rattle.clap.specs.Kinds.{check_kinds}
-use Rattle.clap.specs.Lexer.{long_of}
-use Rattle.clap.specs.Simple.{built_leaf, filled, help_rule, inherited, marked_built, with_index, with_leaf_noted}
+use Rattle.std.specs.Str.Parse.{digits_value}
+use Rattle.std.proofs.lemmas.Option.{same_Some}
+use Rattle.clap.specs.Words.{App, Kinds, Row, Rule, Shape, Text, reading_of}
+use Rattle.clap.specs.Faults.{check_fault, default_fault, other_fault, repeat_fault, settle_fault, step_fault, turn_fault}
+use Rattle.clap.specs.Kinds.{check_kinds, or_else, values_kinds}
+use Rattle.clap.specs.Simple.{built_leaf, inherited, label_of, marked_built, names_of, with_leaf_noted}
 use Rattle.clap.specs.Simple as simple
-use Rattle.clap.specs.Takes.{is_given}
-use Rattle.clap.specs.Walk.{arg_by_id, arg_by_index, arg_by_long, has_long, takes_several}
+use Rattle.clap.specs.Takes as takes
+use Rattle.clap.specs.Walk.{Held, Step, Walk, answers_to, arg_by_index, has_long, idle, next, nothing_held, option, plain_word, pushed, reading_by, row_text}
+use Rattle.clap.specs.Walk.{settled, settled_rows, takes_several, to_positional, value, walk_from, walked, with_values, without}
+use Rattle.clap.specs.declared.error.kind.ErrorKind.TheVariants.{DisplayHelp}
+use Rattle.clap.specs.declared.parser.matches.ValueSource.{ValueSource}
+use Rattle.clap.specs.declared.parser.matches.ValueSource.TheVariants.{CommandLine, DefaultValue}
 use Rattle.clap.proofs.OnLiterals.{clap_on_literals}
+use Rattle.words.specs.declared.options.Kind.{Kind}
 use Rattle.words.specs.declared.options.Kind.TheVariants as kind
-use Rattle.words.specs.Table.{Command, Entry, census_app, commands, shape_in}
 use Rattle.words.specs.Requests.{is_version}
-use Rattle.words.specs.Table as table
+use Rattle.words.specs.Table.{Command, Entry, census_app, commands, shape_in}
 use Rattle.words.specs.Uses.{IsIn, is_flag, is_required}
-use Rattle.words.proofs.BuiltLemmas.{built, is_of_kind, is_small}
-use Rattle.words.proofs.WalkLemmas.{HasCommand}
+use Rattle.words.specs.Values.{at_least, number_named}
+use Rattle.words.proofs.NumberLemmas.{is_small, parser_for}
+use Rattle.words.proofs.WalkLemmas.{Met, at, met}
 
 -- the program and a command, as `clap` builds them
 abbrev pub census_built : App
@@ -32,155 +38,195 @@ leaf command = built_leaf (inherited (with_leaf_noted (marked_built census_app.t
 abbrev pub help_entry : Entry
 help_entry = record { name = codes "help"; is_named = true; kind = kind.Flag; default = None }
 
-abbrev pub has_name : Entry → Bool
-has_name e = e.is_named || is_flag e.kind
+-- an argument that takes a value after its name, and one that takes it alone
+abbrev pub takes_value : Entry → Bool
+takes_value e = e.is_named && not (is_flag e.kind)
 
+abbrev pub stands_alone : Entry → Bool
+stands_alone e = not e.is_named && not (is_flag e.kind)
+
+-- the name of the argument without one, of which a command has one at most
+abbrev pub lone : Command → Text
+lone command = option_map_or (λ e. e.name) (find stands_alone command.arguments) []
+
+-- ---- one use of an argument
+
+-- the row of an argument
+abbrev pub row_of : Entry → Text → ValueSource → Row
+row_of e v source = record { id = e.name; values = v ∷ []; count = None; source = Some source; reading = reading_of (parser_for e.kind) }
+
+-- the rows after a use with this value, and its faults
+abbrev pub rows_with : Entry → Text → List Row → List Row
+rows_with e v rows = with_values e.name (reading_of (parser_for e.kind)) CommandLine (v ∷ []) (without e.name rows)
+
+abbrev pub faults_of : Entry → Text → List Row → Kinds
+faults_of e v rows = or_else (repeat_fault false e.name rows) (values_kinds false (parser_for e.kind) (v ∷ []))
+
+-- a word with the whole use, which settles what is held before
+abbrev pub reacts : Shape → Held → Entry → Text → Met
+reacts s h e v = (
+  (record { rows = rows_with e v (settled s.rules h).rows; pending = None; skip = h.skip }, next idle),
+  or_else (settle_fault s.rules s.args_override_self h) (faults_of e v (settled s.rules h).rows),
+)
+
+-- a word with the name alone, after which values of the argument wait
+abbrev pub asks : Shape → Held → Entry → Met
+asks s h e = (
+  (record { rows = (settled s.rules h).rows; pending = Some (e.name, []); skip = h.skip }, next (option e.name)),
+  settle_fault s.rules s.args_override_self h,
+)
+
+-- while several values are taken, nothing is settled before the next
+abbrev pub keeps_on : Held → Entry → Bool
+keeps_on h e = option_map_or (λ (q : Text × List Text). bytes_eq q.0 e.name) h.pending false && false
+
+-- ---- what a request takes
+
+pub data Value : Type 0 where
+  text : Option Text → Value
+  flag : Bool → Value
+  number : Option ℕ → Value
+
+abbrev pub text_of : Value → Option Text
+text_of (text t) = t
+text_of other = None
+
+abbrev pub flag_of : Value → Bool
+flag_of (flag b) = b
+flag_of other = false
+
+abbrev pub number_of : Value → Option ℕ
+number_of (number n) = n
+number_of other = None
+
+-- of the row that was found for an argument of this kind
+abbrev pub taken : Kind → Option Row → Value
+taken kind.Text row = text (option_and_then (λ (r : Row). slice_get r.values 0) row)
+taken kind.Flag row = flag (option_map_or (λ t. bytes_eq t (codes "true")) (option_and_then (λ (r : Row). slice_get r.values 0) row) false)
+taken (kind.Number least most) row = number (option_and_then (at_least least) (option_and_then (number_named most) (option_and_then row_text row)))
+taken (kind.LargeNumber most) row = number (option_and_then (number_named most) (option_and_then row_text row))
+
+-- where the argument has this value, or the flag is used or not
+abbrev pub given : Kind → Text → Bool → Value
+given kind.Text v used = text (Some v)
+given kind.Flag v used = flag used
+given (kind.Number least most) v used = number (Some (digits_value 10 v))
+given (kind.LargeNumber most) v used = number (Some (digits_value 10 v))
+
+-- the row of the default of an argument
+abbrev pub default_row : Rule → Row
+default_row a = record { id = a.id; values = a.defaults; count = None; source = Some DefaultValue; reading = reading_by a }
+
+abbrev pub has_some : List Text → Bool
+has_some [] = false
+has_some (v ∷ vs) = true
+
+abbrev pub default_for : Text → List Rule → Option Row
+default_for id c = option_map default_row (find (λ a. has_some a.defaults && bytes_eq a.id id) c)
+
+-- ---- what is known of a command
+
+-- something where a test holds
+abbrev pub if_so : {X : Type 0} → Bool → X → Option X
+if_so b x = cond b (Some x) None
+
+pub so : {X : Type 0} {b : Bool} {x y : X} → if_so b x ≡ if_so b y → b ≡ true → x ≡ y
+so {X} {b} {x} {y} same holds = same_Some x y (sym (ap (λ b. if_so b x) holds) ∙ same ∙ ap (λ b. if_so b y) holds)
+
+-- a rule has this long name
 abbrev pub takes_name : Text → Rule → Bool
 takes_name name a = not (is_some a.index) && has_long a name
 
--- how a built command with these arguments finds them; one without a name is called `lone`
-pub record Finds (s : Shape) (es : List Entry) (lone : Text) : Type 0 where
-  pub lone_is : map (λ e. bytes_eq e.name lone) es ≡ map (λ e. not (has_name e)) es
-  pub no_second : arg_by_index s.rules 2 ≡ None
-  pub by_id : map (λ e. arg_by_id s.rules e.name) es ≡ map (λ e. Some (built e)) es
-  pub by_place : map (λ e. if has_name e then arg_by_long s.rules e.name else arg_by_index s.rules 1) es ≡ map (λ e. Some (built e)) es
-  pub apart : map (λ e. find (λ x. bytes_eq x.name e.name) es) es ≡ map (λ e. Some e) es
+-- of one of its arguments: how words lead on from a place (a flag, `--name=value`, `--name` before a value, that value, and a value
+-- alone), how a value that is held is settled, and what is taken of its default
+pub record ArgumentFacts : Type 0 where
+  pub flagged : Held → ℕ → Option Met
+  pub attached : Held → ℕ → Text → Option Met
+  pub spaced : Held → ℕ → Option Met
+  pub valued : List Row → ℕ → Text → Held × Step
+  pub alone : Held → Text → Option (Walk × Kinds)
+  pub settles : List Row → ℕ → Text → Option (Kinds × List Row)
+  pub is_lone : Bool
+  pub same_name : Option Entry
+  pub small : Bool
+  pub default : Option Value
 
--- how their names stand in words, and that the numbers of the table are lawful
-pub record Spells (es : List Entry) : Type 0 where
-  pub words : map (λ e. long_of (codes "--" ++ e.name)) es ≡ map (λ e. Some (e.name, None)) es
-  pub dashes : map (λ e. bytes_eq (codes "--" ++ e.name) (codes "--")) es ≡ map (λ e. false) es
-  pub attached : (v : Text) → map (λ e. long_of (codes "--" ++ (e.name ++ (codes "=" ++ v)))) es ≡ map (λ e. Some (e.name, Some v)) es
-  pub differs : (v : Text) → map (λ e. bytes_eq (codes "--" ++ (e.name ++ (codes "=" ++ v))) (codes "--")) es ≡ map (λ e. false) es
-  pub small : map (λ e. is_small e.kind) es ≡ map (λ e. true) es
-  pub defaults : map (λ e. option_map_or (is_of_kind e.kind) e.default true) es ≡ map (λ e. true) es
+-- and of the command: that no value alone is a second one, its defaults and checks, other words, and the word that names it
+pub record CommandFacts : Type 0 where
+  pub arguments : List ArgumentFacts
+  pub second : Option Rule
+  pub several : Bool
+  pub default_faults : List Kinds
+  pub checks : List Row → Kinds
+  pub long_names : Text → Bool
+  pub help : Held → Kinds
+  pub walks : Walk
+  pub fault : Kinds
+  pub found : Option Shape
+  pub version : Bool
 
--- what it checks
-pub record Checks (s : Shape) (es : List Entry) : Type 0 where
-  pub no_fault : map (default_fault []) s.rules ≡ map (λ _. []) s.rules
-  pub again : s.args_override_self ≡ false
-  pub several : map takes_several s.rules ≡ map (λ _. false) s.rules
-  pub tests : (rows : List Row) → check_fault s rows false ≡ check_kinds false false (list_any (λ a. a.required && not (is_given a.id rows)) s.rules)
-  pub required : (g : Text → Bool) → list_any (λ a. a.required && not (g a.id)) s.rules ≡ list_any (λ e. is_required e && not (g e.name)) es
-  pub named : (name : Text) → list_any (takes_name name) s.rules ≡ list_any (λ e. e.is_named && (bytes_eq e.name name || false)) (es ++ help_entry ∷ [])
-  pub help : arg_by_long s.rules (codes "help") ≡ Some (with_index 1 (filled help_rule))
+-- each fact twice: as `clap` has it (true), and as the table has it
+abbrev pub argument_facts : Bool → Command → Entry → ArgumentFacts
+argument_facts clap command e =
+    let s = leaf command in
+    let word : Text = codes "--" ++ e.name in
+    record {
+      flagged = λ h i. if_so (is_flag e.kind) (cond clap (met s idle h i word) (reacts s h e (codes "true")));
+      attached = λ h i v. if_so (takes_value e) (cond clap (met s idle h i (codes "--" ++ (e.name ++ (codes "=" ++ v)))) (reacts s h e v));
+      spaced = λ h i. if_so (takes_value e) (cond clap (met s idle h i word) (asks s h e));
+      valued = λ rows skip v. cond clap (plain_word s.rules (option e.name) v (record { rows = rows; pending = Some (e.name, []); skip = skip }))
+          (record { rows = rows; pending = Some (e.name, v ∷ []); skip = skip }, next idle);
+      alone = λ h v. if_so (stands_alone e) (cond clap (to_positional s.rules (arg_by_index s.rules 1) v (at h 1) h, step_fault s 1 h value) (
+        at (pushed e.name v (cond (keeps_on h e) h (settled s.rules h))) 2,
+        cond (keeps_on h e) [] (settle_fault s.rules s.args_override_self h),
+      ));
+      settles = λ rows skip v. if_so (not (is_flag e.kind)) (cond clap (
+        settle_fault s.rules s.args_override_self (record { rows = rows; pending = Some (e.name, v ∷ []); skip = skip }),
+        settled_rows s.rules (Some (e.name, v ∷ [])) rows,
+      ) (faults_of e v rows, rows_with e v rows));
+      is_lone = cond clap (bytes_eq e.name (lone command)) (stands_alone e);
+      same_name = cond clap (find (λ x. bytes_eq x.name e.name) command.arguments) (Some e);
+      small = cond clap (is_small e.kind) true;
+      default = if_so (not (is_required e))
+          (cond clap (taken e.kind (default_for e.name s.rules)) (given e.kind (unwrap_or e.default []) false));
+    }
 
-pub record Knows (s : Shape) (es : List Entry) : Type 0 where
-  pub lone : Text
-  pub finds : Finds s es lone
-  pub spells : Spells es
-  pub checks : Checks s es
+abbrev pub command_facts : Bool → Command → CommandFacts
+command_facts clap command =
+    let s = leaf command in
+    let es = command.arguments in
+    let top = census_built.top in
+    record {
+      arguments = map (argument_facts clap command) es;
+      second = cond clap (arg_by_index s.rules 2) None;
+      several = cond clap (list_any takes_several s.rules) false;
+      default_faults = cond clap (map (default_fault []) s.rules) (map (λ a. []) s.rules);
+      checks = λ rows. cond clap (check_fault s rows false)
+          (check_kinds false false (list_any (λ e. is_required e && not (takes.is_given e.name rows)) es));
+      long_names = λ name. cond clap (list_any (takes_name name) s.rules)
+          (list_any (λ e. e.is_named && (bytes_eq e.name name || false)) (es ++ help_entry ∷ []));
+      help = λ h. cond clap (other_fault s None (codes "--help") h) (or_else (settle_fault s.rules s.args_override_self h) (DisplayHelp ∷ []));
+      walks = cond clap (walked top.rules (names_of census_built) (walk_from nothing_held) command.name)
+          (record { held = nothing_held; waiting = idle; position = 1; is_trailing = false; stopped = Some (command.name, []) });
+      fault = cond clap (turn_fault top (names_of census_built) (walk_from nothing_held) command.name) [];
+      found = cond clap (find (λ sub. answers_to command.name (label_of sub)) census_built.subs) (Some s);
+      version = cond clap (is_version command.name) false;
+    }
 
--- one of two lists of facts on the same arguments
-pub at : {X : Type 0} (f g : Entry → X) (es : List Entry) (e : Entry) → map f es ≡ map g es → IsIn e es → f e ≡ g e
-at f g [] e same here = absurd here
-at f g (x ∷ es) e same (inl is) = subst (λ y. f y ≡ g y) is (ap (λ l. get_or l 0 (f x)) same)
-at f g (x ∷ es) e same (inr more) = at f g es e (ap (drop 1) same) more
-
--- ---- the commands
-
-pub record KnowsCommand (command : Command) : Type 0 where
-  pub has : HasCommand census_built command.name (leaf command)
-  pub knows : Knows (leaf command) command.arguments
-  pub no_version : is_version command.name ≡ false
-
-run_known : KnowsCommand table.run_command
+all_known : map (command_facts true) commands ≡ map (command_facts false) commands
 unfolding clap_on_literals
-run_known = record {
-  has = record { named = refl; found = refl; no_help = refl; defaults = refl; checked = refl };
-  knows = record {
-    lone = codes "N";
-    finds = record { lone_is = refl; no_second = refl; by_id = refl; by_place = refl; apart = refl };
-    spells = record { words = refl; dashes = refl; attached = λ v. refl; differs = λ v. refl; small = refl; defaults = refl };
-    checks = record { no_fault = refl; again = refl; several = refl; tests = λ rows. refl; required = λ g. refl; named = λ name. refl; help = refl };
-  };
-  no_version = refl;
-}
+all_known = refl
 
-name_known : KnowsCommand table.name_command
-unfolding clap_on_literals
-name_known = record {
-  has = record { named = refl; found = refl; no_help = refl; defaults = refl; checked = refl };
-  knows = record {
-    lone = [];
-    finds = record { lone_is = refl; no_second = refl; by_id = refl; by_place = refl; apart = refl };
-    spells = record { words = refl; dashes = refl; attached = λ v. refl; differs = λ v. refl; small = refl; defaults = refl };
-    checks = record { no_fault = refl; again = refl; several = refl; tests = λ rows. refl; required = λ g. refl; named = λ name. refl; help = refl };
-  };
-  no_version = refl;
-}
+-- one of two lists of facts on the same things
+at_one : {X Y : Type 0} (f g : X → Y) (xs : List X) (x : X) → map f xs ≡ map g xs → IsIn x xs → f x ≡ g x
+at_one f g [] x same here = absurd here
+at_one f g (y ∷ xs) x same (inl is) = subst (λ z. f z ≡ g z) is (ap (λ l. get_or l 0 (f y)) same)
+at_one f g (y ∷ xs) x same (inr more) = at_one f g xs x (ap (drop 1) same) more
 
-show_known : KnowsCommand table.show_command
-unfolding clap_on_literals
-show_known = record {
-  has = record { named = refl; found = refl; no_help = refl; defaults = refl; checked = refl };
-  knows = record {
-    lone = codes "CODE";
-    finds = record { lone_is = refl; no_second = refl; by_id = refl; by_place = refl; apart = refl };
-    spells = record { words = refl; dashes = refl; attached = λ v. refl; differs = λ v. refl; small = refl; defaults = refl };
-    checks = record { no_fault = refl; again = refl; several = refl; tests = λ rows. refl; required = λ g. refl; named = λ name. refl; help = refl };
-  };
-  no_version = refl;
-}
+pub known : (command : Command) → IsIn command commands → command_facts true command ≡ command_facts false command
+known command here = at_one (command_facts true) (command_facts false) commands command all_known here
 
-soup_known : KnowsCommand table.soup_command
-unfolding clap_on_literals
-soup_known = record {
-  has = record { named = refl; found = refl; no_help = refl; defaults = refl; checked = refl };
-  knows = record {
-    lone = codes "N";
-    finds = record { lone_is = refl; no_second = refl; by_id = refl; by_place = refl; apart = refl };
-    spells = record { words = refl; dashes = refl; attached = λ v. refl; differs = λ v. refl; small = refl; defaults = refl };
-    checks = record { no_fault = refl; again = refl; several = refl; tests = λ rows. refl; required = λ g. refl; named = λ name. refl; help = refl };
-  };
-  no_version = refl;
-}
-
-take_known : KnowsCommand table.take_command
-unfolding clap_on_literals
-take_known = record {
-  has = record { named = refl; found = refl; no_help = refl; defaults = refl; checked = refl };
-  knows = record {
-    lone = [];
-    finds = record { lone_is = refl; no_second = refl; by_id = refl; by_place = refl; apart = refl };
-    spells = record { words = refl; dashes = refl; attached = λ v. refl; differs = λ v. refl; small = refl; defaults = refl };
-    checks = record { no_fault = refl; again = refl; several = refl; tests = λ rows. refl; required = λ g. refl; named = λ name. refl; help = refl };
-  };
-  no_version = refl;
-}
-
-work_known : KnowsCommand table.work_command
-unfolding clap_on_literals
-work_known = record {
-  has = record { named = refl; found = refl; no_help = refl; defaults = refl; checked = refl };
-  knows = record {
-    lone = [];
-    finds = record { lone_is = refl; no_second = refl; by_id = refl; by_place = refl; apart = refl };
-    spells = record { words = refl; dashes = refl; attached = λ v. refl; differs = λ v. refl; small = refl; defaults = refl };
-    checks = record { no_fault = refl; again = refl; several = refl; tests = λ rows. refl; required = λ g. refl; named = λ name. refl; help = refl };
-  };
-  no_version = refl;
-}
-
-gather_known : KnowsCommand table.gather_command
-unfolding clap_on_literals
-gather_known = record {
-  has = record { named = refl; found = refl; no_help = refl; defaults = refl; checked = refl };
-  knows = record {
-    lone = [];
-    finds = record { lone_is = refl; no_second = refl; by_id = refl; by_place = refl; apart = refl };
-    spells = record { words = refl; dashes = refl; attached = λ v. refl; differs = λ v. refl; small = refl; defaults = refl };
-    checks = record { no_fault = refl; again = refl; several = refl; tests = λ rows. refl; required = λ g. refl; named = λ name. refl; help = refl };
-  };
-  no_version = refl;
-}
-
-pub known : (command : Command) → IsIn command commands → KnowsCommand command
-known command (inl is) = subst KnowsCommand is run_known
-known command (inr (inl is)) = subst KnowsCommand is name_known
-known command (inr (inr (inl is))) = subst KnowsCommand is show_known
-known command (inr (inr (inr (inl is)))) = subst KnowsCommand is soup_known
-known command (inr (inr (inr (inr (inl is))))) = subst KnowsCommand is take_known
-known command (inr (inr (inr (inr (inr (inl is)))))) = subst KnowsCommand is work_known
-known command (inr (inr (inr (inr (inr (inr (inl is))))))) = subst KnowsCommand is gather_known
-known command (inr (inr (inr (inr (inr (inr (inr never))))))) = absurd never
+pub known_of : (command : Command) → IsIn command commands → (e : Entry) → IsIn e command.arguments
+    → argument_facts true command e ≡ argument_facts false command e
+known_of command here e there = at_one (argument_facts true command) (argument_facts false command) command.arguments e
+    (ap (λ (f : CommandFacts). f.arguments) (known command here)) there

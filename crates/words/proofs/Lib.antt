@@ -1,12 +1,7 @@
-mod BuiltLemmas
 mod KnownLemmas
 pub mod LawLemmas
 mod NumberLemmas
-mod ParseLemmas
 pub mod RefuseLemmas
-mod RowLemmas
-mod StuckLemmas
-mod TableLemmas
 mod UseLemmas
 mod ValueLemmas
 mod WalkLemmas

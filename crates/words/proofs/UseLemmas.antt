@@ -1,261 +1,270 @@
 -- The arguments of a call, one after another: how each is read, and what rows they leave.
-use Rattle.std.proofs.Common.{◌≡◌, ◌∙◌, ◌++◌, ◌||◌, ◌⊎◌, ◌==◌, ℕ, Bool, true, false, cond, Option, None, Some, List, [], ◌∷◌, codes}
+use Rattle.std.proofs.Common.{◌≡◌, ◌∙◌, ◌++◌, ◌||◌, ◌&&◌, ◌⊎◌, ℕ, Bool, true, false, cond, None, Some, List, [], ◌∷◌, codes}
 use Rattle.std.proofs.Common.{append-nil, append_assoc, ap, ap₂, inl, inr, map, not, refl, sym, subst}
 use Rattle.std.specs.Str.{bytes_eq}
+use Rattle.std.specs.Str.Parse.{starts_with_minus}
 use Rattle.std.proofs.lemmas.List.Folds.{list_any-append}
 use Rattle.std.proofs.lemmas.Slice.Eq.{bytes_eq-Decides}
-use Rattle.clap.specs.Words.{Row, Rule, Shape, Text}
-use Rattle.clap.specs.Facts.{parser_of_value}
-use Rattle.clap.specs.Faults.{walk_fault}
-use Rattle.clap.specs.Kinds.{range_kinds}
-use Rattle.clap.specs.Lexer.{long_of}
-use Rattle.clap.specs.ValueTests.{accepts}
-use Rattle.clap.specs.Walk.{Held, arg_by_id, arg_by_index, arg_by_long, has_row, next_position, nothing_held, takes_values}
-use Rattle.clap.specs.declared.builder.action.ArgAction.TheVariants.{Set, SetTrue}
+use Rattle.clap.specs.Words.{Kinds, Row, Shape, Text, reading_of}
+use Rattle.clap.specs.Faults.{settle_fault, step_fault}
+use Rattle.clap.specs.Kinds.{or_else}
+use Rattle.clap.specs.Values.{refused_kind}
+use Rattle.clap.specs.Walk.{Held, arg_by_index, has_row, idle, more_values, next, nothing_held, option, pushed, settled, to_positional, value, with_values}
+use Rattle.clap.specs.declared.error.kind.ErrorKind.TheVariants.{ArgumentConflict}
+use Rattle.clap.specs.declared.parser.matches.ValueSource.TheVariants.{CommandLine}
 use Rattle.words.specs.declared.options.Kind.{Kind}
 use Rattle.words.specs.declared.options.Kind.TheVariants as kind
-use Rattle.words.specs.Table.{Command, Entry}
+use Rattle.words.specs.Table.{Command, Entry, commands}
 use Rattle.words.specs.Uses.{AreUses, IsBare, IsIn, IsNotOfKind, IsOfKind, IsUse, Stands, Use, alone, attached, entry_in, flagged, is_flag, is_used, spaced}
 use Rattle.words.specs.Uses.{value_in, words_in, words_of}
-use Rattle.words.proofs.BuiltLemmas.{action_for, built, built_is, is_small, kind_accepted, missing_for, values_for}
-use Rattle.words.proofs.KnownLemmas.{Knows, at, has_name}
-use Rattle.words.proofs.NumberLemmas.{no_sign}
-use Rattle.words.proofs.RowLemmas.{neither, same_text}
-use Rattle.words.proofs.WalkLemmas.{Comes, IsPlainWord, Reads, Step, argument_step, option_step, plain_word-is, reads_step, row_with, word_step}
+use Rattle.words.proofs.KnownLemmas.{ArgumentFacts, so, known_of, faults_of, leaf, lone, reacts, row_of, rows_with, stands_alone, takes_value}
+use Rattle.words.proofs.NumberLemmas.{refuted, kind_accepted, no_sign, parser_for}
+use Rattle.words.proofs.WalkLemmas.{after, at, at_row_none, met, or_else_nil, plain_met, run, turn}
 
--- the row of an argument
+-- the row of a use
 abbrev pub row_in : Use → Row
-row_in u = row_with (built (entry_in u)) (value_in u)
+row_in u = row_of (entry_in u) (value_in u) CommandLine
 
 abbrev pub rows_in : List Use → List Row
 rows_in uses = map row_in uses
-
--- the values of a use, as `clap` counts them
-abbrev pub values_by : Use → List Text
-values_by (flagged e) = []
-values_by u = value_in u ∷ []
-
--- ---- an argument of a command
-
-has_one : (k : Kind) → is_flag k ≡ false → (action_for k ≡ Set) × (values_for k ≡ 1)
-has_one kind.Text h = (refl, refl)
-has_one kind.Flag h = cc
-has_one (kind.Number l m) h = (refl, refl)
-has_one (kind.LargeNumber m) h = (refl, refl)
-
-has_none : (k : Kind) → is_flag k ≡ true → (action_for k ≡ SetTrue) × (values_for k ≡ 0) × (missing_for k ≡ codes "true" ∷ []) × IsOfKind k (codes "true")
-has_none kind.Text h = cc
-has_none kind.Flag h = (refl, refl, refl, refl)
-has_none (kind.Number l m) h = cc
-has_none (kind.LargeNumber m) h = cc
-
--- a value that stands in a word of its own is no flag
-pub bare_value : (k : Kind) (v : Text) → is_flag k ≡ false → IsBare k v → IsOfKind k v ⊎ IsNotOfKind k v → IsPlainWord v
-bare_value kind.Text v no_flag bare of = plain_word-is v bare
-bare_value kind.Flag v no_flag bare of = cc
-bare_value (kind.Number l m) v no_flag bare (inl n) = plain_word-is v (no_sign v n.numeral).0
-bare_value (kind.Number l m) v no_flag bare (inr n) = plain_word-is v n.0
-bare_value (kind.LargeNumber m) v no_flag bare (inl n) = plain_word-is v (no_sign v n.numeral).0
-bare_value (kind.LargeNumber m) v no_flag bare (inr n) = plain_word-is v n.0
-
-module _ {s : Shape} {es : List Entry} (k : Knows s es) (e : Entry) (here : IsIn e es) where
-  pub by_its_id : arg_by_id s.rules (built e).id ≡ Some (built e)
-  by_its_id = ap (arg_by_id s.rules) (built_is e).id ∙ at (λ e. arg_by_id s.rules e.name) (λ e. Some (built e)) es e k.finds.by_id here
-
-  by_its_place : (b : Bool) → has_name e ≡ b → cond b (arg_by_long s.rules e.name) (arg_by_index s.rules 1) ≡ Some (built e)
-  by_its_place b is =
-      sym (ap (λ c. cond {A = Option Rule} c (arg_by_long s.rules e.name) (arg_by_index s.rules 1)) is)
-      ∙ at (λ e. cond (has_name e) (arg_by_long s.rules e.name) (arg_by_index s.rules 1)) (λ e. Some (built e)) es e k.finds.by_place here
-
-  its_words : long_of (codes "--" ++ e.name) ≡ Some (e.name, None)
-  its_words = at (λ e. long_of (codes "--" ++ e.name)) (λ e. Some (e.name, None)) es e k.spells.words here
-
-  its_dashes : bytes_eq (codes "--" ++ e.name) (codes "--") ≡ false
-  its_dashes = at (λ e. bytes_eq (codes "--" ++ e.name) (codes "--")) (λ e. false) es e k.spells.dashes here
-
-  pub is_lone : bytes_eq e.name k.lone ≡ not (has_name e)
-  is_lone = at (λ e. bytes_eq e.name k.lone) (λ e. not (has_name e)) es e k.finds.lone_is here
-
-  pub is_accepted : (v : Text) → IsOfKind e.kind v → accepts (built e).ignore_case (parser_of_value (built e).parser) v ≡ true
-  is_accepted v taken =
-      ap₂ (λ b p. accepts b p v) (built_is e).cased (built_is e).parses
-      ∙ kind_accepted e.kind v (at (λ e. is_small e.kind) (λ e. true) es e k.spells.small here) taken
-
-  -- its words lead on: with a name from any place, and alone to the second
-  abbrev StepTo : Held → ℕ → List Text → List Text → Type 0
-  StepTo h position words given = Step s h position words (built e) given (cond {A = ℕ} (has_name e) position 2)
-
-  step_to : (h : Held) (position end : ℕ) (b : Bool) (words given : List Text) → has_name e ≡ b → end ≡ cond {A = ℕ} b position 2
-      → Step s h position words (built e) given end → StepTo h position words given
-  step_to h position end b words given is same =
-      subst (λ n. Step s h position words (built e) given n) (same ∙ sym (ap (λ c. cond {A = ℕ} c position 2) is))
-
-  alone_step : (h : Held) (v : Text) → has_name e ≡ false → IsPlainWord v → StepTo h 1 (v ∷ []) (v ∷ [])
-  alone_step h v no_name plain =
-      let b = built_is e in
-      step_to h 1 (next_position (built e) 1) false (v ∷ []) (v ∷ []) no_name (ap (λ t. cond {A = ℕ} t 1 2) b.single)
-      (argument_step s h 1 (built e) v by_its_id
-      (record { by_index = by_its_place false no_name; single = b.single; one = (neither _ _ b.single).0; no_trailing = b.plain }) plain)
-
-  spaced_step : (h : Held) (position : ℕ) (v : Text) → has_name e ≡ true → is_flag e.kind ≡ false → IsPlainWord v
-      → StepTo h position ((codes "--" ++ e.name) ∷ v ∷ []) (v ∷ [])
-  spaced_step h position v is no_flag plain =
-      step_to h position position true ((codes "--" ++ e.name) ∷ v ∷ []) (v ∷ []) is refl
-      (option_step s h position (built e) v e.name (codes "--" ++ e.name) by_its_id (same_text (built e).id)
-      ((built_is e).most ∙ (has_one e.kind no_flag).1) its_dashes its_words (by_its_place true is) plain)
-
-  attached_step : (h : Held) (position : ℕ) (v : Text) → has_name e ≡ true → is_flag e.kind ≡ false
-      → StepTo h position ((codes "--" ++ (e.name ++ (codes "=" ++ v))) ∷ []) (v ∷ [])
-  attached_step h position v is no_flag =
-      let word : Text = codes "--" ++ (e.name ++ (codes "=" ++ v)) in
-      let takes : takes_values (built e) ≡ true = ap (λ n. not (n == 0)) ((built_is e).most ∙ (has_one e.kind no_flag).1) in
-      step_to h position position true (word ∷ []) (v ∷ []) is refl
-      (word_step s h position (built e) (v ∷ []) e.name word (Some v)
-      (at (λ e. bytes_eq (codes "--" ++ (e.name ++ (codes "=" ++ v))) (codes "--")) (λ e. false) es e (k.spells.differs v) here)
-      (at (λ e. long_of (codes "--" ++ (e.name ++ (codes "=" ++ v)))) (λ e. Some (e.name, Some v)) es e (k.spells.attached v) here)
-      (by_its_place true is) (rw takes refl) (rw takes refl))
-
-  flag_step : (h : Held) (position : ℕ) → has_name e ≡ true → is_flag e.kind ≡ true → StepTo h position ((codes "--" ++ e.name) ∷ []) []
-  flag_step h position is flag =
-      let word : Text = codes "--" ++ e.name in
-      let takes : takes_values (built e) ≡ false = ap (λ n. not (n == 0)) ((built_is e).most ∙ (has_none e.kind flag).1) in
-      step_to h position position true (word ∷ []) [] is refl
-      (word_step s h position (built e) [] e.name word None its_dashes its_words (by_its_place true is) (rw takes refl) (rw takes refl))
-
-pub or_true : (b : Bool) → (b || true) ≡ true
-or_true true = refl
-or_true false = refl
-
--- ---- a use, whichever
-
-abbrev pub has_its_name : Use → Bool
-has_its_name u = has_name (entry_in u)
-
-value_comes : (e : Entry) (v : Text) → is_flag e.kind ≡ false → Comes (built e) (v ∷ []) v
-value_comes e v no_flag =
-    let one = has_one e.kind no_flag in
-    record {
-      acts = inl ((built_is e).acts ∙ one.0);
-      comes = refl;
-      few = ap₂ (λ l m. range_kinds l m 1) ((built_is e).least ∙ one.1) ((built_is e).most ∙ one.1);
-    }
-
-pub use_comes : (u : Use) → Stands u → Comes (built (entry_in u)) (values_by u) (value_in u)
-use_comes (alone e v) stands = value_comes e v stands.1
-use_comes (spaced e v) stands = value_comes e v stands.1
-use_comes (attached e v) stands = value_comes e v stands.1
-use_comes (flagged e) stands =
-    let none = has_none e.kind stands in
-    record {
-      acts = inr ((built_is e).acts ∙ none.0);
-      comes = (built_is e).absent ∙ none.2;
-      few = ap₂ (λ l m. range_kinds l m 0) ((built_is e).least ∙ none.1) ((built_is e).most ∙ none.1);
-    }
 
 -- its value is one of its kind, or it is known not to be
 abbrev pub HasOrLacks : Use → Type 0
 HasOrLacks u = IsOfKind (entry_in u).kind (value_in u) ⊎ IsNotOfKind (entry_in u).kind (value_in u)
 
--- only an argument without a name depends on the place
-pub use_step : {s : Shape} {es : List Entry} → Knows s es → (h : Held) (position : ℕ) (u : Use) → IsIn (entry_in u) es → Stands u
-    → HasOrLacks u → (has_its_name u ≡ false → position ≡ 1)
-    → Step s h position (words_of u) (built (entry_in u)) (values_by u) (cond {A = ℕ} (has_its_name u) position 2)
-use_step {s} k h position (alone e v) here stands of first =
-    let no_name : has_name e ≡ false = ap₂ (λ a b. a || b) stands.0 stands.1 in
-    subst (λ i. Step s h i (v ∷ []) (built e) (v ∷ []) (cond {A = ℕ} (has_name e) i 2)) (sym (first no_name))
-    (alone_step k e here h v no_name (bare_value e.kind v stands.1 stands.2 of))
-use_step k h position (spaced e v) here stands of first =
-    spaced_step k e here h position v (ap (λ a. a || is_flag e.kind) stands.0) stands.1 (bare_value e.kind v stands.1 stands.2 of)
-use_step k h position (attached e v) here stands of first =
-    attached_step k e here h position v (ap (λ a. a || is_flag e.kind) stands.0) stands.1
-use_step k h position (flagged e) here stands of first =
-    flag_step k e here h position (ap (λ b. e.is_named || b) stands ∙ or_true e.is_named) stands
+-- so it has no sign, if it stands in a word of its own
+pub bare_value : (k : Kind) (v : Text) → is_flag k ≡ false → IsBare k v → IsOfKind k v ⊎ IsNotOfKind k v → starts_with_minus v ≡ false
+bare_value kind.Text v no_flag bare of = bare
+bare_value kind.Flag v no_flag bare of = cc
+bare_value (kind.Number l m) v no_flag bare (inl n) = (no_sign v n.numeral).0
+bare_value (kind.Number l m) v no_flag bare (inr n) = n.0
+bare_value (kind.LargeNumber m) v no_flag bare (inl n) = (no_sign v n.numeral).0
+bare_value (kind.LargeNumber m) v no_flag bare (inr n) = n.0
 
--- ---- words that were read
+pub and_false : (b : Bool) → (b && false) ≡ false
+and_false true = refl
+and_false false = refl
 
--- these words of a command were read, and left these rows; the next value alone is for the argument without a name, if it isn't there
-pub record HasRead (s : Shape) (lone : Text) (words : List Text) (rows : List Row) : Type 0 where
-  pub held : Held
-  pub position : ℕ
-  pub reads : Reads s words held position rows
+-- ---- the words of a use
+
+-- A place in the words of a command: what is held there is settled without a fault, to these rows. The next value alone is for the
+-- argument without a name, if that isn't there.
+pub record IsAt (s : Shape) (lone : Text) (h : Held) (position : ℕ) (rows : List Row) : Type 0 where
+  pub settles : settle_fault s.rules s.args_override_self h ≡ []
+  pub found : (settled s.rules h).rows ≡ rows
   pub place : position ≡ cond {A = ℕ} (has_row lone rows) 2 1
-  pub no_skip : held.skip ≡ 0
+  pub no_skip : h.skip ≡ 0
 
-none_read : (s : Shape) (lone : Text) → HasRead s lone [] []
-unfolding walk_fault
-none_read s lone =
-    record { held = nothing_held; position = 1; reads = record { walks = refl; fine = refl; settles = refl; found = refl }; place = refl; no_skip = refl }
+-- The words of a use lead from there to another place. `clap` settles a value only when the next one begins, so the faults of the use
+-- are those that its words tell and those of what is held then.
+pub record Step (s : Shape) (h : Held) (position : ℕ) (rows : List Row) (words : List Text) (e : Entry) (v : Text) : Type 0 where
+  pub told : Kinds
+  pub held : Held
+  pub end : ℕ
+  pub runs : (more : List Text) → run s (at h position) (words ++ more) ≡ after told (run s (at held end) more)
+  pub faults : or_else told (settle_fault s.rules s.args_override_self held) ≡ faults_of e v rows
+  pub left : (settled s.rules held).rows ≡ rows_with e v rows
+  pub ends : end ≡ cond {A = ℕ} (stands_alone e) 2 position
+  pub skip : held.skip ≡ h.skip
 
--- the place after one more argument, by whether it has a name
-place_after : (named lone : Bool) → cond {A = ℕ} named (cond {A = ℕ} lone 2 1) 2 ≡ cond {A = ℕ} (lone || (not named || false)) 2 1
+module _ (command : Command) (here : IsIn command commands) {h : Held} {position : ℕ} {rows : List Row}
+    (is : IsAt (leaf command) (lone command) h position rows) where
+  abbrev s : Shape
+  s = leaf command
+
+  abbrev es : List Entry
+  es = command.arguments
+
+  -- a word with the whole use
+  react_step : (e : Entry) (v word : Text) → stands_alone e ≡ false → met s idle h position word ≡ reacts s h e v → Step s h position rows (word ∷ []) e v
+  react_step e v word named meets =
+      let held : Held = record { rows = rows_with e v rows; pending = None; skip = h.skip } in
+      let meets_so : met s idle h position word ≡ ((held, next idle), faults_of e v rows) = meets ∙ (λ j. (
+        (record { rows = rows_with e v (is.found j); pending = None; skip = h.skip }, next idle),
+        or_else (is.settles j) (faults_of e v (is.found j)),
+      )) in
+      record {
+        told = faults_of e v rows;
+        held = held;
+        end = position;
+        runs = λ more. turn s idle h position word more _ meets_so ∙ ap (λ ks. after ks (run s (at held position) more)) (or_else_nil (faults_of e v rows));
+        faults = or_else_nil (faults_of e v rows);
+        left = refl;
+        ends = sym (ap (λ b. cond {A = ℕ} b 2 position) named);
+        skip = refl;
+      }
+
+  -- a value that is held after the words
+  abbrev held_value : Entry → Text → Held
+  held_value e v = record { rows = rows; pending = Some (e.name, v ∷ []); skip = h.skip }
+
+  hold_step : (e : Entry) (v : Text) (words : List Text) (end : ℕ) → IsIn e es → is_flag e.kind ≡ false → end ≡ cond {A = ℕ} (stands_alone e) 2 position
+      → ((more : List Text) → run s (at h position) (words ++ more) ≡ run s (at (held_value e v) end) more) → Step s h position rows words e v
+  hold_step e v words end there no_flag ends runs =
+      let settles = so (ap (λ (f : ArgumentFacts). f.settles rows h.skip v) (known_of command here e there)) (ap not no_flag) in
+      record {
+        told = [];
+        held = held_value e v;
+        end = end;
+        runs = runs;
+        faults = ap (λ (p : Kinds × List Row). p.0) settles;
+        left = ap (λ (p : Kinds × List Row). p.1) settles;
+        ends = ends;
+        skip = refl;
+      }
+
+  alone_step : (e : Entry) (v : Text) → IsIn e es → stands_alone e ≡ true → is_flag e.kind ≡ false → position ≡ 1 → starts_with_minus v ≡ false
+      → Step s h position rows (v ∷ []) e v
+  alone_step e v there lonely no_flag first bare =
+      let goes : (to_positional s.rules (arg_by_index s.rules position) v (at h position) h, step_fault s position h value) ≡ (at (held_value e v) 2, []) =
+      (λ j. (to_positional s.rules (arg_by_index s.rules (first j)) v (at h (first j)) h, step_fault s (first j) h value))
+      ∙ so (ap (λ (f : ArgumentFacts). f.alone h v) (known_of command here e there)) lonely
+      ∙ ap (λ b. (at (pushed e.name v (cond b h (settled s.rules h))) 2, cond {A = Kinds} b [] (settle_fault s.rules s.args_override_self h))) (and_false _)
+      ∙ (λ j. (at (record { rows = is.found j; pending = Some (e.name, v ∷ []); skip = h.skip }) 2, is.settles j)) in
+      hold_step e v (v ∷ []) 2 there no_flag (sym (ap (λ b. cond {A = ℕ} b 2 position) lonely))
+      (λ more. turn s idle h position v more _ (plain_met s idle h position v bare) ∙ ap (λ p. after p.1 (run s p.0 more)) goes)
+
+  spaced_step : (e : Entry) (v : Text) → IsIn e es → stands_alone e ≡ false → takes_value e ≡ true → is_flag e.kind ≡ false → starts_with_minus v ≡ false
+      → Step s h position rows ((codes "--" ++ e.name) ∷ v ∷ []) e v
+  spaced_step e v there named takes no_flag bare =
+      let word : Text = codes "--" ++ e.name in
+      let asking : Held = record { rows = rows; pending = Some (e.name, []); skip = h.skip } in
+      let first : met s idle h position word ≡ ((asking, next (option e.name)), []) =
+      so (ap (λ (f : ArgumentFacts). f.spaced h position) (known_of command here e there)) takes
+      ∙ (λ j. ((record { rows = is.found j; pending = Some (e.name, []); skip = h.skip }, next (option e.name)), is.settles j)) in
+      let second : met s (option e.name) asking position v ≡ ((held_value e v, next idle), []) =
+      plain_met s (option e.name) asking position v bare
+      ∙ ap (λ (f : ArgumentFacts). (f.valued rows h.skip v, [])) (known_of command here e there) in
+      hold_step e v (word ∷ v ∷ []) position there no_flag (sym (ap (λ b. cond {A = ℕ} b 2 position) named))
+      (λ more. turn s idle h position word (v ∷ more) _ first ∙ turn s (option e.name) asking position v more _ second)
+
+  -- only a value alone depends on the place
+  abbrev pub Fits : Use → Type 0
+  Fits (alone e v) = position ≡ 1
+  Fits u = Unit {0}
+
+  pub use_step : (u : Use) → IsIn (entry_in u) es → Stands u → HasOrLacks u → Fits u → Step s h position rows (words_of u) (entry_in u) (value_in u)
+  use_step (alone e v) there stands of fits =
+      alone_step e v there (ap₂ (λ a b. not a && not b) stands.0 stands.1) stands.1 fits (bare_value e.kind v stands.1 stands.2 of)
+  use_step (spaced e v) there stands of fits =
+      spaced_step e v there (ap (λ a. not a && not (is_flag e.kind)) stands.0) (ap₂ (λ a b. a && not b) stands.0 stands.1) stands.1
+      (bare_value e.kind v stands.1 stands.2 of)
+  use_step (attached e v) there stands of fits =
+      react_step e v (codes "--" ++ (e.name ++ (codes "=" ++ v))) (ap (λ a. not a && not (is_flag e.kind)) stands.0)
+      (so (ap (λ (f : ArgumentFacts). f.attached h position v) (known_of command here e there)) (ap₂ (λ a b. a && not b) stands.0 stands.1))
+  use_step (flagged e) there stands of fits =
+      react_step e (codes "true") (codes "--" ++ e.name) (ap (λ b. not e.is_named && not b) stands ∙ and_false (not e.is_named))
+      (so (ap (λ (f : ArgumentFacts). f.flagged h position) (known_of command here e there)) stands)
+
+-- ---- words that are read
+
+-- from a place the words lead to another without a fault
+pub record ReadsOn (s : Shape) (lone : Text) (h : Held) (position : ℕ) (words : List Text) (rows : List Row) : Type 0 where
+  pub held : Held
+  pub end : ℕ
+  pub is : IsAt s lone held end rows
+  pub runs : (more : List Text) → run s (at h position) (words ++ more) ≡ run s (at held end) more
+
+pub both_nil : (one two : Kinds) → or_else one two ≡ [] → (one ≡ []) × (two ≡ [])
+both_nil [] two is = (refl, is)
+both_nil (kind ∷ kinds) two is = cc
+
+-- the place after one more argument
+place_after : (a b : Bool) → cond {A = ℕ} a 2 (cond {A = ℕ} b 2 1) ≡ cond {A = ℕ} (b || (a || false)) 2 1
 place_after true true = refl
 place_after true false = refl
 place_after false true = refl
 place_after false false = refl
 
-module _ {s : Shape} (command : Command) (k : Knows s command.arguments) {words : List Text} {rows : List Row} (read : HasRead s k.lone words rows) where
-  -- an argument without a name that isn't there comes first
-  pub comes_first : (e : Entry) → IsIn e command.arguments → has_name e ≡ false → has_row e.name rows ≡ false → read.position ≡ 1
-  comes_first e here no_name fresh =
-      let same : e.name ≡ k.lone = (bytes_eq-Decides e.name k.lone).0 (is_lone k e here ∙ ap not no_name) in
-      read.place ∙ ap (λ b. cond {A = ℕ} b 2 1) (ap (λ id. has_row id rows) (sym same) ∙ fresh)
-
-  -- one argument more
-  read_more : (u : Use) → IsUse command u → has_row (entry_in u).name rows ≡ false → HasRead s k.lone (words ++ words_of u) (rows ++ row_in u ∷ [])
-  read_more u is fresh =
-      let e = entry_in u in
-      let step = use_step k read.held read.position u is.argument is.stands (inl is.taken) (λ no_name. comes_first e is.argument no_name fresh) in
-      let lone : has_row k.lone (rows ++ row_in u ∷ []) ≡ (has_row k.lone rows || (not (has_name e) || false)) =
-      list_any-append (λ (r : Row). bytes_eq r.id k.lone) rows (row_in u ∷ [])
-      ∙ ap (λ c. has_row k.lone rows || (c || false)) (ap (λ id. bytes_eq id k.lone) (built_is e).id ∙ is_lone k e is.argument) in
-      record {
-        held = step.held;
-        position = cond {A = ℕ} (has_name e) read.position 2;
-        reads = reads_step (value_in u) (use_comes u is.stands) read.reads step (ap (λ id. has_row id rows) (built_is e).id ∙ fresh)
-            (is_accepted k e is.argument (value_in u) is.taken);
-        place = ap (λ i. cond {A = ℕ} (has_name e) i 2) read.place ∙ place_after (has_name e) (has_row k.lone rows)
-            ∙ sym (ap (λ b. cond {A = ℕ} b 2 1) lone);
-        no_skip = step.skip ∙ read.no_skip;
-      }
-
--- ---- all arguments
+fresh_rows : (e : Entry) (v : Text) (rows : List Row) → has_row e.name rows ≡ false → rows_with e v rows ≡ rows ++ row_of e v CommandLine ∷ []
+fresh_rows e v rows fresh =
+    ap (with_values e.name (reading_of (parser_for e.kind)) CommandLine (v ∷ [])) (at_row_none e.name (λ _. []) [] rows fresh ∙ append-nil rows)
+    ∙ at_row_none e.name (more_values CommandLine (v ∷ [])) (row_of e v CommandLine ∷ []) rows fresh
 
 -- no row is one of these arguments
 abbrev AreFresh : List Row → List Use → Type 0
-AreFresh rows [] = Unit {0}
-AreFresh rows (u ∷ more) = (has_row (entry_in u).name rows ≡ false) × AreFresh rows more
+AreFresh rows uses = (name : Text) → is_used name uses ≡ true → has_row name rows ≡ false
 
-turned : (a b : Text) → bytes_eq a b ≡ false → bytes_eq b a ≡ false
-turned a b differ = go (bytes_eq b a) refl
-  where
-    go : (t : Bool) → bytes_eq b a ≡ t → t ≡ false
-    go false e = refl
-    go true e = sym ((bytes_eq-Decides a b).1 (sym ((bytes_eq-Decides b a).0 e))) ∙ differ
+pub neither : (a b : Bool) → (a || b) ≡ false → (a ≡ false) × (b ≡ false)
+neither true b h = cc
+neither false b h = (refl, h)
 
-still_fresh : (rows : List Row) (u : Use) (more : List Use) → AreFresh rows more → is_used (entry_in u).name more ≡ false
+or_true : (a b : Bool) → b ≡ true → (a || b) ≡ true
+or_true true b h = refl
+or_true false b h = h
+
+still_fresh : (rows : List Row) (u : Use) (more : List Use) → AreFresh rows (u ∷ more) → is_used (entry_in u).name more ≡ false
     → AreFresh (rows ++ row_in u ∷ []) more
-still_fresh rows u [] fresh other = tt
-still_fresh rows u (m ∷ more) fresh other =
-    let name : Text = (entry_in m).name in
-    let parts = neither _ _ other in (
-      list_any-append (λ (r : Row). bytes_eq r.id name) rows (row_in u ∷ [])
-          ∙ ap₂ (λ a b. a || (b || false)) fresh.0
-          (ap (λ id. bytes_eq id name) (built_is (entry_in u)).id ∙ turned name (entry_in u).name parts.0),
-      still_fresh rows u more fresh.1 parts.1,
-    )
+still_fresh rows u more fresh other name used =
+    list_any-append (λ (r : Row). bytes_eq r.id name) rows (row_in u ∷ [])
+    ∙ ap₂ (λ a b. a || (b || false)) (fresh name (or_true (bytes_eq (entry_in u).name name) (is_used name more) used))
+    (refuted (bytes_eq (entry_in u).name name) (λ is.
+    let bad : true ≡ false = sym used ∙ ap (λ n. is_used n more) (sym ((bytes_eq-Decides (entry_in u).name name).0 is)) ∙ other in cc))
 
-all_fresh : (uses : List Use) → AreFresh [] uses
-all_fresh [] = tt
-all_fresh (u ∷ more) = (refl, all_fresh more)
+module _ (command : Command) (here : IsIn command commands) where
+  abbrev shape : Shape
+  shape = leaf command
 
-module _ {s : Shape} (command : Command) (k : Knows s command.arguments) where
-  uses_read : (uses : List Use) (words : List Text) (rows : List Row) → AreUses command uses → AreFresh rows uses → HasRead s k.lone words rows
-      → HasRead s k.lone (words ++ words_in uses) (rows ++ rows_in uses)
-  uses_read [] words rows are fresh read = rw (append-nil words, append-nil rows) read
-  uses_read (u ∷ more) words rows are fresh read =
-      subst (λ ws. HasRead s k.lone ws (rows ++ rows_in (u ∷ more))) (append_assoc words (words_of u) (words_in more))
-      (subst (λ rs. HasRead s k.lone ((words ++ words_of u) ++ words_in more) rs) (append_assoc rows (row_in u ∷ []) (rows_in more))
-      (uses_read more (words ++ words_of u) (rows ++ row_in u ∷ []) are.2 (still_fresh rows u more fresh.1 are.1) (read_more command k read u are.0 fresh.0)))
+  abbrev name : Text
+  name = lone command
 
-  pub all_read : (uses : List Use) → AreUses command uses → HasRead s k.lone (words_in uses) (rows_in uses)
-  all_read uses are = uses_read uses [] [] are (all_fresh uses) (none_read s k.lone)
+  abbrev Reads : Held → ℕ → List Text → List Row → Type 0
+  Reads h position words rows = ReadsOn shape name h position words rows
+
+  is_lone : (e : Entry) → IsIn e command.arguments → bytes_eq e.name name ≡ stands_alone e
+  is_lone e there = ap (λ (f : ArgumentFacts). f.is_lone) (known_of command here e there)
+
+  -- one use more
+  read_more : (u : Use) (h : Held) (position : ℕ) (rows : List Row) → IsUse command u → has_row (entry_in u).name rows ≡ false
+      → IsAt shape name h position rows → Reads h position (words_of u) (rows ++ row_in u ∷ [])
+  read_more u h position rows lawful fresh is =
+      let e = entry_in u in
+      let v = value_in u in
+      let step = use_step command here is u lawful.argument lawful.stands (inl lawful.taken) (fits u lawful fresh) in
+      let small = ap (λ (f : ArgumentFacts). f.small) (known_of command here e lawful.argument) in
+      let fine : faults_of e v rows ≡ [] = ap₂ (λ x y. or_else (cond {A = Kinds} (x && true) (ArgumentConflict ∷ []) [])
+      (or_else (cond {A = Kinds} y [] (refused_kind (parser_for e.kind) ∷ [])) [])) fresh (kind_accepted e.kind v small lawful.taken) in
+      let none = both_nil _ _ (step.faults ∙ fine) in
+      let named : has_row name (rows ++ row_in u ∷ []) ≡ (has_row name rows || (stands_alone e || false)) =
+      list_any-append (λ (r : Row). bytes_eq r.id name) rows (row_in u ∷ []) ∙ ap (λ c. has_row name rows || (c || false)) (is_lone e lawful.argument) in
+      record {
+        held = step.held;
+        end = step.end;
+        is = record {
+          settles = none.1;
+          found = step.left ∙ fresh_rows e v rows fresh;
+          place = step.ends ∙ ap (λ i. cond {A = ℕ} (stands_alone e) 2 i) is.place ∙ place_after (stands_alone e) (has_row name rows)
+              ∙ sym (ap (λ b. cond {A = ℕ} b 2 1) named);
+          no_skip = step.skip ∙ is.no_skip;
+        };
+        runs = λ more. step.runs more ∙ ap (λ ks. after ks (run shape (at step.held step.end) more)) none.0;
+      }
+    where
+      fits : (u : Use) → IsUse command u → has_row (entry_in u).name rows ≡ false → Fits command here is u
+      fits (alone e v) lawful fresh =
+          let lonely : stands_alone e ≡ true = ap₂ (λ a b. not a && not b) lawful.stands.0 lawful.stands.1 in
+          let same : e.name ≡ name = (bytes_eq-Decides e.name name).0 (is_lone e lawful.argument ∙ lonely) in
+          is.place ∙ ap (λ b. cond {A = ℕ} b 2 1) (ap (λ id. has_row id rows) (sym same) ∙ fresh)
+      fits (spaced e v) lawful fresh = tt
+      fits (attached e v) lawful fresh = tt
+      fits (flagged e) lawful fresh = tt
+
+  uses_read : (uses : List Use) (h : Held) (position : ℕ) (rows : List Row) → AreUses command uses → AreFresh rows uses
+      → IsAt shape name h position rows → Reads h position (words_in uses) (rows ++ rows_in uses)
+  uses_read [] h position rows are fresh is =
+      record { held = h; end = position; is = subst (IsAt shape name h position) (sym (append-nil rows)) is; runs = λ more. refl }
+  uses_read (u ∷ more) h position rows are fresh is =
+      let first = fresh (entry_in u).name (ap (λ b. b || is_used (entry_in u).name more) ((bytes_eq-Decides (entry_in u).name (entry_in u).name).1 refl)) in
+      let one = read_more u h position rows are.0 first is in
+      let rest = uses_read more one.held one.end (rows ++ row_in u ∷ []) are.2 (still_fresh rows u more fresh are.1) one.is in
+      record {
+        held = rest.held;
+        end = rest.end;
+        is = subst (IsAt shape name rest.held rest.end) (append_assoc rows (row_in u ∷ []) (rows_in more)) rest.is;
+        runs = λ words. ap (run shape (at h position)) (append_assoc (words_of u) (words_in more) words)
+            ∙ one.runs (words_in more ++ words) ∙ rest.runs words;
+      }
+
+  pub all_read : (uses : List Use) → AreUses command uses → Reads nothing_held 1 (words_in uses) (rows_in uses)
+  all_read uses are =
+      uses_read uses nothing_held 1 [] are (λ name used. refl) (record { settles = refl; found = refl; place = refl; no_skip = refl })

@@ -8,7 +8,7 @@ use Rattle.words.specs.declared.request.ProfileNumbers.{ProfileNumbers}
 use Rattle.words.specs.declared.request.Request.{Request}
 use Rattle.words.specs.declared.request.Request.TheVariants.{Run, Name, Show, Soup, Take, Work, Gather, Version}
 use Rattle.words.specs.declared.request.SoupSet.{SoupSet}
-use Rattle.words.specs.declared.request.Survey.{Survey}
+use Rattle.words.specs.declared.request.Plan.{Plan}
 use Rattle.words.specs.Requests.{asked_by}
 use Rattle.words.specs.Table.{Command, Entry, commands}
 use Rattle.words.specs.Table as table
@@ -40,8 +40,8 @@ set_given uses = record {
   also = text_given table.also uses;
 }
 
-abbrev pub survey_given : List Use → Survey
-survey_given uses = record { set = set_given uses; profile = profile_given uses; rule = text_given table.rule uses }
+abbrev pub plan_given : List Use → Plan
+plan_given uses = record { set = set_given uses; profile = profile_given uses; rule = text_given table.rule uses }
 
 -- ---- the laws
 
@@ -59,9 +59,9 @@ pub record AskForTheirValues : Type 0 where
   pub show : AsksFor table.show_command (λ uses. Show (text_given table.code uses))
   pub soup : AsksFor table.soup_command (λ uses. Soup (text_given table.seed uses) (number_given table.number uses))
   pub take : AsksFor table.take_command
-      (λ uses. Take (survey_given uses) (number_given table.workers uses) (is_used table.progress.name uses))
-  pub work : AsksFor table.work_command (λ uses. Work (survey_given uses) (number_given table.worker uses))
-  pub gather : AsksFor table.gather_command (λ uses. Gather (survey_given uses) (number_given table.workers uses))
+      (λ uses. Take (plan_given uses) (number_given table.workers uses) (is_used table.progress.name uses))
+  pub work : AsksFor table.work_command (λ uses. Work (plan_given uses) (number_given table.worker uses))
+  pub gather : AsksFor table.gather_command (λ uses. Gather (plan_given uses) (number_given table.workers uses))
 
 -- Words of a command that ask for nothing: an argument that has to be there is missing; or after arguments that are lawful there is one
 -- a second time, one with a value out of its range, an unknown option, or `--help`, whatever comes after it.

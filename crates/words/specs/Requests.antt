@@ -7,7 +7,7 @@ use Rattle.words.specs.declared.request.ProfileNumbers.{ProfileNumbers}
 use Rattle.words.specs.declared.request.Request.{Request}
 use Rattle.words.specs.declared.request.Request.TheVariants.{Run, Name, Show, Soup, Take, Work, Gather, Version}
 use Rattle.words.specs.declared.request.SoupSet.{SoupSet}
-use Rattle.words.specs.declared.request.Survey.{Survey}
+use Rattle.words.specs.declared.request.Plan.{Plan}
 use Rattle.words.specs.Table.{also, census_app, code, generations, number, progress, rule, worker, workers, count, first, horizon, limit, period, seed, stride}
 use Rattle.words.specs.Values.{IsInRange, is_given, number_found, text_found}
 
@@ -19,10 +19,10 @@ pub record AreProfileNumbers (numbers : ProfileNumbers) : Type 0 where
   pub of_stride : IsInRange stride.kind numbers.stride
   pub of_limit : IsInRange limit.kind numbers.limit
 
-pub record AreSurveyNumbers (survey : Survey) : Type 0 where
-  pub of_profile : AreProfileNumbers survey.profile
-  pub of_first : IsInRange first.kind survey.set.first
-  pub of_count : IsInRange count.kind survey.set.count
+pub record ArePlanNumbers (plan : Plan) : Type 0 where
+  pub of_profile : AreProfileNumbers plan.profile
+  pub of_first : IsInRange first.kind plan.set.first
+  pub of_count : IsInRange count.kind plan.set.count
 
 -- each number of a request is in the range of its argument
 abbrev pub AreInTheirRanges : Request → Type 0
@@ -30,9 +30,9 @@ AreInTheirRanges (Run n _) = IsInRange generations.kind n
 AreInTheirRanges (Name profile _) = AreProfileNumbers profile
 AreInTheirRanges (Show _) = Unit {0}
 AreInTheirRanges (Soup _ n) = IsInRange number.kind n
-AreInTheirRanges (Take survey n _) = AreSurveyNumbers survey × IsInRange workers.kind n
-AreInTheirRanges (Work survey n) = AreSurveyNumbers survey × IsInRange worker.kind n
-AreInTheirRanges (Gather survey n) = AreSurveyNumbers survey × IsInRange workers.kind n
+AreInTheirRanges (Take plan n _) = ArePlanNumbers plan × IsInRange workers.kind n
+AreInTheirRanges (Work plan n) = ArePlanNumbers plan × IsInRange worker.kind n
+AreInTheirRanges (Gather plan n) = ArePlanNumbers plan × IsInRange workers.kind n
 AreInTheirRanges Version = Unit {0}
 
 -- ---- values put together
@@ -54,12 +54,12 @@ abbrev pub set_in : List Row → Option SoupSet
 set_in rows = set_of_four (text_found seed rows) (number_found first rows) (number_found count rows) (text_found also rows)
 
 -- which soups, and how they are run, if all three parts are there
-abbrev pub survey_of_three : Option SoupSet → Option ProfileNumbers → Option Text → Option Survey
-survey_of_three (Some set) (Some profile) (Some rule) = Some (record { set = set; profile = profile; rule = rule })
-survey_of_three _ _ _ = None
+abbrev pub plan_of_three : Option SoupSet → Option ProfileNumbers → Option Text → Option Plan
+plan_of_three (Some set) (Some profile) (Some rule) = Some (record { set = set; profile = profile; rule = rule })
+plan_of_three _ _ _ = None
 
-abbrev pub survey_in : List Row → Option Survey
-survey_in rows = survey_of_three (set_in rows) (profile_in rows) (text_found rule rows)
+abbrev pub plan_in : List Row → Option Plan
+plan_in rows = plan_of_three (set_in rows) (profile_in rows) (text_found rule rows)
 
 -- each command, if its values are there
 abbrev pub run_from : Option ℕ → Option Text → Option Request
@@ -78,16 +78,16 @@ abbrev pub soup_from : Option ℕ → Option Text → Option Request
 soup_from (Some n) (Some seed) = Some (Soup seed n)
 soup_from _ _ = None
 
-abbrev pub take_from : Bool → Option Survey → Option ℕ → Option Request
-take_from asked (Some survey) (Some workers) = Some (Take survey workers asked)
+abbrev pub take_from : Bool → Option Plan → Option ℕ → Option Request
+take_from asked (Some plan) (Some workers) = Some (Take plan workers asked)
 take_from asked _ _ = None
 
-abbrev pub work_from : Option Survey → Option ℕ → Option Request
-work_from (Some survey) (Some worker) = Some (Work survey worker)
+abbrev pub work_from : Option Plan → Option ℕ → Option Request
+work_from (Some plan) (Some worker) = Some (Work plan worker)
 work_from _ _ = None
 
-abbrev pub gather_from : Option Survey → Option ℕ → Option Request
-gather_from (Some survey) (Some workers) = Some (Gather survey workers)
+abbrev pub gather_from : Option Plan → Option ℕ → Option Request
+gather_from (Some plan) (Some workers) = Some (Gather plan workers)
 gather_from _ _ = None
 
 -- each command, with what was found for its arguments
@@ -104,13 +104,13 @@ abbrev pub soup_in : List Row → Option Request
 soup_in rows = soup_from (number_found number rows) (text_found seed rows)
 
 abbrev pub take_in : List Row → Option Request
-take_in rows = take_from (is_given progress rows) (survey_in rows) (number_found workers rows)
+take_in rows = take_from (is_given progress rows) (plan_in rows) (number_found workers rows)
 
 abbrev pub work_in : List Row → Option Request
-work_in rows = work_from (survey_in rows) (number_found worker rows)
+work_in rows = work_from (plan_in rows) (number_found worker rows)
 
 abbrev pub gather_in : List Row → Option Request
-gather_in rows = gather_from (survey_in rows) (number_found workers rows)
+gather_in rows = gather_from (plan_in rows) (number_found workers rows)
 
 -- the command of this name, with its values
 abbrev pub request_in : Text × List Row → Option Request

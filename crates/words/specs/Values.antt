@@ -15,6 +15,10 @@ number_named most text =
     let digits = without_leading_plus text in
     if is_numeral digits && nat_le (digits_value 10 digits) most then Some (digits_value 10 digits) else None
 
+-- a number, where it is within the limit
+abbrev pub within : ℕ → ℕ → Option ℕ
+within most n = if nat_le n most then Some n else None
+
 -- the number up to a limit that was found for an argument
 abbrev pub number_up_to : ℕ → Text → List Row → Option ℕ
 number_up_to most id rows = option_and_then (number_named most) (one_of id rows)

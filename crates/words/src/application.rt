@@ -1,5 +1,5 @@
 ghost use Rattle.std.specs.Prelude.{◌≡◌, IfOk, map, true, false};
-ghost use Rattle.clap.specs.Words.{app_of, rule_of, shape_of};
+ghost use Rattle.clap.specs.Words.{app_of, rule_of, shape_of, with_subcommand};
 ghost use Rattle.clap.specs.declared.builder.command.Command.TheViews.{out-Command as fields_of};
 ghost use Rattle.words.specs.Table.{census_app, command_of, entry_of, named, placed, rule_in, shape_in, with_commands};
 ghost use Rattle.words.specs.Table.{with_rules};
@@ -50,9 +50,21 @@ fn with_commands<'a>(
 {
     let mut program = program;
     for row in rows {
-        program = program.subcommand(command(alloc, row)?)?;
+        program = with_command(alloc, program, row)?;
     }
     Ok(program)
+}
+
+/// The program with the command of a row too.
+fn with_command<'a>(
+    alloc: Global,
+    program: Command<'a>,
+    row: &CommandRow,
+) -> Result<Command<'a>, AllocError>
+    ensures { IfOk result (λ new. app_of new ≡ with_subcommand (app_of program.entry) (shape_in (command_of row.now))) }
+{
+    let command = command(alloc, row)?;
+    program.subcommand(command)
 }
 
 /// The command of a row.

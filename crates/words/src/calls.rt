@@ -75,7 +75,7 @@ pub fn asks_for_version()
 {}
 
 /// A law of all words: no command, an unknown one and `--help` ask for nothing.
-#[tactic(auto, using(crate::proofs::LawLemmas::no_command_asks_for_nothing))]
+#[tactic(auto, using(crate::proofs::RefuseLemmas::no_command_asks_for_nothing))]
 pub fn no_command_asks_for_nothing()
     ensures { NoCommandAsksForNothing }
 {}

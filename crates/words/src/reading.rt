@@ -2,11 +2,11 @@ ghost use Rattle.std.specs.Prelude.{◌≡◌, IfSome};
 ghost use Rattle.clap.specs.Words.{found_of, rows_of};
 ghost use Rattle.words.specs.Table.{count, first};
 ghost use Rattle.words.specs.Values.{IsInRange};
-ghost use Rattle.words.specs.Requests.{AreInTheirRanges, AreProfileNumbers, AreSurveyNumbers, gather_in, name_in};
-ghost use Rattle.words.specs.Requests.{profile_in, run_in, set_in, show_in, soup_in, survey_in, take_in, work_in};
+ghost use Rattle.words.specs.Requests.{AreInTheirRanges, AreProfileNumbers, ArePlanNumbers, gather_in, name_in};
+ghost use Rattle.words.specs.Requests.{profile_in, run_in, set_in, show_in, soup_in, plan_in, take_in, work_in};
 
 use crate::options;
-use crate::request::{ProfileNumbers, Request, SoupSet, Survey};
+use crate::request::{Plan, ProfileNumbers, Request, SoupSet};
 use crate::values::{is_given, number_found, text_found};
 use clap::ArgMatches;
 
@@ -45,14 +45,14 @@ pub fn set_in<'a>(found: &ArgMatches<'a>) -> Option<SoupSet<'a>>
 }
 
 /// Which soups are meant, and how they are run.
-pub fn survey_in<'a>(found: &ArgMatches<'a>) -> Option<Survey<'a>>
-    ensures survey { result ≡ survey_in (rows_of (found_of found.now)) }
-    ensures ranges { IfSome result AreSurveyNumbers }
+pub fn plan_in<'a>(found: &ArgMatches<'a>) -> Option<Plan<'a>>
+    ensures plan { result ≡ plan_in (rows_of (found_of found.now)) }
+    ensures ranges { IfSome result ArePlanNumbers }
 {
     let set = set_in(found)?;
     let profile = profile_in(found)?;
     let rule = text_found(found, &options::RULE)?;
-    Some(Survey { set, profile, rule })
+    Some(Plan { set, profile, rule })
 }
 
 /// `run` with its values.
@@ -101,10 +101,10 @@ pub(crate) fn take_in<'a>(found: &ArgMatches<'a>) -> Option<Request<'a>>
     ensures request { result ≡ take_in (rows_of (found_of found.now)) }
     ensures ranges { IfSome result AreInTheirRanges }
 {
-    let survey = survey_in(found)?;
+    let plan = plan_in(found)?;
     let workers = number_found(found, &options::WORKERS)?;
     Some(Request::Take {
-        survey,
+        plan,
         workers: workers as u8,
         progress: is_given(found, &options::PROGRESS),
     })
@@ -115,10 +115,10 @@ pub(crate) fn work_in<'a>(found: &ArgMatches<'a>) -> Option<Request<'a>>
     ensures request { result ≡ work_in (rows_of (found_of found.now)) }
     ensures ranges { IfSome result AreInTheirRanges }
 {
-    let survey = survey_in(found)?;
+    let plan = plan_in(found)?;
     let worker = number_found(found, &options::WORKER)?;
     Some(Request::Work {
-        survey,
+        plan,
         worker: worker as u8,
     })
 }
@@ -128,10 +128,10 @@ pub(crate) fn gather_in<'a>(found: &ArgMatches<'a>) -> Option<Request<'a>>
     ensures request { result ≡ gather_in (rows_of (found_of found.now)) }
     ensures ranges { IfSome result AreInTheirRanges }
 {
-    let survey = survey_in(found)?;
+    let plan = plan_in(found)?;
     let reporters = number_found(found, &options::REPORTERS)?;
     Some(Request::Gather {
-        survey,
+        plan,
         workers: reporters as u8,
     })
 }

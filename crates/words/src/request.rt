@@ -24,18 +24,18 @@ pub enum Request<'a> {
     },
     /// The haul of all soups of a set by so many workers, 1 to 16, and whether a line of progress is asked for.
     Take {
-        survey: Survey<'a>,
+        plan: Plan<'a>,
         workers: u8,
         progress: bool,
     },
     /// The report lines of this worker, 1 to 16, for all soups of a set.
     Work {
-        survey: Survey<'a>,
+        plan: Plan<'a>,
         worker: u8,
     },
     /// The haul that report lines of so many workers, 1 to 16, make over a set.
     Gather {
-        survey: Survey<'a>,
+        plan: Plan<'a>,
         workers: u8,
     },
     /// The program's name and version.
@@ -44,7 +44,7 @@ pub enum Request<'a> {
 
 /// The soups that are meant, and how they are run.
 #[derive(Drop)]
-pub struct Survey<'a> {
+pub struct Plan<'a> {
     /// Which soups.
     pub set: SoupSet<'a>,
     /// When a soup counts as settled.

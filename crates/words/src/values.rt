@@ -1,7 +1,7 @@
-ghost use Rattle.std.specs.Prelude.{◌≡◌, ◌≤◌, IfSome};
+ghost use Rattle.std.specs.Prelude.{◌≡◌, ◌≤◌, IfSome, option_and_then};
 ghost use Rattle.clap.specs.Words.{found_of, rows_of};
 ghost use Rattle.words.specs.Table.{entry_of};
-ghost use Rattle.words.specs.Values.{IsInRange, is_given, number_found, number_up_to, text_found};
+ghost use Rattle.words.specs.Values.{IsInRange, is_given, number_found, number_up_to, text_found, within};
 
 use crate::options::{Argument, Kind};
 use crate::word::Word;
@@ -32,11 +32,18 @@ fn number_up_to(found: &ArgMatches<'_>, id: &str, most: u64) -> Option<u64>
     ensures number { result ≡ number_up_to most id.now (rows_of (found_of found.now)) }
     ensures most { IfSome result (λ n. n ≤ most) }
 {
-    let number = found.get_one::<u64>(id)?;
-    if number > most {
-        return None;
+    within(most, found.get_one::<u64>(id))
+}
+
+/// The number, where it is within the limit.
+fn within(most: u64, number: Option<u64>) -> Option<u64>
+    ensures number { result ≡ option_and_then (within most) number }
+    ensures most { IfSome result (λ n. n ≤ most) }
+{
+    match number {
+        Some(number) if number <= most => Some(number),
+        _ => None,
     }
-    Some(number)
 }
 
 /// The text that was found for the argument of a row.
@@ -51,8 +58,8 @@ pub fn text_found<'a>(found: &ArgMatches<'a>, row: &Argument) -> Option<Word<'a>
 pub fn is_given(found: &ArgMatches<'_>, row: &Argument) -> bool
     ensures { result ≡ is_given (entry_of row.now) (rows_of (found_of found.now)) }
 {
-    match found.get_str(row.name) {
-        Some(value) => value == "true",
+    match text_found(found, row) {
+        Some(value) => value.as_str() == "true",
         None => false,
     }
 }
