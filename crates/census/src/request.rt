@@ -128,9 +128,7 @@ fn do_request<T: Threads + Wait + Sync, R: Read, W: Write, E: Write, P: Write, C
             line.ask(*progress);
             take_soups(alloc, rt, plan, *workers, output, errors, line)
         }
-        Request::Work { plan, worker } => {
-            work_on_soups(alloc, plan, *worker, output, errors)
-        }
+        Request::Work { plan, worker } => { work_on_soups(alloc, plan, *worker, output, errors) }
         Request::Gather { plan, workers } => {
             gather_lines(alloc, plan, *workers, input, output, errors)
         }
