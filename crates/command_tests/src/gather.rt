@@ -1,3 +1,5 @@
+ghost use Rattle.commands.specs.Profiles.{AreInRange};
+
 use crate::streams::{FaultyReader, FaultyWriter, Left, interrupted_writer, reader, slow_writer};
 use commands::gather::do_gather;
 use commands::plan::Plan;
@@ -47,7 +49,9 @@ const TWO_OF_FOUR: &[u8] = b"@VERSION 2\n\
     @SAMPLE_SOUPIDS\n";
 
 /// So many soups of the empty seed, and those of a list, in Life under a small profile.
-pub(crate) fn plan_of(count: u64, also: &str) -> Plan<'_> {
+pub(crate) fn plan_of(count: u64, also: &str) -> Plan<'_>
+    ensures { AreInRange result.profile }
+{
     let set = SoupSet {
         seed: Word::new(""),
         first: 0,
