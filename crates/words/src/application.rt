@@ -1,8 +1,8 @@
 ghost use Rattle.std.specs.Prelude.{◌≡◌, IfOk, map, true, false};
 ghost use Rattle.clap.specs.Words.{app_of, rule_of, shape_of, with_rule, with_subcommand};
 ghost use Rattle.clap.specs.declared.builder.command.Command.TheViews.{out-Command as fields_of};
-ghost use Rattle.words.specs.Table.{census_app, command_of, commands, entry_of, named, placed, program, rule_in, shape_in, with_commands};
-ghost use Rattle.words.specs.Table.{with_rules};
+ghost use Rattle.words.specs.Table.{census_app, command_of, commands, entry_of, named, placed, program, rule_in};
+ghost use Rattle.words.specs.Table.{shape_in, with_commands, with_rules};
 
 use crate::commands::{COMMANDS, CommandRow};
 use crate::options::{Argument, Kind, Place};
@@ -35,7 +35,7 @@ pub fn census_command<'a>(alloc: Global) -> Result<Command<'a>, AllocError>
     with_commands(alloc, program(alloc), &rows())
 }
 
-/// The rows of all commands.
+/// The rows of all commands, in a function that owns no `Command`: beside one the table is dear to prove.
 fn rows() -> [CommandRow; 7]
     ensures { map command_of result ≡ commands }
 {
