@@ -1,8 +1,8 @@
 ghost use Rattle.std.specs.Prelude.{◌≡◌, IfOk, map, true, false};
-ghost use Rattle.clap.specs.Words.{app_of, rule_of, shape_of, with_subcommand};
+ghost use Rattle.clap.specs.Words.{app_of, rule_of, shape_of, with_rule, with_subcommand};
 ghost use Rattle.clap.specs.declared.builder.command.Command.TheViews.{out-Command as fields_of};
-ghost use Rattle.words.specs.Table.{census_app, command_of, entry_of, named, placed, rule_in, shape_in, with_commands};
-ghost use Rattle.words.specs.Table.{with_rules};
+ghost use Rattle.words.specs.Table.{census_app, command_of, commands, entry_of, named, placed, program, rule_in};
+ghost use Rattle.words.specs.Table.{shape_in, with_commands, with_rules};
 
 use crate::commands::{COMMANDS, CommandRow};
 use crate::options::{Argument, Kind, Place};
@@ -13,6 +13,17 @@ use std::alloc::{AllocError, Global};
 /// The program's version, as `clap` prints it.
 const VERSION: &str = "0.1.0";
 
+/// What help says of the program.
+const ABOUT: &str = "Runs patterns of Conway's Game of Life and its kin, names and draws their\n\
+         objects, makes soups, and counts what they leave";
+
+/// What help shows after the commands.
+const EXAMPLES: &str = "To begin with:\n  \
+         census take --seed abc --count 100     a census of 100 soups\n  \
+         census soup --seed abc 12              one of its soups\n  \
+         census show xs7_178c                   draws an object\n\n\
+         `census help take` tells all of `take`, and so for each command.";
+
 /// The program as `clap` reads its words.
 ///
 /// # Errors
@@ -21,22 +32,35 @@ const VERSION: &str = "0.1.0";
 pub fn census_command<'a>(alloc: Global) -> Result<Command<'a>, AllocError>
     ensures { IfOk result (λ command. app_of command ≡ census_app) }
 {
+    with_commands(alloc, program(alloc), &rows())
+}
+
+/// The rows of all commands, in a function that owns no `Command`: beside one the table is dear to prove.
+fn rows() -> [CommandRow; 7]
+    ensures { map command_of result ≡ commands }
+{
+    COMMANDS
+}
+
+/// The program without its commands.
+fn program<'a>(alloc: Global) -> Command<'a>
+    ensures { app_of result ≡ program }
+{
     let command = Command::new(alloc, "census")
-        .about(
-            "Runs patterns of Conway's Game of Life and its kin, names and draws their\n\
-             objects, makes soups, and counts what they leave",
-        )
+        .about(ABOUT)
         .version(VERSION)
-        .after_help(
-            "To begin with:\n  \
-             census take --seed abc --count 100     a census of 100 soups\n  \
-             census soup --seed abc 12              one of its soups\n  \
-             census show xs7_178c                   draws an object\n\n\
-             `census help take` tells all of `take`, and so for each command.",
-        )
+        .after_help(EXAMPLES);
+    needing_a_command(command)
+}
+
+/// The program where a command must be named; help is shown where no word follows.
+fn needing_a_command<'a>(program: Command<'a>) -> Command<'a>
+    ensures { fields_of result
+        ≡ record (fields_of program.entry) { subcommand_required = true; arg_required_else_help = true } }
+{
+    program
         .subcommand_required(true)
-        .arg_required_else_help(true);
-    with_commands(alloc, command, &COMMANDS)
+        .arg_required_else_help(true)
 }
 
 /// The program with these commands too.
@@ -92,9 +116,22 @@ fn with_arguments<'a>(
 {
     let mut command = command;
     for row in rows {
-        command = command.arg(argument(alloc, row))?;
+        command = with_argument(alloc, command, row)?;
     }
     Ok(command)
+}
+
+/// The command with the argument of a row too.
+fn with_argument<'a>(
+    alloc: Global,
+    command: Command<'a>,
+    row: &Argument,
+) -> Result<Command<'a>, AllocError>
+    ensures app { IfOk result (λ new. app_of new ≡ with_rule (app_of command.entry) (rule_in (entry_of row.now))) }
+    ensures local { (fields_of command.entry).has_globals ≡ false →
+        IfOk result (λ new. (fields_of new).has_globals ≡ false) }
+{
+    command.arg(argument(alloc, row))
 }
 
 /// The argument of a row.

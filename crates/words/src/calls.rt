@@ -1,5 +1,5 @@
 ghost use Rattle.std.specs.Prelude.{◌≡◌, ◌≢◌, None, Some, IfOk, IfErr, IfSome, map, option_and_then};
-ghost use Rattle.clap.specs.Words.{kind_of, subcommand_rows_of};
+ghost use Rattle.clap.specs.Words.{found_of, kind_of, rows_of, subcommand_rows_of};
 ghost use Rattle.words.specs.Calls.{AskForTheirValues, AsksForVersion, NoCommandAsksForNothing, OthersAskForNothing};
 ghost use Rattle.words.specs.Requests.{AreInTheirRanges, asked_by, asks_version, request_in};
 
@@ -95,14 +95,23 @@ fn request_in<'a>(matches: &ArgMatches<'a>) -> Option<Request<'a>>
     ensures request { result ≡ option_and_then request_in (subcommand_rows_of matches.now) }
     ensures ranges { IfSome result AreInTheirRanges }
 {
-    match matches.subcommand() {
-        Some(("run", found)) => run_in(found),
-        Some(("name", found)) => name_in(found),
-        Some(("show", found)) => show_in(found),
-        Some(("soup", found)) => soup_in(found),
-        Some(("take", found)) => take_in(found),
-        Some(("work", found)) => work_in(found),
-        Some(("gather", found)) => gather_in(found),
+    let (name, found) = matches.subcommand()?;
+    request_named(name, found)
+}
+
+/// The command of this name, with its values.
+fn request_named<'a>(name: &str, found: &ArgMatches<'a>) -> Option<Request<'a>>
+    ensures request { result ≡ request_in (name.now, rows_of (found_of found.now)) }
+    ensures ranges { IfSome result AreInTheirRanges }
+{
+    match name {
+        "run" => run_in(found),
+        "name" => name_in(found),
+        "show" => show_in(found),
+        "soup" => soup_in(found),
+        "take" => take_in(found),
+        "work" => work_in(found),
+        "gather" => gather_in(found),
         _ => None,
     }
 }
