@@ -1,5 +1,5 @@
 -- Lemmas on what commands read and answer.
-use Rattle.std.proofs.Common.{◌≡◌, ◌≤◌, ◌^◌, ◌↔◌, ℕ, zero, suc, List, [], length, Bool, true, false, Option, None, Some, Result, Ok, Err, nat_le, refl}
+use Rattle.std.proofs.Common.{◌≡◌, ◌≤◌, ◌^◌, ◌↔◌, ℕ, List, [], length, Bool, true, false, Option, None, Some, Result, Ok, Err, nat_le, refl}
 use Rattle.std.proofs.Common.{IfSome, ◌+◌, ◌++◌, arith, length-take, subst, sym, ap, take, take_all, ◌∙◌, rules}
 use Rattle.std.specs.Option.{option_map}
 use Rattle.std.specs.Result.{IsErrAnd, IsErrOf, result_map_both}
@@ -15,16 +15,11 @@ use Rattle.plane_core.specs.Plaintext.{pattern}
 use Rattle.commands.specs.declared.complaint.Complaint.{Complaint}
 use Rattle.commands.specs.declared.complaint.Complaint.TheVariants.{Refused, OutOfMemory, ReadFailed, WriteFailed}
 use Rattle.commands.specs.declared.refusal.Refusal.{Refusal}
-use Rattle.commands.specs.declared.status.Status.{Status}
-use Rattle.commands.specs.declared.status.Status.TheVariants as statuses
 use Rattle.commands.specs.declared.input.InputFault.{InputFault}
 use Rattle.commands.specs.declared.input.InputFault.TheVariants as input_fault
 use Rattle.commands.specs.Answers.{IsInput, Right}
-use Rattle.commands.specs.Ends.{Ends, Outcome, status_after}
 use Rattle.commands.specs.Inputs.{Reads, rule_named, input_complaint, plaintext_complaint, pattern_complaint, pattern_of, rule_complaint}
-use Rattle.commands.specs.Complaints.{status_of}
 use Rattle.commands.specs.Streams.{Stream, Has}
-use Rattle.commands.specs.Tasks.{Task}
 use Rattle.commands.specs.TextSteps.{ReachesText}
 
 -- an error that is known is the result
@@ -94,20 +89,3 @@ pub Reaches_rule : (reads : Bool) (right : Right) (text : List ℕ) (error : Rul
     → ReachesText reads true right (Err (rule_complaint error)) output
 Reaches_rule reads right text (rule_error.BadRule place) output is told nothing = (told _ (rw is refl), nothing)
 Reaches_rule reads right text rule_error.BirthZero output is told nothing = (told _ (rw is refl), nothing)
-
--- no complaint has the status of a usage fault
-pub status_of-command : (complaint : Complaint) → status_of complaint ≡ statuses.Usage → ⊥
-status_of-command (Refused refusal) is = cc
-status_of-command OutOfMemory is = cc
-status_of-command ReadFailed is = cc
-status_of-command WriteFailed is = cc
-
--- a command that ended well has no usage fault
-pub Ends-command : {task : Task} {known : Option (List ℕ)} {bytes : List ℕ} {status : Status} {output errors : Stream}
-    → Ends task known bytes status output errors → status ≡ statuses.Usage → ⊥
-Ends-command ends is = no_usage ends.outcome (sym ends.status_is ∙ is)
-  where
-    no_usage : (outcome : Outcome) → status_after outcome ≡ statuses.Usage → ⊥
-    no_usage (Ok zero) same = cc
-    no_usage (Ok (suc n)) same = cc
-    no_usage (Err complaint) same = status_of-command complaint same

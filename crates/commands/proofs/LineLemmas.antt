@@ -1,5 +1,5 @@
 -- Inputs, line by line.
-use Rattle.std.proofs.Common.{◌≡◌, ◌≢◌, ◌==◌, ◌<◌, ◌≤◌, ◌+◌, ◌^◌, ◌∙◌, ◌++◌, ℕ, zero, suc, true, false, eqb-true, ne_eqb}
+use Rattle.std.proofs.Common.{◌≡◌, ◌≢◌, ◌<◌, ◌≤◌, ◌+◌, ◌^◌, ◌∙◌, ◌++◌, ℕ, zero, suc, ne_eqb}
 use Rattle.std.proofs.Common.{List, [], ◌∷◌, All, Option, None, Some, Result, Ok, Err, IfOk, IfSome, ap, ap₂, append-nil, append_assoc, arith, cond, flat_map, length, length-append, length-take, refl, subst, sym, take, take_all}
 use Rattle.std.proofs.lemmas.Grind.{flat_map-append}
 use Rattle.std.proofs.lemmas.List.Elements.{All-append, All-head, All-nil, All-push, All-tail}
@@ -113,15 +113,6 @@ pub lines_bare : (read : List ℕ) (lines : List (List ℕ)) (line : List ℕ) �
 lines_bare read lines [] ended one some = absurd (omega (arith, some))
 lines_bare read lines (x ∷ xs) ended one some =
     ap (λ l. input_lines (l ++ x ∷ xs)) ended.spelled ∙ ended_lines lines (x ∷ xs) ended.whole ∙ ap (λ l. lines ++ l) (bare_line x xs one)
-
--- an empty line, and one that isn't
-pub no_bytes : (line : List ℕ) → (length line == 0) ≡ true → line ≡ []
-no_bytes [] none = refl
-no_bytes (x ∷ xs) none = let long : length (x ∷ xs) ≡ 0 = eqb-true _ _ none in absurd (omega arith)
-
-pub some_bytes : (line : List ℕ) → (length line == 0) ≡ false → 0 < length line
-some_bytes [] some = cc
-some_bytes (x ∷ xs) some = omega arith
 
 -- the lines that were read are the first of the input
 pub first_lines : (known left : Option (List ℕ)) (read : List ℕ) (lines : List (List ℕ)) → Consumes known left read → AreEnded read lines
