@@ -12,13 +12,13 @@ top=${BASH_SOURCE[0]%/*/*}
 program=crates/census/out/census
 stamp=$top/$program.built
 
-# Sets `kit` to the toolchain's folder, and `version` to its version. Fails if there is no `rt`.
+# Sets `version` to the toolchain's version. Fails if there is no `rt`.
 get_version() {
     hash rt 2>/dev/null || return
+    local kit
     kit=$(readlink -f -- "${BASH_CMDS[rt]}")
-    kit=${kit%/*/*}
     # `rt version` prints this file, but takes 0.3 seconds.
-    version=$kit/KIT-ID
+    version=${kit%/*/*}/KIT-ID
     if [[ -r $version ]]; then version=$(<"$version"); else version=$(rt version </dev/null 2>/dev/null); fi
 }
 
@@ -48,7 +48,7 @@ digests() (
 
 # Prints what a build starts from: the toolchain's version and the digests of the sources.
 basis() {
-    local version kit
+    local version
     get_version && echo "$version" && digests
 }
 
@@ -57,7 +57,7 @@ basis() {
 # sources is right.
 is_fresh() {
     [[ -x $top/$program && -f $stamp && -r $stamp ]] || return
-    local version kit cpu built_by='' built_for='' built_from=''
+    local version cpu built_by='' built_for='' built_from=''
     { read -r built_by; read -r built_for; read -r -d '' built_from; } <"$stamp"
     [[ $built_from == "$(digests "$program")" ]] || return
     get_cpu
