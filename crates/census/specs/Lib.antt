@@ -1,3 +1,2 @@
-pub mod LastLines
 pub mod Program
 pub mod Requests

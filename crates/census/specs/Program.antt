@@ -1,20 +1,19 @@
 -- How the program ends, from its words to the bytes that it leaves.
-use Rattle.std.specs.Prelude.{◌≡◌, ◌++◌, ◌⊎◌, ℕ, Bool, true, false, List, [], Option, None, Some, Result, Ok, Err, IsSomeAnd, ⊤, codes}
+use Rattle.std.specs.Prelude.{◌≡◌, ◌++◌, ◌⊎◌, ℕ, Bool, true, false, List, [], Option, None, Some, Ok, ⊤, codes}
 use Rattle.std.specs.Io.KnownBytes.{Appends}
 use Rattle.plane_core.specs.Out.{Output}
-use Rattle.commands.specs.declared.complaint.Complaint.{Complaint}
-use Rattle.commands.specs.declared.complaint.Complaint.TheVariants.{Refused, OutOfMemory, ReadFailed, WriteFailed}
-use Rattle.words.specs.declared.request.Request.{Request}
+use Rattle.commands.specs.declared.complaint.Complaint.TheVariants.{WriteFailed}
+use Rattle.commands.specs.declared.status.Status.{Status}
+use Rattle.commands.specs.declared.status.Status.TheVariants.{Failed}
 use Rattle.commands.specs.Answers.{IsInput}
-use Rattle.commands.specs.Complaints.{complaint_line, status_of}
+use Rattle.commands.specs.Complaints.{complaint_line}
 use Rattle.commands.specs.Ends.{last_line}
-use Rattle.census.specs.Requests.{is_whole, reads_input, refuses_input, right_for}
-use Rattle.commands.specs.Status.{exit_code}
+use Rattle.commands.specs.Status.{exit_code, has_printed}
 use Rattle.commands.specs.Streams.{Stream, HasLine}
-use Rattle.commands.specs.Tasks.{Made, Makes, NeedsMemoryAlone, text_made}
-use Rattle.words.specs.Requests.{Text}
-use Rattle.census.specs.LastLines.{HasTextAndLine, SaysComplaint, tells_lines}
-use Rattle.words.specs.Requests.{asked_by}
+use Rattle.commands.specs.Tasks.{Made}
+use Rattle.words.specs.declared.request.Request.{Request}
+use Rattle.words.specs.Requests.{Text, asked_by}
+use Rattle.census.specs.Requests.{DoesWords, right_for}
 
 -- the stream of a writer that was handed over, and is given back with whether a write failed
 abbrev pub returned : {V : Type 0} → (V → Option (List ℕ)) → V → Output V → Stream
@@ -29,6 +28,16 @@ abbrev pub left_by : {V : Type 0} → (V → Option (List ℕ)) → V → Option
 left_by contents old None = contents old
 left_by contents old (Some new) = contents new
 
+-- what a stream has got after another moment: the bytes since then
+abbrev pub since : Stream → Stream → Stream
+since earlier later = record { before = earlier.after; after = later.after; failed = later.failed }
+
+-- a text was added, and then a line, or a front of the line where a write failed
+pub record HasTextAndLine (errors : Stream) (text line : List ℕ) : Type 0 where
+  pub between : Option (List ℕ)
+  pub whole : Appends errors.before between text
+  pub last : HasLine (record { before = between; after = errors.after; failed = errors.failed }) line
+
 -- The words ask for something; on this input a text is right for it, and the whole text was added to what the writer held. So many
 -- soups are missing, which is none but for `gather`. Standard error has what `gather` tells of lines, and of what is missing.
 pub record IsDone (words : List Text) (known before after : Option (List ℕ)) (errors : Stream) (missing : ℕ) : Type 0 where
@@ -38,52 +47,34 @@ pub record IsDone (words : List Text) (known before after : Option (List ℕ)) (
   pub input : IsInput known bytes
   pub made : Made
   pub right : right_for request bytes (Ok made)
-  pub missing_is : made.missing ≡ missing
+  pub missing_is : missing ≡ made.missing
   pub written : Appends before after made.text
   pub told : HasTextAndLine errors made.told (last_line (Ok missing))
 
--- the bytes now are a front of the bytes before and the text
-abbrev pub IsFront : Option (List ℕ) → Option (List ℕ) → List ℕ → Type 0
-IsFront None after text = ⊤
-IsFront (Some xs) None text = ⊥
-IsFront (Some xs) (Some ys) text = (rest : List ℕ) × (ys ++ rest ≡ xs ++ text)
+-- the bytes with a writer are a front of those that were written to its buffer
+abbrev pub IsFrontOf : (written sent : Option (List ℕ)) → Type 0
+IsFrontOf None sent = ⊤
+IsFrontOf (Some xs) None = ⊥
+IsFrontOf (Some xs) (Some ys) = (rest : List ℕ) × (ys ++ rest ≡ xs)
 
--- What the writer holds when a write failed: of a text that was whole before it was written, a front. Of one that is written as
--- it is made, a front too, if it is known to its end; or else a front of each right text, and no complaint is right.
-abbrev pub LeavesFrontOf : Bool → Makes → Option (List ℕ) → Option (List ℕ) → Type 0
-LeavesFrontOf true right before after = (made : Made) × right (Ok made) × IsFront before after made.text
-LeavesFrontOf false right before after =
-    ((made : Made) × right (Ok made) × IsFront before after made.text)
-    ⊎ (((complaint : Complaint) → right (Err complaint) → ⊥) × ((made : Made) → right (Ok made) → IsFront before after made.text))
+-- After what a command told, standard error has the line of a failed write, unless it had failed before.
+pub record TellsOfWrite (told errors : Stream) : Type 0 where
+  pub line : told.failed ≡ false → HasLine (since told errors) (complaint_line WriteFailed)
+  pub stays : told.failed ≡ true → errors.failed ≡ true
 
--- A complaint may end a request: a refusal if that is right for it, memory that runs out, or a stream that fails. The writer
--- holds nothing of it, or a front of the right text where memory ran out or a write failed. Memory hides a refusal only if
--- it may be the input that is refused or memory is needed for it, and only a text is written. The write that failed may be one of
--- what is told of lines.
-abbrev pub MayEnd : Request → List ℕ → Option (List ℕ) → Option (List ℕ) → Complaint → Type 0
-MayEnd request bytes before after (Refused refusal) = right_for request bytes (Err (Refused refusal)) × IsFront before after []
-MayEnd request bytes before after OutOfMemory =
-    (refuses_input request ≡ false → NeedsMemoryAlone (right_for request bytes))
-    × ((answer : Result Made Complaint) → right_for request bytes answer → IsFront before after (text_made answer))
-MayEnd request bytes before after ReadFailed = (reads_input request ≡ true) × IsFront before after []
-MayEnd request bytes before after WriteFailed =
-    LeavesFrontOf (is_whole request) (right_for request bytes) before after ⊎ ((tells_lines request ≡ true) × IsFront before after [])
+-- a command complained, and the program ends with its number; or the command printed its text, and not all of it could be sent on
+abbrev pub EndsBadly : Status → ℕ → Stream → Stream → Type 0
+EndsBadly status number told errors =
+    ((has_printed status ≡ false) × (number ≡ exit_code status) × (errors ≡ told))
+    ⊎ ((has_printed status ≡ true) × (number ≡ exit_code Failed) × (errors.before ≡ told.before) × TellsOfWrite told errors)
 
--- a request was ended by a complaint on an input, with its line
-pub record IsEndedBy (complaint : Complaint) (known before after : Option (List ℕ)) (errors : Stream) (request : Request) : Type 0 where
-  pub bytes : List ℕ
-  pub input : IsInput known bytes
-  pub may : MayEnd request bytes before after complaint
-  pub says : SaysComplaint request bytes known complaint errors
-
--- there was no memory for the words
-pub record LacksWords (complaint : Complaint) (before after : Option (List ℕ)) (errors : Stream) : Type 0 where
-  pub memory : complaint ≡ OutOfMemory
-  pub nothing : IsFront before after []
-  pub line : HasLine errors (complaint_line complaint)
-
--- the code and the line are those of a complaint: of memory for the words, or of what they ask for
+-- The program complains. What the words ask for was done, or there was no memory to read them, by the rule of all commands: so `written`
+-- was left in a buffer and `told` on standard error. The writer below the buffer has got a front of it.
 pub record Complains (words : List Text) (known : Option (List ℕ)) (number : ℕ) (before after : Option (List ℕ)) (errors : Stream) : Type 0 where
-  pub complaint : Complaint
-  pub code : number ≡ exit_code (status_of complaint)
-  pub why : LacksWords complaint before after errors ⊎ IsSomeAnd (asked_by words) (IsEndedBy complaint known before after errors)
+  pub status : Status
+  pub written : Stream
+  pub told : Stream
+  pub does : DoesWords words known status written told
+  pub from : written.before ≡ before
+  pub sent : IsFrontOf written.after after
+  pub ends : EndsBadly status number told errors

@@ -1,5 +1,5 @@
 -- What a request is to do, and how doing it may end.
-use Rattle.std.specs.Prelude.{◌≡◌, ◌⊎◌, ℕ, Bool, List, [], Option, IsSomeAnd}
+use Rattle.std.specs.Prelude.{◌≡◌, ◌⊎◌, ℕ, Bool, true, false, List, [], Option, IsSomeAnd}
 use Rattle.commands.specs.declared.complaint.Complaint.TheVariants as complaint
 use Rattle.commands.specs.declared.plan.Plan.{Plan}
 use Rattle.commands.specs.declared.profile.ProfileNumbers.{ProfileNumbers}
@@ -58,6 +58,11 @@ refuses_input request = (task_of request).refuses
 -- the command's text is whole before its first byte is written: all but the lines of `work`
 abbrev pub is_whole : Request → Bool
 is_whole request = (task_of request).whole
+
+-- the request is for a haul of report lines, of which those that are refused are told
+abbrev pub tells_lines : Request → Bool
+tells_lines (Gather plan workers) = true
+tells_lines request = false
 
 -- what is right for a request, on an input
 abbrev pub right_for : Request → List ℕ → Makes

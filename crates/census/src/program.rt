@@ -5,9 +5,8 @@ ghost use Rattle.std.specs.IoError.{error_kind};
 ghost use Rattle.commands.specs.Complaints.{complaint_line};
 ghost use Rattle.commands.specs.Status.{exit_code};
 ghost use Rattle.commands.specs.Streams.{Has, HasLine, stream};
-ghost use Rattle.census.specs.LastLines.{tells_lines};
 ghost use Rattle.census.specs.Program.{Complains, IsDone, left_by, not_text_line, returned};
-ghost use Rattle.census.specs.Requests.{is_whole, reads_input, refuses_input};
+ghost use Rattle.census.specs.Requests.{is_whole, reads_input, refuses_input, tells_lines};
 ghost use Rattle.words.specs.Requests.{asked_by};
 
 use crate::request::do_words;
@@ -78,8 +77,8 @@ pub fn run_program<
         Complains (map string_bytes list.items) (R.remaining input.old) result.code
         (W.contents output) (left_by W.contents output result.output) (returned E.contents errors result.errors)) }
     ensures refused { result.code ≡ 3 → result.output ≡ Some output }
-    ensures unread_refused { result.code ≡ 3 → IfOk words (λ list. IfSome (asked_by (map string_bytes list.items)) (λ request.
-        refuses_input request ≡ false → input.new ≡ input.old)) }
+    ensures unread_refused { result.code ≡ 3 → IfOk words (λ list. IfSome (asked_by (map string_bytes list.items))
+        (λ request. refuses_input request ≡ false → input.new ≡ input.old)) }
     ensures nothing_left { result.code ≡ 4
         → IfOk words (λ list. IfSome (asked_by (map string_bytes list.items)) (λ request.
         is_whole request ≡ true → IfSome result.output (λ writer. writer ≡ output))) }

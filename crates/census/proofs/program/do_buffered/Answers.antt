@@ -1,20 +1,26 @@
-use Rattle.std.proofs.Common.{◌≡◌, ◌≢◌, ◌∙◌, [], true, false, map, string_bytes, refl, rules, sym, ap, ap₂, inl, inr}
+use Rattle.std.proofs.Common.{◌≡◌, ◌≢◌, ◌∙◌, [], true, false, map, string_bytes, refl, rules, sym, ap, ap₂, inl, inr, subst}
+use Rattle.std.proofs.lemmas.Bool.{cases_Bool}
 use Rattle.std.specs.Io.Buffered.{writer_buffer, writer_contents}
 use Rattle.std.specs.Io.KnownBytes.{Keeps, append_known}
-use Rattle.commands.specs.declared.complaint.Complaint.TheVariants.{OutOfMemory}
 use Rattle.commands.specs.declared.status.Status.TheVariants as statuses
 use Rattle.commands.specs.Streams.{stream}
 use Rattle.commands.specs.Status.{exit_code, has_printed}
 use Rattle.census.specs.Program.{IsDone}
-use Rattle.census.proofs.ProgramLemmas.{Prints, at_done, at_either, at_incomplete, ends_with, front_of_nothing, prints}
+use Rattle.census.proofs.ProgramLemmas.{Prints, append_nothing, at_done, at_incomplete, front_sent, nothing_written, prints, unlike}
 use Rattle.census.proofs.program.do_buffered.Goals as goal
 
 pub returns-in_default-clause-complains : goal.returns-in_default-clause-complains
 returns-in_default-clause-complains g c =
-    λ _ _ _. record {
-      complaint = OutOfMemory;
-      code = ap exit_code c.tell.ensures.status;
-      why = inl (record { memory = refl; nothing = front_of_nothing _; line = c.tell.ensures.line });
+    λ _ _ _. let before = g.W.Write.contents c.args.output in
+    let nothing = nothing_written before in
+    record {
+      status = statuses.OutOfMemory;
+      written = record { before = before; after = before; failed = false };
+      told = stream g.E.Write.contents c.args.errors.now c.tell.new.errors;
+      does = inr (record { told = refl; nothing = nothing.0; line = c.tell.ensures.line });
+      from = refl;
+      sent = nothing.1;
+      ends = inl (refl, ap exit_code c.tell.ensures.status, refl);
     }
 
 pub returns : goal.returns
@@ -24,41 +30,48 @@ returns g c =
     let before = g.W.Write.contents c.args.output in
     let below = g.W.Write.contents c.into_parts-writer.result.0 in
     let held = writer_buffer c.send_buffered-status.new.buffered in
-    let errors = stream g.E.Write.contents c.args.errors.now c.do_words-status.new.errors in
+    let written = stream (writer_contents g.W.Write.contents) c.new-output.result c.do_words-status.new.output in
+    let told = stream g.E.Write.contents c.args.errors.now c.do_words-status.new.errors in
     let status = c.do_words-status.result in
     let sent = c.send_buffered-status.ensures in
     -- the buffer was empty at the start, and what was written to it stands below it, but for what it still holds
-    let starts : writer_contents g.W.Write.contents c.new-output.result.writer ≡ append_known before [] = ap (writer_contents g.W.Write.contents)
-    c.new-output.ensures.writer ∙ ap₂ append_known (ap g.W.Write.contents c.in-Ok.ensures.inner) c.in-Ok.ensures.empty in
-    let kept : Keeps (writer_contents g.W.Write.contents c.do_words-status.new.output.writer) (append_known below held) =
-    rw (c.into_parts-writer.ensures.inner, ← c.into_inner-buffered.ensures) sent.bytes in
-    let after = writer_contents g.W.Write.contents c.do_words-status.new.output.writer in
-    let failed = c.do_words-status.new.output.failed in
-    let ended = λ (command : status ≢ statuses.Usage). ends_with words known before after below held failed status errors kept
-    (rw (← starts) (c.do_words-status.ensures.command command)) in
-    let printed : has_printed status ≡ true → Prints words known before below held status errors =
-    λ is. prints (ended (λ usage. let bad : true ≡ false = sym is ∙ ap has_printed usage in cc)) is in
+    let starts : written.before ≡ before = ap (writer_contents g.W.Write.contents) c.new-output.ensures.writer
+    ∙ ap₂ append_known (ap g.W.Write.contents c.in-Ok.ensures.inner) c.in-Ok.ensures.empty ∙ append_nothing before in
+    let kept : Keeps written.after (append_known below held) = rw (c.into_parts-writer.ensures.inner, ← c.into_inner-buffered.ensures) sent.bytes in
+    let printed : has_printed status ≡ true → held ≡ [] → Prints words known written.before below status told =
+    λ is empty. prints words known below status written told is (subst (λ h. Keeps written.after (append_known below h)) empty kept)
+    (c.do_words-status.ensures.command (λ usage. let bad : true ≡ false = sym is ∙ ap has_printed usage in cc)) in
     record {
-      done = λ done. let p = printed (ap has_printed (sent.done done).0) in
-          rw (sent.silent (done ∙ sym (sent.done done).0))
-          (at_done (λ n. IsDone words known before below errors n) p.missing (sym p.status_is ∙ (sent.done done).0) (p.done (sent.done done).1));
-      incomplete = λ less. let p = printed (ap has_printed (sent.incomplete less).0) in
-          rw (sent.silent (less ∙ sym (sent.incomplete less).0))
-          (at_incomplete (λ n. IsDone words known before below errors n) p.missing (sym p.status_is ∙ (sent.incomplete less).0) (p.done (sent.incomplete less).1));
+      done = λ done. let is = sent.done done in
+          let p = printed (ap has_printed is.0) is.1 in
+          rw (sent.silent (done ∙ sym is.0))
+          (at_done (IsDone words known before below told) p.missing (sym p.status_is ∙ is.0)
+          (subst (λ b. IsDone words known b below told p.missing) starts p.done));
+      incomplete = λ less. let is = sent.incomplete less in
+          let p = printed (ap has_printed is.0) is.1 in
+          rw (sent.silent (less ∙ sym is.0))
+          (at_incomplete (IsDone words known before below told) p.missing (sym p.status_is ∙ is.0)
+          (subst (λ b. IsDone words known b below told p.missing) starts p.done));
       usage = search rules;
       unused = search rules;
-      silent = λ done. let p = printed (ap has_printed (sent.done done).0) in
-          rw (sent.silent (done ∙ sym (sent.done done).0))
-          (p.silent (at_done (λ n. p.missing ≡ n) p.missing (sym p.status_is ∙ (sent.done done).0) refl));
-      complains = λ undone no_usage complete.
-          elim (ended (λ usage. no_usage ((sent.kept (ap has_printed usage)).0 ∙ usage))) [
-            | inl p ↦
-                let changed : c.send_buffered-status.result ≢ status =
-                λ same. at_either (λ s. c.send_buffered-status.result ≢ s) p.missing undone complete (same ∙ p.status_is) in
-                rw (sent.failed changed) (p.unsent _ _ (sent.line changed) sent.stays)
-            | inr told ↦ let stays = sent.kept told.0 in
-                rw (stays.0, stays.1) told.1
-          ];
+      silent = λ done. let is = sent.done done in
+          let p = printed (ap has_printed is.0) is.1 in
+          rw (sent.silent (done ∙ sym is.0)) (p.silent (at_done (λ n. p.missing ≡ n) p.missing (sym p.status_is ∙ is.0) refl));
+      complains = λ undone no_usage complete. record {
+        status = status;
+        written = written;
+        told = told;
+        does = c.do_words-status.ensures.command (λ usage. no_usage ((sent.kept (ap has_printed usage)).0 ∙ usage));
+        from = starts;
+        sent = front_sent written.after below held kept;
+        ends = elim (cases_Bool (has_printed status)) [
+          | inl is ↦
+              let changed : c.send_buffered-status.result ≢ status = unlike (λ s. c.send_buffered-status.result ≢ s) status is undone complete in
+              inr (is, ap exit_code (sent.failed changed), refl, record { line = sent.line changed; stays = sent.stays })
+          | inr isnt ↦ let same = sent.kept isnt in
+              inl (isnt, ap exit_code same.0, ap (stream g.E.Write.contents c.args.errors.now) same.1)
+        ];
+      };
       refused = search rules;
       unread_refused = search rules;
       nothing_left = search rules;

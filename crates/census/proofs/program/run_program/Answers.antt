@@ -11,3 +11,9 @@ returns-in-Ok-clause-unread_refused g c refused =
 
 pub returns-in-Ok-clause-unread : goal.returns-in-Ok-clause-unread
 returns-in-Ok-clause-unread g c = rw (c.in-Ok.is, ← c.as_slice.ensures.value) c.do_buffered-status.ensures.unread
+
+pub returns-in-Ok-clause-nothing_left : goal.returns-in-Ok-clause-nothing_left
+returns-in-Ok-clause-nothing_left g c memory =
+    let code : exit_code c.do_buffered-status.result.0 ≡ 4 = sym c.exit_code.ensures ∙ memory in
+    let is : c.do_buffered-status.result.0 ≡ statuses.OutOfMemory = search rules in
+    rw (c.in-Ok.is, ← c.as_slice.ensures.value) (c.do_buffered-status.ensures.nothing_left is)
