@@ -1,6 +1,6 @@
 -- Bits of words that were moved by a place, and sums in binary digits.
 use Rattle.std.proofs.Common.{◌≡◌, ◌==◌, ◌+◌, ◌-◌, ◌*◌, ◌/◌, ◌%◌, ◌^◌, ◌<◌, ◌≤◌, ℕ, zero, suc, Bool}
-use Rattle.std.proofs.Common.{true, false, cond, arith, refl, ap, ◌∙◌, sym, add-one, bit_and, bit_or, bit_xor, min, max}
+use Rattle.std.proofs.Common.{true, false, cond, arith, refl, ap, ◌∙◌, sym, subst, subst₂, add-one, bit_and, bit_or, bit_xor, min, max}
 use Rattle.std.specs.Int.{bit_at}
 use Rattle.std.proofs.lemmas.Bool.{eqb-true, eqb-false}
 use Rattle.std.proofs.lemmas.Bool.Decides.{nat_tests}
@@ -9,7 +9,7 @@ use Rattle.std.proofs.lemmas.Nat.Bits.{bit_at-lt, bit_at_above, bit_at_cat_low, 
 use Rattle.plane_core.specs.Rules.{Numbers, is_birth, is_survival}
 use Rattle.plane_core.specs.Tallies.{lives_by}
 use Rattle.plane_core.specs.declared.word.Row.{Row}
-use Rattle.plane_core.specs.Words.{west_of, east_of, one_if, row_count, block_count, life}
+use Rattle.plane_core.specs.Words.{IsNextWord, west_of, east_of, one_if, row_count, block_count, life}
 
 -- ---- moved by a place
 
@@ -202,3 +202,9 @@ life_digits (suc zero) zero zero (suc zero) zero p q r s u small = refl
 life_digits (suc zero) zero zero (suc zero) (suc zero) p q r s u small = refl
 life_digits a (suc zero) c (suc zero) t p q r s u small = absurd (omega arith)
 life_digits a zero (suc zero) (suc zero) t p q r s u small = absurd (omega arith)
+
+-- the next word goes by the three rows alone
+pub next_of_rows : (rule : Numbers) (word : ℕ) {a a' b b' d d' : Row} → a ≡ a' → b ≡ b' → d ≡ d' → IsNextWord rule a b d word
+    → IsNextWord rule a' b' d' word
+next_of_rows rule word {a} {a'} {b} {b'} {d} {d'} above here below is =
+    subst (λ x. IsNextWord rule x b' d' word) above (subst₂ (λ y z. IsNextWord rule a y z word) here below is)
