@@ -47,9 +47,9 @@ stands_alone e = not e.is_named && not (is_flag e.kind)
 abbrev pub lone : Command → Text
 lone command = option_map_or (λ e. e.name) (find stands_alone command.arguments) []
 
--- rows, and nothing that is held beside them
-abbrev pub rows_alone : List Row → Held
-rows_alone rows = record { rows = rows; pending = None; skip = 0 }
+-- these rows, and what waits to be settled; no flags of a bundle are to be passed over
+abbrev pub holding : List Row → Option (Text × List Text) → Held
+holding rows pending = record { rows = rows; pending = pending; skip = 0 }
 
 -- ---- one use of an argument
 
@@ -167,12 +167,12 @@ argument_facts clap command e =
       flagged = λ h i. if_so (is_flag e.kind) (cond clap (met s idle h i word) (reacts (settling s h) e (codes "true")));
       attached = λ h i v. if_so (takes_value e) (cond clap (met s idle h i (codes "--" ++ (e.name ++ (codes "=" ++ v)))) (reacts (settling s h) e v));
       spaced = λ h i. if_so (takes_value e) (cond clap (met s idle h i word) (asks (settling s h) e));
-      valued = λ rows v. cond clap (plain_word s.rules (option e.name) v (record { rows = rows; pending = Some (e.name, []); skip = 0 }))
-          (record { rows = rows; pending = Some (e.name, v ∷ []); skip = 0 }, next idle);
+      valued = λ rows v. cond clap (plain_word s.rules (option e.name) v (holding rows (Some (e.name, []))))
+          (holding rows (Some (e.name, v ∷ [])), next idle);
       alone = λ h v. if_so (stands_alone e) (cond clap (to_positional s.rules (arg_by_index s.rules 1) v (at h 1) h, step_fault s 1 h value)
           (holds (option_map_or (λ (q : Text × List Text). bytes_eq q.0 e.name) h.pending false && false) h (settling s h) e v));
-      settles = λ rows v. if_so (not (is_flag e.kind)) (cond clap (settling s (record { rows = rows; pending = Some (e.name, v ∷ []); skip = 0 }))
-          (faults_of e v rows, rows_alone (rows_with e v rows)));
+      settles = λ rows v. if_so (not (is_flag e.kind)) (cond clap (settling s (holding rows (Some (e.name, v ∷ []))))
+          (faults_of e v rows, holding (rows_with e v rows) None));
       is_lone = cond clap (bytes_eq e.name (lone command)) (stands_alone e);
       same_name = cond clap (find (λ x. bytes_eq x.name e.name) command.arguments) (Some e);
       small = cond clap (is_small e.kind) true;

@@ -3,6 +3,7 @@ use Rattle.std.proofs.Common.{◌≡◌, ◌∙◌, ◌++◌, ◌&&◌, ◌⊎�
 use Rattle.std.proofs.Common.{fold, inl, inr, is_some, not, refl, sym, ap, ap₂, subst, ⊎_elim}
 use Rattle.std.specs.List.{list_any}
 use Rattle.std.specs.Option.{option_map_or}
+use Rattle.std.proofs.lemmas.Bool.{and_parts}
 use Rattle.clap.specs.Words.{Kinds, Row, Shape, Text, App, IsAmong, fault_of, is_simple, is_simple_and_free, subcommand_of}
 use Rattle.clap.specs.Faults.{check_fault, defaults_fault, entered_fault, level_fault, settle_fault, walk_fault}
 use Rattle.clap.specs.Simple.{entered, names_of, rows_at}
@@ -32,10 +33,6 @@ pub asked_by-called : (words : List Text) → asks_version words ≡ false → a
 asked_by-called words other = rw other refl
 
 -- `clap` says of the program which matches words have, and which faults
-census_is_simple : is_simple census_app ≡ true
-unfolding clap_on_literals
-census_is_simple = refl
-
 census_is_free : is_simple_and_free census_app ≡ true
 unfolding clap_on_literals
 census_is_free = refl
@@ -46,7 +43,7 @@ module _ (app : App) (words : List Text) (is : app ≡ census_app) (other : fals
       → (is_simple app ≡ true → found ≡ subcommand_of app words) → asked_by words ≡ option_and_then request_in found
   asked_by-found found faultless finds =
       let none = subst (λ (a : App). is_simple_and_free a ≡ true → fault_of a words ≡ []) is faultless census_is_free in
-      let same = subst (λ (a : App). is_simple a ≡ true → found ≡ subcommand_of a words) is finds census_is_simple in
+      let same = subst (λ (a : App). is_simple a ≡ true → found ≡ subcommand_of a words) is finds (and_parts _ _ census_is_free).0 in
       asked_by-called words (sym other) ∙ rw (none, same) refl
 
   -- a failure that isn't one of memory comes of words that ask for nothing

@@ -58,12 +58,11 @@ kind_accepted (kind.LargeNumber most) v small h =
     rw (no_sign v h.numeral).1 (h.numeral, omega arith, h.low, h.high)
 
 pub kind_refused : (k : Kind) (v : Text) → IsNotOfKind k v → Accepts false (parser_for k) v → ⊥
-kind_refused kind.Text v h a = h
-kind_refused kind.Flag v h a = h
 kind_refused (kind.Number least most) v h a =
     let is = rw (h.0, h.1) at a in
     h.2 (record { numeral = is.0; low = omega (arith, ints); high = omega (arith, ints) })
 kind_refused (kind.LargeNumber most) v h a = let is = rw h.1 at a in h.2 (record { numeral = is.0; low = is.2; high = is.3 })
+kind_refused _ v h a = h
 
 -- ---- what is read of a number
 

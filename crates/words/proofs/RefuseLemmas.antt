@@ -25,7 +25,7 @@ use Rattle.words.specs.Calls.{OthersAskForNothing, NoCommandAsksForNothing}
 use Rattle.words.specs.Requests.{asked_by, asks_version, unless_faulty}
 use Rattle.words.specs.Table.{Command, Entry, commands}
 use Rattle.words.specs.Uses.{AreUses, IsIn, IsNotOfKind, IsUnknown, Stands, Use, alone, entry_in, value_in, words_in, words_of}
-use Rattle.words.proofs.KnownLemmas.{CommandFacts, census_built, faults_of, help_entry, known, leaf, lone, takes_name}
+use Rattle.words.proofs.KnownLemmas.{CommandFacts, census_built, faults_of, help_entry, holding, known, leaf, lone, takes_name}
 use Rattle.words.proofs.LawLemmas.{asked_by-called, asked_of, asks, asks_uses, not_version}
 use Rattle.words.proofs.NumberLemmas.{kind_refused, parser_for}
 use Rattle.words.proofs.UseLemmas.{Fits, HasOrLacks, IsAt, all_read, bare_value, rows_in, use_step}
@@ -59,9 +59,9 @@ word_faulty s h position word more f = faulty_first _ _ (faulty_first (turn_kind
 
 -- What is held is settled with a fault. No argument takes several values.
 module _ (s : Shape) (rows : List Row) (p : Option (Text × List Text)) (single : list_any takes_several s.rules ≡ false)
-    (settles : IsFaulty (settle_fault s.rules s.args_override_self (record { rows = rows; pending = p; skip = 0 }))) where
+    (settles : IsFaulty (settling s (holding rows p)).0) where
   abbrev h : Held
-  h = record { rows = rows; pending = p; skip = 0 }
+  h = holding rows p
 
   abbrev again : Bool
   again = s.args_override_self
@@ -143,7 +143,7 @@ not_dashes word name v is = false_from_ne_true _ (λ e.
 -- ---- at a place in the words of a command
 
 module _ (command : Command) (here : IsIn command commands) {h : Held} {position : ℕ} {rows : List Row}
-    (is : IsAt (leaf command) (lone command) h position rows) (more : List Text) where
+    (is : IsAt command h position rows) (more : List Text) where
   abbrev s : Shape
   s = leaf command
 
@@ -155,20 +155,14 @@ module _ (command : Command) (here : IsIn command commands) {h : Held} {position
       → IsFaulty (faults_of (entry_in u) (value_in u) rows) → Refused (words_of u ++ more)
   use_faulty u there stands of fits bad =
       let step = use_step command here is u there stands of fits in
-      let held = step.held in
-      let bare : held ≡ record { rows = held.rows; pending = held.pending; skip = 0 } =
-      λ j. record { rows = held.rows; pending = held.pending; skip = (step.settles j).1.skip } in
-      let stuck = subst (λ (x : Held). IsFaulty (settling s x).0 → IsFaulty (faults_by s (run s (at x step.end) more))) (sym bare)
-      (λ f. all_stuck s held.rows held.pending (ap (λ (f : CommandFacts). f.several) (known command here)) f more step.end false) in
       subst (λ r. IsFaulty (faults_by s r)) (sym (step.runs more))
-      (told_or_held step.told (settling s held).0 _ _ (subst (λ (p : Kinds × Held). IsFaulty p.0) (sym step.settles) bad) stuck)
+      (told_or_held step.told (settling s (holding step.kept step.pending)).0 _ _ (subst (λ (p : Kinds × Held). IsFaulty p.0) (sym step.settles) bad)
+      (λ f. all_stuck s step.kept step.pending (ap (λ (f : CommandFacts). f.several) (known command here)) f more step.end false))
 
   -- a value alone where the argument without a name is there already
   second_faulty : (v : Text) → starts_with_minus v ≡ false → position ≡ 2 → Refused (v ∷ more)
-  second_faulty v bare second = word_faulty s h position v more (subst IsFaulty (sym (ap (turn_kinds s position) (plain_met s idle h position v bare)
-      ∙ (λ j. option_map_or (λ a. positional_fault s.rules s.args_override_self a h) (arg_by_index s.rules (second j)) (stray_fault s))
-      ∙ ap (λ o. option_map_or (λ a. positional_fault s.rules s.args_override_self a h) o (stray_fault s)) (ap (λ (f : CommandFacts). f.second) (known command here))))
-      (stray s))
+  second_faulty v bare second = word_faulty s h position v more (subst IsFaulty (sym (ap (turn_kinds s position) (plain_met s idle h position v bare)))
+      (rw (second, ap (λ (f : CommandFacts). f.second) (known command here)) (stray s)))
 
   refused : (u : Use) → IsIn (entry_in u) command.arguments → Stands u → HasOrLacks u → IsFaulty (faults_of (entry_in u) (value_in u) rows)
       → Refused (words_of u ++ more)

@@ -1,5 +1,5 @@
 -- The arguments of a call, one after another: how each is read, and what rows they leave.
-use Rattle.std.proofs.Common.{◌≡◌, ◌∙◌, ◌++◌, ◌||◌, ◌&&◌, ◌⊎◌, ℕ, Bool, true, false, cond, None, Some, List, [], ◌∷◌, codes, append-nil, append_assoc, ap, ap₂}
+use Rattle.std.proofs.Common.{◌≡◌, ◌∙◌, ◌++◌, ◌||◌, ◌&&◌, ◌⊎◌, ℕ, Bool, true, false, cond, Option, None, Some, List, [], ◌∷◌, codes, append-nil, append_assoc, ap, ap₂}
 use Rattle.std.proofs.Common.{bytes_eq, inl, map, not, refl, sym, subst, true≢false, ⊎_elim}
 use Rattle.std.specs.Str.Parse.{starts_with_minus}
 use Rattle.std.proofs.Math.Bool.{and-false, or-false, or-true}
@@ -17,7 +17,7 @@ use Rattle.words.specs.declared.options.Kind.TheVariants as kind
 use Rattle.words.specs.Table.{Command, Entry, commands}
 use Rattle.words.specs.Uses.{AreUses, IsBare, IsIn, IsNotOfKind, IsOfKind, IsUse, Stands, Use, alone, attached, entry_in, flagged, is_flag, is_used, spaced}
 use Rattle.words.specs.Uses.{value_in, words_in, words_of}
-use Rattle.words.proofs.KnownLemmas.{ArgumentFacts, asks, faults_of, holds, known_of, leaf, lone, reacts, row_of, rows_alone, rows_with, so, stands_alone}
+use Rattle.words.proofs.KnownLemmas.{ArgumentFacts, asks, faults_of, holding, holds, known_of, leaf, lone, reacts, row_of, rows_with, so, stands_alone}
 use Rattle.words.proofs.KnownLemmas.{takes_value}
 use Rattle.words.proofs.NumberLemmas.{kind_accepted, no_sign, parser_for}
 use Rattle.words.proofs.WalkLemmas.{after, at, at_row_none, met, or_else_nil, plain_met, run, settling, turn}
@@ -37,61 +37,54 @@ HasOrLacks u = IsOfKind (entry_in u).kind (value_in u) ⊎ IsNotOfKind (entry_in
 pub bare_value : (k : Kind) (v : Text) → is_flag k ≡ false → IsBare k v → IsOfKind k v ⊎ IsNotOfKind k v → starts_with_minus v ≡ false
 bare_value kind.Text v no_flag bare of = bare
 bare_value kind.Flag v no_flag bare of = cc
-bare_value (kind.Number l m) v no_flag bare of = ⊎_elim (λ n. (no_sign v n.numeral).0) (λ n. n.0) of
-bare_value (kind.LargeNumber m) v no_flag bare of = ⊎_elim (λ n. (no_sign v n.numeral).0) (λ n. n.0) of
+bare_value _ v no_flag bare of = ⊎_elim (λ n. (no_sign v n.numeral).0) (λ n. n.0) of
 
 -- ---- the words of a use
 
 -- A place in the words of a command: what is held there is settled without a fault, to these rows. The next value alone is for the
 -- argument without a name, if that isn't there.
-pub record IsAt (s : Shape) (lone : Text) (h : Held) (position : ℕ) (rows : List Row) : Type 0 where
-  pub settles : settling s h ≡ ([], rows_alone rows)
-  pub place : position ≡ cond {A = ℕ} (has_row lone rows) 2 1
+pub record IsAt (command : Command) (h : Held) (position : ℕ) (rows : List Row) : Type 0 where
+  pub settles : settling (leaf command) h ≡ ([], holding rows None)
+  pub place : position ≡ cond {A = ℕ} (has_row (lone command) rows) 2 1
 
 -- The words of a use lead from there to another place. `clap` settles a value only when the next one begins, so the faults of the use
 -- are those that its words tell and those of what is held then.
-pub record Step (s : Shape) (lone : Text) (h : Held) (position : ℕ) (rows : List Row) (words : List Text) (e : Entry) (v : Text) : Type 0 where
+pub record Step (command : Command) (h : Held) (position : ℕ) (rows : List Row) (words : List Text) (e : Entry) (v : Text) : Type 0 where
   pub told : Kinds
-  pub held : Held
+  pub kept : List Row
+  pub pending : Option (Text × List Text)
   pub end : ℕ
-  pub runs : (more : List Text) → run s (at h position) (words ++ more) ≡ after told (run s (at held end) more)
-  pub settles : after told (settling s held) ≡ (faults_of e v rows, rows_alone (rows_with e v rows))
-  pub place : end ≡ cond {A = ℕ} (has_row lone rows || (stands_alone e || false)) 2 1
+  pub runs : (more : List Text) → run (leaf command) (at h position) (words ++ more) ≡ after told (run (leaf command) (at (holding kept pending) end) more)
+  pub settles : after told (settling (leaf command) (holding kept pending)) ≡ (faults_of e v rows, holding (rows_with e v rows) None)
+  pub place : end ≡ cond {A = ℕ} (has_row (lone command) rows || (stands_alone e || false)) 2 1
 
-module _ (command : Command) (here : IsIn command commands) {h : Held} {position : ℕ} {rows : List Row}
-    (is : IsAt (leaf command) (lone command) h position rows) where
+module _ (command : Command) (here : IsIn command commands) {h : Held} {position : ℕ} {rows : List Row} (is : IsAt command h position rows) where
   abbrev s : Shape
   s = leaf command
 
-  abbrev Steps : List Text → Entry → Text → Type 0
-  Steps words e v = Step s (lone command) h position rows words e v
-
-  -- an argument that doesn't stand alone leaves the place as it was
-  same_place : (e : Entry) → stands_alone e ≡ false → position ≡ cond {A = ℕ} (has_row (lone command) rows || (stands_alone e || false)) 2 1
-  same_place e named = is.place ∙ sym (ap (λ b. cond {A = ℕ} b 2 1) (ap (λ b. has_row (lone command) rows || (b || false)) named ∙ or-false (has_row (lone command) rows)))
-
   -- a word with the whole use
-  react_step : (e : Entry) (v word : Text) → stands_alone e ≡ false → met s idle h position word ≡ reacts (settling s h) e v → Steps (word ∷ []) e v
+  react_step : (e : Entry) (v word : Text) → stands_alone e ≡ false → met s idle h position word ≡ reacts (settling s h) e v
+      → Step command h position rows (word ∷ []) e v
   react_step e v word named meets = record {
     told = faults_of e v rows;
-    held = rows_alone (rows_with e v rows);
+    kept = rows_with e v rows;
+    pending = None;
     end = position;
     runs = λ more. turn s idle h position word more _ (meets ∙ (λ j. reacts (is.settles j) e v))
-        ∙ ap (λ ks. after ks (run s (at (rows_alone (rows_with e v rows)) position) more)) (or_else_nil (faults_of e v rows));
-    settles = λ j. (or_else_nil (faults_of e v rows) j, rows_alone (rows_with e v rows));
-    place = same_place e named;
+        ∙ ap (λ ks. after ks (run s (at (holding (rows_with e v rows) None) position) more)) (or_else_nil (faults_of e v rows));
+    settles = λ j. (or_else_nil (faults_of e v rows) j, holding (rows_with e v rows) None);
+    place = is.place ∙ simp (named, or-false);
   }
 
-  -- a value that is held after the words
-  abbrev held_value : Entry → Text → Held
-  held_value e v = record { rows = rows; pending = Some (e.name, v ∷ []); skip = 0 }
-
+  -- words after which a value is held
   hold_step : (e : Entry) (v : Text) (words : List Text) (end : ℕ) → IsIn e command.arguments → is_flag e.kind ≡ false
       → end ≡ cond {A = ℕ} (has_row (lone command) rows || (stands_alone e || false)) 2 1
-      → ((more : List Text) → run s (at h position) (words ++ more) ≡ run s (at (held_value e v) end) more) → Steps words e v
+      → ((more : List Text) → run s (at h position) (words ++ more) ≡ run s (at (holding rows (Some (e.name, v ∷ []))) end) more)
+      → Step command h position rows words e v
   hold_step e v words end there no_flag place runs = record {
     told = [];
-    held = held_value e v;
+    kept = rows;
+    pending = Some (e.name, v ∷ []);
     end = end;
     runs = runs;
     settles = so (ap (λ (f : ArgumentFacts). f.settles rows v) (known_of command here e there)) (ap not no_flag);
@@ -103,24 +96,24 @@ module _ (command : Command) (here : IsIn command commands) {h : Held} {position
   Fits (alone e v) = position ≡ 1
   Fits u = Unit {0}
 
-  pub use_step : (u : Use) → IsIn (entry_in u) command.arguments → Stands u → HasOrLacks u → Fits u → Steps (words_of u) (entry_in u) (value_in u)
+  pub use_step : (u : Use) → IsIn (entry_in u) command.arguments → Stands u → HasOrLacks u → Fits u
+      → Step command h position rows (words_of u) (entry_in u) (value_in u)
   use_step (alone e v) there stands of first =
       let lonely : stands_alone e ≡ true = rw (stands.0, stands.1) refl in
       let bare = bare_value e.kind v stands.1 stands.2 of in
-      let goes : (to_positional s.rules (arg_by_index s.rules position) v (at h position) h, step_fault s position h value) ≡ (at (held_value e v) 2, []) =
-      (λ j. (to_positional s.rules (arg_by_index s.rules (first j)) v (at h (first j)) h, step_fault s (first j) h value))
+      let goes = (λ j. (to_positional s.rules (arg_by_index s.rules (first j)) v (at h (first j)) h, step_fault s (first j) h value))
       ∙ so (ap (λ (f : ArgumentFacts). f.alone h v) (known_of command here e there)) lonely
       ∙ ap (λ b. holds b h (settling s h) e v) (and-false _) ∙ (λ j. holds false h (is.settles j) e v) in
-      hold_step e v (v ∷ []) 2 there stands.1 (sym (ap (λ b. cond {A = ℕ} (has_row (lone command) rows || (b || false)) 2 1) lonely ∙ ap (λ b. cond {A = ℕ} b 2 1) (or-true (has_row (lone command) rows))))
+      hold_step e v (v ∷ []) 2 there stands.1 (simp (lonely, or-true))
       (λ more. turn s idle h position v more _ (plain_met s idle h position v bare) ∙ ap (λ p. after p.1 (run s p.0 more)) goes)
   use_step (spaced e v) there stands of fits =
       let word : Text = codes "--" ++ e.name in
+      let asking = holding rows (Some (e.name, [])) in
       let bare = bare_value e.kind v stands.1 stands.2 of in
       let takes : takes_value e ≡ true = rw (stands.0, stands.1) refl in
       let first = so (ap (λ (f : ArgumentFacts). f.spaced h position) (known_of command here e there)) takes ∙ (λ j. asks (is.settles j) e) in
-      let asking : Held = record { rows = rows; pending = Some (e.name, []); skip = 0 } in
       let second = plain_met s (option e.name) asking position v bare ∙ ap (λ (f : ArgumentFacts). (f.valued rows v, [])) (known_of command here e there) in
-      hold_step e v (word ∷ v ∷ []) position there stands.1 (same_place e (rw stands.0 refl))
+      hold_step e v (word ∷ v ∷ []) position there stands.1 (is.place ∙ simp (stands.0, or-false))
       (λ more. turn s idle h position word (v ∷ more) _ first ∙ turn s (option e.name) asking position v more _ second)
   use_step (attached e v) there stands of fits =
       let takes : takes_value e ≡ true = rw (stands.0, stands.1) refl in
@@ -133,11 +126,11 @@ module _ (command : Command) (here : IsIn command commands) {h : Held} {position
 -- ---- words that are read
 
 -- from a place the words lead to another without a fault
-pub record ReadsOn (s : Shape) (lone : Text) (h : Held) (position : ℕ) (words : List Text) (rows : List Row) : Type 0 where
+pub record ReadsOn (command : Command) (h : Held) (position : ℕ) (words : List Text) (rows : List Row) : Type 0 where
   pub held : Held
   pub end : ℕ
-  pub is : IsAt s lone held end rows
-  pub runs : (more : List Text) → run s (at h position) (words ++ more) ≡ run s (at held end) more
+  pub is : IsAt command held end rows
+  pub runs : (more : List Text) → run (leaf command) (at h position) (words ++ more) ≡ run (leaf command) (at held end) more
 
 both_nil : (one two : Kinds) → or_else one two ≡ [] → (one ≡ []) × (two ≡ [])
 both_nil [] two is = (refl, is)
@@ -159,62 +152,55 @@ still_fresh rows u more fresh other name used = list_any-append (λ (r : Row). b
     true≢false (sym used ∙ ap (λ n. is_used n more) (sym ((bytes_eq-Decides (entry_in u).name name).0 same)) ∙ other)))
 
 module _ (command : Command) (here : IsIn command commands) where
-  abbrev shape : Shape
-  shape = leaf command
-
-  abbrev name : Text
-  name = lone command
-
-  abbrev Reads : Held → ℕ → List Text → List Row → Type 0
-  Reads h position words rows = ReadsOn shape name h position words rows
-
-  is_lone : (e : Entry) → IsIn e command.arguments → bytes_eq e.name name ≡ stands_alone e
+  is_lone : (e : Entry) → IsIn e command.arguments → bytes_eq e.name (lone command) ≡ stands_alone e
   is_lone e there = ap (λ (f : ArgumentFacts). f.is_lone) (known_of command here e there)
 
   -- one use more
   read_more : (u : Use) (h : Held) (position : ℕ) (rows : List Row) → IsUse command u → has_row (entry_in u).name rows ≡ false
-      → IsAt shape name h position rows → Reads h position (words_of u) (rows ++ row_in u ∷ [])
+      → IsAt command h position rows → ReadsOn command h position (words_of u) (rows ++ row_in u ∷ [])
   read_more u h position rows lawful fresh is =
       let e = entry_in u in
       let v = value_in u in
       let step = use_step command here is u lawful.argument lawful.stands (inl lawful.taken) (fits u lawful fresh) in
+      let held = holding step.kept step.pending in
       let small = ap (λ (f : ArgumentFacts). f.small) (known_of command here e lawful.argument) in
       let fine : faults_of e v rows ≡ [] = rw (fresh, value_kinds-ok false (parser_for e.kind) v (kind_accepted e.kind v small lawful.taken)) refl in
       let none = both_nil _ _ (ap (λ (p : Kinds × Held). p.0) step.settles ∙ fine) in
-      let left = ap (λ (p : Kinds × Held). p.1) step.settles ∙ ap rows_alone (fresh_rows e v rows fresh) in
+      let left = ap (λ (p : Kinds × Held). p.1) step.settles ∙ ap (λ rs. holding rs None) (fresh_rows e v rows fresh) in
       record {
-        held = step.held;
+        held = held;
         end = step.end;
         is = record {
           settles = λ j. (none.1 j, left j);
-          place = step.place ∙ sym (ap (λ b. cond {A = ℕ} b 2 1) (list_any-append (λ (r : Row). bytes_eq r.id name) rows (row_in u ∷ [])
-              ∙ ap (λ b. has_row name rows || (b || false)) (is_lone e lawful.argument)));
+          place = step.place ∙ sym (ap (λ b. cond {A = ℕ} b 2 1) (list_any-append (λ (r : Row). bytes_eq r.id (lone command)) rows (row_in u ∷ [])
+              ∙ ap (λ b. has_row (lone command) rows || (b || false)) (is_lone e lawful.argument)));
         };
-        runs = λ more. step.runs more ∙ ap (λ ks. after ks (run shape (at step.held step.end) more)) none.0;
+        runs = λ more. step.runs more ∙ ap (λ ks. after ks (run (leaf command) (at held step.end) more)) none.0;
       }
     where
       fits : (u : Use) → IsUse command u → has_row (entry_in u).name rows ≡ false → Fits command here is u
       fits (alone e v) lawful fresh =
           let lonely : stands_alone e ≡ true = rw (lawful.stands.0, lawful.stands.1) refl in
-          let same : e.name ≡ name = (bytes_eq-Decides e.name name).0 (is_lone e lawful.argument ∙ lonely) in
+          let same : e.name ≡ lone command = (bytes_eq-Decides e.name (lone command)).0 (is_lone e lawful.argument ∙ lonely) in
           is.place ∙ ap (λ b. cond {A = ℕ} b 2 1) (ap (λ id. has_row id rows) (sym same) ∙ fresh)
       fits u lawful fresh = tt
 
   uses_read : (uses : List Use) (h : Held) (position : ℕ) (rows : List Row) → AreUses command uses → AreFresh rows uses
-      → IsAt shape name h position rows → Reads h position (words_in uses) (rows ++ rows_in uses)
+      → IsAt command h position rows → ReadsOn command h position (words_in uses) (rows ++ rows_in uses)
   uses_read [] h position rows are fresh is =
-      record { held = h; end = position; is = subst (IsAt shape name h position) (sym (append-nil rows)) is; runs = λ more. refl }
+      record { held = h; end = position; is = subst (IsAt command h position) (sym (append-nil rows)) is; runs = λ more. refl }
   uses_read (u ∷ more) h position rows are fresh is =
-      let first = fresh (entry_in u).name (ap (λ b. b || is_used (entry_in u).name more) ((bytes_eq-Decides (entry_in u).name (entry_in u).name).1 refl)) in
+      let name = (entry_in u).name in
+      let first = fresh name (ap (λ b. b || is_used name more) ((bytes_eq-Decides name name).1 refl)) in
       let one = read_more u h position rows are.0 first is in
       let rest = uses_read more one.held one.end (rows ++ row_in u ∷ []) are.2 (still_fresh rows u more fresh are.1) one.is in
       record {
         held = rest.held;
         end = rest.end;
-        is = subst (IsAt shape name rest.held rest.end) (append_assoc rows (row_in u ∷ []) (rows_in more)) rest.is;
-        runs = λ words. ap (run shape (at h position)) (append_assoc (words_of u) (words_in more) words)
+        is = subst (IsAt command rest.held rest.end) (append_assoc rows (row_in u ∷ []) (rows_in more)) rest.is;
+        runs = λ words. ap (run (leaf command) (at h position)) (append_assoc (words_of u) (words_in more) words)
             ∙ one.runs (words_in more ++ words) ∙ rest.runs words;
       }
 
-  pub all_read : (uses : List Use) → AreUses command uses → Reads nothing_held 1 (words_in uses) (rows_in uses)
+  pub all_read : (uses : List Use) → AreUses command uses → ReadsOn command nothing_held 1 (words_in uses) (rows_in uses)
   all_read uses are = uses_read uses nothing_held 1 [] are (λ name used. refl) (record { settles = refl; place = refl })
