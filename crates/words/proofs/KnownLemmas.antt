@@ -6,12 +6,12 @@ use Rattle.std.specs.Option.{option_map_or}
 use Rattle.std.specs.Str.Parse.{digits_value}
 use Rattle.std.proofs.lemmas.Option.{same_Some}
 use Rattle.clap.specs.Words.{App, Kinds, Row, Rule, Shape, Text, built, reading_of}
-use Rattle.clap.specs.Faults.{check_fault, default_fault, other_fault, repeat_fault, settle_fault, step_fault, turn_fault}
+use Rattle.clap.specs.Faults.{check_fault, default_fault, other_fault, repeat_fault, step_fault, turn_fault}
 use Rattle.clap.specs.Kinds.{check_kinds, or_else, values_kinds}
 use Rattle.clap.specs.Simple.{built_leaf, inherited, label_of, marked_built, names_of, with_leaf_noted}
 use Rattle.clap.specs.Takes as takes
 use Rattle.clap.specs.Walk.{Held, Step, Walk, answers_to, arg_by_index, has_long, idle, next, nothing_held, option, plain_word, pushed, reading_by, row_text}
-use Rattle.clap.specs.Walk.{settled, settled_rows, takes_several, to_positional, value, walk_from, walked, with_values, without}
+use Rattle.clap.specs.Walk.{takes_several, to_positional, value, walk_from, walked, with_values, without}
 use Rattle.clap.specs.declared.error.kind.ErrorKind.TheVariants.{DisplayHelp}
 use Rattle.clap.specs.declared.parser.matches.ValueSource.{ValueSource}
 use Rattle.clap.specs.declared.parser.matches.ValueSource.TheVariants.{CommandLine, DefaultValue}

@@ -1,6 +1,6 @@
 -- What the calls of the program ask for.
-use Rattle.std.proofs.Common.{◌≡◌, ◌∙◌, ◌++◌, ◌&&◌, ◌⊎◌, Bool, true, false, None, Some, Option, List, [], ◌∷◌, append-nil, option_and_then, option_map}
-use Rattle.std.proofs.Common.{fold, inl, inr, is_some, not, refl, sym, ap, ap₂, subst, ⊎_elim}
+use Rattle.std.proofs.Common.{◌≡◌, ◌∙◌, ◌&&◌, ◌⊎◌, Bool, true, false, None, Some, Option, List, [], ◌∷◌, append-nil, option_and_then, option_map, fold, inl}
+use Rattle.std.proofs.Common.{inr, is_some, not, refl, sym, ap, ap₂, subst, ⊎_elim}
 use Rattle.std.specs.List.{list_any}
 use Rattle.std.specs.Option.{option_map_or}
 use Rattle.std.proofs.lemmas.Bool.{and_parts}
@@ -20,7 +20,7 @@ use Rattle.words.specs.Requests.{all_four, asked_by, asks_version, called_by, ga
 use Rattle.words.specs.Requests.{set_of_four, show_from, soup_from, take_from, unless_faulty, work_from}
 use Rattle.words.specs.Table.{Command, Entry, census_app, commands}
 use Rattle.words.specs.Table as table
-use Rattle.words.specs.Uses.{AreUses, IsIn, Use, is_required, is_used, lacks_some, words_in}
+use Rattle.words.specs.Uses.{AreUses, IsIn, Use, is_required, lacks_some, words_in}
 use Rattle.words.proofs.KnownLemmas.{CommandFacts, census_built, flag_of, known, leaf, number_of, text_of}
 use Rattle.words.proofs.UseLemmas.{all_read, rows_in}
 use Rattle.words.proofs.ValueLemmas.{AllTaken, all_taken, completed, given_used, no_default_fault}
@@ -80,19 +80,18 @@ module _ (command : Command) (here : IsIn command commands) (program : Text) whe
       let s = leaf command in
       let a = census_built in
       let walks = ap (λ (f : CommandFacts). f.walks) k in
-      let fine = ap₂ (λ ks w. or_else ks (walk_fault a.top (names_of a) w words)) (ap (λ (f : CommandFacts). f.fault) k) walks
+      let fine : walk_fault a.top (names_of a) (walk_from nothing_held) (command.name ∷ words) ≡ [] =
+      ap₂ (λ ks w. or_else ks (walk_fault a.top (names_of a) w words)) (ap (λ (f : CommandFacts). f.fault) k) walks
       ∙ stopped_fault a.top (names_of a) (walk_from nothing_held) (command.name, []) words in
       let ends = ap (λ w. fold (walked a.top.rules (names_of a)) w words) walks
       ∙ sym (walk_stopped a.top.rules (names_of a) (walk_from nothing_held) command.name [] words) in
-      let end : Kinds → Option (Text × List Row) → Option Request = λ ks found. unless_faulty ks (option_and_then request_in found) in
+      let found = ap (λ (f : CommandFacts). f.found) k in
+      let faults : fault_of census_app (program ∷ command.name ∷ words) ≡ or_else (level_fault s [] nothing_held words false []) [] =
+      rw (fine, ends, found, top_fine) refl in
+      let matches : subcommand_of census_app (program ∷ command.name ∷ words) ≡ Some (rows_at s words) =
+      ap (λ (w : Walk). entered a w.stopped) ends ∙ ap (option_map (λ s. rows_at s words)) found in
       asked_by-called (program ∷ command.name ∷ words) (not_version program command.name words (ap (λ (f : CommandFacts). f.version) k))
-      ∙ ap₂ (λ ks (w : Walk). end (or_else ks (or_else (entered_fault a w.stopped)
-      (or_else (settle_fault a.top.rules a.top.args_override_self w.held) (or_else (defaults_fault (settled a.top.rules w.held).rows a.top.rules)
-      (check_fault a.top (finished a.top.rules w.held) (is_some (entered a w.stopped))))))) (entered a w.stopped)) fine ends
-      ∙ ap (λ (o : Option Shape). end (or_else (option_map_or (λ s. level_fault s [] nothing_held words false []) o [])
-      (or_else (defaults_fault [] a.top.rules) (check_fault a.top (finished a.top.rules nothing_held) (is_some (option_map (λ s. rows_at s words) o)))))
-      (option_map (λ s. rows_at s words) o)) (ap (λ (f : CommandFacts). f.found) k)
-      ∙ ap (λ ks. end (or_else (level_fault s [] nothing_held words false []) ks) (Some (rows_at s words))) top_fine
+      ∙ rw (faults, matches) refl
 
   -- arguments that are lawful, of which some that must be there are missing or not
   pub asks_uses : (uses : List Use) (missing : Bool) → AreUses command uses → lacks_some command uses ≡ missing

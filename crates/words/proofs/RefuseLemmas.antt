@@ -1,6 +1,6 @@
 -- Words that ask for nothing: faults after arguments that are lawful, whatever comes after them, and calls without a command.
-use Rattle.std.proofs.Common.{◌≡◌, ◌∙◌, ◌++◌, ◌||◌, ◌&&◌, ◌==◌, ℕ, Bool, true, false, cond, Option, None, Some, List, [], ◌∷◌, codes, ap, ap₂, bytes_eq, chars, inl, inr}
-use Rattle.std.proofs.Common.{is_some, option_map, refl, sym, subst, ⊎_elim}
+use Rattle.std.proofs.Common.{◌≡◌, ◌∙◌, ◌++◌, ◌||◌, ◌==◌, ℕ, Bool, true, false, cond, Option, None, Some, List, [], ◌∷◌, codes, ap, ap₂, bytes_eq, chars, inl}
+use Rattle.std.proofs.Common.{inr, is_some, option_map, refl, sym, subst, ⊎_elim}
 use Rattle.std.specs.List.{list_any}
 use Rattle.std.specs.Option.{option_map_or}
 use Rattle.std.specs.Str.Parse.{starts_with_minus}
@@ -11,13 +11,13 @@ use Rattle.std.proofs.lemmas.Option.{slice_get_cases}
 use Rattle.std.proofs.lemmas.Slice.Eq.{bytes_eq-Decides}
 use Rattle.clap.specs.Words.{Kinds, Row, Rule, Shape, Text}
 use Rattle.clap.specs.Faults.{bundle_fault, flag_word_fault, flags_fault, long_fault, option_fault, other_fault, positional_fault, react_fault, repeat_fault}
-use Rattle.clap.specs.Faults.{settle_fault, short_fault, step_fault, stray_fault, walk_fault}
+use Rattle.clap.specs.Faults.{short_fault, step_fault, stray_fault, walk_fault}
 use Rattle.clap.specs.Kinds.{or_else, values_kinds}
 use Rattle.clap.specs.Lexer.{long_of, short_of}
 use Rattle.clap.specs.Simple.{names_of}
-use Rattle.clap.specs.Walk.{Held, Walk, answers_to, arg_by_index, arg_by_long, arg_by_short, bundle_met, has_row, idle, is_pending, long_or_other, nothing_held, short_or_plain, short_word}
-use Rattle.clap.specs.Walk.{subcommand_met, subcommand_or_other, takes_several, takes_values, walk_from, walked}
-use Rattle.clap.specs.declared.error.kind.ErrorKind.TheVariants.{DisplayHelp, UnknownArgument}
+use Rattle.clap.specs.Walk.{Held, answers_to, arg_by_index, arg_by_long, arg_by_short, bundle_met, has_row, idle, is_pending, long_or_other, nothing_held}
+use Rattle.clap.specs.Walk.{short_or_plain, short_word, subcommand_met, subcommand_or_other, takes_several, takes_values, walk_from, walked}
+use Rattle.clap.specs.declared.error.kind.ErrorKind.TheVariants.{DisplayHelp}
 use Rattle.clap.proofs.KindLemmas.{value_kinds-refused}
 use Rattle.clap.proofs.OnLiterals.{clap_on_literals}
 use Rattle.words.specs.declared.request.Request.{Request}
@@ -25,12 +25,12 @@ use Rattle.words.specs.Calls.{OthersAskForNothing, NoCommandAsksForNothing}
 use Rattle.words.specs.Requests.{asked_by, asks_version, unless_faulty}
 use Rattle.words.specs.Table.{Command, Entry, commands}
 use Rattle.words.specs.Uses.{AreUses, IsIn, IsNotOfKind, IsUnknown, Stands, Use, alone, entry_in, value_in, words_in, words_of}
-use Rattle.words.proofs.KnownLemmas.{CommandFacts, census_built, faults_of, help_entry, holding, known, leaf, lone, takes_name}
+use Rattle.words.proofs.KnownLemmas.{CommandFacts, census_built, faults_of, holding, known, leaf, lone, takes_name}
 use Rattle.words.proofs.LawLemmas.{asked_by-called, asked_of, asks, asks_uses, not_version}
 use Rattle.words.proofs.NumberLemmas.{kind_refused, parser_for}
 use Rattle.words.proofs.UseLemmas.{Fits, HasOrLacks, IsAt, all_read, bare_value, rows_in, use_step}
 use Rattle.words.proofs.ValueLemmas.{find_none, rows_have}
-use Rattle.words.proofs.WalkLemmas.{Met, after, at, end_faults, faults_by, met, plain_met, run, settling}
+use Rattle.words.proofs.WalkLemmas.{Met, at, faults_by, met, plain_met, run, settling}
 
 -- there is a fault
 abbrev pub IsFaulty : Kinds → Type 0
@@ -235,9 +235,8 @@ listed_names word = refl
 
 unnamed : (word : Text) → list_any (λ (c : Command). bytes_eq c.name word) commands ≡ false → bytes_eq (codes "help") word ≡ false
     → subcommand_met (names_of census_built) idle word ≡ None
-unnamed word none no_help = ap (option_map (λ (s : Text × List Text). s.0)) (find_none (answers_to word) (names_of census_built)
-    (listed_names word ∙ list_any-append (λ (c : Command). bytes_eq c.name word || false) commands (help_command ∷ [])
-    ∙ ap₂ (λ a b. a || ((b || false) || false)) ((λ i. list_any (λ (c : Command). or-false (bytes_eq c.name word) i) commands) ∙ none) no_help))
+unnamed word none no_help = ap (option_map (λ (s : Text × List Text). s.0))
+    (find_none (answers_to word) (names_of census_built) (listed_names word ∙ simp (or-false, no_help) (simp or-false at none)))
 
 asks_unknown : (program word : Text) (words : List Text) → starts_with_minus word ≡ false
     → list_any (λ (c : Command). bytes_eq c.name word) commands ≡ false → bytes_eq (codes "help") word ≡ false → asked_by (program ∷ word ∷ words) ≡ None

@@ -1,5 +1,5 @@
 -- The arguments of a call, one after another: how each is read, and what rows they leave.
-use Rattle.std.proofs.Common.{◌≡◌, ◌∙◌, ◌++◌, ◌||◌, ◌&&◌, ◌⊎◌, ℕ, Bool, true, false, cond, Option, None, Some, List, [], ◌∷◌, codes, append-nil, append_assoc, ap, ap₂}
+use Rattle.std.proofs.Common.{◌≡◌, ◌∙◌, ◌++◌, ◌||◌, ◌⊎◌, ℕ, true, false, cond, Option, None, Some, List, [], ◌∷◌, codes, append-nil, append_assoc, ap, ap₂}
 use Rattle.std.proofs.Common.{bytes_eq, inl, map, not, refl, sym, subst, true≢false, ⊎_elim}
 use Rattle.std.specs.Str.Parse.{starts_with_minus}
 use Rattle.std.proofs.Math.Bool.{and-false, or-false, or-true}
@@ -9,7 +9,7 @@ use Rattle.std.proofs.lemmas.Slice.Eq.{bytes_eq-Decides}
 use Rattle.clap.specs.Words.{Kinds, Row, Shape, Text, reading_of}
 use Rattle.clap.specs.Faults.{step_fault}
 use Rattle.clap.specs.Kinds.{or_else}
-use Rattle.clap.specs.Walk.{Held, arg_by_index, has_row, idle, more_values, next, nothing_held, option, to_positional, value, with_values}
+use Rattle.clap.specs.Walk.{Held, arg_by_index, has_row, idle, more_values, nothing_held, option, to_positional, value, with_values}
 use Rattle.clap.specs.declared.parser.matches.ValueSource.TheVariants.{CommandLine}
 use Rattle.clap.proofs.KindLemmas.{value_kinds-ok}
 use Rattle.words.specs.declared.options.Kind.{Kind}

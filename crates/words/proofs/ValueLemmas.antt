@@ -1,6 +1,6 @@
 -- The values of a call: those of its arguments, and the defaults of the others.
-use Rattle.std.proofs.Common.{◌≡◌, ◌∙◌, ◌||◌, ◌&&◌, Bool, true, false, cond, Option, None, Some, List, [], ◌∷◌, codes, is_some, not}
-use Rattle.std.proofs.Common.{append-nil, bytes_eq, drop, find, fold, get_or, inl, inr, map, option_map, slice_get, refl, sym, ap, ap₂, subst, ⊎_elim}
+use Rattle.std.proofs.Common.{arith, ◌≡◌, ◌∙◌, ◌||◌, ◌&&◌, Bool, true, false, cond, Option, None, Some, List, [], ◌∷◌, codes, is_some, not, bytes_eq, drop, find, fold}
+use Rattle.std.proofs.Common.{get_or, inl, inr, map, slice_get, refl, sym, ap, ap₂, subst, ⊎_elim}
 use Rattle.std.specs.List.{AllByRecursion, list_any}
 use Rattle.std.specs.Option.{option_map_or, option_or}
 use Rattle.std.proofs.lemmas.Bool.{and_parts, cases_Bool, cond_both, or_parts}
@@ -36,7 +36,7 @@ completed s rows = fold with_default rows s.rules
 
 is_found : {X : Type 0} (p : X → Bool) (xs : List X) → is_some (find p xs) ≡ list_any p xs
 is_found p [] = refl
-is_found p (x ∷ xs) = ⊎_elim (λ e. rw e refl) (λ e. rw e (is_found p xs)) (cases_Bool (p x))
+is_found p (x ∷ xs) = grind (arith, is_found p xs)
 
 pub find_none : {X : Type 0} (p : X → Bool) (xs : List X) → list_any p xs ≡ false → find p xs ≡ None
 find_none p [] none = refl
@@ -49,15 +49,11 @@ or_none (Some x) = refl
 -- nothing comes after what was found
 or_first : {X : Type 0} (o : Option X) (b : Bool) (x : X) (later : Option X) → (b ≡ true → is_some o ≡ true)
     → option_or o later ≡ option_or o (cond b (Some x) later)
-or_first None true x later found = let bad = found refl in cc
-or_first None false x later found = refl
-or_first (Some y) b x later found = refl
+or_first o b x later found = grind arith
 
 or_next : {X : Type 0} (o : Option X) (b : Bool) (x : X) (later : Option X)
     → option_or (option_or o (cond b (Some x) None)) later ≡ option_or o (cond b (Some x) later)
-or_next None true x later = refl
-or_next None false x later = refl
-or_next (Some y) b x later = refl
+or_next o b x later = grind arith
 
 -- a default is found if nothing was found before
 default_found : (id : Text) (rows : List Row) (a : Rule) (later : Option Row)

@@ -5,8 +5,8 @@ use Rattle.std.specs.Str.Parse.{starts_with_minus}
 use Rattle.clap.specs.Words.{Kinds, Row, Shape, Text}
 use Rattle.clap.specs.Faults.{check_fault, defaults_fault, other_fault, settle_fault, step_fault, walk_fault}
 use Rattle.clap.specs.Kinds.{or_else}
-use Rattle.clap.specs.Walk.{Held, Step as WalkStep, Waiting, Walk, after_step, at_row, has_row, idle, plain_word, settled}
-use Rattle.clap.specs.Walk.{subcommand_or_other, walked, with_default}
+use Rattle.clap.specs.Walk.{Held, Step as WalkStep, Waiting, Walk, after_step, at_row, has_row, idle, plain_word, settled, subcommand_or_other, walked}
+use Rattle.clap.specs.Walk.{with_default}
 
 -- a place between two words, and one at which nothing waits for a value
 abbrev pub waits : Waiting → Held → ℕ → Walk
