@@ -1,5 +1,5 @@
 -- Words that ask for nothing: faults after arguments that are lawful, whatever comes after them, and calls without a command.
-use Rattle.std.proofs.Common.{◌≡◌, ◌∙◌, ◌++◌, ◌||◌, ◌==◌, ℕ, Bool, true, false, cond, Option, None, Some, List, [], ◌∷◌, codes, ap, ap₂, bytes_eq, chars, inl}
+use Rattle.std.proofs.Common.{arith, ◌≡◌, ◌∙◌, ◌++◌, ◌||◌, ◌==◌, ℕ, Bool, true, false, cond, Option, None, Some, List, [], ◌∷◌, codes, ap, ap₂, bytes_eq, chars, inl}
 use Rattle.std.proofs.Common.{inr, is_some, option_map, refl, sym, subst, ⊎_elim}
 use Rattle.std.specs.List.{list_any}
 use Rattle.std.specs.Option.{option_map_or}
@@ -33,20 +33,21 @@ use Rattle.words.proofs.ValueLemmas.{find_none, rows_have}
 use Rattle.words.proofs.WalkLemmas.{Met, at, faults_by, met, plain_met, run, settling}
 
 -- there is a fault
+abbrev is_faulty : Kinds → Bool
+is_faulty [] = false
+is_faulty (kind ∷ kinds) = true
+
 abbrev pub IsFaulty : Kinds → Type 0
-IsFaulty [] = ⊥
-IsFaulty (kind ∷ kinds) = Unit {0}
+IsFaulty kinds = is_faulty kinds ≡ true
 
 faulty_first : (one two : Kinds) → IsFaulty one → IsFaulty (or_else one two)
-faulty_first [] two f = absurd f
-faulty_first (kind ∷ kinds) two f = tt
+faulty_first one two f = grind arith
 
 faulty_last : (one two : Kinds) → IsFaulty two → IsFaulty (or_else one two)
-faulty_last [] two f = f
-faulty_last (kind ∷ kinds) two f = tt
+faulty_last one two f = grind arith
 
 stray : (s : Shape) → IsFaulty (stray_fault s)
-stray s = cond_both s.is_leaf _ _ IsFaulty (λ _. tt) (λ _. tt)
+stray s = grind arith
 
 -- a word that is a fault is one whatever comes after it
 abbrev pub turn_kinds : Shape → ℕ → Met → Kinds
@@ -70,27 +71,19 @@ module _ (s : Shape) (rows : List Row) (p : Option (Text × List Text)) (single 
   value_stuck : (c : List Rule) (i : ℕ) → list_any takes_several c ≡ false
       → IsFaulty (option_map_or (λ a. positional_fault s.rules again a h) (arg_by_index c i) (stray_fault s))
   value_stuck [] i none = stray s
-  value_stuck (a ∷ c) i none =
-      let parts = or_parts (takes_several a) (list_any takes_several c) none in
-      cond_both (option_map_or (λ k. k == i) a.index false) (Some a) (arg_by_index c i)
-      (λ o. IsFaulty (option_map_or (λ a. positional_fault s.rules again a h) o (stray_fault s)))
-      (λ _. rw (and_right (is_pending a p) (takes_several a) parts.0) settles) (λ _. value_stuck c i parts.1)
+  value_stuck (a ∷ c) i none = grind (arith, value_stuck c i, settles)
 
   react_stuck : (a : Rule) (values : List Text) → IsFaulty (react_fault s.rules again a values h)
   react_stuck a values = faulty_first _ _ settles
 
   option_stuck : (a : Rule) (v : Option Text) → IsFaulty (option_fault s.rules again a v h)
-  option_stuck a None = settles
-  option_stuck a (Some v) = react_stuck a (v ∷ [])
+  option_stuck a v = grind (arith, settles)
 
   long_stuck : (o : Option Rule) (v : Option Text) → IsFaulty (long_fault s.rules again o v h)
-  long_stuck None v = tt
-  long_stuck (Some a) v =
-      cond_both (takes_values a) _ _ IsFaulty (λ _. option_stuck a v) (λ _. cond_both (is_some v) _ _ IsFaulty (λ _. tt) (λ _. react_stuck a []))
+  long_stuck o v = grind (arith, settles)
 
   short_stuck : (o : Option Rule) (rest : Text) (more : Held → Kinds) → IsFaulty (short_fault s.rules again o rest h more)
-  short_stuck None rest more = tt
-  short_stuck (Some a) rest more = cond_both (takes_values a) _ _ IsFaulty (λ _. option_stuck a _) (λ _. faulty_first _ _ (react_stuck a []))
+  short_stuck o rest more = grind (arith, settles)
 
   -- `-abc`
   bundle_stuck : (i : ℕ) (word flags : Text) → IsFaulty (turn_kinds s i (short_word s.rules idle word flags h, bundle_fault s.rules again flags h))
@@ -122,19 +115,18 @@ module _ (s : Shape) (rows : List Row) (p : Option (Text × List Text)) (single 
 -- what words tell is a fault, or what is held after them, and then there is one in the words after them or at the end
 told_or_held : (told held later last : Kinds) → IsFaulty (or_else told held) → (IsFaulty held → IsFaulty (or_else later last))
     → IsFaulty (or_else (or_else told later) last)
-told_or_held [] held later last f stuck = stuck f
-told_or_held (kind ∷ kinds) held later last f stuck = tt
+told_or_held told held later last f stuck = grind arith
 
 -- ---- why a use is refused
 
 -- it is there already
 twice_faulty : (e : Entry) (v : Text) (rows : List Row) → has_row e.name rows ≡ true → IsFaulty (faults_of e v rows)
-twice_faulty e v rows there = rw there tt
+twice_faulty e v rows there = rw there refl
 
 -- its value is out of its range
 range_faulty : (e : Entry) (v : Text) (rows : List Row) → IsNotOfKind e.kind v → IsFaulty (faults_of e v rows)
 range_faulty e v rows refused = faulty_last (repeat_fault false e.name rows) (values_kinds false (parser_for e.kind) (v ∷ []))
-    (rw (value_kinds-refused false (parser_for e.kind) v (kind_refused e.kind v refused)) tt)
+    (rw (value_kinds-refused false (parser_for e.kind) v (kind_refused e.kind v refused)) refl)
 
 not_dashes : (word name : Text) (v : Option Text) → long_of word ≡ Some (name, v) → bytes_eq word (codes "--") ≡ false
 not_dashes word name v is = false_from_ne_true _ (λ e.
@@ -179,20 +171,19 @@ module _ (command : Command) (here : IsIn command commands) {h : Held} {position
   -- `--help`
   refused_help : Refused (codes "--help" ∷ more)
   refused_help = refused_word (codes "--help") (subst IsFaulty
-      (sym (ap (λ (f : CommandFacts). f.help h) (known command here) ∙ (λ j. or_else (is.settles j).0 (DisplayHelp ∷ [])))) tt)
+      (sym (ap (λ (f : CommandFacts). f.help h) (known command here) ∙ (λ j. or_else (is.settles j).0 (DisplayHelp ∷ [])))) refl)
 
   -- an option that is unknown
   refused_unknown : (word : Text) → IsUnknown command word → Refused (word ∷ more)
   refused_unknown word u =
       let none : list_any (takes_name u.name) s.rules ≡ false =
       ap (λ (f : CommandFacts). f.long_names u.name) (known command here) ∙ simp (list_any-append, or-false, u.no_option, u.no_help) in
-      refused_word word (rw (not_dashes word u.name u.value u.is_option, u.is_option, find_none (takes_name u.name) s.rules none) tt)
+      refused_word word (rw (not_dashes word u.name u.value u.is_option, u.is_option, find_none (takes_name u.name) s.rules none) refl)
 
 -- ---- the laws
 
 no_request : (kinds : Kinds) (request : Option Request) → IsFaulty kinds → unless_faulty kinds request ≡ None
-no_request [] request f = absurd f
-no_request (kind ∷ kinds) request f = refl
+no_request kinds request f = grind arith
 
 -- after arguments that are lawful, words that are faults from there on
 none_asked : (command : Command) (here : IsIn command commands) (program : Text) (uses : List Use) (are : AreUses command uses) (more : List Text)

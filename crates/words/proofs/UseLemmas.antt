@@ -1,5 +1,5 @@
 -- The arguments of a call, one after another: how each is read, and what rows they leave.
-use Rattle.std.proofs.Common.{◌≡◌, ◌∙◌, ◌++◌, ◌||◌, ◌⊎◌, ℕ, true, false, cond, Option, None, Some, List, [], ◌∷◌, codes, append-nil, append_assoc, ap, ap₂}
+use Rattle.std.proofs.Common.{arith, ◌≡◌, ◌∙◌, ◌++◌, ◌||◌, ◌⊎◌, ℕ, true, false, cond, Option, None, Some, List, [], ◌∷◌, codes, append-nil, append_assoc, ap, ap₂}
 use Rattle.std.proofs.Common.{bytes_eq, inl, map, not, refl, sym, subst, true≢false, ⊎_elim}
 use Rattle.std.specs.Str.Parse.{starts_with_minus}
 use Rattle.std.proofs.Math.Bool.{and-false, or-false, or-true}
@@ -133,13 +133,10 @@ pub record ReadsOn (command : Command) (h : Held) (position : ℕ) (words : List
   pub runs : (more : List Text) → run (leaf command) (at h position) (words ++ more) ≡ run (leaf command) (at held end) more
 
 both_nil : (one two : Kinds) → or_else one two ≡ [] → (one ≡ []) × (two ≡ [])
-both_nil [] two is = (refl, is)
-both_nil (kind ∷ kinds) two is = cc
+both_nil one two is = grind arith
 
 fresh_rows : (e : Entry) (v : Text) (rows : List Row) → has_row e.name rows ≡ false → rows_with e v rows ≡ rows ++ row_of e v CommandLine ∷ []
-fresh_rows e v rows fresh =
-    ap (with_values e.name (reading_of (parser_for e.kind)) CommandLine (v ∷ [])) (at_row_none e.name (λ _. []) [] rows fresh ∙ append-nil rows)
-    ∙ at_row_none e.name (more_values CommandLine (v ∷ [])) (row_of e v CommandLine ∷ []) rows fresh
+fresh_rows e v rows fresh = grind (arith, append-nil rows, at_row_none)
 
 -- no row is one of these arguments
 abbrev AreFresh : List Row → List Use → Type 0
@@ -147,9 +144,8 @@ AreFresh rows uses = (name : Text) → is_used name uses ≡ true → has_row na
 
 still_fresh : (rows : List Row) (u : Use) (more : List Use) → AreFresh rows (u ∷ more) → is_used (entry_in u).name more ≡ false
     → AreFresh (rows ++ row_in u ∷ []) more
-still_fresh rows u more fresh other name used = list_any-append (λ (r : Row). bytes_eq r.id name) rows (row_in u ∷ [])
-    ∙ ap₂ (λ a b. a || (b || false)) (fresh name (or_right _ _ used)) (false_from_ne_true _ (λ same.
-    true≢false (sym used ∙ ap (λ n. is_used n more) (sym ((bytes_eq-Decides (entry_in u).name name).0 same)) ∙ other)))
+still_fresh rows u more fresh other name used =
+    grind (arith, list_any-append (λ (r : Row). bytes_eq r.id name) rows (row_in u ∷ []), fresh name, (bytes_eq-Decides (entry_in u).name name).0)
 
 module _ (command : Command) (here : IsIn command commands) where
   is_lone : (e : Entry) → IsIn e command.arguments → bytes_eq e.name (lone command) ≡ stands_alone e

@@ -43,34 +43,13 @@ find_none p [] none = refl
 find_none p (x ∷ xs) none = let parts = or_parts (p x) (list_any p xs) none in rw parts.0 (find_none p xs parts.1)
 
 or_none : {X : Type 0} (o : Option X) → option_or o None ≡ o
-or_none None = refl
-or_none (Some x) = refl
-
--- nothing comes after what was found
-or_first : {X : Type 0} (o : Option X) (b : Bool) (x : X) (later : Option X) → (b ≡ true → is_some o ≡ true)
-    → option_or o later ≡ option_or o (cond b (Some x) later)
-or_first o b x later found = grind arith
-
-or_next : {X : Type 0} (o : Option X) (b : Bool) (x : X) (later : Option X)
-    → option_or (option_or o (cond b (Some x) None)) later ≡ option_or o (cond b (Some x) later)
-or_next o b x later = grind arith
+or_none o = grind arith
 
 -- a default is found if nothing was found before
 default_found : (id : Text) (rows : List Row) (a : Rule) (later : Option Row)
     → option_or (lookup id (with_default rows a)) later
     ≡ option_or (lookup id rows) (cond (is_some (slice_get a.defaults 0) && bytes_eq a.id id) (Some (default_row a)) later)
-default_found id rows a later = ⊎_elim
-    (λ there. rw there (or_first (lookup id rows) _ (default_row a) later (λ both. is_found (λ (r : Row). bytes_eq r.id id) rows
-    ∙ ap (λ i. has_row i rows) (sym ((bytes_eq-Decides a.id id).0 (and_parts _ _ both).1)) ∙ there)))
-    (λ fresh. rw fresh (added a.defaults fresh))
-    (cases_Bool (has_row a.id rows))
-  where
-    added : (vs : List Text) → has_row a.id rows ≡ false → option_or (lookup id (default_rows a.id (reading_by a) vs rows)) later
-        ≡ option_or (lookup id rows) (cond (is_some (slice_get vs 0) && bytes_eq a.id id) (Some (default_row (record a { defaults = vs }))) later)
-    added [] fresh = refl
-    added (v ∷ vs) fresh = let row = default_row (record a { defaults = v ∷ vs }) in
-        ap (λ rs. option_or (lookup id rs) later) (at_row_none a.id (more_values DefaultValue (v ∷ vs)) (row ∷ []) rows fresh)
-        ∙ ap (λ o. option_or o later) (find-append (λ (r : Row). bytes_eq r.id id) rows (row ∷ [])) ∙ or_next (lookup id rows) (bytes_eq a.id id) row later
+default_found id rows a later = grind (arith, is_found (λ (r : Row). bytes_eq r.id id) rows, find-append {X = Row}, (bytes_eq-Decides a.id id).0, at_row_none)
 
 all_found : (id : Text) (c : List Rule) (rows : List Row) → lookup id (fold with_default rows c) ≡ option_or (lookup id rows) (default_for id c)
 all_found id [] rows = sym (or_none (lookup id rows))
@@ -81,9 +60,9 @@ pub no_default_fault : (c : List Rule) (rows : List Row) → map (default_fault 
 unfolding defaults_fault
 no_default_fault [] rows fine = refl
 no_default_fault (a ∷ c) rows fine =
-    let first : default_fault rows a ≡ [] =
-    ⊎_elim (λ there. rw there refl) (λ fresh. rw fresh (ap (λ ks. get_or ks 0 []) fine)) (cases_Bool (has_row a.id rows)) in
-    ap₂ or_else first (no_default_fault c (with_default rows a) (ap (drop 1) fine))
+    let first = ap (λ ks. get_or ks 0 []) fine in
+    let rest = no_default_fault c (with_default rows a) (ap (drop 1) fine) in
+    grind arith
 
 -- ---- the values of uses
 
@@ -118,8 +97,7 @@ not_given name (a ∷ c) = cond_both _ (Some (default_row a)) (default_for name 
 used_given : (default : Option Row) → explicit default ≡ false → (name : Text) (uses : List Use)
     → explicit (option_or (lookup name (rows_in uses)) default) ≡ is_used name uses
 used_given default none name [] = none
-used_given default none name (u ∷ more) =
-    ⊎_elim (λ is. rw is refl) (λ other. rw other (used_given default none name more)) (cases_Bool (bytes_eq (entry_in u).name name))
+used_given default none name (u ∷ more) = grind (arith, used_given default none name more)
 
 -- what is taken of all arguments of a list
 abbrev pub AllTaken : List Entry → List Use → List Row → Type 0

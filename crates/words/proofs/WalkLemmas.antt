@@ -1,5 +1,5 @@
 -- How `clap` walks the words of a command: from one place between two words to the next.
-use Rattle.std.proofs.Common.{◌≡◌, ◌++◌, ℕ, false, None, List, [], ◌∷◌, ap, bytes_eq, fold, refl}
+use Rattle.std.proofs.Common.{arith, ◌≡◌, ◌++◌, ℕ, false, None, List, [], ◌∷◌, ap, bytes_eq, fold, refl}
 use Rattle.std.proofs.lemmas.Bool.{or_parts}
 use Rattle.std.specs.Str.Parse.{starts_with_minus}
 use Rattle.clap.specs.Words.{Kinds, Row, Shape, Text}
@@ -62,14 +62,11 @@ plain_met s waiting h position [] bare = refl
 plain_met s waiting h position (x ∷ xs) bare = rw (bare, bare) refl
 
 pub or_else_nil : (kinds : Kinds) → or_else kinds [] ≡ kinds
-or_else_nil [] = refl
-or_else_nil (kind ∷ kinds) = refl
+or_else_nil kinds = grind arith
 
 -- ---- rows
 
 -- a row that isn't there is put at the end
 pub at_row_none : (id : Text) (change : Row → List Row) (missing rows : List Row) → has_row id rows ≡ false → at_row id change missing rows ≡ rows ++ missing
 at_row_none id change missing [] none = refl
-at_row_none id change missing (r ∷ rs) none =
-    let parts = or_parts (bytes_eq r.id id) (has_row id rs) none in
-    rw parts.0 (ap (λ l. r ∷ l) (at_row_none id change missing rs parts.1))
+at_row_none id change missing (r ∷ rs) none = grind (arith, at_row_none id change missing rs)
