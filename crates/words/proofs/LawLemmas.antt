@@ -1,14 +1,13 @@
 -- What the calls of the program ask for.
 use Rattle.std.proofs.Common.{◌≡◌, ◌∙◌, ◌&&◌, ◌⊎◌, Bool, true, false, None, Some, Option, List, [], ◌∷◌, append-nil, option_and_then, option_map, fold, inl}
-use Rattle.std.proofs.Common.{inr, is_some, not, refl, sym, ap, ap₂, subst, ⊎_elim}
+use Rattle.std.proofs.Common.{inr, not, refl, sym, ap, ap₂, subst, ⊎_elim}
 use Rattle.std.specs.List.{list_any}
-use Rattle.std.specs.Option.{option_map_or}
 use Rattle.std.proofs.lemmas.Bool.{and_parts}
 use Rattle.clap.specs.Words.{Kinds, Row, Shape, Text, App, IsAmong, fault_of, is_simple, is_simple_and_free, subcommand_of}
-use Rattle.clap.specs.Faults.{check_fault, defaults_fault, entered_fault, level_fault, settle_fault, walk_fault}
+use Rattle.clap.specs.Faults.{check_fault, defaults_fault, level_fault, walk_fault}
 use Rattle.clap.specs.Simple.{entered, names_of, rows_at}
 use Rattle.clap.specs.Kinds.{check_kinds, or_else}
-use Rattle.clap.specs.Walk.{Walk, finished, nothing_held, settled, walk_from, walked, with_default}
+use Rattle.clap.specs.Walk.{Walk, finished, nothing_held, walk_from, walked, with_default}
 use Rattle.clap.specs.declared.error.kind.ErrorKind.{ErrorKind}
 use Rattle.clap.specs.declared.error.kind.ErrorKind.TheVariants.{OutOfMemory}
 use Rattle.clap.proofs.FaultLemmas.{stopped_fault}
@@ -140,7 +139,8 @@ ask_for_their_values = record {
   name = asks_for table.name_command (inr (inl refl)) _ (λ uses all. let (period, (horizon, (stride, (limit, (rule, more))))) = all in λ i.
       name_from (all_four (number_of (period i)) (number_of (horizon i)) (number_of (stride i)) (number_of (limit i))) (text_of (rule i)));
   show = asks_for table.show_command (inr (inr (inl refl))) _ (λ uses all. let (code, more) = all in λ i. show_from (text_of (code i)));
-  soup = asks_for table.soup_command (inr (inr (inr (inl refl)))) _ (λ uses all. let (n, (seed, more)) = all in λ i. soup_from (number_of (n i)) (text_of (seed i)));
+  soup = asks_for table.soup_command (inr (inr (inr (inl refl)))) _ (λ uses all. let (n, (seed, more)) = all in λ i.
+      soup_from (number_of (n i)) (text_of (seed i)));
   take = asks_for table.take_command (inr (inr (inr (inr (inl refl))))) _ (λ uses all.
       let (plan, (workers, (progress, more))) = plan_taken uses (rows_for table.take_command uses) (table.workers ∷ table.progress ∷ []) all in
       λ i. take_from (flag_of (progress i)) (plan i) (number_of (workers i)));

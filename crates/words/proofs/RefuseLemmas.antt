@@ -1,22 +1,20 @@
 -- Words that ask for nothing: faults after arguments that are lawful, whatever comes after them, and calls without a command.
-use Rattle.std.proofs.Common.{arith, ◌≡◌, ◌∙◌, ◌++◌, ◌||◌, ◌==◌, ℕ, Bool, true, false, cond, Option, None, Some, List, [], ◌∷◌, codes, ap, ap₂, bytes_eq, chars, inl}
-use Rattle.std.proofs.Common.{inr, is_some, option_map, refl, sym, subst, ⊎_elim}
+use Rattle.std.proofs.Common.{arith, ◌≡◌, ◌∙◌, ◌++◌, ◌||◌, ℕ, Bool, true, false, cond, Option, None, Some, List, [], ◌∷◌, codes, ap, bytes_eq, inl, inr}
+use Rattle.std.proofs.Common.{option_map, refl, sym, subst, ⊎_elim}
 use Rattle.std.specs.List.{list_any}
 use Rattle.std.specs.Option.{option_map_or}
 use Rattle.std.specs.Str.Parse.{starts_with_minus}
 use Rattle.std.proofs.Math.Bool.{or-false}
-use Rattle.std.proofs.lemmas.Bool.{and_right, cases_Bool, cond_both, false_from_ne_true, or_parts}
+use Rattle.std.proofs.lemmas.Bool.{cases_Bool, false_from_ne_true}
 use Rattle.std.proofs.lemmas.List.Folds.{list_any-append}
-use Rattle.std.proofs.lemmas.Option.{slice_get_cases}
 use Rattle.std.proofs.lemmas.Slice.Eq.{bytes_eq-Decides}
 use Rattle.clap.specs.Words.{Kinds, Row, Rule, Shape, Text}
-use Rattle.clap.specs.Faults.{bundle_fault, flag_word_fault, flags_fault, long_fault, option_fault, other_fault, positional_fault, react_fault, repeat_fault}
-use Rattle.clap.specs.Faults.{short_fault, step_fault, stray_fault, walk_fault}
-use Rattle.clap.specs.Kinds.{or_else, values_kinds}
-use Rattle.clap.specs.Lexer.{long_of, short_of}
+use Rattle.clap.specs.Faults.{bundle_fault, flag_word_fault, flags_fault, other_fault, positional_fault, step_fault, stray_fault, walk_fault}
+use Rattle.clap.specs.Kinds.{or_else}
+use Rattle.clap.specs.Lexer.{long_of}
 use Rattle.clap.specs.Simple.{names_of}
-use Rattle.clap.specs.Walk.{Held, answers_to, arg_by_index, arg_by_long, arg_by_short, bundle_met, has_row, idle, is_pending, long_or_other, nothing_held}
-use Rattle.clap.specs.Walk.{short_or_plain, short_word, subcommand_met, subcommand_or_other, takes_several, takes_values, walk_from, walked}
+use Rattle.clap.specs.Walk.{Held, answers_to, arg_by_index, bundle_met, has_row, idle, long_or_other, nothing_held, short_word, subcommand_met}
+use Rattle.clap.specs.Walk.{subcommand_or_other, takes_several, walk_from, walked}
 use Rattle.clap.specs.declared.error.kind.ErrorKind.TheVariants.{DisplayHelp}
 use Rattle.clap.proofs.KindLemmas.{value_kinds-refused}
 use Rattle.clap.proofs.OnLiterals.{clap_on_literals}
@@ -42,9 +40,6 @@ IsFaulty kinds = is_faulty kinds ≡ true
 
 faulty_first : (one two : Kinds) → IsFaulty one → IsFaulty (or_else one two)
 faulty_first one two f = grind arith
-
-faulty_last : (one two : Kinds) → IsFaulty two → IsFaulty (or_else one two)
-faulty_last one two f = grind arith
 
 stray : (s : Shape) → IsFaulty (stray_fault s)
 stray s = grind arith
@@ -73,39 +68,21 @@ module _ (s : Shape) (rows : List Row) (p : Option (Text × List Text)) (single 
   value_stuck [] i none = stray s
   value_stuck (a ∷ c) i none = grind (arith, value_stuck c i, settles)
 
-  react_stuck : (a : Rule) (values : List Text) → IsFaulty (react_fault s.rules again a values h)
-  react_stuck a values = faulty_first _ _ settles
-
-  option_stuck : (a : Rule) (v : Option Text) → IsFaulty (option_fault s.rules again a v h)
-  option_stuck a v = grind (arith, settles)
-
-  long_stuck : (o : Option Rule) (v : Option Text) → IsFaulty (long_fault s.rules again o v h)
-  long_stuck o v = grind (arith, settles)
-
-  short_stuck : (o : Option Rule) (rest : Text) (more : Held → Kinds) → IsFaulty (short_fault s.rules again o rest h more)
-  short_stuck o rest more = grind (arith, settles)
-
   -- `-abc`
   bundle_stuck : (i : ℕ) (word flags : Text) → IsFaulty (turn_kinds s i (short_word s.rules idle word flags h, bundle_fault s.rules again flags h))
   unfolding flags_fault bundle_met
   bundle_stuck i word [] = value_stuck s.rules i single
-  bundle_stuck i word (x ∷ xs) = ⊎_elim
-      (λ some. rw some.2 (faulty_first (short_fault s.rules again (arg_by_short s.rules some.0) _ h _) _ (short_stuck (arg_by_short s.rules some.0) _ _)))
-      (λ none. rw none.1 (value_stuck s.rules i single))
-      (slice_get_cases (chars (x ∷ xs)) 0).1
+  bundle_stuck i word (x ∷ xs) = grind (arith, settles, value_stuck s.rules i single)
 
   word_stuck : (i : ℕ) (word : Text) (o : Option (Text × Option Text))
       → IsFaulty (turn_kinds s i (long_or_other s.rules idle word o h, flag_word_fault s.rules again o word h))
-  word_stuck i word (Some q) = faulty_first (long_fault s.rules again (arg_by_long s.rules q.0) q.1 h) _ (long_stuck (arg_by_long s.rules q.0) q.1)
-  word_stuck i word None =
-      elim (short_of word) as (λ o. IsFaulty (turn_kinds s i (short_or_plain s.rules idle word o h, option_map_or (λ flags. bundle_fault s.rules again flags h) o [])))
-      [ None ↦ value_stuck s.rules i single | Some flags ↦ bundle_stuck i word flags ]
+  word_stuck i word o = grind (arith, settles, value_stuck s.rules i single, bundle_stuck i word)
 
   -- whatever words come, there is a fault in them, or at their end
   all_stuck : (more : List Text) (i : ℕ) (t : Bool)
       → IsFaulty (faults_by s (run s (record { held = h; waiting = idle; position = i; is_trailing = t; stopped = None }) more))
   unfolding walk_fault walked
-  all_stuck [] i t = faulty_first _ _ settles
+  all_stuck [] i t = grind (arith, settles)
   all_stuck (word ∷ more) i true = faulty_first _ _ (faulty_first _ _ (value_stuck s.rules i single))
   all_stuck (word ∷ more) i false = elim (cases_Bool (bytes_eq word (45 ∷ 45 ∷ []))) [
     | inl dashes ↦ simp dashes (all_stuck more i true)
@@ -125,8 +102,7 @@ twice_faulty e v rows there = rw there refl
 
 -- its value is out of its range
 range_faulty : (e : Entry) (v : Text) (rows : List Row) → IsNotOfKind e.kind v → IsFaulty (faults_of e v rows)
-range_faulty e v rows refused = faulty_last (repeat_fault false e.name rows) (values_kinds false (parser_for e.kind) (v ∷ []))
-    (rw (value_kinds-refused false (parser_for e.kind) v (kind_refused e.kind v refused)) refl)
+range_faulty e v rows refused = grind (arith, value_kinds-refused false (parser_for e.kind) v (kind_refused e.kind v refused))
 
 not_dashes : (word name : Text) (v : Option Text) → long_of word ≡ Some (name, v) → bytes_eq word (codes "--") ≡ false
 not_dashes word name v is = false_from_ne_true _ (λ e.

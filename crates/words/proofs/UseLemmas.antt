@@ -1,15 +1,14 @@
 -- The arguments of a call, one after another: how each is read, and what rows they leave.
-use Rattle.std.proofs.Common.{arith, ◌≡◌, ◌∙◌, ◌++◌, ◌||◌, ◌⊎◌, ℕ, true, false, cond, Option, None, Some, List, [], ◌∷◌, codes, append-nil, append_assoc, ap, ap₂}
-use Rattle.std.proofs.Common.{bytes_eq, inl, map, not, refl, sym, subst, true≢false, ⊎_elim}
+use Rattle.std.proofs.Common.{arith, ◌≡◌, ◌∙◌, ◌++◌, ◌||◌, ◌⊎◌, ℕ, true, false, cond, Option, None, Some, List, [], ◌∷◌, codes, append-nil, append_assoc, ap}
+use Rattle.std.proofs.Common.{bytes_eq, inl, map, not, refl, sym, subst, ⊎_elim}
 use Rattle.std.specs.Str.Parse.{starts_with_minus}
 use Rattle.std.proofs.Math.Bool.{and-false, or-false, or-true}
-use Rattle.std.proofs.lemmas.Bool.{false_from_ne_true, or_right}
 use Rattle.std.proofs.lemmas.List.Folds.{list_any-append}
 use Rattle.std.proofs.lemmas.Slice.Eq.{bytes_eq-Decides}
-use Rattle.clap.specs.Words.{Kinds, Row, Shape, Text, reading_of}
+use Rattle.clap.specs.Words.{Kinds, Row, Shape, Text}
 use Rattle.clap.specs.Faults.{step_fault}
 use Rattle.clap.specs.Kinds.{or_else}
-use Rattle.clap.specs.Walk.{Held, arg_by_index, has_row, idle, more_values, nothing_held, option, to_positional, value, with_values}
+use Rattle.clap.specs.Walk.{Held, arg_by_index, has_row, idle, nothing_held, option, to_positional, value}
 use Rattle.clap.specs.declared.parser.matches.ValueSource.TheVariants.{CommandLine}
 use Rattle.clap.proofs.KindLemmas.{value_kinds-ok}
 use Rattle.words.specs.declared.options.Kind.{Kind}

@@ -1,19 +1,18 @@
 -- The values of a call: those of its arguments, and the defaults of the others.
-use Rattle.std.proofs.Common.{arith, ◌≡◌, ◌∙◌, ◌||◌, ◌&&◌, Bool, true, false, cond, Option, None, Some, List, [], ◌∷◌, codes, is_some, not, bytes_eq, drop, find, fold}
-use Rattle.std.proofs.Common.{get_or, inl, inr, map, slice_get, refl, sym, ap, ap₂, subst, ⊎_elim}
+use Rattle.std.proofs.Common.{arith, ◌≡◌, ◌∙◌, ◌||◌, ◌&&◌, Bool, true, false, cond, Option, None, Some, List, [], ◌∷◌, codes, is_some, not, bytes_eq, drop}
+use Rattle.std.proofs.Common.{find, fold, get_or, inl, inr, map, slice_get, refl, sym, ap, subst, ⊎_elim}
 use Rattle.std.specs.List.{AllByRecursion, list_any}
 use Rattle.std.specs.Option.{option_map_or, option_or}
-use Rattle.std.proofs.lemmas.Bool.{and_parts, cases_Bool, cond_both, or_parts}
+use Rattle.std.proofs.lemmas.Bool.{cases_Bool, cond_both, or_parts}
 use Rattle.std.proofs.lemmas.List.Folds.{find-append}
 use Rattle.std.proofs.lemmas.Option.{same_Some}
 use Rattle.std.proofs.lemmas.Slice.Eq.{bytes_eq-Decides}
 use Rattle.clap.specs.Words.{Row, Rule, Shape, Text, reading_of}
 use Rattle.clap.specs.Facts.{explicit_source}
 use Rattle.clap.specs.Faults.{default_fault, defaults_fault}
-use Rattle.clap.specs.Kinds.{or_else}
 use Rattle.clap.specs.Takes as takes
-use Rattle.clap.specs.Walk.{default_rows, has_row, more_values, reading_by, with_default}
-use Rattle.clap.specs.declared.parser.matches.ValueSource.TheVariants.{CommandLine, DefaultValue}
+use Rattle.clap.specs.Walk.{has_row, with_default}
+use Rattle.clap.specs.declared.parser.matches.ValueSource.TheVariants.{CommandLine}
 use Rattle.words.specs.declared.options.Kind.{Kind}
 use Rattle.words.specs.declared.options.Kind.TheVariants as kind
 use Rattle.words.specs.Calls.{text_given}
@@ -110,9 +109,9 @@ module _ (command : Command) (here : IsIn command commands) where
   -- arguments of one name are one
   same_entry : (e e' : Entry) → IsIn e command.arguments → IsIn e' command.arguments → bytes_eq e'.name e.name ≡ true → e' ≡ e
   same_entry e e' there there' named =
-      let alone : (x : Entry) → IsIn x command.arguments → find (λ y. bytes_eq y.name x.name) command.arguments ≡ Some x =
-      λ x at. ap (λ (f : ArgumentFacts). f.same_name) (known_of command here x at) in
-      same_Some e' e (sym (alone e' there') ∙ ap (λ n. find (λ y. bytes_eq y.name n) command.arguments) ((bytes_eq-Decides e'.name e.name).0 named) ∙ alone e there)
+      let named_by = λ (name : Text). find (λ e. bytes_eq e.name name) command.arguments in
+      same_Some e' e (sym (ap (λ (f : ArgumentFacts). f.same_name) (known_of command here e' there')) ∙ ap named_by ((bytes_eq-Decides _ _).0 named)
+      ∙ ap (λ (f : ArgumentFacts). f.same_name) (known_of command here e there))
 
   -- what is found of an argument that doesn't lack, in the rows of these uses or in its default
   uses_taken : (e : Entry) (uses : List Use) → IsIn e command.arguments → AreUses command uses → (is_required e && not (is_used e.name uses)) ≡ false

@@ -1,6 +1,5 @@
 -- How `clap` walks the words of a command: from one place between two words to the next.
-use Rattle.std.proofs.Common.{arith, ◌≡◌, ◌++◌, ℕ, false, None, List, [], ◌∷◌, ap, bytes_eq, fold, refl}
-use Rattle.std.proofs.lemmas.Bool.{or_parts}
+use Rattle.std.proofs.Common.{arith, ◌≡◌, ◌++◌, ℕ, false, None, List, [], ◌∷◌, ap, fold, refl}
 use Rattle.std.specs.Str.Parse.{starts_with_minus}
 use Rattle.clap.specs.Words.{Kinds, Row, Shape, Text}
 use Rattle.clap.specs.Faults.{check_fault, defaults_fault, other_fault, settle_fault, step_fault, walk_fault}
