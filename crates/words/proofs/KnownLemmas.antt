@@ -73,8 +73,8 @@ abbrev pub asks : Kinds × Held → Entry → Met
 asks p e = ((record { rows = p.1.rows; pending = Some (e.name, []); skip = p.1.skip }, next (option e.name)), p.0)
 
 -- a value alone; while several values are taken, nothing is settled before the next
-abbrev pub holds : Bool → Held → Kinds × Held → Entry → Text → Walk × Kinds
-holds keeps_on h p e v = (at (pushed e.name v (cond keeps_on h p.1)) 2, cond keeps_on [] p.0)
+abbrev pub goes_alone : Bool → Held → Kinds × Held → Entry → Text → Walk × Kinds
+goes_alone keeps_on h p e v = (at (pushed e.name v (cond keeps_on h p.1)) 2, cond keeps_on [] p.0)
 
 -- ---- what a request takes
 
@@ -113,7 +113,7 @@ given (kind.LargeNumber most) v used = number (Some (digits_value 10 v))
 abbrev pub default_row : Rule → Row
 default_row a = record { id = a.id; values = a.defaults; count = None; source = Some DefaultValue; reading = reading_by a }
 
--- the first of a list of rules that is for this id and has a default
+-- the row of the first default for this id
 abbrev pub default_for : Text → List Rule → Option Row
 default_for id c = find (λ r. is_some (slice_get r.values 0) && bytes_eq r.id id) (map default_row c)
 
@@ -170,7 +170,7 @@ argument_facts clap command e =
       valued = λ rows v. cond clap (plain_word s.rules (option e.name) v (holding rows (Some (e.name, []))))
           (holding rows (Some (e.name, v ∷ [])), next idle);
       alone = λ h v. if_so (stands_alone e) (cond clap (to_positional s.rules (arg_by_index s.rules 1) v (at h 1) h, step_fault s 1 h value)
-          (holds (option_map_or (λ (q : Text × List Text). bytes_eq q.0 e.name) h.pending false && false) h (settling s h) e v));
+          (goes_alone (option_map_or (λ (q : Text × List Text). bytes_eq q.0 e.name) h.pending false && false) h (settling s h) e v));
       settles = λ rows v. if_so (not (is_flag e.kind)) (cond clap (settling s (holding rows (Some (e.name, v ∷ []))))
           (faults_of e v rows, holding (rows_with e v rows) None));
       is_lone = cond clap (bytes_eq e.name (lone command)) (stands_alone e);

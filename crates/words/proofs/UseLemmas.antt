@@ -16,7 +16,7 @@ use Rattle.words.specs.declared.options.Kind.TheVariants as kind
 use Rattle.words.specs.Table.{Command, Entry, commands}
 use Rattle.words.specs.Uses.{AreUses, IsBare, IsIn, IsNotOfKind, IsOfKind, IsUse, Stands, Use, alone, attached, entry_in, flagged, is_flag, is_used, spaced}
 use Rattle.words.specs.Uses.{value_in, words_in, words_of}
-use Rattle.words.proofs.KnownLemmas.{ArgumentFacts, asks, faults_of, holding, holds, known_of, leaf, lone, reacts, row_of, rows_with, so, stands_alone}
+use Rattle.words.proofs.KnownLemmas.{ArgumentFacts, asks, faults_of, goes_alone, holding, known_of, leaf, lone, reacts, row_of, rows_with, so, stands_alone}
 use Rattle.words.proofs.KnownLemmas.{takes_value}
 use Rattle.words.proofs.NumberLemmas.{kind_accepted, no_sign, parser_for}
 use Rattle.words.proofs.WalkLemmas.{after, at, at_row_none, met, or_else_nil, plain_met, run, settling, turn}
@@ -102,7 +102,7 @@ module _ (command : Command) (here : IsIn command commands) {h : Held} {position
       let bare = bare_value e.kind v stands.1 stands.2 of in
       let goes = (λ j. (to_positional s.rules (arg_by_index s.rules (first j)) v (at h (first j)) h, step_fault s (first j) h value))
       ∙ so (ap (λ (f : ArgumentFacts). f.alone h v) (known_of command here e there)) lonely
-      ∙ ap (λ b. holds b h (settling s h) e v) (and-false _) ∙ (λ j. holds false h (is.settles j) e v) in
+      ∙ ap (λ b. goes_alone b h (settling s h) e v) (and-false _) ∙ (λ j. goes_alone false h (is.settles j) e v) in
       hold_step e v (v ∷ []) 2 there stands.1 (simp (lonely, or-true))
       (λ more. turn s idle h position v more _ (plain_met s idle h position v bare) ∙ ap (λ p. after p.1 (run s p.0 more)) goes)
   use_step (spaced e v) there stands of fits =
