@@ -1,19 +1,17 @@
 -- What `clap` makes of the seven commands and of their arguments: one equation, which computes.
-use Rattle.std.proofs.Common.{◌≡◌, ◌∙◌, ◌||◌, ◌&&◌, ◌++◌, ℕ, Bool, true, false, cond, Option, None, Some, List, [], ◌∷◌, codes, inl, inr, not, refl, sym, ap, subst}
-use Rattle.std.proofs.Common.{drop, get_or, is_some, map, option_and_then, option_map, slice_get, unwrap_or}
-use Rattle.std.specs.List.{find, list_any}
+use Rattle.std.proofs.Common.{◌≡◌, ◌||◌, ◌&&◌, ◌++◌, ℕ, Bool, true, false, cond, Option, None, Some, List, [], ◌∷◌, codes, inl, inr, not, refl, ap, subst}
+use Rattle.std.proofs.Common.{bytes_eq, drop, find, get_or, is_some, map, option_and_then, slice_get, unwrap_or}
+use Rattle.std.specs.List.{list_any}
 use Rattle.std.specs.Option.{option_map_or}
-use Rattle.std.specs.Str.{bytes_eq}
 use Rattle.std.specs.Str.Parse.{digits_value}
 use Rattle.std.proofs.lemmas.Option.{same_Some}
-use Rattle.clap.specs.Words.{App, Kinds, Row, Rule, Shape, Text, reading_of}
-use Rattle.clap.specs.Faults.{check_fault, default_fault, other_fault, repeat_fault, settle_fault, step_fault, turn_fault}
+use Rattle.clap.specs.Words.{App, Kinds, Row, Rule, Shape, Text, built, reading_of}
+use Rattle.clap.specs.Faults.{check_fault, default_fault, other_fault, repeat_fault, step_fault, turn_fault}
 use Rattle.clap.specs.Kinds.{check_kinds, or_else, values_kinds}
 use Rattle.clap.specs.Simple.{built_leaf, inherited, label_of, marked_built, names_of, with_leaf_noted}
-use Rattle.clap.specs.Simple as simple
 use Rattle.clap.specs.Takes as takes
 use Rattle.clap.specs.Walk.{Held, Step, Walk, answers_to, arg_by_index, has_long, idle, next, nothing_held, option, plain_word, pushed, reading_by, row_text}
-use Rattle.clap.specs.Walk.{settled, settled_rows, takes_several, to_positional, value, walk_from, walked, with_values, without}
+use Rattle.clap.specs.Walk.{takes_several, to_positional, value, walk_from, walked, with_values, without}
 use Rattle.clap.specs.declared.error.kind.ErrorKind.TheVariants.{DisplayHelp}
 use Rattle.clap.specs.declared.parser.matches.ValueSource.{ValueSource}
 use Rattle.clap.specs.declared.parser.matches.ValueSource.TheVariants.{CommandLine, DefaultValue}
@@ -22,14 +20,14 @@ use Rattle.words.specs.declared.options.Kind.{Kind}
 use Rattle.words.specs.declared.options.Kind.TheVariants as kind
 use Rattle.words.specs.Requests.{is_version}
 use Rattle.words.specs.Table.{Command, Entry, census_app, commands, shape_in}
-use Rattle.words.specs.Uses.{IsIn, is_flag, is_required}
+use Rattle.words.specs.Uses.{IsIn, is_flag, is_required, is_used}
 use Rattle.words.specs.Values.{at_least, number_named}
 use Rattle.words.proofs.NumberLemmas.{is_small, parser_for}
-use Rattle.words.proofs.WalkLemmas.{Met, at, met}
+use Rattle.words.proofs.WalkLemmas.{Met, at, met, settling}
 
 -- the program and a command, as `clap` builds them
 abbrev pub census_built : App
-census_built = simple.built census_app
+census_built = built census_app
 
 abbrev pub leaf : Command → Shape
 leaf command = built_leaf (inherited (with_leaf_noted (marked_built census_app.top)) (shape_in command))
@@ -49,6 +47,10 @@ stands_alone e = not e.is_named && not (is_flag e.kind)
 abbrev pub lone : Command → Text
 lone command = option_map_or (λ e. e.name) (find stands_alone command.arguments) []
 
+-- these rows, and what waits to be settled; no flags of a bundle are to be passed over
+abbrev pub holding : List Row → Option (Text × List Text) → Held
+holding rows pending = record { rows = rows; pending = pending; skip = 0 }
+
 -- ---- one use of an argument
 
 -- the row of an argument
@@ -62,23 +64,17 @@ rows_with e v rows = with_values e.name (reading_of (parser_for e.kind)) Command
 abbrev pub faults_of : Entry → Text → List Row → Kinds
 faults_of e v rows = or_else (repeat_fault false e.name rows) (values_kinds false (parser_for e.kind) (v ∷ []))
 
--- a word with the whole use, which settles what is held before
-abbrev pub reacts : Shape → Held → Entry → Text → Met
-reacts s h e v = (
-  (record { rows = rows_with e v (settled s.rules h).rows; pending = None; skip = h.skip }, next idle),
-  or_else (settle_fault s.rules s.args_override_self h) (faults_of e v (settled s.rules h).rows),
-)
+-- a word with the whole use, once what was held before is settled
+abbrev pub reacts : Kinds × Held → Entry → Text → Met
+reacts p e v = ((record { rows = rows_with e v p.1.rows; pending = None; skip = p.1.skip }, next idle), or_else p.0 (faults_of e v p.1.rows))
 
 -- a word with the name alone, after which values of the argument wait
-abbrev pub asks : Shape → Held → Entry → Met
-asks s h e = (
-  (record { rows = (settled s.rules h).rows; pending = Some (e.name, []); skip = h.skip }, next (option e.name)),
-  settle_fault s.rules s.args_override_self h,
-)
+abbrev pub asks : Kinds × Held → Entry → Met
+asks p e = ((record { rows = p.1.rows; pending = Some (e.name, []); skip = p.1.skip }, next (option e.name)), p.0)
 
--- while several values are taken, nothing is settled before the next
-abbrev pub keeps_on : Held → Entry → Bool
-keeps_on h e = option_map_or (λ (q : Text × List Text). bytes_eq q.0 e.name) h.pending false && false
+-- a value alone; while several values are taken, nothing is settled before the next
+abbrev pub goes_alone : Bool → Held → Kinds × Held → Entry → Text → Walk × Kinds
+goes_alone keeps_on h p e v = (at (pushed e.name v (cond keeps_on h p.1)) 2, cond keeps_on [] p.0)
 
 -- ---- what a request takes
 
@@ -117,12 +113,9 @@ given (kind.LargeNumber most) v used = number (Some (digits_value 10 v))
 abbrev pub default_row : Rule → Row
 default_row a = record { id = a.id; values = a.defaults; count = None; source = Some DefaultValue; reading = reading_by a }
 
-abbrev pub has_some : List Text → Bool
-has_some [] = false
-has_some (v ∷ vs) = true
-
+-- the row of the first default for this id
 abbrev pub default_for : Text → List Rule → Option Row
-default_for id c = option_map default_row (find (λ a. has_some a.defaults && bytes_eq a.id id) c)
+default_for id c = find (λ r. is_some (slice_get r.values 0) && bytes_eq r.id id) (map default_row c)
 
 -- ---- what is known of a command
 
@@ -131,7 +124,7 @@ abbrev pub if_so : {X : Type 0} → Bool → X → Option X
 if_so b x = cond b (Some x) None
 
 pub so : {X : Type 0} {b : Bool} {x y : X} → if_so b x ≡ if_so b y → b ≡ true → x ≡ y
-so {X} {b} {x} {y} same holds = same_Some x y (sym (ap (λ b. if_so b x) holds) ∙ same ∙ ap (λ b. if_so b y) holds)
+so {X} {b} {x} {y} same holds = same_Some x y (rw holds at same)
 
 -- a rule has this long name
 abbrev pub takes_name : Text → Rule → Bool
@@ -143,9 +136,9 @@ pub record ArgumentFacts : Type 0 where
   pub flagged : Held → ℕ → Option Met
   pub attached : Held → ℕ → Text → Option Met
   pub spaced : Held → ℕ → Option Met
-  pub valued : List Row → ℕ → Text → Held × Step
+  pub valued : List Row → Text → Held × Step
   pub alone : Held → Text → Option (Walk × Kinds)
-  pub settles : List Row → ℕ → Text → Option (Kinds × List Row)
+  pub settles : List Row → Text → Option (Kinds × Held)
   pub is_lone : Bool
   pub same_name : Option Entry
   pub small : Bool
@@ -171,23 +164,19 @@ argument_facts clap command e =
     let s = leaf command in
     let word : Text = codes "--" ++ e.name in
     record {
-      flagged = λ h i. if_so (is_flag e.kind) (cond clap (met s idle h i word) (reacts s h e (codes "true")));
-      attached = λ h i v. if_so (takes_value e) (cond clap (met s idle h i (codes "--" ++ (e.name ++ (codes "=" ++ v)))) (reacts s h e v));
-      spaced = λ h i. if_so (takes_value e) (cond clap (met s idle h i word) (asks s h e));
-      valued = λ rows skip v. cond clap (plain_word s.rules (option e.name) v (record { rows = rows; pending = Some (e.name, []); skip = skip }))
-          (record { rows = rows; pending = Some (e.name, v ∷ []); skip = skip }, next idle);
-      alone = λ h v. if_so (stands_alone e) (cond clap (to_positional s.rules (arg_by_index s.rules 1) v (at h 1) h, step_fault s 1 h value) (
-        at (pushed e.name v (cond (keeps_on h e) h (settled s.rules h))) 2,
-        cond (keeps_on h e) [] (settle_fault s.rules s.args_override_self h),
-      ));
-      settles = λ rows skip v. if_so (not (is_flag e.kind)) (cond clap (
-        settle_fault s.rules s.args_override_self (record { rows = rows; pending = Some (e.name, v ∷ []); skip = skip }),
-        settled_rows s.rules (Some (e.name, v ∷ [])) rows,
-      ) (faults_of e v rows, rows_with e v rows));
+      flagged = λ h i. if_so (is_flag e.kind) (cond clap (met s idle h i word) (reacts (settling s h) e (codes "true")));
+      attached = λ h i v. if_so (takes_value e) (cond clap (met s idle h i (codes "--" ++ (e.name ++ (codes "=" ++ v)))) (reacts (settling s h) e v));
+      spaced = λ h i. if_so (takes_value e) (cond clap (met s idle h i word) (asks (settling s h) e));
+      valued = λ rows v. cond clap (plain_word s.rules (option e.name) v (holding rows (Some (e.name, []))))
+          (holding rows (Some (e.name, v ∷ [])), next idle);
+      alone = λ h v. if_so (stands_alone e) (cond clap (to_positional s.rules (arg_by_index s.rules 1) v (at h 1) h, step_fault s 1 h value)
+          (goes_alone (option_map_or (λ (q : Text × List Text). bytes_eq q.0 e.name) h.pending false && false) h (settling s h) e v));
+      settles = λ rows v. if_so (not (is_flag e.kind)) (cond clap (settling s (holding rows (Some (e.name, v ∷ []))))
+          (faults_of e v rows, holding (rows_with e v rows) None));
       is_lone = cond clap (bytes_eq e.name (lone command)) (stands_alone e);
       same_name = cond clap (find (λ x. bytes_eq x.name e.name) command.arguments) (Some e);
       small = cond clap (is_small e.kind) true;
-      default = if_so (not (is_required e))
+      default = if_so (not (is_required e && not (is_used e.name [])))
           (cond clap (taken e.kind (default_for e.name s.rules)) (given e.kind (unwrap_or e.default []) false));
     }
 
@@ -205,7 +194,7 @@ command_facts clap command =
           (check_kinds false false (list_any (λ e. is_required e && not (takes.is_given e.name rows)) es));
       long_names = λ name. cond clap (list_any (takes_name name) s.rules)
           (list_any (λ e. e.is_named && (bytes_eq e.name name || false)) (es ++ help_entry ∷ []));
-      help = λ h. cond clap (other_fault s None (codes "--help") h) (or_else (settle_fault s.rules s.args_override_self h) (DisplayHelp ∷ []));
+      help = λ h. cond clap (other_fault s None (codes "--help") h) (or_else (settling s h).0 (DisplayHelp ∷ []));
       walks = cond clap (walked top.rules (names_of census_built) (walk_from nothing_held) command.name)
           (record { held = nothing_held; waiting = idle; position = 1; is_trailing = false; stopped = Some (command.name, []) });
       fault = cond clap (turn_fault top (names_of census_built) (walk_from nothing_held) command.name) [];

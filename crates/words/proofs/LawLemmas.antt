@@ -1,28 +1,29 @@
 -- What the calls of the program ask for.
-use Rattle.std.proofs.Common.{◌≡◌, ◌∙◌, ◌++◌, ◌&&◌, Bool, true, false, None, Some, Option, List, [], ◌∷◌, append-nil, append_assoc}
-use Rattle.std.proofs.Common.{option_and_then, option_map, inl, inr, is_some, not, refl, sym, ap, ap₂, subst, ◌⊎◌}
-use Rattle.std.specs.List.{fold, list_any}
-use Rattle.std.specs.Option.{option_map_or}
+use Rattle.std.proofs.Common.{◌≡◌, ◌∙◌, ◌&&◌, ◌⊎◌, Bool, true, false, None, Some, Option, List, [], ◌∷◌, append-nil, option_and_then, option_map, fold, inl}
+use Rattle.std.proofs.Common.{inr, not, refl, sym, ap, ap₂, subst, ⊎_elim}
+use Rattle.std.specs.List.{list_any}
+use Rattle.std.proofs.lemmas.Bool.{and_parts}
 use Rattle.clap.specs.Words.{Kinds, Row, Shape, Text, App, IsAmong, fault_of, is_simple, is_simple_and_free, subcommand_of}
-use Rattle.clap.specs.Faults.{check_fault, defaults_fault, entered_fault, level_fault, settle_fault, walk_fault}
+use Rattle.clap.specs.Faults.{check_fault, defaults_fault, level_fault, walk_fault}
 use Rattle.clap.specs.Simple.{entered, names_of, rows_at}
 use Rattle.clap.specs.Kinds.{check_kinds, or_else}
-use Rattle.clap.specs.Walk.{Names, Rule, Walk, finished, idle, nothing_held, settled, walk_from, walked}
-use Rattle.clap.specs.Walk.{with_default}
-use Rattle.clap.proofs.OnLiterals.{clap_on_literals}
-use Rattle.words.specs.declared.request.Request.{Request}
-use Rattle.words.specs.Calls.{AskForTheirValues, AsksForVersion, AsksFor, plan_given, text_given}
-use Rattle.words.specs.Requests.{all_four, asked_by, asks_version, gather_from, is_version, name_from, request_in, run_from, set_of_four, show_from, soup_from}
-use Rattle.words.specs.Requests.{plan_in, plan_of_three, take_from, unless_faulty, work_from, called_by}
-use Rattle.words.specs.Table.{Command, Entry, census_app, commands}
-use Rattle.words.specs.Uses.{AreUses, IsIn, Use, is_required, is_used, lacks_some, words_in}
-use Rattle.words.proofs.KnownLemmas.{CommandFacts, census_built, flag_of, given, known, leaf, number_of, taken, text_of}
-use Rattle.words.proofs.UseLemmas.{all_read, rows_in}
-use Rattle.words.proofs.ValueLemmas.{Each, all_taken, completed, given_used, lookup, no_default_fault}
-use Rattle.words.proofs.WalkLemmas.{at, faults_by, run}
+use Rattle.clap.specs.Walk.{Walk, finished, nothing_held, walk_from, walked, with_default}
 use Rattle.clap.specs.declared.error.kind.ErrorKind.{ErrorKind}
 use Rattle.clap.specs.declared.error.kind.ErrorKind.TheVariants.{OutOfMemory}
+use Rattle.clap.proofs.FaultLemmas.{stopped_fault}
+use Rattle.clap.proofs.OnLiterals.{clap_on_literals}
+use Rattle.clap.proofs.WalkLemmas.{walk_stopped}
+use Rattle.words.specs.declared.request.Request.{Request}
+use Rattle.words.specs.Calls.{AskForTheirValues, AsksForVersion, AsksFor, plan_given}
+use Rattle.words.specs.Requests.{all_four, asked_by, asks_version, called_by, gather_from, is_version, name_from, plan_in, plan_of_three, request_in, run_from}
+use Rattle.words.specs.Requests.{set_of_four, show_from, soup_from, take_from, unless_faulty, work_from}
+use Rattle.words.specs.Table.{Command, Entry, census_app, commands}
 use Rattle.words.specs.Table as table
+use Rattle.words.specs.Uses.{AreUses, IsIn, Use, is_required, lacks_some, words_in}
+use Rattle.words.proofs.KnownLemmas.{CommandFacts, census_built, flag_of, known, leaf, number_of, text_of}
+use Rattle.words.proofs.UseLemmas.{all_read, rows_in}
+use Rattle.words.proofs.ValueLemmas.{AllTaken, all_taken, completed, given_used, no_default_fault}
+use Rattle.words.proofs.WalkLemmas.{at, end_faults, faults_by, run}
 
 -- ---- what a parse finds
 
@@ -31,10 +32,6 @@ pub asked_by-called : (words : List Text) → asks_version words ≡ false → a
 asked_by-called words other = rw other refl
 
 -- `clap` says of the program which matches words have, and which faults
-census_is_simple : is_simple census_app ≡ true
-unfolding clap_on_literals
-census_is_simple = refl
-
 census_is_free : is_simple_and_free census_app ≡ true
 unfolding clap_on_literals
 census_is_free = refl
@@ -44,37 +41,21 @@ module _ (app : App) (words : List Text) (is : app ≡ census_app) (other : fals
   pub asked_by-found : (found : Option (Text × List Row)) → (is_simple_and_free app ≡ true → fault_of app words ≡ [])
       → (is_simple app ≡ true → found ≡ subcommand_of app words) → asked_by words ≡ option_and_then request_in found
   asked_by-found found faultless finds =
-      let none : fault_of census_app words ≡ [] = ap (λ (a : App). fault_of a words) (sym is) ∙ faultless (ap is_simple_and_free is ∙ census_is_free) in
-      let same : found ≡ subcommand_of census_app words = finds (ap is_simple is ∙ census_is_simple) ∙ ap (λ (a : App). subcommand_of a words) is in
+      let none = subst (λ (a : App). is_simple_and_free a ≡ true → fault_of a words ≡ []) is faultless census_is_free in
+      let same = subst (λ (a : App). is_simple a ≡ true → found ≡ subcommand_of a words) is finds (and_parts _ _ census_is_free).0 in
       asked_by-called words (sym other) ∙ rw (none, same) refl
 
   -- a failure that isn't one of memory comes of words that ask for nothing
   pub asked_by-none : (kind : ErrorKind) → (is_simple_and_free app ≡ true → (kind ≡ OutOfMemory) ⊎ IsAmong kind (fault_of app words))
       → (kind ≡ OutOfMemory → ⊥) → asked_by words ≡ None
-  asked_by-none kind fails enough = asked_by-called words (sym other)
-      ∙ go (fault_of census_app words) _ (subst (λ (a : App). (kind ≡ OutOfMemory) ⊎ IsAmong kind (fault_of a words)) is
-      (fails (ap is_simple_and_free is ∙ census_is_free)))
+  asked_by-none kind fails enough = asked_by-called words (sym other) ∙ go (fault_of census_app words) _
+      (subst (λ (a : App). is_simple_and_free a ≡ true → (kind ≡ OutOfMemory) ⊎ IsAmong kind (fault_of a words)) is fails census_is_free)
     where
       go : (faults : Kinds) (request : Option Request) → (kind ≡ OutOfMemory) ⊎ IsAmong kind faults → unless_faulty faults request ≡ None
-      go [] request (inl memory) = absurd (enough memory)
-      go [] request (inr never) = absurd never
+      go [] request among = absurd (⊎_elim enough (λ never. never) among)
       go (k ∷ ks) request among = refl
 
 -- ---- the name of a command
-
--- after the name of a command its words are kept as they are
-abbrev left : Text → List Text → Walk
-left name words = record { held = nothing_held; waiting = idle; position = 1; is_trailing = false; stopped = Some (name, words) }
-
-left_walk : (c : List Rule) (names : Names) (name : Text) (before words : List Text) → fold (walked c names) (left name before) words ≡ left name (before ++ words)
-unfolding walked
-left_walk c names name before [] = ap (left name) (sym (append-nil before))
-left_walk c names name before (word ∷ words) = left_walk c names name (before ++ word ∷ []) words ∙ ap (left name) (append_assoc before (word ∷ []) words)
-
-left_fault : (s : Shape) (names : Names) (name : Text) (before words : List Text) → walk_fault s names (left name before) words ≡ []
-unfolding walked walk_fault
-left_fault s names name before [] = refl
-left_fault s names name before (word ∷ words) = left_fault s names name (before ++ word ∷ []) words
 
 -- what the program itself finds wrong after a command
 top_fine : or_else (defaults_fault [] census_built.top.rules) (check_fault census_built.top (finished census_built.top.rules nothing_held) true) ≡ []
@@ -86,7 +67,7 @@ abbrev pub asked_of : Shape → Kinds × Walk → Option Request
 asked_of s r = unless_faulty (or_else (faults_by s r) []) (request_in (s.name, finished s.rules r.1.held))
 
 -- the name of a command and words after it don't ask for the version
-not_version : (program name : Text) (words : List Text) → is_version name ≡ false → asks_version (program ∷ name ∷ words) ≡ false
+pub not_version : (program name : Text) (words : List Text) → is_version name ≡ false → asks_version (program ∷ name ∷ words) ≡ false
 not_version program name [] other = other
 not_version program name (w ∷ ws) other = refl
 
@@ -99,18 +80,17 @@ module _ (command : Command) (here : IsIn command commands) (program : Text) whe
       let a = census_built in
       let walks = ap (λ (f : CommandFacts). f.walks) k in
       let fine : walk_fault a.top (names_of a) (walk_from nothing_held) (command.name ∷ words) ≡ [] =
-      ap₂ (λ ks w. or_else ks (walk_fault a.top (names_of a) w words)) (ap (λ (f : CommandFacts). f.fault) k) walks ∙ left_fault a.top (names_of a) command.name [] words in
-      let ends : fold (walked a.top.rules (names_of a)) (walk_from nothing_held) (command.name ∷ words) ≡ left command.name words =
-      ap (λ w. fold (walked a.top.rules (names_of a)) w words) walks ∙ left_walk a.top.rules (names_of a) command.name [] words in
-      let end : Kinds → Option (Text × List Row) → Option Request = λ ks found. unless_faulty ks (option_and_then request_in found) in
+      ap₂ (λ ks w. or_else ks (walk_fault a.top (names_of a) w words)) (ap (λ (f : CommandFacts). f.fault) k) walks
+      ∙ stopped_fault a.top (names_of a) (walk_from nothing_held) (command.name, []) words in
+      let ends = ap (λ w. fold (walked a.top.rules (names_of a)) w words) walks
+      ∙ sym (walk_stopped a.top.rules (names_of a) (walk_from nothing_held) command.name [] words) in
+      let found = ap (λ (f : CommandFacts). f.found) k in
+      let faults : fault_of census_app (program ∷ command.name ∷ words) ≡ or_else (level_fault s [] nothing_held words false []) [] =
+      rw (fine, ends, found, top_fine) refl in
+      let matches : subcommand_of census_app (program ∷ command.name ∷ words) ≡ Some (rows_at s words) =
+      ap (λ (w : Walk). entered a w.stopped) ends ∙ ap (option_map (λ s. rows_at s words)) found in
       asked_by-called (program ∷ command.name ∷ words) (not_version program command.name words (ap (λ (f : CommandFacts). f.version) k))
-      ∙ ap₂ (λ ks (w : Walk). end (or_else ks (or_else (entered_fault a w.stopped)
-      (or_else (settle_fault a.top.rules a.top.args_override_self w.held) (or_else (defaults_fault (settled a.top.rules w.held).rows a.top.rules)
-      (check_fault a.top (finished a.top.rules w.held) (is_some (entered a w.stopped))))))) (entered a w.stopped)) fine ends
-      ∙ ap (λ (o : Option Shape). end (or_else (option_map_or (λ s. level_fault s [] nothing_held words false []) o [])
-      (or_else (defaults_fault [] a.top.rules) (check_fault a.top (finished a.top.rules nothing_held) (is_some (option_map (λ s. rows_at s words) o)))))
-      (option_map (λ s. rows_at s words) o)) (ap (λ (f : CommandFacts). f.found) k)
-      ∙ ap (λ ks. end (or_else (level_fault s [] nothing_held words false []) ks) (Some (rows_at s words))) top_fine
+      ∙ rw (faults, matches) refl
 
   -- arguments that are lawful, of which some that must be there are missing or not
   pub asks_uses : (uses : List Use) (missing : Bool) → AreUses command uses → lacks_some command uses ≡ missing
@@ -124,18 +104,13 @@ module _ (command : Command) (here : IsIn command commands) (program : Text) whe
       let read = all_read command here uses are in
       let end : Kinds → List Row → Option Request = λ ks rs. unless_faulty (or_else ks []) (request_in (s.name, rs)) in
       asks (words_in uses) ∙ ap (asked_of s) (ap (run s (at nothing_held 1)) (sym (append-nil (words_in uses))) ∙ read.runs [])
-      ∙ (λ j. end (or_else (read.is.settles j) (or_else (defaults_fault (read.is.found j) s.rules) (check_fault s (fold with_default (read.is.found j) s.rules) false)))
-      (fold with_default (read.is.found j) s.rules))
+      ∙ (λ j. end (end_faults s (read.is.settles j)) (fold with_default (read.is.settles j).1.rows s.rules))
       ∙ ap (λ ks. end ks rows) (ap₂ or_else (no_default_fault s.rules (rows_in uses) (ap (λ (f : CommandFacts). f.default_faults) k))
       (ap (λ (f : CommandFacts). f.checks rows) k
       ∙ (λ j. check_kinds false false (list_any (λ e. is_required e && not (given_used command here e.name uses j)) command.arguments))
       ∙ ap (check_kinds false false) lacks))
 
 -- ---- the values of each
-
--- what is taken of all arguments of a list
-abbrev AllTaken : List Entry → List Use → List Row → Type 0
-AllTaken es uses rows = Each (λ e. taken e.kind (lookup e.name rows) ≡ given e.kind (text_given e uses) (is_used e.name uses)) es
 
 -- the rows of a call
 abbrev rows_for : Command → List Use → List Row
@@ -164,7 +139,8 @@ ask_for_their_values = record {
   name = asks_for table.name_command (inr (inl refl)) _ (λ uses all. let (period, (horizon, (stride, (limit, (rule, more))))) = all in λ i.
       name_from (all_four (number_of (period i)) (number_of (horizon i)) (number_of (stride i)) (number_of (limit i))) (text_of (rule i)));
   show = asks_for table.show_command (inr (inr (inl refl))) _ (λ uses all. let (code, more) = all in λ i. show_from (text_of (code i)));
-  soup = asks_for table.soup_command (inr (inr (inr (inl refl)))) _ (λ uses all. let (n, (seed, more)) = all in λ i. soup_from (number_of (n i)) (text_of (seed i)));
+  soup = asks_for table.soup_command (inr (inr (inr (inl refl)))) _ (λ uses all. let (n, (seed, more)) = all in λ i.
+      soup_from (number_of (n i)) (text_of (seed i)));
   take = asks_for table.take_command (inr (inr (inr (inr (inl refl))))) _ (λ uses all.
       let (plan, (workers, (progress, more))) = plan_taken uses (rows_for table.take_command uses) (table.workers ∷ table.progress ∷ []) all in
       λ i. take_from (flag_of (progress i)) (plan i) (number_of (workers i)));

@@ -6,5 +6,6 @@ use Rattle.words.proofs.application.with_arguments.Given as goal
 
 abbrev pub invariant-loop-row : goal.invariant-loop-row
 invariant-loop-row l =
-    (with_rules (app_of l.command) (map rule_in (map entry_of (drop l.row-index l.rows))) ≡ with_rules (app_of l.fn.command) (map rule_in (map entry_of l.rows)))
+    (with_rules (app_of l.command) (map rule_in (map entry_of (drop l.row-index l.rows)))
+    ≡ with_rules (app_of l.fn.command) (map rule_in (map entry_of l.rows)))
     × ((fields_of l.fn.command).has_globals ≡ false → (fields_of l.command).has_globals ≡ false)

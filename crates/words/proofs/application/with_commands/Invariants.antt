@@ -5,4 +5,5 @@ use Rattle.words.proofs.application.with_commands.Given as goal
 
 abbrev pub invariant-loop-row : goal.invariant-loop-row
 invariant-loop-row l =
-    with_commands (app_of l.program) (map shape_in (map command_of (drop l.row-index l.rows))) ≡ with_commands (app_of l.fn.program) (map shape_in (map command_of l.rows))
+    with_commands (app_of l.program) (map shape_in (map command_of (drop l.row-index l.rows)))
+    ≡ with_commands (app_of l.fn.program) (map shape_in (map command_of l.rows))
