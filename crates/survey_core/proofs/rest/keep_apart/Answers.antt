@@ -1,5 +1,6 @@
-use Rattle.std.proofs.Common.{◌≡◌, ◌∙◌, ◌+◌, ◌<◌, ◌≤◌, ap, sym, refl, subst, ℕ, map, All, true, arith}
+use Rattle.std.proofs.Common.{◌≡◌, ◌∙◌, ◌+◌, ◌<◌, ◌≤◌, ap, sym, refl, subst, ℕ, length, map, All, true, arith}
 use Rattle.std.proofs.lemmas.Bool.{false≢true}
+use Rattle.std.proofs.lemmas.List.{length-map}
 use Rattle.plane_core.specs.Cells.{InOrder}
 use Rattle.plane_core.specs.Generations.{after, lies_within, next}
 use Rattle.plane_core.proofs.GenerationLemmas.{after-none, after-more}
@@ -27,6 +28,12 @@ next-requires c =
     let low : c.loop.counter < c.args.horizon = c.loop-test.true in
     let most : c.args.horizon ≤ 4096 = c.requires.horizon in
     ap (lies_within 999999) c.loop.invariant.whole ∙ within_later 101000 999999 c.args.rule.now c.args.pattern.now c.loop.counter (omega arith) c.requires.near
+
+pub next_of_all-requires-clause-first : goal.next_of_all-requires-clause-first
+next_of_all-requires-clause-first c = c.as_slice-first.ensures.value ∙ c.in_ok-stepped.ensures
+
+pub next_of_all-requires-clause-long : goal.next_of_all-requires-clause-long
+next_of_all-requires-clause-long c = ap length (c.as_slice.ensures.value ∙ c.loop.invariant.alone) ∙ length-map _ _
 
 pub next_of_all-requires-clause-near : goal.next_of_all-requires-clause-near
 next_of_all-requires-clause-near c =
@@ -96,3 +103,7 @@ loop-preserved c =
       apart = apart_more c.args.rule.now c.args.pattern.now c.args.clusters.now c.loop.counter c.in_ok-whole-2.whole c.as_slice-in-loop.result.now whole
           (c.as_slice-in-loop.ensures.value ∙ items) c.loop.invariant.apart (c.in_ok-same.ensures.0 c.if-not-same.false);
     }
+
+-- no generation is left
+pub returns : goal.returns
+returns c = (λ e g low. c.loop.invariant.apart g (omega arith), λ apart. refl)
