@@ -1,7 +1,8 @@
-use Rattle.std.proofs.Common.{◌≡◌, pos, negsuc, subst}
+use Rattle.std.proofs.Common.{◌≡◌, arith, pos, negsuc, subst, sym}
 use Rattle.plane_core.specs.declared.cell.Cell.{Cell}
-use Rattle.plane_core.specs.Cells.{moved_by}
+use Rattle.plane_core.specs.Cells.{moved_by, on_plane}
 use Rattle.plane_core.specs.Forest.{cell_of, IsPassed}
+use Rattle.plane_core.proofs.PlacementLemmas.{all_at}
 use Rattle.plane_core.proofs.ForestLemmas.{JoinsRow, all_behind, joins_rows, keeps-then}
 use Rattle.plane_core.proofs.forest.join_place.Goals as goal
 
@@ -40,3 +41,26 @@ returns-clause-cursors c =
       top = all_behind cells c.join_row-top.result c.args.place (negsuc 1) c.requires.pattern.in_order
           (subst (λ (x : Cell). IsPassed cells c.join_row-top.result x) from_top c.join_row-top.ensures.cursor);
     }
+
+-- where the cursors stand, each near place of a row before this one is passed
+pub join_row-above-requires-clause-cursor : goal.join_row-above-requires-clause-cursor
+join_row-above-requires-clause-cursor c =
+    subst (λ (x : Cell). IsPassed c.args.cells.now c.args.cursors.above x) (sym c.near.ensures)
+    (c.requires.cursors.above c.args.place (omega arith) c.requires.place)
+
+pub join_row-top-requires-clause-cursor : goal.join_row-top-requires-clause-cursor
+join_row-top-requires-clause-cursor c =
+    subst (λ (x : Cell). IsPassed c.args.cells.now c.args.cursors.top x) (sym c.near-3.ensures)
+    (c.requires.cursors.top c.args.place (omega arith) c.requires.place)
+
+pub near-requires-clause-on_plane : goal.near-requires-clause-on_plane
+near-requires-clause-on_plane c = all_at on_plane c.args.cells.now c.args.place _ c.requires.place c.requires.pattern.on_plane
+
+pub near-requires-2-clause-on_plane : goal.near-requires-2-clause-on_plane
+near-requires-2-clause-on_plane c = all_at on_plane c.args.cells.now c.args.place _ c.requires.place c.requires.pattern.on_plane
+
+pub near-requires-3-clause-on_plane : goal.near-requires-3-clause-on_plane
+near-requires-3-clause-on_plane c = all_at on_plane c.args.cells.now c.args.place _ c.requires.place c.requires.pattern.on_plane
+
+pub near-requires-4-clause-on_plane : goal.near-requires-4-clause-on_plane
+near-requires-4-clause-on_plane c = all_at on_plane c.args.cells.now c.args.place _ c.requires.place c.requires.pattern.on_plane
