@@ -56,7 +56,11 @@ impl Haul {
         ensures kept { IfErr result (λ refused. (refused.0 ≡ self) × (refused.1 ≡ other)) }
     {
         match one_of(&self, &other) {
-            Ok(joined) => Ok(joined),
+            Ok(joined) => {
+                drop(self);
+                drop(other);
+                Ok(joined)
+            }
             Err(fault) => Err((self, other, fault)),
         }
     }
