@@ -51,9 +51,7 @@ pub(crate) struct Shift {
     pub(crate) end: End,
 }
 
-/// Surveys what is left, one number after another, until none is left, the gate stops the worker, or memory runs out.
-/// Each report is presented.
-#[tactic(auto, using(crate::proofs::ShiftLemmas::reported_none, crate::proofs::ShiftLemmas::reported_more))]
+/// Surveys what is left, with a memo of the worker's own. Each report is presented.
 fn survey_all<G: Gate, R: Wait>(
     alloc: Global,
     rt: &R,
@@ -68,8 +66,28 @@ fn survey_all<G: Gate, R: Wait>(
     ensures worked { HasWorked site.now.belt.name site.now.job site.now.missing.items sender.new }
     ensures stopped { result ≡ End.Stopped → StopsAt (G.may_stop gate.now) site.now.missing.items sender.old.number }
 {
-    let worker = sender.number();
     let mut memo = Memo::new(alloc);
+    survey_left(alloc, rt, site, gate, pass, sender, &mut memo)
+}
+
+/// Surveys one number after another, until none is left, the gate stops the worker, or memory runs out.
+#[tactic(auto, using(crate::proofs::ShiftLemmas::reported_none, crate::proofs::ShiftLemmas::reported_more))]
+fn survey_left<G: Gate, R: Wait>(
+    alloc: Global,
+    rt: &R,
+    site: &Site,
+    gate: &G,
+    pass: &mut Pass,
+    sender: &mut SenderPass<Note>,
+    memo: &mut Memo,
+) -> End
+    requires pass { pass.old ≡ fresh site.now.tickets }
+    requires sender { sender.old ≡ silent site.now.belt.name sender.old.number }
+    ensures number { sender.new.number ≡ sender.old.number }
+    ensures worked { HasWorked site.now.belt.name site.now.job site.now.missing.items sender.new }
+    ensures stopped { result ≡ End.Stopped → StopsAt (G.may_stop gate.now) site.now.missing.items sender.old.number }
+{
+    let worker = sender.number();
     for _ in rt.forever() {
         let Some(place) = site.tickets.draw(pass) else {
             return End::Drained;
@@ -78,7 +96,7 @@ fn survey_all<G: Gate, R: Wait>(
         if gate.before(worker, number).is_err() {
             return End::Stopped;
         }
-        let Ok(report) = Report::make_with(alloc, &site.job, worker, number, &mut memo) else {
+        let Ok(report) = Report::make_with(alloc, &site.job, worker, number, memo) else {
             return End::OutOfMemory;
         };
         site.belt.present(rt, sender, Note::Report(report));

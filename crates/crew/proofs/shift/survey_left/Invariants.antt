@@ -1,6 +1,6 @@
 use Rattle.std.proofs.Common.{◌≡◌}
 use Rattle.crew.specs.Shifts.{HasReported}
-use Rattle.crew.proofs.shift.survey_all.Given as goal
+use Rattle.crew.proofs.shift.survey_left.Given as goal
 
 abbrev pub invariant-loop : goal.invariant-loop
 invariant-loop g l =

@@ -2,7 +2,7 @@ use Rattle.std.proofs.Common.{◌<◌, ◌∙◌, ap, arith, length}
 use Rattle.std.proofs.lemmas.List.{get_or_read}
 use Rattle.handover.specs.Tickets.{Drawn}
 use Rattle.crew.proofs.ShiftLemmas.{reported_next}
-use Rattle.crew.proofs.shift.survey_all.Goals as goal
+use Rattle.crew.proofs.shift.survey_left.Goals as goal
 
 pub loop-preserved : goal.loop-preserved
 loop-preserved g c =
