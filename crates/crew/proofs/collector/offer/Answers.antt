@@ -8,13 +8,14 @@ use Rattle.haul_core.specs.declared.refusal.Refusal.TheVariants.{Closed, Memory,
 use Rattle.ranges.specs.Ranges.{is_in}
 use Rattle.crew.proofs.collector.offer.Goals as goal
 
--- no reply is not a refusal
+-- an answer with no refusal is none of the refusals
 taken_is_answer : (reason : Refusal) → None ≢ Some reason
 taken_is_answer reason e = absurd (cc)
 
 -- no reason of the book is memory
 no_memory : (closed job over inside : Bool) (worker : Option ℕ)
-    → (if closed then Some Closed else if not job then Some OtherJob else if over then Some UnknownWorker else if not inside then Some OutOfRange else double worker)
+    → (if closed then Some Closed else if not job then Some OtherJob else if over then Some UnknownWorker else if not inside then Some OutOfRange
+    else double worker)
     ≢ Some Memory
 no_memory true job over inside worker e = absurd (cc)
 no_memory false false over inside worker e = absurd (cc)
@@ -38,7 +39,12 @@ pub returns-in-Ok : goal.returns-in-Ok
 returns-in-Ok c =
     let all = c.in-Ok.ensures in
     record {
-      added = inr (record { terms = all.terms; closed = all.closed; taken = all.taken; stands = λ arrivals here. all.stands arrivals here (taken_is_answer Memory) });
+      added = inr (record {
+        terms = all.terms;
+        closed = all.closed;
+        taken = all.taken;
+        stands = λ arrivals here. all.stands arrivals here (taken_is_answer Memory);
+      });
       stands = λ same arrivals here. all.stands arrivals here (taken_is_answer Memory);
       kept = λ never. absurd (true≢false never);
       lost = λ never. absurd (true≢false never);
