@@ -1,9 +1,11 @@
 -- A crew is run a worker at a time.
-use Rattle.std.proofs.Common.{◌≡◌, ◌≤◌, ◌+◌, ◌-◌, ◌++◌, ◌∙◌, ◌⊎◌, ℕ, All, List, [], ◌∷◌, ap, append_assoc, arith, length, map, subst, sym}
+use Rattle.std.proofs.Common.{◌≡◌, ◌≤◌, ◌+◌, ◌-◌, ◌++◌, ◌∙◌, ◌⊎◌, ◌<◌, ℕ, All, Bool, true, false, List, [], ◌∷◌, ap, append-nil, append_assoc, arith, length}
+use Rattle.std.proofs.Common.{map, subst, subst₂, sym}
 use Rattle.std.specs.Prelude.{IfSome, None, Option, Some, vec_capacity}
 use Rattle.std.specs.List.{range_with_len}
-use Rattle.std.proofs.lemmas.List.{map-append}
-use Rattle.std.proofs.lemmas.List.Elements.{All-nil}
+use Rattle.std.proofs.lemmas.List.{length-append, length-map, map-append}
+use Rattle.std.proofs.lemmas.List.Elements.{All-head, All-nil}
+use mir.Val.{bool_byte}
 use Rattle.haul_core.specs.Books.{Held}
 use Rattle.handover.specs.Belts.{Presented, Received, silent}
 use Rattle.handover.specs.Tickets.{Drawn, fresh}
@@ -15,7 +17,7 @@ use Rattle.crew.specs.declared.shift.Site.{Site}
 use Rattle.crew.specs.declared.workers.Crew.{Crew}
 use Rattle.crew.specs.declared.posts.Posts.{Posts}
 use Rattle.crew.proofs.ShiftLemmas.{back_more}
-use Rattle.crew.proofs.TakeLemmas.{all_silent, silent_length}
+use Rattle.crew.proofs.TakeLemmas.{all_left, all_right, all_silent, silent_length}
 
 -- how a crew stands while so many of its workers more are away
 abbrev with_away : Crew → ℕ → Crew
@@ -43,7 +45,82 @@ ready_first {may_stop} site posts crew workers passes many senders few away rece
           (record { worked = All-nil (HasWorked site.belt.name site.job site.missing.items); stops = tt; one = tt }));
     }
 
+-- a test counts at most one
+pub one_at_most : (b : Bool) (n : ℕ) → n ≡ bool_byte b → n ≤ 1
+one_at_most true n is = omega (arith, is)
+one_at_most false n is = omega (arith, is)
+
+-- a number is at least what was added
+pub not_more : (a b n : ℕ) → n ≡ a + b → b ≤ n
+not_more a b n is = omega arith
+
 module _ {may_stop : ℕ → ℕ → Type 0} {site : Site} where
+  -- the pass of the post that was taken out is fresh
+  pub pass_out : (posts next : Posts) (crew : Crew) (post : Drawn × Presented Note) → MayRun may_stop site posts crew → IsTakenOut post posts next
+      → post.0 ≡ fresh site.tickets
+  pass_out posts next crew post may is =
+      let P : Drawn → Type 0 = λ p. p ≡ fresh site.tickets in
+      All-head P post.0 [] (all_right P next.passes.items (post.0 ∷ []) (subst (All P) is.passes may.passes))
+
+  -- and its sender has sent nothing
+  pub sender_out : (posts next : Posts) (crew : Crew) (post : Drawn × Presented Note) → MayRun may_stop site posts crew → IsTakenOut post posts next
+      → post.1 ≡ silent site.belt.name post.1.number
+  sender_out posts next crew post may is =
+      let P : Presented Note → Type 0 = λ s. s ≡ silent site.belt.name s.number in
+      All-head P post.1 [] (all_right P next.senders.items (post.1 ∷ []) (subst (All P) is.senders may.senders))
+
+  -- with the posts that are left the crew may be run
+  pub others_may_run : (posts next : Posts) (crew : Crew) (post : Drawn × Presented Note) (started : ℕ) → started ≤ 1 → MayRun may_stop site posts crew
+      → IsTakenOut post posts next → MayRun may_stop site next (with_away crew started)
+  others_may_run posts next crew post started one may is =
+      let P : Drawn → Type 0 = λ p. p ≡ fresh site.tickets in
+      let S : Presented Note → Type 0 = λ s. s ≡ silent site.belt.name s.number in
+      let passes : length posts.passes.items ≡ length next.passes.items + 1 = ap length is.passes ∙ length-append next.passes.items (post.0 ∷ []) in
+      let senders : length posts.senders.items ≡ length next.senders.items + 1 = ap length is.senders ∙ length-append next.senders.items (post.1 ∷ []) in
+      let many = may.many in
+      let few = may.few in
+      let room = may.room in
+      record {
+        passes = all_left P next.passes.items (post.0 ∷ []) (subst (All P) is.passes may.passes);
+        senders = all_left S next.senders.items (post.1 ∷ []) (subst (All S) is.senders may.senders);
+        many = omega (arith, passes, senders, many);
+        few = omega (arith, senders, one, few);
+        receiver = may.receiver;
+        room = omega (arith, senders, room);
+        back = may.back;
+      }
+
+  -- the others are back, and there is room for one more
+  pub room_for_one : (posts next : Posts) (crew mid : Crew) (post : Drawn × Presented Note) (started : ℕ) → MayRun may_stop site posts crew
+      → IsTakenOut post posts next → HasRunAll may_stop site next (with_away crew started) mid → length mid.senders.items < vec_capacity mid.senders
+  room_for_one posts next crew mid post started may is ran =
+      let number : Presented Note → ℕ = λ s. s.number in
+      let senders : length posts.senders.items ≡ length next.senders.items + 1 = ap length is.senders ∙ length-append next.senders.items (post.1 ∷ []) in
+      let all : length (sender_numbers mid.senders.items) ≡ length (sender_numbers crew.senders.items) + length (sender_numbers next.senders.items) =
+      ap length ran.numbers ∙ length-append (sender_numbers crew.senders.items) (sender_numbers next.senders.items) in
+      let a : length (sender_numbers mid.senders.items) ≡ length mid.senders.items = length-map mid.senders.items number in
+      let b : length (sender_numbers crew.senders.items) ≡ length crew.senders.items = length-map crew.senders.items number in
+      let d : length (sender_numbers next.senders.items) ≡ length next.senders.items = length-map next.senders.items number in
+      let same : vec_capacity mid.senders ≡ vec_capacity crew.senders = ran.room in
+      let room = may.room in
+      omega (arith, senders, all, a, b, d, same, room)
+
+  -- no post is left, and the notes of all that were started are collected
+  pub run_none : (posts : Posts) (crew new : Crew) → MayRun may_stop site posts crew → posts.senders.items ≡ []
+      → (answered : Bool) × Collected crew.away 0 crew.receiver new.receiver crew.haul new.haul answered → new.senders ≡ crew.senders
+      → new.stopped ≡ crew.stopped → new.away ≡ crew.away → HasRunAll may_stop site posts crew new
+  run_none posts crew new may none collected senders stopped away = record {
+    back = subst₂ (λ (ps : List (Presented Note)) (o : Option ℕ). AreBack may_stop site.belt.name site.job site.missing.items ps o)
+        (sym (ap (λ v. v.items) senders)) (sym stopped) may.back;
+    numbers =
+        ap (λ v. sender_numbers v.items) senders
+        ∙ sym (ap (λ (ps : List (Presented Note)). sender_numbers crew.senders.items ++ sender_numbers ps) none
+        ∙ append-nil (sender_numbers crew.senders.items));
+    room = ap (λ v. vec_capacity v) senders;
+    away = away;
+    collected = (crew.away, collected.0, collected.1);
+  }
+
   -- the others are back, and then the worker that was started first of these
   pub run_more : (posts next : Posts) (crew mid new : Crew) (post : Drawn × Presented Note) (shift : Presented Note) (started : ℕ)
       (Stopped : Type 0) → IsTakenOut post posts next → HasRunAll may_stop site next (with_away crew started) mid

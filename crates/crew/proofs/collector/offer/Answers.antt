@@ -1,11 +1,69 @@
-use Rattle.std.proofs.Common.{inl}
+use Rattle.std.proofs.Common.{◌≡◌, ◌≢◌, ◌∙◌, ℕ, Bool, true, false, List, None, Option, Some, ap, if◌then◌else◌, inl, inr, nat_lt, not, sym, true≢false}
+use Rattle.haul_core.specs.Books.{IsReply, Terms, double, eligible, first_worker, has_closing, refusal_of}
+use Rattle.haul_core.specs.Jobs.{same_job}
+use Rattle.haul_core.specs.Reports.{Reported}
+use Rattle.haul_core.specs.declared.arrival.Arrival.{Arrival}
+use Rattle.haul_core.specs.declared.refusal.Refusal.{Refusal}
+use Rattle.haul_core.specs.declared.refusal.Refusal.TheVariants.{Closed, Memory, OtherJob, OutOfRange, UnknownWorker}
+use Rattle.ranges.specs.Ranges.{is_in}
 use Rattle.crew.proofs.collector.offer.Goals as goal
+
+-- an answer with no refusal is none of the refusals
+taken_is_answer : (reason : Refusal) → None ≢ Some reason
+taken_is_answer reason e = absurd (cc)
+
+-- no reason of the book is memory
+no_memory : (closed job over inside : Bool) (worker : Option ℕ)
+    → (if closed then Some Closed else if not job then Some OtherJob else if over then Some UnknownWorker else if not inside then Some OutOfRange
+    else double worker)
+    ≢ Some Memory
+no_memory true job over inside worker e = absurd (cc)
+no_memory false false over inside worker e = absurd (cc)
+no_memory false true true inside worker e = absurd (cc)
+no_memory false true false false worker e = absurd (cc)
+no_memory false true false true None e = absurd (cc)
+no_memory false true false true (Some w) e = absurd (cc)
+
+-- where memory runs out, the book takes the offer
+is_taken : (terms : Terms) (before : List Arrival) (r : Reported) (given : Option Refusal) → IsReply given (refusal_of terms before r)
+    → given ≡ Some Memory → refusal_of terms before r ≡ None
+is_taken terms before r given (inl same) e = absurd (no_memory (has_closing before) (same_job terms.job r.job) (nat_lt terms.workers r.worker)
+    (is_in terms.ranges r.number) (first_worker r.number (eligible terms before)) (sym same ∙ e))
+is_taken terms before r given (inr none) e = none.1
+
+-- equal replies give equal reasons
+same_reason : (a b : Refusal) → Some a ≡ Some b → a ≡ b
+same_reason a b e = cc
+
+pub returns-in-Ok : goal.returns-in-Ok
+returns-in-Ok c =
+    let all = c.in-Ok.ensures in
+    record {
+      added = inr (record {
+        terms = all.terms;
+        closed = all.closed;
+        taken = all.taken;
+        stands = λ arrivals here. all.stands arrivals here (taken_is_answer Memory);
+      });
+      stands = λ same arrivals here. all.stands arrivals here (taken_is_answer Memory);
+      kept = λ never. absurd (true≢false never);
+      lost = λ never. absurd (true≢false never);
+    }
+
+pub returns-in-Memory : goal.returns-in-Memory
+returns-in-Memory c = record {
+  added = inl c.in-Err.ensures.kept;
+  stands = λ never. absurd (true≢false (sym never));
+  kept = λ same. c.in-Err.ensures.kept;
+  lost = λ same arrivals here.
+      is_taken c.args.haul.now.terms arrivals c.args.report (Some c.in-Err.refused.reason) (c.in-Err.ensures.reply arrivals here) (ap Some c.in-Memory.is);
+}
 
 -- src/collector.rt:55:1
 pub returns : goal.returns
 returns c = let other = c.in_default.not-Memory in record {
   added = inl c.in-Err.ensures.kept;
-  stands = λ same. λ arrivals. λ here. c.in-Err.ensures.stands arrivals here (λ memory. other (cc (memory)));
+  stands = λ same arrivals here. c.in-Err.ensures.stands arrivals here (λ memory. other (same_reason c.in-Err.refused.reason Memory memory));
   kept = λ never. c.in-Err.ensures.kept;
-  lost = λ never. absurd (cc);
+  lost = λ never. absurd (true≢false never);
 }
