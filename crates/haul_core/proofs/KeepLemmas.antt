@@ -252,3 +252,11 @@ keeps_none job ranges workers count taken numbers sums normal below size worker 
   where
     distinct_none : IsDistinct nat_eq []
     distinct_none = IsDistinct-from_apart nat_eq [] (λ i j d low short. absurd (omega arith))
+
+-- the number of a report that is taken has no worker yet
+pub none_noted : (held : Held) (workers : List (ℕ × ℕ)) (r : Reported) → workers ≡ map (λ t. (t.1, t.0)) held.taken → refusal_at held r ≡ None
+    → lookup (nat_eq r.number) workers ≡ None
+none_noted held workers r by_number taken =
+    ap (λ (ws : List (ℕ × ℕ)). lookup (nat_eq r.number) ws) by_number
+    ∙ (none_holds held.closed (same_job held.terms.job r.job) (nat_lt held.terms.workers r.worker) (is_in held.terms.ranges r.number)
+    (worker_in r.number held.taken) taken).new

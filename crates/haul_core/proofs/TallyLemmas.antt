@@ -10,7 +10,7 @@ use Rattle.std.specs.List.{All, position}
 use Rattle.std.specs.Map.{keys_of, lookup}
 use Rattle.std.specs.Option.{option_or}
 use Rattle.std.proofs.lemmas.Bool.{cases_Bool, false≢true, false_from_ne_true}
-use Rattle.std.proofs.lemmas.List.{append_assoc, get_or-map, get_or-take, get_or_default, length-map, length-take-le, take_more}
+use Rattle.std.proofs.lemmas.List.{append-nil, append_assoc, get_or-map, get_or-take, get_or_default, length-map, length-take-le, take_more}
 use Rattle.std.proofs.lemmas.List.Quantifiers.{position-Some}
 use Rattle.std.proofs.lemmas.List.Elements.{All-append, All-cons, All-head, All-more, All-nil, All-tail, All-weaker}
 use Rattle.std.proofs.lemmas.Map.Keys.{Less-from_sorted}
@@ -116,6 +116,10 @@ Extends-then a b c x y = record {
   is = y.is ∙ ap (λ (rows : List (List ℕ × Tally)). rows ++ y.more) x.is ∙ append_assoc a x.more y.more;
   blank = All-append (λ row. row.1 ≡ no_tally) x.more y.more x.blank y.blank;
 }
+
+-- no rows have come
+pub Extends-none : (rows : List (List ℕ × Tally)) → Extends rows rows
+Extends-none rows = record { more = []; is = sym (append-nil rows); blank = All-nil (λ row. row.1 ≡ no_tally) }
 
 pub Extends-one : (old new : List (List ℕ × Tally)) (code : List ℕ) (tally : Tally) → new ≡ old ++ (code, tally) ∷ [] → tally ≡ no_tally → Extends old new
 Extends-one old new code tally e nothing = record {

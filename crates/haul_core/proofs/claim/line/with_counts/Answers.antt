@@ -1,4 +1,4 @@
-use Rattle.std.proofs.Common.{ℕ, List, ◌≡◌, ◌∙◌, ◌++◌, ◌∷◌, Some, [], ap, option_map, rules, subst, sym}
+use Rattle.std.proofs.Common.{ℕ, List, ◌≡◌, ◌∙◌, ◌++◌, ◌∷◌, Some, [], ap, option_map, subst, sym}
 use Rattle.haul_core.specs.ClaimSteps.{HasCounts}
 use Rattle.haul_core.specs.ReportLines.{claim_line}
 use Rattle.haul_core.proofs.CountedLemmas.{counted_bad, counted_end, counted_more}
@@ -17,7 +17,8 @@ loop-rest-preserved c =
     let h = subst (λ o. HasCounts c.args.line.now c.args.front c.loop-rest.read.items (option_map (λ r. r.now) c.loop-rest.last) (option_map (λ r. r.now) o)) c.in-Some.is c.loop-rest.invariant in
     let told = c.in-Some-count_after.ensures in
     let object : List ℕ × ℕ = (c.in-Some-count_after.code.now, c.in-Some-count_after.count) in
-    let pushed : c.push.new.self.items ≡ c.loop-rest.read.items ++ (c.in-Some-count_after.code.now, c.in-Some-count_after.count) ∷ [] = search rules in
+    let pushed : c.push.new.self.items ≡ c.loop-rest.read.items ++ (c.in-Some-count_after.code.now, c.in-Some-count_after.count) ∷ [] =
+    c.in_ok-push.ensures.items ∙ (λ i. c.loop-rest.read.items ++ (c.in_ok-make.ensures i, c.in-Some-count_after.count) ∷ []) in
     subst (λ items. HasCounts c.args.line.now c.args.front items (Some c.in-Some-count_after.code.now) (option_map (λ r. r.now) c.cut_at.result.1)) (sym pushed)
     (counted_more c.args.line.now c.args.front c.loop-rest.read.items (option_map (λ r. r.now) c.loop-rest.last) c.in-Some.here.now c.cut_at.result.0.now
     (option_map (λ r. r.now) c.cut_at.result.1) object h c.cut_at.ensures told.0 told.1)
@@ -26,3 +27,6 @@ pub returns-clause-line : goal.returns-clause-line
 returns-clause-line c =
     let h = subst (λ o. HasCounts c.args.line.now c.args.front c.loop-rest.read.items (option_map (λ r. r.now) c.loop-rest.last) (option_map (λ r. r.now) o)) c.in_default.is c.loop-rest.invariant in
     ap claim_line c.claim_of.ensures.claim ∙ counted_end c.args.line.now c.args.front c.loop-rest.read.items (option_map (λ r. r.now) c.loop-rest.last) h
+
+pub returns-clause-lawful : goal.returns-clause-lawful
+returns-clause-lawful c = c.claim_of.ensures.lawful

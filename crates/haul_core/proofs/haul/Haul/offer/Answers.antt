@@ -1,13 +1,14 @@
-use Rattle.std.proofs.Common.{◌≡◌, ◌∙◌, ◌+◌, ◌++◌, ◌∷◌, [], ℕ, List, None, ap, refl, sym, subst, inl, inr, arith, length, if◌then◌else◌}
+use Rattle.std.proofs.Common.{◌≡◌, ◌∙◌, ◌+◌, ◌++◌, ◌∷◌, [], ℕ, List, None, ap, refl, sym, subst, subst₂, nat_eq, inl, inr, arith, length, if◌then◌else◌}
+use Rattle.std.specs.Map.{lookup}
 use Rattle.haul_core.specs.Replies.{refusal_at}
 use Rattle.haul_core.specs.Books.{Held, StandsFor, Terms, entry}
-use Rattle.haul_core.specs.Tallies.{added, found_in, tally_in}
+use Rattle.haul_core.specs.Tallies.{HasLawfulObjects, HasRows, added, found_in, tally_in}
 use Rattle.haul_core.specs.Totals.{is_for_good, is_unsettled}
 use Rattle.haul_core.specs.declared.arrival.Arrival.TheVariants.{Offer}
 use Rattle.std.proofs.lemmas.List.{length_push}
 use Rattle.haul_core.specs.Keeping.{Sums}
 use Rattle.haul_core.proofs.BookLemmas.{same_refusal, stands_refused, stands_taken}
-use Rattle.haul_core.proofs.KeepLemmas.{HasRoom, has_room, lawful_of, keeps_mid, keeps_more, keeps_noted}
+use Rattle.haul_core.proofs.KeepLemmas.{HasRoom, has_room, lawful_of, keeps_mid, keeps_more, keeps_noted, none_noted}
 use Rattle.haul_core.proofs.haul.Haul.offer.Goals as goal
 
 pub returns-in-Some-clause-reply : goal.returns-in-Some-clause-reply
@@ -150,3 +151,61 @@ returns-clause-stands c = λ arrivals s answered.
       taken =
           h.taken.items;
     }) c.args.report own refused)
+
+pub returns-in-Some-clause-state : goal.returns-in-Some-clause-state
+returns-in-Some-clause-state c = inl (sym c.in-Some.is ∙ c.refusal.ensures)
+
+pub returns-in_default-make_room-clause-state : goal.returns-in_default-make_room-clause-state
+returns-in_default-make_room-clause-state c = inr (refl, sym c.refusal.ensures ∙ c.in_default.is)
+
+pub returns-in_default-make_room-clause-stands : goal.returns-in_default-make_room-clause-stands
+returns-in_default-make_room-clause-stands c = λ arrivals s answered. absurd (answered refl)
+
+pub returns-in_default-make_room-clause-terms : goal.returns-in_default-make_room-clause-terms
+returns-in_default-make_room-clause-terms c = ap (λ (h : Held). h.terms) c.self.view_is
+
+pub returns-in_default-make_room-clause-closed : goal.returns-in_default-make_room-clause-closed
+returns-in_default-make_room-clause-closed c = ap (λ (h : Held). h.closed) c.self.view_is
+
+pub returns-in_default-make_room-clause-kept : goal.returns-in_default-make_room-clause-kept
+returns-in_default-make_room-clause-kept c =
+    let h = c.self.inside in
+    let terms : Terms = record { job = h.job; ranges = h.ranges; workers = h.workers } in
+    ap (λ (ts : List (ℕ × ℕ)). record { terms = terms; closed = h.closed; taken = ts }) c.make_room.ensures.taken ∙ c.self.view_is
+
+pub note-requires-clause-room : goal.note-requires-clause-room
+note-requires-clause-room c = c.in-Ok.ensures.room
+
+pub note-requires-clause-spare : goal.note-requires-clause-spare
+note-requires-clause-spare c = c.in-Ok.ensures.spare
+
+pub note-requires-clause-new : goal.note-requires-clause-new
+note-requires-clause-new c =
+    let h = c.self.inside in
+    let terms : Terms = record { job = h.job; ranges = h.ranges; workers = h.workers } in
+    let held : Held = record { terms = terms; closed = h.closed; taken = h.taken.items } in
+    subst₂ (λ (n : ℕ) (ws : List (ℕ × ℕ)). lookup (nat_eq n) ws ≡ None) (sym c.number.ensures.number) (sym c.make_room.ensures.workers)
+    (none_noted held h.worker_of.entries c.args.report c.self.invariant.by_number
+    (ap (λ (x : Held). refusal_at x c.args.report) c.self.view_is ∙ sym c.refusal.ensures ∙ c.in_default.is))
+
+pub add-requires-clause-rows : goal.add-requires-clause-rows
+add-requires-clause-rows c =
+    subst (λ f. HasRows f c.make_room.new.totals.rows.entries) (c.finding-finding.ensures.finding ∙ sym c.finding.ensures.finding) c.in-Ok.ensures.rows
+
+pub add-requires-clause-lawful : goal.add-requires-clause-lawful
+add-requires-clause-lawful c =
+    subst HasLawfulObjects (sym c.finding.ensures.finding) (lawful_of _ _ _ c.args.report.finding c.worker.ensures.report.finding)
+
+pub returns-clause-state : goal.returns-clause-state
+returns-clause-state c = inl (sym c.in_default.is ∙ c.refusal.ensures)
+
+pub returns-clause-taken : goal.returns-clause-taken
+returns-clause-taken c =
+    c.note.ensures.taken ∙ (λ i. c.make_room.ensures.taken i ++ (c.worker.ensures.worker i, c.number.ensures.number i) ∷ [])
+    ∙ ap (λ (h : Held). h.taken ++ entry c.args.report ∷ []) c.self.view_is
+
+pub returns-clause-terms : goal.returns-clause-terms
+returns-clause-terms c = ap (λ (h : Held). h.terms) c.self.view_is
+
+pub returns-clause-closed : goal.returns-clause-closed
+returns-clause-closed c = ap (λ (h : Held). h.closed) c.self.view_is
