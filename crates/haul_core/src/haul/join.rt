@@ -57,6 +57,7 @@ impl Haul {
     {
         match one_of(&self, &other) {
             Ok(joined) => {
+                // A call is proved in a tenth of the time that the end of a scope takes.
                 drop(self);
                 drop(other);
                 Ok(joined)
