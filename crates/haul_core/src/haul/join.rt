@@ -57,7 +57,7 @@ impl Haul {
     {
         match one_of(&self, &other) {
             Ok(joined) => {
-                // A call is proved in a tenth of the time that the end of a scope takes.
+                // By calls, since the ends of two scopes take the prover twice as long as the whole function does so.
                 drop(self);
                 drop(other);
                 Ok(joined)
