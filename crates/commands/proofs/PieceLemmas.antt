@@ -1,6 +1,6 @@
 -- The piece of a line that some bytes have.
 use Rattle.std.proofs.Common.{◌≡◌, ◌≢◌, ◌<◌, ◌≤◌, ◌+◌, ◌∙◌, ◌++◌, ◌==◌, ℕ, true}
-use Rattle.std.proofs.Common.{List, [], ◌∷◌, All, Some, None, ap, append-nil, arith, get_or, length, refl, subst, sym, take, take_all}
+use Rattle.std.proofs.Common.{List, [], ◌∷◌, All, Some, None, ap, append-nil, arith, get_or, length, refl, sym, take}
 use Rattle.std.proofs.lemmas.Bool.{eqb-true}
 use Rattle.std.proofs.lemmas.List.{get_or-take, length-take, take_more}
 use Rattle.std.proofs.lemmas.List.Elements.{All-from_get_or, All-nil}

@@ -1,7 +1,8 @@
-use Rattle.std.proofs.Common.{refl}
+use Rattle.std.proofs.Common.{◌≡◌, refl}
 use Rattle.std.proofs.KnownBytes.{Appends-nil}
 use Rattle.commands.specs.Work.{TellsReports, work_right}
 use Rattle.commands.proofs.AnswerLemmas.{err_of}
+use Rattle.commands.proofs.StillLemmas.{reports_accepted}
 use Rattle.commands.proofs.TakeLemmas.{Reaches_stopped, Stops_opening}
 use Rattle.commands.proofs.WorkLemmas.{reaches_work}
 use Rattle.commands.proofs.work.work.Goals as goal
@@ -21,3 +22,7 @@ returns-clause-reached g c =
 
 pub returns-in_err-haul-clause-untouched : goal.returns-in_err-haul-clause-untouched
 returns-in_err-haul-clause-untouched g c = rw (err_of _ _ c.from_residual.ensures.1) (λ is. refl)
+
+pub returns-clause-untouched : goal.returns-clause-untouched
+returns-clause-untouched g c =
+    reports_accepted (c.put_all.new.output ≡ c.args.output.now) _ _ _ c.put_all.result _ c.put_all.ensures
