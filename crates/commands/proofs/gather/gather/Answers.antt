@@ -1,6 +1,8 @@
+use Rattle.std.proofs.Common.{◌≡◌, refl}
 use Rattle.std.proofs.KnownBytes.{Appends-nil}
 use Rattle.commands.proofs.AnswerLemmas.{err_of, some_input}
 use Rattle.commands.proofs.EndLemmas.{gathers_opening, gathers_over, is_over, reads_named}
+use Rattle.commands.proofs.StillLemmas.{never_refused}
 use Rattle.commands.proofs.gather.gather.Goals as goal
 
 pub returns-in_err-haul-clause-gathers : goal.returns-in_err-haul-clause-gathers
@@ -28,3 +30,20 @@ returns-clause-gathers g c =
 pub returns-clause-unread : goal.returns-clause-unread
 returns-clause-unread g c unread =
     absurd (reads_named c.args.plan.now c.in_ok-haul.ensures.opened.job c.in_ok-haul.ensures.opened.named unread)
+
+pub returns-in_err-haul-clause-untouched : goal.returns-in_err-haul-clause-untouched
+returns-in_err-haul-clause-untouched g c = rw (err_of _ _ c.from_residual.ensures.1) (λ is. (refl, refl))
+
+pub returns-in_err-haul-clause-no_memory : goal.returns-in_err-haul-clause-no_memory
+returns-in_err-haul-clause-no_memory g c = rw (err_of _ _ c.from_residual.ensures.1) (λ is. refl)
+
+pub returns-clause-fine : goal.returns-clause-fine
+returns-clause-fine g c = c.gather_into.ensures.fine
+
+pub returns-clause-untouched : goal.returns-clause-untouched
+returns-clause-untouched g c =
+    never_refused ((c.gather_into.new.input ≡ c.args.input.now) × (c.gather_into.new.output ≡ c.args.output.now)) c.gather_into.result
+    c.gather_into.ensures.accepted
+
+pub returns-clause-no_memory : goal.returns-clause-no_memory
+returns-clause-no_memory g c = c.gather_into.ensures.no_memory

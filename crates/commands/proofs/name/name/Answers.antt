@@ -80,3 +80,33 @@ returns-in_err-put_finding-clause-reached g c =
       rw (err_of _ _ c.from_residual-in_err-put_finding.ensures.1)
           ((finding_text finding, right, c.in_err-put_finding.ensures.front), c.in_err-put_finding.ensures.told),
     )
+
+pub returns-in_err-profile-clause-untouched : goal.returns-in_err-profile-clause-untouched
+returns-in_err-profile-clause-untouched g c = rw (err_of _ _ c.from_residual.ensures.1) (λ is. refl)
+
+pub returns-in_err-profile-clause-no_memory : goal.returns-in_err-profile-clause-no_memory
+returns-in_err-profile-clause-no_memory g c = rw (err_of _ _ c.from_residual.ensures.1) (λ is. refl)
+
+pub returns-in_err-rule-clause-untouched : goal.returns-in_err-rule-clause-untouched
+returns-in_err-rule-clause-untouched g c = rw (err_of _ _ c.from_residual-in_err-rule.ensures.1) (λ is. refl)
+
+pub returns-in_err-rule-clause-no_memory : goal.returns-in_err-rule-clause-no_memory
+returns-in_err-rule-clause-no_memory g c = rw (err_of _ _ c.from_residual-in_err-rule.ensures.1) (λ is. refl)
+
+pub returns-in_err-pattern-clause-untouched : goal.returns-in_err-pattern-clause-untouched
+returns-in_err-pattern-clause-untouched g c = rw (err_of _ _ c.from_residual-in_err-pattern.ensures.1) (λ is. refl)
+
+pub returns-in_err-pattern-clause-no_memory : goal.returns-in_err-pattern-clause-no_memory
+returns-in_err-pattern-clause-no_memory g c = rw (err_of _ _ c.from_residual-in_err-pattern.ensures.1) (λ is. refl)
+
+pub returns-in_err-finding-clause-untouched : goal.returns-in_err-finding-clause-untouched
+returns-in_err-finding-clause-untouched g c = rw (err_of _ _ c.from_residual-in_err-finding.ensures.1) (λ is. refl)
+
+pub returns-in_err-finding-clause-no_memory : goal.returns-in_err-finding-clause-no_memory
+returns-in_err-finding-clause-no_memory g c = rw (err_of _ _ c.from_residual-in_err-finding.ensures.1) (λ is. refl)
+
+pub returns-in_err-put_finding-clause-untouched : goal.returns-in_err-put_finding-clause-untouched
+returns-in_err-put_finding-clause-untouched g c = rw (err_of _ _ c.from_residual-in_err-put_finding.ensures.1) (λ is. cc)
+
+pub returns-in_err-put_finding-clause-no_memory : goal.returns-in_err-put_finding-clause-no_memory
+returns-in_err-put_finding-clause-no_memory g c = rw (err_of _ _ c.from_residual-in_err-put_finding.ensures.1) (λ is. cc)

@@ -40,3 +40,27 @@ returns-in_err-pattern-2-clause-reached g c =
           (Reaches_no_memory _ (only (run_answer c.args.rule_text.now c.args.generations read.0))
           (stream g.W.Write.contents c.args.output.now c.args.output.now) reads (Appends-nil _)),
     )
+
+pub returns-in_err-rule-clause-untouched : goal.returns-in_err-rule-clause-untouched
+returns-in_err-rule-clause-untouched g c = rw (err_of _ _ c.from_residual.ensures.1) (λ is. refl)
+
+pub returns-in_err-rule-clause-no_memory : goal.returns-in_err-rule-clause-no_memory
+returns-in_err-rule-clause-no_memory g c = rw (err_of _ _ c.from_residual.ensures.1) (λ is. refl)
+
+pub returns-in_err-pattern-clause-untouched : goal.returns-in_err-pattern-clause-untouched
+returns-in_err-pattern-clause-untouched g c = rw (err_of _ _ c.from_residual-in_err-pattern.ensures.1) (λ is. refl)
+
+pub returns-in_err-pattern-clause-no_memory : goal.returns-in_err-pattern-clause-no_memory
+returns-in_err-pattern-clause-no_memory g c = rw (err_of _ _ c.from_residual-in_err-pattern.ensures.1) (λ is. refl)
+
+pub returns-in_err-pattern-2-clause-untouched : goal.returns-in_err-pattern-2-clause-untouched
+returns-in_err-pattern-2-clause-untouched g c = rw (err_of _ _ c.from_residual-in_err-pattern-2.ensures.1) (λ is. refl)
+
+pub returns-in_err-pattern-2-clause-no_memory : goal.returns-in_err-pattern-2-clause-no_memory
+returns-in_err-pattern-2-clause-no_memory g c = rw (err_of _ _ c.from_residual-in_err-pattern-2.ensures.1) (λ is. refl)
+
+pub returns-in_err-write_plaintext-clause-untouched : goal.returns-in_err-write_plaintext-clause-untouched
+returns-in_err-write_plaintext-clause-untouched g c = rw (err_of _ _ c.from_residual-in_err-write_plaintext.ensures.1) (λ is. cc)
+
+pub returns-in_err-write_plaintext-clause-no_memory : goal.returns-in_err-write_plaintext-clause-no_memory
+returns-in_err-write_plaintext-clause-no_memory g c = rw (err_of _ _ c.from_residual-in_err-write_plaintext.ensures.1) (λ is. cc)

@@ -1,6 +1,8 @@
+use Rattle.std.proofs.Common.{◌≡◌, arith, refl}
 use Rattle.std.proofs.KnownBytes.{Appends-nil}
 use Rattle.commands.specs.Take.{TellsAll}
 use Rattle.commands.proofs.AnswerLemmas.{err_of}
+use Rattle.commands.proofs.StillLemmas.{never_refused}
 use Rattle.commands.proofs.TakeLemmas.{Stops_opening, take_ends, take_stops}
 use Rattle.commands.proofs.take.take.Goals as goal
 
@@ -16,3 +18,28 @@ returns-clause-reached g c known bytes errors still =
     let end = c.finish_taken.ensures in
     take_ends (g.G.Gate.may_stop c.args.gate.now) c.args.plan.now known bytes c.in_ok-haul.haul c.take_by_crew-haul.result.0
     c.take_by_crew-haul.result.1 c.finish_taken.result _ errors c.in_ok-haul.ensures.opened crew.taken crew.ends end.finishes end.none end.gives_up still
+
+pub returns-in_err-haul-clause-untouched : goal.returns-in_err-haul-clause-untouched
+returns-in_err-haul-clause-untouched g c = rw (err_of _ _ c.from_residual.ensures.1) (λ is. refl)
+
+pub returns-in_err-haul-clause-no_memory : goal.returns-in_err-haul-clause-no_memory
+returns-in_err-haul-clause-no_memory g c = rw (err_of _ _ c.from_residual.ensures.1) (λ is. refl)
+
+pub take_by_crew-haul-requires-clause-some : goal.take_by_crew-haul-requires-clause-some
+take_by_crew-haul-requires-clause-some g c κs lives = c.requires.workers.least
+
+pub take_by_crew-haul-requires-clause-few : goal.take_by_crew-haul-requires-clause-few
+take_by_crew-haul-requires-clause-few g c κs lives = omega (arith, c.in_ok-haul.ensures.opened.opened.workers_are)
+
+pub take_by_crew-haul-requires-clause-open : goal.take_by_crew-haul-requires-clause-open
+take_by_crew-haul-requires-clause-open g c κs lives = c.in_ok-haul.ensures.opened.opened.stands.closed
+
+pub finish_taken-requires : goal.finish_taken-requires
+finish_taken-requires g c = c.requires.output
+
+pub returns-clause-untouched : goal.returns-clause-untouched
+returns-clause-untouched g c =
+    never_refused (c.finish_taken.new.output ≡ c.args.output.now) c.finish_taken.result c.finish_taken.ensures.accepted
+
+pub returns-clause-no_memory : goal.returns-clause-no_memory
+returns-clause-no_memory g c = c.finish_taken.ensures.no_memory

@@ -1,6 +1,8 @@
+use Rattle.std.proofs.Common.{◌≡◌, refl}
 use Rattle.std.proofs.KnownBytes.{Appends-nil}
 use Rattle.commands.specs.Work.{TellsReports, work_right}
 use Rattle.commands.proofs.AnswerLemmas.{err_of}
+use Rattle.commands.proofs.StillLemmas.{reports_accepted}
 use Rattle.commands.proofs.TakeLemmas.{Reaches_stopped, Stops_opening}
 use Rattle.commands.proofs.WorkLemmas.{reaches_work}
 use Rattle.commands.proofs.work.work.Goals as goal
@@ -17,3 +19,10 @@ pub returns-clause-reached : goal.returns-clause-reached
 returns-clause-reached g c =
     reaches_work c.findings_are_determined.ensures c.one_normal_form.ensures c.args.plan.now c.args.worker
     c.in_ok-haul.haul c.put_all.result _ c.in_ok-haul.ensures.opened c.put_all.ensures
+
+pub returns-in_err-haul-clause-untouched : goal.returns-in_err-haul-clause-untouched
+returns-in_err-haul-clause-untouched g c = rw (err_of _ _ c.from_residual.ensures.1) (λ is. refl)
+
+pub returns-clause-untouched : goal.returns-clause-untouched
+returns-clause-untouched g c =
+    reports_accepted (c.put_all.new.output ≡ c.args.output.now) _ _ _ c.put_all.result _ c.put_all.ensures

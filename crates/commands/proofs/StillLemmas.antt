@@ -1,0 +1,29 @@
+-- What holds of each complaint with which a command ends.
+use Rattle.std.proofs.Common.{◌≡◌, ◌≢◌, ℕ, List, Result, Ok, Err}
+use Rattle.std.specs.Prelude.{IfErr}
+use Rattle.commands.specs.declared.complaint.Complaint.{Complaint}
+use Rattle.commands.specs.declared.status.Status.TheVariants.{Refused}
+use Rattle.commands.specs.declared.complaint.Complaint.TheVariants as complaint
+use Rattle.survey_core.specs.declared.job.Job.{Job}
+use Rattle.commands.specs.Complaints.{status_of}
+use Rattle.commands.specs.Streams.{Stream}
+use Rattle.commands.specs.TextSteps.{TextOutcome}
+use Rattle.commands.specs.WorkSteps.{Puts}
+
+-- where nothing is refused, whatever is said of a refusal holds
+pub never_refused : {A : Type 0} (P : Type 0) (r : Result A Complaint) → IfErr r (λ complaint. status_of complaint ≢ Refused)
+    → IfErr r (λ complaint. status_of complaint ≡ Refused → P)
+never_refused P (Ok a) accepted = tt
+never_refused P (Err e) accepted = λ is. absurd (accepted is)
+
+-- reports that are written are never refused
+pub reports_accepted : (P : Type 0) (job : Job) (worker : ℕ) (numbers : List ℕ) (r : TextOutcome) (output : Stream) → Puts job worker numbers r output
+    → IfErr r (λ complaint. status_of complaint ≡ Refused → P)
+reports_accepted P job worker numbers r output puts = never_refused P r (go r puts)
+  where
+    go : (r : TextOutcome) → Puts job worker numbers r output → IfErr r (λ complaint. status_of complaint ≢ Refused)
+    go (Ok a) is = tt
+    go (Err complaint.OutOfMemory) is = λ told. cc
+    go (Err complaint.WriteFailed) is = λ told. cc
+    go (Err complaint.ReadFailed) is = absurd is
+    go (Err (complaint.Refused refusal)) is = absurd is
