@@ -57,7 +57,7 @@ impl Haul {
     {
         match one_of(&self, &other) {
             Ok(joined) => {
-                // By calls, since the ends of two scopes take the prover twice as long as the whole function does so.
+                // By calls: dropped at the end of the function, the two hauls cost the prover many times as much.
                 drop(self);
                 drop(other);
                 Ok(joined)
