@@ -1,20 +1,20 @@
 -- From what a command leaves in a buffer to what is with the writer below it.
-use Rattle.std.proofs.Common.{◌≡◌, ◌∙◌, ◌++◌, ◌⊎◌, ℕ, zero, suc, List, [], Bool, true, false, Option, None, Some, Ok, Err, IsSomeAnd, IfSome}
+use Rattle.std.proofs.Common.{◌≡◌, ◌∙◌, ℕ, zero, suc, List, [], true, false, Option, None, Some, Ok, Err, IsSomeAnd, IfSome}
 use Rattle.std.proofs.Common.{inl, inr, refl, sym, ap, subst, append-nil}
 use Rattle.std.specs.Io.KnownBytes.{Appends, Keeps, append_known}
 use Rattle.std.specs.Prelude.{MatchBool}
 use Rattle.words.specs.Requests.{Text, asked_by}
 use Rattle.words.specs.declared.request.Request.{Request}
 use Rattle.words.specs.declared.request.Request.TheVariants.{Run, Name, Show, Soup, Take, Work, Gather, Version}
-use Rattle.commands.specs.declared.complaint.Complaint.{Complaint}
-use Rattle.commands.specs.declared.complaint.Complaint.TheVariants.{Refused, OutOfMemory, ReadFailed, WriteFailed}
-use Rattle.commands.specs.declared.status.Status.{Status}
-use Rattle.commands.specs.declared.status.Status.TheVariants as statuses
-use Rattle.commands.specs.Complaints.{status_of}
-use Rattle.commands.specs.Ends.{HasLast, Outcome, Reaches, last_line, status_after}
-use Rattle.commands.specs.Status.{has_printed}
-use Rattle.commands.specs.Streams.{Stream, Has, HasFront, HasLine}
-use Rattle.commands.specs.Tasks.{Made}
+use Rattle.pattern_commands.specs.declared.complaint.Complaint.{Complaint}
+use Rattle.pattern_commands.specs.declared.complaint.Complaint.TheVariants.{Refused, OutOfMemory, ReadFailed, WriteFailed}
+use Rattle.pattern_commands.specs.declared.status.Status.{Status}
+use Rattle.pattern_commands.specs.declared.status.Status.TheVariants as statuses
+use Rattle.pattern_commands.specs.Complaints.{status_of}
+use Rattle.pattern_commands.specs.Ends.{HasLast, Outcome, Reaches, last_line, status_after}
+use Rattle.pattern_commands.specs.Status.{has_printed}
+use Rattle.pattern_commands.specs.Streams.{Stream, Has, HasFront, HasLine}
+use Rattle.pattern_commands.specs.Tasks.{Made}
 use Rattle.census.specs.Program.{IsDone, IsFrontOf, since}
 use Rattle.census.specs.Requests.{DoesRequest, DoesWords, right_for, task_of, tells_lines}
 

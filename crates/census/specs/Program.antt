@@ -1,16 +1,16 @@
 -- How the program ends, from its words to the bytes that it leaves.
-use Rattle.std.specs.Prelude.{◌≡◌, ◌++◌, ◌⊎◌, ℕ, Bool, true, false, List, [], Option, None, Some, Ok, ⊤, codes}
+use Rattle.std.specs.Prelude.{◌≡◌, ◌++◌, ◌⊎◌, ℕ, true, false, List, Option, None, Some, Ok, ⊤, codes}
 use Rattle.std.specs.Io.KnownBytes.{Appends}
 use Rattle.plane_core.specs.Out.{Output}
-use Rattle.commands.specs.declared.complaint.Complaint.TheVariants.{WriteFailed}
-use Rattle.commands.specs.declared.status.Status.{Status}
-use Rattle.commands.specs.declared.status.Status.TheVariants.{Failed}
-use Rattle.commands.specs.Answers.{IsInput}
-use Rattle.commands.specs.Complaints.{complaint_line}
-use Rattle.commands.specs.Ends.{last_line}
-use Rattle.commands.specs.Status.{exit_code, has_printed}
-use Rattle.commands.specs.Streams.{Stream, HasLine}
-use Rattle.commands.specs.Tasks.{Made}
+use Rattle.pattern_commands.specs.declared.complaint.Complaint.TheVariants.{WriteFailed}
+use Rattle.pattern_commands.specs.declared.status.Status.{Status}
+use Rattle.pattern_commands.specs.declared.status.Status.TheVariants.{Failed}
+use Rattle.pattern_commands.specs.Answers.{IsInput}
+use Rattle.pattern_commands.specs.Complaints.{complaint_line}
+use Rattle.pattern_commands.specs.Ends.{last_line}
+use Rattle.pattern_commands.specs.Status.{exit_code, has_printed}
+use Rattle.pattern_commands.specs.Streams.{Stream, HasLine}
+use Rattle.pattern_commands.specs.Tasks.{Made}
 use Rattle.words.specs.declared.request.Request.{Request}
 use Rattle.words.specs.Requests.{Text, asked_by}
 use Rattle.census.specs.Requests.{DoesWords, right_for}

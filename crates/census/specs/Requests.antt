@@ -1,23 +1,23 @@
 -- What a request is to do, and how doing it may end.
 use Rattle.std.specs.Prelude.{◌≡◌, ◌⊎◌, ℕ, Bool, true, false, List, [], Option, IsSomeAnd}
-use Rattle.commands.specs.declared.complaint.Complaint.TheVariants as complaint
+use Rattle.pattern_commands.specs.declared.complaint.Complaint.TheVariants as complaint
 use Rattle.commands.specs.declared.plan.Plan.{Plan}
-use Rattle.commands.specs.declared.profile.ProfileNumbers.{ProfileNumbers}
+use Rattle.pattern_commands.specs.declared.profile.ProfileNumbers.{ProfileNumbers}
 use Rattle.commands.specs.declared.soup_set.SoupSet.{SoupSet}
-use Rattle.commands.specs.declared.status.Status.{Status}
-use Rattle.commands.specs.declared.status.Status.TheVariants.{OutOfMemory}
-use Rattle.commands.specs.Answers.{IsInput}
-use Rattle.commands.specs.Complaints.{complaint_line}
-use Rattle.commands.specs.Ends.{Ends}
+use Rattle.pattern_commands.specs.declared.status.Status.{Status}
+use Rattle.pattern_commands.specs.declared.status.Status.TheVariants.{OutOfMemory}
+use Rattle.pattern_commands.specs.Answers.{IsInput}
+use Rattle.pattern_commands.specs.Complaints.{complaint_line}
+use Rattle.pattern_commands.specs.Ends.{Ends}
 use Rattle.commands.specs.Gather.{gather_task}
-use Rattle.commands.specs.Name.{name_task}
-use Rattle.commands.specs.Run.{run_task}
-use Rattle.commands.specs.Show.{show_task}
-use Rattle.commands.specs.Soup.{soup_task}
-use Rattle.commands.specs.Streams.{Stream, Has, HasLine}
+use Rattle.pattern_commands.specs.Name.{name_task}
+use Rattle.pattern_commands.specs.Run.{run_task}
+use Rattle.pattern_commands.specs.Show.{show_task}
+use Rattle.pattern_commands.specs.Soup.{soup_task}
+use Rattle.pattern_commands.specs.Streams.{Stream, Has, HasLine}
 use Rattle.commands.specs.Take.{take_task}
-use Rattle.commands.specs.Tasks.{Makes, Task}
-use Rattle.commands.specs.Version.{version_task}
+use Rattle.pattern_commands.specs.Tasks.{Makes, Task}
+use Rattle.pattern_commands.specs.Version.{version_task}
 use Rattle.commands.specs.Work.{work_task}
 use Rattle.words.specs.declared.request.ProfileNumbers.{ProfileNumbers as Numbers}
 use Rattle.words.specs.declared.request.Request.{Request}

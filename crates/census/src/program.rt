@@ -2,18 +2,18 @@ ghost use Rattle.std.specs.Prelude.{◌≡◌, ◌≢◌, ℕ, suc, [], IsErr, N
 ghost use Rattle.std.specs.Prelude.{IsSomeAnd, true, false, map, string_bytes};
 ghost use Rattle.std.specs.Io.Buffered.{writer_buffer, writer_contents, writer_inner};
 ghost use Rattle.std.specs.IoError.{error_kind};
-ghost use Rattle.commands.specs.Complaints.{complaint_line};
-ghost use Rattle.commands.specs.Status.{exit_code};
-ghost use Rattle.commands.specs.Streams.{Has, HasLine, stream};
+ghost use Rattle.pattern_commands.specs.Complaints.{complaint_line};
+ghost use Rattle.pattern_commands.specs.Status.{exit_code};
+ghost use Rattle.pattern_commands.specs.Streams.{Has, HasLine, stream};
 ghost use Rattle.census.specs.Program.{Complains, IsDone, left_by, not_text_line, returned};
 ghost use Rattle.census.specs.Requests.{is_whole, reads_input, refuses_input, tells_lines};
 ghost use Rattle.words.specs.Requests.{asked_by};
 
 use crate::request::do_words;
-use commands::complaint::Complaint;
-use commands::output::send_buffered;
 use commands::progress::Progress;
-use commands::status::Status;
+use pattern_commands::complaint::Complaint;
+use pattern_commands::output::send_buffered;
+use pattern_commands::status::Status;
 use plane_core::output::Out;
 use std::alloc::Global;
 use std::io::{self, BufWriter, ErrorKind, Read, Write};

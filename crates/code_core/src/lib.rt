@@ -4,6 +4,8 @@
 /// Apgcodes as values: their texts, kinds and numbers.
 pub mod apgcode;
 mod cycle;
+/// Numbers in decimal.
+pub mod decimal;
 /// The name of a pattern that recurs.
 pub mod name;
 /// The pattern of an extended Wechsler text.

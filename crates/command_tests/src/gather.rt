@@ -1,12 +1,12 @@
-ghost use Rattle.commands.specs.Profiles.{AreInRange};
+ghost use Rattle.pattern_commands.specs.Profiles.{AreInRange};
 
 use crate::streams::{FaultyReader, FaultyWriter, Left, interrupted_writer, reader, slow_writer};
 use commands::gather::do_gather;
 use commands::plan::Plan;
-use commands::profile::ProfileNumbers;
 use commands::soup_set::SoupSet;
-use commands::status::Status;
 use commands::word::Word;
+use pattern_commands::profile::ProfileNumbers;
+use pattern_commands::status::Status;
 use plane_core::output::Out;
 use std::alloc::Global;
 use std::io::ErrorKind;

@@ -1,8 +1,8 @@
 use crate::streams::{FaultyReader, FaultyWriter, Left, interrupted_writer, reader, slow_writer};
-use commands::output::send_buffered;
-use commands::run::do_run;
-use commands::show::do_show;
-use commands::status::Status;
+use pattern_commands::output::send_buffered;
+use pattern_commands::run::do_run;
+use pattern_commands::show::do_show;
+use pattern_commands::status::Status;
 use plane_core::output::Out;
 use std::alloc::Global;
 use std::io::{self, BufWriter, ErrorKind, Write};

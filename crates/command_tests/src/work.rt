@@ -1,6 +1,6 @@
 use crate::gather::plan_of;
-use commands::status::Status;
 use commands::work::do_work;
+use pattern_commands::status::Status;
 use plane_core::output::Out;
 use std::alloc::Global;
 use std::io::{self, ErrorKind, Write};

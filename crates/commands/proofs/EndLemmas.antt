@@ -11,25 +11,24 @@ use Rattle.haul_core.specs.HaulTexts.{haul_text}
 use Rattle.haul_core.specs.Keeping.{numbers_in}
 use Rattle.haul_core.specs.Missing.{missing_of}
 use Rattle.ranges.specs.RangeLists.{IsListText}
-use Rattle.commands.specs.declared.complaint.Complaint.{Complaint}
-use Rattle.commands.specs.declared.complaint.Complaint.TheVariants.{Refused, OutOfMemory, ReadFailed, WriteFailed}
+use Rattle.pattern_commands.specs.declared.complaint.Complaint.{Complaint}
+use Rattle.pattern_commands.specs.declared.complaint.Complaint.TheVariants.{Refused, OutOfMemory, ReadFailed, WriteFailed}
 use Rattle.commands.specs.declared.plan.Plan.{Plan}
-use Rattle.commands.specs.declared.profile.ProfileNumbers.{ProfileNumbers}
-use Rattle.commands.specs.declared.refusal.Refusal.{Refusal}
+use Rattle.pattern_commands.specs.declared.refusal.Refusal.{Refusal}
 use Rattle.commands.specs.declared.soup_set.SoupSet.{SoupSet}
-use Rattle.commands.specs.declared.status.Status.TheVariants as statuses
-use Rattle.commands.specs.Answers.{NeedsMemory}
-use Rattle.commands.specs.Complaints.{status_of}
-use Rattle.commands.specs.Ends.{IsSilent, Outcome, Reaches, status_after}
+use Rattle.pattern_commands.specs.declared.status.Status.TheVariants as statuses
+use Rattle.pattern_commands.specs.Answers.{NeedsMemory}
+use Rattle.pattern_commands.specs.Complaints.{status_of}
+use Rattle.pattern_commands.specs.Ends.{IsSilent, Outcome, Reaches, status_after}
 use Rattle.commands.specs.Finish.{Finishes, IsCensusOf}
 use Rattle.commands.specs.Gather.{BeginsHaul, IsGathered, IsGathering, IsHaulOver, IsSame, gather_opens, gather_reads, gather_right, gather_task, haul_task}
 use Rattle.commands.specs.GatherSteps.{EndsLines, HasBegun, HasGatheredShort}
 use Rattle.commands.specs.GatheredLines.{Gathered}
 use Rattle.commands.specs.Lines.{input_lines}
 use Rattle.commands.specs.SoupSets.{Bad_list, IsRefused, Overlapping, Too_large, job_named}
-use Rattle.commands.specs.Streams.{Stream, Has}
+use Rattle.pattern_commands.specs.Streams.{Stream, Has}
 use Rattle.commands.specs.TakeSteps.{IsOpened, StopsOpening, StopsSet}
-use Rattle.commands.specs.Tasks.{Made, NeedsMemoryAlone}
+use Rattle.pattern_commands.specs.Tasks.{Made, NeedsMemoryAlone}
 use Rattle.commands.proofs.GatherLemmas.{all_begun}
 use Rattle.commands.proofs.TakeLemmas.{job_refused}
 

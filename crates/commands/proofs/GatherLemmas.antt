@@ -19,8 +19,8 @@ use Rattle.std.proofs.lemmas.List.Elements.{All-nil}
 use Rattle.std.specs.Io.KnownBytes.{Consumes}
 use Rattle.plane_core.proofs.OutLemmas.{Appends-append, Appends-nil}
 use Rattle.plane_core.specs.Out.{Output}
-use Rattle.commands.specs.declared.complaint.Complaint.{Complaint}
-use Rattle.commands.specs.declared.complaint.Complaint.TheVariants.{Refused, OutOfMemory, ReadFailed, WriteFailed}
+use Rattle.pattern_commands.specs.declared.complaint.Complaint.{Complaint}
+use Rattle.pattern_commands.specs.declared.complaint.Complaint.TheVariants.{Refused, OutOfMemory, ReadFailed, WriteFailed}
 use Rattle.commands.specs.declared.lines.LineEnd.{LineEnd}
 use Rattle.commands.specs.declared.lines.LineEnd.TheVariants.{Feed, Input}
 use Rattle.commands.specs.declared.lines.LineRead.{LineRead}

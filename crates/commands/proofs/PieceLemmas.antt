@@ -1,10 +1,10 @@
 -- The piece of a line that some bytes have.
 use Rattle.std.proofs.Common.{◌≡◌, ◌≢◌, ◌<◌, ◌≤◌, ◌+◌, ◌∙◌, ◌++◌, ◌==◌, ℕ, true}
-use Rattle.std.proofs.Common.{List, [], ◌∷◌, All, Some, None, ap, append-nil, arith, get_or, length, refl, sym, take}
+use Rattle.std.proofs.Common.{List, [], ◌∷◌, Some, None, ap, append-nil, arith, get_or, length, refl, sym, take}
 use Rattle.std.proofs.lemmas.Bool.{eqb-true}
 use Rattle.std.proofs.lemmas.List.{get_or-take, length-take, take_more}
 use Rattle.std.proofs.lemmas.List.Elements.{All-from_get_or, All-nil}
-use Rattle.memchr.specs.Find.{IsFirstByte, NoneBefore, Nowhere, Passes, is_byte}
+use Rattle.memchr.specs.Find.{IsFirstByte, Nowhere, Passes, is_byte}
 use Rattle.commands.specs.declared.lines.LineEnd.TheVariants.{Feed, Input}
 use Rattle.commands.specs.Lines.{IsOneLine, IsPieceOf}
 

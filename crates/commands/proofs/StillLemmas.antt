@@ -1,13 +1,13 @@
 -- What holds of each complaint with which a command ends.
 use Rattle.std.proofs.Common.{◌≡◌, ◌≢◌, ℕ, List, Result, Ok, Err}
 use Rattle.std.specs.Prelude.{IfErr}
-use Rattle.commands.specs.declared.complaint.Complaint.{Complaint}
-use Rattle.commands.specs.declared.status.Status.TheVariants.{Refused}
-use Rattle.commands.specs.declared.complaint.Complaint.TheVariants as complaint
+use Rattle.pattern_commands.specs.declared.complaint.Complaint.{Complaint}
+use Rattle.pattern_commands.specs.declared.status.Status.TheVariants.{Refused}
+use Rattle.pattern_commands.specs.declared.complaint.Complaint.TheVariants as complaint
 use Rattle.survey_core.specs.declared.job.Job.{Job}
-use Rattle.commands.specs.Complaints.{status_of}
-use Rattle.commands.specs.Streams.{Stream}
-use Rattle.commands.specs.TextSteps.{TextOutcome}
+use Rattle.pattern_commands.specs.Complaints.{status_of}
+use Rattle.pattern_commands.specs.Streams.{Stream}
+use Rattle.pattern_commands.specs.TextSteps.{TextOutcome}
 use Rattle.commands.specs.WorkSteps.{Puts}
 
 -- where nothing is refused, whatever is said of a refusal holds

@@ -27,28 +27,27 @@ use Rattle.ranges.specs.RangeLists.{AreWords, IsFirstListFault, IsListText, list
 use Rattle.ranges.specs.Ranges.{AreSmall, IsNormalForm, is_in}
 use Rattle.crew.specs.Shifts.{StopsAt}
 use Rattle.crew.specs.Takes.{HasTaken, was_missing}
-use Rattle.commands.specs.declared.complaint.Complaint.{Complaint}
-use Rattle.commands.specs.declared.complaint.Complaint.TheVariants.{Refused, OutOfMemory, ReadFailed, WriteFailed}
+use Rattle.pattern_commands.specs.declared.complaint.Complaint.{Complaint}
+use Rattle.pattern_commands.specs.declared.complaint.Complaint.TheVariants.{Refused, OutOfMemory, ReadFailed, WriteFailed}
 use Rattle.commands.specs.declared.plan.Plan.{Plan}
-use Rattle.commands.specs.declared.profile.ProfileNumbers.{ProfileNumbers}
-use Rattle.commands.specs.declared.refusal.Refusal.{Refusal}
-use Rattle.commands.specs.declared.refusal.Refusal.TheVariants.{BadRule, BirthZero, HorizonBelowPeriod}
-use Rattle.commands.specs.declared.refusal.Refusal.TheVariants.{SeedBadByte, SeedTooLong}
+use Rattle.pattern_commands.specs.declared.refusal.Refusal.{Refusal}
+use Rattle.pattern_commands.specs.declared.refusal.Refusal.TheVariants.{BadRule, BirthZero, HorizonBelowPeriod}
+use Rattle.pattern_commands.specs.declared.refusal.Refusal.TheVariants.{SeedBadByte, SeedTooLong}
 use Rattle.commands.specs.declared.soup_set.SoupSet.{SoupSet}
-use Rattle.commands.specs.declared.status.Status.{Status}
-use Rattle.commands.specs.Answers.{NeedsMemory, Right, given, given_right, output_text}
-use Rattle.commands.specs.Ends.{Ends, Outcome, Reaches}
+use Rattle.pattern_commands.specs.declared.status.Status.{Status}
+use Rattle.pattern_commands.specs.Answers.{NeedsMemory, Right, given, given_right, output_text}
+use Rattle.pattern_commands.specs.Ends.{Ends, Outcome, Reaches}
 use Rattle.commands.specs.Finish.{Finishes, IsCensusOf}
-use Rattle.commands.specs.Inputs.{rule_complaint, rule_named}
-use Rattle.commands.specs.Profiles.{profile_named, settling}
-use Rattle.commands.specs.Soup.{seed_complaint, seed_named}
+use Rattle.pattern_commands.specs.Inputs.{rule_complaint, rule_named, list_complaint}
+use Rattle.pattern_commands.specs.Profiles.{profile_named, settling}
+use Rattle.pattern_commands.specs.Soup.{seed_complaint, seed_named}
 use Rattle.commands.specs.SoupSets.{AreRangesOf, IsRefused, job_named, right_for_set, Bad_list, Overlapping, Too_large}
 use Rattle.commands.specs.Stopped.{TellsTaken, gated_task, right_if, stopped_right, taken_right}
-use Rattle.commands.specs.Streams.{Stream, Has, IsUntouched}
+use Rattle.pattern_commands.specs.Streams.{Stream, Has, IsUntouched}
 use Rattle.commands.specs.Take.{TellsAll, take_right, take_task}
-use Rattle.commands.specs.TakeSteps.{EndsCrew, IsOpened, IsOpenedFor, IsTaken, Stops, StopsOpening, StopsSet, list_complaint}
-use Rattle.commands.specs.Tasks.{Made, Task, alone}
-use Rattle.commands.specs.TextSteps.{ReachesText}
+use Rattle.commands.specs.TakeSteps.{EndsCrew, IsOpened, IsOpenedFor, IsTaken, Stops, StopsOpening, StopsSet}
+use Rattle.pattern_commands.specs.Tasks.{Made, Task, alone}
+use Rattle.pattern_commands.specs.TextSteps.{ReachesText}
 use Rattle.commands.proofs.NumberLemmas.{numbers_within}
 
 -- ---- refusals

@@ -15,17 +15,16 @@ use Rattle.haul_core.specs.Books.{Held}
 use Rattle.ranges.specs.Ranges.{AreSmall, OneNormalForm, Overlap, is_in}
 use Rattle.haul_core.specs.ReportLines.{report_text}
 use Rattle.haul_core.specs.Reports.{Reported}
-use Rattle.commands.specs.declared.complaint.Complaint.{Complaint}
-use Rattle.commands.specs.declared.complaint.Complaint.TheVariants.{Refused, OutOfMemory, ReadFailed, WriteFailed}
+use Rattle.pattern_commands.specs.declared.complaint.Complaint.{Complaint}
+use Rattle.pattern_commands.specs.declared.complaint.Complaint.TheVariants.{Refused, OutOfMemory, ReadFailed, WriteFailed}
 use Rattle.commands.specs.declared.plan.Plan.{Plan}
-use Rattle.commands.specs.declared.profile.ProfileNumbers.{ProfileNumbers}
 use Rattle.commands.specs.declared.soup_set.SoupSet.{SoupSet}
-use Rattle.commands.specs.Answers.{Answer, Right, output_text}
-use Rattle.commands.specs.SoupSets.{Bad_list, Overlapping, Too_large, job_named, right_for_set}
-use Rattle.commands.specs.Streams.{Stream, Has, HasFront}
+use Rattle.pattern_commands.specs.Answers.{Answer, Right, output_text}
+use Rattle.commands.specs.SoupSets.{Bad_list, Overlapping, Too_large, right_for_set}
+use Rattle.pattern_commands.specs.Streams.{Stream, Has, HasFront}
 use Rattle.haul_core.specs.Missing.{numbers_of_range, numbers_of}
 use Rattle.commands.specs.TakeSteps.{IsOpened, IsOpenedFor}
-use Rattle.commands.specs.TextSteps.{ReachesText, TextOutcome}
+use Rattle.pattern_commands.specs.TextSteps.{ReachesText, TextOutcome}
 use Rattle.commands.specs.Work.{AreReportsOn, IsReportOn, TellsReports, work_right}
 use Rattle.commands.specs.WorkSteps.{IsBegun, Puts}
 use Rattle.commands.proofs.NumberLemmas.{range_more}

@@ -6,9 +6,9 @@ use Rattle.haul_core.specs.Censuses.{IsCensus}
 use Rattle.haul_core.specs.HaulTexts.{haul_text}
 use Rattle.haul_core.specs.Keeping.{numbers_in}
 use Rattle.haul_core.specs.Missing.{missing_of}
-use Rattle.commands.specs.declared.complaint.Complaint.TheVariants.{Refused, OutOfMemory, ReadFailed, WriteFailed}
-use Rattle.commands.specs.Ends.{Outcome}
-use Rattle.commands.specs.Streams.{Stream, Has, HasFront}
+use Rattle.pattern_commands.specs.declared.complaint.Complaint.TheVariants.{Refused, OutOfMemory, ReadFailed, WriteFailed}
+use Rattle.pattern_commands.specs.Ends.{Outcome}
+use Rattle.pattern_commands.specs.Streams.{Stream, Has, HasFront}
 
 -- the census of what a haul has taken
 abbrev pub IsCensusOf : Held → Census → Type 0

@@ -11,15 +11,14 @@ use Rattle.haul_core.specs.Keeping.{numbers_in}
 use Rattle.haul_core.specs.Missing.{missing_of}
 use Rattle.ranges.specs.Ranges.{AreSmall, IsNormalForm, Overlap}
 use Rattle.survey_core.specs.declared.job.Job.{Job}
-use Rattle.commands.specs.declared.complaint.Complaint.TheVariants.{Refused}
+use Rattle.pattern_commands.specs.declared.complaint.Complaint.TheVariants.{Refused}
 use Rattle.commands.specs.declared.plan.Plan.{Plan}
-use Rattle.commands.specs.declared.profile.ProfileNumbers.{ProfileNumbers}
 use Rattle.commands.specs.declared.soup_set.SoupSet.{SoupSet}
 use Rattle.commands.specs.GatherSteps.{HasBegun}
 use Rattle.commands.specs.GatheredLines.{Gathered}
 use Rattle.commands.specs.Lines.{input_lines}
 use Rattle.commands.specs.SoupSets.{AreRangesOf, IsRefused, job_named}
-use Rattle.commands.specs.Tasks.{Made, Makes, Task}
+use Rattle.pattern_commands.specs.Tasks.{Made, Makes, Task}
 
 -- a haul over a set for a job and so many workers: the set's ranges are fine, and those of the haul are their normal form
 pub record IsHaulOver (set : SoupSet) (workers : ℕ) (job : Job) (terms : Terms) : Type 0 where

@@ -4,17 +4,16 @@ use Rattle.survey_core.specs.declared.job.Job.{Job}
 use Rattle.ranges.specs.declared.range.Range.{Range}
 use Rattle.ranges.specs.RangeLists.{AreWords, IsFirstListFault, IsListText, list_text}
 use Rattle.ranges.specs.Ranges.{AreSmall, Overlap}
-use Rattle.commands.specs.declared.complaint.Complaint.{Complaint}
-use Rattle.commands.specs.declared.complaint.Complaint.TheVariants.{Refused, OutOfMemory, ReadFailed, WriteFailed}
+use Rattle.pattern_commands.specs.declared.complaint.Complaint.{Complaint}
+use Rattle.pattern_commands.specs.declared.complaint.Complaint.TheVariants.{Refused, OutOfMemory, ReadFailed, WriteFailed}
 use Rattle.commands.specs.declared.plan.Plan.{Plan}
-use Rattle.commands.specs.declared.profile.ProfileNumbers.{ProfileNumbers}
-use Rattle.commands.specs.declared.refusal.Refusal.{Refusal}
-use Rattle.commands.specs.declared.refusal.Refusal.TheVariants.{BadList, RangeTooLarge, RangesOverlap}
+use Rattle.pattern_commands.specs.declared.refusal.Refusal.{Refusal}
+use Rattle.pattern_commands.specs.declared.refusal.Refusal.TheVariants.{BadList, RangeTooLarge, RangesOverlap}
 use Rattle.commands.specs.declared.soup_set.SoupSet.{SoupSet}
-use Rattle.commands.specs.Answers.{Right, given}
-use Rattle.commands.specs.Inputs.{rule_named}
-use Rattle.commands.specs.Profiles.{profile_named}
-use Rattle.commands.specs.Soup.{seed_named}
+use Rattle.pattern_commands.specs.Answers.{Right, given}
+use Rattle.pattern_commands.specs.Inputs.{rule_named}
+use Rattle.pattern_commands.specs.Profiles.{profile_named}
+use Rattle.pattern_commands.specs.Soup.{seed_named}
 
 -- the job of a set under a profile and a rule; the seed is looked at first, then the profile and then the rule
 abbrev pub job_named : Plan → Result Job Complaint

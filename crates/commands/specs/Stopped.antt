@@ -10,12 +10,10 @@ use Rattle.haul_core.specs.Keeping.{numbers_in}
 use Rattle.haul_core.specs.Missing.{IsComplete, missing_of}
 use Rattle.ranges.specs.Ranges.{IsNormalForm, is_in}
 use Rattle.commands.specs.declared.plan.Plan.{Plan}
-use Rattle.commands.specs.declared.profile.ProfileNumbers.{ProfileNumbers}
-use Rattle.commands.specs.declared.soup_set.SoupSet.{SoupSet}
-use Rattle.commands.specs.Answers.{Right, given_right}
+use Rattle.pattern_commands.specs.Answers.{Right, given_right}
 use Rattle.commands.specs.SoupSets.{job_named, right_for_set}
 use Rattle.commands.specs.Take.{take_right}
-use Rattle.commands.specs.Tasks.{Makes, Task, silent_task}
+use Rattle.pattern_commands.specs.Tasks.{Makes, Task, silent_task}
 
 -- the gate may stop a worker at a number of the set
 abbrev pub MayStop : (ℕ → ℕ → Type 0) → List Range → Type 0

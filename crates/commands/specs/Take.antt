@@ -8,11 +8,9 @@ use Rattle.haul_core.specs.HaulTexts.{haul_text}
 use Rattle.haul_core.specs.Missing.{AreAll}
 use Rattle.ranges.specs.Ranges.{IsNormalForm}
 use Rattle.commands.specs.declared.plan.Plan.{Plan}
-use Rattle.commands.specs.declared.profile.ProfileNumbers.{ProfileNumbers}
-use Rattle.commands.specs.declared.soup_set.SoupSet.{SoupSet}
-use Rattle.commands.specs.Answers.{Right, given_right}
+use Rattle.pattern_commands.specs.Answers.{Right, given_right}
 use Rattle.commands.specs.SoupSets.{job_named, right_for_set}
-use Rattle.commands.specs.Tasks.{Task, text_task}
+use Rattle.pattern_commands.specs.Tasks.{Task, text_task}
 
 -- a text that tells the census of a job over all soups of a set, with the set's ranges in normal form
 pub record TellsAll (job : Job) (ranges : List Range) (text : List ℕ) : Type 0 where

@@ -7,11 +7,9 @@ use Rattle.ranges.specs.Ranges.{IsNormalForm}
 use Rattle.haul_core.specs.ReportLines.{report_text}
 use Rattle.haul_core.specs.Reports.{IsReport, Reported}
 use Rattle.commands.specs.declared.plan.Plan.{Plan}
-use Rattle.commands.specs.declared.profile.ProfileNumbers.{ProfileNumbers}
-use Rattle.commands.specs.declared.soup_set.SoupSet.{SoupSet}
-use Rattle.commands.specs.Answers.{Right, given_right}
+use Rattle.pattern_commands.specs.Answers.{Right, given_right}
 use Rattle.commands.specs.SoupSets.{job_named, right_for_set}
-use Rattle.commands.specs.Tasks.{Task, text_task}
+use Rattle.pattern_commands.specs.Tasks.{Task, text_task}
 
 -- a worker's report on the soup of a job with this number
 pub record IsReportOn (job : Job) (worker number : ℕ) (report : Reported) : Type 0 where

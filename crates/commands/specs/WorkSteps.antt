@@ -3,9 +3,9 @@ use Rattle.std.specs.Prelude.{◌≡◌, ◌++◌, ℕ, List, Ok, Err, true, fal
 use Rattle.survey_core.specs.declared.job.Job.{Job}
 use Rattle.haul_core.specs.ReportLines.{report_text}
 use Rattle.haul_core.specs.Reports.{Reported}
-use Rattle.commands.specs.declared.complaint.Complaint.TheVariants.{Refused, OutOfMemory, ReadFailed, WriteFailed}
-use Rattle.commands.specs.Streams.{Stream, Has, HasFront}
-use Rattle.commands.specs.TextSteps.{TextOutcome}
+use Rattle.pattern_commands.specs.declared.complaint.Complaint.TheVariants.{Refused, OutOfMemory, ReadFailed, WriteFailed}
+use Rattle.pattern_commands.specs.Streams.{Stream, Has, HasFront}
+use Rattle.pattern_commands.specs.TextSteps.{TextOutcome}
 use Rattle.commands.specs.Work.{AreReportsOn}
 
 -- reports on the first of some numbers were made, and this was done with their lines

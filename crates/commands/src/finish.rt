@@ -3,14 +3,14 @@ ghost use Rattle.haul_core.specs.Books.{StandsFor};
 ghost use Rattle.haul_core.specs.Missing.{IsComplete, missing_of};
 ghost use Rattle.haul_core.specs.declared.arrival.Arrival.{Arrival};
 ghost use Rattle.haul_core.specs.declared.arrival.Arrival.TheVariants as arrival;
-ghost use Rattle.commands.specs.Complaints.{status_of};
+ghost use Rattle.pattern_commands.specs.Complaints.{status_of};
 ghost use Rattle.commands.specs.Finish.{Finishes};
-ghost use Rattle.commands.specs.Streams.{stream};
+ghost use Rattle.pattern_commands.specs.Streams.{stream};
 
-use crate::complaint::Complaint;
-use crate::status::Status;
 use haul_core::haul::Haul;
 use haul_core::haul_text::write_haul;
+use pattern_commands::complaint::Complaint;
+use pattern_commands::status::Status;
 use plane_core::output::Out;
 use std::io::Write;
 

@@ -2,8 +2,8 @@ ghost use Rattle.std.specs.Prelude.{◌≡◌, ◌++◌, codes, decimal, false};
 ghost use Rattle.plane_core.specs.Out.{Writes};
 ghost use Rattle.commands.specs.GatheredLines.{fault_line, fault_words};
 
-use crate::output::LineBuffer;
-use haul_core::decimal::put_number;
+use code_core::decimal::put_number;
+use pattern_commands::output::LineBuffer;
 use plane_core::output::{Out, WriteError};
 use std::io::Write;
 

@@ -12,8 +12,8 @@
 ghost use Rattle.std.specs.Prelude.{◌≡◌, ◌≤◌, ◌+◌, ◌^◌, IfOk, None, length};
 ghost use Rattle.commands.specs.Lines.{HasPiece, HasReadLine, IsPieceOf};
 
-use crate::input::InputFault;
 use memchr::memchr;
+use pattern_commands::input::InputFault;
 use std::io::{BufRead, Error, ErrorKind};
 
 /// How many bytes of a line are looked at: 2^24, far more than a report line of a census has.

@@ -2,15 +2,15 @@
 
 ghost use Rattle.std.specs.Prelude.{◌≡◌, IfErr, IfOk};
 ghost use Rattle.haul_core.specs.Reports.{IsWorker};
-ghost use Rattle.commands.specs.Profiles.{AreInRange};
+ghost use Rattle.pattern_commands.specs.Profiles.{AreInRange};
 ghost use Rattle.commands.specs.SoupSets.{job_named};
 ghost use Rattle.commands.specs.TakeSteps.{IsOpenedFor, StopsOpening};
 
-use crate::complaint::Complaint;
-use crate::profile::ProfileNumbers;
 use crate::soup_set::{SoupSet, haul_for};
 use crate::word::Word;
 use haul_core::haul::Haul;
+use pattern_commands::complaint::Complaint;
+use pattern_commands::profile::ProfileNumbers;
 use plane_core::rule::Rule;
 use std::alloc::Global;
 use survey_core::job::Job;

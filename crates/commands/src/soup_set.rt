@@ -3,10 +3,10 @@ ghost use Rattle.haul_core.specs.Reports.{IsWorker};
 ghost use Rattle.commands.specs.SoupSets.{AreRangesOf};
 ghost use Rattle.commands.specs.TakeSteps.{IsOpened, StopsSet};
 
-use crate::complaint::Complaint;
-use crate::refusal::Refusal;
 use crate::word::Word;
 use haul_core::haul::{Haul, OpenError};
+use pattern_commands::complaint::Complaint;
+use pattern_commands::refusal::Refusal;
 use ranges::range::Range;
 use std::alloc::Global;
 use survey_core::job::Job;

@@ -7,8 +7,8 @@ ghost use Rattle.haul_core.specs.HaulTexts.{sample_line, sample_lines, spaced, s
 ghost use Rattle.haul_core.specs.HaulTexts.{total_lines};
 
 use crate::census::Census;
-use crate::decimal::put_number;
 use crate::row::Row;
+use code_core::decimal::put_number;
 use itoa::Integer;
 use plane_core::output::{Out, WriteError};
 use ranges::range::Range;

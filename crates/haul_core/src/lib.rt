@@ -11,8 +11,6 @@ pub mod census;
 pub mod claim;
 /// The codes of claims.
 pub mod code;
-/// Numbers in decimal.
-pub mod decimal;
 mod field;
 mod front;
 /// Which soups of a job have been taken.

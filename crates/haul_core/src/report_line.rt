@@ -10,9 +10,9 @@ ghost use Rattle.haul_core.specs.HaulTexts.{line_of, spaced};
 ghost use Rattle.haul_core.specs.ReportLines.{claim_of, count_field, found_fields, head_fields, mark_fields};
 ghost use Rattle.haul_core.specs.ReportLines.{profile_field, report_text, told_in};
 
-use crate::decimal::put_number;
 use crate::report::Report;
 use code_core::apgcode::Apgcode;
+use code_core::decimal::put_number;
 use plane_core::output::{Out, WriteError};
 use std::io::Write;
 use survey_core::finding::Finding;

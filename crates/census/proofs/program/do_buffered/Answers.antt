@@ -2,9 +2,9 @@ use Rattle.std.proofs.Common.{◌≡◌, ◌≢◌, ◌∙◌, [], true, false, 
 use Rattle.std.proofs.lemmas.Bool.{cases_Bool}
 use Rattle.std.specs.Io.Buffered.{writer_buffer, writer_contents}
 use Rattle.std.specs.Io.KnownBytes.{Keeps, append_known}
-use Rattle.commands.specs.declared.status.Status.TheVariants as statuses
-use Rattle.commands.specs.Streams.{stream}
-use Rattle.commands.specs.Status.{exit_code, has_printed}
+use Rattle.pattern_commands.specs.declared.status.Status.TheVariants as statuses
+use Rattle.pattern_commands.specs.Streams.{stream}
+use Rattle.pattern_commands.specs.Status.{exit_code, has_printed}
 use Rattle.census.specs.Program.{IsDone}
 use Rattle.census.proofs.ProgramLemmas.{Prints, append_nothing, at_done, at_incomplete, front_sent, nothing_written, prints, unlike}
 use Rattle.census.proofs.program.do_buffered.Goals as goal

@@ -1,6 +1,6 @@
 use Rattle.std.proofs.Common.{◌≡◌, ◌∙◌, rules, sym}
-use Rattle.commands.specs.Status.{exit_code}
-use Rattle.commands.specs.declared.status.Status.TheVariants as statuses
+use Rattle.pattern_commands.specs.Status.{exit_code}
+use Rattle.pattern_commands.specs.declared.status.Status.TheVariants as statuses
 use Rattle.census.proofs.program.run_program.Goals as goal
 
 pub returns-in-Ok-clause-unread_refused : goal.returns-in-Ok-clause-unread_refused

@@ -1,11 +1,11 @@
 use Rattle.std.proofs.Common.{◌≡◌, ℕ, List, Option, refl, subst}
-use Rattle.commands.specs.declared.status.Status.{Status}
-use Rattle.commands.specs.Ends.{Ends}
-use Rattle.commands.specs.Show.{show_task}
-use Rattle.commands.specs.Soup.{soup_task}
-use Rattle.commands.specs.Streams.{Stream}
-use Rattle.commands.specs.Tasks.{Task}
-use Rattle.commands.proofs.AnswerLemmas.{some_input}
+use Rattle.pattern_commands.specs.declared.status.Status.{Status}
+use Rattle.pattern_commands.specs.Ends.{Ends}
+use Rattle.pattern_commands.specs.Show.{show_task}
+use Rattle.pattern_commands.specs.Soup.{soup_task}
+use Rattle.pattern_commands.specs.Streams.{Stream}
+use Rattle.pattern_commands.specs.Tasks.{Task}
+use Rattle.pattern_commands.proofs.AnswerLemmas.{some_input}
 use Rattle.words.specs.declared.request.Request.{Request}
 use Rattle.census.specs.Requests.{DoesRequest, task_of}
 use Rattle.census.proofs.request.do_request.Goals as goal

@@ -1,7 +1,7 @@
 use Rattle.std.proofs.Common.{append-nil, refl}
 use Rattle.std.proofs.KnownBytes.{Appends-nil}
 use Rattle.plane_core.proofs.OutLemmas.{Writes_same, Writes_then}
-use Rattle.commands.proofs.AnswerLemmas.{err_of}
+use Rattle.pattern_commands.proofs.AnswerLemmas.{err_of}
 use Rattle.commands.proofs.finish.finish.Goals as goal
 
 pub returns-in_err-census-clause-finishes : goal.returns-in_err-census-clause-finishes

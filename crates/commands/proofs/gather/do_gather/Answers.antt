@@ -1,5 +1,5 @@
 use Rattle.std.proofs.Common.{◌∙◌, refl, sym}
-use Rattle.commands.specs.Streams.{stream}
+use Rattle.pattern_commands.specs.Streams.{stream}
 use Rattle.commands.proofs.EndLemmas.{if_memory, if_refused}
 use Rattle.commands.proofs.gather.do_gather.Goals as goal
 

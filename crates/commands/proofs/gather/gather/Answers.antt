@@ -1,6 +1,6 @@
 use Rattle.std.proofs.Common.{◌≡◌, refl}
 use Rattle.std.proofs.KnownBytes.{Appends-nil}
-use Rattle.commands.proofs.AnswerLemmas.{err_of, some_input}
+use Rattle.pattern_commands.proofs.AnswerLemmas.{err_of, some_input}
 use Rattle.commands.proofs.EndLemmas.{gathers_opening, gathers_over, is_over, reads_named}
 use Rattle.commands.proofs.StillLemmas.{never_refused}
 use Rattle.commands.proofs.gather.gather.Goals as goal

@@ -1,5 +1,5 @@
 use Rattle.std.proofs.KnownBytes.{Appends-nil}
-use Rattle.commands.proofs.AnswerLemmas.{err_of, some_input}
+use Rattle.pattern_commands.proofs.AnswerLemmas.{err_of, some_input}
 use Rattle.commands.proofs.EndLemmas.{gathers_haul, gathers_lines}
 use Rattle.commands.proofs.gather.gather_into.Goals as goal
 

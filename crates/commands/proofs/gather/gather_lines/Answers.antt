@@ -1,5 +1,5 @@
 use Rattle.std.proofs.Common.{◌∙◌, arith, refl}
-use Rattle.commands.proofs.AnswerLemmas.{err_of}
+use Rattle.pattern_commands.proofs.AnswerLemmas.{err_of}
 use Rattle.commands.proofs.GatherLemmas.{begun, goes_begun, goes_further, goes_no_further, lines_ended_by, none_gathered}
 use Rattle.commands.proofs.gather.gather_lines.Goals as goal
 

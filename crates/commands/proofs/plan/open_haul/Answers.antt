@@ -1,5 +1,5 @@
 use Rattle.std.proofs.Common.{inl, sym}
-use Rattle.commands.proofs.AnswerLemmas.{err_of}
+use Rattle.pattern_commands.proofs.AnswerLemmas.{err_of}
 use Rattle.commands.proofs.TakeLemmas.{opened_for, not_opened}
 use Rattle.commands.proofs.plan.open_haul.Goals as goal
 

@@ -1,6 +1,6 @@
 use Rattle.std.proofs.Common.{◌∙◌, refl, sym, subst}
 use Rattle.commands.specs.SoupSets.{AreRangesOf, Overlapping, Too_large}
-use Rattle.commands.proofs.AnswerLemmas.{err_of}
+use Rattle.pattern_commands.proofs.AnswerLemmas.{err_of}
 use Rattle.commands.proofs.TakeLemmas.{small_from}
 use Rattle.commands.proofs.soup_set.haul_for.Goals as goal
 

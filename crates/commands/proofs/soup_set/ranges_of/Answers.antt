@@ -1,7 +1,7 @@
 use Rattle.std.proofs.Common.{◌≡◌, ◌∙◌, ◌++◌, ◌∷◌, [], List, Err, ap, sym}
 use Rattle.ranges.specs.declared.range.Range.{Range}
 use Rattle.commands.specs.SoupSets.{own_range}
-use Rattle.commands.proofs.AnswerLemmas.{err_of}
+use Rattle.pattern_commands.proofs.AnswerLemmas.{err_of}
 use Rattle.commands.proofs.TakeLemmas.{Stops_list}
 use Rattle.commands.proofs.soup_set.ranges_of.Goals as goal
 

@@ -1,4 +1,4 @@
-use Rattle.commands.specs.Streams.{stream}
+use Rattle.pattern_commands.specs.Streams.{stream}
 use Rattle.commands.proofs.TakeLemmas.{never_stopped}
 use Rattle.commands.proofs.take.do_take.Goals as goal
 

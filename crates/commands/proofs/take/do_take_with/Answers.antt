@@ -1,6 +1,6 @@
 use Rattle.std.proofs.Common.{◌∙◌, refl, sym}
 use Rattle.std.proofs.KnownBytes.{Appends-nil}
-use Rattle.commands.specs.Streams.{Stream, stream}
+use Rattle.pattern_commands.specs.Streams.{Stream, stream}
 use Rattle.commands.proofs.EndLemmas.{if_memory, if_refused}
 use Rattle.commands.proofs.take.do_take_with.Goals as goal
 

@@ -1,7 +1,7 @@
 use Rattle.std.proofs.Common.{◌≡◌, arith, refl}
 use Rattle.std.proofs.KnownBytes.{Appends-nil}
 use Rattle.commands.specs.Take.{TellsAll}
-use Rattle.commands.proofs.AnswerLemmas.{err_of}
+use Rattle.pattern_commands.proofs.AnswerLemmas.{err_of}
 use Rattle.commands.proofs.StillLemmas.{never_refused}
 use Rattle.commands.proofs.TakeLemmas.{Stops_opening, take_ends, take_stops}
 use Rattle.commands.proofs.take.take.Goals as goal

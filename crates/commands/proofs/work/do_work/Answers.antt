@@ -1,7 +1,7 @@
 use Rattle.std.proofs.KnownBytes.{Appends-nil}
 use Rattle.std.proofs.Common.{false}
 use Rattle.commands.specs.Work.{work_right}
-use Rattle.commands.proofs.TextLemmas.{text_complains, text_done}
+use Rattle.pattern_commands.proofs.TextLemmas.{text_complains, text_done}
 use Rattle.commands.proofs.work.do_work.Goals as goal
 
 pub returns-in-Ok-clause-ends : goal.returns-in-Ok-clause-ends

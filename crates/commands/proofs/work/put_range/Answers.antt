@@ -1,8 +1,8 @@
 use Rattle.std.proofs.Common.{◌≡◌, ◌-◌, ℕ, Ok, Err, arith, sym, subst}
 use Rattle.std.specs.List.{range_with_len}
-use Rattle.commands.specs.Streams.{stream}
+use Rattle.pattern_commands.specs.Streams.{stream}
 use Rattle.commands.specs.WorkSteps.{Puts}
-use Rattle.commands.proofs.AnswerLemmas.{err_of}
+use Rattle.pattern_commands.proofs.AnswerLemmas.{err_of}
 use Rattle.commands.proofs.WorkLemmas.{puts_next, puts_nothing, puts_short}
 use Rattle.commands.proofs.work.put_range.Goals as goal
 

@@ -1,6 +1,6 @@
 use Rattle.std.proofs.Common.{◌-◌, Ok}
 use Rattle.std.specs.List.{range_with_len}
-use Rattle.commands.specs.Streams.{stream}
+use Rattle.pattern_commands.specs.Streams.{stream}
 use Rattle.commands.specs.WorkSteps.{Puts}
 use Rattle.commands.proofs.work.put_range.Given as goal
 

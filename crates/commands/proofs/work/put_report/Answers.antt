@@ -1,5 +1,5 @@
-use Rattle.commands.specs.Streams.{stream}
-use Rattle.commands.proofs.AnswerLemmas.{err_of}
+use Rattle.pattern_commands.specs.Streams.{stream}
+use Rattle.pattern_commands.proofs.AnswerLemmas.{err_of}
 use Rattle.commands.proofs.WorkLemmas.{puts_failed, puts_no_memory, puts_one}
 use Rattle.std.proofs.Common.{◌∷◌, []}
 use Rattle.commands.proofs.work.put_report.Goals as goal

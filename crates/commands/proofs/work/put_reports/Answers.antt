@@ -1,6 +1,6 @@
 use Rattle.std.proofs.Common.{◌+◌, Ok, Err}
-use Rattle.commands.specs.Streams.{stream}
-use Rattle.commands.proofs.AnswerLemmas.{err_of}
+use Rattle.pattern_commands.specs.Streams.{stream}
+use Rattle.pattern_commands.proofs.AnswerLemmas.{err_of}
 use Rattle.commands.proofs.WorkLemmas.{puts_early, puts_more, puts_nothing}
 use Rattle.commands.proofs.work.put_reports.Goals as goal
 

@@ -1,5 +1,5 @@
 use Rattle.std.proofs.Common.{Ok, take}
-use Rattle.commands.specs.Streams.{stream}
+use Rattle.pattern_commands.specs.Streams.{stream}
 use Rattle.haul_core.specs.Missing.{numbers_of}
 use Rattle.commands.specs.WorkSteps.{Puts}
 use Rattle.commands.proofs.work.put_reports.Given as goal

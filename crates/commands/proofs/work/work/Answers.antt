@@ -1,7 +1,7 @@
 use Rattle.std.proofs.Common.{◌≡◌, refl}
 use Rattle.std.proofs.KnownBytes.{Appends-nil}
 use Rattle.commands.specs.Work.{TellsReports, work_right}
-use Rattle.commands.proofs.AnswerLemmas.{err_of}
+use Rattle.pattern_commands.proofs.AnswerLemmas.{err_of}
 use Rattle.commands.proofs.StillLemmas.{reports_accepted}
 use Rattle.commands.proofs.TakeLemmas.{Reaches_stopped, Stops_opening}
 use Rattle.commands.proofs.WorkLemmas.{reaches_work}

@@ -1,0 +1,91 @@
+-- Lemmas on what commands read and answer.
+use Rattle.std.proofs.Common.{◌≡◌, ◌≤◌, ◌^◌, ◌↔◌, ℕ, List, [], length, Bool, true, false, Option, None, Some, Result, Ok, Err, nat_le, refl}
+use Rattle.std.proofs.Common.{IfSome, ◌+◌, ◌++◌, arith, length-take, subst, sym, ap, take, take_all, ◌∙◌, rules}
+use Rattle.std.specs.Option.{option_map}
+use Rattle.std.specs.Result.{IsErrAnd, IsErrOf, result_map_both}
+use Rattle.plane_core.specs.declared.cell.Cell.{Cell}
+use Rattle.plane_core.specs.declared.rule.RuleError.{RuleError}
+use Rattle.plane_core.specs.declared.rule.RuleError.TheVariants as rule_error
+use Rattle.plane_core.specs.declared.plaintext.PlaintextError.{PlaintextError}
+use Rattle.plane_core.specs.declared.plaintext.PlaintextError.TheVariants as plaintext_error
+use Rattle.plane_core.specs.declared.plaintext.PlaintextFault.{PlaintextFault}
+use Rattle.plane_core.specs.declared.plaintext.PlaintextFault.TheVariants as plaintext_fault
+use Rattle.plane_core.specs.Rules.{rule_read}
+use Rattle.plane_core.specs.Plaintext.{pattern}
+use Rattle.pattern_commands.specs.declared.complaint.Complaint.{Complaint}
+use Rattle.pattern_commands.specs.declared.complaint.Complaint.TheVariants.{Refused, OutOfMemory, ReadFailed, WriteFailed}
+use Rattle.pattern_commands.specs.declared.refusal.Refusal.{Refusal}
+use Rattle.pattern_commands.specs.declared.input.InputFault.{InputFault}
+use Rattle.pattern_commands.specs.declared.input.InputFault.TheVariants as input_fault
+use Rattle.pattern_commands.specs.Answers.{IsInput, Right}
+use Rattle.pattern_commands.specs.Inputs.{Reads, rule_named, input_complaint, plaintext_complaint, pattern_complaint, pattern_of, rule_complaint}
+use Rattle.pattern_commands.specs.Streams.{Stream, Has}
+use Rattle.pattern_commands.specs.TextSteps.{ReachesText}
+
+-- an error that is known is the result
+pub err_of : {A E : Type 0} (r : Result A E) (e : E) → IsErrAnd r (λ x. x ≡ e) → r ≡ Err e
+err_of (Ok a) e h = absurd h
+err_of (Err x) e h = ap Err h
+
+-- a reader's input is some bytes
+pub some_input : (known : Option (List ℕ)) → (bytes : List ℕ) × IsInput known bytes
+some_input None = ([], tt)
+some_input (Some left) = (left, refl)
+
+-- what is read of an input up to a byte past a limit, and is no longer than the limit, is all of it
+pub whole_input : (limit count : ℕ) (known old : Option (List ℕ)) (before bytes : List ℕ) → count ≡ limit + 1 → old ≡ known → before ≡ []
+    → IfSome (option_map (take count) old) (λ read. bytes ≡ before ++ read) → length bytes ≤ limit → IfSome known (λ left. bytes ≡ left)
+whole_input limit count known old before bytes is same none read short =
+    let P : List ℕ → Type 0 = λ front. IfSome (option_map (take (limit + 1)) known) (λ more. bytes ≡ front ++ more) in
+    go known (subst P none (rw same at (rw is at read)))
+  where
+    go : (known : Option (List ℕ)) → IfSome (option_map (take (limit + 1)) known) (λ more. bytes ≡ [] ++ more) → IfSome known (λ left. bytes ≡ left)
+    go None more = tt
+    go (Some left) more =
+        let long = ap length more ∙ length-take (limit + 1) left in
+        more ∙ take_all (limit + 1) left (omega (arith, long, short))
+
+-- an input that was not read to its end says nothing of the answer
+pub Reads_unread : {A : Type 0} (answer : Result A Complaint) (fault : InputFault) → Reads answer (Err (input_complaint fault))
+Reads_unread answer input_fault.Unreadable = tt
+Reads_unread answer input_fault.OutOfMemory = tt
+
+-- an input up to the limit is looked at
+pub pattern_of-short : (bytes : List ℕ) (answer : Result (List Cell) PlaintextFault) → length bytes ≤ 2 ^ 24 → pattern bytes ≡ answer
+    → pattern_of bytes ≡ result_map_both (λ (cells : List Cell). cells) pattern_complaint answer
+pattern_of-short bytes answer short is =
+    let looked : nat_le (length bytes) (2 ^ 24) ≡ true = search rules in
+    rw (looked, is)
+
+-- a refused pattern is the answer
+pub Reads_refused : (bytes : List ℕ) (fault : PlaintextFault) → length bytes ≤ 2 ^ 24 → pattern bytes ≡ Err fault
+    → Reads (pattern_of bytes) (Err (pattern_complaint fault))
+Reads_refused bytes (plaintext_fault.BadByte line column) short is = pattern_of-short bytes _ short is
+Reads_refused bytes plaintext_fault.TooLarge short is = pattern_of-short bytes _ short is
+
+pub Reads_error : (bytes : List ℕ) (error : PlaintextError) → length bytes ≤ 2 ^ 24
+    → ((fault : PlaintextFault) → IsErrOf {T = List Cell} (Err error) (plaintext_error.Fault fault) ↔ (pattern bytes ≡ Err fault))
+    → Reads (pattern_of bytes) (Err (plaintext_complaint error))
+Reads_error bytes (plaintext_error.Fault fault) short faults = Reads_refused bytes fault short ((faults fault).0 refl)
+Reads_error bytes plaintext_error.Memory short faults = tt
+
+-- memory that runs out after the input is begun leaves nothing on the output
+pub Reaches_no_memory : (reads : Bool) (right : Right) (output : Stream) → reads ≡ true → Has output [] → ReachesText reads true right (Err OutOfMemory) output
+Reaches_no_memory reads right output read nothing =
+    (λ unread complaint is. let bad : false ≡ true = sym unread ∙ read in cc, nothing)
+
+-- an input that was refused or not read is what a command ends with, with nothing on the output
+pub Reaches_unread : {A : Type 0} (reads : Bool) (right : Right) (answer : Result A Complaint) (complaint : Complaint) (output : Stream) → reads ≡ true
+    → ((refusal : Refusal) → answer ≡ Err (Refused refusal) → right (Err (Refused refusal))) → Reads answer (Err complaint) → Has output []
+    → ReachesText reads true right (Err complaint) output
+Reaches_unread reads right answer (Refused refusal) output read is refused nothing = (is refusal refused, nothing)
+Reaches_unread reads right answer OutOfMemory output read is refused nothing = Reaches_no_memory reads right output read nothing
+Reaches_unread reads right answer ReadFailed output read is refused nothing = (read, nothing)
+Reaches_unread reads right answer WriteFailed output read is refused nothing = absurd refused
+
+-- a refused rule is a right answer, with nothing on the output
+pub Reaches_rule : (reads : Bool) (right : Right) (text : List ℕ) (error : RuleError) (output : Stream) → rule_read text ≡ Err error
+    → ((complaint : Complaint) → rule_named text ≡ Err complaint → right (Err complaint)) → Has output []
+    → ReachesText reads true right (Err (rule_complaint error)) output
+Reaches_rule reads right text (rule_error.BadRule place) output is told nothing = (told _ (rw is refl), nothing)
+Reaches_rule reads right text rule_error.BirthZero output is told nothing = (told _ (rw is refl), nothing)

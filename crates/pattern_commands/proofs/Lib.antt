@@ -1,0 +1,4 @@
+pub mod AnswerLemmas
+pub mod NameLemmas
+pub mod ShowLemmas
+pub mod TextLemmas

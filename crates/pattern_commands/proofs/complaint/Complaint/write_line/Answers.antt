@@ -1,0 +1,11 @@
+use Rattle.std.proofs.Common.{◌≡◌, refl}
+use Rattle.plane_core.proofs.OutLemmas.{Writes_same}
+use Rattle.pattern_commands.specs.Complaints.{complaint_line}
+use Rattle.pattern_commands.proofs.complaint.Complaint.write_line.Goals as goal
+
+pub returns-in-Ok : goal.returns-in-Ok
+returns-in-Ok g c =
+    let whole = c.in-Ok.ensures.whole in
+    let held : c.as_slice.result.now ≡ complaint_line c.args.self =
+    rw (c.as_slice.ensures.value, c.into_inner.ensures, whole, c.new-line.ensures.writer, c.new.ensures) refl in
+    Writes_same held c.put.ensures

@@ -1,0 +1,68 @@
+-- What the rule texts and the inputs of commands stand for, and the complaints about them.
+use Rattle.std.specs.Prelude.{◌≡◌, ℕ, ◌^◌, true, List, length, nat_le, Result, Ok, Err, if◌then◌else◌}
+use Rattle.std.specs.Result.{result_map_both}
+use Rattle.plane_core.specs.declared.cell.Cell.{Cell}
+use Rattle.plane_core.specs.declared.rule.RuleError.{RuleError}
+use Rattle.plane_core.specs.declared.rule.RuleError.TheVariants as rule_error
+use Rattle.plane_core.specs.declared.plaintext.PlaintextFault.{PlaintextFault}
+use Rattle.plane_core.specs.declared.plaintext.PlaintextFault.TheVariants as fault
+use Rattle.plane_core.specs.declared.plaintext.PlaintextError.{PlaintextError}
+use Rattle.plane_core.specs.declared.plaintext.PlaintextError.TheVariants as error
+use Rattle.plane_core.specs.Rules.{Numbers}
+use Rattle.plane_core.specs.Rules.{rule_read}
+use Rattle.plane_core.specs.Generations.{lies_within}
+use Rattle.plane_core.specs.Plaintext.{pattern}
+use Rattle.ranges.specs.declared.range_list.ListError.{ListError}
+use Rattle.ranges.specs.declared.range_list.ListError.TheVariants as list_error
+use Rattle.pattern_commands.specs.declared.complaint.Complaint.{Complaint}
+use Rattle.pattern_commands.specs.declared.complaint.Complaint.TheVariants.{Refused, OutOfMemory, ReadFailed, WriteFailed}
+use Rattle.pattern_commands.specs.declared.refusal.Refusal.TheVariants.{BadByte, PatternTooLarge, BadRule, BirthZero, BadList}
+use Rattle.pattern_commands.specs.declared.input.InputFault.{InputFault}
+use Rattle.pattern_commands.specs.declared.input.InputFault.TheVariants as input_fault
+
+-- the complaint about a rule text
+abbrev pub rule_complaint : RuleError → Complaint
+rule_complaint (rule_error.BadRule place) = Refused (BadRule place)
+rule_complaint rule_error.BirthZero = Refused BirthZero
+
+-- the complaint about a plaintext pattern
+abbrev pub pattern_complaint : PlaintextFault → Complaint
+pattern_complaint (fault.BadByte line column) = Refused (BadByte line column)
+pattern_complaint fault.TooLarge = Refused PatternTooLarge
+
+-- the complaint about a call that reads a plaintext pattern
+abbrev pub plaintext_complaint : PlaintextError → Complaint
+plaintext_complaint (error.Fault why) = pattern_complaint why
+plaintext_complaint error.Memory = OutOfMemory
+
+-- the complaint about a call that reads a range list
+abbrev pub list_complaint : ListError → Complaint
+list_complaint (list_error.BadList place) = Refused (BadList place)
+list_complaint list_error.Memory = OutOfMemory
+
+-- the complaint about a call that reads an input
+abbrev pub input_complaint : InputFault → Complaint
+input_complaint input_fault.Unreadable = ReadFailed
+input_complaint input_fault.OutOfMemory = OutOfMemory
+
+-- the rule that a text names
+abbrev pub rule_named : List ℕ → Result Numbers Complaint
+rule_named text = result_map_both (λ rule. rule) rule_complaint (rule_read text)
+
+-- the pattern of an input, which is not looked at where it is longer than 2^24 bytes
+abbrev pub pattern_of : List ℕ → Result (List Cell) Complaint
+pattern_of bytes = if nat_le (length bytes) (2 ^ 24)
+    then result_map_both (λ cells. cells) pattern_complaint (pattern bytes)
+    else Err ReadFailed
+
+-- the cells lie in the 999 columns and rows on each side of the origin, as do all that are read
+abbrev pub LiesWithin999 : List Cell → Type 0
+LiesWithin999 cells = lies_within 999 cells ≡ true
+
+-- a call that reads a value gives it or refuses its text, or ends because memory runs out or a read fails
+abbrev pub Reads : {A : Type 0} → Result A Complaint → Result A Complaint → Type 0
+Reads answer (Ok x) = answer ≡ Ok x
+Reads answer (Err (Refused refusal)) = answer ≡ Err (Refused refusal)
+Reads answer (Err OutOfMemory) = Unit {0}
+Reads answer (Err ReadFailed) = Unit {0}
+Reads answer (Err WriteFailed) = ⊥

@@ -1,0 +1,14 @@
+pub mod Answers
+pub mod Complaints
+pub mod Ends
+pub mod Inputs
+pub mod Name
+pub mod Profiles
+pub mod Run
+pub mod Show
+pub mod Soup
+pub mod Status
+pub mod Streams
+pub mod Tasks
+pub mod TextSteps
+pub mod Version

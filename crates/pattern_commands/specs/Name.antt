@@ -1,0 +1,36 @@
+-- What `census name` is asked for.
+use Rattle.std.specs.Prelude.{◌++◌, ◌&&◌, true, is_ok, ℕ, List, Ok, codes, decimal, flat_map}
+use Rattle.plane_core.specs.declared.cell.Cell.{Cell}
+use Rattle.plane_core.specs.Rules.{Numbers}
+use Rattle.survey_core.specs.declared.finding.Finding.{Finding}
+use Rattle.survey_core.specs.declared.finding.Finding.TheVariants.{Settled, Unsettled}
+use Rattle.survey_core.specs.Findings.{IsFinding}
+use Rattle.survey_core.specs.Profiles.{Settling}
+use Rattle.pattern_commands.specs.declared.profile.ProfileNumbers.{ProfileNumbers}
+use Rattle.pattern_commands.specs.Answers.{Right, given_right, only}
+use Rattle.pattern_commands.specs.Inputs.{pattern_of, rule_named}
+use Rattle.pattern_commands.specs.Profiles.{profile_named}
+use Rattle.pattern_commands.specs.Tasks.{Task, text_task}
+
+-- a code and how many objects have it, as a line
+abbrev pub object_line : List ℕ × ℕ → List ℕ
+object_line object = object.0 ++ (codes " " ++ decimal object.1 ++ codes "\n")
+
+-- a finding in lines: the generation of the checkpoint, and a line for each code
+abbrev pub finding_text : Finding → List ℕ
+finding_text (Settled checkpoint objects for_good) = codes "settled " ++ decimal checkpoint ++ codes "\n" ++ flat_map object_line objects
+finding_text Unsettled = codes "unsettled\n"
+
+-- an answer that tells the finding of a pattern
+abbrev pub TellsFinding : Numbers → Settling → List Cell → Right
+TellsFinding rule profile cells answer = (finding : Finding) × IsFinding rule profile cells finding × only (Ok (finding_text finding)) answer
+
+-- the finding of the pattern; the profile is looked at first, then the rule and then the input
+abbrev pub name_right : ProfileNumbers → List ℕ → List ℕ → Right
+name_right numbers rule_text bytes =
+    given_right (profile_named numbers) (λ profile. given_right (rule_named rule_text) (λ rule. given_right (pattern_of bytes) (TellsFinding rule profile)))
+
+-- to write the finding of the input's pattern; the input is looked at if the profile and the rule are fine
+abbrev pub name_task : ProfileNumbers → List ℕ → Task
+name_task numbers rule_text =
+    text_task (is_ok (profile_named numbers) && is_ok (rule_named rule_text)) true (λ bytes. name_right numbers rule_text bytes)

@@ -1,0 +1,23 @@
+-- The profiles that commands are asked for.
+use Rattle.std.specs.Prelude.{◌≤◌, Result, Ok, Err, nat_le, if◌then◌else◌}
+use Rattle.survey_core.specs.Profiles.{Settling}
+use Rattle.pattern_commands.specs.declared.complaint.Complaint.{Complaint}
+use Rattle.pattern_commands.specs.declared.complaint.Complaint.TheVariants.{Refused}
+use Rattle.pattern_commands.specs.declared.profile.ProfileNumbers.{ProfileNumbers}
+use Rattle.pattern_commands.specs.declared.refusal.Refusal.TheVariants.{HorizonBelowPeriod}
+
+-- each of the four numbers is in its range
+pub record AreInRange (numbers : ProfileNumbers) : Type 0 where
+  pub some : 1 ≤ numbers.period
+  pub period : numbers.period ≤ 64
+  pub horizon : numbers.horizon ≤ 4096
+  pub onward : 1 ≤ numbers.stride
+  pub stride : numbers.stride ≤ 10000
+  pub limit : numbers.limit ≤ 100000
+
+abbrev pub settling : ProfileNumbers → Settling
+settling n = record { period = n.period; horizon = n.horizon; stride = n.stride; limit = n.limit }
+
+-- the profile that four numbers name: what can be wrong with numbers in range is a horizon below the period
+abbrev pub profile_named : ProfileNumbers → Result Settling Complaint
+profile_named numbers = if nat_le numbers.period numbers.horizon then Ok (settling numbers) else Err (Refused HorizonBelowPeriod)

@@ -1,0 +1,78 @@
+-- What `census show` is asked for (LifeWiki, "Apgcode").
+use Rattle.std.specs.Prelude.{◌==◌, ◌&&◌, ◌||◌, not, ℕ, Bool, true, false, List, [], ◌∷◌, Option, Some, None, Result, Ok, Err, length, nat_lt, if◌then◌else◌}
+use Rattle.std.specs.Char.{is_ascii_digit}
+use Rattle.std.specs.List.{after_first, before_first, list_all, position_or_len}
+use Rattle.std.specs.Result.{result_map_both}
+use Rattle.plane_core.specs.declared.cell.Cell.{Cell}
+use Rattle.plane_core.specs.Plaintext.{plain}
+use Rattle.code_core.specs.declared.reader.WechslerFault.{WechslerFault}
+use Rattle.code_core.specs.declared.reader.WechslerFault.TheVariants as fault
+use Rattle.code_core.specs.declared.reader.WechslerError.{WechslerError}
+use Rattle.code_core.specs.declared.reader.WechslerError.TheVariants as error
+use Rattle.code_core.specs.Reading.{wechsler_read}
+use Rattle.pattern_commands.specs.declared.complaint.Complaint.{Complaint}
+use Rattle.pattern_commands.specs.declared.complaint.Complaint.TheVariants.{Refused, OutOfMemory}
+use Rattle.pattern_commands.specs.declared.refusal.Refusal.TheVariants.{CodeBadByte, CodeEmpty, CodeShortRun, CodeTooLong, NotACode}
+use Rattle.pattern_commands.specs.Answers.{Answer, given, only}
+use Rattle.pattern_commands.specs.Tasks.{Task, text_task}
+
+-- `_`, between the prefix of a code and its text
+abbrev pub is_separator : ℕ → Bool
+is_separator b = b == 95
+
+-- a word's part before its first `_` and the part after it, if it has one
+abbrev pub parted : List ℕ → Option (List ℕ × List ℕ)
+parted word = if nat_lt (position_or_len is_separator word) (length word)
+    then Some (before_first is_separator word, after_first is_separator word)
+    else None
+
+-- `s`, `p` and `q` are the letters of still lifes, oscillators and spaceships
+abbrev pub is_kind : ℕ → Bool
+is_kind b = b == 115 || (b == 112 || b == 113)
+
+-- one digit at least, and nothing but digits
+abbrev pub is_number : List ℕ → Bool
+is_number digits = not (length digits == 0) && list_all is_ascii_digit digits
+
+-- the part before the `_` is `x`, the letter of a kind and any number
+unfoldable pub is_prefix : List ℕ → Bool
+is_prefix [] = false
+is_prefix (x ∷ []) = false
+is_prefix (x ∷ kind ∷ number) = x == 120 && (is_kind kind && is_number number)
+
+-- the text after a right prefix
+abbrev pub after_prefix : List ℕ × List ℕ → Result (List ℕ) Complaint
+after_prefix (prefix, text) = if is_prefix prefix then Ok text else Err (Refused NotACode)
+
+-- a word that has no `_` is a text itself
+abbrev pub text_or_part : List ℕ → Option (List ℕ × List ℕ) → Result (List ℕ) Complaint
+text_or_part word None = Ok word
+text_or_part word (Some parts) = after_prefix parts
+
+-- the text of a word
+abbrev pub text_in : List ℕ → Result (List ℕ) Complaint
+text_in word = text_or_part word (parted word)
+
+-- the complaint about a text in extended Wechsler format
+abbrev pub wechsler_complaint : WechslerFault → Complaint
+wechsler_complaint fault.TooLong = Refused CodeTooLong
+wechsler_complaint (fault.BadByte place) = Refused (CodeBadByte place)
+wechsler_complaint (fault.ShortRun place) = Refused (CodeShortRun place)
+wechsler_complaint fault.Empty = Refused CodeEmpty
+
+-- the complaint about a call that reads such a text
+abbrev pub reader_complaint : WechslerError → Complaint
+reader_complaint (error.Fault why) = wechsler_complaint why
+reader_complaint error.Memory = OutOfMemory
+
+-- the pattern of a text
+abbrev pub shown : List ℕ → Result (List Cell) Complaint
+shown text = result_map_both (λ cells. cells) wechsler_complaint (wechsler_read text)
+
+-- the plaintext of the object that the word names
+abbrev pub show_answer : List ℕ → Answer
+show_answer word = given (text_in word) (λ text. given (shown text) (λ cells. Ok (plain cells)))
+
+-- to write the object that a word names
+abbrev pub show_task : List ℕ → Task
+show_task word = text_task false true (λ bytes. only (show_answer word))

@@ -1,0 +1,30 @@
+-- What `census soup` is asked for.
+use Rattle.std.specs.Prelude.{ℕ, List, Result, Ok, true, false}
+use Rattle.std.specs.Result.{result_map_both}
+use Rattle.plane_core.specs.Plaintext.{plain}
+use Rattle.survey_core.specs.declared.seed.SeedError.{SeedError}
+use Rattle.survey_core.specs.declared.seed.SeedError.TheVariants as error
+use Rattle.survey_core.specs.Seeds.{seed_read}
+use Rattle.survey_core.specs.Soups.{soup}
+use Rattle.pattern_commands.specs.declared.complaint.Complaint.{Complaint}
+use Rattle.pattern_commands.specs.declared.complaint.Complaint.TheVariants.{Refused}
+use Rattle.pattern_commands.specs.declared.refusal.Refusal.TheVariants.{SeedBadByte, SeedTooLong}
+use Rattle.pattern_commands.specs.Answers.{Answer, given, only}
+use Rattle.pattern_commands.specs.Tasks.{Task, text_task}
+
+-- the complaint about a seed
+abbrev pub seed_complaint : SeedError → Complaint
+seed_complaint error.TooLong = Refused SeedTooLong
+seed_complaint (error.BadByte place) = Refused (SeedBadByte place)
+
+-- the seed that a text names
+abbrev pub seed_named : List ℕ → Result (List ℕ) Complaint
+seed_named text = result_map_both (λ seed. seed) seed_complaint (seed_read text)
+
+-- the plaintext of the soup with this number
+abbrev pub soup_answer : List ℕ → ℕ → Answer
+soup_answer seed_text number = given (seed_named seed_text) (λ seed. Ok (plain (soup seed number)))
+
+-- to write a soup
+abbrev pub soup_task : List ℕ → ℕ → Task
+soup_task seed_text number = text_task false true (λ bytes. only (soup_answer seed_text number))

@@ -1,0 +1,19 @@
+-- The numbers that the process ends with.
+use Rattle.std.specs.Prelude.{ℕ, Bool, true, false}
+use Rattle.pattern_commands.specs.declared.status.Status.{Status}
+use Rattle.pattern_commands.specs.declared.status.Status.TheVariants.{Done, Usage, Refused, OutOfMemory, Failed, Incomplete}
+
+-- the process's number for a status
+abbrev pub exit_code : Status → ℕ
+exit_code Done = 0
+exit_code Usage = 2
+exit_code Refused = 3
+exit_code OutOfMemory = 4
+exit_code Failed = 5
+exit_code Incomplete = 6
+
+-- a command with this status printed its whole text: it was done, maybe but for soups that are missing
+abbrev pub has_printed : Status → Bool
+has_printed Done = true
+has_printed Incomplete = true
+has_printed status = false

@@ -1,0 +1,55 @@
+-- What commands are to do, and what they make.
+use Rattle.std.specs.Prelude.{◌≡◌, ℕ, Bool, List, [], Option, Result, Ok, Err}
+use Rattle.std.specs.Io.KnownBytes.{Appends}
+use Rattle.pattern_commands.specs.declared.complaint.Complaint.{Complaint}
+use Rattle.pattern_commands.specs.Answers.{NeedsMemory, Right}
+
+-- what a command makes: a text for standard output, what it tells on standard error of its input, and how many soups are missing
+pub record Made : Type 0 where
+  pub text : List ℕ
+  pub told : List ℕ
+  pub missing : ℕ
+
+-- what a command makes is right, or what it complains of
+abbrev pub Makes : Type 1
+Makes = Result Made Complaint → Type 0
+
+-- the text for standard output: none where there is a complaint
+abbrev pub text_made : Result Made Complaint → List ℕ
+text_made (Ok made) = made.text
+text_made (Err complaint) = []
+
+-- memory that runs out hides no complaint but those for which memory is needed
+abbrev pub NeedsMemoryAlone : Makes → Type 0
+NeedsMemoryAlone right = (complaint : Complaint) → right (Err complaint) → NeedsMemory complaint
+
+-- What a command is to do: what is right on an input; whether the input is looked at, and whether what is refused may be the input;
+-- whether the text is whole before its first byte is written; what the beginning of an input may add to standard error; and that the
+-- command may tell of its input at all.
+pub record Task : Type 1 where
+  pub right : List ℕ → Makes
+  pub reads : Bool
+  pub refuses : Bool
+  pub whole : Bool
+  pub begins : (known before after : Option (List ℕ)) → Type 0
+  pub may_tell : Type 0
+
+-- a text alone is right, if it is a right answer
+abbrev pub alone : Right → Makes
+alone right (Ok made) = right (Ok made.text) × (made.told ≡ []) × (made.missing ≡ 0)
+alone right (Err complaint) = right (Err complaint)
+
+-- a task of which nothing is told before the last line
+abbrev pub silent_task : (reads whole : Bool) → (List ℕ → Makes) → Task
+silent_task reads whole right = record {
+  right = right;
+  reads = reads;
+  refuses = reads;
+  whole = whole;
+  begins = λ known before after. Appends before after [];
+  may_tell = ⊥;
+}
+
+-- the task to write a text
+abbrev pub text_task : (reads whole : Bool) → (List ℕ → Right) → Task
+text_task reads whole right = silent_task reads whole (λ bytes. alone (right bytes))

@@ -1,0 +1,219 @@
+ghost use Rattle.std.specs.Prelude.{◌≡◌, false};
+ghost use Rattle.plane_core.specs.Out.{Writes};
+ghost use Rattle.pattern_commands.specs.Complaints.{complaint_line, missing_line, status_of};
+ghost use Rattle.pattern_commands.specs.Streams.{stream, HasLine};
+
+use crate::input::InputFault;
+use crate::output::LineBuffer;
+use crate::refusal::Refusal;
+use crate::status::Status;
+use code_core::decimal::put_number;
+use code_core::reader::{WechslerError, WechslerFault};
+use plane_core::output::{Out, WriteError};
+use plane_core::plaintext::{PlaintextError, PlaintextFault};
+use plane_core::rule::RuleError;
+use ranges::range_list::ListError;
+use std::alloc::AllocError;
+use std::io::Write;
+use survey_core::seed::SeedError;
+
+/// Why a command did not do all that was asked: the one line that it leaves on standard error, and its status.
+#[derive(Clone, Copy)]
+pub enum Complaint {
+    /// A text was refused.
+    Refused(Refusal),
+    /// Memory ran out.
+    OutOfMemory,
+    /// A read failed, or the input is longer than a command reads.
+    ReadFailed,
+    /// A write to standard output failed.
+    WriteFailed,
+}
+
+impl Complaint {
+    /// The status of a command that ends with this complaint.
+    pub fn status(self) -> Status
+        ensures { result ≡ status_of self }
+    {
+        match self {
+            Complaint::Refused(_) => Status::Refused,
+            Complaint::OutOfMemory => Status::OutOfMemory,
+            Complaint::ReadFailed | Complaint::WriteFailed => Status::Failed,
+        }
+    }
+
+    /// Writes the line at once, to a writer that hasn't failed. It takes no memory.
+    ///
+    /// # Errors
+    ///
+    /// [`WriteError`] if a write fails.
+    pub fn write_line<E: Write>(self, errors: &mut Out<E>) -> Result<(), WriteError>
+        requires { errors.old.failed ≡ false }
+        ensures { Writes E.contents errors.old errors.new result (complaint_line self) }
+    {
+        let mut line = Out::new(LineBuffer::new());
+        match self.put_line(&mut line) {
+            Ok(()) => errors.put(line.into_inner().as_slice()),
+            Err(_) => self.put_line(errors),
+        }
+    }
+
+    /// Writes the line piece by piece.
+    fn put_line<E: Write>(self, errors: &mut Out<E>) -> Result<(), WriteError>
+        requires { errors.old.failed ≡ false }
+        ensures { Writes E.contents errors.old errors.new result (complaint_line self) }
+    {
+        match self {
+            Complaint::Refused(refusal) => refusal.put_line(errors),
+            Complaint::OutOfMemory => errors.put(b"census: out of memory\n"),
+            Complaint::ReadFailed => errors.put(b"census: read failed\n"),
+            Complaint::WriteFailed => errors.put(b"census: write failed\n"),
+        }
+    }
+
+    /// Writes the line and returns the status. A failure to write the line is not reported.
+    pub fn tell<E: Write>(self, errors: &mut Out<E>) -> Status
+        requires { errors.old.failed ≡ false }
+        ensures status { result ≡ status_of self }
+        ensures line { HasLine (stream E.contents errors.old errors.new) (complaint_line self) }
+    {
+        let _ = self.write_line(errors);
+        self.status()
+    }
+}
+
+/// Writes at once how many soups are missing, to a writer that hasn't failed.
+///
+/// # Errors
+///
+/// [`WriteError`] if a write fails.
+pub fn put_missing<E: Write>(missing: u64, errors: &mut Out<E>) -> Result<(), WriteError>
+    requires { errors.old.failed ≡ false }
+    ensures { Writes E.contents errors.old errors.new result (missing_line missing) }
+{
+    let mut line = Out::new(LineBuffer::new());
+    match put_missing_line(missing, &mut line) {
+        Ok(()) => errors.put(line.into_inner().as_slice()),
+        Err(_) => put_missing_line(missing, errors),
+    }
+}
+
+fn put_missing_line<E: Write>(missing: u64, errors: &mut Out<E>) -> Result<(), WriteError>
+    requires { errors.old.failed ≡ false }
+    ensures { Writes E.contents errors.old errors.new result (missing_line missing) }
+{
+    put_number(errors, b"census: incomplete, ", missing)?;
+    errors.put(b" missing\n")
+}
+
+impl From<RuleError> for Complaint {
+    ghost use Rattle.pattern_commands.specs.Inputs.{rule_complaint};
+
+    ghost from_gives = { λ error complaint. complaint ≡ rule_complaint error };
+
+    fn from(error: RuleError) -> Complaint {
+        Complaint::Refused(match error {
+            RuleError::BadRule { place } => Refusal::BadRule { place },
+            RuleError::BirthZero => Refusal::BirthZero,
+        })
+    }
+}
+
+impl From<PlaintextError> for Complaint {
+    ghost use Rattle.pattern_commands.specs.Inputs.{plaintext_complaint};
+
+    ghost from_gives = { λ error complaint. complaint ≡ plaintext_complaint error };
+
+    fn from(error: PlaintextError) -> Complaint {
+        match error {
+            PlaintextError::Fault(PlaintextFault::BadByte { line, column }) => {
+                Complaint::Refused(Refusal::BadByte { line, column })
+            }
+            PlaintextError::Fault(PlaintextFault::TooLarge) => {
+                Complaint::Refused(Refusal::PatternTooLarge)
+            }
+            PlaintextError::Memory => Complaint::OutOfMemory,
+        }
+    }
+}
+
+impl From<WechslerError> for Complaint {
+    ghost use Rattle.pattern_commands.specs.Show.{reader_complaint};
+
+    ghost from_gives = { λ error complaint. complaint ≡ reader_complaint error };
+
+    fn from(error: WechslerError) -> Complaint {
+        match error {
+            WechslerError::Fault(WechslerFault::TooLong) => {
+                Complaint::Refused(Refusal::CodeTooLong)
+            }
+            WechslerError::Fault(WechslerFault::BadByte { place }) => {
+                Complaint::Refused(Refusal::CodeBadByte { place })
+            }
+            WechslerError::Fault(WechslerFault::ShortRun { place }) => {
+                Complaint::Refused(Refusal::CodeShortRun { place })
+            }
+            WechslerError::Fault(WechslerFault::Empty) => Complaint::Refused(Refusal::CodeEmpty),
+            WechslerError::Memory => Complaint::OutOfMemory,
+        }
+    }
+}
+
+impl From<SeedError> for Complaint {
+    ghost use Rattle.pattern_commands.specs.Soup.{seed_complaint};
+
+    ghost from_gives = { λ error complaint. complaint ≡ seed_complaint error };
+
+    fn from(error: SeedError) -> Complaint {
+        Complaint::Refused(match error {
+            SeedError::TooLong => Refusal::SeedTooLong,
+            SeedError::BadByte { place } => Refusal::SeedBadByte { place },
+        })
+    }
+}
+
+impl From<ListError> for Complaint {
+    ghost use Rattle.pattern_commands.specs.Inputs.{list_complaint};
+
+    ghost from_gives = { λ error complaint. complaint ≡ list_complaint error };
+
+    fn from(error: ListError) -> Complaint {
+        match error {
+            ListError::BadList { place } => Complaint::Refused(Refusal::BadList { place }),
+            ListError::Memory => Complaint::OutOfMemory,
+        }
+    }
+}
+
+impl From<AllocError> for Complaint {
+    ghost use Rattle.pattern_commands.specs.declared.complaint.Complaint.TheVariants.{OutOfMemory};
+
+    ghost from_gives = { λ _ complaint. complaint ≡ OutOfMemory };
+
+    fn from(_error: AllocError) -> Complaint {
+        Complaint::OutOfMemory
+    }
+}
+
+impl From<InputFault> for Complaint {
+    ghost use Rattle.pattern_commands.specs.Inputs.{input_complaint};
+
+    ghost from_gives = { λ fault complaint. complaint ≡ input_complaint fault };
+
+    fn from(fault: InputFault) -> Complaint {
+        match fault {
+            InputFault::Unreadable => Complaint::ReadFailed,
+            InputFault::OutOfMemory => Complaint::OutOfMemory,
+        }
+    }
+}
+
+impl From<WriteError> for Complaint {
+    ghost use Rattle.pattern_commands.specs.declared.complaint.Complaint.TheVariants.{WriteFailed};
+
+    ghost from_gives = { λ _ complaint. complaint ≡ WriteFailed };
+
+    fn from(_error: WriteError) -> Complaint {
+        Complaint::WriteFailed
+    }
+}

@@ -1,0 +1,40 @@
+ghost use Rattle.std.specs.Prelude.{◌≡◌, OnOk, false, true};
+ghost use Rattle.pattern_commands.specs.Complaints.{complaint_line, status_of};
+ghost use Rattle.pattern_commands.specs.Ends.{HasLast, Outcome, status_after};
+ghost use Rattle.pattern_commands.specs.Streams.{stream, HasLine};
+
+use crate::complaint::{Complaint, put_missing};
+use crate::status::Status;
+use plane_core::output::Out;
+use std::io::Write;
+
+/// Ends a command that left so many soups missing, or a complaint: writes the last line of standard error, if there is
+/// one, and returns the status. After a write that failed nothing more is written. A failure to write the line is not
+/// reported.
+pub fn tell_end<E: Write>(outcome: Result<u64, Complaint>, errors: &mut Out<E>) -> Status
+    requires { OnOk outcome (errors.old.failed ≡ false) }
+    ensures status { result ≡ status_after outcome }
+    ensures last { HasLast outcome (stream E.contents errors.old errors.new) }
+    ensures stays { errors.old.failed ≡ true → errors.new.failed ≡ true }
+{
+    match outcome {
+        Ok(0) => Status::Done,
+        Ok(missing) => {
+            let _ = put_missing(missing, errors);
+            Status::Incomplete
+        }
+        Err(complaint) => tell_complaint(complaint, errors),
+    }
+}
+
+/// Writes the line of a complaint, unless a write failed before, and returns its status.
+fn tell_complaint<E: Write>(complaint: Complaint, errors: &mut Out<E>) -> Status
+    ensures status { result ≡ status_of complaint }
+    ensures line { HasLine (stream E.contents errors.old errors.new) (complaint_line complaint) }
+    ensures stays { errors.old.failed ≡ true → errors.new.failed ≡ true }
+{
+    if errors.failed() {
+        return complaint.status();
+    }
+    complaint.tell(errors)
+}

@@ -1,0 +1,63 @@
+ghost use Rattle.std.specs.Prelude.{◌≡◌, ◌≤◌, ◌^◌, ℕ, List, IfOk, IfSome, vec_len};
+ghost use Rattle.pattern_commands.specs.Answers.{IsInput};
+ghost use Rattle.pattern_commands.specs.Inputs.{LiesWithin999, Reads, pattern_of};
+
+use crate::complaint::Complaint;
+use plane_core::pattern::Pattern;
+use std::alloc::{AllocError, Global};
+use std::io::{ErrorKind, Read};
+
+/// How many bytes a command reads of a pattern at most: 2^24.
+pub const INPUT_LIMIT: usize = 16_777_216;
+
+/// Why an input was not read to its end.
+#[derive(Clone, Copy)]
+pub enum InputFault {
+    /// A read failed, or there is more than the limit.
+    Unreadable,
+    /// There is no memory for what was read.
+    OutOfMemory,
+}
+
+impl From<AllocError> for InputFault {
+    ghost use Rattle.pattern_commands.specs.declared.input.InputFault.TheVariants.{OutOfMemory};
+
+    ghost from_gives = { λ _ e. e ≡ OutOfMemory };
+
+    fn from(_error: AllocError) -> InputFault {
+        InputFault::OutOfMemory
+    }
+}
+
+/// All that the reader has left, whatever the bytes are. A read that a signal interrupts is tried again.
+///
+/// # Errors
+///
+/// `Unreadable` if a read fails or there are more than [`INPUT_LIMIT`] bytes, and `OutOfMemory`. How much of the input
+/// was read by then is left open.
+pub fn read_input<R: Read>(alloc: Global, input: &mut R) -> Result<Vec<u8>, InputFault>
+    ensures whole { IfOk result (λ bytes. IfSome (R.remaining input.old) (λ known. bytes.items ≡ known)) }
+    ensures short { IfOk result (λ bytes. vec_len bytes ≤ 2 ^ 24) }
+{
+    let mut bytes = Vec::new(alloc);
+    let mut limited = Read::take(input, INPUT_LIMIT as u64 + 1);
+    match limited.read_to_end(&mut bytes) {
+        Ok(_) if bytes.len() <= INPUT_LIMIT => Ok(bytes),
+        Err(error) if error.kind() == ErrorKind::OutOfMemory => Err(InputFault::OutOfMemory),
+        _ => Err(InputFault::Unreadable),
+    }
+}
+
+/// The pattern that the reader's bytes stand for, as plaintext. The input is read to its end before it is looked at.
+///
+/// # Errors
+///
+/// `ReadFailed` if a read fails or there are more than [`INPUT_LIMIT`] bytes, else `BadByte` or `PatternTooLarge` if
+/// the bytes are not a pattern, and `OutOfMemory`.
+pub fn read_pattern<R: Read>(alloc: Global, input: &mut R) -> Result<Pattern, Complaint>
+    ensures read { (bytes : List ℕ) × IsInput (R.remaining input.old) bytes × Reads (pattern_of bytes) result }
+    ensures small { IfOk result LiesWithin999 }
+{
+    let bytes = read_input(alloc, input)?;
+    Ok(Pattern::read_plaintext(alloc, bytes.as_slice())?)
+}

@@ -1,0 +1,137 @@
+ghost use Rattle.std.specs.Prelude.{◌≡◌, ◌&&◌, ◌++◌, ℕ, List, codes, decimal, false, flat_map, is_ok, IsErr, IfErr};
+ghost use Rattle.std.specs.Prelude.{IfOk, true};
+ghost use Rattle.plane_core.specs.Out.{Writes};
+ghost use Rattle.pattern_commands.specs.Answers.{IsInput};
+ghost use Rattle.pattern_commands.specs.Complaints.{status_of};
+ghost use Rattle.pattern_commands.specs.Ends.{Ends};
+ghost use Rattle.pattern_commands.specs.Inputs.{rule_named};
+ghost use Rattle.pattern_commands.specs.Name.{finding_text, name_right, name_task, object_line};
+ghost use Rattle.pattern_commands.specs.Profiles.{AreInRange, profile_named};
+ghost use Rattle.pattern_commands.specs.Streams.{stream};
+ghost use Rattle.pattern_commands.specs.TextSteps.{ReachesText};
+
+use crate::complaint::Complaint;
+use crate::input::read_pattern;
+use crate::profile::ProfileNumbers;
+use crate::status::Status;
+use code_core::apgcode::Apgcode;
+use code_core::decimal::put_number;
+use plane_core::output::{Out, WriteError};
+use plane_core::rule::Rule;
+use std::alloc::Global;
+use std::io::{Read, Write};
+use survey_core::finding::{Finding, survey_pattern};
+
+/// Reads a plaintext pattern and writes its finding: the generation of the first look at which it is at rest, and then
+/// a line for each code, in ASCII order, with how many objects have it; or that it doesn't settle.
+///
+/// Each of the profile's numbers is in its range, and neither writer may have failed. The profile is looked at first,
+/// and then the rule: if one of them is refused, nothing of the input is read. `census name` is this call over the
+/// standard streams.
+///
+/// # Errors
+///
+/// The status is `Refused` if the horizon is below the period, or for a text that is not a rule or an input that is not
+/// a pattern, `OutOfMemory`, or `Failed` if the input can't be read or the output can't be written. Then one line
+/// stands on `errors`; a failure to write that line is not reported.
+pub fn do_name<R: Read, W: Write, E: Write>(
+    alloc: Global,
+    profile: ProfileNumbers,
+    rule_text: &str,
+    input: &mut R,
+    output: &mut Out<W>,
+    errors: &mut Out<E>,
+) -> Status
+    requires profile { AreInRange profile }
+    requires output { output.old.failed ≡ false }
+    requires errors { errors.old.failed ≡ false }
+    ensures ends { (bytes : List ℕ) × IsInput (R.remaining input.old) bytes
+        × Ends (name_task profile rule_text.now) (R.remaining input.old) bytes result
+        (stream W.contents output.old output.new) (stream E.contents errors.old errors.new) }
+    ensures profile_first { IsErr (profile_named profile) → (result ≡ Status.Refused) × (input.new ≡ input.old) }
+    ensures rule_first { IsErr (rule_named rule_text.now) → (result ≡ Status.Refused) × (input.new ≡ input.old) }
+    ensures untouched { result ≡ Status.Refused → output.new ≡ output.old }
+    ensures no_memory { result ≡ Status.OutOfMemory → output.new ≡ output.old }
+{
+    match name(alloc, profile, rule_text, input, output) {
+        Ok(()) => Status::Done,
+        Err(complaint) => complaint.tell(errors),
+    }
+}
+
+fn name<R: Read, W: Write>(
+    alloc: Global,
+    profile: ProfileNumbers,
+    rule_text: &str,
+    input: &mut R,
+    output: &mut Out<W>,
+) -> Result<(), Complaint>
+    requires profile { AreInRange profile }
+    requires output { output.old.failed ≡ false }
+    ensures reached { (bytes : List ℕ) × IsInput (R.remaining input.old) bytes
+        × ReachesText (is_ok (profile_named profile) && is_ok (rule_named rule_text.now)) true
+        (name_right profile rule_text.now bytes) result
+        (stream W.contents output.old output.new) }
+    ensures profile_first { IfErr (profile_named profile) (λ complaint.
+        (result ≡ Err complaint) × (input.new ≡ input.old)) }
+    ensures rule_first { IsErr (rule_named rule_text.now)
+        → IfErr result (λ complaint. status_of complaint ≡ Status.Refused) × (input.new ≡ input.old) }
+    ensures untouched { IfErr result (λ complaint. status_of complaint ≡ Status.Refused → output.new ≡ output.old) }
+    ensures no_memory { IfErr result (λ complaint. complaint ≡ Complaint.OutOfMemory → output.new ≡ output.old) }
+{
+    let profile = profile.profile()?;
+    let rule = Rule::read(rule_text)?;
+    let pattern = read_pattern(alloc, input)?;
+    let finding = survey_pattern(alloc, &profile, &rule, pattern)?;
+    put_finding(output, &finding)?;
+    Ok(())
+}
+
+/// Writes a finding in lines. It takes no memory.
+fn put_finding<W: Write>(output: &mut Out<W>, finding: &Finding) -> Result<(), WriteError>
+    requires { output.old.failed ≡ false }
+    ensures { Writes W.contents output.old output.new result (finding_text finding.now) }
+{
+    match finding {
+        Finding::Settled {
+            checkpoint,
+            objects,
+            ..
+        } => {
+            put_settled(output, *checkpoint)?;
+            put_objects(output, objects.as_slice())
+        }
+        Finding::Unsettled => output.put(b"unsettled\n"),
+    }
+}
+
+/// Writes the line on the checkpoint.
+fn put_settled<W: Write>(output: &mut Out<W>, checkpoint: u32) -> Result<(), WriteError>
+    requires { output.old.failed ≡ false }
+    ensures { Writes W.contents output.old output.new result (codes "settled " ++ decimal checkpoint ++ codes "\n") }
+{
+    put_number(output, b"settled ", checkpoint)?;
+    output.put(b"\n")
+}
+
+/// Writes a line for each object.
+fn put_objects<W: Write>(output: &mut Out<W>, objects: &[(Apgcode, u64)]) -> Result<(), WriteError>
+    requires { output.old.failed ≡ false }
+    ensures { Writes W.contents output.old output.new result (flat_map object_line objects.now) }
+{
+    for object in objects {
+        put_object(output, object)?;
+    }
+    Ok(())
+}
+
+/// Writes the line of an object: its code and how many there are.
+fn put_object<W: Write>(output: &mut Out<W>, object: &(Apgcode, u64)) -> Result<(), WriteError>
+    requires { output.old.failed ≡ false }
+    ensures { Writes W.contents output.old output.new result (object_line object.now) }
+{
+    let (code, count) = object;
+    output.put(code.text().as_bytes())?;
+    put_number(output, b" ", *count)?;
+    output.put(b"\n")
+}

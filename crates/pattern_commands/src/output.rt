@@ -1,0 +1,55 @@
+ghost use Rattle.std.specs.Prelude.{◌≡◌, ◌≢◌, true, false, []};
+ghost use Rattle.std.specs.Io.Buffered.{writer_buffer, writer_contents};
+ghost use Rattle.std.specs.Io.KnownBytes.{Keeps};
+ghost use Rattle.pattern_commands.specs.Complaints.{complaint_line};
+ghost use Rattle.pattern_commands.specs.Status.{has_printed};
+ghost use Rattle.pattern_commands.specs.Streams.{stream, HasLine};
+
+use crate::complaint::Complaint;
+use crate::status::Status;
+use arrayvec::ArrayVec;
+use plane_core::output::Out;
+use std::alloc::Global;
+use std::io::{BufWriter, Write};
+
+/// Room for a line of standard error, so that it is written at once and lines of other programs don't come in between.
+/// Each line that is written is shorter: one that weren't would be written piece by piece.
+pub type LineBuffer = ArrayVec<u8, 128>;
+
+/// Sends on what a command has left in the buffer, and returns the status that the process ends with: that of the
+/// command, or `Failed` if the command printed its text and not all of it could be sent on.
+///
+/// A text is printed by a command that was done, or was done but for soups that are missing. After any other nothing
+/// more is written: then the buffer is not touched. The line of a failure goes to `errors`; a failure to write that
+/// line is not reported.
+pub fn send_buffered<W: Write + Drop, E: Write>(
+    status: Status,
+    buffered: &mut BufWriter<W, Global>,
+    errors: &mut Out<E>,
+) -> Status
+    ensures done { result ≡ Status.Done → (status ≡ Status.Done) × (writer_buffer buffered.new ≡ []) }
+    ensures incomplete { result ≡ Status.Incomplete → (status ≡ Status.Incomplete) × (writer_buffer buffered.new ≡ []) }
+    ensures bytes { Keeps (writer_contents W.contents buffered.old) (writer_contents W.contents buffered.new) }
+    ensures untouched { has_printed status ≡ false → buffered.new ≡ buffered.old }
+    ensures silent { result ≡ status → errors.new ≡ errors.old }
+    ensures kept { has_printed status ≡ false → (result ≡ status) × (errors.new ≡ errors.old) }
+    ensures failed { result ≢ status → result ≡ Status.Failed }
+    ensures stays { errors.old.failed ≡ true → errors.new.failed ≡ true }
+    ensures line { result ≢ status → errors.old.failed ≡ false
+        → HasLine (stream E.contents errors.old errors.new) (complaint_line Complaint.WriteFailed) }
+{
+    if !has_printed(status) || buffered.flush().is_ok() {
+        return status;
+    }
+    if errors.failed() {
+        return Status::Failed;
+    }
+    Complaint::WriteFailed.tell(errors)
+}
+
+/// Whether a command with this status printed its whole text.
+fn has_printed(status: Status) -> bool
+    ensures { result ≡ has_printed status }
+{
+    matches!(status, Status::Done | Status::Incomplete)
+}

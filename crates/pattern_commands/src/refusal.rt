@@ -1,0 +1,103 @@
+ghost use Rattle.std.specs.Prelude.{◌≡◌, ◌++◌, false, codes, decimal};
+ghost use Rattle.plane_core.specs.Out.{Writes};
+ghost use Rattle.pattern_commands.specs.Complaints.{refusal_line};
+
+use code_core::decimal::put_number;
+use plane_core::output::{Out, WriteError};
+use std::io::Write;
+
+/// Why a text was refused: it is not of its form.
+#[derive(Clone, Copy)]
+pub enum Refusal {
+    /// A byte of a plaintext pattern that stands for no cell. Lines and columns count from 1.
+    BadByte { line: usize, column: usize },
+    /// A plaintext pattern of more than 1,000 columns or rows.
+    PatternTooLarge,
+    /// A rule text whose byte at this place, counted from 0, can't stand there, or that ends there too early.
+    BadRule { place: usize },
+    /// A rule text in which cells are born on zero neighbours.
+    BirthZero,
+    /// A code with a `_` that has no right prefix before it.
+    NotACode,
+    /// A text of a code that has over 10,000 bytes.
+    CodeTooLong,
+    /// A byte of a code's text that can't stand there. Places count from 0, from the text's first byte on.
+    CodeBadByte { place: usize },
+    /// A `y` of a code's text without the length of its run.
+    CodeShortRun { place: usize },
+    /// A text of a code without a live cell.
+    CodeEmpty,
+    /// A seed of over 64 bytes.
+    SeedTooLong,
+    /// A byte of a seed that isn't a visible ASCII character. Places count from 0.
+    SeedBadByte { place: usize },
+    /// A profile whose horizon is below its period.
+    HorizonBelowPeriod,
+    /// A range list whose byte at this place, counted from 0, can't stand there, or that ends there too early.
+    BadList { place: usize },
+    /// Ranges of which one goes past 2^40, or that have over 2^24 numbers together.
+    RangeTooLarge,
+    /// Ranges of which two share a number.
+    RangesOverlap,
+}
+
+impl Refusal {
+    /// Writes the line of the refusal piece by piece, to a writer that hasn't failed. It takes no memory.
+    ///
+    /// # Errors
+    ///
+    /// [`WriteError`] if a write fails.
+    pub(crate) fn put_line<E: Write>(self, errors: &mut Out<E>) -> Result<(), WriteError>
+        requires { errors.old.failed ≡ false }
+        ensures { Writes E.contents errors.old errors.new result (refusal_line self) }
+    {
+        match self {
+            Refusal::BadByte { line, column } => put_bad_byte(errors, line, column),
+            Refusal::PatternTooLarge => {
+                errors.put(b"census: pattern larger than 1000 by 1000\n")
+            }
+            Refusal::BadRule { place } => put_numbered(errors, b"census: bad rule at ", place),
+            Refusal::BirthZero => errors.put(b"census: birth on zero neighbours\n"),
+            Refusal::NotACode => errors.put(b"census: not a code\n"),
+            Refusal::CodeTooLong => errors.put(b"census: code too long\n"),
+            Refusal::CodeBadByte { place } => {
+                put_numbered(errors, b"census: bad byte in code at ", place)
+            }
+            Refusal::CodeShortRun { place } => {
+                put_numbered(errors, b"census: short run in code at ", place)
+            }
+            Refusal::CodeEmpty => errors.put(b"census: code without a live cell\n"),
+            Refusal::SeedTooLong => errors.put(b"census: seed longer than 64 bytes\n"),
+            Refusal::SeedBadByte { place } => {
+                put_numbered(errors, b"census: bad byte in seed at ", place)
+            }
+            Refusal::HorizonBelowPeriod => errors.put(b"census: horizon below period\n"),
+            Refusal::BadList { place } => {
+                put_numbered(errors, b"census: bad range list at ", place)
+            }
+            Refusal::RangeTooLarge => errors.put(b"census: range too large\n"),
+            Refusal::RangesOverlap => errors.put(b"census: ranges overlap\n"),
+        }
+    }
+}
+
+fn put_bad_byte<E: Write>(errors: &mut Out<E>, line: usize, column: usize) -> Result<(), WriteError>
+    requires { errors.old.failed ≡ false }
+    ensures { Writes E.contents errors.old errors.new result (refusal_line (Refusal.BadByte line column)) }
+{
+    put_number(errors, b"census: bad byte at line ", line)?;
+    put_numbered(errors, b" column ", column)
+}
+
+/// Writes a line that ends with a number.
+fn put_numbered<E: Write>(
+    errors: &mut Out<E>,
+    front: &[u8],
+    number: usize,
+) -> Result<(), WriteError>
+    requires { errors.old.failed ≡ false }
+    ensures { Writes E.contents errors.old errors.new result (front.now ++ decimal number ++ codes "\n") }
+{
+    put_number(errors, front, number)?;
+    errors.put(b"\n")
+}

@@ -1,0 +1,102 @@
+ghost use Rattle.std.specs.Prelude.{◌≡◌, ◌≤◌, ℕ, List, false, is_ok, IsErr, IfOk, IfErr, true};
+ghost use Rattle.plane_core.specs.Generations.{after};
+ghost use Rattle.pattern_commands.specs.Answers.{IsInput, only};
+ghost use Rattle.pattern_commands.specs.Complaints.{status_of};
+ghost use Rattle.pattern_commands.specs.Ends.{Ends};
+ghost use Rattle.pattern_commands.specs.Inputs.{LiesWithin999, rule_named};
+ghost use Rattle.pattern_commands.specs.Run.{run_answer, run_task};
+ghost use Rattle.pattern_commands.specs.Streams.{stream};
+ghost use Rattle.pattern_commands.specs.TextSteps.{ReachesText};
+
+use crate::complaint::Complaint;
+use crate::input::read_pattern;
+use crate::status::Status;
+use plane_core::generation::StepError;
+use plane_core::output::Out;
+use plane_core::pattern::Pattern;
+use plane_core::rule::Rule;
+use std::alloc::Global;
+use std::io::{Read, Write};
+
+/// The most generations that `run` goes: far fewer than the million that a pattern of at most 1,000 by 1,000 cells
+/// takes to reach the edge of the plane, as its box grows by at most one cell a side in each.
+pub const GENERATION_LIMIT: u32 = 100_000;
+
+/// Reads a plaintext pattern, runs it for some generations of a rule and writes it as plaintext.
+///
+/// The number of generations is at most [`GENERATION_LIMIT`], and neither writer may have failed. The rule is read
+/// first: if it is refused, nothing of the input is read. `census run N --rule TEXT` is this call over the standard
+/// streams.
+///
+/// # Errors
+///
+/// The status is `Refused` for a text that is not a rule or an input that is not a pattern, `OutOfMemory`, or `Failed`
+/// if the input can't be read or the output can't be written. Then one line stands on `errors`; a failure to write that
+/// line is not reported.
+pub fn do_run<R: Read, W: Write, E: Write>(
+    alloc: Global,
+    generations: u32,
+    rule_text: &str,
+    input: &mut R,
+    output: &mut Out<W>,
+    errors: &mut Out<E>,
+) -> Status
+    requires generations { generations ≤ 100000 }
+    requires output { output.old.failed ≡ false }
+    requires errors { errors.old.failed ≡ false }
+    ensures ends { (bytes : List ℕ) × IsInput (R.remaining input.old) bytes
+        × Ends (run_task rule_text.now generations) (R.remaining input.old) bytes result
+        (stream W.contents output.old output.new) (stream E.contents errors.old errors.new) }
+    ensures rule_first { IsErr (rule_named rule_text.now) → (result ≡ Status.Refused) × (input.new ≡ input.old) }
+    ensures untouched { result ≡ Status.Refused → output.new ≡ output.old }
+    ensures no_memory { result ≡ Status.OutOfMemory → output.new ≡ output.old }
+{
+    match run(alloc, generations, rule_text, input, output) {
+        Ok(()) => Status::Done,
+        Err(complaint) => complaint.tell(errors),
+    }
+}
+
+fn run<R: Read, W: Write>(
+    alloc: Global,
+    generations: u32,
+    rule_text: &str,
+    input: &mut R,
+    output: &mut Out<W>,
+) -> Result<(), Complaint>
+    requires generations { generations ≤ 100000 }
+    requires output { output.old.failed ≡ false }
+    ensures reached { (bytes : List ℕ) × IsInput (R.remaining input.old) bytes
+        × ReachesText (is_ok (rule_named rule_text.now)) true (only (run_answer rule_text.now generations bytes)) result
+        (stream W.contents output.old output.new) }
+    ensures rule_first { IfErr (rule_named rule_text.now) (λ complaint.
+        (result ≡ Err complaint) × (input.new ≡ input.old)) }
+    ensures untouched { IfErr result (λ complaint. status_of complaint ≡ Status.Refused → output.new ≡ output.old) }
+    ensures no_memory { IfErr result (λ complaint. complaint ≡ Complaint.OutOfMemory → output.new ≡ output.old) }
+{
+    let rule = Rule::read(rule_text)?;
+    let pattern = read_pattern(alloc, input)?;
+    let pattern = generation_after(alloc, &pattern, &rule, generations)?;
+    pattern.write_plaintext(output)?;
+    Ok(())
+}
+
+/// The pattern some generations later. It fails only if memory runs out: a pattern that was read lies too near the
+/// origin for any of these generations to reach the edge of the plane.
+fn generation_after(
+    alloc: Global,
+    pattern: &Pattern,
+    rule: &Rule,
+    generations: u32,
+) -> Result<Pattern, Complaint>
+    requires generations { generations ≤ 100000 }
+    requires small { LiesWithin999 pattern.now }
+    ensures ok { IfOk result (λ later. later ≡ after rule.now pattern.now generations) }
+    ensures err { IfErr result (λ complaint. complaint ≡ Complaint.OutOfMemory) }
+{
+    match pattern.run(alloc, rule, generations) {
+        Ok(later) => Ok(later),
+        Err(StepError::Edge) => unreachable!(),
+        Err(StepError::Memory) => Err(Complaint::OutOfMemory),
+    }
+}

@@ -1,0 +1,112 @@
+ghost use Rattle.std.specs.Prelude.{◌≡◌, ℕ, List, Option, Some, IfErr, IfOk, false, option_map, true};
+ghost use Rattle.std.specs.Char.{is_ascii_digit};
+ghost use Rattle.std.specs.List.{list_all};
+ghost use Rattle.pattern_commands.specs.Answers.{only};
+ghost use Rattle.pattern_commands.specs.Complaints.{status_of};
+ghost use Rattle.pattern_commands.specs.Ends.{Ends};
+ghost use Rattle.pattern_commands.specs.Show.{is_kind, is_number, is_prefix, parted, show_answer, show_task, text_in};
+ghost use Rattle.pattern_commands.specs.Streams.{stream};
+ghost use Rattle.pattern_commands.specs.TextSteps.{ReachesText};
+
+use crate::complaint::Complaint;
+use crate::refusal::Refusal;
+use crate::status::Status;
+use code_core::reader::read_wechsler;
+use plane_core::output::Out;
+use std::alloc::Global;
+use std::io::Write;
+
+/// Writes the object that a code names as plaintext.
+///
+/// A code is a text in extended Wechsler format, with or without a prefix: `xs`, `xp` or `xq`, a number and `_`. The
+/// number isn't checked. Neither writer may have failed. `census show CODE` is this call over the standard streams.
+///
+/// # Errors
+///
+/// The status is `Refused` if what stands before the first `_` is not such a prefix, or the text is not of its form;
+/// `OutOfMemory`; or `Failed` if the output can't be written. Then one line stands on `errors`; a failure to write that
+/// line is not reported.
+pub fn do_show<W: Write, E: Write>(
+    alloc: Global,
+    code: &str,
+    output: &mut Out<W>,
+    errors: &mut Out<E>,
+) -> Status
+    requires output { output.old.failed ≡ false }
+    requires errors { errors.old.failed ≡ false }
+    ensures ends { (known : Option (List ℕ)) (bytes : List ℕ) → Ends (show_task code.now) known bytes result
+        (stream W.contents output.old output.new) (stream E.contents errors.old errors.new) }
+    ensures untouched { result ≡ Status.Refused → output.new ≡ output.old }
+    ensures no_memory { result ≡ Status.OutOfMemory → output.new ≡ output.old }
+{
+    match show(alloc, code, output) {
+        Ok(()) => Status::Done,
+        Err(complaint) => complaint.tell(errors),
+    }
+}
+
+fn show<W: Write>(alloc: Global, code: &str, output: &mut Out<W>) -> Result<(), Complaint>
+    requires { output.old.failed ≡ false }
+    ensures reached { ReachesText false true (only (show_answer code.now)) result
+        (stream W.contents output.old output.new) }
+    ensures untouched { IfErr result (λ complaint. status_of complaint ≡ Status.Refused → output.new ≡ output.old) }
+    ensures no_memory { IfErr result (λ complaint. complaint ≡ Complaint.OutOfMemory → output.new ≡ output.old) }
+{
+    let text = text_in(code)?;
+    let pattern = read_wechsler(alloc, text)?;
+    pattern.write_plaintext(output)?;
+    Ok(())
+}
+
+/// The text of a code.
+fn text_in(code: &str) -> Result<&str, Complaint>
+    ensures ok { IfOk result (λ text. text_in code.now ≡ Ok text.now) }
+    ensures err { IfErr result (λ complaint. text_in code.now ≡ Err complaint) }
+{
+    let Some((prefix, text)) = parted(code) else {
+        return Ok(code);
+    };
+    if is_prefix(prefix.as_bytes()) {
+        Ok(text)
+    } else {
+        Err(Complaint::Refused(Refusal::NotACode))
+    }
+}
+
+/// The parts of a code before and after its first `_`.
+fn parted(code: &str) -> Option<(&str, &str)>
+    ensures { option_map (λ parts. (parts.0.now, parts.1.now)) result ≡ parted code.now }
+{
+    code.split_once('_')
+}
+
+/// Whether this may stand before the `_` of a code.
+#[tactic(auto, unfolding(crate::specs::Show::is_prefix))]
+fn is_prefix(prefix: &[u8]) -> bool
+    ensures { result ≡ is_prefix prefix.now }
+{
+    match prefix {
+        [x, kind, number @ ..] => *x == b'x' && is_kind(*kind) && is_number(number),
+        _ => false,
+    }
+}
+
+/// Whether this is the letter of a kind.
+fn is_kind(byte: u8) -> bool
+    ensures { result ≡ is_kind byte }
+{
+    matches!(byte, b's' | b'p' | b'q')
+}
+
+/// Whether these are digits, at least one.
+fn is_number(bytes: &[u8]) -> bool
+    ensures { result ≡ is_number bytes.now }
+{
+    !bytes.is_empty() && are_digits(bytes)
+}
+
+fn are_digits(bytes: &[u8]) -> bool
+    ensures { result ≡ list_all is_ascii_digit bytes.now }
+{
+    bytes.iter().all(|byte| byte.is_ascii_digit())
+}

@@ -1,0 +1,72 @@
+ghost use Rattle.std.specs.Prelude.{◌≡◌, ◌<◌, ◌^◌, ℕ, List, Option, IfErr, false, true};
+ghost use Rattle.pattern_commands.specs.Answers.{only};
+ghost use Rattle.pattern_commands.specs.Complaints.{status_of};
+ghost use Rattle.pattern_commands.specs.Ends.{Ends};
+ghost use Rattle.pattern_commands.specs.Soup.{soup_answer, soup_task};
+ghost use Rattle.pattern_commands.specs.Streams.{stream};
+ghost use Rattle.pattern_commands.specs.TextSteps.{ReachesText};
+
+use crate::complaint::Complaint;
+use crate::status::Status;
+use plane_core::output::Out;
+use plane_core::rule::Rule;
+use std::alloc::Global;
+use std::io::Write;
+use survey_core::job::Job;
+use survey_core::profile::Profile;
+use survey_core::seed::Seed;
+use survey_core::soup::soup;
+
+/// Writes the soup with this number, which is below 2^40, as plaintext.
+///
+/// The cells are the 256 bits of the SHA-256 digest of the seed's bytes and then the number in decimal. Neither writer
+/// may have failed. `census soup [--seed TEXT] N` is this call over the standard streams.
+///
+/// # Errors
+///
+/// The status is `Refused` if the text is not a seed, `OutOfMemory`, or `Failed` if the output can't be written. Then
+/// one line stands on `errors`; a failure to write that line is not reported.
+pub fn do_soup<W: Write, E: Write>(
+    alloc: Global,
+    seed_text: &str,
+    number: u64,
+    output: &mut Out<W>,
+    errors: &mut Out<E>,
+) -> Status
+    requires number { number < 2 ^ 40 }
+    requires output { output.old.failed ≡ false }
+    requires errors { errors.old.failed ≡ false }
+    ensures ends { (known : Option (List ℕ)) (bytes : List ℕ) → Ends (soup_task seed_text.now number) known bytes result
+        (stream W.contents output.old output.new) (stream E.contents errors.old errors.new) }
+    ensures untouched { result ≡ Status.Refused → output.new ≡ output.old }
+    ensures no_memory { result ≡ Status.OutOfMemory → output.new ≡ output.old }
+{
+    match put_soup(alloc, seed_text, number, output) {
+        Ok(()) => Status::Done,
+        Err(complaint) => complaint.tell(errors),
+    }
+}
+
+fn put_soup<W: Write>(
+    alloc: Global,
+    seed_text: &str,
+    number: u64,
+    output: &mut Out<W>,
+) -> Result<(), Complaint>
+    requires { output.old.failed ≡ false }
+    ensures reached { ReachesText false true (only (soup_answer seed_text.now number)) result
+        (stream W.contents output.old output.new) }
+    ensures untouched { IfErr result (λ complaint. status_of complaint ≡ Status.Refused → output.new ≡ output.old) }
+    ensures no_memory { IfErr result (λ complaint. complaint ≡ Complaint.OutOfMemory → output.new ≡ output.old) }
+{
+    let seed = Seed::new(seed_text)?;
+    // The cells don't depend on the profile and the rule.
+    let job = Job {
+        seed,
+        profile: Profile::standard(),
+        rule: Rule::life(),
+    };
+    let pattern = soup(alloc, &job, number)?;
+    pattern.write_plaintext(output)?;
+    Ok(())
+}

@@ -1,0 +1,35 @@
+ghost use Rattle.std.specs.Prelude.{◌≡◌};
+ghost use Rattle.pattern_commands.specs.Status.{exit_code};
+
+/// How a command ended, as a shell sees it.
+#[derive(Clone, Copy, Debug, PartialEq, Eq)]
+pub enum Status {
+    /// All was done.
+    Done,
+    /// The words after the program's name were not understood, or asked for help.
+    Usage,
+    /// A text was refused: a pattern, a rule or a code that is not of its form.
+    Refused,
+    /// Memory ran out.
+    OutOfMemory,
+    /// Reading or writing failed.
+    Failed,
+    /// All that was there was gathered, and soups are missing.
+    Incomplete,
+}
+
+impl Status {
+    /// The number that the process ends with.
+    pub fn exit_code(self) -> u8
+        ensures { result ≡ exit_code self }
+    {
+        match self {
+            Status::Done => 0,
+            Status::Usage => 2,
+            Status::Refused => 3,
+            Status::OutOfMemory => 4,
+            Status::Failed => 5,
+            Status::Incomplete => 6,
+        }
+    }
+}

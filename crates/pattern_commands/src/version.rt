@@ -1,0 +1,42 @@
+ghost use Rattle.std.specs.Prelude.{◌≡◌, ◌≢◌, ℕ, List, Option, false, true, IfErr};
+ghost use Rattle.pattern_commands.specs.Answers.{only};
+ghost use Rattle.pattern_commands.specs.Ends.{Ends};
+ghost use Rattle.pattern_commands.specs.Streams.{stream};
+ghost use Rattle.pattern_commands.specs.TextSteps.{ReachesText};
+ghost use Rattle.pattern_commands.specs.Version.{version_answer, version_task};
+
+use crate::complaint::Complaint;
+use crate::status::Status;
+use plane_core::output::Out;
+use std::io::Write;
+
+/// Writes the program's name and version, as a line.
+///
+/// Both writers must not have failed. It takes no memory.
+///
+/// # Errors
+///
+/// The status is `Failed` if the output can't be written. Then a line stands on `errors`; a failure to write that
+/// line is not reported.
+pub fn do_version<W: Write, E: Write>(output: &mut Out<W>, errors: &mut Out<E>) -> Status
+    requires output { output.old.failed ≡ false }
+    requires errors { errors.old.failed ≡ false }
+    ensures ends { (known : Option (List ℕ)) (bytes : List ℕ) → Ends version_task known bytes result
+        (stream W.contents output.old output.new) (stream E.contents errors.old errors.new) }
+    ensures status { result ≢ Status.Refused }
+    ensures no_memory { result ≢ Status.OutOfMemory }
+{
+    match put_version(output) {
+        Ok(()) => Status::Done,
+        Err(complaint) => complaint.tell(errors),
+    }
+}
+
+fn put_version<W: Write>(output: &mut Out<W>) -> Result<(), Complaint>
+    requires { output.old.failed ≡ false }
+    ensures reached { ReachesText false true (only version_answer) result (stream W.contents output.old output.new) }
+    ensures failed { IfErr result (λ complaint. complaint ≡ Complaint.WriteFailed) }
+{
+    output.put(b"census 0.1.0\n")?;
+    Ok(())
+}
