@@ -1,6 +1,6 @@
 -- A layout round a pattern.
-use Rattle.std.proofs.Common.{◌≡◌, ◌+◌, ◌*◌, ◌/◌, ◌≤◌, ◌-ℤ◌, ℕ, ℤ, pos, true, List, FitsSigned, arith, unsigned_abs, leb, of_z, to_z, w32}
-use Rattle.std.proofs.lemmas.Int.{ints, to_z-of_z}
+use Rattle.std.proofs.Common.{◌≡◌, ◌+◌, ◌*◌, ◌/◌, ◌≤◌, ◌-ℤ◌, ℕ, pos, true, List, arith, unsigned_abs, leb}
+use Rattle.std.proofs.lemmas.Int.{ints}
 use Rattle.std.proofs.lemmas.Bool.{le-leb, and_from}
 use Rattle.std.proofs.lemmas.List.Elements.{recursion_from_All}
 use Rattle.plane_core.specs.declared.layout.Layout.{Layout}
@@ -77,7 +77,3 @@ round_has_room b margin at is c within =
       right = let p = within.right in omega (arith, ints);
       bottom = let p = within.bottom in omega (arith, ints);
     }
-
--- a coordinate within the bound, as it is passed on
-pub passed_within : (x : ℤ) → FitsSigned w32 x → unsigned_abs x ≤ plane_bound → unsigned_abs (to_z w32 (of_z w32 x)) ≤ plane_bound
-passed_within x fits low = rw (to_z-of_z w32 x fits) low

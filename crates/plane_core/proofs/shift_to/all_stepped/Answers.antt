@@ -1,9 +1,10 @@
 use Rattle.std.proofs.Common.{◌∙◌, ◌<◌, ◌≤◌, FitsSigned, ap, refl, subst, sym, w32}
+use Rattle.std.proofs.lemmas.Bool.{false≢true}
 use Rattle.std.proofs.lemmas.Int.{to_z-of_z}
 use Rattle.std.proofs.lemmas.List.{take_all}
 use Rattle.plane_core.specs.Bounds.{shifted}
 use Rattle.plane_core.specs.Cells.{on_plane}
-use Rattle.plane_core.proofs.PlacementLemmas.{all_at, stepped_more}
+use Rattle.plane_core.proofs.PlacementLemmas.{all_at, stepped_more, stepped_not}
 use Rattle.plane_core.proofs.shift_to.all_stepped.Goals as goal
 
 pub loop-i-preserved : goal.loop-i-preserved
@@ -32,3 +33,13 @@ returns c =
     let cells = take_all c.loop-i.i c.args.cells.now c.loop-i-test.false in
     let others = take_all c.loop-i.i c.args.others.now (subst (λ n. n ≤ c.loop-i.i) c.requires.lengths c.loop-i-test.false) in
     (λ yes. sym (ap (shifted c.args.dx c.args.dy) cells) ∙ (simp to_z-of_z at c.loop-i.invariant) ∙ others, λ same. refl)
+
+pub returns-then-ne : goal.returns-then-ne
+returns-then-ne c =
+    let fits_x : FitsSigned w32 c.args.dx = c.ranges.dx in
+    let fits_y : FitsSigned w32 c.args.dy = c.ranges.dy in
+    let ne = simp to_z-of_z at (sym c.if-ne.ensures) in (
+      λ no. absurd (false≢true no),
+      λ same. absurd (stepped_not c.args.dx c.args.dy c.args.cells.now c.args.others.now c.loop-i.i _ c.step_between.result c.loop-i-test.true same
+          c.step_between.ensures ne),
+    )

@@ -1,7 +1,8 @@
 use Rattle.std.proofs.Common.{◌≤◌, ℤ, FitsSigned, arith, of_z, refl, rules, to_z, unsigned_abs, w32}
 use Rattle.std.proofs.lemmas.Int.{to_z-of_z}
 use Rattle.plane_core.specs.Cells.{plane_bound}
-use Rattle.plane_core.proofs.LayLemmas.{passed_within, room_round}
+use Rattle.plane_core.proofs.CellLemmas.{passed_within}
+use Rattle.plane_core.proofs.LayLemmas.{room_round}
 use Rattle.plane_core.proofs.WindowLemmas.{IsRoundWindow, window_is_inland, window_is_laid, window_has_room}
 use Rattle.plane_core.proofs.window.window_round.Goals as goal
 

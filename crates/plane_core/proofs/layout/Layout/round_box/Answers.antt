@@ -1,6 +1,7 @@
 use Rattle.std.proofs.Common.{ap, ℕ, ◌+◌, ◌*◌, ◌/◌, rules, w32, FitsSigned}
 use Rattle.std.proofs.lemmas.Int.{to_z-of_z}
-use Rattle.plane_core.proofs.LayLemmas.{IsRound, passed_within, round_is_laid, round_has_room}
+use Rattle.plane_core.proofs.CellLemmas.{passed_within}
+use Rattle.plane_core.proofs.LayLemmas.{IsRound, round_is_laid, round_has_room}
 use Rattle.plane_core.proofs.layout.Layout.round_box.Goals as goal
 
 is_round : (c : goal.After-back-2) → IsRound c.args.bounds c.args.margin (record {
