@@ -5,7 +5,8 @@ use Rattle.std.specs.Bool.{then_some}
 use Rattle.std.specs.List.{list_all}
 use Rattle.std.specs.Ordering.{int_eq}
 use Rattle.std.proofs.lemmas.Int.{ints}
-use Rattle.std.proofs.lemmas.List.{get_or-map, take_more, map-append}
+use Rattle.std.proofs.lemmas.List.{get_or-map, map_more, take_more, map-append}
+use Rattle.std.proofs.lemmas.List.Folds.{list_all-append}
 use Rattle.std.proofs.lemmas.Bool.{false≢true, and_parts, not-false}
 use Rattle.plane_core.specs.declared.cell.Cell.{Cell}
 use Rattle.plane_core.specs.Bounds.{shifted, TellsShift}
@@ -114,3 +115,10 @@ tells_shift (c ∷ cs) (d ∷ ds) z s false some same is iff = record {
         let step : ◌≡◌ {A = ℤ × ℤ} s (dx, dy) = is ∙ shift_is_step dx dy c cs d ds e in
         let whole : shifted s.0 s.1 (c ∷ cs) ≡ d ∷ ds = subst (λ (t : ℤ × ℤ). shifted t.0 t.1 (c ∷ cs) ≡ d ∷ ds) (sym step) e in
         false≢true (iff.1 whole)
+
+-- one image more that passes a test
+pub one_image_passes : (p : Cell → Bool) (f : Cell → Cell) (cs : List Cell) (i : ℕ) (d : Cell) → i < length cs
+    → list_all p (map f (take i cs)) ≡ true → p (f (get_or cs i d)) ≡ true → list_all p (map f (take (i + 1) cs)) ≡ true
+one_image_passes p f cs i d low so_far passes =
+    ap (list_all p) (map_more f cs i d low) ∙ list_all-append p (map f (take i cs)) (f (get_or cs i d) ∷ [])
+    ∙ (λ k. so_far k && (passes k && true))

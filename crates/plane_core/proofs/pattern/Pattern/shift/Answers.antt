@@ -28,28 +28,27 @@ pub place_all-requires-clause-landed : goal.place_all-requires-clause-landed
 place_all-requires-clause-landed c =
     kept_by _ _ _ (c.cells.ensures.cells ∙ sym c.cells-2.ensures.cells) (sym c.if-not-keeps_all.ensures)
 
--- all moved cells lie on the plane
-kept : (c : goal.In_ok-cells) → list_all on_plane (shifted c.args.dx c.args.dy c.args.self.now) ≡ true
-kept c =
+pub from_ordered-requires : goal.from_ordered-requires
+from_ordered-requires c =
+    let fits_x : FitsSigned w32 c.args.dx = c.ranges.dx in
+    let fits_y : FitsSigned w32 c.args.dy = c.ranges.dy in
+    let on : list_all on_plane (shifted c.args.dx c.args.dy c.args.self.now) ≡ true =
+    rw c.cells.ensures.cells at (simp to_z-of_z at (sym c.if-not-keeps_all.ensures)) in
+    let moved : c.in_ok-cells.cells.items ≡ shifted c.args.dx c.args.dy c.args.self.now =
+    rw c.cells-2.ensures.cells at (simp to_z-of_z at c.in_ok-cells.ensures) in
+    rw moved (is_pattern-shifted c.args.dx c.args.dy c.args.self.now c.cells.ensures.pattern.in_order on)
+
+pub returns-clause-shifted : goal.returns-clause-shifted
+returns-clause-shifted c =
+    let fits_x : FitsSigned w32 c.args.dx = c.ranges.dx in
+    let fits_y : FitsSigned w32 c.args.dy = c.ranges.dy in
+    c.from_ordered.ensures ∙ (rw c.cells-2.ensures.cells at (simp to_z-of_z at c.in_ok-cells.ensures))
+
+pub returns-clause-plane : goal.returns-clause-plane
+returns-clause-plane c =
     let fits_x : FitsSigned w32 c.args.dx = c.ranges.dx in
     let fits_y : FitsSigned w32 c.args.dy = c.ranges.dy in
     rw c.cells.ensures.cells at (simp to_z-of_z at (sym c.if-not-keeps_all.ensures))
-
-moved : (c : goal.In_ok-cells) → c.in_ok-cells.cells.items ≡ shifted c.args.dx c.args.dy c.args.self.now
-moved c =
-    let fits_x : FitsSigned w32 c.args.dx = c.ranges.dx in
-    let fits_y : FitsSigned w32 c.args.dy = c.ranges.dy in
-    rw c.cells-2.ensures.cells at (simp to_z-of_z at c.in_ok-cells.ensures)
-
-pub from_ordered-requires : goal.from_ordered-requires
-from_ordered-requires c =
-    rw (moved c) (is_pattern-shifted c.args.dx c.args.dy c.args.self.now c.cells.ensures.pattern.in_order (kept c))
-
-pub returns-clause-shifted : goal.returns-clause-shifted
-returns-clause-shifted c = c.from_ordered.ensures ∙ moved c.before
-
-pub returns-clause-plane : goal.returns-clause-plane
-returns-clause-plane c = kept c.before
 
 pub returns-in_err-cells-clause-refused : goal.returns-in_err-cells-clause-refused
 returns-in_err-cells-clause-refused c =

@@ -1,4 +1,4 @@
-use Rattle.std.proofs.Common.{◌≡◌, ◌==◌, sym, ◌∙◌, ap, true, false, List, ℕ, length, codes}
+use Rattle.std.proofs.Common.{◌≡◌, ◌==◌, sym, ◌∙◌, ap, true, false, List, ℕ, length, codes, refl}
 use Rattle.plane_core.specs.Rules.{Reading, begins, rule_read}
 use Rattle.plane_core.proofs.RuleReading.{length-births, length-survivals, births_in, survivals_in, sliced, births_sliced, survivals_sliced}
 use Rattle.plane_core.proofs.RuleReading.{rule_read-no_b, rule_read-zero, rule_read-no_s, rule_read-more}
@@ -117,3 +117,9 @@ returns-clause-bad_rule c = reads_first c.args.text.now _ (returns-clause-exact 
 
 pub returns-clause-rule : goal.returns-clause-rule
 returns-clause-rule c = reads_rule c.args.text.now _ (returns-clause-exact c)
+
+pub slice_bounds-read_numbers-count : goal.slice_bounds-read_numbers-count
+slice_bounds-read_numbers-count c = c.if-not-starts_with.ensures.bound refl
+
+pub slice_bounds-read_numbers-count-2 : goal.slice_bounds-read_numbers-count-2
+slice_bounds-read_numbers-count-2 c = c.if-not-starts_with-2.ensures.bound refl
