@@ -29,6 +29,9 @@ IsNear left middle right far =
 pub int_eq-true : (a b : ℤ) → int_eq a b ≡ true → a ≡ b
 int_eq-true a b e = (signed_Decides a b).0 e
 
+pub int_eq-same : (a b : ℤ) → a ≡ b → int_eq a b ≡ true
+int_eq-same a b e = (signed_Decides a b).1 e
+
 int_eq-false : (a b : ℤ) → int_eq a b ≡ false → (a <ℤ b) ⊎ (b <ℤ a)
 int_eq-false a b e = go (int_cmp a b) refl e
   where

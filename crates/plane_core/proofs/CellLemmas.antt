@@ -1,7 +1,8 @@
 -- The order of cells is total, only equal cells tie, and moving two cells keeps their order and their distance.
-use Rattle.std.proofs.Common.{◌≡◌, ◌&&◌, ℤ, ◌+ℤ◌, true, arith, refl, ap, ◌∙◌}
-use Rattle.std.proofs.lemmas.Bool.{false≢true}
-use Rattle.std.proofs.lemmas.Int.{ints}
+use Rattle.std.proofs.Common.{◌≡◌, ◌&&◌, ◌≤◌, ℤ, ◌+ℤ◌, FitsSigned, nat_le, of_z, to_z, true, unsigned_abs, w32, arith, refl, ap, ◌∙◌}
+use Rattle.std.proofs.lemmas.Bool.{and_parts, false≢true}
+use borrow.Author.Tests.{leb-true}
+use Rattle.std.proofs.lemmas.Int.{ints, to_z-of_z}
 use Rattle.std.proofs.lemmas.Cmp.{on_total, then_total, int_cmp_total}
 use Rattle.std.specs.Cmp.{IsTotalOrder, tied_itself}
 use Rattle.std.specs.FinMap.{int_cmp-IsAntisymmetric}
@@ -9,7 +10,7 @@ use Rattle.std.specs.Ordering.{ordering_then, int_cmp, int_eq, is_eq}
 use Rattle.std.specs.declared.cmp.Ordering.{Ordering}
 use Rattle.std.specs.declared.cmp.Ordering.TheVariants.{Less, Equal, Greater}
 use Rattle.plane_core.specs.declared.cell.Cell.{Cell}
-use Rattle.plane_core.specs.Cells.{cell_at, cell_cmp, same_cell, king_distance, distance, moved_by}
+use Rattle.plane_core.specs.Cells.{cell_at, cell_cmp, same_cell, king_distance, distance, moved_by, on_plane, plane_bound}
 
 pub cell_cmp_total : IsTotalOrder cell_cmp
 cell_cmp_total = then_total (on_total (λ c. c.y) int_cmp_total) (on_total (λ c. c.x) int_cmp_total)
@@ -61,3 +62,15 @@ both_equal Greater q = refl
 -- the derived `==` of cells
 pub same_cell-eq : (a b : Cell) → (int_eq a.y b.y && int_eq a.x b.x) ≡ same_cell a b
 same_cell-eq a b = both_equal (int_cmp a.y b.y) (int_cmp a.x b.x)
+
+-- coordinates within the bound, as they are passed on
+pub passed_within : (x : ℤ) → FitsSigned w32 x → unsigned_abs x ≤ plane_bound → unsigned_abs (to_z w32 (of_z w32 x)) ≤ plane_bound
+passed_within x fits low = rw (to_z-of_z w32 x fits) low
+
+pub x_passed : (c : Cell) → FitsSigned w32 c.x → on_plane c ≡ true → unsigned_abs (to_z w32 (of_z w32 c.x)) ≤ plane_bound
+unfolding on_plane
+x_passed c fits on = passed_within c.x fits (leb-true _ _ ((and_parts (nat_le (unsigned_abs c.x) plane_bound) _ on).0))
+
+pub y_passed : (c : Cell) → FitsSigned w32 c.y → on_plane c ≡ true → unsigned_abs (to_z w32 (of_z w32 c.y)) ≤ plane_bound
+unfolding on_plane
+y_passed c fits on = passed_within c.y fits (leb-true _ _ ((and_parts (nat_le (unsigned_abs c.x) plane_bound) _ on).1))

@@ -1,14 +1,15 @@
 -- Forests over the places of a pattern's cells: roots, joined trees, and cursors.
-use Rattle.std.proofs.Common.{◌≡◌, ◌≢◌, ℕ, ℤ, ◌+◌, ◌-◌, ◌+ℤ◌, ◌<◌, ◌≤◌, ◌<ℤ◌, max, min, pos, negsuc, true, false, List, arith, refl, ap, ◌∙◌, sym, subst, inl, inr, ◌⊎◌, length, set}
+use Rattle.std.proofs.Common.{◌≡◌, ◌≢◌, ℕ, ℤ, ◌+◌, ◌-◌, ◌+ℤ◌, ◌<◌, ◌≤◌, ◌<ℤ◌, max, min, pos, negsuc, true, false, List, [], ◌∷◌, ◌++◌, arith, refl, ap, ◌∙◌, sym, subst, inl, inr, ◌⊎◌, length, set}
 use Rattle.std.specs.Cmp.{int_ranks}
-use Rattle.std.specs.Ordering.{int_cmp, is_le, ordering_then, MatchOrdering}
+use Rattle.std.specs.Ordering.{int_cmp, is_le, is_lt, ordering_then, MatchOrdering}
 use Rattle.std.specs.declared.cmp.Ordering.{Ordering}
 use Rattle.std.specs.declared.cmp.Ordering.TheVariants.{Less, Equal, Greater}
-use Rattle.std.proofs.lemmas.Bool.{cases_eq, cases_lt}
+use Rattle.std.proofs.lemmas.Bool.{cases_eq, cases_lt, false≢true}
 use Rattle.std.proofs.lemmas.Int.{ints}
-use Rattle.std.proofs.lemmas.List.{get_or-set_same, get_or-set_other, length-set}
+use Rattle.std.proofs.lemmas.List.{get_or-set_same, get_or-set_other, get_or_append_left, get_or_push, length-set}
 use Rattle.std.proofs.lemmas.List.Elements.{Contains-get_or}
 use Rattle.std.proofs.lemmas.Map.Keys.{Less-from_sorted}
+use borrow.Author.Count.{below_more}
 use Rattle.plane_core.specs.declared.cell.Cell.{Cell}
 use Rattle.plane_core.specs.Cells.{cell_at, cell_cmp, distance, king_distance, moved_by, has, InOrder}
 use Rattle.plane_core.specs.Clusters.{Linked}
@@ -16,7 +17,7 @@ use Rattle.plane_core.specs.Forest.{cell_of, parent_of, LeadsBack, IsForest, Lab
 use Rattle.plane_core.specs.declared.forest.Cursors.{Cursors}
 use Rattle.plane_core.proofs.CellLemmas.{cell_cmp_total, cell_cmp-moved}
 use Rattle.plane_core.proofs.SetLemmas.{Contains-has, greater_turned}
-use Rattle.plane_core.proofs.ClusterLemmas.{linked-near, linked-trans, linked-sym}
+use Rattle.plane_core.proofs.ClusterLemmas.{linked-itself, linked-near, linked-trans, linked-sym}
 
 pub has-cell_of : (cells : List Cell) (k : ℕ) → k < length cells → has cells (cell_of cells k) ≡ true
 has-cell_of cells k low = Contains-has cells (cell_of cells k) (Contains-get_or cells k _ low)
@@ -407,3 +408,28 @@ not_most a b e = greater_turned a b (go (cell_cmp a b) e)
     go Less f = cc
     go Equal f = cc
     go Greater f = refl
+
+-- what is tested as less comes before
+pub less : (r : Ordering) → is_lt r ≡ true → r ≡ Less
+less Less is = refl
+less Equal is = absurd (false≢true is)
+less Greater is = absurd (false≢true is)
+
+-- one root more
+pub roots-more : (parents : List ℕ) (n : ℕ) → length parents ≡ n → ((k : ℕ) → k < n → parent_of parents k ≡ k)
+    → (k : ℕ) → k < n + 1 → parent_of (parents ++ n ∷ []) k ≡ k
+roots-more parents n long roots =
+    below_more (λ k. parent_of (parents ++ n ∷ []) k ≡ k) n
+    (λ k low. get_or_append_left parents (n ∷ []) 0 k (subst (λ m. k < m) (sym long) low) ∙ roots k low) (get_or_push parents n 0 n long)
+
+-- a place for each cell, each a root
+pub forest-roots : (cells : List Cell) (parents : List ℕ) → length parents ≡ length cells
+    → ((k : ℕ) → k < length cells → parent_of parents k ≡ k) → IsForest cells parents
+forest-roots cells parents long roots =
+    let inside : (k : ℕ) → k < length parents → k < length cells = λ k low. subst (λ n. k < n) long low in
+    record {
+      size = long;
+      back = λ k low. omega (arith, roots k (inside k low));
+      linked = λ k low. subst (λ p. Linked cells (cell_of cells k) (cell_of cells p)) (sym (roots k (inside k low)))
+          (linked-itself cells (cell_of cells k) (has-cell_of cells k (inside k low)));
+    }

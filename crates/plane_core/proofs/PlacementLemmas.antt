@@ -5,12 +5,13 @@ use Rattle.std.specs.Bool.{then_some}
 use Rattle.std.specs.List.{list_all}
 use Rattle.std.specs.Ordering.{int_eq}
 use Rattle.std.proofs.lemmas.Int.{ints}
-use Rattle.std.proofs.lemmas.List.{take_more, map-append}
+use Rattle.std.proofs.lemmas.List.{get_or-map, map_more, take_more, map-append}
+use Rattle.std.proofs.lemmas.List.Folds.{list_all-append}
 use Rattle.std.proofs.lemmas.Bool.{false≢true, and_parts, not-false}
 use Rattle.plane_core.specs.declared.cell.Cell.{Cell}
 use Rattle.plane_core.specs.Bounds.{shifted, TellsShift}
 use Rattle.plane_core.specs.Cells.{cell_at, moved_by, InOrder, on_plane, IsPattern}
-use Rattle.plane_core.proofs.BlockLemmas.{int_eq-true}
+use Rattle.plane_core.proofs.BlockLemmas.{int_eq-same, int_eq-true}
 use Rattle.plane_core.proofs.CellLemmas.{cell_cmp-moved}
 use Rattle.plane_core.proofs.SetLemmas.{IsBefore, in_order-head, in_order-tail, in_order-cons, in_order-nil}
 
@@ -73,6 +74,16 @@ stepped_more dx dy cs ds i z s low same so_far is ne =
     ap (shifted dx dy) (take_more cs i z low) ∙ map-append (moved_by dx dy) (take i cs) (get_or cs i z ∷ [])
     ∙ (λ k. so_far k ++ there k ∷ []) ∙ sym (take_more ds i z low_too)
 
+-- where a cell isn't as far from the other, the lists aren't that far apart
+pub stepped_not : (dx dy : ℤ) (cs ds : List Cell) (i : ℕ) (z : Cell) (s : ℤ × ℤ) → i < length cs → shifted dx dy cs ≡ ds
+    → s ≡ ((get_or ds i z).x -ℤ (get_or cs i z).x, (get_or ds i z).y -ℤ (get_or cs i z).y) → not (int_eq s.0 dx && int_eq s.1 dy) ≡ true → ⊥
+stepped_not dx dy cs ds i z s low same is ne =
+    let there : moved_by dx dy (get_or cs i z) ≡ get_or ds i z =
+    sym (get_or-map (moved_by dx dy) cs i z z low) ∙ ap (λ (all : List Cell). get_or all i z) same in
+    let x : s.0 ≡ dx = ap (λ (t : ℤ × ℤ). t.0) is ∙ step_of (get_or cs i z).x (get_or ds i z).x dx (ap (λ (c : Cell). c.x) there) in
+    let y : s.1 ≡ dy = ap (λ (t : ℤ × ℤ). t.1) is ∙ step_of (get_or cs i z).y (get_or ds i z).y dy (ap (λ (c : Cell). c.y) there) in
+    false≢true (sym (λ k. not (int_eq-same s.0 dx x k && int_eq-same s.1 dy y k)) ∙ ne)
+
 -- a shift of a list with a first cell is the step between the first cells
 shift_is_step : (dx dy : ℤ) (c : Cell) (cs : List Cell) (d : Cell) (ds : List Cell) → shifted dx dy (c ∷ cs) ≡ d ∷ ds
     → ◌≡◌ {A = ℤ × ℤ} (d.x -ℤ c.x, d.y -ℤ c.y) (dx, dy)
@@ -104,3 +115,10 @@ tells_shift (c ∷ cs) (d ∷ ds) z s false some same is iff = record {
         let step : ◌≡◌ {A = ℤ × ℤ} s (dx, dy) = is ∙ shift_is_step dx dy c cs d ds e in
         let whole : shifted s.0 s.1 (c ∷ cs) ≡ d ∷ ds = subst (λ (t : ℤ × ℤ). shifted t.0 t.1 (c ∷ cs) ≡ d ∷ ds) (sym step) e in
         false≢true (iff.1 whole)
+
+-- one image more that passes a test
+pub one_image_passes : (p : Cell → Bool) (f : Cell → Cell) (cs : List Cell) (i : ℕ) (d : Cell) → i < length cs
+    → list_all p (map f (take i cs)) ≡ true → p (f (get_or cs i d)) ≡ true → list_all p (map f (take (i + 1) cs)) ≡ true
+one_image_passes p f cs i d low so_far passes =
+    ap (list_all p) (map_more f cs i d low) ∙ list_all-append p (map f (take i cs)) (f (get_or cs i d) ∷ [])
+    ∙ (λ k. so_far k && (passes k && true))

@@ -1,9 +1,10 @@
 -- What a text says as a rule: it is spelled so, what is spelled so is read, and a fault is the first.
 use Rattle.std.proofs.Common.{◌≡◌, ◌≢◌, ◌<◌, ◌≤◌, ◌+◌, ◌-◌, ◌==◌, ℕ, zero, suc, Bool, true, false, List, [], ◌∷◌, ◌++◌, length, take, drop, refl}
-use Rattle.std.proofs.Common.{sym, ◌∙◌, ap, subst, arith, append_assoc, append-nil, length-append, length-drop, codes, Result, Ok, Err, IfOk}
+use Rattle.std.proofs.Common.{sym, ◌∙◌, ap, subst, arith, append_assoc, append-nil, length-append, length-drop, codes, Result, Ok, Err, IfOk, IsTrue, ◌↔◌}
 use Rattle.std.proofs.lemmas.List.{take_at}
 use Rattle.std.proofs.Math.Seq.{take-length}
 use Rattle.std.proofs.lemmas.Slice.Eq.{starts_is}
+use Rattle.std.proofs.lemmas.Bool.{false≢true}
 use Rattle.std.proofs.lemmas.Bool.Decides.{Decides-eqb, nat_tests}
 use Rattle.plane_core.specs.declared.rule.RuleError.{RuleError}
 use Rattle.plane_core.specs.declared.rule.RuleError.TheVariants.{BadRule, BirthZero}
@@ -165,6 +166,13 @@ Says text (Ok rule) = IsRule rule × (rule_text rule ≡ text)
 Says text (Err (BadRule place)) = IsFirstFault text place × (begins text (codes "b0") ≡ false)
 Says text (Err BirthZero) = begins text (codes "b0") ≡ true
 
+-- no rule has a birth at 0
+zero-rule_text : (rule : Numbers) → begins (rule_text rule) (codes "b0") ≡ false
+unfolding rule_text
+zero-rule_text rule =
+    let after_s = digits 0 rule.survivals in
+    begins-digits 0 1 rule.births (115 ∷ after_s) (omega arith) (omega arith) (IsPastDigits-s after_s)
+
 -- each rule's text is read as that rule
 pub rule_read-rule_text : (rule : Numbers) → IsRule rule → rule_read (rule_text rule) ≡ Ok rule
 unfolding rule_text
@@ -176,7 +184,7 @@ rule_read-rule_text rule whole =
     let survivals : survivals_in text ≡ record { answers = rule.survivals; rest = [] } =
     ap (λ (r : Reading). numbers_at 9 0 (drop 1 r.rest)) births ∙ ap (numbers_at 9 0) (sym (append-nil after_s))
     ∙ numbers_at-digits 9 0 rule.survivals [] whole.survivals (omega arith) IsPastDigits-nil in
-    let no_zero : begins text (codes "b0") ≡ false = begins-digits 0 1 rule.births (115 ∷ after_s) (omega arith) (omega arith) (IsPastDigits-s after_s) in
+    let no_zero = zero-rule_text rule in
     let s : begins (births_in text).rest (codes "s") ≡ true = ap (λ (r : Reading). begins r.rest (codes "s")) births ∙ begins-same 115 after_s in
     let end : (length (survivals_in text).rest == 0) ≡ true = ap (λ (r : Reading). length r.rest == 0) survivals in
     rule_read-all text (begins-same 98 (digits 1 rule.births ++ 115 ∷ after_s)) no_zero s end ∙ rw (survivals, births) refl
@@ -387,3 +395,15 @@ pub reads_text : (text : List ℕ) (rule : Numbers) → Ok rule ≡ rule_read te
 reads_text text rule exact =
     let P : Result Numbers RuleError → Type 0 = λ r. IfOk r (λ read. rule_text read ≡ text) in
     subst P (sym exact) (rule_text-rule_read text)
+
+pub reads_rule : (text : List ℕ) (rule : Numbers) → Ok rule ≡ rule_read text → IsRule rule
+reads_rule text rule exact = let says = subst (Says text) (sym exact) (Says_rule_read text) in says.0
+
+pub reads_zero : (text : List ℕ) (read : Result Numbers RuleError) → read ≡ rule_read text → (read ≡ Err BirthZero) ↔ IsTrue (begins text (codes "b0"))
+reads_zero text read exact = told read (subst (Says text) (sym exact) (Says_rule_read text)) where
+  told : (r : Result Numbers RuleError) → Says text r → (r ≡ Err BirthZero) ↔ IsTrue (begins text (codes "b0"))
+  told (Ok rule) h =
+      let not_zero : begins text (codes "b0") ≡ false = subst (λ (xs : List ℕ). begins xs (codes "b0") ≡ false) h.1 (zero-rule_text rule) in
+      (λ is. cc, λ zero_first. absurd (false≢true (sym not_zero ∙ zero_first)))
+  told (Err (BadRule place)) h = (λ is. cc, λ zero_first. absurd (false≢true (sym h.1 ∙ zero_first)))
+  told (Err BirthZero) h = (λ is. h, λ zero_first. refl)

@@ -1,6 +1,6 @@
 -- Three lists of tallies, merged one cell at a time.
 use Rattle.std.proofs.Common.{◌≡◌, ℕ, ◌+◌, ◌<◌, ◌≤◌, Bool, true, false, ◌||◌, ◌&&◌, List, [], ◌∷◌, ◌++◌, arith, cond}
-use Rattle.std.proofs.Common.{refl, ap, ◌∙◌, sym, inl, inr, ◌⊎◌, length, Option, Some, None, get_or, zero, suc}
+use Rattle.std.proofs.Common.{refl, ap, ◌∙◌, sym, inl, inr, ◌⊎◌, length, Option, Some, None, get_or, zero, suc, filter, take}
 use Rattle.std.specs.List.{list_all, AllByRecursion}
 use Rattle.std.specs.Ordering.{is_eq, match_ordering}
 use Rattle.std.specs.Cmp.{tied_itself}
@@ -12,7 +12,7 @@ use Rattle.plane_core.specs.declared.tally.Tally.{Tally}
 use Rattle.plane_core.specs.Cells.{cell_cmp, same_cell, InOrder}
 use Rattle.plane_core.specs.Tallies.{cells_of, counted_at, alive_at, count_first, alive_first, rest_at, first_of, earlier_of}
 use Rattle.plane_core.proofs.CellLemmas.{cell_cmp_total, cell_cmp-same, same_cell-same, same_cell-itself}
-use Rattle.plane_core.proofs.SetLemmas.{IsBefore, in_order-head, in_order-tail, in_order-cons, in_order-nil, before-trans, greater_turned}
+use Rattle.plane_core.proofs.SetLemmas.{IsBefore, in_order-head, in_order-tail, in_order-cons, in_order-nil, before-trans, greater_turned, filter-with, filter-without}
 
 -- what is counted in two lists, one after the other
 pub total-append : (ts us : List Tally) (x : Cell) → counted_at (ts ++ us) x ≡ counted_at ts x + counted_at us x
@@ -167,3 +167,15 @@ pub all_cells_at : (p : Cell → Bool) (ts : List Tally) (i : ℕ) (d : Tally) �
 all_cells_at p [] i d low h = absurd (omega arith)
 all_cells_at p (t ∷ ts) zero d low h = (and_parts (p t.cell) (list_all p (cells_of ts)) h).0
 all_cells_at p (t ∷ ts) (suc i) d low h = all_cells_at p ts i d (omega arith) (and_parts (p t.cell) (list_all p (cells_of ts)) h).1
+
+-- one tally more of a list, of which those that pass a test are selected
+pub selected-with : (p : Tally → Bool) (ts : List Tally) (i : ℕ) (d : Tally) (cells : List Cell) → i < length ts → p (get_or ts i d) ≡ true
+    → cells ≡ cells_of (filter p (take i ts)) → cells ++ (get_or ts i d).cell ∷ [] ≡ cells_of (filter p (take (i + 1) ts))
+selected-with p ts i d cells low passes is =
+    ap (λ (cs : List Cell). cs ++ (get_or ts i d).cell ∷ []) is
+    ∙ sym (cells_of-append (filter p (take i ts)) (get_or ts i d ∷ []))
+    ∙ ap cells_of (filter-with p ts i d (filter p (take i ts)) low passes refl)
+
+pub selected-without : (p : Tally → Bool) (ts : List Tally) (i : ℕ) (d : Tally) (cells : List Cell) → i < length ts → p (get_or ts i d) ≡ false
+    → cells ≡ cells_of (filter p (take i ts)) → cells ≡ cells_of (filter p (take (i + 1) ts))
+selected-without p ts i d cells low fails is = is ∙ ap cells_of (filter-without p ts i d (filter p (take i ts)) low fails refl)

@@ -1,4 +1,4 @@
-use Rattle.std.proofs.Common.{ℕ, arith, subst}
+use Rattle.std.proofs.Common.{◌*◌, ◌≤◌, ℕ, arith, subst, sym}
 use Rattle.plane_core.specs.Boards.{AreNoMarks, IsGoing, IsNextMark}
 use Rattle.plane_core.proofs.BoardLemmas.{going_skip_marks}
 use Rattle.plane_core.proofs.blocks.step_group.Goals as goal
@@ -24,3 +24,12 @@ returns c old first todo is right going =
     let none : AreNoMarks c.args.flags c.loop-b.done 64 = rw c.in_default.is at c.next_mark.ensures.none in
     going_skip_marks _ _ c.args.w c.loop-b.done 64 c.args.flags _ _ _ _ _ todo right is c.loop-b.invariant.within (omega arith) none
     (c.loop-b.invariant.going old first todo is right going)
+
+pub next_mark-requires : goal.next_mark-requires
+next_mark-requires c = c.loop-b.invariant.within
+
+pub step_one-requires-clause-long : goal.step_one-requires-clause-long
+step_one-requires-clause-long c = c.loop-b.invariant.long
+
+pub step_one-requires-clause-flags : goal.step_one-requires-clause-flags
+step_one-requires-clause-flags c = subst (λ n. c.args.grid.count ≤ 64 * n) (sym c.loop-b.invariant.marks_long) c.requires.flags

@@ -1,5 +1,7 @@
-use Rattle.std.proofs.Common.{◌≡◌, ◌<◌, length, rules}
-use Rattle.plane_core.proofs.LoadLemmas.{has-at, shown_taken, shown-empty, shown-none, still-empty}
+use Rattle.std.proofs.Common.{◌≡◌, ◌∙◌, ◌*◌, ◌<◌, ◌≤◌, arith, length, rules, subst, sym}
+use Rattle.std.proofs.lemmas.List.{take_all}
+use Rattle.plane_core.specs.Layouts.{IsShown}
+use Rattle.plane_core.proofs.LoadLemmas.{board-small, has-at, shown_taken, shown-empty, shown-none, still-empty}
 use Rattle.plane_core.proofs.board.fill.Goals as goal
 
 pub returns-then-is_empty-clause-shown : goal.returns-then-is_empty-clause-shown
@@ -42,3 +44,28 @@ loop-cell-preserved c = record {
   dead = c.put-last.ensures.dead c.loop-cell.invariant.dead;
   marked = c.put-last.ensures.marked;
 }
+
+pub mark_near-requires-clause-high : goal.mark_near-requires-clause-high
+mark_near-requires-clause-high c = subst (λ g. g.count ≤ 64 * length c.args.flags.now) (sym c.grid.ensures) c.requires.flags
+
+pub mark_near-requires-clause-small : goal.mark_near-requires-clause-small
+mark_near-requires-clause-small c =
+    let small = board-small c.args.at c.requires.laid in
+    rw c.grid.ensures (omega (arith, small))
+
+pub put-last-requires-clause-long : goal.put-last-requires-clause-long
+put-last-requires-clause-long c = c.loop-cell.auto.words ∙ c.requires.long
+
+pub put-last-requires-clause-flags : goal.put-last-requires-clause-flags
+put-last-requires-clause-flags c =
+    subst (λ n. c.args.at.strips * c.args.at.blocks ≤ 64 * n) (sym (c.loop-cell.auto.flags ∙ c.mark_near.auto.flags)) c.requires.flags
+
+pub returns-clause-shown : goal.returns-clause-shown
+returns-clause-shown c =
+    subst (IsShown c.args.at c.loop-cell.words) (take_all c.loop-cell.cell-index c.args.cells.now c.loop-cell-test.false) c.loop-cell.invariant.shown
+
+pub returns-clause-still : goal.returns-clause-still
+returns-clause-still c = c.loop-cell.invariant.still
+
+pub returns-clause-dead : goal.returns-clause-dead
+returns-clause-dead c = c.loop-cell.invariant.dead

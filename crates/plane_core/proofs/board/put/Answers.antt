@@ -1,4 +1,5 @@
-use Rattle.plane_core.proofs.LoadLemmas.{spot_inner, put_shown, dead_more, still_more}
+use Rattle.std.proofs.Common.{◌*◌, ◌<◌, ◌≤◌, arith, length, subst, sym}
+use Rattle.plane_core.proofs.LoadLemmas.{board-small, dead_more, put_shown, spot_inner, spot_inside, still_more}
 use Rattle.plane_core.proofs.board.put.Goals as goal
 
 pub mark_round-requires-clause-inner : goal.mark_round-requires-clause-inner
@@ -28,3 +29,27 @@ returns-clause-marked c m clear =
     let g = c.grid.ensures in
     let far = rw g at (c.mark_round.ensures m clear) in
     far.1
+
+pub index-i-requires-clause-strip : goal.index-i-requires-clause-strip
+index-i-requires-clause-strip c =
+    let inside = spot_inside c.args.at c.args.cell _ _ c.requires.within c.across-across.ensures c.down.ensures in
+    omega (arith, inside)
+
+pub index-i-requires-clause-row : goal.index-i-requires-clause-row
+index-i-requires-clause-row c =
+    let inside = spot_inside c.args.at c.args.cell _ _ c.requires.within c.across-across.ensures c.down.ensures in
+    omega (arith, inside)
+
+pub bounds-words-i : goal.bounds-words-i
+bounds-words-i c = subst (λ n. c.index-i.result < n) (sym c.requires.long) c.index-i.ensures.inside
+
+pub bounds-words-i-2 : goal.bounds-words-i-2
+bounds-words-i-2 c = subst (λ n. c.index-i.result < n) (sym c.requires.long) c.index-i.ensures.inside
+
+pub mark_round-requires-clause-high : goal.mark_round-requires-clause-high
+mark_round-requires-clause-high c = subst (λ g. g.count ≤ 64 * length c.args.flags.now) (sym c.grid.ensures) c.requires.flags
+
+pub mark_round-requires-clause-small : goal.mark_round-requires-clause-small
+mark_round-requires-clause-small c =
+    let small = board-small c.args.at c.requires.laid in
+    rw c.grid.ensures (omega (arith, small))

@@ -1,4 +1,5 @@
-use Rattle.std.proofs.Common.{◌≡◌, ◌≢◌, ◌∙◌, ◌<◌, ◌++◌, List, [], ◌∷◌, length, get_or, set, rules, subst, sym, ap, Vec, Global}
+use Rattle.std.proofs.Common.{◌≡◌, ◌≢◌, ◌∙◌, ◌≤◌, ◌<◌, arith, ◌++◌, List, [], ◌∷◌, length, get_or, set, rules, subst, sym, ap, Vec, Global}
+use Rattle.std.proofs.lemmas.Result.{IfOk-from_err}
 use Rattle.std.proofs.lemmas.List.{with_items_is, get_or_default}
 use Rattle.plane_core.specs.declared.cell.Cell.{Cell}
 use Rattle.plane_core.specs.Cells.{IsPattern}
@@ -64,3 +65,52 @@ pub returns-clause-patterns : goal.returns-clause-patterns
 returns-clause-patterns c =
     gathered_patterns c.args.cells.now c.args.parents.now c.loop-place.numbers.items c.loop-place.clusters.items c.loop-place.place
     c.requires.pattern c.loop-place.invariant
+
+pub bounds-parents-place : goal.bounds-parents-place
+bounds-parents-place c = subst (λ n. c.loop-place.place < n) (sym c.requires.forest.size) c.loop-place-test.true
+
+pub index-number-requires : goal.index-number-requires
+index-number-requires c =
+    let parents = c.args.parents.now in
+    let place = c.loop-place.place in
+    let most : parent_of parents place ≤ place =
+    c.requires.forest.back place (subst (λ n. place < n) (sym c.requires.forest.size) c.loop-place-test.true) in
+    omega (arith, most, c.if-parent-place.false, c.loop-place.invariant.size, c.loop-place.numbers.ok.0)
+
+pub extend-requires-clause-number : goal.extend-requires-clause-number
+extend-requires-clause-number c =
+    let parents = c.args.parents.now in
+    let place = c.loop-place.place in
+    let numbers = c.loop-place.numbers.items in
+    let most : parent_of parents place ≤ place =
+    c.requires.forest.back place (subst (λ n. place < n) (sym c.requires.forest.size) c.loop-place-test.true) in
+    let low : parent_of parents place < length numbers = omega (arith, most, c.if-parent-place.false, c.loop-place.invariant.size) in
+    let is : c.index-number.result.now ≡ get_or numbers (parent_of parents place) 0 =
+    c.index-number.ensures ∙ get_or_default numbers (parent_of parents place) c.index-number.result.now 0 low in
+    subst (λ (clusters : List (List Cell)). c.index-number.result.now < length clusters) (sym c.deref_mut.ensures.value)
+    (number_inside c.args.cells.now parents numbers c.loop-place.clusters.items place c.index-number.result.now c.requires.forest
+    c.loop-place-test.true c.if-parent-place.false is c.loop-place.invariant)
+
+pub returns-in_err-numbers-clause-clusters : goal.returns-in_err-numbers-clause-clusters
+returns-in_err-numbers-clause-clusters c = IfOk-from_err _ _ c.from_residual.ensures.0
+
+pub returns-in_err-numbers-clause-patterns : goal.returns-in_err-numbers-clause-patterns
+returns-in_err-numbers-clause-patterns c = IfOk-from_err _ _ c.from_residual.ensures.0
+
+pub returns-in_err-number-clause-clusters : goal.returns-in_err-number-clause-clusters
+returns-in_err-number-clause-clusters c = IfOk-from_err _ _ c.from_residual-in_err-number.ensures.0
+
+pub returns-in_err-number-clause-patterns : goal.returns-in_err-number-clause-patterns
+returns-in_err-number-clause-patterns c = IfOk-from_err _ _ c.from_residual-in_err-number.ensures.0
+
+pub returns-in_err-extend-clause-clusters : goal.returns-in_err-extend-clause-clusters
+returns-in_err-extend-clause-clusters c = IfOk-from_err _ _ c.from_residual-in_err-extend.ensures.0
+
+pub returns-in_err-extend-clause-patterns : goal.returns-in_err-extend-clause-patterns
+returns-in_err-extend-clause-patterns c = IfOk-from_err _ _ c.from_residual-in_err-extend.ensures.0
+
+pub returns-in_err-push-clause-clusters : goal.returns-in_err-push-clause-clusters
+returns-in_err-push-clause-clusters c = IfOk-from_err _ _ c.from_residual-in_err-push.ensures.0
+
+pub returns-in_err-push-clause-patterns : goal.returns-in_err-push-clause-patterns
+returns-in_err-push-clause-patterns c = IfOk-from_err _ _ c.from_residual-in_err-push.ensures.0

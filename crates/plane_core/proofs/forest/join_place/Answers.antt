@@ -1,4 +1,5 @@
-use Rattle.std.proofs.Common.{◌≡◌, arith, pos, negsuc, subst, sym}
+use Rattle.std.proofs.Common.{◌≡◌, ◌+ℤ◌, ◌<ℤ◌, ℕ, ℤ, ap, arith, pos, negsuc, subst, sym}
+use Rattle.std.proofs.lemmas.Int.{ints}
 use Rattle.plane_core.specs.declared.cell.Cell.{Cell}
 use Rattle.plane_core.specs.Cells.{moved_by, on_plane}
 use Rattle.plane_core.specs.Forest.{cell_of, IsPassed}
@@ -64,3 +65,16 @@ near-requires-3-clause-on_plane c = all_at on_plane c.args.cells.now c.args.plac
 
 pub near-requires-4-clause-on_plane : goal.near-requires-4-clause-on_plane
 near-requires-4-clause-on_plane c = all_at on_plane c.args.cells.now c.args.place _ c.requires.place c.requires.pattern.on_plane
+
+-- the cell that a row begins with stands above
+above : (c d : Cell) (dx : ℤ) (n : ℕ) → c ≡ moved_by dx (negsuc n) d → c.y <ℤ d.y
+above c d dx n is = let y : c.y ≡ d.y +ℤ negsuc n = ap (λ (e : Cell). e.y) is in omega (arith, ints, y)
+
+pub join_row-above-requires-clause-above : goal.join_row-above-requires-clause-above
+join_row-above-requires-clause-above c = above c.near.result (cell_of c.args.cells.now c.args.place) (negsuc 1) 0 c.near.ensures
+
+pub join_row-top-requires-clause-above : goal.join_row-top-requires-clause-above
+join_row-top-requires-clause-above c = above c.near-3.result (cell_of c.args.cells.now c.args.place) (negsuc 1) 1 c.near-3.ensures
+
+pub returns-clause-forest : goal.returns-clause-forest
+returns-clause-forest c = c.join_row-top.ensures.forest

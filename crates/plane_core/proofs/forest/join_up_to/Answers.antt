@@ -22,3 +22,28 @@ pub returns-after-loop-at-clause-joined : goal.returns-after-loop-at-clause-join
 returns-after-loop-at-clause-joined c =
     scanned c.args.cells.now c.args.parents.now c.loop-at.parents c.args.place c.args.first c.loop-at.at c.args.to c.requires.pattern.in_order
     c.requires.place (λ early. absurd (omega (arith, early, c.loop-at-test.false))) c.loop-at.invariant
+
+pub returns-else-le-clause-forest : goal.returns-else-le-clause-forest
+returns-else-le-clause-forest c = c.loop-at.invariant.forest
+
+pub returns-else-le-clause-keeps : goal.returns-else-le-clause-keeps
+returns-else-le-clause-keeps c = c.loop-at.invariant.keeps
+
+pub returns-after-loop-at-clause-forest : goal.returns-after-loop-at-clause-forest
+returns-after-loop-at-clause-forest c = c.loop-at.invariant.forest
+
+pub returns-after-loop-at-clause-keeps : goal.returns-after-loop-at-clause-keeps
+returns-after-loop-at-clause-keeps c = c.loop-at.invariant.keeps
+
+pub loop-at-init : goal.loop-at-init
+loop-at-init c = record {
+  forest = c.requires.forest;
+  keeps = λ label fits. fits;
+  joined = λ k after early. absurd (omega (arith, after, early));
+}
+
+pub join_if_near-requires-clause-one : goal.join_if_near-requires-clause-one
+join_if_near-requires-clause-one c = omega (arith, c.loop-at-test.true, c.requires.place)
+
+pub bounds-cells-at : goal.bounds-cells-at
+bounds-cells-at c = omega (arith, c.loop-at-test.true, c.requires.place)

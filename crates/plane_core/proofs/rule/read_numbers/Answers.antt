@@ -1,4 +1,4 @@
-use Rattle.std.proofs.Common.{ap, sym, ◌∙◌, subst, List, ℕ, ◌+◌, set, true}
+use Rattle.std.proofs.Common.{ap, refl, sym, ◌∙◌, subst, List, ℕ, ◌+◌, set, true}
 use Rattle.plane_core.specs.Rules.{Reading}
 use Rattle.plane_core.proofs.OutLemmas.{take-drop-rest}
 use Rattle.plane_core.proofs.RuleNumbers.{ReadUpTo, ReadUpTo_hit, ReadUpTo_miss, ReadUpTo_done}
@@ -23,3 +23,9 @@ returns-clause-answers g c = sym (ap (λ (r : Reading). r.answers) (ReadUpTo_don
 
 pub returns-clause-rest : goal.returns-clause-rest
 returns-clause-rest g c = sym (ap (λ (r : Reading). r.rest) (ReadUpTo_done _ _ _ _ _ _ c.loop-i-test.false c.loop-i.auto.i-end c.loop-i.invariant))
+
+pub bounds-answers-i : goal.bounds-answers-i
+bounds-answers-i g c = c.loop-i-test.true
+
+pub slice_bounds-rest-count : goal.slice_bounds-rest-count
+slice_bounds-rest-count g c = c.if-starts_with.ensures.bound refl

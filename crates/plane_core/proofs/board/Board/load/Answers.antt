@@ -25,3 +25,17 @@ returns c =
       still = c.fill.ensures.still;
       dead = c.fill.ensures.dead;
     }
+
+pub fill-requires-clause-long : goal.fill-requires-clause-long
+fill-requires-clause-long c =
+    let count = ap (λ g. g.count) c.grid-count.ensures in
+    c.as_mut_slice.ensures.len ∙ c.in_ok-now.ensures.len ∙ ap (λ n. 8 * n) count
+
+pub fill-requires-clause-flags : goal.fill-requires-clause-flags
+fill-requires-clause-flags c =
+    let count : c.grid-count.result.count ≡ c.args.at.strips * c.args.at.blocks = ap (λ g. g.count) c.grid-count.ensures in
+    omega (arith, c.as_mut_slice-2.ensures.len, c.in_ok-todo.ensures.len, count)
+
+pub fill-requires-clause-empty : goal.fill-requires-clause-empty
+fill-requires-clause-empty c = λ i.
+    ap (λ (ws : List ℕ). slice_index ws i) (c.as_mut_slice.ensures.value ∙ c.in_ok-now.ensures.items_if_clones_equal (λ y h. h)) ∙ zeros _ i

@@ -1,5 +1,6 @@
 use Rattle.std.proofs.Common.{ap, ℕ, ◌+◌, ◌*◌, ◌/◌, rules, w32, FitsSigned}
 use Rattle.std.proofs.lemmas.Int.{to_z-of_z}
+use Rattle.plane_core.proofs.CellLemmas.{passed_within}
 use Rattle.plane_core.proofs.LayLemmas.{IsRound, round_is_laid, round_has_room}
 use Rattle.plane_core.proofs.layout.Layout.round_box.Goals as goal
 
@@ -32,3 +33,21 @@ returns-clause-room c =
     let left : FitsSigned w32 c.back.result = search rules in
     let top : FitsSigned w32 c.back-2.result = search rules in
     simp to_z-of_z (round_has_room c.args.bounds c.args.margin _ (is_round c))
+
+pub apart-requires-clause-a : goal.apart-requires-clause-a
+apart-requires-clause-a c = passed_within c.args.bounds.left (search rules) c.requires.sides.left
+
+pub apart-requires-clause-b : goal.apart-requires-clause-b
+apart-requires-clause-b c = passed_within c.args.bounds.right (search rules) c.requires.sides.right
+
+pub apart-requires-2-clause-a : goal.apart-requires-2-clause-a
+apart-requires-2-clause-a c = passed_within c.args.bounds.top (search rules) c.requires.sides.top
+
+pub apart-requires-2-clause-b : goal.apart-requires-2-clause-b
+apart-requires-2-clause-b c = passed_within c.args.bounds.bottom (search rules) c.requires.sides.bottom
+
+pub back-requires-clause-from : goal.back-requires-clause-from
+back-requires-clause-from c = passed_within c.args.bounds.left (search rules) c.requires.sides.left
+
+pub back-requires-2-clause-from : goal.back-requires-2-clause-from
+back-requires-2-clause-from c = passed_within c.args.bounds.top (search rules) c.requires.sides.top

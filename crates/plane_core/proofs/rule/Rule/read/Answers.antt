@@ -1,8 +1,8 @@
-use Rattle.std.proofs.Common.{◌≡◌, ◌==◌, sym, ◌∙◌, ap, true, false, List, ℕ, length, codes}
+use Rattle.std.proofs.Common.{◌≡◌, ◌==◌, sym, ◌∙◌, ap, true, false, List, ℕ, length, codes, refl}
 use Rattle.plane_core.specs.Rules.{Reading, begins, rule_read}
 use Rattle.plane_core.proofs.RuleReading.{length-births, length-survivals, births_in, survivals_in, sliced, births_sliced, survivals_sliced}
 use Rattle.plane_core.proofs.RuleReading.{rule_read-no_b, rule_read-zero, rule_read-no_s, rule_read-more}
-use Rattle.plane_core.proofs.RuleReading.{rule_read-all, reads_complete, reads_first, reads_text}
+use Rattle.plane_core.proofs.RuleReading.{rule_read-all, reads_complete, reads_first, reads_rule, reads_text, reads_zero}
 use Rattle.plane_core.proofs.rule.Rule.read.Goals as goal
 
 pub returns-then-not-starts_with-clause-exact : goal.returns-then-not-starts_with-clause-exact
@@ -93,3 +93,33 @@ returns-clause-complete c = reads_complete c.args.text.now _ (returns-clause-exa
 
 pub returns-clause-text : goal.returns-clause-text
 returns-clause-text c = reads_text c.args.text.now _ (returns-clause-exact c)
+
+pub returns-then-not-starts_with-clause-birth_zero : goal.returns-then-not-starts_with-clause-birth_zero
+returns-then-not-starts_with-clause-birth_zero c = reads_zero c.args.text.now _ (returns-then-not-starts_with-clause-exact c)
+
+pub returns-then-starts_with-clause-birth_zero : goal.returns-then-starts_with-clause-birth_zero
+returns-then-starts_with-clause-birth_zero c = reads_zero c.args.text.now _ (returns-then-starts_with-clause-exact c)
+
+pub returns-then-not-starts_with-2-clause-birth_zero : goal.returns-then-not-starts_with-2-clause-birth_zero
+returns-then-not-starts_with-2-clause-birth_zero c = reads_zero c.args.text.now _ (returns-then-not-starts_with-2-clause-exact c)
+
+pub returns-then-not-is_empty-clause-birth_zero : goal.returns-then-not-is_empty-clause-birth_zero
+returns-then-not-is_empty-clause-birth_zero c = reads_zero c.args.text.now _ (returns-then-not-is_empty-clause-exact c)
+
+pub returns-clause-birth_zero : goal.returns-clause-birth_zero
+returns-clause-birth_zero c = reads_zero c.args.text.now _ (returns-clause-exact c)
+
+pub returns-then-starts_with-clause-bad_rule : goal.returns-then-starts_with-clause-bad_rule
+returns-then-starts_with-clause-bad_rule c = reads_first c.args.text.now _ (returns-then-starts_with-clause-exact c)
+
+pub returns-clause-bad_rule : goal.returns-clause-bad_rule
+returns-clause-bad_rule c = reads_first c.args.text.now _ (returns-clause-exact c)
+
+pub returns-clause-rule : goal.returns-clause-rule
+returns-clause-rule c = reads_rule c.args.text.now _ (returns-clause-exact c)
+
+pub slice_bounds-read_numbers-count : goal.slice_bounds-read_numbers-count
+slice_bounds-read_numbers-count c = c.if-not-starts_with.ensures.bound refl
+
+pub slice_bounds-read_numbers-count-2 : goal.slice_bounds-read_numbers-count-2
+slice_bounds-read_numbers-count-2 c = c.if-not-starts_with-2.ensures.bound refl

@@ -1,6 +1,6 @@
-use Rattle.std.proofs.Common.{◌++◌, codes}
+use Rattle.std.proofs.Common.{◌++◌, arith, codes, subst}
 use Rattle.plane_core.proofs.OutLemmas.{Writes_then, Writes_stops}
-use Rattle.plane_core.specs.Rules.{digits, rule_text}
+use Rattle.plane_core.specs.Rules.{IsRule, digits, rule_text}
 use Rattle.plane_core.proofs.rule.Rule.write_text.Goals as goal
 
 pub returns-in_err-put-clause-text : goal.returns-in_err-put-clause-text
@@ -30,3 +30,30 @@ unfolding rule_text
 returns-clause-text g c =
     rw (← c.self.view_is)
     (Writes_then c.in_ok-put.ensures (Writes_then c.in_ok-write_digits.ensures (Writes_then c.in_ok-put-2.ensures c.write_digits-2.ensures)))
+
+pub returns-in_err-put-clause-rule : goal.returns-in_err-put-clause-rule
+returns-in_err-put-clause-rule g c = subst IsRule c.self.view_is (record { births = c.self.told.0; survivals = c.self.told.1 })
+
+pub returns-in_err-write_digits-clause-rule : goal.returns-in_err-write_digits-clause-rule
+returns-in_err-write_digits-clause-rule g c = subst IsRule c.self.view_is (record { births = c.self.told.0; survivals = c.self.told.1 })
+
+pub returns-in_err-put-2-clause-rule : goal.returns-in_err-put-2-clause-rule
+returns-in_err-put-2-clause-rule g c = subst IsRule c.self.view_is (record { births = c.self.told.0; survivals = c.self.told.1 })
+
+pub returns-clause-rule : goal.returns-clause-rule
+returns-clause-rule g c = subst IsRule c.self.view_is (record { births = c.self.told.0; survivals = c.self.told.1 })
+
+pub write_digits-requires-clause-fresh : goal.write_digits-requires-clause-fresh
+write_digits-requires-clause-fresh g c = c.in_ok-put.ensures.told
+
+pub put-requires-2 : goal.put-requires-2
+put-requires-2 g c = c.in_ok-write_digits.ensures.told
+
+pub write_digits-requires-2-clause-fresh : goal.write_digits-requires-2-clause-fresh
+write_digits-requires-2-clause-fresh g c = c.in_ok-put-2.ensures.told
+
+pub write_digits-requires-clause-digits : goal.write_digits-requires-clause-digits
+write_digits-requires-clause-digits g c = omega (arith, c.self.told.0)
+
+pub write_digits-requires-2-clause-digits : goal.write_digits-requires-2-clause-digits
+write_digits-requires-2-clause-digits g c = omega (arith, c.self.told.1)

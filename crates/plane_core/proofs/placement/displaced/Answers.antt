@@ -1,0 +1,35 @@
+use Rattle.std.proofs.Common.{◌≡◌, ◌∙◌, ◌&&◌, ℤ, Bool, true, false, Some, None, FitsSigned, cond, refl, rules, sym, w32}
+use Rattle.std.proofs.lemmas.Int.{to_z-of_z}
+use Rattle.plane_core.specs.Cells.{cell_at, on_plane}
+use Rattle.plane_core.proofs.placement.displaced.Goals as goal
+
+-- a cell whose coordinates are both there, or one of them isn't
+both : (a b x y : ℤ) (p q : Bool) → Some x ≡ cond p (Some a) None → Some y ≡ cond q (Some b) None
+    → Some (cell_at x y) ≡ cond (p && q) (Some (cell_at a b)) None
+both a b x y true true across down = cc
+both a b x y true false across down = cc
+both a b x y false q across down = cc
+
+one : (a b : ℤ) (p q : Bool) → None ≡ cond q (Some b) None → None ≡ cond (p && q) (Some (cell_at a b)) None
+one a b true true down = cc
+one a b true false down = refl
+one a b false q down = refl
+
+pub returns-in-Some-Some : goal.returns-in-Some-Some
+unfolding on_plane
+returns-in-Some-Some c =
+    let left : FitsSigned w32 c.args.cell.x = search rules in
+    let top : FitsSigned w32 c.args.cell.y = search rules in
+    let right : FitsSigned w32 c.args.dx = c.ranges.dx in
+    let down : FitsSigned w32 c.args.dy = c.ranges.dy in
+    let x : FitsSigned w32 c.in-Some-Some.x = search rules in
+    let y : FitsSigned w32 c.in-Some-Some.y = search rules in
+    simp to_z-of_z (both _ _ c.in-Some-Some.x c.in-Some-Some.y _ _
+    (simp to_z-of_z at (sym c.in-Some-Some.is-0 ∙ c.sum_on_plane.ensures)) (simp to_z-of_z at (sym c.in-Some-Some.is-1 ∙ c.sum_on_plane-2.ensures)))
+
+pub returns-in_default : goal.returns-in_default
+unfolding on_plane
+returns-in_default c =
+    let top : FitsSigned w32 c.args.cell.y = search rules in
+    let down : FitsSigned w32 c.args.dy = c.ranges.dy in
+    one _ _ _ _ (simp to_z-of_z at (sym c.in_default.is-1 ∙ c.sum_on_plane-2.ensures))
