@@ -1,4 +1,7 @@
-use Rattle.std.proofs.Common.{◌∙◌, ◌+◌, ◌<◌, ap, sym, subst, ℕ, List, [], ◌∷◌, ◌++◌, length, if◌then◌else◌}
+use Rattle.std.proofs.Common.{◌≡◌, ◌≢◌, true, ◌∙◌, ◌+◌, ◌<◌, ap, sym, subst, ℕ, List, [], ◌∷◌, ◌++◌, length, if◌then◌else◌}
+use Rattle.std.proofs.lemmas.Result.{IfOk-from_err}
+use Rattle.plane_core.specs.declared.cell.Cell.{Cell}
+use Rattle.plane_core.specs.Generations.{lies_within}
 use Rattle.survey_core.specs.Objects.{is_code}
 use Rattle.survey_core.specs.Rest.{ComesBack}
 use Rattle.survey_core.proofs.ObjectLemmas.{codes_more, count_by_more, length_more}
@@ -23,3 +26,31 @@ loop-cluster-preserved c =
       c.in_ok-count.ensures.some,
       c.in_ok-count.ensures.number ∙ ap (λ n. n + 1) c.loop-cluster.invariant.5,
     )
+
+pub code-requires-clause-some : goal.code-requires-clause-some
+code-requires-clause-some c =
+    subst (λ (cluster : List Cell). cluster ≢ []) (sym c.cluster-item.is)
+    (c.requires.some c.loop-cluster.cluster-index c.cluster-item.result c.loop-cluster-test.true)
+
+pub code-requires-clause-near : goal.code-requires-clause-near
+code-requires-clause-near c =
+    subst (λ (cluster : List Cell). lies_within 101000 cluster ≡ true) (sym c.cluster-item.is)
+    (c.requires.near c.loop-cluster.cluster-index c.cluster-item.result c.loop-cluster-test.true)
+
+pub count-requires-clause-some : goal.count-requires-clause-some
+count-requires-clause-some c = c.loop-cluster.invariant.4
+
+pub listed-requires : goal.listed-requires
+listed-requires c = c.loop-cluster.invariant.4
+
+pub returns-in_err-code-clause-objects : goal.returns-in_err-code-clause-objects
+returns-in_err-code-clause-objects c = IfOk-from_err _ _ c.from_residual.ensures.0
+
+pub returns-in_err-code-clause-number : goal.returns-in_err-code-clause-number
+returns-in_err-code-clause-number c = IfOk-from_err _ _ c.from_residual.ensures.0
+
+pub returns-in_err-count-clause-objects : goal.returns-in_err-count-clause-objects
+returns-in_err-count-clause-objects c = IfOk-from_err _ _ c.from_residual-in_err-count.ensures.0
+
+pub returns-in_err-count-clause-number : goal.returns-in_err-count-clause-number
+returns-in_err-count-clause-number c = IfOk-from_err _ _ c.from_residual-in_err-count.ensures.0
