@@ -1,10 +1,12 @@
 -- Following a pattern until it comes back.
 use Rattle.std.proofs.Common.{◌≡◌, ◌≢◌, ◌∙◌, sym, ap, refl, subst, ℕ, suc, ℤ, ◌+◌, ◌<◌, ◌≤◌, List, [], ◌∷◌, ◌++◌, false, arith, below_more}
-use Rattle.std.proofs.Common.{eq-or-lt_of_le, inl, inr, ◌⊎◌, true}
+use Rattle.std.proofs.Common.{eq-or-lt_of_le, inl, inr, ◌⊎◌, true, Result, Ok, Err, IsErrAnd}
 use Rattle.std.proofs.lemmas.Bool.{false≢true}
 use Rattle.std.proofs.lemmas.Bool.Decides.{leb_tells}
 use Rattle.std.proofs.lemmas.List.FromFn.{map-range_with_len_more}
 use Rattle.plane_core.specs.declared.cell.Cell.{Cell}
+use Rattle.plane_core.specs.declared.generation.StepError.{StepError}
+use Rattle.plane_core.specs.declared.generation.StepError.TheVariants.{Edge, Memory}
 use Rattle.plane_core.specs.Bounds.{shifted}
 use Rattle.plane_core.specs.Cells.{plane_bound}
 use Rattle.plane_core.specs.Generations.{after, lies_within, next, touches_edge}
@@ -100,3 +102,17 @@ meets_at_once rule cells limit some on =
 pub never_meets : (rule : Numbers) (cells : List Cell) (limit reach : ℕ) → lies_within reach cells ≡ true → reach + limit ≤ plane_bound
     → MeetsEdge rule cells limit → ⊥
 never_meets rule cells limit reach inside far (g, low, new, on) = false≢true (sym (run_inside rule cells reach g limit inside far low) ∙ on)
+
+-- where memory was refused, the edge wasn't met
+pub memory_isnt_edge : {X : Type 0} (r : Result X StepError) → IsErrAnd r (λ e. e ≡ Memory) → r ≢ Err Edge
+memory_isnt_edge (Ok x) told e = absurd told
+memory_isnt_edge (Err y) told e = cc
+
+-- an error that is passed on is the edge exactly if it was
+pub edge_was : {X Y : Type 0} (r : Result X StepError) (y : StepError) → IsErrAnd r (λ e. e ≡ y) → r ≡ Err Edge → ◌≡◌ {A = Result Y StepError} (Err y) (Err Edge)
+edge_was (Ok x) y told e = absurd told
+edge_was (Err x) y told e = cc
+
+pub edge_is : {X Y : Type 0} (r : Result X StepError) (y : StepError) → IsErrAnd r (λ e. e ≡ y) → ◌≡◌ {A = Result Y StepError} (Err y) (Err Edge) → r ≡ Err Edge
+edge_is (Ok x) y told e = absurd told
+edge_is (Err x) y told e = cc

@@ -11,7 +11,7 @@ use Rattle.code_core.specs.declared.reader.WechslerFault.{WechslerFault}
 use Rattle.code_core.specs.declared.reader.WechslerFault.TheVariants.{TooLong, BadByte, ShortRun, Empty}
 use Rattle.code_core.specs.Tokens.{character, gap_text, spelling, IsToken, Spells, is_character}
 use Rattle.code_core.specs.Reading.{character_value, single, long_gap, with_token, tokens_at}
-use Rattle.code_core.specs.ReadingSteps.{Begins, has_character}
+use Rattle.code_core.specs.ReadingSteps.{Begins, IsStuck, has_character}
 
 -- characters and their values
 pub character_value-small : (b : ℕ) → is_character b ≡ true → character_value b ≤ 35
@@ -336,3 +336,12 @@ tokens_at-Stops_short text start place s = tokens_at-stops s.tokens s.rest text 
     (tokens_at-IsShort place s.rest s.so)
 
 pub ruleset shorter = length-Begins
+
+-- no token begins the empty text, and no character
+pub stuck_at_end : (text : List ℕ) → length text ≡ 0 → IsStuck text
+stuck_at_end [] e = tt
+stuck_at_end (b ∷ rest) e = absurd (omega arith)
+
+pub no_character : (text : List ℕ) → length text ≡ 0 → has_character text ≡ false
+no_character [] e = refl
+no_character (b ∷ rest) e = absurd (omega arith)

@@ -1,6 +1,6 @@
 -- From one checkpoint to the next, and the finding of a pattern.
 use Rattle.std.proofs.Common.{◌≡◌, ◌∙◌, ap, sym, refl, subst, inl, inr, ◌⊎◌, ℕ, zero, suc, ◌+◌, ◌*◌, ◌/◌, ◌<◌, ◌≤◌, add-zero, add-one, eq-or-lt_of_le}
-use Rattle.std.proofs.Common.{List, Option, None, Some, IfSome, IfNone, unwrap_or, arith}
+use Rattle.std.proofs.Common.{List, Option, None, Some, IfSome, IfNone, unwrap_or, arith, ◌^◌}
 use Rattle.std.proofs.Math.Nat.{le-div_iff_mul-le, lt-div-mul-add, lt_of_mul-lt-mul_right, mul-lt-mul_of_pos_right, suc-mul}
 use Rattle.plane_core.specs.declared.cell.Cell.{Cell}
 use Rattle.plane_core.specs.Generations.{after, next}
@@ -8,7 +8,7 @@ use Rattle.plane_core.specs.Rules.{Numbers}
 use Rattle.plane_core.proofs.GenerationLemmas.{after-none, after-more}
 use Rattle.survey_core.specs.declared.finding.Finding.{Finding}
 use Rattle.survey_core.specs.declared.finding.Finding.TheVariants.{Settled, Unsettled}
-use Rattle.survey_core.specs.Findings.{IsFinding, IsSettled, NoRestBefore, SettlesAt}
+use Rattle.survey_core.specs.Findings.{IsFinding, IsSettled, NoRestBefore, SettlesAt, objects_in}
 use Rattle.survey_core.specs.Profiles.{IsCheckpoint, Settling}
 use Rattle.survey_core.specs.Rest.{IsAtRest}
 
@@ -80,3 +80,8 @@ finding_last rule profile cells latest place None settled moves is some last bef
     subst (λ (p : ℕ). profile.limit < p * profile.stride + profile.stride) (sym last) past in
     let within : u ≤ profile.limit = check.within in
     no_rest_more rule profile cells latest place some is before moves (place * profile.stride + profile.stride) refl u check (omega arith) rest
+
+-- a finding has few objects, and so has none
+pub few_objects : (found : Option Finding) → IfSome found (λ finding. objects_in finding < 2 ^ 64) → objects_in (unwrap_or found Unsettled) < 2 ^ 64
+few_objects (Some finding) few = few
+few_objects None few = omega arith

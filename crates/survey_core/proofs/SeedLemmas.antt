@@ -1,7 +1,9 @@
 -- Texts without an invisible byte.
-use Rattle.std.proofs.Common.{◌≡◌, refl, ℕ, ◌+◌, ◌≤◌, Bool, true, false, not, List, [], ◌∷◌, position, length, None, Some, nat_lt, arith, cond, ◌&&◌}
+use Rattle.std.proofs.Common.{◌≡◌, refl, ℕ, suc, ◌+◌, ◌≤◌, Bool, true, false, not, List, [], ◌∷◌, position, length, None, Some, nat_lt, arith, cond, ◌&&◌}
+use Rattle.std.proofs.Common.{◌∙◌, ◌++◌, ◌-◌, ◌<◌, ap, append_assoc, get_or, replicate, set, sym, take}
 use Rattle.std.specs.List.{list_all, prefix_len}
 use Rattle.std.proofs.lemmas.Bool.{ltb-false}
+use Rattle.std.proofs.lemmas.List.{length-take-le, set_at, take_all, take_more}
 use Rattle.survey_core.specs.Seeds.{is_invisible, is_visible}
 
 -- no byte is invisible, so all are visible
@@ -21,3 +23,21 @@ all_visible bytes e = reached bytes (whole (nat_lt (prefix_len (λ b. not (is_in
             → (length ds ≤ prefix_len (λ b. not (is_invisible b)) ds → list_all is_visible ds ≡ true) → (b && list_all is_visible ds) ≡ true
         head true h ih = ih (omega arith)
         head false h ih = absurd (omega arith)
+
+-- one byte more is written over the zeros
+pub padded_more : (bytes : List ℕ) (place : ℕ) → place < length bytes → length bytes ≤ 64
+    → set (take place bytes ++ replicate (64 - place) 0) place (get_or bytes place 0) ≡ take (place + 1) bytes ++ replicate (64 - (place + 1)) 0
+padded_more bytes place low short =
+    let zeros : List ℕ = replicate (64 - (place + 1)) 0 in
+    let left : 64 - place ≡ suc (64 - (place + 1)) = omega arith in
+    ap (λ (n : ℕ). set (take place bytes ++ replicate n 0) place (get_or bytes place 0)) left
+    ∙ set_at (take place bytes) 0 zeros (get_or bytes place 0) place (length-take-le place bytes (omega arith))
+    ∙ sym (append_assoc (take place bytes) (get_or bytes place 0 ∷ []) zeros)
+    ∙ ap (λ (front : List ℕ). front ++ zeros) (sym (take_more bytes place 0 low))
+
+-- all bytes are written
+pub padded_all : (bytes : List ℕ) (place : ℕ) → place ≤ length bytes → length bytes ≤ place
+    → take place bytes ++ replicate (64 - place) 0 ≡ bytes ++ replicate (64 - length bytes) 0
+padded_all bytes place low high =
+    let end : place ≡ length bytes = omega arith in
+    (λ i. take_all place bytes high i ++ replicate (64 - end i) 0)

@@ -1,7 +1,7 @@
 -- Sweeps: where a pattern that comes back lies in each turn, and boxes that stay clear of each other.
 use Rattle.std.proofs.Common.{◌≡◌, ◌∙◌, ◌+◌, ◌*◌, ◌/◌, ◌%◌, ◌<◌, ◌≤◌, ◌+ℤ◌, ◌-ℤ◌, ◌≤ℤ◌, ◌<ℤ◌, ap, sym, refl, subst, ℕ, ℤ, pos, zero, suc, List, [], ◌∷◌}
-use Rattle.std.proofs.Common.{All, Bool, arith, get_or, inl, inr, ◌⊎◌, ◌&&◌, ◌||◌, true, zero-add, eq-or-lt_of_le, int_le, int_lt, length, mul_comm, take, unsigned_abs, ◌++◌}
-use Rattle.std.proofs.lemmas.Int.{clamps, ints}
+use Rattle.std.proofs.Common.{All, Bool, arith, get_or, inl, inr, ◌⊎◌, ◌&&◌, ◌||◌, true, zero-add, eq-or-lt_of_le, int_le, int_lt, length, mul_comm, take, unsigned_abs, ◌++◌, FitsSigned, to_z, of_z, w32, w64}
+use Rattle.std.proofs.lemmas.Int.{clamps, ints, to_z-of_z}
 use Rattle.std.proofs.lemmas.List.Elements.{All-map, recursion_from_All}
 use Rattle.std.proofs.lemmas.Bool.{and_parts, cases_lt, or_cases, or_left, or_right}
 use Rattle.std.proofs.lemmas.List.{get_or_append_left, get_or_push, length-append, take_more}
@@ -309,3 +309,15 @@ sweeps_more rule limit parts i part sweeps sweep items low at are is made =
     subst (AreSweeps rule limit (take (i + 1) parts)) (sym made)
     (subst (λ (front : List (List Cell)). AreSweeps rule limit front (sweeps ++ sweep ∷ [])) (sym (take_more parts i part low))
     (sweeps_push rule limit (take i parts) sweeps (get_or parts i part) sweep are (subst (λ (p : List Cell). IsSweep rule limit p sweep) at is)))
+
+-- ---- numbers that come out of their bits
+
+pub past_by : (result : Bool) (end begin s : ℤ) → FitsSigned w32 end → FitsSigned w32 begin → FitsSigned w64 s
+    → result ≡ is_past (to_z w32 (of_z w32 end)) (pos 0) (to_z w32 (of_z w32 begin)) (to_z w64 (of_z w64 s)) → result ≡ is_past end (pos 0) begin s
+past_by result end begin s end_fits begin_fits fits is =
+    is ∙ (λ i. is_past (to_z-of_z w32 end end_fits i) (pos 0) (to_z-of_z w32 begin begin_fits i) (to_z-of_z w64 s fits i))
+
+pub past_from : (result : Bool) (end t begin : ℤ) → FitsSigned w32 end → FitsSigned w64 t → FitsSigned w32 begin
+    → result ≡ is_past (to_z w32 (of_z w32 end)) (to_z w64 (of_z w64 t)) (to_z w32 (of_z w32 begin)) (pos 0) → result ≡ is_past end t begin (pos 0)
+past_from result end t begin end_fits fits begin_fits is =
+    is ∙ (λ i. is_past (to_z-of_z w32 end end_fits i) (to_z-of_z w64 t fits i) (to_z-of_z w32 begin begin_fits i) (pos 0))

@@ -135,7 +135,6 @@ pub fn counts_add_up()
 {}
 
 /// The laws that a pattern keeps its finding when it is moved, and when it is turned or mirrored.
-#[tactic(auto, using(crate::proofs::PlacedFindings::findings_moved, crate::proofs::PlacedFindings::findings_of_images, crate::proofs::PlacedFindings::findings_turned))]
 pub fn findings_are_kept()
     ensures moved { FindingsMoved }
     ensures images { FindingsOfImages }

@@ -61,7 +61,6 @@ pub fn soups_by_cells()
 {}
 
 /// The live cells of the square.
-#[tactic(auto, using(crate::proofs::SoupLemmas::live_cells_none, crate::proofs::SoupLemmas::live_cells_alive, crate::proofs::SoupLemmas::live_cells_dead))]
 fn live_cells(alloc: Global, digest: &[u8; 32]) -> Result<Vec<Cell>, AllocError>
     ensures { IfOk result (λ cells. cells.items ≡ live_in_square digest.now 256) }
 {

@@ -1,8 +1,10 @@
-use Rattle.std.proofs.Common.{◌≡◌, ◌∙◌, sym, true, ap, suc, arith, rules, FitsSigned, to_z-of_z, w32}
+use Rattle.std.proofs.Common.{is_ok, refl, ◌≡◌, ◌∙◌, sym, true, ap, suc, arith, rules, FitsSigned, to_z-of_z, w32}
+use Rattle.std.proofs.lemmas.Bool.{false≢true}
+use Rattle.std.proofs.lemmas.Result.{IfOk-from_err}
 use Rattle.plane_core.specs.Bounds.{shifted}
 use Rattle.plane_core.specs.Generations.{touches_edge}
 use Rattle.code_core.specs.declared.recurrence.Recurrence.{Recurrence}
-use Rattle.code_core.proofs.RecurrenceLemmas.{follows-none, follows-more, inside_then, meets_at_once, never_meets, phases_then, recurs_then}
+use Rattle.code_core.proofs.RecurrenceLemmas.{follows-none, follows-more, inside_then, meets_at_once, memory_isnt_edge, never_meets, phases_then, recurs_then}
 use Rattle.code_core.proofs.cycle.follow.Goals as goal
 
 pub loop-age-init : goal.loop-age-init
@@ -58,3 +60,85 @@ returns-in_err-next-clause-never_edge c = λ reach inside far e.
 
 pub returns-then-is_seen_to_change-clause-never : goal.returns-then-is_seen_to_change-clause-never
 returns-then-is_seen_to_change-clause-never c = c.is_seen_to_change.ensures.new c.if-is_seen_to_change.true
+
+pub returns-then-touches_edge-clause-edge : goal.returns-then-touches_edge-clause-edge
+returns-then-touches_edge-clause-edge c = λ _.
+    meets_at_once c.args.rule.now c.args.pattern.now c.args.limit c.requires.least (sym c.touches_edge.ensures ∙ c.if-touches_edge.true)
+
+pub returns-then-touches_edge-clause-edge_first : goal.returns-then-touches_edge-clause-edge_first
+returns-then-touches_edge-clause-edge_first c = λ _. refl
+
+pub returns-then-is_seen_to_change-clause-edge : goal.returns-then-is_seen_to_change-clause-edge
+returns-then-is_seen_to_change-clause-edge c = λ e. absurd (false≢true (sym (ap is_ok e)))
+
+pub returns-in_err-latest-clause-recurs : goal.returns-in_err-latest-clause-recurs
+returns-in_err-latest-clause-recurs c = IfOk-from_err _ _ c.from_residual.ensures.0
+
+pub returns-in_err-latest-clause-phases : goal.returns-in_err-latest-clause-phases
+returns-in_err-latest-clause-phases c = IfOk-from_err _ _ c.from_residual.ensures.0
+
+pub returns-in_err-latest-clause-never : goal.returns-in_err-latest-clause-never
+returns-in_err-latest-clause-never c = IfOk-from_err _ _ c.from_residual.ensures.0
+
+pub returns-in_err-latest-clause-inside : goal.returns-in_err-latest-clause-inside
+returns-in_err-latest-clause-inside c = IfOk-from_err _ _ c.from_residual.ensures.0
+
+pub returns-in_err-next-clause-recurs : goal.returns-in_err-next-clause-recurs
+returns-in_err-next-clause-recurs c = IfOk-from_err _ _ c.from_residual-in_err-next.ensures.0
+
+pub returns-in_err-next-clause-phases : goal.returns-in_err-next-clause-phases
+returns-in_err-next-clause-phases c = IfOk-from_err _ _ c.from_residual-in_err-next.ensures.0
+
+pub returns-in_err-next-clause-never : goal.returns-in_err-next-clause-never
+returns-in_err-next-clause-never c = IfOk-from_err _ _ c.from_residual-in_err-next.ensures.0
+
+pub returns-in_err-next-clause-inside : goal.returns-in_err-next-clause-inside
+returns-in_err-next-clause-inside c = IfOk-from_err _ _ c.from_residual-in_err-next.ensures.0
+
+pub returns-in_err-keep-clause-recurs : goal.returns-in_err-keep-clause-recurs
+returns-in_err-keep-clause-recurs c = IfOk-from_err _ _ c.from_residual-in_err-keep.ensures.0
+
+pub returns-in_err-keep-clause-phases : goal.returns-in_err-keep-clause-phases
+returns-in_err-keep-clause-phases c = IfOk-from_err _ _ c.from_residual-in_err-keep.ensures.0
+
+pub returns-in_err-keep-clause-never : goal.returns-in_err-keep-clause-never
+returns-in_err-keep-clause-never c = IfOk-from_err _ _ c.from_residual-in_err-keep.ensures.0
+
+pub returns-in_err-keep-clause-inside : goal.returns-in_err-keep-clause-inside
+returns-in_err-keep-clause-inside c = IfOk-from_err _ _ c.from_residual-in_err-keep.ensures.0
+
+pub returns-in_err-latest-clause-edge_first : goal.returns-in_err-latest-clause-edge_first
+returns-in_err-latest-clause-edge_first c = λ on. absurd (false≢true (sym c.if-touches_edge.false ∙ c.touches_edge.ensures ∙ on))
+
+pub returns-in_err-next-clause-edge_first : goal.returns-in_err-next-clause-edge_first
+returns-in_err-next-clause-edge_first c = λ on. absurd (false≢true (sym c.if-touches_edge.false ∙ c.touches_edge.ensures ∙ on))
+
+pub returns-in_err-keep-clause-edge_first : goal.returns-in_err-keep-clause-edge_first
+returns-in_err-keep-clause-edge_first c = λ on. absurd (false≢true (sym c.if-touches_edge.false ∙ c.touches_edge.ensures ∙ on))
+
+pub returns-in-Some-clause-edge_first : goal.returns-in-Some-clause-edge_first
+returns-in-Some-clause-edge_first c = λ on. absurd (false≢true (sym c.if-touches_edge.false ∙ c.touches_edge.ensures ∙ on))
+
+pub returns-in-Some-clause-edge : goal.returns-in-Some-clause-edge
+returns-in-Some-clause-edge c = λ e. absurd (false≢true (sym (ap is_ok e)))
+
+pub returns-in-Some-clause-never_edge : goal.returns-in-Some-clause-never_edge
+returns-in-Some-clause-never_edge c = λ reach inside far e. false≢true (sym (ap is_ok e))
+
+pub returns-clause-edge_first : goal.returns-clause-edge_first
+returns-clause-edge_first c = λ on. absurd (false≢true (sym c.if-touches_edge.false ∙ c.touches_edge.ensures ∙ on))
+
+pub returns-in_err-latest-clause-edge : goal.returns-in_err-latest-clause-edge
+returns-in_err-latest-clause-edge c = λ e. absurd (memory_isnt_edge _ c.from_residual.ensures.1 e)
+
+pub returns-in_err-latest-clause-never_edge : goal.returns-in_err-latest-clause-never_edge
+returns-in_err-latest-clause-never_edge c = λ reach inside far. memory_isnt_edge _ c.from_residual.ensures.1
+
+pub returns-in_err-keep-clause-edge : goal.returns-in_err-keep-clause-edge
+returns-in_err-keep-clause-edge c = λ e. absurd (memory_isnt_edge _ c.from_residual-in_err-keep.ensures.1 e)
+
+pub returns-in_err-keep-clause-never_edge : goal.returns-in_err-keep-clause-never_edge
+returns-in_err-keep-clause-never_edge c = λ reach inside far. memory_isnt_edge _ c.from_residual-in_err-keep.ensures.1
+
+pub returns-clause-inside : goal.returns-clause-inside
+returns-clause-inside c = λ g low new. c.loop-age.invariant.inside g (omega arith)

@@ -1,11 +1,13 @@
-use Rattle.std.proofs.Common.{◌≡◌, ◌∙◌, ◌+◌, ◌*◌, ◌/◌, ◌≤◌, ap, sym, subst, ℕ, arith, IfSome}
+use Rattle.std.proofs.Common.{◌≡◌, ◌∙◌, ◌+◌, ◌*◌, ◌/◌, ◌<◌, ◌≤◌, ◌^◌, ap, sym, subst, ℕ, arith, IfSome}
 use Rattle.std.proofs.Math.Nat.{zero-mul}
+use Rattle.std.proofs.lemmas.Result.{IfOk-from_err}
 use Rattle.plane_core.specs.Generations.{after, lies_within}
 use Rattle.plane_core.proofs.GenerationLemmas.{after-none}
-use Rattle.survey_core.specs.Findings.{IsFinding, SettlesAt}
+use Rattle.survey_core.specs.declared.finding.Finding.{Finding}
+use Rattle.survey_core.specs.Findings.{IsFinding, SettlesAt, objects_in}
 use Rattle.survey_core.specs.Profiles.{IsCheckpoint}
 use Rattle.survey_core.specs.Rest.{IsAtRest}
-use Rattle.survey_core.proofs.FindingLemmas.{after-then, finding_from, finding_last, is_checkpoint, no_rest_more, one_more}
+use Rattle.survey_core.proofs.FindingLemmas.{after-then, finding_from, finding_last, few_objects, is_checkpoint, no_rest_more, one_more}
 use Rattle.survey_core.proofs.PlaneLemmas.{within_later}
 use Rattle.survey_core.proofs.finding.survey_pattern_with.Goals as goal
 
@@ -90,3 +92,35 @@ returns-clause-finding c =
     (subst (λ (t : ℕ). IfSome c.in_ok-finding-2.finding (SettlesAt c.args.rule.now c.args.profile.now c.loop-place.latest t)) check
     c.in_ok-finding-2.ensures.settled)
     c.in_ok-finding-2.ensures.moves c.loop-place.invariant.latest c.stride.ensures.profile.onward last c.loop-place.invariant.before)
+
+pub nonzero_div-last : goal.nonzero_div-last
+nonzero_div-last c = subst (λ n. 0 < n) (sym c.stride.ensures.stride) c.stride.ensures.profile.onward
+
+pub run_on-requires-clause-few : goal.run_on-requires-clause-few
+run_on-requires-clause-few c = subst (λ n. n ≤ 10000) (sym c.stride-in-None.ensures.stride) c.stride-in-None.ensures.profile.stride
+
+pub returns-in-Some-clause-few : goal.returns-in-Some-clause-few
+returns-in-Some-clause-few c = rw c.in-Some.is at c.in_ok-finding.ensures.few
+
+pub returns-clause-few : goal.returns-clause-few
+returns-clause-few c =
+    subst (λ (finding : Finding). objects_in finding < 2 ^ 64) (sym c.unwrap_or.ensures)
+    (few_objects c.in_ok-finding-2.finding c.in_ok-finding-2.ensures.few)
+
+pub returns-in_err-finding-clause-finding : goal.returns-in_err-finding-clause-finding
+returns-in_err-finding-clause-finding c = IfOk-from_err _ _ c.from_residual.ensures.0
+
+pub returns-in_err-finding-clause-few : goal.returns-in_err-finding-clause-few
+returns-in_err-finding-clause-few c = IfOk-from_err _ _ c.from_residual.ensures.0
+
+pub returns-in_err-latest-in-None-clause-finding : goal.returns-in_err-latest-in-None-clause-finding
+returns-in_err-latest-in-None-clause-finding c = IfOk-from_err _ _ c.from_residual-in_err-latest-in-None.ensures.0
+
+pub returns-in_err-latest-in-None-clause-few : goal.returns-in_err-latest-in-None-clause-few
+returns-in_err-latest-in-None-clause-few c = IfOk-from_err _ _ c.from_residual-in_err-latest-in-None.ensures.0
+
+pub returns-in_err-finding-2-clause-finding : goal.returns-in_err-finding-2-clause-finding
+returns-in_err-finding-2-clause-finding c = IfOk-from_err _ _ c.from_residual-in_err-finding-2.ensures.0
+
+pub returns-in_err-finding-2-clause-few : goal.returns-in_err-finding-2-clause-few
+returns-in_err-finding-2-clause-few c = IfOk-from_err _ _ c.from_residual-in_err-finding-2.ensures.0

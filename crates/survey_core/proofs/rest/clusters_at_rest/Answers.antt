@@ -1,5 +1,6 @@
-use Rattle.std.proofs.Common.{◌≡◌, ◌≢◌, ◌∙◌, ◌<◌, sym, subst, ℕ, List, [], All, length, true}
+use Rattle.std.proofs.Common.{◌≡◌, ◌≢◌, ◌∙◌, ◌<◌, ◌≤◌, ap, sym, subst, ℕ, List, [], All, length, true}
 use Rattle.std.proofs.lemmas.Bool.{false≢true}
+use Rattle.std.proofs.lemmas.Result.{IfOk-from_err}
 use Rattle.plane_core.specs.declared.cell.Cell.{Cell}
 use Rattle.plane_core.specs.Cells.{InOrder}
 use Rattle.plane_core.specs.Generations.{lies_within}
@@ -87,3 +88,60 @@ returns-clause-rest c =
     (subst (λ (parts : List (List Cell)). GroupKeeps c.args.rule.now c.in_ok-groups.groups.items parts c.horizon-2.result k) c.as_slice-3.ensures.value
     (subst (λ (gs : List ℕ). GroupKeeps c.args.rule.now gs c.as_slice-3.result.now c.horizon-2.result k) c.as_slice-4.ensures.value
     (each k (subst (λ (parts : List (List Cell)). k < length parts) (sym c.as_slice-3.ensures.value) low)))))
+
+pub sweeps-requires-clause-least : goal.sweeps-requires-clause-least
+sweeps-requires-clause-least c = subst (λ n. 1 ≤ n) (sym c.period-limit.ensures.period) c.period-limit.ensures.profile.some
+
+pub sweeps-requires-clause-most : goal.sweeps-requires-clause-most
+sweeps-requires-clause-most c = subst (λ n. n ≤ 64) (sym c.period-limit.ensures.period) c.period-limit.ensures.profile.period
+
+pub sweeps-requires-clause-order : goal.sweeps-requires-clause-order
+sweeps-requires-clause-order c =
+    subst (All InOrder) (sym c.as_slice.ensures.value) (λ k d low. (c.in_ok-clusters.ensures.patterns k d low).in_order)
+
+pub groups-requires : goal.groups-requires
+groups-requires c = subst (λ n. n ≤ 4096) (sym c.horizon.ensures.horizon) c.horizon.ensures.profile.horizon
+
+pub groups_keep_apart-requires-clause-horizon : goal.groups_keep_apart-requires-clause-horizon
+groups_keep_apart-requires-clause-horizon c = subst (λ n. n ≤ 4096) (sym c.horizon-2.ensures.horizon) c.horizon-2.ensures.profile.horizon
+
+pub groups_keep_apart-requires-clause-order : goal.groups_keep_apart-requires-clause-order
+groups_keep_apart-requires-clause-order c =
+    subst (All InOrder) (sym c.as_slice-3.ensures.value) (λ k d low. (c.in_ok-clusters.ensures.patterns k d low).in_order)
+
+pub groups_keep_apart-requires-clause-count : goal.groups_keep_apart-requires-clause-count
+groups_keep_apart-requires-clause-count c =
+    let found : AreSweeps c.args.rule.now c.period-limit.result c.as_slice.result.now c.in-Some.sweeps.items =
+    rw c.in-Some.is at c.in_ok-sweeps.ensures.sweeps in
+    ap length c.as_slice-4.ensures.value ∙ c.in_ok-groups.ensures.numbers.count ∙ ap length c.as_slice-2.ensures.value ∙ found.count
+    ∙ ap length (c.as_slice.ensures.value ∙ sym c.as_slice-3.ensures.value)
+
+pub returns-in_err-changes-clause-rest : goal.returns-in_err-changes-clause-rest
+returns-in_err-changes-clause-rest c = IfOk-from_err _ _ c.from_residual.ensures.0
+
+pub returns-in_err-changes-clause-moves : goal.returns-in_err-changes-clause-moves
+returns-in_err-changes-clause-moves c = IfOk-from_err _ _ c.from_residual.ensures.0
+
+pub returns-in_err-clusters-clause-rest : goal.returns-in_err-clusters-clause-rest
+returns-in_err-clusters-clause-rest c = IfOk-from_err _ _ c.from_residual-in_err-clusters.ensures.0
+
+pub returns-in_err-clusters-clause-moves : goal.returns-in_err-clusters-clause-moves
+returns-in_err-clusters-clause-moves c = IfOk-from_err _ _ c.from_residual-in_err-clusters.ensures.0
+
+pub returns-in_err-sweeps-clause-rest : goal.returns-in_err-sweeps-clause-rest
+returns-in_err-sweeps-clause-rest c = IfOk-from_err _ _ c.from_residual-in_err-sweeps.ensures.0
+
+pub returns-in_err-sweeps-clause-moves : goal.returns-in_err-sweeps-clause-moves
+returns-in_err-sweeps-clause-moves c = IfOk-from_err _ _ c.from_residual-in_err-sweeps.ensures.0
+
+pub returns-in_err-groups-clause-rest : goal.returns-in_err-groups-clause-rest
+returns-in_err-groups-clause-rest c = IfOk-from_err _ _ c.from_residual-in_err-groups.ensures.0
+
+pub returns-in_err-groups-clause-moves : goal.returns-in_err-groups-clause-moves
+returns-in_err-groups-clause-moves c = IfOk-from_err _ _ c.from_residual-in_err-groups.ensures.0
+
+pub returns-in_err-apart-clause-rest : goal.returns-in_err-apart-clause-rest
+returns-in_err-apart-clause-rest c = IfOk-from_err _ _ c.from_residual-in_err-apart.ensures.0
+
+pub returns-in_err-apart-clause-moves : goal.returns-in_err-apart-clause-moves
+returns-in_err-apart-clause-moves c = IfOk-from_err _ _ c.from_residual-in_err-apart.ensures.0

@@ -1,6 +1,7 @@
 use Rattle.std.proofs.Common.{◌≡◌, ◌∙◌, ◌+◌, ◌<◌, ◌≤◌, ap, sym, refl, subst, ℕ, length, map, All, true, arith}
 use Rattle.std.proofs.lemmas.Bool.{false≢true}
 use Rattle.std.proofs.lemmas.List.{length-map}
+use Rattle.std.proofs.lemmas.Result.{IfOk-from_err}
 use Rattle.plane_core.specs.Cells.{InOrder}
 use Rattle.plane_core.specs.Generations.{after, lies_within, next}
 use Rattle.plane_core.proofs.GenerationLemmas.{after-none, after-more}
@@ -28,6 +29,11 @@ next-requires c =
     let low : c.loop.counter < c.args.horizon = c.loop-test.true in
     let most : c.args.horizon ≤ 4096 = c.requires.horizon in
     ap (lies_within 999999) c.loop.invariant.whole ∙ within_later 101000 999999 c.args.rule.now c.args.pattern.now c.loop.counter (omega arith) c.requires.near
+
+pub are_back-back-requires : goal.are_back-back-requires
+are_back-back-requires c =
+    ap length (c.as_slice-in-loop-2.ensures.value ∙ c.in_ok-alone-2.ensures) ∙ length-map _ _
+    ∙ ap length (c.as_slice.ensures.value ∙ c.loop.invariant.alone) ∙ length-map _ _
 
 pub next_of_all-requires-clause-first : goal.next_of_all-requires-clause-first
 next_of_all-requires-clause-first c = c.as_slice-first.ensures.value ∙ c.in_ok-stepped.ensures
@@ -107,3 +113,21 @@ loop-preserved c =
 -- no generation is left
 pub returns : goal.returns
 returns c = (λ e g low. c.loop.invariant.apart g (omega arith), λ apart. refl)
+
+pub returns-in_err-whole : goal.returns-in_err-whole
+returns-in_err-whole c = IfOk-from_err _ _ c.from_residual.ensures.0
+
+pub returns-in_err-alone : goal.returns-in_err-alone
+returns-in_err-alone c = IfOk-from_err _ _ c.from_residual-in_err-alone.ensures.0
+
+pub returns-in_err-stepped : goal.returns-in_err-stepped
+returns-in_err-stepped c = IfOk-from_err _ _ c.from_residual-in_err-stepped.ensures.0
+
+pub returns-in_err-whole-2 : goal.returns-in_err-whole-2
+returns-in_err-whole-2 c = IfOk-from_err _ _ c.from_residual-in_err-whole-2.ensures.0
+
+pub returns-in_err-alone-2 : goal.returns-in_err-alone-2
+returns-in_err-alone-2 c = IfOk-from_err _ _ c.from_residual-in_err-alone-2.ensures.0
+
+pub returns-in_err-same : goal.returns-in_err-same
+returns-in_err-same c = IfOk-from_err _ _ c.from_residual-in_err-same.ensures.0

@@ -1,8 +1,7 @@
-use Rattle.std.proofs.Common.{◌≡◌, ◌∙◌, ◌<◌, List, ap, get_or, length, subst, sym, true}
-use Rattle.std.proofs.lemmas.List.{get_or-map, length-map}
+use Rattle.std.proofs.Common.{◌≡◌, ◌∙◌, ◌<◌, ◌++◌, ◌∷◌, [], ap, get_or, length, map, subst, sym, true}
+use Rattle.std.proofs.lemmas.List.{get_or-map, length-map, map_more, take_all}
 use Rattle.std.proofs.lemmas.List.Elements.{All-get_or}
 use Rattle.plane_core.specs.Generations.{lies_within, next}
-use Rattle.plane_core.specs.declared.pattern.Pattern.{Pattern}
 use Rattle.survey_core.proofs.rest.next_of_all.Goals as goal
 
 pub bounds-clusters-place : goal.bounds-clusters-place
@@ -24,3 +23,13 @@ pub next_beside-requires-clause-near : goal.next_beside-requires-clause-near
 next_beside-requires-clause-near c = ap (lies_within 999999) c.index-patterns-place.is
     ∙ All-get_or (λ pattern. lies_within 999999 pattern ≡ true) c.args.patterns.now c.loop-place.place c.index-patterns-place.result c.loop-place-test.true
     c.requires.near
+
+pub loop-place-preserved : goal.loop-place-preserved
+loop-place-preserved c =
+    c.in_ok-push.ensures.items
+    ∙ (λ i. c.loop-place.invariant i ++ (c.in_ok-next.ensures ∙ ap (next c.args.rule.now) c.index-patterns-place.is) i ∷ [])
+    ∙ sym (map_more (next c.args.rule.now) c.args.patterns.now c.loop-place.place c.index-patterns-place.result c.loop-place-test.true)
+
+pub returns : goal.returns
+returns c =
+    c.loop-place.invariant ∙ ap (map (next c.args.rule.now)) (take_all c.loop-place.place c.args.patterns.now c.loop-place-test.false)

@@ -1,7 +1,15 @@
-use Rattle.std.proofs.Common.{◌∙◌, ◌+◌, ◌<◌, ap, sym, subst, ℕ, List, [], ◌∷◌, ◌++◌, length, if◌then◌else◌}
+use Rattle.std.proofs.Common.{◌≤◌, arith, count_by, sum, ◌≡◌, ◌≢◌, true, ◌∙◌, ◌+◌, ◌<◌, ap, sym, subst, ℕ, List, [], ◌∷◌, ◌++◌, length, if◌then◌else◌}
+use Rattle.std.proofs.lemmas.Result.{IfOk-from_err, IfOk-weaker}
+use Rattle.std.proofs.lemmas.List.{take_all}
+use Rattle.std.proofs.lemmas.List.Sums.{count_by-le-length}
+use Rattle.std.specs.List.{AllZip}
+use Rattle.std.specs.Map.{values_of}
+use Rattle.code_core.specs.Names.{IsCode}
+use Rattle.plane_core.specs.declared.cell.Cell.{Cell}
+use Rattle.plane_core.specs.Generations.{lies_within}
 use Rattle.survey_core.specs.Objects.{is_code}
 use Rattle.survey_core.specs.Rest.{ComesBack}
-use Rattle.survey_core.proofs.ObjectLemmas.{codes_more, count_by_more, length_more}
+use Rattle.survey_core.proofs.ObjectLemmas.{are_objects_of, codes_more, count_by_more, length_more}
 use Rattle.survey_core.proofs.objects.Objects.of_clusters.Goals as goal
 
 pub code-requires-clause-back : goal.code-requires-clause-back
@@ -23,3 +31,50 @@ loop-cluster-preserved c =
       c.in_ok-count.ensures.some,
       c.in_ok-count.ensures.number ∙ ap (λ n. n + 1) c.loop-cluster.invariant.5,
     )
+
+pub code-requires-clause-some : goal.code-requires-clause-some
+code-requires-clause-some c =
+    subst (λ (cluster : List Cell). cluster ≢ []) (sym c.cluster-item.is)
+    (c.requires.some c.loop-cluster.cluster-index c.cluster-item.result c.loop-cluster-test.true)
+
+pub code-requires-clause-near : goal.code-requires-clause-near
+code-requires-clause-near c =
+    subst (λ (cluster : List Cell). lies_within 101000 cluster ≡ true) (sym c.cluster-item.is)
+    (c.requires.near c.loop-cluster.cluster-index c.cluster-item.result c.loop-cluster-test.true)
+
+pub count-requires-clause-some : goal.count-requires-clause-some
+count-requires-clause-some c = c.loop-cluster.invariant.4
+
+pub listed-requires : goal.listed-requires
+listed-requires c = c.loop-cluster.invariant.4
+
+pub returns-in_err-code-clause-objects : goal.returns-in_err-code-clause-objects
+returns-in_err-code-clause-objects c = IfOk-from_err _ _ c.from_residual.ensures.0
+
+pub returns-in_err-code-clause-number : goal.returns-in_err-code-clause-number
+returns-in_err-code-clause-number c = IfOk-from_err _ _ c.from_residual.ensures.0
+
+pub returns-in_err-count-clause-objects : goal.returns-in_err-count-clause-objects
+returns-in_err-count-clause-objects c = IfOk-from_err _ _ c.from_residual-in_err-count.ensures.0
+
+pub returns-in_err-count-clause-number : goal.returns-in_err-count-clause-number
+returns-in_err-count-clause-number c = IfOk-from_err _ _ c.from_residual-in_err-count.ensures.0
+
+pub count-requires-clause-room : goal.count-requires-clause-room
+count-requires-clause-room c = λ code.
+    let codes : List (List ℕ) = c.loop-cluster.invariant.0 in
+    let few : count_by (is_code code) codes ≤ length codes = count_by-le-length (is_code code) codes in
+    omega (arith, c.loop-cluster.invariant.3 code, c.loop-cluster.invariant.2)
+
+pub returns-clause-objects : goal.returns-clause-objects
+returns-clause-objects c =
+    are_objects_of c.args.rule.now c.args.limit c.args.clusters.now c.loop-cluster.invariant.0 c.loop-cluster.counts.entries c.listed.result
+    c.listed.ensures.entries c.listed.ensures.lawful
+    (subst (λ (clusters : List (List Cell)). AllZip (λ cluster code. IsCode c.args.rule.now cluster c.args.limit code) clusters c.loop-cluster.invariant.0)
+    (take_all c.loop-cluster.cluster-index c.args.clusters.now c.loop-cluster-test.false) c.loop-cluster.invariant.1)
+    c.loop-cluster.invariant.3
+
+pub returns-clause-number : goal.returns-clause-number
+returns-clause-number c =
+    IfOk-weaker c.listed.result (λ objects. objects ≡ c.loop-cluster.counts.entries) (λ objects. sum (values_of objects) ≡ length c.args.clusters.now)
+    (λ objects is. ap (λ (os : List (List ℕ × ℕ)). sum (values_of os)) is ∙ c.loop-cluster.invariant.5 ∙ omega arith) c.listed.ensures.entries

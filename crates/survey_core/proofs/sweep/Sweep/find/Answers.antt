@@ -1,3 +1,4 @@
+use Rattle.std.proofs.Common.{◌≤◌, arith}
 use Rattle.code_core.specs.Recurrences.{IsNew, Recurs}
 use Rattle.survey_core.proofs.sweep.Sweep.find.Goals as goal
 
@@ -11,3 +12,17 @@ pub returns-in-Ok-None-clause-never : goal.returns-in-Ok-None-clause-never
 returns-in-Ok-None-clause-never c = λ back.
     let new : IsNew c.args.rule.now c.args.pattern.now c.args.limit = rw c.in-Ok-None.field-0-is at c.in-Ok-None.ensures.never in
     new back.0.period back.0.dx back.0.dy back.1.some back.1.within back.1.back
+
+pub swept-requires-clause-some : goal.swept-requires-clause-some
+swept-requires-clause-some c =
+    let recurs : Recurs c.args.rule.now c.args.pattern.now c.args.limit c.in-Ok-Some.recurrence =
+    rw c.in-Ok-Some.field-0-is at c.in-Ok-Some.ensures.recurs in
+    recurs.some
+
+pub swept-requires-clause-few : goal.swept-requires-clause-few
+swept-requires-clause-few c =
+    let recurs : Recurs c.args.rule.now c.args.pattern.now c.args.limit c.in-Ok-Some.recurrence =
+    rw c.in-Ok-Some.field-0-is at c.in-Ok-Some.ensures.recurs in
+    let within : c.in-Ok-Some.recurrence.period ≤ c.args.limit = recurs.within in
+    let most : c.args.limit ≤ 64 = c.requires.most in
+    omega arith
