@@ -3,8 +3,7 @@ ghost use Rattle.plane_core.specs.Out.{Writes};
 ghost use Rattle.haul_core.specs.HaulLaws.{CompleteHaulsPrintTheSame, SameSoupsPrintTheSame};
 ghost use Rattle.haul_core.specs.HaulTexts.{ended, haul_text, head_lines, line_of, profile_line, range_line};
 ghost use Rattle.haul_core.specs.HaulTexts.{range_lines};
-ghost use Rattle.haul_core.specs.HaulTexts.{sample_line, sample_lines, spaced, sum_lines, text_of, total_line};
-ghost use Rattle.haul_core.specs.HaulTexts.{total_lines};
+ghost use Rattle.haul_core.specs.HaulTexts.{sample_lines, spaced, sum_lines, text_of, total_lines};
 
 use crate::census::Census;
 use crate::decimal::put_number;
@@ -113,60 +112,28 @@ fn put_sums<W: Write>(out: &mut Out<W>, census: &Census) -> Result<(), WriteErro
     put_line(out, b"@NUM_OBJECTS", &[census.objects])
 }
 
-/// Writes the table of totals.
+/// Writes the table of totals: a title, and a line for each row with its code and its total.
 fn put_totals<W: Write>(out: &mut Out<W>, rows: &[Row]) -> Result<(), WriteError>
     requires { out.old.failed ≡ false }
     ensures { Writes W.contents out.old out.new result (text_of (total_lines rows.now)) }
 {
     out.put(b"\n@CENSUS TABLE\n")?;
-    put_each_total(out, rows)
-}
-
-/// Writes a line for each row, with its total.
-fn put_each_total<W: Write>(out: &mut Out<W>, rows: &[Row]) -> Result<(), WriteError>
-    requires { out.old.failed ≡ false }
-    ensures { Writes W.contents out.old out.new result (flat_map (λ row. ended (total_line row)) rows.now) }
-{
     for row in rows {
-        put_total(out, row)?;
+        put_line(out, row.code.text().as_bytes(), &[row.total])?;
     }
     Ok(())
 }
 
-/// Writes a code and its total.
-fn put_total<W: Write>(out: &mut Out<W>, row: &Row) -> Result<(), WriteError>
-    requires { out.old.failed ≡ false }
-    ensures { Writes W.contents out.old out.new result (ended (total_line row.now)) }
-{
-    put_line(out, row.code.text().as_bytes(), &[row.total])
-}
-
-/// Writes the table of samples.
+/// Writes the table of samples: a title, and a line for each row with its code and its samples.
 fn put_samples<W: Write>(out: &mut Out<W>, rows: &[Row]) -> Result<(), WriteError>
     requires { out.old.failed ≡ false }
     ensures { Writes W.contents out.old out.new result (text_of (sample_lines rows.now)) }
 {
     out.put(b"\n@SAMPLE_SOUPIDS\n")?;
-    put_each_sample(out, rows)
-}
-
-/// Writes a line for each row, with its samples.
-fn put_each_sample<W: Write>(out: &mut Out<W>, rows: &[Row]) -> Result<(), WriteError>
-    requires { out.old.failed ≡ false }
-    ensures { Writes W.contents out.old out.new result (flat_map (λ row. ended (sample_line row)) rows.now) }
-{
     for row in rows {
-        put_sample(out, row)?;
+        put_line(out, row.code.text().as_bytes(), row.samples.as_slice())?;
     }
     Ok(())
-}
-
-/// Writes a code and its samples.
-fn put_sample<W: Write>(out: &mut Out<W>, row: &Row) -> Result<(), WriteError>
-    requires { out.old.failed ≡ false }
-    ensures { Writes W.contents out.old out.new result (ended (sample_line row.now)) }
-{
-    put_line(out, row.code.text().as_bytes(), row.samples.as_slice())
 }
 
 /// Writes a line: a word and numbers.
