@@ -33,11 +33,9 @@ text_done text xs i whole front past is = sym (is ∙ ap (λ rest. front ++ flat
 
 -- a word and numbers, ended
 pub line_spelled : {A : Type 0} (text : A → List ℕ) (word : List ℕ) (numbers : List A)
-    → word ++ (flat_map (λ n. spaced (text n)) numbers ++ codes "\n") ≡ ended (line_of word (map text numbers))
+    → (word ++ flat_map (λ n. spaced (text n)) numbers) ++ codes "\n" ≡ ended (line_of word (map text numbers))
 unfolding line_of
-line_spelled text word numbers =
-    sym (append_assoc word (flat_map (λ n. spaced (text n)) numbers) (codes "\n"))
-    ∙ ap (λ rest. (word ++ rest) ++ codes "\n") (sym (flat_map-map spaced text numbers))
+line_spelled text word numbers = ap (λ rest. (word ++ rest) ++ codes "\n") (sym (flat_map-map spaced text numbers))
 
 -- ---- the head
 
