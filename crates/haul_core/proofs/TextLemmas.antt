@@ -1,9 +1,9 @@
 -- Lines of a text, written one after another.
-use Rattle.std.proofs.Common.{◌≡◌, ◌∙◌, ◌+◌, ◌<◌, ◌==◌, arith, ℕ, true, false, List, [], ◌∷◌, ◌++◌, ap, sym, append_assoc, codes, drop, flat_map}
+use Rattle.std.proofs.Common.{◌≡◌, ◌∙◌, ◌+◌, ◌<◌, ◌≤◌, ◌==◌, arith, ℕ, true, false, List, [], ◌∷◌, ◌++◌, ap, sym, append_assoc, codes, drop, flat_map}
 use Rattle.std.proofs.Common.{get_or, length, map}
 use Rattle.std.proofs.lemmas.Bool.{eqb-true, false≢true}
 use Rattle.std.proofs.lemmas.Grind.{flat_map-append}
-use Rattle.std.proofs.lemmas.List.{append-nil, drop_more}
+use Rattle.std.proofs.lemmas.List.{append-nil, drop_all, drop_more}
 use Rattle.std.proofs.lemmas.List.Folds.{flat_map-map}
 use Rattle.plane_core.specs.Rules.{rule_text}
 use Rattle.survey_core.specs.declared.job.Job.{Job}
@@ -26,13 +26,16 @@ pub text_more_at : {A : Type 0} (text : A → List ℕ) (xs : List A) (i : ℕ) 
 text_more_at text xs i d whole front more is =
     is ∙ ap (λ rest. front ++ flat_map text rest) (drop_more xs i d more) ∙ sym (append_assoc front (text (get_or xs i d)) (flat_map text (drop (i + 1) xs)))
 
+-- where none is left, all is written
+pub text_done : {A : Type 0} (text : A → List ℕ) (xs : List A) (i : ℕ) (whole front : List ℕ) → length xs ≤ i
+    → whole ≡ front ++ flat_map text (drop i xs) → front ≡ whole
+text_done text xs i whole front past is = sym (is ∙ ap (λ rest. front ++ flat_map text rest) (drop_all i xs past) ∙ append-nil front)
+
 -- a word and numbers, ended
 pub line_spelled : {A : Type 0} (text : A → List ℕ) (word : List ℕ) (numbers : List A)
-    → word ++ (flat_map (λ n. spaced (text n)) numbers ++ codes "\n") ≡ ended (line_of word (map text numbers))
+    → (word ++ flat_map (λ n. spaced (text n)) numbers) ++ codes "\n" ≡ ended (line_of word (map text numbers))
 unfolding line_of
-line_spelled text word numbers =
-    sym (append_assoc word (flat_map (λ n. spaced (text n)) numbers) (codes "\n"))
-    ∙ ap (λ rest. (word ++ rest) ++ codes "\n") (sym (flat_map-map spaced text numbers))
+line_spelled text word numbers = ap (λ rest. (word ++ rest) ++ codes "\n") (sym (flat_map-map spaced text numbers))
 
 -- ---- the head
 

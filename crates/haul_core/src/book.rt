@@ -60,10 +60,15 @@ fn answer(haul: &mut Haul, arrival: Arrival) -> Result<Reply, AllocError>
     match arrival {
         Arrival::Offer(report) => match haul.offer(report) {
             Ok(()) => Ok(Reply::Taken),
-            Err(refused) => match refused.reason {
-                Refusal::Memory => Err(AllocError),
-                reason => Ok(Reply::Refused(reason)),
-            },
+            Err(refused) => {
+                let reason = refused.reason;
+                // By a call: dropped after each case, what was refused costs the prover four times as much.
+                drop(refused);
+                match reason {
+                    Refusal::Memory => Err(AllocError),
+                    reason => Ok(Reply::Refused(reason)),
+                }
+            }
         },
         Arrival::Closing => match haul.close() {
             Ok(()) => Ok(Reply::NowClosed),

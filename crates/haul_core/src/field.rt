@@ -108,10 +108,10 @@ pub(crate) fn checkpoint_in(field: &[u8]) -> Option<u32>
 pub(crate) fn state_in(field: &[u8]) -> Option<Option<u32>>
     ensures { Tells IsState state_field field.now result }
 {
-    match field {
-        b"unsettled" => Some(None),
-        _ => Some(Some(checkpoint_in(field)?)),
+    if field == b"unsettled".as_slice() {
+        return Some(None);
     }
+    Some(Some(checkpoint_in(field)?))
 }
 
 /// The profile that a field names.
@@ -220,10 +220,12 @@ fn seed_of(text: &[u8]) -> Option<Seed>
 pub(crate) fn mark_in(field: &[u8]) -> Option<bool>
     ensures { Tells IsAnyMark mark_field field.now result }
 {
-    match field {
-        b"good=yes" => Some(true),
-        b"good=no" => Some(false),
-        _ => None,
+    if field == b"good=yes".as_slice() {
+        Some(true)
+    } else if field == b"good=no".as_slice() {
+        Some(false)
+    } else {
+        None
     }
 }
 

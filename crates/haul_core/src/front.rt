@@ -113,93 +113,25 @@ fn blank() -> Front
 }
 
 /// The head with what the field at this place says. There is none if the field says nothing that may stand there.
-fn with_field(head: Front, place: usize, field: &[u8]) -> Option<Front>
+fn with_field(mut head: Front, place: usize, field: &[u8]) -> Option<Front>
     requires place { place < 7 }
     requires head { IsHead head }
     ensures { Fills place head field.now result }
 {
     match place {
-        0 => with_word(head, field),
-        1 => with_version(head, field),
-        2 => with_rule(head, field),
-        3 => with_profile(head, field),
-        4 => with_seed(head, field),
-        5 => with_worker(head, field),
-        _ => with_number(head, field),
+        0 => {
+            if field != b"report".as_slice() {
+                return None;
+            }
+        }
+        1 => head.version = version_in(field)?,
+        2 => head.job.rule = rule_in(field)?,
+        3 => head.job.profile = profile_in(field)?,
+        4 => head.job.seed = seed_in(field)?,
+        5 => head.worker = worker_in(field)?,
+        _ => head.number = soup_in(field)?,
     }
-}
-
-/// The head as it is, if the field is the word that each line begins with.
-#[tactic(auto, using(crate::proofs::HeadLemmas::filled_word))]
-fn with_word(head: Front, field: &[u8]) -> Option<Front>
-    requires { IsHead head }
-    ensures { Fills 0 head field.now result }
-{
-    if field == b"report".as_slice() {
-        Some(head)
-    } else {
-        None
-    }
-}
-
-/// The head with the version that a field names.
-fn with_version(head: Front, field: &[u8]) -> Option<Front>
-    requires { IsHead head }
-    ensures { Fills 1 head field.now result }
-{
-    let version = version_in(field)?;
-    Some(Front { version, ..head })
-}
-
-/// The head with the rule that a field names.
-fn with_rule(head: Front, field: &[u8]) -> Option<Front>
-    requires { IsHead head }
-    ensures { Fills 2 head field.now result }
-{
-    let rule = rule_in(field)?;
-    let job = Job { rule, ..head.job };
-    Some(Front { job, ..head })
-}
-
-/// The head with the profile that a field names.
-fn with_profile(head: Front, field: &[u8]) -> Option<Front>
-    requires { IsHead head }
-    ensures { Fills 3 head field.now result }
-{
-    let profile = profile_in(field)?;
-    let job = Job {
-        profile,
-        ..head.job
-    };
-    Some(Front { job, ..head })
-}
-
-/// The head with the seed that a field names.
-fn with_seed(head: Front, field: &[u8]) -> Option<Front>
-    requires { IsHead head }
-    ensures { Fills 4 head field.now result }
-{
-    let seed = seed_in(field)?;
-    let job = Job { seed, ..head.job };
-    Some(Front { job, ..head })
-}
-
-/// The head with the worker that a field names.
-fn with_worker(head: Front, field: &[u8]) -> Option<Front>
-    requires { IsHead head }
-    ensures { Fills 5 head field.now result }
-{
-    let worker = worker_in(field)?;
-    Some(Front { worker, ..head })
-}
-
-/// The head with the number of the soup that a field names.
-fn with_number(head: Front, field: &[u8]) -> Option<Front>
-    requires { IsHead head }
-    ensures { Fills 6 head field.now result }
-{
-    let number = soup_in(field)?;
-    Some(Front { number, ..head })
+    Some(head)
 }
 
 /// The front of a line whose soup didn't settle, after which nothing may follow.

@@ -1,10 +1,9 @@
-ghost use Rattle.std.specs.Prelude.{◌≡◌, false, flat_map, map};
+ghost use Rattle.std.specs.Prelude.{◌≡◌, false, map};
 ghost use Rattle.plane_core.specs.Out.{Writes};
 ghost use Rattle.haul_core.specs.HaulLaws.{CompleteHaulsPrintTheSame, SameSoupsPrintTheSame};
 ghost use Rattle.haul_core.specs.HaulTexts.{ended, haul_text, head_lines, line_of, profile_line, range_line};
 ghost use Rattle.haul_core.specs.HaulTexts.{range_lines};
-ghost use Rattle.haul_core.specs.HaulTexts.{sample_line, sample_lines, spaced, sum_lines, text_of, total_line};
-ghost use Rattle.haul_core.specs.HaulTexts.{total_lines};
+ghost use Rattle.haul_core.specs.HaulTexts.{sample_lines, sum_lines, text_of, total_lines};
 
 use crate::census::Census;
 use crate::row::Row;
@@ -80,14 +79,6 @@ fn put_ranges<W: Write>(out: &mut Out<W>, ranges: &[Range]) -> Result<(), WriteE
     if ranges.is_empty() {
         return put_range(out, &Range { first: 0, count: 0 });
     }
-    put_each_range(out, ranges)
-}
-
-/// Writes a line for each range.
-fn put_each_range<W: Write>(out: &mut Out<W>, ranges: &[Range]) -> Result<(), WriteError>
-    requires { out.old.failed ≡ false }
-    ensures { Writes W.contents out.old out.new result (flat_map (λ range. ended (range_line range)) ranges.now) }
-{
     for range in ranges {
         put_range(out, range)?;
     }
@@ -113,63 +104,31 @@ fn put_sums<W: Write>(out: &mut Out<W>, census: &Census) -> Result<(), WriteErro
     put_line(out, b"@NUM_OBJECTS", &[census.objects])
 }
 
-/// Writes the table of totals.
+/// Writes the table of totals: a title, and a line for each row with its code and its total.
 fn put_totals<W: Write>(out: &mut Out<W>, rows: &[Row]) -> Result<(), WriteError>
     requires { out.old.failed ≡ false }
     ensures { Writes W.contents out.old out.new result (text_of (total_lines rows.now)) }
 {
     out.put(b"\n@CENSUS TABLE\n")?;
-    put_each_total(out, rows)
-}
-
-/// Writes a line for each row, with its total.
-fn put_each_total<W: Write>(out: &mut Out<W>, rows: &[Row]) -> Result<(), WriteError>
-    requires { out.old.failed ≡ false }
-    ensures { Writes W.contents out.old out.new result (flat_map (λ row. ended (total_line row)) rows.now) }
-{
     for row in rows {
-        put_total(out, row)?;
+        put_line(out, row.code.text().as_bytes(), &[row.total])?;
     }
     Ok(())
 }
 
-/// Writes a code and its total.
-fn put_total<W: Write>(out: &mut Out<W>, row: &Row) -> Result<(), WriteError>
-    requires { out.old.failed ≡ false }
-    ensures { Writes W.contents out.old out.new result (ended (total_line row.now)) }
-{
-    put_line(out, row.code.text().as_bytes(), &[row.total])
-}
-
-/// Writes the table of samples.
+/// Writes the table of samples: a title, and a line for each row with its code and its samples.
 fn put_samples<W: Write>(out: &mut Out<W>, rows: &[Row]) -> Result<(), WriteError>
     requires { out.old.failed ≡ false }
     ensures { Writes W.contents out.old out.new result (text_of (sample_lines rows.now)) }
 {
     out.put(b"\n@SAMPLE_SOUPIDS\n")?;
-    put_each_sample(out, rows)
-}
-
-/// Writes a line for each row, with its samples.
-fn put_each_sample<W: Write>(out: &mut Out<W>, rows: &[Row]) -> Result<(), WriteError>
-    requires { out.old.failed ≡ false }
-    ensures { Writes W.contents out.old out.new result (flat_map (λ row. ended (sample_line row)) rows.now) }
-{
     for row in rows {
-        put_sample(out, row)?;
+        put_line(out, row.code.text().as_bytes(), row.samples.as_slice())?;
     }
     Ok(())
 }
 
-/// Writes a code and its samples.
-fn put_sample<W: Write>(out: &mut Out<W>, row: &Row) -> Result<(), WriteError>
-    requires { out.old.failed ≡ false }
-    ensures { Writes W.contents out.old out.new result (ended (sample_line row.now)) }
-{
-    put_line(out, row.code.text().as_bytes(), row.samples.as_slice())
-}
-
-/// Writes a line: a word and numbers.
+/// Writes a line: a word, and numbers in decimal with a space before each.
 fn put_line<W: Write, N: Integer>(
     out: &mut Out<W>,
     word: &[u8],
@@ -179,17 +138,8 @@ fn put_line<W: Write, N: Integer>(
     ensures { Writes W.contents out.old out.new result (ended (line_of word.now (map N.text numbers.now))) }
 {
     out.put(word)?;
-    put_numbers(out, numbers)?;
-    out.put(b"\n")
-}
-
-/// Writes numbers in decimal, with a space before each.
-fn put_numbers<W: Write, N: Integer>(out: &mut Out<W>, numbers: &[N]) -> Result<(), WriteError>
-    requires { out.old.failed ≡ false }
-    ensures { Writes W.contents out.old out.new result (flat_map (λ n. spaced (N.text n)) numbers.now) }
-{
     for number in numbers {
         put_number(out, b" ", *number)?;
     }
-    Ok(())
+    out.put(b"\n")
 }

@@ -156,7 +156,6 @@ fn is_same_count(count: &(Code, u64), object: &(Apgcode, u64)) -> bool
 
 /// The law that a report's line is that of a claim, and that the claim is found to be right: checking it gives the
 /// report back, if there is memory.
-#[tactic(auto, using(crate::proofs::CheckLemmas::report_is_claim, crate::proofs::CheckLemmas::report_is_confirmed))]
 pub fn reports_are_claims(report: &Report)
     ensures claim { IsClaim (claim_of 2 report.now) }
     ensures confirmed { IsConfirmed (claim_of 2 report.now) report.now.job report.now }

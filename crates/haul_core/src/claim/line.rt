@@ -117,7 +117,6 @@ fn claim_in(alloc: Global, line: &[u8]) -> Result<Claim, AllocError>
 }
 
 /// The claim of a line that has no fault, with its counts.
-#[tactic(auto, using(crate::proofs::CountedLemmas::counted_first))]
 fn with_counts(
     alloc: Global,
     line: &[u8],

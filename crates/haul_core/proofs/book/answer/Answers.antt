@@ -11,8 +11,8 @@ returns-in-Memory-clause-memory c = λ before s.
     subst (λ (a : Arrival). IsTakenNext c.args.haul.now.terms before (a ∷ [])) (sym c.in-Offer.is)
     (is_taken c.args.haul.now.terms before c.in-Offer.report (Some c.in-Err.refused.reason) (c.in-Err.ensures.reply before s) (ap (λ (r : Refusal). Some r) c.in-Memory.is))
 
-pub returns-in-Offer : goal.returns-in-Offer
-returns-in-Offer c = record {
+pub returns-in_default : goal.returns-in_default
+returns-in_default c = record {
   reply = λ before s.
       ap reply_for (answered (Some c.in-Err.refused.reason) _ (c.in-Err.ensures.reply before s) (λ e. c.in_default.not-Memory (reason_is e)))
       ∙ ap (reply_to c.args.haul.now.terms before) (sym c.in-Offer.is);

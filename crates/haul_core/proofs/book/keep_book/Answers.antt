@@ -1,10 +1,18 @@
-use Rattle.std.proofs.Common.{◌≡◌, ◌∙◌, ◌++◌, ◌∷◌, [], ap, sym, subst, List, arith}
+use Rattle.std.proofs.Common.{◌≡◌, ◌∙◌, ◌++◌, ◌∷◌, [], ap, append-nil, refl, sym, subst, List, arith}
 use Rattle.std.proofs.lemmas.List.{append_assoc}
 use Rattle.std.specs.Vec.Iter.{into_iter_items}
 use Rattle.haul_core.specs.declared.arrival.Arrival.{Arrival}
 use Rattle.haul_core.specs.Books.{StandsFor, Terms, reply_to}
 use Rattle.haul_core.proofs.BookLemmas.{pushed, replies_push, stopped_at, taken_front}
 use Rattle.haul_core.proofs.book.keep_book.Goals as goal
+
+pub loop-arrival-init : goal.loop-arrival-init
+loop-arrival-init c = record {
+  replies = λ before s. c.in_ok-replies.ensures.items;
+  stands = λ before s. subst (λ (arrivals : List Arrival). StandsFor arrivals c.args.haul.now) (sym (append-nil before)) s;
+  terms = refl;
+  room = omega (arith, c.in_ok-replies.ensures.len, c.in_ok-replies.ensures.capacity, c.into_iter-arrival-iterator.ensures.into_iter_gives.1, c.len.ensures);
+}
 
 pub returns-in_err-reply-clause-memory : goal.returns-in_err-reply-clause-memory
 returns-in_err-reply-clause-memory c = λ before s.
@@ -33,3 +41,9 @@ loop-arrival-preserved c = record {
   terms = c.answer.ensures.terms ∙ c.loop-arrival.invariant.terms;
   room = omega (arith, c.loop-arrival.invariant.room, c.in-Some.ensures.steps.1, c.push.ensures.capacity, c.push.ensures.upper_bound);
 }
+
+pub returns-in_err-reply-clause-terms : goal.returns-in_err-reply-clause-terms
+returns-in_err-reply-clause-terms c = c.answer.ensures.terms ∙ c.loop-arrival.invariant.terms
+
+pub returns-clause-terms : goal.returns-clause-terms
+returns-clause-terms c = c.loop-arrival.invariant.terms

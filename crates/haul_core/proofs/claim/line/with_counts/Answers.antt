@@ -1,9 +1,22 @@
-use Rattle.std.proofs.Common.{ℕ, List, ◌≡◌, ◌∙◌, ◌++◌, ◌∷◌, Some, [], ap, option_map, subst, sym}
+use Rattle.std.proofs.Common.{ℕ, List, Option, ◌≡◌, ◌<◌, ◌∙◌, ◌++◌, ◌∷◌, Some, None, [], ap, arith, length, length-append, option_map, subst, sym}
 use Rattle.haul_core.specs.ClaimSteps.{HasCounts}
+use Rattle.haul_core.specs.FieldSteps.{Cuts}
 use Rattle.haul_core.specs.ReportLines.{claim_line}
-use Rattle.haul_core.proofs.CountedLemmas.{counted_bad, counted_end, counted_more}
+use Rattle.haul_core.proofs.CountedLemmas.{counted_bad, counted_end, counted_first, counted_more}
 use Rattle.haul_core.proofs.SpaceLemmas.{no_claim}
+use Rattle.ranges.proofs.ListLemmas.{left_of}
 use Rattle.haul_core.proofs.claim.line.with_counts.Goals as goal
+
+-- less is left after a cut
+less_left : (byte : ℕ) (here field : List ℕ) (more : Option (List ℕ)) → Cuts byte here field more → left_of more < left_of (Some here)
+less_left byte here field None c = omega arith
+less_left byte here field (Some rest) c = omega (arith, ap length c.0, length-append field (byte ∷ rest))
+
+pub loop-rest-init : goal.loop-rest-init
+loop-rest-init c =
+    let counts = option_map (λ r. r.now) c.args.counts in
+    subst (λ items. HasCounts c.args.line.now c.args.front items None counts) (sym c.new-read.ensures.items)
+    (counted_first c.args.line.now c.args.front counts c.requires.front)
 
 pub unreachable-requires : goal.unreachable-requires
 unreachable-requires c =
@@ -30,3 +43,12 @@ returns-clause-line c =
 
 pub returns-clause-lawful : goal.returns-clause-lawful
 returns-clause-lawful c = c.claim_of.ensures.lawful
+
+pub claim_of-requires : goal.claim_of-requires
+claim_of-requires c = c.loop-rest.invariant.lawful
+
+pub loop-rest-smaller : goal.loop-rest-smaller
+loop-rest-smaller c =
+    let more = option_map (λ r. r.now) c.cut_at.result.1 in
+    subst (λ o. left_of more < left_of (option_map (λ r. r.now) o)) (sym c.in-Some.is)
+    (less_left 32 c.in-Some.here.now c.cut_at.result.0.now more c.cut_at.ensures)
