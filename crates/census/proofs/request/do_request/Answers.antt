@@ -31,3 +31,22 @@ returns-in-Work-clause-ends g c = rw c.in-Work.is (does _ _ refl c.work_on_soups
 
 pub returns-in-Version-clause-ends : goal.returns-in-Version-clause-ends
 returns-in-Version-clause-ends g c = rw c.in-Version.is (does _ _ refl c.do_version.ensures.ends)
+
+-- what is refused leaves the output as it was, by the contract of the command
+pub returns-in-Run-clause-untouched : goal.returns-in-Run-clause-untouched
+returns-in-Run-clause-untouched g c = c.do_run.ensures.untouched
+
+pub returns-in-Name-clause-untouched : goal.returns-in-Name-clause-untouched
+returns-in-Name-clause-untouched g c = c.do_name.ensures.untouched
+
+pub returns-in-Show-clause-untouched : goal.returns-in-Show-clause-untouched
+returns-in-Show-clause-untouched g c = c.do_show.ensures.untouched
+
+pub returns-in-Soup-clause-untouched : goal.returns-in-Soup-clause-untouched
+returns-in-Soup-clause-untouched g c = c.do_soup.ensures.untouched
+
+pub returns-in-Take-clause-untouched : goal.returns-in-Take-clause-untouched
+returns-in-Take-clause-untouched g c = c.take_soups.ensures.untouched
+
+pub returns-in-Work-clause-untouched : goal.returns-in-Work-clause-untouched
+returns-in-Work-clause-untouched g c = c.work_on_soups.ensures.untouched
