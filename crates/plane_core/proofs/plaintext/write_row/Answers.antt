@@ -1,4 +1,5 @@
 use Rattle.std.proofs.Common.{◌≡◌, ◌++◌, ◌+◌, ◌+ℤ◌, ◌≤ℤ◌, ◌<ℤ◌, ℤ, pos, [], ◌∷◌, take, drop, get_or, replicate, arith, ap, sym, ◌∙◌, w32, FitsSigned, to_z, of_z}
+use Rattle.std.proofs.lemmas.List.{length-take-le}
 use Rattle.std.proofs.lemmas.Int.{ints, to_z-of_z}
 use Rattle.plane_core.specs.declared.bounds.Bounds.{Bounds}
 use Rattle.plane_core.specs.Cells.{distance}
@@ -136,3 +137,17 @@ returns g c =
     ∙ ap (λ z. distance x z) (to_z-of_z w32 end fits) in
     Writes_as (sym (row_rest-end y x end row c.loop-cell.cell-index front.0 (row_text c.args.cells.now c.args.bounds y) c.loop-cell-test.false front.1))
     (Writes_then front.2 (Writes_as (ap (λ n. replicate n dot ++ line_feed ∷ []) gap) c.put_after_gap-2.ensures))
+
+pub slice_bounds-cell-items-end : goal.slice_bounds-cell-items-end
+slice_bounds-cell-items-end g c = sym (length-take-le c.row_len.result c.args.cells.now c.row_len.ensures.bound)
+
+pub put_after_gap-requires : goal.put_after_gap-requires
+put_after_gap-requires g c = c.loop-cell.invariant.3.2.told
+
+pub put_after_gap-requires-2 : goal.put_after_gap-requires-2
+put_after_gap-requires-2 g c = c.loop-cell.invariant.3.2.told
+
+pub overflow_add-bounds : goal.overflow_add-bounds
+overflow_add-bounds g c =
+    let box = c.requires.bounds in
+    rw (to_z-of_z w32 c.args.bounds.right (right_fits c.args.bounds box)) (end_fits c.args.bounds box)
