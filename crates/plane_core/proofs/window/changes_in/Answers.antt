@@ -1,4 +1,5 @@
 use Rattle.std.proofs.Common.{◌*◌, ◌+◌, arith, ℕ, subst, sym}
+use Rattle.std.proofs.lemmas.Bool.{false≢true}
 use Rattle.plane_core.specs.Rules.{Numbers}
 use Rattle.plane_core.proofs.LoadLemmas.{zeros}
 use Rattle.plane_core.proofs.WindowLemmas.{IsChanging, changed-fewer, changing_more, changing_start}
@@ -30,3 +31,36 @@ loop-half-preserved c =
 
 pub returns : goal.returns
 returns c = λ changes. changed-fewer _ c.args.at c.args.cells.now (2 * c.loop-half.half) c.args.generations (omega arith) c.loop-half.invariant.changed
+
+pub fill-requires-clause-room : goal.fill-requires-clause-room
+fill-requires-clause-room c = c.requires.room
+
+pub goes_on-changed-requires-clause-laid : goal.goes_on-changed-requires-clause-laid
+goes_on-changed-requires-clause-laid c = c.requires.laid
+
+pub goes_on-changed-requires-clause-window : goal.goes_on-changed-requires-clause-window
+goes_on-changed-requires-clause-window c = c.requires.window
+
+pub goes_on-changed-requires-clause-some : goal.goes_on-changed-requires-clause-some
+goes_on-changed-requires-clause-some c = c.requires.some
+
+pub goes_on-changed-requires-clause-room : goal.goes_on-changed-requires-clause-room
+goes_on-changed-requires-clause-room c = c.requires.room
+
+pub goes_on-changed_again-requires-clause-laid : goal.goes_on-changed_again-requires-clause-laid
+goes_on-changed_again-requires-clause-laid c = c.requires.laid
+
+pub goes_on-changed_again-requires-clause-window : goal.goes_on-changed_again-requires-clause-window
+goes_on-changed_again-requires-clause-window c = c.requires.window
+
+pub goes_on-changed_again-requires-clause-some : goal.goes_on-changed_again-requires-clause-some
+goes_on-changed_again-requires-clause-some c = c.requires.some
+
+pub goes_on-changed_again-requires-clause-room : goal.goes_on-changed_again-requires-clause-room
+goes_on-changed_again-requires-clause-room c = c.requires.room
+
+pub returns-then-not-changed : goal.returns-then-not-changed
+returns-then-not-changed c = λ changes. absurd (false≢true changes)
+
+pub returns-then-not-changed_again : goal.returns-then-not-changed_again
+returns-then-not-changed_again c = λ changes. absurd (false≢true changes)

@@ -1,5 +1,7 @@
-use Rattle.std.proofs.Common.{◌++◌, take}
-use Rattle.plane_core.proofs.OutLemmas.{Appends-append, cut}
+use Rattle.std.proofs.Common.{◌∙◌, ◌++◌, ℕ, List, [], Err, ap, append-nil, refl, sym, take}
+use Rattle.plane_core.specs.declared.output.WriteError.{WriteError}
+use Rattle.plane_core.specs.Out.{Writes}
+use Rattle.plane_core.proofs.OutLemmas.{Appends-append, Appends-nil, Writes_same, Writes_stops, cut}
 use Rattle.plane_core.proofs.output.Out.put.Goals as goal
 
 pub loop-rest-preserved : goal.loop-rest-preserved
@@ -12,3 +14,26 @@ loop-rest-preserved g c =
         Appends-append _ _ _ _ _ written.2 c.in_ok-taken.ensures.written,
       ),
     )
+
+pub loop-rest-init : goal.loop-rest-init
+loop-rest-init g c = (c.requires, ([], refl, Appends-nil _))
+
+pub put_some-requires : goal.put_some-requires
+put_some-requires g c = c.loop-rest.invariant.0
+
+pub slice_bounds-rest-count : goal.slice_bounds-rest-count
+slice_bounds-rest-count g c = c.in_ok-taken.ensures.some.1
+
+-- what was written before a write that wrote nothing is a front of the piece
+pub returns-in_err-taken : goal.returns-in_err-taken
+returns-in_err-taken g c =
+    let written = c.loop-rest.invariant.1 in
+    let front = written.0 in
+    let stopped : Writes {E = WriteError} g.V.Write.contents c.args.self.now c.put_some.new.self (Err c.in_err-taken.field-0.0) (front ++ []) =
+    record {
+      told = c.in_err-taken.ensures.told;
+      whole = tt;
+      front = (front ++ [], [], sym (append-nil (front ++ [])), Appends-append _ _ _ front [] written.2 c.in_err-taken.ensures.nothing);
+    } in
+    Writes_same (ap (λ (xs : List ℕ). xs ++ c.loop-rest.rest.now) (append-nil front) ∙ sym written.1)
+    (Writes_stops c.loop-rest.rest.now c.from_residual.ensures.0 stopped)

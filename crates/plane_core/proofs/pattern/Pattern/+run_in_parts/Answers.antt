@@ -1,4 +1,5 @@
 use Rattle.std.proofs.Common.{◌*◌, subst, List}
+use Rattle.std.proofs.lemmas.Result.{IfOk-from_err}
 use Rattle.plane_core.specs.declared.cell.Cell.{Cell}
 use Rattle.plane_core.specs.Parts.{HasRun, IsCut}
 use Rattle.plane_core.proofs.PartLemmas.{run_from_parts}
@@ -16,3 +17,27 @@ returns t c =
     run_from_parts rule S cut n c.in-Some-2.before c.in-Some-3.past c.in_ok-whole.whole is_cut
     (subst (λ (T : List Cell). HasRun rule T n c.in-Some-2.before) c.in_ok-before.ensures one)
     (subst (λ (T : List Cell). HasRun rule T n c.in-Some-3.past) c.in_ok-past.ensures other) c.in_ok-whole.ensures
+
+pub returns-then-cuts-eq0 : goal.returns-then-cuts-eq0
+returns-then-cuts-eq0 t c = c.run_whole.ensures
+
+pub returns-in_default : goal.returns-in_default
+returns-in_default t c = c.run_whole-in_default.ensures
+
+pub returns-in_err-cut : goal.returns-in_err-cut
+returns-in_err-cut t c = IfOk-from_err _ _ c.from_residual.ensures.0
+
+pub returns-in_err-before : goal.returns-in_err-before
+returns-in_err-before t c = IfOk-from_err _ _ c.from_residual-in_err-before.ensures.0
+
+pub returns-in_err-before-2 : goal.returns-in_err-before-2
+returns-in_err-before-2 t c = IfOk-from_err _ _ c.from_residual-in_err-before-2.ensures.0
+
+pub returns-in_err-past : goal.returns-in_err-past
+returns-in_err-past t c = IfOk-from_err _ _ c.from_residual-in_err-past.ensures.0
+
+pub returns-in_err-past-2 : goal.returns-in_err-past-2
+returns-in_err-past-2 t c = IfOk-from_err _ _ c.from_residual-in_err-past-2.ensures.0
+
+pub returns-in_err-whole : goal.returns-in_err-whole
+returns-in_err-whole t c = IfOk-from_err _ _ c.from_residual-in_err-whole.ensures.0
