@@ -3,7 +3,8 @@ use Rattle.std.proofs.lemmas.Result.{IfOk-from_err}
 use Rattle.survey_core.proofs.objects.entries.Goals as goal
 
 pub loop-object-preserved : goal.loop-object-preserved
-loop-object-preserved c = c.in_ok-push.ensures.items ∙ ap (λ items. items ++ c.in-Some.object ∷ []) c.loop-object.invariant
+loop-object-preserved c =
+    c.in_ok-push.ensures.items ∙ ap (λ items. items ++ c.in-Some.object ∷ []) c.loop-object.invariant
 
 pub returns-in_err-entries-clause-entries : goal.returns-in_err-entries-clause-entries
 returns-in_err-entries-clause-entries c = IfOk-from_err _ _ c.from_residual.ensures.0
