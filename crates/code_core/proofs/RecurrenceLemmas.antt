@@ -109,10 +109,12 @@ memory_isnt_edge (Ok x) told e = absurd told
 memory_isnt_edge (Err y) told e = cc
 
 -- an error that is passed on is the edge exactly if it was
-pub edge_was : {X Y : Type 0} (r : Result X StepError) (y : StepError) → IsErrAnd r (λ e. e ≡ y) → r ≡ Err Edge → ◌≡◌ {A = Result Y StepError} (Err y) (Err Edge)
+pub edge_was : {X Y : Type 0} (r : Result X StepError) (y : StepError) → IsErrAnd r (λ e. e ≡ y) → r ≡ Err Edge
+    → ◌≡◌ {A = Result Y StepError} (Err y) (Err Edge)
 edge_was (Ok x) y told e = absurd told
 edge_was (Err x) y told e = cc
 
-pub edge_is : {X Y : Type 0} (r : Result X StepError) (y : StepError) → IsErrAnd r (λ e. e ≡ y) → ◌≡◌ {A = Result Y StepError} (Err y) (Err Edge) → r ≡ Err Edge
+pub edge_is : {X Y : Type 0} (r : Result X StepError) (y : StepError) → IsErrAnd r (λ e. e ≡ y)
+    → ◌≡◌ {A = Result Y StepError} (Err y) (Err Edge) → r ≡ Err Edge
 edge_is (Ok x) y told e = absurd told
 edge_is (Err x) y told e = cc

@@ -18,7 +18,6 @@ pub(crate) struct Cycle {
 }
 
 /// Follows the pattern until it comes back, if it does so within the limit. Each phase is made once.
-#[tactic(auto, using(crate::proofs::RecurrenceLemmas::meets_at_once, crate::proofs::RecurrenceLemmas::never_meets))]
 pub(crate) fn follow(
     alloc: Global,
     pattern: &Pattern,

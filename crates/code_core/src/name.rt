@@ -80,7 +80,6 @@ pub fn name(
 
 /// The laws of the order in which the least text is found, shorter texts first and then in ASCII order: it is total,
 /// and only equal texts tie.
-#[tactic(auto, using(crate::proofs::LeastLemmas::text_cmp_total, crate::proofs::CodeLaws::texts_tie))]
 pub fn text_order_is_total()
     ensures total { IsTotalOrder text_cmp }
     ensures ties { OnlyEqualTextsTie }
@@ -98,7 +97,6 @@ pub fn codes_have_their_shape()
 
 /// The laws that a pattern keeps its name when it is moved, when it is turned or mirrored, and in each later
 /// generation.
-#[tactic(auto, using(crate::proofs::MovedCodes::codes_moved, crate::proofs::TurnedCodes::codes_turned, crate::proofs::LaterCodes::codes_later))]
 pub fn codes_are_of_objects()
     ensures moved { CodesMoved }
     ensures turned { CodesTurned }

@@ -226,7 +226,6 @@ fn push_token(cells: &mut Vec<Cell>, head: Head, token: Token) -> Result<Head, A
 }
 
 /// Adds the cells of a column.
-#[tactic(auto, using(crate::proofs::ReaderCells::lit))]
 fn push_column(cells: &mut Vec<Cell>, head: Head, value: u8) -> Result<(), AllocError>
     requires strip { head.strip ≤ TEXT_LIMIT }
     requires column { head.x ≤ 39 * TEXT_LIMIT }
@@ -262,7 +261,6 @@ fn is_lit(value: u8, i: u32) -> bool
 }
 
 /// The first token of a text, and the rest of the text. There is none if the text is empty or begins with a fault.
-#[tactic(auto, using(crate::proofs::TokenReading::Begins_long_gap))]
 fn first_token(text: &[u8]) -> Option<(Token, &[u8])>
     ensures token { IfSome result (λ first. Begins text.now first.0 first.1.now) }
     ensures none { IfNone result (IsStuck text.now) }

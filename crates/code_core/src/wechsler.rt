@@ -91,7 +91,6 @@ fn fits_forty_square(bounds: Bounds) -> bool
 }
 
 /// The text of a pattern with this box.
-#[tactic(auto, using(crate::proofs::JoinedStrips::strips_begin, crate::proofs::JoinedStrips::strips_more))]
 fn text_in(alloc: Global, pattern: &Pattern, bounds: Bounds) -> Result<String, AllocError>
     requires bounds { box_of pattern.now ≡ Some bounds }
     requires width { distance bounds.left bounds.right < SIDE_LIMIT }

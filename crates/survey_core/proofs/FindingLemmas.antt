@@ -82,6 +82,7 @@ finding_last rule profile cells latest place None settled moves is some last bef
     no_rest_more rule profile cells latest place some is before moves (place * profile.stride + profile.stride) refl u check (omega arith) rest
 
 -- a finding has few objects, and so has none
-pub few_objects : (found : Option Finding) → IfSome found (λ finding. objects_in finding < 2 ^ 64) → objects_in (unwrap_or found Unsettled) < 2 ^ 64
+pub few_objects : (found : Option Finding) → IfSome found (λ finding. objects_in finding < 2 ^ 64)
+    → objects_in (unwrap_or found Unsettled) < 2 ^ 64
 few_objects (Some finding) few = few
 few_objects None few = omega arith

@@ -26,7 +26,8 @@ all_visible bytes e = reached bytes (whole (nat_lt (prefix_len (λ b. not (is_in
 
 -- one byte more is written over the zeros
 pub padded_more : (bytes : List ℕ) (place : ℕ) → place < length bytes → length bytes ≤ 64
-    → set (take place bytes ++ replicate (64 - place) 0) place (get_or bytes place 0) ≡ take (place + 1) bytes ++ replicate (64 - (place + 1)) 0
+    → set (take place bytes ++ replicate (64 - place) 0) place (get_or bytes place 0)
+    ≡ take (place + 1) bytes ++ replicate (64 - (place + 1)) 0
 padded_more bytes place low short =
     let zeros : List ℕ = replicate (64 - (place + 1)) 0 in
     let left : 64 - place ≡ suc (64 - (place + 1)) = omega arith in

@@ -313,11 +313,15 @@ sweeps_more rule limit parts i part sweeps sweep items low at are is made =
 -- ---- numbers that come out of their bits
 
 pub past_by : (result : Bool) (end begin s : ℤ) → FitsSigned w32 end → FitsSigned w32 begin → FitsSigned w64 s
-    → result ≡ is_past (to_z w32 (of_z w32 end)) (pos 0) (to_z w32 (of_z w32 begin)) (to_z w64 (of_z w64 s)) → result ≡ is_past end (pos 0) begin s
+    → result ≡ is_past (to_z w32 (of_z w32 end)) (pos 0) (to_z w32 (of_z w32 begin)) (to_z w64 (of_z w64 s))
+    → result ≡ is_past end (pos 0) begin s
 past_by result end begin s end_fits begin_fits fits is =
-    is ∙ (λ i. is_past (to_z-of_z w32 end end_fits i) (pos 0) (to_z-of_z w32 begin begin_fits i) (to_z-of_z w64 s fits i))
+    is ∙ (λ i. is_past (to_z-of_z w32 end end_fits i) (pos 0) (to_z-of_z w32 begin begin_fits i)
+    (to_z-of_z w64 s fits i))
 
 pub past_from : (result : Bool) (end t begin : ℤ) → FitsSigned w32 end → FitsSigned w64 t → FitsSigned w32 begin
-    → result ≡ is_past (to_z w32 (of_z w32 end)) (to_z w64 (of_z w64 t)) (to_z w32 (of_z w32 begin)) (pos 0) → result ≡ is_past end t begin (pos 0)
+    → result ≡ is_past (to_z w32 (of_z w32 end)) (to_z w64 (of_z w64 t)) (to_z w32 (of_z w32 begin)) (pos 0)
+    → result ≡ is_past end t begin (pos 0)
 past_from result end t begin end_fits fits begin_fits is =
-    is ∙ (λ i. is_past (to_z-of_z w32 end end_fits i) (to_z-of_z w64 t fits i) (to_z-of_z w32 begin begin_fits i) (pos 0))
+    is ∙ (λ i. is_past (to_z-of_z w32 end end_fits i) (to_z-of_z w64 t fits i) (to_z-of_z w32 begin begin_fits i)
+    (pos 0))

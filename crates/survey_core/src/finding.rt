@@ -124,7 +124,6 @@ pub fn survey_pattern_with(
 }
 
 /// A law of all patterns: they have one finding.
-#[tactic(auto, using(crate::proofs::DeterminedLemmas::findings_determined))]
 pub fn findings_are_determined()
     ensures { FindingsAreDetermined }
 {}
@@ -143,7 +142,6 @@ pub fn findings_are_kept()
 
 /// A law of all patterns: if a finding says that the objects stay for good, the clusters, each run alone, keep apart
 /// and make up the whole forever, and the pattern comes back after the least common multiple of their periods.
-#[tactic(auto, using(crate::proofs::ForGoodLemmas::findings_for_good))]
 pub fn findings_for_good()
     ensures { FindingsForGood }
 {}

@@ -63,7 +63,8 @@ returns-then-is_seen_to_change-clause-never c = c.is_seen_to_change.ensures.new 
 
 pub returns-then-touches_edge-clause-edge : goal.returns-then-touches_edge-clause-edge
 returns-then-touches_edge-clause-edge c = λ _.
-    meets_at_once c.args.rule.now c.args.pattern.now c.args.limit c.requires.least (sym c.touches_edge.ensures ∙ c.if-touches_edge.true)
+    meets_at_once c.args.rule.now c.args.pattern.now c.args.limit c.requires.least
+    (sym c.touches_edge.ensures ∙ c.if-touches_edge.true)
 
 pub returns-then-touches_edge-clause-edge_first : goal.returns-then-touches_edge-clause-edge_first
 returns-then-touches_edge-clause-edge_first c = λ _. refl
@@ -108,16 +109,20 @@ pub returns-in_err-keep-clause-inside : goal.returns-in_err-keep-clause-inside
 returns-in_err-keep-clause-inside c = IfOk-from_err _ _ c.from_residual-in_err-keep.ensures.0
 
 pub returns-in_err-latest-clause-edge_first : goal.returns-in_err-latest-clause-edge_first
-returns-in_err-latest-clause-edge_first c = λ on. absurd (false≢true (sym c.if-touches_edge.false ∙ c.touches_edge.ensures ∙ on))
+returns-in_err-latest-clause-edge_first c = λ on.
+    absurd (false≢true (sym c.if-touches_edge.false ∙ c.touches_edge.ensures ∙ on))
 
 pub returns-in_err-next-clause-edge_first : goal.returns-in_err-next-clause-edge_first
-returns-in_err-next-clause-edge_first c = λ on. absurd (false≢true (sym c.if-touches_edge.false ∙ c.touches_edge.ensures ∙ on))
+returns-in_err-next-clause-edge_first c = λ on.
+    absurd (false≢true (sym c.if-touches_edge.false ∙ c.touches_edge.ensures ∙ on))
 
 pub returns-in_err-keep-clause-edge_first : goal.returns-in_err-keep-clause-edge_first
-returns-in_err-keep-clause-edge_first c = λ on. absurd (false≢true (sym c.if-touches_edge.false ∙ c.touches_edge.ensures ∙ on))
+returns-in_err-keep-clause-edge_first c = λ on.
+    absurd (false≢true (sym c.if-touches_edge.false ∙ c.touches_edge.ensures ∙ on))
 
 pub returns-in-Some-clause-edge_first : goal.returns-in-Some-clause-edge_first
-returns-in-Some-clause-edge_first c = λ on. absurd (false≢true (sym c.if-touches_edge.false ∙ c.touches_edge.ensures ∙ on))
+returns-in-Some-clause-edge_first c = λ on.
+    absurd (false≢true (sym c.if-touches_edge.false ∙ c.touches_edge.ensures ∙ on))
 
 pub returns-in-Some-clause-edge : goal.returns-in-Some-clause-edge
 returns-in-Some-clause-edge c = λ e. absurd (false≢true (sym (ap is_ok e)))
@@ -142,3 +147,9 @@ returns-in_err-keep-clause-never_edge c = λ reach inside far. memory_isnt_edge 
 
 pub returns-clause-inside : goal.returns-clause-inside
 returns-clause-inside c = λ g low new. c.loop-age.invariant.inside g (omega arith)
+
+pub returns-clause-edge : goal.returns-clause-edge
+returns-clause-edge c = λ e. absurd (false≢true (sym (ap is_ok e)))
+
+pub returns-clause-never_edge : goal.returns-clause-never_edge
+returns-clause-never_edge c = λ reach inside far e. false≢true (sym (ap is_ok e))

@@ -44,17 +44,20 @@ pub returns-in_err-name_of-in-Some-clause-inside : goal.returns-in_err-name_of-i
 returns-in_err-name_of-in-Some-clause-inside c = IfOk-from_err _ _ c.from_residual-in_err-name_of-in-Some.ensures.0
 
 pub returns-in_err-cycle-clause-edge : goal.returns-in_err-cycle-clause-edge
-returns-in_err-cycle-clause-edge c = λ e. c.in_err-cycle.ensures.edge (edge_was _ c.in_err-cycle.field-0.0 c.from_residual.ensures.1 e)
+returns-in_err-cycle-clause-edge c = λ e.
+    c.in_err-cycle.ensures.edge (edge_was _ c.in_err-cycle.field-0.0 c.from_residual.ensures.1 e)
 
 pub returns-in_err-cycle-clause-edge_first : goal.returns-in_err-cycle-clause-edge_first
-returns-in_err-cycle-clause-edge_first c = λ on. edge_is _ c.in_err-cycle.field-0.0 c.from_residual.ensures.1 (c.in_err-cycle.ensures.edge_first on)
+returns-in_err-cycle-clause-edge_first c = λ on.
+    edge_is _ c.in_err-cycle.field-0.0 c.from_residual.ensures.1 (c.in_err-cycle.ensures.edge_first on)
 
 pub returns-in_err-cycle-clause-never_edge : goal.returns-in_err-cycle-clause-never_edge
 returns-in_err-cycle-clause-never_edge c = λ reach inside far e.
     c.in_err-cycle.ensures.never_edge reach inside far (edge_was _ c.in_err-cycle.field-0.0 c.from_residual.ensures.1 e)
 
 pub returns-in_err-name_of-in-Some-clause-edge : goal.returns-in_err-name_of-in-Some-clause-edge
-returns-in_err-name_of-in-Some-clause-edge c = λ e. absurd (memory_isnt_edge _ c.from_residual-in_err-name_of-in-Some.ensures.1 e)
+returns-in_err-name_of-in-Some-clause-edge c = λ e.
+    absurd (memory_isnt_edge _ c.from_residual-in_err-name_of-in-Some.ensures.1 e)
 
 pub returns-in_ok-name_of-in-Some-clause-inside : goal.returns-in_ok-name_of-in-Some-clause-inside
 returns-in_ok-name_of-in-Some-clause-inside c = c.in_ok-cycle.ensures.inside

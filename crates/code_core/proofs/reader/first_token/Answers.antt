@@ -12,11 +12,13 @@ returns-then-byte-ne-MANY_EMPTY-clause-token c =
     (sym c.is_character.ensures ∙ c.if-not-is_character.false) c.if-byte-ne-MANY_EMPTY.true
 
 pub returns-in_err-byte-clause-none : goal.returns-in_err-byte-clause-none
-returns-in_err-byte-clause-none c = rw c.from_residual.ensures (stuck_at_end c.args.text.now c.in_err-byte.ensures.cases)
+returns-in_err-byte-clause-none c =
+    rw c.from_residual.ensures (stuck_at_end c.args.text.now c.in_err-byte.ensures.cases)
 
 pub returns-then-not-is_character-clause-none : goal.returns-then-not-is_character-clause-none
 returns-then-not-is_character-clause-none c =
-    subst IsStuck (sym c.in_ok-byte.ensures.cases.0) (λ h. absurd (false≢true (sym c.if-not-is_character.true ∙ c.is_character.ensures ∙ h)))
+    subst IsStuck (sym c.in_ok-byte.ensures.cases.0)
+    (λ h. absurd (false≢true (sym c.if-not-is_character.true ∙ c.is_character.ensures ∙ h)))
 
 pub returns-in_err-length-clause-none : goal.returns-in_err-length-clause-none
 returns-in_err-length-clause-none c =
@@ -41,3 +43,9 @@ returns-clause-token c =
     (sym (c.in_ok-byte.ensures.cases.0 ∙ (λ i. c.if-byte-ne-MANY_EMPTY.false i ∷ c.in_ok-length.ensures.cases.0 i)))
     (ap (λ n. Gap (n + 4)) (sym c.character_value.ensures.value))
     (Begins_long_gap length rest (sym c.is_character-2.ensures ∙ c.if-not-is_character-2.false))
+
+pub returns-in_err-byte-clause-token : goal.returns-in_err-byte-clause-token
+returns-in_err-byte-clause-token c = rw c.from_residual.ensures tt
+
+pub returns-in_err-length-clause-token : goal.returns-in_err-length-clause-token
+returns-in_err-length-clause-token c = rw c.from_residual-in_err-length.ensures tt

@@ -8,7 +8,8 @@ use Rattle.code_core.proofs.reader.push_column.Goals.{then-is_lit+in_ok-push, el
 pub loop-i-init : goal.loop-i-init
 loop-i-init c =
     let old = c.args.cells.now.items in
-    sym (ap (λ (more : List Cell). old ++ more) (lit_above-none c.args.head.strip c.args.head.x c.args.value) ∙ append-nil old)
+    sym (ap (λ (more : List Cell). old ++ more) (lit_above-none c.args.head.strip c.args.head.x c.args.value)
+    ∙ append-nil old)
 
 pub loop-i-preserved : goal.loop-i-preserved
 loop-i-preserved c =
@@ -19,9 +20,11 @@ loop-i-preserved c =
     elim c.if-is_lit.branch [
       | then-is_lit+in_ok-push w ↦ ap (λ v. v.items) w.cells-is ∙ w.in_ok-push.ensures.items
           ∙ (λ i. c.loop-i.invariant i ++ w.cell_of.ensures i ∷ []) ∙ append_assoc old above _
-          ∙ ap (λ (more : List Cell). old ++ more) (sym (lit_above-lit c.loop-i.i k x c.args.value (sym c.is_lit.ensures ∙ w.if-is_lit.true)))
+          ∙ ap (λ (more : List Cell). old ++ more)
+          (sym (lit_above-lit c.loop-i.i k x c.args.value (sym c.is_lit.ensures ∙ w.if-is_lit.true)))
       | else-is_lit w ↦ ap (λ v. v.items) w.cells-is ∙ c.loop-i.invariant
-          ∙ ap (λ (more : List Cell). old ++ more) (sym (lit_above-dark c.loop-i.i k x c.args.value (sym c.is_lit.ensures ∙ w.if-is_lit.false)))
+          ∙ ap (λ (more : List Cell). old ++ more)
+          (sym (lit_above-dark c.loop-i.i k x c.args.value (sym c.is_lit.ensures ∙ w.if-is_lit.false)))
     ]
 
 pub returns : goal.returns

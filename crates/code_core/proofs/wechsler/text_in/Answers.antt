@@ -29,7 +29,8 @@ pub loop-k-init : goal.loop-k-init
 loop-k-init c =
     let cells = at_corner c.args.pattern.now in
     let width = distance c.args.bounds.left c.args.bounds.right + 1 in
-    c.in_ok-push_strip.ensures ∙ ap (λ (bytes : List ℕ). bytes ++ flat_map spelling (strip_tokens (strip cells width 0))) c.new-text.ensures.bytes
+    c.in_ok-push_strip.ensures
+    ∙ ap (λ (bytes : List ℕ). bytes ++ flat_map spelling (strip_tokens (strip cells width 0))) c.new-text.ensures.bytes
     ∙ sym (strips_begin cells width)
 
 pub loop-k-preserved : goal.loop-k-preserved

@@ -37,10 +37,13 @@ returns-clause-settled c =
       record {
         clusters = c.in-Some.clusters.items;
         rest = rw c.in-Some.is at c.in_ok-clusters.ensures.rest;
-        counted = subst (λ (p : ℕ). AreObjectsOf c.args.rule.now p c.in-Some.clusters.items objects) c.period.ensures.period
-            (subst (λ (parts : List (List Cell)). AreObjectsOf c.args.rule.now c.period.result parts objects) c.as_slice.ensures.value
+        counted = subst (λ (p : ℕ). AreObjectsOf c.args.rule.now p c.in-Some.clusters.items objects)
+            c.period.ensures.period
+            (subst (λ (parts : List (List Cell)). AreObjectsOf c.args.rule.now c.period.result parts objects)
+            c.as_slice.ensures.value
             c.in_ok-objects.ensures.objects);
-        good = subst (λ (h : ℕ). IsTrue c.stay_for_good-for_good.result ↔ StayForGood h objects) c.horizon.ensures.horizon
+        good = subst (λ (h : ℕ). IsTrue c.stay_for_good-for_good.result ↔ StayForGood h objects)
+            c.horizon.ensures.horizon
             c.stay_for_good-for_good.ensures;
       },
     )

@@ -97,7 +97,8 @@ pub nonzero_div-last : goal.nonzero_div-last
 nonzero_div-last c = subst (λ n. 0 < n) (sym c.stride.ensures.stride) c.stride.ensures.profile.onward
 
 pub run_on-requires-clause-few : goal.run_on-requires-clause-few
-run_on-requires-clause-few c = subst (λ n. n ≤ 10000) (sym c.stride-in-None.ensures.stride) c.stride-in-None.ensures.profile.stride
+run_on-requires-clause-few c =
+    subst (λ n. n ≤ 10000) (sym c.stride-in-None.ensures.stride) c.stride-in-None.ensures.profile.stride
 
 pub returns-in-Some-clause-few : goal.returns-in-Some-clause-few
 returns-in-Some-clause-few c = rw c.in-Some.is at c.in_ok-finding.ensures.few

@@ -5,9 +5,11 @@ use Rattle.survey_core.proofs.groups.numbers.Goals as goal
 
 pub loop-place-preserved : goal.loop-place-preserved
 loop-place-preserved c = record {
-  count = ap length c.in_ok-push.ensures.items ∙ length_push c.loop-place.numbers.items c.loop-place.place ∙ ap (λ n. n + 1) c.loop-place.invariant.count;
+  count = ap length c.in_ok-push.ensures.items ∙ length_push c.loop-place.numbers.items c.loop-place.place
+      ∙ ap (λ n. n + 1) c.loop-place.invariant.count;
   below = All-same (λ k. k < c.args.count) _ _ c.in_ok-push.ensures.items
-      (All-push (λ k. k < c.args.count) c.loop-place.numbers.items c.loop-place.place c.loop-place.invariant.below c.loop-place-test.true);
+      (All-push (λ k. k < c.args.count) c.loop-place.numbers.items c.loop-place.place c.loop-place.invariant.below
+      c.loop-place-test.true);
 }
 
 pub returns-clause-below : goal.returns-clause-below

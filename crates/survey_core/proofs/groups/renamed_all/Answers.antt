@@ -12,4 +12,5 @@ loop-group-preserved c =
 pub returns : goal.returns
 returns c =
     c.loop-group.invariant
-    ∙ ap (map (renamed c.args.from c.args.to)) (take_all c.loop-group.group-index c.args.groups.now c.loop-group-test.false)
+    ∙ ap (map (renamed c.args.from c.args.to))
+    (take_all c.loop-group.group-index c.args.groups.now c.loop-group-test.false)

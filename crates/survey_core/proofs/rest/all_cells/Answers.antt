@@ -16,4 +16,5 @@ loop-pattern-preserved c =
 pub returns : goal.returns
 returns c =
     c.loop-pattern.invariant
-    ∙ ap (flat_map (λ (pattern : Pattern). pattern)) (take_all c.loop-pattern.pattern-index c.args.patterns.now c.loop-pattern-test.false)
+    ∙ ap (flat_map (λ (pattern : Pattern). pattern))
+    (take_all c.loop-pattern.pattern-index c.args.patterns.now c.loop-pattern-test.false)

@@ -90,10 +90,12 @@ returns-clause-rest c =
     (each k (subst (λ (parts : List (List Cell)). k < length parts) (sym c.as_slice-3.ensures.value) low)))))
 
 pub sweeps-requires-clause-least : goal.sweeps-requires-clause-least
-sweeps-requires-clause-least c = subst (λ n. 1 ≤ n) (sym c.period-limit.ensures.period) c.period-limit.ensures.profile.some
+sweeps-requires-clause-least c =
+    subst (λ n. 1 ≤ n) (sym c.period-limit.ensures.period) c.period-limit.ensures.profile.some
 
 pub sweeps-requires-clause-most : goal.sweeps-requires-clause-most
-sweeps-requires-clause-most c = subst (λ n. n ≤ 64) (sym c.period-limit.ensures.period) c.period-limit.ensures.profile.period
+sweeps-requires-clause-most c =
+    subst (λ n. n ≤ 64) (sym c.period-limit.ensures.period) c.period-limit.ensures.profile.period
 
 pub sweeps-requires-clause-order : goal.sweeps-requires-clause-order
 sweeps-requires-clause-order c =
@@ -103,17 +105,20 @@ pub groups-requires : goal.groups-requires
 groups-requires c = subst (λ n. n ≤ 4096) (sym c.horizon.ensures.horizon) c.horizon.ensures.profile.horizon
 
 pub groups_keep_apart-requires-clause-horizon : goal.groups_keep_apart-requires-clause-horizon
-groups_keep_apart-requires-clause-horizon c = subst (λ n. n ≤ 4096) (sym c.horizon-2.ensures.horizon) c.horizon-2.ensures.profile.horizon
+groups_keep_apart-requires-clause-horizon c =
+    subst (λ n. n ≤ 4096) (sym c.horizon-2.ensures.horizon) c.horizon-2.ensures.profile.horizon
 
 pub groups_keep_apart-requires-clause-order : goal.groups_keep_apart-requires-clause-order
 groups_keep_apart-requires-clause-order c =
-    subst (All InOrder) (sym c.as_slice-3.ensures.value) (λ k d low. (c.in_ok-clusters.ensures.patterns k d low).in_order)
+    subst (All InOrder) (sym c.as_slice-3.ensures.value)
+    (λ k d low. (c.in_ok-clusters.ensures.patterns k d low).in_order)
 
 pub groups_keep_apart-requires-clause-count : goal.groups_keep_apart-requires-clause-count
 groups_keep_apart-requires-clause-count c =
     let found : AreSweeps c.args.rule.now c.period-limit.result c.as_slice.result.now c.in-Some.sweeps.items =
     rw c.in-Some.is at c.in_ok-sweeps.ensures.sweeps in
-    ap length c.as_slice-4.ensures.value ∙ c.in_ok-groups.ensures.numbers.count ∙ ap length c.as_slice-2.ensures.value ∙ found.count
+    ap length c.as_slice-4.ensures.value ∙ c.in_ok-groups.ensures.numbers.count ∙ ap length c.as_slice-2.ensures.value
+    ∙ found.count
     ∙ ap length (c.as_slice.ensures.value ∙ sym c.as_slice-3.ensures.value)
 
 pub returns-in_err-changes-clause-rest : goal.returns-in_err-changes-clause-rest

@@ -9,4 +9,5 @@ loop-pattern-preserved c =
     ∙ sym (take_more c.args.patterns.now c.loop-pattern.pattern-index c.pattern-item.result c.loop-pattern-test.true)
 
 pub returns : goal.returns
-returns c = c.loop-pattern.invariant ∙ take_all c.loop-pattern.pattern-index c.args.patterns.now c.loop-pattern-test.false
+returns c =
+    c.loop-pattern.invariant ∙ take_all c.loop-pattern.pattern-index c.args.patterns.now c.loop-pattern-test.false

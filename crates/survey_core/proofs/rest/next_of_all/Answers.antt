@@ -27,9 +27,12 @@ next_beside-requires-clause-near c = ap (lies_within 999999) c.index-patterns-pl
 pub loop-place-preserved : goal.loop-place-preserved
 loop-place-preserved c =
     c.in_ok-push.ensures.items
-    ∙ (λ i. c.loop-place.invariant i ++ (c.in_ok-next.ensures ∙ ap (next c.args.rule.now) c.index-patterns-place.is) i ∷ [])
-    ∙ sym (map_more (next c.args.rule.now) c.args.patterns.now c.loop-place.place c.index-patterns-place.result c.loop-place-test.true)
+    ∙ (λ i. c.loop-place.invariant i ++ (c.in_ok-next.ensures ∙ ap (next c.args.rule.now) c.index-patterns-place.is)
+    i ∷ [])
+    ∙ sym (map_more (next c.args.rule.now) c.args.patterns.now c.loop-place.place c.index-patterns-place.result
+    c.loop-place-test.true)
 
 pub returns : goal.returns
 returns c =
-    c.loop-place.invariant ∙ ap (map (next c.args.rule.now)) (take_all c.loop-place.place c.args.patterns.now c.loop-place-test.false)
+    c.loop-place.invariant ∙ ap (map (next c.args.rule.now))
+    (take_all c.loop-place.place c.args.patterns.now c.loop-place-test.false)

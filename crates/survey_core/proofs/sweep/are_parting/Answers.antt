@@ -41,4 +41,5 @@ returns c =
     past_by _ one.bottom other.top by.y (search rules) (search rules) (search rules) c.is_past-3.ensures in
     let top : c.is_past-4.result ≡ is_past other.bottom by.y one.top (pos 0) =
     past_from _ other.bottom by.y one.top (search rules) (search rules) (search rules) c.is_past-4.ensures in
-    λ i. right i && int_le (pos 0) (dx i) || left i && int_le (dx i) (pos 0) || bottom i && int_le (pos 0) (dy i) || top i && int_le (dy i) (pos 0)
+    λ i. right i && int_le (pos 0) (dx i) || left i && int_le (dx i) (pos 0) || bottom i && int_le (pos 0) (dy i) ||
+    top i && int_le (dy i) (pos 0)

@@ -26,4 +26,5 @@ returns-clause-across c =
 pub returns-clause-down : goal.returns-clause-down
 returns-clause-down c =
     let fits : FitsSigned w64 c.difference-2.result = search rules in
-    subst (λ (d : ℤ). unsigned_abs d ≤ 2 ^ 33) (sym (to_z-of_z w64 c.difference-2.result fits)) c.difference-2.ensures.small
+    subst (λ (d : ℤ). unsigned_abs d ≤ 2 ^ 33) (sym (to_z-of_z w64 c.difference-2.result fits))
+    c.difference-2.ensures.small

@@ -14,10 +14,12 @@ pub returns-in_err-found-clause-inside : goal.returns-in_err-found-clause-inside
 returns-in_err-found-clause-inside c = IfOk-from_err _ _ c.from_residual.ensures.0
 
 pub returns-in_err-found-clause-edge : goal.returns-in_err-found-clause-edge
-returns-in_err-found-clause-edge c = λ e. c.in_err-found.ensures.edge (edge_was _ c.in_err-found.field-0.0 c.from_residual.ensures.1 e)
+returns-in_err-found-clause-edge c = λ e.
+    c.in_err-found.ensures.edge (edge_was _ c.in_err-found.field-0.0 c.from_residual.ensures.1 e)
 
 pub returns-in_err-found-clause-edge_first : goal.returns-in_err-found-clause-edge_first
-returns-in_err-found-clause-edge_first c = λ on. edge_is _ c.in_err-found.field-0.0 c.from_residual.ensures.1 (c.in_err-found.ensures.edge_first on)
+returns-in_err-found-clause-edge_first c = λ on.
+    edge_is _ c.in_err-found.field-0.0 c.from_residual.ensures.1 (c.in_err-found.ensures.edge_first on)
 
 pub returns-in_err-found-clause-never_edge : goal.returns-in_err-found-clause-never_edge
 returns-in_err-found-clause-never_edge c = λ reach inside far e.

@@ -34,7 +34,8 @@ loop-pattern-init c = record {
 
 pub sweep-requires-clause-order : goal.sweep-requires-clause-order
 sweep-requires-clause-order c =
-    subst InOrder (sym c.pattern-item.is) (c.requires.order c.loop-pattern.pattern-index c.pattern-item.result c.loop-pattern-test.true)
+    subst InOrder (sym c.pattern-item.is)
+    (c.requires.order c.loop-pattern.pattern-index c.pattern-item.result c.loop-pattern-test.true)
 
 pub sweep-requires-clause-some : goal.sweep-requires-clause-some
 sweep-requires-clause-some c =

@@ -68,13 +68,17 @@ count-requires-clause-room c = λ code.
 
 pub returns-clause-objects : goal.returns-clause-objects
 returns-clause-objects c =
-    are_objects_of c.args.rule.now c.args.limit c.args.clusters.now c.loop-cluster.invariant.0 c.loop-cluster.counts.entries c.listed.result
+    are_objects_of c.args.rule.now c.args.limit c.args.clusters.now c.loop-cluster.invariant.0
+    c.loop-cluster.counts.entries c.listed.result
     c.listed.ensures.entries c.listed.ensures.lawful
-    (subst (λ (clusters : List (List Cell)). AllZip (λ cluster code. IsCode c.args.rule.now cluster c.args.limit code) clusters c.loop-cluster.invariant.0)
+    (subst (λ (clusters : List (List Cell)). AllZip (λ cluster code. IsCode c.args.rule.now cluster c.args.limit code)
+    clusters c.loop-cluster.invariant.0)
     (take_all c.loop-cluster.cluster-index c.args.clusters.now c.loop-cluster-test.false) c.loop-cluster.invariant.1)
     c.loop-cluster.invariant.3
 
 pub returns-clause-number : goal.returns-clause-number
 returns-clause-number c =
-    IfOk-weaker c.listed.result (λ objects. objects ≡ c.loop-cluster.counts.entries) (λ objects. sum (values_of objects) ≡ length c.args.clusters.now)
-    (λ objects is. ap (λ (os : List (List ℕ × ℕ)). sum (values_of os)) is ∙ c.loop-cluster.invariant.5 ∙ omega arith) c.listed.ensures.entries
+    IfOk-weaker c.listed.result (λ objects. objects ≡ c.loop-cluster.counts.entries)
+    (λ objects. sum (values_of objects) ≡ length c.args.clusters.now)
+    (λ objects is. ap (λ (os : List (List ℕ × ℕ)). sum (values_of os)) is ∙ c.loop-cluster.invariant.5 ∙ omega arith)
+    c.listed.ensures.entries
