@@ -179,14 +179,7 @@ pub(crate) fn count_in(field: &[u8]) -> Option<(&[u8], u64)>
 pub(crate) fn rule_in(field: &[u8]) -> Option<Rule>
     ensures { Tells IsRule (λ rule. codes "rule=" ++ rule_text rule) field.now result }
 {
-    rule_of(after(b"rule=", field)?)
-}
-
-/// The rule whose text the bytes are.
-fn rule_of(text: &[u8]) -> Option<Rule>
-    ensures { Tells IsRule rule_text text.now result }
-{
-    let Ok(text) = std::str::from_utf8(text) else {
+    let Ok(text) = std::str::from_utf8(after(b"rule=", field)?) else {
         return None;
     };
     match Rule::read(text) {
@@ -199,14 +192,7 @@ fn rule_of(text: &[u8]) -> Option<Rule>
 pub(crate) fn seed_in(field: &[u8]) -> Option<Seed>
     ensures { Tells IsSeed (λ seed. codes "seed=" ++ seed) field.now result }
 {
-    seed_of(after(b"seed=", field)?)
-}
-
-/// The seed whose bytes these are.
-fn seed_of(text: &[u8]) -> Option<Seed>
-    ensures { Tells IsSeed (λ seed. seed) text.now result }
-{
-    let Ok(text) = std::str::from_utf8(text) else {
+    let Ok(text) = std::str::from_utf8(after(b"seed=", field)?) else {
         return None;
     };
     match Seed::new(text) {

@@ -67,7 +67,10 @@ fn after_head<'a>(
     };
     match state {
         Some(checkpoint) => settled_in(line, head, checkpoint, more),
-        None => unsettled_in(line, head, more),
+        None => match more {
+            Some(there) => Err(there),
+            None => Ok((head, None)),
+        },
     }
 }
 
@@ -132,24 +135,6 @@ fn with_field(mut head: Front, place: usize, field: &[u8]) -> Option<Front>
         _ => head.number = soup_in(field)?,
     }
     Some(head)
-}
-
-/// The front of a line whose soup didn't settle, after which nothing may follow.
-fn unsettled_in<'a>(
-    line: &'a [u8],
-    head: Front,
-    rest: Option<&'a [u8]>,
-) -> Result<(Front, Option<&'a [u8]>), &'a [u8]>
-    requires head { IsHead head }
-    requires follows { FollowsFields line.now (head_of (claimed head []) ++ codes "unsettled" ∷ [])
-        (option_map (λ rest. rest.now) rest) }
-    ensures ok { IfOk result (λ read. HasReadFront line.now read.0 (option_map (λ rest. rest.now) read.1)) }
-    ensures err { IfErr result (λ there. IsFirstFaultOf line.now (length line.now - length there.now)) }
-{
-    match rest {
-        Some(there) => Err(there),
-        None => Ok((head, None)),
-    }
 }
 
 /// The front of a line whose soup settled: in version 2 a mark follows.

@@ -16,7 +16,6 @@ use code_core::decimal::put_number;
 use plane_core::output::{Out, WriteError};
 use std::io::Write;
 use survey_core::finding::Finding;
-use survey_core::objects::Objects;
 use survey_core::profile::Profile;
 
 /// Writes the line of a report, in version 2, with the line feed that ends it. The `Out` must not have failed.
@@ -72,26 +71,13 @@ fn put_finding<W: Write>(out: &mut Out<W>, finding: &Finding) -> Result<(), Writ
             checkpoint,
             objects,
             for_good,
-        } => put_settled(out, *checkpoint, objects, *for_good),
+        } => {
+            put_number(out, b" at=", *checkpoint)?;
+            put_mark(out, *for_good)?;
+            put_counts(out, objects.as_slice())
+        }
         Finding::Unsettled => out.put(b" unsettled"),
     }
-}
-
-/// Writes the fields of a soup that settled, with a space before each.
-fn put_settled<W: Write>(
-    out: &mut Out<W>,
-    checkpoint: u32,
-    objects: &Objects,
-    for_good: bool,
-) -> Result<(), WriteError>
-    requires { out.old.failed ≡ false }
-    ensures { Writes W.contents out.old out.new result
-        (flat_map spaced (found_fields
-        (Some (record { checkpoint = checkpoint; for_good = Some for_good; counts = objects.now })))) }
-{
-    put_number(out, b" at=", checkpoint)?;
-    put_mark(out, for_good)?;
-    put_counts(out, objects.as_slice())
 }
 
 /// Writes whether objects stay for good, with a space before it.

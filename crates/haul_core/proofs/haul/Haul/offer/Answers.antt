@@ -34,8 +34,8 @@ returns-in_default-make_room-clause-reply c = λ arrivals s. inr (
       ∙ c.in_default.is,
 )
 
-pub add-requires-clause-room : goal.add-requires-clause-room
-add-requires-clause-room c =
+pub add-requires : goal.add-requires
+add-requires c =
     let h = c.self.inside in
     let terms : Terms = record { job = h.job; ranges = h.ranges; workers = h.workers } in
     let old : Sums = record {
@@ -52,47 +52,13 @@ add-requires-clause-room c =
     ∙ length_push c.make_room.new.taken.items _ in
     let room : HasRoom old =
     has_room held h.count c.make_room.new.worker_of.entries old (omega (arith, more, c.note.new.taken.ok.0, c.note.new.taken.small)) mid in
-    room.rows
-
-pub add-requires-clause-unsettled : goal.add-requires-clause-unsettled
-add-requires-clause-unsettled c =
-    let h = c.self.inside in
-    let terms : Terms = record { job = h.job; ranges = h.ranges; workers = h.workers } in
-    let old : Sums = record {
-      rows = c.make_room.new.totals.rows.entries;
-      unsettled = c.make_room.new.totals.unsettled;
-      for_good =
-          c.make_room.new.totals.for_good;
-    } in
-    let mid = keeps_mid terms h.closed h.taken.items c.make_room.new.taken.items h.count h.worker_of.entries c.make_room.new.worker_of.entries
-    (record { rows = h.totals.rows.entries; unsettled = h.totals.unsettled; for_good = h.totals.for_good }) old
-    c.make_room.ensures.taken c.make_room.ensures.workers c.make_room.ensures.extends c.make_room.ensures.unsettled c.make_room.ensures.for_good c.self.invariant in
-    let held : Held = record { terms = terms; closed = h.closed; taken = c.make_room.new.taken.items } in
-    let more : length c.note.new.taken.items ≡ length c.make_room.new.taken.items + 1 = ap length c.note.ensures.taken
-    ∙ length_push c.make_room.new.taken.items _ in
-    let room : HasRoom old =
-    has_room held h.count c.make_room.new.worker_of.entries old (omega (arith, more, c.note.new.taken.ok.0, c.note.new.taken.small)) mid in
-    room.unsettled_room
-
-pub add-requires-clause-for_good : goal.add-requires-clause-for_good
-add-requires-clause-for_good c =
-    let h = c.self.inside in
-    let terms : Terms = record { job = h.job; ranges = h.ranges; workers = h.workers } in
-    let old : Sums = record {
-      rows = c.make_room.new.totals.rows.entries;
-      unsettled = c.make_room.new.totals.unsettled;
-      for_good =
-          c.make_room.new.totals.for_good;
-    } in
-    let mid = keeps_mid terms h.closed h.taken.items c.make_room.new.taken.items h.count h.worker_of.entries c.make_room.new.worker_of.entries
-    (record { rows = h.totals.rows.entries; unsettled = h.totals.unsettled; for_good = h.totals.for_good }) old
-    c.make_room.ensures.taken c.make_room.ensures.workers c.make_room.ensures.extends c.make_room.ensures.unsettled c.make_room.ensures.for_good c.self.invariant in
-    let held : Held = record { terms = terms; closed = h.closed; taken = c.make_room.new.taken.items } in
-    let more : length c.note.new.taken.items ≡ length c.make_room.new.taken.items + 1 = ap length c.note.ensures.taken
-    ∙ length_push c.make_room.new.taken.items _ in
-    let room : HasRoom old =
-    has_room held h.count c.make_room.new.worker_of.entries old (omega (arith, more, c.note.new.taken.ok.0, c.note.new.taken.small)) mid in
-    room.for_good_room
+    record {
+      rows = subst (λ f. HasRows f c.make_room.new.totals.rows.entries) (c.finding-finding.ensures.finding ∙ sym c.finding.ensures.finding) c.in-Ok.ensures.rows;
+      lawful = subst HasLawfulObjects (sym c.finding.ensures.finding) (lawful_of _ _ _ c.args.report.finding c.worker.ensures.report.finding);
+      room = room.rows;
+      unsettled = room.unsettled_room;
+      for_good = room.for_good_room;
+    }
 
 pub invariant_of-self-2 : goal.invariant_of-self-2
 invariant_of-self-2 c =
@@ -187,14 +153,6 @@ note-requires-clause-new c =
     subst₂ (λ (n : ℕ) (ws : List (ℕ × ℕ)). lookup (nat_eq n) ws ≡ None) (sym c.number.ensures.number) (sym c.make_room.ensures.workers)
     (none_noted held h.worker_of.entries c.args.report c.self.invariant.by_number
     (ap (λ (x : Held). refusal_at x c.args.report) c.self.view_is ∙ sym c.refusal.ensures ∙ c.in_default.is))
-
-pub add-requires-clause-rows : goal.add-requires-clause-rows
-add-requires-clause-rows c =
-    subst (λ f. HasRows f c.make_room.new.totals.rows.entries) (c.finding-finding.ensures.finding ∙ sym c.finding.ensures.finding) c.in-Ok.ensures.rows
-
-pub add-requires-clause-lawful : goal.add-requires-clause-lawful
-add-requires-clause-lawful c =
-    subst HasLawfulObjects (sym c.finding.ensures.finding) (lawful_of _ _ _ c.args.report.finding c.worker.ensures.report.finding)
 
 pub returns-clause-state : goal.returns-clause-state
 returns-clause-state c = inl (sym c.in_default.is ∙ c.refusal.ensures)

@@ -20,8 +20,8 @@ by_number-requires c =
     (distinct_both a.terms.ranges b.terms.ranges a.taken b.taken can.apart c.first.invariant.within c.second.invariant.within c.first.invariant.distinct
     c.second.invariant.distinct)
 
-pub joined-requires-clause-room : goal.joined-requires-clause-room
-joined-requires-clause-room c =
+pub joined-requires : goal.joined-requires
+joined-requires c =
     let f = c.first.inside in
     let s = c.second.inside in
     let a : Held = record { terms = record { job = f.job; ranges = f.ranges; workers = f.workers }; closed = f.closed; taken = f.taken.items } in
@@ -33,37 +33,7 @@ joined-requires-clause-room c =
     (record { rows = f.totals.rows.entries; unsettled = f.totals.unsettled; for_good = f.totals.for_good })
     (record { rows = s.totals.rows.entries; unsettled = s.totals.unsettled; for_good = s.totals.for_good }) c.first.invariant c.second.invariant
     (omega (arith, sum, c.in_ok-taken.taken.ok.0, c.in_ok-taken.taken.small)) in
-    room.rows
-
-pub joined-requires-clause-unsettled : goal.joined-requires-clause-unsettled
-joined-requires-clause-unsettled c =
-    let f = c.first.inside in
-    let s = c.second.inside in
-    let a : Held = record { terms = record { job = f.job; ranges = f.ranges; workers = f.workers }; closed = f.closed; taken = f.taken.items } in
-    let b : Held = record { terms = record { job = s.job; ranges = s.ranges; workers = s.workers }; closed = s.closed; taken = s.taken.items } in
-    let all : c.in_ok-taken.taken.items ≡ a.taken ++ b.taken =
-    c.in_ok-taken.ensures ∙ (λ i. c.as_slice.ensures.value i ++ c.as_slice-2.ensures.value i) in
-    let sum = ap length all ∙ length-append a.taken b.taken in
-    let room = have_room a b f.count s.count f.worker_of.entries s.worker_of.entries
-    (record { rows = f.totals.rows.entries; unsettled = f.totals.unsettled; for_good = f.totals.for_good })
-    (record { rows = s.totals.rows.entries; unsettled = s.totals.unsettled; for_good = s.totals.for_good }) c.first.invariant c.second.invariant
-    (omega (arith, sum, c.in_ok-taken.taken.ok.0, c.in_ok-taken.taken.small)) in
-    room.unsettled_room
-
-pub joined-requires-clause-for_good : goal.joined-requires-clause-for_good
-joined-requires-clause-for_good c =
-    let f = c.first.inside in
-    let s = c.second.inside in
-    let a : Held = record { terms = record { job = f.job; ranges = f.ranges; workers = f.workers }; closed = f.closed; taken = f.taken.items } in
-    let b : Held = record { terms = record { job = s.job; ranges = s.ranges; workers = s.workers }; closed = s.closed; taken = s.taken.items } in
-    let all : c.in_ok-taken.taken.items ≡ a.taken ++ b.taken =
-    c.in_ok-taken.ensures ∙ (λ i. c.as_slice.ensures.value i ++ c.as_slice-2.ensures.value i) in
-    let sum = ap length all ∙ length-append a.taken b.taken in
-    let room = have_room a b f.count s.count f.worker_of.entries s.worker_of.entries
-    (record { rows = f.totals.rows.entries; unsettled = f.totals.unsettled; for_good = f.totals.for_good })
-    (record { rows = s.totals.rows.entries; unsettled = s.totals.unsettled; for_good = s.totals.for_good }) c.first.invariant c.second.invariant
-    (omega (arith, sum, c.in_ok-taken.taken.ok.0, c.in_ok-taken.taken.small)) in
-    room.for_good_room
+    record { room = room.rows; unsettled = room.unsettled_room; for_good = room.for_good_room }
 
 pub overflow_add-result : goal.overflow_add-result
 overflow_add-result c =
