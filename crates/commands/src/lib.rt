@@ -1,7 +1,7 @@
 //! What the commands over sets of soups do, over values, readers and writers: `take`, `work` and `gather`.
 //!
-//! Each command is a function of plain values, as [`do_take`](take::do_take). The program reads them from its words, and
-//! lends the process's streams. How a command ends is said in `pattern_commands`, which has the other commands.
+//! Each command is a function of plain values, as [`do_take`](take::do_take). The program reads them from its words,
+//! and lends the process's streams. How a command ends is said in `pattern_commands`, which has the other commands.
 #![tactic(auto)]
 
 /// How a haul is finished.
