@@ -22,11 +22,13 @@ is_incomplete status code = search rules
 
 pub returns-in-Ok-clause-done : goal.returns-in-Ok-clause-done
 returns-in-Ok-clause-done g c code =
-    rw (c.in-Ok.is, ← c.as_slice.ensures.value, ← c.new-errors.ensures.writer) (c.do_buffered-status.ensures.done (is_done _ (sym c.exit_code.ensures ∙ code)))
+    rw (c.in-Ok.is, ← c.as_slice.ensures.value, ← c.new-errors.ensures.writer)
+    (c.do_buffered-status.ensures.done (is_done _ (sym c.exit_code.ensures ∙ code)))
 
 pub returns-in-Ok-clause-silent : goal.returns-in-Ok-clause-silent
 returns-in-Ok-clause-silent g c code =
-    rw (c.in-Ok.is, ← c.as_slice.ensures.value, ← c.new-errors.ensures.writer) (c.do_buffered-status.ensures.silent (is_done _ (sym c.exit_code.ensures ∙ code)))
+    rw (c.in-Ok.is, ← c.as_slice.ensures.value, ← c.new-errors.ensures.writer)
+    (c.do_buffered-status.ensures.silent (is_done _ (sym c.exit_code.ensures ∙ code)))
 
 pub returns-in-Ok-clause-incomplete : goal.returns-in-Ok-clause-incomplete
 returns-in-Ok-clause-incomplete g c code =

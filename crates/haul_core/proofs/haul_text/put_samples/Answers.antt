@@ -21,7 +21,8 @@ loop-row-preserved g c =
     let text : Row → List ℕ = (λ row. ended (sample_line row)) in (
       front.0 ++ text c.row-item.result,
       text_more text rows i c.row-item.result (text_of (sample_lines rows)) front.0 c.loop-row-test.true c.row-item.is front.1,
-      Writes_then front.2 (Writes_same ((λ i. ended (line_of_numbers ((c.as_bytes.ensures.value ∙ c.text.ensures.text) i) (c.as_slice.ensures.samples i)))) c.in_ok-put_line.ensures),
+      Writes_then front.2
+          (Writes_same ((λ i. ended (line_of_numbers ((c.as_bytes.ensures.value ∙ c.text.ensures.text) i) (c.as_slice.ensures.samples i)))) c.in_ok-put_line.ensures),
     )
 
 pub returns-in_err-put_line : goal.returns-in_err-put_line
@@ -32,7 +33,8 @@ returns-in_err-put_line g c =
     let text : Row → List ℕ = (λ row. ended (sample_line row)) in
     let more = text_more text rows i c.row-item.result (text_of (sample_lines rows)) front.0 c.loop-row-test.true c.row-item.is front.1 in
     Writes_same (sym more) (Writes_stops (flat_map text (drop (i + 1) rows)) c.from_residual-in_err-put_line.ensures.0
-    (Writes_then front.2 (Writes_same ((λ i. ended (line_of_numbers ((c.as_bytes.ensures.value ∙ c.text.ensures.text) i) (c.as_slice.ensures.samples i)))) c.in_err-put_line.ensures)))
+    (Writes_then front.2
+    (Writes_same ((λ i. ended (line_of_numbers ((c.as_bytes.ensures.value ∙ c.text.ensures.text) i) (c.as_slice.ensures.samples i)))) c.in_err-put_line.ensures)))
 
 pub put_line-requires : goal.put_line-requires
 put_line-requires g c = c.loop-row.invariant.2.told

@@ -25,7 +25,8 @@ invariant_of-self c =
     h.worker_of.entries c.make_room.new.worker_of.entries
     (record { rows = h.totals.rows.entries; unsettled = h.totals.unsettled; for_good = h.totals.for_good })
     (record { rows = c.make_room.new.totals.rows.entries; unsettled = c.make_room.new.totals.unsettled; for_good = c.make_room.new.totals.for_good })
-    c.make_room.ensures.taken c.make_room.ensures.workers c.make_room.ensures.extends c.make_room.ensures.unsettled c.make_room.ensures.for_good c.self.invariant
+    c.make_room.ensures.taken c.make_room.ensures.workers c.make_room.ensures.extends
+    c.make_room.ensures.unsettled c.make_room.ensures.for_good c.self.invariant
 
 pub returns-in_default-make_room-clause-reply : goal.returns-in_default-make_room-clause-reply
 returns-in_default-make_room-clause-reply c = λ arrivals s. inr (
@@ -46,7 +47,8 @@ add-requires c =
     } in
     let mid = keeps_mid terms h.closed h.taken.items c.make_room.new.taken.items h.count h.worker_of.entries c.make_room.new.worker_of.entries
     (record { rows = h.totals.rows.entries; unsettled = h.totals.unsettled; for_good = h.totals.for_good }) old
-    c.make_room.ensures.taken c.make_room.ensures.workers c.make_room.ensures.extends c.make_room.ensures.unsettled c.make_room.ensures.for_good c.self.invariant in
+    c.make_room.ensures.taken c.make_room.ensures.workers c.make_room.ensures.extends
+    c.make_room.ensures.unsettled c.make_room.ensures.for_good c.self.invariant in
     let held : Held = record { terms = terms; closed = h.closed; taken = c.make_room.new.taken.items } in
     let more : length c.note.new.taken.items ≡ length c.make_room.new.taken.items + 1 = ap length c.note.ensures.taken
     ∙ length_push c.make_room.new.taken.items _ in
@@ -73,7 +75,8 @@ invariant_of-self-2 c =
     let new : Sums = record { rows = c.add.new.self.rows.entries; unsettled = c.add.new.self.unsettled; for_good = c.add.new.self.for_good } in
     let mid = keeps_mid terms h.closed h.taken.items c.make_room.new.taken.items h.count h.worker_of.entries c.make_room.new.worker_of.entries
     (record { rows = h.totals.rows.entries; unsettled = h.totals.unsettled; for_good = h.totals.for_good }) old
-    c.make_room.ensures.taken c.make_room.ensures.workers c.make_room.ensures.extends c.make_room.ensures.unsettled c.make_room.ensures.for_good c.self.invariant in
+    c.make_room.ensures.taken c.make_room.ensures.workers c.make_room.ensures.extends
+    c.make_room.ensures.unsettled c.make_room.ensures.for_good c.self.invariant in
     let refused : refusal_at (record { terms = terms; closed = h.closed; taken = c.make_room.new.taken.items }) c.args.report ≡ None =
     ap (λ (ts : List (ℕ × ℕ)). refusal_at (record { terms = terms; closed = h.closed; taken = ts }) c.args.report) c.make_room.ensures.taken
     ∙ ap (λ (held : Held). refusal_at held c.args.report) c.self.view_is ∙ sym c.refusal.ensures ∙ c.in_default.is in
