@@ -7,7 +7,7 @@ use Rattle.words.specs.Requests.{Text, asked_by}
 use Rattle.words.specs.declared.request.Request.{Request}
 use Rattle.words.specs.declared.request.Request.TheVariants.{Run, Name, Show, Soup, Take, Work, Gather, Version}
 use Rattle.pattern_commands.specs.declared.complaint.Complaint.{Complaint}
-use Rattle.pattern_commands.specs.declared.complaint.Complaint.TheVariants.{Refused, OutOfMemory, ReadFailed, WriteFailed}
+use Rattle.pattern_commands.specs.declared.complaint.Complaint.TheVariants.{Refused, Memory, ReadFailed, WriteFailed}
 use Rattle.pattern_commands.specs.declared.status.Status.{Status}
 use Rattle.pattern_commands.specs.declared.status.Status.TheVariants as statuses
 use Rattle.pattern_commands.specs.Complaints.{status_of}
@@ -55,7 +55,7 @@ nothing_more (Some xs) (Some ys) (Some zs) first second = second ∙ append-nil 
 -- no complaint has the status of a command that printed
 unprinted : (complaint : Complaint) → has_printed (status_of complaint) ≡ false
 unprinted (Refused refusal) = refl
-unprinted OutOfMemory = refl
+unprinted Memory = refl
 unprinted ReadFailed = refl
 unprinted WriteFailed = refl
 
@@ -143,5 +143,5 @@ unlike P statuses.Done printed done less = done
 unlike P statuses.Incomplete printed done less = less
 unlike P statuses.Usage printed done less = cc
 unlike P statuses.Refused printed done less = cc
-unlike P statuses.OutOfMemory printed done less = cc
+unlike P statuses.Memory printed done less = cc
 unlike P statuses.Failed printed done less = cc

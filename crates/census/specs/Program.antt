@@ -1,7 +1,6 @@
 -- How the program ends, from its words to the bytes that it leaves.
 use Rattle.std.specs.Prelude.{◌≡◌, ◌++◌, ◌⊎◌, ℕ, true, false, List, Option, None, Some, Ok, ⊤, codes}
 use Rattle.std.specs.Io.KnownBytes.{Appends}
-use Rattle.plane_core.specs.Out.{Output}
 use Rattle.pattern_commands.specs.declared.complaint.Complaint.TheVariants.{WriteFailed}
 use Rattle.pattern_commands.specs.declared.status.Status.{Status}
 use Rattle.pattern_commands.specs.declared.status.Status.TheVariants.{Failed}
@@ -14,10 +13,6 @@ use Rattle.pattern_commands.specs.Tasks.{Made}
 use Rattle.words.specs.declared.request.Request.{Request}
 use Rattle.words.specs.Requests.{Text, asked_by}
 use Rattle.census.specs.Requests.{DoesWords, right_for}
-
--- the stream of a writer that was handed over, and is given back with whether a write failed
-abbrev pub returned : {V : Type 0} → (V → Option (List ℕ)) → V → Output V → Stream
-returned contents old new = record { before = contents old; after = contents new.writer; failed = new.failed }
 
 -- the line where the words are not text
 abbrev pub not_text_line : List ℕ

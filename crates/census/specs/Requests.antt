@@ -5,7 +5,7 @@ use Rattle.commands.specs.declared.plan.Plan.{Plan}
 use Rattle.pattern_commands.specs.declared.profile.ProfileNumbers.{ProfileNumbers}
 use Rattle.commands.specs.declared.soup_set.SoupSet.{SoupSet}
 use Rattle.pattern_commands.specs.declared.status.Status.{Status}
-use Rattle.pattern_commands.specs.declared.status.Status.TheVariants.{OutOfMemory}
+use Rattle.pattern_commands.specs.declared.status.Status.TheVariants.{Memory}
 use Rattle.pattern_commands.specs.Answers.{IsInput}
 use Rattle.pattern_commands.specs.Complaints.{complaint_line}
 use Rattle.pattern_commands.specs.Ends.{Ends}
@@ -76,9 +76,9 @@ pub record DoesRequest (known : Option (List ℕ)) (status : Status) (output err
 
 -- there was no memory to read the words, and nothing was done
 pub record LacksMemory (status : Status) (output errors : Stream) : Type 0 where
-  pub told : status ≡ OutOfMemory
+  pub told : status ≡ Memory
   pub nothing : Has output []
-  pub line : HasLine errors (complaint_line complaint.OutOfMemory)
+  pub line : HasLine errors (complaint_line complaint.Memory)
 
 -- what the words ask for was done, or there was no memory to read them
 abbrev pub DoesWords : List Text → Option (List ℕ) → Status → Stream → Stream → Type 0

@@ -7,7 +7,9 @@
 mod program;
 mod request;
 
+use commands::machine::Machine;
 use commands::progress::Progress;
+use plane_core::output::Out;
 use program::run_program;
 use std::io::{self, IsTerminal};
 use std::process::ExitCode;
@@ -15,16 +17,14 @@ use std::process::ExitCode;
 fn main(rt: HostRuntime) -> ExitCode {
     let words = process_words(&rt);
     let errors = rt.stderr();
-    let mut line = Progress::new(rt.alloc(), rt.stderr(), &rt, errors.is_terminal());
-    let ended = run_program(
-        rt.alloc(),
-        &rt,
-        words,
-        &mut rt.stdin(),
-        rt.stdout(),
-        errors,
-        &mut line,
-    );
+    let watch = Progress::new(rt.alloc(), rt.stderr(), &rt, errors.is_terminal());
+    let mut machine = Machine {
+        alloc: rt.alloc(),
+        threads: &rt,
+        errors: Out::new(errors),
+        watch,
+    };
+    let ended = run_program(&mut machine, words, &mut rt.stdin(), rt.stdout());
     ExitCode::from(ended.code)
 }
 

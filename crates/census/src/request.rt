@@ -8,6 +8,7 @@ ghost use Rattle.census.specs.Requests.{DoesRequest, DoesWords, is_whole, number
 ghost use Rattle.census.specs.Requests.{plan_for, soups_for, task_of};
 
 use commands::gather::do_gather;
+use commands::machine::Machine;
 use commands::plan::Plan;
 use commands::progress::Progress;
 use commands::soup_set::SoupSet;
@@ -34,12 +35,12 @@ use words::request::Request;
 
 /// Does what the words ask for, and returns how that ended. The first word is the program's name.
 ///
-/// Neither writer may have failed. Words that ask for nothing end with `Usage` and their text on `errors`; nothing is
-/// read then, and nothing is printed. How far a haul has come is said on `line`.
+/// Neither writer may have failed. Words that ask for nothing end with `Usage` and their text on standard error;
+/// nothing is read then, and nothing is printed. How far a haul has come is said by the machine's watch.
 ///
 /// # Errors
 ///
-/// As of [`do_request`], or `OutOfMemory` if there is no memory to read the words.
+/// As of [`do_request`], or `Memory` if there is no memory to read the words.
 pub fn do_words<
     T: Threads + Wait + Sync,
     S: AsStr,
@@ -49,35 +50,32 @@ pub fn do_words<
     P: Write,
     C: Clock,
 >(
-    alloc: Global,
-    rt: &T,
+    machine: &mut Machine<'_, T, E, Progress<P, C>>,
     words: &[S],
     input: &mut R,
     output: &mut Out<W>,
-    errors: &mut Out<E>,
-    line: &mut Progress<P, C>,
 ) -> Status
     requires output { output.old.failed ≡ false }
-    requires errors { errors.old.failed ≡ false }
+    requires errors { machine.old.errors.failed ≡ false }
     ensures usage { result ≡ Status.Usage → (output.new ≡ output.old) × (input.new ≡ input.old) }
     ensures understood { is_some (asked_by (map S.text words.now)) ≡ true → result ≢ Status.Usage }
     ensures command { result ≢ Status.Usage → DoesWords (map S.text words.now) (R.remaining input.old) result
-        (stream W.contents output.old output.new) (stream E.contents errors.old errors.new) }
+        (stream W.contents output.old output.new) (stream E.contents machine.old.errors machine.new.errors) }
     ensures unread { IfSome (asked_by (map S.text words.now)) (λ request.
         reads_input request ≡ false → input.new ≡ input.old) }
     ensures unread_refused { result ≡ Status.Refused → IfSome (asked_by (map S.text words.now)) (λ request.
         refuses_input request ≡ false → input.new ≡ input.old) }
     ensures untouched { result ≡ Status.Refused → output.new ≡ output.old }
-    ensures no_memory { result ≡ Status.OutOfMemory → IfSome (asked_by (map S.text words.now)) (λ request.
+    ensures no_memory { result ≡ Status.Memory → IfSome (asked_by (map S.text words.now)) (λ request.
         is_whole request ≡ true → output.new ≡ output.old) }
 {
-    match request_of(alloc, words) {
-        Ok(request) => do_request(alloc, rt, &request, input, output, errors, line),
+    match request_of(machine.alloc, words) {
+        Ok(request) => do_request(machine, &request, input, output),
         Err(Unasked::Usage(text)) => {
-            let _ = errors.put(text.as_bytes());
+            let _ = machine.errors.put(text.as_bytes());
             Status::Usage
         }
-        Err(Unasked::OutOfMemory) => Complaint::OutOfMemory.tell(errors),
+        Err(Unasked::Memory) => Complaint::Memory.tell(&mut machine.errors),
     }
 }
 
@@ -85,79 +83,81 @@ pub fn do_words<
 ///
 /// Each number of the request must be in its range, and neither writer may have failed. Nothing of the input is read
 /// for a request that doesn't look at it, nor for one whose rule, profile, seed or set is refused. How far a haul has
-/// come is said on `line`, of which nothing else depends.
+/// come is said by the machine's watch, and nothing else depends on it.
 ///
 /// # Errors
 ///
 /// Those of the request's own function: [`do_run`], [`do_name`], [`do_show`], [`do_soup`], [`do_take`],
 /// [`do_work`], [`do_gather`] or [`do_version`].
 fn do_request<T: Threads + Wait + Sync, R: Read, W: Write, E: Write, P: Write, C: Clock>(
-    alloc: Global,
-    rt: &T,
+    machine: &mut Machine<'_, T, E, Progress<P, C>>,
     request: &Request<'_>,
     input: &mut R,
     output: &mut Out<W>,
-    errors: &mut Out<E>,
-    line: &mut Progress<P, C>,
 ) -> Status
     requires request { AreInTheirRanges request.now }
     requires output { output.old.failed ≡ false }
-    requires errors { errors.old.failed ≡ false }
+    requires errors { machine.old.errors.failed ≡ false }
     ensures ends { DoesRequest (R.remaining input.old) result
-        (stream W.contents output.old output.new) (stream E.contents errors.old errors.new) request.now }
+        (stream W.contents output.old output.new) (stream E.contents machine.old.errors machine.new.errors)
+        request.now }
     ensures unread { reads_input request.now ≡ false → input.new ≡ input.old }
     ensures unread_refused { result ≡ Status.Refused → refuses_input request.now ≡ false → input.new ≡ input.old }
     ensures untouched { result ≡ Status.Refused → output.new ≡ output.old }
-    ensures no_memory { result ≡ Status.OutOfMemory → is_whole request.now ≡ true → output.new ≡ output.old }
+    ensures no_memory { result ≡ Status.Memory → is_whole request.now ≡ true → output.new ≡ output.old }
 {
+    let alloc = machine.alloc;
     match request {
         Request::Run { generations, rule } => {
+            let errors = &mut machine.errors;
             do_run(alloc, *generations, rule.as_str(), input, output, errors)
         }
         Request::Name { profile, rule } => {
             let profile = numbers_for(*profile);
+            let errors = &mut machine.errors;
             do_name(alloc, profile, rule.as_str(), input, output, errors)
         }
-        Request::Show { code } => do_show(alloc, code.as_str(), output, errors),
-        Request::Soup { seed, number } => { do_soup(alloc, seed.as_str(), *number, output, errors) }
+        Request::Show { code } => do_show(alloc, code.as_str(), output, &mut machine.errors),
+        Request::Soup { seed, number } => {
+            do_soup(alloc, seed.as_str(), *number, output, &mut machine.errors)
+        }
         Request::Take {
             plan,
             workers,
             progress,
         } => {
-            line.ask(*progress);
-            take_soups(alloc, rt, plan, *workers, output, errors, line)
+            machine.watch.ask(*progress);
+            take_soups(machine, plan, *workers, output)
         }
-        Request::Work { plan, worker } => { work_on_soups(alloc, plan, *worker, output, errors) }
+        Request::Work { plan, worker } => {
+            work_on_soups(alloc, plan, *worker, output, &mut machine.errors)
+        }
         Request::Gather { plan, workers } => {
-            gather_lines(alloc, plan, *workers, input, output, errors)
+            gather_lines(alloc, plan, *workers, input, output, &mut machine.errors)
         }
-        Request::Version => do_version(output, errors),
+        Request::Version => do_version(output, &mut machine.errors),
     }
 }
 
 /// Takes the soups that a request names, by so many workers. Whether a line of progress is asked for is no number, so
 /// either value serves in the condition on the numbers' ranges.
 fn take_soups<T: Threads + Wait + Sync, W: Write, E: Write, P: Write, C: Clock>(
-    alloc: Global,
-    rt: &T,
+    machine: &mut Machine<'_, T, E, Progress<P, C>>,
     asked: &words::request::Plan<'_>,
     workers: u8,
     output: &mut Out<W>,
-    errors: &mut Out<E>,
-    line: &mut Progress<P, C>,
 ) -> Status
     requires request { AreInTheirRanges (request.Take asked.now workers true) }
     requires output { output.old.failed ≡ false }
-    requires errors { errors.old.failed ≡ false }
+    requires errors { machine.old.errors.failed ≡ false }
     ensures ends { (progress : Bool) (known : Option (List ℕ)) (bytes : List ℕ)
         → Ends (task_of (request.Take asked.now workers progress)) known bytes result
-        (stream W.contents output.old output.new) (stream E.contents errors.old errors.new) }
+        (stream W.contents output.old output.new) (stream E.contents machine.old.errors machine.new.errors) }
     ensures untouched { result ≡ Status.Refused → output.new ≡ output.old }
-    ensures no_memory { result ≡ Status.OutOfMemory → output.new ≡ output.old }
+    ensures no_memory { result ≡ Status.Memory → output.new ≡ output.old }
 {
     let plan = plan_for(asked);
-    do_take(alloc, rt, &plan, workers, output, errors, line)
+    do_take(machine, &plan, workers, output)
 }
 
 /// Writes this worker's report lines of the soups that a request names.
@@ -197,7 +197,7 @@ fn gather_lines<R: Read, W: Write, E: Write>(
         (request.Gather asked.now workers) }
     ensures unread { reads_input (request.Gather asked.now workers) ≡ false → input.new ≡ input.old }
     ensures untouched { result ≡ Status.Refused → (input.new ≡ input.old) × (output.new ≡ output.old) }
-    ensures no_memory { result ≡ Status.OutOfMemory → output.new ≡ output.old }
+    ensures no_memory { result ≡ Status.Memory → output.new ≡ output.old }
 {
     let plan = plan_for(asked);
     do_gather(alloc, &plan, workers, input, output, errors)

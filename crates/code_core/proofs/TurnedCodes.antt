@@ -2,7 +2,7 @@
 use Rattle.std.proofs.Common.{◌≡◌, ◌∙◌, sym, ap, refl, subst, ℕ, zero, suc, ℤ, pos, neg_ℤ, ◌≤◌, Bool, true, false, ◌&&◌, ◌==◌, List, [], ◌∷◌, length}
 use Rattle.std.proofs.Common.{map, arith, cond, int_eq, Ordering, Less, Equal, Greater}
 use Rattle.std.proofs.lemmas.Int.{ints}
-use Rattle.plane_core.proofs.BlockLemmas.{int_eq-true}
+use Rattle.plane_core.proofs.NeighbourhoodLemmas.{int_eq-true}
 use Rattle.std.specs.Cmp.{both_ways}
 use Rattle.std.specs.Ordering.{match_ordering}
 use Rattle.plane_core.specs.declared.cell.Cell.{Cell}

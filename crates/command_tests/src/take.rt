@@ -3,6 +3,7 @@ ghost use Rattle.haul_core.specs.Reports.{IsWorker};
 use crate::gather::plan_of;
 use crate::progress::line_on;
 use crate::streams::{Left, slow_writer};
+use commands::machine::Machine;
 use commands::take::do_take_with;
 use crew::gate::{Gate, OpenGate, Stop};
 use crew::watch::{Unwatched, Watch};
@@ -44,29 +45,25 @@ const THREE_OF_EIGHT: &[u8] = b"@VERSION 2\n\
     @SAMPLE_SOUPIDS\n";
 
 /// Takes so many soups by so many workers, under a gate and a watch.
-fn left_by<G: Gate + Sync, R: AllocGlobal + Threads + Wait + Sync, H: Watch>(
+fn left_by<G: Gate + Sync, R: AllocGlobal + Threads + Wait + Sync, H: Watch + Drop>(
     rt: &R,
     count: u64,
     workers: u8,
     gate: &G,
-    watch: &mut H,
+    watch: H,
 ) -> Left
     requires { IsWorker workers }
 {
     let mut output = Out::new(slow_writer(rt.alloc(), 0));
-    let mut errors = Out::new(slow_writer(rt.alloc(), 0));
-    let plan = plan_of(count, "");
-    let status = do_take_with(
-        rt.alloc(),
-        rt,
-        &plan,
-        workers,
-        gate,
-        &mut output,
-        &mut errors,
+    let mut machine = Machine {
+        alloc: rt.alloc(),
+        threads: rt,
+        errors: Out::new(slow_writer(rt.alloc(), 0)),
         watch,
-    );
-    Left::new(status, output, errors)
+    };
+    let plan = plan_of(count, "");
+    let status = do_take_with(&mut machine, &plan, workers, gate, &mut output);
+    Left::new(status, output, machine.errors)
 }
 
 // The lines are due at 0, 200, 400 and 600 milliseconds. The line is told before each of the five notes, and at the
@@ -74,8 +71,8 @@ fn left_by<G: Gate + Sync, R: AllocGlobal + Threads + Wait + Sync, H: Watch>(
 #[test]
 fn takes_soups_under_a_line_of_progress(rt: HostRuntime) {
     let mut screen = Vec::new(rt.alloc());
-    let mut line = line_on(&rt, &mut screen, true);
-    let left = left_by(&rt, 4, 1, &OpenGate, &mut line);
+    let line = line_on(&rt, &mut screen, true);
+    let left = left_by(&rt, 4, 1, &OpenGate, line);
     assert!(rt; left.is(Status::Done, FOUR, b""));
     let told =
         b"\r0 of 4 soups\r1 of 4 soups, 5 a second\r3 of 4 soups, 7 a second\r4 of 4 soups, 6 a second\
@@ -114,7 +111,7 @@ fn prints_what_was_taken_before_a_stop(rt: HostRuntime) {
             AtomicU64::new(0),
         ],
     };
-    let left = left_by(&rt, 8, 3, &gate, &mut Unwatched);
+    let left = left_by(&rt, 8, 3, &gate, Unwatched);
     assert!(rt;
         left.is(
             Status::Incomplete,

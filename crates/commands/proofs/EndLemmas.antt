@@ -2,9 +2,9 @@
 use Rattle.std.proofs.Common.{◌≡◌, ◌∙◌, ◌++◌, ◌≤◌, ◌^◌, ◌⊎◌, ℕ, zero, suc, false, inl, inr, List, [], ◌∷◌, Option, Ok, Err, IfErr, ap, length, refl, subst, sym, true}
 use Rattle.std.specs.Prelude.{is_ok}
 use Rattle.survey_core.specs.declared.job.Job.{Job}
-use Rattle.haul_core.specs.declared.arrival.Arrival.{Arrival}
-use Rattle.haul_core.specs.declared.arrival.Arrival.TheVariants.{Closing}
-use Rattle.haul_core.specs.declared.census.Census.{Census}
+use Rattle.haul_core.specs.declared.book.arrival.Arrival.{Arrival}
+use Rattle.haul_core.specs.declared.book.arrival.Arrival.TheVariants.{Closing}
+use Rattle.haul_core.specs.declared.book.census.Census.{Census}
 use Rattle.haul_core.specs.Books.{Held, StandsFor, Terms, taken_of}
 use Rattle.haul_core.specs.Censuses.{IsCensus}
 use Rattle.haul_core.specs.HaulTexts.{haul_text}
@@ -12,7 +12,7 @@ use Rattle.haul_core.specs.Keeping.{numbers_in}
 use Rattle.haul_core.specs.Missing.{missing_of}
 use Rattle.ranges.specs.RangeLists.{IsListText}
 use Rattle.pattern_commands.specs.declared.complaint.Complaint.{Complaint}
-use Rattle.pattern_commands.specs.declared.complaint.Complaint.TheVariants.{Refused, OutOfMemory, ReadFailed, WriteFailed}
+use Rattle.pattern_commands.specs.declared.complaint.Complaint.TheVariants.{Refused, Memory, ReadFailed, WriteFailed}
 use Rattle.commands.specs.declared.plan.Plan.{Plan}
 use Rattle.pattern_commands.specs.declared.refusal.Refusal.{Refusal}
 use Rattle.commands.specs.declared.soup_set.SoupSet.{SoupSet}
@@ -41,7 +41,7 @@ list_needs set refusal listed (Overlapping ranges named small overlap is) = subs
 list_hides : (plan : Plan) (workers : ℕ) (bytes : List ℕ) (job : Job) → job_named plan ≡ Ok job
     → IsListText plan.set.also → NeedsMemoryAlone (gather_right plan workers bytes)
 list_hides plan workers bytes job named listed (Refused refusal) is = list_needs plan.set refusal listed (rw named at is)
-list_hides plan workers bytes job named listed OutOfMemory is = absurd is
+list_hides plan workers bytes job named listed Memory is = absurd is
 list_hides plan workers bytes job named listed ReadFailed is = absurd is
 list_hides plan workers bytes job named listed WriteFailed is = absurd is
 
@@ -50,7 +50,7 @@ gathers_job : (plan : Plan) (workers : ℕ) (bytes : List ℕ) (known : Option (
     (output errors : Stream) → job_named plan ≡ Err complaint → IsSilent output errors
     → Reaches (gather_task plan workers) known bytes (Err complaint) output errors
 gathers_job plan workers bytes known (Refused refusal) output errors named silent = (rw named refl, silent)
-gathers_job plan workers bytes known OutOfMemory output errors named silent = absurd (job_refused plan OutOfMemory named)
+gathers_job plan workers bytes known Memory output errors named silent = absurd (job_refused plan Memory named)
 gathers_job plan workers bytes known ReadFailed output errors named silent = absurd (job_refused plan ReadFailed named)
 gathers_job plan workers bytes known WriteFailed output errors named silent = absurd (job_refused plan WriteFailed named)
 
@@ -59,7 +59,7 @@ gathers_set : (plan : Plan) (workers : ℕ) (bytes : List ℕ) (known : Option (
     (complaint : Complaint) (output errors : Stream) → job_named plan ≡ Ok job → StopsSet plan.set complaint → IsSilent output errors
     → Reaches (gather_task plan workers) known bytes (Err complaint) output errors
 gathers_set plan workers bytes known job (Refused refusal) output errors named stops silent = (rw named stops, silent)
-gathers_set plan workers bytes known job OutOfMemory output errors named stops silent = record {
+gathers_set plan workers bytes known job Memory output errors named stops silent = record {
   hides = λ _. list_hides plan workers bytes job named stops;
   left = silent.nothing;
   told = inl silent.silent;
@@ -107,7 +107,7 @@ is_gathered terms held closed census n known before after all same kept took clo
 
 -- memory ran out after some lines
 gathers_memory : (terms : Terms) (bytes : List ℕ) (known : Option (List ℕ)) (output errors : Stream) → HasBegun terms known errors.before errors.after
-    → Has output [] → errors.failed ≡ false → Reaches (haul_task terms) known bytes (Err OutOfMemory) output errors
+    → Has output [] → errors.failed ≡ false → Reaches (haul_task terms) known bytes (Err Memory) output errors
 gathers_memory terms bytes known output errors begun nothing fine = record {
   hides = λ _ _ is. absurd is;
   left = nothing;
@@ -120,7 +120,7 @@ pub gathers_lines : (terms : Terms) (bytes : List ℕ) (known : Option (List ℕ
     → EndsLines terms known errors.before errors.after errors.failed complaint → Has output []
     → Reaches (haul_task terms) known bytes (Err complaint) output errors
 gathers_lines terms bytes known (Refused refusal) output errors ends nothing = absurd ends
-gathers_lines terms bytes known OutOfMemory output errors ends nothing = gathers_memory terms bytes known output errors ends.0 nothing ends.1
+gathers_lines terms bytes known Memory output errors ends nothing = gathers_memory terms bytes known output errors ends.0 nothing ends.1
 gathers_lines terms bytes known ReadFailed output errors ends nothing =
     record { reads = refl; begun = record { terms = terms; opened = refl; begun = ends.0 }; nothing = nothing; fine = ends.1 }
 gathers_lines terms bytes known WriteFailed output errors ends nothing = inr (record { tells = tt; nothing = nothing; cut = ends })
@@ -146,7 +146,7 @@ gathers_haul terms held closed known outcome output errors all same kept took cl
       told = all.2.written;
       fine = fine;
     }
-    go (Err OutOfMemory) nothing =
+    go (Err Memory) nothing =
         gathers_memory terms all.2.bytes known output errors (all_begun known errors.before errors.after all.0 held terms all.2 same) nothing fine
     go (Err WriteFailed) is = inl (record {
       left = (
@@ -214,7 +214,7 @@ gathers_over plan workers bytes known job terms outcome output errors named over
       fine = is.fine;
     }
     go (Err (Refused refusal)) is = absurd (is.0)
-    go (Err OutOfMemory) is = record {
+    go (Err Memory) is = record {
       hides = λ _. list_hides plan workers bytes job named listed;
       left = is.left;
       told = told is.told;
@@ -236,11 +236,11 @@ if_refused (Ok (suc n)) is = cc
 if_refused (Err complaint) is = λ so. so is
 
 -- only memory that ran out has its status
-pub if_memory : {P : Type 0} (outcome : Outcome) → status_after outcome ≡ statuses.OutOfMemory
-    → IfErr outcome (λ complaint. complaint ≡ OutOfMemory → P) → P
+pub if_memory : {P : Type 0} (outcome : Outcome) → status_after outcome ≡ statuses.Memory
+    → IfErr outcome (λ complaint. complaint ≡ Memory → P) → P
 if_memory (Ok zero) is = cc
 if_memory (Ok (suc n)) is = cc
 if_memory (Err (Refused refusal)) is = cc
-if_memory (Err OutOfMemory) is = λ so. so refl
+if_memory (Err Memory) is = λ so. so refl
 if_memory (Err ReadFailed) is = cc
 if_memory (Err WriteFailed) is = cc

@@ -3,10 +3,10 @@ use Rattle.std.proofs.Common.{◌≡◌, ◌≢◌, ◌+◌, ◌∙◌, ◌++◌
 use Rattle.survey_core.specs.FindingLaws.{FindingsAreDetermined}
 use Rattle.survey_core.specs.Soups.{soup}
 use Rattle.survey_core.specs.declared.finding.Finding.{Finding}
-use Rattle.haul_core.specs.declared.arrival.Arrival.{Arrival}
-use Rattle.haul_core.specs.declared.arrival.Arrival.TheVariants.{Offer}
-use Rattle.haul_core.specs.declared.refusal.Refusal.{Refusal}
-use Rattle.haul_core.specs.declared.refusal.Refusal.TheVariants as refusal
+use Rattle.haul_core.specs.declared.book.arrival.Arrival.{Arrival}
+use Rattle.haul_core.specs.declared.book.arrival.Arrival.TheVariants.{Offer}
+use Rattle.haul_core.specs.declared.book.refused.OfferError.{OfferError}
+use Rattle.haul_core.specs.declared.book.refused.OfferError.TheVariants as refusal
 use Rattle.haul_core.specs.Books.{Held, IsReply, StandsFor, Terms, refusal_of}
 use Rattle.haul_core.specs.ClaimChecks.{Agrees, IsFoundFor}
 use Rattle.haul_core.specs.ReportLines.{Claimed, told_in}
@@ -20,7 +20,7 @@ use Rattle.std.specs.Io.KnownBytes.{Consumes}
 use Rattle.plane_core.proofs.OutLemmas.{Appends-append, Appends-nil}
 use Rattle.plane_core.specs.Out.{Output}
 use Rattle.pattern_commands.specs.declared.complaint.Complaint.{Complaint}
-use Rattle.pattern_commands.specs.declared.complaint.Complaint.TheVariants.{Refused, OutOfMemory, ReadFailed, WriteFailed}
+use Rattle.pattern_commands.specs.declared.complaint.Complaint.TheVariants.{Refused, Memory, ReadFailed, WriteFailed}
 use Rattle.commands.specs.declared.lines.LineEnd.{LineEnd}
 use Rattle.commands.specs.declared.lines.LineEnd.TheVariants.{Feed, Input}
 use Rattle.commands.specs.declared.lines.LineRead.{LineRead}
@@ -46,7 +46,7 @@ taken {terms} {line} arrivals report is (inl reply) stands =
 taken arrivals report is (inr reply) stands = absurd (cc (reply.0))
 
 -- a report that is refused
-pub refused : {terms : Terms} {line : List ℕ} {held : Held} (arrivals : List Arrival) (report : Reported) (reason : Refusal) (fault : Option LineFault)
+pub refused : {terms : Terms} {line : List ℕ} {held : Held} (arrivals : List Arrival) (report : Reported) (reason : OfferError) (fault : Option LineFault)
     → IsLookedAt terms.job line (Ok report) → IsReply (Some reason) (refusal_of terms arrivals report) → reason ≢ refusal.Memory
     → fault ≡ offer_fault report (Some reason) → StandsFor (arrivals ++ Offer report ∷ []) held
     → (arrived : List Arrival) × Meets terms arrivals line arrived fault × StandsFor (arrivals ++ arrived) held
@@ -56,7 +56,7 @@ refused {terms} {line} arrivals report reason fault is (inl reply) memory told s
 refused arrivals report reason fault is (inr reply) memory told stands = absurd (memory cc)
 
 -- the same for all that the call for the fault gives
-pub refused_told : {E : Type 0} (terms : Terms) (line : List ℕ) (held : Held) (arrivals : List Arrival) (report : Reported) (reason : Refusal)
+pub refused_told : {E : Type 0} (terms : Terms) (line : List ℕ) (held : Held) (arrivals : List Arrival) (report : Reported) (reason : OfferError)
     (result : Result (Option LineFault) E) → IsLookedAt terms.job line (Ok report) → IsReply (Some reason) (refusal_of terms arrivals report)
     → IfOk result (λ _. reason ≢ refusal.Memory) → IfOk result (λ fault. fault ≡ offer_fault report (Some reason))
     → (reason ≢ refusal.Memory → StandsFor (arrivals ++ Offer report ∷ []) held)
@@ -217,7 +217,7 @@ goes_no_further way held Input is all = all
 pub lines_ended_by : {V : Type 0} (contents : V → Option (List ℕ)) (known left before : Option (List ℕ)) (count size : ℕ) (held : Held) (terms : Terms)
     (old new : Output V) (complaint : Complaint) → HasGathered (passage known left before (contents old.writer) count size) held → held.terms ≡ terms
     → old.failed ≡ false → EndsLine old new complaint → EndsLines terms known before (contents new.writer) new.failed complaint
-lines_ended_by contents known left before count size held terms old new OutOfMemory gathered same fine kept =
+lines_ended_by contents known left before count size held terms old new Memory gathered same fine kept =
     rw kept (begun (passage known left before (contents old.writer) count size) held terms gathered same, fine)
 lines_ended_by contents known left before count size held terms old new ReadFailed gathered same fine kept =
     rw kept (begun (passage known left before (contents old.writer) count size) held terms gathered same, fine)

@@ -23,7 +23,7 @@ reports_accepted P job worker numbers r output puts = never_refused P r (go r pu
   where
     go : (r : TextOutcome) → Puts job worker numbers r output → IfErr r (λ complaint. status_of complaint ≢ Refused)
     go (Ok a) is = tt
-    go (Err complaint.OutOfMemory) is = λ told. cc
+    go (Err complaint.Memory) is = λ told. cc
     go (Err complaint.WriteFailed) is = λ told. cc
     go (Err complaint.ReadFailed) is = absurd is
     go (Err (complaint.Refused refusal)) is = absurd is

@@ -6,15 +6,15 @@ use Rattle.std.proofs.lemmas.Bool.{cases_Bool, leb-false, leb-true}
 use Rattle.std.proofs.lemmas.List.Elements.{All-contains, All-filter, All-map}
 use Rattle.std.specs.List.{IsDistinct}
 use Rattle.std.specs.Result.{result_map_both}
-use Rattle.plane_core.specs.declared.rule.RuleError.{RuleError}
-use Rattle.plane_core.specs.declared.rule.RuleError.TheVariants as rule_error
+use Rattle.plane_core.specs.declared.rule.RuleFault.{RuleFault}
+use Rattle.plane_core.specs.declared.rule.RuleFault.TheVariants as rule_error
 use Rattle.plane_core.specs.Rules.{Numbers, rule_read}
 use Rattle.survey_core.specs.declared.job.Job.{Job}
-use Rattle.survey_core.specs.declared.seed.SeedError.{SeedError}
-use Rattle.survey_core.specs.declared.seed.SeedError.TheVariants as seed_error
+use Rattle.survey_core.specs.declared.seed.SeedFault.{SeedFault}
+use Rattle.survey_core.specs.declared.seed.SeedFault.TheVariants as seed_error
 use Rattle.survey_core.specs.Profiles.{Settling}
 use Rattle.survey_core.specs.Seeds.{seed_read}
-use Rattle.haul_core.specs.declared.census.Census.{Census}
+use Rattle.haul_core.specs.declared.book.census.Census.{Census}
 use Rattle.ranges.specs.declared.range.Range.{Range}
 use Rattle.ranges.specs.declared.range_list.ListError.{ListError}
 use Rattle.ranges.specs.declared.range_list.ListError.TheVariants as list_error
@@ -28,7 +28,7 @@ use Rattle.ranges.specs.Ranges.{AreSmall, IsNormalForm, is_in}
 use Rattle.crew.specs.Shifts.{StopsAt}
 use Rattle.crew.specs.Takes.{HasTaken, was_missing}
 use Rattle.pattern_commands.specs.declared.complaint.Complaint.{Complaint}
-use Rattle.pattern_commands.specs.declared.complaint.Complaint.TheVariants.{Refused, OutOfMemory, ReadFailed, WriteFailed}
+use Rattle.pattern_commands.specs.declared.complaint.Complaint.TheVariants.{Refused, Memory, ReadFailed, WriteFailed}
 use Rattle.commands.specs.declared.plan.Plan.{Plan}
 use Rattle.pattern_commands.specs.declared.refusal.Refusal.{Refusal}
 use Rattle.pattern_commands.specs.declared.refusal.Refusal.TheVariants.{BadRule, BirthZero, HorizonBelowPeriod}
@@ -61,7 +61,7 @@ refused_needs_memory set refusal list (Overlapping ranges named small overlap to
 needs_memory : (set : SoupSet) (tells : List Range → List ℕ → Type 0) (complaint : Complaint) → IsListText set.also
     → right_for_set set tells (Err complaint) → NeedsMemory complaint
 needs_memory set tells (Refused refusal) list right = refused_needs_memory set refusal list right
-needs_memory set tells OutOfMemory list right = absurd right
+needs_memory set tells Memory list right = absurd right
 needs_memory set tells ReadFailed list right = absurd right
 needs_memory set tells WriteFailed list right = absurd right
 
@@ -69,7 +69,7 @@ needs_memory set tells WriteFailed list right = absurd right
 Stops_set : (set : SoupSet) (tells : List Range → List ℕ → Type 0) (complaint : Complaint) → StopsSet set complaint
     → Stops (right_for_set set tells) complaint
 Stops_set set tells (Refused refusal) stops = stops
-Stops_set set tells OutOfMemory stops = λ complaint right. needs_memory set tells complaint stops right
+Stops_set set tells Memory stops = λ complaint right. needs_memory set tells complaint stops right
 Stops_set set tells ReadFailed stops = absurd stops
 Stops_set set tells WriteFailed stops = absurd stops
 
@@ -88,7 +88,7 @@ Stops_list set text list_error.Memory is complete fault memory = subst IsListTex
 pub Reaches_stopped : (right : Right) (complaint : Complaint) (output : Stream) → Stops right complaint → Has output []
     → ReachesText false false right (Err complaint) output
 Reaches_stopped right (Refused refusal) output stops nothing = (stops, nothing)
-Reaches_stopped right OutOfMemory output stops nothing = (λ unread. stops, λ answer is. ([], output_text answer, refl, nothing))
+Reaches_stopped right Memory output stops nothing = (λ unread. stops, λ answer is. ([], output_text answer, refl, nothing))
 Reaches_stopped right ReadFailed output stops nothing = absurd stops
 Reaches_stopped right WriteFailed output stops nothing = absurd stops
 
@@ -102,24 +102,24 @@ Stops_given plan tells job complaint named stops = go complaint (Stops_set plan.
     go : (c : Complaint) → Stops (right_for_set plan.set (tells job)) c
         → Stops (given_right (job_named plan) (λ j. right_for_set plan.set (tells j))) c
     go (Refused refusal) is = rw named is
-    go OutOfMemory is = λ c right. is c (rw named at right)
+    go Memory is = λ c right. is c (rw named at right)
     go ReadFailed is = absurd is
     go WriteFailed is = absurd is
 
 abbrev IsRefusal : Complaint → Type 0
 IsRefusal (Refused refusal) = Unit {0}
-IsRefusal OutOfMemory = ⊥
+IsRefusal Memory = ⊥
 IsRefusal ReadFailed = ⊥
 IsRefusal WriteFailed = ⊥
 
 -- a seed, a profile or a rule is refused, and nothing else happens to them
-seed_refused : (answer : Result (List ℕ) SeedError) (complaint : Complaint) → result_map_both (λ seed. seed) seed_complaint answer ≡ Err complaint
+seed_refused : (answer : Result (List ℕ) SeedFault) (complaint : Complaint) → result_map_both (λ seed. seed) seed_complaint answer ≡ Err complaint
     → IsRefusal complaint
 seed_refused (Ok seed) complaint e = cc
 seed_refused (Err seed_error.TooLong) complaint e = let is : complaint ≡ Refused SeedTooLong = cc in subst IsRefusal (sym is) tt
 seed_refused (Err (seed_error.BadByte place)) complaint e = let is : complaint ≡ Refused (SeedBadByte place) = cc in subst IsRefusal (sym is) tt
 
-rule_refused : (answer : Result Numbers RuleError) (complaint : Complaint) → result_map_both (λ rule. rule) rule_complaint answer ≡ Err complaint
+rule_refused : (answer : Result Numbers RuleFault) (complaint : Complaint) → result_map_both (λ rule. rule) rule_complaint answer ≡ Err complaint
     → IsRefusal complaint
 rule_refused (Ok rule) complaint e = cc
 rule_refused (Err (rule_error.BadRule place)) complaint e = let is : complaint ≡ Refused (BadRule place) = cc in subst IsRefusal (sym is) tt
@@ -154,7 +154,7 @@ job_refused plan complaint =
 pub Stops_job : (plan : Plan) (next : Job → Right) (complaint : Complaint)
     → job_named plan ≡ Err complaint → Stops (given_right (job_named plan) next) complaint
 Stops_job plan next (Refused refusal) refused = rw refused refl
-Stops_job plan next OutOfMemory refused = absurd (job_refused plan OutOfMemory refused)
+Stops_job plan next Memory refused = absurd (job_refused plan Memory refused)
 Stops_job plan next ReadFailed refused = absurd (job_refused plan ReadFailed refused)
 Stops_job plan next WriteFailed refused = absurd (job_refused plan WriteFailed refused)
 
@@ -188,9 +188,9 @@ listed set ranges of = record { ranges = of.listed; words = of.words; spelled = 
 
 -- memory that runs out over a haul that was opened stops the command
 Stops_memory : {workers : ℕ} (plan : Plan) (held : Held)
-    → IsOpenedFor plan workers held → Stops (take_right plan) OutOfMemory
+    → IsOpenedFor plan workers held → Stops (take_right plan) Memory
 Stops_memory plan held is =
-    Stops_given plan TellsAll is.job OutOfMemory is.named (listed plan.set is.opened.ranges is.opened.named)
+    Stops_given plan TellsAll is.job Memory is.named (listed plan.set is.opened.ranges is.opened.named)
 
 -- ---- a haul that was opened
 
@@ -309,7 +309,7 @@ pub take_stops : (may_stop : ℕ → ℕ → Type 0) (plan : Plan) (known : Opti
     → Reaches (gated_task may_stop plan) known bytes (Err complaint) output errors
 take_stops may_stop plan known bytes (Refused refusal) output errors stops nothing still =
     (stops, record { nothing = nothing; silent = still.0; fine = still.1 })
-take_stops may_stop plan known bytes OutOfMemory output errors stops nothing still =
+take_stops may_stop plan known bytes Memory output errors stops nothing still =
     record { hides = λ unread complaint is. stops complaint is; left = nothing; told = inl still.0; fine = still.1 }
 take_stops may_stop plan known bytes ReadFailed output errors stops nothing still = absurd stops
 take_stops may_stop plan known bytes WriteFailed output errors stops nothing still = absurd stops
@@ -331,8 +331,8 @@ take_finishes may_stop plan known bytes held (Ok missing) output errors h none f
       told = still.0;
       fine = still.1;
     }
-take_finishes may_stop plan known bytes held (Err OutOfMemory) output errors h none nothing still =
-    take_stops may_stop plan known bytes OutOfMemory output errors (Stops_memory plan h.opened h.is)
+take_finishes may_stop plan known bytes held (Err Memory) output errors h none nothing still =
+    take_stops may_stop plan known bytes Memory output errors (Stops_memory plan h.opened h.is)
     nothing still
 take_finishes may_stop plan known bytes held (Err WriteFailed) output errors h none half still =
     let many : ℕ = length (missing_of held.terms.ranges held.taken) in
@@ -355,14 +355,14 @@ pub take_ends : {workers : ℕ} {E : Type 0} (may_stop : ℕ → ℕ → Type 0)
     → IsOpenedFor plan workers opened → HasTaken workers opened held → IfOk taken (λ _. EndsCrew may_stop opened held)
     → IfOk taken (λ _. Finishes held outcome output)
     → IfOk taken (λ _. (length (missing_of held.terms.ranges held.taken) ≡ 0) ↔ IsComplete held.terms.ranges held.taken)
-    → IfErr taken (λ _. (outcome ≡ Err OutOfMemory) × Has output []) → IsUntouched errors
+    → IfErr taken (λ _. (outcome ≡ Err Memory) × Has output []) → IsUntouched errors
     → Reaches (gated_task may_stop plan) known bytes outcome output errors
 take_ends may_stop plan known bytes opened held (Ok u) outcome output errors is taken ends finishes none gives_up still =
     take_finishes may_stop plan known bytes held outcome output errors
     (record { opened = opened; is = is; taken = taken; ends = ends }) none finishes still
 take_ends may_stop plan known bytes opened held (Err e) outcome output errors is taken ends finishes none gives_up still =
     subst (λ (o : Outcome). Reaches (gated_task may_stop plan) known bytes o output errors) (sym gives_up.0)
-    (take_stops may_stop plan known bytes OutOfMemory output errors (Stops_memory plan opened is) gives_up.1 still)
+    (take_stops may_stop plan known bytes Memory output errors (Stops_memory plan opened is) gives_up.1 still)
 
 -- a gate that stops nobody stops no haul
 never_right : (may_stop : ℕ → ℕ → Type 0) (plan : Plan) (missing : ℕ) (text : List ℕ)
@@ -415,7 +415,7 @@ never_stopped may_stop plan known bytes status output errors never ends = record
       fine = is.fine;
     }
     go (Err (Refused refusal)) is = is
-    go (Err OutOfMemory) is = record { hides = is.hides; left = is.left; told = is.told; fine = is.fine }
+    go (Err Memory) is = record { hides = is.hides; left = is.left; told = is.told; fine = is.fine }
     go (Err ReadFailed) is = record { reads = is.reads; begun = is.begun; nothing = is.nothing; fine = is.fine }
     go (Err WriteFailed) (inl is) =
         let (made, right, front, told) = is.left in

@@ -16,7 +16,7 @@ use Rattle.ranges.specs.Ranges.{AreSmall, OneNormalForm, Overlap, is_in}
 use Rattle.haul_core.specs.ReportLines.{report_text}
 use Rattle.haul_core.specs.Reports.{Reported}
 use Rattle.pattern_commands.specs.declared.complaint.Complaint.{Complaint}
-use Rattle.pattern_commands.specs.declared.complaint.Complaint.TheVariants.{Refused, OutOfMemory, ReadFailed, WriteFailed}
+use Rattle.pattern_commands.specs.declared.complaint.Complaint.TheVariants.{Refused, Memory, ReadFailed, WriteFailed}
 use Rattle.commands.specs.declared.plan.Plan.{Plan}
 use Rattle.commands.specs.declared.soup_set.SoupSet.{SoupSet}
 use Rattle.pattern_commands.specs.Answers.{Answer, Right, output_text}
@@ -50,7 +50,7 @@ puts_nothing job worker known failed fine = record { reports = []; each = tt; is
 
 -- memory that runs out over the first of them
 pub puts_no_memory : (job : Job) (worker : ℕ) (numbers : List ℕ) (known : Option (List ℕ)) (failed : Bool)
-    → Puts job worker numbers (Err OutOfMemory) (over known known failed)
+    → Puts job worker numbers (Err Memory) (over known known failed)
 puts_no_memory job worker numbers known failed =
     record { done = []; more = numbers; parts = refl; reports = []; each = tt; is_written = Appends-nil known }
 
@@ -89,7 +89,7 @@ puts_then job worker ns ms (Ok u) x y z was failed one two = record {
       (Appends-append x y z (flat_map report_text one.reports) (flat_map report_text two.reports) one.is_written two.is_written);
   fine = two.fine;
 }
-puts_then job worker ns ms (Err OutOfMemory) x y z was failed one two = record {
+puts_then job worker ns ms (Err Memory) x y z was failed one two = record {
   done = ns ++ two.done;
   more = two.more;
   parts = ap (λ (ks : List ℕ). ns ++ ks) two.parts ∙ sym (append_assoc ns two.done two.more);
@@ -116,7 +116,7 @@ puts_then job worker ns ms (Err (Refused refusal)) x y z was failed one two = ab
 -- what stops the first of some numbers stops them all
 pub puts_stops : (job : Job) (worker : ℕ) (ns ms : List ℕ) (complaint : Complaint) (output : Stream) → Puts job worker ns (Err complaint) output
     → Puts job worker (ns ++ ms) (Err complaint) output
-puts_stops job worker ns ms OutOfMemory output h = record {
+puts_stops job worker ns ms Memory output h = record {
   done = h.done;
   more = h.more ++ ms;
   parts = ap (λ (ks : List ℕ). ks ++ ms) h.parts ∙ append_assoc h.done h.more ms;
@@ -241,7 +241,7 @@ only_text one_form job worker set held opened (Err (Refused refusal)) (Too_large
     absurd (large (subst AreSmall (sym (opened.only ranges named)) opened.small))
 only_text one_form job worker set held opened (Err (Refused refusal)) (Overlapping ranges named small overlap told) =
     absurd (opened.apart (subst Overlap (opened.only ranges named) overlap))
-only_text one_form job worker set held opened (Err OutOfMemory) is = absurd is
+only_text one_form job worker set held opened (Err Memory) is = absurd is
 only_text one_form job worker set held opened (Err ReadFailed) is = absurd is
 only_text one_form job worker set held opened (Err WriteFailed) is = absurd is
 
@@ -302,7 +302,7 @@ reaches_work determined one_form plan worker held outcome output is puts =
           is_told = record { normal = held.terms.ranges; form = is.opened.form; reports = put.reports; each = put.each; told = refl };
         } in
         ((text, rw is.named told, put.is_written), put.fine)
-    go (Err OutOfMemory) begun = (
+    go (Err Memory) begun = (
       λ unread complaint is. absurd (never complaint is),
       λ answer is. front_of determined job worker (numbers_of held.terms.ranges) answer output (tells answer is)
           (begun_whole job worker (numbers_of held.terms.ranges) output begun),

@@ -1,8 +1,8 @@
 -- What `census gather` is asked for.
 use Rattle.std.specs.Prelude.{◌≡◌, ◌≤◌, ◌^◌, ◌++◌, ◌∷◌, ℕ, Bool, true, false, List, [], Option, Ok, Err, IsOkAnd, MatchResult, is_ok, length}
-use Rattle.haul_core.specs.declared.arrival.Arrival.{Arrival}
-use Rattle.haul_core.specs.declared.arrival.Arrival.TheVariants.{Closing}
-use Rattle.haul_core.specs.declared.census.Census.{Census}
+use Rattle.haul_core.specs.declared.book.arrival.Arrival.{Arrival}
+use Rattle.haul_core.specs.declared.book.arrival.Arrival.TheVariants.{Closing}
+use Rattle.haul_core.specs.declared.book.census.Census.{Census}
 use Rattle.ranges.specs.declared.range.Range.{Range}
 use Rattle.haul_core.specs.Books.{Terms, taken_of}
 use Rattle.haul_core.specs.Censuses.{IsCensus}

@@ -1,11 +1,11 @@
 -- How report lines are gathered, a line at a time.
 use Rattle.std.specs.Prelude.{◌≡◌, ◌≤◌, ◌^◌, ◌++◌, ℕ, Bool, true, false, List, [], ◌∷◌, All, IfSome, Option, flat_map, length}
 use Rattle.std.specs.Io.KnownBytes.{Appends, Consumes}
-use Rattle.haul_core.specs.declared.arrival.Arrival.{Arrival}
+use Rattle.haul_core.specs.declared.book.arrival.Arrival.{Arrival}
 use Rattle.plane_core.specs.Out.{Output}
 use Rattle.haul_core.specs.Books.{Held, StandsFor, Terms}
 use Rattle.pattern_commands.specs.declared.complaint.Complaint.{Complaint}
-use Rattle.pattern_commands.specs.declared.complaint.Complaint.TheVariants.{Refused, OutOfMemory, ReadFailed, WriteFailed}
+use Rattle.pattern_commands.specs.declared.complaint.Complaint.TheVariants.{Refused, Memory, ReadFailed, WriteFailed}
 use Rattle.commands.specs.declared.lines.LineEnd.{LineEnd}
 use Rattle.commands.specs.declared.lines.LineEnd.TheVariants.{Feed, Input}
 use Rattle.pattern_commands.specs.Answers.{IsInput}
@@ -84,14 +84,14 @@ HasGatheredShort known before after held = (size : ℕ) × (size ≤ 2 ^ 32) × 
 
 -- what is left of the lines where a complaint ends them
 abbrev pub EndsLines : Terms → Option (List ℕ) → Option (List ℕ) → Option (List ℕ) → Bool → Complaint → Type 0
-EndsLines terms known before after failed OutOfMemory = HasBegun terms known before after × (failed ≡ false)
+EndsLines terms known before after failed Memory = HasBegun terms known before after × (failed ≡ false)
 EndsLines terms known before after failed ReadFailed = HasBegun terms known before after × (failed ≡ false)
 EndsLines terms known before after failed WriteFailed = failed ≡ true
 EndsLines terms known before after failed (Refused refusal) = ⊥
 
 -- a complaint over one line: nothing was written, or a write failed
 abbrev pub EndsLine : {V : Type 0} → Output V → Output V → Complaint → Type 0
-EndsLine old new OutOfMemory = new ≡ old
+EndsLine old new Memory = new ≡ old
 EndsLine old new ReadFailed = new ≡ old
 EndsLine old new WriteFailed = new.failed ≡ true
 EndsLine old new (Refused refusal) = ⊥

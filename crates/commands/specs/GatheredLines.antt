@@ -2,14 +2,14 @@
 use Rattle.std.specs.Prelude.{◌≡◌, ◌<◌, ◌≤◌, ◌⊎◌, ◌^◌, ◌++◌, ℕ, suc, true, false, List, [], ◌∷◌, Option, None, Some, Result, Ok, Err, codes, decimal, length, take}
 use Rattle.survey_core.specs.declared.finding.Finding.{Finding}
 use Rattle.survey_core.specs.declared.job.Job.{Job}
-use Rattle.haul_core.specs.declared.arrival.Arrival.{Arrival}
-use Rattle.haul_core.specs.declared.arrival.Arrival.TheVariants.{Offer}
-use Rattle.haul_core.specs.declared.refusal.Refusal.{Refusal}
-use Rattle.haul_core.specs.declared.refusal.Refusal.TheVariants as refusal
+use Rattle.haul_core.specs.declared.book.arrival.Arrival.{Arrival}
+use Rattle.haul_core.specs.declared.book.arrival.Arrival.TheVariants.{Offer}
+use Rattle.haul_core.specs.declared.book.refused.OfferError.{OfferError}
+use Rattle.haul_core.specs.declared.book.refused.OfferError.TheVariants as refusal
 use Rattle.haul_core.specs.Books.{Terms, refusal_of}
 use Rattle.haul_core.specs.ClaimChecks.{Agrees, IsConfirmed, IsFoundFor}
 use Rattle.haul_core.specs.Claims.{IsFirstFaultOf}
-use Rattle.haul_core.specs.Jobs.{same_job}
+use Rattle.survey_core.specs.Jobs.{same_job}
 use Rattle.haul_core.specs.ReportLines.{Claimed, IsClaim, claim_line}
 use Rattle.haul_core.specs.Reports.{Reported}
 use Rattle.commands.specs.declared.line_fault.LineFault.{LineFault}
@@ -43,7 +43,7 @@ pub data IsLookedAt (job : Job) (line : List ℕ) : Result Reported LineFault �
   Front : (place : ℕ) → 2 ^ 24 < length line → IsFrontFault (take (2 ^ 24) line) place → IsLookedAt job line (Err (BadLine place))
 
 -- what is told of a report that a haul refuses; a haul that is open refuses no report of its job in other ways
-abbrev pub offer_fault : Reported → Option Refusal → Option LineFault
+abbrev pub offer_fault : Reported → Option OfferError → Option LineFault
 offer_fault report (Some refusal.UnknownWorker) = Some (UnknownWorker report.worker)
 offer_fault report (Some refusal.OutOfRange) = Some (OutOfRange report.number)
 offer_fault report (Some (refusal.Double worker)) = Some (Double report.number worker)

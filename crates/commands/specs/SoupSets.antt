@@ -5,7 +5,7 @@ use Rattle.ranges.specs.declared.range.Range.{Range}
 use Rattle.ranges.specs.RangeLists.{AreWords, IsFirstListFault, IsListText, list_text}
 use Rattle.ranges.specs.Ranges.{AreSmall, Overlap}
 use Rattle.pattern_commands.specs.declared.complaint.Complaint.{Complaint}
-use Rattle.pattern_commands.specs.declared.complaint.Complaint.TheVariants.{Refused, OutOfMemory, ReadFailed, WriteFailed}
+use Rattle.pattern_commands.specs.declared.complaint.Complaint.TheVariants.{Refused, Memory, ReadFailed, WriteFailed}
 use Rattle.commands.specs.declared.plan.Plan.{Plan}
 use Rattle.pattern_commands.specs.declared.refusal.Refusal.{Refusal}
 use Rattle.pattern_commands.specs.declared.refusal.Refusal.TheVariants.{BadList, RangeTooLarge, RangesOverlap}
@@ -50,6 +50,6 @@ pub record IsToldOf (set : SoupSet) (tells : List Range → List ℕ → Type 0)
 abbrev pub right_for_set : SoupSet → (List Range → List ℕ → Type 0) → Right
 right_for_set set tells (Ok text) = IsToldOf set tells text
 right_for_set set tells (Err (Refused refusal)) = IsRefused set refusal
-right_for_set set tells (Err OutOfMemory) = ⊥
+right_for_set set tells (Err Memory) = ⊥
 right_for_set set tells (Err ReadFailed) = ⊥
 right_for_set set tells (Err WriteFailed) = ⊥

@@ -1,7 +1,7 @@
 -- What `census take` is asked for.
 use Rattle.std.specs.Prelude.{◌≡◌, ℕ, true, false, List}
 use Rattle.survey_core.specs.declared.job.Job.{Job}
-use Rattle.haul_core.specs.declared.census.Census.{Census}
+use Rattle.haul_core.specs.declared.book.census.Census.{Census}
 use Rattle.ranges.specs.declared.range.Range.{Range}
 use Rattle.haul_core.specs.Censuses.{IsCensus}
 use Rattle.haul_core.specs.HaulTexts.{haul_text}

@@ -10,7 +10,7 @@ use Rattle.ranges.specs.Ranges.{AreSmall, IsNormalForm, Overlap}
 use Rattle.crew.specs.Shifts.{StopsAt}
 use Rattle.crew.specs.Takes.{HasTaken, was_missing}
 use Rattle.pattern_commands.specs.declared.complaint.Complaint.{Complaint}
-use Rattle.pattern_commands.specs.declared.complaint.Complaint.TheVariants.{Refused, OutOfMemory, ReadFailed, WriteFailed}
+use Rattle.pattern_commands.specs.declared.complaint.Complaint.TheVariants.{Refused, Memory, ReadFailed, WriteFailed}
 use Rattle.commands.specs.declared.plan.Plan.{Plan}
 use Rattle.commands.specs.declared.soup_set.SoupSet.{SoupSet}
 use Rattle.pattern_commands.specs.Answers.{NeedsMemory, Right}
@@ -19,7 +19,7 @@ use Rattle.commands.specs.SoupSets.{AreRangesOf, IsRefused, job_named}
 -- a complaint that ends a command before it writes: a refusal if that is right, or memory that ran out
 abbrev pub Stops : Right → Complaint → Type 0
 Stops right (Refused refusal) = right (Err (Refused refusal))
-Stops right OutOfMemory = (complaint : Complaint) → right (Err complaint) → NeedsMemory complaint
+Stops right Memory = (complaint : Complaint) → right (Err complaint) → NeedsMemory complaint
 Stops right ReadFailed = ⊥
 Stops right WriteFailed = ⊥
 
@@ -27,7 +27,7 @@ Stops right WriteFailed = ⊥
 -- a range list
 abbrev pub StopsSet : SoupSet → Complaint → Type 0
 StopsSet set (Refused refusal) = IsRefused set refusal
-StopsSet set OutOfMemory = IsListText set.also
+StopsSet set Memory = IsListText set.also
 StopsSet set ReadFailed = ⊥
 StopsSet set WriteFailed = ⊥
 

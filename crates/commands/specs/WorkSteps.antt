@@ -3,7 +3,7 @@ use Rattle.std.specs.Prelude.{◌≡◌, ◌++◌, ℕ, List, Ok, Err, true, fal
 use Rattle.survey_core.specs.declared.job.Job.{Job}
 use Rattle.haul_core.specs.ReportLines.{report_text}
 use Rattle.haul_core.specs.Reports.{Reported}
-use Rattle.pattern_commands.specs.declared.complaint.Complaint.TheVariants.{Refused, OutOfMemory, ReadFailed, WriteFailed}
+use Rattle.pattern_commands.specs.declared.complaint.Complaint.TheVariants.{Refused, Memory, ReadFailed, WriteFailed}
 use Rattle.pattern_commands.specs.Streams.{Stream, Has, HasFront}
 use Rattle.pattern_commands.specs.TextSteps.{TextOutcome}
 use Rattle.commands.specs.Work.{AreReportsOn}
@@ -28,7 +28,7 @@ pub record IsPut (job : Job) (worker : ℕ) (numbers : List ℕ) (output : Strea
 -- it were; or a write failed, and a front of the lines so far was.
 abbrev pub Puts : Job → ℕ → List ℕ → TextOutcome → Stream → Type 0
 Puts job worker numbers (Ok _) output = IsPut job worker numbers output
-Puts job worker numbers (Err OutOfMemory) output = IsBegun job worker numbers (Has output)
+Puts job worker numbers (Err Memory) output = IsBegun job worker numbers (Has output)
 Puts job worker numbers (Err WriteFailed) output = IsBegun job worker numbers (HasFront output) × (output.failed ≡ true)
 Puts job worker numbers (Err ReadFailed) output = ⊥
 Puts job worker numbers (Err (Refused refusal)) output = ⊥

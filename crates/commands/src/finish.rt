@@ -1,14 +1,14 @@
 ghost use Rattle.std.specs.Prelude.{◌≡◌, ◌≢◌, ◌↔◌, ◌++◌, ◌∷◌, [], IfErr, List, false, length};
 ghost use Rattle.haul_core.specs.Books.{StandsFor};
 ghost use Rattle.haul_core.specs.Missing.{IsComplete, missing_of};
-ghost use Rattle.haul_core.specs.declared.arrival.Arrival.{Arrival};
-ghost use Rattle.haul_core.specs.declared.arrival.Arrival.TheVariants as arrival;
+ghost use Rattle.haul_core.specs.declared.book.arrival.Arrival.{Arrival};
+ghost use Rattle.haul_core.specs.declared.book.arrival.Arrival.TheVariants as arrival;
 ghost use Rattle.pattern_commands.specs.Complaints.{status_of};
 ghost use Rattle.commands.specs.Finish.{Finishes};
 ghost use Rattle.pattern_commands.specs.Streams.{stream};
 
-use haul_core::haul::Haul;
-use haul_core::haul_text::write_haul;
+use haul_core::book::haul::Haul;
+use haul_core::book::haul_text::write_haul;
 use pattern_commands::complaint::Complaint;
 use pattern_commands::status::Status;
 use plane_core::output::Out;
@@ -25,7 +25,7 @@ pub(crate) fn finish<W: Write>(haul: &mut Haul, output: &mut Out<W>) -> Result<u
     ensures taken { haul.new.taken ≡ haul.old.taken }
     ensures terms { haul.new.terms ≡ haul.old.terms }
     ensures accepted { IfErr result (λ complaint. status_of complaint ≢ Status.Refused) }
-    ensures no_memory { IfErr result (λ complaint. complaint ≡ Complaint.OutOfMemory → output.new ≡ output.old) }
+    ensures no_memory { IfErr result (λ complaint. complaint ≡ Complaint.Memory → output.new ≡ output.old) }
 {
     let missing = haul.missing_count();
     let _ = haul.close();

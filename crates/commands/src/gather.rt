@@ -16,22 +16,22 @@ ghost use Rattle.commands.specs.Gather.{gather_reads, gather_task, haul_task};
 ghost use Rattle.pattern_commands.specs.Profiles.{AreInRange};
 ghost use Rattle.pattern_commands.specs.Streams.{stream};
 ghost use Rattle.haul_core.specs.Books.{StandsFor};
-ghost use Rattle.haul_core.specs.declared.arrival.Arrival.{Arrival};
+ghost use Rattle.haul_core.specs.declared.book.arrival.Arrival.{Arrival};
 ghost use Rattle.commands.specs.GatherSteps.{EndsLine, EndsLines, GoesOn, HasGathered, HasGatheredShort, HasMet};
 ghost use Rattle.commands.specs.GatherSteps.{IsMetBy, passage};
 ghost use Rattle.commands.specs.GatheredLines.{IsChecked, IsFrontFault, IsLookedAt, Meets, offer_fault};
-ghost use Rattle.haul_core.specs.declared.refusal.Refusal.TheVariants as refusal;
+ghost use Rattle.haul_core.specs.declared.book.refused.OfferError.TheVariants as refusal;
 
 use crate::finish::finish;
 use crate::line_fault::LineFault;
 use crate::lines::{LINE_LIMIT, LineEnd, LineRead, read_line};
 use crate::plan::{Plan, open_haul};
-use haul_core::claim::Claim;
-use haul_core::claim::check::CheckFault;
-use haul_core::claim::line::LineError;
-use haul_core::haul::Haul;
-use haul_core::refusal::Refusal;
+use haul_core::book::haul::Haul;
+use haul_core::book::refused::OfferError;
 use haul_core::report::Report;
+use haul_core::report::claim::Claim;
+use haul_core::report::claim::check::CheckError;
+use haul_core::report::claim::read::LineError;
 use pattern_commands::complaint::Complaint;
 use pattern_commands::ending::tell_end;
 use pattern_commands::status::Status;
@@ -55,8 +55,8 @@ use survey_core::memo::Memo;
 /// # Errors
 ///
 /// The status is `Incomplete` if soups are missing: then the haul was written, and a line on `errors` says how many. It
-/// is `Refused` as of `do_take`; `OutOfMemory`; or `Failed` if the input can't be read or is over 2^32 bytes long, or
-/// if the output or a line on a report line can't be written. With `Refused` and `OutOfMemory`, and after a failed
+/// is `Refused` as of `do_take`; `Memory`; or `Failed` if the input can't be read or is over 2^32 bytes long, or
+/// if the output or a line on a report line can't be written. With `Refused` and `Memory`, and after a failed
 /// read, nothing was written to the output. A failure to write the last line on `errors` is not reported.
 pub fn do_gather<R: Read, W: Write, E: Write>(
     alloc: Global,
@@ -75,7 +75,7 @@ pub fn do_gather<R: Read, W: Write, E: Write>(
         (stream W.contents output.old output.new) (stream E.contents errors.old errors.new) }
     ensures unread { gather_reads plan.now ≡ false → input.new ≡ input.old }
     ensures untouched { result ≡ Status.Refused → (input.new ≡ input.old) × (output.new ≡ output.old) }
-    ensures no_memory { result ≡ Status.OutOfMemory → output.new ≡ output.old }
+    ensures no_memory { result ≡ Status.Memory → output.new ≡ output.old }
 {
     let outcome = gather(alloc, plan, workers, input, output, errors);
     tell_end(outcome, errors)
@@ -101,7 +101,7 @@ fn gather<R: Read, W: Write, E: Write>(
     ensures unread { gather_reads plan.now ≡ false → input.new ≡ input.old }
     ensures untouched { IfErr result (λ complaint. status_of complaint ≡ Status.Refused
         → (input.new ≡ input.old) × (output.new ≡ output.old)) }
-    ensures no_memory { IfErr result (λ complaint. complaint ≡ Complaint.OutOfMemory → output.new ≡ output.old) }
+    ensures no_memory { IfErr result (λ complaint. complaint ≡ Complaint.Memory → output.new ≡ output.old) }
 {
     let mut haul = open_haul(alloc, plan, workers)?;
     gather_into(alloc, &mut haul, input, output, errors)
@@ -123,7 +123,7 @@ fn gather_into<R: Read, W: Write, E: Write>(
         (stream W.contents output.old output.new) (stream E.contents errors.old errors.new) }
     ensures fine { OnOk result (errors.new.failed ≡ false) }
     ensures accepted { IfErr result (λ complaint. status_of complaint ≢ Status.Refused) }
-    ensures no_memory { IfErr result (λ complaint. complaint ≡ Complaint.OutOfMemory → output.new ≡ output.old) }
+    ensures no_memory { IfErr result (λ complaint. complaint ≡ Complaint.Memory → output.new ≡ output.old) }
 {
     gather_input(alloc, input, haul, errors)?;
     finish(haul, output)
@@ -146,7 +146,7 @@ fn gather_input<R: Read, E: Write>(
     ensures fine { OnOk result (errors.new.failed ≡ false) }
 {
     let Ok(mut buffered) = BufReader::with_capacity(alloc, READ_LENGTH, input) else {
-        return Err(Complaint::OutOfMemory);
+        return Err(Complaint::Memory);
     };
     gather_lines(alloc, &mut buffered, haul, errors)
 }
@@ -155,7 +155,7 @@ fn gather_input<R: Read, E: Write>(
 const READ_LENGTH: usize = 65_536;
 
 /// How many bytes of report lines are read at most: 2^32.
-const INPUT_LIMIT: u64 = 4_294_967_296;
+const GATHER_LIMIT: u64 = 4_294_967_296;
 
 /// Reads the input line by line, checks each line and offers its report. What is wrong with a line is told on `errors`.
 fn gather_lines<R: BufRead, E: Write>(
@@ -176,10 +176,10 @@ fn gather_lines<R: BufRead, E: Write>(
     let mut line = Vec::new(alloc);
     let mut memo = Memo::new(alloc);
     let mut size = 0u64;
-    for before in 0..INPUT_LIMIT {
+    for before in 0..GATHER_LIMIT {
         let read = next_line(alloc, input, &mut line, before, &mut memo, haul, errors)?;
         size += read.size;
-        if size > INPUT_LIMIT {
+        if size > GATHER_LIMIT {
             return Err(Complaint::ReadFailed);
         }
         if let LineEnd::Input = read.end {
@@ -315,27 +315,27 @@ fn checked_report(
     };
     match claim.check_with(alloc, job, memo) {
         Ok(report) => Ok(Ok(report)),
-        Err((_, CheckFault::OtherJob)) => Ok(Err(LineFault::OtherJob)),
-        Err((_, CheckFault::Disagrees { .. })) => {
+        Err((_, CheckError::OtherJob)) => Ok(Err(LineFault::OtherJob)),
+        Err((_, CheckError::Disagrees { .. })) => {
             findings_are_determined();
             Ok(Err(LineFault::Disagrees))
         }
-        Err((_, CheckFault::Memory)) => Err(AllocError),
+        Err((_, CheckError::Memory)) => Err(AllocError),
     }
 }
 
 /// What is told of a report that a haul refused.
-fn fault_of(reason: Refusal, worker: u8, number: u64) -> Result<Option<LineFault>, AllocError>
+fn fault_of(reason: OfferError, worker: u8, number: u64) -> Result<Option<LineFault>, AllocError>
     ensures told { (report : Reported) → report.worker ≡ worker → report.number ≡ number
         → IfOk result (λ fault. fault ≡ offer_fault report (Some reason)) }
     ensures answered { IfOk result (λ _. reason ≢ refusal.Memory) }
 {
     match reason {
-        Refusal::UnknownWorker => Ok(Some(LineFault::UnknownWorker { worker })),
-        Refusal::OutOfRange => Ok(Some(LineFault::OutOfRange { number })),
-        Refusal::Double { worker } => Ok(Some(LineFault::Double { number, worker })),
+        OfferError::UnknownWorker => Ok(Some(LineFault::UnknownWorker { worker })),
+        OfferError::OutOfRange => Ok(Some(LineFault::OutOfRange { number })),
+        OfferError::Double { worker } => Ok(Some(LineFault::Double { number, worker })),
         // The haul is open, and the report is of its job.
-        Refusal::Closed | Refusal::OtherJob => Ok(None),
-        Refusal::Memory => Err(AllocError),
+        OfferError::Closed | OfferError::OtherJob => Ok(None),
+        OfferError::Memory => Err(AllocError),
     }
 }

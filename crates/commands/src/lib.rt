@@ -12,6 +12,8 @@ pub mod gather;
 pub mod line_fault;
 /// Inputs, read line by line.
 mod lines;
+/// What a command is lent of the machine.
+pub mod machine;
 /// Plans of a census: soups, profile and rule.
 pub mod plan;
 /// The line that says how far a haul has come.

@@ -13,7 +13,7 @@ ghost use Rattle.std.specs.Prelude.{◌≡◌, ◌≤◌, ◌+◌, ◌^◌, IfOk
 ghost use Rattle.commands.specs.Lines.{HasPiece, HasReadLine, IsPieceOf};
 
 use memchr::memchr;
-use pattern_commands::input::InputFault;
+use pattern_commands::input::InputError;
 use std::io::{BufRead, Error, ErrorKind};
 
 /// How many bytes of a line are looked at: 2^24, far more than a report line of a census has.
@@ -57,11 +57,11 @@ struct Piece {
 ///
 /// # Errors
 ///
-/// `Unreadable` if a read fails or the line has over 2^32 bytes, and `OutOfMemory`.
+/// `Unreadable` if a read fails or the line has over 2^32 bytes, and `Memory`.
 pub(crate) fn read_line<R: BufRead>(
     input: &mut R,
     line: &mut Vec<u8>,
-) -> Result<LineRead, InputFault>
+) -> Result<LineRead, InputError>
     ensures { IfOk result (HasReadLine (R.remaining input.old) (R.remaining input.new) line.new.items) }
 {
     line.clear();
@@ -70,17 +70,17 @@ pub(crate) fn read_line<R: BufRead>(
         let piece = read_piece(input, line)?;
         size = size.saturating_add(piece.size as u64);
         if size > LONGEST {
-            return Err(InputFault::Unreadable);
+            return Err(InputError::Unreadable);
         }
         if let Some(end) = piece.end {
             return Ok(LineRead { size, end });
         }
     }
-    Err(InputFault::Unreadable)
+    Err(InputError::Unreadable)
 }
 
 /// Puts what the reader has at hand of a line at the end of `line`, of which no more than 2^24 + 1 bytes are kept.
-fn read_piece<R: BufRead>(input: &mut R, line: &mut Vec<u8>) -> Result<Piece, InputFault>
+fn read_piece<R: BufRead>(input: &mut R, line: &mut Vec<u8>) -> Result<Piece, InputError>
     requires { length line.old.items ≤ 2 ^ 24 + 1 }
     ensures { IfOk result (HasPiece (R.remaining input.old) (R.remaining input.new) line.old.items line.new.items) }
 {
@@ -96,7 +96,7 @@ fn read_piece<R: BufRead>(input: &mut R, line: &mut Vec<u8>) -> Result<Piece, In
 }
 
 /// Nothing, after a read that a signal interrupted: it is tried again.
-fn after_error(error: &Error) -> Result<Piece, InputFault>
+fn after_error(error: &Error) -> Result<Piece, InputError>
     ensures { IfOk result (λ piece. piece ≡ record { length = 0; size = 0; end = None }) }
 {
     match error.kind() {
@@ -105,8 +105,8 @@ fn after_error(error: &Error) -> Result<Piece, InputFault>
             size: 0,
             end: None,
         }),
-        ErrorKind::OutOfMemory => Err(InputFault::OutOfMemory),
-        _ => Err(InputFault::Unreadable),
+        ErrorKind::OutOfMemory => Err(InputError::Memory),
+        _ => Err(InputError::Unreadable),
     }
 }
 

@@ -8,7 +8,7 @@ ghost use Rattle.commands.specs.TakeSteps.{IsOpenedFor, StopsOpening};
 
 use crate::soup_set::{SoupSet, haul_for};
 use crate::word::Word;
-use haul_core::haul::Haul;
+use haul_core::book::haul::Haul;
 use pattern_commands::complaint::Complaint;
 use pattern_commands::profile::ProfileNumbers;
 use plane_core::rule::Rule;

@@ -4,7 +4,7 @@ ghost use Rattle.commands.specs.SoupSets.{AreRangesOf};
 ghost use Rattle.commands.specs.TakeSteps.{IsOpened, StopsSet};
 
 use crate::word::Word;
-use haul_core::haul::{Haul, OpenError};
+use haul_core::book::haul::{Haul, OpenError};
 use pattern_commands::complaint::Complaint;
 use pattern_commands::refusal::Refusal;
 use ranges::range::Range;
@@ -43,7 +43,7 @@ pub(crate) fn haul_for(
         Err(OpenError::BadWorkers) => unreachable!(),
         Err(OpenError::BadRange) => Err(Complaint::Refused(Refusal::RangeTooLarge)),
         Err(OpenError::Overlap) => Err(Complaint::Refused(Refusal::RangesOverlap)),
-        Err(OpenError::Memory) => Err(Complaint::OutOfMemory),
+        Err(OpenError::Memory) => Err(Complaint::Memory),
     }
 }
 

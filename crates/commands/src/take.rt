@@ -1,3 +1,11 @@
+//! The complete haul of a set of soups.
+//!
+//! ```text
+//! plan ── open_haul ── haul ── take_by_crew ── haul ── finish ── haul text
+//!             │                     │                    │
+//!          refused           out of memory      so many are missing, if a gate stopped a worker
+//! ```
+
 ghost use Rattle.std.specs.Prelude.{◌≡◌, ◌≢◌, ◌≤◌, ◌↔◌, [], ℕ, Err, List, Option, IfErr, IfOk, false, length};
 ghost use Rattle.crew.specs.Takes.{HasTaken};
 ghost use Rattle.haul_core.specs.Missing.{IsComplete, missing_of};
@@ -12,16 +20,17 @@ ghost use Rattle.commands.specs.Take.{take_task};
 ghost use Rattle.commands.specs.TakeSteps.{EndsCrew};
 
 use crate::finish::finish;
+use crate::machine::Machine;
 use crate::plan::{Plan, open_haul};
 use crew::gate::{Gate, OpenGate};
 use crew::watch::Watch;
 use crew::workers::{self, CrewError};
-use haul_core::haul::Haul;
+use haul_core::book::haul::Haul;
 use pattern_commands::complaint::Complaint;
 use pattern_commands::ending::tell_end;
 use pattern_commands::status::Status;
 use plane_core::output::Out;
-use std::alloc::{AllocError, Global};
+use std::alloc::AllocError;
 use std::io::Write;
 use std::sync::Wait;
 use std::thread::Threads;
@@ -31,35 +40,32 @@ use std::thread::Threads;
 /// Each worker has a thread of its own, and what is written is the same for any number of them. Each of the profile's
 /// numbers is in its range, and neither writer may have failed. The seed is looked at first, then the profile, the
 /// rule, the range list, how large the ranges are, and last whether two of them share a number. Nothing is written
-/// before the haul is complete. The watch hears how many soups are taken, and nothing else depends on it. `census take`
-/// is this call over the standard streams.
+/// before the haul is complete. The machine's watch hears how many soups are taken, and nothing else depends on it.
+/// `census take` is this call over the standard streams.
 ///
 /// # Errors
 ///
 /// The status is `Refused` for a text that is not a seed, a horizon below the period, a text that is not a rule or a
 /// range list, ranges that go past 2^40 or have over 2^24 numbers together, or ranges that share a number;
-/// `OutOfMemory`, also if a thread could not be started; or `Failed` if the output can't be written. Then one line
-/// stands on `errors`; a failure to write that line is not reported.
-pub fn do_take<W: Write, E: Write, R: Threads + Wait + Sync, H: Watch>(
-    alloc: Global,
-    rt: &R,
+/// `Memory`, also if a thread could not be started; or `Failed` if the output can't be written. Then one line
+/// stands on standard error; a failure to write that line is not reported.
+pub fn do_take<W: Write, E: Write, T: Threads + Wait + Sync, H: Watch>(
+    machine: &mut Machine<'_, T, E, H>,
     plan: &Plan<'_>,
     workers: u8,
     output: &mut Out<W>,
-    errors: &mut Out<E>,
-    watch: &mut H,
 ) -> Status
     requires workers { IsWorker workers }
     requires profile { AreInRange plan.now.profile }
     requires output { output.old.failed ≡ false }
-    requires errors { errors.old.failed ≡ false }
+    requires errors { machine.old.errors.failed ≡ false }
     ensures ends { (known : Option (List ℕ)) (bytes : List ℕ)
         → Ends (take_task plan.now) known bytes result
-        (stream W.contents output.old output.new) (stream E.contents errors.old errors.new) }
+        (stream W.contents output.old output.new) (stream E.contents machine.old.errors machine.new.errors) }
     ensures untouched { result ≡ Status.Refused → output.new ≡ output.old }
-    ensures no_memory { result ≡ Status.OutOfMemory → output.new ≡ output.old }
+    ensures no_memory { result ≡ Status.Memory → output.new ≡ output.old }
 {
-    do_take_with(alloc, rt, plan, workers, &OpenGate, output, errors, watch)
+    do_take_with(machine, plan, workers, &OpenGate, output)
 }
 
 /// [`do_take`] under a gate, which may stop workers.
@@ -67,40 +73,35 @@ pub fn do_take<W: Write, E: Write, R: Threads + Wait + Sync, H: Watch>(
 /// # Errors
 ///
 /// As of `do_take`, and `Incomplete` if the gate stopped a worker and soups are missing: then the haul text of what was
-/// taken was written, and a line on `errors` says how many are missing.
-pub fn do_take_with<W: Write, E: Write, G: Gate + Sync, R: Threads + Wait + Sync, H: Watch>(
-    alloc: Global,
-    rt: &R,
+/// taken was written, and a line on standard error says how many are missing.
+pub fn do_take_with<W: Write, E: Write, G: Gate + Sync, T: Threads + Wait + Sync, H: Watch>(
+    machine: &mut Machine<'_, T, E, H>,
     plan: &Plan<'_>,
     workers: u8,
     gate: &G,
     output: &mut Out<W>,
-    errors: &mut Out<E>,
-    watch: &mut H,
 ) -> Status
     requires workers { IsWorker workers }
     requires profile { AreInRange plan.now.profile }
     requires output { output.old.failed ≡ false }
-    requires errors { errors.old.failed ≡ false }
+    requires errors { machine.old.errors.failed ≡ false }
     ensures ends { (known : Option (List ℕ)) (bytes : List ℕ)
         → Ends (gated_task (G.may_stop gate.now) plan.now) known bytes result
-        (stream W.contents output.old output.new) (stream E.contents errors.old errors.new) }
+        (stream W.contents output.old output.new) (stream E.contents machine.old.errors machine.new.errors) }
     ensures untouched { result ≡ Status.Refused → output.new ≡ output.old }
-    ensures no_memory { result ≡ Status.OutOfMemory → output.new ≡ output.old }
+    ensures no_memory { result ≡ Status.Memory → output.new ≡ output.old }
 {
-    let outcome = take(alloc, rt, plan, workers, gate, output, watch);
-    tell_end(outcome, errors)
+    let outcome = take(machine, plan, workers, gate, output);
+    tell_end(outcome, &mut machine.errors)
 }
 
 /// Takes what the gate lets through, writes the haul text, and says how many soups are missing.
-fn take<W: Write, G: Gate + Sync, R: Threads + Wait + Sync, H: Watch>(
-    alloc: Global,
-    rt: &R,
+fn take<W: Write, E: Write, G: Gate + Sync, T: Threads + Wait + Sync, H: Watch>(
+    machine: &mut Machine<'_, T, E, H>,
     plan: &Plan<'_>,
     workers: u8,
     gate: &G,
     output: &mut Out<W>,
-    watch: &mut H,
 ) -> Result<u64, Complaint>
     requires workers { IsWorker workers }
     requires profile { AreInRange plan.now.profile }
@@ -109,30 +110,37 @@ fn take<W: Write, G: Gate + Sync, R: Threads + Wait + Sync, H: Watch>(
         → Reaches (gated_task (G.may_stop gate.now) plan.now) known bytes result
         (stream W.contents output.old output.new) errors }
     ensures untouched { IfErr result (λ complaint. status_of complaint ≡ Status.Refused → output.new ≡ output.old) }
-    ensures no_memory { IfErr result (λ complaint. complaint ≡ Complaint.OutOfMemory → output.new ≡ output.old) }
+    ensures no_memory { IfErr result (λ complaint. complaint ≡ Complaint.Memory → output.new ≡ output.old) }
+    ensures silent { machine.new.errors ≡ machine.old.errors }
 {
-    let haul = open_haul(alloc, plan, workers)?;
-    let (mut haul, taken) = take_by_crew(alloc, rt, haul, workers, gate, watch);
+    let haul = open_haul(machine.alloc, plan, workers)?;
+    let (mut haul, taken) = take_by_crew(machine, haul, workers, gate);
     finish_taken(&mut haul, taken, output)
 }
 
 /// Lets workers take what is missing in an open haul, and gives it back. Unless memory ran out it is complete then, or
 /// the gate stopped one of them.
-fn take_by_crew<G: Gate + Sync, R: Threads + Wait + Sync, H: Watch>(
-    alloc: Global,
-    rt: &R,
+fn take_by_crew<E: Write, G: Gate + Sync, T: Threads + Wait + Sync, H: Watch>(
+    machine: &mut Machine<'_, T, E, H>,
     haul: Haul,
     workers: u8,
     gate: &G,
-    watch: &mut H,
 ) -> (Haul, Result<(), AllocError>)
     requires some { 1 ≤ workers }
     requires few { workers ≤ haul.terms.workers }
     requires open { haul.closed ≡ false }
     ensures taken { HasTaken workers haul result.0 }
     ensures ends { IfOk result.1 (λ _. EndsCrew (G.may_stop gate.now) haul result.0) }
+    ensures silent { machine.new.errors ≡ machine.old.errors }
 {
-    match workers::take(alloc, rt, haul, workers, gate, watch) {
+    match workers::take(
+        machine.alloc,
+        machine.threads,
+        haul,
+        workers,
+        gate,
+        &mut machine.watch,
+    ) {
         Ok(haul) => (haul, Ok(())),
         Err((haul, CrewError::Stopped { .. })) => (haul, Ok(())),
         Err((haul, CrewError::Closed | CrewError::Memory)) => (haul, Err(AllocError)),
@@ -149,10 +157,10 @@ fn finish_taken<W: Write>(
     ensures finishes { IfOk taken (λ _. Finishes haul.old result (stream W.contents output.old output.new)) }
     ensures none { IfOk taken (λ _. (length (missing_of haul.old.terms.ranges haul.old.taken) ≡ 0)
         ↔ IsComplete haul.old.terms.ranges haul.old.taken) }
-    ensures gives_up { IfErr taken (λ _. (result ≡ Err Complaint.OutOfMemory)
+    ensures gives_up { IfErr taken (λ _. (result ≡ Err Complaint.Memory)
         × Has (stream W.contents output.old output.new) []) }
     ensures accepted { IfErr result (λ complaint. status_of complaint ≢ Status.Refused) }
-    ensures no_memory { IfErr result (λ complaint. complaint ≡ Complaint.OutOfMemory → output.new ≡ output.old) }
+    ensures no_memory { IfErr result (λ complaint. complaint ≡ Complaint.Memory → output.new ≡ output.old) }
 {
     taken?;
     finish(haul, output)

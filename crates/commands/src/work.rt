@@ -13,9 +13,9 @@ ghost use Rattle.commands.specs.Work.{work_right, work_task};
 ghost use Rattle.commands.specs.WorkSteps.{Puts};
 
 use crate::plan::{Plan, open_haul};
-use haul_core::haul::Haul;
+use haul_core::book::haul::Haul;
 use haul_core::report::Report;
-use haul_core::report_line::write_report_line;
+use haul_core::report::write::write_report_line;
 use pattern_commands::complaint::Complaint;
 use pattern_commands::status::Status;
 use plane_core::output::{Out, WriteError};
@@ -35,7 +35,7 @@ use survey_core::memo::Memo;
 ///
 /// # Errors
 ///
-/// The status is `Refused` as of `do_take`; `OutOfMemory`, and then the lines before stand whole; or `Failed` if the
+/// The status is `Refused` as of `do_take`; `Memory`, and then the lines before stand whole; or `Failed` if the
 /// output can't be written. Then one line stands on `errors`; a failure to write that line is not reported.
 pub fn do_work<W: Write, E: Write>(
     alloc: Global,
@@ -150,7 +150,7 @@ fn put_report<W: Write>(
     ensures { Puts job.now worker (number ∷ []) result (stream W.contents output.old output.new) }
 {
     let Ok(report) = Report::make_with(alloc, job, worker, number, memo) else {
-        return Err(Complaint::OutOfMemory);
+        return Err(Complaint::Memory);
     };
     put_line(&report, output)?;
     Ok(())

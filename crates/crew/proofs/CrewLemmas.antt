@@ -9,8 +9,8 @@ use Rattle.std.proofs.lemmas.List.Sums.{sum_by_push}
 use native.Mathlib.Decide.{dec_le}
 use Rattle.haul_core.specs.Books.{Held, StandsFor, Terms, entry, eligible, refusal_of}
 use Rattle.haul_core.specs.Reports.{Reported}
-use Rattle.haul_core.specs.declared.arrival.Arrival.{Arrival}
-use Rattle.haul_core.specs.declared.arrival.Arrival.TheVariants.{Offer}
+use Rattle.haul_core.specs.declared.book.arrival.Arrival.{Arrival}
+use Rattle.haul_core.specs.declared.book.arrival.Arrival.TheVariants.{Offer}
 use Rattle.handover.specs.Belts.{GotOne, Line, Received}
 use Rattle.crew.specs.Crews.{Collected, HasAdded, HasLost, HasMetAll, IsPart, dones, is_done, report_in, reports_in}
 use Rattle.crew.specs.declared.note.Note.{Note}

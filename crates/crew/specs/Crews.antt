@@ -2,8 +2,8 @@
 use Rattle.std.specs.Prelude.{◌≡◌, ◌<◌, ◌≤◌, ◌+◌, ◌++◌, ◌⊎◌, ℕ, Bool, true, false, All, List, [], ◌∷◌, None, count_by, flat_map, map}
 use Rattle.haul_core.specs.Books.{Held, StandsFor, entry, refusal_of}
 use Rattle.haul_core.specs.Reports.{Reported}
-use Rattle.haul_core.specs.declared.arrival.Arrival.{Arrival}
-use Rattle.haul_core.specs.declared.arrival.Arrival.TheVariants.{Offer}
+use Rattle.haul_core.specs.declared.book.arrival.Arrival.{Arrival}
+use Rattle.haul_core.specs.declared.book.arrival.Arrival.TheVariants.{Offer}
 use Rattle.handover.specs.Belts.{Received}
 use Rattle.crew.specs.declared.note.Note.{Note}
 use Rattle.crew.specs.declared.note.Note.TheVariants.{Done, Report}

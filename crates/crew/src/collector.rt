@@ -1,14 +1,14 @@
 //! The collector: it receives the workers' notes and offers their reports to the haul.
 ghost use Rattle.std.specs.Prelude.{◌≡◌, ◌∷◌, ◌⊎◌, [], List, None, false, is_ok, true};
 ghost use Rattle.haul_core.specs.Books.{StandsFor, refusal_of};
-ghost use Rattle.haul_core.specs.declared.arrival.Arrival.{Arrival};
+ghost use Rattle.haul_core.specs.declared.book.arrival.Arrival.{Arrival};
 ghost use Rattle.crew.specs.Crews.{Collected, HasAdded, HasMetAll};
 
 use crate::note::Note;
 use crate::watch::Watch;
 use handover::belt::{Belt, ReceiverPass};
-use haul_core::haul::Haul;
-use haul_core::refusal::Refusal;
+use haul_core::book::haul::Haul;
+use haul_core::book::refused::OfferError;
 use haul_core::report::Report;
 use std::alloc::AllocError;
 use std::sync::Wait;
@@ -62,7 +62,7 @@ fn offer(haul: &mut Haul, report: Report) -> bool
     match haul.offer(report) {
         Ok(()) => true,
         Err(refused) => match refused.reason {
-            Refusal::Memory => false,
+            OfferError::Memory => false,
             _ => true,
         },
     }

@@ -39,7 +39,7 @@ pub(crate) enum End {
     /// Its gate stopped it.
     Stopped,
     /// Memory ran out.
-    OutOfMemory,
+    Memory,
     /// The worker was not started.
     CalledOff,
 }
@@ -97,7 +97,7 @@ fn survey_left<G: Gate, R: Wait>(
             return End::Stopped;
         }
         let Ok(report) = Report::make_with(alloc, &site.job, worker, number, memo) else {
-            return End::OutOfMemory;
+            return End::Memory;
         };
         site.belt.present(rt, sender, Note::Report(report));
     }

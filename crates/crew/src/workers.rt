@@ -22,7 +22,7 @@ use crate::shift::{End, Shift, Site, work};
 use crate::watch::Watch;
 use handover::belt::{Belt, ReceiverPass, SenderPass};
 use handover::tickets::{Pass, Tickets};
-use haul_core::haul::Haul;
+use haul_core::book::haul::Haul;
 use std::alloc::{AllocError, Global};
 use std::sync::Wait;
 use std::sync::atomic::{AtomicU64, Ordering};

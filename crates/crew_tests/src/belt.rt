@@ -5,7 +5,7 @@ use crew::collector::collect;
 use crew::note::Note;
 use crew::watch::Unwatched;
 use handover::belt::{Belt, SenderPass};
-use haul_core::haul::Haul;
+use haul_core::book::haul::Haul;
 use haul_core::report::Report;
 use std::alloc::{AllocError, Global};
 use std::process::Abort;

@@ -5,7 +5,7 @@ use crate::small::haul_of;
 use crew::gate::{Gate, OpenGate};
 use crew::watch::{Unwatched, Watch};
 use crew::workers::{CrewError, take};
-use haul_core::haul::Haul;
+use haul_core::book::haul::Haul;
 use std::sync::Wait;
 use std::test::Fail;
 use std::thread::Threads;

@@ -1,6 +1,6 @@
 ghost use Rattle.std.specs.Prelude.{◌≡◌, IfOk};
 
-use haul_core::haul::Haul;
+use haul_core::book::haul::Haul;
 use plane_core::rule::Rule;
 use ranges::range::Range;
 use std::alloc::Global;

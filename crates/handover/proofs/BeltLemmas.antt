@@ -17,7 +17,7 @@ use Rattle.std.proofs.Common.{add-zero}
 use Rattle.std.specs.List.{range_with_len}
 use Rattle.atomic_table.specs.Seated.{TableId}
 use Rattle.handover.specs.Belts.{IsWhole, NothingLeft, Presented, left_of, notes_of, silent, with_first}
-use Rattle.handover.specs.BeltRule.{Delivers, Gets, Holds, IsFront, Puts, Tells, both_shares, entry_of, first_notes, first_share, left_over, new_sender}
+use Rattle.handover.specs.BeltRule.{Delivers, Gets, KnowsItsNotes, IsFront, Puts, Tells, both_shares, entry_of, first_notes, first_share, left_over, new_sender}
 use Rattle.handover.specs.BeltRule.{owners, owns, receives, share, spent_share, with_sender, with_senders}
 use Rattle.handover.specs.declared.belt.Share.{Share}
 use Rattle.handover.proofs.SumLemmas.{each_push, each_set, sum_at, sum_set, sum_two}
@@ -51,9 +51,9 @@ module _ {N : Type 0} where
     holds = first_holds;
   }
     where
-      first_holds : (j : ℕ) (v : Share N) → get_elem? (first_share {N = N} ∷ []) j ≡ some v → Holds {N = N} [] [] (owners {N = N} (first_share {N = N} ∷ [])) v
+      first_holds : (j : ℕ) (v : Share N) → get_elem? (first_share {N = N} ∷ []) j ≡ some v → KnowsItsNotes {N = N} [] [] (owners {N = N} (first_share {N = N} ∷ [])) v
       first_holds zero v e =
-          subst (Holds {N = N} [] [] (owners {N = N} (first_share {N = N} ∷ []))) (some-injective _ _ e)
+          subst (KnowsItsNotes {N = N} [] [] (owners {N = N} (first_share {N = N} ∷ []))) (some-injective _ _ e)
           (record { senders = All-nil (λ e. e.1 ≡ notes_of {N = N} e.0 []); got_is = λ _. refl; unmade = λ _ p _. (refl, refl) })
       first_holds (suc j) v e = absurd (some-ne-none v (sym e))
 
@@ -109,7 +109,7 @@ module _ {N : Type 0} where
       let first : first_notes v.senders ≡ notes_of p all =
       All-head (λ (e : ℕ × List N). e.1 ≡ notes_of e.0 all) (p, first_notes v.senders) []
       (subst (All (λ (e : ℕ × List N). e.1 ≡ notes_of e.0 all)) is mine.senders) in
-      let unmade : (u : Share N) → Holds all d.got (owners views) u → u.receives ≡ true → (q : ℕ) → (q ≡ 0) ⊎ (u.made < q)
+      let unmade : (u : Share N) → KnowsItsNotes all d.got (owners views) u → u.receives ≡ true → (q : ℕ) → (q ≡ 0) ⊎ (u.made < q)
       → (notes_of q (all ++ (p, note) ∷ []) ≡ []) × (owners (set views id w) q ≡ 0) =
       λ u h r q un. (
         notes_keep p q note all (λ e. let b : owners views p ≡ 0 = subst (λ (k : ℕ). owners views k ≡ 0) e (h.unmade r q un).1 in omega arith)
@@ -121,17 +121,17 @@ module _ {N : Type 0} where
           got = d.got;
           one_sender = λ q. let a = owned q in let b = d.one_sender q in omega arith;
           one_receiver = let s = sum_set receives views id v w at in let b = d.one_receiver in omega arith;
-          holds = each_set (Holds (d.got ++ (items ++ (p, note) ∷ [])) d.got (owners (set views id w))) views id w
+          holds = each_set (KnowsItsNotes (d.got ++ (items ++ (p, note) ∷ [])) d.got (owners (set views id w))) views id w
               (λ j u apart e.
               let h = d.holds j u e in
               let others : All (λ (e : ℕ × List N). e.0 ≢ p) u.senders =
               unowned p u.senders (let s = sum_two (owns p) views j id u v apart e at in let b = d.one_sender p in omega arith) in
-              subst (λ (l : List (ℕ × N)). Holds l d.got (owners (set views id w)) u) more (record {
+              subst (λ (l : List (ℕ × N)). KnowsItsNotes l d.got (owners (set views id w)) u) more (record {
                 senders = λ k z lt. h.senders k z lt ∙ sym (notes_keep p (get_or u.senders k z).0 note all (others k z lt));
                 got_is = h.got_is;
                 unmade = unmade u h;
               }))
-              (subst (λ (l : List (ℕ × N)). Holds l d.got (owners (set views id w)) w) more (record {
+              (subst (λ (l : List (ℕ × N)). KnowsItsNotes l d.got (owners (set views id w)) w) more (record {
                 senders = All-cons (λ (e : ℕ × List N). e.1 ≡ notes_of e.0 (all ++ (p, note) ∷ [])) (p, first_notes v.senders ++ note ∷ []) []
                     (ap (λ (l : List N). l ++ note ∷ []) first ∙ sym (notes_grow p note all))
                     (All-nil (λ (e : ℕ × List N). e.1 ≡ notes_of e.0 (all ++ (p, note) ∷ [])));
@@ -159,7 +159,7 @@ module _ {N : Type 0} where
           got = got;
           one_sender = λ q. let a = owned q in let b = d.one_sender q in omega arith;
           one_receiver = let s = sum_set receives views id v w at in let b = d.one_receiver in omega arith;
-          holds = each_set (Holds (got ++ items) got (owners (set views id w))) views id w
+          holds = each_set (KnowsItsNotes (got ++ items) got (owners (set views id w))) views id w
               (λ j u apart e.
               let h = d.holds j u e in
               let no : u.receives ≡ true → ⊥ =
@@ -214,8 +214,8 @@ module _ {N : Type 0} where
             (λ ne. let a = not_one q ne in let b = d.one_sender q in omega arith);
         one_receiver =
             let s = sum_set receives views id v l at in let t = sum_by_push receives vs r in let b = d.one_receiver in omega arith;
-        holds = each_push (Holds all d.got (owners (vs ++ r ∷ []))) vs r
-            (each_set (Holds all d.got (owners (vs ++ r ∷ []))) views id l
+        holds = each_push (KnowsItsNotes all d.got (owners (vs ++ r ∷ []))) vs r
+            (each_set (KnowsItsNotes all d.got (owners (vs ++ r ∷ []))) views id l
             (λ j u apart e.
             let h = d.holds j u e in
             let no : u.receives ≡ true → ⊥ =
@@ -267,8 +267,8 @@ module _ {N : Type 0} where
         one_sender = λ q. let a = owned q in let c = d.one_sender q in omega arith;
         one_receiver =
             let s = sum_set receives views id v b at in let t = sum_set receives vs other u spent_share there in let c = d.one_receiver in omega arith;
-        holds = each_set (Holds all d.got (owners end)) vs other spent_share
-            (λ j y _ e. each_set (Holds all d.got (owners end)) views id b
+        holds = each_set (KnowsItsNotes all d.got (owners end)) vs other spent_share
+            (λ j y _ e. each_set (KnowsItsNotes all d.got (owners end)) views id b
             (λ i z _ f. let h = d.holds i z f in
             record { senders = h.senders; got_is = h.got_is; unmade = λ r q un. ((h.unmade r q un).0, owned q ∙ (h.unmade r q un).1) })
             (record {

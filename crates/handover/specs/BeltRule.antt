@@ -52,7 +52,7 @@ module _ {N : Type 0} where
 
   -- Each sender of a pass has presented what was got of it and what the queue holds of it. The receiver has got what was got, and the senders that it
   -- has not made have presented nothing
-  pub record Holds (all got : List (ℕ × N)) (owned : ℕ → ℕ) (v : Share N) : Type 0 where
+  pub record KnowsItsNotes (all got : List (ℕ × N)) (owned : ℕ → ℕ) (v : Share N) : Type 0 where
     pub senders : All (λ e. e.1 ≡ notes_of e.0 all) v.senders
     pub got_is : v.receives ≡ true → v.got ≡ got
     pub unmade : v.receives ≡ true → (p : ℕ) → (p ≡ 0) ⊎ (v.made < p) → (notes_of p all ≡ []) × (owned p ≡ 0)
@@ -62,7 +62,7 @@ module _ {N : Type 0} where
     pub got : List (ℕ × N)
     pub one_sender : (p : ℕ) → owners views p ≤ 1
     pub one_receiver : sum_by receives views ≤ 1
-    pub holds : (seat : ℕ) (v : Share N) → get_elem? views seat ≡ some v → Holds (got ++ items) got (owners views) v
+    pub holds : (seat : ℕ) (v : Share N) → get_elem? views seat ≡ some v → KnowsItsNotes (got ++ items) got (owners views) v
 
   -- a note presented
   abbrev pub Puts : Share N → ℕ × N → Share N → Type 0

@@ -87,9 +87,9 @@ impl Play<(), Hand> for Draw {
     ghost then = { Draws };
 }
 
-struct Cut;
+struct HandOut;
 
-impl Split<Hand> for Cut {
+impl Split<Hand> for HandOut {
     ghost use Rattle.handover.specs.TicketRule.{kept_part, new_part};
 
     ghost left = { kept_part };
@@ -271,7 +271,7 @@ fn cut_up(
 {
     let mut left = passes;
     while 1 < left {
-        let part = shared.split_seat::<Cut>(&mut seat);
+        let part = shared.split_seat::<HandOut>(&mut seat);
         made.push_reserved(Pass {
             seat: part,
             heard_none: false,

@@ -10,15 +10,15 @@ use Rattle.std.proofs.lemmas.Bool.{cases_Bool, false≢true, eq-eqb, eqb-true, n
 use Rattle.std.proofs.lemmas.List.{append-nil, append_assoc, map_push}
 use Rattle.std.proofs.lemmas.List.Elements.{filter-append}
 use Rattle.std.proofs.lemmas.List.Folds.{list_any-append}
-use Rattle.haul_core.specs.declared.arrival.Arrival.{Arrival}
-use Rattle.haul_core.specs.declared.arrival.Arrival.TheVariants.{Closing, Offer}
-use Rattle.haul_core.specs.declared.refusal.Refusal.{Refusal}
-use Rattle.haul_core.specs.declared.refusal.Refusal.TheVariants.{Closed, Memory, OtherJob, OutOfRange, UnknownWorker}
+use Rattle.haul_core.specs.declared.book.arrival.Arrival.{Arrival}
+use Rattle.haul_core.specs.declared.book.arrival.Arrival.TheVariants.{Closing, Offer}
+use Rattle.haul_core.specs.declared.book.refused.OfferError.{OfferError}
+use Rattle.haul_core.specs.declared.book.refused.OfferError.TheVariants.{Closed, Memory, OtherJob, OutOfRange, UnknownWorker}
 use Rattle.haul_core.specs.Replies.{IsTakenNext, StandsForFront, refusal_at, worker_in}
 use Rattle.haul_core.specs.Books.{Held, IsReply, StandsFor, Terms, double, eligible, entry, first_of_each, first_worker}
 use Rattle.haul_core.specs.Books.{has_closing, has_number, is_closing, is_lawful, offered, refusal_of, replies_to, reply_to, taken_of}
-use Rattle.haul_core.specs.declared.arrival.Reply.{Reply}
-use Rattle.haul_core.specs.Jobs.{same_job}
+use Rattle.haul_core.specs.declared.book.arrival.Reply.{Reply}
+use Rattle.survey_core.specs.Jobs.{same_job}
 use Rattle.ranges.specs.Ranges.{is_in}
 use Rattle.haul_core.specs.Reports.{Reported}
 
@@ -133,7 +133,7 @@ first_old (x ∷ rs) r s h = go (λ y found. first_old rs r y found) (cases_Bool
 -- ---- replies
 
 -- the reasons in their order, as tests
-abbrev pub refuses : Bool → Bool → Bool → Bool → Option ℕ → Option Refusal
+abbrev pub refuses : Bool → Bool → Bool → Bool → Option ℕ → Option OfferError
 refuses closed job over inside worker =
     if closed then Some Closed
     else if not job then Some OtherJob
@@ -166,7 +166,7 @@ pub data Why (closed job over inside : Bool) (worker : Option ℕ) : Type 0 wher
   Unlawful : closed ≡ false → (job && (not over && inside)) ≡ false → Why closed job over inside worker
   Was_taken : closed ≡ false → (w : ℕ) → worker ≡ Some w → Why closed job over inside worker
 
-pub why : (closed job over inside : Bool) (worker : Option ℕ) (reason : Refusal) → refuses closed job over inside worker ≡ Some reason
+pub why : (closed job over inside : Bool) (worker : Option ℕ) (reason : OfferError) → refuses closed job over inside worker ≡ Some reason
     → Why closed job over inside worker
 why true job over inside worker reason e = Was_closed refl
 why false false over inside worker reason e = Unlawful refl refl
@@ -187,7 +187,7 @@ lawful_is : (terms : Terms) (r : Reported)
 lawful_is terms r = ap (λ (b : Bool). same_job terms.job r.job && (b && is_in terms.ranges r.number)) (le_not_lt r.worker terms.workers)
 
 -- a refused offer leaves what is taken
-pub refused_leaves : (terms : Terms) (arrivals : List Arrival) (r : Reported) (reason : Refusal) → refusal_of terms arrivals r ≡ Some reason
+pub refused_leaves : (terms : Terms) (arrivals : List Arrival) (r : Reported) (reason : OfferError) → refusal_of terms arrivals r ≡ Some reason
     → taken_of terms (arrivals ++ Offer r ∷ []) ≡ taken_of terms arrivals
 refused_leaves terms arrivals r reason e = go (why (has_closing arrivals) (same_job terms.job r.job) (nat_lt terms.workers r.worker)
     (is_in terms.ranges r.number) (first_worker r.number (eligible terms arrivals)) reason e)
@@ -254,7 +254,7 @@ closing_offer arrivals r = list_any-append is_closing arrivals (Offer r ∷ []) 
     or_false true = refl
     or_false false = refl
 
-pub stands_refused : (arrivals : List Arrival) (held : Held) (r : Reported) (reason : Refusal) → StandsFor arrivals held → refusal_at held r ≡ Some reason
+pub stands_refused : (arrivals : List Arrival) (held : Held) (r : Reported) (reason : OfferError) → StandsFor arrivals held → refusal_at held r ≡ Some reason
     → StandsFor (arrivals ++ Offer r ∷ []) held
 stands_refused arrivals held r reason s e = record {
   taken = s.taken ∙ sym (refused_leaves held.terms arrivals r reason (same_refusal arrivals held r s ∙ e));
@@ -295,14 +295,14 @@ no_memory false true false true None e = absurd (cc)
 no_memory false true false true (Some w) e = absurd (cc)
 
 -- where memory runs out, the book takes the offer
-pub is_taken : (terms : Terms) (before : List Arrival) (r : Reported) (given : Option Refusal) → IsReply given (refusal_of terms before r)
+pub is_taken : (terms : Terms) (before : List Arrival) (r : Reported) (given : Option OfferError) → IsReply given (refusal_of terms before r)
     → given ≡ Some Memory → refusal_of terms before r ≡ None
 is_taken terms before r given (inl same) e = absurd (no_memory (has_closing before) (same_job terms.job r.job) (nat_lt terms.workers r.worker)
     (is_in terms.ranges r.number) (first_worker r.number (eligible terms before)) (sym same ∙ e))
 is_taken terms before r given (inr none) e = none.1
 
 -- where it doesn't, the reply is the book's
-pub answered : (given wanted : Option Refusal) → IsReply given wanted → given ≢ Some Memory → given ≡ wanted
+pub answered : (given wanted : Option OfferError) → IsReply given wanted → given ≢ Some Memory → given ≡ wanted
 answered given wanted (inl same) not_memory = same
 answered given wanted (inr none) not_memory = absurd (not_memory none.0)
 
@@ -314,7 +314,7 @@ on_err_from (Err e) p = p
 pub pushed : {X T E : Type 0} (r : Result T E) (more same : List X) → IsOk r → (if is_ok r then more else same) ≡ more
 pushed r more same ok = ap (λ (b : Bool). if b then more else same) ok
 
-pub reason_is : {r s : Refusal} → Some r ≡ Some s → r ≡ s
+pub reason_is : {r s : OfferError} → Some r ≡ Some s → r ≡ s
 reason_is e = cc
 
 -- memory ran out for the next arrival, which the book takes

@@ -1,4 +1,4 @@
--- The rows of a census, from the tallies.
+-- The rows of a census, from the scores.
 use Rattle.std.proofs.Common.{◌≡◌, ◌∙◌, ◌+◌, ◌<◌, ◌≤◌, ℕ, zero, suc, Bool, true, false, cond, nat_eq, List, [], ◌∷◌}
 use Rattle.std.proofs.Common.{Option, None, Some, ap, sym, subst, refl, arith, inl, inr}
 use Rattle.std.proofs.Common.{◌⊎◌, map, take, length, get_or, is_some}
@@ -17,17 +17,17 @@ use Rattle.std.proofs.lemmas.Map.Keys.{apart_from_distinct}
 use Rattle.std.proofs.lemmas.Map.Made.{is_some-lookup}
 use Rattle.std.proofs.lemmas.Map.Views.{All-found}
 use Rattle.survey_core.specs.Objects.{is_code}
-use Rattle.haul_core.specs.declared.row.Row.{Row}
-use Rattle.haul_core.specs.declared.tally.Tally.{Tally}
+use Rattle.haul_core.specs.declared.book.census_rows.Row.{Row}
+use Rattle.haul_core.specs.declared.book.scores.Score.{Score}
 use Rattle.haul_core.specs.RowSteps.{AreRowsFrom, row_from, with_objects}
 use Rattle.haul_core.specs.Rows.{AreInOrder, codes_of}
-use Rattle.haul_core.specs.Tallies.{row_of}
-use Rattle.haul_core.proofs.TallyLemmas.{code_apart, code_itself, code_same, is_code-same, lookup_append, lookup_none, or_none}
+use Rattle.haul_core.specs.Scores.{row_of}
+use Rattle.haul_core.proofs.ScoreLemmas.{code_apart, code_itself, code_same, is_code-same, lookup_append, lookup_none, or_none}
 
--- ---- the tallies with objects, one after another
+-- ---- the scores with objects, one after another
 
 -- a code stands once among the rows
-pub row_before : (rows : List (List ℕ × Tally)) (i : ℕ) (d : List ℕ × Tally) → IsDistinct (pointwise nat_eq) (keys_of rows) → i < length rows
+pub row_before : (rows : List (List ℕ × Score)) (i : ℕ) (d : List ℕ × Score) → IsDistinct (pointwise nat_eq) (keys_of rows) → i < length rows
     → row_of (take i rows) (get_or rows i d).0 ≡ None
 row_before rows i d distinct low =
     lookup_none (pointwise nat_eq (get_or rows i d).0) (take i rows) (λ k e lower.
@@ -35,7 +35,7 @@ row_before rows i d distinct low =
     let keys : length (keys_of rows) ≡ length rows = length-map rows (λ o. o.0) in
     let apart = apart_from_distinct (pointwise nat_eq) (keys_of rows) k i d.0 distinct long (omega arith) in
     let at_k : get_or (keys_of rows) k d.0 ≡ (get_or (take i rows) k e).0 =
-    get_or-map (λ o. o.0) rows k d d.0 (omega arith) ∙ ap (λ (o : List ℕ × Tally). o.0) (get_or_default rows k d e (omega arith)
+    get_or-map (λ o. o.0) rows k d d.0 (omega arith) ∙ ap (λ (o : List ℕ × Score). o.0) (get_or_default rows k d e (omega arith)
     ∙ sym (get_or-take i rows k e long)) in
     let at_i : get_or (keys_of rows) i d.0 ≡ (get_or rows i d).0 = get_or-map (λ o. o.0) rows i d d.0 low in
     nat_list_eq_equiv.symm (get_or rows i d).0 (get_or (take i rows) k e).0
@@ -46,30 +46,30 @@ got [] i x d h = let bad : None ≡ Some x = h in absurd (cc)
 got (y ∷ ys) zero x d h = cc
 got (y ∷ ys) (suc i) x d h = got ys i x d h
 
-with_some : (tally : Tally) → 0 < tally.total → with_objects (Some tally) ≡ Some tally
-with_some tally h = ap (λ (b : Bool). cond b (Some tally) None) (lt-ltb 0 tally.total h)
+with_some : (score : Score) → 0 < score.total → with_objects (Some score) ≡ Some score
+with_some score h = ap (λ (b : Bool). cond b (Some score) None) (lt-ltb 0 score.total h)
 
-with_none : (tally : Tally) → tally.total ≤ 0 → with_objects (Some tally) ≡ None
-with_none tally h = ap (λ (b : Bool). cond b (Some tally) None) (le-ltb 0 tally.total h)
+with_none : (score : Score) → score.total ≤ 0 → with_objects (Some score) ≡ None
+with_none score h = ap (λ (b : Bool). cond b (Some score) None) (le-ltb 0 score.total h)
 
-pub kept_more : (rows : List (List ℕ × Tally)) (kept newer : List (List ℕ × Tally)) (i : ℕ) (d : List ℕ × Tally)
+pub kept_more : (rows : List (List ℕ × Score)) (kept newer : List (List ℕ × Score)) (i : ℕ) (d : List ℕ × Score)
     → IsDistinct (pointwise nat_eq) (keys_of rows) → i < length rows
     → ((code : List ℕ) → lookup (is_code code) kept ≡ with_objects (row_of (take i rows) code))
     → ((code : List ℕ) → lookup (is_code code) newer ≡ cond (is_code (get_or rows i d).0 code) (with_objects (Some (get_or rows i d).1)) (lookup (is_code code) kept))
     → (code : List ℕ) → lookup (is_code code) newer ≡ with_objects (row_of (take (i + 1) rows) code)
 kept_more rows kept newer i d distinct low before new code = go (cases_Bool (is_code e.0 code))
   where
-    e : List ℕ × Tally
+    e : List ℕ × Score
     e = get_or rows i d
 
     found : (code : List ℕ) → row_of (take (i + 1) rows) code ≡ option_or (row_of (take i rows) code) (cond (pointwise nat_eq code e.0) (Some e.1) None)
-    found code = ap (λ (rs : List (List ℕ × Tally)). row_of rs code) (take_more rows i d low) ∙ lookup_append (pointwise nat_eq code) (take i rows) (e ∷ [])
+    found code = ap (λ (rs : List (List ℕ × Score)). row_of rs code) (take_more rows i d low) ∙ lookup_append (pointwise nat_eq code) (take i rows) (e ∷ [])
 
     go : (is_code e.0 code ≡ true) ⊎ (is_code e.0 code ≡ false) → lookup (is_code code) newer ≡ with_objects (row_of (take (i + 1) rows) code)
     go (inl same) =
         let is : e.0 ≡ code = code_same e.0 code (sym (is_code-same e.0 code) ∙ same) in
         let hit : row_of (take (i + 1) rows) code ≡ Some e.1 =
-        found code ∙ ap (λ (o : Option Tally). option_or o (cond (pointwise nat_eq code e.0) (Some e.1) None))
+        found code ∙ ap (λ (o : Option Score). option_or o (cond (pointwise nat_eq code e.0) (Some e.1) None))
         (subst (λ (c : List ℕ). row_of (take i rows) c ≡ None) is (row_before rows i d distinct low))
         ∙ ap (λ (b : Bool). cond b (Some e.1) None) (subst (λ (c : List ℕ). pointwise nat_eq c e.0 ≡ true) is (code_itself e.0)) in
         new code ∙ ap (λ (b : Bool). cond b (with_objects (Some e.1)) (lookup (is_code code) kept)) same ∙ ap with_objects (sym hit)
@@ -80,58 +80,58 @@ kept_more rows kept newer i d distinct low before new code = go (cases_Bool (is_
         found code ∙ ap (λ (b : Bool). option_or (row_of (take i rows) code) (cond b (Some e.1) None)) apart ∙ or_none (row_of (take i rows) code) in
         new code ∙ ap (λ (b : Bool). cond b (with_objects (Some e.1)) (lookup (is_code code) kept)) other ∙ before code ∙ ap with_objects (sym miss)
 
--- a tally with an object goes into the map
-pub kept_inserted : (rows kept newer : List (List ℕ × Tally)) (i : ℕ) (code : List ℕ) (tally put : Tally)
+-- a score with an object goes into the map
+pub kept_inserted : (rows kept newer : List (List ℕ × Score)) (i : ℕ) (code : List ℕ) (score put : Score)
     → IsDistinct (pointwise nat_eq) (keys_of rows) → i < length rows
-    → slice_get rows i ≡ Some (code, tally) → 0 < tally.total → put ≡ tally
+    → slice_get rows i ≡ Some (code, score) → 0 < score.total → put ≡ score
     → ((q : List ℕ) → lookup (is_code q) newer ≡ cond (is_code code q) (Some put) (lookup (is_code q) kept))
     → ((q : List ℕ) → lookup (is_code q) kept ≡ with_objects (row_of (take i rows) q))
     → (q : List ℕ) → lookup (is_code q) newer ≡ with_objects (row_of (take (i + 1) rows) q)
-kept_inserted rows kept newer i code tally put distinct low at some same new before =
-    let e : get_or rows i (code, tally) ≡ (code, tally) = got rows i (code, tally) (code, tally) at in
-    kept_more rows kept newer i (code, tally) distinct low before
-    (subst (λ (o : List ℕ × Tally). (q : List ℕ)
+kept_inserted rows kept newer i code score put distinct low at some same new before =
+    let e : get_or rows i (code, score) ≡ (code, score) = got rows i (code, score) (code, score) at in
+    kept_more rows kept newer i (code, score) distinct low before
+    (subst (λ (o : List ℕ × Score). (q : List ℕ)
     → lookup (is_code q) newer ≡ cond (is_code o.0 q) (with_objects (Some o.1)) (lookup (is_code q) kept)) (sym e)
-    (λ q. new q ∙ ap (λ (o : Option Tally). cond (is_code code q) o (lookup (is_code q) kept)) (ap Some same ∙ sym (with_some tally some))))
+    (λ q. new q ∙ ap (λ (o : Option Score). cond (is_code code q) o (lookup (is_code q) kept)) (ap Some same ∙ sym (with_some score some))))
 
 -- one without is left out
-pub kept_skipped : (rows kept : List (List ℕ × Tally)) (i : ℕ) (code : List ℕ) (tally : Tally) → IsDistinct (pointwise nat_eq) (keys_of rows)
+pub kept_skipped : (rows kept : List (List ℕ × Score)) (i : ℕ) (code : List ℕ) (score : Score) → IsDistinct (pointwise nat_eq) (keys_of rows)
     → i < length rows
-    → slice_get rows i ≡ Some (code, tally) → tally.total ≤ 0 → ((q : List ℕ) → lookup (is_code q) kept ≡ with_objects (row_of (take i rows) q))
+    → slice_get rows i ≡ Some (code, score) → score.total ≤ 0 → ((q : List ℕ) → lookup (is_code q) kept ≡ with_objects (row_of (take i rows) q))
     → (q : List ℕ) → lookup (is_code q) kept ≡ with_objects (row_of (take (i + 1) rows) q)
-kept_skipped rows kept i code tally distinct low at none before =
-    let e : get_or rows i (code, tally) ≡ (code, tally) = got rows i (code, tally) (code, tally) at in
+kept_skipped rows kept i code score distinct low at none before =
+    let e : get_or rows i (code, score) ≡ (code, score) = got rows i (code, score) (code, score) at in
     let absent : row_of (take i rows) code ≡ None =
-    subst (λ (o : List ℕ × Tally). row_of (take i rows) o.0 ≡ None) e (row_before rows i (code, tally) distinct low) in
-    kept_more rows kept kept i (code, tally) distinct low before
-    (subst (λ (o : List ℕ × Tally). (q : List ℕ) → lookup (is_code q) kept ≡ cond (is_code o.0 q) (with_objects (Some o.1)) (lookup (is_code q) kept)) (sym e)
+    subst (λ (o : List ℕ × Score). row_of (take i rows) o.0 ≡ None) e (row_before rows i (code, score) distinct low) in
+    kept_more rows kept kept i (code, score) distinct low before
+    (subst (λ (o : List ℕ × Score). (q : List ℕ) → lookup (is_code q) kept ≡ cond (is_code o.0 q) (with_objects (Some o.1)) (lookup (is_code q) kept)) (sym e)
     (λ q. go q (cases_Bool (is_code code q)) absent))
   where
     go : (q : List ℕ) → (is_code code q ≡ true) ⊎ (is_code code q ≡ false) → row_of (take i rows) code ≡ None
-        → lookup (is_code q) kept ≡ cond (is_code code q) (with_objects (Some tally)) (lookup (is_code q) kept)
+        → lookup (is_code q) kept ≡ cond (is_code code q) (with_objects (Some score)) (lookup (is_code q) kept)
     go q (inl same) absent =
         let is : code ≡ q = code_same code q (sym (is_code-same code q) ∙ same) in
-        before q ∙ ap with_objects (subst (λ (c : List ℕ). row_of (take i rows) c ≡ None) is absent) ∙ sym (with_none tally none)
-        ∙ sym (ap (λ (b : Bool). cond b (with_objects (Some tally)) (lookup (is_code q) kept)) same)
-    go q (inr other) absent = sym (ap (λ (b : Bool). cond b (with_objects (Some tally)) (lookup (is_code q) kept)) other)
+        before q ∙ ap with_objects (subst (λ (c : List ℕ). row_of (take i rows) c ≡ None) is absent) ∙ sym (with_none score none)
+        ∙ sym (ap (λ (b : Bool). cond b (with_objects (Some score)) (lookup (is_code q) kept)) same)
+    go q (inr other) absent = sym (ap (λ (b : Bool). cond b (with_objects (Some score)) (lookup (is_code q) kept)) other)
 
 -- ---- the rows
 
-codes_from : (entries : List (List ℕ × Tally)) → codes_of (map (λ entry. row_from entry.0 entry.1) entries) ≡ keys_of entries
+codes_from : (entries : List (List ℕ × Score)) → codes_of (map (λ entry. row_from entry.0 entry.1) entries) ≡ keys_of entries
 codes_from [] = refl
 codes_from (e ∷ es) = ap (λ (cs : List (List ℕ)). e.0 ∷ cs) (codes_from es)
 
-pub in_order_from : (kept : BTreeMap (List ℕ) Tally) (rows : List Row) → IsOrdered (slice_cmp nat_cmp) kept
+pub in_order_from : (kept : BTreeMap (List ℕ) Score) (rows : List Row) → IsOrdered (slice_cmp nat_cmp) kept
     → rows ≡ map (λ entry. row_from entry.0 entry.1) kept.entries → AreInOrder rows
 in_order_from kept rows ordered is = subst (IsStrictlySortedBy (slice_cmp nat_cmp)) (sym (ap codes_of is ∙ codes_from kept.entries)) ordered
 
-pub rows_from : (tallies : List (List ℕ × Tally)) (kept : BTreeMap (List ℕ) Tally) (rows : List Row) → IsOrdered (slice_cmp nat_cmp) kept
-    → rows ≡ map (λ entry. row_from entry.0 entry.1) kept.entries → ((q : List ℕ) → lookup (is_code q) kept.entries ≡ with_objects (row_of tallies q))
-    → AreRowsFrom tallies rows
-rows_from tallies kept rows ordered is found = record {
+pub rows_from : (scores : List (List ℕ × Score)) (kept : BTreeMap (List ℕ) Score) (rows : List Row) → IsOrdered (slice_cmp nat_cmp) kept
+    → rows ≡ map (λ entry. row_from entry.0 entry.1) kept.entries → ((q : List ℕ) → lookup (is_code q) kept.entries ≡ with_objects (row_of scores q))
+    → AreRowsFrom scores rows
+rows_from scores kept rows ordered is found = record {
   in_order = in_order_from kept rows ordered is;
-  each = subst (All (λ row. with_objects (row_of tallies row.code) ≡ Some (record { total = row.total; samples = row.samples }))) (sym is)
-      (All-map (λ row. with_objects (row_of tallies row.code) ≡ Some (record {
+  each = subst (All (λ row. with_objects (row_of scores row.code) ≡ Some (record { total = row.total; samples = row.samples }))) (sym is)
+      (All-map (λ row. with_objects (row_of scores row.code) ≡ Some (record {
         total = row.total;
         samples =
             row.samples;

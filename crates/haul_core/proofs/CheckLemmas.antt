@@ -15,10 +15,10 @@ use Rattle.survey_core.specs.Soups.{soup}
 use Rattle.survey_core.specs.declared.finding.Finding.{Finding}
 use Rattle.survey_core.specs.declared.job.Job.{Job}
 use Rattle.haul_core.specs.ClaimChecks.{Agrees, HaveShape, IsConfirmed, IsFoundFor}
-use Rattle.haul_core.specs.Jobs.{same_job}
+use Rattle.survey_core.specs.Jobs.{same_job}
 use Rattle.haul_core.specs.ReportLines.{Claimed, IsClaim, IsCount, IsFound, claim_of, told_in}
 use Rattle.haul_core.specs.Reports.{IsReport, Reported}
-use Rattle.haul_core.proofs.JobLemmas.{jobs_decide}
+use Rattle.survey_core.proofs.JobLemmas.{jobs_decide}
 
 -- a report made of what the claim names
 pub record IsMade (claim : Claimed) (wanted : Job) (report : Reported) : Type 0 where

@@ -5,12 +5,12 @@ use Rattle.std.proofs.lemmas.Fmt.{decimal_injective}
 use Rattle.std.proofs.lemmas.List.{map-append}
 use Rattle.std.proofs.lemmas.List.Elements.{All-push, recursion_from_All}
 use Rattle.std.specs.List.{AllByRecursion}
-use Rattle.haul_core.specs.ClaimSteps.{FollowsFields, HasCounts, HasReadFront, MayFollow, claimed, head_of, last_code, told_of}
+use Rattle.haul_core.specs.ClaimSteps.{FollowsFields, HasCounts, HasReadStart, MayFollow, claimed, head_of, last_code, told_of}
 use Rattle.haul_core.specs.Claims.{BeginClaim, IsClaimLine, IsFirstFaultOf, fields_of}
 use Rattle.haul_core.specs.FieldSteps.{Cuts}
 use Rattle.haul_core.specs.ReportLines.{IsCount, IsFound, IsMark, Told, claim_line, count_field, found_fields, head_fields, mark_fields}
-use Rattle.haul_core.specs.declared.front.Front.{Front}
-use Rattle.haul_core.specs.declared.front.Rested.{Rested}
+use Rattle.haul_core.specs.declared.report.claim.read_start.LineStart.{LineStart}
+use Rattle.haul_core.specs.declared.report.claim.read_start.WhenSettled.{WhenSettled}
 use Rattle.haul_core.proofs.FaultyLines.{bad_at, follows_more}
 use Rattle.haul_core.proofs.OrderLemmas.{AreOrdered, last_code-push, ordered-push, seam}
 use Rattle.haul_core.proofs.SpaceLemmas.{code_lacks_star, cut_once}
@@ -19,12 +19,12 @@ use Rattle.haul_core.proofs.StateLemmas.{at_other, cut_head, same_version}
 abbrev Counts : Type 0
 Counts = List (List ℕ × ℕ)
 
-pub counted_first : (line : List ℕ) (front : Front) (rest : Option (List ℕ)) → HasReadFront line front rest → HasCounts line front [] None rest
+pub counted_first : (line : List ℕ) (front : LineStart) (rest : Option (List ℕ)) → HasReadStart line front rest → HasCounts line front [] None rest
 counted_first line front rest h = record { lawful = h.lawful; follows = h.follows; settled = h.settled; latest = refl }
 
 -- ---- a count more
 
-found_more : (version : ℕ) (settled : Option Rested) (counts : Counts) (object : List ℕ × ℕ) → settled ≢ None → IsFound version (told_of settled counts)
+found_more : (version : ℕ) (settled : Option WhenSettled) (counts : Counts) (object : List ℕ × ℕ) → settled ≢ None → IsFound version (told_of settled counts)
     → MayFollow (last_code counts) object → IsFound version (told_of settled (counts ++ object ∷ []))
 found_more version None counts object n h k = absurd (n refl)
 found_more version (Some rested) counts object n h k =
@@ -35,7 +35,7 @@ found_more version (Some rested) counts object n h k =
       in_order = ordered-push counts object h.in_order k.1;
     }
 
-fields_more : (settled : Option Rested) (counts : Counts) (object : List ℕ × ℕ) → settled ≢ None
+fields_more : (settled : Option WhenSettled) (counts : Counts) (object : List ℕ × ℕ) → settled ≢ None
     → found_fields (told_of settled (counts ++ object ∷ [])) ≡ found_fields (told_of settled counts) ++ count_field object ∷ []
 unfolding found_fields
 fields_more None counts object n = absurd (n refl)
@@ -44,13 +44,13 @@ fields_more (Some rested) counts object n =
     ∙ ap (λ (t : List (List ℕ)). (codes "at=" ++ decimal rested.checkpoint) ∷ t)
     (sym (append_assoc (mark_fields rested.for_good) (map count_field counts) (count_field object ∷ [])))
 
-all_fields_more : (front : Front) (counts : Counts) (object : List ℕ × ℕ) → front.settled ≢ None
+all_fields_more : (front : LineStart) (counts : Counts) (object : List ℕ × ℕ) → front.settled ≢ None
     → fields_of (claimed front (counts ++ object ∷ [])) ≡ fields_of (claimed front counts) ++ count_field object ∷ []
 unfolding head_fields
 all_fields_more front counts object n =
     ap (λ (t : List (List ℕ)). head_of (claimed front counts) ++ t) (fields_more front.settled counts object n)
 
-pub counted_more : (line : List ℕ) (front : Front) (counts : Counts) (last : Option (List ℕ)) (here field : List ℕ) (more : Option (List ℕ))
+pub counted_more : (line : List ℕ) (front : LineStart) (counts : Counts) (last : Option (List ℕ)) (here field : List ℕ) (more : Option (List ℕ))
     → (object : List ℕ × ℕ) → HasCounts line front counts last (Some here) → Cuts 32 here field more → MayFollow last object → field ≡ count_field object
     → HasCounts line front (counts ++ object ∷ []) (Some object.0) more
 counted_more line front counts last here field more object h c k e =
@@ -107,14 +107,14 @@ same_marks version None (Some b) x y z h k e = absurd (omega arith)
 same_marks version (Some a) None x y z h k e = absurd (omega arith)
 same_marks version (Some a) (Some b) x y z h k e = cc
 
-abbrev told_with : Rested → Counts → Told
+abbrev told_with : WhenSettled → Counts → Told
 told_with rested counts = record { checkpoint = rested.checkpoint; for_good = rested.for_good; counts = counts }
 
 each_count : (counts : Counts) (object : List ℕ × ℕ) (more : Counts) → AllByRecursion IsCount (counts ++ object ∷ more) → IsCount object
 each_count [] object more h = h.0
 each_count (a ∷ counts) object more h = each_count counts object more h.1
 
-may_follow : (version : ℕ) (found : Option Told) (rested : Rested) (counts : Counts) (field : List ℕ) (rest : List (List ℕ)) → IsFound version found
+may_follow : (version : ℕ) (found : Option Told) (rested : WhenSettled) (counts : Counts) (field : List ℕ) (rest : List (List ℕ)) → IsFound version found
     → IsFound version (Some (told_with rested counts)) → found_fields found ≡ found_fields (Some (told_with rested counts)) ++ field ∷ rest
     → (object : List ℕ × ℕ) × (MayFollow (last_code counts) object × (field ≡ count_field object))
 unfolding found_fields
@@ -128,13 +128,13 @@ may_follow version (Some told) rested counts field rest h k e =
     let lawful = each_count counts n.object n.more (subst (AllByRecursion IsCount) n.whole all) in
     (n.object, ((lawful, seam counts n.object n.more (subst AreOrdered n.whole h.in_order)), n.spelled))
 
-state_follows : (version : ℕ) (found : Option Told) (settled : Option Rested) (counts : Counts) (field : List ℕ) (rest : List (List ℕ)) → settled ≢ None
+state_follows : (version : ℕ) (found : Option Told) (settled : Option WhenSettled) (counts : Counts) (field : List ℕ) (rest : List (List ℕ)) → settled ≢ None
     → IsFound version found → IsFound version (told_of settled counts) → found_fields found ≡ found_fields (told_of settled counts) ++ field ∷ rest
     → (object : List ℕ × ℕ) × (MayFollow (last_code counts) object × (field ≡ count_field object))
 state_follows version found None counts field rest n h k e = absurd (n refl)
 state_follows version found (Some rested) counts field rest n h k e = may_follow version found rested counts field rest h k e
 
-pub counted_bad : (line : List ℕ) (front : Front) (counts : Counts) (last : Option (List ℕ)) (here field : List ℕ) (more : Option (List ℕ))
+pub counted_bad : (line : List ℕ) (front : LineStart) (counts : Counts) (last : Option (List ℕ)) (here field : List ℕ) (more : Option (List ℕ))
     → HasCounts line front counts last (Some here) → Cuts 32 here field more
     → ((object : List ℕ × ℕ) → MayFollow last object → field ≢ count_field object) → IsFirstFaultOf line (length line - length here)
 counted_bad line front counts last here field more h c none =
@@ -149,10 +149,10 @@ counted_bad line front counts last here field more h c none =
 
 -- ---- the end
 
-pub counted_end : (line : List ℕ) (front : Front) (counts : Counts) (last : Option (List ℕ)) → HasCounts line front counts last None
+pub counted_end : (line : List ℕ) (front : LineStart) (counts : Counts) (last : Option (List ℕ)) → HasCounts line front counts last None
     → claim_line (claimed front counts) ≡ line
 unfolding claim_line
 counted_end line front counts last h = sym h.follows
 
-pub counted_claim : (line : List ℕ) (front : Front) (counts : Counts) (last : Option (List ℕ)) → HasCounts line front counts last None → IsClaimLine line
+pub counted_claim : (line : List ℕ) (front : LineStart) (counts : Counts) (last : Option (List ℕ)) → HasCounts line front counts last None → IsClaimLine line
 counted_claim line front counts last h = record { claim = claimed front counts; lawful = h.lawful; spelled = counted_end line front counts last h }

@@ -11,7 +11,7 @@ use Rattle.haul_core.specs.FieldSteps.{Cuts, Lacks}
 use Rattle.haul_core.specs.HaulTexts.{line_of, spaced}
 use Rattle.ranges.specs.RangeListSteps.{has_byte}
 use Rattle.haul_core.specs.ReportLines.{Claimed, IsClaim, Told, found_fields, head_fields}
-use Rattle.haul_core.specs.declared.front.Front.{Front}
+use Rattle.haul_core.specs.declared.report.claim.read_start.LineStart.{LineStart}
 use Rattle.haul_core.proofs.SpaceLemmas.{claim_line-lined, fields_lack, begin_spaceless, followed-cons, line_of-lined, one_cut}
 
 -- ---- a field more
@@ -131,7 +131,7 @@ unfolding head_fields
 head_length claim = refl
 
 -- a field of the head that no lawful claim has at this place
-pub head_bad : (line : List ℕ) (place : ℕ) (head : Front) (here field : List ℕ) (more : Option (List ℕ)) → place < 7 → HasHead line place head (Some here)
+pub head_bad : (line : List ℕ) (place : ℕ) (head : LineStart) (here field : List ℕ) (more : Option (List ℕ)) → place < 7 → HasHead line place head (Some here)
     → Cuts 32 here field more → ((claim : Claimed) → IsClaim claim → get_or (head_of claim) place [] ≢ field) → IsFirstFaultOf line (length line - length here)
 head_bad line place head here field more within h c none =
     let own = claimed head [] in
@@ -148,7 +148,7 @@ some_found None h = absurd (omega arith)
 some_found (Some told) h = absurd (omega arith)
 
 -- the line ends within the head
-pub head_lacks : (line : List ℕ) (place : ℕ) (head : Front) (there : List ℕ) → place ≤ 7 → HasHead line place head None → there ≡ []
+pub head_lacks : (line : List ℕ) (place : ℕ) (head : LineStart) (there : List ℕ) → place ≤ 7 → HasHead line place head None → there ≡ []
     → IsFirstFaultOf line (length line - length there)
 head_lacks line place head there within h e =
     let own = claimed head [] in
@@ -163,7 +163,7 @@ head_lacks line place head there within h e =
     )))
 
 -- a field of the head more
-pub head_more : (line : List ℕ) (place : ℕ) (head next : Front) (here field : List ℕ) (more : Option (List ℕ)) → HasHead line place head (Some here)
+pub head_more : (line : List ℕ) (place : ℕ) (head next : LineStart) (here field : List ℕ) (more : Option (List ℕ)) → HasHead line place head (Some here)
     → Cuts 32 here field more → HasFilled place head next field → HasHead line (place + 1) next more
 head_more line place head next here field more h c f = record {
   head = record { lawful = f.lawful; none = f.none };

@@ -10,7 +10,7 @@ use Rattle.std.specs.List.{list_all, list_any, prefix_len}
 use Rattle.std.specs.Str.{IsAscii, IsUtf8}
 use Rattle.plane_core.specs.Rules.{IsRule, Numbers, digits, rule_text}
 use Rattle.survey_core.specs.Seeds.{IsSeed, is_invisible, is_visible, seed_read, seed_with_fault}
-use Rattle.survey_core.specs.declared.seed.SeedError.TheVariants.{TooLong}
+use Rattle.survey_core.specs.declared.seed.SeedFault.TheVariants.{TooLong}
 use Rattle.haul_core.specs.FieldSteps.{IsSmall, IsState, IsVersion, Lacks, Tells, state_field}
 use Rattle.haul_core.specs.ReportLines.{mark_field}
 use Rattle.ranges.specs.RangeListSteps.{BeginsDecimal, BeginsNoDecimal, has_digit}

@@ -7,17 +7,17 @@ use Rattle.haul_core.specs.ClaimSteps.{HasFilled, IsHead, told_of}
 use Rattle.haul_core.specs.FieldSteps.{IsVersion}
 use Rattle.haul_core.specs.ReportLines.{IsFound, head_fields, profile_field}
 use Rattle.haul_core.specs.Reports.{IsWorker}
-use Rattle.haul_core.specs.declared.front.Front.{Front}
-use Rattle.haul_core.specs.declared.front.Rested.{Rested}
+use Rattle.haul_core.specs.declared.report.claim.read_start.LineStart.{LineStart}
+use Rattle.haul_core.specs.declared.report.claim.read_start.WhenSettled.{WhenSettled}
 
-nothing_found : (version : ℕ) (settled : Option Rested) → settled ≡ None → IsFound version (told_of settled [])
+nothing_found : (version : ℕ) (settled : Option WhenSettled) → settled ≡ None → IsFound version (told_of settled [])
 nothing_found version None e = tt
 nothing_found version (Some rested) e = absurd (cc)
 
-pub filled_word : (head : Front) (field : List ℕ) → IsHead head → field ≡ codes "report" → HasFilled 0 head head field
+pub filled_word : (head : LineStart) (field : List ℕ) → IsHead head → field ≡ codes "report" → HasFilled 0 head head field
 filled_word head field h e = record { lawful = h.lawful; none = h.none; spelled = ap (λ (t : List ℕ). t ∷ []) (sym e) }
 
-pub filled_version : (head : Front) (field : List ℕ) (v : ℕ) → IsHead head → IsVersion v → field ≡ decimal v
+pub filled_version : (head : LineStart) (field : List ℕ) (v : ℕ) → IsHead head → IsVersion v → field ≡ decimal v
     → HasFilled 1 head (record head { version = v }) field
 unfolding head_fields
 filled_version head field v h lawful e = record {
@@ -34,7 +34,7 @@ filled_version head field v h lawful e = record {
   spelled = ap (λ (t : List ℕ). codes "report" ∷ t ∷ []) (sym e);
 }
 
-pub filled_rule : (head : Front) (field : List ℕ) (rule : Numbers) → IsHead head → IsRule rule → field ≡ codes "rule=" ++ rule_text rule
+pub filled_rule : (head : LineStart) (field : List ℕ) (rule : Numbers) → IsHead head → IsRule rule → field ≡ codes "rule=" ++ rule_text rule
     → HasFilled 2 head (record head { job = record { seed = head.job.seed; profile = head.job.profile; rule = rule } }) field
 unfolding head_fields
 filled_rule head field rule h lawful e = record {
@@ -51,7 +51,7 @@ filled_rule head field rule h lawful e = record {
   spelled = ap (λ (t : List ℕ). codes "report" ∷ decimal head.version ∷ t ∷ []) (sym e);
 }
 
-pub filled_profile : (head : Front) (field : List ℕ) (profile : Settling) → IsHead head → IsProfile profile → field ≡ profile_field profile
+pub filled_profile : (head : LineStart) (field : List ℕ) (profile : Settling) → IsHead head → IsProfile profile → field ≡ profile_field profile
     → HasFilled 3 head (record head { job = record { seed = head.job.seed; profile = profile; rule = head.job.rule } }) field
 unfolding head_fields
 filled_profile head field profile h lawful e = record {
@@ -68,7 +68,7 @@ filled_profile head field profile h lawful e = record {
   spelled = ap (λ (t : List ℕ). codes "report" ∷ decimal head.version ∷ (codes "rule=" ++ rule_text head.job.rule) ∷ t ∷ []) (sym e);
 }
 
-pub filled_seed : (head : Front) (field seed : List ℕ) → IsHead head → IsSeed seed → field ≡ codes "seed=" ++ seed
+pub filled_seed : (head : LineStart) (field seed : List ℕ) → IsHead head → IsSeed seed → field ≡ codes "seed=" ++ seed
     → HasFilled 4 head (record head { job = record { seed = seed; profile = head.job.profile; rule = head.job.rule } }) field
 unfolding head_fields
 filled_seed head field seed h lawful e = record {
@@ -86,7 +86,7 @@ filled_seed head field seed h lawful e = record {
       ap (λ (t : List ℕ). codes "report" ∷ decimal head.version ∷ (codes "rule=" ++ rule_text head.job.rule) ∷ profile_field head.job.profile ∷ t ∷ []) (sym e);
 }
 
-pub filled_worker : (head : Front) (field : List ℕ) (worker : ℕ) → IsHead head → IsWorker worker → field ≡ codes "worker=" ++ decimal worker
+pub filled_worker : (head : LineStart) (field : List ℕ) (worker : ℕ) → IsHead head → IsWorker worker → field ≡ codes "worker=" ++ decimal worker
     → HasFilled 5 head (record head { worker = worker }) field
 unfolding head_fields
 filled_worker head field worker h lawful e = record {
@@ -105,7 +105,7 @@ filled_worker head field worker h lawful e = record {
       ∷ (codes "seed=" ++ head.job.seed) ∷ t ∷ []) (sym e);
 }
 
-pub filled_number : (head : Front) (field : List ℕ) (number : ℕ) → IsHead head → number < 2 ^ 40 → field ≡ codes "soup=" ++ decimal number
+pub filled_number : (head : LineStart) (field : List ℕ) (number : ℕ) → IsHead head → number < 2 ^ 40 → field ≡ codes "soup=" ++ decimal number
     → HasFilled 6 head (record head { number = number }) field
 unfolding head_fields
 filled_number head field number h lawful e = record {

@@ -13,15 +13,15 @@ use Rattle.survey_core.specs.Findings.{IsFinding, objects_in}
 use Rattle.survey_core.specs.Soups.{soup}
 use Rattle.survey_core.specs.declared.job.Job.{Job}
 use Rattle.ranges.specs.declared.range.Range.{Range}
-use Rattle.haul_core.specs.declared.tally.Tally.{Tally}
+use Rattle.haul_core.specs.declared.book.scores.Score.{Score}
 use Rattle.haul_core.specs.Books.{Held}
 use Rattle.haul_core.specs.Joins.{CanJoin}
-use Rattle.haul_core.specs.Keeping.{KeepsBook, Sums, numbers_in, samples, tally_of}
+use Rattle.haul_core.specs.Keeping.{KeepsBook, Sums, numbers_in, samples, score_of}
 use Rattle.ranges.specs.Ranges.{AreBelow, AreNormal, BeginAfter, IsNormalForm, ShareNumber, end_of, is_in, is_in_range, number_bound, size_of}
 use Rattle.haul_core.specs.SampleSteps.{least_three, with_each}
-use Rattle.haul_core.specs.Tallies.{no_tally, tally_in, together}
+use Rattle.haul_core.specs.Scores.{no_score, score_in, together}
 use Rattle.haul_core.specs.Totals.{Survey, count_in, has_object, is_for_good, is_unsettled, total}
-use Rattle.haul_core.proofs.JobLemmas.{jobs_decide}
+use Rattle.survey_core.proofs.JobLemmas.{jobs_decide}
 use Rattle.haul_core.proofs.JoinedSamples.{least_of_both}
 use Rattle.haul_core.proofs.KeepLemmas.{same_length, total_small}
 
@@ -116,8 +116,8 @@ distinct_both a b taken others apart h k d e =
 
 -- ---- totals of both
 
-tally_both : (sa sb : List Survey) (code : List ℕ) → tally_of (sa ++ sb) code ≡ together (together no_tally (tally_of sa code)) (tally_of sb code)
-tally_both sa sb code = λ i. record { total = sum i; samples = least i }
+score_both : (sa sb : List Survey) (code : List ℕ) → score_of (sa ++ sb) code ≡ together (together no_score (score_of sa code)) (score_of sb code)
+score_both sa sb code = λ i. record { total = sum i; samples = least i }
   where
     numbers : List Survey → List ℕ
     numbers surveys = map (λ (s : Survey). s.number) (filter (has_object code) surveys)
@@ -137,7 +137,7 @@ tally_both sa sb code = λ i. record { total = sum i; samples = least i }
 
 -- what is asked of two hauls before their totals are added
 pub record HaveRoom (sa sb : Sums) : Type 0 where
-  pub rows : (code : List ℕ) → (tally_in sa.rows code).total + (tally_in sb.rows code).total < 2 ^ 128
+  pub rows : (code : List ℕ) → (score_in sa.rows code).total + (score_in sb.rows code).total < 2 ^ 128
   pub unsettled_room : sa.unsettled + sb.unsettled < 2 ^ 64
   pub for_good_room : sa.for_good + sb.for_good < 2 ^ 64
 
@@ -153,8 +153,8 @@ module _ (a b : Held) (ca cb : ℕ) (wa wb : List (ℕ × ℕ)) (sa sb : Sums) (
             let most = total_small (ka.surveys ++ kb.surveys) code few (omega arith) in
             let sum : total (ka.surveys ++ kb.surveys) code ≡ total ka.surveys code + total kb.surveys code =
             sum_by-append (λ s. count_in code s.finding) ka.surveys kb.surveys in
-            let first : (tally_in sa.rows code).total ≡ total ka.surveys code = ap (λ (t : Tally). t.total) (ka.sum.rows code) in
-            let second : (tally_in sb.rows code).total ≡ total kb.surveys code = ap (λ (t : Tally). t.total) (kb.sum.rows code) in
+            let first : (score_in sa.rows code).total ≡ total ka.surveys code = ap (λ (t : Score). t.total) (ka.sum.rows code) in
+            let second : (score_in sb.rows code).total ≡ total kb.surveys code = ap (λ (t : Score). t.total) (kb.sum.rows code) in
             omega arith;
         unsettled_room = omega (
           arith,
@@ -176,7 +176,7 @@ module _ (a b : Held) (ca cb : ℕ) (wa wb : List (ℕ × ℕ)) (sa sb : Sums) (
       → IsNormalForm (a.terms.ranges ++ b.terms.ranges) ranges → AreBelow number_bound ranges
       → size_of ranges ≡ size_of a.terms.ranges + size_of b.terms.ranges → workers ≡ max a.terms.workers b.terms.workers
       → taken ≡ a.taken ++ b.taken → by ≡ map (λ (t : ℕ × ℕ). (t.1, t.0)) taken
-      → ((code : List ℕ) → tally_in sums.rows code ≡ together (together no_tally (tally_in sa.rows code)) (tally_in sb.rows code))
+      → ((code : List ℕ) → score_in sums.rows code ≡ together (together no_score (score_in sa.rows code)) (score_in sb.rows code))
       → sums.unsettled ≡ sa.unsettled + sb.unsettled → sums.for_good ≡ sa.for_good + sb.for_good
       → KeepsBook (record { terms = record { job = a.terms.job; ranges = ranges; workers = workers }; closed = true; taken = taken }) (ca + cb) by sums
   keeps_joined ranges workers taken by sums can form below size w t n rows u g =
@@ -205,8 +205,8 @@ module _ (a b : Held) (ca cb : ℕ) (wa wb : List (ℕ × ℕ)) (sa sb : Sums) (
               (subst (λ (j : Job). All (λ s. IsFinding j.rule j.profile (soup j.seed s.number) s.finding) kb.surveys) (sym job) kb.surveyed.findings);
         };
         sum = record {
-          rows = λ code. rows code ∙ (λ i. together (together no_tally (ka.sum.rows code i)) (kb.sum.rows code i))
-              ∙ sym (tally_both ka.surveys kb.surveys code);
+          rows = λ code. rows code ∙ (λ i. together (together no_score (ka.sum.rows code i)) (kb.sum.rows code i))
+              ∙ sym (score_both ka.surveys kb.surveys code);
           unsettled_sum = u ∙ (λ i. ka.sum.unsettled_sum i + kb.sum.unsettled_sum i)
               ∙ sym (sum_by-append (λ s. cond {A = ℕ} (is_unsettled s.finding) 1 0) ka.surveys kb.surveys);
           for_good_sum = g ∙ (λ i. ka.sum.for_good_sum i + kb.sum.for_good_sum i)

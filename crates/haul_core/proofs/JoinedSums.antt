@@ -14,7 +14,7 @@ use Rattle.survey_core.specs.FindingLaws.{FindingsAreDetermined}
 use Rattle.survey_core.specs.Objects.{is_code}
 use Rattle.survey_core.specs.Soups.{soup}
 use Rattle.survey_core.specs.declared.job.Job.{Job}
-use Rattle.haul_core.specs.declared.row.Row.{Row}
+use Rattle.haul_core.specs.declared.book.census_rows.Row.{Row}
 use Rattle.haul_core.specs.HaulLaws.{JoinedHaulsAddUp, total_in}
 use Rattle.haul_core.specs.Rows.{AreRowsOf, IsRowOf, codes_of}
 use Rattle.haul_core.specs.Totals.{AreSurveys, Survey, count_in, for_good, is_for_good, is_unsettled, total, unsettled}

@@ -20,22 +20,22 @@ use Rattle.plane_core.specs.Rules.{Numbers}
 use Rattle.plane_core.specs.declared.cell.Cell.{Cell}
 use Rattle.survey_core.specs.declared.finding.Finding.{Finding}
 use Rattle.survey_core.specs.declared.finding.Finding.TheVariants.{Settled, Unsettled}
-use Rattle.haul_core.specs.declared.tally.Tally.{Tally}
+use Rattle.haul_core.specs.declared.book.scores.Score.{Score}
 use Rattle.survey_core.specs.declared.job.Job.{Job}
 use Rattle.haul_core.specs.Replies.{refusal_at, worker_in}
-use Rattle.haul_core.specs.Jobs.{same_job}
+use Rattle.survey_core.specs.Jobs.{same_job}
 use Rattle.haul_core.proofs.BookLemmas.{none_holds}
-use Rattle.haul_core.proofs.JobLemmas.{jobs_decide}
+use Rattle.survey_core.proofs.JobLemmas.{jobs_decide}
 use Rattle.haul_core.specs.Books.{Held, Terms, entry}
-use Rattle.haul_core.specs.Keeping.{KeepsBook, Sums, numbers_in, samples, tally_of}
+use Rattle.haul_core.specs.Keeping.{KeepsBook, Sums, numbers_in, samples, score_of}
 use Rattle.ranges.specs.Ranges.{AreBelow, AreNormal, is_in, number_bound, size_of}
 use Rattle.ranges.specs.declared.range.Range.{Range}
 use Rattle.haul_core.specs.Reports.{IsReport, IsWorker, Reported}
 use Rattle.haul_core.specs.SampleSteps.{ascending, least_three, with_number}
-use Rattle.haul_core.specs.Tallies.{Extends, HasLawfulObjects, added, found_in, tally_in}
+use Rattle.haul_core.specs.Scores.{Extends, HasLawfulObjects, added, found_in, score_in}
 use Rattle.haul_core.specs.Totals.{Survey, count_in, has_object, is_for_good, is_unsettled, total}
 use Rattle.haul_core.proofs.SampleLemmas.{ascending_push, take_with}
-use Rattle.haul_core.proofs.TallyLemmas.{tally-Extends}
+use Rattle.haul_core.proofs.ScoreLemmas.{score-Extends}
 
 -- ---- one survey more
 
@@ -56,9 +56,9 @@ count_found : (code : List ℕ) (finding : Finding) → count_in code finding �
 count_found code (Settled t objects good) = refl
 count_found code Unsettled = refl
 
-pub tally_more : (surveys : List Survey) (s : Survey) (code : List ℕ) → HasLawfulObjects s.finding
-    → tally_of (surveys ++ s ∷ []) code ≡ added (found_in code s.finding) s.number (tally_of surveys code)
-tally_more surveys s code lawful = go (found_in code s.finding) (found_some code s.finding lawful) (count_found code s.finding)
+pub score_more : (surveys : List Survey) (s : Survey) (code : List ℕ) → HasLawfulObjects s.finding
+    → score_of (surveys ++ s ∷ []) code ≡ added (found_in code s.finding) s.number (score_of surveys code)
+score_more surveys s code lawful = go (found_in code s.finding) (found_some code s.finding lawful) (count_found code s.finding)
   where
     with_samples : (b : Bool) → has_object code s ≡ b
         → map (λ (s : Survey). s.number) (filter (has_object code) (surveys ++ s ∷ [])) ≡ map (λ (s : Survey). s.number) (filter (has_object code) surveys) ++ cond b (s.number ∷ []) []
@@ -71,7 +71,7 @@ tally_more surveys s code lawful = go (found_in code s.finding) (found_some code
         ∙ ap (λ (b : Bool). filter (has_object code) surveys ++ cond b (s ∷ []) []) e ∙ append-nil (filter (has_object code) surveys))
         ∙ sym (append-nil (map (λ (s : Survey). s.number) (filter (has_object code) surveys)))
 
-    go : (o : Option ℕ) → FoundSome o → count_in code s.finding ≡ unwrap_or o 0 → tally_of (surveys ++ s ∷ []) code ≡ added o s.number (tally_of surveys code)
+    go : (o : Option ℕ) → FoundSome o → count_in code s.finding ≡ unwrap_or o 0 → score_of (surveys ++ s ∷ []) code ≡ added o s.number (score_of surveys code)
     go None some is =
         let none : has_object code s ≡ false = ap (nat_le 1) is in
         let same : total (surveys ++ s ∷ []) code ≡ total surveys code =
@@ -122,7 +122,7 @@ keeps_extended held count workers old new x u g k = record {
   surveys = k.surveys;
   surveyed = k.surveyed;
   sum = record {
-    rows = λ code. tally-Extends old.rows new.rows x code ∙ k.sum.rows code;
+    rows = λ code. score-Extends old.rows new.rows x code ∙ k.sum.rows code;
     unsettled_sum = u ∙ k.sum.unsettled_sum;
     for_good_sum = g ∙ k.sum.for_good_sum;
     few = k.sum.few;
@@ -143,7 +143,7 @@ unreported n (t ∷ ts) h = go (cases_Bool (nat_eq n t.1)) (unreported n ts)
 -- one report more
 pub keeps_more : (terms : Terms) (closed : Bool) (taken : List (ℕ × ℕ)) (count : ℕ) (workers : List (ℕ × ℕ)) (old new : Sums) (r : Reported) → IsReport r
     → HasLawfulObjects r.finding → refusal_at (record { terms = terms; closed = closed; taken = taken }) r ≡ None
-    → ((code : List ℕ) → tally_in new.rows code ≡ added (found_in code r.finding) r.number (tally_in old.rows code))
+    → ((code : List ℕ) → score_in new.rows code ≡ added (found_in code r.finding) r.number (score_in old.rows code))
     → new.unsettled ≡ old.unsettled + (if is_unsettled r.finding then 1 else 0) → new.for_good ≡ old.for_good + (if is_for_good r.finding then 1 else 0)
     → KeepsBook (record { terms = terms; closed = closed; taken = taken }) count workers old
     → KeepsBook (record { terms = terms; closed = closed; taken = taken ++ entry r ∷ [] }) count (workers ++ (r.number, r.worker) ∷ []) new
@@ -168,7 +168,7 @@ keeps_more terms closed taken count workers old new r is lawful e rows u g k =
             (subst (λ (j : Job). IsFinding j.rule j.profile (soup j.seed r.number) r.finding) (sym job) is.finding);
       };
       sum = record {
-        rows = λ code. rows code ∙ ap (added (found_in code r.finding) r.number) (k.sum.rows code) ∙ sym (tally_more k.surveys survey code lawful);
+        rows = λ code. rows code ∙ ap (added (found_in code r.finding) r.number) (k.sum.rows code) ∙ sym (score_more k.surveys survey code lawful);
         unsettled_sum = u ∙ ap (λ (n : ℕ). n + (if is_unsettled r.finding then 1 else 0)) k.sum.unsettled_sum
             ∙ sym (sum_by_push (λ s. cond {A = ℕ} (is_unsettled s.finding) 1 0) k.surveys survey);
         for_good_sum = g ∙ ap (λ (n : ℕ). n + (if is_for_good r.finding then 1 else 0)) k.sum.for_good_sum
@@ -179,7 +179,7 @@ keeps_more terms closed taken count workers old new r is lawful e rows u g k =
 
 -- what a haul needs for one report more
 pub record HasRoom (sums : Sums) : Type 0 where
-  pub rows : (code : List ℕ) → (tally_in sums.rows code).total + 2 ^ 64 ≤ 2 ^ 128
+  pub rows : (code : List ℕ) → (score_in sums.rows code).total + 2 ^ 64 ≤ 2 ^ 128
   pub unsettled_room : sums.unsettled + 1 < 2 ^ 64
   pub for_good_room : sums.for_good + 1 < 2 ^ 64
 
@@ -188,7 +188,7 @@ pub has_room : (held : Held) (count : ℕ) (workers : List (ℕ × ℕ)) (sums :
 has_room held count workers sums short k =
     let long : length k.surveys ≡ length held.taken = same_length held count workers sums k in
     record {
-      rows = λ code. subst (λ (t : Tally). t.total + 2 ^ 64 ≤ 2 ^ 128) (sym (k.sum.rows code)) (total_small k.surveys code k.sum.few (omega arith));
+      rows = λ code. subst (λ (t : Score). t.total + 2 ^ 64 ≤ 2 ^ 128) (sym (k.sum.rows code)) (total_small k.surveys code k.sum.few (omega arith));
       unsettled_room = omega (arith, k.sum.unsettled_sum, count_by-le-length (λ s. is_unsettled s.finding) k.surveys);
       for_good_room = omega (arith, k.sum.for_good_sum, count_by-le-length (λ s. is_for_good s.finding) k.surveys);
     }
@@ -243,7 +243,7 @@ keeps_none job ranges workers count taken numbers sums normal below size worker 
       surveys = [];
       surveyed = record { each = refl; findings = All-nil (λ s. IsFinding job.rule job.profile (soup job.seed s.number) s.finding) };
       sum = record {
-        rows = λ code. ap (λ (rs : List (List ℕ × Tally)). tally_in rs code) rows;
+        rows = λ code. ap (λ (rs : List (List ℕ × Score)). score_in rs code) rows;
         unsettled_sum = u;
         for_good_sum = g;
         few = All-nil (λ s. objects_in s.finding < 2 ^ 64);

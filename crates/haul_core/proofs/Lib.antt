@@ -6,11 +6,10 @@ mod CountedLemmas
 mod FaultyLines
 mod FieldLemmas
 mod HeadLemmas
-mod JobLemmas
 mod JoinLemmas
 mod JoinedSamples
+mod JoinedScores
 mod JoinedSums
-mod JoinedTallies
 mod KeepLemmas
 mod LawLemmas
 mod LeastLemmas
@@ -23,9 +22,9 @@ mod PartLemmas
 mod ReportLemmas
 mod RowLemmas
 mod SampleLemmas
+mod ScoreLemmas
 mod SpaceLemmas
 mod StandLemmas
 mod StateLemmas
 mod SumLemmas
-mod TallyLemmas
 mod TextLemmas

@@ -10,12 +10,12 @@ use Rattle.std.specs.declared.cmp.Ordering.TheVariants.{Less, Equal, Greater}
 use Rattle.std.proofs.lemmas.Bool.{cases_Bool, false≢true, le-leb, leb-true}
 use Rattle.std.proofs.lemmas.List.Elements.{All-head, All-tail}
 use Rattle.survey_core.specs.Objects.{is_code}
-use Rattle.haul_core.specs.declared.row.Row.{Row}
+use Rattle.haul_core.specs.declared.book.census_rows.Row.{Row}
 use Rattle.haul_core.specs.Rows.{AreRowsOf, IsRowOf, codes_of}
 use Rattle.haul_core.specs.Keeping.{samples}
 use Rattle.haul_core.specs.Totals.{Survey, numbers_with, total}
 use Rattle.haul_core.proofs.LeastLemmas.{one_least}
-use Rattle.haul_core.proofs.TallyLemmas.{code_same, is_code-same}
+use Rattle.haul_core.proofs.ScoreLemmas.{code_same, is_code-same}
 
 -- ---- codes in order
 

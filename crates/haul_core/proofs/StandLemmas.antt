@@ -7,15 +7,15 @@ use Rattle.std.proofs.lemmas.List.{append-nil, map-append}
 use Rattle.std.proofs.lemmas.List.Elements.{All-append, All-cons, All-filter, All-head, All-tail, All-weaker, filter_passes}
 use Rattle.std.proofs.lemmas.List.Folds.{list_any-append}
 use Rattle.survey_core.specs.declared.job.Job.{Job}
-use Rattle.haul_core.specs.declared.arrival.Arrival.{Arrival}
-use Rattle.haul_core.specs.declared.arrival.Arrival.TheVariants.{Closing, Offer}
+use Rattle.haul_core.specs.declared.book.arrival.Arrival.{Arrival}
+use Rattle.haul_core.specs.declared.book.arrival.Arrival.TheVariants.{Closing, Offer}
 use Rattle.ranges.specs.declared.range.Range.{Range}
 use Rattle.haul_core.specs.Books.{Held, StandsFor, Terms, eligible, entry, first_of_each, has_closing, has_number, is_lawful, offered, taken_of}
-use Rattle.haul_core.specs.Jobs.{same_job}
+use Rattle.survey_core.specs.Jobs.{same_job}
 use Rattle.haul_core.specs.Joins.{CanJoin, IsJoined, joined_arrivals, taken_offers}
 use Rattle.ranges.specs.Ranges.{ShareNumber, is_in, is_in_range}
 use Rattle.haul_core.specs.Reports.{Reported}
-use Rattle.haul_core.proofs.JobLemmas.{jobs_decide}
+use Rattle.survey_core.proofs.JobLemmas.{jobs_decide}
 
 offered-offers : (xs : List Reported) (rest : List Arrival) → offered (map (λ r. Offer r) xs ++ rest) ≡ xs ++ offered rest
 offered-offers [] rest = refl

@@ -4,12 +4,12 @@ use Rattle.std.proofs.Common.{append_assoc, codes, decimal, get_or, inl, inr, ma
 use Rattle.std.proofs.lemmas.Fmt.{decimal_injective}
 use Rattle.std.proofs.lemmas.List.Elements.{All-nil}
 use Rattle.std.specs.List.Sorted.{IsStrictlySortedBy}
-use Rattle.haul_core.specs.ClaimSteps.{FollowsFields, HasReadFront, HasHead, IsHead, claimed, head_of, told_of}
+use Rattle.haul_core.specs.ClaimSteps.{FollowsFields, HasReadStart, HasHead, IsHead, claimed, head_of, told_of}
 use Rattle.haul_core.specs.Claims.{BeginClaim, IsFirstFaultOf, fields_of}
 use Rattle.haul_core.specs.FieldSteps.{Cuts, IsAnyMark, IsState, state_field}
 use Rattle.haul_core.specs.ReportLines.{Claimed, IsClaim, IsCount, IsFound, IsMark, Told, count_field, found_fields, head_fields, mark_field, mark_fields}
-use Rattle.haul_core.specs.declared.front.Front.{Front}
-use Rattle.haul_core.specs.declared.front.Rested.{Rested}
+use Rattle.haul_core.specs.declared.report.claim.read_start.LineStart.{LineStart}
+use Rattle.haul_core.specs.declared.report.claim.read_start.WhenSettled.{WhenSettled}
 use Rattle.haul_core.proofs.FaultyLines.{bad_at, begin_head, follows_more, lacks_at, over_at}
 use Rattle.haul_core.proofs.SpaceLemmas.{version_small}
 
@@ -27,13 +27,13 @@ same_version c d h k e = decimal_injective c.version d.version (version_small c 
 
 -- ---- the state
 
-follows_head : (line : List ℕ) (head : Front) (rest : Option (List ℕ)) → HasHead line 7 head rest → FollowsFields line (head_of (claimed head [])) rest
+follows_head : (line : List ℕ) (head : LineStart) (rest : Option (List ℕ)) → HasHead line 7 head rest → FollowsFields line (head_of (claimed head [])) rest
 follows_head line head rest h = subst (λ (fields : List (List ℕ)). FollowsFields line fields rest) (whole_head (claimed head [])) h.follows
 
-begin_state : (head : Front) → IsHead head → BeginClaim (head_of (claimed head []))
+begin_state : (head : LineStart) → IsHead head → BeginClaim (head_of (claimed head []))
 begin_state head h = subst BeginClaim (whole_head (claimed head [])) (begin_head 7 (claimed head []) h.lawful)
 
-pub state_more : (line : List ℕ) (head : Front) (here field text : List ℕ) (more : Option (List ℕ)) → HasHead line 7 head (Some here) → Cuts 32 here field more
+pub state_more : (line : List ℕ) (head : LineStart) (here field text : List ℕ) (more : Option (List ℕ)) → HasHead line 7 head (Some here) → Cuts 32 here field more
     → field ≡ text → FollowsFields line (head_of (claimed head []) ++ text ∷ []) more
 state_more line head here field text more h c e =
     subst (λ (t : List ℕ). FollowsFields line (head_of (claimed head []) ++ t ∷ []) more) e
@@ -45,7 +45,7 @@ unfolding found_fields
 state_of version None field rest h e = (None, (tt, cc))
 state_of version (Some told) field rest h e = (Some told.checkpoint, (h.checkpoint, cc))
 
-pub state_bad : (line : List ℕ) (head : Front) (here field : List ℕ) (more : Option (List ℕ)) → HasHead line 7 head (Some here) → Cuts 32 here field more
+pub state_bad : (line : List ℕ) (head : LineStart) (here field : List ℕ) (more : Option (List ℕ)) → HasHead line 7 head (Some here) → Cuts 32 here field more
     → ((state : Option ℕ) → IsState state → field ≢ state_field state) → IsFirstFaultOf line (length line - length here)
 state_bad line head here field more h c none =
     bad_at line (head_of (claimed head [])) here field more (follows_head line head (Some here) h) c (begin_state head h.head) (λ claim lawful rest e.
@@ -54,16 +54,16 @@ state_bad line head here field more h c none =
 
 -- ---- a soup that didn't settle
 
-found_none : (settled : Option Rested) → settled ≡ None → found_fields (told_of settled []) ≡ codes "unsettled" ∷ []
+found_none : (settled : Option WhenSettled) → settled ≡ None → found_fields (told_of settled []) ≡ codes "unsettled" ∷ []
 unfolding found_fields
 found_none None e = refl
 found_none (Some rested) e = absurd (cc)
 
-unsettled_fields : (head : Front) → IsHead head → fields_of (claimed head []) ≡ head_of (claimed head []) ++ codes "unsettled" ∷ []
+unsettled_fields : (head : LineStart) → IsHead head → fields_of (claimed head []) ≡ head_of (claimed head []) ++ codes "unsettled" ∷ []
 unsettled_fields head h = ap (λ (t : List (List ℕ)). head_of (claimed head []) ++ t) (found_none head.settled h.none)
 
-pub unsettled_front : (line : List ℕ) (head : Front) → IsHead head → FollowsFields line (head_of (claimed head []) ++ codes "unsettled" ∷ []) None
-    → HasReadFront line head None
+pub unsettled_front : (line : List ℕ) (head : LineStart) → IsHead head → FollowsFields line (head_of (claimed head []) ++ codes "unsettled" ∷ []) None
+    → HasReadStart line head None
 unsettled_front line head h f = record {
   lawful = h.lawful;
   follows = subst (λ (fields : List (List ℕ)). FollowsFields line fields None) (sym (unsettled_fields head h)) f;
@@ -78,7 +78,7 @@ unfolding found_fields
 nothing_after None field rest e = absurd (cc)
 nothing_after (Some told) field rest e = at_other told.checkpoint (let h : codes "at=" ++ decimal told.checkpoint ≡ codes "unsettled" = cc in h)
 
-pub unsettled_over : (line : List ℕ) (head : Front) (there : List ℕ) → IsHead head
+pub unsettled_over : (line : List ℕ) (head : LineStart) (there : List ℕ) → IsHead head
     → FollowsFields line (head_of (claimed head []) ++ codes "unsettled" ∷ []) (Some there)
     → IsFirstFaultOf line (length line - length there)
 unsettled_over line head there h f =
@@ -99,10 +99,10 @@ abbrev pub at_field : ℕ → List ℕ
 at_field checkpoint = codes "at=" ++ decimal checkpoint
 
 -- the front with this state
-abbrev pub rested : Front → ℕ → Option Bool → Front
+abbrev pub rested : LineStart → ℕ → Option Bool → LineStart
 rested head checkpoint for_good = record head { settled = Some (record { checkpoint = checkpoint; for_good = for_good }) }
 
-rested_lawful : (head : Front) (checkpoint : ℕ) (for_good : Option Bool) → IsHead head → checkpoint ≤ 100000 → IsMark head.version for_good
+rested_lawful : (head : LineStart) (checkpoint : ℕ) (for_good : Option Bool) → IsHead head → checkpoint ≤ 100000 → IsMark head.version for_good
     → IsClaim (claimed (rested head checkpoint for_good) [])
 unfolding IsStrictlySortedBy
 rested_lawful head checkpoint for_good h most mark = record {
@@ -115,15 +115,15 @@ rested_lawful head checkpoint for_good h most mark = record {
   found = record { checkpoint = most; mark = mark; counts = All-nil IsCount; in_order = tt };
 }
 
-rested_fields : (head : Front) (checkpoint : ℕ) (for_good : Option Bool)
+rested_fields : (head : LineStart) (checkpoint : ℕ) (for_good : Option Bool)
     → fields_of (claimed (rested head checkpoint for_good) []) ≡ head_of (claimed head []) ++ at_field checkpoint ∷ mark_fields for_good
 unfolding head_fields found_fields
 rested_fields head checkpoint for_good =
     ap (λ (t : List (List ℕ)). head_of (claimed head []) ++ at_field checkpoint ∷ t) (append-nil (mark_fields for_good))
 
-is_settled : (line : List ℕ) (head : Front) (checkpoint : ℕ) (for_good : Option Bool) (rest : Option (List ℕ)) → IsHead head → checkpoint ≤ 100000
+is_settled : (line : List ℕ) (head : LineStart) (checkpoint : ℕ) (for_good : Option Bool) (rest : Option (List ℕ)) → IsHead head → checkpoint ≤ 100000
     → IsMark head.version for_good → FollowsFields line (head_of (claimed head []) ++ at_field checkpoint ∷ mark_fields for_good) rest
-    → HasReadFront line (rested head checkpoint for_good) rest
+    → HasReadStart line (rested head checkpoint for_good) rest
 is_settled line head checkpoint for_good rest h most mark f = record {
   lawful = rested_lawful head checkpoint for_good h most mark;
   follows = subst (λ (fields : List (List ℕ)). FollowsFields line fields rest) (sym (rested_fields head checkpoint for_good)) f;
@@ -131,13 +131,13 @@ is_settled line head checkpoint for_good rest h most mark f = record {
 }
 
 -- version 1 has no mark
-pub settled_first : (line : List ℕ) (head front : Front) (checkpoint : ℕ) (rest : Option (List ℕ)) → IsHead head → checkpoint ≤ 100000 → head.version ≡ 1
-    → FollowsFields line (head_of (claimed head []) ++ at_field checkpoint ∷ []) rest → front ≡ rested head checkpoint None → HasReadFront line front rest
+pub settled_first : (line : List ℕ) (head front : LineStart) (checkpoint : ℕ) (rest : Option (List ℕ)) → IsHead head → checkpoint ≤ 100000 → head.version ≡ 1
+    → FollowsFields line (head_of (claimed head []) ++ at_field checkpoint ∷ []) rest → front ≡ rested head checkpoint None → HasReadStart line front rest
 unfolding mark_fields
 settled_first line head front checkpoint rest h most one f e =
-    subst (λ (r : Front). HasReadFront line r rest) (sym e) (is_settled line head checkpoint None rest h most one f)
+    subst (λ (r : LineStart). HasReadStart line r rest) (sym e) (is_settled line head checkpoint None rest h most one f)
 
-pub is_second : (head : Front) → IsHead head → head.version ≢ 1 → head.version ≡ 2
+pub is_second : (head : LineStart) → IsHead head → head.version ≢ 1 → head.version ≡ 2
 is_second head h n = go h.lawful.version
   where
     go : (head.version ≡ 1) ⊎ (head.version ≡ 2) → head.version ≡ 2
@@ -145,19 +145,19 @@ is_second head h n = go h.lawful.version
     go (inr e) = e
 
 -- version 2 has one
-pub settled_second : (line : List ℕ) (head front : Front) (checkpoint : ℕ) (here field : List ℕ) (for_good : Bool) (more : Option (List ℕ)) → IsHead head
+pub settled_second : (line : List ℕ) (head front : LineStart) (checkpoint : ℕ) (here field : List ℕ) (for_good : Bool) (more : Option (List ℕ)) → IsHead head
     → checkpoint ≤ 100000 → head.version ≢ 1 → FollowsFields line (head_of (claimed head []) ++ at_field checkpoint ∷ []) (Some here) → Cuts 32 here field more
-    → field ≡ mark_field for_good → front ≡ rested head checkpoint (Some for_good) → HasReadFront line front more
+    → field ≡ mark_field for_good → front ≡ rested head checkpoint (Some for_good) → HasReadStart line front more
 unfolding mark_fields
 settled_second line head front checkpoint here field for_good more h most n f c e g =
     let own = claimed head [] in
     let k : FollowsFields line ((head_of own ++ at_field checkpoint ∷ []) ++ mark_field for_good ∷ []) more =
     subst (λ (t : List ℕ). FollowsFields line ((head_of own ++ at_field checkpoint ∷ []) ++ t ∷ []) more) e
     (follows_more line (head_of own ++ at_field checkpoint ∷ []) here field more f c) in
-    subst (λ (r : Front). HasReadFront line r more) (sym g) (is_settled line head checkpoint (Some for_good) more h most (is_second head h n)
+    subst (λ (r : LineStart). HasReadStart line r more) (sym g) (is_settled line head checkpoint (Some for_good) more h most (is_second head h n)
     (subst (λ (fields : List (List ℕ)). FollowsFields line fields more) (append_assoc (head_of own) (at_field checkpoint ∷ []) (mark_field for_good ∷ [])) k))
 
-begin_mark : (head : Front) (checkpoint : ℕ) → IsHead head → checkpoint ≤ 100000 → head.version ≡ 2
+begin_mark : (head : LineStart) (checkpoint : ℕ) → IsHead head → checkpoint ≤ 100000 → head.version ≡ 2
     → BeginClaim (head_of (claimed head []) ++ at_field checkpoint ∷ [])
 unfolding mark_fields
 begin_mark head checkpoint h most two = record {
@@ -180,7 +180,7 @@ marked version (Some told) checkpoint rest two h e = go told.for_good h.mark (le
     go None one t = absurd (omega arith)
     go (Some for_good) two t = (for_good, (map count_field told.counts, sym t))
 
-pub mark_lacks : (line : List ℕ) (head : Front) (checkpoint : ℕ) (there : List ℕ) → IsHead head → checkpoint ≤ 100000 → head.version ≢ 1
+pub mark_lacks : (line : List ℕ) (head : LineStart) (checkpoint : ℕ) (there : List ℕ) → IsHead head → checkpoint ≤ 100000 → head.version ≢ 1
     → FollowsFields line (head_of (claimed head []) ++ at_field checkpoint ∷ []) None → there ≡ [] → IsFirstFaultOf line (length line - length there)
 mark_lacks line head checkpoint there h most n f e =
     let own = claimed head [] in
@@ -190,7 +190,7 @@ mark_lacks line head checkpoint there h most n f e =
     let m = marked claim.version claim.found checkpoint [] (same_version claim own lawful h.lawful c.0 ∙ two) lawful.found c.1 in
     absurd (let t = m.1.1 in cc))
 
-pub mark_bad : (line : List ℕ) (head : Front) (checkpoint : ℕ) (here field : List ℕ) (more : Option (List ℕ)) → IsHead head → checkpoint ≤ 100000
+pub mark_bad : (line : List ℕ) (head : LineStart) (checkpoint : ℕ) (here field : List ℕ) (more : Option (List ℕ)) → IsHead head → checkpoint ≤ 100000
     → head.version ≢ 1
     → FollowsFields line (head_of (claimed head []) ++ at_field checkpoint ∷ []) (Some here) → Cuts 32 here field more
     → ((for_good : Bool) → IsAnyMark for_good → field ≢ mark_field for_good) → IsFirstFaultOf line (length line - length here)

@@ -14,53 +14,53 @@ use Rattle.survey_core.specs.Findings.{objects_in}
 use Rattle.survey_core.specs.Objects.{count_of, is_code}
 use Rattle.survey_core.specs.declared.finding.Finding.{Finding}
 use Rattle.survey_core.specs.declared.finding.Finding.TheVariants.{Settled, Unsettled}
-use Rattle.haul_core.specs.declared.row.Row.{Row}
-use Rattle.haul_core.specs.declared.tally.Tally.{Tally}
-use Rattle.haul_core.specs.Keeping.{tally_of}
+use Rattle.haul_core.specs.declared.book.census_rows.Row.{Row}
+use Rattle.haul_core.specs.declared.book.scores.Score.{Score}
+use Rattle.haul_core.specs.Keeping.{score_of}
 use Rattle.haul_core.specs.RowSteps.{AreRowsFrom, with_objects}
 use Rattle.haul_core.specs.Rows.{AreRowsOf, IsRowOf, codes_of}
-use Rattle.haul_core.specs.Tallies.{no_tally, row_of, tally_in}
+use Rattle.haul_core.specs.Scores.{no_score, row_of, score_in}
 use Rattle.haul_core.specs.Samples.{AreLeastThree}
 use Rattle.haul_core.specs.Totals.{Survey, count_in, numbers_with, total}
 use Rattle.haul_core.proofs.LeastLemmas.{least_is}
 
-with_objects_some : (o : Option Tally) (t : Tally) → with_objects o ≡ Some t → (o ≡ Some t) × (1 ≤ t.total)
+with_objects_some : (o : Option Score) (t : Score) → with_objects o ≡ Some t → (o ≡ Some t) × (1 ≤ t.total)
 with_objects_some None t h = absurd (cc)
-with_objects_some (Some tally) t h = go (cases_Bool (nat_lt 0 tally.total))
+with_objects_some (Some score) t h = go (cases_Bool (nat_lt 0 score.total))
   where
-    go : (nat_lt 0 tally.total ≡ true) ⊎ (nat_lt 0 tally.total ≡ false) → (Some tally ≡ Some t) × (1 ≤ t.total)
+    go : (nat_lt 0 score.total ≡ true) ⊎ (nat_lt 0 score.total ≡ false) → (Some score ≡ Some t) × (1 ≤ t.total)
     go (inl some) =
-        let same : Some tally ≡ Some t = sym (ap (λ (b : Bool). cond b (Some tally) None) some) ∙ h in
-        let low : 0 < tally.total = ltb-true 0 tally.total some in
-        (same, subst (λ (n : ℕ). 1 ≤ n) (ap (λ (o : Option Tally). (unwrap_or o no_tally).total) same) low)
-    go (inr none) = let bad : None ≡ Some t = sym (ap (λ (b : Bool). cond b (Some tally) None) none) ∙ h in absurd (cc)
+        let same : Some score ≡ Some t = sym (ap (λ (b : Bool). cond b (Some score) None) some) ∙ h in
+        let low : 0 < score.total = ltb-true 0 score.total some in
+        (same, subst (λ (n : ℕ). 1 ≤ n) (ap (λ (o : Option Score). (unwrap_or o no_score).total) same) low)
+    go (inr none) = let bad : None ≡ Some t = sym (ap (λ (b : Bool). cond b (Some score) None) none) ∙ h in absurd (cc)
 
-pub rows_of_surveys : (tallies : List (List ℕ × Tally)) (surveys : List Survey) (rows : List Row) → AreRowsFrom tallies rows
-    → ((code : List ℕ) → tally_in tallies code ≡ tally_of surveys code) → AreRowsOf surveys rows
-rows_of_surveys tallies surveys rows from same = record {
+pub rows_of_surveys : (scores : List (List ℕ × Score)) (surveys : List Survey) (rows : List Row) → AreRowsFrom scores rows
+    → ((code : List ℕ) → score_in scores code ≡ score_of surveys code) → AreRowsOf surveys rows
+rows_of_surveys scores surveys rows from same = record {
   in_order = from.in_order;
-  each = All-weaker (λ row. with_objects (row_of tallies row.code) ≡ Some (record { total = row.total; samples = row.samples })) (IsRowOf surveys)
-      (λ row h. row_is row (with_objects_some (row_of tallies row.code) (record { total = row.total; samples = row.samples }) h)) rows from.each;
-  whole = λ code some. from.whole code (found code (row_of tallies code) refl some);
+  each = All-weaker (λ row. with_objects (row_of scores row.code) ≡ Some (record { total = row.total; samples = row.samples })) (IsRowOf surveys)
+      (λ row h. row_is row (with_objects_some (row_of scores row.code) (record { total = row.total; samples = row.samples }) h)) rows from.each;
+  whole = λ code some. from.whole code (found code (row_of scores code) refl some);
 }
   where
-    row_is : (row : Row) → (row_of tallies row.code ≡ Some (record { total = row.total; samples = row.samples })) × (1 ≤ row.total) → IsRowOf surveys row
+    row_is : (row : Row) → (row_of scores row.code ≡ Some (record { total = row.total; samples = row.samples })) × (1 ≤ row.total) → IsRowOf surveys row
     row_is row h =
-        let told : record { total = row.total; samples = row.samples } ≡ tally_of surveys row.code =
-        sym (ap (λ (o : Option Tally). unwrap_or o no_tally) h.0) ∙ same row.code in
+        let told : record { total = row.total; samples = row.samples } ≡ score_of surveys row.code =
+        sym (ap (λ (o : Option Score). unwrap_or o no_score) h.0) ∙ same row.code in
         record {
           some = h.1;
-          total_is = ap (λ (t : Tally). t.total) told;
-          samples_are = subst (AreLeastThree (numbers_with surveys row.code)) (sym (ap (λ (t : Tally). t.samples) told)) (least_is (numbers_with surveys row.code));
+          total_is = ap (λ (t : Score). t.total) told;
+          samples_are = subst (AreLeastThree (numbers_with surveys row.code)) (sym (ap (λ (t : Score). t.samples) told)) (least_is (numbers_with surveys row.code));
         }
 
-    found : (code : List ℕ) (o : Option Tally) → row_of tallies code ≡ o → 1 ≤ total surveys code → IsSome (with_objects (row_of tallies code))
+    found : (code : List ℕ) (o : Option Score) → row_of scores code ≡ o → 1 ≤ total surveys code → IsSome (with_objects (row_of scores code))
     found code None e some =
-        let none : 0 ≡ total surveys code = ap (λ (t : Tally). t.total) (sym (ap (λ (o : Option Tally). unwrap_or o no_tally) e)
+        let none : 0 ≡ total surveys code = ap (λ (t : Score). t.total) (sym (ap (λ (o : Option Score). unwrap_or o no_score) e)
         ∙ same code) in absurd (omega arith)
     found code (Some t) e some =
-        let is : t.total ≡ total surveys code = ap (λ (t : Tally). t.total) (sym (ap (λ (o : Option Tally). unwrap_or o no_tally) e) ∙ same code) in
-        subst (λ (o : Option Tally). IsSome (with_objects o)) (sym e) (subst (λ (b : Bool). IsSome (cond b (Some t) None)) (sym (lt-ltb 0 t.total (omega arith))) refl)
+        let is : t.total ≡ total surveys code = ap (λ (t : Score). t.total) (sym (ap (λ (o : Option Score). unwrap_or o no_score) e) ∙ same code) in
+        subst (λ (o : Option Score). IsSome (with_objects o)) (sym e) (subst (λ (b : Bool). IsSome (cond b (Some t) None)) (sym (lt-ltb 0 t.total (omega arith))) refl)
 
 -- ---- the sum of all totals
 

@@ -7,9 +7,9 @@ use Rattle.std.proofs.lemmas.List.{append-nil, drop_all, drop_more}
 use Rattle.std.proofs.lemmas.List.Folds.{flat_map-map}
 use Rattle.plane_core.specs.Rules.{rule_text}
 use Rattle.survey_core.specs.declared.job.Job.{Job}
-use Rattle.haul_core.specs.declared.census.Census.{Census}
+use Rattle.haul_core.specs.declared.book.census.Census.{Census}
 use Rattle.ranges.specs.declared.range.Range.{Range}
-use Rattle.haul_core.specs.declared.row.Row.{Row}
+use Rattle.haul_core.specs.declared.book.census_rows.Row.{Row}
 use Rattle.haul_core.specs.HaulTexts.{ended, haul_lines, haul_text, head_lines, line_of, line_of_numbers, profile_line, range_line, range_lines, sample_line}
 use Rattle.haul_core.specs.HaulTexts.{sample_lines, spaced, sum_lines, text_of, total_line, total_lines}
 

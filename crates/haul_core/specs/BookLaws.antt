@@ -1,6 +1,6 @@
 -- A law of the book: what is taken of a worker is a part of what it offered, in its order, each number at most once and of the set.
 use Rattle.std.specs.Prelude.{◌≡◌, ◌≤◌, ◌⊎◌, ℕ, All, true, List, [], ◌∷◌, count_by, filter, map, nat_eq}
-use Rattle.haul_core.specs.declared.arrival.Arrival.{Arrival}
+use Rattle.haul_core.specs.declared.book.arrival.Arrival.{Arrival}
 use Rattle.haul_core.specs.Books.{Terms, entry, offered, taken_of}
 use Rattle.haul_core.specs.Keeping.{numbers_in}
 use Rattle.ranges.specs.Ranges.{is_in}

@@ -2,14 +2,14 @@
 use Rattle.std.specs.Prelude.{◌≡◌, ◌==◌, ◌&&◌, ◌++◌, ◌⊎◌, ℕ, Bool, true, false, not, List, [], ◌∷◌, Option, None, Some, filter, map, nat_le, nat_lt, option_map, if◌then◌else◌}
 use Rattle.std.specs.List.{find, list_any}
 use Rattle.survey_core.specs.declared.job.Job.{Job}
-use Rattle.haul_core.specs.declared.arrival.Arrival.{Arrival}
-use Rattle.haul_core.specs.declared.arrival.Arrival.TheVariants.{Closing, Offer}
+use Rattle.haul_core.specs.declared.book.arrival.Arrival.{Arrival}
+use Rattle.haul_core.specs.declared.book.arrival.Arrival.TheVariants.{Closing, Offer}
 use Rattle.ranges.specs.declared.range.Range.{Range}
-use Rattle.haul_core.specs.declared.refusal.Refusal.{Refusal}
-use Rattle.haul_core.specs.declared.refusal.Refusal.TheVariants.{Closed, Double, Memory, OtherJob, OutOfRange, UnknownWorker}
-use Rattle.haul_core.specs.declared.arrival.Reply.{Reply}
-use Rattle.haul_core.specs.declared.arrival.Reply.TheVariants.{AlreadyClosed, NowClosed, Refused, Taken}
-use Rattle.haul_core.specs.Jobs.{same_job}
+use Rattle.haul_core.specs.declared.book.refused.OfferError.{OfferError}
+use Rattle.haul_core.specs.declared.book.refused.OfferError.TheVariants.{Closed, Double, Memory, OtherJob, OutOfRange, UnknownWorker}
+use Rattle.haul_core.specs.declared.book.arrival.Reply.{Reply}
+use Rattle.haul_core.specs.declared.book.arrival.Reply.TheVariants.{AlreadyClosed, NowClosed, Refused, Taken}
+use Rattle.survey_core.specs.Jobs.{same_job}
 use Rattle.ranges.specs.Ranges.{is_in}
 use Rattle.haul_core.specs.Reports.{Reported}
 
@@ -60,12 +60,12 @@ taken_of terms arrivals = map entry (first_of_each (eligible terms arrivals))
 abbrev pub first_worker : ℕ → List Reported → Option ℕ
 first_worker n reports = option_map (λ r. r.worker) (find (has_number n) reports)
 
-abbrev pub double : Option ℕ → Option Refusal
+abbrev pub double : Option ℕ → Option OfferError
 double None = None
 double (Some worker) = Some (Double worker)
 
 -- why an offer that comes after these arrivals is refused, if it is: the first that fits
-abbrev pub refusal_of : Terms → List Arrival → Reported → Option Refusal
+abbrev pub refusal_of : Terms → List Arrival → Reported → Option OfferError
 refusal_of terms before r =
     if has_closing before then Some Closed
     else if not (same_job terms.job r.job) then Some OtherJob
@@ -74,7 +74,7 @@ refusal_of terms before r =
     else double (first_worker r.number (eligible terms before))
 
 -- the reply to an arrival that comes after these
-abbrev pub reply_for : Option Refusal → Reply
+abbrev pub reply_for : Option OfferError → Reply
 reply_for None = Taken
 reply_for (Some reason) = Refused reason
 
@@ -88,7 +88,7 @@ replies_to terms before [] = []
 replies_to terms before (a ∷ more) = reply_to terms before a ∷ replies_to terms (before ++ a ∷ []) more
 
 -- a reply is the book's; or there was no memory for an offer that the book takes
-abbrev pub IsReply : Option Refusal → Option Refusal → Type 0
+abbrev pub IsReply : Option OfferError → Option OfferError → Type 0
 IsReply given wanted = (given ≡ wanted) ⊎ ((given ≡ Some Memory) × (wanted ≡ None))
 
 -- what a haul shows: what it was opened for, whether it is closed, and worker and number of each taken report, in order

@@ -1,7 +1,7 @@
 -- The census: what the taken soups left.
 use Rattle.std.specs.Prelude.{◌≡◌, ℕ, List, length, sum_by}
 use Rattle.survey_core.specs.declared.job.Job.{Job}
-use Rattle.haul_core.specs.declared.census.Census.{Census}
+use Rattle.haul_core.specs.declared.book.census.Census.{Census}
 use Rattle.ranges.specs.declared.range.Range.{Range}
 use Rattle.ranges.specs.Ranges.{size_of}
 use Rattle.haul_core.specs.Rows.{AreRowsOf}

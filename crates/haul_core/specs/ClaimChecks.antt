@@ -7,9 +7,9 @@ use Rattle.survey_core.specs.Soups.{soup}
 use Rattle.survey_core.specs.declared.finding.Finding.{Finding}
 use Rattle.survey_core.specs.declared.finding.Finding.TheVariants.{Settled, Unsettled}
 use Rattle.survey_core.specs.declared.job.Job.{Job}
-use Rattle.haul_core.specs.declared.claim.check.CheckFault.{CheckFault}
-use Rattle.haul_core.specs.declared.claim.check.CheckFault.TheVariants.{Disagrees, Memory, OtherJob}
-use Rattle.haul_core.specs.Jobs.{same_job}
+use Rattle.haul_core.specs.declared.report.claim.check.CheckError.{CheckError}
+use Rattle.haul_core.specs.declared.report.claim.check.CheckError.TheVariants.{Disagrees, Memory, OtherJob}
+use Rattle.survey_core.specs.Jobs.{same_job}
 use Rattle.haul_core.specs.ReportLines.{Claimed, claim_of, told_in}
 use Rattle.haul_core.specs.Reports.{IsReport, Reported}
 
@@ -28,7 +28,7 @@ pub record IsConfirmed (claim : Claimed) (job : Job) (report : Reported) : Type 
   pub says : claim_of claim.version report ≡ claim
 
 -- when each fault comes
-abbrev pub Fails : Claimed → Job → CheckFault → Type 0
+abbrev pub Fails : Claimed → Job → CheckError → Type 0
 Fails claim job OtherJob = same_job claim.job job ≡ false
 Fails claim job (Disagrees found) = (same_job claim.job job ≡ true) × (IsFoundFor claim found × ¬ Agrees claim found)
 Fails claim job Memory = same_job claim.job job ≡ true

@@ -3,8 +3,8 @@ use Rattle.std.specs.Prelude.{◌≡◌, ◌≢◌, ◌+◌, ◌++◌, ℕ, List
 use Rattle.std.specs.Cmp.Lexicographic.{slice_cmp}
 use Rattle.std.specs.Ordering.{nat_cmp}
 use Rattle.std.specs.declared.cmp.Ordering.TheVariants.{Less}
-use Rattle.haul_core.specs.declared.front.Front.{Front}
-use Rattle.haul_core.specs.declared.front.Rested.{Rested}
+use Rattle.haul_core.specs.declared.report.claim.read_start.LineStart.{LineStart}
+use Rattle.haul_core.specs.declared.report.claim.read_start.WhenSettled.{WhenSettled}
 use Rattle.haul_core.specs.Claims.{fields_of, followed}
 use Rattle.haul_core.specs.HaulTexts.{line_of}
 use Rattle.haul_core.specs.ReportLines.{Claimed, IsClaim, IsCount, Told, head_fields}
@@ -13,12 +13,12 @@ use Rattle.haul_core.specs.ReportLines.{Claimed, IsClaim, IsCount, Told, head_fi
 abbrev pub head_of : Claimed → List (List ℕ)
 head_of claim = codes "report" ∷ head_fields claim
 
-abbrev pub told_of : Option Rested → List (List ℕ × ℕ) → Option Told
+abbrev pub told_of : Option WhenSettled → List (List ℕ × ℕ) → Option Told
 told_of None counts = None
 told_of (Some rested) counts = Some (record { checkpoint = rested.checkpoint; for_good = rested.for_good; counts = counts })
 
 -- what a line with this front and these counts says
-abbrev pub claimed : Front → List (List ℕ × ℕ) → Claimed
+abbrev pub claimed : LineStart → List (List ℕ × ℕ) → Claimed
 claimed front counts = record {
   version = front.version;
   job = front.job;
@@ -37,28 +37,28 @@ FollowsFields line fields None = IsLineOf fields line
 FollowsFields line fields (Some rest) = line ≡ followed fields ++ rest
 
 -- the head with what the field at this place says: the fields before it stay
-pub record HasFilled (place : ℕ) (head more : Front) (field : List ℕ) : Type 0 where
+pub record HasFilled (place : ℕ) (head more : LineStart) (field : List ℕ) : Type 0 where
   pub lawful : IsClaim (claimed more [])
   pub none : more.settled ≡ None
   pub spelled : take (place + 1) (head_of (claimed more [])) ≡ take place (head_of (claimed head [])) ++ field ∷ []
 
 -- the same, if the field says something; if not, no lawful claim has it at this place
-abbrev pub Fills : ℕ → Front → List ℕ → Option Front → Type 0
+abbrev pub Fills : ℕ → LineStart → List ℕ → Option LineStart → Type 0
 Fills place head field None = (claim : Claimed) → IsClaim claim → get_or (head_of claim) place [] ≢ field
 Fills place head field (Some more) = HasFilled place head more field
 
 -- a head that may be filled in
-pub record IsHead (head : Front) : Type 0 where
+pub record IsHead (head : LineStart) : Type 0 where
   pub lawful : IsClaim (claimed head [])
   pub none : head.settled ≡ None
 
 -- so many fields of the head have been read
-pub record HasHead (line : List ℕ) (place : ℕ) (front : Front) (rest : Option (List ℕ)) : Type 0 where
+pub record HasHead (line : List ℕ) (place : ℕ) (front : LineStart) (rest : Option (List ℕ)) : Type 0 where
   pub head : IsHead front
   pub follows : FollowsFields line (take place (head_of (claimed front []))) rest
 
 -- all before the counts has been read; only a soup that settled has counts
-pub record HasReadFront (line : List ℕ) (front : Front) (rest : Option (List ℕ)) : Type 0 where
+pub record HasReadStart (line : List ℕ) (front : LineStart) (rest : Option (List ℕ)) : Type 0 where
   pub lawful : IsClaim (claimed front [])
   pub follows : FollowsFields line (fields_of (claimed front [])) rest
   pub settled : (here : List ℕ) → rest ≡ Some here → front.settled ≢ None
@@ -79,7 +79,7 @@ abbrev pub MayFollow : Option (List ℕ) → (List ℕ × ℕ) → Type 0
 MayFollow last object = IsCount object × IsAfter last object.0
 
 -- these counts have been read, after all that stands before them
-pub record HasCounts (line : List ℕ) (front : Front) (counts : List (List ℕ × ℕ)) (last rest : Option (List ℕ)) : Type 0 where
+pub record HasCounts (line : List ℕ) (front : LineStart) (counts : List (List ℕ × ℕ)) (last rest : Option (List ℕ)) : Type 0 where
   pub lawful : IsClaim (claimed front counts)
   pub follows : FollowsFields line (fields_of (claimed front counts)) rest
   pub settled : (here : List ℕ) → rest ≡ Some here → front.settled ≢ None

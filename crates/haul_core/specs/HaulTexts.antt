@@ -3,9 +3,9 @@ use Rattle.std.specs.Prelude.{◌++◌, ℕ, List, [], ◌∷◌, codes, decimal
 use Rattle.plane_core.specs.Rules.{rule_text}
 use Rattle.survey_core.specs.Profiles.{Settling}
 use Rattle.survey_core.specs.declared.job.Job.{Job}
-use Rattle.haul_core.specs.declared.census.Census.{Census}
+use Rattle.haul_core.specs.declared.book.census.Census.{Census}
 use Rattle.ranges.specs.declared.range.Range.{Range}
-use Rattle.haul_core.specs.declared.row.Row.{Row}
+use Rattle.haul_core.specs.declared.book.census_rows.Row.{Row}
 
 -- a word with a space before it
 abbrev pub spaced : List ℕ → List ℕ

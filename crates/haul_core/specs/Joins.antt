@@ -1,11 +1,11 @@
 -- Joined hauls: two closed hauls of one job, whose sets share no number, as one.
 use Rattle.std.specs.Prelude.{◌≡◌, ◌++◌, true, false, List, [], ◌∷◌, map, max}
-use Rattle.haul_core.specs.declared.arrival.Arrival.{Arrival}
-use Rattle.haul_core.specs.declared.arrival.Arrival.TheVariants.{Closing, Offer}
-use Rattle.haul_core.specs.declared.haul.join.JoinFault.{JoinFault}
-use Rattle.haul_core.specs.declared.haul.join.JoinFault.TheVariants.{Memory, Open, OtherJob, Overlap}
+use Rattle.haul_core.specs.declared.book.arrival.Arrival.{Arrival}
+use Rattle.haul_core.specs.declared.book.arrival.Arrival.TheVariants.{Closing, Offer}
+use Rattle.haul_core.specs.declared.book.haul.join.JoinError.{JoinError}
+use Rattle.haul_core.specs.declared.book.haul.join.JoinError.TheVariants.{Memory, Open, OtherJob, Overlap}
 use Rattle.haul_core.specs.Books.{Held, Terms, eligible, first_of_each}
-use Rattle.haul_core.specs.Jobs.{same_job}
+use Rattle.survey_core.specs.Jobs.{same_job}
 use Rattle.ranges.specs.Ranges.{IsNormalForm, ShareNumber}
 
 -- both hauls are closed
@@ -20,7 +20,7 @@ pub record CanJoin (a b : Held) : Type 0 where
   pub apart : ¬ ShareNumber a.terms.ranges b.terms.ranges
 
 -- when each fault comes: the first that fits
-abbrev pub Hinders : Held → Held → JoinFault → Type 0
+abbrev pub Hinders : Held → Held → JoinError → Type 0
 Hinders a b Open = ¬ AreClosed a b
 Hinders a b OtherJob = AreClosed a b × (same_job a.terms.job b.terms.job ≡ false)
 Hinders a b Overlap = AreClosed a b × (same_job a.terms.job b.terms.job ≡ true) × ShareNumber a.terms.ranges b.terms.ranges

@@ -2,11 +2,11 @@
 use Rattle.std.specs.Prelude.{◌≡◌, ◌<◌, ◌^◌, ℕ, All, List, map, nat_eq, true}
 use Rattle.std.specs.List.{IsDistinct}
 use Rattle.survey_core.specs.Findings.{objects_in}
-use Rattle.haul_core.specs.declared.tally.Tally.{Tally}
+use Rattle.haul_core.specs.declared.book.scores.Score.{Score}
 use Rattle.haul_core.specs.Books.{Held}
 use Rattle.ranges.specs.Ranges.{AreBelow, AreNormal, is_in, number_bound, size_of}
 use Rattle.haul_core.specs.Reports.{IsWorker}
-use Rattle.haul_core.specs.Tallies.{tally_in}
+use Rattle.haul_core.specs.Scores.{score_in}
 use Rattle.haul_core.specs.SampleSteps.{least_three}
 use Rattle.haul_core.specs.Totals.{AreSurveys, Survey, for_good, numbers_with, total, unsettled}
 
@@ -19,18 +19,18 @@ abbrev pub samples : List Survey → List ℕ → List ℕ
 samples surveys code = least_three (numbers_with surveys code)
 
 -- what a row has to say of a code
-abbrev pub tally_of : List Survey → List ℕ → Tally
-tally_of surveys code = record { total = total surveys code; samples = samples surveys code }
+abbrev pub score_of : List Survey → List ℕ → Score
+score_of surveys code = record { total = total surveys code; samples = samples surveys code }
 
 -- what a haul keeps of its totals
 pub record Sums : Type 0 where
-  pub rows : List (List ℕ × Tally)
+  pub rows : List (List ℕ × Score)
   pub unsettled : ℕ
   pub for_good : ℕ
 
 -- they are those of the surveys
 pub record AreSums (surveys : List Survey) (sums : Sums) : Type 0 where
-  pub rows : (code : List ℕ) → tally_in sums.rows code ≡ tally_of surveys code
+  pub rows : (code : List ℕ) → score_in sums.rows code ≡ score_of surveys code
   pub unsettled_sum : sums.unsettled ≡ unsettled surveys
   pub for_good_sum : sums.for_good ≡ for_good surveys
   pub few : All (λ s. objects_in s.finding < 2 ^ 64) surveys

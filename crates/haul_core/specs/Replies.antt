@@ -1,23 +1,23 @@
 -- What a haul answers to an offer, and where a list of arrivals stops for want of memory.
 use Rattle.std.specs.Prelude.{◌≡◌, ◌≢◌, ◌++◌, ◌⊎◌, ℕ, List, [], ◌∷◌, Option, None, Some, Result, Ok, Err, map, not, nat_eq, nat_lt, if◌then◌else◌}
 use Rattle.std.specs.Map.{lookup}
-use Rattle.haul_core.specs.declared.refusal.Refusal.{Refusal}
-use Rattle.haul_core.specs.declared.refusal.Refusal.TheVariants.{Closed, Memory, OtherJob, OutOfRange, UnknownWorker}
-use Rattle.haul_core.specs.declared.refusal.Refused.{Refused}
+use Rattle.haul_core.specs.declared.book.refused.OfferError.{OfferError}
+use Rattle.haul_core.specs.declared.book.refused.OfferError.TheVariants.{Closed, Memory, OtherJob, OutOfRange, UnknownWorker}
+use Rattle.haul_core.specs.declared.book.refused.Refused.{Refused}
 use Rattle.haul_core.specs.Books.{Held, StandsFor, Terms, double, refusal_of}
-use Rattle.haul_core.specs.declared.arrival.Arrival.{Arrival}
-use Rattle.haul_core.specs.declared.arrival.Arrival.TheVariants.{Closing, Offer}
-use Rattle.haul_core.specs.Jobs.{same_job}
+use Rattle.haul_core.specs.declared.book.arrival.Arrival.{Arrival}
+use Rattle.haul_core.specs.declared.book.arrival.Arrival.TheVariants.{Closing, Offer}
+use Rattle.survey_core.specs.Jobs.{same_job}
 use Rattle.ranges.specs.Ranges.{is_in}
 use Rattle.haul_core.specs.Reports.{Reported}
 
 -- the reply that an answer gives
-abbrev pub reply_of : Result (Unit {0}) Refused → Option Refusal
+abbrev pub reply_of : Result (Unit {0}) Refused → Option OfferError
 reply_of (Ok u) = None
 reply_of (Err refused) = Some refused.reason
 
 -- there was memory
-abbrev pub IsAnswered : Option Refusal → Type 0
+abbrev pub IsAnswered : Option OfferError → Type 0
 IsAnswered reply = reply ≢ Some Memory
 
 -- the worker of whom the number was taken
@@ -25,7 +25,7 @@ abbrev pub worker_in : ℕ → List (ℕ × ℕ) → Option ℕ
 worker_in n taken = lookup (nat_eq n) (map (λ t. (t.1, t.0)) taken)
 
 -- why a haul refuses a report, if it does
-abbrev pub refusal_at : Held → Reported → Option Refusal
+abbrev pub refusal_at : Held → Reported → Option OfferError
 refusal_at held r =
     if held.closed then Some Closed
     else if not (same_job held.terms.job r.job) then Some OtherJob

@@ -1,7 +1,22 @@
+//! A report on a soup, and the line that tells it. A line that is read may say anything within its limits: it is a
+//! claim, and a report only once the soup was run again.
+//!
+//! ```text
+//!           write                  read                check
+//! report  --------->  line  --------------->  claim  --------->  report
+//!                       |                       |
+//!                  bad line at 45           disagrees
+//! ```
+
 ghost use Rattle.std.specs.Prelude.{◌≡◌, ◌<◌, ◌↔◌, IfOk, IsErrOf, IsTrue};
 ghost use Rattle.ranges.specs.Ranges.{number_bound};
 ghost use Rattle.haul_core.specs.Reports.{IsReport, IsWorker};
 ghost use Rattle.haul_core.specs.declared.report.ReportError.TheVariants.{BadWorker, Memory};
+
+/// Claims: what report lines say.
+pub mod claim;
+/// Reports as lines of text.
+pub mod write;
 
 use std::alloc::{AllocError, Global};
 use std::marker::Model;

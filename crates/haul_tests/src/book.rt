@@ -1,8 +1,8 @@
 use crate::setup::{quick_job, range};
-use haul_core::arrival::{Arrival, Reply};
-use haul_core::book::keep_book;
-use haul_core::haul::Haul;
-use haul_core::refusal::Refusal;
+use haul_core::book::arrival::{Arrival, Reply};
+use haul_core::book::haul::Haul;
+use haul_core::book::keep::keep_book;
+use haul_core::book::refused::OfferError;
 use haul_core::report::Report;
 use std::alloc::Global;
 use std::test::Fail;
@@ -24,12 +24,12 @@ const ARRIVALS: [(bool, u8, u32); 8] = [
 /// What is replied to them, by the book's rule.
 const REPLIES: [Reply; 8] = [
     Reply::Taken,
-    Reply::Refused(Refusal::Double { worker: 1 }),
-    Reply::Refused(Refusal::UnknownWorker),
-    Reply::Refused(Refusal::OtherJob),
-    Reply::Refused(Refusal::OutOfRange),
+    Reply::Refused(OfferError::Double { worker: 1 }),
+    Reply::Refused(OfferError::UnknownWorker),
+    Reply::Refused(OfferError::OtherJob),
+    Reply::Refused(OfferError::OutOfRange),
     Reply::NowClosed,
-    Reply::Refused(Refusal::Closed),
+    Reply::Refused(OfferError::Closed),
     Reply::AlreadyClosed,
 ];
 

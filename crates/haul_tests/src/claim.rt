@@ -1,5 +1,5 @@
-use haul_core::claim::Claim;
-use haul_core::claim::check::CheckFault;
+use haul_core::report::claim::Claim;
+use haul_core::report::claim::check::CheckError;
 use std::alloc::Global;
 use std::test::Fail;
 
@@ -45,7 +45,7 @@ fn disagrees(alloc: Global, line: &[u8]) -> Result<bool, Fail> {
     let claim = Claim::read_line(alloc, line)?;
     let job = claim.job();
     match claim.check(alloc, &job) {
-        Err((_, CheckFault::Disagrees { .. })) => Ok(true),
+        Err((_, CheckError::Disagrees { .. })) => Ok(true),
         _ => Ok(false),
     }
 }

@@ -1,5 +1,5 @@
 use crate::setup::{closed, offer, quick_job, range, text_of};
-use haul_core::haul::{Haul, OpenError};
+use haul_core::book::haul::{Haul, OpenError};
 use plane_core::rule::Rule;
 use std::alloc::Global;
 use std::test::Fail;

@@ -3,11 +3,11 @@
 
 use crate::book::whole_haul;
 use crate::setup::{offer, quick_job, range, still_job};
-use haul_core::census::Census;
-use haul_core::claim::Claim;
-use haul_core::haul::Haul;
+use haul_core::book::census::Census;
+use haul_core::book::haul::Haul;
 use haul_core::report::Report;
-use haul_core::report_line::write_report_line;
+use haul_core::report::claim::Claim;
+use haul_core::report::write::write_report_line;
 use plane_core::output::Out;
 use ranges::range::Range;
 use std::alloc::{AllocError, Global};

@@ -2,11 +2,11 @@
 //! refuses each in turn.
 
 use crate::setup::{quick_job, range, still_job, text_of};
-use haul_core::claim::Claim;
-use haul_core::claim::check::CheckFault;
-use haul_core::haul::Haul;
-use haul_core::refusal::{Refusal, Refused};
+use haul_core::book::haul::Haul;
+use haul_core::book::refused::{OfferError, Refused};
 use haul_core::report::Report;
+use haul_core::report::claim::Claim;
+use haul_core::report::claim::check::CheckError;
 use std::alloc::Global;
 use std::test::Fail;
 
@@ -37,7 +37,7 @@ fn is_as_before(alloc: Global, haul: &Haul, before: &[u8]) -> Result<bool, Fail>
 
 /// Whether it is soup 0, for want of memory.
 fn lacks_memory(refused: &Refused) -> bool {
-    refused.reason == Refusal::Memory && refused.report.number() == 0
+    refused.reason == OfferError::Memory && refused.report.number() == 0
 }
 
 /// Whether a haul takes soup 0, or is as before.
@@ -90,7 +90,7 @@ fn is_checked_or_kept(alloc: Global) -> Result<bool, Fail> {
     let job = quick_job("")?;
     match claim.check(alloc, &job) {
         Ok(report) => Ok(report.number() == 3),
-        Err((claim, fault)) => Ok(matches!(fault, CheckFault::Memory) && is_claim(&claim)),
+        Err((claim, fault)) => Ok(matches!(fault, CheckError::Memory) && is_claim(&claim)),
     }
 }
 

@@ -1,8 +1,8 @@
 //! Each call that allocates on nothing, once: no soup, no arrival and no range.
 
 use crate::setup::{closed, quick_job, range, text_of};
-use haul_core::book::keep_book;
-use haul_core::haul::{Haul, OpenError};
+use haul_core::book::haul::{Haul, OpenError};
+use haul_core::book::keep::keep_book;
 use std::alloc::Global;
 use std::test::Fail;
 use survey_core::job::Job;

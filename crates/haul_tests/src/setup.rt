@@ -1,9 +1,9 @@
 //! Jobs, hauls and texts, for all files. The proof of a function pays for each exit at which a haul is dropped, so a
 //! haul is made by a function that gives it back, and dropped by a call before the next exit.
 
-use haul_core::census::Census;
-use haul_core::haul::Haul;
-use haul_core::haul_text::write_haul;
+use haul_core::book::census::Census;
+use haul_core::book::haul::Haul;
+use haul_core::book::haul_text::write_haul;
 use haul_core::report::Report;
 use plane_core::output::Out;
 use plane_core::rule::Rule;

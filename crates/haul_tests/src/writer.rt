@@ -3,11 +3,11 @@
 ghost use Rattle.std.specs.Prelude.{◌≡◌, false};
 
 use crate::setup::{offer, quick_job, range};
-use haul_core::census::Census;
-use haul_core::haul::Haul;
-use haul_core::haul_text::write_haul;
+use haul_core::book::census::Census;
+use haul_core::book::haul::Haul;
+use haul_core::book::haul_text::write_haul;
 use haul_core::report::Report;
-use haul_core::report_line::write_report_line;
+use haul_core::report::write::write_report_line;
 use plane_core::output::Out;
 use std::alloc::Global;
 use std::io;

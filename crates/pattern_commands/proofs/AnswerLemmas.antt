@@ -4,8 +4,8 @@ use Rattle.std.proofs.Common.{IfSome, ◌+◌, ◌++◌, arith, length-take, sub
 use Rattle.std.specs.Option.{option_map}
 use Rattle.std.specs.Result.{IsErrAnd, IsErrOf, result_map_both}
 use Rattle.plane_core.specs.declared.cell.Cell.{Cell}
-use Rattle.plane_core.specs.declared.rule.RuleError.{RuleError}
-use Rattle.plane_core.specs.declared.rule.RuleError.TheVariants as rule_error
+use Rattle.plane_core.specs.declared.rule.RuleFault.{RuleFault}
+use Rattle.plane_core.specs.declared.rule.RuleFault.TheVariants as rule_error
 use Rattle.plane_core.specs.declared.plaintext.PlaintextError.{PlaintextError}
 use Rattle.plane_core.specs.declared.plaintext.PlaintextError.TheVariants as plaintext_error
 use Rattle.plane_core.specs.declared.plaintext.PlaintextFault.{PlaintextFault}
@@ -13,10 +13,10 @@ use Rattle.plane_core.specs.declared.plaintext.PlaintextFault.TheVariants as pla
 use Rattle.plane_core.specs.Rules.{rule_read}
 use Rattle.plane_core.specs.Plaintext.{pattern}
 use Rattle.pattern_commands.specs.declared.complaint.Complaint.{Complaint}
-use Rattle.pattern_commands.specs.declared.complaint.Complaint.TheVariants.{Refused, OutOfMemory, ReadFailed, WriteFailed}
+use Rattle.pattern_commands.specs.declared.complaint.Complaint.TheVariants.{Refused, Memory, ReadFailed, WriteFailed}
 use Rattle.pattern_commands.specs.declared.refusal.Refusal.{Refusal}
-use Rattle.pattern_commands.specs.declared.input.InputFault.{InputFault}
-use Rattle.pattern_commands.specs.declared.input.InputFault.TheVariants as input_fault
+use Rattle.pattern_commands.specs.declared.input.InputError.{InputError}
+use Rattle.pattern_commands.specs.declared.input.InputError.TheVariants as input_error
 use Rattle.pattern_commands.specs.Answers.{IsInput, Right}
 use Rattle.pattern_commands.specs.Inputs.{Reads, rule_named, input_complaint, plaintext_complaint, pattern_complaint, pattern_of, rule_complaint}
 use Rattle.pattern_commands.specs.Streams.{Stream, Has}
@@ -46,9 +46,9 @@ whole_input limit count known old before bytes is same none read short =
         more ∙ take_all (limit + 1) left (omega (arith, long, short))
 
 -- an input that was not read to its end says nothing of the answer
-pub Reads_unread : {A : Type 0} (answer : Result A Complaint) (fault : InputFault) → Reads answer (Err (input_complaint fault))
-Reads_unread answer input_fault.Unreadable = tt
-Reads_unread answer input_fault.OutOfMemory = tt
+pub Reads_unread : {A : Type 0} (answer : Result A Complaint) (fault : InputError) → Reads answer (Err (input_complaint fault))
+Reads_unread answer input_error.Unreadable = tt
+Reads_unread answer input_error.Memory = tt
 
 -- an input up to the limit is looked at
 pub pattern_of-short : (bytes : List ℕ) (answer : Result (List Cell) PlaintextFault) → length bytes ≤ 2 ^ 24 → pattern bytes ≡ answer
@@ -70,7 +70,7 @@ Reads_error bytes (plaintext_error.Fault fault) short faults = Reads_refused byt
 Reads_error bytes plaintext_error.Memory short faults = tt
 
 -- memory that runs out after the input is begun leaves nothing on the output
-pub Reaches_no_memory : (reads : Bool) (right : Right) (output : Stream) → reads ≡ true → Has output [] → ReachesText reads true right (Err OutOfMemory) output
+pub Reaches_no_memory : (reads : Bool) (right : Right) (output : Stream) → reads ≡ true → Has output [] → ReachesText reads true right (Err Memory) output
 Reaches_no_memory reads right output read nothing =
     (λ unread complaint is. let bad : false ≡ true = sym unread ∙ read in cc, nothing)
 
@@ -79,12 +79,12 @@ pub Reaches_unread : {A : Type 0} (reads : Bool) (right : Right) (answer : Resul
     → ((refusal : Refusal) → answer ≡ Err (Refused refusal) → right (Err (Refused refusal))) → Reads answer (Err complaint) → Has output []
     → ReachesText reads true right (Err complaint) output
 Reaches_unread reads right answer (Refused refusal) output read is refused nothing = (is refusal refused, nothing)
-Reaches_unread reads right answer OutOfMemory output read is refused nothing = Reaches_no_memory reads right output read nothing
+Reaches_unread reads right answer Memory output read is refused nothing = Reaches_no_memory reads right output read nothing
 Reaches_unread reads right answer ReadFailed output read is refused nothing = (read, nothing)
 Reaches_unread reads right answer WriteFailed output read is refused nothing = absurd refused
 
 -- a refused rule is a right answer, with nothing on the output
-pub Reaches_rule : (reads : Bool) (right : Right) (text : List ℕ) (error : RuleError) (output : Stream) → rule_read text ≡ Err error
+pub Reaches_rule : (reads : Bool) (right : Right) (text : List ℕ) (error : RuleFault) (output : Stream) → rule_read text ≡ Err error
     → ((complaint : Complaint) → rule_named text ≡ Err complaint → right (Err complaint)) → Has output []
     → ReachesText reads true right (Err (rule_complaint error)) output
 Reaches_rule reads right text (rule_error.BadRule place) output is told nothing = (told _ (rw is refl), nothing)

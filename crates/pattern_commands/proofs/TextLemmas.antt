@@ -2,7 +2,7 @@
 use Rattle.std.proofs.Common.{◌≡◌, ℕ, Bool, true, false, inl, List, [], Option, Result, Ok, Err, refl}
 use Rattle.std.proofs.KnownBytes.{Appends-nil}
 use Rattle.pattern_commands.specs.declared.complaint.Complaint.{Complaint}
-use Rattle.pattern_commands.specs.declared.complaint.Complaint.TheVariants.{Refused, OutOfMemory, ReadFailed, WriteFailed}
+use Rattle.pattern_commands.specs.declared.complaint.Complaint.TheVariants.{Refused, Memory, ReadFailed, WriteFailed}
 use Rattle.pattern_commands.specs.declared.status.Status.{Status}
 use Rattle.pattern_commands.specs.declared.status.Status.TheVariants as statuses
 use Rattle.pattern_commands.specs.Answers.{Right}
@@ -32,7 +32,7 @@ reaches_text : (reads whole : Bool) (right : List ℕ → Right) (known : Option
     → Reaches (text_task reads whole right) known bytes (Err complaint) output errors
 reaches_text reads whole right known bytes (Refused refusal) output errors (is, nothing) still =
     (is, record { nothing = nothing; silent = still.0; fine = still.1 })
-reaches_text reads whole right known bytes OutOfMemory output errors (hides, left) still =
+reaches_text reads whole right known bytes Memory output errors (hides, left) still =
     record { hides = hides; left = part_of whole (right bytes) output left; told = inl still.0; fine = still.1 }
 reaches_text reads whole right known bytes ReadFailed output errors (read, nothing) still =
     record { reads = read; begun = still.0; nothing = nothing; fine = still.1 }

@@ -1,7 +1,7 @@
 -- The lines on standard error, and the status that goes with each.
 use Rattle.std.specs.Prelude.{ℕ, ◌++◌, List, codes, decimal}
 use Rattle.pattern_commands.specs.declared.complaint.Complaint.{Complaint}
-use Rattle.pattern_commands.specs.declared.complaint.Complaint.TheVariants.{Refused, OutOfMemory, ReadFailed, WriteFailed}
+use Rattle.pattern_commands.specs.declared.complaint.Complaint.TheVariants.{Refused, Memory, ReadFailed, WriteFailed}
 use Rattle.pattern_commands.specs.declared.refusal.Refusal.{Refusal}
 use Rattle.pattern_commands.specs.declared.refusal.Refusal.TheVariants.{BadByte, PatternTooLarge, BadRule, BirthZero, NotACode, CodeTooLong, CodeBadByte}
 use Rattle.pattern_commands.specs.declared.refusal.Refusal.TheVariants.{CodeShortRun, CodeEmpty, SeedTooLong, SeedBadByte, HorizonBelowPeriod}
@@ -30,7 +30,7 @@ refusal_line RangesOverlap = codes "census: ranges overlap\n"
 -- the line of a complaint
 abbrev pub complaint_line : Complaint → List ℕ
 complaint_line (Refused refusal) = refusal_line refusal
-complaint_line OutOfMemory = codes "census: out of memory\n"
+complaint_line Memory = codes "census: out of memory\n"
 complaint_line ReadFailed = codes "census: read failed\n"
 complaint_line WriteFailed = codes "census: write failed\n"
 
@@ -41,6 +41,6 @@ missing_line missing = codes "census: incomplete, " ++ decimal missing ++ codes 
 -- the status of a command that ends with a complaint
 abbrev pub status_of : Complaint → Status
 status_of (Refused refusal) = status.Refused
-status_of OutOfMemory = status.OutOfMemory
+status_of Memory = status.Memory
 status_of ReadFailed = status.Failed
 status_of WriteFailed = status.Failed

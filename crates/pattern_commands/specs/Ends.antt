@@ -1,7 +1,7 @@
 -- How a command ends: every one by the same rule.
 use Rattle.std.specs.Prelude.{◌≡◌, ◌⊎◌, ℕ, zero, suc, Bool, true, false, List, [], Option, Result, Ok, Err}
 use Rattle.pattern_commands.specs.declared.complaint.Complaint.{Complaint}
-use Rattle.pattern_commands.specs.declared.complaint.Complaint.TheVariants.{Refused, OutOfMemory, ReadFailed, WriteFailed}
+use Rattle.pattern_commands.specs.declared.complaint.Complaint.TheVariants.{Refused, Memory, ReadFailed, WriteFailed}
 use Rattle.pattern_commands.specs.declared.status.Status.{Status}
 use Rattle.pattern_commands.specs.declared.status.Status.TheVariants as statuses
 use Rattle.pattern_commands.specs.Complaints.{complaint_line, missing_line, status_of}
@@ -71,7 +71,7 @@ pub record IsUntold (task : Task) (output errors : Stream) : Type 0 where
 abbrev pub Reaches : Task → Option (List ℕ) → List ℕ → Outcome → Stream → Stream → Type 0
 Reaches task known bytes (Ok missing) output errors = IsPrinted (task.right bytes) missing output errors
 Reaches task known bytes (Err (Refused refusal)) output errors = task.right bytes (Err (Refused refusal)) × IsSilent output errors
-Reaches task known bytes (Err OutOfMemory) output errors = HasRunOut task known bytes output errors
+Reaches task known bytes (Err Memory) output errors = HasRunOut task known bytes output errors
 Reaches task known bytes (Err ReadFailed) output errors = IsCutOff task known output errors
 Reaches task known bytes (Err WriteFailed) output errors = IsCutShort task bytes output errors ⊎ IsUntold task output errors
 

@@ -2,8 +2,8 @@
 use Rattle.std.specs.Prelude.{◌≡◌, ℕ, ◌^◌, true, List, length, nat_le, Result, Ok, Err, if◌then◌else◌}
 use Rattle.std.specs.Result.{result_map_both}
 use Rattle.plane_core.specs.declared.cell.Cell.{Cell}
-use Rattle.plane_core.specs.declared.rule.RuleError.{RuleError}
-use Rattle.plane_core.specs.declared.rule.RuleError.TheVariants as rule_error
+use Rattle.plane_core.specs.declared.rule.RuleFault.{RuleFault}
+use Rattle.plane_core.specs.declared.rule.RuleFault.TheVariants as rule_error
 use Rattle.plane_core.specs.declared.plaintext.PlaintextFault.{PlaintextFault}
 use Rattle.plane_core.specs.declared.plaintext.PlaintextFault.TheVariants as fault
 use Rattle.plane_core.specs.declared.plaintext.PlaintextError.{PlaintextError}
@@ -15,13 +15,13 @@ use Rattle.plane_core.specs.Plaintext.{pattern}
 use Rattle.ranges.specs.declared.range_list.ListError.{ListError}
 use Rattle.ranges.specs.declared.range_list.ListError.TheVariants as list_error
 use Rattle.pattern_commands.specs.declared.complaint.Complaint.{Complaint}
-use Rattle.pattern_commands.specs.declared.complaint.Complaint.TheVariants.{Refused, OutOfMemory, ReadFailed, WriteFailed}
+use Rattle.pattern_commands.specs.declared.complaint.Complaint.TheVariants.{Refused, Memory, ReadFailed, WriteFailed}
 use Rattle.pattern_commands.specs.declared.refusal.Refusal.TheVariants.{BadByte, PatternTooLarge, BadRule, BirthZero, BadList}
-use Rattle.pattern_commands.specs.declared.input.InputFault.{InputFault}
-use Rattle.pattern_commands.specs.declared.input.InputFault.TheVariants as input_fault
+use Rattle.pattern_commands.specs.declared.input.InputError.{InputError}
+use Rattle.pattern_commands.specs.declared.input.InputError.TheVariants as input_error
 
 -- the complaint about a rule text
-abbrev pub rule_complaint : RuleError → Complaint
+abbrev pub rule_complaint : RuleFault → Complaint
 rule_complaint (rule_error.BadRule place) = Refused (BadRule place)
 rule_complaint rule_error.BirthZero = Refused BirthZero
 
@@ -33,17 +33,17 @@ pattern_complaint fault.TooLarge = Refused PatternTooLarge
 -- the complaint about a call that reads a plaintext pattern
 abbrev pub plaintext_complaint : PlaintextError → Complaint
 plaintext_complaint (error.Fault why) = pattern_complaint why
-plaintext_complaint error.Memory = OutOfMemory
+plaintext_complaint error.Memory = Memory
 
 -- the complaint about a call that reads a range list
 abbrev pub list_complaint : ListError → Complaint
 list_complaint (list_error.BadList place) = Refused (BadList place)
-list_complaint list_error.Memory = OutOfMemory
+list_complaint list_error.Memory = Memory
 
 -- the complaint about a call that reads an input
-abbrev pub input_complaint : InputFault → Complaint
-input_complaint input_fault.Unreadable = ReadFailed
-input_complaint input_fault.OutOfMemory = OutOfMemory
+abbrev pub input_complaint : InputError → Complaint
+input_complaint input_error.Unreadable = ReadFailed
+input_complaint input_error.Memory = Memory
 
 -- the rule that a text names
 abbrev pub rule_named : List ℕ → Result Numbers Complaint
@@ -63,6 +63,6 @@ LiesWithin999 cells = lies_within 999 cells ≡ true
 abbrev pub Reads : {A : Type 0} → Result A Complaint → Result A Complaint → Type 0
 Reads answer (Ok x) = answer ≡ Ok x
 Reads answer (Err (Refused refusal)) = answer ≡ Err (Refused refusal)
-Reads answer (Err OutOfMemory) = Unit {0}
+Reads answer (Err Memory) = Unit {0}
 Reads answer (Err ReadFailed) = Unit {0}
 Reads answer (Err WriteFailed) = ⊥

@@ -11,7 +11,7 @@ use Rattle.code_core.specs.declared.reader.WechslerError.{WechslerError}
 use Rattle.code_core.specs.declared.reader.WechslerError.TheVariants as error
 use Rattle.code_core.specs.Reading.{wechsler_read}
 use Rattle.pattern_commands.specs.declared.complaint.Complaint.{Complaint}
-use Rattle.pattern_commands.specs.declared.complaint.Complaint.TheVariants.{Refused, OutOfMemory}
+use Rattle.pattern_commands.specs.declared.complaint.Complaint.TheVariants.{Refused, Memory}
 use Rattle.pattern_commands.specs.declared.refusal.Refusal.TheVariants.{CodeBadByte, CodeEmpty, CodeShortRun, CodeTooLong, NotACode}
 use Rattle.pattern_commands.specs.Answers.{Answer, given, only}
 use Rattle.pattern_commands.specs.Tasks.{Task, text_task}
@@ -63,7 +63,7 @@ wechsler_complaint fault.Empty = Refused CodeEmpty
 -- the complaint about a call that reads such a text
 abbrev pub reader_complaint : WechslerError → Complaint
 reader_complaint (error.Fault why) = wechsler_complaint why
-reader_complaint error.Memory = OutOfMemory
+reader_complaint error.Memory = Memory
 
 -- the pattern of a text
 abbrev pub shown : List ℕ → Result (List Cell) Complaint

@@ -2,8 +2,8 @@
 use Rattle.std.specs.Prelude.{ℕ, List, Result, Ok, true, false}
 use Rattle.std.specs.Result.{result_map_both}
 use Rattle.plane_core.specs.Plaintext.{plain}
-use Rattle.survey_core.specs.declared.seed.SeedError.{SeedError}
-use Rattle.survey_core.specs.declared.seed.SeedError.TheVariants as error
+use Rattle.survey_core.specs.declared.seed.SeedFault.{SeedFault}
+use Rattle.survey_core.specs.declared.seed.SeedFault.TheVariants as error
 use Rattle.survey_core.specs.Seeds.{seed_read}
 use Rattle.survey_core.specs.Soups.{soup}
 use Rattle.pattern_commands.specs.declared.complaint.Complaint.{Complaint}
@@ -13,7 +13,7 @@ use Rattle.pattern_commands.specs.Answers.{Answer, given, only}
 use Rattle.pattern_commands.specs.Tasks.{Task, text_task}
 
 -- the complaint about a seed
-abbrev pub seed_complaint : SeedError → Complaint
+abbrev pub seed_complaint : SeedFault → Complaint
 seed_complaint error.TooLong = Refused SeedTooLong
 seed_complaint (error.BadByte place) = Refused (SeedBadByte place)
 

@@ -3,7 +3,7 @@ ghost use Rattle.plane_core.specs.Out.{Writes};
 ghost use Rattle.pattern_commands.specs.Complaints.{complaint_line, missing_line, status_of};
 ghost use Rattle.pattern_commands.specs.Streams.{stream, HasLine};
 
-use crate::input::InputFault;
+use crate::input::InputError;
 use crate::output::LineBuffer;
 use crate::refusal::Refusal;
 use crate::status::Status;
@@ -11,11 +11,11 @@ use code_core::decimal::put_number;
 use code_core::reader::{WechslerError, WechslerFault};
 use plane_core::output::{Out, WriteError};
 use plane_core::plaintext::{PlaintextError, PlaintextFault};
-use plane_core::rule::RuleError;
+use plane_core::rule::RuleFault;
 use ranges::range_list::ListError;
 use std::alloc::AllocError;
 use std::io::Write;
-use survey_core::seed::SeedError;
+use survey_core::seed::SeedFault;
 
 /// Why a command did not do all that was asked: the one line that it leaves on standard error, and its status.
 #[derive(Clone, Copy)]
@@ -23,7 +23,7 @@ pub enum Complaint {
     /// A text was refused.
     Refused(Refusal),
     /// Memory ran out.
-    OutOfMemory,
+    Memory,
     /// A read failed, or the input is longer than a command reads.
     ReadFailed,
     /// A write to standard output failed.
@@ -37,7 +37,7 @@ impl Complaint {
     {
         match self {
             Complaint::Refused(_) => Status::Refused,
-            Complaint::OutOfMemory => Status::OutOfMemory,
+            Complaint::Memory => Status::Memory,
             Complaint::ReadFailed | Complaint::WriteFailed => Status::Failed,
         }
     }
@@ -65,7 +65,7 @@ impl Complaint {
     {
         match self {
             Complaint::Refused(refusal) => refusal.put_line(errors),
-            Complaint::OutOfMemory => errors.put(b"census: out of memory\n"),
+            Complaint::Memory => errors.put(b"census: out of memory\n"),
             Complaint::ReadFailed => errors.put(b"census: read failed\n"),
             Complaint::WriteFailed => errors.put(b"census: write failed\n"),
         }
@@ -106,15 +106,15 @@ fn put_missing_line<E: Write>(missing: u64, errors: &mut Out<E>) -> Result<(), W
     errors.put(b" missing\n")
 }
 
-impl From<RuleError> for Complaint {
+impl From<RuleFault> for Complaint {
     ghost use Rattle.pattern_commands.specs.Inputs.{rule_complaint};
 
     ghost from_gives = { λ error complaint. complaint ≡ rule_complaint error };
 
-    fn from(error: RuleError) -> Complaint {
+    fn from(error: RuleFault) -> Complaint {
         Complaint::Refused(match error {
-            RuleError::BadRule { place } => Refusal::BadRule { place },
-            RuleError::BirthZero => Refusal::BirthZero,
+            RuleFault::BadRule { place } => Refusal::BadRule { place },
+            RuleFault::BirthZero => Refusal::BirthZero,
         })
     }
 }
@@ -132,7 +132,7 @@ impl From<PlaintextError> for Complaint {
             PlaintextError::Fault(PlaintextFault::TooLarge) => {
                 Complaint::Refused(Refusal::PatternTooLarge)
             }
-            PlaintextError::Memory => Complaint::OutOfMemory,
+            PlaintextError::Memory => Complaint::Memory,
         }
     }
 }
@@ -154,20 +154,20 @@ impl From<WechslerError> for Complaint {
                 Complaint::Refused(Refusal::CodeShortRun { place })
             }
             WechslerError::Fault(WechslerFault::Empty) => Complaint::Refused(Refusal::CodeEmpty),
-            WechslerError::Memory => Complaint::OutOfMemory,
+            WechslerError::Memory => Complaint::Memory,
         }
     }
 }
 
-impl From<SeedError> for Complaint {
+impl From<SeedFault> for Complaint {
     ghost use Rattle.pattern_commands.specs.Soup.{seed_complaint};
 
     ghost from_gives = { λ error complaint. complaint ≡ seed_complaint error };
 
-    fn from(error: SeedError) -> Complaint {
+    fn from(error: SeedFault) -> Complaint {
         Complaint::Refused(match error {
-            SeedError::TooLong => Refusal::SeedTooLong,
-            SeedError::BadByte { place } => Refusal::SeedBadByte { place },
+            SeedFault::TooLong => Refusal::SeedTooLong,
+            SeedFault::BadByte { place } => Refusal::SeedBadByte { place },
         })
     }
 }
@@ -180,30 +180,30 @@ impl From<ListError> for Complaint {
     fn from(error: ListError) -> Complaint {
         match error {
             ListError::BadList { place } => Complaint::Refused(Refusal::BadList { place }),
-            ListError::Memory => Complaint::OutOfMemory,
+            ListError::Memory => Complaint::Memory,
         }
     }
 }
 
 impl From<AllocError> for Complaint {
-    ghost use Rattle.pattern_commands.specs.declared.complaint.Complaint.TheVariants.{OutOfMemory};
+    ghost use Rattle.pattern_commands.specs.declared.complaint.Complaint.TheVariants.{Memory};
 
-    ghost from_gives = { λ _ complaint. complaint ≡ OutOfMemory };
+    ghost from_gives = { λ _ complaint. complaint ≡ Memory };
 
     fn from(_error: AllocError) -> Complaint {
-        Complaint::OutOfMemory
+        Complaint::Memory
     }
 }
 
-impl From<InputFault> for Complaint {
+impl From<InputError> for Complaint {
     ghost use Rattle.pattern_commands.specs.Inputs.{input_complaint};
 
     ghost from_gives = { λ fault complaint. complaint ≡ input_complaint fault };
 
-    fn from(fault: InputFault) -> Complaint {
+    fn from(fault: InputError) -> Complaint {
         match fault {
-            InputFault::Unreadable => Complaint::ReadFailed,
-            InputFault::OutOfMemory => Complaint::OutOfMemory,
+            InputError::Unreadable => Complaint::ReadFailed,
+            InputError::Memory => Complaint::Memory,
         }
     }
 }

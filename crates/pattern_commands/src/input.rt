@@ -12,20 +12,20 @@ pub const INPUT_LIMIT: usize = 16_777_216;
 
 /// Why an input was not read to its end.
 #[derive(Clone, Copy)]
-pub enum InputFault {
+pub enum InputError {
     /// A read failed, or there is more than the limit.
     Unreadable,
     /// There is no memory for what was read.
-    OutOfMemory,
+    Memory,
 }
 
-impl From<AllocError> for InputFault {
-    ghost use Rattle.pattern_commands.specs.declared.input.InputFault.TheVariants.{OutOfMemory};
+impl From<AllocError> for InputError {
+    ghost use Rattle.pattern_commands.specs.declared.input.InputError.TheVariants.{Memory};
 
-    ghost from_gives = { λ _ e. e ≡ OutOfMemory };
+    ghost from_gives = { λ _ e. e ≡ Memory };
 
-    fn from(_error: AllocError) -> InputFault {
-        InputFault::OutOfMemory
+    fn from(_error: AllocError) -> InputError {
+        InputError::Memory
     }
 }
 
@@ -33,9 +33,9 @@ impl From<AllocError> for InputFault {
 ///
 /// # Errors
 ///
-/// `Unreadable` if a read fails or there are more than [`INPUT_LIMIT`] bytes, and `OutOfMemory`. How much of the input
+/// `Unreadable` if a read fails or there are more than [`INPUT_LIMIT`] bytes, and `Memory`. How much of the input
 /// was read by then is left open.
-pub fn read_input<R: Read>(alloc: Global, input: &mut R) -> Result<Vec<u8>, InputFault>
+pub fn read_input<R: Read>(alloc: Global, input: &mut R) -> Result<Vec<u8>, InputError>
     ensures whole { IfOk result (λ bytes. IfSome (R.remaining input.old) (λ known. bytes.items ≡ known)) }
     ensures short { IfOk result (λ bytes. vec_len bytes ≤ 2 ^ 24) }
 {
@@ -43,8 +43,8 @@ pub fn read_input<R: Read>(alloc: Global, input: &mut R) -> Result<Vec<u8>, Inpu
     let mut limited = Read::take(input, INPUT_LIMIT as u64 + 1);
     match limited.read_to_end(&mut bytes) {
         Ok(_) if bytes.len() <= INPUT_LIMIT => Ok(bytes),
-        Err(error) if error.kind() == ErrorKind::OutOfMemory => Err(InputFault::OutOfMemory),
-        _ => Err(InputFault::Unreadable),
+        Err(error) if error.kind() == ErrorKind::OutOfMemory => Err(InputError::Memory),
+        _ => Err(InputError::Unreadable),
     }
 }
 
@@ -53,7 +53,7 @@ pub fn read_input<R: Read>(alloc: Global, input: &mut R) -> Result<Vec<u8>, Inpu
 /// # Errors
 ///
 /// `ReadFailed` if a read fails or there are more than [`INPUT_LIMIT`] bytes, else `BadByte` or `PatternTooLarge` if
-/// the bytes are not a pattern, and `OutOfMemory`.
+/// the bytes are not a pattern, and `Memory`.
 pub fn read_pattern<R: Read>(alloc: Global, input: &mut R) -> Result<Pattern, Complaint>
     ensures read { (bytes : List ℕ) × IsInput (R.remaining input.old) bytes × Reads (pattern_of bytes) result }
     ensures small { IfOk result LiesWithin999 }

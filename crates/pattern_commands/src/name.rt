@@ -32,7 +32,7 @@ use survey_core::finding::{Finding, survey_pattern};
 /// # Errors
 ///
 /// The status is `Refused` if the horizon is below the period, or for a text that is not a rule or an input that is not
-/// a pattern, `OutOfMemory`, or `Failed` if the input can't be read or the output can't be written. Then one line
+/// a pattern, `Memory`, or `Failed` if the input can't be read or the output can't be written. Then one line
 /// stands on `errors`; a failure to write that line is not reported.
 pub fn do_name<R: Read, W: Write, E: Write>(
     alloc: Global,
@@ -51,7 +51,7 @@ pub fn do_name<R: Read, W: Write, E: Write>(
     ensures profile_first { IsErr (profile_named profile) → (result ≡ Status.Refused) × (input.new ≡ input.old) }
     ensures rule_first { IsErr (rule_named rule_text.now) → (result ≡ Status.Refused) × (input.new ≡ input.old) }
     ensures untouched { result ≡ Status.Refused → output.new ≡ output.old }
-    ensures no_memory { result ≡ Status.OutOfMemory → output.new ≡ output.old }
+    ensures no_memory { result ≡ Status.Memory → output.new ≡ output.old }
 {
     match name(alloc, profile, rule_text, input, output) {
         Ok(()) => Status::Done,
@@ -77,7 +77,7 @@ fn name<R: Read, W: Write>(
     ensures rule_first { IsErr (rule_named rule_text.now)
         → IfErr result (λ complaint. status_of complaint ≡ Status.Refused) × (input.new ≡ input.old) }
     ensures untouched { IfErr result (λ complaint. status_of complaint ≡ Status.Refused → output.new ≡ output.old) }
-    ensures no_memory { IfErr result (λ complaint. complaint ≡ Complaint.OutOfMemory → output.new ≡ output.old) }
+    ensures no_memory { IfErr result (λ complaint. complaint ≡ Complaint.Memory → output.new ≡ output.old) }
 {
     let profile = profile.profile()?;
     let rule = Rule::read(rule_text)?;

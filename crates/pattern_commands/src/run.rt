@@ -30,7 +30,7 @@ pub const GENERATION_LIMIT: u32 = 100_000;
 ///
 /// # Errors
 ///
-/// The status is `Refused` for a text that is not a rule or an input that is not a pattern, `OutOfMemory`, or `Failed`
+/// The status is `Refused` for a text that is not a rule or an input that is not a pattern, `Memory`, or `Failed`
 /// if the input can't be read or the output can't be written. Then one line stands on `errors`; a failure to write that
 /// line is not reported.
 pub fn do_run<R: Read, W: Write, E: Write>(
@@ -49,7 +49,7 @@ pub fn do_run<R: Read, W: Write, E: Write>(
         (stream W.contents output.old output.new) (stream E.contents errors.old errors.new) }
     ensures rule_first { IsErr (rule_named rule_text.now) → (result ≡ Status.Refused) × (input.new ≡ input.old) }
     ensures untouched { result ≡ Status.Refused → output.new ≡ output.old }
-    ensures no_memory { result ≡ Status.OutOfMemory → output.new ≡ output.old }
+    ensures no_memory { result ≡ Status.Memory → output.new ≡ output.old }
 {
     match run(alloc, generations, rule_text, input, output) {
         Ok(()) => Status::Done,
@@ -72,7 +72,7 @@ fn run<R: Read, W: Write>(
     ensures rule_first { IfErr (rule_named rule_text.now) (λ complaint.
         (result ≡ Err complaint) × (input.new ≡ input.old)) }
     ensures untouched { IfErr result (λ complaint. status_of complaint ≡ Status.Refused → output.new ≡ output.old) }
-    ensures no_memory { IfErr result (λ complaint. complaint ≡ Complaint.OutOfMemory → output.new ≡ output.old) }
+    ensures no_memory { IfErr result (λ complaint. complaint ≡ Complaint.Memory → output.new ≡ output.old) }
 {
     let rule = Rule::read(rule_text)?;
     let pattern = read_pattern(alloc, input)?;
@@ -92,11 +92,11 @@ fn generation_after(
     requires generations { generations ≤ 100000 }
     requires small { LiesWithin999 pattern.now }
     ensures ok { IfOk result (λ later. later ≡ after rule.now pattern.now generations) }
-    ensures err { IfErr result (λ complaint. complaint ≡ Complaint.OutOfMemory) }
+    ensures err { IfErr result (λ complaint. complaint ≡ Complaint.Memory) }
 {
     match pattern.run(alloc, rule, generations) {
         Ok(later) => Ok(later),
         Err(StepError::Edge) => unreachable!(),
-        Err(StepError::Memory) => Err(Complaint::OutOfMemory),
+        Err(StepError::Memory) => Err(Complaint::Memory),
     }
 }

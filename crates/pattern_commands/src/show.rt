@@ -24,7 +24,7 @@ use std::io::Write;
 /// # Errors
 ///
 /// The status is `Refused` if what stands before the first `_` is not such a prefix, or the text is not of its form;
-/// `OutOfMemory`; or `Failed` if the output can't be written. Then one line stands on `errors`; a failure to write that
+/// `Memory`; or `Failed` if the output can't be written. Then one line stands on `errors`; a failure to write that
 /// line is not reported.
 pub fn do_show<W: Write, E: Write>(
     alloc: Global,
@@ -37,7 +37,7 @@ pub fn do_show<W: Write, E: Write>(
     ensures ends { (known : Option (List ℕ)) (bytes : List ℕ) → Ends (show_task code.now) known bytes result
         (stream W.contents output.old output.new) (stream E.contents errors.old errors.new) }
     ensures untouched { result ≡ Status.Refused → output.new ≡ output.old }
-    ensures no_memory { result ≡ Status.OutOfMemory → output.new ≡ output.old }
+    ensures no_memory { result ≡ Status.Memory → output.new ≡ output.old }
 {
     match show(alloc, code, output) {
         Ok(()) => Status::Done,
@@ -50,7 +50,7 @@ fn show<W: Write>(alloc: Global, code: &str, output: &mut Out<W>) -> Result<(), 
     ensures reached { ReachesText false true (only (show_answer code.now)) result
         (stream W.contents output.old output.new) }
     ensures untouched { IfErr result (λ complaint. status_of complaint ≡ Status.Refused → output.new ≡ output.old) }
-    ensures no_memory { IfErr result (λ complaint. complaint ≡ Complaint.OutOfMemory → output.new ≡ output.old) }
+    ensures no_memory { IfErr result (λ complaint. complaint ≡ Complaint.Memory → output.new ≡ output.old) }
 {
     let text = text_in(code)?;
     let pattern = read_wechsler(alloc, text)?;

@@ -24,7 +24,7 @@ use survey_core::soup::soup;
 ///
 /// # Errors
 ///
-/// The status is `Refused` if the text is not a seed, `OutOfMemory`, or `Failed` if the output can't be written. Then
+/// The status is `Refused` if the text is not a seed, `Memory`, or `Failed` if the output can't be written. Then
 /// one line stands on `errors`; a failure to write that line is not reported.
 pub fn do_soup<W: Write, E: Write>(
     alloc: Global,
@@ -39,7 +39,7 @@ pub fn do_soup<W: Write, E: Write>(
     ensures ends { (known : Option (List ℕ)) (bytes : List ℕ) → Ends (soup_task seed_text.now number) known bytes result
         (stream W.contents output.old output.new) (stream E.contents errors.old errors.new) }
     ensures untouched { result ≡ Status.Refused → output.new ≡ output.old }
-    ensures no_memory { result ≡ Status.OutOfMemory → output.new ≡ output.old }
+    ensures no_memory { result ≡ Status.Memory → output.new ≡ output.old }
 {
     match put_soup(alloc, seed_text, number, output) {
         Ok(()) => Status::Done,
@@ -57,7 +57,7 @@ fn put_soup<W: Write>(
     ensures reached { ReachesText false true (only (soup_answer seed_text.now number)) result
         (stream W.contents output.old output.new) }
     ensures untouched { IfErr result (λ complaint. status_of complaint ≡ Status.Refused → output.new ≡ output.old) }
-    ensures no_memory { IfErr result (λ complaint. complaint ≡ Complaint.OutOfMemory → output.new ≡ output.old) }
+    ensures no_memory { IfErr result (λ complaint. complaint ≡ Complaint.Memory → output.new ≡ output.old) }
 {
     let seed = Seed::new(seed_text)?;
     // The cells don't depend on the profile and the rule.

@@ -11,7 +11,7 @@ pub enum Status {
     /// A text was refused: a pattern, a rule or a code that is not of its form.
     Refused,
     /// Memory ran out.
-    OutOfMemory,
+    Memory,
     /// Reading or writing failed.
     Failed,
     /// All that was there was gathered, and soups are missing.
@@ -27,7 +27,7 @@ impl Status {
             Status::Done => 0,
             Status::Usage => 2,
             Status::Refused => 3,
-            Status::OutOfMemory => 4,
+            Status::Memory => 4,
             Status::Failed => 5,
             Status::Incomplete => 6,
         }

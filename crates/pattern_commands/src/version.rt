@@ -24,7 +24,7 @@ pub fn do_version<W: Write, E: Write>(output: &mut Out<W>, errors: &mut Out<E>) 
     ensures ends { (known : Option (List ℕ)) (bytes : List ℕ) → Ends version_task known bytes result
         (stream W.contents output.old output.new) (stream E.contents errors.old errors.new) }
     ensures status { result ≢ Status.Refused }
-    ensures no_memory { result ≢ Status.OutOfMemory }
+    ensures no_memory { result ≢ Status.Memory }
 {
     match put_version(output) {
         Ok(()) => Status::Done,

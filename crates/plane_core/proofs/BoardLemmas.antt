@@ -10,7 +10,7 @@ use Rattle.std.proofs.lemmas.Nat.Bits.{bit_at_above, bit_at_cat_high, bit_at-tra
 use Rattle.std.proofs.lemmas.Nat.{div-add-mod', pow_pos}
 use Rattle.std.proofs.Math.Nat.{div-le_self, mod-lt}
 use Rattle.std.specs.Int.{trailing_zeros}
-use Rattle.plane_core.specs.declared.word.Row.{Row}
+use Rattle.plane_core.specs.declared.word.WordInRow.{WordInRow}
 use Rattle.plane_core.specs.declared.blocks.Changes.{Changes}
 use Rattle.plane_core.specs.declared.blocks.Grid.{Grid}
 use Rattle.plane_core.specs.Rules.{Numbers}
@@ -78,12 +78,12 @@ clear_after_mark_if flags k m change true e low h = (ap (λ (n : ℕ). bit_at n 
 -- ---- two generations ago
 
 -- as far as three cells of a row go, two rows are the same
-pub record IsSameRow (r s : Row) : Type 0 where
+pub record IsSameRow (r s : WordInRow) : Type 0 where
   pub before : bit_at r.before 63 ≡ bit_at s.before 63
   pub here : r.here ≡ s.here
   pub after : bit_at r.after 0 ≡ bit_at s.after 0
 
-same_count : (r s : Row) → IsSameRow r s → (b : ℕ) → row_count r b ≡ row_count s b
+same_count : (r s : WordInRow) → IsSameRow r s → (b : ℕ) → row_count r b ≡ row_count s b
 same_count r s h b i = west b i + bit_at (h.here i) b + east (b == 63) i
   where
     west : (b : ℕ) → west_of r.before r.here b ≡ west_of s.before s.here b
@@ -95,7 +95,7 @@ same_count r s h b i = west b i + bit_at (h.here i) b + east (b == 63) i
     east false = ap (λ (n : ℕ). bit_at n (b + 1)) h.here
 
 -- the next word depends on no more than that
-next_same : (rule : Numbers) (a h b c k d : Row) (w : ℕ) → IsSameRow a c → IsSameRow h k → IsSameRow b d → IsNextWord rule a h b w → IsNextWord rule c k d w
+next_same : (rule : Numbers) (a h b c k d : WordInRow) (w : ℕ) → IsSameRow a c → IsSameRow h k → IsSameRow b d → IsNextWord rule a h b w → IsNextWord rule c k d w
 next_same rule a h b c k d w above here below next n low =
     next n low
     ∙ (λ i. one_if (lives_by rule (same_count a c above n i + same_count h k here n i + same_count b d below n i) (bit_at (here.here i) n == 1)))

@@ -14,7 +14,7 @@ use Rattle.plane_core.specs.Cells.{cell_at, cell_cmp, king_distance, distance, m
 use Rattle.plane_core.specs.Generations.{around, lives, next}
 use Rattle.plane_core.specs.Orientations.{turned_cell, image}
 use Rattle.plane_core.specs.Rules.{Numbers, is_birth, is_survival}
-use Rattle.plane_core.proofs.BlockLemmas.{around-cons}
+use Rattle.plane_core.proofs.NeighbourhoodLemmas.{around-cons}
 use Rattle.plane_core.proofs.CellLemmas.{king_distance-moved}
 use Rattle.plane_core.proofs.GenerationLemmas.{has-next, in_order-next}
 use Rattle.plane_core.proofs.OrientationLemmas.{has-map, has-map_from, product-cell, turning_back}

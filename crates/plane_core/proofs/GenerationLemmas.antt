@@ -8,14 +8,14 @@ use Rattle.plane_core.specs.declared.cell.Cell.{Cell}
 use Rattle.plane_core.specs.declared.tally.Tally.{Tally}
 use Rattle.plane_core.specs.Cells.{plane_bound, cell_at, same_cell, king_distance, distance, moved_by}
 use Rattle.plane_core.specs.Cells.{has, set_of, InOrder, on_plane, on_edge, IsPattern}
-use Rattle.plane_core.specs.Generations.{around, lives, triple, block, next, after, touches_edge}
+use Rattle.plane_core.specs.Generations.{around, lives, triple, neighbourhood, next, after, touches_edge}
 use Rattle.plane_core.specs.Rules.{Numbers, is_birth, is_survival}
-use Rattle.plane_core.specs.Tallies.{cells_of, counted_at, alive_at, one_of, lives_by, tally_lives, CountsBlocks}
+use Rattle.plane_core.specs.Tallies.{cells_of, counted_at, alive_at, one_of, lives_by, tally_lives, CountsNeighbourhoods}
 use Rattle.plane_core.proofs.CellLemmas.{same_cell-same}
 use Rattle.plane_core.proofs.SetLemmas.{IsBefore, has-head, has-append, has-filter, has-set_of, has-before, has-cases, in_order-head}
 use Rattle.plane_core.proofs.SetLemmas.{in_order-tail, in_order-cons, in_order-nil, in_order-filter, in_order-set_of, same_lists, or_right}
 use Rattle.plane_core.proofs.SearchLemmas.{list_all-has, has-list_all}
-use Rattle.plane_core.proofs.BlockLemmas.{near, int_eq-true, still, around-cons}
+use Rattle.plane_core.proofs.NeighbourhoodLemmas.{near, int_eq-true, still, around-cons}
 
 -- ---- cells beside the pattern
 
@@ -52,9 +52,9 @@ in_triple e c q h =
 beside_still : (a b : ℤ) → distance a b ≤ 1 → distance (a +ℤ pos 0) b ≤ 1
 beside_still a b h = rw (still a) h
 
--- the cells at king distance at most 1 are those of the block
-pub in_block : (d c : Cell) → king_distance c d ≤ 1 → has (block d) c ≡ true
-in_block d c h =
+-- the cells at king distance at most 1 are those of the neighbourhood
+pub in_neighbourhood : (d c : Cell) → king_distance c d ≤ 1 → has (neighbourhood d) c ≡ true
+in_neighbourhood d c h =
     let x : distance d.x c.x ≤ 1 = turned c.x d.x (omega arith) in
     let y : distance d.y c.y ≤ 1 = turned c.y d.y (omega arith) in
     let above = moved_by (pos 0) (negsuc 0) d in
@@ -72,11 +72,11 @@ in_block d c h =
     turned : (a b : ℤ) → distance a b ≤ 1 → distance b a ≤ 1
     turned a b h = omega (arith, ints)
 
-pub has-flat_map : (S : List Cell) (d c : Cell) → has S d ≡ true → has (block d) c ≡ true → has (flat_map block S) c ≡ true
+pub has-flat_map : (S : List Cell) (d c : Cell) → has S d ≡ true → has (neighbourhood d) c ≡ true → has (flat_map neighbourhood S) c ≡ true
 has-flat_map [] d c h k = absurd (false≢true h)
-has-flat_map (e ∷ es) d c h k = has-append (block e) (flat_map block es) c ∙ elim (has-cases e es d h) [
-  | inl same ↦ or_left (has (block e) c) (has (flat_map block es) c) (subst (λ (b : Cell). has (block b) c ≡ true) same k)
-  | inr more ↦ or_right (has (block e) c) (has (flat_map block es) c) (has-flat_map es d c more k)
+has-flat_map (e ∷ es) d c h k = has-append (neighbourhood e) (flat_map neighbourhood es) c ∙ elim (has-cases e es d h) [
+  | inl same ↦ or_left (has (neighbourhood e) c) (has (flat_map neighbourhood es) c) (subst (λ (b : Cell). has (neighbourhood b) c ≡ true) same k)
+  | inr more ↦ or_right (has (neighbourhood e) c) (has (flat_map neighbourhood es) c) (has-flat_map es d c more k)
 ]
 
 -- a cell with a live neighbour has one
@@ -107,29 +107,29 @@ lives_cases rule S c e = go (has S c) refl e
 pub distance_itself : (a : ℤ) → distance a a ≡ 0
 distance_itself a = omega (arith, ints)
 
-lives_near : (rule : Numbers) (S : List Cell) (c : Cell) → lives rule S c ≡ true → has (flat_map block S) c ≡ true
+lives_near : (rule : Numbers) (S : List Cell) (c : Cell) → lives rule S c ≡ true → has (flat_map neighbourhood S) c ≡ true
 lives_near rule S c e = elim (lives_cases rule S c e) [
-  | inl alive ↦ has-flat_map S c c alive (in_block c c (omega (arith, distance_itself c.x, distance_itself c.y)))
-  | inr beside ↦ let d = a_neighbour S c beside in has-flat_map S d.0 c d.1 (in_block d.0 c (omega (arith, d.2)))
+  | inl alive ↦ has-flat_map S c c alive (in_neighbourhood c c (omega (arith, distance_itself c.x, distance_itself c.y)))
+  | inr beside ↦ let d = a_neighbour S c beside in has-flat_map S d.0 c d.1 (in_neighbourhood d.0 c (omega (arith, d.2)))
 ]
 
 -- for every cell of the plane: it is in the next generation just where the rule's numbers say so
 pub has-next : (rule : Numbers) (S : List Cell) (c : Cell) → has (next rule S) c ≡ lives rule S c
 unfolding next
-has-next rule S c = has-filter (lives rule S) (set_of (flat_map block S)) c ∙ ap (λ b. b && lives rule S c) (has-set_of (flat_map block S) c)
+has-next rule S c = has-filter (lives rule S) (set_of (flat_map neighbourhood S)) c ∙ ap (λ b. b && lives rule S c) (has-set_of (flat_map neighbourhood S) c)
     ∙ go (lives rule S c) refl
   where
     and-false : (a : Bool) → (a && false) ≡ false
     and-false true = refl
     and-false false = refl
 
-    go : (b : Bool) → lives rule S c ≡ b → (has (flat_map block S) c && b) ≡ b
+    go : (b : Bool) → lives rule S c ≡ b → (has (flat_map neighbourhood S) c && b) ≡ b
     go true is = and_from _ true (lives_near rule S c is) refl
     go false is = and-false _
 
 pub in_order-next : (rule : Numbers) (S : List Cell) → InOrder (next rule S)
 unfolding next
-in_order-next rule S = in_order-filter (lives rule S) (set_of (flat_map block S)) (in_order-set_of (flat_map block S))
+in_order-next rule S = in_order-filter (lives rule S) (set_of (flat_map neighbourhood S)) (in_order-set_of (flat_map neighbourhood S))
 
 -- ---- counting
 
@@ -238,7 +238,7 @@ has-selected rule (t ∷ ts) c o = go (same_cell c t.cell) refl (has-selected ru
         skipped false = refl
 
 -- what is selected by the counts is the next generation
-pub selected-next : (rule : Numbers) (S : List Cell) (ts : List Tally) → CountsBlocks S ts → cells_of (filter (tally_lives rule) ts) ≡ next rule S
+pub selected-next : (rule : Numbers) (S : List Cell) (ts : List Tally) → CountsNeighbourhoods S ts → cells_of (filter (tally_lives rule) ts) ≡ next rule S
 selected-next rule S ts counts =
     same_lists (cells_of (filter (tally_lives rule) ts)) (next rule S) (in_order-filter_tallies (tally_lives rule) ts counts.in_order)
     (in_order-next rule S) (λ c. has-selected rule ts c counts.in_order ∙ by_count c (has (cells_of ts) c) refl ∙ sym (has-next rule S c))

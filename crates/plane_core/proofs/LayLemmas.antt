@@ -48,7 +48,7 @@ lies_round S b n least sides = has-list_all (is_within n) S (λ c e. near c (in_
 pub record IsRound (b : Bounds) (margin : ℕ) (at : Layout) : Type 0 where
   pub left : at.left ≡ b.left -ℤ pos (margin + 64)
   pub top : at.top ≡ b.top -ℤ pos (margin + 8)
-  pub strips : at.strips ≡ (distance b.left b.right + 2 * margin + 65) / 64 + 2
+  pub lanes : at.lanes ≡ (distance b.left b.right + 2 * margin + 65) / 64 + 2
   pub blocks : at.blocks ≡ (distance b.top b.bottom + 2 * margin + 9) / 8 + 2
 
 pub round_is_laid : (b : Bounds) (margin : ℕ) (at : Layout) → margin ≤ 1000 → AreSidesWithin plane_bound b → IsRound b margin at → IsLaid at
@@ -61,7 +61,7 @@ round_is_laid b margin at low sides is =
       left = let p = is.left in omega (arith, ints);
       top = let p = is.top in omega (arith, ints);
       tall = let p = is.blocks in omega arith;
-      strips = let p = is.strips in omega (arith, ints);
+      lanes = let p = is.lanes in omega (arith, ints);
       blocks = let p = is.blocks in omega (arith, ints);
     }
 
@@ -69,7 +69,7 @@ pub round_has_room : (b : Bounds) (margin : ℕ) (at : Layout) → IsRound b mar
 round_has_room b margin at is c within =
     let l = is.left in
     let t = is.top in
-    let s = is.strips in
+    let s = is.lanes in
     let k = is.blocks in
     record {
       left = let p = within.left in omega (arith, ints);

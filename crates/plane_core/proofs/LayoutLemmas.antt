@@ -15,15 +15,15 @@ use Rattle.plane_core.specs.Generations.{around, next, after}
 use Rattle.plane_core.specs.Layouts.{grid_of, place, index_of, IsShown, room, HasRoom, IsDead}
 use Rattle.plane_core.specs.Rules.{Numbers, is_birth, is_survival}
 use Rattle.plane_core.specs.Tallies.{lives_by, one_of}
-use Rattle.plane_core.specs.Words.{one_if, west_of, row_count, block_count}
-use Rattle.plane_core.proofs.BlockLemmas.{row_total, block_total-around}
+use Rattle.plane_core.specs.Words.{one_if, west_of, row_count, neighbourhood_count}
+use Rattle.plane_core.proofs.NeighbourhoodLemmas.{row_total, neighbourhood_total-around}
 use Rattle.plane_core.proofs.BoardLemmas.{less_or_not, not_one}
 use Rattle.plane_core.proofs.GenerationLemmas.{has-next, total-ones}
 use Rattle.plane_core.proofs.SpeedLemmas.{boxed-after}
 
 -- ---- the list's indexes
 
--- a strip to the left or right is a strip's length away
+-- a lane to the left or right is a lane's length away
 pub index_east : (at : Layout) (s r : ℕ) → index_of at (s + 1) r ≡ index_of at s r + 8 * at.blocks
 index_east at s r = omega arith
 
@@ -32,7 +32,7 @@ index_west at s r low = let is : s ≡ s - 1 + 1 = omega arith in omega (arith, 
 
 -- ---- the live cells of a row of three
 
-bit_if : (S : List Cell) (ws : List ℕ) (at : Layout) → IsShown at ws S → (e : Cell) (s r i : ℕ) → s < at.strips → r < 8 * at.blocks → i < 64
+bit_if : (S : List Cell) (ws : List ℕ) (at : Layout) → IsShown at ws S → (e : Cell) (s r i : ℕ) → s < at.lanes → r < 8 * at.blocks → i < 64
     → e ≡ place at s r i
     → cond {A = ℕ} (has S e) 1 0 ≡ bit_at (slice_index ws (index_of at s r)) i
 bit_if S ws at shown e s r i hs hr hi is =
@@ -47,7 +47,7 @@ bit_if S ws at shown e s r i hs hr hi is =
 pub same_cells : (x y v w : ℤ) → x ≡ v → y ≡ w → cell_at x y ≡ cell_at v w
 same_cells x y v w p q i = cell_at (p i) (q i)
 
-row_shown : (S : List Cell) (ws : List ℕ) (at : Layout) → InOrder S → IsShown at ws S → (e : Cell) (s r i : ℕ) → 1 ≤ s → s + 1 < at.strips → r < 8 * at.blocks
+row_shown : (S : List Cell) (ws : List ℕ) (at : Layout) → InOrder S → IsShown at ws S → (e : Cell) (s r i : ℕ) → 1 ≤ s → s + 1 < at.lanes → r < 8 * at.blocks
     → i < 64 → e ≡ place at s r i → row_total (map one_of S) e ≡ row_count (row_at ws (grid_of at) (index_of at s r)) i
 row_shown S ws at o shown e s r i low high hr hi is =
     omega (arith, total-ones S (moved_by (pos 1) (pos 0) e) o, total-ones S e o, total-ones S (moved_by (negsuc 0) (pos 0) e) o, here, west i hi is, east (i == 63) refl)
@@ -82,11 +82,11 @@ row_shown S ws at o shown e s r i low high hr hi is =
         bit_if S ws at shown (moved_by (pos 1) (pos 0) e) s r (i + 1) (omega arith) hr (omega arith)
         (ap (moved_by (pos 1) (pos 0)) is ∙ same_cells _ _ _ _ (omega (arith, ints)) (omega (arith, ints)))
 
--- ---- the block of nine
+-- ---- the neighbourhood
 
-block_shown : (S : List Cell) (ws : List ℕ) (at : Layout) → InOrder S → IsShown at ws S → (s r i : ℕ) → 1 ≤ s → s + 1 < at.strips → 1 ≤ r
+block_shown : (S : List Cell) (ws : List ℕ) (at : Layout) → InOrder S → IsShown at ws S → (s r i : ℕ) → 1 ≤ s → s + 1 < at.lanes → 1 ≤ r
     → r + 1 < 8 * at.blocks → i < 64
-    → block_count (row_at ws (grid_of at) (index_of at s r - 1)) (row_at ws (grid_of at) (index_of at s r)) (row_at ws (grid_of at) (index_of at s r + 1)) i
+    → neighbourhood_count (row_at ws (grid_of at) (index_of at s r - 1)) (row_at ws (grid_of at) (index_of at s r)) (row_at ws (grid_of at) (index_of at s r + 1)) i
     ≡ around S (place at s r i) + cond (has S (place at s r i)) 1 0
 block_shown S ws at o shown s r i low high top bottom hi =
     let c = place at s r i in
@@ -98,14 +98,14 @@ block_shown S ws at o shown s r i low high top bottom hi =
     let up : index_of at s (r - 1) ≡ index_of at s r - 1 = omega arith in
     let down : index_of at s (r + 1) ≡ index_of at s r + 1 = omega arith in
     let count = λ (n : ℕ). row_count (row_at ws (grid_of at) n) i in
-    omega (arith, block_total-around S c, total-ones S c o, above, here, below, ap count up, ap count down)
+    omega (arith, neighbourhood_total-around S c, total-ones S c o, above, here, below, ap count up, ap count down)
 
 -- ---- cells inside
 
 -- a cell that the rectangle has inside its outer blocks
 pub record IsInside (at : Layout) (s r : ℕ) : Type 0 where
   pub left : 1 ≤ s
-  pub right : s + 1 < at.strips
+  pub right : s + 1 < at.lanes
   pub top : 8 ≤ r
   pub bottom : r + 8 < 8 * at.blocks
 
@@ -120,8 +120,8 @@ inside-room at n s r i low within = record {
 -- an inside cell's word is in an inner block
 pub inner-inside : (at : Layout) (s r : ℕ) → IsInside at s r → IsInner (grid_of at) (index_of at s r / 8)
 inner-inside at s r inside =
-    let many : at.strips ≡ s + 2 + (at.strips - (s + 2)) = let h = inside.right in omega arith in
-    let whole : at.strips * at.blocks ≡ (s + 2 + (at.strips - (s + 2))) * at.blocks = ap (λ (m : ℕ). m * at.blocks) many in
+    let many : at.lanes ≡ s + 2 + (at.lanes - (s + 2)) = let h = inside.right in omega arith in
+    let whole : at.lanes * at.blocks ≡ (s + 2 + (at.lanes - (s + 2))) * at.blocks = ap (λ (m : ℕ). m * at.blocks) many in
     let more : s ≡ s - 1 + 1 = let h = inside.left in omega arith in
     let first : s * (8 * at.blocks) ≡ (s - 1 + 1) * (8 * at.blocks) = ap (λ (m : ℕ). m * (8 * at.blocks)) more in
     record {
@@ -172,7 +172,7 @@ room-after rule S at n g k low h c e =
 abbrev IsQuietRow : Layout → ℕ → Type 0
 IsQuietRow at r = (r ≤ 8) ⊎ (8 * at.blocks ≤ r + 9)
 
-dead_bit : (S : List Cell) (ws : List ℕ) (at : Layout) → IsShown at ws S → HasRoom at 1 S → (s r k : ℕ) → s < at.strips → r < 8 * at.blocks → k < 64
+dead_bit : (S : List Cell) (ws : List ℕ) (at : Layout) → IsShown at ws S → HasRoom at 1 S → (s r k : ℕ) → s < at.lanes → r < 8 * at.blocks → k < 64
     → IsQuietRow at r → bit_at (slice_index ws (index_of at s r)) k ≡ 0
 dead_bit S ws at shown fits s r k hs hr hk quiet =
     not_one (bit_at (slice_index ws (index_of at s r)) k) (bit_at-lt (slice_index ws (index_of at s r)) k)
@@ -183,7 +183,7 @@ dead_bit S ws at shown fits s r k hs hr hk quiet =
     none true e (inl high) = absurd (let h = (fits (place at s r k) e).top in omega (arith, ints))
     none true e (inr low) = absurd (let h = (fits (place at s r k) e).bottom in omega (arith, ints))
 
-dead_row : (S : List Cell) (ws : List ℕ) (at : Layout) → IsShown at ws S → HasRoom at 1 S → (m s r i : ℕ) → m ≡ index_of at s r → 1 ≤ s → s + 1 < at.strips
+dead_row : (S : List Cell) (ws : List ℕ) (at : Layout) → IsShown at ws S → HasRoom at 1 S → (m s r i : ℕ) → m ≡ index_of at s r → 1 ≤ s → s + 1 < at.lanes
     → r < 8 * at.blocks → i < 64 → IsQuietRow at r → row_count (row_at ws (grid_of at) m) i ≡ 0
 dead_row S ws at shown fits m s r i is low high hr hi quiet =
     ap (λ (n : ℕ). row_count (row_at ws (grid_of at) n) i) is
@@ -205,15 +205,15 @@ dead_row S ws at shown fits m s r i is low high hr hi quiet =
         let apart = eqb-false i 63 t in
         dead_bit S ws at shown fits s r (i + 1) (omega arith) hr (omega arith) quiet
 
--- an inner block that isn't all inside: the first or last of a strip, and not of the list's first or last inner ones
+-- an inner block that isn't all inside: the first or last of a lane, and not of the list's first or last inner ones
 pub record IsRim (at : Layout) (s r : ℕ) : Type 0 where
   pub left : 1 ≤ s
-  pub right : s + 1 < at.strips
+  pub right : s + 1 < at.lanes
   pub tall : 2 ≤ at.blocks
-  pub ends : ((r < 8) × (2 ≤ s)) ⊎ ((8 * at.blocks ≤ r + 8) × (s + 2 < at.strips))
+  pub ends : ((r < 8) × (2 ≤ s)) ⊎ ((8 * at.blocks ≤ r + 8) × (s + 2 < at.lanes))
 
 dead_block : (S : List Cell) (ws : List ℕ) (at : Layout) → IsShown at ws S → HasRoom at 1 S → (s r i : ℕ) → r < 8 * at.blocks → i < 64 → IsRim at s r
-    → (block_count (row_at ws (grid_of at) (index_of at s r - 1)) (row_at ws (grid_of at) (index_of at s r)) (row_at ws (grid_of at) (index_of at s r + 1)) i ≡ 0)
+    → (neighbourhood_count (row_at ws (grid_of at) (index_of at s r - 1)) (row_at ws (grid_of at) (index_of at s r)) (row_at ws (grid_of at) (index_of at s r + 1)) i ≡ 0)
     × (bit_at (slice_index ws (index_of at s r)) i ≡ 0)
 dead_block S ws at shown fits s r i hr hi rim = (
   omega (
@@ -228,10 +228,10 @@ dead_block S ws at shown fits s r i hr hi rim = (
     low : 1 ≤ s
     low = rim.left
 
-    high : s + 1 < at.strips
+    high : s + 1 < at.lanes
     high = rim.right
 
-    here : ((r < 8) × (2 ≤ s)) ⊎ ((8 * at.blocks ≤ r + 8) × (s + 2 < at.strips)) → IsQuietRow at r
+    here : ((r < 8) × (2 ≤ s)) ⊎ ((8 * at.blocks ≤ r + 8) × (s + 2 < at.lanes)) → IsQuietRow at r
     here (inl (a, b)) = inl (omega arith)
     here (inr (a, b)) = inr (omega arith)
 
@@ -240,7 +240,7 @@ dead_block S ws at shown fits s r i hr hi rim = (
         dead_row S ws at shown fits (index_of at s r - 1) (s - 1) (8 * at.blocks - 1) i (omega (arith, index_west at s 0 low)) (omega arith) (omega arith)
         (omega arith) hi (inr (omega arith))
 
-    above : (r < 1) ⊎ (1 ≤ r) → ((r < 8) × (2 ≤ s)) ⊎ ((8 * at.blocks ≤ r + 8) × (s + 2 < at.strips))
+    above : (r < 1) ⊎ (1 ≤ r) → ((r < 8) × (2 ≤ s)) ⊎ ((8 * at.blocks ≤ r + 8) × (s + 2 < at.lanes))
         → row_count (row_at ws (grid_of at) (index_of at s r - 1)) i ≡ 0
     above (inl none) (inl (a, b)) = first b (omega arith)
     above (inl none) (inr (a, b)) = absurd (let h = rim.tall in omega arith)
@@ -249,7 +249,7 @@ dead_block S ws at shown fits s r i hr hi rim = (
     above (inr some) (inr (a, b)) =
         dead_row S ws at shown fits (index_of at s r - 1) s (r - 1) i (omega arith) low high (omega arith) hi (inr (omega arith))
 
-    below : (r + 1 < 8 * at.blocks) ⊎ (8 * at.blocks ≤ r + 1) → ((r < 8) × (2 ≤ s)) ⊎ ((8 * at.blocks ≤ r + 8) × (s + 2 < at.strips))
+    below : (r + 1 < 8 * at.blocks) ⊎ (8 * at.blocks ≤ r + 1) → ((r < 8) × (2 ≤ s)) ⊎ ((8 * at.blocks ≤ r + 8) × (s + 2 < at.lanes))
         → row_count (row_at ws (grid_of at) (index_of at s r + 1)) i ≡ 0
     below (inl some) (inl (a, b)) = dead_row S ws at shown fits (index_of at s r + 1) s (r + 1) i (omega arith) low high some hi (inl (omega arith))
     below (inl some) (inr (a, b)) = dead_row S ws at shown fits (index_of at s r + 1) s (r + 1) i (omega arith) low high some hi (inr (omega arith))
@@ -258,7 +258,7 @@ dead_block S ws at shown fits s r i hr hi rim = (
         dead_row S ws at shown fits (index_of at s r + 1) (s + 1) 0 i (omega (arith, index_east at s 0)) (omega arith) (omega arith) (omega arith) hi (inl (omega arith))
 
 -- an inner block of the list that isn't all inside
-rim_of : (at : Layout) (s r : ℕ) → 2 ≤ at.blocks → s < at.strips → r < 8 * at.blocks → IsInner (grid_of at) (index_of at s r / 8) → ¬ IsInside at s r
+rim_of : (at : Layout) (s r : ℕ) → 2 ≤ at.blocks → s < at.lanes → r < 8 * at.blocks → IsInner (grid_of at) (index_of at s r / 8) → ¬ IsInside at s r
     → IsRim at s r
 rim_of at s r tall hs hr inner outside = record {
   left = left;
@@ -271,7 +271,7 @@ rim_of at s r tall hs hr inner outside = record {
     low : at.blocks + 1 ≤ index_of at s r / 8
     low = inner.low
 
-    high : index_of at s r / 8 + at.blocks + 1 < at.strips * at.blocks
+    high : index_of at s r / 8 + at.blocks + 1 < at.lanes * at.blocks
     high = inner.high
 
     left : 1 ≤ s
@@ -281,10 +281,10 @@ rim_of at s r tall hs hr inner outside = record {
       | inr some ↦ some
     ]
 
-    right : s + 1 < at.strips
-    right = elim (less_or_not (s + 1) at.strips) [
+    right : s + 1 < at.lanes
+    right = elim (less_or_not (s + 1) at.lanes) [
       | inl inside ↦ inside
-      | inr past ↦ absurd (let whole : at.strips * at.blocks ≡ (s + 1) * at.blocks = ap (λ (n : ℕ). n * at.blocks) (omega arith) in omega (arith, whole))
+      | inr past ↦ absurd (let whole : at.lanes * at.blocks ≡ (s + 1) * at.blocks = ap (λ (n : ℕ). n * at.blocks) (omega arith) in omega (arith, whole))
     ]
 
     second : r < 8 → 2 ≤ s
@@ -294,23 +294,23 @@ rim_of at s r tall hs hr inner outside = record {
       | inr some ↦ some
     ]
 
-    before_last : 8 * at.blocks ≤ r + 8 → s + 2 < at.strips
-    before_last far = elim (less_or_not (s + 2) at.strips) [
+    before_last : 8 * at.blocks ≤ r + 8 → s + 2 < at.lanes
+    before_last far = elim (less_or_not (s + 2) at.lanes) [
       | inl inside ↦ inside
-      | inr past ↦ absurd (let whole : at.strips * at.blocks ≡ (s + 2) * at.blocks =
+      | inr past ↦ absurd (let whole : at.lanes * at.blocks ≡ (s + 2) * at.blocks =
           ap (λ (n : ℕ). n * at.blocks) (omega (arith, right)) in omega (arith, whole))
     ]
 
     ends : (r < 8) ⊎ (8 ≤ r) → (r + 8 < 8 * at.blocks) ⊎ (8 * at.blocks ≤ r + 8)
-        → ((r < 8) × (2 ≤ s)) ⊎ ((8 * at.blocks ≤ r + 8) × (s + 2 < at.strips))
+        → ((r < 8) × (2 ≤ s)) ⊎ ((8 * at.blocks ≤ r + 8) × (s + 2 < at.lanes))
     ends (inl near) q = inl (near, second near)
     ends (inr p) (inr far) = inr (far, before_last far)
     ends (inr p) (inl q) = absurd (outside (record { left = left; right = right; top = p; bottom = q }))
 
 inside_or_not : (at : Layout) (s r : ℕ) → IsInside at s r ⊎ (IsInside at s r → ⊥)
-inside_or_not at s r = go (less_or_not s 1) (less_or_not (s + 1) at.strips) (less_or_not r 8) (less_or_not (r + 8) (8 * at.blocks))
+inside_or_not at s r = go (less_or_not s 1) (less_or_not (s + 1) at.lanes) (less_or_not r 8) (less_or_not (r + 8) (8 * at.blocks))
   where
-    go : (s < 1) ⊎ (1 ≤ s) → (s + 1 < at.strips) ⊎ (at.strips ≤ s + 1) → (r < 8) ⊎ (8 ≤ r) → (r + 8 < 8 * at.blocks) ⊎ (8 * at.blocks ≤ r + 8)
+    go : (s < 1) ⊎ (1 ≤ s) → (s + 1 < at.lanes) ⊎ (at.lanes ≤ s + 1) → (r < 8) ⊎ (8 ≤ r) → (r + 8 < 8 * at.blocks) ⊎ (8 * at.blocks ≤ r + 8)
         → IsInside at s r ⊎ (IsInside at s r → ⊥)
     go (inr a) (inl b) (inr c) (inl d) = inl (record { left = a; right = b; top = c; bottom = d })
     go (inl a) q t u = inr (λ h. let k = h.left in omega arith)

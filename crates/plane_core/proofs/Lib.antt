@@ -1,4 +1,4 @@
-pub mod BlockLemmas
+pub mod NeighbourhoodLemmas
 pub mod BoardLemmas
 pub mod BoundsLemmas
 pub mod CellLemmas

@@ -23,14 +23,14 @@ use Rattle.plane_core.proofs.LayoutLemmas.{IsInside, inside-room, inner-inside, 
 -- ---- places
 
 -- a row's place in the list is inside it, and isn't large
-pub index-inside : (at : Layout) (s r : ℕ) → s < at.strips → r < 8 * at.blocks → index_of at s r < 8 * (at.strips * at.blocks)
+pub index-inside : (at : Layout) (s r : ℕ) → s < at.lanes → r < 8 * at.blocks → index_of at s r < 8 * (at.lanes * at.blocks)
 index-inside at s r hs hr =
-    let many : at.strips ≡ s + 1 + (at.strips - (s + 1)) = omega arith in
-    let whole : at.strips * at.blocks ≡ (s + 1 + (at.strips - (s + 1))) * at.blocks = ap (λ (m : ℕ). m * at.blocks) many in
+    let many : at.lanes ≡ s + 1 + (at.lanes - (s + 1)) = omega arith in
+    let whole : at.lanes * at.blocks ≡ (s + 1 + (at.lanes - (s + 1))) * at.blocks = ap (λ (m : ℕ). m * at.blocks) many in
     omega (arith, whole)
 
-pub board-small : (at : Layout) → IsLaid at → at.strips * at.blocks ≤ 2 ^ 16 * 2 ^ 18
-board-small at laid = mul-le-mul laid.strips laid.blocks
+pub board-small : (at : Layout) → IsLaid at → at.lanes * at.blocks ≤ 2 ^ 16 * 2 ^ 18
+board-small at laid = mul-le-mul laid.lanes laid.blocks
 
 -- two rows have one place in the list only if they are one
 pub same_spot : (h s r t y : ℕ) → s * h + r ≡ t * h + y → r < h → y < h → (s ≡ t) × (r ≡ y)
@@ -74,7 +74,7 @@ or_one : (a : Bool) → (a || (true || false)) ≡ true
 or_one true = refl
 or_one false = refl
 
-pub shown_more : (at : Layout) (ws : List ℕ) (S : List Cell) (c : Cell) (s d i : ℕ) → s < at.strips → d < 8 * at.blocks → i < 64 → c ≡ place at s d i
+pub shown_more : (at : Layout) (ws : List ℕ) (S : List Cell) (c : Cell) (s d i : ℕ) → s < at.lanes → d < 8 * at.blocks → i < 64 → c ≡ place at s d i
     → index_of at s d < length ws → IsShown at ws S
     → IsShown at (set ws (index_of at s d) (bit_or (get_or ws (index_of at s d) 0) (1 * 2 ^ i % 2 ^ 64))) (S ++ c ∷ [])
 shown_more at ws S c s d i hs hd hi is low shown t y k ht hy hk = has-append S (c ∷ []) p ∙ row (same_or_not (index_of at t y) (index_of at s d))
@@ -167,14 +167,14 @@ pub spot_inner : (at : Layout) (c : Cell) (a d m : ℕ) → IsWithin (room at 0)
 spot_inner at c a d m within p q is =
     subst (λ (n : ℕ). IsInner (grid_of at) (n / 8)) (sym is) (inner-inside at (a / 64) d (spot_inside at c a d within p q))
 
-pub put_shown : (at : Layout) (ws : List ℕ) (S : List Cell) (c : Cell) (a d m : ℕ) → length ws ≡ 8 * (at.strips * at.blocks) → IsWithin (room at 0) c
+pub put_shown : (at : Layout) (ws : List ℕ) (S : List Cell) (c : Cell) (a d m : ℕ) → length ws ≡ 8 * (at.lanes * at.blocks) → IsWithin (room at 0) c
     → pos a ≡ c.x -ℤ at.left → pos d ≡ c.y -ℤ at.top → m ≡ index_of at (a / 64) d → IsShown at ws S
     → IsShown at (set ws m (bit_or (get_or ws m 0) (1 * 2 ^ (a % 64) % 2 ^ 64))) (S ++ c ∷ [])
 put_shown at ws S c a d m long within p q is shown =
     let inside = spot_inside at c a d within p q in
     let right = inside.right in
     let bottom = inside.bottom in
-    let hs : a / 64 < at.strips = omega arith in
+    let hs : a / 64 < at.lanes = omega arith in
     let hd : d < 8 * at.blocks = omega arith in
     let low : index_of at (a / 64) d < length ws = omega (arith, index-inside at (a / 64) d hs hd) in
     subst (λ (n : ℕ). IsShown at (set ws n (bit_or (get_or ws n 0) (1 * 2 ^ (a % 64) % 2 ^ 64))) (S ++ c ∷ [])) (sym is)

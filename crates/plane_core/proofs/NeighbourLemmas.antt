@@ -8,10 +8,10 @@ use Rattle.plane_core.specs.declared.cell.Cell.{Cell}
 use Rattle.plane_core.specs.declared.tally.Tally.{Tally}
 use Rattle.plane_core.specs.Cells.{plane_bound, moved_by, has, InOrder, on_plane, near_plane}
 use Rattle.plane_core.specs.Generations.{around}
-use Rattle.plane_core.specs.Tallies.{cells_of, counted_at, one_of, moved_tally, IsMerged, AddsNeighbours, CountsBlocks}
+use Rattle.plane_core.specs.Tallies.{cells_of, counted_at, one_of, moved_tally, IsMerged, AddsNeighbours, CountsNeighbourhoods}
 use Rattle.plane_core.proofs.CellLemmas.{cell_cmp-moved}
 use Rattle.plane_core.proofs.SetLemmas.{IsBefore, in_order-head, in_order-tail, in_order-cons, in_order-nil}
-use Rattle.plane_core.proofs.BlockLemmas.{block_total-around}
+use Rattle.plane_core.proofs.NeighbourhoodLemmas.{neighbourhood_total-around}
 use Rattle.plane_core.proofs.GenerationLemmas.{total-ones, alive_at-ones}
 
 int_cmp-back : (a b d : ℤ) → int_cmp a (b +ℤ d) ≡ int_cmp (a +ℤ neg_ℤ d) b
@@ -98,12 +98,12 @@ pub row_small : (S : List Cell) (rows : List Tally) (c : Cell) → InOrder S →
 row_small S rows c o sums =
     omega (arith, sums.totals c, one_small S (moved_by (pos 1) (pos 0) c) o, one_small S c o, one_small S (moved_by (negsuc 0) (pos 0) c) o)
 
--- rows of rows are blocks
-pub counts_blocks : (S : List Cell) (rows blocks : List Tally) → InOrder S → AddsNeighbours (pos 1) (pos 0) (map one_of S) rows
-    → AddsNeighbours (pos 0) (pos 1) rows blocks → CountsBlocks S blocks
-counts_blocks S rows blocks o r b = record {
+-- rows of rows are neighbourhoods
+pub counts_neighbourhoods : (S : List Cell) (rows neighbourhoods : List Tally) → InOrder S → AddsNeighbours (pos 1) (pos 0) (map one_of S) rows
+    → AddsNeighbours (pos 0) (pos 1) rows neighbourhoods → CountsNeighbourhoods S neighbourhoods
+counts_neighbourhoods S rows neighbourhoods o r b = record {
   totals = λ c. b.totals c ∙ (λ i. r.totals (moved_by (pos 0) (pos 1) c) i + (r.totals c i + r.totals (moved_by (pos 0) (negsuc 0) c) i))
-      ∙ block_total-around S c ∙ ap (λ (n : ℕ). around S c + n) (total-ones S c o);
+      ∙ neighbourhood_total-around S c ∙ ap (λ (n : ℕ). around S c + n) (total-ones S c o);
   alive = λ c. b.alive c ∙ r.alive c ∙ alive_at-ones S c;
   in_order = b.in_order;
 }

@@ -13,7 +13,7 @@ use Rattle.plane_core.specs.Cells.{has, same_cell, set_of, king_distance, distan
 use Rattle.plane_core.specs.Generations.{around, lives, after}
 use Rattle.plane_core.specs.Parts.{AreApart, FarPatternsRunAlone, HasRun, IsCut, is_before, leaves_band, place_on, side}
 use Rattle.plane_core.specs.Rules.{Numbers, is_birth, is_survival}
-use Rattle.plane_core.proofs.BlockLemmas.{around-cons}
+use Rattle.plane_core.proofs.NeighbourhoodLemmas.{around-cons}
 use Rattle.plane_core.proofs.GenerationLemmas.{a_neighbour, after-none, distance_itself, has-next, lives_cases}
 use Rattle.plane_core.proofs.RunLemmas.{in_order-after}
 use Rattle.plane_core.proofs.SearchLemmas.{has-list_all, list_all-has}

@@ -11,7 +11,7 @@ use Rattle.std.proofs.lemmas.Bool.{false≢true, and_parts, not-false}
 use Rattle.plane_core.specs.declared.cell.Cell.{Cell}
 use Rattle.plane_core.specs.Bounds.{shifted, TellsShift}
 use Rattle.plane_core.specs.Cells.{cell_at, moved_by, InOrder, on_plane, IsPattern}
-use Rattle.plane_core.proofs.BlockLemmas.{int_eq-same, int_eq-true}
+use Rattle.plane_core.proofs.NeighbourhoodLemmas.{int_eq-same, int_eq-true}
 use Rattle.plane_core.proofs.CellLemmas.{cell_cmp-moved}
 use Rattle.plane_core.proofs.SetLemmas.{IsBefore, in_order-head, in_order-tail, in_order-cons, in_order-nil}
 

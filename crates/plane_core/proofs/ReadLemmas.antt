@@ -72,7 +72,7 @@ along_place at s r i = same_cells _ _ _ _ (omega (arith, ints)) refl
 pub row-none : (at : Layout) (words : List ℕ) (r : ℕ) (old : List Cell) → HasReadRow at words r old 0 old
 row-none at words r old = record { grows = λ d e. e; sound = λ others shown among. among; complete = λ s i low. absurd (omega arith) }
 
--- strips without a cell have nothing to read
+-- lanes without a cell have nothing to read
 pub row-on : (at : Layout) (words : List ℕ) (r n m : ℕ) (old new : List Cell) → IsRowEmpty at words r n m → HasReadRow at words r old n new
     → HasReadRow at words r old m new
 row-on at words r n m old new empty before = record {
@@ -92,7 +92,7 @@ row-empty at words band r n m low high empty s b past near =
     let row : 8 * band + (r - 8 * band) ≡ r = omega arith in
     ap (λ (q : ℕ). bit_at (slice_index words (index_of at s q)) b) (sym row) ∙ empty s past near (r - 8 * band) b (omega arith)
 
-pub row-more : (at : Layout) (words : List ℕ) (s r word : ℕ) (first : Cell) (old new more : List Cell) → s < at.strips → r < 8 * at.blocks
+pub row-more : (at : Layout) (words : List ℕ) (s r word : ℕ) (first : Cell) (old new more : List Cell) → s < at.lanes → r < 8 * at.blocks
     → word ≡ slice_index words (index_of at s r) → first ≡ place at s r 0 → HasReadRow at words r old s new → HasRead word first new 64 more
     → HasReadRow at words r old (s + 1) more
 row-more at words s r word first old new more hs hr word_is first_is before read = record {
@@ -118,13 +118,13 @@ row-more at words s r word first old new more hs hr word_is first_is before read
 -- ---- the board
 
 pub rows-more : (at : Layout) (words : List ℕ) (r : ℕ) (new more : List Cell) → HasReadRows at words r new
-    → HasReadRow at words r new at.strips more → HasReadRows at words (r + 1) more
+    → HasReadRow at words r new at.lanes more → HasReadRows at words (r + 1) more
 rows-more at words r new more before read = record {
   sound = λ others shown. read.sound others shown (before.sound others shown);
   complete = λ s k i hs near low bit. found s k i hs near low bit (same_or_not k r);
 }
   where
-    found : (s k i : ℕ) → s < at.strips → k < r + 1 → i < 64 → bit_at (slice_index words (index_of at s k)) i ≡ 1 → (k ≡ r) ⊎ (k ≢ r)
+    found : (s k i : ℕ) → s < at.lanes → k < r + 1 → i < 64 → bit_at (slice_index words (index_of at s k)) i ≡ 1 → (k ≡ r) ⊎ (k ≢ r)
         → has more (place at s k i) ≡ true
     found s k i hs near low bit (inl same) =
         ap (λ (n : ℕ). has more (place at s n i)) same
@@ -138,14 +138,14 @@ rows-none at words cells none = record {
 }
 
 -- an empty band has nothing to read
-pub rows-on : (at : Layout) (words : List ℕ) (band : ℕ) (new : List Cell) → IsBandEmpty at words band 0 at.strips → HasReadRows at words (8 * band) new
+pub rows-on : (at : Layout) (words : List ℕ) (band : ℕ) (new : List Cell) → IsBandEmpty at words band 0 at.lanes → HasReadRows at words (8 * band) new
     → HasReadRows at words (8 * band + 8) new
 rows-on at words band new empty before = record {
   sound = before.sound;
   complete = λ s r i hs near low bit. found s r i hs near low bit (less_or_not r (8 * band));
 }
   where
-    found : (s r i : ℕ) → s < at.strips → r < 8 * band + 8 → i < 64 → bit_at (slice_index words (index_of at s r)) i ≡ 1
+    found : (s r i : ℕ) → s < at.lanes → r < 8 * band + 8 → i < 64 → bit_at (slice_index words (index_of at s r)) i ≡ 1
         → (r < 8 * band) ⊎ (8 * band ≤ r) → has new (place at s r i) ≡ true
     found s r i hs near low bit (inl done) = before.complete s r i hs done low bit
     found s r i hs near low bit (inr here) =
@@ -161,14 +161,14 @@ block-empty at words s band from columns is zero here k b low =
     let spot : index_of at s (8 * band + k) ≡ from + k = omega (arith, is) in
     ap (λ (n : ℕ). bit_at (slice_index words n) b) spot ∙ here b k (ap (λ (n : ℕ). bit_at n b) zero ∙ bit_at-zero b) low
 
--- one strip more of a band is empty
+-- one lane more of a band is empty
 pub band-more : (at : Layout) (words : List ℕ) (band n : ℕ) → IsBandEmpty at words band 0 n → IsBlockEmpty at words band n → IsBandEmpty at words band 0 (n + 1)
 band-more at words band n before here s low near = elim (same_or_not s n) [
   | inl same ↦ subst (λ (t : ℕ). IsBlockEmpty at words band t) (sym same) here
   | inr apart ↦ before s low (omega (arith, near, apart))
 ]
 
--- and one strip more at its end
+-- and one lane more at its end
 pub band-less : (at : Layout) (words : List ℕ) (band n m : ℕ) → 1 ≤ n → IsBandEmpty at words band n m → IsBlockEmpty at words band (n - 1)
     → IsBandEmpty at words band (n - 1) m
 band-less at words band n m some before here s low near = elim (same_or_not s (n - 1)) [
@@ -209,7 +209,7 @@ read_all at words S new o fits shown read = sym (is_set_of S new o (λ c. both_t
         let inside = spot_inside at c a d within p q in
         let right = inside.right in
         let bottom = inside.bottom in
-        let hs : a / 64 < at.strips = omega arith in
+        let hs : a / 64 < at.lanes = omega arith in
         let hr : d < 8 * at.blocks = omega arith in
         let alive : has S (place at (a / 64) d (a % 64)) ≡ true = ap (λ (x : Cell). has S x) (sym is) ∙ e in
         let bit : (bit_at (slice_index words (index_of at (a / 64) d)) (a % 64) == 1) ≡ true = sym (shown (a / 64) d (a % 64) hs hr (omega arith)) ∙ alive in

@@ -6,8 +6,8 @@ use Rattle.std.proofs.Math.Seq.{take-length}
 use Rattle.std.proofs.lemmas.Slice.Eq.{starts_is}
 use Rattle.std.proofs.lemmas.Bool.{false≢true}
 use Rattle.std.proofs.lemmas.Bool.Decides.{Decides-eqb, nat_tests}
-use Rattle.plane_core.specs.declared.rule.RuleError.{RuleError}
-use Rattle.plane_core.specs.declared.rule.RuleError.TheVariants.{BadRule, BirthZero}
+use Rattle.plane_core.specs.declared.rule.RuleFault.{RuleFault}
+use Rattle.plane_core.specs.declared.rule.RuleFault.TheVariants.{BadRule, BirthZero}
 use Rattle.plane_core.specs.Rules.{Numbers, IsRule, BeginsRule, IsFirstFault, Reading, with_answer, digits, rule_text, numbers_at, begins, rule_fault_at, rule_read}
 use Rattle.plane_core.proofs.OutLemmas.{take-drop-rest}
 use Rattle.plane_core.proofs.RuleNumbers.{numbers_at-hit, numbers_at-miss}
@@ -161,7 +161,7 @@ pub length-survivals : (text : List ℕ) → length (survivals_in text).rest ≤
 length-survivals text = omega (arith, length-births text, length-rest 9 0 (drop 1 (births_in text).rest), length-drop 1 (births_in text).rest)
 
 -- what an outcome of a reading says of the text
-abbrev pub Says : List ℕ → Result Numbers RuleError → Type 0
+abbrev pub Says : List ℕ → Result Numbers RuleFault → Type 0
 Says text (Ok rule) = IsRule rule × (rule_text rule ≡ text)
 Says text (Err (BadRule place)) = IsFirstFault text place × (begins text (codes "b0") ≡ false)
 Says text (Err BirthZero) = begins text (codes "b0") ≡ true
@@ -374,7 +374,7 @@ Says_rule_read text =
 
 pub rule_text-rule_read : (text : List ℕ) → IfOk (rule_read text) (λ rule. rule_text rule ≡ text)
 rule_text-rule_read text = spelled (rule_read text) (Says_rule_read text) where
-  spelled : (r : Result Numbers RuleError) → Says text r → IfOk r (λ rule. rule_text rule ≡ text)
+  spelled : (r : Result Numbers RuleFault) → Says text r → IfOk r (λ rule. rule_text rule ≡ text)
   spelled (Ok rule) h = h.1
   spelled (Err e) h = tt
 
@@ -383,25 +383,25 @@ IsFirstFault-rule_read text place e = let says = subst (Says text) e (Says_rule_
 
 -- ---- what is read keeps these laws
 
-pub reads_complete : (text : List ℕ) (read : Result Numbers RuleError) → read ≡ rule_read text → (rule : Numbers) → IsRule rule → rule_text rule ≡ text
+pub reads_complete : (text : List ℕ) (read : Result Numbers RuleFault) → read ≡ rule_read text → (rule : Numbers) → IsRule rule → rule_text rule ≡ text
     → read ≡ Ok rule
 reads_complete text read exact rule whole spelled = exact ∙ ap rule_read (sym spelled) ∙ rule_read-rule_text rule whole
 
-pub reads_first : (text : List ℕ) (read : Result Numbers RuleError) → read ≡ rule_read text → (place : ℕ) → read ≡ Err (BadRule place)
+pub reads_first : (text : List ℕ) (read : Result Numbers RuleFault) → read ≡ rule_read text → (place : ℕ) → read ≡ Err (BadRule place)
     → IsFirstFault text place
 reads_first text read exact place is = IsFirstFault-rule_read text place (sym exact ∙ is)
 
 pub reads_text : (text : List ℕ) (rule : Numbers) → Ok rule ≡ rule_read text → rule_text rule ≡ text
 reads_text text rule exact =
-    let P : Result Numbers RuleError → Type 0 = λ r. IfOk r (λ read. rule_text read ≡ text) in
+    let P : Result Numbers RuleFault → Type 0 = λ r. IfOk r (λ read. rule_text read ≡ text) in
     subst P (sym exact) (rule_text-rule_read text)
 
 pub reads_rule : (text : List ℕ) (rule : Numbers) → Ok rule ≡ rule_read text → IsRule rule
 reads_rule text rule exact = let says = subst (Says text) (sym exact) (Says_rule_read text) in says.0
 
-pub reads_zero : (text : List ℕ) (read : Result Numbers RuleError) → read ≡ rule_read text → (read ≡ Err BirthZero) ↔ IsTrue (begins text (codes "b0"))
+pub reads_zero : (text : List ℕ) (read : Result Numbers RuleFault) → read ≡ rule_read text → (read ≡ Err BirthZero) ↔ IsTrue (begins text (codes "b0"))
 reads_zero text read exact = told read (subst (Says text) (sym exact) (Says_rule_read text)) where
-  told : (r : Result Numbers RuleError) → Says text r → (r ≡ Err BirthZero) ↔ IsTrue (begins text (codes "b0"))
+  told : (r : Result Numbers RuleFault) → Says text r → (r ≡ Err BirthZero) ↔ IsTrue (begins text (codes "b0"))
   told (Ok rule) h =
       let not_zero : begins text (codes "b0") ≡ false = subst (λ (xs : List ℕ). begins xs (codes "b0") ≡ false) h.1 (zero-rule_text rule) in
       (λ is. cc, λ zero_first. absurd (false≢true (sym not_zero ∙ zero_first)))

@@ -19,7 +19,7 @@ use Rattle.plane_core.specs.Layouts.{AreSidesWithin, HasRoom, IsDead, IsLaid, Is
 use Rattle.plane_core.specs.Rules.{Numbers}
 use Rattle.plane_core.specs.Tallies.{lives_by}
 use Rattle.plane_core.specs.Windows.{HasChanged, IsColumnClear, IsEmptyRound, IsFirst, IsInland, IsRimClear, IsSeen, IsSpot, IsStepped, IsWindow, window_grid}
-use Rattle.plane_core.specs.Words.{block_count, one_if, row_count, west_of}
+use Rattle.plane_core.specs.Words.{neighbourhood_count, one_if, row_count, west_of}
 use Rattle.plane_core.proofs.BoardLemmas.{less_or_not, same_or_not}
 use Rattle.plane_core.proofs.GenerationLemmas.{after-more, after-none, in_order-next}
 use Rattle.plane_core.proofs.LayoutLemmas.{next_shown, room-after}
@@ -33,7 +33,7 @@ use Rattle.plane_core.proofs.SetLemmas.{has-all, has-cases, has-head, in_order-h
 -- ---- the board of a window
 
 grid_is : (at : Layout) → IsWindow at → grid_of at ≡ window_grid
-grid_is at w = λ i. record { blocks = w.blocks i; count = w.strips i * w.blocks i }
+grid_is at w = λ i. record { blocks = w.blocks i; count = w.lanes i * w.blocks i }
 
 pub index_is : (at : Layout) (s r : ℕ) → IsWindow at → index_of at s r ≡ s * 80 + r
 index_is at s r w = ap (λ (h : ℕ). s * (8 * h) + r) w.blocks
@@ -64,7 +64,7 @@ pub record IsPlaced (at : Layout) (c : Cell) (a d : ℕ) : Type 0 where
 
 pub placed : (at : Layout) (c : Cell) (a d : ℕ) → IsWindow at → IsWithin (room at 0) c → pos a ≡ c.x -ℤ at.left → pos d ≡ c.y -ℤ at.top → IsPlaced at c a d
 placed at c a d w within p q =
-    let three = w.strips in
+    let three = w.lanes in
     let ten = w.blocks in
     let l = within.left in
     let t = within.top in
@@ -111,9 +111,9 @@ lit_of at words T c a d w shown e p = record {
 
     bit : bit_at (slice_index words (80 + d)) (a - 64) ≡ 1
     bit =
-        let strips : 1 < at.strips = let s = w.strips in omega arith in
+        let lanes : 1 < at.lanes = let s = w.lanes in omega arith in
         let rows : d < 8 * at.blocks = let s = w.blocks in omega arith in
-        let one = shown 1 d (a - 64) strips rows (omega arith) in
+        let one = shown 1 d (a - 64) lanes rows (omega arith) in
         let index : index_of at 1 d ≡ 80 + d = index_is at 1 d w in
         ap (λ (n : ℕ). bit_at (slice_index words n) (a - 64)) (sym index)
         ∙ eqb-true (bit_at (slice_index words (index_of at 1 d)) (a - 64)) 1 (sym one ∙ ap (has T) (sym is) ∙ e)
@@ -154,8 +154,8 @@ rim_room at words T w seen clear c e = go (lit at words T c w seen e)
         down : pos d ≡ c.y -ℤ at.top
         down = l.down
 
-        three : at.strips ≡ 3
-        three = w.strips
+        three : at.lanes ≡ 3
+        three = w.lanes
 
         ten : at.blocks ≡ 10
         ten = w.blocks
@@ -287,7 +287,7 @@ first_is_head at words h rest s a d w seen first l = go (has-cases h rest f ther
 
     there : has (h ∷ rest) (place at 1 s.down (s.across - 64)) ≡ true
     there =
-        seen.shown 1 s.down (s.across - 64) (let k = w.strips in omega arith) (let k = w.blocks in omega arith) (omega arith)
+        seen.shown 1 s.down (s.across - 64) (let k = w.lanes in omega arith) (let k = w.blocks in omega arith) (omega arith)
         ∙ ap (λ (n : ℕ). bit_at (slice_index words n) (s.across - 64) == 1) (index_is at 1 s.down w)
         ∙ ap (λ (n : ℕ). n == 1) first.alive
 
@@ -428,7 +428,7 @@ pub put_in_window : (at : Layout) (ws : List ℕ) (S : List Cell) (c : Cell) (a 
     → IsSpot at c a d → IsShown at ws S
     → IsShown at (set ws (a / 64 * 80 + d) (bit_or (get_or ws (a / 64 * 80 + d) 0) (1 * 2 ^ (a % 64) % 2 ^ 64))) (S ++ c ∷ [])
 put_in_window at ws S c a d w long within p shown =
-    put_shown at ws S c a d (a / 64 * 80 + d) (long ∙ sym (λ i. 8 * (w.strips i * w.blocks i))) within p.across_is p.down_is (sym (index_is at (a / 64) d w)) shown
+    put_shown at ws S c a d (a / 64 * 80 + d) (long ∙ sym (λ i. 8 * (w.lanes i * w.blocks i))) within p.across_is p.down_is (sym (index_is at (a / 64) d w)) shown
 
 pub dead_in_window : (at : Layout) (ws : List ℕ) (c : Cell) (a d v : ℕ) → IsWindow at → IsWithin (room at 0) c → IsSpot at c a d
     → IsDead window_grid ws → IsDead window_grid (set ws (a / 64 * 80 + d) v)
@@ -442,7 +442,7 @@ dead_in_window at ws c a d v w within p dead =
 pub record IsRoundWindow (b : Bounds) (width height : ℕ) (at : Layout) : Type 0 where
   pub left : at.left ≡ b.left -ℤ pos (64 + (63 - width) / 2)
   pub top : at.top ≡ b.top -ℤ pos (8 + (63 - height) / 2)
-  pub strips : at.strips ≡ 3
+  pub lanes : at.lanes ≡ 3
   pub blocks : at.blocks ≡ 10
   pub across : width ≡ distance b.left b.right
   pub down : height ≡ distance b.top b.bottom
@@ -457,7 +457,7 @@ window_is_laid b width height at sides is =
       left = let p = is.left in omega (arith, ints);
       top = let p = is.top in omega (arith, ints);
       tall = let p = is.blocks in omega arith;
-      strips = let p = is.strips in omega arith;
+      lanes = let p = is.lanes in omega arith;
       blocks = let p = is.blocks in omega arith;
     }
 
@@ -465,7 +465,7 @@ pub window_has_room : (b : Bounds) (width height : ℕ) (at : Layout) → IsRoun
 window_has_room b width height at is c within =
     let l = is.left in
     let t = is.top in
-    let s = is.strips in
+    let s = is.lanes in
     let k = is.blocks in
     let wide = is.wide in
     let high = is.high in
@@ -492,7 +492,7 @@ inside_edge_of at T w far fits = inside_edge T 999000 (omega arith) (has-list_al
         let h = fits c e in
         let far_left = far.left in
         let far_top = far.top in
-        let s = w.strips in
+        let s = w.lanes in
         let k = w.blocks in
         let l = h.left in
         let t = h.top in
@@ -553,7 +553,7 @@ changing_more rule at S n now old later h seen other = record {
 
 -- ---- rows far from any cell
 
--- no column of the three strips has a cell
+-- no column of the three lanes has a cell
 pub empty_round : (words : List ℕ) (from a b c : ℕ) → bit_or (bit_or a b) c ≡ 0
     → ((i k : ℕ) → bit_at a i ≡ 0 → k < 10 → bit_at (slice_index words (from - 81 + k)) i ≡ 0)
     → ((i k : ℕ) → bit_at b i ≡ 0 → k < 10 → bit_at (slice_index words (from - 1 + k)) i ≡ 0)
@@ -594,7 +594,7 @@ next_empty rule words from k low few empty i hi = bit_at-zero i ∙ sym (λ t. o
     dead : bit_at (row_at words window_grid (from + k)).here i ≡ 0
     dead = bit_here (from + k) (k + 1) i (omega (arith, low)) (omega (arith, few))
 
-    count : block_count (row_at words window_grid (from + k - 1)) (row_at words window_grid (from + k)) (row_at words window_grid (from + k + 1)) i ≡ 0
+    count : neighbourhood_count (row_at words window_grid (from + k - 1)) (row_at words window_grid (from + k)) (row_at words window_grid (from + k + 1)) i ≡ 0
     count = omega (
       arith,
       row (from + k - 1) k (omega (arith, low)) (omega (arith, few)),

@@ -8,8 +8,8 @@ use Rattle.std.proofs.lemmas.Nat.Bits.{bit_at_and, bit_at_or, bit_at_xor, bit_at
 use Rattle.std.proofs.lemmas.Nat.Bits.{bit_at-lt, bit_at_above, bit_at_cat_low, bit_at_cat_high, bit_at-zero}
 use Rattle.plane_core.specs.Rules.{Numbers, is_birth, is_survival}
 use Rattle.plane_core.specs.Tallies.{lives_by}
-use Rattle.plane_core.specs.declared.word.Row.{Row}
-use Rattle.plane_core.specs.Words.{IsNextWord, west_of, east_of, one_if, row_count, block_count, life}
+use Rattle.plane_core.specs.declared.word.WordInRow.{WordInRow}
+use Rattle.plane_core.specs.Words.{IsNextWord, west_of, east_of, one_if, row_count, neighbourhood_count, life}
 
 -- ---- moved by a place
 
@@ -156,7 +156,7 @@ by_nine g a b c d high x y low r ha hb hc hd small p q s e f =
 
 -- ---- counts
 
-row_count-small : (row : Row) (i : ℕ) → row_count row i ≤ 3
+row_count-small : (row : WordInRow) (i : ℕ) → row_count row i ≤ 3
 row_count-small row i = omega (arith, west row.before row.here i, bit_at-lt row.here i, east (i == 63))
   where
     west : (before here i : ℕ) → west_of before here i < 2
@@ -167,8 +167,8 @@ row_count-small row i = omega (arith, west row.before row.here i, bit_at-lt row.
     east true = bit_at-lt row.after 0
     east false = bit_at-lt row.here (i + 1)
 
-pub block_count-small : (above here below : Row) (i : ℕ) → block_count above here below i ≤ 9
-block_count-small above here below i = omega (arith, row_count-small above i, row_count-small here i, row_count-small below i)
+pub neighbourhood_count-small : (above here below : WordInRow) (i : ℕ) → neighbourhood_count above here below i ≤ 9
+neighbourhood_count-small above here below i = omega (arith, row_count-small above i, row_count-small here i, row_count-small below i)
 
 -- ---- Life
 
@@ -204,7 +204,7 @@ life_digits a (suc zero) c (suc zero) t p q r s u small = absurd (omega arith)
 life_digits a zero (suc zero) (suc zero) t p q r s u small = absurd (omega arith)
 
 -- the next word goes by the three rows alone
-pub next_of_rows : (rule : Numbers) (word : ℕ) {a a' b b' d d' : Row} → a ≡ a' → b ≡ b' → d ≡ d' → IsNextWord rule a b d word
+pub next_of_rows : (rule : Numbers) (word : ℕ) {a a' b b' d d' : WordInRow} → a ≡ a' → b ≡ b' → d ≡ d' → IsNextWord rule a b d word
     → IsNextWord rule a' b' d' word
 next_of_rows rule word {a} {a'} {b} {b'} {d} {d'} above here below is =
     subst (λ x. IsNextWord rule x b' d' word) above (subst₂ (λ y z. IsNextWord rule a y z word) here below is)

@@ -1,16 +1,16 @@
--- A board: a rectangle of cells in words, all in one list. A strip is 64 columns wide, a word of it is a row, and 8 words are a
--- block. The words of a strip stand one after another, and so do the strips. So the words above and below a word stand beside it
--- in the list, and those to its left and right a strip's length away.
+-- A board: a rectangle of cells in words, all in one list. A lane is 64 columns wide, a word of it is a row, and 8 words are a
+-- block. The words of a lane stand one after another, and so do the lanes. So the words above and below a word stand beside it
+-- in the list, and those to its left and right a lane's length away.
 use Rattle.std.specs.Prelude.{◌≡◌, ◌≢◌, ◌+◌, ◌-◌, ◌*◌, ◌/◌, ◌%◌, ◌<◌, ◌≤◌, ◌^◌, ℕ, List, length, slice_index}
 use Rattle.std.specs.Int.{bit_at}
-use Rattle.plane_core.specs.declared.word.Row.{Row}
+use Rattle.plane_core.specs.declared.word.WordInRow.{WordInRow}
 use Rattle.plane_core.specs.declared.blocks.Changes.{Changes}
 use Rattle.plane_core.specs.declared.blocks.Grid.{Grid}
 use Rattle.plane_core.specs.Rules.{Numbers}
 use Rattle.plane_core.specs.Words.{IsNextWord}
 
 -- word i with its neighbours in the row
-abbrev pub row_at : List ℕ → Grid → ℕ → Row
+abbrev pub row_at : List ℕ → Grid → ℕ → WordInRow
 row_at words grid i = record {
   before = slice_index words (i - 8 * grid.blocks);
   here = slice_index words i;
@@ -21,7 +21,7 @@ row_at words grid i = record {
 abbrev pub IsNextAt : Numbers → Grid → List ℕ → ℕ → ℕ → Type 0
 IsNextAt rule grid words i word = IsNextWord rule (row_at words grid (i - 1)) (row_at words grid i) (row_at words grid (i + 1)) word
 
--- a block with blocks all round it: not one of the first or last strip, nor the list's first or last beside these
+-- a block with blocks all round it: not one of the first or last lane, nor the list's first or last beside these
 pub record IsInner (grid : Grid) (j : ℕ) : Type 0 where
   pub low : grid.blocks + 1 ≤ j
   pub high : j + grid.blocks + 1 < grid.count

@@ -21,12 +21,12 @@ lives rule cells c = if has cells c then is_survival rule (around cells c) else 
 abbrev pub triple : Cell → List Cell
 triple c = moved_by (negsuc 0) (pos 0) c ∷ c ∷ moved_by (pos 1) (pos 0) c ∷ []
 
-abbrev pub block : Cell → List Cell
-block c = flat_map triple (moved_by (pos 0) (negsuc 0) c ∷ c ∷ moved_by (pos 0) (pos 1) c ∷ [])
+abbrev pub neighbourhood : Cell → List Cell
+neighbourhood c = flat_map triple (moved_by (pos 0) (negsuc 0) c ∷ c ∷ moved_by (pos 0) (pos 1) c ∷ [])
 
 -- the next generation: of the cells in the pattern and beside it, those that are alive then
 unfoldable pub next : Numbers → List Cell → List Cell
-next rule cells = filter (lives rule cells) (set_of (flat_map block cells))
+next rule cells = filter (lives rule cells) (set_of (flat_map neighbourhood cells))
 
 -- the pattern after g generations
 unfoldable pub after : Numbers → List Cell → ℕ → List Cell

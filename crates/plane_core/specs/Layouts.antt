@@ -11,9 +11,9 @@ use Rattle.plane_core.specs.Cells.{cell_at, has}
 
 -- the sizes of the board's list
 abbrev pub grid_of : Layout → Grid
-grid_of at = record { blocks = at.blocks; count = at.strips * at.blocks }
+grid_of at = record { blocks = at.blocks; count = at.lanes * at.blocks }
 
--- the cell that bit i of row r of strip s is
+-- the cell that bit i of row r of lane s is
 abbrev pub place : Layout → ℕ → ℕ → ℕ → Cell
 place at s r i = cell_at (at.left +ℤ pos (64 * s + i)) (at.top +ℤ pos r)
 
@@ -23,7 +23,7 @@ index_of at s r = s * (8 * at.blocks) + r
 
 -- in the board's rectangle, the bits that are 1 are the cells of the list
 abbrev pub IsShown : Layout → List ℕ → List Cell → Type 0
-IsShown at words cells = (s r i : ℕ) → s < at.strips → r < 8 * at.blocks → i < 64
+IsShown at words cells = (s r i : ℕ) → s < at.lanes → r < 8 * at.blocks → i < 64
     → has cells (place at s r i) ≡ (bit_at (slice_index words (index_of at s r)) i == 1)
 
 -- what the board has inside its outer blocks, less n columns and rows on each side
@@ -31,7 +31,7 @@ abbrev pub room : Layout → ℕ → Bounds
 room at n = record {
   left = at.left +ℤ pos (64 + n);
   top = at.top +ℤ pos (8 + n);
-  right = at.left +ℤ (pos (64 * at.strips) -ℤ pos (65 + n));
+  right = at.left +ℤ (pos (64 * at.lanes) -ℤ pos (65 + n));
   bottom = at.top +ℤ (pos (8 * at.blocks) -ℤ pos (9 + n));
 }
 
@@ -48,7 +48,7 @@ pub record IsLaid (at : Layout) : Type 0 where
   pub left : unsigned_abs at.left ≤ 2 ^ 21
   pub top : unsigned_abs at.top ≤ 2 ^ 21
   pub tall : 2 ≤ at.blocks
-  pub strips : at.strips ≤ 2 ^ 16
+  pub lanes : at.lanes ≤ 2 ^ 16
   pub blocks : at.blocks ≤ 2 ^ 18
 
 -- the cells of a list are cells of another
@@ -57,9 +57,9 @@ AreAmong others cells = (c : Cell) → has cells c ≡ true → has others c ≡
 
 -- The lists of a board just after the cells were put on it. Before there was nothing: what isn't marked is empty still.
 pub record IsLoaded (at : Layout) (cells : List Cell) (now last todo marks : List ℕ) : Type 0 where
-  pub now_long : length now ≡ 8 * (at.strips * at.blocks)
-  pub last_long : length last ≡ 8 * (at.strips * at.blocks)
-  pub todo_long : at.strips * at.blocks ≤ 64 * length todo
+  pub now_long : length now ≡ 8 * (at.lanes * at.blocks)
+  pub last_long : length last ≡ 8 * (at.lanes * at.blocks)
+  pub todo_long : at.lanes * at.blocks ≤ 64 * length todo
   pub todo_small : length todo < 2 ^ 40
   pub marks_same : marks ≡ todo
   pub empty : (i : ℕ) → slice_index last i ≡ 0
@@ -74,7 +74,7 @@ pub record HasRead (word : ℕ) (first : Cell) (old : List Cell) (n : ℕ) (new 
       → AreAmong others old → AreAmong others new
   pub complete : (i : ℕ) → i < n → bit_at word i ≡ 1 → has new (cell_at (first.x +ℤ pos i) first.y) ≡ true
 
--- the words of the first n strips in a row have been read
+-- the words of the first n lanes in a row have been read
 pub record HasReadRow (at : Layout) (words : List ℕ) (r : ℕ) (old : List Cell) (n : ℕ) (new : List Cell) : Type 0 where
   pub grows : AreAmong new old
   pub sound : (others : List Cell) → IsShown at words others → AreAmong others old → AreAmong others new
@@ -83,17 +83,17 @@ pub record HasReadRow (at : Layout) (words : List ℕ) (r : ℕ) (old : List Cel
 -- the first n rows have been read
 pub record HasReadRows (at : Layout) (words : List ℕ) (n : ℕ) (new : List Cell) : Type 0 where
   pub sound : (others : List Cell) → IsShown at words others → AreAmong others new
-  pub complete : (s r i : ℕ) → s < at.strips → r < n → i < 64 → bit_at (slice_index words (index_of at s r)) i ≡ 1 → has new (place at s r i) ≡ true
+  pub complete : (s r i : ℕ) → s < at.lanes → r < n → i < 64 → bit_at (slice_index words (index_of at s r)) i ≡ 1 → has new (place at s r i) ≡ true
 
--- no cell of the block in a band and a strip is alive
+-- no cell of the block in a band and a lane is alive
 abbrev pub IsBlockEmpty : Layout → List ℕ → ℕ → ℕ → Type 0
 IsBlockEmpty at words band s = (k b : ℕ) → k < 8 → bit_at (slice_index words (index_of at s (8 * band + k))) b ≡ 0
 
--- nor of any strip from one to before another
+-- nor of any lane from one to before another
 abbrev pub IsBandEmpty : Layout → List ℕ → ℕ → ℕ → ℕ → Type 0
 IsBandEmpty at words band from to = (s : ℕ) → from ≤ s → s < to → IsBlockEmpty at words band s
 
--- no cell of a row is alive in these strips
+-- no cell of a row is alive in these lanes
 abbrev pub IsRowEmpty : Layout → List ℕ → ℕ → ℕ → ℕ → Type 0
 IsRowEmpty at words r from to = (s b : ℕ) → from ≤ s → s < to → bit_at (slice_index words (index_of at s r)) b ≡ 0
 

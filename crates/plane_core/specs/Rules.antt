@@ -2,8 +2,8 @@
 use Rattle.std.specs.Prelude.{◌≡◌, ◌+◌, ◌-◌, ◌<◌, ◌≤◌, ◌++◌, ◌==◌, ℕ, zero, suc, Bool, true, false, not, if◌then◌else◌}
 use Rattle.std.specs.Prelude.{List, [], ◌∷◌, length, take, drop, codes, unwrap_or, slice_get, nat_eq, Result, Ok, Err}
 use Rattle.std.specs.List.{starts_with}
-use Rattle.plane_core.specs.declared.rule.RuleError.{RuleError}
-use Rattle.plane_core.specs.declared.rule.RuleError.TheVariants.{BadRule, BirthZero}
+use Rattle.plane_core.specs.declared.rule.RuleFault.{RuleFault}
+use Rattle.plane_core.specs.declared.rule.RuleFault.TheVariants.{BadRule, BirthZero}
 
 -- A rule as two tables of answers: births has those for 1 to 8 live neighbours, survivals those for 0 to 8.
 pub record Numbers : Type 0 where
@@ -67,11 +67,11 @@ numbers_at (suc more) n text =
     else with_answer false (numbers_at more (n + 1) text)
 
 -- the fault where this rest of the text begins
-abbrev pub rule_fault_at : List ℕ → List ℕ → Result Numbers RuleError
+abbrev pub rule_fault_at : List ℕ → List ℕ → Result Numbers RuleFault
 rule_fault_at text rest = Err (BadRule (length text - length rest))
 
 -- the rule that a text says, or its first fault from the left
-unfoldable pub rule_read : List ℕ → Result Numbers RuleError
+unfoldable pub rule_read : List ℕ → Result Numbers RuleFault
 rule_read text =
     let births = numbers_at 8 1 (drop 1 text) in
     let survivals = numbers_at 9 0 (drop 1 births.rest) in

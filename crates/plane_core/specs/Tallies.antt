@@ -30,15 +30,15 @@ one_of c = record { cell = c; count = 1; alive = true }
 abbrev pub moved_tally : ℤ → ℤ → Tally → Tally
 moved_tally dx dy t = record { cell = moved_by dx dy t.cell; count = t.count; alive = t.alive }
 
--- a cell is alive next, where count is the number of live cells of its block, itself among them where it is alive
+-- a cell is alive next, where count is the number of live cells of its neighbourhood, itself among them where it is alive
 abbrev pub lives_by : Numbers → ℕ → Bool → Bool
 lives_by rule count alive = if alive then is_survival rule (count - 1) else is_birth rule count
 
 abbrev pub tally_lives : Numbers → Tally → Bool
 tally_lives rule t = lives_by rule t.count t.alive
 
--- the tallies of the live cells in every block: a cell's neighbours and, where it is alive, the cell itself
-pub record CountsBlocks (cells : List Cell) (tallies : List Tally) : Type 0 where
+-- the tallies of the live cells in every neighbourhood: a cell's neighbours and, where it is alive, the cell itself
+pub record CountsNeighbourhoods (cells : List Cell) (tallies : List Tally) : Type 0 where
   pub totals : (c : Cell) → counted_at tallies c ≡ around cells c + (if has cells c then 1 else 0)
   pub alive : (c : Cell) → alive_at tallies c ≡ has cells c
   pub in_order : InOrder (cells_of tallies)

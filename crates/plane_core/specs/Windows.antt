@@ -1,5 +1,5 @@
 -- A window: 64 columns by 64 rows, in which a pattern is run for as long as no cell stands on the rim. It is the inside of a board of
--- three strips of ten blocks, of which the outer blocks stay empty.
+-- three lanes of ten blocks, of which the outer blocks stay empty.
 use Rattle.std.specs.Prelude.{◌≡◌, ◌≢◌, ◌+◌, ◌-◌, ◌<◌, ◌≤◌, ℕ, ℤ, ◌-ℤ◌, pos, List, slice_index, unsigned_abs}
 use Rattle.std.specs.Int.{bit_at}
 use Rattle.plane_core.specs.declared.blocks.Grid.{Grid}
@@ -17,7 +17,7 @@ abbrev pub window_grid : Grid
 window_grid = record { blocks = 10; count = 30 }
 
 pub record IsWindow (at : Layout) : Type 0 where
-  pub strips : at.strips ≡ 3
+  pub lanes : at.lanes ≡ 3
   pub blocks : at.blocks ≡ 10
 
 -- and one that lies far from the edge of the plane

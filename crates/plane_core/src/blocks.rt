@@ -13,9 +13,9 @@ ghost use Rattle.plane_core.specs.Boards.{IsNext, IsNextAt, IsNextMark, IsRight,
 ghost use Rattle.plane_core.specs.Boards.{KeepsMarks, KeepsOuter, TellsChanges, row_at};
 ghost use Rattle.plane_core.specs.Words.{life};
 
-use crate::word::{self, Answers, Row};
+use crate::word::{self, Answers, WordInRow};
 
-/// How many blocks a strip of a board has, and how many there are in all.
+/// How many blocks a lane of a board has, and how many there are in all.
 #[derive(Clone, Copy)]
 pub(crate) struct Grid {
     pub(crate) blocks: usize,
@@ -40,12 +40,12 @@ impl Grid {
 }
 
 /// Word i with its neighbours in the row.
-fn row_of(words: &[u64], grid: Grid, i: usize) -> Row
+fn row_of(words: &[u64], grid: Grid, i: usize) -> WordInRow
     requires low { 8 * grid.blocks ≤ i }
     requires high { i + 8 * grid.blocks < length words.now }
     ensures { result ≡ row_at words.now grid i }
 {
-    Row {
+    WordInRow {
         before: words[i - 8 * grid.blocks],
         here: words[i],
         after: words[i + 8 * grid.blocks],

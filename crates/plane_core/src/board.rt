@@ -138,7 +138,7 @@ fn along(cell: Cell, columns: usize) -> Cell
     }
 }
 
-/// Reads the cells of a row from the left, and adds them to a list. The strips before the first and from the end on
+/// Reads the cells of a row from the left, and adds them to a list. The lanes before the first and from the end on
 /// have none.
 fn read_row(
     at: Layout,
@@ -150,21 +150,21 @@ fn read_row(
 ) -> Result<(), AllocError>
     requires laid { IsLaid at }
     requires row { row < 8 * at.blocks }
-    requires long { length words.now ≡ 8 * (at.strips * at.blocks) }
+    requires long { length words.now ≡ 8 * (at.lanes * at.blocks) }
     requires order { first ≤ end }
-    requires end { end ≤ at.strips }
+    requires end { end ≤ at.lanes }
     requires left { IsRowEmpty at words.now row 0 first }
-    requires right { IsRowEmpty at words.now row end at.strips }
-    ensures { OnOk result (HasReadRow at words.now row cells.old.items at.strips cells.new.items) }
+    requires right { IsRowEmpty at words.now row end at.lanes }
+    ensures { OnOk result (HasReadRow at words.now row cells.old.items at.lanes cells.new.items) }
 {
-    for strip in first..end {
-        let word = words[at.index(strip, row)];
-        read_word(word, at.corner(strip, row), cells)?;
+    for lane in first..end {
+        let word = words[at.index(lane, row)];
+        read_word(word, at.corner(lane, row), cells)?;
     }
     Ok(())
 }
 
-/// Reads the cells of a band, which is a block of each strip, row by row, and adds them to a list. Most bands are
+/// Reads the cells of a band, which is a block of each lane, row by row, and adds them to a list. Most bands are
 /// empty, and of the others most blocks, since a board is laid out for what its cells may become.
 fn read_band(
     at: Layout,
@@ -174,48 +174,48 @@ fn read_band(
 ) -> Result<(), AllocError>
     requires laid { IsLaid at }
     requires band { band < at.blocks }
-    requires long { length words.now ≡ 8 * (at.strips * at.blocks) }
+    requires long { length words.now ≡ 8 * (at.lanes * at.blocks) }
     ensures { OnOk result
         (HasReadRows at words.now (8 * band) cells.old.items
         → HasReadRows at words.now (8 * band + 8) cells.new.items) }
 {
-    let first = first_strip(at, words, band);
-    if first == at.strips {
+    let first = first_lane(at, words, band);
+    if first == at.lanes {
         return Ok(());
     }
-    let end = end_of_strips(at, words, band, first);
+    let end = end_of_lanes(at, words, band, first);
     for row in 8 * band..8 * band + 8 {
         read_row(at, words, row, first, end, cells)?;
     }
     Ok(())
 }
 
-/// The first strip in which a cell of a band is alive. If there is none, it is how many strips there are.
-fn first_strip(at: Layout, words: &[u64], band: usize) -> usize
+/// The first lane in which a cell of a band is alive. If there is none, it is how many lanes there are.
+fn first_lane(at: Layout, words: &[u64], band: usize) -> usize
     requires laid { IsLaid at }
     requires band { band < at.blocks }
-    requires long { length words.now ≡ 8 * (at.strips * at.blocks) }
-    ensures most { result ≤ at.strips }
+    requires long { length words.now ≡ 8 * (at.lanes * at.blocks) }
+    ensures most { result ≤ at.lanes }
     ensures empty { IsBandEmpty at words.now band 0 result }
 {
-    let mut strip = 0;
-    while strip < at.strips && is_block_empty(at, words, strip, band) {
-        strip += 1;
+    let mut lane = 0;
+    while lane < at.lanes && is_block_empty(at, words, lane, band) {
+        lane += 1;
     }
-    strip
+    lane
 }
 
-/// One more than the last strip, from this one on, in which a cell of a band is alive.
-fn end_of_strips(at: Layout, words: &[u64], band: usize, first: usize) -> usize
+/// One more than the last lane, from this one on, in which a cell of a band is alive.
+fn end_of_lanes(at: Layout, words: &[u64], band: usize, first: usize) -> usize
     requires laid { IsLaid at }
     requires band { band < at.blocks }
-    requires long { length words.now ≡ 8 * (at.strips * at.blocks) }
-    requires first { first ≤ at.strips }
+    requires long { length words.now ≡ 8 * (at.lanes * at.blocks) }
+    requires first { first ≤ at.lanes }
     ensures least { first ≤ result }
-    ensures most { result ≤ at.strips }
-    ensures empty { IsBandEmpty at words.now band result at.strips }
+    ensures most { result ≤ at.lanes }
+    ensures empty { IsBandEmpty at words.now band result at.lanes }
 {
-    let mut end = at.strips;
+    let mut end = at.lanes;
     while end > first && is_block_empty(at, words, end - 1, band) {
         end -= 1;
     }
@@ -223,14 +223,14 @@ fn end_of_strips(at: Layout, words: &[u64], band: usize, first: usize) -> usize
 }
 
 /// Whether no cell of a block is alive.
-fn is_block_empty(at: Layout, words: &[u64], strip: usize, band: usize) -> bool
+fn is_block_empty(at: Layout, words: &[u64], lane: usize, band: usize) -> bool
     requires laid { IsLaid at }
-    requires strip { strip < at.strips }
+    requires lane { lane < at.lanes }
     requires band { band < at.blocks }
-    requires long { length words.now ≡ 8 * (at.strips * at.blocks) }
-    ensures { IsTrue result → IsBlockEmpty at words.now band strip }
+    requires long { length words.now ≡ 8 * (at.lanes * at.blocks) }
+    ensures { IsTrue result → IsBlockEmpty at words.now band lane }
 {
-    columns_of_block(words, at.index(strip, 8 * band)) == 0
+    columns_of_block(words, at.index(lane, 8 * band)) == 0
 }
 
 /// Which columns have a live cell in eight words, from this one on.
@@ -249,7 +249,7 @@ fn columns_of_block(words: &[u64], from: usize) -> u64
 /// little to see to that.
 fn read(alloc: Global, at: Layout, words: &[u64], room: usize) -> Result<Vec<Cell>, AllocError>
     requires laid { IsLaid at }
-    requires long { length words.now ≡ 8 * (at.strips * at.blocks) }
+    requires long { length words.now ≡ 8 * (at.lanes * at.blocks) }
     ensures { IfOk result
         (λ read. (cells : List Cell) → InOrder cells → HasRoom at 0 cells → IsShown at words.now cells
         → read.items ≡ cells) }
@@ -266,8 +266,8 @@ fn read(alloc: Global, at: Layout, words: &[u64], room: usize) -> Result<Vec<Cel
 fn put(at: Layout, words: &mut [u64], flags: &mut [u64], cell: Cell, last: usize) -> usize
     requires laid { IsLaid at }
     requires within { IsWithin (room at 0) cell }
-    requires long { length words.old ≡ 8 * (at.strips * at.blocks) }
-    requires flags { at.strips * at.blocks ≤ 64 * length flags.old }
+    requires long { length words.old ≡ 8 * (at.lanes * at.blocks) }
+    requires flags { at.lanes * at.blocks ≤ 64 * length flags.old }
     requires marked { IsMarkedRound (grid_of at) flags.old last }
     ensures shown { (cells : List Cell) → IsShown at words.old cells → IsShown at words.new (cells ++ cell ∷ []) }
     ensures still { IsStill (grid_of at) flags.old [] words.old → IsStill (grid_of at) flags.new [] words.new }
@@ -285,8 +285,8 @@ fn put(at: Layout, words: &mut [u64], flags: &mut [u64], cell: Cell, last: usize
 fn fill(at: Layout, words: &mut [u64], flags: &mut [u64], cells: &[Cell])
     requires laid { IsLaid at }
     requires room { HasRoom at 0 cells.now }
-    requires long { length words.old ≡ 8 * (at.strips * at.blocks) }
-    requires flags { at.strips * at.blocks ≤ 64 * length flags.old }
+    requires long { length words.old ≡ 8 * (at.lanes * at.blocks) }
+    requires flags { at.lanes * at.blocks ≤ 64 * length flags.old }
     requires empty { (i : ℕ) → slice_index words.old i ≡ 0 }
     ensures shown { IsShown at words.new cells.now }
     ensures still { IsStill (grid_of at) flags.new [] words.new }

@@ -83,8 +83,8 @@ impl Pattern {
         requires { touches_edge self.now ≡ false }
         ensures { IfOk result (λ pattern. pattern ≡ next rule.now self.now) }
     {
-        let blocks = tally::blocks(alloc, self.cells())?;
-        let cells = tally::selected(alloc, rule, blocks.as_slice())?;
+        let counted = tally::neighbourhoods(alloc, self.cells())?;
+        let cells = tally::selected(alloc, rule, counted.as_slice())?;
         Ok(Pattern::from_ordered(cells))
     }
 

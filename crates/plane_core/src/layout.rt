@@ -1,10 +1,10 @@
 //! Where a board lies, and where a cell stands in its words.
 //!
-//! A board is cut into strips of 64 columns, and each strip into blocks of 8 rows. The words stand strip after strip, a
+//! A board is cut into lanes of 64 columns, and each lane into blocks of 8 rows. The words stand lane after lane, a
 //! word for each row. The outer blocks have no live cell, and get none in the generations that the board is for:
 //!
 //! ```text
-//!            strip 0    strip 1    strip 2
+//!            lane 0    lane 1    lane 2
 //! block 0   |  outer  |  outer  |  outer  |
 //! block 1   |  outer  |  cells  |  outer  |   8 rows of 64 columns each
 //! block 2   |  outer  |  outer  |  outer  |
@@ -25,13 +25,13 @@ use crate::cell::{BOUND, Cell};
 use crate::coordinate::{apart, back};
 use crate::pattern::Pattern;
 
-/// Where a board lies: its first column and row, how many strips of 64 columns it has, and how many blocks of 8 rows
+/// Where a board lies: its first column and row, how many lanes of 64 columns it has, and how many blocks of 8 rows
 /// each.
 #[derive(Clone, Copy)]
 pub(crate) struct Layout {
     pub(crate) left: i32,
     pub(crate) top: i32,
-    pub(crate) strips: usize,
+    pub(crate) lanes: usize,
     pub(crate) blocks: usize,
 }
 
@@ -80,7 +80,7 @@ impl Layout {
         Layout {
             left: back(bounds.left, margin + 64),
             top: back(bounds.top, margin + 8),
-            strips: (width / 64 + 2) as usize,
+            lanes: (width / 64 + 2) as usize,
             blocks: (height / 8 + 2) as usize,
         }
     }
@@ -88,7 +88,7 @@ impl Layout {
     /// Whether there are many more blocks than cells: over 32,768, which take 4 megabytes, and 32 a cell.
     fn is_sparse(self, population: usize) -> bool
         requires { IsLaid self }
-        ensures { result ≡ false → self.strips * self.blocks ≤ 32 * population + 32800 }
+        ensures { result ≡ false → self.lanes * self.blocks ≤ 32 * population + 32800 }
     {
         let count = self.grid().count;
         count > 32_768 && (count - 32_768) / 32 > population
@@ -101,32 +101,32 @@ impl Layout {
     {
         Grid {
             blocks: self.blocks,
-            count: self.strips * self.blocks,
+            count: self.lanes * self.blocks,
         }
     }
 
-    /// The place of a row of a strip in the list of words.
-    pub(crate) fn index(self, strip: usize, row: usize) -> usize
+    /// The place of a row of a lane in the list of words.
+    pub(crate) fn index(self, lane: usize, row: usize) -> usize
         requires laid { IsLaid self }
-        requires strip { strip < self.strips }
+        requires lane { lane < self.lanes }
         requires row { row < 8 * self.blocks }
-        ensures index { result ≡ index_of self strip row }
-        ensures inside { result < 8 * (self.strips * self.blocks) }
+        ensures index { result ≡ index_of self lane row }
+        ensures inside { result < 8 * (self.lanes * self.blocks) }
         ensures small { result < 2 ^ 40 }
     {
-        strip * (8 * self.blocks) + row
+        lane * (8 * self.blocks) + row
     }
 
-    /// The first cell of a row of a strip.
-    pub(crate) fn corner(self, strip: usize, row: usize) -> Cell
+    /// The first cell of a row of a lane.
+    pub(crate) fn corner(self, lane: usize, row: usize) -> Cell
         requires laid { IsLaid self }
-        requires strip { strip < self.strips }
+        requires lane { lane < self.lanes }
         requires row { row < 8 * self.blocks }
-        ensures corner { result ≡ place self strip row 0 }
+        ensures corner { result ≡ place self lane row 0 }
         ensures small { unsigned_abs result.x ≤ 2 ^ 24 }
     {
         Cell {
-            x: self.left + (64 * strip) as i32,
+            x: self.left + (64 * lane) as i32,
             y: self.top + row as i32,
         }
     }

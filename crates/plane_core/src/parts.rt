@@ -62,7 +62,7 @@ impl Cut {
         }
     }
 
-    /// Such a line, if one is found this way. It is guessed from which strips of 64 have a cell, and then tested.
+    /// Such a line, if one is found this way. It is guessed from which lanes of 64 have a cell, and then tested.
     fn along(
         alloc: Global,
         axis: Axis,
@@ -75,11 +75,11 @@ impl Cut {
             return Ok(None);
         };
         let (low, high) = axis.sides(bounds);
-        let strips = occupied_strips(alloc, axis, low, high, pattern.cells())?;
-        let Some(strip) = gap_end(strips.as_slice(), band as usize / 64 + 1) else {
+        let lanes = occupied_lanes(alloc, axis, low, high, pattern.cells())?;
+        let Some(lane) = gap_end(lanes.as_slice(), band as usize / 64 + 1) else {
             return Ok(None);
         };
-        let at = i64::from(low) + 64 * strip.min(BOUND as usize) as i64;
+        let at = i64::from(low) + 64 * lane.min(BOUND as usize) as i64;
         let cut = Cut { axis, at };
         Ok(cut.if_it_leaves_a_band(band, pattern))
     }
@@ -166,37 +166,37 @@ fn past_band(place: i32, band: u32) -> i64
     i64::from(place) + i64::from(band)
 }
 
-/// Which strips of 64 columns, or rows, have a cell, from the first column or row to the last.
-fn occupied_strips(
+/// Which lanes of 64 columns, or rows, have a cell, from the first column or row to the last.
+fn occupied_lanes(
     alloc: Global,
     axis: Axis,
     low: i32,
     high: i32,
     cells: &[Cell],
 ) -> Result<Vec<bool>, AllocError> {
-    let mut strips = vec![in alloc; false; strip_of(low, high) + 1]?;
+    let mut lanes = vec![in alloc; false; lane_of(low, high) + 1]?;
     for cell in cells {
-        let strip = strip_of(low, axis.place(*cell));
-        if let Some(occupied) = strips.as_mut_slice().get_mut(strip) {
+        let lane = lane_of(low, axis.place(*cell));
+        if let Some(occupied) = lanes.as_mut_slice().get_mut(lane) {
             *occupied = true;
         }
     }
-    Ok(strips)
+    Ok(lanes)
 }
 
-/// In which strip a column or row lies, if strips begin with this one.
-fn strip_of(low: i32, place: i32) -> usize
+/// In which lane a column or row lies, if lanes begin with this one.
+fn lane_of(low: i32, place: i32) -> usize
     ensures { result < 2 ^ 32 }
 {
     (i64::from(place) - i64::from(low)).unsigned_abs() as usize / 64
 }
 
-/// The strip that ends a gap of at least so many empty ones: of such strips, one in the middle.
-fn gap_end(strips: &[bool], width: usize) -> Option<usize> {
-    let middle = strips.len() / 2;
+/// The lane that ends a gap of at least so many empty ones: of such lanes, one in the middle.
+fn gap_end(lanes: &[bool], width: usize) -> Option<usize> {
+    let middle = lanes.len() / 2;
     let mut empty = 0usize;
     let mut best = None;
-    for (i, occupied) in strips.iter().enumerate() {
+    for (i, occupied) in lanes.iter().enumerate() {
         if !*occupied {
             empty = empty.saturating_add(1);
         } else {

@@ -10,7 +10,7 @@ use thiserror::Error;
 
 /// Why a text is not a rule.
 #[derive(Clone, Copy, Debug, PartialEq, Eq, Error)]
-pub enum RuleError {
+pub enum RuleFault {
     /// The byte at `place` can't stand there, or the text ends there too early. Places count from 0.
     #[error("bad rule at {place}")]
     BadRule { place: usize },
@@ -61,36 +61,36 @@ impl Rule {
     ///
     /// The fault that stands first from the left:
     ///
-    /// - [`RuleError::BadRule`]: a byte can't stand where it does, or the text ends too early.
-    /// - [`RuleError::BirthZero`]: a `0` stands directly after the `b`.
-    pub fn read(text: &str) -> Result<Rule, RuleError>
+    /// - [`RuleFault::BadRule`]: a byte can't stand where it does, or the text ends too early.
+    /// - [`RuleFault::BirthZero`]: a `0` stands directly after the `b`.
+    pub fn read(text: &str) -> Result<Rule, RuleFault>
         // What is read has the text as its one text, and each rule's text is read as that rule.
         ensures rule { IfOk result IsRule }
         ensures text { IfOk result (λ rule. rule_text rule ≡ text.now) }
         ensures complete { (rule : Numbers) → IsRule rule → rule_text rule ≡ text.now → result ≡ Ok rule }
 
         // Which fault it is.
-        ensures bad_rule { (place : ℕ) → result ≡ Err (RuleError.BadRule place) → IsFirstFault text.now place }
-        ensures birth_zero { (result ≡ Err RuleError.BirthZero) ↔ IsTrue (begins text.now (codes "b0")) }
+        ensures bad_rule { (place : ℕ) → result ≡ Err (RuleFault.BadRule place) → IsFirstFault text.now place }
+        ensures birth_zero { (result ≡ Err RuleFault.BirthZero) ↔ IsTrue (begins text.now (codes "b0")) }
 
         ensures exact { result ≡ rule_read text.now }
     {
         let text = text.as_bytes();
         if !text.starts_with(b"b") {
-            return Err(RuleError::BadRule { place: 0 });
+            return Err(RuleFault::BadRule { place: 0 });
         }
         if text.starts_with(b"b0") {
-            return Err(RuleError::BirthZero);
+            return Err(RuleFault::BirthZero);
         }
         let (births, rest) = read_numbers(&text[1..], 1);
         if !rest.starts_with(b"s") {
             let place = text.len() - rest.len();
-            return Err(RuleError::BadRule { place });
+            return Err(RuleFault::BadRule { place });
         }
         let (survivals, rest) = read_numbers(&rest[1..], 0);
         if !rest.is_empty() {
             let place = text.len() - rest.len();
-            return Err(RuleError::BadRule { place });
+            return Err(RuleFault::BadRule { place });
         }
         Ok(Rule { births, survivals })
     }

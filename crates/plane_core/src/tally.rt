@@ -10,13 +10,13 @@
 //! ones of the pattern three times, moved a column to the left, not at all and to the right, and walks along all three
 //! at once: what they have at the earliest cell is added up. The second merge does so with the rows, moved up and down.
 //!
-//! A live cell is counted in its own block. So the four cells with a 3 are alive next under Life: one is dead and has
-//! three neighbours, and the others are alive and have two.
+//! A live cell is counted in its own neighbourhood. So the four cells with a 3 are alive next under Life: one is dead
+//! and has three neighbours, and the others are alive and have two.
 ghost use Rattle.std.specs.Prelude.{◌≡◌, true, ℕ, ◌+◌, ◌<◌, ◌^◌, List, [], ◌∷◌, ◌||◌, ◌≤◌, map, filter, IfOk};
 ghost use Rattle.std.specs.Prelude.{MatchOption, unsigned_abs, neg_ℤ};
 ghost use Rattle.std.specs.List.{list_all};
 ghost use Rattle.plane_core.specs.Cells.{InOrder, IsPattern, moved_by, near_plane};
-ghost use Rattle.plane_core.specs.Tallies.{AddsNeighbours, CountsBlocks, IsMerged, cells_of, counted_at, alive_at};
+ghost use Rattle.plane_core.specs.Tallies.{AddsNeighbours, CountsNeighbourhoods, IsMerged, cells_of, counted_at, alive_at};
 ghost use Rattle.plane_core.specs.Tallies.{one_of, moved_tally, tally_lives, count_first, alive_first, rest_at};
 ghost use Rattle.plane_core.specs.Tallies.{first_of, earlier_of};
 ghost use Rattle.plane_core.specs.declared.cell.Cell.{Cell};
@@ -48,7 +48,7 @@ impl Tally {
         Tally { cell, ..self }
     }
 
-    /// Whether the cell is alive next, if the count is that of its block. A live cell is counted there itself.
+    /// Whether the cell is alive next, if the count is that of its neighbourhood. A live cell is counted there itself.
     fn lives(self, rule: &Rule) -> bool
         ensures { result ≡ tally_lives rule.now self }
     {
@@ -60,18 +60,18 @@ impl Tally {
     }
 }
 
-/// For each cell in the pattern or beside it, how many live cells its block has: the cell itself and the eight round
-/// it. Rows of three are added up first, and then three such rows.
-pub(crate) fn blocks(alloc: Global, cells: &[Cell]) -> Result<Vec<Tally>, AllocError>
+/// For each cell in the pattern or beside it, how many live cells its neighbourhood has: the cell itself and the eight
+/// round it. Rows of three are added up first, and then three such rows.
+pub(crate) fn neighbourhoods(alloc: Global, cells: &[Cell]) -> Result<Vec<Tally>, AllocError>
     requires { IsPattern cells.now }
-    ensures { IfOk result (λ tallies. CountsBlocks cells.now tallies.items) }
+    ensures { IfOk result (λ tallies. CountsNeighbourhoods cells.now tallies.items) }
 {
     let ones = counted(alloc, cells)?;
     let rows = with_neighbours(alloc, ones.as_slice(), 1, 0)?;
     with_neighbours(alloc, rows.as_slice(), 0, 1)
 }
 
-/// The cells that are alive next, by the counts of their blocks.
+/// The cells that are alive next, by the counts of their neighbourhoods.
 pub(crate) fn selected(
     alloc: Global,
     rule: &Rule,

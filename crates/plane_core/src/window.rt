@@ -33,7 +33,7 @@ use crate::pattern::Pattern;
 use crate::rule::Rule;
 use crate::word::Answers;
 
-/// The board of a window: three strips of ten blocks. Cells stand in the middle strip, in the blocks 11 to 18 of the
+/// The board of a window: three lanes of ten blocks. Cells stand in the middle lane, in the blocks 11 to 18 of the
 /// list.
 const WINDOW: Grid = Grid {
     blocks: 10,
@@ -84,7 +84,7 @@ fn window_round(pattern: &Pattern) -> Option<Layout>
     Some(Layout {
         left: back(bounds.left, 64 + (63 - width) / 2),
         top: back(bounds.top, 8 + (63 - height) / 2),
-        strips: 3,
+        lanes: 3,
         blocks: 10,
     })
 }

@@ -1,6 +1,6 @@
 //! The next generation of 64 cells at once: bit i of a word is a cell, and each operation works on all bits.
 //!
-//! The live cells of a block of nine are added up in binary digits, each digit a word: first the three cells of each
+//! The live cells of a neighbourhood are added up in binary digits, each digit a word: first the three cells of each
 //! column, then three such columns. The rule's answer for each of the sums 0 to 9 is a word too, all ones or 0, and the
 //! digits choose between them. So no branch depends on a cell or on the rule.
 ghost use Rattle.std.specs.Prelude.{◌≡◌, ◌==◌, ◌+◌, ◌-◌, ◌*◌, ◌<◌, ◌≤◌, IsTrue, true, ℕ, if◌then◌else◌, length};
@@ -8,13 +8,13 @@ ghost use Rattle.std.specs.Prelude.{slice_index};
 ghost use Rattle.std.specs.Int.{bit_at};
 ghost use Rattle.plane_core.specs.Rules.{Numbers, is_birth, is_survival};
 ghost use Rattle.plane_core.specs.Tallies.{lives_by};
-ghost use Rattle.plane_core.specs.Words.{IsNextWord, block_count, one_if, west_of, east_of, life};
+ghost use Rattle.plane_core.specs.Words.{IsNextWord, neighbourhood_count, one_if, west_of, east_of, life};
 
 use crate::rule::Rule;
 
 /// A word of a row, with the words of that row to its left and right.
 #[derive(Clone, Copy)]
-pub(crate) struct Row {
+pub(crate) struct WordInRow {
     pub(crate) before: u64,
     pub(crate) here: u64,
     pub(crate) after: u64,
@@ -36,7 +36,7 @@ struct FourDigits {
     eights: u64,
 }
 
-/// The answers of a rule as words, all ones or 0: whether a cell is alive next, where the block of nine has n live
+/// The answers of a rule as words, all ones or 0: whether a cell is alive next, where the neighbourhood has n live
 /// cells, for n from 0 to 9. Life, the rule that is run most, is answered by fewer operations.
 #[derive(Clone, Copy)]
 pub(crate) struct Answers {
@@ -71,10 +71,10 @@ impl Answers {
 
     /// The word one generation after that of the middle row.
     #[inline(always)]
-    pub(crate) fn next_word(&self, above: Row, here: Row, below: Row) -> u64
+    pub(crate) fn next_word(&self, above: WordInRow, here: WordInRow, below: WordInRow) -> u64
         ensures { IsNextWord self.now.rule above here below result }
     {
-        let digits = block_sum(above, here, below);
+        let digits = neighbourhood_sum(above, here, below);
         self.at_nine(digits, here.here)
     }
 
@@ -132,10 +132,10 @@ impl Answers {
 
 /// The word one generation after that of the middle row, in Life.
 #[inline(always)]
-pub(crate) fn next_word_of_life(above: Row, here: Row, below: Row) -> u64
+pub(crate) fn next_word_of_life(above: WordInRow, here: WordInRow, below: WordInRow) -> u64
     ensures { IsNextWord life above here below result }
 {
-    let digits = block_sum(above, here, below);
+    let digits = neighbourhood_sum(above, here, below);
     life_at_nine(digits, here.here)
 }
 
@@ -191,12 +191,12 @@ fn from_east(here: u64, after: u64) -> u64
     here >> 1 | after << 63
 }
 
-/// How many live cells each block of nine has.
+/// How many live cells each neighbourhood has.
 #[inline(always)]
-fn block_sum(above: Row, here: Row, below: Row) -> FourDigits
+fn neighbourhood_sum(above: WordInRow, here: WordInRow, below: WordInRow) -> FourDigits
     ensures { (i : ℕ) → i < 64
         → bit_at result.ones i + 2 * bit_at result.twos i + 4 * bit_at result.fours i + 8 * bit_at result.eights i
-        ≡ block_count above here below i }
+        ≡ neighbourhood_count above here below i }
 {
     let before = added(above.before, here.before, below.before);
     let middle = added(above.here, here.here, below.here);

@@ -6,6 +6,7 @@ mod ForGoodLemmas
 pub mod GroupLemmas
 mod GroupingLemmas
 mod ImageLemmas
+pub mod JobLemmas
 mod MemoLemmas
 mod NearbyLemmas
 mod ObjectLemmas

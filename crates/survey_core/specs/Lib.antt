@@ -2,6 +2,7 @@ pub mod FindingLaws
 pub mod Findings
 pub mod Grouping
 pub mod Groups
+pub mod Jobs
 pub mod Memos
 pub mod Nearby
 pub mod Objects

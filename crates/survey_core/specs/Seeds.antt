@@ -1,8 +1,8 @@
 -- Seeds: the texts from which soups are made.
 use Rattle.std.specs.Prelude.{◌≡◌, ◌≤◌, ◌&&◌, ℕ, Bool, true, not, List, length, position, Option, None, Some, Result, Ok, Err, nat_le, nat_lt, if◌then◌else◌}
 use Rattle.std.specs.List.{list_all}
-use Rattle.survey_core.specs.declared.seed.SeedError.{SeedError}
-use Rattle.survey_core.specs.declared.seed.SeedError.TheVariants.{BadByte, TooLong}
+use Rattle.survey_core.specs.declared.seed.SeedFault.{SeedFault}
+use Rattle.survey_core.specs.declared.seed.SeedFault.TheVariants.{BadByte, TooLong}
 
 -- the most bytes of a seed: this project's choice
 abbrev pub most_bytes : ℕ
@@ -21,10 +21,10 @@ pub record IsSeed (bytes : List ℕ) : Type 0 where
   pub visible : list_all is_visible bytes ≡ true
 
 -- a text whose first byte that isn't visible is this one
-abbrev pub seed_with_fault : List ℕ → Option ℕ → Result (List ℕ) SeedError
+abbrev pub seed_with_fault : List ℕ → Option ℕ → Result (List ℕ) SeedFault
 seed_with_fault text None = Ok text
 seed_with_fault text (Some place) = Err (BadByte place)
 
 -- the seed that a text is, or why it is none: its length is looked at first, and then its bytes from the left
-abbrev pub seed_read : List ℕ → Result (List ℕ) SeedError
+abbrev pub seed_read : List ℕ → Result (List ℕ) SeedFault
 seed_read text = if nat_lt most_bytes (length text) then Err TooLong else seed_with_fault text (position is_invisible text)

@@ -1,3 +1,6 @@
+ghost use Rattle.std.specs.Prelude.{◌≡◌};
+ghost use Rattle.survey_core.specs.Jobs.{SameJobsAreEqual, same_job};
+
 use crate::profile::Profile;
 use crate::seed::Seed;
 use plane_core::rule::Rule;
@@ -9,3 +12,15 @@ pub struct Job {
     pub profile: Profile,
     pub rule: Rule,
 }
+
+/// Whether the two jobs have the same seed, profile and rule.
+pub fn is_same_job(job: &Job, other: &Job) -> bool
+    ensures { result ≡ same_job job.now other.now }
+{
+    *job == *other
+}
+
+/// The law that two jobs are the same exactly if they are equal.
+pub fn same_jobs_are_equal()
+    ensures { SameJobsAreEqual }
+{}

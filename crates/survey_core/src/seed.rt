@@ -9,7 +9,7 @@ pub const MOST_BYTES: usize = 64;
 
 /// Why a text is not a seed.
 #[derive(Clone, Copy, Debug, PartialEq, Eq, Error)]
-pub enum SeedError {
+pub enum SeedFault {
     /// The text has over 64 bytes.
     #[error("seed too long")]
     TooLong,
@@ -49,17 +49,17 @@ impl Seed {
     ///
     /// # Errors
     ///
-    /// - [`SeedError::TooLong`] if the text has over 64 bytes.
-    /// - [`SeedError::BadByte`] with the place of the first byte that isn't one of `!` to `~` (33 to 126).
-    pub fn new(text: &str) -> Result<Seed, SeedError>
+    /// - [`SeedFault::TooLong`] if the text has over 64 bytes.
+    /// - [`SeedFault::BadByte`] with the place of the first byte that isn't one of `!` to `~` (33 to 126).
+    pub fn new(text: &str) -> Result<Seed, SeedFault>
         ensures { result ≡ seed_read text.now }
     {
         let bytes = text.as_bytes();
         if bytes.len() > MOST_BYTES {
-            return Err(SeedError::TooLong);
+            return Err(SeedFault::TooLong);
         }
         match first_invisible(bytes) {
-            Some(place) => Err(SeedError::BadByte { place }),
+            Some(place) => Err(SeedFault::BadByte { place }),
             None => Ok(Seed {
                 padded: padded(bytes),
                 count: bytes.len(),

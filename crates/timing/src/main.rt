@@ -12,7 +12,7 @@ ghost use Rattle.plane_core.specs.declared.cell.Cell.{Cell as Place};
 
 use code_core::apgcode::Apgcode;
 use code_core::name::name;
-use haul_core::haul::{Haul, OpenError};
+use haul_core::book::haul::{Haul, OpenError};
 use haul_core::report::Report;
 use plane_core::cell::Cell;
 use plane_core::clusters::clusters_are_determined;

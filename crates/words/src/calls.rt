@@ -17,16 +17,16 @@ pub enum Unasked {
     /// They are not understood, or ask for help: the text that says so.
     Usage(String),
     /// Memory ran out.
-    OutOfMemory,
+    Memory,
 }
 
 impl From<AllocError> for Unasked {
-    ghost use Rattle.words.specs.declared.calls.Unasked.TheVariants.{OutOfMemory};
+    ghost use Rattle.words.specs.declared.calls.Unasked.TheVariants.{Memory};
 
-    ghost from_gives = { λ _ unasked. unasked ≡ OutOfMemory };
+    ghost from_gives = { λ _ unasked. unasked ≡ Memory };
 
     fn from(_error: AllocError) -> Unasked {
-        Unasked::OutOfMemory
+        Unasked::Memory
     }
 }
 
@@ -35,12 +35,12 @@ impl From<AllocError> for Unasked {
 /// # Errors
 ///
 /// - [`Unasked::Usage`]: `clap` finds a fault in the words, or they ask for help.
-/// - [`Unasked::OutOfMemory`].
+/// - [`Unasked::Memory`].
 pub fn request_of<'a, S: AsStr>(alloc: Global, words: &'a [S]) -> Result<Request<'a>, Unasked>
     ensures asked { IfOk result (λ request. asked_by (map S.text words.entry.now) ≡ Some request) }
     ensures ranges { IfOk result AreInTheirRanges }
     ensures usage { IfErr result (λ unasked.
-        unasked ≢ Unasked.OutOfMemory → asked_by (map S.text words.entry.now) ≡ None) }
+        unasked ≢ Unasked.Memory → asked_by (map S.text words.entry.now) ≡ None) }
 {
     if asks_version(words) {
         return Ok(Request::Version);
@@ -118,14 +118,14 @@ fn request_named<'a>(name: &str, found: &ArgMatches<'a>) -> Option<Request<'a>>
 
 /// What `clap`'s error says of words that name no command, or ask for help.
 fn unasked_by(alloc: Global, error: &clap::Error) -> Unasked
-    ensures { kind_of error.now ≡ ErrorKind.OutOfMemory → result ≡ Unasked.OutOfMemory }
+    ensures { kind_of error.now ≡ ErrorKind.OutOfMemory → result ≡ Unasked.Memory }
 {
     if error.kind() == ErrorKind::OutOfMemory {
-        return Unasked::OutOfMemory;
+        return Unasked::Memory;
     }
     match error.to_string(alloc) {
         Ok(text) => Unasked::Usage(text),
-        Err(_) => Unasked::OutOfMemory,
+        Err(_) => Unasked::Memory,
     }
 }
 
@@ -133,6 +133,6 @@ fn unasked_by(alloc: Global, error: &clap::Error) -> Unasked
 fn usage(alloc: Global, text: &str) -> Unasked {
     match String::from_str(alloc, text) {
         Ok(text) => Unasked::Usage(text),
-        Err(_) => Unasked::OutOfMemory,
+        Err(_) => Unasked::Memory,
     }
 }

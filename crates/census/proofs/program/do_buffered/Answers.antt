@@ -14,9 +14,9 @@ returns-in_default-clause-complains g c =
     λ _ _ _. let before = g.W.Write.contents c.args.output in
     let nothing = nothing_written before in
     record {
-      status = statuses.OutOfMemory;
+      status = statuses.Memory;
       written = record { before = before; after = before; failed = false };
-      told = stream g.E.Write.contents c.args.errors.now c.tell.new.errors;
+      told = stream g.E.Write.contents c.args.machine.now.errors c.tell.new.errors;
       does = inr (record { told = refl; nothing = nothing.0; line = c.tell.ensures.line });
       from = refl;
       sent = nothing.1;
@@ -31,7 +31,7 @@ returns g c =
     let below = g.W.Write.contents c.into_parts-writer.result.0 in
     let held = writer_buffer c.send_buffered-status.new.buffered in
     let written = stream (writer_contents g.W.Write.contents) c.new-output.result c.do_words-status.new.output in
-    let told = stream g.E.Write.contents c.args.errors.now c.do_words-status.new.errors in
+    let told = stream g.E.Write.contents c.args.machine.now.errors c.do_words-status.new.machine.errors in
     let status = c.do_words-status.result in
     let sent = c.send_buffered-status.ensures in
     -- the buffer was empty at the start, and what was written to it stands below it, but for what it still holds
@@ -69,7 +69,7 @@ returns g c =
               let changed : c.send_buffered-status.result ≢ status = unlike (λ s. c.send_buffered-status.result ≢ s) status is undone complete in
               inr (is, ap exit_code (sent.failed changed), refl, record { line = sent.line changed; stays = sent.stays })
           | inr isnt ↦ let same = sent.kept isnt in
-              inl (isnt, ap exit_code same.0, ap (stream g.E.Write.contents c.args.errors.now) same.1)
+              inl (isnt, ap exit_code same.0, ap (stream g.E.Write.contents c.args.machine.now.errors) same.1)
         ];
       };
       refused = search rules;

@@ -14,7 +14,7 @@ is_usage status code = search rules
 is_refused : (status : Status) → exit_code status ≡ 3 → status ≡ statuses.Refused
 is_refused status code = search rules
 
-is_out_of_memory : (status : Status) → exit_code status ≡ 4 → status ≡ statuses.OutOfMemory
+is_out_of_memory : (status : Status) → exit_code status ≡ 4 → status ≡ statuses.Memory
 is_out_of_memory status code = search rules
 
 is_incomplete : (status : Status) → exit_code status ≡ 6 → status ≡ statuses.Incomplete
@@ -22,17 +22,17 @@ is_incomplete status code = search rules
 
 pub returns-in-Ok-clause-done : goal.returns-in-Ok-clause-done
 returns-in-Ok-clause-done g c code =
-    rw (c.in-Ok.is, ← c.as_slice.ensures.value, ← c.new-errors.ensures.writer)
+    rw (c.in-Ok.is, ← c.as_slice.ensures.value)
     (c.do_buffered-status.ensures.done (is_done _ (sym c.exit_code.ensures ∙ code)))
 
 pub returns-in-Ok-clause-silent : goal.returns-in-Ok-clause-silent
 returns-in-Ok-clause-silent g c code =
-    rw (c.in-Ok.is, ← c.as_slice.ensures.value, ← c.new-errors.ensures.writer)
+    rw (c.in-Ok.is, ← c.as_slice.ensures.value)
     (c.do_buffered-status.ensures.silent (is_done _ (sym c.exit_code.ensures ∙ code)))
 
 pub returns-in-Ok-clause-incomplete : goal.returns-in-Ok-clause-incomplete
 returns-in-Ok-clause-incomplete g c code =
-    rw (c.in-Ok.is, ← c.as_slice.ensures.value, ← c.new-errors.ensures.writer)
+    rw (c.in-Ok.is, ← c.as_slice.ensures.value)
     (c.do_buffered-status.ensures.incomplete (is_incomplete _ (sym c.exit_code.ensures ∙ code)))
 
 pub returns-in-Ok-clause-usage : goal.returns-in-Ok-clause-usage
@@ -44,7 +44,7 @@ returns-in-Ok-clause-untouched g c code = c.do_buffered-status.ensures.unused (i
 
 pub returns-in-Ok-clause-complains : goal.returns-in-Ok-clause-complains
 returns-in-Ok-clause-complains g c undone no_usage complete =
-    rw (c.in-Ok.is, ← c.as_slice.ensures.value, ← c.new-errors.ensures.writer, c.exit_code.ensures)
+    rw (c.in-Ok.is, ← c.as_slice.ensures.value, c.exit_code.ensures)
     (c.do_buffered-status.ensures.complains (λ is. undone (c.exit_code.ensures ∙ ap exit_code is))
     (λ is. no_usage (c.exit_code.ensures ∙ ap exit_code is)) (λ is. complete (c.exit_code.ensures ∙ ap exit_code is)))
 

@@ -17,8 +17,8 @@ returns-in_err-read-clause-ended g c =
     (lines_ended_by g.E.Write.contents _ _ _ _ _ _ _ _ _ c.in_err-read.field-0.0 c.loop-before.invariant.gathered c.loop-before.invariant.terms
     c.loop-before.invariant.fine c.in_err-read.ensures.ended)
 
-pub returns-then-size-gt-INPUT_LIMIT-clause-ended : goal.returns-then-size-gt-INPUT_LIMIT-clause-ended
-returns-then-size-gt-INPUT_LIMIT-clause-ended g c = (
+pub returns-then-size-gt-GATHER_LIMIT-clause-ended : goal.returns-then-size-gt-GATHER_LIMIT-clause-ended
+returns-then-size-gt-GATHER_LIMIT-clause-ended g c = (
   goes_begun _ _ _ c.in_ok-read.read.end (c.in_ok-read.ensures.going _ _ _ c.loop-before.invariant.gathered)
       (c.next_line.ensures.terms ∙ c.loop-before.invariant.terms),
   c.in_ok-read.ensures.fine,
@@ -27,7 +27,7 @@ returns-then-size-gt-INPUT_LIMIT-clause-ended g c = (
 pub returns-in-Input-clause-gathered : goal.returns-in-Input-clause-gathered
 returns-in-Input-clause-gathered g c = (
   _,
-  c.if-size-gt-INPUT_LIMIT.false,
+  c.if-size-gt-GATHER_LIMIT.false,
   goes_no_further _ _ c.in_ok-read.read.end c.in-Input.is (c.in_ok-read.ensures.going _ _ _ c.loop-before.invariant.gathered),
 )
 
@@ -35,7 +35,7 @@ pub loop-before-preserved : goal.loop-before-preserved
 loop-before-preserved g c = record {
   terms = c.next_line.ensures.terms ∙ c.loop-before.invariant.terms;
   fine = c.in_ok-read.ensures.fine;
-  few = c.if-size-gt-INPUT_LIMIT.false;
+  few = c.if-size-gt-GATHER_LIMIT.false;
   gathered = goes_further _ _ c.in_ok-read.read.end (λ end. c.in_default.not-Input end) (c.in_ok-read.ensures.going _ _ _ c.loop-before.invariant.gathered);
 }
 

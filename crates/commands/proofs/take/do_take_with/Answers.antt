@@ -6,14 +6,14 @@ use Rattle.commands.proofs.take.do_take_with.Goals as goal
 
 pub returns-clause-ends : goal.returns-clause-ends
 returns-clause-ends g c known bytes =
-    let between : Stream = stream g.E.Write.contents c.args.errors.now c.args.errors.now in
+    let between : Stream = stream g.E.Write.contents c.args.machine.now.errors c.args.machine.now.errors in
     record {
       outcome = c.take-outcome.result;
       between = between;
       from = refl;
       reached = c.take-outcome.ensures.reached known bytes between (Appends-nil _, c.requires.errors);
-      stays = c.tell_end.ensures.stays;
-      last = c.tell_end.ensures.last;
+      stays = rw c.take-outcome.ensures.silent at c.tell_end.ensures.stays;
+      last = rw c.take-outcome.ensures.silent at c.tell_end.ensures.last;
       status_is = c.tell_end.ensures.status;
     }
 

@@ -1,15 +1,15 @@
 use Rattle.std.proofs.Common.{◌≡◌, ◌≢◌, ◌∙◌, ℕ, Bool, true, false, List, None, Option, Some, ap, if◌then◌else◌, inl, inr, nat_lt, not, sym, true≢false}
 use Rattle.haul_core.specs.Books.{IsReply, Terms, double, eligible, first_worker, has_closing, refusal_of}
-use Rattle.haul_core.specs.Jobs.{same_job}
+use Rattle.survey_core.specs.Jobs.{same_job}
 use Rattle.haul_core.specs.Reports.{Reported}
-use Rattle.haul_core.specs.declared.arrival.Arrival.{Arrival}
-use Rattle.haul_core.specs.declared.refusal.Refusal.{Refusal}
-use Rattle.haul_core.specs.declared.refusal.Refusal.TheVariants.{Closed, Memory, OtherJob, OutOfRange, UnknownWorker}
+use Rattle.haul_core.specs.declared.book.arrival.Arrival.{Arrival}
+use Rattle.haul_core.specs.declared.book.refused.OfferError.{OfferError}
+use Rattle.haul_core.specs.declared.book.refused.OfferError.TheVariants.{Closed, Memory, OtherJob, OutOfRange, UnknownWorker}
 use Rattle.ranges.specs.Ranges.{is_in}
 use Rattle.crew.proofs.collector.offer.Goals as goal
 
 -- an answer with no refusal is none of the refusals
-taken_is_answer : (reason : Refusal) → None ≢ Some reason
+taken_is_answer : (reason : OfferError) → None ≢ Some reason
 taken_is_answer reason e = absurd (cc)
 
 -- no reason of the book is memory
@@ -25,14 +25,14 @@ no_memory false true false true None e = absurd (cc)
 no_memory false true false true (Some w) e = absurd (cc)
 
 -- where memory runs out, the book takes the offer
-is_taken : (terms : Terms) (before : List Arrival) (r : Reported) (given : Option Refusal) → IsReply given (refusal_of terms before r)
+is_taken : (terms : Terms) (before : List Arrival) (r : Reported) (given : Option OfferError) → IsReply given (refusal_of terms before r)
     → given ≡ Some Memory → refusal_of terms before r ≡ None
 is_taken terms before r given (inl same) e = absurd (no_memory (has_closing before) (same_job terms.job r.job) (nat_lt terms.workers r.worker)
     (is_in terms.ranges r.number) (first_worker r.number (eligible terms before)) (sym same ∙ e))
 is_taken terms before r given (inr none) e = none.1
 
 -- equal replies give equal reasons
-same_reason : (a b : Refusal) → Some a ≡ Some b → a ≡ b
+same_reason : (a b : OfferError) → Some a ≡ Some b → a ≡ b
 same_reason a b e = cc
 
 pub returns-in-Ok : goal.returns-in-Ok

@@ -58,7 +58,7 @@ put-last-requires-clause-long c = c.loop-cell.auto.words ∙ c.requires.long
 
 pub put-last-requires-clause-flags : goal.put-last-requires-clause-flags
 put-last-requires-clause-flags c =
-    subst (λ n. c.args.at.strips * c.args.at.blocks ≤ 64 * n) (sym (c.loop-cell.auto.flags ∙ c.mark_near.auto.flags)) c.requires.flags
+    subst (λ n. c.args.at.lanes * c.args.at.blocks ≤ 64 * n) (sym (c.loop-cell.auto.flags ∙ c.mark_near.auto.flags)) c.requires.flags
 
 pub returns-clause-shown : goal.returns-clause-shown
 returns-clause-shown c =

@@ -30,8 +30,8 @@ returns-clause-marked c m clear =
     let far = rw g at (c.mark_round.ensures m clear) in
     far.1
 
-pub index-i-requires-clause-strip : goal.index-i-requires-clause-strip
-index-i-requires-clause-strip c =
+pub index-i-requires-clause-lane : goal.index-i-requires-clause-lane
+index-i-requires-clause-lane c =
     let inside = spot_inside c.args.at c.args.cell _ _ c.requires.within c.across-across.ensures c.down.ensures in
     omega (arith, inside)
 

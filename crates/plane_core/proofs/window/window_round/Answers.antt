@@ -7,7 +7,7 @@ use Rattle.plane_core.proofs.WindowLemmas.{IsRoundWindow, window_is_inland, wind
 use Rattle.plane_core.proofs.window.window_round.Goals as goal
 
 is_round : (c : goal.After-back-2) → IsRoundWindow c.in_ok-bounds.bounds c.apart-width.result c.apart-height.result
-    (record { left = c.back.result; top = c.back-2.result; strips = 3; blocks = 10 })
+    (record { left = c.back.result; top = c.back-2.result; lanes = 3; blocks = 10 })
 is_round c =
     let left : FitsSigned w32 c.in_ok-bounds.bounds.left = search rules in
     let top : FitsSigned w32 c.in_ok-bounds.bounds.top = search rules in
@@ -16,7 +16,7 @@ is_round c =
     record {
       left = simp to_z-of_z at c.back.ensures;
       top = simp to_z-of_z at c.back-2.ensures;
-      strips = refl;
+      lanes = refl;
       blocks = refl;
       across = simp to_z-of_z at c.apart-width.ensures;
       down = simp to_z-of_z at c.apart-height.ensures;
@@ -34,7 +34,7 @@ pub returns-clause-room : goal.returns-clause-room
 returns-clause-room c =
     let left : FitsSigned w32 c.back.result = search rules in
     let top : FitsSigned w32 c.back-2.result = search rules in
-    simp to_z-of_z (room_round c.args.pattern.now c.in_ok-bounds.bounds (record { left = c.back.result; top = c.back-2.result; strips = 3; blocks = 10 }) 0
+    simp to_z-of_z (room_round c.args.pattern.now c.in_ok-bounds.bounds (record { left = c.back.result; top = c.back-2.result; lanes = 3; blocks = 10 }) 0
     c.in_ok-bounds.ensures.least (window_has_room c.in_ok-bounds.bounds _ _ _ (is_round c)))
 
 pub returns-clause-inland : goal.returns-clause-inland
@@ -44,7 +44,7 @@ returns-clause-inland c =
     simp to_z-of_z (window_is_inland c.in_ok-bounds.bounds _ _ _ (c.is_near.ensures c.if-not-is_near.false) (is_round c))
 
 pub returns-clause-window : goal.returns-clause-window
-returns-clause-window c = record { strips = refl; blocks = refl }
+returns-clause-window c = record { lanes = refl; blocks = refl }
 
 -- a side that is near lies within the bound
 bounded : (x : ℤ) → FitsSigned w32 x → unsigned_abs x ≤ 900000 → unsigned_abs (to_z w32 (of_z w32 x)) ≤ plane_bound

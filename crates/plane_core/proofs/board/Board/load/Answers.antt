@@ -7,7 +7,7 @@ pub returns : goal.returns
 returns c =
     let at = c.args.at in
     let grid = c.grid-count.ensures in
-    let count : c.grid-count.result.count ≡ at.strips * at.blocks = ap (λ g. g.count) grid in
+    let count : c.grid-count.result.count ≡ at.lanes * at.blocks = ap (λ g. g.count) grid in
     let small = board-small at c.requires.laid in
     let long : length c.fill.new.words ≡ c.in_ok-now.now.len = omega (arith, c.fill.auto.words, c.as_mut_slice.ensures.len) in
     let flags_long : length c.fill.new.flags ≡ c.in_ok-todo.todo.len = omega (arith, c.fill.auto.flags, c.as_mut_slice-2.ensures.len) in
@@ -33,7 +33,7 @@ fill-requires-clause-long c =
 
 pub fill-requires-clause-flags : goal.fill-requires-clause-flags
 fill-requires-clause-flags c =
-    let count : c.grid-count.result.count ≡ c.args.at.strips * c.args.at.blocks = ap (λ g. g.count) c.grid-count.ensures in
+    let count : c.grid-count.result.count ≡ c.args.at.lanes * c.args.at.blocks = ap (λ g. g.count) c.grid-count.ensures in
     omega (arith, c.as_mut_slice-2.ensures.len, c.in_ok-todo.ensures.len, count)
 
 pub fill-requires-clause-empty : goal.fill-requires-clause-empty

@@ -5,8 +5,8 @@ use Rattle.plane_core.proofs.layout.Layout.block.Goals as goal
 pub returns : goal.returns
 returns c = spot_inner c.args.self c.args.cell _ _ _ c.requires.within c.across.ensures c.down.ensures c.index.ensures.index
 
-pub index-requires-clause-strip : goal.index-requires-clause-strip
-index-requires-clause-strip c =
+pub index-requires-clause-lane : goal.index-requires-clause-lane
+index-requires-clause-lane c =
     let inside = spot_inside c.args.self c.args.cell _ _ c.requires.within c.across.ensures c.down.ensures in
     omega (arith, inside)
 

@@ -7,7 +7,7 @@ use Rattle.plane_core.proofs.layout.Layout.round_box.Goals as goal
 is_round : (c : goal.After-back-2) → IsRound c.args.bounds c.args.margin (record {
   left = c.back.result;
   top = c.back-2.result;
-  strips = (c.apart.result + 2 * c.args.margin + 65) / 64 + 2;
+  lanes = (c.apart.result + 2 * c.args.margin + 65) / 64 + 2;
   blocks = (c.apart-2.result + 2 * c.args.margin + 9) / 8 + 2;
 })
 is_round c =
@@ -18,7 +18,7 @@ is_round c =
     record {
       left = simp to_z-of_z at c.back.ensures;
       top = simp to_z-of_z at c.back-2.ensures;
-      strips = ap (λ (n : ℕ). (n + 2 * c.args.margin + 65) / 64 + 2) (simp to_z-of_z at c.apart.ensures);
+      lanes = ap (λ (n : ℕ). (n + 2 * c.args.margin + 65) / 64 + 2) (simp to_z-of_z at c.apart.ensures);
       blocks = ap (λ (n : ℕ). (n + 2 * c.args.margin + 9) / 8 + 2) (simp to_z-of_z at c.apart-2.ensures);
     }
 

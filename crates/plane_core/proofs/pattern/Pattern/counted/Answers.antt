@@ -10,7 +10,7 @@ selected : (c : goal.In_ok-cells) → c.in_ok-cells.cells.items ≡ next c.args.
 selected c =
     c.in_ok-cells.ensures
     ∙ ap (λ (ts : List Tally). cells_of (filter (tally_lives c.args.rule.now) ts)) c.as_slice.ensures.value
-    ∙ selected-next c.args.rule.now c.args.self.now c.in_ok-blocks.blocks.items (rw c.cells.ensures.cells at c.in_ok-blocks.ensures)
+    ∙ selected-next c.args.rule.now c.args.self.now c.in_ok-counted.counted.items (rw c.cells.ensures.cells at c.in_ok-counted.ensures)
 
 pub from_ordered-requires : goal.from_ordered-requires
 from_ordered-requires c =
@@ -21,4 +21,4 @@ returns c =
     c.from_ordered.ensures
     ∙ c.in_ok-cells.ensures
     ∙ ap (λ (ts : List Tally). cells_of (filter (tally_lives c.args.rule.now) ts)) c.as_slice.ensures.value
-    ∙ selected-next c.args.rule.now c.args.self.now c.in_ok-blocks.blocks.items (rw c.cells.ensures.cells at c.in_ok-blocks.ensures)
+    ∙ selected-next c.args.rule.now c.args.self.now c.in_ok-counted.counted.items (rw c.cells.ensures.cells at c.in_ok-counted.ensures)

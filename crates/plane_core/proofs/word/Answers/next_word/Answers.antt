@@ -2,11 +2,11 @@ use Rattle.std.proofs.Common.{ℕ, arith, ap, ◌∙◌, ◌==◌}
 use Rattle.std.specs.Int.{bit_at}
 use Rattle.plane_core.specs.Tallies.{lives_by}
 use Rattle.plane_core.specs.Words.{one_if}
-use Rattle.plane_core.proofs.WordLemmas.{block_count-small}
+use Rattle.plane_core.proofs.WordLemmas.{neighbourhood_count-small}
 use Rattle.plane_core.proofs.word.Answers.next_word.Goals as goal
 
 pub returns : goal.returns
 returns c i low =
-    let sum = c.block_sum-digits.ensures i low in
-    c.at_nine.ensures i low (omega (arith, sum, block_count-small c.args.above c.args.here c.args.below i))
+    let sum = c.neighbourhood_sum-digits.ensures i low in
+    c.at_nine.ensures i low (omega (arith, sum, neighbourhood_count-small c.args.above c.args.here c.args.below i))
     ∙ ap (λ (n : ℕ). one_if (lives_by c.args.self.now.rule n (bit_at c.args.here.here i == 1))) sum

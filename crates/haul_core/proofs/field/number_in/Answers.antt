@@ -1,8 +1,0 @@
-use Rattle.std.proofs.Common.{◌∙◌, sym}
-use Rattle.haul_core.proofs.FieldLemmas.{longer_decimal}
-use Rattle.haul_core.proofs.field.number_in.Goals as goal
-
-pub returns-else-is_empty : goal.returns-else-is_empty
-returns-else-is_empty c =
-    λ a word e. longer_decimal c.args.text.now c.in_ok-number.number a c.in_ok-number.rest.now c.in_ok-number.ensures.some
-    (sym c.is_empty.ensures ∙ c.if-is_empty.false) word e

@@ -1,6 +1,0 @@
-use Rattle.std.specs.Prelude.{option_map}
-use Rattle.haul_core.specs.ClaimSteps.{HasHead}
-use Rattle.haul_core.proofs.front.head_in.Given as goal
-
-abbrev pub invariant-loop-place : goal.invariant-loop-place
-invariant-loop-place l = HasHead l.line l.place l.head (option_map (λ rest. rest.now) l.rest)

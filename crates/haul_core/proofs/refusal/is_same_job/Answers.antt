@@ -1,6 +1,0 @@
-use Rattle.std.proofs.Common.{◌∙◌}
-use Rattle.haul_core.proofs.JobLemmas.{same_job-fields}
-use Rattle.haul_core.proofs.refusal.is_same_job.Goals as goal
-
-pub returns : goal.returns
-returns c = c.eq.ensures ∙ same_job-fields c.args.job.now c.args.other.now

@@ -1,5 +1,0 @@
-use Rattle.std.proofs.Common.{◌≡◌, sum_by, take}
-use Rattle.haul_core.proofs.row.sum_of_totals.Given as goal
-
-abbrev pub invariant-loop-row : goal.invariant-loop-row
-invariant-loop-row l = l.sum ≡ sum_by (λ row. row.total) (take l.row-index l.rows)

@@ -1,5 +1,0 @@
-use Rattle.haul_core.proofs.LeastLemmas.{determined}
-use Rattle.haul_core.proofs.samples.least_three_are_determined.Goals as goal
-
-pub returns : goal.returns
-returns c = determined

@@ -1,5 +1,0 @@
-use Rattle.haul_core.proofs.SampleLemmas.{Putting}
-use Rattle.haul_core.proofs.samples.put.Given as goal
-
-abbrev pub invariant-loop-place : goal.invariant-loop-place
-invariant-loop-place l = Putting l.fn.numbers l.count l.number l.numbers l.left l.place

@@ -1,0 +1,117 @@
+ghost use Rattle.std.specs.Prelude.{◌≡◌, ◌<◌, ◌^◌, ℕ, List, IfOk, OnOk, map, sum_by};
+ghost use Rattle.std.specs.BTreeMap.{IsOrdered};
+ghost use Rattle.std.specs.Cmp.Lexicographic.{slice_cmp};
+ghost use Rattle.std.specs.Map.{lookup};
+ghost use Rattle.std.specs.Ordering.{nat_cmp};
+ghost use Rattle.survey_core.specs.Objects.{is_code};
+ghost use Rattle.haul_core.specs.Rows.{AreInOrder};
+ghost use Rattle.haul_core.specs.RowSteps.{AreRowsFrom, row_from, with_objects};
+ghost use Rattle.haul_core.specs.Scores.{row_of};
+
+use crate::book::samples::Samples;
+use crate::book::scores::Score;
+use code_core::apgcode::Apgcode;
+use indexmap::IndexMap;
+use std::alloc::{AllocError, Global};
+use std::collections::BTreeMap;
+use std::marker::Model;
+
+/// What a census says of a code.
+#[derive(Debug, Drop)]
+pub struct Row {
+    pub code: Apgcode,
+    /// How many objects have the code, at least 1.
+    pub total: u128,
+    /// The least three numbers of soups that left one, ascending.
+    pub samples: Samples,
+}
+
+/// The rows of a census, in ASCII order of their codes, each code once.
+#[derive(Debug, Drop)]
+pub struct Rows {
+    rows: Vec<Row>,
+}
+
+impl Model for Rows {
+    ghost use Rattle.std.specs.Prelude.{List};
+    ghost use Rattle.haul_core.specs.Rows.{AreInOrder};
+    ghost use Rattle.haul_core.specs.declared.book.census_rows.Row.{Row as Line};
+
+    ghost Value = { List Line };
+
+    ghost view = { λ r. r.rows.items };
+
+    ghost invariant = { λ r. AreInOrder r.rows.items };
+}
+
+impl Rows {
+    /// The rows, in ASCII order of their codes.
+    pub fn as_slice(&self) -> &[Row]
+        ensures rows { result.now ≡ self.now }
+        ensures in_order { AreInOrder self.now }
+    {
+        self.rows.as_slice()
+    }
+
+    /// The rows of the codes that have an object.
+    pub(crate) fn of_scores(
+        alloc: Global,
+        scores: &IndexMap<Apgcode, Score>,
+    ) -> Result<Rows, AllocError>
+        ensures { IfOk result (λ rows. AreRowsFrom scores.now.entries rows) }
+    {
+        let kept = with_objects(alloc, scores)?;
+        let rows = listed(alloc, kept)?;
+        Ok(Rows { rows })
+    }
+}
+
+/// The scores of the codes that have an object, in order of code.
+fn with_objects(
+    alloc: Global,
+    scores: &IndexMap<Apgcode, Score>,
+) -> Result<BTreeMap<Apgcode, Score>, AllocError>
+    ensures { IfOk result (λ kept. (code : List ℕ)
+        → lookup (is_code code) kept.entries ≡ with_objects (row_of scores.now.entries code)) }
+{
+    let mut kept = BTreeMap::new(alloc);
+    for index in 0..scores.len() {
+        if let Some((code, score)) = scores.get_index(index) {
+            if score.total > 0 {
+                let code = code.copy(alloc)?;
+                kept.insert(code, score.copy())?;
+            }
+        }
+    }
+    Ok(kept)
+}
+
+/// The scores as rows.
+fn listed(alloc: Global, scores: BTreeMap<Apgcode, Score>) -> Result<Vec<Row>, AllocError>
+    ensures rows { IfOk result (λ rows. rows.items
+        ≡ map (λ entry. row_from entry.0 entry.1) scores.entries) }
+    ensures ordered { OnOk result (IsOrdered (slice_cmp nat_cmp) scores) }
+{
+    let mut rows = Vec::with_capacity(alloc, scores.len())?;
+    for (code, score) in scores {
+        let Score { total, samples } = score;
+        rows.push(Row {
+            code,
+            total,
+            samples,
+        })?;
+    }
+    Ok(rows)
+}
+
+/// The sum of all totals.
+pub(crate) fn sum_of_totals(rows: &[Row]) -> u128
+    requires { sum_by (λ row. row.total) rows.now < 2 ^ 128 }
+    ensures { result ≡ sum_by (λ row. row.total) rows.now }
+{
+    let mut sum = 0;
+    for row in rows {
+        sum += row.total;
+    }
+    sum
+}

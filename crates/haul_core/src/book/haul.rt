@@ -1,0 +1,399 @@
+//! A haul, from its opening to its closing.
+//!
+//! ```text
+//! open ──> nothing taken ── offer ──> soups taken ── close ──> closed
+//!                             │            │
+//!                        or refused    census, missing, is_complete
+//! ```
+
+ghost use Rattle.std.specs.Prelude.{◌≡◌, ◌⊎◌, ◌↔◌, ◌<◌, ◌≤◌, ◌+◌, ◌^◌, ◌++◌, ◌∷◌, [], ℕ, All, List, Option, None, Some};
+ghost use Rattle.std.specs.Prelude.{IfErr, IfOk, IsErrOf, IsTrue, OnErr, OnOk, false, length, true, vec_len};
+ghost use Rattle.std.specs.Prelude.{vec_capacity, nat_eq, is_err};
+ghost use Rattle.std.specs.List.{IsDistinct};
+ghost use Rattle.std.specs.List.Sorted.{IsStrictlyIncreasing};
+ghost use Rattle.indexmap.specs.IndexMap.{get, spare};
+ghost use Rattle.haul_core.specs.Books.{IsReply, StandsFor, has_closing, refusal_of};
+ghost use Rattle.haul_core.specs.Replies.{refusal_at, reply_of, IsAnswered};
+ghost use Rattle.haul_core.specs.Censuses.{IsCensus};
+ghost use Rattle.haul_core.specs.Keeping.{numbers_in};
+ghost use Rattle.haul_core.specs.Missing.{AreAll, IsComplete, missing_of};
+ghost use Rattle.ranges.specs.Ranges.{AreBelow, AreNormal, AreSmall, IsNormalForm, Overlap, is_in, number_bound, size_of};
+ghost use Rattle.haul_core.specs.Reports.{IsWorker};
+ghost use Rattle.haul_core.specs.Scores.{Extends, HasRows};
+ghost use Rattle.haul_core.specs.declared.book.arrival.Arrival.{Arrival};
+ghost use Rattle.haul_core.specs.declared.book.arrival.Arrival.TheVariants as arrival;
+ghost use Rattle.haul_core.specs.declared.book.haul.OpenError.TheVariants.{BadRange, BadWorkers, Memory};
+ghost use Rattle.haul_core.specs.declared.book.haul.OpenError.TheVariants.{Overlap as SharedNumber};
+
+/// How two hauls are joined.
+pub mod join;
+
+use crate::book::census::Census;
+use crate::book::census_rows::{Rows, sum_of_totals};
+use crate::book::missing::missing;
+use crate::book::refused::{OfferError, Refused};
+use crate::book::scores::Totals;
+use crate::report::{Report, is_worker};
+use indexmap::IndexMap;
+use ranges::range::{Range, Ranges, overlap, small_size};
+use std::alloc::{AllocError, Global};
+use std::marker::Model;
+use survey_core::finding::Finding;
+use survey_core::job::{Job, is_same_job};
+use thiserror::Error;
+
+/// A haul that is closed is not closed again.
+#[derive(Clone, Copy, Debug, PartialEq, Eq, Error)]
+#[error("already closed")]
+pub struct AlreadyClosed;
+
+/// Why no haul was opened.
+#[derive(Clone, Copy, Debug, PartialEq, Eq, Error)]
+pub enum OpenError {
+    /// There are not 1 to 16 workers.
+    #[error("bad number of workers")]
+    BadWorkers,
+    /// A range goes past 2^40, or the ranges have over 2^24 numbers together.
+    #[error("range too large")]
+    BadRange,
+    /// Two ranges share a number.
+    #[error("ranges overlap")]
+    Overlap,
+    /// Memory ran out.
+    #[error("out of memory")]
+    Memory,
+}
+
+impl From<AllocError> for OpenError {
+    ghost from_gives = { λ _ e. e ≡ Memory };
+
+    fn from(_e: AllocError) -> OpenError {
+        OpenError::Memory
+    }
+}
+
+/// Which soups of a job have been taken, by whom, and the totals over them.
+///
+/// A haul is opened for a job, a set of soup numbers and some workers. It takes each number of its set at most once.
+/// Contracts see what it was opened for, whether it is closed, and the worker and number of each report taken.
+#[derive(Drop)]
+pub struct Haul {
+    alloc: Global,
+    job: Job,
+    ranges: Ranges,
+    count: u64,
+    workers: u8,
+    closed: bool,
+    taken: Vec<(u8, u64)>,
+    worker_of: IndexMap<u64, u8>,
+    totals: Totals,
+}
+
+impl Model for Haul {
+    ghost use Rattle.haul_core.specs.Books.{Held};
+    ghost use Rattle.haul_core.specs.Keeping.{KeepsBook};
+
+    ghost Value = { Held };
+
+    ghost view = { λ h. record {
+      terms = record { job = h.job; ranges = h.ranges; workers = h.workers };
+      closed = h.closed;
+      taken = h.taken.items;
+    } };
+
+    ghost invariant = { λ h. KeepsBook
+        (record {
+          terms = record { job = h.job; ranges = h.ranges; workers = h.workers };
+          closed = h.closed;
+          taken = h.taken.items;
+        }) h.count h.worker_of.entries
+        (record { rows = h.totals.rows.entries; unsettled = h.totals.unsettled; for_good = h.totals.for_good }) };
+}
+
+impl Haul {
+    /// A haul for a job, the soup numbers of the ranges, and workers with the numbers from 1 on. It is open.
+    ///
+    /// # Errors
+    ///
+    /// The first of these that holds:
+    ///
+    /// - [`OpenError::BadWorkers`] if there are not 1 to 16 workers.
+    /// - [`OpenError::BadRange`] if a range goes past 2^40, or the ranges have over 2^24 numbers together.
+    /// - [`OpenError::Overlap`] if two ranges share a number.
+    /// - [`OpenError::Memory`] if memory runs out.
+    pub fn open(alloc: Global, job: Job, ranges: &[Range], workers: u8) -> Result<Haul, OpenError>
+        // What was handed in, and nothing taken.
+        ensures job { IfOk result (λ haul. haul.terms.job ≡ job) }
+        ensures ranges { IfOk result (λ haul. IsNormalForm ranges.now haul.terms.ranges) }
+        ensures workers { IfOk result (λ haul. haul.terms.workers ≡ workers) }
+        ensures stands { IfOk result (StandsFor []) }
+
+        // Which error it is.
+        ensures bad_workers { IsErrOf result BadWorkers ↔ ¬ IsWorker workers }
+        ensures bad_range { IsErrOf result BadRange ↔ (IsWorker workers × ¬ AreSmall ranges.now) }
+        ensures overlap { IsErrOf result SharedNumber ↔ (IsWorker workers × AreSmall ranges.now × Overlap ranges.now) }
+    {
+        let known = is_worker(workers);
+        if !known {
+            return Err(OpenError::BadWorkers);
+        }
+        let Some(count) = small_size(ranges) else {
+            return Err(OpenError::BadRange);
+        };
+        let shared = overlap(ranges);
+        if shared {
+            return Err(OpenError::Overlap);
+        }
+        let ranges = Ranges::normal_form(alloc, ranges)?;
+        Ok(Haul {
+            alloc,
+            job,
+            ranges,
+            count,
+            workers,
+            closed: false,
+            taken: Vec::new(alloc),
+            worker_of: IndexMap::new(alloc),
+            totals: Totals::none(alloc),
+        })
+    }
+
+    /// Closes the haul. It takes no report from then on.
+    ///
+    /// # Errors
+    ///
+    /// [`AlreadyClosed`] if it is closed.
+    pub fn close(&mut self) -> Result<(), AlreadyClosed>
+        ensures reply { (arrivals : List Arrival) → StandsFor arrivals self.old → is_err result ≡ has_closing arrivals }
+        ensures stands { (arrivals : List Arrival) → StandsFor arrivals self.old
+            → StandsFor (arrivals ++ arrival.Closing ∷ []) self.new }
+        ensures again { is_err result ≡ self.old.closed }
+        ensures closed { self.new.closed ≡ true }
+        ensures taken { self.new.taken ≡ self.old.taken }
+        ensures terms { self.new.terms ≡ self.old.terms }
+        ensures kept { OnErr result (self.new ≡ self.old) }
+    {
+        if self.closed {
+            return Err(AlreadyClosed);
+        }
+        self.closed = true;
+        Ok(())
+    }
+
+    /// Whether the haul is closed.
+    pub fn is_closed(&self) -> bool
+        ensures { result ≡ self.now.closed }
+    {
+        self.closed
+    }
+
+    /// The job.
+    pub fn job(&self) -> Job
+        ensures { result ≡ self.now.terms.job }
+    {
+        self.job
+    }
+
+    /// How many workers there are, 1 to 16.
+    pub fn workers(&self) -> u8
+        ensures workers { result ≡ self.now.terms.workers }
+        ensures few { IsWorker self.now.terms.workers }
+    {
+        self.workers
+    }
+
+    /// The set of soup numbers, in normal form.
+    pub fn ranges(&self) -> &[Range]
+        ensures ranges { result.now ≡ self.now.terms.ranges }
+        ensures normal { AreNormal self.now.terms.ranges }
+        ensures below { AreBelow number_bound self.now.terms.ranges }
+    {
+        let Haul { ranges, .. } = self;
+        ranges.as_slice()
+    }
+
+    /// How many numbers the set has.
+    pub fn count(&self) -> u64
+        ensures { result ≡ size_of self.now.terms.ranges }
+    {
+        self.count
+    }
+
+    /// The worker and the number of each report taken, in order. No number stands twice, and each is of the set.
+    pub fn taken(&self) -> &[(u8, u64)]
+        ensures taken { result.now ≡ self.now.taken }
+        ensures distinct { IsDistinct nat_eq (numbers_in self.now.taken) }
+        ensures within { All (λ t. is_in self.now.terms.ranges t.1 ≡ true) self.now.taken }
+    {
+        let Haul { taken, .. } = self;
+        taken.as_slice()
+    }
+
+    /// The numbers of the set that haven't been taken, ascending.
+    ///
+    /// # Errors
+    ///
+    /// [`AllocError`] if memory runs out.
+    pub fn missing(&self) -> Result<Vec<u64>, AllocError>
+        ensures missing { IfOk result (λ missing. missing.items ≡ missing_of self.now.terms.ranges self.now.taken) }
+        ensures ascending { IfOk result (λ missing. IsStrictlyIncreasing missing.items) }
+        ensures below { IfOk result (λ missing. All (λ n. n < number_bound) missing.items) }
+    {
+        let Haul {
+            alloc,
+            ranges,
+            worker_of,
+            ..
+        } = self;
+        missing(*alloc, ranges.as_slice(), worker_of)
+    }
+
+    /// How many numbers of the set haven't been taken. It takes the same time for any set.
+    pub fn missing_count(&self) -> u64
+        ensures count { result ≡ length (missing_of self.now.terms.ranges self.now.taken) }
+        ensures none { (result ≡ 0) ↔ IsComplete self.now.terms.ranges self.now.taken }
+    {
+        let Haul { count, taken, .. } = self;
+        *count - taken.len() as u64
+    }
+
+    /// Whether each number of the set has been taken.
+    pub fn is_complete(&self) -> bool
+        ensures complete { IsTrue result ↔ IsComplete self.now.terms.ranges self.now.taken }
+        ensures all { IsTrue result → AreAll self.now.terms.ranges (numbers_in self.now.taken) }
+    {
+        let Haul { count, taken, .. } = self;
+        *count == taken.len() as u64
+    }
+
+    /// What the taken soups left, whether the haul is open or closed.
+    ///
+    /// # Errors
+    ///
+    /// [`AllocError`] if memory runs out.
+    pub fn census(&self) -> Result<Census, AllocError>
+        ensures { IfOk result (IsCensus self.now.terms.job self.now.terms.ranges (numbers_in self.now.taken)) }
+    {
+        let Haul {
+            alloc,
+            job,
+            ranges,
+            count,
+            taken,
+            totals,
+            ..
+        } = self;
+        let rows = Rows::of_scores(*alloc, &totals.rows)?;
+        let objects = sum_of_totals(rows.as_slice());
+        Ok(Census {
+            job: *job,
+            ranges: ranges.copy(*alloc)?,
+            count: *count,
+            soups: taken.len() as u64,
+            unsettled: totals.unsettled,
+            for_good: totals.for_good,
+            objects,
+            rows,
+        })
+    }
+
+    /// Offers a report. It is taken if the haul is open, the report is of its job, of one of its workers, and of a
+    /// number of its set that has not been taken.
+    ///
+    /// It takes time in proportion to the report's objects, and to the ranges of the set.
+    ///
+    /// # Errors
+    ///
+    /// [`Refused`] has the report, and the first [`OfferError`] that holds in their order. The haul is as it was.
+    pub fn offer(&mut self, report: Report) -> Result<(), Refused>
+        ensures reply { (arrivals : List Arrival) → StandsFor arrivals self.old
+            → IsReply (reply_of result) (refusal_of self.old.terms arrivals report) }
+        ensures state { IsReply (reply_of result) (refusal_at self.old report) }
+        ensures stands { (arrivals : List Arrival) → StandsFor arrivals self.old → IsAnswered (reply_of result)
+            → StandsFor (arrivals ++ arrival.Offer report ∷ []) self.new }
+        ensures taken { OnOk result (self.new.taken ≡ self.old.taken ++ (report.worker, report.number) ∷ []) }
+        ensures terms { self.new.terms ≡ self.old.terms }
+        ensures closed { self.new.closed ≡ self.old.closed }
+        ensures kept { OnErr result (self.new ≡ self.old) }
+        ensures report { IfErr result (λ refused. refused.report ≡ report) }
+    {
+        if let Some(reason) = self.refusal(&report) {
+            return Err(Refused { report, reason });
+        }
+        let finding = report.finding();
+        let Ok(()) = make_room(
+            self.alloc,
+            &mut self.taken,
+            &mut self.worker_of,
+            &mut self.totals,
+            finding,
+        ) else {
+            let reason = OfferError::Memory;
+            return Err(Refused { report, reason });
+        };
+        note(
+            &mut self.taken,
+            &mut self.worker_of,
+            report.worker(),
+            report.number(),
+        );
+        self.totals.add(report.finding(), report.number());
+        // By a call: dropped at the end of the function, the report costs the prover twice as much.
+        drop(report);
+        Ok(())
+    }
+
+    /// Why a report is refused, if it is, apart from memory.
+    fn refusal(&self, report: &Report) -> Option<OfferError>
+        ensures { result ≡ refusal_at self.now report.now }
+    {
+        if self.closed {
+            return Some(OfferError::Closed);
+        }
+        if !is_same_job(&self.job, &report.job()) {
+            return Some(OfferError::OtherJob);
+        }
+        if self.workers < report.worker() {
+            return Some(OfferError::UnknownWorker);
+        }
+        if !self.ranges.has(report.number()) {
+            return Some(OfferError::OutOfRange);
+        }
+        let worker = *self.worker_of.get(&report.number())?;
+        Some(OfferError::Double { worker })
+    }
+}
+
+/// Makes room for a report with this finding. Nothing that can be seen changes.
+fn make_room(
+    alloc: Global,
+    taken: &mut Vec<(u8, u64)>,
+    worker_of: &mut IndexMap<u64, u8>,
+    totals: &mut Totals,
+    finding: &Finding,
+) -> Result<(), AllocError>
+    ensures taken { taken.new.items ≡ taken.old.items }
+    ensures workers { worker_of.new.entries ≡ worker_of.old.entries }
+    ensures extends { Extends totals.old.rows.entries totals.new.rows.entries }
+    ensures unsettled { totals.new.unsettled ≡ totals.old.unsettled }
+    ensures for_good { totals.new.for_good ≡ totals.old.for_good }
+    ensures room { OnOk result (vec_len taken.new + 1 ≤ vec_capacity taken.new) }
+    ensures spare { OnOk result (1 ≤ spare worker_of.new) }
+    ensures rows { OnOk result (HasRows finding.now totals.new.rows.entries) }
+{
+    taken.reserve(1)?;
+    worker_of.reserve(1)?;
+    totals.make_room(alloc, finding)
+}
+
+/// Notes who reported the soup with this number. There is room for it.
+fn note(taken: &mut Vec<(u8, u64)>, worker_of: &mut IndexMap<u64, u8>, worker: u8, number: u64)
+    requires room { vec_len taken.old + 1 ≤ vec_capacity taken.old }
+    requires spare { 1 ≤ spare worker_of.old }
+    requires new { get nat_eq worker_of.old number ≡ None }
+    ensures taken { taken.new.items ≡ taken.old.items ++ (worker, number) ∷ [] }
+    ensures workers { worker_of.new.entries ≡ worker_of.old.entries ++ (number, worker) ∷ [] }
+{
+    taken.push((worker, number)).unwrap();
+    worker_of.insert(number, worker).unwrap();
+}

@@ -1,0 +1,156 @@
+//! How two hauls are joined: the joined haul is made beside them, so that nothing has changed if memory runs out.
+
+ghost use Rattle.std.specs.Prelude.{◌≡◌, ◌++◌, List, IfErr, IfNone, IfOk, IfSome, OnOk, map, nat_eq};
+ghost use Rattle.std.specs.List.{IsDistinct};
+ghost use Rattle.haul_core.specs.Books.{StandsFor};
+ghost use Rattle.haul_core.specs.HaulLaws.{JoinedHaulsAddUp};
+ghost use Rattle.haul_core.specs.Joins.{CanJoin, Hinders, IsJoined, joined_arrivals};
+ghost use Rattle.haul_core.specs.Keeping.{numbers_in};
+ghost use Rattle.haul_core.specs.declared.book.arrival.Arrival.{Arrival};
+
+use crate::book::haul::Haul;
+use indexmap::IndexMap;
+use std::alloc::{AllocError, Global};
+use survey_core::finding::findings_are_determined;
+use survey_core::job::is_same_job;
+use thiserror::Error;
+
+/// Why two hauls were not joined.
+#[derive(Clone, Copy, Debug, PartialEq, Eq, Error)]
+pub enum JoinError {
+    /// One of them is not closed.
+    #[error("open")]
+    Open,
+    /// They are of different jobs.
+    #[error("other job")]
+    OtherJob,
+    /// A number is in both sets.
+    #[error("ranges overlap")]
+    Overlap,
+    /// Memory ran out.
+    #[error("out of memory")]
+    Memory,
+}
+
+impl Haul {
+    /// The two hauls as one. It is closed, and has taken what the first has and then what the second has. It has as
+    /// many workers as the one that has more, and may have more than 2^24 numbers.
+    ///
+    /// # Errors
+    ///
+    /// Both hauls, as they were, and the first of these that holds:
+    ///
+    /// - [`JoinError::Open`] if one of them is not closed.
+    /// - [`JoinError::OtherJob`] if they are of different jobs.
+    /// - [`JoinError::Overlap`] if a number is in both sets.
+    /// - [`JoinError::Memory`] if memory runs out.
+    pub fn join(self, other: Haul) -> Result<Haul, (Haul, Haul, JoinError)>
+        // One haul of both, and what stands for it.
+        ensures can { OnOk result (CanJoin self other) }
+        ensures joined { IfOk result (IsJoined self other) }
+        ensures stands { (before after : List Arrival) → StandsFor before self → StandsFor after other
+            → IfOk result (StandsFor (joined_arrivals self.terms before other.terms after)) }
+
+        // Which error it is, and what comes back.
+        ensures fault { IfErr result (λ refused. Hinders self other refused.2) }
+        ensures kept { IfErr result (λ refused. (refused.0 ≡ self) × (refused.1 ≡ other)) }
+    {
+        match one_of(&self, &other) {
+            Ok(joined) => {
+                // By calls: dropped at the end of the function, the two hauls cost the prover many times as much.
+                drop(self);
+                drop(other);
+                Ok(joined)
+            }
+            Err(fault) => Err((self, other, fault)),
+        }
+    }
+}
+
+/// The law that the census of a joined haul has the sums of the two censuses: of soups, of unsettled ones, of those
+/// that stay for good, of objects, and of the total of each code.
+pub fn joined_hauls_add_up()
+    ensures { JoinedHaulsAddUp }
+{
+    findings_are_determined();
+}
+
+/// The two hauls as one, or why they can't be joined.
+fn one_of(first: &Haul, second: &Haul) -> Result<Haul, JoinError>
+    ensures can { OnOk result (CanJoin first.now second.now) }
+    ensures joined { IfOk result (IsJoined first.now second.now) }
+    ensures fault { IfErr result (Hinders first.now second.now) }
+{
+    if let Some(fault) = fault(first, second) {
+        return Err(fault);
+    }
+    match joined(first, second) {
+        Ok(joined) => Ok(joined),
+        Err(_) => Err(JoinError::Memory),
+    }
+}
+
+/// Why the hauls can't be joined, if they can't, apart from memory.
+fn fault(first: &Haul, second: &Haul) -> Option<JoinError>
+    ensures some { IfSome result (Hinders first.now second.now) }
+    ensures none { IfNone result (CanJoin first.now second.now) }
+{
+    if !first.closed || !second.closed {
+        return Some(JoinError::Open);
+    }
+    if !is_same_job(&first.job, &second.job) {
+        return Some(JoinError::OtherJob);
+    }
+    if first.ranges.share_number(&second.ranges) {
+        return Some(JoinError::Overlap);
+    }
+    None
+}
+
+/// The two hauls as one.
+fn joined(first: &Haul, second: &Haul) -> Result<Haul, AllocError>
+    requires { CanJoin first.now second.now }
+    ensures { IfOk result (IsJoined first.now second.now) }
+{
+    let alloc = first.alloc;
+    let ranges = first.ranges.union(alloc, &second.ranges)?;
+    let taken = all_taken(alloc, first.taken.as_slice(), second.taken.as_slice())?;
+    let worker_of = by_number(alloc, taken.as_slice())?;
+    let totals = first.totals.joined(alloc, &second.totals)?;
+    Ok(Haul {
+        alloc,
+        job: first.job,
+        ranges,
+        count: first.count + second.count,
+        workers: first.workers.max(second.workers),
+        closed: true,
+        taken,
+        worker_of,
+        totals,
+    })
+}
+
+/// What the first has taken, and then what the second has.
+fn all_taken(
+    alloc: Global,
+    first: &[(u8, u64)],
+    second: &[(u8, u64)],
+) -> Result<Vec<(u8, u64)>, AllocError>
+    ensures { IfOk result (λ taken. taken.items ≡ first.now ++ second.now) }
+{
+    let mut taken = Vec::from_slice(alloc, first)?;
+    taken.extend_from_slice(second)?;
+    Ok(taken)
+}
+
+/// The worker of each number.
+fn by_number(alloc: Global, taken: &[(u8, u64)]) -> Result<IndexMap<u64, u8>, AllocError>
+    requires { IsDistinct nat_eq (numbers_in taken.now) }
+    ensures { IfOk result (λ worker_of. worker_of.entries ≡ map (λ t. (t.1, t.0)) taken.now) }
+{
+    let mut worker_of = IndexMap::new(alloc);
+    for entry in taken {
+        worker_of.insert(entry.1, entry.0)?;
+    }
+    Ok(worker_of)
+}

@@ -1,0 +1,121 @@
+//! Claims: what a report line says, right or wrong. A claim is read from its line, and then checked.
+
+ghost use Rattle.std.specs.Prelude.{◌≡◌, option_map};
+ghost use Rattle.haul_core.specs.ReportLines.{IsClaim};
+
+use crate::report::claim::claimed_code::ClaimedCode;
+use std::marker::Model;
+use survey_core::job::Job;
+
+/// How claims are checked.
+pub mod check;
+/// The codes of claims.
+pub mod claimed_code;
+/// How claims are read from their lines.
+pub mod read;
+mod read_field;
+mod read_start;
+
+/// What a worker claims of a soup: the job, the worker, the soup's number, and what is said to be found.
+///
+/// Its numbers and texts are within the limits of report lines. What it says of the soup may be wrong.
+#[derive(Debug, Drop)]
+pub struct Claim {
+    version: u8,
+    job: Job,
+    worker: u8,
+    number: u64,
+    settled: Option<SettledClaim>,
+}
+
+impl Model for Claim {
+    ghost use Rattle.haul_core.specs.ReportLines.{Claimed, IsClaim};
+
+    ghost Value = { Claimed };
+
+    ghost view = { λ c. record
+        { version = c.version; job = c.job; worker = c.worker; number = c.number; found = c.settled } };
+
+    ghost invariant = { λ c. IsClaim
+        (record { version = c.version; job = c.job; worker = c.worker; number = c.number; found = c.settled }) };
+}
+
+impl Claim {
+    /// The version of the line, 1 or 2. Version 1 has no mark.
+    pub fn version(&self) -> u8
+        ensures version { result ≡ self.now.version }
+        ensures claim { IsClaim self.now }
+    {
+        self.version
+    }
+
+    /// The job.
+    pub fn job(&self) -> Job
+        ensures { result ≡ self.now.job }
+    {
+        self.job
+    }
+
+    /// The worker, 1 to 16.
+    pub fn worker(&self) -> u8
+        ensures worker { result ≡ self.now.worker }
+        ensures claim { IsClaim self.now }
+    {
+        self.worker
+    }
+
+    /// The number of the soup, below 2^40.
+    pub fn number(&self) -> u64
+        ensures number { result ≡ self.now.number }
+        ensures claim { IsClaim self.now }
+    {
+        self.number
+    }
+
+    /// What is said of a soup that settled. There is nothing if the soup is said not to have settled.
+    pub fn settled(&self) -> Option<&SettledClaim>
+        ensures found { option_map (λ said. said.now) result ≡ self.now.found }
+        ensures claim { IsClaim self.now }
+    {
+        self.settled.as_ref()
+    }
+}
+
+/// What a claim says of a soup that settled.
+#[derive(Debug, Drop)]
+pub struct SettledClaim {
+    checkpoint: u32,
+    for_good: Option<bool>,
+    counts: Vec<(ClaimedCode, u64)>,
+}
+
+impl Model for SettledClaim {
+    ghost use Rattle.haul_core.specs.ReportLines.{Told};
+
+    ghost Value = { Told };
+
+    ghost view = { λ s. record { checkpoint = s.checkpoint; for_good = s.for_good; counts = s.counts.items } };
+}
+
+impl SettledClaim {
+    /// The generation at which the soup is said to be at rest, at most 100,000.
+    pub fn checkpoint(&self) -> u32
+        ensures { result ≡ self.now.checkpoint }
+    {
+        self.checkpoint
+    }
+
+    /// Whether the objects are said to stay for good. Version 1 doesn't say it.
+    pub fn for_good(&self) -> Option<bool>
+        ensures { result ≡ self.now.for_good }
+    {
+        self.for_good
+    }
+
+    /// The codes in ASCII order, each once, with how many objects are said to have it, at least 1.
+    pub fn counts(&self) -> &[(ClaimedCode, u64)]
+        ensures { result.now ≡ self.now.counts }
+    {
+        self.counts.as_slice()
+    }
+}

@@ -1,0 +1,186 @@
+//! How a claim is checked: the soup is surveyed, and what was found is compared with what the claim says.
+
+ghost use Rattle.std.specs.Prelude.{◌≡◌, ◌==◌, ◌↔◌, All, IfErr, IfOk, IsTrue, MatchResult, None, Some, if◌then◌else◌};
+ghost use Rattle.code_core.specs.Apgcodes.{HasCodeShape};
+ghost use Rattle.haul_core.specs.ClaimChecks.{Agrees, Fails, HaveShape, IsConfirmed};
+ghost use Rattle.haul_core.specs.ReportLines.{IsClaim, claim_of};
+ghost use Rattle.haul_core.specs.Reports.{Reported};
+ghost use Rattle.haul_core.specs.declared.report.claim.check.CheckError.TheVariants.{Memory};
+
+use crate::report::Report;
+use crate::report::claim::claimed_code::ClaimedCode;
+use crate::report::claim::{Claim, SettledClaim};
+use code_core::apgcode::Apgcode;
+use std::alloc::Global;
+use survey_core::finding::{Finding, findings_are_determined};
+use survey_core::job::{Job, is_same_job};
+use survey_core::memo::Memo;
+use survey_core::objects::Objects;
+
+/// Why a claim did not become a report.
+#[derive(Debug, Drop)]
+pub enum CheckError {
+    /// The claim is of another job.
+    OtherJob,
+    /// This was found, and the claim says something else.
+    Disagrees { found: Finding },
+    /// Memory ran out.
+    Memory,
+}
+
+impl Claim {
+    /// Surveys the soup that the claim is about, and makes the claim a report if it is of this job and says what was
+    /// found. A claim of version 1 is compared without the mark, which it doesn't have.
+    ///
+    /// # Errors
+    ///
+    /// The claim, as it was, and the first of these that holds:
+    ///
+    /// - [`CheckError::OtherJob`] if the claim has another seed, profile or rule.
+    /// - [`CheckError::Memory`] if memory runs out, before anything is compared.
+    /// - [`CheckError::Disagrees`] with what was found, if the claim says something else.
+    pub fn check(self, alloc: Global, job: &Job) -> Result<Report, (Claim, CheckError)>
+        // The report has the claim's job, worker and number, and each claim that is right becomes its report.
+        ensures report { IfOk result (IsConfirmed self job.now) }
+        ensures complete { (report : Reported) → IsConfirmed self job.now report
+            → MatchResult result (λ made. made ≡ report) (λ refused. refused.1 ≡ Memory) }
+
+        // Which error it is, and what comes back.
+        ensures fault { IfErr result (λ refused. Fails self job.now refused.1) }
+        ensures kept { IfErr result (λ refused. refused.0 ≡ self) }
+    {
+        self.check_with(alloc, job, &mut Memo::without_room(alloc))
+    }
+
+    /// Checks the claim as [`check`](Claim::check) does. Whatever the memo remembers, the answer is the same; a memo
+    /// that has seen other soups makes it faster.
+    ///
+    /// # Errors
+    ///
+    /// Those of [`check`](Claim::check).
+    pub fn check_with(
+        self,
+        alloc: Global,
+        job: &Job,
+        memo: &mut Memo,
+    ) -> Result<Report, (Claim, CheckError)>
+        // The report has the claim's job, worker and number, and each claim that is right becomes its report.
+        ensures report { IfOk result (IsConfirmed self job.now) }
+        ensures complete { (report : Reported) → IsConfirmed self job.now report
+            → MatchResult result (λ made. made ≡ report) (λ refused. refused.1 ≡ Memory) }
+
+        // Which error it is, and what comes back.
+        ensures fault { IfErr result (λ refused. Fails self job.now refused.1) }
+        ensures kept { IfErr result (λ refused. refused.0 ≡ self) }
+    {
+        if !is_same_job(&self.job, job) {
+            return Err((self, CheckError::OtherJob));
+        }
+        findings_are_determined();
+        let Ok(report) = Report::make_with(alloc, job, self.worker, self.number, memo) else {
+            return Err((self, CheckError::Memory));
+        };
+        let agrees = agrees(&self, report.finding());
+        if agrees {
+            Ok(report)
+        } else {
+            let found = report.into_finding();
+            Err((self, CheckError::Disagrees { found }))
+        }
+    }
+}
+
+/// Whether a claim says what the finding does.
+fn agrees(claim: &Claim, finding: &Finding) -> bool
+    ensures { IsTrue result ↔ Agrees claim.now finding.now }
+{
+    match finding {
+        Finding::Settled {
+            checkpoint,
+            objects,
+            for_good,
+        } => {
+            let Some(said) = &claim.settled else {
+                return false;
+            };
+            agrees_on_settled(claim.version, said, *checkpoint, objects, *for_good)
+        }
+        Finding::Unsettled => claim.settled.is_none(),
+    }
+}
+
+/// Whether a claim of this version says this of a soup that settled.
+fn agrees_on_settled(
+    version: u8,
+    said: &SettledClaim,
+    checkpoint: u32,
+    objects: &Objects,
+    for_good: bool,
+) -> bool
+    ensures { IsTrue result
+        ↔ (said.now ≡ record {
+          checkpoint = checkpoint;
+          for_good = if version == 1 then None else Some for_good;
+          counts = objects.now;
+        }) }
+{
+    let mark = if version == 1 { None } else { Some(for_good) };
+    said.checkpoint == checkpoint
+        && said.for_good == mark
+        && are_same_counts(said.counts.as_slice(), objects.as_slice())
+}
+
+/// Whether the counts are those of the objects.
+fn are_same_counts(counts: &[(ClaimedCode, u64)], objects: &[(Apgcode, u64)]) -> bool
+    ensures { IsTrue result ↔ (counts.now ≡ objects.now) }
+{
+    if counts.len() != objects.len() {
+        return false;
+    }
+    for place in 0..counts.len() {
+        let same = is_same_count(&counts[place], &objects[place]);
+        if !same {
+            return false;
+        }
+    }
+    true
+}
+
+/// Whether a count is that of the object.
+fn is_same_count(count: &(ClaimedCode, u64), object: &(Apgcode, u64)) -> bool
+    ensures { IsTrue result ↔ (count.now ≡ object.now) }
+{
+    count.0.bytes() == object.0.text().as_bytes() && count.1 == object.1
+}
+
+/// The law that a report's line is that of a claim, and that the claim is found to be right: checking it gives the
+/// report back, if there is memory.
+pub fn reports_are_claims(report: &Report)
+    ensures claim { IsClaim (claim_of 2 report.now) }
+    ensures confirmed { IsConfirmed (claim_of 2 report.now) report.now.job report.now }
+{
+    let job = report.job();
+    job.rule.births(0);
+    job.profile.limit();
+    job.seed.bytes();
+    codes_have_shape(report.finding());
+}
+
+/// Each code of a finding has the shape of one.
+fn codes_have_shape(finding: &Finding)
+    ensures { HaveShape finding.now }
+{
+    match finding {
+        Finding::Settled { objects, .. } => have_shape(objects.as_slice()),
+        Finding::Unsettled => {}
+    }
+}
+
+/// Each of these codes has the shape of one.
+fn have_shape(objects: &[(Apgcode, u64)])
+    ensures { All (λ object. HasCodeShape object.0) objects.now }
+{
+    for object in objects {
+        object.0.text();
+    }
+}

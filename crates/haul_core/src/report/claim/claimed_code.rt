@@ -1,0 +1,43 @@
+ghost use Rattle.std.specs.Prelude.{◌≡◌, IfOk};
+ghost use Rattle.code_core.specs.Apgcodes.{HasCodeShape};
+
+use std::alloc::{AllocError, Global};
+use std::marker::Model;
+
+/// A text that may be the name of an object: 1 to 400 bytes, each one of `a` to `z`, `0` to `9` and `_`.
+///
+/// A claim names objects by such texts, whether there are such objects or not. Contracts see a code as its bytes.
+#[derive(Debug, Drop)]
+pub struct ClaimedCode {
+    bytes: Vec<u8>,
+}
+
+impl Model for ClaimedCode {
+    ghost use Rattle.std.specs.Prelude.{ℕ, List};
+    ghost use Rattle.code_core.specs.Apgcodes.{HasCodeShape};
+
+    ghost Value = { List ℕ };
+
+    ghost view = { λ c. c.bytes.items };
+
+    ghost invariant = { λ c. HasCodeShape c.bytes.items };
+}
+
+impl ClaimedCode {
+    /// The bytes of the text.
+    pub fn bytes(&self) -> &[u8]
+        ensures bytes { result.now ≡ self.now }
+        ensures shape { HasCodeShape self.now }
+    {
+        self.bytes.as_slice()
+    }
+
+    /// The code with these bytes.
+    pub(crate) fn make(alloc: Global, bytes: &[u8]) -> Result<ClaimedCode, AllocError>
+        requires { HasCodeShape bytes.now }
+        ensures { IfOk result (λ code. code ≡ bytes.now) }
+    {
+        let bytes = Vec::from_slice(alloc, bytes)?;
+        Ok(ClaimedCode { bytes })
+    }
+}

@@ -1,0 +1,199 @@
+//! How a report line is read: in one pass without memory for the first fault, and then, if there is none, with its
+//! counts.
+
+ghost use Rattle.std.specs.Prelude.{◌≡◌, ◌↔◌, ◌-◌, ℕ, IfNone, IfOk, IfSome, IsErrOf, IsTrue, MatchResult, length};
+ghost use Rattle.std.specs.Prelude.{option_map};
+ghost use Rattle.haul_core.specs.ClaimSteps.{HasReadStart, IsAfter, MayFollow, claimed};
+ghost use Rattle.haul_core.specs.Claims.{FaultyLinesHaveNoClaim, IsClaimLine, IsFirstFaultOf, LinesHaveOneClaim};
+ghost use Rattle.haul_core.specs.Claims.{LinesHaveOneFault};
+ghost use Rattle.haul_core.specs.FieldSteps.{Tells};
+ghost use Rattle.haul_core.specs.ReportLines.{Claimed, IsClaim, claim_line, count_field};
+ghost use Rattle.haul_core.specs.declared.report.claim.read_start.LineStart.{LineStart as Before};
+ghost use Rattle.haul_core.specs.declared.report.claim.read.LineError.TheVariants.{BadLine, Memory};
+
+use crate::report::claim::claimed_code::ClaimedCode;
+use crate::report::claim::read_field::{count_in, cut_at};
+use crate::report::claim::read_start::{LineStart, start_in};
+use crate::report::claim::{Claim, SettledClaim};
+use std::alloc::{AllocError, Global};
+use thiserror::Error;
+
+/// Why a line is not read as that of a claim.
+#[derive(Clone, Copy, Debug, PartialEq, Eq, Error)]
+pub enum LineError {
+    /// The field that begins at `place` can't stand there, or a field is missing there, at the line's end. Places count
+    /// bytes from 0.
+    #[error("bad line at {place}")]
+    BadLine { place: usize },
+    /// Memory ran out.
+    #[error("out of memory")]
+    Memory,
+}
+
+impl From<AllocError> for LineError {
+    ghost from_gives = { λ _ e. e ≡ Memory };
+
+    fn from(_e: AllocError) -> LineError {
+        LineError::Memory
+    }
+}
+
+impl Claim {
+    /// Reads a report line of version 1 or 2, without the line feed that ends it.
+    ///
+    /// # Errors
+    ///
+    /// - [`LineError::BadLine`] if the line is not that of a claim, whether there is memory or not. Its place is where
+    ///   the first field that is wrong begins; if all are right, but one is missing, it is the length of the line.
+    /// - [`LineError::Memory`] if memory runs out.
+    pub fn read_line(alloc: Global, line: &[u8]) -> Result<Claim, LineError>
+        // What is read has the line as its one line, and each claim is read from its line.
+        ensures lawful { IfOk result IsClaim }
+        ensures line { IfOk result (λ read. claim_line read ≡ line.now) }
+        ensures complete { (claim : Claimed) → IsClaim claim → claim_line claim ≡ line.now
+            → MatchResult result (λ read. read ≡ claim) (λ error. error ≡ Memory) }
+
+        // Which error it is.
+        ensures bad_line { (place : ℕ) → IsErrOf result (BadLine place) → IsFirstFaultOf line.now place }
+        ensures memory { IsErrOf result Memory → IsClaimLine line.now }
+    {
+        if let Some(place) = fault_in(line) {
+            return Err(LineError::BadLine { place });
+        }
+        let claim = claim_in(alloc, line)?;
+        Ok(claim)
+    }
+}
+
+/// The place of the first fault of a line, if it is not that of a claim.
+fn fault_in(line: &[u8]) -> Option<usize>
+    ensures fault { IfSome result (IsFirstFaultOf line.now) }
+    ensures refused { IfSome result (λ _. ¬ IsClaimLine line.now) }
+    ensures none { IfNone result (IsClaimLine line.now) }
+{
+    match start_in(line) {
+        Ok((_, counts)) => fault_in_counts(line, counts),
+        Err(there) => Some(place_of(line, there)),
+    }
+}
+
+/// The place of the first fault among the counts of a line.
+fn fault_in_counts(line: &[u8], counts: Option<&[u8]>) -> Option<usize>
+    requires { (start : Before) × HasReadStart line.now start (option_map (λ rest. rest.now) counts) }
+    ensures fault { IfSome result (IsFirstFaultOf line.now) }
+    ensures refused { IfSome result (λ _. ¬ IsClaimLine line.now) }
+    ensures none { IfNone result (IsClaimLine line.now) }
+{
+    let mut last = None;
+    let mut rest = counts;
+    while let Some(here) = rest {
+        let (field, more) = cut_at(b' ', here);
+        let Some((code, _)) = count_after(last, field) else {
+            return Some(place_of(line, here));
+        };
+        last = Some(code);
+        rest = more;
+    }
+    None
+}
+
+/// The place in a line from which on this is its text.
+fn place_of(line: &[u8], there: &[u8]) -> usize
+    ensures { result ≡ length line.now - length there.now }
+{
+    line.len().saturating_sub(there.len())
+}
+
+/// The claim of a line that has no fault.
+fn claim_in(alloc: Global, line: &[u8]) -> Result<Claim, AllocError>
+    requires { IsClaimLine line.now }
+    ensures lawful { IfOk result IsClaim }
+    ensures line { IfOk result (λ claim. claim_line claim ≡ line.now) }
+{
+    match start_in(line) {
+        Ok((start, counts)) => with_counts(alloc, line, start, counts),
+        Err(_) => unreachable!(),
+    }
+}
+
+/// The claim of a line that has no fault, with its counts.
+fn with_counts(
+    alloc: Global,
+    line: &[u8],
+    start: LineStart,
+    counts: Option<&[u8]>,
+) -> Result<Claim, AllocError>
+    requires line { IsClaimLine line.now }
+    requires start { HasReadStart line.now start (option_map (λ rest. rest.now) counts) }
+    ensures lawful { IfOk result IsClaim }
+    ensures line { IfOk result (λ claim. claim_line claim ≡ line.now) }
+{
+    let mut read = Vec::new(alloc);
+    let mut last = None;
+    let mut rest = counts;
+    while let Some(here) = rest {
+        let (field, more) = cut_at(b' ', here);
+        let Some((code, count)) = count_after(last, field) else {
+            unreachable!();
+        };
+        read.push((ClaimedCode::make(alloc, code)?, count))?;
+        last = Some(code);
+        rest = more;
+    }
+    Ok(claim_of(start, read))
+}
+
+/// What a line with this start and these counts says.
+fn claim_of(start: LineStart, counts: Vec<(ClaimedCode, u64)>) -> Claim
+    requires { IsClaim (claimed start counts.items) }
+    ensures claim { result ≡ claimed start counts.items }
+    ensures lawful { IsClaim result }
+{
+    let settled = match start.settled {
+        Some(rested) => Some(SettledClaim {
+            checkpoint: rested.checkpoint,
+            for_good: rested.for_good,
+            counts,
+        }),
+        None => None,
+    };
+    Claim {
+        version: start.version,
+        job: start.job,
+        worker: start.worker,
+        number: start.number,
+        settled,
+    }
+}
+
+/// The code and the number of a count that may stand after this code.
+fn count_after<'a>(last: Option<&[u8]>, field: &'a [u8]) -> Option<(&'a [u8], u64)>
+    ensures { Tells (MayFollow (option_map (λ own. own.now) last.entry)) count_field field.now
+        (option_map (λ object. (object.0.now, object.1)) result) }
+{
+    let (code, count) = count_in(field)?;
+    if is_after(last, code) {
+        Some((code, count))
+    } else {
+        None
+    }
+}
+
+/// Whether a code comes after the last one in ASCII order.
+fn is_after(last: Option<&[u8]>, code: &[u8]) -> bool
+    ensures { IsTrue result ↔ IsAfter (option_map (λ own. own.now) last.entry) code.now }
+{
+    match last {
+        Some(last) => last.cmp(code).is_lt(),
+        None => true,
+    }
+}
+
+/// The laws of lines: a line is that of one claim at most, a line with a fault is that of none, and a line has its
+/// first fault at one place.
+#[tactic(auto, using(crate::proofs::OneClaim::one_claim))]
+pub fn lines_tell_claims()
+    ensures one { LinesHaveOneClaim }
+    ensures faulty { FaultyLinesHaveNoClaim }
+    ensures place { LinesHaveOneFault }
+{}

@@ -1,0 +1,183 @@
+//! What a report line says before its counts: the seven fields of the head, and one or two on the soup.
+//!
+//! ```text
+//! report 2 rule=b3s23 profile=64,512,101,30300 seed= worker=1 soup=5 at=404 good=no xp2_7*3 xs4_33*2
+//! ----------------------- the head ------------------------------- -- the soup --- -- the counts --
+//! ```
+
+ghost use Rattle.std.specs.Prelude.{◌≡◌, ◌<◌, ◌≤◌, ◌-◌, ◌++◌, ◌∷◌, [], IfErr, IfOk, Some, codes, decimal, length};
+ghost use Rattle.std.specs.Prelude.{option_map};
+ghost use Rattle.haul_core.specs.ClaimSteps.{Fills, FollowsFields, HasReadStart, HasHead, IsHead, claimed, head_of};
+ghost use Rattle.haul_core.specs.Claims.{IsFirstFaultOf};
+
+use crate::report::claim::read_field::{
+    cut_at, mark_in, profile_in, rule_in, seed_in, soup_in, state_in, version_in, worker_in,
+};
+use plane_core::rule::Rule;
+use survey_core::job::Job;
+use survey_core::profile::Profile;
+use survey_core::seed::Seed;
+
+/// What a line says before its counts.
+#[derive(Clone, Copy)]
+pub(crate) struct LineStart {
+    pub(crate) version: u8,
+    pub(crate) job: Job,
+    pub(crate) worker: u8,
+    pub(crate) number: u64,
+    /// What it says of a soup that settled.
+    pub(crate) settled: Option<WhenSettled>,
+}
+
+/// When a soup settled, and whether for good, if the line says so.
+#[derive(Clone, Copy)]
+pub(crate) struct WhenSettled {
+    pub(crate) checkpoint: u32,
+    pub(crate) for_good: Option<bool>,
+}
+
+/// What a line says before its counts, and the text of the counts, if there are any. If no lawful claim has such a
+/// line, the answer is the text from the first fault on.
+pub(crate) fn start_in(line: &[u8]) -> Result<(LineStart, Option<&[u8]>), &[u8]>
+    ensures ok { IfOk result (λ read. HasReadStart line.now read.0 (option_map (λ rest. rest.now) read.1)) }
+    ensures err { IfErr result (λ there. IsFirstFaultOf line.now (length line.now - length there.now)) }
+{
+    match head_in(line) {
+        Ok((head, rest)) => after_head(line, head, rest),
+        Err(there) => Err(there),
+    }
+}
+
+/// The start of a line whose head has been read.
+fn after_head<'a>(
+    line: &'a [u8],
+    head: LineStart,
+    rest: Option<&'a [u8]>,
+) -> Result<(LineStart, Option<&'a [u8]>), &'a [u8]>
+    requires { HasHead line.now 7 head (option_map (λ rest. rest.now) rest) }
+    ensures ok { IfOk result (λ read. HasReadStart line.now read.0 (option_map (λ rest. rest.now) read.1)) }
+    ensures err { IfErr result (λ there. IsFirstFaultOf line.now (length line.now - length there.now)) }
+{
+    let Some(here) = rest else {
+        return Err(end_of(line));
+    };
+    let (field, more) = cut_at(b' ', here);
+    let Some(state) = state_in(field) else {
+        return Err(here);
+    };
+    match state {
+        Some(checkpoint) => settled_in(line, head, checkpoint, more),
+        None => match more {
+            Some(there) => Err(there),
+            None => Ok((head, None)),
+        },
+    }
+}
+
+/// The fields of the head, and the text after them.
+fn head_in(line: &[u8]) -> Result<(LineStart, Option<&[u8]>), &[u8]>
+    ensures ok { IfOk result (λ read. HasHead line.now 7 read.0 (option_map (λ rest. rest.now) read.1)) }
+    ensures err { IfErr result (λ there. IsFirstFaultOf line.now (length line.now - length there.now)) }
+{
+    let mut head = blank();
+    let mut rest = Some(line);
+    for place in 0..7 {
+        let Some(here) = rest else {
+            return Err(end_of(line));
+        };
+        let (field, more) = cut_at(b' ', here);
+        let Some(read) = with_field(head, place, field) else {
+            return Err(here);
+        };
+        head = read;
+        rest = more;
+    }
+    Ok((head, rest))
+}
+
+/// Some head, with which reading begins.
+fn blank() -> LineStart
+    ensures { IsHead result }
+{
+    let Ok(seed) = Seed::new("") else {
+        unreachable!();
+    };
+    LineStart {
+        version: 1,
+        job: Job {
+            seed,
+            profile: Profile::standard(),
+            rule: Rule::life(),
+        },
+        worker: 1,
+        number: 0,
+        settled: None,
+    }
+}
+
+/// The head with what the field at this place says. There is none if the field says nothing that may stand there.
+fn with_field(mut head: LineStart, place: usize, field: &[u8]) -> Option<LineStart>
+    requires place { place < 7 }
+    requires head { IsHead head }
+    ensures { Fills place head field.now result }
+{
+    match place {
+        0 => {
+            if field != b"report".as_slice() {
+                return None;
+            }
+        }
+        1 => head.version = version_in(field)?,
+        2 => head.job.rule = rule_in(field)?,
+        3 => head.job.profile = profile_in(field)?,
+        4 => head.job.seed = seed_in(field)?,
+        5 => head.worker = worker_in(field)?,
+        _ => head.number = soup_in(field)?,
+    }
+    Some(head)
+}
+
+/// The start of a line whose soup settled: in version 2 a mark follows.
+fn settled_in<'a>(
+    line: &'a [u8],
+    head: LineStart,
+    checkpoint: u32,
+    rest: Option<&'a [u8]>,
+) -> Result<(LineStart, Option<&'a [u8]>), &'a [u8]>
+    requires head { IsHead head }
+    requires checkpoint { checkpoint ≤ 100000 }
+    requires follows { FollowsFields line.now (head_of (claimed head []) ++ (codes "at=" ++ decimal checkpoint) ∷ [])
+        (option_map (λ rest. rest.now) rest) }
+    ensures ok { IfOk result (λ read. HasReadStart line.now read.0 (option_map (λ rest. rest.now) read.1)) }
+    ensures err { IfErr result (λ there. IsFirstFaultOf line.now (length line.now - length there.now)) }
+{
+    if head.version == 1 {
+        return Ok((with_state(head, checkpoint, None), rest));
+    }
+    let Some(here) = rest else {
+        return Err(end_of(line));
+    };
+    let (field, more) = cut_at(b' ', here);
+    let Some(for_good) = mark_in(field) else {
+        return Err(here);
+    };
+    Ok((with_state(head, checkpoint, Some(for_good)), more))
+}
+
+/// The start of a line whose soup settled then.
+fn with_state(head: LineStart, checkpoint: u32, for_good: Option<bool>) -> LineStart
+    ensures { result ≡ record head { settled = Some (record { checkpoint = checkpoint; for_good = for_good }) } }
+{
+    let settled = Some(WhenSettled {
+        checkpoint,
+        for_good,
+    });
+    LineStart { settled, ..head }
+}
+
+/// The empty text at the end of a line.
+fn end_of(line: &[u8]) -> &[u8]
+    ensures { result.now ≡ [] }
+{
+    &line[line.len()..]
+}
