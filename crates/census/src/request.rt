@@ -8,7 +8,7 @@ ghost use Rattle.census.specs.Requests.{DoesRequest, DoesWords, is_whole, number
 ghost use Rattle.census.specs.Requests.{plan_for, soups_for, task_of};
 
 use commands::gather::do_gather;
-use commands::machine::Machine;
+use commands::machine::{Machine, Watch};
 use commands::plan::Plan;
 use commands::progress::Progress;
 use commands::soup_set::SoupSet;
@@ -87,8 +87,8 @@ pub fn do_words<
 ///
 /// # Errors
 ///
-/// Those of the request's own function: [`do_run`], [`do_name`], [`do_show`], [`do_soup`], [`do_take`],
-/// [`do_work`], [`do_gather`] or [`do_version`].
+/// Those of the request's own function: [`do_run`], [`do_name`], [`do_show`], [`do_soup`], [`do_take`], [`do_work`],
+/// [`do_gather`] or [`do_version`].
 fn do_request<T: Threads + Wait + Sync, R: Read, W: Write, E: Write, P: Write, C: Clock>(
     machine: &mut Machine<'_, T, E, Progress<P, C>>,
     request: &Request<'_>,
@@ -141,8 +141,8 @@ fn do_request<T: Threads + Wait + Sync, R: Read, W: Write, E: Write, P: Write, C
 
 /// Takes the soups that a request names, by so many workers. Whether a line of progress is asked for is no number, so
 /// either value serves in the condition on the numbers' ranges.
-fn take_soups<T: Threads + Wait + Sync, W: Write, E: Write, P: Write, C: Clock>(
-    machine: &mut Machine<'_, T, E, Progress<P, C>>,
+fn take_soups<T: Threads + Wait + Sync, W: Write, E: Write, H: Watch>(
+    machine: &mut Machine<'_, T, E, H>,
     asked: &words::request::Plan<'_>,
     workers: u8,
     output: &mut Out<W>,

@@ -31,7 +31,7 @@ use plane_core::pattern::Pattern;
 use std::alloc::{AllocError, Global};
 
 /// The most columns, and the most rows, that the box of a pattern with a text may have.
-pub const SIDE_LIMIT: u32 = 40;
+pub const CODE_SIDE_LIMIT: u32 = 40;
 
 /// How many rows a strip has.
 const STRIP: u32 = 5;
@@ -87,14 +87,14 @@ fn last_row(bounds: Bounds) -> u32
 fn fits_forty_square(bounds: Bounds) -> bool
     ensures { result ≡ fits_forty_square bounds }
 {
-    last_column(bounds) < SIDE_LIMIT && last_row(bounds) < SIDE_LIMIT
+    last_column(bounds) < CODE_SIDE_LIMIT && last_row(bounds) < CODE_SIDE_LIMIT
 }
 
 /// The text of a pattern with this box.
 fn text_in(alloc: Global, pattern: &Pattern, bounds: Bounds) -> Result<String, AllocError>
     requires bounds { box_of pattern.now ≡ Some bounds }
-    requires width { distance bounds.left bounds.right < SIDE_LIMIT }
-    requires height { distance bounds.top bounds.bottom < SIDE_LIMIT }
+    requires width { distance bounds.left bounds.right < CODE_SIDE_LIMIT }
+    requires height { distance bounds.top bounds.bottom < CODE_SIDE_LIMIT }
     ensures { IfOk result (λ found. string_bytes found ≡ flat_map spelling (
         tokens_of (at_corner pattern.now) (distance bounds.left bounds.right) (distance bounds.top bounds.bottom))) }
 {
@@ -115,7 +115,7 @@ fn push_strip(
     k: u32,
 ) -> Result<(), AllocError>
     requires bounds { box_of pattern.now ≡ Some bounds }
-    requires width { distance bounds.left bounds.right < SIDE_LIMIT }
+    requires width { distance bounds.left bounds.right < CODE_SIDE_LIMIT }
     requires strip { k < 8 }
     ensures { OnOk result (string_bytes text.new ≡ string_bytes text.old ++ flat_map spelling (
         strip_tokens (strip (at_corner pattern.now) (distance bounds.left bounds.right + 1) k))) }
@@ -189,7 +189,7 @@ fn character(value: u8) -> u8
 #[tactic(auto, unfolding(crate::specs::Columns::column))]
 fn column(pattern: &Pattern, bounds: Bounds, k: u32, x: u32) -> u8
     requires bounds { box_of pattern.now ≡ Some bounds }
-    requires width { x < SIDE_LIMIT }
+    requires width { x < CODE_SIDE_LIMIT }
     requires strip { k < 8 }
     ensures value { result ≡ column (at_corner pattern.now) k x }
     ensures bound { result ≤ 31 }
@@ -205,8 +205,8 @@ fn column(pattern: &Pattern, bounds: Bounds, k: u32, x: u32) -> u8
 /// 1 where the cell (x, y) from the box's corner is alive, and else 0.
 fn one_at(pattern: &Pattern, bounds: Bounds, x: u32, y: u32) -> u8
     requires bounds { box_of pattern.now ≡ Some bounds }
-    requires column { x < SIDE_LIMIT }
-    requires row { y < SIDE_LIMIT }
+    requires column { x < CODE_SIDE_LIMIT }
+    requires row { y < CODE_SIDE_LIMIT }
     ensures value { result ≡ (if has (at_corner pattern.now) (cell_at (pos x) (pos y)) then 1 else 0) }
     ensures bound { result ≤ 1 }
 {

@@ -90,15 +90,15 @@ is_gathered : (terms : Terms) (held closed : Held) (census : Census) (n : ℕ) (
     → IsGathered terms all.2.bytes (record { text = haul_text census; told = all.2.told; missing = n })
 is_gathered terms held closed census n known before after all same kept took closes counted many =
     let read = all.2 in
-    let P : Terms → Type 0 = λ t. Gathered t (input_lines read.bytes) read.met.arrivals read.told in
+    let P : Terms → Type 0 = λ t. Gathered t (input_lines read.bytes) read.come.arrivals read.told in
     let Q : Terms → Type 0 = λ t. IsCensus t.job t.ranges (numbers_in held.taken) census in
-    let stands = closes read.met.arrivals read.met.stands in
+    let stands = closes read.come.arrivals read.come.stands in
     record {
       short = subst (λ (n : ℕ). n ≤ 2 ^ 32) read.size_is all.1;
-      arrivals = read.met.arrivals;
-      gathered = subst P same read.met.gathered;
+      arrivals = read.come.arrivals;
+      gathered = subst P same read.come.gathered;
       taken = held.taken;
-      taken_is = sym took ∙ stands.taken ∙ ap (λ (t : Terms). taken_of t (read.met.arrivals ++ Closing ∷ [])) (kept ∙ same);
+      taken_is = sym took ∙ stands.taken ∙ ap (λ (t : Terms). taken_of t (read.come.arrivals ++ Closing ∷ [])) (kept ∙ same);
       census = census;
       counted = subst Q same counted;
       text_is = refl;

@@ -6,10 +6,10 @@ use Rattle.survey_core.specs.declared.finding.Finding.{Finding}
 use Rattle.haul_core.specs.declared.book.arrival.Arrival.{Arrival}
 use Rattle.haul_core.specs.declared.book.arrival.Arrival.TheVariants.{Offer}
 use Rattle.haul_core.specs.declared.book.refused.OfferError.{OfferError}
-use Rattle.haul_core.specs.declared.book.refused.OfferError.TheVariants as refusal
+use Rattle.haul_core.specs.declared.book.refused.OfferError.TheVariants as offer_error
 use Rattle.haul_core.specs.Books.{Held, IsReply, StandsFor, Terms, refusal_of}
 use Rattle.haul_core.specs.ClaimChecks.{Agrees, IsFoundFor}
-use Rattle.haul_core.specs.ReportLines.{Claimed, told_in}
+use Rattle.haul_core.specs.ReportLines.{Claimed, said_of}
 use Rattle.haul_core.specs.Reports.{Reported}
 use Rattle.commands.specs.declared.line_fault.LineFault.{LineFault}
 use Rattle.commands.specs.declared.line_fault.LineFault.TheVariants.{BadLine}
@@ -24,14 +24,14 @@ use Rattle.pattern_commands.specs.declared.complaint.Complaint.TheVariants.{Refu
 use Rattle.commands.specs.declared.lines.LineEnd.{LineEnd}
 use Rattle.commands.specs.declared.lines.LineEnd.TheVariants.{Feed, Input}
 use Rattle.commands.specs.declared.lines.LineRead.{LineRead}
-use Rattle.commands.specs.GatherSteps.{EndsLine, EndsLines, GoesOn, HasBegun, HasGathered, HasGatheredAll, HasMet, IsMetBy, Passage, passage}
+use Rattle.commands.specs.GatherSteps.{EndsLine, EndsLines, GoesOn, HasBegun, HasGathered, HasGatheredAll, HasCome, HasComeBy, Passage, passage}
 use Rattle.commands.specs.Lines.{HasReadLine, IsOneLine, input_lines, with_end}
 use Rattle.commands.proofs.LineLemmas.{all_read, ended_more, lines_bare, lines_ended, all_lines, first_lines}
-use Rattle.commands.specs.GatheredLines.{Faulty, Front, Gathered, IsChecked, IsFrontFault, IsLookedAt, IsWrong, Meets, Next, Offered, Start, Whole, offer_fault, told_fault}
+use Rattle.commands.specs.GatheredLines.{Faulty, Front, Gathered, IsChecked, IsFrontFault, IsLookedAt, IsWrong, ComesOf, Next, Offered, Start, Whole, offer_fault, told_fault}
 
 -- nothing arrives by a line with a fault
 pub faulty : {terms : Terms} {line : List ℕ} {fault : LineFault} {held : Held} (arrivals : List Arrival) → IsLookedAt terms.job line (Err fault)
-    → StandsFor arrivals held → (arrived : List Arrival) × Meets terms arrivals line arrived (Some fault) × StandsFor (arrivals ++ arrived) held
+    → StandsFor arrivals held → (arrived : List Arrival) × ComesOf terms arrivals line arrived (Some fault) × StandsFor (arrivals ++ arrived) held
 faulty {fault} {held} arrivals is stands =
     let P : List Arrival → Type 0 = λ l. StandsFor l held in
     ([], Faulty fault is, subst P (sym (append-nil arrivals)) stands)
@@ -39,28 +39,28 @@ faulty {fault} {held} arrivals is stands =
 -- a report that is taken
 pub taken : {terms : Terms} {line : List ℕ} {held : Held} (arrivals : List Arrival) (report : Reported) → IsLookedAt terms.job line (Ok report)
     → IsReply None (refusal_of terms arrivals report) → StandsFor (arrivals ++ Offer report ∷ []) held
-    → (arrived : List Arrival) × Meets terms arrivals line arrived None × StandsFor (arrivals ++ arrived) held
+    → (arrived : List Arrival) × ComesOf terms arrivals line arrived None × StandsFor (arrivals ++ arrived) held
 taken {terms} {line} arrivals report is (inl reply) stands =
-    let P : Option LineFault → Type 0 = λ fault. Meets terms arrivals line (Offer report ∷ []) fault in
+    let P : Option LineFault → Type 0 = λ fault. ComesOf terms arrivals line (Offer report ∷ []) fault in
     (Offer report ∷ [], subst P (sym (ap (offer_fault report) reply)) (Offered report is), stands)
 taken arrivals report is (inr reply) stands = absurd (cc (reply.0))
 
 -- a report that is refused
 pub refused : {terms : Terms} {line : List ℕ} {held : Held} (arrivals : List Arrival) (report : Reported) (reason : OfferError) (fault : Option LineFault)
-    → IsLookedAt terms.job line (Ok report) → IsReply (Some reason) (refusal_of terms arrivals report) → reason ≢ refusal.Memory
+    → IsLookedAt terms.job line (Ok report) → IsReply (Some reason) (refusal_of terms arrivals report) → reason ≢ offer_error.Memory
     → fault ≡ offer_fault report (Some reason) → StandsFor (arrivals ++ Offer report ∷ []) held
-    → (arrived : List Arrival) × Meets terms arrivals line arrived fault × StandsFor (arrivals ++ arrived) held
+    → (arrived : List Arrival) × ComesOf terms arrivals line arrived fault × StandsFor (arrivals ++ arrived) held
 refused {terms} {line} arrivals report reason fault is (inl reply) memory told stands =
-    let P : Option LineFault → Type 0 = λ fault. Meets terms arrivals line (Offer report ∷ []) fault in
+    let P : Option LineFault → Type 0 = λ fault. ComesOf terms arrivals line (Offer report ∷ []) fault in
     (Offer report ∷ [], subst P (sym (told ∙ ap (offer_fault report) reply)) (Offered report is), stands)
 refused arrivals report reason fault is (inr reply) memory told stands = absurd (memory cc)
 
 -- the same for all that the call for the fault gives
 pub refused_told : {E : Type 0} (terms : Terms) (line : List ℕ) (held : Held) (arrivals : List Arrival) (report : Reported) (reason : OfferError)
     (result : Result (Option LineFault) E) → IsLookedAt terms.job line (Ok report) → IsReply (Some reason) (refusal_of terms arrivals report)
-    → IfOk result (λ _. reason ≢ refusal.Memory) → IfOk result (λ fault. fault ≡ offer_fault report (Some reason))
-    → (reason ≢ refusal.Memory → StandsFor (arrivals ++ Offer report ∷ []) held)
-    → IfOk result (λ fault. (arrived : List Arrival) × Meets terms arrivals line arrived fault × StandsFor (arrivals ++ arrived) held)
+    → IfOk result (λ _. reason ≢ offer_error.Memory) → IfOk result (λ fault. fault ≡ offer_fault report (Some reason))
+    → (reason ≢ offer_error.Memory → StandsFor (arrivals ++ Offer report ∷ []) held)
+    → IfOk result (λ fault. (arrived : List Arrival) × ComesOf terms arrivals line arrived fault × StandsFor (arrivals ++ arrived) held)
 refused_told terms line held arrivals report reason (Ok fault) is reply memory told stands = refused arrivals report reason fault is reply memory told (stands memory)
 refused_told terms line held arrivals report reason (Err e) is reply memory told stands = tt
 
@@ -68,19 +68,19 @@ refused_told terms line held arrivals report reason (Err e) is reply memory told
 pub wrong : FindingsAreDetermined → (claim : Claimed) (found : Finding) → IsFoundFor claim found → ¬ Agrees claim found → IsWrong claim
 wrong unique claim found is differs finding right agrees =
     let same = unique claim.job.rule claim.job.profile (soup claim.job.seed claim.number) found finding is right in
-    differs (ap (told_in claim.version) same ∙ agrees)
+    differs (ap (said_of claim.version) same ∙ agrees)
 
 -- one line more that has come to the haul
-pub met_more : (terms : Terms) (lines : List (List ℕ)) (line told : List ℕ) (old new : Held) (before : ℕ) (fault : Option LineFault)
-    → before ≡ length lines → (met : HasMet terms lines old told)
-    → (arrived : List Arrival) × Meets terms met.arrivals line arrived fault × StandsFor (met.arrivals ++ arrived) new
-    → HasMet terms (lines ++ line ∷ []) new (told ++ told_fault (before + 1) fault)
-met_more terms lines line told old new before fault count met step = record {
-  arrivals = met.arrivals ++ step.0;
+pub come_more : (terms : Terms) (lines : List (List ℕ)) (line told : List ℕ) (old new : Held) (before : ℕ) (fault : Option LineFault)
+    → before ≡ length lines → (come : HasCome terms lines old told)
+    → (arrived : List Arrival) × ComesOf terms come.arrivals line arrived fault × StandsFor (come.arrivals ++ arrived) new
+    → HasCome terms (lines ++ line ∷ []) new (told ++ told_fault (before + 1) fault)
+come_more terms lines line told old new before fault count come step = record {
+  arrivals = come.arrivals ++ step.0;
   gathered =
-      let P : ℕ → Type 0 = λ n. Gathered terms (lines ++ line ∷ []) (met.arrivals ++ step.0) (told ++ told_fault n fault) in
+      let P : ℕ → Type 0 = λ n. Gathered terms (lines ++ line ∷ []) (come.arrivals ++ step.0) (told ++ told_fault n fault) in
       let number : before + 1 ≡ suc (length lines) = omega (arith, count) in
-      subst P (sym number) (Next lines met.arrivals told line step.0 fault met.gathered step.1);
+      subst P (sym number) (Next lines come.arrivals told line step.0 fault come.gathered step.1);
   stands = step.2;
 }
 
@@ -94,7 +94,7 @@ none_gathered known before held stands = record {
   ended = record { spelled = refl; whole = All-nil IsOneLine };
   count_is = refl;
   size_is = refl;
-  met = record { arrivals = []; gathered = Start; stands = stands };
+  come = record { arrivals = []; gathered = Start; stands = stands };
   written = Appends-nil before;
 }
 
@@ -115,19 +115,19 @@ no_more known left new before after count size held kept line gathered read none
     go Feed is = absurd (omega (arith, rw is at short, length-append read.line (10 ∷ [])))
     go Input is =
         let P : List ℕ → Type 0 = λ l. Consumes left new l in
-        let Q : List (List ℕ) → Type 0 = λ lines. HasMet held.terms lines held gathered.told in record {
+        let Q : List (List ℕ) → Type 0 = λ lines. HasCome held.terms lines held gathered.told in record {
           bytes = gathered.read ++ [];
           input = all_read known left new gathered.read [] gathered.consumed (subst P (bare (with_end line.end read.line) short) read.consumed) (read.last is);
           size_is = ap (λ n. size + n) none ∙ omega (arith, gathered.size_is, ap length (append-nil gathered.read));
           told = gathered.told;
-          met = subst Q (sym (lines_ended gathered.read gathered.lines gathered.ended)) gathered.met;
+          come = subst Q (sym (lines_ended gathered.read gathered.lines gathered.ended)) gathered.come;
           written = gathered.written;
         }
 
 -- a line more, after which others may follow or none
 pub goes_on : (known left new before after later : Option (List ℕ)) (count size : ℕ) (held next : Held) (kept : List ℕ) (line : LineRead)
     → (gathered : HasGathered (passage known left before after count size) held) → (read : HasReadLine left new kept line) → 0 < line.size
-    → IsMetBy held.terms gathered.lines read.line next gathered.told after later → next.terms ≡ held.terms
+    → HasComeBy held.terms gathered.lines read.line next gathered.told after later → next.terms ≡ held.terms
     → GoesOn (passage known new before later (count + 1) (size + line.size)) next line.end
 goes_on known left new before after later count size held next kept line gathered read some by same = go line.end refl
   where
@@ -137,8 +137,8 @@ goes_on known left new before after later count size held next kept line gathere
     total : size + line.size ≡ length (gathered.read ++ whole)
     total = ap₂ (λ a b. a + b) gathered.size_is read.size_is ∙ sym (length-append gathered.read whole)
 
-    met : HasMet next.terms (gathered.lines ++ read.line ∷ []) next (gathered.told ++ by.more)
-    met = subst (λ (terms : Terms). HasMet terms (gathered.lines ++ read.line ∷ []) next (gathered.told ++ by.more)) (sym same) by.met
+    come : HasCome next.terms (gathered.lines ++ read.line ∷ []) next (gathered.told ++ by.more)
+    come = subst (λ (terms : Terms). HasCome terms (gathered.lines ++ read.line ∷ []) next (gathered.told ++ by.more)) (sym same) by.come
 
     go : (end : LineEnd) → line.end ≡ end → GoesOn (passage known new before later (count + 1) (size + line.size)) next end
     go Feed is = record {
@@ -149,18 +149,18 @@ goes_on known left new before after later count size held next kept line gathere
       ended = ended_more gathered.read gathered.lines read.line gathered.ended read.one;
       count_is = ap (λ n. n + 1) gathered.count_is ∙ sym (length-append gathered.lines (read.line ∷ []));
       size_is = rw is at total;
-      met = met;
+      come = come;
       written = Appends-append before after later gathered.told by.more gathered.written by.written;
     }
     go Input is =
         let bare : with_end line.end read.line ≡ read.line = ap (λ e. with_end e read.line) is ∙ append-nil read.line in
-        let Q : List (List ℕ) → Type 0 = λ lines. HasMet next.terms lines next (gathered.told ++ by.more) in
+        let Q : List (List ℕ) → Type 0 = λ lines. HasCome next.terms lines next (gathered.told ++ by.more) in
         let there : 0 < length read.line = omega (arith, some, read.size_is, ap length bare) in record {
           bytes = gathered.read ++ read.line;
           input = all_read known left new gathered.read read.line gathered.consumed (subst (Consumes left new) bare read.consumed) (read.last is);
           size_is = total ∙ ap (λ l. length (gathered.read ++ l)) bare;
           told = gathered.told ++ by.more;
-          met = subst Q (sym (lines_bare gathered.read gathered.lines read.line gathered.ended read.one there)) met;
+          come = subst Q (sym (lines_bare gathered.read gathered.lines read.line gathered.ended read.one there)) come;
           written = Appends-append before after later gathered.told by.more gathered.written by.written;
         }
 
@@ -174,11 +174,11 @@ pub begun : (way : Passage) (held : Held) (terms : Terms) → HasGathered way he
 begun way held terms gathered same = record {
   lines = gathered.lines;
   first = first_lines way.known way.left gathered.read gathered.lines gathered.consumed gathered.ended;
-  arrivals = gathered.met.arrivals;
+  arrivals = gathered.come.arrivals;
   told = gathered.told;
   gathered =
-      let P : Terms → Type 0 = λ t. Gathered t gathered.lines gathered.met.arrivals gathered.told in
-      subst P same gathered.met.gathered;
+      let P : Terms → Type 0 = λ t. Gathered t gathered.lines gathered.come.arrivals gathered.told in
+      subst P same gathered.come.gathered;
   written = gathered.written;
 }
 
@@ -188,11 +188,11 @@ pub all_begun : (known before after : Option (List ℕ)) (size : ℕ) (held : He
 all_begun known before after size held terms all same = record {
   lines = input_lines all.bytes;
   first = all_lines known all.bytes all.input;
-  arrivals = all.met.arrivals;
+  arrivals = all.come.arrivals;
   told = all.told;
   gathered =
-      let P : Terms → Type 0 = λ t. Gathered t (input_lines all.bytes) all.met.arrivals all.told in
-      subst P same all.met.gathered;
+      let P : Terms → Type 0 = λ t. Gathered t (input_lines all.bytes) all.come.arrivals all.told in
+      subst P same all.come.gathered;
   written = all.written;
 }
 

@@ -247,7 +247,7 @@ complete_right job set opened held census open_ h all is = record {
     form = open_.form;
     census = census;
     counted = counted_by job set opened held census open_ h is;
-    told = refl;
+    text_is = refl;
   };
 }
 
@@ -275,7 +275,7 @@ stopped_told may_stop job set opened held census missing open_ h many incomplete
     stops = (stops.0, stops.1.0, in_set open_.ranges opened.terms.ranges opened.taken stops.1.0 open_.form stops.1.1, stops.1.2);
     census = census;
     counted = counted_by job set opened held census open_ h is;
-    told = refl;
+    text_is = refl;
   };
 }
   where

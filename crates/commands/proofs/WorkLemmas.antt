@@ -233,7 +233,7 @@ only_text one_form job worker set held opened (Ok text) is =
     record {
       reports = tells.reports;
       each = subst (λ (rs : List Range). AreReportsOn job worker (numbers_of rs) tells.reports) forms tells.each;
-      told = ap Ok tells.told;
+      told = ap Ok tells.text_is;
     }
 only_text one_form job worker set held opened (Err (Refused refusal)) (Bad_list not_list place fault told) = absurd (not_list
     (listed set opened.ranges opened.named))
@@ -299,7 +299,7 @@ reaches_work determined one_form plan worker held outcome output is puts =
           named = is.opened.named;
           small = is.opened.small;
           apart = is.opened.apart;
-          is_told = record { normal = held.terms.ranges; form = is.opened.form; reports = put.reports; each = put.each; told = refl };
+          is_told = record { normal = held.terms.ranges; form = is.opened.form; reports = put.reports; each = put.each; text_is = refl };
         } in
         ((text, rw is.named told, put.is_written), put.fine)
     go (Err Memory) begun = (

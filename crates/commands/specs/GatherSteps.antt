@@ -18,15 +18,15 @@ pub record AreEnded (bytes : List ℕ) (lines : List (List ℕ)) : Type 0 where
   pub whole : All IsOneLine lines
 
 -- the lines have come to the haul, and this was told of them
-pub record HasMet (terms : Terms) (lines : List (List ℕ)) (held : Held) (told : List ℕ) : Type 0 where
+pub record HasCome (terms : Terms) (lines : List (List ℕ)) (held : Held) (told : List ℕ) : Type 0 where
   pub arrivals : List Arrival
   pub gathered : Gathered terms lines arrivals told
   pub stands : StandsFor arrivals held
 
 -- one line more has come to the haul, and standard error has what is told of it
-pub record IsMetBy (terms : Terms) (lines : List (List ℕ)) (line : List ℕ) (held : Held) (told : List ℕ) (before after : Option (List ℕ)) : Type 0 where
+pub record HasComeBy (terms : Terms) (lines : List (List ℕ)) (line : List ℕ) (held : Held) (told : List ℕ) (before after : Option (List ℕ)) : Type 0 where
   pub more : List ℕ
-  pub met : HasMet terms (lines ++ line ∷ []) held (told ++ more)
+  pub come : HasCome terms (lines ++ line ∷ []) held (told ++ more)
   pub written : Appends before after more
 
 -- How far gathering is: the input at its start and what is left of it, standard error at the start and now, and how many lines and bytes
@@ -52,7 +52,7 @@ pub record HasGathered (passage : Passage) (held : Held) : Type 0 where
   pub ended : AreEnded read lines
   pub count_is : passage.count ≡ length lines
   pub size_is : passage.size ≡ length read
-  pub met : HasMet held.terms lines held told
+  pub come : HasCome held.terms lines held told
   pub written : Appends passage.before passage.after told
 
 -- The first lines of an input have come to a haul, and standard error has what is told of them.
@@ -70,7 +70,7 @@ pub record HasGatheredAll (known before after : Option (List ℕ)) (size : ℕ) 
   pub input : IsInput known bytes
   pub size_is : size ≡ length bytes
   pub told : List ℕ
-  pub met : HasMet held.terms (input_lines bytes) held told
+  pub come : HasCome held.terms (input_lines bytes) held told
   pub written : Appends before after told
 
 -- there may be more lines, or all have come

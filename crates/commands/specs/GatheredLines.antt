@@ -5,7 +5,7 @@ use Rattle.survey_core.specs.declared.job.Job.{Job}
 use Rattle.haul_core.specs.declared.book.arrival.Arrival.{Arrival}
 use Rattle.haul_core.specs.declared.book.arrival.Arrival.TheVariants.{Offer}
 use Rattle.haul_core.specs.declared.book.refused.OfferError.{OfferError}
-use Rattle.haul_core.specs.declared.book.refused.OfferError.TheVariants as refusal
+use Rattle.haul_core.specs.declared.book.refused.OfferError.TheVariants as offer_error
 use Rattle.haul_core.specs.Books.{Terms, refusal_of}
 use Rattle.haul_core.specs.ClaimChecks.{Agrees, IsConfirmed, IsFoundFor}
 use Rattle.haul_core.specs.Claims.{IsFirstFaultOf}
@@ -44,16 +44,16 @@ pub data IsLookedAt (job : Job) (line : List ℕ) : Result Reported LineFault �
 
 -- what is told of a report that a haul refuses; a haul that is open refuses no report of its job in other ways
 abbrev pub offer_fault : Reported → Option OfferError → Option LineFault
-offer_fault report (Some refusal.UnknownWorker) = Some (UnknownWorker report.worker)
-offer_fault report (Some refusal.OutOfRange) = Some (OutOfRange report.number)
-offer_fault report (Some (refusal.Double worker)) = Some (Double report.number worker)
+offer_fault report (Some offer_error.UnknownWorker) = Some (UnknownWorker report.worker)
+offer_fault report (Some offer_error.OutOfRange) = Some (OutOfRange report.number)
+offer_fault report (Some (offer_error.Double worker)) = Some (Double report.number worker)
 offer_fault report _ = None
 
 -- What becomes of a line after some arrivals: what arrives by it, and the fault that is told of it, if there is one.
-pub data Meets (terms : Terms) (before : List Arrival) (line : List ℕ) : List Arrival → Option LineFault → Type 0 where
-  Faulty : (fault : LineFault) → IsLookedAt terms.job line (Err fault) → Meets terms before line [] (Some fault)
+pub data ComesOf (terms : Terms) (before : List Arrival) (line : List ℕ) : List Arrival → Option LineFault → Type 0 where
+  Faulty : (fault : LineFault) → IsLookedAt terms.job line (Err fault) → ComesOf terms before line [] (Some fault)
   Offered : (report : Reported) → IsLookedAt terms.job line (Ok report)
-      → Meets terms before line (Offer report ∷ []) (offer_fault report (refusal_of terms before report))
+      → ComesOf terms before line (Offer report ∷ []) (offer_fault report (refusal_of terms before report))
 
 -- the words on a fault
 abbrev pub fault_words : LineFault → List ℕ
@@ -76,5 +76,5 @@ told_fault number (Some fault) = fault_line number fault
 pub data Gathered (terms : Terms) : List (List ℕ) → List Arrival → List ℕ → Type 0 where
   Start : Gathered terms [] [] []
   Next : (lines : List (List ℕ)) (before : List Arrival) (told : List ℕ) (line : List ℕ) (arrived : List Arrival) (fault : Option LineFault)
-      → Gathered terms lines before told → Meets terms before line arrived fault
+      → Gathered terms lines before told → ComesOf terms before line arrived fault
       → Gathered terms (lines ++ line ∷ []) (before ++ arrived) (told ++ told_fault (suc (length lines)) fault)

@@ -32,7 +32,7 @@ pub record TellsTaken (may_stop : ℕ → ℕ → Type 0) (missing : ℕ) (job :
   pub stops : MayStop may_stop ranges
   pub census : Census
   pub counted : IsCensus job normal (numbers_in taken) census
-  pub told : text ≡ haul_text census
+  pub text_is : text ≡ haul_text census
 
 -- the census of a haul of which so many numbers are missing; what makes up its job is looked at first
 abbrev pub stopped_right : (ℕ → ℕ → Type 0) → Plan → ℕ → Right

@@ -20,7 +20,7 @@ pub record TellsAll (job : Job) (ranges : List Range) (text : List ℕ) : Type 0
   pub form : IsNormalForm ranges normal
   pub census : Census
   pub counted : IsCensus job normal numbers census
-  pub told : text ≡ haul_text census
+  pub text_is : text ≡ haul_text census
 
 -- the census of the complete haul; what makes up its job is looked at first
 abbrev pub take_right : Plan → Right

@@ -31,7 +31,7 @@ pub record TellsReports (job : Job) (worker : ℕ) (ranges : List Range) (text :
   pub form : IsNormalForm ranges normal
   pub reports : List Reported
   pub each : AreReportsOn job worker (numbers_of normal) reports
-  pub told : text ≡ flat_map report_text reports
+  pub text_is : text ≡ flat_map report_text reports
 
 -- the reports of the worker on the whole set; what makes up its job is looked at first
 abbrev pub work_right : Plan → ℕ → Right

@@ -17,14 +17,14 @@ ghost use Rattle.pattern_commands.specs.Profiles.{AreInRange};
 ghost use Rattle.pattern_commands.specs.Streams.{stream};
 ghost use Rattle.haul_core.specs.Books.{StandsFor};
 ghost use Rattle.haul_core.specs.declared.book.arrival.Arrival.{Arrival};
-ghost use Rattle.commands.specs.GatherSteps.{EndsLine, EndsLines, GoesOn, HasGathered, HasGatheredShort, HasMet};
-ghost use Rattle.commands.specs.GatherSteps.{IsMetBy, passage};
-ghost use Rattle.commands.specs.GatheredLines.{IsChecked, IsFrontFault, IsLookedAt, Meets, offer_fault};
-ghost use Rattle.haul_core.specs.declared.book.refused.OfferError.TheVariants as refusal;
+ghost use Rattle.commands.specs.GatherSteps.{EndsLine, EndsLines, GoesOn, HasGathered, HasGatheredShort, HasCome};
+ghost use Rattle.commands.specs.GatherSteps.{HasComeBy, passage};
+ghost use Rattle.commands.specs.GatheredLines.{IsChecked, IsFrontFault, IsLookedAt, ComesOf, offer_fault};
+ghost use Rattle.haul_core.specs.declared.book.refused.OfferError.TheVariants as offer_error;
 
 use crate::finish::finish;
 use crate::line_fault::LineFault;
-use crate::lines::{LINE_LIMIT, LineEnd, LineRead, read_line};
+use crate::lines::{GATHER_LIMIT, LINE_LIMIT, LineEnd, LineRead, read_line};
 use crate::plan::{Plan, open_haul};
 use haul_core::book::haul::Haul;
 use haul_core::book::refused::OfferError;
@@ -55,9 +55,9 @@ use survey_core::memo::Memo;
 /// # Errors
 ///
 /// The status is `Incomplete` if soups are missing: then the haul was written, and a line on `errors` says how many. It
-/// is `Refused` as of `do_take`; `Memory`; or `Failed` if the input can't be read or is over 2^32 bytes long, or
-/// if the output or a line on a report line can't be written. With `Refused` and `Memory`, and after a failed
-/// read, nothing was written to the output. A failure to write the last line on `errors` is not reported.
+/// is `Refused` as of `do_take`; `Memory`; or `Failed` if the input can't be read or is over 2^32 bytes long, or if the
+/// output, or what is told of a line, can't be written. With `Refused` and `Memory`, and after a failed read, nothing
+/// was written to the output. A failure to write the last line on `errors` is not reported.
 pub fn do_gather<R: Read, W: Write, E: Write>(
     alloc: Global,
     plan: &Plan<'_>,
@@ -154,9 +154,6 @@ fn gather_input<R: Read, E: Write>(
 /// How many bytes a read asks for.
 const READ_LENGTH: usize = 65_536;
 
-/// How many bytes of report lines are read at most: 2^32.
-const GATHER_LIMIT: u64 = 4_294_967_296;
-
 /// Reads the input line by line, checks each line and offers its report. What is wrong with a line is told on `errors`.
 fn gather_lines<R: BufRead, E: Write>(
     alloc: Global,
@@ -232,10 +229,10 @@ fn take_line<E: Write>(
     requires before { before < 2 ^ 32 }
     requires errors { errors.old.failed ≡ false }
     ensures terms { haul.new.terms ≡ haul.old.terms }
-    ensures met { (line : List ℕ) (lines : List (List ℕ)) (told : List ℕ) → kept.now ≡ take (2 ^ 24 + 1) line
+    ensures come { (line : List ℕ) (lines : List (List ℕ)) (told : List ℕ) → kept.now ≡ take (2 ^ 24 + 1) line
         → before ≡ length lines
-        → HasMet haul.old.terms lines haul.old told
-        → OnOk result (IsMetBy haul.old.terms lines line haul.new told (E.contents errors.old.writer)
+        → HasCome haul.old.terms lines haul.old told
+        → OnOk result (HasComeBy haul.old.terms lines line haul.new told (E.contents errors.old.writer)
         (E.contents errors.new.writer)) }
     ensures fine { OnOk result (errors.new.failed ≡ false) }
     ensures ended { IfErr result (EndsLine errors.old errors.new) }
@@ -255,10 +252,10 @@ fn offer_line(
     haul: &mut Haul,
 ) -> Result<Option<LineFault>, AllocError>
     ensures terms { haul.new.terms ≡ haul.old.terms }
-    ensures met { (line : List ℕ) (arrivals : List Arrival) → kept.now ≡ take (2 ^ 24 + 1) line
+    ensures come { (line : List ℕ) (arrivals : List Arrival) → kept.now ≡ take (2 ^ 24 + 1) line
         → StandsFor arrivals haul.old
         → IfOk result (λ fault. (arrived : List Arrival)
-        × Meets haul.old.terms arrivals line arrived fault × StandsFor (arrivals ++ arrived) haul.new) }
+        × ComesOf haul.old.terms arrivals line arrived fault × StandsFor (arrivals ++ arrived) haul.new) }
 {
     let report = match report_of(alloc, kept, &haul.job(), memo)? {
         Ok(report) => report,
@@ -328,7 +325,7 @@ fn checked_report(
 fn fault_of(reason: OfferError, worker: u8, number: u64) -> Result<Option<LineFault>, AllocError>
     ensures told { (report : Reported) → report.worker ≡ worker → report.number ≡ number
         → IfOk result (λ fault. fault ≡ offer_fault report (Some reason)) }
-    ensures answered { IfOk result (λ _. reason ≢ refusal.Memory) }
+    ensures answered { IfOk result (λ _. reason ≢ offer_error.Memory) }
 {
     match reason {
         OfferError::UnknownWorker => Ok(Some(LineFault::UnknownWorker { worker })),

@@ -19,8 +19,8 @@ use std::io::{BufRead, Error, ErrorKind};
 /// How many bytes of a line are looked at: 2^24, far more than a report line of a census has.
 pub(crate) const LINE_LIMIT: usize = 16_777_216;
 
-/// How many bytes a line has at most: 2^32, as many as an input.
-const LONGEST: u64 = 4_294_967_296;
+/// How many bytes of report lines are read at most, and so how many a line has: 2^32.
+pub(crate) const GATHER_LIMIT: u64 = 4_294_967_296;
 
 /// What ends a line.
 #[derive(Clone, Copy)]
@@ -69,7 +69,7 @@ pub(crate) fn read_line<R: BufRead>(
     for _ in 0..u64::MAX {
         let piece = read_piece(input, line)?;
         size = size.saturating_add(piece.size as u64);
-        if size > LONGEST {
+        if size > GATHER_LIMIT {
             return Err(InputError::Unreadable);
         }
         if let Some(end) = piece.end {

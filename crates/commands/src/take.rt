@@ -46,9 +46,9 @@ use std::thread::Threads;
 /// # Errors
 ///
 /// The status is `Refused` for a text that is not a seed, a horizon below the period, a text that is not a rule or a
-/// range list, ranges that go past 2^40 or have over 2^24 numbers together, or ranges that share a number;
-/// `Memory`, also if a thread could not be started; or `Failed` if the output can't be written. Then one line
-/// stands on standard error; a failure to write that line is not reported.
+/// range list, ranges that go past 2^40 or have over 2^24 numbers together, or ranges that share a number; `Memory`,
+/// also if a thread could not be started; or `Failed` if the output can't be written. Then one line stands on standard
+/// error; a failure to write that line is not reported.
 pub fn do_take<W: Write, E: Write, T: Threads + Wait + Sync, H: Watch>(
     machine: &mut Machine<'_, T, E, H>,
     plan: &Plan<'_>,

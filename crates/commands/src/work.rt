@@ -35,8 +35,8 @@ use survey_core::memo::Memo;
 ///
 /// # Errors
 ///
-/// The status is `Refused` as of `do_take`; `Memory`, and then the lines before stand whole; or `Failed` if the
-/// output can't be written. Then one line stands on `errors`; a failure to write that line is not reported.
+/// The status is `Refused` as of `do_take`; `Memory`, and then the lines before stand whole; or `Failed` if the output
+/// can't be written. Then one line stands on `errors`; a failure to write that line is not reported.
 pub fn do_work<W: Write, E: Write>(
     alloc: Global,
     plan: &Plan<'_>,

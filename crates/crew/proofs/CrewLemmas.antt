@@ -12,7 +12,7 @@ use Rattle.haul_core.specs.Reports.{Reported}
 use Rattle.haul_core.specs.declared.book.arrival.Arrival.{Arrival}
 use Rattle.haul_core.specs.declared.book.arrival.Arrival.TheVariants.{Offer}
 use Rattle.handover.specs.Belts.{GotOne, Line, Received}
-use Rattle.crew.specs.Crews.{Collected, HasAdded, HasLost, HasMetAll, IsPart, dones, is_done, report_in, reports_in}
+use Rattle.crew.specs.Crews.{Collected, HasAdded, HasLost, HasComeAll, IsPart, dones, is_done, report_in, reports_in}
 use Rattle.crew.specs.declared.note.Note.{Note}
 use Rattle.crew.specs.declared.note.Note.TheVariants.{Done, Report}
 
@@ -53,8 +53,8 @@ added_none held = record {
   stands = λ arrivals s. subst (λ (l : List Arrival). StandsFor l held) (sym (append-nil arrivals)) s;
 }
 
-met_more : (xs ys : List Reported) (old mid new : Held) → HasMetAll xs old mid → HasMetAll ys mid new → HasMetAll (xs ++ ys) old new
-met_more xs ys old mid new first more arrivals s =
+come_more : (xs ys : List Reported) (old mid new : Held) → HasComeAll xs old mid → HasComeAll ys mid new → HasComeAll (xs ++ ys) old new
+come_more xs ys old mid new first more arrivals s =
     subst (λ (l : List Arrival). StandsFor l new)
     (append_assoc arrivals (map Offer xs) (map Offer ys) ∙ ap (λ (l : List Arrival). arrivals ++ l) (sym (map-append Offer xs ys)))
     (more (arrivals ++ map Offer xs) (first arrivals s))
@@ -65,7 +65,7 @@ added_more xs ys old mid new first more = record {
   closed = more.closed ∙ first.closed;
   taken = more.taken ∙ ap (λ (l : List (ℕ × ℕ)). l ++ map entry ys) first.taken ∙ append_assoc old.taken (map entry xs) (map entry ys)
       ∙ ap (λ (l : List (ℕ × ℕ)). old.taken ++ l) (sym (map-append entry xs ys));
-  stands = met_more xs ys old mid new first.stands more.stands;
+  stands = come_more xs ys old mid new first.stands more.stands;
 }
 
 -- ---- the collector's loop
@@ -148,7 +148,7 @@ module _ {started left : ℕ} {before after next : Received Note} {old mid : Hel
 
   -- a report that was answered
   pub collected_heard : (r : Reported) (new : Held) → GotOne after next (Report r) → 0 < left → (new ≡ mid) ⊎ HasAdded (r ∷ []) mid new
-      → HasMetAll (r ∷ []) mid new → Collected started left before next old new answered
+      → HasComeAll (r ∷ []) mid new → Collected started left before next old new answered
   collected_heard r new g some added met =
       let whole = reports_push c.notes (g.sender, Report r) in
       let t = takes c r g.sender new added in
@@ -162,8 +162,8 @@ module _ {started left : ℕ} {before after next : Received Note} {old mid : Hel
         part = t.part;
         some = t.some;
         added = t.added;
-        all = λ yes. subst (λ (l : List Reported). HasMetAll l old new) (sym whole)
-            (met_more (reports_in c.notes) (r ∷ []) old mid new (c.all yes) met);
+        all = λ yes. subst (λ (l : List Reported). HasComeAll l old new) (sym whole)
+            (come_more (reports_in c.notes) (r ∷ []) old mid new (c.all yes) met);
         lost = λ no. t.lost (c.lost no);
       }
 
@@ -210,6 +210,6 @@ module _ {started left : ℕ} {before after next : Received Note} {old mid : Hel
         part = c.part;
         some = subst (λ (l : List Reported). IsPart c.part l) (sym whole) c.some;
         added = c.added;
-        all = λ yes. subst (λ (l : List Reported). HasMetAll l old mid) (sym whole) (c.all yes);
+        all = λ yes. subst (λ (l : List Reported). HasComeAll l old mid) (sym whole) (c.all yes);
         lost = λ no. subst (λ (l : List Reported). HasLost l c.part old) (sym whole) (c.lost no);
       }

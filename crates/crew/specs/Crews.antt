@@ -41,8 +41,8 @@ pub record HasAdded (reports : List Reported) (old new : Held) : Type 0 where
   pub stands : (arrivals : List Arrival) → StandsFor arrivals old → StandsFor (arrivals ++ map Offer reports) new
 
 -- Whatever arrivals stood for the haul, they and then offers of all these reports stand for it now.
-abbrev pub HasMetAll : List Reported → Held → Held → Type 0
-HasMetAll reports old new = (arrivals : List Arrival) → StandsFor arrivals old → StandsFor (arrivals ++ map Offer reports) new
+abbrev pub HasComeAll : List Reported → Held → Held → Type 0
+HasComeAll reports old new = (arrivals : List Arrival) → StandsFor arrivals old → StandsFor (arrivals ++ map Offer reports) new
 
 -- Of these reports a haul has taken a part, and one that came among them was lost, which the book takes after those taken before it.
 pub record HasLost (reports part : List Reported) (old : Held) : Type 0 where
@@ -65,5 +65,5 @@ pub record Collected (started left : ℕ) (before after : Received Note) (old ne
   pub part : List Reported
   pub some : IsPart part (reports_in notes)
   pub added : HasAdded part old new
-  pub all : answered ≡ true → HasMetAll (reports_in notes) old new
+  pub all : answered ≡ true → HasComeAll (reports_in notes) old new
   pub lost : answered ≡ false → HasLost (reports_in notes) part old

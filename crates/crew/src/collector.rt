@@ -2,7 +2,7 @@
 ghost use Rattle.std.specs.Prelude.{◌≡◌, ◌∷◌, ◌⊎◌, [], List, None, false, is_ok, true};
 ghost use Rattle.haul_core.specs.Books.{StandsFor, refusal_of};
 ghost use Rattle.haul_core.specs.declared.book.arrival.Arrival.{Arrival};
-ghost use Rattle.crew.specs.Crews.{Collected, HasAdded, HasMetAll};
+ghost use Rattle.crew.specs.Crews.{Collected, HasAdded, HasComeAll};
 
 use crate::note::Note;
 use crate::watch::Watch;
@@ -54,7 +54,7 @@ pub fn collect<R: Wait, H: Watch>(
 /// Offers a report. Whether there was memory to answer it.
 fn offer(haul: &mut Haul, report: Report) -> bool
     ensures added { (haul.new ≡ haul.old) ⊎ HasAdded (report ∷ []) haul.old haul.new }
-    ensures stands { result ≡ true → HasMetAll (report ∷ []) haul.old haul.new }
+    ensures stands { result ≡ true → HasComeAll (report ∷ []) haul.old haul.new }
     ensures kept { result ≡ false → haul.new ≡ haul.old }
     ensures lost { result ≡ false → (arrivals : List Arrival) → StandsFor arrivals haul.old
         → refusal_of haul.old.terms arrivals report ≡ None }

@@ -7,11 +7,11 @@ pub mod collector;
 pub mod gate;
 /// What a worker says to the collector.
 pub mod note;
-/// What workers get that are still to be started.
+/// What the workers that are still to be started get.
 mod posts;
 /// A worker's shift.
 mod shift;
-/// The workers, and the call that runs them.
-pub mod workers;
 /// Who hears how far a haul has come.
 pub mod watch;
+/// The workers, and the call that runs them.
+pub mod workers;

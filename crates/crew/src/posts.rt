@@ -6,7 +6,7 @@ use crate::note::Note;
 use handover::belt::SenderPass;
 use handover::tickets::Pass;
 
-/// What the workers get that are still to be started: a pass and a sender for each.
+/// What the workers that are still to be started get: a pass and a sender for each.
 #[derive(Drop)]
 pub(crate) struct Posts {
     pub(crate) passes: Vec<Pass>,

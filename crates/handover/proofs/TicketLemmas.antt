@@ -18,9 +18,9 @@ use Rattle.std.proofs.Common.{append_assoc, append-nil, length-append}
 use Rattle.std.specs.Prelude.{if◌then◌else◌}
 use Rattle.std.proofs.lemmas.Grind.{flat_map-append}
 use Rattle.handover.specs.Tickets.{Drawn, how_many_heard, drawn_by_all, once_below}
-use Rattle.handover.specs.TicketRule.{Draws, KnowsAtEnd, Fits, Gathers, IsLawful, Joining, both_hands, first_hand, hand_marked, hand_with, kept_part, new_part}
-use Rattle.handover.specs.TicketRule.{series_of, spent_hand}
-use Rattle.handover.specs.declared.tickets.Hand.{Hand}
+use Rattle.handover.specs.TicketRule.{Draws, KnowsAtEnd, Fits, Gathers, IsLawful, Joining, both_holdings, first_holding, holding_marked, holding_with, kept_part, new_part}
+use Rattle.handover.specs.TicketRule.{series_of, spent_holding}
+use Rattle.handover.specs.declared.tickets.Holding.{Holding}
 use Rattle.handover.specs.declared.tickets.Issue.{Issue}
 use Rattle.handover.proofs.SumLemmas.{each_push, each_set, sum_alone, sum_at, sum_below, sum_set}
 
@@ -69,11 +69,11 @@ all_below m (x ∷ xs) few =
 
 -- ---- the steps
 
-later : (issue : Issue) (word next : ℕ) (v : Hand) → word ≤ next → Fits issue word v → Fits issue next v
+later : (issue : Issue) (word next : ℕ) (v : Holding) → word ≤ next → Fits issue word v → Fits issue next v
 later issue word next v le f = record { marks = f.marks; drained = λ h. let d = f.drained h in omega arith; spent = f.spent }
 
 -- the word never wraps
-no_wrap : (issue : Issue) (s : State (Unit {0}) Hand) (h : IsLawful issue s) → (h.word + 1) % 2 ^ 64 ≡ h.word + 1
+no_wrap : (issue : Issue) (s : State (Unit {0}) Holding) (h : IsLawful issue s) → (h.word + 1) % 2 ^ 64 ≡ h.word + 1
 no_wrap issue s h =
     let few = h.few in
     let few_passes = h.few_passes in
@@ -82,7 +82,7 @@ no_wrap issue s h =
     let marks = sum_below (λ v. v.marks) (λ v. v.shares) s.views (λ j u e. (h.fits j u e).marks) in
     mod-eq_of_lt (omega arith)
 
-pub begins : (issue : Issue) → issue.count ≤ 2 ^ 24 → issue.passes ≤ 16 → IsLawful issue (opening (0 ∷ []) [] (first_hand issue))
+pub begins : (issue : Issue) → issue.count ≤ 2 ^ 24 → issue.passes ≤ 16 → IsLawful issue (opening (0 ∷ []) [] (first_holding issue))
 begins issue few few_passes = record {
   word = 0;
   words = refl;
@@ -94,23 +94,23 @@ begins issue few few_passes = record {
   past = omega arith;
 }
   where
-    one : (j : ℕ) (v : Hand) → get_elem? (first_hand issue ∷ []) j ≡ some v → Fits issue 0 v
+    one : (j : ℕ) (v : Holding) → get_elem? (first_holding issue ∷ []) j ≡ some v → Fits issue 0 v
     one zero v e = subst (Fits issue 0) (some-injective _ _ e) (record { marks = omega arith; drained = λ h. absurd (omega arith); spent = λ _. refl })
     one (suc j) v e = absurd (some-ne-none v (sym e))
 
 -- what a draw that finds the word n owes
-abbrev Moves : Issue → ℕ → ℕ → Me (Unit {0}) Hand → State (Unit {0}) Hand → ℕ → Type 0
+abbrev Moves : Issue → ℕ → ℕ → Me (Unit {0}) Holding → State (Unit {0}) Holding → ℕ → Type 0
 Moves issue slots id me s n =
-    (w : Hand) × (a : Act (Unit {0})) × Valid s.homes me.1 a × IsLawful issue (stepped s 0 ((n + 1) % 2 ^ 64) id me.1 w a)
+    (w : Holding) × (a : Act (Unit {0})) × Valid s.homes me.1 a × IsLawful issue (stepped s 0 ((n + 1) % 2 ^ 64) id me.1 w a)
     × Draws (step slots 0 1 0 none) me n (w, carried_after me.1 a)
 
-next_word : (issue : Issue) (s : State (Unit {0}) Hand) (h : IsLawful issue s) → set s.words 0 ((h.word + 1) % 2 ^ 64) ≡ (h.word + 1) ∷ []
+next_word : (issue : Issue) (s : State (Unit {0}) Holding) (h : IsLawful issue s) → set s.words 0 ((h.word + 1) % 2 ^ 64) ≡ (h.word + 1) ∷ []
 next_word issue s h = ap (λ (l : List ℕ). set l 0 ((h.word + 1) % 2 ^ 64)) h.words ∙ ap (λ (n : ℕ). n ∷ []) (no_wrap issue s h)
 
-has_number : (issue : Issue) (slots id : ℕ) (me : Me (Unit {0}) Hand) (s : State (Unit {0}) Hand) (h : IsLawful issue s)
+has_number : (issue : Issue) (slots id : ℕ) (me : Me (Unit {0}) Holding) (s : State (Unit {0}) Holding) (h : IsLawful issue s)
     → me.0.issue.count ≡ issue.count → get_elem? s.views id ≡ some me.0 → me.0.marks < me.0.shares → h.word < issue.count → Moves issue slots id me s h.word
 has_number issue slots id me s h same at room below =
-    let w : Hand = hand_with h.word me.0 in
+    let w : Holding = holding_with h.word me.0 in
     let mine = h.fits id me.0 at in
     let least : min h.word issue.count ≡ h.word = min-eq_left (omega arith) in
     let next : min (h.word + 1) issue.count ≡ h.word + 1 = min-eq_left (omega arith) in (
@@ -123,32 +123,32 @@ has_number issue slots id me s h same at room below =
         few = h.few;
         few_passes = h.few_passes;
         once = λ n.
-            let a = sum_set (λ (v : Hand). times n v.numbers) s.views id me.0 w at in
+            let a = sum_set (λ (v : Holding). times n v.numbers) s.views id me.0 w at in
             let b = times_push n me.0.numbers h.word in
-            let c : sum_by (λ (v : Hand). times n v.numbers) s.views ≡ once_below h.word n = h.once n ∙ ap (λ (m : ℕ). once_below m n) least in
+            let c : sum_by (λ (v : Holding). times n v.numbers) s.views ≡ once_below h.word n = h.once n ∙ ap (λ (m : ℕ). once_below m n) least in
             let d = once_next h.word n in
-            let e : sum_by (λ (v : Hand). times n v.numbers) (set s.views id w) ≡ once_below (h.word + 1) n = omega arith in
+            let e : sum_by (λ (v : Holding). times n v.numbers) (set s.views id w) ≡ once_below (h.word + 1) n = omega arith in
             e ∙ sym (ap (λ (m : ℕ). once_below m n) next);
-        shares = let a = sum_set (λ (v : Hand). v.shares) s.views id me.0 w at in let b = h.shares in omega arith;
+        shares = let a = sum_set (λ (v : Holding). v.shares) s.views id me.0 w at in let b = h.shares in omega arith;
         fits = each_set (Fits issue (h.word + 1)) s.views id w (λ j u _ e. later issue h.word (h.word + 1) u (omega arith) (h.fits j u e))
             (record { marks = mine.marks; drained = λ m. let d = mine.drained m in omega arith; spent = λ z. absurd (omega arith) });
-        past = let a = sum_set (λ (v : Hand). v.marks) s.views id me.0 w at in let b = h.past in omega arith;
+        past = let a = sum_set (λ (v : Holding). v.marks) s.views id me.0 w at in let b = h.past in omega arith;
       },
       record {
         number = λ _. refl;
         greater = λ _. all_below h.word me.0.numbers (λ n.
-            let a = sum_at (λ (v : Hand). times n v.numbers) s.views id me.0 at in
-            let c : sum_by (λ (v : Hand). times n v.numbers) s.views ≡ once_below h.word n = h.once n ∙ ap (λ (m : ℕ). once_below m n) least in
+            let a = sum_at (λ (v : Holding). times n v.numbers) s.views id me.0 at in
+            let c : sum_by (λ (v : Holding). times n v.numbers) s.views ≡ once_below h.word n = h.once n ∙ ap (λ (m : ℕ). once_below m n) least in
             omega arith);
         none = λ past. absurd (omega arith);
         slots = refl;
       },
     )
 
-has_none : (issue : Issue) (slots id : ℕ) (me : Me (Unit {0}) Hand) (s : State (Unit {0}) Hand) (h : IsLawful issue s)
+has_none : (issue : Issue) (slots id : ℕ) (me : Me (Unit {0}) Holding) (s : State (Unit {0}) Holding) (h : IsLawful issue s)
     → me.0.issue.count ≡ issue.count → get_elem? s.views id ≡ some me.0 → me.0.marks < me.0.shares → issue.count ≤ h.word → Moves issue slots id me s h.word
 has_none issue slots id me s h same at room past =
-    let w : Hand = hand_marked me.0 in
+    let w : Holding = holding_marked me.0 in
     let mine = h.fits id me.0 at in
     let least : min h.word issue.count ≡ issue.count = min-eq_right (omega arith) in
     let next : min (h.word + 1) issue.count ≡ issue.count = min-eq_right (omega arith) in (
@@ -161,19 +161,19 @@ has_none issue slots id me s h same at room past =
         few = h.few;
         few_passes = h.few_passes;
         once = λ n.
-            let a = sum_set (λ (v : Hand). times n v.numbers) s.views id me.0 w at in
+            let a = sum_set (λ (v : Holding). times n v.numbers) s.views id me.0 w at in
             let c = h.once n in
-            let e : sum_by (λ (v : Hand). times n v.numbers) (set s.views id w) ≡ once_below (min h.word issue.count) n = omega arith in
+            let e : sum_by (λ (v : Holding). times n v.numbers) (set s.views id w) ≡ once_below (min h.word issue.count) n = omega arith in
             e ∙ ap (λ (m : ℕ). once_below m n) (least ∙ sym next);
-        shares = let a = sum_set (λ (v : Hand). v.shares) s.views id me.0 w at in let b = h.shares in omega arith;
+        shares = let a = sum_set (λ (v : Holding). v.shares) s.views id me.0 w at in let b = h.shares in omega arith;
         fits = each_set (Fits issue (h.word + 1)) s.views id w (λ j u _ e. later issue h.word (h.word + 1) u (omega arith) (h.fits j u e))
             (record { marks = omega arith; drained = λ m. omega arith; spent = λ z. absurd (omega arith) });
-        past = let a = sum_set (λ (v : Hand). v.marks) s.views id me.0 w at in let b = h.past in omega arith;
+        past = let a = sum_set (λ (v : Holding). v.marks) s.views id me.0 w at in let b = h.past in omega arith;
       },
       record { number = λ below. absurd (omega arith); greater = λ below. absurd (omega arith); none = λ _. refl; slots = refl },
     )
 
-pub draws : (issue : Issue) (slots id : ℕ) (me : Me (Unit {0}) Hand) → me.0.issue.count ≡ issue.count → me.0.marks < me.0.shares
+pub draws : (issue : Issue) (slots id : ℕ) (me : Me (Unit {0}) Holding) → me.0.issue.count ≡ issue.count → me.0.marks < me.0.shares
     → Allows (IsLawful issue) slots id me 0 (λ n. (n + 1) % 2 ^ 64) (Draws (step slots 0 1 0 none) me)
 draws issue slots id me same room s h homes at small =
     let found : slice_index s.words 0 ≡ h.word = ap (λ (l : List ℕ). slice_index l 0) h.words in
@@ -183,25 +183,25 @@ draws issue slots id me same room s h homes at small =
       | no past ↦ has_none issue slots id me s h same at room (omega arith)
     ])
 
-pub cuts : (issue : Issue) (id : ℕ) (v : Hand) → 1 < v.shares → v.marks ≡ 0 → Splits (IsLawful issue) id v (kept_part v) (new_part v)
+pub cuts : (issue : Issue) (id : ℕ) (v : Holding) → 1 < v.shares → v.marks ≡ 0 → Splits (IsLawful issue) id v (kept_part v) (new_part v)
 cuts issue id v many unmarked s h at =
-    let l : Hand = kept_part v in
-    let r : Hand = new_part v in
+    let l : Holding = kept_part v in
+    let r : Holding = new_part v in
     let mine = h.fits id v at in
-    let vs : List Hand = set s.views id l in
+    let vs : List Holding = set s.views id l in
     record {
       word = h.word;
       words = h.words;
       few = h.few;
       few_passes = h.few_passes;
       once = λ n.
-          let a = sum_set (λ (u : Hand). times n u.numbers) s.views id v l at in
-          let b = sum_by_push (λ (u : Hand). times n u.numbers) vs r in
+          let a = sum_set (λ (u : Holding). times n u.numbers) s.views id v l at in
+          let b = sum_by_push (λ (u : Holding). times n u.numbers) vs r in
           let c = h.once n in
           omega arith;
       shares =
-          let a = sum_set (λ (u : Hand). u.shares) s.views id v l at in
-          let b = sum_by_push (λ (u : Hand). u.shares) vs r in
+          let a = sum_set (λ (u : Holding). u.shares) s.views id v l at in
+          let b = sum_by_push (λ (u : Holding). u.shares) vs r in
           let c = h.shares in
           omega arith;
       fits = each_push (Fits issue h.word) vs r
@@ -209,19 +209,19 @@ cuts issue id v many unmarked s h at =
           (record { marks = omega arith; drained = mine.drained; spent = λ z. absurd (omega arith) }))
           (record { marks = omega arith; drained = λ m. absurd (omega arith); spent = λ _. refl });
       past =
-          let a = sum_set (λ (u : Hand). u.marks) s.views id v l at in
-          let b = sum_by_push (λ (u : Hand). u.marks) vs r in
+          let a = sum_set (λ (u : Holding). u.marks) s.views id v l at in
+          let b = sum_by_push (λ (u : Holding). u.marks) vs r in
           let c = h.past in
           omega arith;
     }
 
-joined_spent : (v w : Hand) → v.numbers ≡ [] → w.numbers ≡ [] → (both_hands v w).numbers ≡ []
+joined_spent : (v w : Holding) → v.numbers ≡ [] → w.numbers ≡ [] → (both_holdings v w).numbers ≡ []
 joined_spent v w a b = ap (λ (l : List ℕ). l ++ v.numbers) b ∙ a
 
-pub joins : (issue : Issue) (id : ℕ) (v : Hand) (other : ℕ) (w : Hand) → Joins (IsLawful issue) id v other w (both_hands v w) spent_hand
+pub joins : (issue : Issue) (id : ℕ) (v : Holding) (other : ℕ) (w : Holding) → Joins (IsLawful issue) id v other w (both_holdings v w) spent_holding
 joins issue id v other w s h at apart there =
-    let b : Hand = both_hands v w in
-    let vs : List Hand = set s.views id b in
+    let b : Holding = both_holdings v w in
+    let vs : List Holding = set s.views id b in
     let mine = h.fits id v at in
     let theirs = h.fits other w (was other id b w s.views apart there) in
     record {
@@ -230,18 +230,18 @@ joins issue id v other w s h at apart there =
       few = h.few;
       few_passes = h.few_passes;
       once = λ n.
-          let f : Hand → ℕ = λ u. times n u.numbers in
-          let x = sum_set (λ (u : Hand). times n u.numbers) s.views id v b at in
-          let y = sum_set (λ (u : Hand). times n u.numbers) vs other w spent_hand there in
+          let f : Holding → ℕ = λ u. times n u.numbers in
+          let x = sum_set (λ (u : Holding). times n u.numbers) s.views id v b at in
+          let y = sum_set (λ (u : Holding). times n u.numbers) vs other w spent_holding there in
           let z = sum_by_append_times n w.numbers v.numbers in
           let c = h.once n in
           omega arith;
       shares =
-          let x = sum_set (λ (u : Hand). u.shares) s.views id v b at in
-          let y = sum_set (λ (u : Hand). u.shares) vs other w spent_hand there in
+          let x = sum_set (λ (u : Holding). u.shares) s.views id v b at in
+          let y = sum_set (λ (u : Holding). u.shares) vs other w spent_holding there in
           let c = h.shares in
           omega arith;
-      fits = each_set (Fits issue h.word) vs other spent_hand
+      fits = each_set (Fits issue h.word) vs other spent_holding
           (λ j u _ e. each_set (Fits issue h.word) s.views id b (λ i x _ d. h.fits i x d)
           (record {
             marks = let m = mine.marks in let k = theirs.marks in omega arith;
@@ -250,8 +250,8 @@ joins issue id v other w s h at apart there =
           }) j u e)
           (record { marks = omega arith; drained = λ m. absurd (omega arith); spent = λ _. refl });
       past =
-          let x = sum_set (λ (u : Hand). u.marks) s.views id v b at in
-          let y = sum_set (λ (u : Hand). u.marks) vs other w spent_hand there in
+          let x = sum_set (λ (u : Holding). u.marks) s.views id v b at in
+          let y = sum_set (λ (u : Holding). u.marks) vs other w spent_holding there in
           let c = h.past in
           omega arith;
     }
@@ -259,20 +259,20 @@ joins issue id v other w s h at apart there =
     sum_by_append_times : (n : ℕ) (xs ys : List ℕ) → times n (xs ++ ys) ≡ times n xs + times n ys
     sum_by_append_times n xs ys = sum_by-append (λ y. one_if n y) xs ys
 
-    was : (other id : ℕ) (b w : Hand) (views : List Hand) → ¬ (other ≡ id) → get_elem? (set views id b) other ≡ some w → get_elem? views other ≡ some w
+    was : (other id : ℕ) (b w : Holding) (views : List Holding) → ¬ (other ≡ id) → get_elem? (set views id b) other ≡ some w → get_elem? views other ≡ some w
     was other id b w views apart there = ⊎_elim (λ (x : (other ≡ id) × (b ≡ w)). absurd (apart x.0)) (λ (x : (other ≢ id) ×
         (get_elem? views other ≡ some w)). x.1) (at_set views id other b w there)
 
 -- what the last state tells the kept pass
-pub closes : (issue : Issue) (id : ℕ) (v : Hand) (s : State (Unit {0}) Hand) (word : ℕ) → IsLawful issue s → get_elem? s.views id ≡ some v
+pub closes : (issue : Issue) (id : ℕ) (v : Holding) (s : State (Unit {0}) Holding) (word : ℕ) → IsLawful issue s → get_elem? s.views id ≡ some v
     → get_elem? s.words 0 ≡ some word
     → KnowsAtEnd issue v (min word issue.count)
 closes issue id v s word h at is =
     let same : h.word ≡ word = some-injective h.word word (ap (λ (l : List ℕ). get_elem? l 0) (sym h.words) ∙ is) in
     subst (λ (n : ℕ). KnowsAtEnd issue v (min n issue.count)) same (record {
-      once = λ n. let a = sum_at (λ (u : Hand). times n u.numbers) s.views id v at in let b = h.once n in omega arith;
+      once = λ n. let a = sum_at (λ (u : Holding). times n u.numbers) s.views id v at in let b = h.once n in omega arith;
       all = λ all n.
-          sym (sum_alone (λ (u : Hand). times n u.numbers) (λ (u : Hand). u.shares) s.views id v at (h.shares ∙ sym all)
+          sym (sum_alone (λ (u : Holding). times n u.numbers) (λ (u : Holding). u.shares) s.views id v at (h.shares ∙ sym all)
           (λ j u e z. ap (λ (l : List ℕ). times n l) ((h.fits j u e).spent z)))
           ∙ h.once n;
       drained = λ m. min-eq_right ((h.fits id v at).drained m);
@@ -280,11 +280,11 @@ closes issue id v s word h at is =
 
 -- ---- passes joined one after another
 
-pub joining_none : (all : List Drawn) (before : Hand) → Joining all all before before
+pub joining_none : (all : List Drawn) (before : Holding) → Joining all all before before
 joining_none all before = record { issue = refl; shares = refl; marks = refl; numbers = refl }
 
-pub joining_more : (all left old : List Drawn) (p : Drawn) (before now w : Hand) → Joining all old before now → old ≡ left ++ p ∷ []
-    → w.shares ≡ 1 → w.marks ≡ (if p.heard_none then 1 else 0) → w.numbers ≡ p.numbers → Joining all left before (both_hands now w)
+pub joining_more : (all left old : List Drawn) (p : Drawn) (before now w : Holding) → Joining all old before now → old ≡ left ++ p ∷ []
+    → w.shares ≡ 1 → w.marks ≡ (if p.heard_none then 1 else 0) → w.numbers ≡ p.numbers → Joining all left before (both_holdings now w)
 joining_more all left old p before now w j is shares marks numbers = record {
   issue = j.issue;
   shares = let a = j.shares in let b : length old ≡ length left + 1 = ap length is ∙ length-append left (p ∷ []) in omega arith;
@@ -302,12 +302,12 @@ joining_more all left old p before now w j is shares marks numbers = record {
 }
 
 -- the last state of the word, as the kept pass sees it
-pub ended : (issue : Issue) (id : ℕ) (v : Hand) (words : List ℕ) (slots : List (Unit {0})) (word : ℕ) → Final (Seen (IsLawful issue) id v) words slots
+pub ended : (issue : Issue) (id : ℕ) (v : Holding) (words : List ℕ) (slots : List (Unit {0})) (word : ℕ) → Final (Seen (IsLawful issue) id v) words slots
     → get_elem? words 0 ≡ some word → KnowsAtEnd issue v (min word issue.count)
 ended issue id v words slots word f is = closes issue id v f.0 word f.1.0 f.1.1 (ap (λ (l : List ℕ). get_elem? l 0) f.2 ∙ is)
 
 -- what the last state tells of all passes that were handed back
-pub gathers : (issue : Issue) (name : TableId) (left : List Drawn) (first : Drawn) (before after : Hand) (m : ℕ) → before.shares ≡ 1
+pub gathers : (issue : Issue) (name : TableId) (left : List Drawn) (first : Drawn) (before after : Holding) (m : ℕ) → before.shares ≡ 1
     → before.marks ≡ cond {A = ℕ} first.heard_none 1 0 → before.numbers ≡ first.numbers → Joining left [] before after → KnowsAtEnd issue after m
     → Gathers (series_of name issue) (left ++ first ∷ []) m
 gathers issue name left first before after m shares marks numbers j ends =

@@ -6,75 +6,75 @@ use lib.ListN.{get_elem?}
 use Rattle.atomic_table.specs.Table.{Me, State, Step}
 use Rattle.atomic_table.specs.Seated.{TableId}
 use Rattle.handover.specs.Tickets.{AreAllBelow, AreSomeBelow, Drawn, Series, how_many_heard, drawn_by_all, once_below}
-use Rattle.handover.specs.declared.tickets.Hand.{Hand}
+use Rattle.handover.specs.declared.tickets.Holding.{Holding}
 use Rattle.handover.specs.declared.tickets.Issue.{Issue}
 
-abbrev pub hand : Issue → ℕ → ℕ → List ℕ → Hand
-hand issue shares marks numbers = record { issue = issue; shares = shares; marks = marks; numbers = numbers }
+abbrev pub holding : Issue → ℕ → ℕ → List ℕ → Holding
+holding issue shares marks numbers = record { issue = issue; shares = shares; marks = marks; numbers = numbers }
 
 -- the tickets of the word with this name
 abbrev pub series_of : TableId → Issue → Series
 series_of name issue = record { name = name; count = issue.count; passes = issue.passes }
 
 -- the first pass has all shares
-abbrev pub first_hand : Issue → Hand
-first_hand issue = hand issue issue.passes 0 []
+abbrev pub first_holding : Issue → Holding
+first_holding issue = holding issue issue.passes 0 []
 
 -- what is left to a pass that was joined to another
-abbrev pub spent_hand : Hand
-spent_hand = hand (record { count = 0; passes = 0 }) 0 0 []
+abbrev pub spent_holding : Holding
+spent_holding = holding (record { count = 0; passes = 0 }) 0 0 []
 
 -- a pass is cut in two: the new one has one share
-abbrev pub kept_part : Hand → Hand
-kept_part v = hand v.issue (v.shares - 1) v.marks v.numbers
+abbrev pub kept_part : Holding → Holding
+kept_part v = holding v.issue (v.shares - 1) v.marks v.numbers
 
-abbrev pub new_part : Hand → Hand
-new_part v = hand v.issue 1 0 []
+abbrev pub new_part : Holding → Holding
+new_part v = holding v.issue 1 0 []
 
 -- two passes joined
-abbrev pub both_hands : Hand → Hand → Hand
-both_hands v w = hand v.issue (v.shares + w.shares) (v.marks + w.marks) (w.numbers ++ v.numbers)
+abbrev pub both_holdings : Holding → Holding → Holding
+both_holdings v w = holding v.issue (v.shares + w.shares) (v.marks + w.marks) (w.numbers ++ v.numbers)
 
 -- a pass has no more marks than shares, a mark only once all numbers are drawn, and no number without a share
-pub record Fits (issue : Issue) (word : ℕ) (v : Hand) : Type 0 where
+pub record Fits (issue : Issue) (word : ℕ) (v : Holding) : Type 0 where
   pub marks : v.marks ≤ v.shares
   pub drained : 0 < v.marks → issue.count ≤ word
   pub spent : v.shares ≡ 0 → v.numbers ≡ []
 
 -- The numbers below the word, and below the count, stand in the passes, each once. The word is past the count by at most the marks
-pub record IsLawful (issue : Issue) (s : State (Unit {0}) Hand) : Type 0 where
+pub record IsLawful (issue : Issue) (s : State (Unit {0}) Holding) : Type 0 where
   pub word : ℕ
   pub words : s.words ≡ word ∷ []
   pub few : issue.count ≤ 2 ^ 24
   pub few_passes : issue.passes ≤ 16
   pub once : (n : ℕ) → sum_by (λ v. count_by (nat_eq n) v.numbers) s.views ≡ once_below (min word issue.count) n
   pub shares : sum_by (λ v. v.shares) s.views ≡ issue.passes
-  pub fits : (seat : ℕ) (v : Hand) → get_elem? s.views seat ≡ some v → Fits issue word v
+  pub fits : (seat : ℕ) (v : Holding) → get_elem? s.views seat ≡ some v → Fits issue word v
   pub past : word ≤ issue.count + sum_by (λ v. v.marks) s.views
 
 -- the pass with the number n, and with a mark
-abbrev pub hand_with : ℕ → Hand → Hand
-hand_with n v = hand v.issue v.shares v.marks (v.numbers ++ n ∷ [])
+abbrev pub holding_with : ℕ → Holding → Holding
+holding_with n v = holding v.issue v.shares v.marks (v.numbers ++ n ∷ [])
 
-abbrev pub hand_marked : Hand → Hand
-hand_marked v = hand v.issue v.shares (v.marks + 1) v.numbers
+abbrev pub holding_marked : Holding → Holding
+holding_marked v = holding v.issue v.shares (v.marks + 1) v.numbers
 
 -- what a draw that found n tells its pass
-pub record Draws (s : Step (Unit {0})) (me : Me (Unit {0}) Hand) (n : ℕ) (after : Me (Unit {0}) Hand) : Type 0 where
-  pub number : n < me.0.issue.count → after.0 ≡ hand_with n me.0
+pub record Draws (s : Step (Unit {0})) (me : Me (Unit {0}) Holding) (n : ℕ) (after : Me (Unit {0}) Holding) : Type 0 where
+  pub number : n < me.0.issue.count → after.0 ≡ holding_with n me.0
   pub greater : n < me.0.issue.count → All (λ m. m < n) me.0.numbers
-  pub none : me.0.issue.count ≤ n → after.0 ≡ hand_marked me.0
+  pub none : me.0.issue.count ≤ n → after.0 ≡ holding_marked me.0
   pub slots : after.1 ≡ me.1
 
 -- the kept pass, after these passes, popped off the list `all`, of which `left` are left, were joined to it
-pub record Joining (all left : List Drawn) (before after : Hand) : Type 0 where
+pub record Joining (all left : List Drawn) (before after : Holding) : Type 0 where
   pub issue : after.issue ≡ before.issue
   pub shares : after.shares + length left ≡ before.shares + length all
   pub marks : after.marks + how_many_heard left ≡ before.marks + how_many_heard all
   pub numbers : drawn_by_all left ++ after.numbers ≡ drawn_by_all all ++ before.numbers
 
 -- what the kept pass knows at the end, where m numbers were drawn
-pub record KnowsAtEnd (issue : Issue) (v : Hand) (m : ℕ) : Type 0 where
+pub record KnowsAtEnd (issue : Issue) (v : Holding) (m : ℕ) : Type 0 where
   pub once : (n : ℕ) → count_by (nat_eq n) v.numbers ≤ once_below m n
   pub all : v.shares ≡ issue.passes → (n : ℕ) → count_by (nat_eq n) v.numbers ≡ once_below m n
   pub drained : 0 < v.marks → m ≡ issue.count

@@ -17,7 +17,7 @@ ghost use Rattle.std.specs.Prelude.{[], length, true, vec_capacity, vec_len};
 ghost use Rattle.atomic_table.specs.Seated.{TableId};
 ghost use Rattle.handover.specs.Tickets.{AreAllBelow, AreSomeBelow, AreFew, fresh, how_many_heard, drawn_by_all};
 ghost use Rattle.handover.specs.Tickets.{with_none, with_drawn};
-ghost use Rattle.handover.specs.TicketRule.{Gathers, Joining, hand, series_of};
+ghost use Rattle.handover.specs.TicketRule.{Gathers, Joining, holding, series_of};
 ghost use Rattle.handover.specs.declared.tickets.TicketsError.TheVariants.{BadCount, BadPasses, Memory};
 
 use atomic_table::{Join, Play, Seat, Shared, Split, Table, TableRule};
@@ -62,7 +62,7 @@ struct Issue {
 }
 
 /// What a pass knows of its own draws. No value of it is made.
-struct Hand {
+struct Holding {
     issue: Issue,
     shares: u64,
     marks: u64,
@@ -71,17 +71,17 @@ struct Hand {
 
 struct Law;
 
-impl TableRule<(), Hand, Issue> for Law {
-    ghost use Rattle.handover.specs.TicketRule.{IsLawful, first_hand};
+impl TableRule<(), Holding, Issue> for Law {
+    ghost use Rattle.handover.specs.TicketRule.{IsLawful, first_holding};
 
     ghost holds = { IsLawful };
 
-    ghost first = { first_hand };
+    ghost first = { first_holding };
 }
 
 struct Draw;
 
-impl Play<(), Hand> for Draw {
+impl Play<(), Holding> for Draw {
     ghost use Rattle.handover.specs.TicketRule.{Draws};
 
     ghost then = { Draws };
@@ -89,7 +89,7 @@ impl Play<(), Hand> for Draw {
 
 struct HandOut;
 
-impl Split<Hand> for HandOut {
+impl Split<Holding> for HandOut {
     ghost use Rattle.handover.specs.TicketRule.{kept_part, new_part};
 
     ghost left = { kept_part };
@@ -99,18 +99,18 @@ impl Split<Hand> for HandOut {
 
 struct TakeIn;
 
-impl Join<Hand> for TakeIn {
-    ghost use Rattle.handover.specs.TicketRule.{both_hands, spent_hand};
+impl Join<Holding> for TakeIn {
+    ghost use Rattle.handover.specs.TicketRule.{both_holdings, spent_holding};
 
-    ghost both = { both_hands };
+    ghost both = { both_holdings };
 
-    ghost spent = { spent_hand };
+    ghost spent = { spent_holding };
 }
 
 /// The numbers from 0 to below a count, of which threads draw the next one with a [`Pass`] each.
 #[derive(Drop)]
 pub struct Tickets {
-    table: Table<(), Hand, Issue, Law, Global>,
+    table: Table<(), Holding, Issue, Law, Global>,
     count: u64,
 }
 
@@ -130,7 +130,7 @@ impl Model for Tickets {
 /// What a thread draws with. Contracts see the numbers that it drew, in order, and whether it heard that none is left.
 #[derive(Drop)]
 pub struct Pass {
-    seat: Seat<(), Hand>,
+    seat: Seat<(), Holding>,
     heard_none: bool,
 }
 
@@ -257,13 +257,13 @@ fn gather_with(tickets: Tickets, first: Pass, passes: Vec<Pass>) -> u64
 /// Cuts a seat with some shares into as many passes. There is room for them.
 #[tactic(auto, using(crate::proofs::TicketLemmas::cuts))]
 fn cut_up(
-    shared: &Shared<(), Hand, Issue, Law>,
-    mut seat: Seat<(), Hand>,
+    shared: &Shared<(), Holding, Issue, Law>,
+    mut seat: Seat<(), Holding>,
     passes: u64,
     made: &mut Vec<Pass>,
 )
     requires seat { (seat.table_id ≡ shared.now.table_id) × (0 < shared.now.table_id.words) }
-    requires hand { seat.me ≡ (hand shared.now.key passes 0 [], []) }
+    requires holding { seat.me ≡ (holding shared.now.key passes 0 [], []) }
     requires some { 0 < passes }
     requires room { (made.old.items ≡ []) × (passes ≤ vec_capacity made.old) }
     ensures many { vec_len made.new ≡ passes }
@@ -286,7 +286,11 @@ fn cut_up(
 
 /// Joins the passes to the seat.
 #[tactic(auto, using(crate::proofs::TicketLemmas::joins, crate::proofs::TicketLemmas::joining_none, crate::proofs::TicketLemmas::joining_more))]
-fn join_all(shared: &Shared<(), Hand, Issue, Law>, seat: &mut Seat<(), Hand>, mut passes: Vec<Pass>)
+fn join_all(
+    shared: &Shared<(), Holding, Issue, Law>,
+    seat: &mut Seat<(), Holding>,
+    mut passes: Vec<Pass>,
+)
     requires seat { (seat.old.table_id ≡ shared.now.table_id) × (0 < shared.now.table_id.words) }
     requires passes { All (λ p. p.series.name ≡ shared.now.table_id) passes.items }
     ensures seat { (seat.new.table_id ≡ seat.old.table_id) × (seat.new.id ≡ seat.old.id) }

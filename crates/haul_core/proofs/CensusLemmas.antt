@@ -21,14 +21,14 @@ use Rattle.haul_core.specs.declared.book.census_rows.Row.{Row}
 use Rattle.haul_core.specs.declared.book.scores.Score.{Score}
 use Rattle.haul_core.specs.RowSteps.{AreRowsFrom, row_from, with_objects}
 use Rattle.haul_core.specs.Rows.{AreInOrder, codes_of}
-use Rattle.haul_core.specs.Scores.{row_of}
+use Rattle.haul_core.specs.Scores.{found_score}
 use Rattle.haul_core.proofs.ScoreLemmas.{code_apart, code_itself, code_same, is_code-same, lookup_append, lookup_none, or_none}
 
 -- ---- the scores with objects, one after another
 
 -- a code stands once among the rows
 pub row_before : (rows : List (List ℕ × Score)) (i : ℕ) (d : List ℕ × Score) → IsDistinct (pointwise nat_eq) (keys_of rows) → i < length rows
-    → row_of (take i rows) (get_or rows i d).0 ≡ None
+    → found_score (take i rows) (get_or rows i d).0 ≡ None
 row_before rows i d distinct low =
     lookup_none (pointwise nat_eq (get_or rows i d).0) (take i rows) (λ k e lower.
     let long : k < i = omega (arith, length-take-le i rows (omega arith)) in
@@ -54,30 +54,30 @@ with_none score h = ap (λ (b : Bool). cond b (Some score) None) (le-ltb 0 score
 
 pub kept_more : (rows : List (List ℕ × Score)) (kept newer : List (List ℕ × Score)) (i : ℕ) (d : List ℕ × Score)
     → IsDistinct (pointwise nat_eq) (keys_of rows) → i < length rows
-    → ((code : List ℕ) → lookup (is_code code) kept ≡ with_objects (row_of (take i rows) code))
+    → ((code : List ℕ) → lookup (is_code code) kept ≡ with_objects (found_score (take i rows) code))
     → ((code : List ℕ) → lookup (is_code code) newer ≡ cond (is_code (get_or rows i d).0 code) (with_objects (Some (get_or rows i d).1)) (lookup (is_code code) kept))
-    → (code : List ℕ) → lookup (is_code code) newer ≡ with_objects (row_of (take (i + 1) rows) code)
+    → (code : List ℕ) → lookup (is_code code) newer ≡ with_objects (found_score (take (i + 1) rows) code)
 kept_more rows kept newer i d distinct low before new code = go (cases_Bool (is_code e.0 code))
   where
     e : List ℕ × Score
     e = get_or rows i d
 
-    found : (code : List ℕ) → row_of (take (i + 1) rows) code ≡ option_or (row_of (take i rows) code) (cond (pointwise nat_eq code e.0) (Some e.1) None)
-    found code = ap (λ (rs : List (List ℕ × Score)). row_of rs code) (take_more rows i d low) ∙ lookup_append (pointwise nat_eq code) (take i rows) (e ∷ [])
+    found : (code : List ℕ) → found_score (take (i + 1) rows) code ≡ option_or (found_score (take i rows) code) (cond (pointwise nat_eq code e.0) (Some e.1) None)
+    found code = ap (λ (rs : List (List ℕ × Score)). found_score rs code) (take_more rows i d low) ∙ lookup_append (pointwise nat_eq code) (take i rows) (e ∷ [])
 
-    go : (is_code e.0 code ≡ true) ⊎ (is_code e.0 code ≡ false) → lookup (is_code code) newer ≡ with_objects (row_of (take (i + 1) rows) code)
+    go : (is_code e.0 code ≡ true) ⊎ (is_code e.0 code ≡ false) → lookup (is_code code) newer ≡ with_objects (found_score (take (i + 1) rows) code)
     go (inl same) =
         let is : e.0 ≡ code = code_same e.0 code (sym (is_code-same e.0 code) ∙ same) in
-        let hit : row_of (take (i + 1) rows) code ≡ Some e.1 =
+        let hit : found_score (take (i + 1) rows) code ≡ Some e.1 =
         found code ∙ ap (λ (o : Option Score). option_or o (cond (pointwise nat_eq code e.0) (Some e.1) None))
-        (subst (λ (c : List ℕ). row_of (take i rows) c ≡ None) is (row_before rows i d distinct low))
+        (subst (λ (c : List ℕ). found_score (take i rows) c ≡ None) is (row_before rows i d distinct low))
         ∙ ap (λ (b : Bool). cond b (Some e.1) None) (subst (λ (c : List ℕ). pointwise nat_eq c e.0 ≡ true) is (code_itself e.0)) in
         new code ∙ ap (λ (b : Bool). cond b (with_objects (Some e.1)) (lookup (is_code code) kept)) same ∙ ap with_objects (sym hit)
     go (inr other) =
         let apart : pointwise nat_eq code e.0 ≡ false = code_apart code e.0 (λ is. false≢true (sym other
         ∙ subst (λ (c : List ℕ). is_code e.0 c ≡ true) (sym is) ((eq_by_cmp_equiv nat_list_cmp_total).refl e.0))) in
-        let miss : row_of (take (i + 1) rows) code ≡ row_of (take i rows) code =
-        found code ∙ ap (λ (b : Bool). option_or (row_of (take i rows) code) (cond b (Some e.1) None)) apart ∙ or_none (row_of (take i rows) code) in
+        let miss : found_score (take (i + 1) rows) code ≡ found_score (take i rows) code =
+        found code ∙ ap (λ (b : Bool). option_or (found_score (take i rows) code) (cond b (Some e.1) None)) apart ∙ or_none (found_score (take i rows) code) in
         new code ∙ ap (λ (b : Bool). cond b (with_objects (Some e.1)) (lookup (is_code code) kept)) other ∙ before code ∙ ap with_objects (sym miss)
 
 -- a score with an object goes into the map
@@ -85,8 +85,8 @@ pub kept_inserted : (rows kept newer : List (List ℕ × Score)) (i : ℕ) (code
     → IsDistinct (pointwise nat_eq) (keys_of rows) → i < length rows
     → slice_get rows i ≡ Some (code, score) → 0 < score.total → put ≡ score
     → ((q : List ℕ) → lookup (is_code q) newer ≡ cond (is_code code q) (Some put) (lookup (is_code q) kept))
-    → ((q : List ℕ) → lookup (is_code q) kept ≡ with_objects (row_of (take i rows) q))
-    → (q : List ℕ) → lookup (is_code q) newer ≡ with_objects (row_of (take (i + 1) rows) q)
+    → ((q : List ℕ) → lookup (is_code q) kept ≡ with_objects (found_score (take i rows) q))
+    → (q : List ℕ) → lookup (is_code q) newer ≡ with_objects (found_score (take (i + 1) rows) q)
 kept_inserted rows kept newer i code score put distinct low at some same new before =
     let e : get_or rows i (code, score) ≡ (code, score) = got rows i (code, score) (code, score) at in
     kept_more rows kept newer i (code, score) distinct low before
@@ -97,21 +97,21 @@ kept_inserted rows kept newer i code score put distinct low at some same new bef
 -- one without is left out
 pub kept_skipped : (rows kept : List (List ℕ × Score)) (i : ℕ) (code : List ℕ) (score : Score) → IsDistinct (pointwise nat_eq) (keys_of rows)
     → i < length rows
-    → slice_get rows i ≡ Some (code, score) → score.total ≤ 0 → ((q : List ℕ) → lookup (is_code q) kept ≡ with_objects (row_of (take i rows) q))
-    → (q : List ℕ) → lookup (is_code q) kept ≡ with_objects (row_of (take (i + 1) rows) q)
+    → slice_get rows i ≡ Some (code, score) → score.total ≤ 0 → ((q : List ℕ) → lookup (is_code q) kept ≡ with_objects (found_score (take i rows) q))
+    → (q : List ℕ) → lookup (is_code q) kept ≡ with_objects (found_score (take (i + 1) rows) q)
 kept_skipped rows kept i code score distinct low at none before =
     let e : get_or rows i (code, score) ≡ (code, score) = got rows i (code, score) (code, score) at in
-    let absent : row_of (take i rows) code ≡ None =
-    subst (λ (o : List ℕ × Score). row_of (take i rows) o.0 ≡ None) e (row_before rows i (code, score) distinct low) in
+    let absent : found_score (take i rows) code ≡ None =
+    subst (λ (o : List ℕ × Score). found_score (take i rows) o.0 ≡ None) e (row_before rows i (code, score) distinct low) in
     kept_more rows kept kept i (code, score) distinct low before
     (subst (λ (o : List ℕ × Score). (q : List ℕ) → lookup (is_code q) kept ≡ cond (is_code o.0 q) (with_objects (Some o.1)) (lookup (is_code q) kept)) (sym e)
     (λ q. go q (cases_Bool (is_code code q)) absent))
   where
-    go : (q : List ℕ) → (is_code code q ≡ true) ⊎ (is_code code q ≡ false) → row_of (take i rows) code ≡ None
+    go : (q : List ℕ) → (is_code code q ≡ true) ⊎ (is_code code q ≡ false) → found_score (take i rows) code ≡ None
         → lookup (is_code q) kept ≡ cond (is_code code q) (with_objects (Some score)) (lookup (is_code q) kept)
     go q (inl same) absent =
         let is : code ≡ q = code_same code q (sym (is_code-same code q) ∙ same) in
-        before q ∙ ap with_objects (subst (λ (c : List ℕ). row_of (take i rows) c ≡ None) is absent) ∙ sym (with_none score none)
+        before q ∙ ap with_objects (subst (λ (c : List ℕ). found_score (take i rows) c ≡ None) is absent) ∙ sym (with_none score none)
         ∙ sym (ap (λ (b : Bool). cond b (with_objects (Some score)) (lookup (is_code q) kept)) same)
     go q (inr other) absent = sym (ap (λ (b : Bool). cond b (with_objects (Some score)) (lookup (is_code q) kept)) other)
 
@@ -126,12 +126,12 @@ pub in_order_from : (kept : BTreeMap (List ℕ) Score) (rows : List Row) → IsO
 in_order_from kept rows ordered is = subst (IsStrictlySortedBy (slice_cmp nat_cmp)) (sym (ap codes_of is ∙ codes_from kept.entries)) ordered
 
 pub rows_from : (scores : List (List ℕ × Score)) (kept : BTreeMap (List ℕ) Score) (rows : List Row) → IsOrdered (slice_cmp nat_cmp) kept
-    → rows ≡ map (λ entry. row_from entry.0 entry.1) kept.entries → ((q : List ℕ) → lookup (is_code q) kept.entries ≡ with_objects (row_of scores q))
+    → rows ≡ map (λ entry. row_from entry.0 entry.1) kept.entries → ((q : List ℕ) → lookup (is_code q) kept.entries ≡ with_objects (found_score scores q))
     → AreRowsFrom scores rows
 rows_from scores kept rows ordered is found = record {
   in_order = in_order_from kept rows ordered is;
-  each = subst (All (λ row. with_objects (row_of scores row.code) ≡ Some (record { total = row.total; samples = row.samples }))) (sym is)
-      (All-map (λ row. with_objects (row_of scores row.code) ≡ Some (record {
+  each = subst (All (λ row. with_objects (found_score scores row.code) ≡ Some (record { total = row.total; samples = row.samples }))) (sym is)
+      (All-map (λ row. with_objects (found_score scores row.code) ≡ Some (record {
         total = row.total;
         samples =
             row.samples;

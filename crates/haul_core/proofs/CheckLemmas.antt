@@ -16,7 +16,7 @@ use Rattle.survey_core.specs.declared.finding.Finding.{Finding}
 use Rattle.survey_core.specs.declared.job.Job.{Job}
 use Rattle.haul_core.specs.ClaimChecks.{Agrees, HaveShape, IsConfirmed, IsFoundFor}
 use Rattle.survey_core.specs.Jobs.{same_job}
-use Rattle.haul_core.specs.ReportLines.{Claimed, IsClaim, IsCount, IsFound, claim_of, told_in}
+use Rattle.haul_core.specs.ReportLines.{Claimed, IsClaim, IsCount, IsFound, claim_of, said_of}
 use Rattle.haul_core.specs.Reports.{IsReport, Reported}
 use Rattle.survey_core.proofs.JobLemmas.{jobs_decide}
 
@@ -62,7 +62,7 @@ one_report determined claim wanted made report m k =
 pub agrees_if_confirmed : FindingsAreDetermined → (claim : Claimed) (wanted : Job) (made report : Reported) → IsMade claim wanted made
     → IsConfirmed claim wanted report → Agrees claim made.finding
 agrees_if_confirmed determined claim wanted made report m k =
-    ap (λ (r : Reported). told_in claim.version r.finding) (one_report determined claim wanted made report m k) ∙ ap (λ (c : Claimed). c.found) k.says
+    ap (λ (r : Reported). said_of claim.version r.finding) (one_report determined claim wanted made report m k) ∙ ap (λ (c : Claimed). c.found) k.says
 
 -- ---- the claim of a report
 
@@ -74,7 +74,7 @@ counts_of (o ∷ objects) shape some few =
     (record { code = shape.0; some = some.0; word = omega arith }, counts_of objects shape.1 some.1 (omega arith))
 
 found_lawful : (report : Reported) → IsReport report → IsProfile report.job.profile → (finding : Finding) → finding ≡ report.finding → HaveShape finding
-    → IsFinding report.job.rule report.job.profile (soup report.job.seed report.number) finding → objects_in finding < 2 ^ 64 → IsFound 2 (told_in 2 finding)
+    → IsFinding report.job.rule report.job.profile (soup report.job.seed report.number) finding → objects_in finding < 2 ^ 64 → IsFound 2 (said_of 2 finding)
 found_lawful report h profile Unsettled e shape found few = tt
 found_lawful report h profile (Settled checkpoint objects for_good) e shape found few =
     let within = found.0.within in

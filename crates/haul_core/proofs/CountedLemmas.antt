@@ -5,10 +5,10 @@ use Rattle.std.proofs.lemmas.Fmt.{decimal_injective}
 use Rattle.std.proofs.lemmas.List.{map-append}
 use Rattle.std.proofs.lemmas.List.Elements.{All-push, recursion_from_All}
 use Rattle.std.specs.List.{AllByRecursion}
-use Rattle.haul_core.specs.ClaimSteps.{FollowsFields, HasCounts, HasReadStart, MayFollow, claimed, head_of, last_code, told_of}
+use Rattle.haul_core.specs.ClaimSteps.{FollowsFields, HasCounts, HasReadStart, MayFollow, claimed, head_of, last_code, said_with}
 use Rattle.haul_core.specs.Claims.{BeginClaim, IsClaimLine, IsFirstFaultOf, fields_of}
 use Rattle.haul_core.specs.FieldSteps.{Cuts}
-use Rattle.haul_core.specs.ReportLines.{IsCount, IsFound, IsMark, Told, claim_line, count_field, found_fields, head_fields, mark_fields}
+use Rattle.haul_core.specs.ReportLines.{IsCount, IsFound, IsMark, SaidOfSoup, claim_line, count_field, found_fields, head_fields, mark_fields}
 use Rattle.haul_core.specs.declared.report.claim.read_start.LineStart.{LineStart}
 use Rattle.haul_core.specs.declared.report.claim.read_start.WhenSettled.{WhenSettled}
 use Rattle.haul_core.proofs.FaultyLines.{bad_at, follows_more}
@@ -19,15 +19,15 @@ use Rattle.haul_core.proofs.StateLemmas.{at_other, cut_head, same_version}
 abbrev Counts : Type 0
 Counts = List (List ℕ × ℕ)
 
-pub counted_first : (line : List ℕ) (front : LineStart) (rest : Option (List ℕ)) → HasReadStart line front rest → HasCounts line front [] None rest
-counted_first line front rest h = record { lawful = h.lawful; follows = h.follows; settled = h.settled; latest = refl }
+pub counted_first : (line : List ℕ) (start : LineStart) (rest : Option (List ℕ)) → HasReadStart line start rest → HasCounts line start [] None rest
+counted_first line start rest h = record { lawful = h.lawful; follows = h.follows; settled = h.settled; latest = refl }
 
 -- ---- a count more
 
-found_more : (version : ℕ) (settled : Option WhenSettled) (counts : Counts) (object : List ℕ × ℕ) → settled ≢ None → IsFound version (told_of settled counts)
-    → MayFollow (last_code counts) object → IsFound version (told_of settled (counts ++ object ∷ []))
+found_more : (version : ℕ) (settled : Option WhenSettled) (counts : Counts) (object : List ℕ × ℕ) → settled ≢ None → IsFound version (said_with settled counts)
+    → MayFollow (last_code counts) object → IsFound version (said_with settled (counts ++ object ∷ []))
 found_more version None counts object n h k = absurd (n refl)
-found_more version (Some rested) counts object n h k =
+found_more version (Some at_rest) counts object n h k =
     record {
       checkpoint = h.checkpoint;
       mark = h.mark;
@@ -36,24 +36,24 @@ found_more version (Some rested) counts object n h k =
     }
 
 fields_more : (settled : Option WhenSettled) (counts : Counts) (object : List ℕ × ℕ) → settled ≢ None
-    → found_fields (told_of settled (counts ++ object ∷ [])) ≡ found_fields (told_of settled counts) ++ count_field object ∷ []
+    → found_fields (said_with settled (counts ++ object ∷ [])) ≡ found_fields (said_with settled counts) ++ count_field object ∷ []
 unfolding found_fields
 fields_more None counts object n = absurd (n refl)
-fields_more (Some rested) counts object n =
-    ap (λ (t : List (List ℕ)). (codes "at=" ++ decimal rested.checkpoint) ∷ (mark_fields rested.for_good ++ t)) (map-append count_field counts (object ∷ []))
-    ∙ ap (λ (t : List (List ℕ)). (codes "at=" ++ decimal rested.checkpoint) ∷ t)
-    (sym (append_assoc (mark_fields rested.for_good) (map count_field counts) (count_field object ∷ [])))
+fields_more (Some at_rest) counts object n =
+    ap (λ (t : List (List ℕ)). (codes "at=" ++ decimal at_rest.checkpoint) ∷ (mark_fields at_rest.for_good ++ t)) (map-append count_field counts (object ∷ []))
+    ∙ ap (λ (t : List (List ℕ)). (codes "at=" ++ decimal at_rest.checkpoint) ∷ t)
+    (sym (append_assoc (mark_fields at_rest.for_good) (map count_field counts) (count_field object ∷ [])))
 
-all_fields_more : (front : LineStart) (counts : Counts) (object : List ℕ × ℕ) → front.settled ≢ None
-    → fields_of (claimed front (counts ++ object ∷ [])) ≡ fields_of (claimed front counts) ++ count_field object ∷ []
+all_fields_more : (start : LineStart) (counts : Counts) (object : List ℕ × ℕ) → start.settled ≢ None
+    → fields_of (claimed start (counts ++ object ∷ [])) ≡ fields_of (claimed start counts) ++ count_field object ∷ []
 unfolding head_fields
-all_fields_more front counts object n =
-    ap (λ (t : List (List ℕ)). head_of (claimed front counts) ++ t) (fields_more front.settled counts object n)
+all_fields_more start counts object n =
+    ap (λ (t : List (List ℕ)). head_of (claimed start counts) ++ t) (fields_more start.settled counts object n)
 
-pub counted_more : (line : List ℕ) (front : LineStart) (counts : Counts) (last : Option (List ℕ)) (here field : List ℕ) (more : Option (List ℕ))
-    → (object : List ℕ × ℕ) → HasCounts line front counts last (Some here) → Cuts 32 here field more → MayFollow last object → field ≡ count_field object
-    → HasCounts line front (counts ++ object ∷ []) (Some object.0) more
-counted_more line front counts last here field more object h c k e =
+pub counted_more : (line : List ℕ) (start : LineStart) (counts : Counts) (last : Option (List ℕ)) (here field : List ℕ) (more : Option (List ℕ))
+    → (object : List ℕ × ℕ) → HasCounts line start counts last (Some here) → Cuts 32 here field more → MayFollow last object → field ≡ count_field object
+    → HasCounts line start (counts ++ object ∷ []) (Some object.0) more
+counted_more line start counts last here field more object h c k e =
     let n = h.settled here refl in
     let after : MayFollow (last_code counts) object = subst (λ (l : Option (List ℕ)). MayFollow l object) h.latest k in
     let own = h.lawful in
@@ -65,11 +65,11 @@ counted_more line front counts last here field more object h c k e =
         seed = own.seed;
         worker = own.worker;
         number = own.number;
-        found = found_more front.version front.settled counts object n own.found after;
+        found = found_more start.version start.settled counts object n own.found after;
       };
-      follows = subst (λ (fields : List (List ℕ)). FollowsFields line fields more) (sym (all_fields_more front counts object n))
-          (subst (λ (t : List ℕ). FollowsFields line (fields_of (claimed front counts) ++ t ∷ []) more) e
-          (follows_more line (fields_of (claimed front counts)) here field more h.follows c));
+      follows = subst (λ (fields : List (List ℕ)). FollowsFields line fields more) (sym (all_fields_more start counts object n))
+          (subst (λ (t : List ℕ). FollowsFields line (fields_of (claimed start counts) ++ t ∷ []) more) e
+          (follows_more line (fields_of (claimed start counts)) here field more h.follows c));
       settled = λ there f. n;
       latest = sym (last_code-push counts object);
     }
@@ -107,52 +107,52 @@ same_marks version None (Some b) x y z h k e = absurd (omega arith)
 same_marks version (Some a) None x y z h k e = absurd (omega arith)
 same_marks version (Some a) (Some b) x y z h k e = cc
 
-abbrev told_with : WhenSettled → Counts → Told
-told_with rested counts = record { checkpoint = rested.checkpoint; for_good = rested.for_good; counts = counts }
+abbrev said_when : WhenSettled → Counts → SaidOfSoup
+said_when at_rest counts = record { checkpoint = at_rest.checkpoint; for_good = at_rest.for_good; counts = counts }
 
 each_count : (counts : Counts) (object : List ℕ × ℕ) (more : Counts) → AllByRecursion IsCount (counts ++ object ∷ more) → IsCount object
 each_count [] object more h = h.0
 each_count (a ∷ counts) object more h = each_count counts object more h.1
 
-may_follow : (version : ℕ) (found : Option Told) (rested : WhenSettled) (counts : Counts) (field : List ℕ) (rest : List (List ℕ)) → IsFound version found
-    → IsFound version (Some (told_with rested counts)) → found_fields found ≡ found_fields (Some (told_with rested counts)) ++ field ∷ rest
+may_follow : (version : ℕ) (found : Option SaidOfSoup) (at_rest : WhenSettled) (counts : Counts) (field : List ℕ) (rest : List (List ℕ)) → IsFound version found
+    → IsFound version (Some (said_when at_rest counts)) → found_fields found ≡ found_fields (Some (said_when at_rest counts)) ++ field ∷ rest
     → (object : List ℕ × ℕ) × (MayFollow (last_code counts) object × (field ≡ count_field object))
 unfolding found_fields
-may_follow version None rested counts field rest h k e =
-    absurd (at_other rested.checkpoint (sym (let f : codes "unsettled" ≡ codes "at=" ++ decimal rested.checkpoint = cc in f)))
-may_follow version (Some told) rested counts field rest h k e =
-    let f : mark_fields told.for_good ++ map count_field told.counts ≡ (mark_fields rested.for_good ++ map count_field counts) ++ field ∷ rest = cc in
-    let g = same_marks version told.for_good rested.for_good (map count_field told.counts) (map count_field counts) (field ∷ rest) h.mark k.mark f in
+may_follow version None at_rest counts field rest h k e =
+    absurd (at_other at_rest.checkpoint (sym (let f : codes "unsettled" ≡ codes "at=" ++ decimal at_rest.checkpoint = cc in f)))
+may_follow version (Some told) at_rest counts field rest h k e =
+    let f : mark_fields told.for_good ++ map count_field told.counts ≡ (mark_fields at_rest.for_good ++ map count_field counts) ++ field ∷ rest = cc in
+    let g = same_marks version told.for_good at_rest.for_good (map count_field told.counts) (map count_field counts) (field ∷ rest) h.mark k.mark f in
     let all = recursion_from_All IsCount told.counts h.counts in
     let n = next_count counts told.counts field rest (recursion_from_All IsCount counts k.counts) all g in
     let lawful = each_count counts n.object n.more (subst (AllByRecursion IsCount) n.whole all) in
     (n.object, ((lawful, seam counts n.object n.more (subst AreOrdered n.whole h.in_order)), n.spelled))
 
-state_follows : (version : ℕ) (found : Option Told) (settled : Option WhenSettled) (counts : Counts) (field : List ℕ) (rest : List (List ℕ)) → settled ≢ None
-    → IsFound version found → IsFound version (told_of settled counts) → found_fields found ≡ found_fields (told_of settled counts) ++ field ∷ rest
+state_follows : (version : ℕ) (found : Option SaidOfSoup) (settled : Option WhenSettled) (counts : Counts) (field : List ℕ) (rest : List (List ℕ)) → settled ≢ None
+    → IsFound version found → IsFound version (said_with settled counts) → found_fields found ≡ found_fields (said_with settled counts) ++ field ∷ rest
     → (object : List ℕ × ℕ) × (MayFollow (last_code counts) object × (field ≡ count_field object))
 state_follows version found None counts field rest n h k e = absurd (n refl)
-state_follows version found (Some rested) counts field rest n h k e = may_follow version found rested counts field rest h k e
+state_follows version found (Some at_rest) counts field rest n h k e = may_follow version found at_rest counts field rest h k e
 
-pub counted_bad : (line : List ℕ) (front : LineStart) (counts : Counts) (last : Option (List ℕ)) (here field : List ℕ) (more : Option (List ℕ))
-    → HasCounts line front counts last (Some here) → Cuts 32 here field more
+pub counted_bad : (line : List ℕ) (start : LineStart) (counts : Counts) (last : Option (List ℕ)) (here field : List ℕ) (more : Option (List ℕ))
+    → HasCounts line start counts last (Some here) → Cuts 32 here field more
     → ((object : List ℕ × ℕ) → MayFollow last object → field ≢ count_field object) → IsFirstFaultOf line (length line - length here)
-counted_bad line front counts last here field more h c none =
-    let own = claimed front counts in
+counted_bad line start counts last here field more h c none =
+    let own = claimed start counts in
     let begin : BeginClaim (fields_of own) = record { claim = own; lawful = h.lawful; more = []; spelled = sym (append-nil (fields_of own)) } in
     bad_at line (fields_of own) here field more h.follows c begin (λ claim lawful rest e.
     let k = cut_head claim own (found_fields own.found ++ field ∷ rest) (e ∙ append_assoc (head_of own) (found_fields own.found) (field ∷ rest)) in
     let v = same_version claim own lawful h.lawful k.0 in
-    let s = state_follows front.version claim.found front.settled counts field rest (h.settled here refl)
+    let s = state_follows start.version claim.found start.settled counts field rest (h.settled here refl)
     (subst (λ (n : ℕ). IsFound n claim.found) v lawful.found) h.lawful.found k.1 in
     none s.0 (subst (λ (l : Option (List ℕ)). MayFollow l s.0) (sym h.latest) s.1.0) s.1.1)
 
 -- ---- the end
 
-pub counted_end : (line : List ℕ) (front : LineStart) (counts : Counts) (last : Option (List ℕ)) → HasCounts line front counts last None
-    → claim_line (claimed front counts) ≡ line
+pub counted_end : (line : List ℕ) (start : LineStart) (counts : Counts) (last : Option (List ℕ)) → HasCounts line start counts last None
+    → claim_line (claimed start counts) ≡ line
 unfolding claim_line
-counted_end line front counts last h = sym h.follows
+counted_end line start counts last h = sym h.follows
 
-pub counted_claim : (line : List ℕ) (front : LineStart) (counts : Counts) (last : Option (List ℕ)) → HasCounts line front counts last None → IsClaimLine line
-counted_claim line front counts last h = record { claim = claimed front counts; lawful = h.lawful; spelled = counted_end line front counts last h }
+pub counted_claim : (line : List ℕ) (start : LineStart) (counts : Counts) (last : Option (List ℕ)) → HasCounts line start counts last None → IsClaimLine line
+counted_claim line start counts last h = record { claim = claimed start counts; lawful = h.lawful; spelled = counted_end line start counts last h }

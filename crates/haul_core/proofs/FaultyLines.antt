@@ -10,7 +10,7 @@ use Rattle.haul_core.specs.Claims.{BeginClaim, IsFirstFaultOf, fields_of, follow
 use Rattle.haul_core.specs.FieldSteps.{Cuts, Lacks}
 use Rattle.haul_core.specs.HaulTexts.{line_of, spaced}
 use Rattle.ranges.specs.RangeListSteps.{has_byte}
-use Rattle.haul_core.specs.ReportLines.{Claimed, IsClaim, Told, found_fields, head_fields}
+use Rattle.haul_core.specs.ReportLines.{Claimed, IsClaim, SaidOfSoup, found_fields, head_fields}
 use Rattle.haul_core.specs.declared.report.claim.read_start.LineStart.{LineStart}
 use Rattle.haul_core.proofs.SpaceLemmas.{claim_line-lined, fields_lack, begin_spaceless, followed-cons, line_of-lined, one_cut}
 
@@ -142,7 +142,7 @@ head_bad line place head here field more within h c none =
     ∙ ap (λ (t : List (List ℕ)). get_or t place []) e
     ∙ ap (λ (k : ℕ). get_or (front ++ field ∷ rest) k []) (sym count) ∙ get_or-append_seam front field rest []))
 
-pub some_found : (found : Option Told) → length (found_fields found) ≤ 0 → ⊥
+pub some_found : (found : Option SaidOfSoup) → length (found_fields found) ≤ 0 → ⊥
 unfolding found_fields
 some_found None h = absurd (omega arith)
 some_found (Some told) h = absurd (omega arith)

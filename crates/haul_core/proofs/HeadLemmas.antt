@@ -3,14 +3,14 @@ use Rattle.std.proofs.Common.{◌≡◌, ◌<◌, ◌^◌, ◌++◌, ◌∷◌, 
 use Rattle.plane_core.specs.Rules.{IsRule, Numbers, rule_text}
 use Rattle.survey_core.specs.Profiles.{IsProfile, Settling}
 use Rattle.survey_core.specs.Seeds.{IsSeed}
-use Rattle.haul_core.specs.ClaimSteps.{HasFilled, IsHead, told_of}
+use Rattle.haul_core.specs.ClaimSteps.{HasFilled, IsHead, said_with}
 use Rattle.haul_core.specs.FieldSteps.{IsVersion}
 use Rattle.haul_core.specs.ReportLines.{IsFound, head_fields, profile_field}
 use Rattle.haul_core.specs.Reports.{IsWorker}
 use Rattle.haul_core.specs.declared.report.claim.read_start.LineStart.{LineStart}
 use Rattle.haul_core.specs.declared.report.claim.read_start.WhenSettled.{WhenSettled}
 
-nothing_found : (version : ℕ) (settled : Option WhenSettled) → settled ≡ None → IsFound version (told_of settled [])
+nothing_found : (version : ℕ) (settled : Option WhenSettled) → settled ≡ None → IsFound version (said_with settled [])
 nothing_found version None e = tt
 nothing_found version (Some rested) e = absurd (cc)
 

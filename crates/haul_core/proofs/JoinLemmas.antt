@@ -137,7 +137,7 @@ score_both sa sb code = λ i. record { total = sum i; samples = least i }
 
 -- what is asked of two hauls before their totals are added
 pub record HaveRoom (sa sb : Sums) : Type 0 where
-  pub rows : (code : List ℕ) → (score_in sa.rows code).total + (score_in sb.rows code).total < 2 ^ 128
+  pub scores : (code : List ℕ) → (score_in sa.scores code).total + (score_in sb.scores code).total < 2 ^ 128
   pub unsettled_room : sa.unsettled + sb.unsettled < 2 ^ 64
   pub for_good_room : sa.for_good + sb.for_good < 2 ^ 64
 
@@ -147,14 +147,14 @@ module _ (a b : Held) (ca cb : ℕ) (wa wb : List (ℕ × ℕ)) (sa sb : Sums) (
       let la : length ka.surveys ≡ length a.taken = same_length a ca wa sa ka in
       let lb : length kb.surveys ≡ length b.taken = same_length b cb wb sb kb in
       record {
-        rows = λ code.
+        scores = λ code.
             let few = All-append (λ s. objects_in s.finding < 2 ^ 64) ka.surveys kb.surveys ka.sum.few kb.sum.few in
             let long = length-append ka.surveys kb.surveys in
             let most = total_small (ka.surveys ++ kb.surveys) code few (omega arith) in
             let sum : total (ka.surveys ++ kb.surveys) code ≡ total ka.surveys code + total kb.surveys code =
             sum_by-append (λ s. count_in code s.finding) ka.surveys kb.surveys in
-            let first : (score_in sa.rows code).total ≡ total ka.surveys code = ap (λ (t : Score). t.total) (ka.sum.rows code) in
-            let second : (score_in sb.rows code).total ≡ total kb.surveys code = ap (λ (t : Score). t.total) (kb.sum.rows code) in
+            let first : (score_in sa.scores code).total ≡ total ka.surveys code = ap (λ (t : Score). t.total) (ka.sum.scores code) in
+            let second : (score_in sb.scores code).total ≡ total kb.surveys code = ap (λ (t : Score). t.total) (kb.sum.scores code) in
             omega arith;
         unsettled_room = omega (
           arith,
@@ -176,10 +176,10 @@ module _ (a b : Held) (ca cb : ℕ) (wa wb : List (ℕ × ℕ)) (sa sb : Sums) (
       → IsNormalForm (a.terms.ranges ++ b.terms.ranges) ranges → AreBelow number_bound ranges
       → size_of ranges ≡ size_of a.terms.ranges + size_of b.terms.ranges → workers ≡ max a.terms.workers b.terms.workers
       → taken ≡ a.taken ++ b.taken → by ≡ map (λ (t : ℕ × ℕ). (t.1, t.0)) taken
-      → ((code : List ℕ) → score_in sums.rows code ≡ together (together no_score (score_in sa.rows code)) (score_in sb.rows code))
+      → ((code : List ℕ) → score_in sums.scores code ≡ together (together no_score (score_in sa.scores code)) (score_in sb.scores code))
       → sums.unsettled ≡ sa.unsettled + sb.unsettled → sums.for_good ≡ sa.for_good + sb.for_good
       → KeepsBook (record { terms = record { job = a.terms.job; ranges = ranges; workers = workers }; closed = true; taken = taken }) (ca + cb) by sums
-  keeps_joined ranges workers taken by sums can form below size w t n rows u g =
+  keeps_joined ranges workers taken by sums can form below size w t n scores u g =
       let job : a.terms.job ≡ b.terms.job = (jobs_decide a.terms.job b.terms.job).0 can.job in
       record {
         normal = form.normal_form;
@@ -205,7 +205,7 @@ module _ (a b : Held) (ca cb : ℕ) (wa wb : List (ℕ × ℕ)) (sa sb : Sums) (
               (subst (λ (j : Job). All (λ s. IsFinding j.rule j.profile (soup j.seed s.number) s.finding) kb.surveys) (sym job) kb.surveyed.findings);
         };
         sum = record {
-          rows = λ code. rows code ∙ (λ i. together (together no_score (ka.sum.rows code i)) (kb.sum.rows code i))
+          scores = λ code. scores code ∙ (λ i. together (together no_score (ka.sum.scores code i)) (kb.sum.scores code i))
               ∙ sym (score_both ka.surveys kb.surveys code);
           unsettled_sum = u ∙ (λ i. ka.sum.unsettled_sum i + kb.sum.unsettled_sum i)
               ∙ sym (sum_by-append (λ s. cond {A = ℕ} (is_unsettled s.finding) 1 0) ka.surveys kb.surveys);

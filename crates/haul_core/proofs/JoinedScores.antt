@@ -12,24 +12,24 @@ use Rattle.std.proofs.lemmas.List.{take-append-drop, take_more}
 use Rattle.std.proofs.lemmas.List.Quantifiers.{position-Some}
 use Rattle.indexmap.specs.IndexMap.{set_value_at}
 use Rattle.haul_core.specs.declared.book.scores.Score.{Score}
-use Rattle.haul_core.specs.Scores.{no_score, row_of, score_in, together}
+use Rattle.haul_core.specs.Scores.{no_score, found_score, score_in, together}
 use Rattle.haul_core.proofs.CensusLemmas.{got, row_before}
-use Rattle.haul_core.proofs.ScoreLemmas.{code_itself, code_same, lookup_append, or_none, row_written}
+use Rattle.haul_core.proofs.ScoreLemmas.{code_itself, code_same, lookup_append, or_none, pair_written}
 
 -- a score is written over that of a code
-pub score_set : (rows : List (List ℕ × Score)) (i : ℕ) (before score other : Score) (code : List ℕ)
-    → position (pointwise nat_eq code) (keys_of rows) ≡ Some i → row_of rows code ≡ Some before → score ≡ together before other
-    → (q : List ℕ) → row_of (set_value_at rows i score) q ≡ cond (pointwise nat_eq code q) (Some (together (score_in rows code) other)) (row_of rows q)
-score_set rows i before score other code at is e q =
-    let p = position-Some (pointwise nat_eq code) (keys_of rows) i [] at in
-    let own : score_in rows code ≡ before = ap (λ (o : Option Score). unwrap_or o no_score) is in
-    row_written rows i score code p.0 p.1 p.2 q
-    ∙ ap (λ (t : Score). cond (pointwise nat_eq code q) (Some t) (row_of rows q)) (e ∙ ap (λ (t : Score). together t other) (sym own))
+pub score_set : (scores : List (List ℕ × Score)) (i : ℕ) (before score other : Score) (code : List ℕ)
+    → position (pointwise nat_eq code) (keys_of scores) ≡ Some i → found_score scores code ≡ Some before → score ≡ together before other
+    → (q : List ℕ) → found_score (set_value_at scores i score) q ≡ cond (pointwise nat_eq code q) (Some (together (score_in scores code) other)) (found_score scores q)
+score_set scores i before score other code at is e q =
+    let p = position-Some (pointwise nat_eq code) (keys_of scores) i [] at in
+    let own : score_in scores code ≡ before = ap (λ (o : Option Score). unwrap_or o no_score) is in
+    pair_written scores i score code p.0 p.1 p.2 q
+    ∙ ap (λ (t : Score). cond (pointwise nat_eq code q) (Some t) (found_score scores q)) (e ∙ ap (λ (t : Score). together t other) (sym own))
 
 together_none : (t : Score) → together t no_score ≡ t
 together_none t = λ i. record { total = add-zero t.total i; samples = t.samples }
 
--- the rows up to a place are added
+-- the scores up to a place are added
 abbrev pub Added : List (List ℕ × Score) → List (List ℕ × Score) → List (List ℕ × Score) → ℕ → Type 0
 Added old new others i = (code : List ℕ) → score_in new code ≡ together (score_in old code) (score_in (take i others) code)
 
@@ -41,32 +41,32 @@ module _ (old new others : List (List ℕ × Score)) (i : ℕ) (code : List ℕ)
   own : get_or others i (code, score) ≡ (code, score)
   own = got others i (code, score) (code, score) at
 
-  absent : row_of (take i others) code ≡ None
-  absent = subst (λ (o : List ℕ × Score). row_of (take i others) o.0 ≡ None) own (row_before others i (code, score) distinct low)
+  absent : found_score (take i others) code ≡ None
+  absent = subst (λ (o : List ℕ × Score). found_score (take i others) o.0 ≡ None) own (row_before others i (code, score) distinct low)
 
-  found : (q : List ℕ) → row_of (take (i + 1) others) q ≡ option_or (row_of (take i others) q) (cond (pointwise nat_eq q code) (Some score) None)
+  found : (q : List ℕ) → found_score (take (i + 1) others) q ≡ option_or (found_score (take i others) q) (cond (pointwise nat_eq q code) (Some score) None)
   found q =
-      ap (λ (rows : List (List ℕ × Score)). row_of rows q) (take_more others i (code, score) low)
+      ap (λ (scores : List (List ℕ × Score)). found_score scores q) (take_more others i (code, score) low)
       ∙ lookup_append (pointwise nat_eq q) (take i others) (get_or others i (code, score) ∷ [])
-      ∙ ap (λ (o : List ℕ × Score). option_or (row_of (take i others) q) (cond (pointwise nat_eq q o.0) (Some o.1) None)) own
+      ∙ ap (λ (o : List ℕ × Score). option_or (found_score (take i others) q) (cond (pointwise nat_eq q o.0) (Some o.1) None)) own
 
   -- so far nothing was added to the score of the next code
   pub next_total : score_in new code ≡ score_in old code
   next_total =
       a code ∙ ap (λ (o : Option Score). together (score_in old code) (unwrap_or o no_score)) absent ∙ together_none (score_in old code)
 
-  found_here : row_of (take (i + 1) others) code ≡ Some score
+  found_here : found_score (take (i + 1) others) code ≡ Some score
   found_here = found code ∙ ap (λ (o : Option Score). option_or o (cond (pointwise nat_eq code code) (Some score) None)) absent
       ∙ ap (λ (b : Bool). cond b (Some score) None) (code_itself code)
 
   here : score_in (take (i + 1) others) code ≡ score
   here = ap (λ (o : Option Score). unwrap_or o no_score) found_here
 
-  -- the rows have that score of the code
+  -- the scores have that score of the code
   pub row_at : score_in others code ≡ score
-  row_at = ap (λ (o : Option Score). unwrap_or o no_score) (ap (λ (rows : List (List ℕ × Score)). row_of rows code) (sym (take-append-drop (i + 1) others))
+  row_at = ap (λ (o : Option Score). unwrap_or o no_score) (ap (λ (scores : List (List ℕ × Score)). found_score scores code) (sym (take-append-drop (i + 1) others))
       ∙ lookup_append (pointwise nat_eq code) (take (i + 1) others) (drop (i + 1) others)
-      ∙ ap (λ (o : Option Score). option_or o (row_of (drop (i + 1) others) code)) found_here)
+      ∙ ap (λ (o : Option Score). option_or o (found_score (drop (i + 1) others) code)) found_here)
 
   pub added_more : (newer : List (List ℕ × Score)) → score_in newer code ≡ together (score_in new code) score
       → ((other : List ℕ) → other ≢ code → score_in newer other ≡ score_in new other) → Added old newer others (i + 1)
@@ -78,7 +78,7 @@ module _ (old new others : List (List ℕ × Score)) (i : ℕ) (code : List ℕ)
           subst (λ (c : List ℕ). score_in newer c ≡ together (score_in old c) (score_in (take (i + 1) others) c)) (sym (code_same q code same))
           (written ∙ (λ j. together (next_total j) (sym here j)))
       go (inr other) =
-          let miss : row_of (take (i + 1) others) q ≡ row_of (take i others) q =
-          found q ∙ ap (λ (b : Bool). option_or (row_of (take i others) q) (cond b (Some score) None)) other ∙ or_none (row_of (take i others) q) in
+          let miss : found_score (take (i + 1) others) q ≡ found_score (take i others) q =
+          found q ∙ ap (λ (b : Bool). option_or (found_score (take i others) q) (cond b (Some score) None)) other ∙ or_none (found_score (take i others) q) in
           others_stay q (λ e. false≢true (sym other ∙ subst (λ (c : List ℕ). pointwise nat_eq c code ≡ true) (sym e) (code_itself code)))
           ∙ a q ∙ ap (λ (o : Option Score). together (score_in old q) (unwrap_or o no_score)) (sym miss)

@@ -108,8 +108,8 @@ pub same_length : (held : Held) (count : ℕ) (workers : List (ℕ × ℕ)) (sum
 same_length held count workers sums k =
     sym (length-map k.surveys (λ s. s.number)) ∙ ap length k.surveyed.each ∙ length-map held.taken (λ t. t.1)
 
--- rows with nothing in them change nothing
-pub keeps_extended : (held : Held) (count : ℕ) (workers : List (ℕ × ℕ)) (old new : Sums) → Extends old.rows new.rows → new.unsettled ≡ old.unsettled
+-- scores with nothing in them change nothing
+pub keeps_extended : (held : Held) (count : ℕ) (workers : List (ℕ × ℕ)) (old new : Sums) → Extends old.scores new.scores → new.unsettled ≡ old.unsettled
     → new.for_good ≡ old.for_good → KeepsBook held count workers old → KeepsBook held count workers new
 keeps_extended held count workers old new x u g k = record {
   normal = k.normal;
@@ -122,7 +122,7 @@ keeps_extended held count workers old new x u g k = record {
   surveys = k.surveys;
   surveyed = k.surveyed;
   sum = record {
-    rows = λ code. score-Extends old.rows new.rows x code ∙ k.sum.rows code;
+    scores = λ code. score-Extends old.scores new.scores x code ∙ k.sum.scores code;
     unsettled_sum = u ∙ k.sum.unsettled_sum;
     for_good_sum = g ∙ k.sum.for_good_sum;
     few = k.sum.few;
@@ -143,11 +143,11 @@ unreported n (t ∷ ts) h = go (cases_Bool (nat_eq n t.1)) (unreported n ts)
 -- one report more
 pub keeps_more : (terms : Terms) (closed : Bool) (taken : List (ℕ × ℕ)) (count : ℕ) (workers : List (ℕ × ℕ)) (old new : Sums) (r : Reported) → IsReport r
     → HasLawfulObjects r.finding → refusal_at (record { terms = terms; closed = closed; taken = taken }) r ≡ None
-    → ((code : List ℕ) → score_in new.rows code ≡ added (found_in code r.finding) r.number (score_in old.rows code))
+    → ((code : List ℕ) → score_in new.scores code ≡ added (found_in code r.finding) r.number (score_in old.scores code))
     → new.unsettled ≡ old.unsettled + (if is_unsettled r.finding then 1 else 0) → new.for_good ≡ old.for_good + (if is_for_good r.finding then 1 else 0)
     → KeepsBook (record { terms = terms; closed = closed; taken = taken }) count workers old
     → KeepsBook (record { terms = terms; closed = closed; taken = taken ++ entry r ∷ [] }) count (workers ++ (r.number, r.worker) ∷ []) new
-keeps_more terms closed taken count workers old new r is lawful e rows u g k =
+keeps_more terms closed taken count workers old new r is lawful e scores u g k =
     let h = none_holds closed (same_job terms.job r.job) (nat_lt terms.workers r.worker) (is_in terms.ranges r.number) (worker_in r.number taken) e in
     let job : terms.job ≡ r.job = (jobs_decide terms.job r.job).0 h.own_job in
     let survey : Survey = record { number = r.number; finding = r.finding } in
@@ -168,7 +168,7 @@ keeps_more terms closed taken count workers old new r is lawful e rows u g k =
             (subst (λ (j : Job). IsFinding j.rule j.profile (soup j.seed r.number) r.finding) (sym job) is.finding);
       };
       sum = record {
-        rows = λ code. rows code ∙ ap (added (found_in code r.finding) r.number) (k.sum.rows code) ∙ sym (score_more k.surveys survey code lawful);
+        scores = λ code. scores code ∙ ap (added (found_in code r.finding) r.number) (k.sum.scores code) ∙ sym (score_more k.surveys survey code lawful);
         unsettled_sum = u ∙ ap (λ (n : ℕ). n + (if is_unsettled r.finding then 1 else 0)) k.sum.unsettled_sum
             ∙ sym (sum_by_push (λ s. cond {A = ℕ} (is_unsettled s.finding) 1 0) k.surveys survey);
         for_good_sum = g ∙ ap (λ (n : ℕ). n + (if is_for_good r.finding then 1 else 0)) k.sum.for_good_sum
@@ -179,7 +179,7 @@ keeps_more terms closed taken count workers old new r is lawful e rows u g k =
 
 -- what a haul needs for one report more
 pub record HasRoom (sums : Sums) : Type 0 where
-  pub rows : (code : List ℕ) → (score_in sums.rows code).total + 2 ^ 64 ≤ 2 ^ 128
+  pub scores : (code : List ℕ) → (score_in sums.scores code).total + 2 ^ 64 ≤ 2 ^ 128
   pub unsettled_room : sums.unsettled + 1 < 2 ^ 64
   pub for_good_room : sums.for_good + 1 < 2 ^ 64
 
@@ -188,14 +188,14 @@ pub has_room : (held : Held) (count : ℕ) (workers : List (ℕ × ℕ)) (sums :
 has_room held count workers sums short k =
     let long : length k.surveys ≡ length held.taken = same_length held count workers sums k in
     record {
-      rows = λ code. subst (λ (t : Score). t.total + 2 ^ 64 ≤ 2 ^ 128) (sym (k.sum.rows code)) (total_small k.surveys code k.sum.few (omega arith));
+      scores = λ code. subst (λ (t : Score). t.total + 2 ^ 64 ≤ 2 ^ 128) (sym (k.sum.scores code)) (total_small k.surveys code k.sum.few (omega arith));
       unsettled_room = omega (arith, k.sum.unsettled_sum, count_by-le-length (λ s. is_unsettled s.finding) k.surveys);
       for_good_room = omega (arith, k.sum.for_good_sum, count_by-le-length (λ s. is_for_good s.finding) k.surveys);
     }
 
 -- after room was made
 pub keeps_mid : (terms : Terms) (closed : Bool) (taken more_taken : List (ℕ × ℕ)) (count : ℕ) (workers more_workers : List (ℕ × ℕ)) (old new : Sums)
-    → more_taken ≡ taken → more_workers ≡ workers → Extends old.rows new.rows → new.unsettled ≡ old.unsettled → new.for_good ≡ old.for_good
+    → more_taken ≡ taken → more_workers ≡ workers → Extends old.scores new.scores → new.unsettled ≡ old.unsettled → new.for_good ≡ old.for_good
     → KeepsBook (record { terms = terms; closed = closed; taken = taken }) count workers old
     → KeepsBook (record { terms = terms; closed = closed; taken = more_taken }) count more_workers new
 keeps_mid terms closed taken more_taken count workers more_workers old new t w x u g k =
@@ -223,9 +223,9 @@ lawful_of rule profile cells Unsettled h = tt
 -- a haul that was just opened
 pub keeps_none : (job : Job) (ranges : List Range) (workers count : ℕ) (taken numbers : List (ℕ × ℕ)) (sums : Sums) → AreNormal ranges
     → AreBelow number_bound ranges
-    → count ≡ size_of ranges → IsWorker workers → taken ≡ [] → numbers ≡ [] → sums.rows ≡ [] → sums.unsettled ≡ 0 → sums.for_good ≡ 0
+    → count ≡ size_of ranges → IsWorker workers → taken ≡ [] → numbers ≡ [] → sums.scores ≡ [] → sums.unsettled ≡ 0 → sums.for_good ≡ 0
     → KeepsBook (record { terms = record { job = job; ranges = ranges; workers = workers }; closed = false; taken = taken }) count numbers sums
-keeps_none job ranges workers count taken numbers sums normal below size worker t n rows u g =
+keeps_none job ranges workers count taken numbers sums normal below size worker t n scores u g =
     subst (λ (ts : List (ℕ × ℕ)). KeepsBook (record {
       terms = record { job = job; ranges = ranges; workers = workers };
       closed = false;
@@ -243,7 +243,7 @@ keeps_none job ranges workers count taken numbers sums normal below size worker 
       surveys = [];
       surveyed = record { each = refl; findings = All-nil (λ s. IsFinding job.rule job.profile (soup job.seed s.number) s.finding) };
       sum = record {
-        rows = λ code. ap (λ (rs : List (List ℕ × Score)). score_in rs code) rows;
+        scores = λ code. ap (λ (rs : List (List ℕ × Score)). score_in rs code) scores;
         unsettled_sum = u;
         for_good_sum = g;
         few = All-nil (λ s. objects_in s.finding < 2 ^ 64);

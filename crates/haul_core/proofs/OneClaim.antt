@@ -9,7 +9,7 @@ use Rattle.plane_core.specs.Rules.{IsRule, Numbers, rule_read, rule_text}
 use Rattle.survey_core.specs.Profiles.{IsProfile, Settling}
 use Rattle.haul_core.specs.Claims.{fields_of}
 use Rattle.haul_core.specs.FieldSteps.{numbers_text}
-use Rattle.haul_core.specs.ReportLines.{Claimed, IsClaim, IsCount, IsFound, IsMark, Told, claim_line, count_field, found_fields, head_fields, mark_field, mark_fields, profile_field}
+use Rattle.haul_core.specs.ReportLines.{Claimed, IsClaim, IsCount, IsFound, IsMark, SaidOfSoup, claim_line, count_field, found_fields, head_fields, mark_field, mark_fields, profile_field}
 use Rattle.haul_core.proofs.CountLemmas.{are_small, same_first}
 use Rattle.haul_core.proofs.CountedLemmas.{one_count}
 use Rattle.haul_core.proofs.SpaceLemmas.{claim_line-lined, fields_lack, one_cut}
@@ -58,7 +58,7 @@ one_marks version (Some a) (Some b) x y h k e =
     let same = one_mark a b (let f : mark_field a ≡ mark_field b = cc in f) in
     (ap (λ (m : Bool). Some m) same, cc)
 
-one_found : (version : ℕ) (a b : Option Told) → IsFound version a → IsFound version b → found_fields a ≡ found_fields b → a ≡ b
+one_found : (version : ℕ) (a b : Option SaidOfSoup) → IsFound version a → IsFound version b → found_fields a ≡ found_fields b → a ≡ b
 unfolding found_fields
 one_found version None None h k e = refl
 one_found version None (Some t) h k e = absurd (at_other t.checkpoint (sym (let f : codes "unsettled" ≡ codes "at=" ++ decimal t.checkpoint = cc in f)))

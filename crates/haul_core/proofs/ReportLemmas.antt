@@ -7,7 +7,7 @@ use Rattle.std.proofs.lemmas.List.Folds.{flat_map-map}
 use Rattle.plane_core.specs.Rules.{rule_text}
 use Rattle.survey_core.specs.Profiles.{Settling}
 use Rattle.haul_core.specs.HaulTexts.{line_of, spaced}
-use Rattle.haul_core.specs.ReportLines.{claim_of, count_field, found_fields, claim_line, head_fields, mark_fields, profile_field, report_text, told_in}
+use Rattle.haul_core.specs.ReportLines.{claim_of, count_field, found_fields, claim_line, head_fields, mark_fields, profile_field, report_text, said_of}
 use Rattle.haul_core.specs.Reports.{Reported}
 
 -- ---- the profile
@@ -58,11 +58,11 @@ unsettled_spelled = refl
 abbrev pub counts_text : List (List ℕ × ℕ) → List ℕ
 counts_text counts = flat_map (λ object. spaced (count_field object)) counts
 
-pub told_spelled : (checkpoint : ℕ) (for_good : Bool) (counts : List (List ℕ × ℕ))
+pub said_spelled : (checkpoint : ℕ) (for_good : Bool) (counts : List (List ℕ × ℕ))
     → (codes " at=" ++ decimal checkpoint) ++ (flat_map spaced (mark_fields (Some for_good)) ++ counts_text counts)
     ≡ flat_map spaced (found_fields (Some (record { checkpoint = checkpoint; for_good = Some for_good; counts = counts })))
 unfolding found_fields
-told_spelled checkpoint for_good counts =
+said_spelled checkpoint for_good counts =
     ap (λ (rest : List ℕ). (codes " at=" ++ decimal checkpoint) ++ rest)
     (sym (flat_map-append spaced (mark_fields (Some for_good)) (map count_field counts)
     ∙ ap (λ (rest : List ℕ). flat_map spaced (mark_fields (Some for_good)) ++ rest) (flat_map-map spaced count_field counts)))
@@ -76,12 +76,12 @@ line_append word fields more =
     ∙ sym (append_assoc word (flat_map spaced fields) (flat_map spaced more))
 
 abbrev pub after_head : Reported → List ℕ
-after_head report = flat_map spaced (found_fields (told_in 2 report.finding)) ++ codes "\n"
+after_head report = flat_map spaced (found_fields (said_of 2 report.finding)) ++ codes "\n"
 
 pub report_spelled : (report : Reported) → line_of (codes "report") (head_fields (claim_of 2 report)) ++ after_head report ≡ report_text report
 unfolding claim_line
 report_spelled report =
     let head : List (List ℕ) = head_fields (claim_of 2 report) in
-    let found : List (List ℕ) = found_fields (told_in 2 report.finding) in
+    let found : List (List ℕ) = found_fields (said_of 2 report.finding) in
     sym (ap (λ (line : List ℕ). line ++ codes "\n") (line_append (codes "report") head found)
     ∙ append_assoc (line_of (codes "report") head) (flat_map spaced found) (codes "\n"))

@@ -1,4 +1,4 @@
--- Rows of codes: how they are found and changed, and that rows with nothing in them change no total.
+-- Rows of codes: how they are found and changed, and that scores with nothing in them change no total.
 use Rattle.std.proofs.Common.{◌≡◌, ◌≢◌, ◌∙◌, ◌+◌, ◌<◌, ℕ, zero, suc, Bool, true, false, cond, List, [], ◌∷◌, ◌++◌, Option, None}
 use Rattle.std.proofs.Common.{Some, IsSome, ap, sym, subst, refl, arith, inl, inr, length}
 use Rattle.std.proofs.Common.{take, get_or, nat_eq, unwrap_or, is_some, ◌⊎◌, Result, Ok, Err, is_ok}
@@ -18,7 +18,7 @@ use Rattle.std.proofs.lemmas.Map.Lookups.{exact_bytes}
 use Rattle.indexmap.specs.IndexMap.{set_value_at}
 use Rattle.survey_core.specs.Objects.{AreObjects, is_code}
 use Rattle.haul_core.specs.declared.book.scores.Score.{Score}
-use Rattle.haul_core.specs.Scores.{Extends, HasRow, added, no_score, row_of, score_in}
+use Rattle.haul_core.specs.Scores.{Extends, HasScore, added, no_score, found_score, score_in}
 
 -- ---- codes are the same exactly if they are equal
 
@@ -31,45 +31,45 @@ code_itself a = (bytes_decides a a).1 refl
 pub code_apart : (a b : List ℕ) → (a ≡ b → ⊥) → pointwise nat_eq a b ≡ false
 code_apart a b h = false_from_ne_true (pointwise nat_eq a b) (λ e. h (code_same a b e))
 
--- ---- a row is written
+-- ---- a pair is written
 
-pub row_written : {X : Type 0} (rows : List (List ℕ × X)) (i : ℕ) (w : X) (code : List ℕ) → i < length (keys_of rows)
-    → pointwise nat_eq code (get_or (keys_of rows) i []) ≡ true → ((k : ℕ) → k < i → pointwise nat_eq code (get_or (keys_of rows) k []) ≡ false)
-    → (q : List ℕ) → lookup (pointwise nat_eq q) (set_value_at rows i w) ≡ cond (pointwise nat_eq code q) (Some w) (lookup (pointwise nat_eq q) rows)
-row_written [] i w code low hit before q = absurd (omega arith)
-row_written {X} (e ∷ rows) zero w code low hit before q = go (cases_Bool (pointwise nat_eq q e.0))
+pub pair_written : {X : Type 0} (scores : List (List ℕ × X)) (i : ℕ) (w : X) (code : List ℕ) → i < length (keys_of scores)
+    → pointwise nat_eq code (get_or (keys_of scores) i []) ≡ true → ((k : ℕ) → k < i → pointwise nat_eq code (get_or (keys_of scores) k []) ≡ false)
+    → (q : List ℕ) → lookup (pointwise nat_eq q) (set_value_at scores i w) ≡ cond (pointwise nat_eq code q) (Some w) (lookup (pointwise nat_eq q) scores)
+pair_written [] i w code low hit before q = absurd (omega arith)
+pair_written {X} (e ∷ scores) zero w code low hit before q = go (cases_Bool (pointwise nat_eq q e.0))
   where
     go : (pointwise nat_eq q e.0 ≡ true) ⊎ (pointwise nat_eq q e.0 ≡ false)
-        → cond (pointwise nat_eq q e.0) (Some w) (lookup (pointwise nat_eq q) rows)
-        ≡ cond (pointwise nat_eq code q) (Some w) (cond (pointwise nat_eq q e.0) (Some e.1) (lookup (pointwise nat_eq q) rows))
+        → cond (pointwise nat_eq q e.0) (Some w) (lookup (pointwise nat_eq q) scores)
+        ≡ cond (pointwise nat_eq code q) (Some w) (cond (pointwise nat_eq q e.0) (Some e.1) (lookup (pointwise nat_eq q) scores))
     go (inl same) =
         let own : pointwise nat_eq code q ≡ true = subst (λ (k : List ℕ). pointwise nat_eq code k ≡ true) (sym (code_same q e.0 same)) hit in
-        ap (λ (b : Bool). cond b (Some w) (lookup (pointwise nat_eq q) rows)) same
-        ∙ sym (ap (λ (b : Bool). cond b (Some w) (cond (pointwise nat_eq q e.0) (Some e.1) (lookup (pointwise nat_eq q) rows))) own)
+        ap (λ (b : Bool). cond b (Some w) (lookup (pointwise nat_eq q) scores)) same
+        ∙ sym (ap (λ (b : Bool). cond b (Some w) (cond (pointwise nat_eq q e.0) (Some e.1) (lookup (pointwise nat_eq q) scores))) own)
     go (inr other) =
         let apart : pointwise nat_eq code q ≡ false = code_apart code q (λ same. false≢true (sym other
         ∙ subst (λ (k : List ℕ). pointwise nat_eq k e.0 ≡ true) same hit)) in
-        ap (λ (b : Bool). cond b (Some w) (lookup (pointwise nat_eq q) rows)) other
-        ∙ sym (ap (λ (b : Bool). cond b (Some w) (cond (pointwise nat_eq q e.0) (Some e.1) (lookup (pointwise nat_eq q) rows))) apart
-        ∙ ap (λ (b : Bool). cond b (Some e.1) (lookup (pointwise nat_eq q) rows)) other)
-row_written {X} (e ∷ rows) (suc i) w code low hit before q =
-    go (cases_Bool (pointwise nat_eq q e.0)) (row_written rows i w code (omega arith) hit (λ k lower. before (suc k) (omega arith)) q)
+        ap (λ (b : Bool). cond b (Some w) (lookup (pointwise nat_eq q) scores)) other
+        ∙ sym (ap (λ (b : Bool). cond b (Some w) (cond (pointwise nat_eq q e.0) (Some e.1) (lookup (pointwise nat_eq q) scores))) apart
+        ∙ ap (λ (b : Bool). cond b (Some e.1) (lookup (pointwise nat_eq q) scores)) other)
+pair_written {X} (e ∷ scores) (suc i) w code low hit before q =
+    go (cases_Bool (pointwise nat_eq q e.0)) (pair_written scores i w code (omega arith) hit (λ k lower. before (suc k) (omega arith)) q)
   where
     go : (pointwise nat_eq q e.0 ≡ true) ⊎ (pointwise nat_eq q e.0 ≡ false)
-        → lookup (pointwise nat_eq q) (set_value_at rows i w) ≡ cond (pointwise nat_eq code q) (Some w) (lookup (pointwise nat_eq q) rows)
-        → cond (pointwise nat_eq q e.0) (Some e.1) (lookup (pointwise nat_eq q) (set_value_at rows i w))
-        ≡ cond (pointwise nat_eq code q) (Some w) (cond (pointwise nat_eq q e.0) (Some e.1) (lookup (pointwise nat_eq q) rows))
+        → lookup (pointwise nat_eq q) (set_value_at scores i w) ≡ cond (pointwise nat_eq code q) (Some w) (lookup (pointwise nat_eq q) scores)
+        → cond (pointwise nat_eq q e.0) (Some e.1) (lookup (pointwise nat_eq q) (set_value_at scores i w))
+        ≡ cond (pointwise nat_eq code q) (Some w) (cond (pointwise nat_eq q e.0) (Some e.1) (lookup (pointwise nat_eq q) scores))
     go (inl same) rest =
         let first : pointwise nat_eq code e.0 ≡ false = before 0 (omega arith) in
         let apart : pointwise nat_eq code q ≡ false = subst (λ (k : List ℕ). pointwise nat_eq code k ≡ false) (sym (code_same q e.0 same)) first in
-        ap (λ (b : Bool). cond b (Some e.1) (lookup (pointwise nat_eq q) (set_value_at rows i w))) same
-        ∙ sym (ap (λ (b : Bool). cond b (Some w) (cond (pointwise nat_eq q e.0) (Some e.1) (lookup (pointwise nat_eq q) rows))) apart
-        ∙ ap (λ (b : Bool). cond b (Some e.1) (lookup (pointwise nat_eq q) rows)) same)
+        ap (λ (b : Bool). cond b (Some e.1) (lookup (pointwise nat_eq q) (set_value_at scores i w))) same
+        ∙ sym (ap (λ (b : Bool). cond b (Some w) (cond (pointwise nat_eq q e.0) (Some e.1) (lookup (pointwise nat_eq q) scores))) apart
+        ∙ ap (λ (b : Bool). cond b (Some e.1) (lookup (pointwise nat_eq q) scores)) same)
     go (inr other) rest =
-        ap (λ (b : Bool). cond b (Some e.1) (lookup (pointwise nat_eq q) (set_value_at rows i w))) other ∙ rest
-        ∙ ap (λ (o : Option X). cond (pointwise nat_eq code q) (Some w) o) (sym (ap (λ (b : Bool). cond b (Some e.1) (lookup (pointwise nat_eq q) rows)) other))
+        ap (λ (b : Bool). cond b (Some e.1) (lookup (pointwise nat_eq q) (set_value_at scores i w))) other ∙ rest
+        ∙ ap (λ (o : Option X). cond (pointwise nat_eq code q) (Some w) o) (sym (ap (λ (b : Bool). cond b (Some e.1) (lookup (pointwise nat_eq q) scores)) other))
 
--- ---- rows with nothing in them
+-- ---- scores with nothing in them
 
 pub lookup_append : {X : Type 0} (test : List ℕ → Bool) (xs ys : List (List ℕ × X)) → lookup test (xs ++ ys) ≡ option_or (lookup test xs) (lookup test ys)
 lookup_append test [] ys = refl
@@ -80,85 +80,85 @@ lookup_append {X} test (x ∷ xs) ys = go (test x.0) (lookup_append test xs ys)
     go true e = refl
     go false e = e
 
-blank_score : (more : List (List ℕ × Score)) (code : List ℕ) → All (λ row. row.1 ≡ no_score) more → score_in more code ≡ no_score
+blank_score : (more : List (List ℕ × Score)) (code : List ℕ) → All (λ score. score.1 ≡ no_score) more → score_in more code ≡ no_score
 blank_score [] code blank = refl
-blank_score (row ∷ more) code blank =
-    go (pointwise nat_eq code row.0) (All-head (λ r. r.1 ≡ no_score) row more blank) (blank_score more code (All-tail (λ r. r.1 ≡ no_score) row more blank))
+blank_score (score ∷ more) code blank =
+    go (pointwise nat_eq code score.0) (All-head (λ r. r.1 ≡ no_score) score more blank) (blank_score more code (All-tail (λ r. r.1 ≡ no_score) score more blank))
   where
-    go : (b : Bool) → row.1 ≡ no_score → score_in more code ≡ no_score
-        → unwrap_or (cond b (Some row.1) (lookup (pointwise nat_eq code) more)) no_score ≡ no_score
+    go : (b : Bool) → score.1 ≡ no_score → score_in more code ≡ no_score
+        → unwrap_or (cond b (Some score.1) (lookup (pointwise nat_eq code) more)) no_score ≡ no_score
     go true first rest = first
     go false first rest = rest
 
--- rows that come with nothing in them change no score
+-- scores that come with nothing in them change no score
 pub score-Extends : (old new : List (List ℕ × Score)) → Extends old new → (code : List ℕ) → score_in new code ≡ score_in old code
 score-Extends old new x code =
-    ap (λ (rows : List (List ℕ × Score)). score_in rows code) x.is
-    ∙ ap (λ (o : Option Score). unwrap_or o no_score) (lookup_append (pointwise nat_eq code) old x.more) ∙ go (row_of old code)
+    ap (λ (scores : List (List ℕ × Score)). score_in scores code) x.is
+    ∙ ap (λ (o : Option Score). unwrap_or o no_score) (lookup_append (pointwise nat_eq code) old x.more) ∙ go (found_score old code)
   where
-    go : (o : Option Score) → unwrap_or (option_or o (row_of x.more code)) no_score ≡ unwrap_or o no_score
+    go : (o : Option Score) → unwrap_or (option_or o (found_score x.more code)) no_score ≡ unwrap_or o no_score
     go None = blank_score x.more code x.blank
     go (Some score) = refl
 
-pub HasRow-Extends : (old new : List (List ℕ × Score)) → Extends old new → (code : List ℕ) → HasRow old code → HasRow new code
-HasRow-Extends old new x code h =
-    subst (λ (o : Option Score). IsSome o) (sym (ap (λ (rows : List (List ℕ × Score)). row_of rows code) x.is
+pub HasScore-Extends : (old new : List (List ℕ × Score)) → Extends old new → (code : List ℕ) → HasScore old code → HasScore new code
+HasScore-Extends old new x code h =
+    subst (λ (o : Option Score). IsSome o) (sym (ap (λ (scores : List (List ℕ × Score)). found_score scores code) x.is
     ∙ lookup_append (pointwise nat_eq code) old x.more))
-    (go (row_of old code) h)
+    (go (found_score old code) h)
   where
-    go : (o : Option Score) → IsSome o → IsSome (option_or o (row_of x.more code))
+    go : (o : Option Score) → IsSome o → IsSome (option_or o (found_score x.more code))
     go None is = absurd (false≢true is)
     go (Some score) is = refl
 
 pub Extends-then : (a b c : List (List ℕ × Score)) → Extends a b → Extends b c → Extends a c
 Extends-then a b c x y = record {
   more = x.more ++ y.more;
-  is = y.is ∙ ap (λ (rows : List (List ℕ × Score)). rows ++ y.more) x.is ∙ append_assoc a x.more y.more;
-  blank = All-append (λ row. row.1 ≡ no_score) x.more y.more x.blank y.blank;
+  is = y.is ∙ ap (λ (scores : List (List ℕ × Score)). scores ++ y.more) x.is ∙ append_assoc a x.more y.more;
+  blank = All-append (λ score. score.1 ≡ no_score) x.more y.more x.blank y.blank;
 }
 
--- no rows have come
-pub Extends-none : (rows : List (List ℕ × Score)) → Extends rows rows
-Extends-none rows = record { more = []; is = sym (append-nil rows); blank = All-nil (λ row. row.1 ≡ no_score) }
+-- no scores have come
+pub Extends-none : (scores : List (List ℕ × Score)) → Extends scores scores
+Extends-none scores = record { more = []; is = sym (append-nil scores); blank = All-nil (λ score. score.1 ≡ no_score) }
 
 pub Extends-one : (old new : List (List ℕ × Score)) (code : List ℕ) (score : Score) → new ≡ old ++ (code, score) ∷ [] → score ≡ no_score → Extends old new
 Extends-one old new code score e nothing = record {
   more = (code, score) ∷ [];
   is = e;
-  blank = All-cons (λ row. row.1 ≡ no_score) (code, score) [] nothing (All-nil (λ row. row.1 ≡ no_score));
+  blank = All-cons (λ score. score.1 ≡ no_score) (code, score) [] nothing (All-nil (λ score. score.1 ≡ no_score));
 }
 
-pub rows_more : (old new : List (List ℕ × Score)) (objects : List (List ℕ × ℕ)) (i : ℕ) (d : List ℕ × ℕ) → Extends old new → i < length objects
-    → All (λ object. HasRow old object.0) (take i objects) → HasRow new (get_or objects i d).0 → All (λ object. HasRow new object.0) (take (i + 1) objects)
-rows_more old new objects i d x low before here =
-    All-more (λ object. HasRow new object.0) objects i d low
-    (All-weaker (λ object. HasRow old object.0) (λ object. HasRow new object.0) (λ object h. HasRow-Extends old new x object.0 h) (take i objects) before) here
+pub scores_more : (old new : List (List ℕ × Score)) (objects : List (List ℕ × ℕ)) (i : ℕ) (d : List ℕ × ℕ) → Extends old new → i < length objects
+    → All (λ object. HasScore old object.0) (take i objects) → HasScore new (get_or objects i d).0 → All (λ object. HasScore new object.0) (take (i + 1) objects)
+scores_more old new objects i d x low before here =
+    All-more (λ object. HasScore new object.0) objects i d low
+    (All-weaker (λ object. HasScore old object.0) (λ object. HasScore new object.0) (λ object h. HasScore-Extends old new x object.0 h) (take i objects) before) here
 
 -- ---- the objects with one code are added
 
-pub score_written : (rows : List (List ℕ × Score)) (i count number : ℕ) (before score : Score) (code : List ℕ)
-    → position (pointwise nat_eq code) (keys_of rows) ≡ Some i → row_of rows code ≡ Some before → score ≡ added (Some count) number before
-    → (q : List ℕ) → row_of (set_value_at rows i score) q ≡ cond (pointwise nat_eq code q) (Some (added (Some count) number (score_in rows code))) (row_of rows q)
-score_written rows i count number before score code at is e q =
-    let p = position-Some (pointwise nat_eq code) (keys_of rows) i [] at in
-    let own : score_in rows code ≡ before = ap (λ (o : Option Score). unwrap_or o no_score) is in
-    row_written rows i score code p.0 p.1 p.2 q
-    ∙ ap (λ (t : Score). cond (pointwise nat_eq code q) (Some t) (row_of rows q)) (e ∙ ap (added (Some count) number) (sym own))
+pub score_written : (scores : List (List ℕ × Score)) (i count number : ℕ) (before score : Score) (code : List ℕ)
+    → position (pointwise nat_eq code) (keys_of scores) ≡ Some i → found_score scores code ≡ Some before → score ≡ added (Some count) number before
+    → (q : List ℕ) → found_score (set_value_at scores i score) q ≡ cond (pointwise nat_eq code q) (Some (added (Some count) number (score_in scores code))) (found_score scores q)
+score_written scores i count number before score code at is e q =
+    let p = position-Some (pointwise nat_eq code) (keys_of scores) i [] at in
+    let own : score_in scores code ≡ before = ap (λ (o : Option Score). unwrap_or o no_score) is in
+    pair_written scores i score code p.0 p.1 p.2 q
+    ∙ ap (λ (t : Score). cond (pointwise nat_eq code q) (Some t) (found_score scores q)) (e ∙ ap (added (Some count) number) (sym own))
 
 module _ (old new : List (List ℕ × Score)) (code : List ℕ) (score : Score)
-    (written : (q : List ℕ) → row_of new q ≡ cond (pointwise nat_eq code q) (Some score) (row_of old q)) where
+    (written : (q : List ℕ) → found_score new q ≡ cond (pointwise nat_eq code q) (Some score) (found_score old q)) where
   pub at_code : score_in new code ≡ score
-  at_code = ap (λ (o : Option Score). unwrap_or o no_score) (written code ∙ ap (λ (b : Bool). cond b (Some score) (row_of old code)) (code_itself code))
+  at_code = ap (λ (o : Option Score). unwrap_or o no_score) (written code ∙ ap (λ (b : Bool). cond b (Some score) (found_score old code)) (code_itself code))
 
   pub at_others : (other : List ℕ) → other ≢ code → score_in new other ≡ score_in old other
   at_others other h =
       ap (λ (o : Option Score). unwrap_or o no_score)
-      (written other ∙ ap (λ (b : Bool). cond b (Some score) (row_of old other)) (code_apart code other (λ e. h (sym e))))
+      (written other ∙ ap (λ (b : Bool). cond b (Some score) (found_score old other)) (code_apart code other (λ e. h (sym e))))
 
-  pub rows_stay : (other : List ℕ) → HasRow old other → HasRow new other
-  rows_stay other h = subst (λ (o : Option Score). IsSome o) (sym (written other)) (go (pointwise nat_eq code other))
+  pub scores_stay : (other : List ℕ) → HasScore old other → HasScore new other
+  scores_stay other h = subst (λ (o : Option Score). IsSome o) (sym (written other)) (go (pointwise nat_eq code other))
     where
-      go : (b : Bool) → IsSome (cond b (Some score) (row_of old other))
+      go : (b : Bool) → IsSome (cond b (Some score) (found_score old other))
       go true = refl
       go false = h
 
@@ -197,7 +197,7 @@ not_before objects i d lawful low =
 
 pub record Adding (old new : List (List ℕ × Score)) (objects : List (List ℕ × ℕ)) (number i : ℕ) : Type 0 where
   pub scores : (code : List ℕ) → score_in new code ≡ added (lookup (is_code code) (take i objects)) number (score_in old code)
-  pub rows : (code : List ℕ) → HasRow old code → HasRow new code
+  pub stay : (code : List ℕ) → HasScore old code → HasScore new code
 
 pub adding_next : (old new : List (List ℕ × Score)) (objects : List (List ℕ × ℕ)) (number i : ℕ) (d : List ℕ × ℕ) → AreObjects objects → i < length objects
     → Adding old new objects number i → score_in new (get_or objects i d).0 ≡ score_in old (get_or objects i d).0
@@ -214,10 +214,10 @@ pub adding_more : (old new newer : List (List ℕ × Score)) (objects : List (Li
     → Adding old new objects number i
     → score_in newer (get_or objects i d).0 ≡ added (Some (get_or objects i d).1) number (score_in new (get_or objects i d).0)
     → ((other : List ℕ) → other ≢ (get_or objects i d).0 → score_in newer other ≡ score_in new other)
-    → ((other : List ℕ) → HasRow new other → HasRow newer other) → Adding old newer objects number (i + 1)
-adding_more old new newer objects number i d lawful low a here others rows = record {
+    → ((other : List ℕ) → HasScore new other → HasScore newer other) → Adding old newer objects number (i + 1)
+adding_more old new newer objects number i d lawful low a here others stays = record {
   scores = λ code. go code (cases_Bool (is_code code o.0));
-  rows = λ code h. rows code (a.rows code h);
+  stay = λ code h. stays code (a.stay code h);
 }
   where
     o : List ℕ × ℕ

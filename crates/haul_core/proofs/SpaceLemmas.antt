@@ -16,7 +16,7 @@ use Rattle.haul_core.specs.Claims.{BeginClaim, IsBadField, IsClaimLine, IsFirstF
 use Rattle.haul_core.specs.FieldSteps.{Lacks, numbers_text}
 use Rattle.haul_core.specs.HaulTexts.{line_of, spaced}
 use Rattle.ranges.specs.RangeListSteps.{has_byte}
-use Rattle.haul_core.specs.ReportLines.{Claimed, IsClaim, IsCount, IsFound, Told, claim_line, count_field, found_fields, head_fields, mark_field, mark_fields, profile_field}
+use Rattle.haul_core.specs.ReportLines.{Claimed, IsClaim, IsCount, IsFound, SaidOfSoup, claim_line, count_field, found_fields, head_fields, mark_field, mark_fields, profile_field}
 use Rattle.ranges.proofs.DecimalLemmas.{IsDecimal-decimal}
 
 -- ---- texts without a byte
@@ -159,7 +159,7 @@ unfolding mark_fields
 marks_lack None = tt
 marks_lack (Some for_good) = (mark_lacks for_good, tt)
 
-found_lack : (version : ℕ) (found : Option Told) → IsFound version found → AreSpaceless (found_fields found)
+found_lack : (version : ℕ) (found : Option SaidOfSoup) → IsFound version found → AreSpaceless (found_fields found)
 unfolding found_fields
 found_lack version None h = (refl, tt)
 found_lack version (Some told) h =

@@ -4,10 +4,10 @@ use Rattle.std.proofs.Common.{append_assoc, codes, decimal, get_or, inl, inr, ma
 use Rattle.std.proofs.lemmas.Fmt.{decimal_injective}
 use Rattle.std.proofs.lemmas.List.Elements.{All-nil}
 use Rattle.std.specs.List.Sorted.{IsStrictlySortedBy}
-use Rattle.haul_core.specs.ClaimSteps.{FollowsFields, HasReadStart, HasHead, IsHead, claimed, head_of, told_of}
+use Rattle.haul_core.specs.ClaimSteps.{FollowsFields, HasReadStart, HasHead, IsHead, claimed, head_of, said_with}
 use Rattle.haul_core.specs.Claims.{BeginClaim, IsFirstFaultOf, fields_of}
 use Rattle.haul_core.specs.FieldSteps.{Cuts, IsAnyMark, IsState, state_field}
-use Rattle.haul_core.specs.ReportLines.{Claimed, IsClaim, IsCount, IsFound, IsMark, Told, count_field, found_fields, head_fields, mark_field, mark_fields}
+use Rattle.haul_core.specs.ReportLines.{Claimed, IsClaim, IsCount, IsFound, IsMark, SaidOfSoup, count_field, found_fields, head_fields, mark_field, mark_fields}
 use Rattle.haul_core.specs.declared.report.claim.read_start.LineStart.{LineStart}
 use Rattle.haul_core.specs.declared.report.claim.read_start.WhenSettled.{WhenSettled}
 use Rattle.haul_core.proofs.FaultyLines.{bad_at, begin_head, follows_more, lacks_at, over_at}
@@ -39,7 +39,7 @@ state_more line head here field text more h c e =
     subst (λ (t : List ℕ). FollowsFields line (head_of (claimed head []) ++ t ∷ []) more) e
     (follows_more line (head_of (claimed head [])) here field more (follows_head line head (Some here) h) c)
 
-state_of : (version : ℕ) (found : Option Told) (field : List ℕ) (rest : List (List ℕ)) → IsFound version found → found_fields found ≡ field ∷ rest
+state_of : (version : ℕ) (found : Option SaidOfSoup) (field : List ℕ) (rest : List (List ℕ)) → IsFound version found → found_fields found ≡ field ∷ rest
     → (state : Option ℕ) × (IsState state × (field ≡ state_field state))
 unfolding found_fields
 state_of version None field rest h e = (None, (tt, cc))
@@ -54,17 +54,17 @@ state_bad line head here field more h c none =
 
 -- ---- a soup that didn't settle
 
-found_none : (settled : Option WhenSettled) → settled ≡ None → found_fields (told_of settled []) ≡ codes "unsettled" ∷ []
+found_none : (settled : Option WhenSettled) → settled ≡ None → found_fields (said_with settled []) ≡ codes "unsettled" ∷ []
 unfolding found_fields
 found_none None e = refl
-found_none (Some rested) e = absurd (cc)
+found_none (Some settled_start) e = absurd (cc)
 
 unsettled_fields : (head : LineStart) → IsHead head → fields_of (claimed head []) ≡ head_of (claimed head []) ++ codes "unsettled" ∷ []
 unsettled_fields head h = ap (λ (t : List (List ℕ)). head_of (claimed head []) ++ t) (found_none head.settled h.none)
 
-pub unsettled_front : (line : List ℕ) (head : LineStart) → IsHead head → FollowsFields line (head_of (claimed head []) ++ codes "unsettled" ∷ []) None
+pub unsettled_start : (line : List ℕ) (head : LineStart) → IsHead head → FollowsFields line (head_of (claimed head []) ++ codes "unsettled" ∷ []) None
     → HasReadStart line head None
-unsettled_front line head h f = record {
+unsettled_start line head h f = record {
   lawful = h.lawful;
   follows = subst (λ (fields : List (List ℕ)). FollowsFields line fields None) (sym (unsettled_fields head h)) f;
   settled = λ here e. absurd (cc);
@@ -73,7 +73,7 @@ unsettled_front line head h f = record {
 pub at_other : (checkpoint : ℕ) → codes "at=" ++ decimal checkpoint ≢ codes "unsettled"
 at_other checkpoint e = let h : (97 == 117) ≡ true = ap (λ (t : List ℕ). get_or t 0 0 == 117) e in absurd (cc)
 
-nothing_after : (found : Option Told) (field : List ℕ) (rest : List (List ℕ)) → found_fields found ≡ codes "unsettled" ∷ field ∷ rest → ⊥
+nothing_after : (found : Option SaidOfSoup) (field : List ℕ) (rest : List (List ℕ)) → found_fields found ≡ codes "unsettled" ∷ field ∷ rest → ⊥
 unfolding found_fields
 nothing_after None field rest e = absurd (cc)
 nothing_after (Some told) field rest e = at_other told.checkpoint (let h : codes "at=" ++ decimal told.checkpoint ≡ codes "unsettled" = cc in h)
@@ -98,14 +98,14 @@ unsettled_over line head there h f =
 abbrev pub at_field : ℕ → List ℕ
 at_field checkpoint = codes "at=" ++ decimal checkpoint
 
--- the front with this state
-abbrev pub rested : LineStart → ℕ → Option Bool → LineStart
-rested head checkpoint for_good = record head { settled = Some (record { checkpoint = checkpoint; for_good = for_good }) }
+-- the start with this state
+abbrev pub settled_start : LineStart → ℕ → Option Bool → LineStart
+settled_start head checkpoint for_good = record head { settled = Some (record { checkpoint = checkpoint; for_good = for_good }) }
 
-rested_lawful : (head : LineStart) (checkpoint : ℕ) (for_good : Option Bool) → IsHead head → checkpoint ≤ 100000 → IsMark head.version for_good
-    → IsClaim (claimed (rested head checkpoint for_good) [])
+settled_start_lawful : (head : LineStart) (checkpoint : ℕ) (for_good : Option Bool) → IsHead head → checkpoint ≤ 100000 → IsMark head.version for_good
+    → IsClaim (claimed (settled_start head checkpoint for_good) [])
 unfolding IsStrictlySortedBy
-rested_lawful head checkpoint for_good h most mark = record {
+settled_start_lawful head checkpoint for_good h most mark = record {
   version = h.lawful.version;
   rule = h.lawful.rule;
   profile = h.lawful.profile;
@@ -115,26 +115,26 @@ rested_lawful head checkpoint for_good h most mark = record {
   found = record { checkpoint = most; mark = mark; counts = All-nil IsCount; in_order = tt };
 }
 
-rested_fields : (head : LineStart) (checkpoint : ℕ) (for_good : Option Bool)
-    → fields_of (claimed (rested head checkpoint for_good) []) ≡ head_of (claimed head []) ++ at_field checkpoint ∷ mark_fields for_good
+settled_start_fields : (head : LineStart) (checkpoint : ℕ) (for_good : Option Bool)
+    → fields_of (claimed (settled_start head checkpoint for_good) []) ≡ head_of (claimed head []) ++ at_field checkpoint ∷ mark_fields for_good
 unfolding head_fields found_fields
-rested_fields head checkpoint for_good =
+settled_start_fields head checkpoint for_good =
     ap (λ (t : List (List ℕ)). head_of (claimed head []) ++ at_field checkpoint ∷ t) (append-nil (mark_fields for_good))
 
 is_settled : (line : List ℕ) (head : LineStart) (checkpoint : ℕ) (for_good : Option Bool) (rest : Option (List ℕ)) → IsHead head → checkpoint ≤ 100000
     → IsMark head.version for_good → FollowsFields line (head_of (claimed head []) ++ at_field checkpoint ∷ mark_fields for_good) rest
-    → HasReadStart line (rested head checkpoint for_good) rest
+    → HasReadStart line (settled_start head checkpoint for_good) rest
 is_settled line head checkpoint for_good rest h most mark f = record {
-  lawful = rested_lawful head checkpoint for_good h most mark;
-  follows = subst (λ (fields : List (List ℕ)). FollowsFields line fields rest) (sym (rested_fields head checkpoint for_good)) f;
+  lawful = settled_start_lawful head checkpoint for_good h most mark;
+  follows = subst (λ (fields : List (List ℕ)). FollowsFields line fields rest) (sym (settled_start_fields head checkpoint for_good)) f;
   settled = λ here e g. absurd (cc);
 }
 
 -- version 1 has no mark
-pub settled_first : (line : List ℕ) (head front : LineStart) (checkpoint : ℕ) (rest : Option (List ℕ)) → IsHead head → checkpoint ≤ 100000 → head.version ≡ 1
-    → FollowsFields line (head_of (claimed head []) ++ at_field checkpoint ∷ []) rest → front ≡ rested head checkpoint None → HasReadStart line front rest
+pub settled_first : (line : List ℕ) (head start : LineStart) (checkpoint : ℕ) (rest : Option (List ℕ)) → IsHead head → checkpoint ≤ 100000 → head.version ≡ 1
+    → FollowsFields line (head_of (claimed head []) ++ at_field checkpoint ∷ []) rest → start ≡ settled_start head checkpoint None → HasReadStart line start rest
 unfolding mark_fields
-settled_first line head front checkpoint rest h most one f e =
+settled_first line head start checkpoint rest h most one f e =
     subst (λ (r : LineStart). HasReadStart line r rest) (sym e) (is_settled line head checkpoint None rest h most one f)
 
 pub is_second : (head : LineStart) → IsHead head → head.version ≢ 1 → head.version ≡ 2
@@ -145,11 +145,11 @@ is_second head h n = go h.lawful.version
     go (inr e) = e
 
 -- version 2 has one
-pub settled_second : (line : List ℕ) (head front : LineStart) (checkpoint : ℕ) (here field : List ℕ) (for_good : Bool) (more : Option (List ℕ)) → IsHead head
+pub settled_second : (line : List ℕ) (head start : LineStart) (checkpoint : ℕ) (here field : List ℕ) (for_good : Bool) (more : Option (List ℕ)) → IsHead head
     → checkpoint ≤ 100000 → head.version ≢ 1 → FollowsFields line (head_of (claimed head []) ++ at_field checkpoint ∷ []) (Some here) → Cuts 32 here field more
-    → field ≡ mark_field for_good → front ≡ rested head checkpoint (Some for_good) → HasReadStart line front more
+    → field ≡ mark_field for_good → start ≡ settled_start head checkpoint (Some for_good) → HasReadStart line start more
 unfolding mark_fields
-settled_second line head front checkpoint here field for_good more h most n f c e g =
+settled_second line head start checkpoint here field for_good more h most n f c e g =
     let own = claimed head [] in
     let k : FollowsFields line ((head_of own ++ at_field checkpoint ∷ []) ++ mark_field for_good ∷ []) more =
     subst (λ (t : List ℕ). FollowsFields line ((head_of own ++ at_field checkpoint ∷ []) ++ t ∷ []) more) e
@@ -161,15 +161,15 @@ begin_mark : (head : LineStart) (checkpoint : ℕ) → IsHead head → checkpoin
     → BeginClaim (head_of (claimed head []) ++ at_field checkpoint ∷ [])
 unfolding mark_fields
 begin_mark head checkpoint h most two = record {
-  claim = claimed (rested head checkpoint (Some false)) [];
-  lawful = rested_lawful head checkpoint (Some false) h most two;
+  claim = claimed (settled_start head checkpoint (Some false)) [];
+  lawful = settled_start_lawful head checkpoint (Some false) h most two;
   more = mark_field false ∷ [];
-  spelled = rested_fields head checkpoint (Some false)
+  spelled = settled_start_fields head checkpoint (Some false)
       ∙ sym (append_assoc (head_of (claimed head [])) (at_field checkpoint ∷ []) (mark_field false ∷ []));
 }
 
 -- a mark stands after the checkpoint in version 2
-marked : (version : ℕ) (found : Option Told) (checkpoint : ℕ) (rest : List (List ℕ)) → version ≡ 2 → IsFound version found
+marked : (version : ℕ) (found : Option SaidOfSoup) (checkpoint : ℕ) (rest : List (List ℕ)) → version ≡ 2 → IsFound version found
     → found_fields found ≡ at_field checkpoint ∷ rest → (for_good : Bool) × ((more : List (List ℕ)) × (rest ≡ mark_field for_good ∷ more))
 unfolding found_fields mark_fields
 marked version None checkpoint rest two h e = absurd (at_other checkpoint (let h : codes "at=" ++ decimal checkpoint ≡ codes "unsettled" = cc in h))

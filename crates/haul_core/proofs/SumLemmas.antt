@@ -19,7 +19,7 @@ use Rattle.haul_core.specs.declared.book.scores.Score.{Score}
 use Rattle.haul_core.specs.Keeping.{score_of}
 use Rattle.haul_core.specs.RowSteps.{AreRowsFrom, with_objects}
 use Rattle.haul_core.specs.Rows.{AreRowsOf, IsRowOf, codes_of}
-use Rattle.haul_core.specs.Scores.{no_score, row_of, score_in}
+use Rattle.haul_core.specs.Scores.{no_score, found_score, score_in}
 use Rattle.haul_core.specs.Samples.{AreLeastThree}
 use Rattle.haul_core.specs.Totals.{Survey, count_in, numbers_with, total}
 use Rattle.haul_core.proofs.LeastLemmas.{least_is}
@@ -39,12 +39,12 @@ pub rows_of_surveys : (scores : List (List ℕ × Score)) (surveys : List Survey
     → ((code : List ℕ) → score_in scores code ≡ score_of surveys code) → AreRowsOf surveys rows
 rows_of_surveys scores surveys rows from same = record {
   in_order = from.in_order;
-  each = All-weaker (λ row. with_objects (row_of scores row.code) ≡ Some (record { total = row.total; samples = row.samples })) (IsRowOf surveys)
-      (λ row h. row_is row (with_objects_some (row_of scores row.code) (record { total = row.total; samples = row.samples }) h)) rows from.each;
-  whole = λ code some. from.whole code (found code (row_of scores code) refl some);
+  each = All-weaker (λ row. with_objects (found_score scores row.code) ≡ Some (record { total = row.total; samples = row.samples })) (IsRowOf surveys)
+      (λ row h. row_is row (with_objects_some (found_score scores row.code) (record { total = row.total; samples = row.samples }) h)) rows from.each;
+  whole = λ code some. from.whole code (found code (found_score scores code) refl some);
 }
   where
-    row_is : (row : Row) → (row_of scores row.code ≡ Some (record { total = row.total; samples = row.samples })) × (1 ≤ row.total) → IsRowOf surveys row
+    row_is : (row : Row) → (found_score scores row.code ≡ Some (record { total = row.total; samples = row.samples })) × (1 ≤ row.total) → IsRowOf surveys row
     row_is row h =
         let told : record { total = row.total; samples = row.samples } ≡ score_of surveys row.code =
         sym (ap (λ (o : Option Score). unwrap_or o no_score) h.0) ∙ same row.code in
@@ -54,7 +54,7 @@ rows_of_surveys scores surveys rows from same = record {
           samples_are = subst (AreLeastThree (numbers_with surveys row.code)) (sym (ap (λ (t : Score). t.samples) told)) (least_is (numbers_with surveys row.code));
         }
 
-    found : (code : List ℕ) (o : Option Score) → row_of scores code ≡ o → 1 ≤ total surveys code → IsSome (with_objects (row_of scores code))
+    found : (code : List ℕ) (o : Option Score) → found_score scores code ≡ o → 1 ≤ total surveys code → IsSome (with_objects (found_score scores code))
     found code None e some =
         let none : 0 ≡ total surveys code = ap (λ (t : Score). t.total) (sym (ap (λ (o : Option Score). unwrap_or o no_score) e)
         ∙ same code) in absurd (omega arith)

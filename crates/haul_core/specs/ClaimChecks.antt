@@ -10,12 +10,12 @@ use Rattle.survey_core.specs.declared.job.Job.{Job}
 use Rattle.haul_core.specs.declared.report.claim.check.CheckError.{CheckError}
 use Rattle.haul_core.specs.declared.report.claim.check.CheckError.TheVariants.{Disagrees, Memory, OtherJob}
 use Rattle.survey_core.specs.Jobs.{same_job}
-use Rattle.haul_core.specs.ReportLines.{Claimed, claim_of, told_in}
+use Rattle.haul_core.specs.ReportLines.{Claimed, claim_of, said_of}
 use Rattle.haul_core.specs.Reports.{IsReport, Reported}
 
 -- the claim says of the soup what the finding does, in the words of the claim's version: version 1 has no mark
 abbrev pub Agrees : Claimed → Finding → Type 0
-Agrees claim finding = told_in claim.version finding ≡ claim.found
+Agrees claim finding = said_of claim.version finding ≡ claim.found
 
 -- the finding of the soup that the claim is about
 abbrev pub IsFoundFor : Claimed → Finding → Type 0

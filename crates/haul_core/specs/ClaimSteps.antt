@@ -7,24 +7,24 @@ use Rattle.haul_core.specs.declared.report.claim.read_start.LineStart.{LineStart
 use Rattle.haul_core.specs.declared.report.claim.read_start.WhenSettled.{WhenSettled}
 use Rattle.haul_core.specs.Claims.{fields_of, followed}
 use Rattle.haul_core.specs.HaulTexts.{line_of}
-use Rattle.haul_core.specs.ReportLines.{Claimed, IsClaim, IsCount, Told, head_fields}
+use Rattle.haul_core.specs.ReportLines.{Claimed, IsClaim, IsCount, SaidOfSoup, head_fields}
 
 -- the seven fields of the head
 abbrev pub head_of : Claimed → List (List ℕ)
 head_of claim = codes "report" ∷ head_fields claim
 
-abbrev pub told_of : Option WhenSettled → List (List ℕ × ℕ) → Option Told
-told_of None counts = None
-told_of (Some rested) counts = Some (record { checkpoint = rested.checkpoint; for_good = rested.for_good; counts = counts })
+abbrev pub said_with : Option WhenSettled → List (List ℕ × ℕ) → Option SaidOfSoup
+said_with None counts = None
+said_with (Some at_rest) counts = Some (record { checkpoint = at_rest.checkpoint; for_good = at_rest.for_good; counts = counts })
 
--- what a line with this front and these counts says
+-- what a line with this start and these counts says
 abbrev pub claimed : LineStart → List (List ℕ × ℕ) → Claimed
-claimed front counts = record {
-  version = front.version;
-  job = front.job;
-  worker = front.worker;
-  number = front.number;
-  found = told_of front.settled counts;
+claimed start counts = record {
+  version = start.version;
+  job = start.job;
+  worker = start.worker;
+  number = start.number;
+  found = said_with start.settled counts;
 }
 
 abbrev pub IsLineOf : List (List ℕ) → List ℕ → Type 0
@@ -53,15 +53,15 @@ pub record IsHead (head : LineStart) : Type 0 where
   pub none : head.settled ≡ None
 
 -- so many fields of the head have been read
-pub record HasHead (line : List ℕ) (place : ℕ) (front : LineStart) (rest : Option (List ℕ)) : Type 0 where
-  pub head : IsHead front
-  pub follows : FollowsFields line (take place (head_of (claimed front []))) rest
+pub record HasHead (line : List ℕ) (place : ℕ) (start : LineStart) (rest : Option (List ℕ)) : Type 0 where
+  pub head : IsHead start
+  pub follows : FollowsFields line (take place (head_of (claimed start []))) rest
 
 -- all before the counts has been read; only a soup that settled has counts
-pub record HasReadStart (line : List ℕ) (front : LineStart) (rest : Option (List ℕ)) : Type 0 where
-  pub lawful : IsClaim (claimed front [])
-  pub follows : FollowsFields line (fields_of (claimed front [])) rest
-  pub settled : (here : List ℕ) → rest ≡ Some here → front.settled ≢ None
+pub record HasReadStart (line : List ℕ) (start : LineStart) (rest : Option (List ℕ)) : Type 0 where
+  pub lawful : IsClaim (claimed start [])
+  pub follows : FollowsFields line (fields_of (claimed start [])) rest
+  pub settled : (here : List ℕ) → rest ≡ Some here → start.settled ≢ None
 
 -- the last code, if there is one
 abbrev pub last_code : List (List ℕ × ℕ) → Option (List ℕ)
@@ -79,8 +79,8 @@ abbrev pub MayFollow : Option (List ℕ) → (List ℕ × ℕ) → Type 0
 MayFollow last object = IsCount object × IsAfter last object.0
 
 -- these counts have been read, after all that stands before them
-pub record HasCounts (line : List ℕ) (front : LineStart) (counts : List (List ℕ × ℕ)) (last rest : Option (List ℕ)) : Type 0 where
-  pub lawful : IsClaim (claimed front counts)
-  pub follows : FollowsFields line (fields_of (claimed front counts)) rest
-  pub settled : (here : List ℕ) → rest ≡ Some here → front.settled ≢ None
+pub record HasCounts (line : List ℕ) (start : LineStart) (counts : List (List ℕ × ℕ)) (last rest : Option (List ℕ)) : Type 0 where
+  pub lawful : IsClaim (claimed start counts)
+  pub follows : FollowsFields line (fields_of (claimed start counts)) rest
+  pub settled : (here : List ℕ) → rest ≡ Some here → start.settled ≢ None
   pub latest : last ≡ last_code counts

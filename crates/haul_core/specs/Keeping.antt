@@ -18,19 +18,19 @@ numbers_in taken = map (λ t. t.1) taken
 abbrev pub samples : List Survey → List ℕ → List ℕ
 samples surveys code = least_three (numbers_with surveys code)
 
--- what a row has to say of a code
+-- what the score of a code has to be
 abbrev pub score_of : List Survey → List ℕ → Score
 score_of surveys code = record { total = total surveys code; samples = samples surveys code }
 
 -- what a haul keeps of its totals
 pub record Sums : Type 0 where
-  pub rows : List (List ℕ × Score)
+  pub scores : List (List ℕ × Score)
   pub unsettled : ℕ
   pub for_good : ℕ
 
 -- they are those of the surveys
 pub record AreSums (surveys : List Survey) (sums : Sums) : Type 0 where
-  pub rows : (code : List ℕ) → score_in sums.rows code ≡ score_of surveys code
+  pub scores : (code : List ℕ) → score_in sums.scores code ≡ score_of surveys code
   pub unsettled_sum : sums.unsettled ≡ unsettled surveys
   pub for_good_sum : sums.for_good ≡ for_good surveys
   pub few : All (λ s. objects_in s.finding < 2 ^ 64) surveys

@@ -17,7 +17,7 @@ use Rattle.haul_core.specs.HaulTexts.{ended, line_of}
 use Rattle.haul_core.specs.Reports.{IsWorker, Reported}
 
 -- what a line says of a soup that settled: when, whether for good, if it says so, and how many objects there are of each code
-pub record Told : Type 0 where
+pub record SaidOfSoup : Type 0 where
   pub checkpoint : ℕ
   pub for_good : Option Bool
   pub counts : List (List ℕ × ℕ)
@@ -28,7 +28,7 @@ pub record Claimed : Type 0 where
   pub job : Job
   pub worker : ℕ
   pub number : ℕ
-  pub found : Option Told
+  pub found : Option SaidOfSoup
 
 -- a code of 1 to 400 bytes, each one of `a` to `z`, `0` to `9` and `_`, and a count of 1 to 2^64 - 1
 pub record IsCount (object : List ℕ × ℕ) : Type 0 where
@@ -42,15 +42,15 @@ IsMark version None = version ≡ 1
 IsMark version (Some for_good) = version ≡ 2
 
 -- what a line may say of a soup that settled; codes stand in ASCII order, each once
-pub record IsTold (version : ℕ) (told : Told) : Type 0 where
+pub record IsSaid (version : ℕ) (told : SaidOfSoup) : Type 0 where
   pub checkpoint : told.checkpoint ≤ 100000
   pub mark : IsMark version told.for_good
   pub counts : All IsCount told.counts
   pub in_order : IsStrictlySortedBy (slice_cmp nat_cmp) (keys_of told.counts)
 
-abbrev pub IsFound : ℕ → Option Told → Type 0
+abbrev pub IsFound : ℕ → Option SaidOfSoup → Type 0
 IsFound version None = Unit {0}
-IsFound version (Some told) = IsTold version told
+IsFound version (Some told) = IsSaid version told
 
 -- what a line may say, right or wrong
 pub record IsClaim (claim : Claimed) : Type 0 where
@@ -93,7 +93,7 @@ abbrev pub count_field : (List ℕ × ℕ) → List ℕ
 count_field object = object.0 ++ (codes "*" ++ decimal object.1)
 
 -- what was found
-unfoldable pub found_fields : Option Told → List (List ℕ)
+unfoldable pub found_fields : Option SaidOfSoup → List (List ℕ)
 found_fields None = codes "unsettled" ∷ []
 found_fields (Some told) = (codes "at=" ++ decimal told.checkpoint) ∷ (mark_fields told.for_good ++ map count_field told.counts)
 
@@ -102,10 +102,10 @@ unfoldable pub claim_line : Claimed → List ℕ
 claim_line claim = line_of (codes "report") (head_fields claim ++ found_fields claim.found)
 
 -- what a line of a version says of a finding
-abbrev pub told_in : ℕ → Finding → Option Told
-told_in version (Settled checkpoint objects for_good) =
+abbrev pub said_of : ℕ → Finding → Option SaidOfSoup
+said_of version (Settled checkpoint objects for_good) =
     Some (record { checkpoint = checkpoint; for_good = if version == 1 then None else Some for_good; counts = objects })
-told_in version Unsettled = None
+said_of version Unsettled = None
 
 -- a report, as a line of a version says it
 abbrev pub claim_of : ℕ → Reported → Claimed
@@ -114,7 +114,7 @@ claim_of version report = record {
   job = report.job;
   worker = report.worker;
   number = report.number;
-  found = told_in version report.finding;
+  found = said_of version report.finding;
 }
 
 -- the line of a report, in version 2, with the line feed that ends it

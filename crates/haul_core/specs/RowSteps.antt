@@ -3,7 +3,7 @@ use Rattle.std.specs.Prelude.{◌≡◌, ℕ, All, IsSome, List, Option, None, S
 use Rattle.std.specs.List.{list_any}
 use Rattle.survey_core.specs.Objects.{is_code}
 use Rattle.haul_core.specs.Rows.{AreInOrder, codes_of}
-use Rattle.haul_core.specs.Scores.{row_of}
+use Rattle.haul_core.specs.Scores.{found_score}
 use Rattle.haul_core.specs.declared.book.census_rows.Row.{Row}
 use Rattle.haul_core.specs.declared.book.scores.Score.{Score}
 
@@ -19,5 +19,5 @@ row_from code score = record { code = code; total = score.total; samples = score
 -- the rows of the codes whose scores have an object
 pub record AreRowsFrom (scores : List (List ℕ × Score)) (rows : List Row) : Type 0 where
   pub in_order : AreInOrder rows
-  pub each : All (λ row. with_objects (row_of scores row.code) ≡ Some (record { total = row.total; samples = row.samples })) rows
-  pub whole : (code : List ℕ) → IsSome (with_objects (row_of scores code)) → list_any (is_code code) (codes_of rows) ≡ true
+  pub each : All (λ row. with_objects (found_score scores row.code) ≡ Some (record { total = row.total; samples = row.samples })) rows
+  pub whole : (code : List ℕ) → IsSome (with_objects (found_score scores code)) → list_any (is_code code) (codes_of rows) ≡ true

@@ -1,14 +1,14 @@
 //! The book: what a haul takes of the reports that come to it, and what it says of them in the end.
 //!
 //! ```text
-//! reports ── offer ──> haul ── census ──> rows ── write_haul ──> haul text
+//! reports ── offer ──> haul ── census ──> totals ── write_haul ──> haul text
 //!              │         │
 //!         or refused     ├─ taken    1 5 | 2 4 | 1 6      worker and soup of each report, in that order
 //!                        └─ scores   xs4_33 9 | xp2_7 5   of each code the total, and the least three soups
 //! ```
 //!
-//! A soup is taken once: whatever comes of it afterwards is refused as a double. No report is kept, so a haul needs
-//! room for its set and for the codes that were found.
+//! A soup is taken once: a later report on it is refused as a double. No report is kept: a haul has room for its
+//! ranges, for the numbers that it has taken, and for the codes that were found.
 
 /// What arrives at a haul, and what is replied.
 pub mod arrival;

@@ -33,8 +33,8 @@ impl From<AllocError> for InputError {
 ///
 /// # Errors
 ///
-/// `Unreadable` if a read fails or there are more than [`INPUT_LIMIT`] bytes, and `Memory`. How much of the input
-/// was read by then is left open.
+/// `Unreadable` if a read fails or there are more than [`INPUT_LIMIT`] bytes, and `Memory`. How much of the input was
+/// read by then is left open.
 pub fn read_input<R: Read>(alloc: Global, input: &mut R) -> Result<Vec<u8>, InputError>
     ensures whole { IfOk result (λ bytes. IfSome (R.remaining input.old) (λ known. bytes.items ≡ known)) }
     ensures short { IfOk result (λ bytes. vec_len bytes ≤ 2 ^ 24) }

@@ -32,8 +32,8 @@ use survey_core::finding::{Finding, survey_pattern};
 /// # Errors
 ///
 /// The status is `Refused` if the horizon is below the period, or for a text that is not a rule or an input that is not
-/// a pattern, `Memory`, or `Failed` if the input can't be read or the output can't be written. Then one line
-/// stands on `errors`; a failure to write that line is not reported.
+/// a pattern, `Memory`, or `Failed` if the input can't be read or the output can't be written. Then one line stands on
+/// `errors`; a failure to write that line is not reported.
 pub fn do_name<R: Read, W: Write, E: Write>(
     alloc: Global,
     profile: ProfileNumbers,

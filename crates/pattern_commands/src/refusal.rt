@@ -6,7 +6,7 @@ use code_core::decimal::put_number;
 use plane_core::output::{Out, WriteError};
 use std::io::Write;
 
-/// Why a text was refused: it is not of its form.
+/// Why a text was refused: it is not of its form, or what it says goes past a limit or doesn't go together.
 #[derive(Clone, Copy)]
 pub enum Refusal {
     /// A byte of a plaintext pattern that stands for no cell. Lines and columns count from 1.

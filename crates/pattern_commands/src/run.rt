@@ -30,8 +30,8 @@ pub const GENERATION_LIMIT: u32 = 100_000;
 ///
 /// # Errors
 ///
-/// The status is `Refused` for a text that is not a rule or an input that is not a pattern, `Memory`, or `Failed`
-/// if the input can't be read or the output can't be written. Then one line stands on `errors`; a failure to write that
+/// The status is `Refused` for a text that is not a rule or an input that is not a pattern, `Memory`, or `Failed` if
+/// the input can't be read or the output can't be written. Then one line stands on `errors`; a failure to write that
 /// line is not reported.
 pub fn do_run<R: Read, W: Write, E: Write>(
     alloc: Global,

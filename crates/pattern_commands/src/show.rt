@@ -24,8 +24,8 @@ use std::io::Write;
 /// # Errors
 ///
 /// The status is `Refused` if what stands before the first `_` is not such a prefix, or the text is not of its form;
-/// `Memory`; or `Failed` if the output can't be written. Then one line stands on `errors`; a failure to write that
-/// line is not reported.
+/// `Memory`; or `Failed` if the output can't be written. Then one line stands on `errors`; a failure to write that line
+/// is not reported.
 pub fn do_show<W: Write, E: Write>(
     alloc: Global,
     code: &str,

@@ -24,8 +24,8 @@ use survey_core::soup::soup;
 ///
 /// # Errors
 ///
-/// The status is `Refused` if the text is not a seed, `Memory`, or `Failed` if the output can't be written. Then
-/// one line stands on `errors`; a failure to write that line is not reported.
+/// The status is `Refused` if the text is not a seed, `Memory`, or `Failed` if the output can't be written. Then one
+/// line stands on `errors`; a failure to write that line is not reported.
 pub fn do_soup<W: Write, E: Write>(
     alloc: Global,
     seed_text: &str,

@@ -8,7 +8,7 @@ pub enum Status {
     Done,
     /// The words after the program's name were not understood, or asked for help.
     Usage,
-    /// A text was refused: a pattern, a rule or a code that is not of its form.
+    /// A text or an input was refused: a pattern, rule, code, seed, profile or set of soups that isn't as it has to be.
     Refused,
     /// Memory ran out.
     Memory,

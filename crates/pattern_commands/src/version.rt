@@ -16,8 +16,8 @@ use std::io::Write;
 ///
 /// # Errors
 ///
-/// The status is `Failed` if the output can't be written. Then a line stands on `errors`; a failure to write that
-/// line is not reported.
+/// The status is `Failed` if the output can't be written. Then a line stands on `errors`; a failure to write that line
+/// is not reported.
 pub fn do_version<W: Write, E: Write>(output: &mut Out<W>, errors: &mut Out<E>) -> Status
     requires output { output.old.failed ≡ false }
     requires errors { errors.old.failed ≡ false }

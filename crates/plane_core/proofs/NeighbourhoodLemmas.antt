@@ -1,4 +1,4 @@
--- The block of a cell: the nine cells at king distance at most 1 from it, counted along rows and columns.
+-- The neighbourhood of a cell: the nine cells at king distance at most 1 from it, counted along rows and columns.
 use Rattle.std.proofs.Common.{◌≡◌, ◌==◌, ℕ, ℤ, pos, negsuc, ◌+ℤ◌, ◌<ℤ◌, ◌+◌, ◌≤◌, max, Bool, true, false, ◌&&◌}
 use Rattle.std.proofs.Common.{List, [], ◌∷◌, arith, cond, refl, ap, ◌∙◌, sym, inl, inr, ◌⊎◌, map, add-zero}
 use Rattle.std.specs.Cmp.{signed_Decides}

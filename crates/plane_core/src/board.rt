@@ -138,8 +138,8 @@ fn along(cell: Cell, columns: usize) -> Cell
     }
 }
 
-/// Reads the cells of a row from the left, and adds them to a list. The lanes before the first and from the end on
-/// have none.
+/// Reads the cells of a row from the left, and adds them to a list. The lanes before the first and from the end on have
+/// none.
 fn read_row(
     at: Layout,
     words: &[u64],
@@ -164,8 +164,8 @@ fn read_row(
     Ok(())
 }
 
-/// Reads the cells of a band, which is a block of each lane, row by row, and adds them to a list. Most bands are
-/// empty, and of the others most blocks, since a board is laid out for what its cells may become.
+/// Reads the cells of a band, which is a block of each lane, row by row, and adds them to a list. Most bands are empty,
+/// and of the others most blocks, since a board is laid out for what its cells may become.
 fn read_band(
     at: Layout,
     words: &[u64],

@@ -4,7 +4,7 @@
 //! word for each row. The outer blocks have no live cell, and get none in the generations that the board is for:
 //!
 //! ```text
-//!            lane 0    lane 1    lane 2
+//!             lane 0    lane 1    lane 2
 //! block 0   |  outer  |  outer  |  outer  |
 //! block 1   |  outer  |  cells  |  outer  |   8 rows of 64 columns each
 //! block 2   |  outer  |  outer  |  outer  |

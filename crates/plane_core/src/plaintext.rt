@@ -24,7 +24,7 @@ use std::io::Write;
 use thiserror::Error;
 
 /// The most columns, or rows, that a text may have, dead cells included. Empty rows may follow.
-pub const SIDE_LIMIT: usize = 1_000;
+pub const PLAINTEXT_SIDE_LIMIT: usize = 1_000;
 
 const DEAD: u8 = b'.';
 
@@ -151,7 +151,7 @@ fn fault_at(line: usize, y: usize, x: usize, byte: u8) -> Option<PlaintextFault>
             column: x + 1,
         });
     }
-    if x < SIDE_LIMIT && y < SIDE_LIMIT {
+    if x < PLAINTEXT_SIDE_LIMIT && y < PLAINTEXT_SIDE_LIMIT {
         None
     } else {
         Some(PlaintextFault::TooLarge)

@@ -16,9 +16,9 @@ ghost use Rattle.std.specs.Prelude.{◌≡◌, true, ℕ, ◌+◌, ◌<◌, ◌^
 ghost use Rattle.std.specs.Prelude.{MatchOption, unsigned_abs, neg_ℤ};
 ghost use Rattle.std.specs.List.{list_all};
 ghost use Rattle.plane_core.specs.Cells.{InOrder, IsPattern, moved_by, near_plane};
-ghost use Rattle.plane_core.specs.Tallies.{AddsNeighbours, CountsNeighbourhoods, IsMerged, cells_of, counted_at, alive_at};
-ghost use Rattle.plane_core.specs.Tallies.{one_of, moved_tally, tally_lives, count_first, alive_first, rest_at};
-ghost use Rattle.plane_core.specs.Tallies.{first_of, earlier_of};
+ghost use Rattle.plane_core.specs.Tallies.{AddsNeighbours, CountsNeighbourhoods, IsMerged, cells_of, counted_at};
+ghost use Rattle.plane_core.specs.Tallies.{alive_at, alive_first, count_first, earlier_of, first_of, moved_tally};
+ghost use Rattle.plane_core.specs.Tallies.{one_of, rest_at, tally_lives};
 ghost use Rattle.plane_core.specs.declared.cell.Cell.{Cell};
 ghost use Rattle.plane_core.specs.declared.tally.Tally.{Tally};
 

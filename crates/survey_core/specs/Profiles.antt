@@ -1,7 +1,7 @@
 -- Profiles: when a pattern counts as settled, in four numbers.
 use Rattle.std.specs.Prelude.{◌≡◌, ◌*◌, ◌≤◌, ◌&&◌, ℕ, Bool, not, Result, Ok, Err, nat_le, if◌then◌else◌}
 use Rattle.survey_core.specs.declared.profile.ProfileError.{ProfileError}
-use Rattle.survey_core.specs.declared.profile.ProfileError.TheVariants as fault
+use Rattle.survey_core.specs.declared.profile.ProfileError.TheVariants as error
 
 -- the longest period that counts, how far the test of rest looks ahead, from one checkpoint to the next, and the last checkpoint
 pub record Settling : Type 0 where
@@ -26,10 +26,10 @@ is_from_to least most n = nat_le least n && nat_le n most
 -- the profile of four numbers, or the first of them that lies outside its range
 abbrev pub profile_of : Settling → Result Settling ProfileError
 profile_of p =
-    if not (is_from_to 1 64 p.period) then Err fault.Period
-    else if not (is_from_to p.period 4096 p.horizon) then Err fault.Horizon
-    else if not (is_from_to 1 10000 p.stride) then Err fault.Stride
-    else if not (nat_le p.limit 100000) then Err fault.Limit
+    if not (is_from_to 1 64 p.period) then Err error.Period
+    else if not (is_from_to p.period 4096 p.horizon) then Err error.Horizon
+    else if not (is_from_to 1 10000 p.stride) then Err error.Stride
+    else if not (nat_le p.limit 100000) then Err error.Limit
     else Ok p
 
 -- the profile that is meant where nothing else is said

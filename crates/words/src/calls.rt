@@ -34,8 +34,8 @@ impl From<AllocError> for Unasked {
 ///
 /// # Errors
 ///
-/// - [`Unasked::Usage`]: `clap` finds a fault in the words, or they ask for help.
-/// - [`Unasked::Memory`].
+/// - [`Unasked::Usage`] if `clap` finds a fault in the words, or they ask for help.
+/// - [`Unasked::Memory`] if memory runs out.
 pub fn request_of<'a, S: AsStr>(alloc: Global, words: &'a [S]) -> Result<Request<'a>, Unasked>
     ensures asked { IfOk result (λ request. asked_by (map S.text words.entry.now) ≡ Some request) }
     ensures ranges { IfOk result AreInTheirRanges }

@@ -1,9 +1,9 @@
 //! What the words of a call of `census` ask for, as plain values.
 //!
 //! ```text
-//! options (one table)  ->  application (clap reads words by it)
-//!         \                        |
-//!          `--------------->  reading  ->  Request
+//! options, commands (tables)  ->  application (clap reads words by it)
+//!         \                              |
+//!          `--------------------->  reading  ->  Request
 //! ```
 //!
 //! It knows nothing of Life: a rule, a seed or a code is a text here, and nobody has looked at its form.
@@ -11,12 +11,12 @@
 
 /// The commands and their arguments, as `clap` reads words by them.
 pub mod application;
-/// The table of the arguments.
-pub mod options;
 /// What the words of a call ask for.
 pub mod calls;
 /// The table of the commands.
 pub mod commands;
+/// The table of the arguments.
+pub mod options;
 /// What is found for the arguments of a command, put together.
 pub mod reading;
 /// What words ask for.

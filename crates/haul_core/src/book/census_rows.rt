@@ -6,7 +6,7 @@ ghost use Rattle.std.specs.Ordering.{nat_cmp};
 ghost use Rattle.survey_core.specs.Objects.{is_code};
 ghost use Rattle.haul_core.specs.Rows.{AreInOrder};
 ghost use Rattle.haul_core.specs.RowSteps.{AreRowsFrom, row_from, with_objects};
-ghost use Rattle.haul_core.specs.Scores.{row_of};
+ghost use Rattle.haul_core.specs.Scores.{found_score};
 
 use crate::book::samples::Samples;
 use crate::book::scores::Score;
@@ -35,9 +35,9 @@ pub struct Rows {
 impl Model for Rows {
     ghost use Rattle.std.specs.Prelude.{List};
     ghost use Rattle.haul_core.specs.Rows.{AreInOrder};
-    ghost use Rattle.haul_core.specs.declared.book.census_rows.Row.{Row as Line};
+    ghost use Rattle.haul_core.specs.declared.book.census_rows.Row.{Row as CensusRow};
 
-    ghost Value = { List Line };
+    ghost Value = { List CensusRow };
 
     ghost view = { λ r. r.rows.items };
 
@@ -72,7 +72,7 @@ fn with_objects(
     scores: &IndexMap<Apgcode, Score>,
 ) -> Result<BTreeMap<Apgcode, Score>, AllocError>
     ensures { IfOk result (λ kept. (code : List ℕ)
-        → lookup (is_code code) kept.entries ≡ with_objects (row_of scores.now.entries code)) }
+        → lookup (is_code code) kept.entries ≡ with_objects (found_score scores.now.entries code)) }
 {
     let mut kept = BTreeMap::new(alloc);
     for index in 0..scores.len() {

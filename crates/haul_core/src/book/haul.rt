@@ -19,7 +19,7 @@ ghost use Rattle.haul_core.specs.Keeping.{numbers_in};
 ghost use Rattle.haul_core.specs.Missing.{AreAll, IsComplete, missing_of};
 ghost use Rattle.ranges.specs.Ranges.{AreBelow, AreNormal, AreSmall, IsNormalForm, Overlap, is_in, number_bound, size_of};
 ghost use Rattle.haul_core.specs.Reports.{IsWorker};
-ghost use Rattle.haul_core.specs.Scores.{Extends, HasRows};
+ghost use Rattle.haul_core.specs.Scores.{Extends, HasScores};
 ghost use Rattle.haul_core.specs.declared.book.arrival.Arrival.{Arrival};
 ghost use Rattle.haul_core.specs.declared.book.arrival.Arrival.TheVariants as arrival;
 ghost use Rattle.haul_core.specs.declared.book.haul.OpenError.TheVariants.{BadRange, BadWorkers, Memory};
@@ -107,7 +107,7 @@ impl Model for Haul {
           closed = h.closed;
           taken = h.taken.items;
         }) h.count h.worker_of.entries
-        (record { rows = h.totals.rows.entries; unsettled = h.totals.unsettled; for_good = h.totals.for_good }) };
+        (record { scores = h.totals.scores.entries; unsettled = h.totals.unsettled; for_good = h.totals.for_good }) };
 }
 
 impl Haul {
@@ -283,7 +283,7 @@ impl Haul {
             totals,
             ..
         } = self;
-        let rows = Rows::of_scores(*alloc, &totals.rows)?;
+        let rows = Rows::of_scores(*alloc, &totals.scores)?;
         let objects = sum_of_totals(rows.as_slice());
         Ok(Census {
             job: *job,
@@ -374,12 +374,12 @@ fn make_room(
 ) -> Result<(), AllocError>
     ensures taken { taken.new.items ≡ taken.old.items }
     ensures workers { worker_of.new.entries ≡ worker_of.old.entries }
-    ensures extends { Extends totals.old.rows.entries totals.new.rows.entries }
+    ensures extends { Extends totals.old.scores.entries totals.new.scores.entries }
     ensures unsettled { totals.new.unsettled ≡ totals.old.unsettled }
     ensures for_good { totals.new.for_good ≡ totals.old.for_good }
     ensures room { OnOk result (vec_len taken.new + 1 ≤ vec_capacity taken.new) }
     ensures spare { OnOk result (1 ≤ spare worker_of.new) }
-    ensures rows { OnOk result (HasRows finding.now totals.new.rows.entries) }
+    ensures scores { OnOk result (HasScores finding.now totals.new.scores.entries) }
 {
     taken.reserve(1)?;
     worker_of.reserve(1)?;

@@ -2,8 +2,7 @@ ghost use Rattle.std.specs.Prelude.{◌≡◌, false, map};
 ghost use Rattle.plane_core.specs.Out.{Writes};
 ghost use Rattle.haul_core.specs.HaulLaws.{CompleteHaulsPrintTheSame, SameSoupsPrintTheSame};
 ghost use Rattle.haul_core.specs.HaulTexts.{ended, haul_text, head_lines, line_of, profile_line, range_line};
-ghost use Rattle.haul_core.specs.HaulTexts.{range_lines};
-ghost use Rattle.haul_core.specs.HaulTexts.{sample_lines, sum_lines, text_of, total_lines};
+ghost use Rattle.haul_core.specs.HaulTexts.{range_lines, sample_lines, sum_lines, text_of, total_lines};
 
 use crate::book::census::Census;
 use crate::book::census_rows::Row;

@@ -90,9 +90,9 @@ pub struct SettledClaim {
 }
 
 impl Model for SettledClaim {
-    ghost use Rattle.haul_core.specs.ReportLines.{Told};
+    ghost use Rattle.haul_core.specs.ReportLines.{SaidOfSoup};
 
-    ghost Value = { Told };
+    ghost Value = { SaidOfSoup };
 
     ghost view = { λ s. record { checkpoint = s.checkpoint; for_good = s.for_good; counts = s.counts.items } };
 }

@@ -8,7 +8,7 @@ ghost use Rattle.std.specs.Prelude.{◌≡◌, ◌++◌, ℕ, List, Some, codes,
 ghost use Rattle.plane_core.specs.Out.{Writes};
 ghost use Rattle.haul_core.specs.HaulTexts.{line_of, spaced};
 ghost use Rattle.haul_core.specs.ReportLines.{claim_of, count_field, found_fields, head_fields, mark_fields};
-ghost use Rattle.haul_core.specs.ReportLines.{profile_field, report_text, told_in};
+ghost use Rattle.haul_core.specs.ReportLines.{profile_field, report_text, said_of};
 
 use crate::report::Report;
 use code_core::apgcode::Apgcode;
@@ -64,7 +64,7 @@ fn put_profile<W: Write>(out: &mut Out<W>, profile: &Profile) -> Result<(), Writ
 /// Writes the fields of a finding, with a space before each.
 fn put_finding<W: Write>(out: &mut Out<W>, finding: &Finding) -> Result<(), WriteError>
     requires { out.old.failed ≡ false }
-    ensures { Writes W.contents out.old out.new result (flat_map spaced (found_fields (told_in 2 finding.now))) }
+    ensures { Writes W.contents out.old out.new result (flat_map spaced (found_fields (said_of 2 finding.now))) }
 {
     match finding {
         Finding::Settled {

@@ -8,7 +8,7 @@ returns-in_ok-take_line-clause-short g c = c.in_ok-read.ensures.short
 pub returns-in_ok-take_line-clause-going : goal.returns-in_ok-take_line-clause-going
 returns-in_ok-take_line-clause-going g c known first size gathered =
     let read = c.in_ok-read.ensures in
-    let by = c.in_ok-take_line.ensures.met read.line gathered.lines gathered.told (c.as_slice.ensures.value ∙ read.kept_is) gathered.count_is gathered.met in
+    let by = c.in_ok-take_line.ensures.come read.line gathered.lines gathered.told (c.as_slice.ensures.value ∙ read.kept_is) gathered.count_is gathered.come in
     goes_on known _ _ first _ _ _ size _ _ _ c.in_ok-read.read gathered read c.if-read-gt0.true by c.in_ok-take_line.ensures.terms
 
 pub returns-else-read-gt0-clause-going : goal.returns-else-read-gt0-clause-going

@@ -2,16 +2,16 @@ use Rattle.std.proofs.Common.{rules, sym}
 use Rattle.commands.proofs.GatherLemmas.{faulty, refused_told, taken}
 use Rattle.commands.proofs.gather.offer_line.Goals as goal
 
-pub returns-in-Err-clause-met : goal.returns-in-Err-clause-met
-returns-in-Err-clause-met c line arrivals kept stands = faulty arrivals (search rules) stands
+pub returns-in-Err-clause-come : goal.returns-in-Err-clause-come
+returns-in-Err-clause-come c line arrivals kept stands = faulty arrivals (search rules) stands
 
-pub returns-in-Ok-offer-clause-met : goal.returns-in-Ok-offer-clause-met
-returns-in-Ok-offer-clause-met c line arrivals kept stands =
+pub returns-in-Ok-offer-clause-come : goal.returns-in-Ok-offer-clause-come
+returns-in-Ok-offer-clause-come c line arrivals kept stands =
     let said = c.in-Ok-offer.ensures in
     taken arrivals c.in-Ok.report (search rules) (said.reply arrivals stands) (said.stands arrivals stands (search rules))
 
-pub returns-in-Err-offer-clause-met : goal.returns-in-Err-offer-clause-met
-returns-in-Err-offer-clause-met c line arrivals kept stands =
+pub returns-in-Err-offer-clause-come : goal.returns-in-Err-offer-clause-come
+returns-in-Err-offer-clause-come c line arrivals kept stands =
     let said = c.in-Err-offer.ensures in
     let report = c.in-Ok.report in
     let worker = sym c.worker-worker.ensures.worker in

@@ -52,7 +52,7 @@ impl Haul {
             → IfOk result (StandsFor (joined_arrivals self.terms before other.terms after)) }
 
         // Which error it is, and what comes back.
-        ensures fault { IfErr result (λ refused. Hinders self other refused.2) }
+        ensures hinders { IfErr result (λ refused. Hinders self other refused.2) }
         ensures kept { IfErr result (λ refused. (refused.0 ≡ self) × (refused.1 ≡ other)) }
     {
         match one_of(&self, &other) {
@@ -62,7 +62,7 @@ impl Haul {
                 drop(other);
                 Ok(joined)
             }
-            Err(fault) => Err((self, other, fault)),
+            Err(error) => Err((self, other, error)),
         }
     }
 }
@@ -79,10 +79,10 @@ pub fn joined_hauls_add_up()
 fn one_of(first: &Haul, second: &Haul) -> Result<Haul, JoinError>
     ensures can { OnOk result (CanJoin first.now second.now) }
     ensures joined { IfOk result (IsJoined first.now second.now) }
-    ensures fault { IfErr result (Hinders first.now second.now) }
+    ensures hinders { IfErr result (Hinders first.now second.now) }
 {
-    if let Some(fault) = fault(first, second) {
-        return Err(fault);
+    if let Some(error) = hindrance(first, second) {
+        return Err(error);
     }
     match joined(first, second) {
         Ok(joined) => Ok(joined),
@@ -91,7 +91,7 @@ fn one_of(first: &Haul, second: &Haul) -> Result<Haul, JoinError>
 }
 
 /// Why the hauls can't be joined, if they can't, apart from memory.
-fn fault(first: &Haul, second: &Haul) -> Option<JoinError>
+fn hindrance(first: &Haul, second: &Haul) -> Option<JoinError>
     ensures some { IfSome result (Hinders first.now second.now) }
     ensures none { IfNone result (CanJoin first.now second.now) }
 {

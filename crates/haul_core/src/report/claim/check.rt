@@ -46,7 +46,7 @@ impl Claim {
             → MatchResult result (λ made. made ≡ report) (λ refused. refused.1 ≡ Memory) }
 
         // Which error it is, and what comes back.
-        ensures fault { IfErr result (λ refused. Fails self job.now refused.1) }
+        ensures fails { IfErr result (λ refused. Fails self job.now refused.1) }
         ensures kept { IfErr result (λ refused. refused.0 ≡ self) }
     {
         self.check_with(alloc, job, &mut Memo::without_room(alloc))
@@ -70,7 +70,7 @@ impl Claim {
             → MatchResult result (λ made. made ≡ report) (λ refused. refused.1 ≡ Memory) }
 
         // Which error it is, and what comes back.
-        ensures fault { IfErr result (λ refused. Fails self job.now refused.1) }
+        ensures fails { IfErr result (λ refused. Fails self job.now refused.1) }
         ensures kept { IfErr result (λ refused. refused.0 ≡ self) }
     {
         if !is_same_job(&self.job, job) {

@@ -97,7 +97,7 @@ fn fault_in_counts(line: &[u8], counts: Option<&[u8]>) -> Option<usize>
     None
 }
 
-/// The place in a line from which on this is its text.
+/// The place in a line where this text, which ends the line, begins.
 fn place_of(line: &[u8], there: &[u8]) -> usize
     ensures { result ≡ length line.now - length there.now }
 {
@@ -150,9 +150,9 @@ fn claim_of(start: LineStart, counts: Vec<(ClaimedCode, u64)>) -> Claim
     ensures lawful { IsClaim result }
 {
     let settled = match start.settled {
-        Some(rested) => Some(SettledClaim {
-            checkpoint: rested.checkpoint,
-            for_good: rested.for_good,
+        Some(at_rest) => Some(SettledClaim {
+            checkpoint: at_rest.checkpoint,
+            for_good: at_rest.for_good,
             counts,
         }),
         None => None,

@@ -3,15 +3,15 @@ use Rattle.plane_core.proofs.OutLemmas.{Writes_same, Writes_then, Writes_stops}
 use Rattle.survey_core.specs.declared.finding.Finding.{Finding}
 use Rattle.survey_core.specs.declared.finding.Finding.TheVariants.{Settled}
 use Rattle.haul_core.specs.HaulTexts.{spaced}
-use Rattle.haul_core.specs.ReportLines.{found_fields, mark_fields, told_in}
-use Rattle.haul_core.proofs.ReportLemmas.{counts_text, told_spelled, unsettled_spelled}
+use Rattle.haul_core.specs.ReportLines.{found_fields, mark_fields, said_of}
+use Rattle.haul_core.proofs.ReportLemmas.{counts_text, said_spelled, unsettled_spelled}
 use Rattle.haul_core.proofs.report.write.put_finding.Goals as goal
 
 settled : (finding : Finding) (checkpoint : ℕ) (objects : List (List ℕ × ℕ)) (for_good : Bool) → finding ≡ Settled checkpoint objects for_good
     → (codes " at=" ++ decimal checkpoint) ++ (flat_map spaced (mark_fields (Some for_good)) ++ counts_text objects)
-    ≡ flat_map spaced (found_fields (told_in 2 finding))
+    ≡ flat_map spaced (found_fields (said_of 2 finding))
 settled finding checkpoint objects for_good is =
-    told_spelled checkpoint for_good objects ∙ ap (λ f. flat_map spaced (found_fields (told_in 2 f))) (sym is)
+    said_spelled checkpoint for_good objects ∙ ap (λ f. flat_map spaced (found_fields (said_of 2 f))) (sym is)
 
 pub returns-in_err-put_number-in-Settled : goal.returns-in_err-put_number-in-Settled
 returns-in_err-put_number-in-Settled g c =
@@ -35,4 +35,4 @@ returns-in_ok-put_mark-in-Settled g c =
 
 pub returns-in-Unsettled : goal.returns-in-Unsettled
 returns-in-Unsettled g c =
-    Writes_same (unsettled_spelled ∙ ap (λ finding. flat_map spaced (found_fields (told_in 2 finding))) (sym c.in-Unsettled.is)) c.put.ensures
+    Writes_same (unsettled_spelled ∙ ap (λ finding. flat_map spaced (found_fields (said_of 2 finding))) (sym c.in-Unsettled.is)) c.put.ensures

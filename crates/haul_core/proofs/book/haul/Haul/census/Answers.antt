@@ -14,7 +14,7 @@ pub sum_of_totals-objects-requires : goal.sum_of_totals-objects-requires
 sum_of_totals-objects-requires c =
     let k = c.self.invariant in
     let rows : AreRowsOf k.surveys c.in_ok-rows.rows =
-    rows_of_surveys c.self.inside.totals.rows.entries k.surveys c.in_ok-rows.rows c.in_ok-rows.ensures k.sum.rows in
+    rows_of_surveys c.self.inside.totals.scores.entries k.surveys c.in_ok-rows.rows c.in_ok-rows.ensures k.sum.scores in
     let long : length k.surveys ≡ length c.self.inside.taken.items = same_length _ _ _ _ k in
     let small : sum_by (λ row. row.total) c.in_ok-rows.rows < 2 ^ 128 =
     sum_small k.surveys c.in_ok-rows.rows rows k.sum.few (omega (arith, c.self.inside.taken.ok.0, c.self.inside.taken.small)) in
@@ -44,6 +44,6 @@ returns c =
       soups_are = c.len.ensures ∙ h.taken.ok.0 ∙ sym (length-map h.taken.items (λ t. t.1));
       unsettled_are = k.sum.unsettled_sum;
       for_good_are = k.sum.for_good_sum;
-      rows_are = rows_of_surveys h.totals.rows.entries k.surveys c.in_ok-rows.rows c.in_ok-rows.ensures k.sum.rows;
+      rows_are = rows_of_surveys h.totals.scores.entries k.surveys c.in_ok-rows.rows c.in_ok-rows.ensures k.sum.scores;
       objects_are = c.sum_of_totals-objects.ensures ∙ ap (sum_by (λ row. row.total)) c.as_slice.ensures.rows;
     })

@@ -2,7 +2,7 @@ use Rattle.std.proofs.Common.{◌≡◌, ◌∙◌, ◌+◌, ◌++◌, ◌∷◌
 use Rattle.std.specs.Map.{lookup}
 use Rattle.haul_core.specs.Replies.{refusal_at}
 use Rattle.haul_core.specs.Books.{Held, StandsFor, Terms, entry}
-use Rattle.haul_core.specs.Scores.{HasLawfulObjects, HasRows, added, found_in, score_in}
+use Rattle.haul_core.specs.Scores.{HasLawfulObjects, HasScores, added, found_in, score_in}
 use Rattle.haul_core.specs.Totals.{is_for_good, is_unsettled}
 use Rattle.haul_core.specs.declared.book.arrival.Arrival.TheVariants.{Offer}
 use Rattle.std.proofs.lemmas.List.{length_push}
@@ -23,8 +23,8 @@ invariant_of-self c =
     let h = c.self.inside in
     keeps_mid (record { job = h.job; ranges = h.ranges; workers = h.workers }) h.closed h.taken.items c.make_room.new.taken.items h.count
     h.worker_of.entries c.make_room.new.worker_of.entries
-    (record { rows = h.totals.rows.entries; unsettled = h.totals.unsettled; for_good = h.totals.for_good })
-    (record { rows = c.make_room.new.totals.rows.entries; unsettled = c.make_room.new.totals.unsettled; for_good = c.make_room.new.totals.for_good })
+    (record { scores = h.totals.scores.entries; unsettled = h.totals.unsettled; for_good = h.totals.for_good })
+    (record { scores = c.make_room.new.totals.scores.entries; unsettled = c.make_room.new.totals.unsettled; for_good = c.make_room.new.totals.for_good })
     c.make_room.ensures.taken c.make_room.ensures.workers c.make_room.ensures.extends
     c.make_room.ensures.unsettled c.make_room.ensures.for_good c.self.invariant
 
@@ -40,13 +40,13 @@ add-requires c =
     let h = c.self.inside in
     let terms : Terms = record { job = h.job; ranges = h.ranges; workers = h.workers } in
     let old : Sums = record {
-      rows = c.make_room.new.totals.rows.entries;
+      scores = c.make_room.new.totals.scores.entries;
       unsettled = c.make_room.new.totals.unsettled;
       for_good =
           c.make_room.new.totals.for_good;
     } in
     let mid = keeps_mid terms h.closed h.taken.items c.make_room.new.taken.items h.count h.worker_of.entries c.make_room.new.worker_of.entries
-    (record { rows = h.totals.rows.entries; unsettled = h.totals.unsettled; for_good = h.totals.for_good }) old
+    (record { scores = h.totals.scores.entries; unsettled = h.totals.unsettled; for_good = h.totals.for_good }) old
     c.make_room.ensures.taken c.make_room.ensures.workers c.make_room.ensures.extends
     c.make_room.ensures.unsettled c.make_room.ensures.for_good c.self.invariant in
     let held : Held = record { terms = terms; closed = h.closed; taken = c.make_room.new.taken.items } in
@@ -55,9 +55,9 @@ add-requires c =
     let room : HasRoom old =
     has_room held h.count c.make_room.new.worker_of.entries old (omega (arith, more, c.note.new.taken.ok.0, c.note.new.taken.small)) mid in
     record {
-      rows = subst (λ f. HasRows f c.make_room.new.totals.rows.entries) (c.finding-finding.ensures.finding ∙ sym c.finding.ensures.finding) c.in-Ok.ensures.rows;
+      scores = subst (λ f. HasScores f c.make_room.new.totals.scores.entries) (c.finding-finding.ensures.finding ∙ sym c.finding.ensures.finding) c.in-Ok.ensures.scores;
       lawful = subst HasLawfulObjects (sym c.finding.ensures.finding) (lawful_of _ _ _ c.args.report.finding c.worker.ensures.report.finding);
-      room = room.rows;
+      room = room.scores;
       unsettled = room.unsettled_room;
       for_good = room.for_good_room;
     }
@@ -67,14 +67,14 @@ invariant_of-self-2 c =
     let h = c.self.inside in
     let terms : Terms = record { job = h.job; ranges = h.ranges; workers = h.workers } in
     let old : Sums = record {
-      rows = c.make_room.new.totals.rows.entries;
+      scores = c.make_room.new.totals.scores.entries;
       unsettled = c.make_room.new.totals.unsettled;
       for_good =
           c.make_room.new.totals.for_good;
     } in
-    let new : Sums = record { rows = c.add.new.self.rows.entries; unsettled = c.add.new.self.unsettled; for_good = c.add.new.self.for_good } in
+    let new : Sums = record { scores = c.add.new.self.scores.entries; unsettled = c.add.new.self.unsettled; for_good = c.add.new.self.for_good } in
     let mid = keeps_mid terms h.closed h.taken.items c.make_room.new.taken.items h.count h.worker_of.entries c.make_room.new.worker_of.entries
-    (record { rows = h.totals.rows.entries; unsettled = h.totals.unsettled; for_good = h.totals.for_good }) old
+    (record { scores = h.totals.scores.entries; unsettled = h.totals.unsettled; for_good = h.totals.for_good }) old
     c.make_room.ensures.taken c.make_room.ensures.workers c.make_room.ensures.extends
     c.make_room.ensures.unsettled c.make_room.ensures.for_good c.self.invariant in
     let refused : refusal_at (record { terms = terms; closed = h.closed; taken = c.make_room.new.taken.items }) c.args.report ≡ None =
@@ -85,8 +85,8 @@ invariant_of-self-2 c =
     (λ i. (c.worker.ensures.worker i, c.number.ensures.number i)) (λ i. (c.number.ensures.number i, c.worker.ensures.worker i))
     (keeps_more terms h.closed c.make_room.new.taken.items h.count c.make_room.new.worker_of.entries old new c.args.report c.worker.ensures.report
     (lawful_of _ _ _ c.args.report.finding c.worker.ensures.report.finding) refused
-    (λ code. c.add.ensures.rows code
-    ∙ (λ i. added (found_in code (c.finding.ensures.finding i)) (c.number-2.ensures.number i) (score_in c.make_room.new.totals.rows.entries code)))
+    (λ code. c.add.ensures.scores code
+    ∙ (λ i. added (found_in code (c.finding.ensures.finding i)) (c.number-2.ensures.number i) (score_in c.make_room.new.totals.scores.entries code)))
     (c.add.ensures.unsettled ∙ ap (λ f. c.make_room.new.totals.unsettled + (if is_unsettled f then 1 else 0)) c.finding.ensures.finding)
     (c.add.ensures.for_good ∙ ap (λ f. c.make_room.new.totals.for_good + (if is_for_good f then 1 else 0)) c.finding.ensures.finding) mid)
 

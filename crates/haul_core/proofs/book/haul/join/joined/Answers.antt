@@ -30,10 +30,10 @@ joined-requires c =
     c.in_ok-taken.ensures ∙ (λ i. c.as_slice.ensures.value i ++ c.as_slice-2.ensures.value i) in
     let sum = ap length all ∙ length-append a.taken b.taken in
     let room = have_room a b f.count s.count f.worker_of.entries s.worker_of.entries
-    (record { rows = f.totals.rows.entries; unsettled = f.totals.unsettled; for_good = f.totals.for_good })
-    (record { rows = s.totals.rows.entries; unsettled = s.totals.unsettled; for_good = s.totals.for_good }) c.first.invariant c.second.invariant
+    (record { scores = f.totals.scores.entries; unsettled = f.totals.unsettled; for_good = f.totals.for_good })
+    (record { scores = s.totals.scores.entries; unsettled = s.totals.unsettled; for_good = s.totals.for_good }) c.first.invariant c.second.invariant
     (omega (arith, sum, c.in_ok-taken.taken.ok.0, c.in_ok-taken.taken.small)) in
-    record { room = room.rows; unsettled = room.unsettled_room; for_good = room.for_good_room }
+    record { room = room.scores; unsettled = room.unsettled_room; for_good = room.for_good_room }
 
 pub overflow_add-result : goal.overflow_add-result
 overflow_add-result c =
@@ -50,12 +50,12 @@ invariant_of-result c =
     let all : c.in_ok-taken.taken.items ≡ a.taken ++ b.taken =
     c.in_ok-taken.ensures ∙ (λ i. c.as_slice.ensures.value i ++ c.as_slice-2.ensures.value i) in
     keeps_joined a b f.count s.count f.worker_of.entries s.worker_of.entries
-    (record { rows = f.totals.rows.entries; unsettled = f.totals.unsettled; for_good = f.totals.for_good })
-    (record { rows = s.totals.rows.entries; unsettled = s.totals.unsettled; for_good = s.totals.for_good }) c.first.invariant c.second.invariant
+    (record { scores = f.totals.scores.entries; unsettled = f.totals.unsettled; for_good = f.totals.for_good })
+    (record { scores = s.totals.scores.entries; unsettled = s.totals.unsettled; for_good = s.totals.for_good }) c.first.invariant c.second.invariant
     c.in_ok-ranges.ranges c.max.result c.in_ok-taken.taken.items c.in_ok-worker_of.worker_of.entries
-    (record { rows = c.in_ok-totals.totals.rows.entries; unsettled = c.in_ok-totals.totals.unsettled; for_good = c.in_ok-totals.totals.for_good }) can
+    (record { scores = c.in_ok-totals.totals.scores.entries; unsettled = c.in_ok-totals.totals.unsettled; for_good = c.in_ok-totals.totals.for_good }) can
     c.in_ok-ranges.ensures.form c.in_ok-ranges.ensures.below c.in_ok-ranges.ensures.size (search rules) all
-    (c.in_ok-worker_of.ensures ∙ ap (map (λ (t : ℕ × ℕ). (t.1, t.0))) c.as_slice-3.ensures.value) c.in_ok-totals.ensures.rows
+    (c.in_ok-worker_of.ensures ∙ ap (map (λ (t : ℕ × ℕ). (t.1, t.0))) c.as_slice-3.ensures.value) c.in_ok-totals.ensures.scores
     c.in_ok-totals.ensures.unsettled c.in_ok-totals.ensures.for_good
 
 pub returns : goal.returns

@@ -35,9 +35,9 @@ returns-else-agrees-clause-complete c =
     let yes : c.agrees-agrees.result ≡ true = c.agrees-agrees.ensures.1 (subst (Agrees c.args.self) (sym c.finding.ensures.finding) a) in
     absurd (let no = c.if-agrees.false in cc)
 
-pub returns-else-agrees-clause-fault : goal.returns-else-agrees-clause-fault
-returns-else-agrees-clause-fault c =
-    let made = is_made (goal.at.returns-else-agrees-clause-fault c).In-Ok in (
+pub returns-else-agrees-clause-fails : goal.returns-else-agrees-clause-fails
+returns-else-agrees-clause-fails c =
+    let made = is_made (goal.at.returns-else-agrees-clause-fails c).In-Ok in (
       made.same,
       (
         subst (IsFoundFor c.args.self) (sym c.into_finding-found.ensures) (found_for c.args.self c.args.job.now c.in-Ok.report made),

@@ -2,7 +2,7 @@ use Rattle.std.proofs.Common.{◌∙◌, ap, arith, codes, decimal, ◌++◌, �
 use Rattle.haul_core.specs.ClaimSteps.{FollowsFields, HasHead, claimed, head_of}
 use Rattle.haul_core.specs.FieldSteps.{state_field}
 use Rattle.haul_core.proofs.FaultyLines.{head_lacks}
-use Rattle.haul_core.proofs.StateLemmas.{state_bad, state_more, unsettled_front, unsettled_over}
+use Rattle.haul_core.proofs.StateLemmas.{state_bad, state_more, unsettled_start, unsettled_over}
 use Rattle.haul_core.proofs.report.claim.read_start.after_head.Goals as goal
 use Rattle.haul_core.proofs.report.claim.read_start.after_head.Goals.{In-None}
 
@@ -43,6 +43,6 @@ returns-in-Some-more-clause-err c =
 
 pub returns-in-None-more-clause-ok : goal.returns-in-None-more-clause-ok
 returns-in-None-more-clause-ok c =
-    unsettled_front c.args.line.now c.args.head c.requires.head
+    unsettled_start c.args.line.now c.args.head c.requires.head
     (subst (λ o. FollowsFields c.args.line.now (head_of (claimed c.args.head []) ++ codes "unsettled" ∷ []) (option_map (λ r. r.now) o))
     c.in-None-more.is (unsettled (goal.at.returns-in-None-more-clause-ok c).In-None))

@@ -4,7 +4,7 @@ use Rattle.haul_core.specs.Books.{Held}
 use Rattle.survey_core.specs.Jobs.{same_job}
 use Rattle.haul_core.specs.Joins.{AreClosed, CanJoin}
 use Rattle.ranges.specs.Ranges.{ShareNumber}
-use Rattle.haul_core.proofs.book.haul.join.fault.Goals as goal
+use Rattle.haul_core.proofs.book.haul.join.hindrance.Goals as goal
 
 pub returns-then-not-is_same_job-clause-some : goal.returns-then-not-is_same_job-clause-some
 returns-then-not-is_same_job-clause-some c =
