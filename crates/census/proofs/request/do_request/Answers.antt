@@ -50,3 +50,53 @@ returns-in-Take-clause-untouched g c = c.take_soups.ensures.untouched
 
 pub returns-in-Work-clause-untouched : goal.returns-in-Work-clause-untouched
 returns-in-Work-clause-untouched g c = c.work_on_soups.ensures.untouched
+
+-- a command that doesn't look at its input leaves it as it was
+pub returns-in-Show-clause-unread : goal.returns-in-Show-clause-unread
+returns-in-Show-clause-unread g c = λ _. refl
+
+pub returns-in-Show-clause-unread_refused : goal.returns-in-Show-clause-unread_refused
+returns-in-Show-clause-unread_refused g c = λ _ _. refl
+
+pub returns-in-Soup-clause-unread : goal.returns-in-Soup-clause-unread
+returns-in-Soup-clause-unread g c = λ _. refl
+
+pub returns-in-Soup-clause-unread_refused : goal.returns-in-Soup-clause-unread_refused
+returns-in-Soup-clause-unread_refused g c = λ _ _. refl
+
+pub returns-in-Take-clause-unread : goal.returns-in-Take-clause-unread
+returns-in-Take-clause-unread g c = λ _. refl
+
+pub returns-in-Take-clause-unread_refused : goal.returns-in-Take-clause-unread_refused
+returns-in-Take-clause-unread_refused g c = λ _ _. refl
+
+pub returns-in-Work-clause-unread : goal.returns-in-Work-clause-unread
+returns-in-Work-clause-unread g c = λ _. refl
+
+pub returns-in-Work-clause-unread_refused : goal.returns-in-Work-clause-unread_refused
+returns-in-Work-clause-unread_refused g c = λ _ _. refl
+
+pub returns-in-Version-clause-unread : goal.returns-in-Version-clause-unread
+returns-in-Version-clause-unread g c = λ _. refl
+
+pub returns-in-Version-clause-unread_refused : goal.returns-in-Version-clause-unread_refused
+returns-in-Version-clause-unread_refused g c = λ _ _. refl
+
+-- without memory nothing is printed, by the contract of the command
+pub returns-in-Run-clause-no_memory : goal.returns-in-Run-clause-no_memory
+returns-in-Run-clause-no_memory g c memory _ = c.do_run.ensures.no_memory memory
+
+pub returns-in-Name-clause-no_memory : goal.returns-in-Name-clause-no_memory
+returns-in-Name-clause-no_memory g c memory _ = c.do_name.ensures.no_memory memory
+
+pub returns-in-Show-clause-no_memory : goal.returns-in-Show-clause-no_memory
+returns-in-Show-clause-no_memory g c memory _ = c.do_show.ensures.no_memory memory
+
+pub returns-in-Soup-clause-no_memory : goal.returns-in-Soup-clause-no_memory
+returns-in-Soup-clause-no_memory g c memory _ = c.do_soup.ensures.no_memory memory
+
+pub returns-in-Take-clause-no_memory : goal.returns-in-Take-clause-no_memory
+returns-in-Take-clause-no_memory g c memory _ = c.take_soups.ensures.no_memory memory
+
+pub returns-in-Gather-clause-no_memory : goal.returns-in-Gather-clause-no_memory
+returns-in-Gather-clause-no_memory g c memory _ = c.gather_lines.ensures.no_memory memory
