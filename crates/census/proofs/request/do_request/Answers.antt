@@ -100,3 +100,82 @@ returns-in-Take-clause-no_memory g c memory _ = c.take_soups.ensures.no_memory m
 
 pub returns-in-Gather-clause-no_memory : goal.returns-in-Gather-clause-no_memory
 returns-in-Gather-clause-no_memory g c memory _ = c.gather_lines.ensures.no_memory memory
+
+-- a refused report line is no refusal of the input, which is read only once the haul is open
+pub returns-in-Gather-clause-ends : goal.returns-in-Gather-clause-ends
+returns-in-Gather-clause-ends g c = rw c.in-Gather.is c.gather_lines.ensures.ends
+
+pub returns-in-Gather-clause-unread : goal.returns-in-Gather-clause-unread
+returns-in-Gather-clause-unread g c = rw c.in-Gather.is c.gather_lines.ensures.unread
+
+pub returns-in-Gather-clause-unread_refused : goal.returns-in-Gather-clause-unread_refused
+returns-in-Gather-clause-unread_refused g c refused _ = (c.gather_lines.ensures.untouched refused).0
+
+pub returns-in-Gather-clause-untouched : goal.returns-in-Gather-clause-untouched
+returns-in-Gather-clause-untouched g c refused = (c.gather_lines.ensures.untouched refused).1
+
+-- the version is never refused, and takes no memory
+pub returns-in-Version-clause-untouched : goal.returns-in-Version-clause-untouched
+returns-in-Version-clause-untouched g c refused = absurd (c.do_version.ensures.status refused)
+
+pub returns-in-Version-clause-no_memory : goal.returns-in-Version-clause-no_memory
+returns-in-Version-clause-no_memory g c memory _ = absurd (c.do_version.ensures.no_memory memory)
+
+-- the commands that look at their input
+pub returns-in-Run-clause-ends : goal.returns-in-Run-clause-ends
+returns-in-Run-clause-ends g c =
+    let ended = rw c.as_str.ensures at c.do_run.ensures.ends in
+    rw c.in-Run.is (record { bytes = ended.0; input = ended.1; ends = ended.2 })
+
+pub returns-in-Name-clause-ends : goal.returns-in-Name-clause-ends
+returns-in-Name-clause-ends g c =
+    let ended = rw (c.as_str-in-Name.ensures, c.numbers_for-profile.ensures.numbers) at c.do_name.ensures.ends in
+    rw c.in-Name.is (record { bytes = ended.0; input = ended.1; ends = ended.2 })
+
+pub do_run-requires-clause-output : goal.do_run-requires-clause-output
+do_run-requires-clause-output g c = c.requires.output
+
+pub do_run-requires-clause-errors : goal.do_run-requires-clause-errors
+do_run-requires-clause-errors g c = c.requires.errors
+
+pub do_name-requires-clause-output : goal.do_name-requires-clause-output
+do_name-requires-clause-output g c = c.requires.output
+
+pub do_name-requires-clause-errors : goal.do_name-requires-clause-errors
+do_name-requires-clause-errors g c = c.requires.errors
+
+pub do_show-requires-clause-output : goal.do_show-requires-clause-output
+do_show-requires-clause-output g c = c.requires.output
+
+pub do_show-requires-clause-errors : goal.do_show-requires-clause-errors
+do_show-requires-clause-errors g c = c.requires.errors
+
+pub do_soup-requires-clause-output : goal.do_soup-requires-clause-output
+do_soup-requires-clause-output g c = c.requires.output
+
+pub do_soup-requires-clause-errors : goal.do_soup-requires-clause-errors
+do_soup-requires-clause-errors g c = c.requires.errors
+
+pub take_soups-requires-clause-output : goal.take_soups-requires-clause-output
+take_soups-requires-clause-output g c κs lives = c.requires.output
+
+pub take_soups-requires-clause-errors : goal.take_soups-requires-clause-errors
+take_soups-requires-clause-errors g c κs lives = c.requires.errors
+
+pub work_on_soups-requires-clause-output : goal.work_on_soups-requires-clause-output
+work_on_soups-requires-clause-output g c = c.requires.output
+
+pub work_on_soups-requires-clause-errors : goal.work_on_soups-requires-clause-errors
+work_on_soups-requires-clause-errors g c = c.requires.errors
+
+pub gather_lines-requires-clause-output : goal.gather_lines-requires-clause-output
+gather_lines-requires-clause-output g c = c.requires.output
+
+pub gather_lines-requires-clause-errors : goal.gather_lines-requires-clause-errors
+gather_lines-requires-clause-errors g c = c.requires.errors
+
+pub do_version-requires-clause-output : goal.do_version-requires-clause-output
+do_version-requires-clause-output g c = c.requires.output
+
+pub do_version-requires-clause-errors : goal.do_version-requires-clause-errors
+do_version-requires-clause-errors g c = c.requires.errors
