@@ -1,6 +1,5 @@
 // The program names it in its functions, and stands on this crate alone.
 pub use crew::watch::Watch;
-
 use plane_core::output::Out;
 use std::alloc::Global;
 use std::io::Write;
