@@ -124,7 +124,7 @@ module _ (words : List Text) (known below : Option (List ℕ)) (status : Status)
           }
 
   pub prints : DoesWords words known status written errors → PrintsBelow
-  prints (inr lacks) = let bad : true ≡ false = sym printed ∙ ap has_printed lacks.told in cc
+  prints (inr lacks) = let bad : true ≡ false = sym printed ∙ ap has_printed lacks.status_is in cc
   prints (inl does) =
       let (request, asked, done) = some_and (asked_by words) does in
       request_prints request asked done

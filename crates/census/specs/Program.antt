@@ -50,7 +50,7 @@ pub record IsDone (words : List Text) (known before after : Option (List ℕ)) (
 abbrev pub IsFrontOf : (written sent : Option (List ℕ)) → Type 0
 IsFrontOf None sent = ⊤
 IsFrontOf (Some xs) None = ⊥
-IsFrontOf (Some xs) (Some ys) = (rest : List ℕ) × (ys ++ rest ≡ xs)
+IsFrontOf (Some xs) (Some ys) = (remainder : List ℕ) × (ys ++ remainder ≡ xs)
 
 -- After what a command told, standard error has the line of a failed write, unless it had failed before.
 pub record TellsOfWrite (told errors : Stream) : Type 0 where

@@ -76,7 +76,7 @@ pub record DoesRequest (known : Option (List ℕ)) (status : Status) (output err
 
 -- there was no memory to read the words, and nothing was done
 pub record LacksMemory (status : Status) (output errors : Stream) : Type 0 where
-  pub told : status ≡ Memory
+  pub status_is : status ≡ Memory
   pub nothing : Has output []
   pub line : HasLine errors (complaint_line complaint.Memory)
 

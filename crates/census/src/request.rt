@@ -13,7 +13,7 @@ use commands::plan::Plan;
 use commands::progress::Progress;
 use commands::soup_set::SoupSet;
 use commands::take::do_take;
-use commands::word::Word;
+use commands::text::Text;
 use commands::work::do_work;
 use pattern_commands::complaint::Complaint;
 use pattern_commands::name::do_name;
@@ -203,11 +203,11 @@ fn gather_lines<R: Read, W: Write, E: Write>(
     do_gather(alloc, &plan, workers, input, output, errors)
 }
 
-/// The text of a word.
-fn word_for<'a>(word: &words::word::Word<'a>) -> Word<'a>
-    ensures { result ≡ word.now }
+/// A text, as the commands take it.
+fn text_for<'a>(text: &words::text::Text<'a>) -> Text<'a>
+    ensures { result ≡ text.now }
 {
-    Word::new(word.as_str())
+    Text::new(text.as_str())
 }
 
 /// The numbers of a profile.
@@ -233,7 +233,7 @@ fn plan_for<'a>(asked: &words::request::Plan<'a>) -> Plan<'a>
     Plan {
         set: soups_for(&asked.set),
         profile: numbers_for(asked.profile),
-        rule: word_for(&asked.rule),
+        rule: text_for(&asked.rule),
     }
 }
 
@@ -242,9 +242,9 @@ fn soups_for<'a>(set: &words::request::SoupSet<'a>) -> SoupSet<'a>
     ensures { result ≡ soups_for set.now }
 {
     SoupSet {
-        seed: word_for(&set.seed),
+        seed: text_for(&set.seed),
         first: set.first,
         count: set.count,
-        also: word_for(&set.also),
+        also: text_for(&set.also),
     }
 }

@@ -27,18 +27,18 @@ kind_of_name Ship number None = refl
 kind_of_name Ship number (Some t) = refl
 
 -- digits from the front on, up to what is no digit
-digits_in_front : (ds rest : List ℕ) → AllDigits 10 ds → take_while is_digit rest ≡ [] → take_while is_digit (ds ++ rest) ≡ ds
-digits_in_front [] rest all end = end
-digits_in_front (d ∷ ds) rest all end =
+digits_in_front : (ds remainder : List ℕ) → AllDigits 10 ds → take_while is_digit remainder ≡ [] → take_while is_digit (ds ++ remainder) ≡ ds
+digits_in_front [] remainder all end = end
+digits_in_front (d ∷ ds) remainder all end =
     let range = digit_from_value d all.0 in
     let is : is_digit d ≡ true = and_from _ _ (le-leb _ _ range.0) (le-leb _ _ range.1) in
-    take_while-cons is_digit d (ds ++ rest) ∙ rw is (ap (λ (more : List ℕ). d ∷ more) (digits_in_front ds rest all.1 end))
+    take_while-cons is_digit d (ds ++ remainder) ∙ rw is (ap (λ (more : List ℕ). d ∷ more) (digits_in_front ds remainder all.1 end))
 
 -- so the decimal of a number is read as that number
-number_in_front : (n : ℕ) (rest : List ℕ) → n < 2 ^ 64 → take_while is_digit rest ≡ [] → digits_value 10 (take_while is_digit (decimal n ++ rest)) ≡ n
-number_in_front n rest low end =
+number_in_front : (n : ℕ) (remainder : List ℕ) → n < 2 ^ 64 → take_while is_digit remainder ≡ [] → digits_value 10 (take_while is_digit (decimal n ++ remainder)) ≡ n
+number_in_front n remainder low end =
     let numeral = decimal_is_IsNumeral n low in
-    ap (digits_value 10) (digits_in_front (decimal n) rest numeral.0.1 end) ∙ numeral.1
+    ap (digits_value 10) (digits_in_front (decimal n) remainder numeral.0.1 end) ∙ numeral.1
 
 no_digits : (text : Option (List ℕ)) → take_while is_digit (ending text) ≡ []
 no_digits None = refl

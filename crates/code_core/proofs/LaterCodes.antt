@@ -42,9 +42,9 @@ module _ (rule : Numbers) (cells : List Cell) (limit : ℕ) (r : Recurrence) (or
       -- what the next generation does after p generations, the pattern did before it
       sooner : (p : ℕ) (ex ey : ℤ) → after rule (after rule cells 1) p ≡ shifted ex ey (after rule cells 1) → after rule cells p ≡ shifted ex ey cells
       sooner p ex ey is =
-          let rest : 1 + (r.period - 1) ≡ r.period = omega (arith, h.some) in
+          let remainder : 1 + (r.period - 1) ≡ r.period = omega (arith, h.some) in
           let whole : after rule (after rule cells 1) (r.period - 1) ≡ shifted r.dx r.dy cells = after-after rule cells 1 (r.period - 1)
-          ∙ ap (after rule cells) rest ∙ h.back in
+          ∙ ap (after rule cells) remainder ∙ h.back in
           let early : after rule (after rule (after rule cells 1) p) (r.period - 1) ≡ shifted r.dx r.dy (after rule cells p) =
           after-after rule (after rule cells 1) p (r.period - 1) ∙ after-after rule cells 1 (p + (r.period - 1))
           ∙ ap (after rule cells) (omega (arith, h.some)) ∙ a_period_later p in

@@ -21,10 +21,10 @@ use Rattle.code_core.proofs.TokenReading.{Spells-tokens_at, length-Begins, lengt
 use Rattle.code_core.proofs.ReaderCells.{unless_empty-some, unless_empty-none, cells_from-on_plane}
 
 -- tokens spell the text up to the rest, and it is known whether one of them is a column
-pub record Passed (text rest : List ℕ) (has_cell : Bool) : Type 0 where
+pub record Passed (text remainder : List ℕ) (has_cell : Bool) : Type 0 where
   pub tokens : List Token
   pub each : All IsToken tokens
-  pub whole : text ≡ flat_map spelling tokens ++ rest
+  pub whole : text ≡ flat_map spelling tokens ++ remainder
   pub columns : has_cell ≡ list_any is_column tokens
 
 pub Passed_none : (text : List ℕ) → Passed text text false
@@ -35,9 +35,9 @@ or-false true b = refl
 or-false false true = refl
 or-false false false = refl
 
-pub Passed_more : (text rest after : List ℕ) (token : Token) (has_cell : Bool) → Passed text rest has_cell → Begins rest token after
+pub Passed_more : (text remainder after : List ℕ) (token : Token) (has_cell : Bool) → Passed text remainder has_cell → Begins remainder token after
     → Passed text after (has_cell || is_column token)
-Passed_more text rest after token has_cell p b = record {
+Passed_more text remainder after token has_cell p b = record {
   tokens = p.tokens ++ token ∷ [];
   each = All-push IsToken p.tokens token p.each b.is_token;
   whole = p.whole ∙ ap (λ (more : List ℕ). flat_map spelling p.tokens ++ more) b.spelled
@@ -49,42 +49,42 @@ Passed_more text rest after token has_cell p b = record {
 }
 
 -- where no token begins, the fault is known
-tokens_at-stuck : (place : ℕ) (rest : List ℕ) (fault : WechslerFault) → IsStuck rest → fault_without_token place rest ≡ Some fault → tokens_at place rest ≡ Err fault
+tokens_at-stuck : (place : ℕ) (remainder : List ℕ) (fault : WechslerFault) → IsStuck remainder → fault_without_token place remainder ≡ Some fault → tokens_at place remainder ≡ Err fault
 tokens_at-stuck place [] fault stuck e = absurd (cc)
-tokens_at-stuck place (b ∷ rest) fault stuck e = go (is_character b) refl
+tokens_at-stuck place (b ∷ remainder) fault stuck e = go (is_character b) refl
   where
-    go : (c : Bool) → is_character b ≡ c → tokens_at place (b ∷ rest) ≡ Err fault
-    go false h = tokens_at-bad place b rest h ∙ (let f : BadByte place ≡ fault = (let k = rw h at e in cc) in ap (λ (f : WechslerFault). Err f) f)
+    go : (c : Bool) → is_character b ≡ c → tokens_at place (b ∷ remainder) ≡ Err fault
+    go false h = tokens_at-bad place b remainder h ∙ (let f : BadByte place ≡ fault = (let k = rw h at e in cc) in ap (λ (f : WechslerFault). Err f) f)
     go true h =
         let s = stuck h in
         let f : ShortRun place ≡ fault = (let k = rw h at e in cc) in
-        rw s.0 (tokens_at-short_run place rest s.1 ∙ ap (λ (f : WechslerFault). Err f) f)
+        rw s.0 (tokens_at-short_run place remainder s.1 ∙ ap (λ (f : WechslerFault). Err f) f)
 
-pub Passed_fault : (text rest : List ℕ) (has_cell : Bool) (fault : WechslerFault) → Passed text rest has_cell → IsStuck rest
-    → fault_without_token (length text - length rest) rest ≡ Some fault → result_err (wechsler_pattern text) ≡ Some fault
-Passed_fault text rest has_cell fault p stuck e =
-    let at : length text - length rest ≡ 0 + length (flat_map spelling p.tokens) =
-    omega (arith, ap length p.whole, length-append (flat_map spelling p.tokens) rest) in
-    rw (tokens_at-stops p.tokens rest text 0 (length text - length rest) fault p.each p.whole at
-    (tokens_at-stuck (length text - length rest) rest fault stuck e)) refl
+pub Passed_fault : (text remainder : List ℕ) (has_cell : Bool) (fault : WechslerFault) → Passed text remainder has_cell → IsStuck remainder
+    → fault_without_token (length text - length remainder) remainder ≡ Some fault → result_err (wechsler_pattern text) ≡ Some fault
+Passed_fault text remainder has_cell fault p stuck e =
+    let at : length text - length remainder ≡ 0 + length (flat_map spelling p.tokens) =
+    omega (arith, ap length p.whole, length-append (flat_map spelling p.tokens) remainder) in
+    rw (tokens_at-stops p.tokens remainder text 0 (length text - length remainder) fault p.each p.whole at
+    (tokens_at-stuck (length text - length remainder) remainder fault stuck e)) refl
 
 -- and at the end it is known whether there is a cell
-fault_at-none : (place : ℕ) (rest : List ℕ) → fault_without_token place rest ≡ None → rest ≡ []
+fault_at-none : (place : ℕ) (remainder : List ℕ) → fault_without_token place remainder ≡ None → remainder ≡ []
 fault_at-none place [] e = refl
-fault_at-none place (b ∷ rest) e = absurd (cc)
+fault_at-none place (b ∷ remainder) e = absurd (cc)
 
-Passed_spells : (text rest : List ℕ) (has_cell : Bool) (place : ℕ) (p : Passed text rest has_cell) → fault_without_token place rest ≡ None → tokens_at 0 text ≡ Ok p.tokens
-Passed_spells text rest has_cell place p e =
-    ap (λ (t : List ℕ). tokens_at 0 t) (p.whole ∙ ap (λ (more : List ℕ). flat_map spelling p.tokens ++ more) (fault_at-none place rest e)
+Passed_spells : (text remainder : List ℕ) (has_cell : Bool) (place : ℕ) (p : Passed text remainder has_cell) → fault_without_token place remainder ≡ None → tokens_at 0 text ≡ Ok p.tokens
+Passed_spells text remainder has_cell place p e =
+    ap (λ (t : List ℕ). tokens_at 0 t) (p.whole ∙ ap (λ (more : List ℕ). flat_map spelling p.tokens ++ more) (fault_at-none place remainder e)
     ∙ append-nil (flat_map spelling p.tokens)) ∙ tokens_at-spelled p.tokens p.each 0
 
-pub Passed_empty : (text rest : List ℕ) (has_cell : Bool) (place : ℕ) → Passed text rest has_cell → fault_without_token place rest ≡ None → has_cell ≡ false
+pub Passed_empty : (text remainder : List ℕ) (has_cell : Bool) (place : ℕ) → Passed text remainder has_cell → fault_without_token place remainder ≡ None → has_cell ≡ false
     → result_err (wechsler_pattern text) ≡ Some Empty
-Passed_empty text rest has_cell place p e none = rw (Passed_spells text rest has_cell place p e, unless_empty-none p.tokens (sym p.columns ∙ none)) refl
+Passed_empty text remainder has_cell place p e none = rw (Passed_spells text remainder has_cell place p e, unless_empty-none p.tokens (sym p.columns ∙ none)) refl
 
-pub Passed_cells : (text rest : List ℕ) (has_cell : Bool) (place : ℕ) → Passed text rest has_cell → fault_without_token place rest ≡ None → has_cell ≡ true
+pub Passed_cells : (text remainder : List ℕ) (has_cell : Bool) (place : ℕ) → Passed text remainder has_cell → fault_without_token place remainder ≡ None → has_cell ≡ true
     → result_err (wechsler_pattern text) ≡ None
-Passed_cells text rest has_cell place p e some = rw (Passed_spells text rest has_cell place p e, unless_empty-some p.tokens p.each (sym p.columns ∙ some)) refl
+Passed_cells text remainder has_cell place p e some = rw (Passed_spells text remainder has_cell place p e, unless_empty-some p.tokens p.each (sym p.columns ∙ some)) refl
 
 -- where a token begins a text that tokens spell, it is the first of them
 pub record TokensAfter (token : Token) (after : List ℕ) (tokens : List Token) : Type 0 where
@@ -92,55 +92,55 @@ pub record TokensAfter (token : Token) (after : List ℕ) (tokens : List Token) 
   pub spells : Spells more after
   pub is : tokens ≡ token ∷ more
 
-Spells_after : (tokens : List Token) (rest after : List ℕ) (token : Token) → Spells tokens rest → Begins rest token after → TokensAfter token after tokens
-Spells_after tokens rest after token s b = go (tokens_at (0 + length (spelling token)) after) refl
+Spells_after : (tokens : List Token) (remainder after : List ℕ) (token : Token) → Spells tokens remainder → Begins remainder token after → TokensAfter token after tokens
+Spells_after tokens remainder after token s b = go (tokens_at (0 + length (spelling token)) after) refl
   where
     go : (r : Result (List Token) WechslerFault) → tokens_at (0 + length (spelling token)) after ≡ r → TokensAfter token after tokens
     go (Ok more) e =
         let same : with_token token (Ok more) ≡ Ok tokens =
         ap (with_token token) (sym e) ∙ sym (tokens_at-token token b.is_token 0 after) ∙ ap (λ (t : List ℕ). tokens_at 0 t) (sym b.spelled)
-        ∙ tokens_at-Spells tokens rest 0 s in
+        ∙ tokens_at-Spells tokens remainder 0 s in
         record { more = more; spells = Spells-tokens_at more after (0 + length (spelling token)) e; is = cc }
     go (Err fault) e =
         let same : with_token token (Err fault) ≡ Ok tokens =
         ap (with_token token) (sym e) ∙ sym (tokens_at-token token b.is_token 0 after) ∙ ap (λ (t : List ℕ). tokens_at 0 t) (sym b.spelled)
-        ∙ tokens_at-Spells tokens rest 0 s in
+        ∙ tokens_at-Spells tokens remainder 0 s in
         absurd (cc)
 
 -- and where none begins it, there is none
-Spells_stuck : (tokens : List Token) (rest : List ℕ) → Spells tokens rest → IsStuck rest → tokens ≡ []
+Spells_stuck : (tokens : List Token) (remainder : List ℕ) → Spells tokens remainder → IsStuck remainder → tokens ≡ []
 unfolding tokens_at
 Spells_stuck tokens [] s stuck = let e : tokens_at 0 [] ≡ Ok tokens = tokens_at-Spells tokens [] 0 s in cc
-Spells_stuck tokens (b ∷ rest) s stuck =
-    let told = tokens_at-stuck 0 (b ∷ rest) (if is_character b then ShortRun 0 else BadByte 0) stuck refl in
-    let e : Err (if is_character b then ShortRun 0 else BadByte 0) ≡ Ok tokens = sym told ∙ tokens_at-Spells tokens (b ∷ rest) 0 s in
+Spells_stuck tokens (b ∷ remainder) s stuck =
+    let told = tokens_at-stuck 0 (b ∷ remainder) (if is_character b then ShortRun 0 else BadByte 0) stuck refl in
+    let e : Err (if is_character b then ShortRun 0 else BadByte 0) ≡ Ok tokens = sym told ∙ tokens_at-Spells tokens (b ∷ remainder) 0 s in
     absurd (cc)
 
 -- the cells up to the rest stand in the list, and those of the tokens that spell the rest are to come
-pub record ToCome (rest : List ℕ) (cells : List Cell) (strip x : ℕ) (all : List Cell) : Type 0 where
+pub record ToCome (remainder : List ℕ) (cells : List Cell) (strip x : ℕ) (all : List Cell) : Type 0 where
   pub tokens : List Token
-  pub spells : Spells tokens rest
+  pub spells : Spells tokens remainder
   pub cells_are : cells ++ cells_from strip x tokens ≡ all
 
 -- the loop over the tokens has come to the rest, and to this strip and column
-pub record Gathered (text rest : List ℕ) (cells : List Cell) (strip x : ℕ) : Type 0 where
-  pub strips : strip + length rest ≤ length text
-  pub columns : x + 39 * length rest ≤ 39 * length text
-  pub to_come : (tokens : List Token) → Spells tokens text → ToCome rest cells strip x (cells_from 0 0 tokens)
+pub record Gathered (text remainder : List ℕ) (cells : List Cell) (strip x : ℕ) : Type 0 where
+  pub strips : strip + length remainder ≤ length text
+  pub columns : x + 39 * length remainder ≤ 39 * length text
+  pub to_come : (tokens : List Token) → Spells tokens text → ToCome remainder cells strip x (cells_from 0 0 tokens)
 
-pub Gathered_more : (text rest after : List ℕ) (token : Token) (cells more : List Cell) (strip x next_strip next_x : ℕ)
-    → Gathered text rest cells strip x → Begins rest token after
+pub Gathered_more : (text remainder after : List ℕ) (token : Token) (cells more : List Cell) (strip x next_strip next_x : ℕ)
+    → Gathered text remainder cells strip x → Begins remainder token after
     → ((tokens : List Token) → more ++ cells_from next_strip next_x tokens ≡ cells ++ cells_from strip x (token ∷ tokens)) → next_strip ≤ strip + 1
     → next_x ≤ x + 39
     → Gathered text after more next_strip next_x
-Gathered_more text rest after token cells more strip x next_strip next_x g b added strips columns =
-    let shorter : length after < length rest = length-Begins rest token after b in
+Gathered_more text remainder after token cells more strip x next_strip next_x g b added strips columns =
+    let shorter : length after < length remainder = length-Begins remainder token after b in
     record {
       strips = omega (arith, g.strips);
       columns = omega (arith, g.columns);
       to_come = λ all s.
           let t = g.to_come all s in
-          let f = Spells_after t.tokens rest after token t.spells b in
+          let f = Spells_after t.tokens remainder after token t.spells b in
           record {
             tokens = f.more;
             spells = f.spells;
@@ -149,12 +149,12 @@ Gathered_more text rest after token cells more strip x next_strip next_x g b add
           };
     }
 
-pub Gathered_all : (text rest : List ℕ) (cells : List Cell) (strip x : ℕ) → Gathered text rest cells strip x → IsStuck rest → (tokens : List Token)
+pub Gathered_all : (text remainder : List ℕ) (cells : List Cell) (strip x : ℕ) → Gathered text remainder cells strip x → IsStuck remainder → (tokens : List Token)
     → Spells tokens text → cells ≡ cells_from 0 0 tokens
 unfolding cells_from
-Gathered_all text rest cells strip x g stuck tokens s =
+Gathered_all text remainder cells strip x g stuck tokens s =
     let t = g.to_come tokens s in
-    sym (append-nil cells) ∙ ap (λ (left : List Token). cells ++ cells_from strip x left) (sym (Spells_stuck t.tokens rest t.spells stuck)) ∙ t.cells_are
+    sym (append-nil cells) ∙ ap (λ (left : List Token). cells ++ cells_from strip x left) (sym (Spells_stuck t.tokens remainder t.spells stuck)) ∙ t.cells_are
 
 -- a text without a fault: its tokens, and the pattern that is theirs
 pub record IsSound (text : List ℕ) : Type 0 where

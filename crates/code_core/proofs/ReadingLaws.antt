@@ -95,26 +95,26 @@ no_cell text short = (
 
 -- the places of faults, as parts of the text and by their bytes
 IsBadByte-Stops : (text : List ℕ) (place : ℕ) → Stops IsBad 0 text place → IsBadByte text place
-IsBadByte-Stops text place s = go s.rest s.whole s.so
+IsBadByte-Stops text place s = go s.remainder s.whole s.so
   where
     at : place ≡ length (flat_map spelling s.tokens)
     at = s.at_place ∙ omega arith
 
-    go : (rest : List ℕ) → text ≡ flat_map spelling s.tokens ++ rest → IsBad rest → IsBadByte text place
+    go : (remainder : List ℕ) → text ≡ flat_map spelling s.tokens ++ remainder → IsBad remainder → IsBadByte text place
     go [] whole so = absurd so
-    go (b ∷ rest) whole so = record {
+    go (b ∷ remainder) whole so = record {
       tokens = s.tokens;
-      before = record { each = s.each; spelled = sym (rw (whole, at) (take-append_seam (flat_map spelling s.tokens) (b ∷ rest))) };
-      within = rw (whole, at) (omega (arith, length-append (flat_map spelling s.tokens) (b ∷ rest)));
-      bad = rw (whole, at, get_or-append_seam (flat_map spelling s.tokens) b rest 0) so;
+      before = record { each = s.each; spelled = sym (rw (whole, at) (take-append_seam (flat_map spelling s.tokens) (b ∷ remainder))) };
+      within = rw (whole, at) (omega (arith, length-append (flat_map spelling s.tokens) (b ∷ remainder)));
+      bad = rw (whole, at, get_or-append_seam (flat_map spelling s.tokens) b remainder 0) so;
     }
 
 Stops-IsBadByte : (text : List ℕ) (place : ℕ) → IsBadByte text place → Stops IsBad 0 text place
 Stops-IsBadByte text place s = record {
   tokens = s.tokens;
-  rest = slice_index text place ∷ drop (place + 1) text;
+  remainder = slice_index text place ∷ drop (place + 1) text;
   each = s.before.each;
-  whole = sym (take-append-drop place text) ∙ ap (λ (rest : List ℕ). take place text ++ rest) (drop_more text place 0 s.within)
+  whole = sym (take-append-drop place text) ∙ ap (λ (remainder : List ℕ). take place text ++ remainder) (drop_more text place 0 s.within)
       ∙ ap (λ (front : List ℕ). front ++ slice_index text place ∷ drop (place + 1) text) (sym s.before.spelled);
   at_place = omega (arith, length-take-le place text (omega (arith, s.within)), ap length s.before.spelled);
   so = s.bad;
@@ -128,35 +128,35 @@ bad_byte text place short =
     )
 
 IsShortRun-Stops : (text : List ℕ) (place : ℕ) → Stops IsShort 0 text place → IsShortRun text place
-IsShortRun-Stops text place s = go s.rest s.whole s.so
+IsShortRun-Stops text place s = go s.remainder s.whole s.so
   where
     at : place ≡ length (flat_map spelling s.tokens)
     at = s.at_place ∙ omega arith
 
-    none : (rest : List ℕ) → has_character rest ≡ false → 1 < length (121 ∷ rest) → is_character (get_or (121 ∷ rest) 1 0) ≡ false
+    none : (remainder : List ℕ) → has_character remainder ≡ false → 1 < length (121 ∷ remainder) → is_character (get_or (121 ∷ remainder) 1 0) ≡ false
     none [] h k = absurd (omega arith)
-    none (c ∷ rest) h k = h
+    none (c ∷ remainder) h k = h
 
-    go : (rest : List ℕ) → text ≡ flat_map spelling s.tokens ++ rest → IsShort rest → IsShortRun text place
+    go : (remainder : List ℕ) → text ≡ flat_map spelling s.tokens ++ remainder → IsShort remainder → IsShortRun text place
     go [] whole so = absurd so
-    go (b ∷ rest) whole so = record {
+    go (b ∷ remainder) whole so = record {
       tokens = s.tokens;
-      before = record { each = s.each; spelled = sym (rw (whole, at) (take-append_seam (flat_map spelling s.tokens) (b ∷ rest))) };
-      within = rw (whole, at) (omega (arith, length-append (flat_map spelling s.tokens) (b ∷ rest)));
-      run = rw (whole, at) (get_or-append_seam (flat_map spelling s.tokens) b rest 0) ∙ so.0;
+      before = record { each = s.each; spelled = sym (rw (whole, at) (take-append_seam (flat_map spelling s.tokens) (b ∷ remainder))) };
+      within = rw (whole, at) (omega (arith, length-append (flat_map spelling s.tokens) (b ∷ remainder)));
+      run = rw (whole, at) (get_or-append_seam (flat_map spelling s.tokens) b remainder 0) ∙ so.0;
       short = λ k.
-          let m : 1 < length (121 ∷ rest) = omega (arith, ap length whole, length-append (flat_map spelling s.tokens) (b ∷ rest)) in
-          let e : slice_index text (place + 1) ≡ get_or (121 ∷ rest) 1 0 =
-          rw (whole, at) (get_or-append-add (flat_map spelling s.tokens) (b ∷ rest) 1 0 ∙ ap (λ (c : ℕ). get_or (c ∷ rest) 1 0) so.0) in
-          ap is_character e ∙ none rest so.1 m;
+          let m : 1 < length (121 ∷ remainder) = omega (arith, ap length whole, length-append (flat_map spelling s.tokens) (b ∷ remainder)) in
+          let e : slice_index text (place + 1) ≡ get_or (121 ∷ remainder) 1 0 =
+          rw (whole, at) (get_or-append-add (flat_map spelling s.tokens) (b ∷ remainder) 1 0 ∙ ap (λ (c : ℕ). get_or (c ∷ remainder) 1 0) so.0) in
+          ap is_character e ∙ none remainder so.1 m;
     }
 
 Stops-IsShortRun : (text : List ℕ) (place : ℕ) → IsShortRun text place → Stops IsShort 0 text place
 Stops-IsShortRun text place s = record {
   tokens = s.tokens;
-  rest = slice_index text place ∷ drop (place + 1) text;
+  remainder = slice_index text place ∷ drop (place + 1) text;
   each = s.before.each;
-  whole = sym (take-append-drop place text) ∙ ap (λ (rest : List ℕ). take place text ++ rest) (drop_more text place 0 s.within)
+  whole = sym (take-append-drop place text) ∙ ap (λ (remainder : List ℕ). take place text ++ remainder) (drop_more text place 0 s.within)
       ∙ ap (λ (front : List ℕ). front ++ slice_index text place ∷ drop (place + 1) text) (sym s.before.spelled);
   at_place = omega (arith, length-take-le place text (omega (arith, s.within)), ap length s.before.spelled);
   so = (s.run, after_y (nat_lt (place + 1) (length text)) refl);

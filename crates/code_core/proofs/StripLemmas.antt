@@ -64,57 +64,57 @@ written_on (Ok x) old middle new a b c e f h = h ∙ ap (λ t. t ++ b) e ∙ app
 written_on (Err x) old middle new a b c e f h = tt
 
 -- what is left to write of strip k from column x on, where so many columns before it were empty
-unfoldable pub rest_text : List Cell → ℕ → ℕ → ℕ → ℕ → List ℕ
-rest_text cells width k gap x = spelled (strip_tokens (replicate gap 0 ++ map (column cells k) (range_with_len x (width - x))))
+unfoldable pub remainder_text : List Cell → ℕ → ℕ → ℕ → ℕ → List ℕ
+remainder_text cells width k gap x = spelled (strip_tokens (replicate gap 0 ++ map (column cells k) (range_with_len x (width - x))))
 
-pub rest_text-start : (cells : List Cell) (width k : ℕ) → rest_text cells width k 0 0 ≡ spelled (strip_tokens (strip cells width k))
-unfolding rest_text
-rest_text-start cells width k = let e : width - 0 ≡ width = omega arith in ap (λ n. spelled (strip_tokens (map (column cells k) (range_with_len 0 n)))) e
+pub remainder_text-start : (cells : List Cell) (width k : ℕ) → remainder_text cells width k 0 0 ≡ spelled (strip_tokens (strip cells width k))
+unfolding remainder_text
+remainder_text-start cells width k = let e : width - 0 ≡ width = omega arith in ap (λ n. spelled (strip_tokens (map (column cells k) (range_with_len 0 n)))) e
 
 columns_from : (cells : List Cell) (width k x : ℕ) → x < width
     → map (column cells k) (range_with_len x (width - x)) ≡ column cells k x ∷ map (column cells k) (range_with_len (x + 1) (width - (x + 1)))
 columns_from cells width k x h = let e : width - x ≡ suc (width - (x + 1)) = omega arith in ap (λ n. map (column cells k) (range_with_len x n)) e
 
-pub rest_text-live : (cells : List Cell) (width k gap x value : ℕ) → x < width → 1 ≤ value → value ≡ column cells k x
-    → rest_text cells width k gap x ≡ spelled (strip_tokens (replicate gap 0 ++ value ∷ [])) ++ rest_text cells width k 0 (x + 1)
-unfolding rest_text
-rest_text-live cells width k gap x value h some is =
-    let rest = map (column cells k) (range_with_len (x + 1) (width - (x + 1))) in
-    ap (λ vs. spelled (strip_tokens (replicate gap 0 ++ vs))) (columns_from cells width k x h ∙ ap (λ v. v ∷ rest) (sym is))
-    ∙ spelled-parted gap value rest some
+pub remainder_text-live : (cells : List Cell) (width k gap x value : ℕ) → x < width → 1 ≤ value → value ≡ column cells k x
+    → remainder_text cells width k gap x ≡ spelled (strip_tokens (replicate gap 0 ++ value ∷ [])) ++ remainder_text cells width k 0 (x + 1)
+unfolding remainder_text
+remainder_text-live cells width k gap x value h some is =
+    let remainder = map (column cells k) (range_with_len (x + 1) (width - (x + 1))) in
+    ap (λ vs. spelled (strip_tokens (replicate gap 0 ++ vs))) (columns_from cells width k x h ∙ ap (λ v. v ∷ remainder) (sym is))
+    ∙ spelled-parted gap value remainder some
 
-pub rest_text-empty : (cells : List Cell) (width k gap x value : ℕ) → x < width → value ≡ 0 → value ≡ column cells k x
-    → rest_text cells width k gap x ≡ rest_text cells width k (gap + 1) (x + 1)
-unfolding rest_text
-rest_text-empty cells width k gap x value h none is =
-    let rest = map (column cells k) (range_with_len (x + 1) (width - (x + 1))) in
-    ap (λ vs. spelled (strip_tokens (replicate gap 0 ++ vs))) (columns_from cells width k x h ∙ ap (λ v. v ∷ rest) (sym is ∙ none))
-    ∙ ap (λ vs. spelled (strip_tokens vs)) (one_more_empty gap rest ∙ ap (λ n. replicate n 0 ++ rest) (sym (add-one gap)))
+pub remainder_text-empty : (cells : List Cell) (width k gap x value : ℕ) → x < width → value ≡ 0 → value ≡ column cells k x
+    → remainder_text cells width k gap x ≡ remainder_text cells width k (gap + 1) (x + 1)
+unfolding remainder_text
+remainder_text-empty cells width k gap x value h none is =
+    let remainder = map (column cells k) (range_with_len (x + 1) (width - (x + 1))) in
+    ap (λ vs. spelled (strip_tokens (replicate gap 0 ++ vs))) (columns_from cells width k x h ∙ ap (λ v. v ∷ remainder) (sym is ∙ none))
+    ∙ ap (λ vs. spelled (strip_tokens vs)) (one_more_empty gap remainder ∙ ap (λ n. replicate n 0 ++ remainder) (sym (add-one gap)))
 
-pub rest_text-end : (cells : List Cell) (width k gap x : ℕ) → width ≤ x → rest_text cells width k gap x ≡ []
-unfolding rest_text
-rest_text-end cells width k gap x h =
+pub remainder_text-end : (cells : List Cell) (width k gap x : ℕ) → width ≤ x → remainder_text cells width k gap x ≡ []
+unfolding remainder_text
+remainder_text-end cells width k gap x h =
     let e : width - x ≡ 0 = omega arith in
     ap (λ n. spelled (strip_tokens (replicate gap 0 ++ map (column cells k) (range_with_len x n)))) e
     ∙ ap (λ vs. spelled (strip_tokens vs)) (append-nil (replicate gap 0)) ∙ ap spelled (strip_tokens-empty gap)
 
 -- a loop's step at a column with a live cell
 pub strip_more-live : (cells : List Cell) (width k gap x value : ℕ) (whole text new : List ℕ) → x < width → 1 ≤ value → value ≡ column cells k x
-    → text ++ rest_text cells width k gap x ≡ whole → new ≡ text ++ spelled (strip_tokens (replicate gap 0 ++ value ∷ []))
-    → new ++ rest_text cells width k 0 (x + 1) ≡ whole
+    → text ++ remainder_text cells width k gap x ≡ whole → new ≡ text ++ spelled (strip_tokens (replicate gap 0 ++ value ∷ []))
+    → new ++ remainder_text cells width k 0 (x + 1) ≡ whole
 strip_more-live cells width k gap x value whole text new h some is so_far e =
-    let rest = rest_text cells width k 0 (x + 1) in
-    ap (λ t. t ++ rest) e ∙ append_assoc text (spelled (strip_tokens (replicate gap 0 ++ value ∷ []))) rest
-    ∙ ap (λ t. text ++ t) (sym (rest_text-live cells width k gap x value h some is)) ∙ so_far
+    let remainder = remainder_text cells width k 0 (x + 1) in
+    ap (λ t. t ++ remainder) e ∙ append_assoc text (spelled (strip_tokens (replicate gap 0 ++ value ∷ []))) remainder
+    ∙ ap (λ t. text ++ t) (sym (remainder_text-live cells width k gap x value h some is)) ∙ so_far
 
 -- and at an empty one
 pub strip_more-empty : (cells : List Cell) (width k gap x value : ℕ) (whole text : List ℕ) → x < width → value ≡ 0 → value ≡ column cells k x
-    → text ++ rest_text cells width k gap x ≡ whole → text ++ rest_text cells width k (gap + 1) (x + 1) ≡ whole
+    → text ++ remainder_text cells width k gap x ≡ whole → text ++ remainder_text cells width k (gap + 1) (x + 1) ≡ whole
 strip_more-empty cells width k gap x value whole text h none is so_far =
-    ap (λ t. text ++ t) (sym (rest_text-empty cells width k gap x value h none is)) ∙ so_far
+    ap (λ t. text ++ t) (sym (remainder_text-empty cells width k gap x value h none is)) ∙ so_far
 
 -- the loop's end
 pub strip_done : (cells : List Cell) (width k gap x : ℕ) (start text : List ℕ) → width ≤ x
-    → text ++ rest_text cells width k gap x ≡ start ++ rest_text cells width k 0 0 → text ≡ start ++ spelled (strip_tokens (strip cells width k))
+    → text ++ remainder_text cells width k gap x ≡ start ++ remainder_text cells width k 0 0 → text ≡ start ++ spelled (strip_tokens (strip cells width k))
 strip_done cells width k gap x start text h so_far =
-    sym (append-nil text) ∙ ap (λ t. text ++ t) (sym (rest_text-end cells width k gap x h)) ∙ so_far ∙ ap (λ t. start ++ t) (rest_text-start cells width k)
+    sym (append-nil text) ∙ ap (λ t. text ++ t) (sym (remainder_text-end cells width k gap x h)) ∙ so_far ∙ ap (λ t. start ++ t) (remainder_text-start cells width k)

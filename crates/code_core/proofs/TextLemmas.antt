@@ -125,7 +125,7 @@ length-joined : (tokens : List Token) (strips : List (List Token)) → All (λ t
 length-joined tokens [] all = let h = all 0 [] (omega arith) in omega arith
 length-joined tokens (more ∷ strips) all =
     let h = all 0 [] (omega arith) in
-    let rest = length-joined more strips (All-tail (λ tokens. length (spelled tokens) ≤ 40) tokens (more ∷ strips) all) in
+    let remainder = length-joined more strips (All-tail (λ tokens. length (spelled tokens) ≤ 40) tokens (more ∷ strips) all) in
     rw (flat_map-append spelling tokens (NextStrip ∷ joined_strips (more ∷ strips)), length-append) (omega arith)
 
 -- at most eight strips

@@ -156,7 +156,7 @@ cells_from-joined cells width k (suc zero) =
     ∙ sym (filter-append p (strip_cells width k) [])
 cells_from-joined cells width k (suc (suc n)) =
     let p = has cells in
-    let rest = joined_strips (map (λ k. strip_tokens (strip cells width k)) (range_with_len (k + 1) (suc n))) in
-    cells_from-strip cells k 0 width (NextStrip ∷ rest) (strip_next k rest)
+    let remainder = joined_strips (map (λ k. strip_tokens (strip cells width k)) (range_with_len (k + 1) (suc n))) in
+    cells_from-strip cells k 0 width (NextStrip ∷ remainder) (strip_next k remainder)
     ∙ ap (λ cs. filter p (strip_cells width k) ++ cs) (cells_from-joined cells width (k + 1) (suc n))
     ∙ sym (filter-append p (strip_cells width k) (box_cells width (k + 1) (suc n)))

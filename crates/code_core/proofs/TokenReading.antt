@@ -65,25 +65,25 @@ pub IsToken-long_gap : (c : ℕ) → is_character c ≡ true → IsToken (long_g
 IsToken-long_gap c h = (omega arith, omega (arith, character_value-small c h))
 
 -- a text is read from the left
-pub tokens_at-bad : (place b : ℕ) (rest : List ℕ) → is_character b ≡ false → tokens_at place (b ∷ rest) ≡ Err (BadByte place)
+pub tokens_at-bad : (place b : ℕ) (remainder : List ℕ) → is_character b ≡ false → tokens_at place (b ∷ remainder) ≡ Err (BadByte place)
 unfolding tokens_at
 tokens_at-bad place b [] bad = rw bad refl
-tokens_at-bad place b (c ∷ rest) bad = rw bad refl
+tokens_at-bad place b (c ∷ remainder) bad = rw bad refl
 
-pub tokens_at-single : (place b : ℕ) (rest : List ℕ) → is_character b ≡ true → (b == 121) ≡ false
-    → tokens_at place (b ∷ rest) ≡ with_token (single b) (tokens_at (place + 1) rest)
+pub tokens_at-single : (place b : ℕ) (remainder : List ℕ) → is_character b ≡ true → (b == 121) ≡ false
+    → tokens_at place (b ∷ remainder) ≡ with_token (single b) (tokens_at (place + 1) remainder)
 unfolding tokens_at
 tokens_at-single place b [] h many = rw (h, many) refl
-tokens_at-single place b (c ∷ rest) h many = rw (h, many) refl
+tokens_at-single place b (c ∷ remainder) h many = rw (h, many) refl
 
-pub tokens_at-long : (place c : ℕ) (rest : List ℕ) → is_character c ≡ true
-    → tokens_at place (121 ∷ c ∷ rest) ≡ with_token (long_gap c) (tokens_at (place + 2) rest)
+pub tokens_at-long : (place c : ℕ) (remainder : List ℕ) → is_character c ≡ true
+    → tokens_at place (121 ∷ c ∷ remainder) ≡ with_token (long_gap c) (tokens_at (place + 2) remainder)
 unfolding is_character tokens_at
-tokens_at-long place c rest h = rw h refl
+tokens_at-long place c remainder h = rw h refl
 
-pub tokens_at-short : (place c : ℕ) (rest : List ℕ) → is_character c ≡ false → tokens_at place (121 ∷ c ∷ rest) ≡ Err (ShortRun place)
+pub tokens_at-short : (place c : ℕ) (remainder : List ℕ) → is_character c ≡ false → tokens_at place (121 ∷ c ∷ remainder) ≡ Err (ShortRun place)
 unfolding is_character tokens_at
-tokens_at-short place c rest h = rw h refl
+tokens_at-short place c remainder h = rw h refl
 
 pub tokens_at-end : (place : ℕ) → tokens_at place (121 ∷ []) ≡ Err (ShortRun place)
 unfolding is_character tokens_at
@@ -108,22 +108,22 @@ single-character v low high =
 
 -- a token is read from its spelling, whatever follows
 abbrev pub IsRead : Token → Type 0
-IsRead token = (place : ℕ) (rest : List ℕ) → tokens_at place (spelling token ++ rest) ≡ with_token token (tokens_at (place + length (spelling token)) rest)
+IsRead token = (place : ℕ) (remainder : List ℕ) → tokens_at place (spelling token ++ remainder) ≡ with_token token (tokens_at (place + length (spelling token)) remainder)
 
 pub tokens_at-token : (token : Token) → IsToken token → IsRead token
 unfolding is_character gap_text single
-tokens_at-token (Column v) h = λ place rest.
-    tokens_at-single place (character v) rest (is_character-character v (omega arith)) (column-character v h.0 h.1 121 (inr (omega arith)))
-    ∙ ap (λ (t : Token). with_token t (tokens_at (place + 1) rest)) (single-character v h.0 h.1)
+tokens_at-token (Column v) h = λ place remainder.
+    tokens_at-single place (character v) remainder (is_character-character v (omega arith)) (column-character v h.0 h.1 121 (inr (omega arith)))
+    ∙ ap (λ (t : Token). with_token t (tokens_at (place + 1) remainder)) (single-character v h.0 h.1)
 tokens_at-token (Gap zero) h = absurd (omega arith)
-tokens_at-token (Gap (suc zero)) h = λ place rest. tokens_at-single place 48 rest refl refl
-tokens_at-token (Gap (suc (suc zero))) h = λ place rest. tokens_at-single place 119 rest refl refl
-tokens_at-token (Gap (suc (suc (suc zero)))) h = λ place rest. tokens_at-single place 120 rest refl refl
+tokens_at-token (Gap (suc zero)) h = λ place remainder. tokens_at-single place 48 remainder refl refl
+tokens_at-token (Gap (suc (suc zero))) h = λ place remainder. tokens_at-single place 119 remainder refl refl
+tokens_at-token (Gap (suc (suc (suc zero)))) h = λ place remainder. tokens_at-single place 120 remainder refl refl
 tokens_at-token (Gap (suc (suc (suc (suc n))))) h =
     let e : character_value (character n) + 4 ≡ suc (suc (suc (suc n))) = omega (arith, character_value-character n (omega arith)) in
     let c : is_character (character n) ≡ true = is_character-character n (omega arith) in
-    subst (λ (m : ℕ). IsRead (Gap m)) e (λ place rest. rw (spelling-long_gap (character n) c) (tokens_at-long place (character n) rest c))
-tokens_at-token NextStrip h = λ place rest. tokens_at-single place 122 rest refl refl
+    subst (λ (m : ℕ). IsRead (Gap m)) e (λ place remainder. rw (spelling-long_gap (character n) c) (tokens_at-long place (character n) remainder c))
+tokens_at-token NextStrip h = λ place remainder. tokens_at-single place 122 remainder refl refl
 
 -- a token is a byte or two, so the rest is shorter
 length-gap_text : (n : ℕ) → 1 ≤ length (gap_text n)
@@ -142,8 +142,8 @@ length-spelling (Column value) = omega arith
 length-spelling (Gap n) = length-gap_text n
 length-spelling NextStrip = omega arith
 
-pub length-Begins : (text : List ℕ) (token : Token) (rest : List ℕ) → Begins text token rest → length rest < length text
-length-Begins text token rest b = omega (arith, ap length b.spelled, length-append (spelling token) rest, length-spelling token)
+pub length-Begins : (text : List ℕ) (token : Token) (remainder : List ℕ) → Begins text token remainder → length remainder < length text
+length-Begins text token remainder b = omega (arith, ap length b.spelled, length-append (spelling token) remainder, length-spelling token)
 
 pub length-spelled : (tokens : List Token) → length tokens ≤ length (flat_map spelling tokens)
 length-spelled [] = omega arith
@@ -155,17 +155,17 @@ with_tokens [] r = r
 with_tokens (token ∷ tokens) r = with_token token (with_tokens tokens r)
 
 -- so are tokens
-pub tokens_at-tokens : (tokens : List Token) → All IsToken tokens → (place : ℕ) (rest : List ℕ)
-    → tokens_at place (flat_map spelling tokens ++ rest) ≡ with_tokens tokens (tokens_at (place + length (flat_map spelling tokens)) rest)
-tokens_at-tokens [] each place rest = ap (λ (k : ℕ). tokens_at k rest) (omega arith)
-tokens_at-tokens (token ∷ tokens) each place rest =
+pub tokens_at-tokens : (tokens : List Token) → All IsToken tokens → (place : ℕ) (remainder : List ℕ)
+    → tokens_at place (flat_map spelling tokens ++ remainder) ≡ with_tokens tokens (tokens_at (place + length (flat_map spelling tokens)) remainder)
+tokens_at-tokens [] each place remainder = ap (λ (k : ℕ). tokens_at k remainder) (omega arith)
+tokens_at-tokens (token ∷ tokens) each place remainder =
     let size : place + length (spelling token) + length (flat_map spelling tokens) ≡ place + length (spelling token ++ flat_map spelling tokens) =
     omega (arith, length-append (spelling token) (flat_map spelling tokens)) in
-    ap (λ (text : List ℕ). tokens_at place text) (append_assoc (spelling token) (flat_map spelling tokens) rest)
-    ∙ tokens_at-token token (each zero token (omega arith)) place (flat_map spelling tokens ++ rest)
+    ap (λ (text : List ℕ). tokens_at place text) (append_assoc (spelling token) (flat_map spelling tokens) remainder)
+    ∙ tokens_at-token token (each zero token (omega arith)) place (flat_map spelling tokens ++ remainder)
     ∙ ap (λ (r : Result (List Token) WechslerFault). with_token token r)
-    (tokens_at-tokens tokens (All-tail IsToken token tokens each) (place + length (spelling token)) rest)
-    ∙ ap (λ (k : ℕ). with_token token (with_tokens tokens (tokens_at k rest))) size
+    (tokens_at-tokens tokens (All-tail IsToken token tokens each) (place + length (spelling token)) remainder)
+    ∙ ap (λ (k : ℕ). with_token token (with_tokens tokens (tokens_at k remainder))) size
 
 pub with_tokens-none : (tokens : List Token) → with_tokens tokens (Ok []) ≡ Ok tokens
 with_tokens-none [] = refl
@@ -182,78 +182,78 @@ tokens_at-spelled tokens each place =
     ap (λ (text : List ℕ). tokens_at place text) (sym (append-nil (flat_map spelling tokens))) ∙ tokens_at-tokens tokens each place [] ∙ with_tokens-none tokens
 
 -- the token at the front of a text
-pub Begins_single : (text : List ℕ) (token : Token) (b : ℕ) (rest : List ℕ) → text ≡ b ∷ rest → token ≡ single b → is_character b ≡ true → b ≢ 121
-    → Begins text token rest
-Begins_single text token b rest whole is h other =
+pub Begins_single : (text : List ℕ) (token : Token) (b : ℕ) (remainder : List ℕ) → text ≡ b ∷ remainder → token ≡ single b → is_character b ≡ true → b ≢ 121
+    → Begins text token remainder
+Begins_single text token b remainder whole is h other =
     let many : (b == 121) ≡ false = grind (arith, nat_tests) in
     record { is_token = rw is (IsToken-single b h many); spelled = rw (whole, is, spelling-single b h many) refl }
 
-pub Begins_long_gap : (c : ℕ) (rest : List ℕ) → is_character c ≡ true → Begins (121 ∷ c ∷ rest) (long_gap c) rest
-Begins_long_gap c rest h = record { is_token = IsToken-long_gap c h; spelled = ap (λ (text : List ℕ). text ++ rest) (sym (spelling-long_gap c h)) }
+pub Begins_long_gap : (c : ℕ) (remainder : List ℕ) → is_character c ≡ true → Begins (121 ∷ c ∷ remainder) (long_gap c) remainder
+Begins_long_gap c remainder h = record { is_token = IsToken-long_gap c h; spelled = ap (λ (text : List ℕ). text ++ remainder) (sym (spelling-long_gap c h)) }
 
 -- a text begins with a byte that is no character, with a token of one byte, or with `y`
 front_cases : (P : List ℕ → Type 0)
-    → ((b : ℕ) (rest : List ℕ) → is_character b ≡ false → P (b ∷ rest))
-    → ((token : Token) (rest : List ℕ) → IsToken token → P rest → P (spelling token ++ rest))
-    → (b : ℕ) (rest : List ℕ) → P rest → P (121 ∷ rest) → P (b ∷ rest)
-front_cases P bad more b rest after many = go (is_character b) refl (b == 121) refl
+    → ((b : ℕ) (remainder : List ℕ) → is_character b ≡ false → P (b ∷ remainder))
+    → ((token : Token) (remainder : List ℕ) → IsToken token → P remainder → P (spelling token ++ remainder))
+    → (b : ℕ) (remainder : List ℕ) → P remainder → P (121 ∷ remainder) → P (b ∷ remainder)
+front_cases P bad more b remainder after many = go (is_character b) refl (b == 121) refl
   where
-    go : (c : Bool) → is_character b ≡ c → (m : Bool) → (b == 121) ≡ m → P (b ∷ rest)
-    go false h m e = bad b rest h
-    go true h false e = subst (λ (text : List ℕ). P (text ++ rest)) (spelling-single b h e) (more (single b) rest (IsToken-single b h e) after)
-    go true h true e = subst (λ (k : ℕ). P (k ∷ rest)) (sym ((Decides-eqb b 121).0 e)) many
+    go : (c : Bool) → is_character b ≡ c → (m : Bool) → (b == 121) ≡ m → P (b ∷ remainder)
+    go false h m e = bad b remainder h
+    go true h false e = subst (λ (text : List ℕ). P (text ++ remainder)) (spelling-single b h e) (more (single b) remainder (IsToken-single b h e) after)
+    go true h true e = subst (λ (k : ℕ). P (k ∷ remainder)) (sym ((Decides-eqb b 121).0 e)) many
 
 long_cases : (P : List ℕ → Type 0)
-    → ((rest : List ℕ) → has_character rest ≡ false → P (121 ∷ rest))
-    → ((token : Token) (rest : List ℕ) → IsToken token → P rest → P (spelling token ++ rest))
-    → (c : ℕ) (rest : List ℕ) → P rest → P (121 ∷ c ∷ rest)
-long_cases P short more c rest after = go (is_character c) refl
+    → ((remainder : List ℕ) → has_character remainder ≡ false → P (121 ∷ remainder))
+    → ((token : Token) (remainder : List ℕ) → IsToken token → P remainder → P (spelling token ++ remainder))
+    → (c : ℕ) (remainder : List ℕ) → P remainder → P (121 ∷ c ∷ remainder)
+long_cases P short more c remainder after = go (is_character c) refl
   where
-    go : (d : Bool) → is_character c ≡ d → P (121 ∷ c ∷ rest)
-    go false h = short (c ∷ rest) h
-    go true h = subst (λ (text : List ℕ). P (text ++ rest)) (spelling-long_gap c h) (more (long_gap c) rest (IsToken-long_gap c h) after)
+    go : (d : Bool) → is_character c ≡ d → P (121 ∷ c ∷ remainder)
+    go false h = short (c ∷ remainder) h
+    go true h = subst (λ (text : List ℕ). P (text ++ remainder)) (spelling-long_gap c h) (more (long_gap c) remainder (IsToken-long_gap c h) after)
 
 -- induction over texts: each is empty, or has a fault at its front, or begins with a token
 pub text_induction : (P : List ℕ → Type 0) → P []
-    → ((b : ℕ) (rest : List ℕ) → is_character b ≡ false → P (b ∷ rest))
-    → ((rest : List ℕ) → has_character rest ≡ false → P (121 ∷ rest))
-    → ((token : Token) (rest : List ℕ) → IsToken token → P rest → P (spelling token ++ rest))
+    → ((b : ℕ) (remainder : List ℕ) → is_character b ≡ false → P (b ∷ remainder))
+    → ((remainder : List ℕ) → has_character remainder ≡ false → P (121 ∷ remainder))
+    → ((token : Token) (remainder : List ℕ) → IsToken token → P remainder → P (spelling token ++ remainder))
     → (text : List ℕ) → P text
 text_induction P none bad short more [] = none
 text_induction P none bad short more (b ∷ []) = front_cases P bad more b [] none (short [] refl)
-text_induction P none bad short more (b ∷ c ∷ rest) =
-    front_cases P bad more b (c ∷ rest) (text_induction P none bad short more (c ∷ rest))
-    (long_cases P short more c rest (text_induction P none bad short more rest))
+text_induction P none bad short more (b ∷ c ∷ remainder) =
+    front_cases P bad more b (c ∷ remainder) (text_induction P none bad short more (c ∷ remainder))
+    (long_cases P short more c remainder (text_induction P none bad short more remainder))
 
-pub tokens_at-short_run : (place : ℕ) (rest : List ℕ) → has_character rest ≡ false → tokens_at place (121 ∷ rest) ≡ Err (ShortRun place)
+pub tokens_at-short_run : (place : ℕ) (remainder : List ℕ) → has_character remainder ≡ false → tokens_at place (121 ∷ remainder) ≡ Err (ShortRun place)
 tokens_at-short_run place [] h = tokens_at-end place
-tokens_at-short_run place (c ∷ rest) h = tokens_at-short place c rest h
+tokens_at-short_run place (c ∷ remainder) h = tokens_at-short place c remainder h
 
 -- a byte that is no character stands at the front, and so does a `y` without one after it
 abbrev pub IsBad : List ℕ → Type 0
 IsBad [] = ⊥
-IsBad (b ∷ rest) = is_character b ≡ false
+IsBad (b ∷ remainder) = is_character b ≡ false
 
 abbrev pub IsShort : List ℕ → Type 0
 IsShort [] = ⊥
-IsShort (b ∷ rest) = (b ≡ 121) × (has_character rest ≡ false)
+IsShort (b ∷ remainder) = (b ≡ 121) × (has_character remainder ≡ false)
 
 -- tokens spell the front of the text, and its rest begins so, at this place of a longer text in which the text stands at another
 pub record Stops (BeginsSo : List ℕ → Type 0) (start : ℕ) (text : List ℕ) (place : ℕ) : Type 0 where
   pub tokens : List Token
-  pub rest : List ℕ
+  pub remainder : List ℕ
   pub each : All IsToken tokens
-  pub whole : text ≡ flat_map spelling tokens ++ rest
+  pub whole : text ≡ flat_map spelling tokens ++ remainder
   pub at_place : place ≡ start + length (flat_map spelling tokens)
-  pub so : BeginsSo rest
+  pub so : BeginsSo remainder
 
 Stops-more : (BeginsSo : List ℕ → Type 0) (start place : ℕ) (token : Token) (text : List ℕ) → IsToken token
     → Stops BeginsSo (start + length (spelling token)) text place → Stops BeginsSo start (spelling token ++ text) place
 Stops-more BeginsSo start place token text h s = record {
   tokens = token ∷ s.tokens;
-  rest = s.rest;
+  remainder = s.remainder;
   each = All-cons IsToken token s.tokens h s.each;
-  whole = ap (λ (more : List ℕ). spelling token ++ more) s.whole ∙ sym (append_assoc (spelling token) (flat_map spelling s.tokens) s.rest);
+  whole = ap (λ (more : List ℕ). spelling token ++ more) s.whole ∙ sym (append_assoc (spelling token) (flat_map spelling s.tokens) s.remainder);
   at_place = s.at_place ∙ omega (arith, length-append (spelling token) (flat_map spelling s.tokens));
   so = s.so;
 }
@@ -282,20 +282,20 @@ pub tokens_at-outcome : (text : List ℕ) (start : ℕ) → Outcome start text (
 unfolding tokens_at
 tokens_at-outcome = text_induction (λ text. (start : ℕ) → Outcome start text (tokens_at start text))
     (λ start. record { each = All-nil IsToken; spelled = refl })
-    (λ b rest bad start. rw (tokens_at-bad start b rest bad) (let s : Stops IsBad start (b ∷ rest) start =
-    record { tokens = []; rest = b ∷ rest; each = All-nil IsToken; whole = refl; at_place = omega arith; so = bad } in s))
-    (λ rest short start. rw (tokens_at-short_run start rest short)
-    (let s : Stops IsShort start (121 ∷ rest) start = record {
+    (λ b remainder bad start. rw (tokens_at-bad start b remainder bad) (let s : Stops IsBad start (b ∷ remainder) start =
+    record { tokens = []; remainder = b ∷ remainder; each = All-nil IsToken; whole = refl; at_place = omega arith; so = bad } in s))
+    (λ remainder short start. rw (tokens_at-short_run start remainder short)
+    (let s : Stops IsShort start (121 ∷ remainder) start = record {
       tokens = [];
-      rest = 121 ∷ rest;
+      remainder = 121 ∷ remainder;
       each = All-nil IsToken;
       whole = refl;
       at_place =
           omega arith;
       so = (refl, short);
     } in s))
-    (λ token rest h o start. rw (tokens_at-token token h start rest)
-    (Outcome-more token rest h start (tokens_at (start + length (spelling token)) rest) (o (start + length (spelling token)))))
+    (λ token remainder h o start. rw (tokens_at-token token h start remainder)
+    (Outcome-more token remainder h start (tokens_at (start + length (spelling token)) remainder) (o (start + length (spelling token)))))
 
 -- what is read spells the text
 pub Spells-tokens_at : (tokens : List Token) (text : List ℕ) (place : ℕ) → tokens_at place text ≡ Ok tokens → Spells tokens text
@@ -311,37 +311,37 @@ Stops-bad text start place e = subst (λ (r : Result (List Token) WechslerFault)
 pub Stops-short : (text : List ℕ) (start place : ℕ) → tokens_at start text ≡ Err (ShortRun place) → Stops IsShort start text place
 Stops-short text start place e = subst (λ (r : Result (List Token) WechslerFault). Outcome start text r) e (tokens_at-outcome text start)
 
-tokens_at-IsBad : (start : ℕ) (rest : List ℕ) → IsBad rest → tokens_at start rest ≡ Err (BadByte start)
+tokens_at-IsBad : (start : ℕ) (remainder : List ℕ) → IsBad remainder → tokens_at start remainder ≡ Err (BadByte start)
 tokens_at-IsBad start [] so = absurd so
-tokens_at-IsBad start (b ∷ rest) so = tokens_at-bad start b rest so
+tokens_at-IsBad start (b ∷ remainder) so = tokens_at-bad start b remainder so
 
-tokens_at-IsShort : (start : ℕ) (rest : List ℕ) → IsShort rest → tokens_at start rest ≡ Err (ShortRun start)
+tokens_at-IsShort : (start : ℕ) (remainder : List ℕ) → IsShort remainder → tokens_at start remainder ≡ Err (ShortRun start)
 tokens_at-IsShort start [] so = absurd so
-tokens_at-IsShort start (b ∷ rest) so = rw so.0 (tokens_at-short_run start rest so.1)
+tokens_at-IsShort start (b ∷ remainder) so = rw so.0 (tokens_at-short_run start remainder so.1)
 
-pub tokens_at-stops : (tokens : List Token) (rest text : List ℕ) (start place : ℕ) (fault : WechslerFault) → All IsToken tokens
-    → text ≡ flat_map spelling tokens ++ rest → place ≡ start + length (flat_map spelling tokens) → tokens_at place rest ≡ Err fault
+pub tokens_at-stops : (tokens : List Token) (remainder text : List ℕ) (start place : ℕ) (fault : WechslerFault) → All IsToken tokens
+    → text ≡ flat_map spelling tokens ++ remainder → place ≡ start + length (flat_map spelling tokens) → tokens_at place remainder ≡ Err fault
     → tokens_at start text ≡ Err fault
-tokens_at-stops tokens rest text start place fault each whole at_place e =
-    ap (λ (t : List ℕ). tokens_at start t) whole ∙ tokens_at-tokens tokens each start rest
-    ∙ ap (λ (k : ℕ). with_tokens tokens (tokens_at k rest)) (sym at_place) ∙ ap (λ (r : Result (List Token) WechslerFault). with_tokens tokens r) e
+tokens_at-stops tokens remainder text start place fault each whole at_place e =
+    ap (λ (t : List ℕ). tokens_at start t) whole ∙ tokens_at-tokens tokens each start remainder
+    ∙ ap (λ (k : ℕ). with_tokens tokens (tokens_at k remainder)) (sym at_place) ∙ ap (λ (r : Result (List Token) WechslerFault). with_tokens tokens r) e
     ∙ with_tokens-err tokens fault
 
 pub tokens_at-Stops_bad : (text : List ℕ) (start place : ℕ) → Stops IsBad start text place → tokens_at start text ≡ Err (BadByte place)
-tokens_at-Stops_bad text start place s = tokens_at-stops s.tokens s.rest text start place (BadByte place) s.each s.whole s.at_place
-    (tokens_at-IsBad place s.rest s.so)
+tokens_at-Stops_bad text start place s = tokens_at-stops s.tokens s.remainder text start place (BadByte place) s.each s.whole s.at_place
+    (tokens_at-IsBad place s.remainder s.so)
 
 pub tokens_at-Stops_short : (text : List ℕ) (start place : ℕ) → Stops IsShort start text place → tokens_at start text ≡ Err (ShortRun place)
-tokens_at-Stops_short text start place s = tokens_at-stops s.tokens s.rest text start place (ShortRun place) s.each s.whole s.at_place
-    (tokens_at-IsShort place s.rest s.so)
+tokens_at-Stops_short text start place s = tokens_at-stops s.tokens s.remainder text start place (ShortRun place) s.each s.whole s.at_place
+    (tokens_at-IsShort place s.remainder s.so)
 
 pub ruleset shorter = length-Begins
 
 -- no token begins the empty text, and no character
 pub stuck_at_end : (text : List ℕ) → length text ≡ 0 → IsStuck text
 stuck_at_end [] e = tt
-stuck_at_end (b ∷ rest) e = absurd (omega arith)
+stuck_at_end (b ∷ remainder) e = absurd (omega arith)
 
 pub no_character : (text : List ℕ) → length text ≡ 0 → has_character text ≡ false
 no_character [] e = refl
-no_character (b ∷ rest) e = absurd (omega arith)
+no_character (b ∷ remainder) e = absurd (omega arith)

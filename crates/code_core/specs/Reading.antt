@@ -43,10 +43,10 @@ tokens_at place (b ∷ []) =
     if not (is_character b) then Err (BadByte place)
     else if b == 121 then Err (ShortRun place)
     else Ok (single b ∷ [])
-tokens_at place (b ∷ c ∷ rest) =
+tokens_at place (b ∷ c ∷ remainder) =
     if not (is_character b) then Err (BadByte place)
-    else if not (b == 121) then with_token (single b) (tokens_at (place + 1) (c ∷ rest))
-    else if is_character c then with_token (long_gap c) (tokens_at (place + 2) rest)
+    else if not (b == 121) then with_token (single b) (tokens_at (place + 1) (c ∷ remainder))
+    else if is_character c then with_token (long_gap c) (tokens_at (place + 2) remainder)
     else Err (ShortRun place)
 
 -- a pattern has a cell

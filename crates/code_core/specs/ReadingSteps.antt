@@ -7,24 +7,24 @@ use Rattle.code_core.specs.declared.reader.WechslerFault.TheVariants.{BadByte, S
 use Rattle.code_core.specs.Tokens.{spelling, IsToken, is_character}
 
 -- the text begins with a token, and the rest follows
-pub record Begins (text : List ℕ) (token : Token) (rest : List ℕ) : Type 0 where
+pub record Begins (text : List ℕ) (token : Token) (remainder : List ℕ) : Type 0 where
   pub is_token : IsToken token
-  pub spelled : text ≡ spelling token ++ rest
+  pub spelled : text ≡ spelling token ++ remainder
 
 -- the text begins with a character
 abbrev pub has_character : List ℕ → Bool
 has_character [] = false
-has_character (c ∷ rest) = is_character c
+has_character (c ∷ remainder) = is_character c
 
 -- no token begins the text: a character at its front is a `y` (121) with none after it
 abbrev pub IsStuck : List ℕ → Type 0
 IsStuck [] = Unit {0}
-IsStuck (b ∷ rest) = is_character b ≡ true → (b ≡ 121) × (has_character rest ≡ false)
+IsStuck (b ∷ remainder) = is_character b ≡ true → (b ≡ 121) × (has_character remainder ≡ false)
 
 -- the fault at this place, where no token begins
 abbrev pub fault_without_token : ℕ → List ℕ → Option WechslerFault
 fault_without_token place [] = None
-fault_without_token place (b ∷ rest) = Some (if is_character b then ShortRun place else BadByte place)
+fault_without_token place (b ∷ remainder) = Some (if is_character b then ShortRun place else BadByte place)
 
 -- the token is a column, which has a live cell
 abbrev pub is_column : Token → Bool

@@ -5,20 +5,20 @@ use itoa::{Buffer, Integer};
 use plane_core::output::{Out, WriteError};
 use std::io::Write;
 
-/// Writes a word and a number in decimal right after it, to a writer that hasn't failed. It takes no memory.
+/// Writes a text and a number in decimal right after it, to a writer that hasn't failed. It takes no memory.
 ///
 /// # Errors
 ///
 /// [`WriteError`] if a write fails.
 pub fn put_number<W: Write, N: Integer>(
     out: &mut Out<W>,
-    word: &[u8],
+    before: &[u8],
     number: N,
 ) -> Result<(), WriteError>
     requires { out.old.failed ≡ false }
-    ensures { Writes W.contents out.old out.new result (word.now ++ N.text number) }
+    ensures { Writes W.contents out.old out.new result (before.now ++ N.text number) }
 {
     let mut buffer = Buffer::new();
-    out.put(word)?;
+    out.put(before)?;
     out.put(buffer.format(number).as_bytes())
 }

@@ -124,13 +124,13 @@ fn read(alloc: Global, text: &[u8]) -> Result<Pattern, WechslerError>
 fn fault_in(text: &[u8]) -> Option<WechslerFault>
     ensures { result ≡ result_err (wechsler_pattern text.now) }
 {
-    let mut rest = text;
+    let mut remainder = text;
     let mut has_cell = false;
-    while let Some((token, more)) = first_token(rest) {
+    while let Some((token, more)) = first_token(remainder) {
         has_cell |= is_column(token);
-        rest = more;
+        remainder = more;
     }
-    if let Some(fault) = fault_at(text.len() - rest.len(), rest) {
+    if let Some(fault) = fault_at(text.len() - remainder.len(), remainder) {
         return Some(fault);
     }
     if has_cell {
@@ -141,10 +141,10 @@ fn fault_in(text: &[u8]) -> Option<WechslerFault>
 }
 
 /// What is wrong at this place of a text, where the rest doesn't begin with a token.
-fn fault_at(place: usize, rest: &[u8]) -> Option<WechslerFault>
-    ensures { result ≡ fault_without_token place rest.now }
+fn fault_at(place: usize, remainder: &[u8]) -> Option<WechslerFault>
+    ensures { result ≡ fault_without_token place remainder.now }
 {
-    let byte = rest.first()?;
+    let byte = remainder.first()?;
     if is_character(*byte) {
         Some(WechslerFault::ShortRun { place })
     } else {
@@ -180,10 +180,10 @@ fn cells_in(alloc: Global, text: &[u8]) -> Result<Vec<Cell>, AllocError>
 {
     let mut cells = Vec::new(alloc);
     let mut head = Head { strip: 0, x: 0 };
-    let mut rest = text;
-    while let Some((token, more)) = first_token(rest) {
+    let mut remainder = text;
+    while let Some((token, more)) = first_token(remainder) {
         head = push_token(&mut cells, head, token)?;
-        rest = more;
+        remainder = more;
     }
     Ok(cells)
 }
@@ -265,18 +265,18 @@ fn first_token(text: &[u8]) -> Option<(Token, &[u8])>
     ensures token { IfSome result (λ first. Begins text.now first.0 first.1.now) }
     ensures none { IfNone result (IsStuck text.now) }
 {
-    let (byte, rest) = text.split_first()?;
+    let (byte, remainder) = text.split_first()?;
     if !is_character(*byte) {
         return None;
     }
     if *byte != MANY_EMPTY {
-        return Some((single(*byte), rest));
+        return Some((single(*byte), remainder));
     }
-    let (length, rest) = rest.split_first()?;
+    let (length, remainder) = remainder.split_first()?;
     if !is_character(*length) {
         return None;
     }
-    Some((Token::Gap(character_value(*length) + 4), rest))
+    Some((Token::Gap(character_value(*length) + 4), remainder))
 }
 
 /// Whether a token is a column with a live cell.

@@ -4,7 +4,7 @@ use crate::streams::{FaultyReader, FaultyWriter, Left, interrupted_writer, reade
 use commands::gather::do_gather;
 use commands::plan::Plan;
 use commands::soup_set::SoupSet;
-use commands::word::Word;
+use commands::text::Text;
 use pattern_commands::profile::ProfileNumbers;
 use pattern_commands::status::Status;
 use plane_core::output::Out;
@@ -53,15 +53,15 @@ pub(crate) fn plan_of(count: u64, also: &str) -> Plan<'_>
     ensures { AreInRange result.profile }
 {
     let set = SoupSet {
-        seed: Word::new(""),
+        seed: Text::new(""),
         first: 0,
         count,
-        also: Word::new(also),
+        also: Text::new(also),
     };
     Plan {
         set,
         profile: SMALL,
-        rule: Word::new("b3s23"),
+        rule: Text::new("b3s23"),
     }
 }
 

@@ -29,14 +29,14 @@ impl Read for FaultyReader<'_> {
         if self.reads == self.bad {
             return Err(io::Error::from(self.kind));
         }
-        let Some((first, rest)) = self.text.split_first() else {
+        let Some((first, remainder)) = self.text.split_first() else {
             return Ok(0);
         };
         let Some(place) = buf.first_mut() else {
             return Ok(0);
         };
         *place = *first;
-        self.text = rest;
+        self.text = remainder;
         Ok(1)
     }
 }

@@ -200,7 +200,7 @@ gathers_over plan workers bytes known job terms outcome output errors named over
     told (inr is) = inr (begins is)
 
     listed : IsListText plan.set.also
-    listed = record { ranges = over.named.listed; words = over.named.words; spelled = over.named.spelled }
+    listed = record { ranges = over.named.listed; fit = over.named.fit; spelled = over.named.spelled }
 
     go : (outcome : Outcome) → Reaches (haul_task terms) known bytes outcome output errors
         → Reaches (gather_task plan workers) known bytes outcome output errors

@@ -64,7 +64,7 @@ pub all_read : (start old new : Option (List ℕ)) (read line : List ℕ) → Co
 all_read None old new read line before now end = tt
 all_read (Some all) None new read line before now end = absurd before
 all_read (Some all) (Some left) None read line before now end = absurd now
-all_read (Some all) (Some left) (Some rest) read line before now end =
+all_read (Some all) (Some left) (Some remainder) read line before now end =
     let whole : all ≡ read ++ (line ++ []) = before ∙ ap (λ l. read ++ l) (now ∙ ap (λ l. line ++ l) end) in
     sym (whole ∙ ap (λ l. read ++ l) (append-nil line))
 
@@ -83,23 +83,23 @@ first_line : (line more : List ℕ) → IsOneLine line → input_lines ((line ++
 first_line [] more one = refl
 first_line (x ∷ xs) more one =
     let miss = ne_eqb x 10 (All-head IsNotFeed x xs one) in
-    let rest = input_lines ((xs ++ 10 ∷ []) ++ more) in
-    ap (λ b. cond b ([] ∷ rest) (begun_with x rest)) miss ∙ ap (begun_with x) (first_line xs more (All-tail IsNotFeed x xs one))
+    let remainder = input_lines ((xs ++ 10 ∷ []) ++ more) in
+    ap (λ b. cond b ([] ∷ remainder) (begun_with x remainder)) miss ∙ ap (begun_with x) (first_line xs more (All-tail IsNotFeed x xs one))
 
 -- the lines that were ended, and those after them
 ended_lines : (lines : List (List ℕ)) (more : List ℕ) → All IsOneLine lines → input_lines (flat_map (with_end Feed) lines ++ more) ≡ lines ++ input_lines more
 ended_lines [] more whole = refl
 ended_lines (line ∷ lines) more whole =
-    let rest = flat_map (with_end Feed) lines in
-    ap input_lines (append_assoc (line ++ 10 ∷ []) rest more) ∙ first_line line (rest ++ more) (All-head IsOneLine line lines whole)
+    let remainder = flat_map (with_end Feed) lines in
+    ap input_lines (append_assoc (line ++ 10 ∷ []) remainder more) ∙ first_line line (remainder ++ more) (All-head IsOneLine line lines whole)
     ∙ ap (λ l. line ∷ l) (ended_lines lines more (All-tail IsOneLine line lines whole))
 
 -- a last line that no line feed ends
 bare_line : (x : ℕ) (xs : List ℕ) → IsOneLine (x ∷ xs) → input_lines (x ∷ xs) ≡ (x ∷ xs) ∷ []
 bare_line x [] one = ap (λ b. cond b ([] ∷ []) (begun_with x [])) (ne_eqb x 10 (All-head IsNotFeed x [] one))
 bare_line x (y ∷ ys) one =
-    let rest = input_lines (y ∷ ys) in
-    ap (λ b. cond b ([] ∷ rest) (begun_with x rest)) (ne_eqb x 10 (All-head IsNotFeed x (y ∷ ys) one))
+    let remainder = input_lines (y ∷ ys) in
+    ap (λ b. cond b ([] ∷ remainder) (begun_with x remainder)) (ne_eqb x 10 (All-head IsNotFeed x (y ∷ ys) one))
     ∙ ap (begun_with x) (bare_line y ys (All-tail IsNotFeed x (y ∷ ys) one))
 
 -- the lines of all that was read, if nothing stands after the last line feed

@@ -23,7 +23,7 @@ use Rattle.haul_core.specs.Censuses.{IsCensus}
 use Rattle.haul_core.specs.HaulTexts.{haul_text}
 use Rattle.haul_core.specs.Keeping.{numbers_in}
 use Rattle.haul_core.specs.Missing.{AreAll, IsComplete, is_taken, missing_of, numbers_of}
-use Rattle.ranges.specs.RangeLists.{AreWords, IsFirstListFault, IsListText, list_text}
+use Rattle.ranges.specs.RangeLists.{FitU64, IsFirstListFault, IsListText, list_text}
 use Rattle.ranges.specs.Ranges.{AreSmall, IsNormalForm, is_in}
 use Rattle.crew.specs.Shifts.{StopsAt}
 use Rattle.crew.specs.Takes.{HasTaken, was_missing}
@@ -75,12 +75,12 @@ Stops_set set tells WriteFailed stops = absurd stops
 
 -- a range list that is not read stops the command
 pub Stops_list : (set : SoupSet) (text : List ℕ) (error : ListError) → text ≡ set.also
-    → ((ranges : List Range) → AreWords ranges → list_text ranges ≡ text → error ≡ list_error.Memory)
+    → ((ranges : List Range) → FitU64 ranges → list_text ranges ≡ text → error ≡ list_error.Memory)
     → ((place : ℕ) → error ≡ list_error.BadList place → IsFirstListFault text place) → (error ≡ list_error.Memory → IsListText text)
     → StopsSet set (list_complaint error)
 Stops_list set text (list_error.BadList place) is complete fault memory =
     let not_list : IsListText set.also → ⊥ =
-    λ list. let bad : list_error.BadList place ≡ list_error.Memory = complete list.ranges list.words (list.spelled ∙ sym is) in cc in
+    λ list. let bad : list_error.BadList place ≡ list_error.Memory = complete list.ranges list.fit (list.spelled ∙ sym is) in cc in
     Bad_list not_list place (subst (λ (t : List ℕ). IsFirstListFault t place) is (fault place refl)) refl
 Stops_list set text list_error.Memory is complete fault memory = subst IsListText is (memory refl)
 
@@ -184,7 +184,7 @@ right_given plan next job text named right = rw named right
 
 -- a set whose ranges are known has a list
 pub listed : (set : SoupSet) (ranges : List Range) → AreRangesOf set ranges → IsListText set.also
-listed set ranges of = record { ranges = of.listed; words = of.words; spelled = of.spelled }
+listed set ranges of = record { ranges = of.listed; fit = of.fit; spelled = of.spelled }
 
 -- memory that runs out over a haul that was opened stops the command
 Stops_memory : {workers : ℕ} (plan : Plan) (held : Held)
@@ -239,7 +239,7 @@ complete_right job set opened held census open_ h all is = record {
   named = open_.named;
   small = open_.small;
   apart = open_.apart;
-  is_told = record {
+  is_text = record {
     numbers = numbers_in held.taken;
     all = λ n. all n ∙ ap (λ (b : Bool). cond {A = ℕ} b 1 0)
         (ap (λ (t : Terms). is_in t.ranges n) h.added.terms ∙ open_.form.same n);
@@ -262,7 +262,7 @@ stopped_told may_stop job set opened held census missing open_ h many incomplete
   named = open_.named;
   small = open_.small;
   apart = open_.apart;
-  is_told = record {
+  is_text = record {
     normal = opened.terms.ranges;
     form = open_.form;
     taken = held.taken;
@@ -370,7 +370,7 @@ never_right : (may_stop : ℕ → ℕ → Type 0) (plan : Plan) (missing : ℕ) 
 never_right may_stop plan missing text never = go (job_named plan)
   where
     go : (r : Result Job Complaint) → given_right r (λ job. right_for_set plan.set (TellsTaken may_stop missing job)) (Ok text) → ⊥
-    go (Ok job) told = let stops = told.is_told.stops in never stops.0 stops.1 stops.3
+    go (Ok job) told = let stops = told.is_text.stops in never stops.0 stops.1 stops.3
     go (Err complaint) is = cc
 
 -- so what it makes is a text alone

@@ -207,7 +207,7 @@ same_report determined job worker n r s one other = λ i. record {
 
 -- reports on the first of some numbers are the first of the reports on all
 first_reports : FindingsAreDetermined → (job : Job) (worker : ℕ) (done more : List ℕ) (rs all : List Reported) → AreReportsOn job worker done rs
-    → AreReportsOn job worker (done ++ more) all → (rest : List Reported) × (all ≡ rs ++ rest)
+    → AreReportsOn job worker (done ++ more) all → (remainder : List Reported) × (all ≡ rs ++ remainder)
 first_reports determined job worker [] more [] all each every = (all, refl)
 first_reports determined job worker [] more (r ∷ rs) all each every = absurd each
 first_reports determined job worker (n ∷ done) more [] all each every = absurd each
@@ -226,7 +226,7 @@ only_text : {workers : ℕ} → OneNormalForm → (job : Job) (worker : ℕ) (se
     → right_for_set set (TellsReports job worker) answer → Tells job worker (numbers_of held.terms.ranges) answer
 only_text one_form job worker set held opened (Ok text) is =
     let same : is.ranges ≡ opened.ranges = opened.only is.ranges is.named in
-    let tells = is.is_told in
+    let tells = is.is_text in
     let forms : tells.normal ≡ held.terms.ranges =
     one_form tells.normal held.terms.ranges tells.form.normal_form opened.form.normal_form
     (λ n. tells.form.same n ∙ ap (λ (rs : List Range). is_in rs n) same ∙ sym (opened.form.same n)) in
@@ -250,12 +250,12 @@ front_of : FindingsAreDetermined → (job : Job) (worker : ℕ) (numbers : List 
     → IsBegun job worker numbers (HasFront output) → HasFront output (output_text answer)
 front_of determined job worker numbers answer output tells begun =
     let every = subst (λ (ns : List ℕ). AreReportsOn job worker ns tells.reports) begun.parts tells.each in
-    let rest = first_reports determined job worker begun.done begun.more begun.reports tells.reports begun.each every in
-    let lines : flat_map report_text tells.reports ≡ flat_map report_text begun.reports ++ flat_map report_text rest.0 =
-    ap (flat_map report_text) rest.1 ∙ lines-append begun.reports rest.0 in
-    let is : output_text answer ≡ flat_map report_text begun.reports ++ flat_map report_text rest.0 = ap output_text tells.told ∙ lines in
+    let remainder = first_reports determined job worker begun.done begun.more begun.reports tells.reports begun.each every in
+    let lines : flat_map report_text tells.reports ≡ flat_map report_text begun.reports ++ flat_map report_text remainder.0 =
+    ap (flat_map report_text) remainder.1 ∙ lines-append begun.reports remainder.0 in
+    let is : output_text answer ≡ flat_map report_text begun.reports ++ flat_map report_text remainder.0 = ap output_text tells.told ∙ lines in
     subst (HasFront output) (sym is)
-    (AppendsFront-longer output.before output.after (flat_map report_text begun.reports) (flat_map report_text rest.0) begun.is_written)
+    (AppendsFront-longer output.before output.after (flat_map report_text begun.reports) (flat_map report_text remainder.0) begun.is_written)
 
 -- whole lines are a front of themselves
 begun_whole : (job : Job) (worker : ℕ) (numbers : List ℕ) (output : Stream) → IsBegun job worker numbers (Has output)
@@ -299,7 +299,7 @@ reaches_work determined one_form plan worker held outcome output is puts =
           named = is.opened.named;
           small = is.opened.small;
           apart = is.opened.apart;
-          is_told = record { normal = held.terms.ranges; form = is.opened.form; reports = put.reports; each = put.each; text_is = refl };
+          is_text = record { normal = held.terms.ranges; form = is.opened.form; reports = put.reports; each = put.each; text_is = refl };
         } in
         ((text, rw is.named told, put.is_written), put.fine)
     go (Err Memory) begun = (

@@ -55,18 +55,18 @@ pub data ComesOf (terms : Terms) (before : List Arrival) (line : List ℕ) : Lis
   Offered : (report : Reported) → IsLookedAt terms.job line (Ok report)
       → ComesOf terms before line (Offer report ∷ []) (offer_fault report (refusal_of terms before report))
 
--- the words on a fault
-abbrev pub fault_words : LineFault → List ℕ
-fault_words (BadLine place) = codes "bad line at " ++ decimal place
-fault_words OtherJob = codes "other job"
-fault_words Disagrees = codes "disagrees"
-fault_words (UnknownWorker worker) = codes "unknown worker " ++ decimal worker
-fault_words (OutOfRange number) = codes "out of range " ++ decimal number
-fault_words (Double number worker) = codes "double of " ++ decimal number ++ (codes " by " ++ decimal worker)
+-- what is told of a fault
+abbrev pub fault_text : LineFault → List ℕ
+fault_text (BadLine place) = codes "bad line at " ++ decimal place
+fault_text OtherJob = codes "other job"
+fault_text Disagrees = codes "disagrees"
+fault_text (UnknownWorker worker) = codes "unknown worker " ++ decimal worker
+fault_text (OutOfRange number) = codes "out of range " ++ decimal number
+fault_text (Double number worker) = codes "double of " ++ decimal number ++ (codes " by " ++ decimal worker)
 
 -- what is told of line `number`, counted from 1
 abbrev pub fault_line : ℕ → LineFault → List ℕ
-fault_line number fault = codes "line " ++ decimal number ++ (codes ": " ++ (fault_words fault ++ codes "\n"))
+fault_line number fault = codes "line " ++ decimal number ++ (codes ": " ++ (fault_text fault ++ codes "\n"))
 
 abbrev pub told_fault : ℕ → Option LineFault → List ℕ
 told_fault number None = []

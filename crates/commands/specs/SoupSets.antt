@@ -2,7 +2,7 @@
 use Rattle.std.specs.Prelude.{◌≡◌, ◌++◌, ℕ, List, [], ◌∷◌, Result, Ok, Err}
 use Rattle.survey_core.specs.declared.job.Job.{Job}
 use Rattle.ranges.specs.declared.range.Range.{Range}
-use Rattle.ranges.specs.RangeLists.{AreWords, IsFirstListFault, IsListText, list_text}
+use Rattle.ranges.specs.RangeLists.{FitU64, IsFirstListFault, IsListText, list_text}
 use Rattle.ranges.specs.Ranges.{AreSmall, Overlap}
 use Rattle.pattern_commands.specs.declared.complaint.Complaint.{Complaint}
 use Rattle.pattern_commands.specs.declared.complaint.Complaint.TheVariants.{Refused, Memory, ReadFailed, WriteFailed}
@@ -28,7 +28,7 @@ own_range set = record { first = set.first; count = set.count }
 -- the ranges of a set: those of its list, and the one that its first number and its count give
 pub record AreRangesOf (set : SoupSet) (ranges : List Range) : Type 0 where
   pub listed : List Range
-  pub words : AreWords listed
+  pub fit : FitU64 listed
   pub spelled : list_text listed ≡ set.also
   pub all : ranges ≡ listed ++ own_range set ∷ []
 
@@ -39,16 +39,16 @@ pub data IsRefused (set : SoupSet) (refusal : Refusal) : Type 0 where
   Overlapping : (ranges : List Range) → AreRangesOf set ranges → AreSmall ranges → Overlap ranges → refusal ≡ RangesOverlap → IsRefused set refusal
 
 -- the ranges of a set are fine, and the text is one that is to be told of them
-pub record IsToldOf (set : SoupSet) (tells : List Range → List ℕ → Type 0) (text : List ℕ) : Type 0 where
+pub record IsTextOf (set : SoupSet) (tells : List Range → List ℕ → Type 0) (text : List ℕ) : Type 0 where
   pub ranges : List Range
   pub named : AreRangesOf set ranges
   pub small : AreSmall ranges
   pub apart : ¬ Overlap ranges
-  pub is_told : tells ranges text
+  pub is_text : tells ranges text
 
 -- which answer is right for a set, where this is to be told of its ranges
 abbrev pub right_for_set : SoupSet → (List Range → List ℕ → Type 0) → Right
-right_for_set set tells (Ok text) = IsToldOf set tells text
+right_for_set set tells (Ok text) = IsTextOf set tells text
 right_for_set set tells (Err (Refused refusal)) = IsRefused set refusal
 right_for_set set tells (Err Memory) = ⊥
 right_for_set set tells (Err ReadFailed) = ⊥

@@ -22,7 +22,7 @@ pub mod progress;
 pub mod soup_set;
 /// `take`: the haul of a set of soups.
 pub mod take;
-/// Words of the command line.
-pub mod word;
+/// Texts among the words of a call.
+pub mod text;
 /// `work`: the report lines of a set of soups.
 pub mod work;

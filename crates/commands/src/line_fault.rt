@@ -1,6 +1,6 @@
 ghost use Rattle.std.specs.Prelude.{◌≡◌, ◌++◌, codes, decimal, false};
 ghost use Rattle.plane_core.specs.Out.{Writes};
-ghost use Rattle.commands.specs.GatheredLines.{fault_line, fault_words};
+ghost use Rattle.commands.specs.GatheredLines.{fault_line, fault_text};
 
 use code_core::decimal::put_number;
 use pattern_commands::output::LineBuffer;
@@ -52,14 +52,14 @@ impl LineFault {
     {
         put_number(errors, b"line ", number)?;
         errors.put(b": ")?;
-        self.put_words(errors)?;
+        self.put_text(errors)?;
         errors.put(b"\n")
     }
 
-    /// Writes the words on the fault.
-    fn put_words<E: Write>(self, errors: &mut Out<E>) -> Result<(), WriteError>
+    /// Writes what is told of the fault.
+    fn put_text<E: Write>(self, errors: &mut Out<E>) -> Result<(), WriteError>
         requires { errors.old.failed ≡ false }
-        ensures { Writes E.contents errors.old errors.new result (fault_words self) }
+        ensures { Writes E.contents errors.old errors.new result (fault_text self) }
     {
         match self {
             LineFault::BadLine { place } => put_number(errors, b"bad line at ", place),

@@ -7,7 +7,7 @@ ghost use Rattle.commands.specs.SoupSets.{job_named};
 ghost use Rattle.commands.specs.TakeSteps.{IsOpenedFor, StopsOpening};
 
 use crate::soup_set::{SoupSet, haul_for};
-use crate::word::Word;
+use crate::text::Text;
 use haul_core::book::haul::Haul;
 use pattern_commands::complaint::Complaint;
 use pattern_commands::profile::ProfileNumbers;
@@ -26,7 +26,7 @@ pub struct Plan<'a> {
     /// The numbers of the profile.
     pub profile: ProfileNumbers,
     /// The text of the rule.
-    pub rule: Word<'a>,
+    pub rule: Text<'a>,
 }
 
 /// A haul over the soups of a plan, for so many workers, 1 to 16. What makes up its job is looked at first: the seed,

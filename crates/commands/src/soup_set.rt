@@ -3,7 +3,7 @@ ghost use Rattle.haul_core.specs.Reports.{IsWorker};
 ghost use Rattle.commands.specs.SoupSets.{AreRangesOf};
 ghost use Rattle.commands.specs.TakeSteps.{IsOpened, StopsSet};
 
-use crate::word::Word;
+use crate::text::Text;
 use haul_core::book::haul::{Haul, OpenError};
 use pattern_commands::complaint::Complaint;
 use pattern_commands::refusal::Refusal;
@@ -17,13 +17,13 @@ use survey_core::job::Job;
 #[derive(Drop)]
 pub struct SoupSet<'a> {
     /// The seed.
-    pub seed: Word<'a>,
+    pub seed: Text<'a>,
     /// The first number of the range.
     pub first: u64,
     /// How many numbers the range has.
     pub count: u64,
     /// The list of the other ranges.
-    pub also: Word<'a>,
+    pub also: Text<'a>,
 }
 
 /// A haul over the ranges of a set, for a job and so many workers.

@@ -17,6 +17,7 @@ use haul_core::book::haul::Haul;
 use haul_core::report::Report;
 use haul_core::report::write::write_report_line;
 use pattern_commands::complaint::Complaint;
+use pattern_commands::ending::tell_end_of_text;
 use pattern_commands::status::Status;
 use plane_core::output::{Out, WriteError};
 use ranges::range::{Range, one_normal_form};
@@ -53,10 +54,8 @@ pub fn do_work<W: Write, E: Write>(
         (stream W.contents output.old output.new) (stream E.contents errors.old errors.new) }
     ensures untouched { result ≡ Status.Refused → output.new ≡ output.old }
 {
-    match work(alloc, plan, worker, output) {
-        Ok(()) => Status::Done,
-        Err(complaint) => complaint.tell(errors),
-    }
+    let outcome = work(alloc, plan, worker, output);
+    tell_end_of_text(outcome, errors)
 }
 
 fn work<W: Write>(

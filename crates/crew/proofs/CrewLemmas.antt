@@ -11,7 +11,7 @@ use Rattle.haul_core.specs.Books.{Held, StandsFor, Terms, entry, eligible, refus
 use Rattle.haul_core.specs.Reports.{Reported}
 use Rattle.haul_core.specs.declared.book.arrival.Arrival.{Arrival}
 use Rattle.haul_core.specs.declared.book.arrival.Arrival.TheVariants.{Offer}
-use Rattle.handover.specs.Belts.{GotOne, Line, Received}
+use Rattle.handover.specs.Belts.{GotOne, BeltId, Received}
 use Rattle.crew.specs.Crews.{Collected, HasAdded, HasLost, HasComeAll, IsPart, dones, is_done, report_in, reports_in}
 use Rattle.crew.specs.declared.note.Note.{Note}
 use Rattle.crew.specs.declared.note.Note.TheVariants.{Done, Report}
@@ -31,7 +31,7 @@ module _ {X : Type 0} where
   part_append part [] more ys p q = subst (λ (l : List X). IsPart (l ++ more) ys) (sym p) q
   part_append part (x ∷ xs) more ys p q =
       ⊎_elim (λ (h : IsPart part xs). inl (part_append part xs more ys h q))
-      (λ (h : (rest : List X) × (part ≡ x ∷ rest) × IsPart rest xs).
+      (λ (h : (remainder : List X) × (part ≡ x ∷ remainder) × IsPart remainder xs).
       inr (h.0 ++ more, ap (λ (l : List X). l ++ more) h.1, part_append h.0 xs more ys h.2 q)) p
 
 -- ---- notes
@@ -140,7 +140,7 @@ module _ {started left : ℕ} {before after next : Received Note} {old mid : Hel
   sender_in note g =
       let P : ℕ × Note → Type 0 = λ m. (1 ≤ m.0) × (m.0 ≤ before.belt.workers) in
       All-append P c.notes ((g.sender, note) ∷ []) c.senders
-      (All-cons P (g.sender, note) [] (g.some_worker.0, subst (λ (b : Line). g.sender ≤ b.workers) c.belt g.some_worker.1) (All-nil P))
+      (All-cons P (g.sender, note) [] (g.some_worker.0, subst (λ (b : BeltId). g.sender ≤ b.workers) c.belt g.some_worker.1) (All-nil P))
 
   got_more : (note : Note) (g : GotOne after next note) → next.got ≡ before.got ++ (c.notes ++ (g.sender, note) ∷ [])
   got_more note g =

@@ -18,7 +18,7 @@ use Rattle.survey_core.specs.declared.job.Job.{Job}
 use Rattle.haul_core.specs.Books.{Held, entry}
 use Rattle.haul_core.specs.Keeping.{numbers_in}
 use Rattle.haul_core.specs.Reports.{Reported}
-use Rattle.handover.specs.Belts.{IsWhole, Line, Presented, Received, deaf, notes_of, silent}
+use Rattle.handover.specs.Belts.{IsWhole, BeltId, Presented, Received, deaf, notes_of, silent}
 use Rattle.crew.specs.Crews.{Collected, IsPart, report_in, reports_in}
 use Rattle.crew.specs.Shifts.{HasWorked, StopsAt, reported, sender_numbers}
 use Rattle.crew.specs.Takes.{HasTaken, taken_by, was_missing}
@@ -45,7 +45,7 @@ module _ {X : Type 0} (P : X → Type 0) where
   all_part part [] p h = subst (All P) (sym p) (All-nil P)
   all_part part (x ∷ xs) p h =
       ⊎_elim (λ (q : IsPart part xs). all_part part xs q (All-tail P x xs h))
-      (λ (q : (rest : List X) × (part ≡ x ∷ rest) × IsPart rest xs).
+      (λ (q : (remainder : List X) × (part ≡ x ∷ remainder) × IsPart remainder xs).
       subst (All P) (sym q.1) (All-cons P x q.0 (All-head P x xs h) (all_part q.0 xs q.2 (All-tail P x xs h)))) p
 
 rises_head : (x : ℕ) (xs : List ℕ) → Rises (x ∷ xs) → All (λ y. x < y) xs
@@ -63,7 +63,7 @@ rises_part : (part xs : List ℕ) → IsPart part xs → Rises xs → Rises part
 rises_part part [] p h = subst Rises (sym p) h
 rises_part part (x ∷ xs) p h =
     ⊎_elim (λ (q : IsPart part xs). rises_part part xs q (rises_tail x xs h))
-    (λ (q : (rest : List ℕ) × (part ≡ x ∷ rest) × IsPart rest xs).
+    (λ (q : (remainder : List ℕ) × (part ≡ x ∷ remainder) × IsPart remainder xs).
     subst Rises (sym q.1) (AllPairs-cons (λ a b. a < b) x q.0 (all_part (λ y. x < y) q.0 xs q.2 (rises_head x xs h))
     (rises_part q.0 xs q.2 (rises_tail x xs h)))) p
 
@@ -122,20 +122,20 @@ received_of : (name : TableId) (job : Job) (missing : List ℕ) (got : List (ℕ
 received_of name job missing got pass up worked whole =
     let h = worked.1 in
     let front = notes_of pass.number got in
-    let rest = drop (length front) pass.notes in
-    let parts : reported pass.notes ≡ reported front ++ reported rest = ap reported (sym whole) ∙ flat_map-append report_in front rest in
+    let remainder = drop (length front) pass.notes in
+    let parts : reported pass.notes ≡ reported front ++ reported remainder = ap reported (sym whole) ∙ flat_map-append report_in front remainder in
     let number : Reported → ℕ = λ r. r.number in
-    let numbers : map number (reported front) ++ map number (reported rest) ≡ map (slice_index missing) worked.0 =
-    sym (map-append number (reported front) (reported rest)) ∙ ap (λ (l : List Reported). map number l) (sym parts) ∙ h.numbers in
+    let numbers : map number (reported front) ++ map number (reported remainder) ≡ map (slice_index missing) worked.0 =
+    sym (map-append number (reported front) (reported remainder)) ∙ ap (λ (l : List Reported). map number l) (sym parts) ∙ h.numbers in
     record {
       own = both job missing pass.number (reported front)
-          (all_left (λ (r : Reported). r.worker ≡ pass.number) (reported front) (reported rest)
+          (all_left (λ (r : Reported). r.worker ≡ pass.number) (reported front) (reported remainder)
           (subst (λ (l : List Reported). All (λ (r : Reported). r.worker ≡ pass.number) l) parts h.own))
-          (all_left (Contains missing) (map number (reported front)) (map number (reported rest))
+          (all_left (Contains missing) (map number (reported front)) (map number (reported remainder))
           (subst (All (Contains missing)) (sym numbers) (at_places missing worked.0 h.below)))
-          (all_left (λ (r : Reported). r.job ≡ job) (reported front) (reported rest)
+          (all_left (λ (r : Reported). r.job ≡ job) (reported front) (reported remainder)
           (subst (λ (l : List Reported). All (λ (r : Reported). r.job ≡ job) l) parts h.of_job));
-      rises = rises_left (map number (reported front)) (map number (reported rest))
+      rises = rises_left (map number (reported front)) (map number (reported remainder))
           (subst Rises (sym numbers) (rises_at missing worked.0 up h.ascending h.below));
     }
 
@@ -202,7 +202,7 @@ taken_part w part (r ∷ rs) p =
     dite (ℕ_discrete w r.worker)
     (λ same. subst (IsPart (taken_by w (map entry part))) (sym (by_yes w (entry r) (map entry rs) same))
     (⊎_elim (λ (q : IsPart part rs). inl (taken_part w part rs q))
-    (λ (q : (rest : List Reported) × (part ≡ r ∷ rest) × IsPart rest rs).
+    (λ (q : (remainder : List Reported) × (part ≡ r ∷ remainder) × IsPart remainder rs).
     inr (
       taken_by w (map entry q.0),
       ap (λ (l : List Reported). taken_by w (map entry l)) q.1 ∙ by_yes w (entry r) (map entry q.0) same,
@@ -210,7 +210,7 @@ taken_part w part (r ∷ rs) p =
     )) p))
     (λ apart. subst (IsPart (taken_by w (map entry part))) (sym (by_no w (entry r) (map entry rs) apart))
     (⊎_elim (λ (q : IsPart part rs). taken_part w part rs q)
-    (λ (q : (rest : List Reported) × (part ≡ r ∷ rest) × IsPart rest rs).
+    (λ (q : (remainder : List Reported) × (part ≡ r ∷ remainder) × IsPart remainder rs).
     subst (λ (l : List ℕ). IsPart l (taken_by w (map entry rs)))
     (sym (ap (λ (l : List Reported). taken_by w (map entry l)) q.1 ∙ by_no w (entry r) (map entry q.0) apart)) (taken_part w q.0 rs q.2)) p))
 
@@ -316,7 +316,7 @@ pub belts_of : (name : TableId) (job : Job) (missing : List ℕ) (passes : List 
 belts_of name job missing passes worked k d lt = (worked k d lt).1.belt
 
 -- what is known when a crew ends
-module _ {name : TableId} {job : Job} {started : ℕ} {before after : Received Note} {old mid : Held} {answered : Bool} (belt : Line) (workers : ℕ)
+module _ {name : TableId} {job : Job} {started : ℕ} {before after : Received Note} {old mid : Held} {answered : Bool} (belt : BeltId) (workers : ℕ)
     (missing : List ℕ) (passes first back : List (Presented Note)) (c : Collected started 0 before after old mid answered) (begun : before ≡ deaf belt)
     (as_many : belt.workers ≡ workers) (listed : missing ≡ was_missing old) (up : IsStrictlyIncreasing missing)
     (silents : first ≡ map (silent name) (range_with_len 1 workers)) (none : back ≡ [])

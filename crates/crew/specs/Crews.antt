@@ -11,7 +11,7 @@ use Rattle.crew.specs.declared.note.Note.TheVariants.{Done, Report}
 -- some of the items, in their order
 abbrev pub IsPart : {X : Type 0} → List X → List X → Type 0
 IsPart part [] = part ≡ []
-IsPart part (x ∷ xs) = IsPart part xs ⊎ ((rest : _) × (part ≡ x ∷ rest) × IsPart rest xs)
+IsPart part (x ∷ xs) = IsPart part xs ⊎ ((remainder : _) × (part ≡ x ∷ remainder) × IsPart remainder xs)
 
 abbrev pub report_in : Note → List Reported
 report_in (Report report) = report ∷ []

@@ -319,9 +319,9 @@ module _ {N : Type 0} where
       ap (λ (l : List N). front ++ l) (ap (λ (l : List N). drop (length front) l) f.1 ∙ drop_front front f.0) ∙ sym f.1
 
   -- what is seen of the rest, and what it keeps
-  pub seen_rest : (passes : List (Presented N)) (v : Share N) → v.senders ≡ []
+  pub seen_remainder : (passes : List (Presented N)) (v : Share N) → v.senders ≡ []
       → map (left_over v.got) (with_senders passes v).senders ≡ map (left_of v.got) passes
-  seen_rest passes v none =
+  seen_remainder passes v none =
       ap (λ (l : List (ℕ × List N)). map (left_over v.got) l) (ap (λ (l : List (ℕ × List N)). map entry_of passes ++ l) none
       ∙ append-nil (map entry_of passes)) ∙ go passes
     where

@@ -55,17 +55,17 @@ module _ {X : Type 0} (f : X → ℕ) where
       let b = sum_none g xs others (λ j u h. zeros (suc j) u h) in
       omega (arith, sum_by-cons f x xs)
   sum_alone g (x ∷ xs) (suc i) v at all zeros =
-      let part = rest g xs i v at in
+      let part = remainder g xs i v at in
       let first : g x ≡ 0 = omega (arith, sum_by-cons g x xs) in
       let others : sum_by g xs ≡ g v = omega (arith, sum_by-cons g x xs) in
       let a = zeros 0 x refl first in
       let b = sum_alone g xs i v at others (λ j u h. zeros (suc j) u h) in
       omega (arith, sum_by-cons f x xs)
     where
-      rest : (g : X → ℕ) (l : List X) (i : ℕ) (v : X) → get_elem? l i ≡ some v → g v ≤ sum_by g l
-      rest g [] i v at = absurd (some-ne-none v (sym at))
-      rest g (x ∷ xs) zero v at = let e : g x ≡ g v = ap g (some-injective x v at) in omega (arith, sum_by-cons g x xs)
-      rest g (x ∷ xs) (suc i) v at = let h = rest g xs i v at in omega (arith, sum_by-cons g x xs)
+      remainder : (g : X → ℕ) (l : List X) (i : ℕ) (v : X) → get_elem? l i ≡ some v → g v ≤ sum_by g l
+      remainder g [] i v at = absurd (some-ne-none v (sym at))
+      remainder g (x ∷ xs) zero v at = let e : g x ≡ g v = ap g (some-injective x v at) in omega (arith, sum_by-cons g x xs)
+      remainder g (x ∷ xs) (suc i) v at = let h = remainder g xs i v at in omega (arith, sum_by-cons g x xs)
 
 module _ {X : Type 0} (P : X → Type 0) where
   -- a fact of all views, after one changed

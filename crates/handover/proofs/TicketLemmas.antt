@@ -69,11 +69,11 @@ all_below m (x ∷ xs) few =
 
 -- ---- the steps
 
-later : (issue : Issue) (word next : ℕ) (v : Holding) → word ≤ next → Fits issue word v → Fits issue next v
-later issue word next v le f = record { marks = f.marks; drained = λ h. let d = f.drained h in omega arith; spent = f.spent }
+later : (issue : Issue) (counter next : ℕ) (v : Holding) → counter ≤ next → Fits issue counter v → Fits issue next v
+later issue counter next v le f = record { marks = f.marks; drained = λ h. let d = f.drained h in omega arith; spent = f.spent }
 
--- the word never wraps
-no_wrap : (issue : Issue) (s : State (Unit {0}) Holding) (h : IsLawful issue s) → (h.word + 1) % 2 ^ 64 ≡ h.word + 1
+-- the counter never wraps
+no_wrap : (issue : Issue) (s : State (Unit {0}) Holding) (h : IsLawful issue s) → (h.counter + 1) % 2 ^ 64 ≡ h.counter + 1
 no_wrap issue s h =
     let few = h.few in
     let few_passes = h.few_passes in
@@ -84,8 +84,8 @@ no_wrap issue s h =
 
 pub begins : (issue : Issue) → issue.count ≤ 2 ^ 24 → issue.passes ≤ 16 → IsLawful issue (opening (0 ∷ []) [] (first_holding issue))
 begins issue few few_passes = record {
-  word = 0;
-  words = refl;
+  counter = 0;
+  kept = refl;
   few = few;
   few_passes = few_passes;
   once = λ n. sym (ap (λ (m : ℕ). once_below m n) (min-eq_left (omega arith)) ∙ once_no 0 n (omega arith));
@@ -98,47 +98,47 @@ begins issue few few_passes = record {
     one zero v e = subst (Fits issue 0) (some-injective _ _ e) (record { marks = omega arith; drained = λ h. absurd (omega arith); spent = λ _. refl })
     one (suc j) v e = absurd (some-ne-none v (sym e))
 
--- what a draw that finds the word n owes
+-- what a draw that finds the counter at n owes
 abbrev Moves : Issue → ℕ → ℕ → Me (Unit {0}) Holding → State (Unit {0}) Holding → ℕ → Type 0
 Moves issue slots id me s n =
     (w : Holding) × (a : Act (Unit {0})) × Valid s.homes me.1 a × IsLawful issue (stepped s 0 ((n + 1) % 2 ^ 64) id me.1 w a)
     × Draws (step slots 0 1 0 none) me n (w, carried_after me.1 a)
 
-next_word : (issue : Issue) (s : State (Unit {0}) Holding) (h : IsLawful issue s) → set s.words 0 ((h.word + 1) % 2 ^ 64) ≡ (h.word + 1) ∷ []
-next_word issue s h = ap (λ (l : List ℕ). set l 0 ((h.word + 1) % 2 ^ 64)) h.words ∙ ap (λ (n : ℕ). n ∷ []) (no_wrap issue s h)
+next_counter : (issue : Issue) (s : State (Unit {0}) Holding) (h : IsLawful issue s) → set s.words 0 ((h.counter + 1) % 2 ^ 64) ≡ (h.counter + 1) ∷ []
+next_counter issue s h = ap (λ (l : List ℕ). set l 0 ((h.counter + 1) % 2 ^ 64)) h.kept ∙ ap (λ (n : ℕ). n ∷ []) (no_wrap issue s h)
 
 has_number : (issue : Issue) (slots id : ℕ) (me : Me (Unit {0}) Holding) (s : State (Unit {0}) Holding) (h : IsLawful issue s)
-    → me.0.issue.count ≡ issue.count → get_elem? s.views id ≡ some me.0 → me.0.marks < me.0.shares → h.word < issue.count → Moves issue slots id me s h.word
+    → me.0.issue.count ≡ issue.count → get_elem? s.views id ≡ some me.0 → me.0.marks < me.0.shares → h.counter < issue.count → Moves issue slots id me s h.counter
 has_number issue slots id me s h same at room below =
-    let w : Holding = holding_with h.word me.0 in
+    let w : Holding = holding_with h.counter me.0 in
     let mine = h.fits id me.0 at in
-    let least : min h.word issue.count ≡ h.word = min-eq_left (omega arith) in
-    let next : min (h.word + 1) issue.count ≡ h.word + 1 = min-eq_left (omega arith) in (
+    let least : min h.counter issue.count ≡ h.counter = min-eq_left (omega arith) in
+    let next : min (h.counter + 1) issue.count ≡ h.counter + 1 = min-eq_left (omega arith) in (
       w,
       keeps,
       tt,
       record {
-        word = h.word + 1;
-        words = next_word issue s h;
+        counter = h.counter + 1;
+        kept = next_counter issue s h;
         few = h.few;
         few_passes = h.few_passes;
         once = λ n.
             let a = sum_set (λ (v : Holding). times n v.numbers) s.views id me.0 w at in
-            let b = times_push n me.0.numbers h.word in
-            let c : sum_by (λ (v : Holding). times n v.numbers) s.views ≡ once_below h.word n = h.once n ∙ ap (λ (m : ℕ). once_below m n) least in
-            let d = once_next h.word n in
-            let e : sum_by (λ (v : Holding). times n v.numbers) (set s.views id w) ≡ once_below (h.word + 1) n = omega arith in
+            let b = times_push n me.0.numbers h.counter in
+            let c : sum_by (λ (v : Holding). times n v.numbers) s.views ≡ once_below h.counter n = h.once n ∙ ap (λ (m : ℕ). once_below m n) least in
+            let d = once_next h.counter n in
+            let e : sum_by (λ (v : Holding). times n v.numbers) (set s.views id w) ≡ once_below (h.counter + 1) n = omega arith in
             e ∙ sym (ap (λ (m : ℕ). once_below m n) next);
         shares = let a = sum_set (λ (v : Holding). v.shares) s.views id me.0 w at in let b = h.shares in omega arith;
-        fits = each_set (Fits issue (h.word + 1)) s.views id w (λ j u _ e. later issue h.word (h.word + 1) u (omega arith) (h.fits j u e))
+        fits = each_set (Fits issue (h.counter + 1)) s.views id w (λ j u _ e. later issue h.counter (h.counter + 1) u (omega arith) (h.fits j u e))
             (record { marks = mine.marks; drained = λ m. let d = mine.drained m in omega arith; spent = λ z. absurd (omega arith) });
         past = let a = sum_set (λ (v : Holding). v.marks) s.views id me.0 w at in let b = h.past in omega arith;
       },
       record {
         number = λ _. refl;
-        greater = λ _. all_below h.word me.0.numbers (λ n.
+        greater = λ _. all_below h.counter me.0.numbers (λ n.
             let a = sum_at (λ (v : Holding). times n v.numbers) s.views id me.0 at in
-            let c : sum_by (λ (v : Holding). times n v.numbers) s.views ≡ once_below h.word n = h.once n ∙ ap (λ (m : ℕ). once_below m n) least in
+            let c : sum_by (λ (v : Holding). times n v.numbers) s.views ≡ once_below h.counter n = h.once n ∙ ap (λ (m : ℕ). once_below m n) least in
             omega arith);
         none = λ past. absurd (omega arith);
         slots = refl;
@@ -146,27 +146,27 @@ has_number issue slots id me s h same at room below =
     )
 
 has_none : (issue : Issue) (slots id : ℕ) (me : Me (Unit {0}) Holding) (s : State (Unit {0}) Holding) (h : IsLawful issue s)
-    → me.0.issue.count ≡ issue.count → get_elem? s.views id ≡ some me.0 → me.0.marks < me.0.shares → issue.count ≤ h.word → Moves issue slots id me s h.word
+    → me.0.issue.count ≡ issue.count → get_elem? s.views id ≡ some me.0 → me.0.marks < me.0.shares → issue.count ≤ h.counter → Moves issue slots id me s h.counter
 has_none issue slots id me s h same at room past =
     let w : Holding = holding_marked me.0 in
     let mine = h.fits id me.0 at in
-    let least : min h.word issue.count ≡ issue.count = min-eq_right (omega arith) in
-    let next : min (h.word + 1) issue.count ≡ issue.count = min-eq_right (omega arith) in (
+    let least : min h.counter issue.count ≡ issue.count = min-eq_right (omega arith) in
+    let next : min (h.counter + 1) issue.count ≡ issue.count = min-eq_right (omega arith) in (
       w,
       keeps,
       tt,
       record {
-        word = h.word + 1;
-        words = next_word issue s h;
+        counter = h.counter + 1;
+        kept = next_counter issue s h;
         few = h.few;
         few_passes = h.few_passes;
         once = λ n.
             let a = sum_set (λ (v : Holding). times n v.numbers) s.views id me.0 w at in
             let c = h.once n in
-            let e : sum_by (λ (v : Holding). times n v.numbers) (set s.views id w) ≡ once_below (min h.word issue.count) n = omega arith in
+            let e : sum_by (λ (v : Holding). times n v.numbers) (set s.views id w) ≡ once_below (min h.counter issue.count) n = omega arith in
             e ∙ ap (λ (m : ℕ). once_below m n) (least ∙ sym next);
         shares = let a = sum_set (λ (v : Holding). v.shares) s.views id me.0 w at in let b = h.shares in omega arith;
-        fits = each_set (Fits issue (h.word + 1)) s.views id w (λ j u _ e. later issue h.word (h.word + 1) u (omega arith) (h.fits j u e))
+        fits = each_set (Fits issue (h.counter + 1)) s.views id w (λ j u _ e. later issue h.counter (h.counter + 1) u (omega arith) (h.fits j u e))
             (record { marks = omega arith; drained = λ m. omega arith; spent = λ z. absurd (omega arith) });
         past = let a = sum_set (λ (v : Holding). v.marks) s.views id me.0 w at in let b = h.past in omega arith;
       },
@@ -176,9 +176,9 @@ has_none issue slots id me s h same at room past =
 pub draws : (issue : Issue) (slots id : ℕ) (me : Me (Unit {0}) Holding) → me.0.issue.count ≡ issue.count → me.0.marks < me.0.shares
     → Allows (IsLawful issue) slots id me 0 (λ n. (n + 1) % 2 ^ 64) (Draws (step slots 0 1 0 none) me)
 draws issue slots id me same room s h homes at small =
-    let found : slice_index s.words 0 ≡ h.word = ap (λ (l : List ℕ). slice_index l 0) h.words in
+    let found : slice_index s.words 0 ≡ h.counter = ap (λ (l : List ℕ). slice_index l 0) h.kept in
     subst (Moves issue slots id me s) (sym found)
-    (elim (dec_le (suc h.word) issue.count) [
+    (elim (dec_le (suc h.counter) issue.count) [
       | yes below ↦ has_number issue slots id me s h same at room below
       | no past ↦ has_none issue slots id me s h same at room (omega arith)
     ])
@@ -190,8 +190,8 @@ cuts issue id v many unmarked s h at =
     let mine = h.fits id v at in
     let vs : List Holding = set s.views id l in
     record {
-      word = h.word;
-      words = h.words;
+      counter = h.counter;
+      kept = h.kept;
       few = h.few;
       few_passes = h.few_passes;
       once = λ n.
@@ -204,8 +204,8 @@ cuts issue id v many unmarked s h at =
           let b = sum_by_push (λ (u : Holding). u.shares) vs r in
           let c = h.shares in
           omega arith;
-      fits = each_push (Fits issue h.word) vs r
-          (each_set (Fits issue h.word) s.views id l (λ j u _ e. h.fits j u e)
+      fits = each_push (Fits issue h.counter) vs r
+          (each_set (Fits issue h.counter) s.views id l (λ j u _ e. h.fits j u e)
           (record { marks = omega arith; drained = mine.drained; spent = λ z. absurd (omega arith) }))
           (record { marks = omega arith; drained = λ m. absurd (omega arith); spent = λ _. refl });
       past =
@@ -225,8 +225,8 @@ joins issue id v other w s h at apart there =
     let mine = h.fits id v at in
     let theirs = h.fits other w (was other id b w s.views apart there) in
     record {
-      word = h.word;
-      words = h.words;
+      counter = h.counter;
+      kept = h.kept;
       few = h.few;
       few_passes = h.few_passes;
       once = λ n.
@@ -241,8 +241,8 @@ joins issue id v other w s h at apart there =
           let y = sum_set (λ (u : Holding). u.shares) vs other w spent_holding there in
           let c = h.shares in
           omega arith;
-      fits = each_set (Fits issue h.word) vs other spent_holding
-          (λ j u _ e. each_set (Fits issue h.word) s.views id b (λ i x _ d. h.fits i x d)
+      fits = each_set (Fits issue h.counter) vs other spent_holding
+          (λ j u _ e. each_set (Fits issue h.counter) s.views id b (λ i x _ d. h.fits i x d)
           (record {
             marks = let m = mine.marks in let k = theirs.marks in omega arith;
             drained = λ m. elim (dec_le 1 v.marks) [ yes p ↦ mine.drained p | no p ↦ theirs.drained (omega arith) ];
@@ -264,11 +264,11 @@ joins issue id v other w s h at apart there =
         (get_elem? views other ≡ some w)). x.1) (at_set views id other b w there)
 
 -- what the last state tells the kept pass
-pub closes : (issue : Issue) (id : ℕ) (v : Holding) (s : State (Unit {0}) Holding) (word : ℕ) → IsLawful issue s → get_elem? s.views id ≡ some v
-    → get_elem? s.words 0 ≡ some word
-    → KnowsAtEnd issue v (min word issue.count)
-closes issue id v s word h at is =
-    let same : h.word ≡ word = some-injective h.word word (ap (λ (l : List ℕ). get_elem? l 0) (sym h.words) ∙ is) in
+pub closes : (issue : Issue) (id : ℕ) (v : Holding) (s : State (Unit {0}) Holding) (counter : ℕ) → IsLawful issue s → get_elem? s.views id ≡ some v
+    → get_elem? s.words 0 ≡ some counter
+    → KnowsAtEnd issue v (min counter issue.count)
+closes issue id v s counter h at is =
+    let same : h.counter ≡ counter = some-injective h.counter counter (ap (λ (l : List ℕ). get_elem? l 0) (sym h.kept) ∙ is) in
     subst (λ (n : ℕ). KnowsAtEnd issue v (min n issue.count)) same (record {
       once = λ n. let a = sum_at (λ (u : Holding). times n u.numbers) s.views id v at in let b = h.once n in omega arith;
       all = λ all n.
@@ -301,10 +301,10 @@ joining_more all left old p before now w j is shares marks numbers = record {
       ∙ j.numbers;
 }
 
--- the last state of the word, as the kept pass sees it
-pub ended : (issue : Issue) (id : ℕ) (v : Holding) (words : List ℕ) (slots : List (Unit {0})) (word : ℕ) → Final (Seen (IsLawful issue) id v) words slots
-    → get_elem? words 0 ≡ some word → KnowsAtEnd issue v (min word issue.count)
-ended issue id v words slots word f is = closes issue id v f.0 word f.1.0 f.1.1 (ap (λ (l : List ℕ). get_elem? l 0) f.2 ∙ is)
+-- the last state of the counter, as the kept pass sees it
+pub ended : (issue : Issue) (id : ℕ) (v : Holding) (words : List ℕ) (slots : List (Unit {0})) (counter : ℕ) → Final (Seen (IsLawful issue) id v) words slots
+    → get_elem? words 0 ≡ some counter → KnowsAtEnd issue v (min counter issue.count)
+ended issue id v words slots counter f is = closes issue id v f.0 counter f.1.0 f.1.1 (ap (λ (l : List ℕ). get_elem? l 0) f.2 ∙ is)
 
 -- what the last state tells of all passes that were handed back
 pub gathers : (issue : Issue) (name : TableId) (left : List Drawn) (first : Drawn) (before after : Holding) (m : ℕ) → before.shares ≡ 1

@@ -69,7 +69,7 @@ module _ {N : Type 0} where
   Puts v x w = w ≡ share ((x.0, first_notes v.senders ++ x.1 ∷ []) ∷ []) v.receives v.made v.got
 
   abbrev pub IsFront : List N → List N → Type 0
-  IsFront front whole = (rest : List N) × (whole ≡ front ++ rest)
+  IsFront front whole = (remainder : List N) × (whole ≡ front ++ remainder)
 
   -- a note got
   pub record Gets (v : Share N) (x : ℕ × N) (w : Share N) : Type 0 where

@@ -3,7 +3,7 @@ use Rattle.std.specs.Prelude.{◌≡◌, ◌≤◌, ℕ, All, List, [], ◌∷�
 use Rattle.atomic_table.specs.Seated.{TableId}
 
 -- a belt: what tells it from any other, and how many senders were made for it
-pub record Line : Type 0 where
+pub record BeltId : Type 0 where
   pub name : TableId
   pub workers : ℕ
 
@@ -15,7 +15,7 @@ pub record Presented (N : Type 0) : Type 0 where
 
 -- what the receiver's pass is seen as: its belt, and the notes that it got, each with its sender's number, in order
 pub record Received (N : Type 0) : Type 0 where
-  pub belt : Line
+  pub belt : BeltId
   pub got : List (ℕ × N)
 
 -- what is left on a belt: how many senders were made for it, and of each whose pass was handed back its number and its notes
@@ -33,7 +33,7 @@ module _ {N : Type 0} where
   silent name number = record { belt = name; number = number; notes = [] }
 
   -- the receiver's pass that has got nothing
-  abbrev pub deaf : Line → Received N
+  abbrev pub deaf : BeltId → Received N
   deaf belt = record { belt = belt; got = [] }
 
   -- the sender's pass after it presented a note
@@ -68,4 +68,4 @@ module _ {N : Type 0} where
 
   -- nothing is left of the senders whose passes were handed back
   abbrev pub NothingLeft : Left N → Type 0
-  NothingLeft rest = All (λ e. e.1 ≡ []) rest.lists
+  NothingLeft remainder = All (λ e. e.1 ≡ []) remainder.lists

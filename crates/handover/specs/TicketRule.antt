@@ -1,4 +1,4 @@
--- The rule of the one word from which tickets are drawn. It holds between any two atomic steps, whatever the threads do.
+-- The rule of the one counter from which tickets are drawn. It holds between any two atomic steps, whatever the threads do.
 use Rattle.std.specs.Prelude.{◌≡◌, ◌<◌, ◌≤◌, ◌+◌, ◌-◌, ◌^◌, ◌++◌, ℕ, List, [], ◌∷◌, All, count_by, length, min, nat_eq}
 use Rattle.std.specs.List.{sum_by}
 use mathlib.Core.Option.{some}
@@ -12,7 +12,7 @@ use Rattle.handover.specs.declared.tickets.Issue.{Issue}
 abbrev pub holding : Issue → ℕ → ℕ → List ℕ → Holding
 holding issue shares marks numbers = record { issue = issue; shares = shares; marks = marks; numbers = numbers }
 
--- the tickets of the word with this name
+-- the tickets of the counter with this name
 abbrev pub series_of : TableId → Issue → Series
 series_of name issue = record { name = name; count = issue.count; passes = issue.passes }
 
@@ -36,21 +36,21 @@ abbrev pub both_holdings : Holding → Holding → Holding
 both_holdings v w = holding v.issue (v.shares + w.shares) (v.marks + w.marks) (w.numbers ++ v.numbers)
 
 -- a pass has no more marks than shares, a mark only once all numbers are drawn, and no number without a share
-pub record Fits (issue : Issue) (word : ℕ) (v : Holding) : Type 0 where
+pub record Fits (issue : Issue) (counter : ℕ) (v : Holding) : Type 0 where
   pub marks : v.marks ≤ v.shares
-  pub drained : 0 < v.marks → issue.count ≤ word
+  pub drained : 0 < v.marks → issue.count ≤ counter
   pub spent : v.shares ≡ 0 → v.numbers ≡ []
 
--- The numbers below the word, and below the count, stand in the passes, each once. The word is past the count by at most the marks
+-- The numbers below the counter, and below the count, stand in the passes, each once. The counter is past the count by at most the marks
 pub record IsLawful (issue : Issue) (s : State (Unit {0}) Holding) : Type 0 where
-  pub word : ℕ
-  pub words : s.words ≡ word ∷ []
+  pub counter : ℕ
+  pub kept : s.words ≡ counter ∷ []
   pub few : issue.count ≤ 2 ^ 24
   pub few_passes : issue.passes ≤ 16
-  pub once : (n : ℕ) → sum_by (λ v. count_by (nat_eq n) v.numbers) s.views ≡ once_below (min word issue.count) n
+  pub once : (n : ℕ) → sum_by (λ v. count_by (nat_eq n) v.numbers) s.views ≡ once_below (min counter issue.count) n
   pub shares : sum_by (λ v. v.shares) s.views ≡ issue.passes
-  pub fits : (seat : ℕ) (v : Holding) → get_elem? s.views seat ≡ some v → Fits issue word v
-  pub past : word ≤ issue.count + sum_by (λ v. v.marks) s.views
+  pub fits : (seat : ℕ) (v : Holding) → get_elem? s.views seat ≡ some v → Fits issue counter v
+  pub past : counter ≤ issue.count + sum_by (λ v. v.marks) s.views
 
 -- the pass with the number n, and with a mark
 abbrev pub holding_with : ℕ → Holding → Holding

@@ -94,9 +94,9 @@ pub struct Belt<N: Drop> {
 }
 
 impl<N: Drop> Model for Belt<N> {
-    ghost use Rattle.handover.specs.Belts.{Line};
+    ghost use Rattle.handover.specs.Belts.{BeltId};
 
-    ghost Value = { Line };
+    ghost Value = { BeltId };
 
     ghost view = { λ b. record { name = b.queue.table.shared.table_id; workers = b.workers } };
 }
@@ -153,12 +153,12 @@ impl<N> Model for ReceiverPass<N> {
 /// What is left on a belt. Contracts see how many senders were made, and one list for each sender's pass that was
 /// handed back: its number, and the notes of it that are left, in order.
 #[derive(Drop)]
-pub struct Rest<N: Drop> {
+pub struct Remainder<N: Drop> {
     queue: Queue<N>,
     pass: Pass<(u8, N), Share<N>>,
 }
 
-impl<N: Drop> Model for Rest<N> {
+impl<N: Drop> Model for Remainder<N> {
     ghost use Rattle.std.specs.Prelude.{◌≡◌, All, [], map, true};
     ghost use Rattle.handover.specs.Belts.{Left, notes_of};
     ghost use Rattle.handover.specs.BeltRule.{IsFront, left_over};
@@ -240,7 +240,7 @@ impl<N: Drop> Belt<N> {
     }
 
     /// Ends the belt: what is left on it of the senders whose passes are handed back.
-    pub fn gather(self, senders: Vec<SenderPass<N>>, receiver: ReceiverPass<N>) -> Rest<N>
+    pub fn gather(self, senders: Vec<SenderPass<N>>, receiver: ReceiverPass<N>) -> Remainder<N>
         requires senders { All (λ s. s.belt ≡ self.name) senders.items }
         requires receiver { receiver.belt ≡ self }
         ensures workers { result.workers ≡ self.workers }
@@ -251,7 +251,7 @@ impl<N: Drop> Belt<N> {
         let ReceiverPass { mut pass } = receiver;
         take_in(&queue, &mut pass, senders);
         queue.learn_as::<Get>(&mut pass);
-        Rest { queue, pass }
+        Remainder { queue, pass }
     }
 
     /// Presents a note if there is room.
@@ -279,7 +279,7 @@ impl<N: Drop> Belt<N> {
     }
 }
 
-impl<N: Drop> Rest<N> {
+impl<N: Drop> Remainder<N> {
     /// Takes out a note, which is the first that is left of its sender. `None` if nothing is left of the senders whose
     /// passes were handed back.
     pub fn next<R: Wait>(&mut self, rt: &R) -> Option<N>

@@ -1,14 +1,14 @@
 //! Numbers that threads draw, each once.
 //!
-//! There is one word, which begins with 0. A draw adds 1 to it in one atomic step, and what it finds is the number
+//! There is one counter, which begins with 0. A draw adds 1 to it in one atomic step, and what it finds is the number
 //! drawn:
 //!
 //! ```text
-//! open(3, 2)   word 0   A: -      B: -
-//! A draws 0    word 1   A: 0      B: -
-//! B draws 1    word 2   A: 0      B: 1
-//! A draws 2    word 3   A: 0 2    B: 1
-//! B: None      word 4   A: 0 2    B: 1, none left
+//! open(3, 2)   counter 0   A: -      B: -
+//! A draws 0    counter 1   A: 0      B: -
+//! B draws 1    counter 2   A: 0      B: 1
+//! A draws 2    counter 3   A: 0 2    B: 1
+//! B: None      counter 4   A: 0 2    B: 1, none left
 //! ```
 //!
 //! No thread waits for another.
@@ -230,9 +230,9 @@ impl Tickets {
             None => {
                 let Tickets { table, count } = self;
                 let closed = table.close();
-                let word = closed.word(0);
+                let counter = closed.word(0);
                 closed.free();
-                word.min(count)
+                counter.min(count)
             }
         }
     }
@@ -249,9 +249,9 @@ fn gather_with(tickets: Tickets, first: Pass, passes: Vec<Pass>) -> u64
     let Pass { mut seat, .. } = first;
     join_all(&table.shared, &mut seat, passes);
     let closed = table.close_with(seat);
-    let word = closed.word(0);
+    let counter = closed.word(0);
     closed.free();
-    word.min(count)
+    counter.min(count)
 }
 
 /// Cuts a seat with some shares into as many passes. There is room for them.

@@ -64,13 +64,13 @@ find_other n m (r ∷ rs) h = go (cases_Bool (has_number m r)) (find_other n m r
     go : (has_number m r ≡ true) ⊎ (has_number m r ≡ false) → find (has_number n) (filter (λ s. not (has_number m s)) rs) ≡ find (has_number n) rs
         → find (has_number n) (cond (not (has_number m r)) (r ∷ filter (λ s. not (has_number m s)) rs) (filter (λ s. not (has_number m s)) rs))
         ≡ cond (has_number n r) (Some r) (find (has_number n) rs)
-    go (inl same) rest =
+    go (inl same) remainder =
         let apart : has_number n r ≡ false = ne_eqb n r.number (λ e. h (e ∙ sym (eqb-true m r.number same))) in
-        ap (λ (b : Bool). find (has_number n) (cond (not b) (r ∷ filter (λ s. not (has_number m s)) rs) (filter (λ s. not (has_number m s)) rs))) same ∙ rest
+        ap (λ (b : Bool). find (has_number n) (cond (not b) (r ∷ filter (λ s. not (has_number m s)) rs) (filter (λ s. not (has_number m s)) rs))) same ∙ remainder
         ∙ sym (ap (λ (b : Bool). cond b (Some r) (find (has_number n) rs)) apart)
-    go (inr apart) rest =
+    go (inr apart) remainder =
         ap (λ (b : Bool). find (has_number n) (cond (not b) (r ∷ filter (λ s. not (has_number m s)) rs) (filter (λ s. not (has_number m s)) rs))) apart
-        ∙ ap (λ (o : Option Reported). cond (has_number n r) (Some r) o) rest
+        ∙ ap (λ (o : Option Reported). cond (has_number n r) (Some r) o) remainder
 
 pub find_first : (n : ℕ) (rs : List Reported) → find (has_number n) (first_of_each rs) ≡ find (has_number n) rs
 find_first n [] = refl
@@ -79,27 +79,27 @@ find_first n (r ∷ rs) = go (cases_Bool (has_number n r)) (find_first n rs)
     go : (has_number n r ≡ true) ⊎ (has_number n r ≡ false) → find (has_number n) (first_of_each rs) ≡ find (has_number n) rs
         → cond (has_number n r) (Some r) (find (has_number n) (filter (λ s. not (has_number r.number s)) (first_of_each rs)))
         ≡ cond (has_number n r) (Some r) (find (has_number n) rs)
-    go (inl same) rest =
+    go (inl same) remainder =
         ap (λ (b : Bool). cond b (Some r) (find (has_number n) (filter (λ s. not (has_number r.number s)) (first_of_each rs)))) same
         ∙ sym (ap (λ (b : Bool). cond b (Some r) (find (has_number n) rs)) same)
-    go (inr apart) rest =
+    go (inr apart) remainder =
         ap (λ (o : Option Reported). cond (has_number n r) (Some r) o)
-        (find_other n r.number (first_of_each rs) (λ e. false≢true (sym apart ∙ eq-eqb n r.number e)) ∙ rest)
+        (find_other n r.number (first_of_each rs) (λ e. false≢true (sym apart ∙ eq-eqb n r.number e)) ∙ remainder)
 
 -- one report more, of a number that none before has
 pub first_new : (rs : List Reported) (r : Reported) → find (has_number r.number) rs ≡ None → first_of_each (rs ++ r ∷ []) ≡ first_of_each rs ++ r ∷ []
 first_new [] r h = refl
-first_new (s ∷ rs) r h = go (λ rest. first_new rs r rest) (cases_Bool (has_number r.number s))
+first_new (s ∷ rs) r h = go (λ remainder. first_new rs r remainder) (cases_Bool (has_number r.number s))
   where
     go : (find (has_number r.number) rs ≡ None → first_of_each (rs ++ r ∷ []) ≡ first_of_each rs ++ r ∷ [])
         → (has_number r.number s ≡ true) ⊎ (has_number r.number s ≡ false) → s ∷ filter (λ t. not (has_number s.number t)) (first_of_each (rs ++ r ∷ []))
         ≡ (s ∷ filter (λ t. not (has_number s.number t)) (first_of_each rs)) ++ r ∷ []
     go more (inl same) = let bad : Some s ≡ None = sym (ap (λ (b : Bool). cond b (Some s) (find (has_number r.number) rs)) same) ∙ h in absurd (cc)
     go more (inr apart) =
-        let rest : find (has_number r.number) rs ≡ None = sym (ap (λ (b : Bool). cond b (Some s) (find (has_number r.number) rs)) apart) ∙ h in
+        let remainder : find (has_number r.number) rs ≡ None = sym (ap (λ (b : Bool). cond b (Some s) (find (has_number r.number) rs)) apart) ∙ h in
         let here : has_number s.number r ≡ false = ne_eqb s.number r.number (λ e. false≢true (sym apart ∙ eq-eqb r.number s.number (sym e))) in
         ap (λ (xs : List Reported). s ∷ xs)
-        (ap (filter (λ t. not (has_number s.number t))) (more rest)
+        (ap (filter (λ t. not (has_number s.number t))) (more remainder)
         ∙ filter-append (λ t. not (has_number s.number t)) (first_of_each rs) (r ∷ [])
         ∙ ap (λ (b : Bool). filter (λ t. not (has_number s.number t)) (first_of_each rs) ++ cond (not b) (r ∷ []) []) here)
 
@@ -127,8 +127,8 @@ first_old (x ∷ rs) r s h = go (λ y found. first_old rs r y found) (cases_Bool
     go more (inl same) =
         ap (λ (xs : List Reported). x ∷ xs) (tail more (find (has_number r.number) rs) refl (eq-eqb x.number r.number (sym (eqb-true r.number x.number same))))
     go more (inr apart) =
-        let rest : find (has_number r.number) rs ≡ Some s = sym (ap (λ (b : Bool). cond b (Some x) (find (has_number r.number) rs)) apart) ∙ h in
-        ap (λ (xs : List Reported). x ∷ filter (λ t. not (has_number x.number t)) xs) (more s rest)
+        let remainder : find (has_number r.number) rs ≡ Some s = sym (ap (λ (b : Bool). cond b (Some x) (find (has_number r.number) rs)) apart) ∙ h in
+        ap (λ (xs : List Reported). x ∷ filter (λ t. not (has_number x.number t)) xs) (more s remainder)
 
 -- ---- replies
 
@@ -234,8 +234,8 @@ worker_found n (r ∷ rs) = go (has_number n r) (worker_found n rs)
   where
     go : (b : Bool) → worker_in n (map entry rs) ≡ first_worker n rs
         → cond b (Some r.worker) (worker_in n (map entry rs)) ≡ option_map (λ s. s.worker) (cond b (Some r) (find (has_number n) rs))
-    go true rest = refl
-    go false rest = rest
+    go true remainder = refl
+    go false remainder = remainder
 
 -- a haul refuses what the book refuses
 pub same_refusal : (arrivals : List Arrival) (held : Held) (r : Reported) → StandsFor arrivals held → refusal_of held.terms arrivals r ≡ refusal_at held r
@@ -323,7 +323,7 @@ pub stopped_at : {T E : Type 0} (r : Result T E) (before arrivals front : List A
     → OnErr r (StandsForFront before arrivals new)
 stopped_at r before arrivals front next more held new cut same taken s = on_err_from r (record {
   front = front;
-  rest = next ∷ more;
+  remainder = next ∷ more;
   cut = cut;
   stands = subst (StandsFor (before ++ front)) (sym same) s;
   stopped = inr (subst (λ (h : Held). IsTakenNext h.terms (before ++ front) (next ∷ more)) (sym same) (is_next held.terms (before ++ front) next more taken));

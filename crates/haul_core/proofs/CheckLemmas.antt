@@ -1,4 +1,4 @@
--- A claim that says what was found becomes its one report.
+-- A claim that same_claim what was found becomes its one report.
 use Rattle.std.proofs.Common.{◌≡◌, ◌∙◌, ◌+◌, ◌<◌, ◌≤◌, ◌^◌, ◌∷◌, [], ℕ, List, true, ap, arith, inr, sum, sym, subst, refl}
 use Rattle.std.proofs.lemmas.List.Elements.{All-from_recursion, recursion_from_All}
 use Rattle.std.proofs.lemmas.List.Sums.{sum_by-cons}
@@ -37,7 +37,7 @@ pub confirmed : (claim : Claimed) (wanted : Job) (report : Reported) → IsMade 
 confirmed claim wanted report m a = record {
   same = m.same;
   lawful = m.lawful;
-  says = λ i. record { version = claim.version; job = own_job claim wanted report m i; worker = m.worker i; number = m.number i; found = a i };
+  same_claim = λ i. record { version = claim.version; job = own_job claim wanted report m i; worker = m.worker i; number = m.number i; found = a i };
 }
 
 pub found_for : (claim : Claimed) (wanted : Job) (report : Reported) → IsMade claim wanted report → IsFoundFor claim report.finding
@@ -49,20 +49,20 @@ found_for claim wanted report m =
 pub one_report : FindingsAreDetermined → (claim : Claimed) (wanted : Job) (made report : Reported) → IsMade claim wanted made → IsConfirmed claim wanted report
     → made ≡ report
 one_report determined claim wanted made report m k =
-    let job : report.job ≡ made.job = ap (λ (c : Claimed). c.job) k.says ∙ sym (own_job claim wanted made m) in
-    let number : report.number ≡ made.number = ap (λ (c : Claimed). c.number) k.says ∙ sym m.number in
-    let worker : report.worker ≡ made.worker = ap (λ (c : Claimed). c.worker) k.says ∙ sym m.worker in
+    let job : report.job ≡ made.job = ap (λ (c : Claimed). c.job) k.same_claim ∙ sym (own_job claim wanted made m) in
+    let number : report.number ≡ made.number = ap (λ (c : Claimed). c.number) k.same_claim ∙ sym m.number in
+    let worker : report.worker ≡ made.worker = ap (λ (c : Claimed). c.worker) k.same_claim ∙ sym m.worker in
     let there : IsFinding made.job.rule made.job.profile (soup made.job.seed made.number) report.finding =
     subst (λ (job : Job). IsFinding job.rule job.profile (soup job.seed made.number) report.finding) job
     (subst (λ n. IsFinding report.job.rule report.job.profile (soup report.job.seed n) report.finding) number k.lawful.finding) in
     let finding = determined made.job.rule made.job.profile (soup made.job.seed made.number) made.finding report.finding m.lawful.finding there in
     λ i. record { job = sym job i; worker = sym worker i; number = sym number i; finding = finding i }
 
--- a claim that has a report says what was found
+-- a claim that has a report same_claim what was found
 pub agrees_if_confirmed : FindingsAreDetermined → (claim : Claimed) (wanted : Job) (made report : Reported) → IsMade claim wanted made
     → IsConfirmed claim wanted report → Agrees claim made.finding
 agrees_if_confirmed determined claim wanted made report m k =
-    ap (λ (r : Reported). said_of claim.version r.finding) (one_report determined claim wanted made report m k) ∙ ap (λ (c : Claimed). c.found) k.says
+    ap (λ (r : Reported). said_of claim.version r.finding) (one_report determined claim wanted made report m k) ∙ ap (λ (c : Claimed). c.found) k.same_claim
 
 -- ---- the claim of a report
 
@@ -71,7 +71,7 @@ counts_of : (objects : List (List ℕ × ℕ)) → AllByRecursion (λ object. Ha
 counts_of [] shape some few = tt
 counts_of (o ∷ objects) shape some few =
     let parts : sum (values_of (o ∷ objects)) ≡ o.1 + sum (values_of objects) = sum_by-cons (λ (n : ℕ). n) o.1 (values_of objects) in
-    (record { code = shape.0; some = some.0; word = omega arith }, counts_of objects shape.1 some.1 (omega arith))
+    (record { code = shape.0; some = some.0; fits = omega arith }, counts_of objects shape.1 some.1 (omega arith))
 
 found_lawful : (report : Reported) → IsReport report → IsProfile report.job.profile → (finding : Finding) → finding ≡ report.finding → HaveShape finding
     → IsFinding report.job.rule report.job.profile (soup report.job.seed report.number) finding → objects_in finding < 2 ^ 64 → IsFound 2 (said_of 2 finding)
@@ -101,4 +101,4 @@ report_is_claim report h rule profile seed shape = record {
 }
 
 pub report_is_confirmed : (report : Reported) → IsReport report → IsConfirmed (claim_of 2 report) report.job report
-report_is_confirmed report h = record { same = (jobs_decide report.job report.job).1 refl; lawful = h; says = refl }
+report_is_confirmed report h = record { same = (jobs_decide report.job report.job).1 refl; lawful = h; same_claim = refl }

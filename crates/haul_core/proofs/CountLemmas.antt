@@ -14,10 +14,10 @@ same_count field front text object cut lawful e =
     cut_once 42 front object.0 text (decimal object.1) cut.1 (code_lacks_star object.0 lawful.code.bytes) (sym cut.0 ∙ e)
 
 -- the number before a `,` (44) is one, and so is what follows
-pub same_first : (text rest more : List ℕ) (n m : ℕ) → IsSmall n → IsSmall m → text ≡ decimal n ++ 44 ∷ rest → text ≡ decimal m ++ 44 ∷ more
-    → (n ≡ m) × (rest ≡ more)
-same_first text rest more n m p q e f =
-    let c = cut_once 44 (decimal n) (decimal m) rest more (decimal_lacks 44 n refl (omega arith)) (decimal_lacks 44 m refl (omega arith)) (sym e ∙ f) in
+pub same_first : (text remainder more : List ℕ) (n m : ℕ) → IsSmall n → IsSmall m → text ≡ decimal n ++ 44 ∷ remainder → text ≡ decimal m ++ 44 ∷ more
+    → (n ≡ m) × (remainder ≡ more)
+same_first text remainder more n m p q e f =
+    let c = cut_once 44 (decimal n) (decimal m) remainder more (decimal_lacks 44 n refl (omega arith)) (decimal_lacks 44 m refl (omega arith)) (sym e ∙ f) in
     (decimal_injective n m (omega arith) (omega arith) c.0, c.1)
 
 -- the four numbers of a profile are small

@@ -19,8 +19,8 @@ use Rattle.haul_core.proofs.StateLemmas.{at_other, cut_head, same_version}
 abbrev Counts : Type 0
 Counts = List (List ℕ × ℕ)
 
-pub counted_first : (line : List ℕ) (start : LineStart) (rest : Option (List ℕ)) → HasReadStart line start rest → HasCounts line start [] None rest
-counted_first line start rest h = record { lawful = h.lawful; follows = h.follows; settled = h.settled; latest = refl }
+pub counted_first : (line : List ℕ) (start : LineStart) (remainder : Option (List ℕ)) → HasReadStart line start remainder → HasCounts line start [] None remainder
+counted_first line start remainder h = record { lawful = h.lawful; follows = h.follows; settled = h.settled; latest = refl }
 
 -- ---- a count more
 
@@ -79,7 +79,7 @@ counted_more line start counts last here field more object h c k e =
 pub one_count : (a b : List ℕ × ℕ) → IsCount a → IsCount b → count_field a ≡ count_field b → a ≡ b
 one_count a b h k e =
     let c = cut_once 42 a.0 b.0 (decimal a.1) (decimal b.1) (code_lacks_star a.0 h.code.bytes) (code_lacks_star b.0 k.code.bytes) e in
-    let n = decimal_injective a.1 b.1 h.word k.word c.1 in
+    let n = decimal_injective a.1 b.1 h.fits k.fits c.1 in
     λ i. (c.0 i, n i)
 
 -- the counts of a claim that has these fields and then one more
@@ -89,14 +89,14 @@ record IsNext (counts all : Counts) (field : List ℕ) : Type 0 where
   whole : all ≡ counts ++ object ∷ more
   spelled : field ≡ count_field object
 
-next_count : (counts all : Counts) (field : List ℕ) (rest : List (List ℕ)) → AllByRecursion IsCount counts → AllByRecursion IsCount all
-    → map count_field all ≡ map count_field counts ++ field ∷ rest → IsNext counts all field
-next_count [] [] field rest h k e = absurd (cc)
-next_count [] (o ∷ all) field rest h k e = record { object = o; more = all; whole = refl; spelled = sym (let f : count_field o ≡ field = cc in f) }
-next_count (a ∷ counts) [] field rest h k e = absurd (cc)
-next_count (a ∷ counts) (o ∷ all) field rest h k e =
+next_count : (counts all : Counts) (field : List ℕ) (remainder : List (List ℕ)) → AllByRecursion IsCount counts → AllByRecursion IsCount all
+    → map count_field all ≡ map count_field counts ++ field ∷ remainder → IsNext counts all field
+next_count [] [] field remainder h k e = absurd (cc)
+next_count [] (o ∷ all) field remainder h k e = record { object = o; more = all; whole = refl; spelled = sym (let f : count_field o ≡ field = cc in f) }
+next_count (a ∷ counts) [] field remainder h k e = absurd (cc)
+next_count (a ∷ counts) (o ∷ all) field remainder h k e =
     let same = one_count o a k.0 h.0 (let f : count_field o ≡ count_field a = cc in f) in
-    let n = next_count counts all field rest h.1 k.1 (let f : map count_field all ≡ map count_field counts ++ field ∷ rest = cc in f) in
+    let n = next_count counts all field remainder h.1 k.1 (let f : map count_field all ≡ map count_field counts ++ field ∷ remainder = cc in f) in
     record { object = n.object; more = n.more; whole = λ i. same i ∷ n.whole i; spelled = n.spelled }
 
 pub same_marks : (version : ℕ) (a b : Option Bool) (x y z : List (List ℕ)) → IsMark version a → IsMark version b
@@ -114,25 +114,25 @@ each_count : (counts : Counts) (object : List ℕ × ℕ) (more : Counts) → Al
 each_count [] object more h = h.0
 each_count (a ∷ counts) object more h = each_count counts object more h.1
 
-may_follow : (version : ℕ) (found : Option SaidOfSoup) (at_rest : WhenSettled) (counts : Counts) (field : List ℕ) (rest : List (List ℕ)) → IsFound version found
-    → IsFound version (Some (said_when at_rest counts)) → found_fields found ≡ found_fields (Some (said_when at_rest counts)) ++ field ∷ rest
+may_follow : (version : ℕ) (found : Option SaidOfSoup) (at_rest : WhenSettled) (counts : Counts) (field : List ℕ) (remainder : List (List ℕ)) → IsFound version found
+    → IsFound version (Some (said_when at_rest counts)) → found_fields found ≡ found_fields (Some (said_when at_rest counts)) ++ field ∷ remainder
     → (object : List ℕ × ℕ) × (MayFollow (last_code counts) object × (field ≡ count_field object))
 unfolding found_fields
-may_follow version None at_rest counts field rest h k e =
+may_follow version None at_rest counts field remainder h k e =
     absurd (at_other at_rest.checkpoint (sym (let f : codes "unsettled" ≡ codes "at=" ++ decimal at_rest.checkpoint = cc in f)))
-may_follow version (Some told) at_rest counts field rest h k e =
-    let f : mark_fields told.for_good ++ map count_field told.counts ≡ (mark_fields at_rest.for_good ++ map count_field counts) ++ field ∷ rest = cc in
-    let g = same_marks version told.for_good at_rest.for_good (map count_field told.counts) (map count_field counts) (field ∷ rest) h.mark k.mark f in
+may_follow version (Some told) at_rest counts field remainder h k e =
+    let f : mark_fields told.for_good ++ map count_field told.counts ≡ (mark_fields at_rest.for_good ++ map count_field counts) ++ field ∷ remainder = cc in
+    let g = same_marks version told.for_good at_rest.for_good (map count_field told.counts) (map count_field counts) (field ∷ remainder) h.mark k.mark f in
     let all = recursion_from_All IsCount told.counts h.counts in
-    let n = next_count counts told.counts field rest (recursion_from_All IsCount counts k.counts) all g in
+    let n = next_count counts told.counts field remainder (recursion_from_All IsCount counts k.counts) all g in
     let lawful = each_count counts n.object n.more (subst (AllByRecursion IsCount) n.whole all) in
     (n.object, ((lawful, seam counts n.object n.more (subst AreOrdered n.whole h.in_order)), n.spelled))
 
-state_follows : (version : ℕ) (found : Option SaidOfSoup) (settled : Option WhenSettled) (counts : Counts) (field : List ℕ) (rest : List (List ℕ)) → settled ≢ None
-    → IsFound version found → IsFound version (said_with settled counts) → found_fields found ≡ found_fields (said_with settled counts) ++ field ∷ rest
+state_follows : (version : ℕ) (found : Option SaidOfSoup) (settled : Option WhenSettled) (counts : Counts) (field : List ℕ) (remainder : List (List ℕ)) → settled ≢ None
+    → IsFound version found → IsFound version (said_with settled counts) → found_fields found ≡ found_fields (said_with settled counts) ++ field ∷ remainder
     → (object : List ℕ × ℕ) × (MayFollow (last_code counts) object × (field ≡ count_field object))
-state_follows version found None counts field rest n h k e = absurd (n refl)
-state_follows version found (Some at_rest) counts field rest n h k e = may_follow version found at_rest counts field rest h k e
+state_follows version found None counts field remainder n h k e = absurd (n refl)
+state_follows version found (Some at_rest) counts field remainder n h k e = may_follow version found at_rest counts field remainder h k e
 
 pub counted_bad : (line : List ℕ) (start : LineStart) (counts : Counts) (last : Option (List ℕ)) (here field : List ℕ) (more : Option (List ℕ))
     → HasCounts line start counts last (Some here) → Cuts 32 here field more
@@ -140,10 +140,10 @@ pub counted_bad : (line : List ℕ) (start : LineStart) (counts : Counts) (last 
 counted_bad line start counts last here field more h c none =
     let own = claimed start counts in
     let begin : BeginClaim (fields_of own) = record { claim = own; lawful = h.lawful; more = []; spelled = sym (append-nil (fields_of own)) } in
-    bad_at line (fields_of own) here field more h.follows c begin (λ claim lawful rest e.
-    let k = cut_head claim own (found_fields own.found ++ field ∷ rest) (e ∙ append_assoc (head_of own) (found_fields own.found) (field ∷ rest)) in
+    bad_at line (fields_of own) here field more h.follows c begin (λ claim lawful remainder e.
+    let k = cut_head claim own (found_fields own.found ++ field ∷ remainder) (e ∙ append_assoc (head_of own) (found_fields own.found) (field ∷ remainder)) in
     let v = same_version claim own lawful h.lawful k.0 in
-    let s = state_follows start.version claim.found start.settled counts field rest (h.settled here refl)
+    let s = state_follows start.version claim.found start.settled counts field remainder (h.settled here refl)
     (subst (λ (n : ℕ). IsFound n claim.found) v lawful.found) h.lawful.found k.1 in
     none s.0 (subst (λ (l : Option (List ℕ)). MayFollow l s.0) (sym h.latest) s.1.0) s.1.1)
 

@@ -26,11 +26,11 @@ unfolding line_of
 lined_last [] field = sym (append-nil field)
 lined_last (b ∷ before) field = followed-cons b before field ∙ ap (λ (t : List ℕ). b ++ t) (spaced_last before field)
 
-followed_last : (before : List (List ℕ)) (field rest : List ℕ) → followed before ++ (field ++ 32 ∷ rest) ≡ followed (before ++ field ∷ []) ++ rest
-followed_last [] field rest = sym (followed-cons field [] rest)
-followed_last (b ∷ before) field rest =
-    followed-cons b before (field ++ 32 ∷ rest) ∙ ap (λ (t : List ℕ). b ++ 32 ∷ t) (followed_last before field rest)
-    ∙ sym (followed-cons b (before ++ field ∷ []) rest)
+followed_last : (before : List (List ℕ)) (field remainder : List ℕ) → followed before ++ (field ++ 32 ∷ remainder) ≡ followed (before ++ field ∷ []) ++ remainder
+followed_last [] field remainder = sym (followed-cons field [] remainder)
+followed_last (b ∷ before) field remainder =
+    followed-cons b before (field ++ 32 ∷ remainder) ∙ ap (λ (t : List ℕ). b ++ 32 ∷ t) (followed_last before field remainder)
+    ∙ sym (followed-cons b (before ++ field ∷ []) remainder)
 
 -- past the next field
 pub follows_more : (line : List ℕ) (before : List (List ℕ)) (here field : List ℕ) (more : Option (List ℕ)) → FollowsFields line before (Some here)
@@ -38,33 +38,33 @@ pub follows_more : (line : List ℕ) (before : List (List ℕ)) (here field : Li
     → FollowsFields line (before ++ field ∷ []) more
 follows_more line before here field None f c =
     subst (IsLineOf (before ++ field ∷ [])) (sym (f ∙ ap (λ (t : List ℕ). followed before ++ t) c.0)) (lined_last before field)
-follows_more line before here field (Some rest) f c =
-    f ∙ ap (λ (t : List ℕ). followed before ++ t) c.0 ∙ followed_last before field rest
+follows_more line before here field (Some remainder) f c =
+    f ∙ ap (λ (t : List ℕ). followed before ++ t) c.0 ∙ followed_last before field remainder
 
 -- ---- faults
 
-abbrev pub rest_of : Option (List ℕ) → List ℕ
-rest_of None = []
-rest_of (Some more) = 32 ∷ more
+abbrev pub remainder_of : Option (List ℕ) → List ℕ
+remainder_of None = []
+remainder_of (Some more) = 32 ∷ more
 
-whole_cut : (here field : List ℕ) (more : Option (List ℕ)) → Cuts 32 here field more → (here ≡ field ++ rest_of more) × Lacks 32 field
+whole_cut : (here field : List ℕ) (more : Option (List ℕ)) → Cuts 32 here field more → (here ≡ field ++ remainder_of more) × Lacks 32 field
 whole_cut here field None c = (c.0 ∙ sym (append-nil field), c.1)
 whole_cut here field (Some more) c = c
 
-ends : (more : Option (List ℕ)) → (rest_of more ≡ []) ⊎ has_byte 32 (rest_of more)
+ends : (more : Option (List ℕ)) → (remainder_of more ≡ []) ⊎ has_byte 32 (remainder_of more)
 ends None = inl refl
 ends (Some more) = inr refl
 
 -- a field that no lawful claim has there
 pub bad_at : (line : List ℕ) (before : List (List ℕ)) (here field : List ℕ) (more : Option (List ℕ)) → FollowsFields line before (Some here) → Cuts 32 here field more
-    → BeginClaim before → ((claim : Claimed) → IsClaim claim → (rest : List (List ℕ)) → fields_of claim ≡ before ++ field ∷ rest → ⊥)
+    → BeginClaim before → ((claim : Claimed) → IsClaim claim → (remainder : List (List ℕ)) → fields_of claim ≡ before ++ field ∷ remainder → ⊥)
     → IsFirstFaultOf line (length line - length here)
 bad_at line before here field more f c b none =
     let w = whole_cut here field more c in
     inl (record {
       before = before;
       field = field;
-      rest = rest_of more;
+      remainder = remainder_of more;
       spelled = f ∙ ap (λ (t : List ℕ). followed before ++ t) w.0;
       whole = (w.1, ends more);
       begins = b;
@@ -91,28 +91,28 @@ lacks_at line (first ∷ more) there f e b none = inr (record {
 -- each text is cut somewhere
 record IsCut (text : List ℕ) : Type 0 where
   front : List ℕ
-  rest : Option (List ℕ)
-  cut : Cuts 32 text front rest
+  remainder : Option (List ℕ)
+  cut : Cuts 32 text front remainder
 
 cut_anywhere : (text : List ℕ) → IsCut text
-cut_anywhere [] = record { front = []; rest = None; cut = (refl, refl) }
+cut_anywhere [] = record { front = []; remainder = None; cut = (refl, refl) }
 cut_anywhere (b ∷ text) = go (b == 32) refl (cut_anywhere text)
   where
     go : (t : Bool) → (b == 32) ≡ t → IsCut text → IsCut (b ∷ text)
-    go true e c = record { front = []; rest = Some text; cut = (ap (λ (x : ℕ). x ∷ text) (eqb-true b 32 e), refl) }
-    go false e c = more c.front c.rest c.cut
+    go true e c = record { front = []; remainder = Some text; cut = (ap (λ (x : ℕ). x ∷ text) (eqb-true b 32 e), refl) }
+    go false e c = more c.front c.remainder c.cut
       where
-        more : (front : List ℕ) (rest : Option (List ℕ)) → Cuts 32 text front rest → IsCut (b ∷ text)
-        more front None k = record { front = b ∷ front; rest = None; cut = (ap (λ (t : List ℕ). b ∷ t) k.0, or_from _ _ e k.1) }
-        more front (Some rest) k = record { front = b ∷ front; rest = Some rest; cut = (ap (λ (t : List ℕ). b ∷ t) k.0, or_from _ _ e k.1) }
+        more : (front : List ℕ) (remainder : Option (List ℕ)) → Cuts 32 text front remainder → IsCut (b ∷ text)
+        more front None k = record { front = b ∷ front; remainder = None; cut = (ap (λ (t : List ℕ). b ∷ t) k.0, or_from _ _ e k.1) }
+        more front (Some remainder) k = record { front = b ∷ front; remainder = Some remainder; cut = (ap (λ (t : List ℕ). b ∷ t) k.0, or_from _ _ e k.1) }
 
 -- nothing may follow
 pub over_at : (line : List ℕ) (before : List (List ℕ)) (here : List ℕ) → FollowsFields line before (Some here) → BeginClaim before
-    → ((claim : Claimed) → IsClaim claim → (field : List ℕ) (rest : List (List ℕ)) → fields_of claim ≡ before ++ field ∷ rest → ⊥)
+    → ((claim : Claimed) → IsClaim claim → (field : List ℕ) (remainder : List (List ℕ)) → fields_of claim ≡ before ++ field ∷ remainder → ⊥)
     → IsFirstFaultOf line (length line - length here)
 over_at line before here f b none =
     let c = cut_anywhere here in
-    bad_at line before here c.front c.rest f c.cut b (λ claim lawful rest. none claim lawful c.front rest)
+    bad_at line before here c.front c.remainder f c.cut b (λ claim lawful remainder. none claim lawful c.front remainder)
 
 -- ---- the head
 
@@ -137,10 +137,10 @@ head_bad line place head here field more within h c none =
     let own = claimed head [] in
     let front = take place (head_of own) in
     let count : length front ≡ place = omega (arith, length-take-le place (head_of own) (omega (arith, head_length own))) in
-    bad_at line front here field more h.follows c (begin_head place own h.head.lawful) (λ claim lawful rest e.
+    bad_at line front here field more h.follows c (begin_head place own h.head.lawful) (λ claim lawful remainder e.
     none claim lawful (sym (get_or-append (head_of claim) (found_fields claim.found) [] place (omega (arith, head_length claim)))
     ∙ ap (λ (t : List (List ℕ)). get_or t place []) e
-    ∙ ap (λ (k : ℕ). get_or (front ++ field ∷ rest) k []) (sym count) ∙ get_or-append_seam front field rest []))
+    ∙ ap (λ (k : ℕ). get_or (front ++ field ∷ remainder) k []) (sym count) ∙ get_or-append_seam front field remainder []))
 
 pub some_found : (found : Option SaidOfSoup) → length (found_fields found) ≤ 0 → ⊥
 unfolding found_fields

@@ -19,38 +19,38 @@ use Rattle.ranges.proofs.DecimalLemmas.{IsDecimal-decimal}
 use Rattle.ranges.proofs.FaultLemmas.{first_digit, small_decimal, zero_first}
 
 -- a decimal that ends the text is the text
-pub whole_decimal : (text : List ℕ) (n : ℕ) (rest : List ℕ) → BeginsDecimal text n rest → (length rest == 0) ≡ true → text ≡ decimal n
+pub whole_decimal : (text : List ℕ) (n : ℕ) (remainder : List ℕ) → BeginsDecimal text n remainder → (length remainder == 0) ≡ true → text ≡ decimal n
 whole_decimal text n [] b h = b.spelled ∙ append-nil (decimal n)
-whole_decimal text n (a ∷ rest) b h = let e : length (a ∷ rest) ≡ 0 = eqb-true _ _ h in absurd (omega arith)
+whole_decimal text n (a ∷ remainder) b h = let e : length (a ∷ remainder) ≡ 0 = eqb-true _ _ h in absurd (omega arith)
 
 -- a text that doesn't begin with a decimal below 2^64 is none
 pub no_decimal : (text : List ℕ) (m : ℕ) → BeginsNoDecimal text → m < 2 ^ 64 → text ≢ decimal m
-no_decimal text m none word e =
+no_decimal text m none fits e =
     let some : has_digit text ≡ true =
-    ap has_digit (e ∙ sym (append-nil (decimal m))) ∙ first_digit (decimal m) [] (IsDecimal-decimal m word) in
-    small_decimal m [] text word refl (none some) (append-nil (decimal m) ∙ sym e)
+    ap has_digit (e ∙ sym (append-nil (decimal m))) ∙ first_digit (decimal m) [] (IsDecimal-decimal m fits) in
+    small_decimal m [] text fits refl (none some) (append-nil (decimal m) ∙ sym e)
 
 -- a text that goes on after its first decimal is none
-pub longer_decimal : (text : List ℕ) (n m : ℕ) (rest : List ℕ) → BeginsDecimal text n rest → (length rest == 0) ≡ false → m < 2 ^ 64 → text ≢ decimal m
-longer_decimal text n m rest b h word e =
-    let c = cut (decimal n) (decimal m) rest [] (IsDecimal-decimal n b.word) (IsDecimal-decimal m word) (λ d. zero_first n (b.ends d)) (λ d. absurd (cc))
+pub longer_decimal : (text : List ℕ) (n m : ℕ) (remainder : List ℕ) → BeginsDecimal text n remainder → (length remainder == 0) ≡ false → m < 2 ^ 64 → text ≢ decimal m
+longer_decimal text n m remainder b h fits e =
+    let c = cut (decimal n) (decimal m) remainder [] (IsDecimal-decimal n b.fits) (IsDecimal-decimal m fits) (λ d. zero_first n (b.ends d)) (λ d. absurd (cc))
     (sym b.spelled ∙ e ∙ sym (append-nil (decimal m))) in
-    let none : (length rest == 0) ≡ true = ap (λ (r : List ℕ). length r == 0) c.1 in
+    let none : (length remainder == 0) ≡ true = ap (λ (r : List ℕ). length r == 0) c.1 in
     absurd (cc)
 
--- what stands after the word is told apart
-pub after_word : (field word rest more : List ℕ) → field ≡ word ++ rest → rest ≢ more → field ≢ word ++ more
-after_word field word rest more e other f = other (append_cancel_left word rest more (sym e ∙ f))
+-- what stands after the name is told apart
+pub after_name : (field name remainder more : List ℕ) → field ≡ name ++ remainder → remainder ≢ more → field ≢ name ++ more
+after_name field name remainder more e other f = other (append_cancel_left name remainder more (sym e ∙ f))
 
--- what a field tells after a word
-pub tells_after : {A : Type 0} (MayBe : A → Type 0) (text : A → List ℕ) (word field rest : List ℕ) (found : Option A) → field ≡ word ++ rest
-    → Tells MayBe text rest found → Tells MayBe (λ a. word ++ text a) field found
-tells_after MayBe text word field rest None e none = λ a lawful. after_word field word rest (text a) e (none a lawful)
-tells_after MayBe text word field rest (Some a) e told = (told.0, e ∙ ap (λ (t : List ℕ). word ++ t) told.1)
+-- what a field tells after a name
+pub tells_after : {A : Type 0} (MayBe : A → Type 0) (text : A → List ℕ) (name field remainder : List ℕ) (found : Option A) → field ≡ name ++ remainder
+    → Tells MayBe text remainder found → Tells MayBe (λ a. name ++ text a) field found
+tells_after MayBe text name field remainder None e none = λ a lawful. after_name field name remainder (text a) e (none a lawful)
+tells_after MayBe text name field remainder (Some a) e told = (told.0, e ∙ ap (λ (t : List ℕ). name ++ t) told.1)
 
--- a field has one number after a word
-pub one_number : (word field : List ℕ) (n m : ℕ) → n < 2 ^ 64 → m < 2 ^ 64 → field ≡ word ++ decimal n → field ≡ word ++ decimal m → n ≡ m
-one_number word field n m a b e f = decimal_injective n m a b (append_cancel_left word (decimal n) (decimal m) (sym e ∙ f))
+-- a field has one number after a name
+pub one_number : (name field : List ℕ) (n m : ℕ) → n < 2 ^ 64 → m < 2 ^ 64 → field ≡ name ++ decimal n → field ≡ name ++ decimal m → n ≡ m
+one_number name field n m a b e f = decimal_injective n m a b (append_cancel_left name (decimal n) (decimal m) (sym e ∙ f))
 
 -- how far a text goes without the byte
 abbrev front_of : ℕ → List ℕ → ℕ
@@ -94,9 +94,9 @@ cut_found byte text place e = go (nat_lt (front_of byte text) (length text)) ref
         let less : front_of byte text < length text = ltb-true _ _ f in
         let c = cut_first byte text place same (omega arith) in
         let next : suc place ≡ place + 1 = omega arith in
-        let rest : drop (suc place) text ≡ take (length text - (place + 1)) (drop (place + 1) text) =
+        let remainder : drop (suc place) text ≡ take (length text - (place + 1)) (drop (place + 1) text) =
         ap (λ (k : ℕ). drop k text) next ∙ sym (take_rest text (place + 1)) in
-        (c.0 ∙ ap (λ (t : List ℕ). take place text ++ byte ∷ t) rest, c.1)
+        (c.0 ∙ ap (λ (t : List ℕ). take place text ++ byte ∷ t) remainder, c.1)
 
 -- where it stands nowhere, the text has no such byte
 pub cut_nowhere : (byte : ℕ) (text : List ℕ) → None ≡ position (λ b. b == byte) text → Lacks byte text

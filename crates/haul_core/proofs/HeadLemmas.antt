@@ -14,8 +14,8 @@ nothing_found : (version : ℕ) (settled : Option WhenSettled) → settled ≡ N
 nothing_found version None e = tt
 nothing_found version (Some rested) e = absurd (cc)
 
-pub filled_word : (head : LineStart) (field : List ℕ) → IsHead head → field ≡ codes "report" → HasFilled 0 head head field
-filled_word head field h e = record { lawful = h.lawful; none = h.none; spelled = ap (λ (t : List ℕ). t ∷ []) (sym e) }
+pub filled_report : (head : LineStart) (field : List ℕ) → IsHead head → field ≡ codes "report" → HasFilled 0 head head field
+filled_report head field h e = record { lawful = h.lawful; none = h.none; spelled = ap (λ (t : List ℕ). t ∷ []) (sym e) }
 
 pub filled_version : (head : LineStart) (field : List ℕ) (v : ℕ) → IsHead head → IsVersion v → field ≡ decimal v
     → HasFilled 1 head (record head { version = v }) field

@@ -56,7 +56,7 @@ size_from : (place bound : ℕ) (rs : List Range) → place ≤ bound → AreNor
 size_from place bound [] low h k below = omega arith
 size_from place bound (r ∷ rs) low h k below =
     let here : end_of r ≤ bound = All-head (λ r. end_of r ≤ bound) r rs below in
-    let rest = size_from (end_of r) bound rs here h.2 h.1 (All-tail (λ r. end_of r ≤ bound) r rs below) in
+    let remainder = size_from (end_of r) bound rs here h.2 h.1 (All-tail (λ r. end_of r ≤ bound) r rs below) in
     let sum : size_of (r ∷ rs) ≡ r.count + size_of rs = sum_by-cons (λ r. r.count) r rs in
     omega arith
 
@@ -65,7 +65,7 @@ pub size_below : (bound : ℕ) (rs : List Range) → AreNormal rs → AreBelow b
 size_below bound [] h below = omega arith
 size_below bound (r ∷ rs) h below =
     let here : end_of r ≤ bound = All-head (λ r. end_of r ≤ bound) r rs below in
-    let rest = size_from (end_of r) bound rs here h.2 h.1 (All-tail (λ r. end_of r ≤ bound) r rs below) in
+    let remainder = size_from (end_of r) bound rs here h.2 h.1 (All-tail (λ r. end_of r ≤ bound) r rs below) in
     let sum : size_of (r ∷ rs) ≡ r.count + size_of rs = sum_by-cons (λ r. r.count) r rs in
     omega arith
 

@@ -17,11 +17,11 @@ with-ascending n (x ∷ []) h = go (cases_lt x n)
 with-ascending n (x ∷ y ∷ xs) h = go (cases_lt x n) (cases_lt y n) (with-ascending n (y ∷ xs) h.1)
   where
     go : (x < n) ⊎ (n ≤ x) → (y < n) ⊎ (n ≤ y) → IsAscending (with_number n (y ∷ xs)) → IsAscending (with_number n (x ∷ y ∷ xs))
-    go (inr least) any rest = subst IsAscending (sym (with_least n x (y ∷ xs) least)) (least, h)
-    go (inl more) (inl past) rest = subst IsAscending (sym (with_greater n x (y ∷ xs) more ∙ ap (λ (t : List ℕ). x ∷ t) (with_greater n y xs past)))
-        (h.0, subst IsAscending (with_greater n y xs past) rest)
-    go (inl more) (inr here) rest = subst IsAscending (sym (with_greater n x (y ∷ xs) more ∙ ap (λ (t : List ℕ). x ∷ t) (with_least n y xs here)))
-        (omega arith, subst IsAscending (with_least n y xs here) rest)
+    go (inr least) any remainder = subst IsAscending (sym (with_least n x (y ∷ xs) least)) (least, h)
+    go (inl more) (inl past) remainder = subst IsAscending (sym (with_greater n x (y ∷ xs) more ∙ ap (λ (t : List ℕ). x ∷ t) (with_greater n y xs past)))
+        (h.0, subst IsAscending (with_greater n y xs past) remainder)
+    go (inl more) (inr here) remainder = subst IsAscending (sym (with_greater n x (y ∷ xs) more ∙ ap (λ (t : List ℕ). x ∷ t) (with_least n y xs here)))
+        (omega arith, subst IsAscending (with_least n y xs here) remainder)
 
 pub ascending-ascending : (xs : List ℕ) → IsAscending (ascending xs)
 ascending-ascending [] = tt

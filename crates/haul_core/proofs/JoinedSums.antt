@@ -30,11 +30,11 @@ one_list job law [] (t ∷ ts) same each were = absurd (cc)
 one_list job law (s ∷ ss) [] same each were = absurd (cc)
 one_list job law (s ∷ ss) (t ∷ ts) same each were =
     let number : s.number ≡ t.number = ap (λ (ns : List ℕ). get_or ns 0 0) same in
-    let rest : numbers_of_surveys ss ≡ numbers_of_surveys ts = ap (λ (ns : List ℕ). drop 1 ns) same in
+    let remainder : numbers_of_surveys ss ≡ numbers_of_surveys ts = ap (λ (ns : List ℕ). drop 1 ns) same in
     let own : IsFound job s.number s.finding = All-head (λ s. IsFound job s.number s.finding) s ss each in
     let other : IsFound job s.number t.finding =
     subst (λ (n : ℕ). IsFound job n t.finding) (sym number) (All-head (λ s. IsFound job s.number s.finding) t ts were) in
-    let more : ss ≡ ts = one_list job law ss ts rest (All-tail (λ s. IsFound job s.number s.finding) s ss each)
+    let more : ss ≡ ts = one_list job law ss ts remainder (All-tail (λ s. IsFound job s.number s.finding) s ss each)
     (All-tail (λ s. IsFound job s.number s.finding) t ts were) in
     λ i. record { number = number i; finding = law job.rule job.profile (soup job.seed s.number) s.finding t.finding own other i } ∷ more i
 
@@ -87,10 +87,10 @@ sum_left {X} f (x ∷ xs) = go (cases_Bool (nat_le 1 (f x))) (sum_left f xs)
 
     go : (nat_le 1 (f x) ≡ true) ⊎ (nat_le 1 (f x) ≡ false) → sum_by f left ≡ sum_by f xs
         → sum_by f (cond (nat_le 1 (f x)) (x ∷ left) left) ≡ sum_by f (x ∷ xs)
-    go (inl some) rest =
-        ap (λ (b : Bool). sum_by f (cond b (x ∷ left) left)) some ∙ sum_by-cons f x left ∙ ap (λ (n : ℕ). f x + n) rest ∙ sym (sum_by-cons f x xs)
-    go (inr none) rest =
-        ap (λ (b : Bool). sum_by f (cond b (x ∷ left) left)) none ∙ rest ∙ sym (zero-add (sum_by f xs))
+    go (inl some) remainder =
+        ap (λ (b : Bool). sum_by f (cond b (x ∷ left) left)) some ∙ sum_by-cons f x left ∙ ap (λ (n : ℕ). f x + n) remainder ∙ sym (sum_by-cons f x xs)
+    go (inr none) remainder =
+        ap (λ (b : Bool). sum_by f (cond b (x ∷ left) left)) none ∙ remainder ∙ sym (zero-add (sum_by f xs))
         ∙ ap (λ (n : ℕ). n + sum_by f xs) (no_object (f x) none) ∙ sym (sum_by-cons f x xs)
 
 both_known : (b c : Bool) → (b ≡ true → c ≡ true) → (b && c) ≡ b
@@ -118,7 +118,7 @@ sum_of_two : {X : Type 0} (f g h : X → ℕ) (xs : List X) → ((x : X) → h x
 sum_of_two f g h [] each = refl
 sum_of_two f g h (x ∷ xs) each =
     let here : h x ≡ f x + g x = each x in
-    let rest : sum_by h xs ≡ sum_by f xs + sum_by g xs = sum_of_two f g h xs each in
+    let remainder : sum_by h xs ≡ sum_by f xs + sum_by g xs = sum_of_two f g h xs each in
     let of_f : sum_by f (x ∷ xs) ≡ f x + sum_by f xs = sum_by-cons f x xs in
     let of_g : sum_by g (x ∷ xs) ≡ g x + sum_by g xs = sum_by-cons g x xs in
     let of_h : sum_by h (x ∷ xs) ≡ h x + sum_by h xs = sum_by-cons h x xs in
@@ -141,7 +141,7 @@ add_up law job ranges others all numbers more one other both h k b =
     (λ code. part (total b.surveys code) (total h.surveys code) (total k.surveys code) (totals code)) in
     let second : other.objects ≡ sum_by (total k.surveys) (codes_of both.rows) =
     k.objects_are ∙ rows_within k.surveys b.surveys other.rows both.rows k.rows_are b.rows_are
-    (λ code. rest (total b.surveys code) (total h.surveys code) (total k.surveys code) (totals code)) in
+    (λ code. remainder (total b.surveys code) (total h.surveys code) (total k.surveys code) (totals code)) in
     record {
       soups = b.soups_are ∙ length-append numbers more ∙ (λ i. sym h.soups_are i + sym k.soups_are i);
       unsettled = b.unsettled_are ∙ loose ∙ (λ i. sym h.unsettled_are i + sym k.unsettled_are i);
@@ -155,5 +155,5 @@ add_up law job ranges others all numbers more one other both h k b =
     part : (a b c : ℕ) → a ≡ b + c → b ≤ a
     part a b c e = omega arith
 
-    rest : (a b c : ℕ) → a ≡ b + c → c ≤ a
-    rest a b c e = omega arith
+    remainder : (a b c : ℕ) → a ≡ b + c → c ≤ a
+    remainder a b c e = omega arith

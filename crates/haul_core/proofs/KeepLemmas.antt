@@ -136,9 +136,9 @@ unreported n (t ∷ ts) h = go (cases_Bool (nat_eq n t.1)) (unreported n ts)
   where
     go : (nat_eq n t.1 ≡ true) ⊎ (nat_eq n t.1 ≡ false) → (worker_in n ts ≡ None → list_any (nat_eq n) (numbers_in ts) ≡ false)
         → (nat_eq n t.1 || list_any (nat_eq n) (numbers_in ts)) ≡ false
-    go (inl same) rest = let bad : Some t.0 ≡ None = sym (ap (λ (b : Bool). cond b (Some t.0) (worker_in n ts)) same) ∙ h in absurd (cc)
-    go (inr apart) rest =
-        ap (λ (b : Bool). b || list_any (nat_eq n) (numbers_in ts)) apart ∙ rest (sym (ap (λ (b : Bool). cond b (Some t.0) (worker_in n ts)) apart) ∙ h)
+    go (inl same) remainder = let bad : Some t.0 ≡ None = sym (ap (λ (b : Bool). cond b (Some t.0) (worker_in n ts)) same) ∙ h in absurd (cc)
+    go (inr apart) remainder =
+        ap (λ (b : Bool). b || list_any (nat_eq n) (numbers_in ts)) apart ∙ remainder (sym (ap (λ (b : Bool). cond b (Some t.0) (worker_in n ts)) apart) ∙ h)
 
 -- one report more
 pub keeps_more : (terms : Terms) (closed : Bool) (taken : List (ℕ × ℕ)) (count : ℕ) (workers : List (ℕ × ℕ)) (old new : Sums) (r : Reported) → IsReport r

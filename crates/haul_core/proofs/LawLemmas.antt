@@ -70,8 +70,8 @@ surveyed_by : (f : ℕ → Finding) (surveys : List Survey) → All (λ s. f s.n
 surveyed_by f [] each = refl
 surveyed_by f (s ∷ ss) each =
     let first : f s.number ≡ s.finding = All-head (λ s. f s.number ≡ s.finding) s ss each in
-    let rest : ss ≡ map (survey_of f) (numbers_of_surveys ss) = surveyed_by f ss (All-tail (λ s. f s.number ≡ s.finding) s ss each) in
-    λ i. record { number = s.number; finding = sym first i } ∷ rest i
+    let remainder : ss ≡ map (survey_of f) (numbers_of_surveys ss) = surveyed_by f ss (All-tail (λ s. f s.number ≡ s.finding) s ss each) in
+    λ i. record { number = s.number; finding = sym first i } ∷ remainder i
 
 -- ---- sums and samples over surveys by their numbers
 

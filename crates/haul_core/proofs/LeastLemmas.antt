@@ -52,7 +52,7 @@ least_is numbers = record {
 up_of : (xs : List ℕ) → IsAscending xs → IsUp xs
 up_of [] h = tt
 up_of (x ∷ []) h = (tt, tt)
-up_of (x ∷ y ∷ xs) h = let rest : IsUp (y ∷ xs) = up_of (y ∷ xs) h.1 in ((h.0, all_lower x y xs h.0 rest.0), rest)
+up_of (x ∷ y ∷ xs) h = let remainder : IsUp (y ∷ xs) = up_of (y ∷ xs) h.1 in ((h.0, all_lower x y xs h.0 remainder.0), remainder)
 
 all_both : (x : ℕ) (xs ys : List ℕ) → AllByRecursion (λ y. x ≤ y) xs → AllByRecursion (λ y. x ≤ y) ys → AllByRecursion (λ y. x ≤ y) (xs ++ ys)
 all_both x [] ys a b = b

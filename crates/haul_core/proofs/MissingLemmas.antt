@@ -152,12 +152,12 @@ left_over (t ∷ ts) xs distinct each =
     ap length (filter_agree (λ n. not (nat_eq n t)) (λ n. not (nat_eq t n)) (λ n. ap not (nat_eq_equiv.symm n t)) xs) in
     let itself : list_any (nat_eq t) (t ∷ ts) ≡ true = ap (λ (b : Bool). b || list_any (nat_eq t) ts) (nat_eq_equiv.refl t) in
     let once : counted t xs ≡ 1 = each t itself in
-    let rest : length (filter (λ n. not (list_any (nat_eq n) ts)) less) + length ts ≡ length less =
+    let remainder : length (filter (λ n. not (list_any (nat_eq n) ts)) less) + length ts ≡ length less =
     left_over ts less (IsDistinct-tail nat_eq t ts distinct)
     (λ n h. counted_filter (λ n. not (nat_eq n t)) n xs
     ∙ ap (λ (b : Bool). cond {A = ℕ} (not b) (counted n xs) 0) (apart_in n t ts (IsDistinct-head nat_eq t ts distinct) h)
     ∙ each n (or_right (nat_eq n t) (list_any (nat_eq n) ts) h)) in
-    omega (arith, twice, swapped, once, rest, parted (nat_eq t) xs)
+    omega (arith, twice, swapped, once, remainder, parted (nat_eq t) xs)
 
 -- each taken number is in the set
 taken_in : (ranges : List Range) (taken : List (ℕ × ℕ)) → All (λ t. is_in ranges t.1 ≡ true) taken → (n : ℕ) → is_taken taken n ≡ true

@@ -16,7 +16,7 @@ sum_with : (f : ℕ → ℕ) (n : ℕ) (xs : List ℕ) → sum_by f (with_number
 sum_with f n [] = refl
 sum_with f n (x ∷ xs) = elim (cases_lt x n) [
   | inl greater ↦
-      let rest : sum_by f (with_number n xs) ≡ sum_by f (n ∷ xs) = sum_with f n xs in
+      let remainder : sum_by f (with_number n xs) ≡ sum_by f (n ∷ xs) = sum_with f n xs in
       let a : sum_by f (x ∷ with_number n xs) ≡ f x + sum_by f (with_number n xs) = sum_by-cons f x (with_number n xs) in
       let b : sum_by f (n ∷ xs) ≡ f n + sum_by f xs = sum_by-cons f n xs in
       let c : sum_by f (n ∷ x ∷ xs) ≡ f n + sum_by f (x ∷ xs) = sum_by-cons f n (x ∷ xs) in
@@ -92,14 +92,14 @@ one_up (x ∷ xs) (y ∷ ys) h k same = go (cases_order x y) (one_up xs ys h.1 k
         omega arith
 
     go : (x ≡ y) ⊎ ((x < y) ⊎ (y < x)) → (AreSameNumbers xs ys → xs ≡ ys) → x ∷ xs ≡ y ∷ ys
-    go (inl first) rest = λ i. first i ∷ rest (tails first) i
-    go (inr (inl less)) rest =
+    go (inl first) remainder = λ i. first i ∷ remainder (tails first) i
+    go (inr (inl less)) remainder =
         let here : counted x (x ∷ xs) ≡ 1 + counted x xs = counted_first x xs in
         let lower : y ≤ y = omega arith in
         let there : counted x (y ∷ ys) ≡ 0 = uncounted_low x y (y ∷ ys) less (lower, k.0) in
         let both : counted x (x ∷ xs) ≡ counted x (y ∷ ys) = same x in
         absurd (omega arith)
-    go (inr (inr more)) rest =
+    go (inr (inr more)) remainder =
         let here : counted y (y ∷ ys) ≡ 1 + counted y ys = counted_first y ys in
         let lower : x ≤ x = omega arith in
         let there : counted y (x ∷ xs) ≡ 0 = uncounted_low y x (x ∷ xs) more (lower, h.0) in

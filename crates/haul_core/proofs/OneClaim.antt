@@ -67,8 +67,8 @@ one_found version (Some s) (Some t) h k e =
     let at : codes "at=" ++ decimal s.checkpoint ≡ codes "at=" ++ decimal t.checkpoint = cc in
     let checkpoint = decimal_injective s.checkpoint t.checkpoint (let m = h.checkpoint in omega arith) (let m = k.checkpoint in omega arith)
     (append_cancel_left (codes "at=") (decimal s.checkpoint) (decimal t.checkpoint) at) in
-    let rest : mark_fields s.for_good ++ map count_field s.counts ≡ mark_fields t.for_good ++ map count_field t.counts = cc in
-    let marks = one_marks version s.for_good t.for_good (map count_field s.counts) (map count_field t.counts) h.mark k.mark rest in
+    let remainder : mark_fields s.for_good ++ map count_field s.counts ≡ mark_fields t.for_good ++ map count_field t.counts = cc in
+    let marks = one_marks version s.for_good t.for_good (map count_field s.counts) (map count_field t.counts) h.mark k.mark remainder in
     let counts = one_list s.counts t.counts (recursion_from_All IsCount s.counts h.counts) (recursion_from_All IsCount t.counts k.counts) marks.1 in
     λ i. Some (record { checkpoint = checkpoint i; for_good = marks.0 i; counts = counts i })
 

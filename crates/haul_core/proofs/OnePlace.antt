@@ -38,8 +38,8 @@ compare (x ∷ a) (y ∷ b) f g r s h k p q u v e =
     go e (inr (inr m)) = inr (inr (m.0, λ i. e i ∷ m.1 i))
 
 two_bad : (line : List ℕ) (p q : ℕ) → IsBadField line p → IsBadField line q → p ≡ q
-two_bad line p q a b = go (compare a.before b.before a.field b.field a.rest b.rest (begin_spaceless a.before a.begins) (begin_spaceless b.before b.begins)
-    a.whole.0 b.whole.0 (stops_after a.rest a.whole.1) (stops_after b.rest b.whole.1) (sym a.spelled ∙ b.spelled))
+two_bad line p q a b = go (compare a.before b.before a.field b.field a.remainder b.remainder (begin_spaceless a.before a.begins) (begin_spaceless b.before b.begins)
+    a.whole.0 b.whole.0 (stops_after a.remainder a.whole.1) (stops_after b.remainder b.whole.1) (sym a.spelled ∙ b.spelled))
   where
     go : (a.before ≡ b.before) ⊎ (Goes a.before a.field b.before ⊎ Goes b.before b.field a.before) → p ≡ q
     go (inl same) = a.is ∙ ap (λ (fields : List (List ℕ)). length (followed fields)) same ∙ sym b.is
@@ -48,8 +48,8 @@ two_bad line p q a b = go (compare a.before b.before a.field b.field a.rest b.re
 
 bad_or_short : (line : List ℕ) (p q : ℕ) → IsBadField line p → LacksField line q → ⊥
 bad_or_short line p q a b =
-    let m = fields_begin a.before b.first b.more a.field a.rest (begin_spaceless (b.first ∷ b.more) b.begins) (begin_spaceless a.before a.begins) a.whole.0
-    (stops_after a.rest a.whole.1) (sym (line_of-lined b.first b.more) ∙ sym b.spelled ∙ a.spelled) in
+    let m = fields_begin a.before b.first b.more a.field a.remainder (begin_spaceless (b.first ∷ b.more) b.begins) (begin_spaceless a.before a.begins) a.whole.0
+    (stops_after a.remainder a.whole.1) (sym (line_of-lined b.first b.more) ∙ sym b.spelled ∙ a.spelled) in
     a.there (begin_front a.before a.field m.0 (subst BeginClaim m.1 b.begins))
 
 pub one_place : (line : List ℕ) (p q : ℕ) → IsFirstFaultOf line p → IsFirstFaultOf line q → p ≡ q

@@ -33,16 +33,16 @@ module _ {X : Type 0} where
   part_trans a b [] s t = subst (λ (l : List X). IsSubsequence a l) t s
   part_trans a b (x ∷ c) s t =
       ⊎_elim (λ (h : IsSubsequence b c). inl (part_trans a b c s h))
-      (λ (h : (rest : List X) × (b ≡ x ∷ rest) × IsSubsequence rest c).
+      (λ (h : (remainder : List X) × (b ≡ x ∷ remainder) × IsSubsequence remainder c).
       ⊎_elim (λ (k : IsSubsequence a h.0). inl (part_trans a h.0 c k h.2))
-      (λ (k : (rest : List X) × (a ≡ x ∷ rest) × IsSubsequence rest h.0). inr (k.0, k.1, part_trans k.0 h.0 c k.2 h.2))
+      (λ (k : (remainder : List X) × (a ≡ x ∷ remainder) × IsSubsequence remainder h.0). inr (k.0, k.1, part_trans k.0 h.0 c k.2 h.2))
       (subst (λ (l : List X). IsSubsequence a l) h.1 s)) t
 
   pub filter_part : (p : X → Bool) (a b : List X) → IsSubsequence a b → IsSubsequence (filter p a) (filter p b)
   filter_part p a [] s = ap (filter p) s
   filter_part p a (x ∷ b) s =
       ⊎_elim (λ (h : IsSubsequence a b). one_more (p x) x (filter p a) (filter p b) (filter_part p a b h))
-      (λ (h : (rest : List X) × (a ≡ x ∷ rest) × IsSubsequence rest b).
+      (λ (h : (remainder : List X) × (a ≡ x ∷ remainder) × IsSubsequence remainder b).
       subst (λ (l : List X). IsSubsequence (filter p l) (cond (p x) (x ∷ filter p b) (filter p b))) (sym h.1)
       (both_more (p x) x (filter p h.0) (filter p b) (filter_part p h.0 b h.2))) s
 
@@ -50,15 +50,15 @@ map_part : {X Y : Type 0} (f : X → Y) (a b : List X) → IsSubsequence a b →
 map_part f a [] s = ap (map f) s
 map_part {X = X} f a (x ∷ b) s =
     ⊎_elim (λ (h : IsSubsequence a b). inl (map_part f a b h))
-    (λ (h : (rest : List X) × (a ≡ x ∷ rest) × IsSubsequence rest b). inr (map f h.0, ap (map f) h.1, map_part f h.0 b h.2)) s
+    (λ (h : (remainder : List X) × (a ≡ x ∷ remainder) × IsSubsequence remainder b). inr (map f h.0, ap (map f) h.1, map_part f h.0 b h.2)) s
 
 -- ---- the first of each number
 
 first_part : (rs : List Reported) → IsSubsequence (first_of_each rs) rs
 first_part [] = refl
 first_part (r ∷ rs) =
-    let rest : List Reported = filter (λ s. not (has_number r.number s)) (first_of_each rs) in
-    inr (rest, refl, part_trans rest (first_of_each rs) rs (part_filter (λ s. not (has_number r.number s)) (first_of_each rs)) (first_part rs))
+    let remainder : List Reported = filter (λ s. not (has_number r.number s)) (first_of_each rs) in
+    inr (remainder, refl, part_trans remainder (first_of_each rs) rs (part_filter (λ s. not (has_number r.number s)) (first_of_each rs)) (first_part rs))
 
 -- ---- each number once
 
@@ -72,11 +72,11 @@ count_part n a (x ∷ b) s = go (λ l h. count_part n l b h) (cases_Bool (nat_eq
     go : ((l : List ℕ) → IsSubsequence l b → count_by (nat_eq n) l ≤ count_by (nat_eq n) b) → (nat_eq n x ≡ true) ⊎ (nat_eq n x ≡ false) → count_by (nat_eq n) a ≤ count_by (nat_eq n) (x ∷ b)
     go fewer (inl same) =
         ⊎_elim (λ (h : IsSubsequence a b). omega (arith, count_yes (nat_eq n) x b same, fewer a h))
-        (λ (h : (rest : List ℕ) × (a ≡ x ∷ rest) × IsSubsequence rest b).
+        (λ (h : (remainder : List ℕ) × (a ≡ x ∷ remainder) × IsSubsequence remainder b).
         omega (arith, ap (count_by (nat_eq n)) h.1, count_yes (nat_eq n) x b same, count_yes (nat_eq n) x h.0 same, fewer h.0 h.2)) s
     go fewer (inr apart) =
         ⊎_elim (λ (h : IsSubsequence a b). omega (arith, count_no (nat_eq n) x b apart, fewer a h))
-        (λ (h : (rest : List ℕ) × (a ≡ x ∷ rest) × IsSubsequence rest b).
+        (λ (h : (remainder : List ℕ) × (a ≡ x ∷ remainder) × IsSubsequence remainder b).
         omega (arith, ap (count_by (nat_eq n)) h.1, count_no (nat_eq n) x b apart, count_no (nat_eq n) x h.0 apart, fewer h.0 h.2)) s
 
 abbrev others : ℕ → List Reported → List Reported
@@ -88,10 +88,10 @@ none_left n (r ∷ rs) = go (cases_Bool (nat_eq n r.number)) (none_left n rs)
   where
     go : (nat_eq n r.number ≡ true) ⊎ (nat_eq n r.number ≡ false) → count_by (nat_eq n) (numbers (others n rs)) ≡ 0
         → count_by (nat_eq n) (numbers (cond (not (has_number n r)) (r ∷ others n rs) (others n rs))) ≡ 0
-    go (inl same) rest = ap (λ (b : Bool). count_by (nat_eq n) (numbers (cond (not b) (r ∷ others n rs) (others n rs)))) same ∙ rest
-    go (inr apart) rest =
+    go (inl same) remainder = ap (λ (b : Bool). count_by (nat_eq n) (numbers (cond (not b) (r ∷ others n rs) (others n rs)))) same ∙ remainder
+    go (inr apart) remainder =
         ap (λ (b : Bool). count_by (nat_eq n) (numbers (cond (not b) (r ∷ others n rs) (others n rs)))) apart
-        ∙ count_no (nat_eq n) r.number (numbers (others n rs)) apart ∙ rest
+        ∙ count_no (nat_eq n) r.number (numbers (others n rs)) apart ∙ remainder
 
 zero_le_one : 0 ≤ 1
 zero_le_one = omega arith
@@ -105,14 +105,14 @@ once n (r ∷ rs) = go (cases_Bool (nat_eq n r.number)) (once n rs)
 
     go : (nat_eq n r.number ≡ true) ⊎ (nat_eq n r.number ≡ false) → count_by (nat_eq n) (numbers (first_of_each rs)) ≤ 1
         → count_by (nat_eq n) (r.number ∷ numbers left) ≤ 1
-    go (inl same) rest =
+    go (inl same) remainder =
         let none : count_by (nat_eq n) (numbers left) ≡ 0 =
         ap (λ (m : ℕ). count_by (nat_eq n) (numbers (others m (first_of_each rs)))) (sym (eqb-true n r.number same)) ∙ none_left n (first_of_each rs) in
         omega (arith, none, count_yes (nat_eq n) r.number (numbers left) same)
-    go (inr apart) rest =
+    go (inr apart) remainder =
         omega (
           arith,
-          rest,
+          remainder,
           count_no (nat_eq n) r.number (numbers left) apart,
           count_part n (numbers left) (numbers (first_of_each rs)) (map_part (λ (s : Reported). s.number) left (first_of_each rs)
               (part_filter (λ s. not (has_number r.number s)) (first_of_each rs))),

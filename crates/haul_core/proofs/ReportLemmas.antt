@@ -63,17 +63,17 @@ pub said_spelled : (checkpoint : ℕ) (for_good : Bool) (counts : List (List ℕ
     ≡ flat_map spaced (found_fields (Some (record { checkpoint = checkpoint; for_good = Some for_good; counts = counts })))
 unfolding found_fields
 said_spelled checkpoint for_good counts =
-    ap (λ (rest : List ℕ). (codes " at=" ++ decimal checkpoint) ++ rest)
+    ap (λ (remainder : List ℕ). (codes " at=" ++ decimal checkpoint) ++ remainder)
     (sym (flat_map-append spaced (mark_fields (Some for_good)) (map count_field counts)
-    ∙ ap (λ (rest : List ℕ). flat_map spaced (mark_fields (Some for_good)) ++ rest) (flat_map-map spaced count_field counts)))
+    ∙ ap (λ (remainder : List ℕ). flat_map spaced (mark_fields (Some for_good)) ++ remainder) (flat_map-map spaced count_field counts)))
 
 -- ---- the whole line
 
-line_append : (word : List ℕ) (fields more : List (List ℕ)) → line_of word (fields ++ more) ≡ line_of word fields ++ flat_map spaced more
+line_append : (name : List ℕ) (fields more : List (List ℕ)) → line_of name (fields ++ more) ≡ line_of name fields ++ flat_map spaced more
 unfolding line_of
-line_append word fields more =
-    ap (λ (rest : List ℕ). word ++ rest) (flat_map-append spaced fields more)
-    ∙ sym (append_assoc word (flat_map spaced fields) (flat_map spaced more))
+line_append name fields more =
+    ap (λ (remainder : List ℕ). name ++ remainder) (flat_map-append spaced fields more)
+    ∙ sym (append_assoc name (flat_map spaced fields) (flat_map spaced more))
 
 abbrev pub after_head : Reported → List ℕ
 after_head report = flat_map spaced (found_fields (said_of 2 report.finding)) ++ codes "\n"

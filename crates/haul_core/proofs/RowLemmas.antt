@@ -63,13 +63,13 @@ one_order (x ∷ xs) (y ∷ ys) h k same = go (code_cmp x y) refl (one_order xs 
 
     go : (o : Ordering) → code_cmp x y ≡ o → (((code : List ℕ) → list_any (is_code code) xs ≡ list_any (is_code code) ys) → xs ≡ ys)
         → x ∷ xs ≡ y ∷ ys
-    go Less e rest = absurd (both_false (not_among x (y ∷ ys) (e, all_before x y ys e k.0)) (sym (same x)) (among_first x xs))
-    go Greater e rest =
+    go Less e remainder = absurd (both_false (not_among x (y ∷ ys) (e, all_before x y ys e k.0)) (sym (same x)) (among_first x xs))
+    go Greater e remainder =
         let less : code_cmp y x ≡ Less = nat_list_cmp_total.antisymm y x ∙ ap ordering_reverse e in
         absurd (both_false (not_among y (x ∷ xs) (less, all_before y x xs less h.0)) (same y) (among_first y ys))
-    go Equal e rest =
+    go Equal e remainder =
         let first : x ≡ y = one_code x y (ap is_eq e) in
-        λ i. first i ∷ rest (tails first) i
+        λ i. first i ∷ remainder (tails first) i
 
 -- ---- rows
 
@@ -100,9 +100,9 @@ rows_by : (surveys : List Survey) (rows : List Row) → All (IsRowOf surveys) ro
 rows_by surveys [] each = refl
 rows_by surveys (row ∷ rows) each =
     let is : IsRowOf surveys row = All-head (IsRowOf surveys) row rows each in
-    let rest : rows ≡ map (row_at surveys) (codes_of rows) = rows_by surveys rows (All-tail (IsRowOf surveys) row rows each) in
+    let remainder : rows ≡ map (row_at surveys) (codes_of rows) = rows_by surveys rows (All-tail (IsRowOf surveys) row rows each) in
     let least : row.samples ≡ samples surveys row.code = one_least (numbers_with surveys row.code) row.samples is.samples_are in
-    λ i. record { code = row.code; total = is.total_is i; samples = least i } ∷ rest i
+    λ i. record { code = row.code; total = is.total_is i; samples = least i } ∷ remainder i
 
 pub same_rows : (surveys others : List Survey) (rows more : List Row) → ((code : List ℕ) → total surveys code ≡ total others code)
     → ((code : List ℕ) → samples surveys code ≡ samples others code) → AreRowsOf surveys rows → AreRowsOf others more → rows ≡ more

@@ -36,7 +36,7 @@ take_with (suc k) n (x ∷ more) = elim (cases_lt x n) [
 pub record Putting (old : List ℕ) (count number : ℕ) (numbers : List ℕ) (left place : ℕ) : Type 0 where
   pub long : length numbers ≡ length old
   pub done : take place numbers ++ with_number left (drop place (take count old)) ≡ with_number number (take count old)
-  pub rest : drop place numbers ≡ drop place old
+  pub remainder : drop place numbers ≡ drop place old
   pub ascending : IsAscending (drop place (take count old))
 
 ascending_tail : (x : ℕ) (xs : List ℕ) → IsAscending (x ∷ xs) → IsAscending xs
@@ -51,49 +51,49 @@ next_old old count number numbers left place few low p =
     let long : length (take count old) ≡ count = length-take-le count old few in
     let here : get_or (take count old) place 0 ≡ get_or numbers place 0 =
     get_or-take count old place 0 low ∙ ap (λ (n : ℕ). get_or old n 0) (sym (add-zero place)) ∙ sym (get_or-drop place old 0 0)
-    ∙ ap (λ (xs : List ℕ). get_or xs 0 0) (sym p.rest) ∙ get_or-drop place numbers 0 0 ∙ ap (λ (n : ℕ). get_or numbers n 0) (add-zero place) in
+    ∙ ap (λ (xs : List ℕ). get_or xs 0 0) (sym p.remainder) ∙ get_or-drop place numbers 0 0 ∙ ap (λ (n : ℕ). get_or numbers n 0) (add-zero place) in
     drop_more (take count old) place 0 (omega arith) ∙ ap (λ (x : ℕ). x ∷ drop (place + 1) (take count old)) here
 
-rest_more : (xs ys : List ℕ) (i : ℕ) → drop i xs ≡ drop i ys → drop (i + 1) xs ≡ drop (i + 1) ys
-rest_more xs ys i e = sym (drop-drop 1 i xs) ∙ ap (drop 1) e ∙ drop-drop 1 i ys
+remainder_more : (xs ys : List ℕ) (i : ℕ) → drop i xs ≡ drop i ys → drop (i + 1) xs ≡ drop (i + 1) ys
+remainder_more xs ys i e = sym (drop-drop 1 i xs) ∙ ap (drop 1) e ∙ drop-drop 1 i ys
 
 pub putting_low : (old : List ℕ) (count number : ℕ) (numbers : List ℕ) (left place : ℕ) → count ≤ length old → place < count → left ≤ get_or numbers place 0
     → Putting old count number numbers left place → Putting old count number (set numbers place left) (get_or numbers place 0) (place + 1)
 putting_low old count number numbers left place few low h p =
     let kept : ℕ = get_or numbers place 0 in
-    let rest : List ℕ = drop (place + 1) (take count old) in
+    let remainder : List ℕ = drop (place + 1) (take count old) in
     let next = next_old old count number numbers left place few low p in
-    let up : IsAscending (kept ∷ rest) = subst IsAscending next p.ascending in
+    let up : IsAscending (kept ∷ remainder) = subst IsAscending next p.ascending in
     let long : length numbers ≡ length old = p.long in
     record {
       long = length-set numbers place left ∙ p.long;
-      done = ap (λ (xs : List ℕ). xs ++ with_number kept rest) (take_more_set numbers place left (omega arith))
-          ∙ append_assoc (take place numbers) (left ∷ []) (with_number kept rest)
-          ∙ ap (λ (xs : List ℕ). take place numbers ++ left ∷ xs) (with_first kept rest up)
-          ∙ ap (λ (xs : List ℕ). take place numbers ++ xs) (sym (with_least left kept rest h))
+      done = ap (λ (xs : List ℕ). xs ++ with_number kept remainder) (take_more_set numbers place left (omega arith))
+          ∙ append_assoc (take place numbers) (left ∷ []) (with_number kept remainder)
+          ∙ ap (λ (xs : List ℕ). take place numbers ++ left ∷ xs) (with_first kept remainder up)
+          ∙ ap (λ (xs : List ℕ). take place numbers ++ xs) (sym (with_least left kept remainder h))
           ∙ ap (λ (xs : List ℕ). take place numbers ++ with_number left xs) (sym next)
           ∙ p.done;
-      rest = drop-set-lt (place + 1) numbers place left (omega arith) ∙ rest_more numbers old place p.rest;
-      ascending = ascending_tail kept rest up;
+      remainder = drop-set-lt (place + 1) numbers place left (omega arith) ∙ remainder_more numbers old place p.remainder;
+      ascending = ascending_tail kept remainder up;
     }
 
 pub putting_high : (old : List ℕ) (count number : ℕ) (numbers : List ℕ) (left place : ℕ) → count ≤ length old → place < count → get_or numbers place 0 < left
     → Putting old count number numbers left place → Putting old count number numbers left (place + 1)
 putting_high old count number numbers left place few low h p =
     let kept : ℕ = get_or numbers place 0 in
-    let rest : List ℕ = drop (place + 1) (take count old) in
+    let remainder : List ℕ = drop (place + 1) (take count old) in
     let next = next_old old count number numbers left place few low p in
-    let up : IsAscending (kept ∷ rest) = subst IsAscending next p.ascending in
+    let up : IsAscending (kept ∷ remainder) = subst IsAscending next p.ascending in
     let long : length numbers ≡ length old = p.long in
     record {
       long = p.long;
-      done = ap (λ (xs : List ℕ). xs ++ with_number left rest) (take_more numbers place 0 (omega arith))
-          ∙ append_assoc (take place numbers) (kept ∷ []) (with_number left rest)
-          ∙ ap (λ (xs : List ℕ). take place numbers ++ xs) (sym (with_greater left kept rest h))
+      done = ap (λ (xs : List ℕ). xs ++ with_number left remainder) (take_more numbers place 0 (omega arith))
+          ∙ append_assoc (take place numbers) (kept ∷ []) (with_number left remainder)
+          ∙ ap (λ (xs : List ℕ). take place numbers ++ xs) (sym (with_greater left kept remainder h))
           ∙ ap (λ (xs : List ℕ). take place numbers ++ with_number left xs) (sym next)
           ∙ p.done;
-      rest = rest_more numbers old place p.rest;
-      ascending = ascending_tail kept rest up;
+      remainder = remainder_more numbers old place p.remainder;
+      ascending = ascending_tail kept remainder up;
     }
 
 -- ---- the order in which numbers come doesn't matter
@@ -109,20 +109,20 @@ with_two a b (x ∷ xs) = go (cases_lt x a) (cases_lt x b) (cases_order a b) (wi
   where
     go : (x < a) ⊎ (a ≤ x) → (x < b) ⊎ (b ≤ x) → (a ≡ b) ⊎ ((a < b) ⊎ (b < a)) → with_number a (with_number b xs) ≡ with_number b (with_number a xs)
         → with_number a (with_number b (x ∷ xs)) ≡ with_number b (with_number a (x ∷ xs))
-    go (inl xa) (inl xb) order rest =
-        ap (with_number a) (with_greater b x xs xb) ∙ with_greater a x (with_number b xs) xa ∙ ap (λ (ys : List ℕ). x ∷ ys) rest
+    go (inl xa) (inl xb) order remainder =
+        ap (with_number a) (with_greater b x xs xb) ∙ with_greater a x (with_number b xs) xa ∙ ap (λ (ys : List ℕ). x ∷ ys) remainder
         ∙ sym (ap (with_number b) (with_greater a x xs xa) ∙ with_greater b x (with_number a xs) xb)
-    go (inl xa) (inr bx) order rest =
+    go (inl xa) (inr bx) order remainder =
         ap (with_number a) (with_least b x xs bx) ∙ with_greater a b (x ∷ xs) (omega arith) ∙ ap (λ (ys : List ℕ). b ∷ ys) (with_greater a x xs xa)
         ∙ sym (ap (with_number b) (with_greater a x xs xa) ∙ with_least b x (with_number a xs) bx)
-    go (inr ax) (inl xb) order rest =
+    go (inr ax) (inl xb) order remainder =
         ap (with_number a) (with_greater b x xs xb) ∙ with_least a x (with_number b xs) ax
         ∙ sym (ap (with_number b) (with_least a x xs ax) ∙ with_greater b a (x ∷ xs) (omega arith) ∙ ap (λ (ys : List ℕ). a ∷ ys) (with_greater b x xs xb))
-    go (inr ax) (inr bx) (inl same) rest = λ i. with_number (same i) (with_number (sym same i) (x ∷ xs))
-    go (inr ax) (inr bx) (inr (inl less)) rest =
+    go (inr ax) (inr bx) (inl same) remainder = λ i. with_number (same i) (with_number (sym same i) (x ∷ xs))
+    go (inr ax) (inr bx) (inr (inl less)) remainder =
         ap (with_number a) (with_least b x xs bx) ∙ with_least a b (x ∷ xs) (omega arith)
         ∙ sym (ap (with_number b) (with_least a x xs ax) ∙ with_greater b a (x ∷ xs) less ∙ ap (λ (ys : List ℕ). a ∷ ys) (with_least b x xs bx))
-    go (inr ax) (inr bx) (inr (inr more)) rest =
+    go (inr ax) (inr bx) (inr (inr more)) remainder =
         ap (with_number a) (with_least b x xs bx) ∙ with_greater a b (x ∷ xs) more ∙ ap (λ (ys : List ℕ). b ∷ ys) (with_least a x xs ax)
         ∙ sym (ap (with_number b) (with_least a x xs ax) ∙ with_least b a (x ∷ xs) (omega arith))
 

@@ -59,14 +59,14 @@ pair_written {X} (e ∷ scores) (suc i) w code low hit before q =
         → lookup (pointwise nat_eq q) (set_value_at scores i w) ≡ cond (pointwise nat_eq code q) (Some w) (lookup (pointwise nat_eq q) scores)
         → cond (pointwise nat_eq q e.0) (Some e.1) (lookup (pointwise nat_eq q) (set_value_at scores i w))
         ≡ cond (pointwise nat_eq code q) (Some w) (cond (pointwise nat_eq q e.0) (Some e.1) (lookup (pointwise nat_eq q) scores))
-    go (inl same) rest =
+    go (inl same) remainder =
         let first : pointwise nat_eq code e.0 ≡ false = before 0 (omega arith) in
         let apart : pointwise nat_eq code q ≡ false = subst (λ (k : List ℕ). pointwise nat_eq code k ≡ false) (sym (code_same q e.0 same)) first in
         ap (λ (b : Bool). cond b (Some e.1) (lookup (pointwise nat_eq q) (set_value_at scores i w))) same
         ∙ sym (ap (λ (b : Bool). cond b (Some w) (cond (pointwise nat_eq q e.0) (Some e.1) (lookup (pointwise nat_eq q) scores))) apart
         ∙ ap (λ (b : Bool). cond b (Some e.1) (lookup (pointwise nat_eq q) scores)) same)
-    go (inr other) rest =
-        ap (λ (b : Bool). cond b (Some e.1) (lookup (pointwise nat_eq q) (set_value_at scores i w))) other ∙ rest
+    go (inr other) remainder =
+        ap (λ (b : Bool). cond b (Some e.1) (lookup (pointwise nat_eq q) (set_value_at scores i w))) other ∙ remainder
         ∙ ap (λ (o : Option X). cond (pointwise nat_eq code q) (Some w) o) (sym (ap (λ (b : Bool). cond b (Some e.1) (lookup (pointwise nat_eq q) scores)) other))
 
 -- ---- scores with nothing in them
@@ -87,8 +87,8 @@ blank_score (score ∷ more) code blank =
   where
     go : (b : Bool) → score.1 ≡ no_score → score_in more code ≡ no_score
         → unwrap_or (cond b (Some score.1) (lookup (pointwise nat_eq code) more)) no_score ≡ no_score
-    go true first rest = first
-    go false first rest = rest
+    go true first remainder = first
+    go false first remainder = remainder
 
 -- scores that come with nothing in them change no score
 pub score-Extends : (old new : List (List ℕ × Score)) → Extends old new → (code : List ℕ) → score_in new code ≡ score_in old code

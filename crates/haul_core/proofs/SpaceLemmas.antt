@@ -30,7 +30,7 @@ lacks-cons byte b x n p = or_from _ _ (ne_eqb b byte n) p
 -- nothing, or a text that the byte begins
 abbrev pub Stops : ℕ → List ℕ → Type 0
 Stops byte [] = Unit {0}
-Stops byte (c ∷ rest) = byte ≡ c
+Stops byte (c ∷ remainder) = byte ≡ c
 
 -- what lies before the first such byte is one text
 pub cut_ends : (byte : ℕ) (x y r s : List ℕ) → Lacks byte x → Lacks byte y → Stops byte r → Stops byte s → x ++ r ≡ y ++ s → (x ≡ y) × (r ≡ s)
@@ -45,16 +45,16 @@ cut_ends byte (a ∷ x) [] r (c ∷ s) p q h k e =
     absurd (other (cc))
 cut_ends byte (a ∷ x) (b ∷ y) r s p q h k e =
     let same : a ≡ b = cc in
-    let rest : x ++ r ≡ y ++ s = cc in
-    let more = cut_ends byte x y r s (or_parts _ _ p).1 (or_parts _ _ q).1 h k rest in
+    let remainder : x ++ r ≡ y ++ s = cc in
+    let more = cut_ends byte x y r s (or_parts _ _ p).1 (or_parts _ _ q).1 h k remainder in
     (λ i. same i ∷ more.0 i, more.1)
 
 -- the same where the byte is there in both
 pub cut_once : (byte : ℕ) (x y r s : List ℕ) → Lacks byte x → Lacks byte y → x ++ byte ∷ r ≡ y ++ byte ∷ s → (x ≡ y) × (r ≡ s)
 cut_once byte x y r s p q e =
     let c = cut_ends byte x y (byte ∷ r) (byte ∷ s) p q refl refl e in
-    let rest : r ≡ s = (let t = c.1 in cc) in
-    (c.0, rest)
+    let remainder : r ≡ s = (let t = c.1 in cc) in
+    (c.0, remainder)
 
 digits_lack : (byte : ℕ) (ds : List ℕ) → is_ascii_digit byte ≡ false → all_ascii_digits ds ≡ true → Lacks byte ds
 digits_lack byte [] other h = refl
@@ -64,7 +64,7 @@ digits_lack byte (d ∷ ds) other h =
 
 -- no decimal has a byte that isn't a digit
 pub decimal_lacks : (byte n : ℕ) → is_ascii_digit byte ≡ false → n < 2 ^ 64 → Lacks byte (decimal n)
-decimal_lacks byte n other word = digits_lack byte (decimal n) other (IsDecimal-decimal n word).digits
+decimal_lacks byte n other fits = digits_lack byte (decimal n) other (IsDecimal-decimal n fits).digits
 
 answers_lack : (byte n : ℕ) (answers : List Bool) → 48 + n + length answers ≤ byte → Lacks byte (digits n answers)
 unfolding digits
@@ -113,9 +113,9 @@ code_lacks_space bytes h = code_lacks_byte 32 bytes refl h
 
 -- ---- fields
 
-then_number : (n : ℕ) (rest : List ℕ) → n < 2 ^ 64 → Lacks 32 rest → Lacks 32 (decimal n ++ 44 ∷ rest)
-then_number n rest word h =
-    lacks-append 32 (decimal n) (44 ∷ rest) (decimal_lacks 32 n refl word) (lacks-cons 32 44 rest (λ e. absurd (omega arith)) h)
+then_number : (n : ℕ) (remainder : List ℕ) → n < 2 ^ 64 → Lacks 32 remainder → Lacks 32 (decimal n ++ 44 ∷ remainder)
+then_number n remainder fits h =
+    lacks-append 32 (decimal n) (44 ∷ remainder) (decimal_lacks 32 n refl fits) (lacks-cons 32 44 remainder (λ e. absurd (omega arith)) h)
 
 profile_lacks : (p : Settling) → IsProfile p → Lacks 32 (profile_field p)
 unfolding profile_field
@@ -143,7 +143,7 @@ spaceless-front (f ∷ fs) gs h = (h.0, spaceless-front fs gs h.1)
 counts_lack : (counts : List (List ℕ × ℕ)) → AllByRecursion IsCount counts → AreSpaceless (map count_field counts)
 counts_lack [] h = tt
 counts_lack (o ∷ counts) h =
-    let word = h.0.word in (
+    let fits = h.0.fits in (
       lacks-append 32 o.0 (42 ∷ decimal o.1) (code_lacks_space o.0 h.0.code.bytes)
           (lacks-cons 32 42 (decimal o.1) (λ e. absurd (omega arith)) (decimal_lacks 32 o.1 refl (omega arith))),
       counts_lack counts h.1,
@@ -237,21 +237,21 @@ followed-cons b before x =
     append_assoc (b ++ 32 ∷ []) (followed before) x ∙ append_assoc b (32 ∷ []) (followed before ++ x)
 
 -- a line that begins with fields and then has this one has them in its list
-pub fields_begin : (before : List (List ℕ)) (g : List ℕ) (gs : List (List ℕ)) (field rest : List ℕ) → AreSpaceless (g ∷ gs) → AreSpaceless before
+pub fields_begin : (before : List (List ℕ)) (g : List ℕ) (gs : List (List ℕ)) (field remainder : List ℕ) → AreSpaceless (g ∷ gs) → AreSpaceless before
     → Lacks 32 field
-    → Stops 32 rest → lined (g ∷ gs) ≡ followed before ++ (field ++ rest) → (more : List (List ℕ)) × (g ∷ gs ≡ before ++ field ∷ more)
-fields_begin [] g gs field rest h k p q e =
-    let c = cut_ends 32 g field (flat_map spaced gs) rest h.0 p (spaced-stops gs) q e in
+    → Stops 32 remainder → lined (g ∷ gs) ≡ followed before ++ (field ++ remainder) → (more : List (List ℕ)) × (g ∷ gs ≡ before ++ field ∷ more)
+fields_begin [] g gs field remainder h k p q e =
+    let c = cut_ends 32 g field (flat_map spaced gs) remainder h.0 p (spaced-stops gs) q e in
     (gs, λ i. c.0 i ∷ gs)
-fields_begin (b ∷ before) g [] field rest h k p q e =
-    let c = cut_ends 32 g b [] (32 ∷ (followed before ++ (field ++ rest))) h.0 k.0 tt refl
-    (e ∙ followed-cons b before (field ++ rest)) in
+fields_begin (b ∷ before) g [] field remainder h k p q e =
+    let c = cut_ends 32 g b [] (32 ∷ (followed before ++ (field ++ remainder))) h.0 k.0 tt refl
+    (e ∙ followed-cons b before (field ++ remainder)) in
     absurd (let t = c.1 in cc)
-fields_begin (b ∷ before) g (g' ∷ gs) field rest h k p q e =
-    let c = cut_ends 32 g b (flat_map spaced (g' ∷ gs)) (32 ∷ (followed before ++ (field ++ rest))) h.0 k.0 refl refl
-    (e ∙ followed-cons b before (field ++ rest)) in
-    let u : lined (g' ∷ gs) ≡ followed before ++ (field ++ rest) = (let t = c.1 in cc) in
-    let m = fields_begin before g' gs field rest h.1 k.1 p q u in
+fields_begin (b ∷ before) g (g' ∷ gs) field remainder h k p q e =
+    let c = cut_ends 32 g b (flat_map spaced (g' ∷ gs)) (32 ∷ (followed before ++ (field ++ remainder))) h.0 k.0 refl refl
+    (e ∙ followed-cons b before (field ++ remainder)) in
+    let u : lined (g' ∷ gs) ≡ followed before ++ (field ++ remainder) = (let t = c.1 in cc) in
+    let m = fields_begin before g' gs field remainder h.1 k.1 p q u in
     (m.0, λ i. c.0 i ∷ m.1 i)
 
 pub claim_line-lined : (claim : Claimed) → claim_line claim ≡ lined (fields_of claim)
@@ -262,19 +262,19 @@ pub line_of-lined : (f : List ℕ) (fs : List (List ℕ)) → line_of f fs ≡ l
 unfolding line_of
 line_of-lined f fs = refl
 
-pub stops_after : (rest : List ℕ) → (rest ≡ []) ⊎ has_byte 32 rest → Stops 32 rest
+pub stops_after : (remainder : List ℕ) → (remainder ≡ []) ⊎ has_byte 32 remainder → Stops 32 remainder
 stops_after [] h = tt
-stops_after (b ∷ rest) (inl e) = absurd (cc)
-stops_after (b ∷ rest) (inr e) = e
+stops_after (b ∷ remainder) (inl e) = absurd (cc)
+stops_after (b ∷ remainder) (inr e) = e
 
 pub begin_spaceless : (before : List (List ℕ)) → BeginClaim before → AreSpaceless before
 begin_spaceless before b = spaceless-front before b.more (subst AreSpaceless b.spelled (fields_lack b.claim b.lawful))
 
 no_bad_field : (line : List ℕ) (place : ℕ) → IsBadField line place → ¬ IsClaimLine line
 no_bad_field line place bad own =
-    let f = fields_begin bad.before (codes "report") (head_fields own.claim ++ found_fields own.claim.found) bad.field bad.rest
+    let f = fields_begin bad.before (codes "report") (head_fields own.claim ++ found_fields own.claim.found) bad.field bad.remainder
     (fields_lack own.claim own.lawful)
-    (begin_spaceless bad.before bad.begins) bad.whole.0 (stops_after bad.rest bad.whole.1) (sym (claim_line-lined own.claim) ∙ own.spelled ∙ bad.spelled) in
+    (begin_spaceless bad.before bad.begins) bad.whole.0 (stops_after bad.remainder bad.whole.1) (sym (claim_line-lined own.claim) ∙ own.spelled ∙ bad.spelled) in
     bad.there (record {
       claim = own.claim;
       lawful = own.lawful;

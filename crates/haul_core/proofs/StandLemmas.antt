@@ -17,13 +17,13 @@ use Rattle.ranges.specs.Ranges.{ShareNumber, is_in, is_in_range}
 use Rattle.haul_core.specs.Reports.{Reported}
 use Rattle.survey_core.proofs.JobLemmas.{jobs_decide}
 
-offered-offers : (xs : List Reported) (rest : List Arrival) → offered (map (λ r. Offer r) xs ++ rest) ≡ xs ++ offered rest
-offered-offers [] rest = refl
-offered-offers (x ∷ xs) rest = ap (λ (t : List Reported). x ∷ t) (offered-offers xs rest)
+offered-offers : (xs : List Reported) (remainder : List Arrival) → offered (map (λ r. Offer r) xs ++ remainder) ≡ xs ++ offered remainder
+offered-offers [] remainder = refl
+offered-offers (x ∷ xs) remainder = ap (λ (t : List Reported). x ∷ t) (offered-offers xs remainder)
 
-closing-offers : (xs : List Reported) (rest : List Arrival) → has_closing (map (λ r. Offer r) xs ++ rest) ≡ has_closing rest
-closing-offers [] rest = refl
-closing-offers (x ∷ xs) rest = closing-offers xs rest
+closing-offers : (xs : List Reported) (remainder : List Arrival) → has_closing (map (λ r. Offer r) xs ++ remainder) ≡ has_closing remainder
+closing-offers [] remainder = refl
+closing-offers (x ∷ xs) remainder = closing-offers xs remainder
 
 -- no two of the reports have one number
 abbrev Differ : List Reported → Type 0
@@ -35,8 +35,8 @@ differ-filter p [] h = tt
 differ-filter p (r ∷ rs) h = go (p r) (differ-filter p rs h.1)
   where
     go : (b : Bool) → Differ (filter p rs) → Differ (if b then r ∷ filter p rs else filter p rs)
-    go true rest = (All-filter p (λ s. has_number r.number s ≡ false) rs h.0, rest)
-    go false rest = rest
+    go true remainder = (All-filter p (λ s. has_number r.number s ≡ false) rs h.0, remainder)
+    go false remainder = remainder
 
 not_false : (b : Bool) → not b ≡ true → b ≡ false
 not_false true h = absurd (cc)

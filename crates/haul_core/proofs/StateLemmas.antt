@@ -27,8 +27,8 @@ same_version c d h k e = decimal_injective c.version d.version (version_small c 
 
 -- ---- the state
 
-follows_head : (line : List ℕ) (head : LineStart) (rest : Option (List ℕ)) → HasHead line 7 head rest → FollowsFields line (head_of (claimed head [])) rest
-follows_head line head rest h = subst (λ (fields : List (List ℕ)). FollowsFields line fields rest) (whole_head (claimed head [])) h.follows
+follows_head : (line : List ℕ) (head : LineStart) (remainder : Option (List ℕ)) → HasHead line 7 head remainder → FollowsFields line (head_of (claimed head [])) remainder
+follows_head line head remainder h = subst (λ (fields : List (List ℕ)). FollowsFields line fields remainder) (whole_head (claimed head [])) h.follows
 
 begin_state : (head : LineStart) → IsHead head → BeginClaim (head_of (claimed head []))
 begin_state head h = subst BeginClaim (whole_head (claimed head [])) (begin_head 7 (claimed head []) h.lawful)
@@ -39,17 +39,17 @@ state_more line head here field text more h c e =
     subst (λ (t : List ℕ). FollowsFields line (head_of (claimed head []) ++ t ∷ []) more) e
     (follows_more line (head_of (claimed head [])) here field more (follows_head line head (Some here) h) c)
 
-state_of : (version : ℕ) (found : Option SaidOfSoup) (field : List ℕ) (rest : List (List ℕ)) → IsFound version found → found_fields found ≡ field ∷ rest
+state_of : (version : ℕ) (found : Option SaidOfSoup) (field : List ℕ) (remainder : List (List ℕ)) → IsFound version found → found_fields found ≡ field ∷ remainder
     → (state : Option ℕ) × (IsState state × (field ≡ state_field state))
 unfolding found_fields
-state_of version None field rest h e = (None, (tt, cc))
-state_of version (Some told) field rest h e = (Some told.checkpoint, (h.checkpoint, cc))
+state_of version None field remainder h e = (None, (tt, cc))
+state_of version (Some told) field remainder h e = (Some told.checkpoint, (h.checkpoint, cc))
 
 pub state_bad : (line : List ℕ) (head : LineStart) (here field : List ℕ) (more : Option (List ℕ)) → HasHead line 7 head (Some here) → Cuts 32 here field more
     → ((state : Option ℕ) → IsState state → field ≢ state_field state) → IsFirstFaultOf line (length line - length here)
 state_bad line head here field more h c none =
-    bad_at line (head_of (claimed head [])) here field more (follows_head line head (Some here) h) c (begin_state head h.head) (λ claim lawful rest e.
-    let s = state_of claim.version claim.found field rest lawful.found (cut_head claim (claimed head []) (field ∷ rest) e).1 in
+    bad_at line (head_of (claimed head [])) here field more (follows_head line head (Some here) h) c (begin_state head h.head) (λ claim lawful remainder e.
+    let s = state_of claim.version claim.found field remainder lawful.found (cut_head claim (claimed head []) (field ∷ remainder) e).1 in
     none s.0 s.1.0 s.1.1)
 
 -- ---- a soup that didn't settle
@@ -73,10 +73,10 @@ unsettled_start line head h f = record {
 pub at_other : (checkpoint : ℕ) → codes "at=" ++ decimal checkpoint ≢ codes "unsettled"
 at_other checkpoint e = let h : (97 == 117) ≡ true = ap (λ (t : List ℕ). get_or t 0 0 == 117) e in absurd (cc)
 
-nothing_after : (found : Option SaidOfSoup) (field : List ℕ) (rest : List (List ℕ)) → found_fields found ≡ codes "unsettled" ∷ field ∷ rest → ⊥
+nothing_after : (found : Option SaidOfSoup) (field : List ℕ) (remainder : List (List ℕ)) → found_fields found ≡ codes "unsettled" ∷ field ∷ remainder → ⊥
 unfolding found_fields
-nothing_after None field rest e = absurd (cc)
-nothing_after (Some told) field rest e = at_other told.checkpoint (let h : codes "at=" ++ decimal told.checkpoint ≡ codes "unsettled" = cc in h)
+nothing_after None field remainder e = absurd (cc)
+nothing_after (Some told) field remainder e = at_other told.checkpoint (let h : codes "at=" ++ decimal told.checkpoint ≡ codes "unsettled" = cc in h)
 
 pub unsettled_over : (line : List ℕ) (head : LineStart) (there : List ℕ) → IsHead head
     → FollowsFields line (head_of (claimed head []) ++ codes "unsettled" ∷ []) (Some there)
@@ -89,9 +89,9 @@ unsettled_over line head there h f =
       more = [];
       spelled = unsettled_fields head h ∙ sym (append-nil (head_of own ++ codes "unsettled" ∷ []));
     } in
-    over_at line (head_of own ++ codes "unsettled" ∷ []) there f begin (λ claim lawful field rest e.
-    nothing_after claim.found field rest
-    (cut_head claim own (codes "unsettled" ∷ field ∷ rest) (e ∙ append_assoc (head_of own) (codes "unsettled" ∷ []) (field ∷ rest))).1)
+    over_at line (head_of own ++ codes "unsettled" ∷ []) there f begin (λ claim lawful field remainder e.
+    nothing_after claim.found field remainder
+    (cut_head claim own (codes "unsettled" ∷ field ∷ remainder) (e ∙ append_assoc (head_of own) (codes "unsettled" ∷ []) (field ∷ remainder))).1)
 
 -- ---- a soup that settled
 
@@ -121,21 +121,21 @@ unfolding head_fields found_fields
 settled_start_fields head checkpoint for_good =
     ap (λ (t : List (List ℕ)). head_of (claimed head []) ++ at_field checkpoint ∷ t) (append-nil (mark_fields for_good))
 
-is_settled : (line : List ℕ) (head : LineStart) (checkpoint : ℕ) (for_good : Option Bool) (rest : Option (List ℕ)) → IsHead head → checkpoint ≤ 100000
-    → IsMark head.version for_good → FollowsFields line (head_of (claimed head []) ++ at_field checkpoint ∷ mark_fields for_good) rest
-    → HasReadStart line (settled_start head checkpoint for_good) rest
-is_settled line head checkpoint for_good rest h most mark f = record {
+is_settled : (line : List ℕ) (head : LineStart) (checkpoint : ℕ) (for_good : Option Bool) (remainder : Option (List ℕ)) → IsHead head → checkpoint ≤ 100000
+    → IsMark head.version for_good → FollowsFields line (head_of (claimed head []) ++ at_field checkpoint ∷ mark_fields for_good) remainder
+    → HasReadStart line (settled_start head checkpoint for_good) remainder
+is_settled line head checkpoint for_good remainder h most mark f = record {
   lawful = settled_start_lawful head checkpoint for_good h most mark;
-  follows = subst (λ (fields : List (List ℕ)). FollowsFields line fields rest) (sym (settled_start_fields head checkpoint for_good)) f;
+  follows = subst (λ (fields : List (List ℕ)). FollowsFields line fields remainder) (sym (settled_start_fields head checkpoint for_good)) f;
   settled = λ here e g. absurd (cc);
 }
 
 -- version 1 has no mark
-pub settled_first : (line : List ℕ) (head start : LineStart) (checkpoint : ℕ) (rest : Option (List ℕ)) → IsHead head → checkpoint ≤ 100000 → head.version ≡ 1
-    → FollowsFields line (head_of (claimed head []) ++ at_field checkpoint ∷ []) rest → start ≡ settled_start head checkpoint None → HasReadStart line start rest
+pub settled_first : (line : List ℕ) (head start : LineStart) (checkpoint : ℕ) (remainder : Option (List ℕ)) → IsHead head → checkpoint ≤ 100000 → head.version ≡ 1
+    → FollowsFields line (head_of (claimed head []) ++ at_field checkpoint ∷ []) remainder → start ≡ settled_start head checkpoint None → HasReadStart line start remainder
 unfolding mark_fields
-settled_first line head start checkpoint rest h most one f e =
-    subst (λ (r : LineStart). HasReadStart line r rest) (sym e) (is_settled line head checkpoint None rest h most one f)
+settled_first line head start checkpoint remainder h most one f e =
+    subst (λ (r : LineStart). HasReadStart line r remainder) (sym e) (is_settled line head checkpoint None remainder h most one f)
 
 pub is_second : (head : LineStart) → IsHead head → head.version ≢ 1 → head.version ≡ 2
 is_second head h n = go h.lawful.version
@@ -169,14 +169,14 @@ begin_mark head checkpoint h most two = record {
 }
 
 -- a mark stands after the checkpoint in version 2
-marked : (version : ℕ) (found : Option SaidOfSoup) (checkpoint : ℕ) (rest : List (List ℕ)) → version ≡ 2 → IsFound version found
-    → found_fields found ≡ at_field checkpoint ∷ rest → (for_good : Bool) × ((more : List (List ℕ)) × (rest ≡ mark_field for_good ∷ more))
+marked : (version : ℕ) (found : Option SaidOfSoup) (checkpoint : ℕ) (remainder : List (List ℕ)) → version ≡ 2 → IsFound version found
+    → found_fields found ≡ at_field checkpoint ∷ remainder → (for_good : Bool) × ((more : List (List ℕ)) × (remainder ≡ mark_field for_good ∷ more))
 unfolding found_fields mark_fields
-marked version None checkpoint rest two h e = absurd (at_other checkpoint (let h : codes "at=" ++ decimal checkpoint ≡ codes "unsettled" = cc in h))
-marked version (Some told) checkpoint rest two h e = go told.for_good h.mark (let t : mark_fields told.for_good ++ map count_field told.counts ≡ rest = cc in t)
+marked version None checkpoint remainder two h e = absurd (at_other checkpoint (let h : codes "at=" ++ decimal checkpoint ≡ codes "unsettled" = cc in h))
+marked version (Some told) checkpoint remainder two h e = go told.for_good h.mark (let t : mark_fields told.for_good ++ map count_field told.counts ≡ remainder = cc in t)
   where
-    go : (for_good : Option Bool) → IsMark version for_good → mark_fields for_good ++ map count_field told.counts ≡ rest
-        → (for_good : Bool) × ((more : List (List ℕ)) × (rest ≡ mark_field for_good ∷ more))
+    go : (for_good : Option Bool) → IsMark version for_good → mark_fields for_good ++ map count_field told.counts ≡ remainder
+        → (for_good : Bool) × ((more : List (List ℕ)) × (remainder ≡ mark_field for_good ∷ more))
     go None one t = absurd (omega arith)
     go (Some for_good) two t = (for_good, (map count_field told.counts, sym t))
 
@@ -197,7 +197,7 @@ pub mark_bad : (line : List ℕ) (head : LineStart) (checkpoint : ℕ) (here fie
 mark_bad line head checkpoint here field more h most n f c none =
     let own = claimed head [] in
     let two = is_second head h n in
-    bad_at line (head_of own ++ at_field checkpoint ∷ []) here field more f c (begin_mark head checkpoint h most two) (λ claim lawful rest g.
-    let k = cut_head claim own (at_field checkpoint ∷ field ∷ rest) (g ∙ append_assoc (head_of own) (at_field checkpoint ∷ []) (field ∷ rest)) in
-    let m = marked claim.version claim.found checkpoint (field ∷ rest) (same_version claim own lawful h.lawful k.0 ∙ two) lawful.found k.1 in
+    bad_at line (head_of own ++ at_field checkpoint ∷ []) here field more f c (begin_mark head checkpoint h most two) (λ claim lawful remainder g.
+    let k = cut_head claim own (at_field checkpoint ∷ field ∷ remainder) (g ∙ append_assoc (head_of own) (at_field checkpoint ∷ []) (field ∷ remainder)) in
+    let m = marked claim.version claim.found checkpoint (field ∷ remainder) (same_version claim own lawful h.lawful k.0 ∙ two) lawful.found k.1 in
     none m.0 tt (let t = m.1.1 in cc))

@@ -85,13 +85,13 @@ weighed k n (c ∷ cs) distinct = go (cases_Bool (is_code c k)) (weighed k n cs 
   where
     go : (is_code c k ≡ true) ⊎ (is_code c k ≡ false) → sum_by (λ code. cond (is_code code k) n 0) cs ≤ n
         → sum_by (λ code. cond (is_code code k) n 0) (c ∷ cs) ≤ n
-    go (inl same) rest =
+    go (inl same) remainder =
         let none : sum_by (λ code. cond (is_code code k) n 0) cs ≡ 0 =
         unweighed c k n cs same (IsDistinct-head (eq_by_cmp (slice_cmp nat_cmp)) c cs distinct) in
         let whole : sum_by (λ code. cond (is_code code k) n 0) (c ∷ cs) ≡ n + sum_by (λ code. cond (is_code code k) n 0) cs =
         sum_by-cons (λ code. cond (is_code code k) n 0) c cs ∙ ap (λ (b : Bool). cond b n 0 + sum_by (λ code. cond (is_code code k) n 0) cs) same in
         omega arith
-    go (inr other) rest =
+    go (inr other) remainder =
         let whole : sum_by (λ code. cond (is_code code k) n 0) (c ∷ cs) ≡ 0 + sum_by (λ code. cond (is_code code k) n 0) cs =
         sum_by-cons (λ code. cond (is_code code k) n 0) c cs ∙ ap (λ (b : Bool). cond b n 0 + sum_by (λ code. cond (is_code code k) n 0) cs) other in
         omega arith
@@ -112,7 +112,7 @@ counts_first o os (c ∷ cs) =
     sum_by-cons (λ code. cond (is_code code o.0) o.1 0) c cs in
     let d : sum_by (count_of os) (c ∷ cs) ≡ count_of os c + sum_by (count_of os) cs = sum_by-cons (count_of os) c cs in
     let first : count_of (o ∷ os) c ≤ cond (is_code c o.0) o.1 0 + count_of os c = count_first o os c in
-    let rest : sum_by (count_of (o ∷ os)) cs ≤ sum_by (λ code. cond (is_code code o.0) o.1 0) cs + sum_by (count_of os) cs = counts_first o os cs in
+    let remainder : sum_by (count_of (o ∷ os)) cs ≤ sum_by (λ code. cond (is_code code o.0) o.1 0) cs + sum_by (count_of os) cs = counts_first o os cs in
     omega arith
 
 counted_once : (codes : List (List ℕ)) (objects : List (List ℕ × ℕ)) → IsDistinct (eq_by_cmp (slice_cmp nat_cmp)) codes
@@ -138,7 +138,7 @@ totals_first s surveys (c ∷ cs) =
     sum_by-cons (λ code. count_in code s.finding) c cs in
     let d : sum_by (total surveys) (c ∷ cs) ≡ total surveys c + sum_by (total surveys) cs = sum_by-cons (total surveys) c cs in
     let first : total (s ∷ surveys) c ≡ count_in c s.finding + total surveys c = sum_by-cons (λ t. count_in c t.finding) s surveys in
-    let rest : sum_by (total (s ∷ surveys)) cs ≡ sum_by (λ code. count_in code s.finding) cs + sum_by (total surveys) cs = totals_first s surveys cs in
+    let remainder : sum_by (total (s ∷ surveys)) cs ≡ sum_by (λ code. count_in code s.finding) cs + sum_by (total surveys) cs = totals_first s surveys cs in
     omega arith
 
 totals_counted : (codes : List (List ℕ)) (surveys : List Survey) → IsDistinct (eq_by_cmp (slice_cmp nat_cmp)) codes

@@ -18,24 +18,24 @@ pub text_more : {A : Type 0} (text : A → List ℕ) (xs : List A) (i : ℕ) (x 
     → whole ≡ front ++ flat_map text (drop i xs) → whole ≡ (front ++ text x) ++ flat_map text (drop (i + 1) xs)
 text_more text xs i x whole front more here is =
     let next = drop_more xs i x more ∙ ap (λ y. y ∷ drop (i + 1) xs) (sym here) in
-    is ∙ ap (λ rest. front ++ flat_map text rest) next ∙ sym (append_assoc front (text x) (flat_map text (drop (i + 1) xs)))
+    is ∙ ap (λ remainder. front ++ flat_map text remainder) next ∙ sym (append_assoc front (text x) (flat_map text (drop (i + 1) xs)))
 
 -- the same with the item at its place
 pub text_more_at : {A : Type 0} (text : A → List ℕ) (xs : List A) (i : ℕ) (d : A) (whole front : List ℕ) → i < length xs
     → whole ≡ front ++ flat_map text (drop i xs) → whole ≡ (front ++ text (get_or xs i d)) ++ flat_map text (drop (i + 1) xs)
 text_more_at text xs i d whole front more is =
-    is ∙ ap (λ rest. front ++ flat_map text rest) (drop_more xs i d more) ∙ sym (append_assoc front (text (get_or xs i d)) (flat_map text (drop (i + 1) xs)))
+    is ∙ ap (λ remainder. front ++ flat_map text remainder) (drop_more xs i d more) ∙ sym (append_assoc front (text (get_or xs i d)) (flat_map text (drop (i + 1) xs)))
 
 -- where none is left, all is written
 pub text_done : {A : Type 0} (text : A → List ℕ) (xs : List A) (i : ℕ) (whole front : List ℕ) → length xs ≤ i
     → whole ≡ front ++ flat_map text (drop i xs) → front ≡ whole
-text_done text xs i whole front past is = sym (is ∙ ap (λ rest. front ++ flat_map text rest) (drop_all i xs past) ∙ append-nil front)
+text_done text xs i whole front past is = sym (is ∙ ap (λ remainder. front ++ flat_map text remainder) (drop_all i xs past) ∙ append-nil front)
 
--- a word and numbers, ended
-pub line_spelled : {A : Type 0} (text : A → List ℕ) (word : List ℕ) (numbers : List A)
-    → (word ++ flat_map (λ n. spaced (text n)) numbers) ++ codes "\n" ≡ ended (line_of word (map text numbers))
+-- a name and numbers, ended
+pub line_spelled : {A : Type 0} (text : A → List ℕ) (name : List ℕ) (numbers : List A)
+    → (name ++ flat_map (λ n. spaced (text n)) numbers) ++ codes "\n" ≡ ended (line_of name (map text numbers))
 unfolding line_of
-line_spelled text word numbers = ap (λ rest. (word ++ rest) ++ codes "\n") (sym (flat_map-map spaced text numbers))
+line_spelled text name numbers = ap (λ remainder. (name ++ remainder) ++ codes "\n") (sym (flat_map-map spaced text numbers))
 
 -- ---- the head
 
@@ -49,13 +49,13 @@ after_seed job = codes "\n@RULE " ++ (rule_text job.rule ++ after_rule job)
 pub head_spelled : (job : Job) → codes "@VERSION 2\n@ROOT seed=" ++ (job.seed ++ after_seed job) ≡ text_of (head_lines job)
 unfolding text_of head_lines
 head_spelled job =
-    let rest : List ℕ = codes "@SYMMETRY C1\n" ++ (ended (profile_line job.profile) ++ []) in
+    let remainder : List ℕ = codes "@SYMMETRY C1\n" ++ (ended (profile_line job.profile) ++ []) in
     ap (λ (last : List ℕ). codes "@VERSION 2\n@ROOT seed=" ++ (job.seed ++ (codes "\n@RULE " ++ (rule_text job.rule ++ (codes "\n@SYMMETRY C1\n" ++ last)))))
     (sym (append-nil (ended (profile_line job.profile))))
     ∙ ap (λ (more : List ℕ). codes "@VERSION 2\n@ROOT seed=" ++ (job.seed ++ (codes "\n@RULE " ++ more)))
-    (sym (append_assoc (rule_text job.rule) (codes "\n") rest))
+    (sym (append_assoc (rule_text job.rule) (codes "\n") remainder))
     ∙ ap (λ (more : List ℕ). codes "@VERSION 2\n@ROOT seed=" ++ more)
-    (sym (append_assoc job.seed (codes "\n") (codes "@RULE " ++ ((rule_text job.rule ++ codes "\n") ++ rest))))
+    (sym (append_assoc job.seed (codes "\n") (codes "@RULE " ++ ((rule_text job.rule ++ codes "\n") ++ remainder))))
 
 -- ---- the ranges
 
@@ -73,7 +73,7 @@ some_spelled (range ∷ more) h = sym (flat_map-map ended range_line (range ∷ 
 -- ---- the sums
 
 abbrev pub sum_line : List ℕ → ℕ → List ℕ
-sum_line word n = ended (line_of_numbers word (n ∷ []))
+sum_line name n = ended (line_of_numbers name (n ∷ []))
 
 abbrev pub after_for_good : Census → List ℕ
 after_for_good census = sum_line (codes "@NUM_OBJECTS") census.objects
@@ -87,18 +87,18 @@ after_soups census = sum_line (codes "@NUM_UNSETTLED") census.unsettled ++ after
 pub sums_spelled : (census : Census) → sum_line (codes "@NUM_SOUPS") census.soups ++ after_soups census ≡ text_of (sum_lines census)
 unfolding text_of sum_lines
 sums_spelled census =
-    ap (λ (rest : List ℕ). sum_line (codes "@NUM_SOUPS") census.soups ++ (sum_line (codes "@NUM_UNSETTLED") census.unsettled
-    ++ (sum_line (codes "@NUM_FOR_GOOD") census.for_good ++ rest))) (sym (append-nil (sum_line (codes "@NUM_OBJECTS") census.objects)))
+    ap (λ (remainder : List ℕ). sum_line (codes "@NUM_SOUPS") census.soups ++ (sum_line (codes "@NUM_UNSETTLED") census.unsettled
+    ++ (sum_line (codes "@NUM_FOR_GOOD") census.for_good ++ remainder))) (sym (append-nil (sum_line (codes "@NUM_OBJECTS") census.objects)))
 
 -- ---- the tables
 
 pub totals_spelled : (rows : List Row) → codes "\n@CENSUS TABLE\n" ++ flat_map (λ row. ended (total_line row)) rows ≡ text_of (total_lines rows)
 unfolding text_of total_lines
-totals_spelled rows = ap (λ (rest : List ℕ). codes "\n@CENSUS TABLE\n" ++ rest) (sym (flat_map-map ended total_line rows))
+totals_spelled rows = ap (λ (remainder : List ℕ). codes "\n@CENSUS TABLE\n" ++ remainder) (sym (flat_map-map ended total_line rows))
 
 pub samples_spelled : (rows : List Row) → codes "\n@SAMPLE_SOUPIDS\n" ++ flat_map (λ row. ended (sample_line row)) rows ≡ text_of (sample_lines rows)
 unfolding text_of sample_lines
-samples_spelled rows = ap (λ (rest : List ℕ). codes "\n@SAMPLE_SOUPIDS\n" ++ rest) (sym (flat_map-map ended sample_line rows))
+samples_spelled rows = ap (λ (remainder : List ℕ). codes "\n@SAMPLE_SOUPIDS\n" ++ remainder) (sym (flat_map-map ended sample_line rows))
 
 -- ---- the whole text
 
@@ -121,6 +121,6 @@ haul_spelled census =
     let tables : List (List ℕ) = total_lines census.rows ++ sample_lines census.rows in
     let below : List (List ℕ) = sum_lines census ++ tables in
     sym (text_append (head_lines census.job) (range_lines census.ranges ++ below)
-    ∙ ap (λ (rest : List ℕ). text_of (head_lines census.job) ++ rest) (text_append (range_lines census.ranges) below
-    ∙ ap (λ (rest : List ℕ). text_of (range_lines census.ranges) ++ rest) (text_append (sum_lines census) tables
-    ∙ ap (λ (rest : List ℕ). text_of (sum_lines census) ++ rest) (text_append (total_lines census.rows) (sample_lines census.rows)))))
+    ∙ ap (λ (remainder : List ℕ). text_of (head_lines census.job) ++ remainder) (text_append (range_lines census.ranges) below
+    ∙ ap (λ (remainder : List ℕ). text_of (range_lines census.ranges) ++ remainder) (text_append (sum_lines census) tables
+    ∙ ap (λ (remainder : List ℕ). text_of (sum_lines census) ++ remainder) (text_append (total_lines census.rows) (sample_lines census.rows)))))

@@ -8,7 +8,7 @@ use Rattle.ranges.specs.Ranges.{is_in}
 -- some of the items, in their order
 abbrev pub IsSubsequence : {X : Type 0} → List X → List X → Type 0
 IsSubsequence part [] = part ≡ []
-IsSubsequence part (x ∷ xs) = IsSubsequence part xs ⊎ ((rest : _) × (part ≡ x ∷ rest) × IsSubsequence rest xs)
+IsSubsequence part (x ∷ xs) = IsSubsequence part xs ⊎ ((remainder : _) × (part ≡ x ∷ remainder) × IsSubsequence remainder xs)
 
 -- those of some workers and numbers that are this worker's
 abbrev pub of_worker : ℕ → List (ℕ × ℕ) → List (ℕ × ℕ)

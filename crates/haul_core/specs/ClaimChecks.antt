@@ -25,7 +25,7 @@ IsFoundFor claim finding = IsFinding claim.job.rule claim.job.profile (soup clai
 pub record IsConfirmed (claim : Claimed) (job : Job) (report : Reported) : Type 0 where
   pub same : same_job claim.job job ≡ true
   pub lawful : IsReport report
-  pub says : claim_of claim.version report ≡ claim
+  pub same_claim : claim_of claim.version report ≡ claim
 
 -- when each fault comes
 abbrev pub Fails : Claimed → Job → CheckError → Type 0

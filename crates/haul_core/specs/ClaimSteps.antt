@@ -34,7 +34,7 @@ IsLineOf (first ∷ more) line = line ≡ line_of first more
 -- the line is these fields, and then the rest after a space, if there is one
 abbrev pub FollowsFields : List ℕ → List (List ℕ) → Option (List ℕ) → Type 0
 FollowsFields line fields None = IsLineOf fields line
-FollowsFields line fields (Some rest) = line ≡ followed fields ++ rest
+FollowsFields line fields (Some remainder) = line ≡ followed fields ++ remainder
 
 -- the head with what the field at this place says: the fields before it stay
 pub record HasFilled (place : ℕ) (head more : LineStart) (field : List ℕ) : Type 0 where
@@ -53,15 +53,15 @@ pub record IsHead (head : LineStart) : Type 0 where
   pub none : head.settled ≡ None
 
 -- so many fields of the head have been read
-pub record HasHead (line : List ℕ) (place : ℕ) (start : LineStart) (rest : Option (List ℕ)) : Type 0 where
+pub record HasHead (line : List ℕ) (place : ℕ) (start : LineStart) (remainder : Option (List ℕ)) : Type 0 where
   pub head : IsHead start
-  pub follows : FollowsFields line (take place (head_of (claimed start []))) rest
+  pub follows : FollowsFields line (take place (head_of (claimed start []))) remainder
 
 -- all before the counts has been read; only a soup that settled has counts
-pub record HasReadStart (line : List ℕ) (start : LineStart) (rest : Option (List ℕ)) : Type 0 where
+pub record HasReadStart (line : List ℕ) (start : LineStart) (remainder : Option (List ℕ)) : Type 0 where
   pub lawful : IsClaim (claimed start [])
-  pub follows : FollowsFields line (fields_of (claimed start [])) rest
-  pub settled : (here : List ℕ) → rest ≡ Some here → start.settled ≢ None
+  pub follows : FollowsFields line (fields_of (claimed start [])) remainder
+  pub settled : (here : List ℕ) → remainder ≡ Some here → start.settled ≢ None
 
 -- the last code, if there is one
 abbrev pub last_code : List (List ℕ × ℕ) → Option (List ℕ)
@@ -79,8 +79,8 @@ abbrev pub MayFollow : Option (List ℕ) → (List ℕ × ℕ) → Type 0
 MayFollow last object = IsCount object × IsAfter last object.0
 
 -- these counts have been read, after all that stands before them
-pub record HasCounts (line : List ℕ) (start : LineStart) (counts : List (List ℕ × ℕ)) (last rest : Option (List ℕ)) : Type 0 where
+pub record HasCounts (line : List ℕ) (start : LineStart) (counts : List (List ℕ × ℕ)) (last remainder : Option (List ℕ)) : Type 0 where
   pub lawful : IsClaim (claimed start counts)
-  pub follows : FollowsFields line (fields_of (claimed start counts)) rest
-  pub settled : (here : List ℕ) → rest ≡ Some here → start.settled ≢ None
+  pub follows : FollowsFields line (fields_of (claimed start counts)) remainder
+  pub settled : (here : List ℕ) → remainder ≡ Some here → start.settled ≢ None
   pub latest : last ≡ last_code counts

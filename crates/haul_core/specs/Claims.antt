@@ -30,9 +30,9 @@ followed fields = flat_map (λ field. field ++ codes " ") fields
 pub record IsBadField (line : List ℕ) (place : ℕ) : Type 0 where
   pub before : List (List ℕ)
   pub field : List ℕ
-  pub rest : List ℕ
-  pub spelled : line ≡ followed before ++ (field ++ rest)
-  pub whole : Lacks 32 field × ((rest ≡ []) ⊎ has_byte 32 rest)
+  pub remainder : List ℕ
+  pub spelled : line ≡ followed before ++ (field ++ remainder)
+  pub whole : Lacks 32 field × ((remainder ≡ []) ⊎ has_byte 32 remainder)
   pub begins : BeginClaim before
   pub there : ¬ BeginClaim (before ++ field ∷ [])
   pub is : place ≡ length (followed before)

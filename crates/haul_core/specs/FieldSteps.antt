@@ -9,7 +9,7 @@ Lacks byte text = list_any (λ b. b == byte) text ≡ false
 -- a text up to the first such byte, and the text after the byte, if there is one
 abbrev pub Cuts : ℕ → List ℕ → List ℕ → Option (List ℕ) → Type 0
 Cuts byte text front None = (text ≡ front) × Lacks byte front
-Cuts byte text front (Some rest) = (text ≡ front ++ byte ∷ rest) × Lacks byte front
+Cuts byte text front (Some remainder) = (text ≡ front ++ byte ∷ remainder) × Lacks byte front
 
 -- what a field tells, of those things that may be told; if it tells nothing, it is the field of none of them
 abbrev pub Tells : {A : Type 0} → (A → Type 0) → (A → List ℕ) → List ℕ → Option A → Type 0
@@ -32,7 +32,7 @@ IsSmall n = n ≤ 100000
 
 -- a number with a `,` (44) after it begins the text; or no such number does
 abbrev pub BeginsNumber : List ℕ → Option (ℕ × List ℕ) → Type 0
-BeginsNumber text None = (n : ℕ) (rest : List ℕ) → IsSmall n → text ≢ decimal n ++ 44 ∷ rest
+BeginsNumber text None = (n : ℕ) (remainder : List ℕ) → IsSmall n → text ≢ decimal n ++ 44 ∷ remainder
 BeginsNumber text (Some first) = IsSmall first.0 × (text ≡ decimal first.0 ++ 44 ∷ first.1)
 
 -- the four numbers of a profile, with a `,` between each two

@@ -7,17 +7,17 @@ use Rattle.haul_core.specs.declared.book.census.Census.{Census}
 use Rattle.ranges.specs.declared.range.Range.{Range}
 use Rattle.haul_core.specs.declared.book.census_rows.Row.{Row}
 
--- a word with a space before it
+-- a text with a space before it
 abbrev pub spaced : List ℕ → List ℕ
-spaced word = codes " " ++ word
+spaced text = codes " " ++ text
 
--- a line of words, with a space before each but the first
+-- a line of texts, with a space before each but the first
 unfoldable pub line_of : List ℕ → List (List ℕ) → List ℕ
 line_of first more = first ++ flat_map spaced more
 
--- a line of a word and numbers in decimal
+-- a line of a name and numbers in decimal
 abbrev pub line_of_numbers : List ℕ → List ℕ → List ℕ
-line_of_numbers word numbers = line_of word (map decimal numbers)
+line_of_numbers name numbers = line_of name (map decimal numbers)
 
 -- the four numbers of a profile
 abbrev pub profile_line : Settling → List ℕ

@@ -42,7 +42,7 @@ IsTakenNext terms before (Closing ∷ more) = ⊥
 -- memory ran out before any arrival came, or for an offer that the book takes: the arrivals before it have come, and no other
 pub record StandsForFront (before arrivals : List Arrival) (held : Held) : Type 0 where
   pub front : List Arrival
-  pub rest : List Arrival
-  pub cut : arrivals ≡ front ++ rest
+  pub remainder : List Arrival
+  pub cut : arrivals ≡ front ++ remainder
   pub stands : StandsFor (before ++ front) held
-  pub stopped : (front ≡ []) ⊎ IsTakenNext held.terms (before ++ front) rest
+  pub stopped : (front ≡ []) ⊎ IsTakenNext held.terms (before ++ front) remainder

@@ -34,7 +34,7 @@ pub record Claimed : Type 0 where
 pub record IsCount (object : List ℕ × ℕ) : Type 0 where
   pub code : HasCodeShape object.0
   pub some : 1 ≤ object.1
-  pub word : object.1 < 2 ^ 64
+  pub fits : object.1 < 2 ^ 64
 
 -- the mark is told in version 2, and not in version 1
 abbrev pub IsMark : ℕ → Option Bool → Type 0

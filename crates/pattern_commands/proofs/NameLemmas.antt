@@ -58,4 +58,4 @@ pub lines_more : {A : Type 0} (line : A → List ℕ) (xs : List A) (i : ℕ) (x
     → text ≡ front ++ flat_map line (drop i xs) → text ≡ (front ++ line x) ++ flat_map line (drop (i + 1) xs)
 lines_more line xs i x text front more here is =
     let next = drop_more xs i x more ∙ ap (λ y. y ∷ drop (i + 1) xs) (sym here) in
-    is ∙ ap (λ rest. front ++ flat_map line rest) next ∙ sym (append_assoc front (line x) (flat_map line (drop (i + 1) xs)))
+    is ∙ ap (λ remainder. front ++ flat_map line remainder) next ∙ sym (append_assoc front (line x) (flat_map line (drop (i + 1) xs)))

@@ -15,37 +15,37 @@ use Rattle.pattern_commands.specs.Streams.{Stream, Has}
 use Rattle.pattern_commands.specs.TextSteps.{ReachesText}
 
 -- a pattern that was read is the answer
-pub show_answer-pattern : (word text : List ℕ) (cells : List Cell) → text_in word ≡ Ok text → wechsler_read text ≡ Ok cells
-    → show_answer word ≡ Ok (plain cells)
-show_answer-pattern word text cells is read = rw (is, read) refl
+pub show_answer-pattern : (code text : List ℕ) (cells : List Cell) → text_in code ≡ Ok text → wechsler_read text ≡ Ok cells
+    → show_answer code ≡ Ok (plain cells)
+show_answer-pattern code text cells is read = rw (is, read) refl
 
-show_answer-fault : (word text : List ℕ) (fault : WechslerFault) → text_in word ≡ Ok text → wechsler_read text ≡ Err fault
-    → show_answer word ≡ Err (wechsler_complaint fault)
-show_answer-fault word text fault is read = rw (is, read) refl
+show_answer-fault : (code text : List ℕ) (fault : WechslerFault) → text_in code ≡ Ok text → wechsler_read text ≡ Err fault
+    → show_answer code ≡ Err (wechsler_complaint fault)
+show_answer-fault code text fault is read = rw (is, read) refl
 
 -- memory ran out over a text without a fault
-show_answer-faultless : (word text : List ℕ) → text_in word ≡ Ok text
-    → ((fault : WechslerFault) → IsErrOf {T = List Cell} (Err Memory) (Fault fault) ↔ (wechsler_read text ≡ Err fault)) → IsOk (show_answer word)
-show_answer-faultless word text is faults = go (wechsler_read text) refl
+show_answer-faultless : (code text : List ℕ) → text_in code ≡ Ok text
+    → ((fault : WechslerFault) → IsErrOf {T = List Cell} (Err Memory) (Fault fault) ↔ (wechsler_read text ≡ Err fault)) → IsOk (show_answer code)
+show_answer-faultless code text is faults = go (wechsler_read text) refl
   where
-    go : (read : Result (List Cell) WechslerFault) → wechsler_read text ≡ read → IsOk (show_answer word)
+    go : (read : Result (List Cell) WechslerFault) → wechsler_read text ≡ read → IsOk (show_answer code)
     go (Ok cells) e = rw (is, e) refl
     go (Err fault) e = let bad = (faults fault).1 e in cc
 
-faultless_refused : (word : List ℕ) (complaint : Complaint) → IsOk (show_answer word) → show_answer word ≡ Err complaint → ⊥
-faultless_refused word complaint ok refused = let bad : IsOk {T = List ℕ} (Err complaint) = rw refused at ok in cc
+faultless_refused : (code : List ℕ) (complaint : Complaint) → IsOk (show_answer code) → show_answer code ≡ Err complaint → ⊥
+faultless_refused code complaint ok refused = let bad : IsOk {T = List ℕ} (Err complaint) = rw refused at ok in cc
 
 -- a text that was refused is the answer, with nothing on the output
-pub Reaches_text : (word text : List ℕ) (error : WechslerError) (output : Stream) → text_in word ≡ Ok text
+pub Reaches_text : (code text : List ℕ) (error : WechslerError) (output : Stream) → text_in code ≡ Ok text
     → ((fault : WechslerFault) → IsErrOf {T = List Cell} (Err error) (Fault fault) ↔ (wechsler_read text ≡ Err fault)) → Has output []
-    → ReachesText false true (only (show_answer word)) (Err (reader_complaint error)) output
-Reaches_text word text (Fault TooLong) output is faults nothing = (show_answer-fault word text TooLong is ((faults TooLong).0 refl), nothing)
-Reaches_text word text (Fault (BadByte place)) output is faults nothing =
-    (show_answer-fault word text (BadByte place) is ((faults (BadByte place)).0 refl), nothing)
-Reaches_text word text (Fault (ShortRun place)) output is faults nothing =
-    (show_answer-fault word text (ShortRun place) is ((faults (ShortRun place)).0 refl), nothing)
-Reaches_text word text (Fault Empty) output is faults nothing = (show_answer-fault word text Empty is ((faults Empty).0 refl), nothing)
-Reaches_text word text Memory output is faults nothing = (
-  λ unread complaint refused. absurd (faultless_refused word complaint (show_answer-faultless word text is faults) refused),
+    → ReachesText false true (only (show_answer code)) (Err (reader_complaint error)) output
+Reaches_text code text (Fault TooLong) output is faults nothing = (show_answer-fault code text TooLong is ((faults TooLong).0 refl), nothing)
+Reaches_text code text (Fault (BadByte place)) output is faults nothing =
+    (show_answer-fault code text (BadByte place) is ((faults (BadByte place)).0 refl), nothing)
+Reaches_text code text (Fault (ShortRun place)) output is faults nothing =
+    (show_answer-fault code text (ShortRun place) is ((faults (ShortRun place)).0 refl), nothing)
+Reaches_text code text (Fault Empty) output is faults nothing = (show_answer-fault code text Empty is ((faults Empty).0 refl), nothing)
+Reaches_text code text Memory output is faults nothing = (
+  λ unread complaint refused. absurd (faultless_refused code complaint (show_answer-faultless code text is faults) refused),
   nothing,
 )

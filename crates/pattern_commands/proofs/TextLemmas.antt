@@ -1,16 +1,16 @@
 -- How commands that give a text alone end.
-use Rattle.std.proofs.Common.{◌≡◌, ℕ, Bool, true, false, inl, List, [], Option, Result, Ok, Err, refl}
+use Rattle.std.proofs.Common.{◌≡◌, ℕ, Bool, true, false, inl, List, [], Option, Result, Ok, Err, IfErr, refl}
 use Rattle.std.proofs.KnownBytes.{Appends-nil}
 use Rattle.pattern_commands.specs.declared.complaint.Complaint.{Complaint}
 use Rattle.pattern_commands.specs.declared.complaint.Complaint.TheVariants.{Refused, Memory, ReadFailed, WriteFailed}
 use Rattle.pattern_commands.specs.declared.status.Status.{Status}
 use Rattle.pattern_commands.specs.declared.status.Status.TheVariants as statuses
 use Rattle.pattern_commands.specs.Answers.{Right}
-use Rattle.pattern_commands.specs.Complaints.{complaint_line, status_of}
-use Rattle.pattern_commands.specs.Ends.{Ends, LeavesFront, LeavesPart, Reaches}
-use Rattle.pattern_commands.specs.Streams.{Stream, HasFront, HasLine, IsUntouched}
+use Rattle.pattern_commands.specs.Complaints.{status_of}
+use Rattle.pattern_commands.specs.Ends.{Ends, HasLast, LeavesFront, LeavesPart, Reaches, status_after}
+use Rattle.pattern_commands.specs.Streams.{Stream, HasFront, IsUntouched}
 use Rattle.pattern_commands.specs.Tasks.{Made, alone, text_made, text_task}
-use Rattle.pattern_commands.specs.TextSteps.{LeavesTextFront, LeavesTextPart, ReachesText}
+use Rattle.pattern_commands.specs.TextSteps.{LeavesTextFront, LeavesTextPart, ReachesText, TextOutcome, none_missing}
 
 -- what is left of a text, as a task has it
 part_of : (whole : Bool) (right : Right) (output : Stream) → LeavesTextPart whole right output → LeavesPart whole (alone right) output
@@ -26,54 +26,56 @@ front_of : (whole : Bool) (right : Right) (output errors : Stream) → LeavesTex
 front_of true right output errors (text, is, front) still = (record { text = text; told = []; missing = 0 }, (is, refl, refl), front, still.0)
 front_of false right output errors (never, fronts) still = (never, λ made is. fronts made.text is.0, still.0)
 
--- a complaint ended the text, and nothing was told yet
-reaches_text : (reads whole : Bool) (right : List ℕ → Right) (known : Option (List ℕ)) (bytes : List ℕ) (complaint : Complaint) (output errors : Stream)
-    → ReachesText reads whole (right bytes) (Err complaint) output → IsUntouched errors
-    → Reaches (text_task reads whole right) known bytes (Err complaint) output errors
-reaches_text reads whole right known bytes (Refused refusal) output errors (is, nothing) still =
+-- what stands on the streams after a text, where nothing was told yet
+reaches_text : (reads whole : Bool) (right : List ℕ → Right) (known : Option (List ℕ)) (bytes : List ℕ) (outcome : TextOutcome) (output errors : Stream)
+    → ReachesText reads whole (right bytes) outcome output → IsUntouched errors
+    → Reaches (text_task reads whole right) known bytes (none_missing outcome) output errors
+reaches_text reads whole right known bytes (Ok _) output errors ((text, is, has), written) still = record {
+  made = record { text = text; told = []; missing = 0 };
+  is = (is, refl, refl);
+  missing_is = refl;
+  text = has;
+  written = written;
+  told = still.0;
+  fine = still.1;
+}
+reaches_text reads whole right known bytes (Err (Refused refusal)) output errors (is, nothing) still =
     (is, record { nothing = nothing; silent = still.0; fine = still.1 })
-reaches_text reads whole right known bytes Memory output errors (hides, left) still =
+reaches_text reads whole right known bytes (Err Memory) output errors (hides, left) still =
     record { hides = hides; left = part_of whole (right bytes) output left; told = inl still.0; fine = still.1 }
-reaches_text reads whole right known bytes ReadFailed output errors (read, nothing) still =
+reaches_text reads whole right known bytes (Err ReadFailed) output errors (read, nothing) still =
     record { reads = read; begun = still.0; nothing = nothing; fine = still.1 }
-reaches_text reads whole right known bytes WriteFailed output errors (left, cut) still =
+reaches_text reads whole right known bytes (Err WriteFailed) output errors (left, cut) still =
     inl (record { left = front_of whole (right bytes) output errors left still; cut = cut; fine = still.1 })
 
--- the text was written
-pub text_done : (reads whole : Bool) (right : List ℕ → Right) (known : Option (List ℕ)) (bytes : List ℕ) (output errors : Stream)
-    → ReachesText reads whole (right bytes) (Ok tt) output → IsUntouched errors
-    → Ends (text_task reads whole right) known bytes statuses.Done output errors
-text_done reads whole right known bytes output errors ((text, is, has), fine) still = record {
-  outcome = Ok 0;
-  between = errors;
-  from = refl;
-  reached = record {
-    made = record { text = text; told = []; missing = 0 };
-    is = (is, refl, refl);
-    missing_is = refl;
-    text = has;
-    written = fine;
-    told = still.0;
-    fine = still.1;
-  };
-  stays = λ failed. failed;
-  last = (Appends-nil errors.after, still.1);
-  status_is = refl;
-}
-
--- a complaint ended it, and its line was told
-pub text_complains : (reads whole : Bool) (right : List ℕ → Right) (known : Option (List ℕ)) (bytes : List ℕ) (complaint : Complaint) (status : Status)
+-- how a command ends that gives a text alone
+pub text_ends : (reads whole : Bool) (right : List ℕ → Right) (known : Option (List ℕ)) (bytes : List ℕ) (outcome : TextOutcome) (status : Status)
     (output errors : Stream)
-    → ReachesText reads whole (right bytes) (Err complaint) output → status ≡ status_of complaint → HasLine errors (complaint_line complaint)
+    → ReachesText reads whole (right bytes) outcome output → status ≡ status_after (none_missing outcome) → HasLast (none_missing outcome) errors
     → Ends (text_task reads whole right) known bytes status output errors
-text_complains reads whole right known bytes complaint status output errors reached is line =
+text_ends reads whole right known bytes outcome status output errors reached is last =
     let between : Stream = record { before = errors.before; after = errors.before; failed = false } in
     record {
-      outcome = Err complaint;
+      outcome = none_missing outcome;
       between = between;
       from = refl;
-      reached = reaches_text reads whole right known bytes complaint output between reached (Appends-nil errors.before, refl);
+      reached = reaches_text reads whole right known bytes outcome output between reached (Appends-nil errors.before, refl);
       stays = λ failed. let bad : false ≡ true = failed in cc;
-      last = line;
+      last = last;
       status_is = is;
     }
+
+-- only a refusal has the status of one
+pub text_refused : {P : Type 0} (outcome : TextOutcome) → status_after (none_missing outcome) ≡ statuses.Refused
+    → IfErr outcome (λ complaint. status_of complaint ≡ statuses.Refused → P) → P
+text_refused (Ok _) is = cc
+text_refused (Err complaint) is = λ so. so is
+
+-- only memory that ran out has its status
+pub text_memory : {P : Type 0} (outcome : TextOutcome) → status_after (none_missing outcome) ≡ statuses.Memory
+    → IfErr outcome (λ complaint. complaint ≡ Memory → P) → P
+text_memory (Ok _) is = cc
+text_memory (Err (Refused refusal)) is = cc
+text_memory (Err Memory) is = λ so. so refl
+text_memory (Err ReadFailed) is = cc
+text_memory (Err WriteFailed) is = cc

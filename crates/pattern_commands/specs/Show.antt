@@ -20,10 +20,10 @@ use Rattle.pattern_commands.specs.Tasks.{Task, text_task}
 abbrev pub is_separator : ℕ → Bool
 is_separator b = b == 95
 
--- a word's part before its first `_` and the part after it, if it has one
+-- a code's part before its first `_` and the part after it, if it has one
 abbrev pub parted : List ℕ → Option (List ℕ × List ℕ)
-parted word = if nat_lt (position_or_len is_separator word) (length word)
-    then Some (before_first is_separator word, after_first is_separator word)
+parted code = if nat_lt (position_or_len is_separator code) (length code)
+    then Some (before_first is_separator code, after_first is_separator code)
     else None
 
 -- `s`, `p` and `q` are the letters of still lifes, oscillators and spaceships
@@ -44,14 +44,14 @@ is_prefix (x ∷ kind ∷ number) = x == 120 && (is_kind kind && is_number numbe
 abbrev pub after_prefix : List ℕ × List ℕ → Result (List ℕ) Complaint
 after_prefix (prefix, text) = if is_prefix prefix then Ok text else Err (Refused NotACode)
 
--- a word that has no `_` is a text itself
+-- a code that has no `_` is a text itself
 abbrev pub text_or_part : List ℕ → Option (List ℕ × List ℕ) → Result (List ℕ) Complaint
-text_or_part word None = Ok word
-text_or_part word (Some parts) = after_prefix parts
+text_or_part code None = Ok code
+text_or_part code (Some parts) = after_prefix parts
 
--- the text of a word
+-- the text of a code
 abbrev pub text_in : List ℕ → Result (List ℕ) Complaint
-text_in word = text_or_part word (parted word)
+text_in code = text_or_part code (parted code)
 
 -- the complaint about a text in extended Wechsler format
 abbrev pub wechsler_complaint : WechslerFault → Complaint
@@ -69,10 +69,10 @@ reader_complaint error.Memory = Memory
 abbrev pub shown : List ℕ → Result (List Cell) Complaint
 shown text = result_map_both (λ cells. cells) wechsler_complaint (wechsler_read text)
 
--- the plaintext of the object that the word names
+-- the plaintext of the object that the code names
 abbrev pub show_answer : List ℕ → Answer
-show_answer word = given (text_in word) (λ text. given (shown text) (λ cells. Ok (plain cells)))
+show_answer code = given (text_in code) (λ text. given (shown text) (λ cells. Ok (plain cells)))
 
--- to write the object that a word names
+-- to write the object that a code names
 abbrev pub show_task : List ℕ → Task
-show_task word = text_task false true (λ bytes. only (show_answer word))
+show_task code = text_task false true (λ bytes. only (show_answer code))

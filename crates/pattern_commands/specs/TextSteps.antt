@@ -3,11 +3,17 @@ use Rattle.std.specs.Prelude.{◌≡◌, Bool, true, false, ℕ, List, [], Resul
 use Rattle.pattern_commands.specs.declared.complaint.Complaint.{Complaint}
 use Rattle.pattern_commands.specs.declared.complaint.Complaint.TheVariants.{Refused, Memory, ReadFailed, WriteFailed}
 use Rattle.pattern_commands.specs.Answers.{Answer, NeedsMemory, Right, output_text}
+use Rattle.pattern_commands.specs.Ends.{Outcome}
 use Rattle.pattern_commands.specs.Streams.{Stream, Has, HasFront}
 
 -- the text was written, or there is a complaint
 abbrev pub TextOutcome : Type 0
 TextOutcome = Result (Unit {0}) Complaint
+
+-- a text leaves no soup missing
+abbrev pub none_missing : TextOutcome → Outcome
+none_missing (Ok _) = Ok 0
+none_missing (Err complaint) = Err complaint
 
 -- the text of a right answer was added, and nothing else
 abbrev pub HasRight : Right → Stream → Type 0

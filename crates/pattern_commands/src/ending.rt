@@ -2,6 +2,7 @@ ghost use Rattle.std.specs.Prelude.{◌≡◌, OnOk, false, true};
 ghost use Rattle.pattern_commands.specs.Complaints.{complaint_line, status_of};
 ghost use Rattle.pattern_commands.specs.Ends.{HasLast, Outcome, status_after};
 ghost use Rattle.pattern_commands.specs.Streams.{stream, HasLine};
+ghost use Rattle.pattern_commands.specs.TextSteps.{none_missing};
 
 use crate::complaint::{Complaint, put_missing};
 use crate::status::Status;
@@ -24,6 +25,19 @@ pub fn tell_end<E: Write>(outcome: Result<u64, Complaint>, errors: &mut Out<E>) 
             Status::Incomplete
         }
         Err(complaint) => tell_complaint(complaint, errors),
+    }
+}
+
+/// [`tell_end`] for a command that gives a text alone, of which no soup can be missing. No write to `errors` may have
+/// failed.
+pub fn tell_end_of_text<E: Write>(outcome: Result<(), Complaint>, errors: &mut Out<E>) -> Status
+    requires { errors.old.failed ≡ false }
+    ensures status { result ≡ status_after (none_missing outcome) }
+    ensures last { HasLast (none_missing outcome) (stream E.contents errors.old errors.new) }
+{
+    match outcome {
+        Ok(()) => tell_end(Ok(0), errors),
+        Err(complaint) => tell_end(Err(complaint), errors),
     }
 }
 

@@ -11,6 +11,7 @@ ghost use Rattle.pattern_commands.specs.Streams.{stream};
 ghost use Rattle.pattern_commands.specs.TextSteps.{ReachesText};
 
 use crate::complaint::Complaint;
+use crate::ending::tell_end_of_text;
 use crate::input::read_pattern;
 use crate::profile::ProfileNumbers;
 use crate::status::Status;
@@ -53,10 +54,8 @@ pub fn do_name<R: Read, W: Write, E: Write>(
     ensures untouched { result ≡ Status.Refused → output.new ≡ output.old }
     ensures no_memory { result ≡ Status.Memory → output.new ≡ output.old }
 {
-    match name(alloc, profile, rule_text, input, output) {
-        Ok(()) => Status::Done,
-        Err(complaint) => complaint.tell(errors),
-    }
+    let outcome = name(alloc, profile, rule_text, input, output);
+    tell_end_of_text(outcome, errors)
 }
 
 fn name<R: Read, W: Write>(

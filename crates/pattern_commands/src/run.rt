@@ -9,6 +9,7 @@ ghost use Rattle.pattern_commands.specs.Streams.{stream};
 ghost use Rattle.pattern_commands.specs.TextSteps.{ReachesText};
 
 use crate::complaint::Complaint;
+use crate::ending::tell_end_of_text;
 use crate::input::read_pattern;
 use crate::status::Status;
 use plane_core::generation::StepError;
@@ -18,15 +19,12 @@ use plane_core::rule::Rule;
 use std::alloc::Global;
 use std::io::{Read, Write};
 
-/// The most generations that `run` goes: far fewer than the million that a pattern of at most 1,000 by 1,000 cells
-/// takes to reach the edge of the plane, as its box grows by at most one cell a side in each.
-pub const GENERATION_LIMIT: u32 = 100_000;
-
 /// Reads a plaintext pattern, runs it for some generations of a rule and writes it as plaintext.
 ///
-/// The number of generations is at most [`GENERATION_LIMIT`], and neither writer may have failed. The rule is read
-/// first: if it is refused, nothing of the input is read. `census run N --rule TEXT` is this call over the standard
-/// streams.
+/// The number of generations is at most 100,000: far fewer than the million that a pattern of at most 1,000 by 1,000
+/// cells takes to reach the edge of the plane, as its box grows by at most one cell a side in each. Neither writer may
+/// have failed. The rule is read first: if it is refused, nothing of the input is read. `census run N --rule RULE` is
+/// this call over the standard streams.
 ///
 /// # Errors
 ///
@@ -51,10 +49,8 @@ pub fn do_run<R: Read, W: Write, E: Write>(
     ensures untouched { result ≡ Status.Refused → output.new ≡ output.old }
     ensures no_memory { result ≡ Status.Memory → output.new ≡ output.old }
 {
-    match run(alloc, generations, rule_text, input, output) {
-        Ok(()) => Status::Done,
-        Err(complaint) => complaint.tell(errors),
-    }
+    let outcome = run(alloc, generations, rule_text, input, output);
+    tell_end_of_text(outcome, errors)
 }
 
 fn run<R: Read, W: Write>(

@@ -9,6 +9,7 @@ ghost use Rattle.pattern_commands.specs.Streams.{stream};
 ghost use Rattle.pattern_commands.specs.TextSteps.{ReachesText};
 
 use crate::complaint::Complaint;
+use crate::ending::tell_end_of_text;
 use crate::refusal::Refusal;
 use crate::status::Status;
 use code_core::reader::read_wechsler;
@@ -39,10 +40,8 @@ pub fn do_show<W: Write, E: Write>(
     ensures untouched { result ≡ Status.Refused → output.new ≡ output.old }
     ensures no_memory { result ≡ Status.Memory → output.new ≡ output.old }
 {
-    match show(alloc, code, output) {
-        Ok(()) => Status::Done,
-        Err(complaint) => complaint.tell(errors),
-    }
+    let outcome = show(alloc, code, output);
+    tell_end_of_text(outcome, errors)
 }
 
 fn show<W: Write>(alloc: Global, code: &str, output: &mut Out<W>) -> Result<(), Complaint>

@@ -7,6 +7,7 @@ ghost use Rattle.pattern_commands.specs.Streams.{stream};
 ghost use Rattle.pattern_commands.specs.TextSteps.{ReachesText};
 
 use crate::complaint::Complaint;
+use crate::ending::tell_end_of_text;
 use crate::status::Status;
 use plane_core::output::Out;
 use plane_core::rule::Rule;
@@ -20,7 +21,7 @@ use survey_core::soup::soup;
 /// Writes the soup with this number, which is below 2^40, as plaintext.
 ///
 /// The cells are the 256 bits of the SHA-256 digest of the seed's bytes and then the number in decimal. Neither writer
-/// may have failed. `census soup [--seed TEXT] N` is this call over the standard streams.
+/// may have failed. `census soup [--seed SEED] N` is this call over the standard streams.
 ///
 /// # Errors
 ///
@@ -41,10 +42,8 @@ pub fn do_soup<W: Write, E: Write>(
     ensures untouched { result ≡ Status.Refused → output.new ≡ output.old }
     ensures no_memory { result ≡ Status.Memory → output.new ≡ output.old }
 {
-    match put_soup(alloc, seed_text, number, output) {
-        Ok(()) => Status::Done,
-        Err(complaint) => complaint.tell(errors),
-    }
+    let outcome = put_soup(alloc, seed_text, number, output);
+    tell_end_of_text(outcome, errors)
 }
 
 fn put_soup<W: Write>(

@@ -14,7 +14,7 @@ pub enum Status {
     Memory,
     /// Reading or writing failed.
     Failed,
-    /// All that was there was gathered, and soups are missing.
+    /// The haul was printed, and soups of its set are missing.
     Incomplete,
 }
 

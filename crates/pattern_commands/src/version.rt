@@ -6,6 +6,7 @@ ghost use Rattle.pattern_commands.specs.TextSteps.{ReachesText};
 ghost use Rattle.pattern_commands.specs.Version.{version_answer, version_task};
 
 use crate::complaint::Complaint;
+use crate::ending::tell_end_of_text;
 use crate::status::Status;
 use plane_core::output::Out;
 use std::io::Write;
@@ -26,10 +27,8 @@ pub fn do_version<W: Write, E: Write>(output: &mut Out<W>, errors: &mut Out<E>) 
     ensures status { result ≢ Status.Refused }
     ensures no_memory { result ≢ Status.Memory }
 {
-    match put_version(output) {
-        Ok(()) => Status::Done,
-        Err(complaint) => complaint.tell(errors),
-    }
+    let outcome = put_version(output);
+    tell_end_of_text(outcome, errors)
 }
 
 fn put_version<W: Write>(output: &mut Out<W>) -> Result<(), Complaint>

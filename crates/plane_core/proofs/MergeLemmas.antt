@@ -6,20 +6,20 @@ use Rattle.std.proofs.lemmas.Bool.{and_parts, and_from}
 use Rattle.plane_core.specs.declared.cell.Cell.{Cell}
 use Rattle.plane_core.specs.declared.tally.Tally.{Tally}
 use Rattle.plane_core.specs.Cells.{same_cell, InOrder}
-use Rattle.plane_core.specs.Tallies.{cells_of, counted_at, alive_at, count_first, alive_first, rest_at, first_of, earlier_of}
-use Rattle.plane_core.proofs.TallyLemmas.{total-append, alive_at-append, cells_of-append, total-rest_at, alive_at-rest_at, NoneEarlier, later_than_both}
-use Rattle.plane_core.proofs.TallyLemmas.{one_of_both, itself, none_earlier, begins, push_order, length-rest_at, length-begins}
+use Rattle.plane_core.specs.Tallies.{cells_of, counted_at, alive_at, count_first, alive_first, remainder_at, first_of, earlier_of}
+use Rattle.plane_core.proofs.TallyLemmas.{total-append, alive_at-append, cells_of-append, total-remainder_at, alive_at-remainder_at, NoneEarlier, later_than_both}
+use Rattle.plane_core.proofs.TallyLemmas.{one_of_both, itself, none_earlier, begins, push_order, length-remainder_at, length-begins}
 
 -- what a merge has done, and what is left of its three lists
-pub record Merging (left middle right sums left_rest middle_rest right_rest : List Tally) : Type 0 where
-  pub totals : (x : Cell) → counted_at sums x + (counted_at left_rest x + (counted_at middle_rest x + counted_at right_rest x)) ≡ counted_at left x + (counted_at middle x + counted_at right x)
-  pub alive : (x : Cell) → (alive_at sums x || alive_at middle_rest x) ≡ alive_at middle x
-  pub left_order : InOrder (cells_of sums ++ cells_of left_rest)
-  pub middle_order : InOrder (cells_of sums ++ cells_of middle_rest)
-  pub right_order : InOrder (cells_of sums ++ cells_of right_rest)
+pub record Merging (left middle right sums left_remainder middle_remainder right_remainder : List Tally) : Type 0 where
+  pub totals : (x : Cell) → counted_at sums x + (counted_at left_remainder x + (counted_at middle_remainder x + counted_at right_remainder x)) ≡ counted_at left x + (counted_at middle x + counted_at right x)
+  pub alive : (x : Cell) → (alive_at sums x || alive_at middle_remainder x) ≡ alive_at middle x
+  pub left_order : InOrder (cells_of sums ++ cells_of left_remainder)
+  pub middle_order : InOrder (cells_of sums ++ cells_of middle_remainder)
+  pub right_order : InOrder (cells_of sums ++ cells_of right_remainder)
   pub no_others : (p : Cell → Bool) → list_all p (cells_of left) ≡ true → list_all p (cells_of middle) ≡ true → list_all p (cells_of right) ≡ true
-      → list_all p (cells_of sums) ≡ true × list_all p (cells_of left_rest) ≡ true × list_all p (cells_of middle_rest) ≡ true
-      × list_all p (cells_of right_rest) ≡ true
+      → list_all p (cells_of sums) ≡ true × list_all p (cells_of left_remainder) ≡ true × list_all p (cells_of middle_remainder) ≡ true
+      × list_all p (cells_of right_remainder) ≡ true
 
 -- the least cell of the three lists, as `earliest` finds it
 abbrev pub Earliest : List Tally → List Tally → List Tally → Cell → Type 0
@@ -50,17 +50,17 @@ added left middle right c = record { cell = c; count = count_first c left + coun
 
 -- each turn takes a tally off at least one list
 pub shorter : (left middle right : List Tally) (c : Cell) → Earliest left middle right c
-    → length (rest_at c left) + (length (rest_at c middle) + length (rest_at c right)) < length left + (length middle + length right)
+    → length (remainder_at c left) + (length (remainder_at c middle) + length (remainder_at c right)) < length left + (length middle + length right)
 shorter left middle right c e =
     elim ((is_least left middle right c e).first) [
-      | inl l ↦ omega (arith, length-begins c left l, length-rest_at c middle, length-rest_at c right)
-      | inr (inl m) ↦ omega (arith, length-begins c middle m, length-rest_at c left, length-rest_at c right)
-      | inr (inr r) ↦ omega (arith, length-begins c right r, length-rest_at c left, length-rest_at c middle)
+      | inl l ↦ omega (arith, length-begins c left l, length-remainder_at c middle, length-remainder_at c right)
+      | inr (inl m) ↦ omega (arith, length-begins c middle m, length-remainder_at c left, length-remainder_at c right)
+      | inr (inr r) ↦ omega (arith, length-begins c right r, length-remainder_at c left, length-remainder_at c middle)
     ]
 
-all_rest : (p : Cell → Bool) (c : Cell) (ts : List Tally) → list_all p (cells_of ts) ≡ true → list_all p (cells_of (rest_at c ts)) ≡ true
-all_rest p c [] h = refl
-all_rest p c (t ∷ ts) h = elim (same_cell c t.cell) as (λ b. list_all p (cells_of (cond b ts (t ∷ ts)))
+all_remainder : (p : Cell → Bool) (c : Cell) (ts : List Tally) → list_all p (cells_of ts) ≡ true → list_all p (cells_of (remainder_at c ts)) ≡ true
+all_remainder p c [] h = refl
+all_remainder p c (t ∷ ts) h = elim (same_cell c t.cell) as (λ b. list_all p (cells_of (cond b ts (t ∷ ts)))
     ≡ true) [ true ↦ (and_parts (p t.cell) (list_all p (cells_of ts)) h).1 | false ↦ h ]
 
 all_first : (p : Cell → Bool) (c : Cell) (ts : List Tally) → first_of ts ≡ Some c → list_all p (cells_of ts) ≡ true → p c ≡ true
@@ -72,66 +72,66 @@ all_push p [] c h k = and_from (p c) true k refl
 all_push p (d ∷ ds) c h k = let parts = and_parts (p d) (list_all p ds) h in and_from (p d) (list_all p (ds ++ c ∷ [])) parts.0 (all_push p ds c parts.1 k)
 
 -- one turn of the merge
-pub merging_more : (left middle right sums left_rest middle_rest right_rest : List Tally) (c : Cell)
-    → Merging left middle right sums left_rest middle_rest right_rest → Earliest left_rest middle_rest right_rest c
-    → Merging left middle right (sums ++ added left_rest middle_rest right_rest c ∷ []) (rest_at c left_rest) (rest_at c middle_rest) (rest_at c right_rest)
-merging_more left middle right sums left_rest middle_rest right_rest c m e =
-    let least = is_least left_rest middle_rest right_rest c e in
+pub merging_more : (left middle right sums left_remainder middle_remainder right_remainder : List Tally) (c : Cell)
+    → Merging left middle right sums left_remainder middle_remainder right_remainder → Earliest left_remainder middle_remainder right_remainder c
+    → Merging left middle right (sums ++ added left_remainder middle_remainder right_remainder c ∷ []) (remainder_at c left_remainder) (remainder_at c middle_remainder) (remainder_at c right_remainder)
+merging_more left middle right sums left_remainder middle_remainder right_remainder c m e =
+    let least = is_least left_remainder middle_remainder right_remainder c e in
     let one : (ds : List Cell) × InOrder (cells_of sums ++ c ∷ ds) = elim least.first [
-      | inl l ↦ let b = begins c left_rest l in (b.0, rw b.1 at m.left_order)
-      | inr (inl k) ↦ let b = begins c middle_rest k in (b.0, rw b.1 at m.middle_order)
-      | inr (inr r) ↦ let b = begins c right_rest r in (b.0, rw b.1 at m.right_order)
+      | inl l ↦ let b = begins c left_remainder l in (b.0, rw b.1 at m.left_order)
+      | inr (inl k) ↦ let b = begins c middle_remainder k in (b.0, rw b.1 at m.middle_order)
+      | inr (inr r) ↦ let b = begins c right_remainder r in (b.0, rw b.1 at m.right_order)
     ] in
     let pushed : (ts : List Tally) → InOrder (cells_of sums ++ cells_of ts) → NoneEarlier c (cells_of ts)
-    → InOrder (cells_of (sums ++ added left_rest middle_rest right_rest c ∷ []) ++ cells_of (rest_at c ts)) =
-    λ ts o none. rw (cells_of-append sums (added left_rest middle_rest right_rest c ∷ []), append_assoc) (push_order (cells_of sums) c one.0 ts one.1 o none) in
+    → InOrder (cells_of (sums ++ added left_remainder middle_remainder right_remainder c ∷ []) ++ cells_of (remainder_at c ts)) =
+    λ ts o none. rw (cells_of-append sums (added left_remainder middle_remainder right_remainder c ∷ []), append_assoc) (push_order (cells_of sums) c one.0 ts one.1 o none) in
     record {
       totals = λ x. totals_more x (same_cell x c) refl;
       alive = λ x. alive_more x;
-      left_order = pushed left_rest m.left_order least.none_left;
-      middle_order = pushed middle_rest m.middle_order least.none_middle;
-      right_order = pushed right_rest m.right_order least.none_right;
+      left_order = pushed left_remainder m.left_order least.none_left;
+      middle_order = pushed middle_remainder m.middle_order least.none_middle;
+      right_order = pushed right_remainder m.right_order least.none_right;
       no_others = λ p all_left all_middle all_right.
           let had = m.no_others p all_left all_middle all_right in
           let now : p c ≡ true = elim least.first [
-            | inl l ↦ all_first p c left_rest l had.1
-            | inr (inl k) ↦ all_first p c middle_rest k had.2
-            | inr (inr r) ↦ all_first p c right_rest r had.3
+            | inl l ↦ all_first p c left_remainder l had.1
+            | inr (inl k) ↦ all_first p c middle_remainder k had.2
+            | inr (inr r) ↦ all_first p c right_remainder r had.3
           ] in (
-            rw (cells_of-append sums (added left_rest middle_rest right_rest c ∷ [])) (all_push p (cells_of sums) c had.0 now),
-            all_rest p c left_rest had.1,
-            all_rest p c middle_rest had.2,
-            all_rest p c right_rest had.3,
+            rw (cells_of-append sums (added left_remainder middle_remainder right_remainder c ∷ [])) (all_push p (cells_of sums) c had.0 now),
+            all_remainder p c left_remainder had.1,
+            all_remainder p c middle_remainder had.2,
+            all_remainder p c right_remainder had.3,
           );
     }
   where
     totals_more : (x : Cell) (b : Bool) → same_cell x c ≡ b
-        → counted_at (sums ++ added left_rest middle_rest right_rest c ∷ [])
-        x + (counted_at (rest_at c left_rest) x + (counted_at (rest_at c middle_rest) x + counted_at (rest_at c right_rest) x))
+        → counted_at (sums ++ added left_remainder middle_remainder right_remainder c ∷ [])
+        x + (counted_at (remainder_at c left_remainder) x + (counted_at (remainder_at c middle_remainder) x + counted_at (remainder_at c right_remainder) x))
         ≡ counted_at left x + (counted_at middle x + counted_at right x)
     totals_more x true is =
-        let l : counted_at left_rest x ≡ count_first c left_rest + counted_at (rest_at c left_rest) x =
-        total-rest_at c x left_rest ∙ ap (λ b. cond b (count_first c left_rest) 0 + counted_at (rest_at c left_rest) x) is in
-        let k : counted_at middle_rest x ≡ count_first c middle_rest + counted_at (rest_at c middle_rest) x =
-        total-rest_at c x middle_rest ∙ ap (λ b. cond b (count_first c middle_rest) 0 + counted_at (rest_at c middle_rest) x) is in
-        let r : counted_at right_rest x ≡ count_first c right_rest + counted_at (rest_at c right_rest) x =
-        total-rest_at c x right_rest ∙ ap (λ b. cond b (count_first c right_rest) 0 + counted_at (rest_at c right_rest) x) is in
-        let one : counted_at (added left_rest middle_rest right_rest c ∷ []) x ≡ count_first c left_rest + count_first c middle_rest + count_first c
-        right_rest + 0 = ap (λ b. cond b (count_first c left_rest + count_first c middle_rest + count_first c right_rest) 0 + 0) is in
+        let l : counted_at left_remainder x ≡ count_first c left_remainder + counted_at (remainder_at c left_remainder) x =
+        total-remainder_at c x left_remainder ∙ ap (λ b. cond b (count_first c left_remainder) 0 + counted_at (remainder_at c left_remainder) x) is in
+        let k : counted_at middle_remainder x ≡ count_first c middle_remainder + counted_at (remainder_at c middle_remainder) x =
+        total-remainder_at c x middle_remainder ∙ ap (λ b. cond b (count_first c middle_remainder) 0 + counted_at (remainder_at c middle_remainder) x) is in
+        let r : counted_at right_remainder x ≡ count_first c right_remainder + counted_at (remainder_at c right_remainder) x =
+        total-remainder_at c x right_remainder ∙ ap (λ b. cond b (count_first c right_remainder) 0 + counted_at (remainder_at c right_remainder) x) is in
+        let one : counted_at (added left_remainder middle_remainder right_remainder c ∷ []) x ≡ count_first c left_remainder + count_first c middle_remainder + count_first c
+        right_remainder + 0 = ap (λ b. cond b (count_first c left_remainder + count_first c middle_remainder + count_first c right_remainder) 0 + 0) is in
         let all = m.totals x in
-        let pushed = total-append sums (added left_rest middle_rest right_rest c ∷ []) x in
+        let pushed = total-append sums (added left_remainder middle_remainder right_remainder c ∷ []) x in
         omega arith
     totals_more x false is =
-        let l : counted_at left_rest x ≡ 0 + counted_at (rest_at c left_rest) x =
-        total-rest_at c x left_rest ∙ ap (λ b. cond b (count_first c left_rest) 0 + counted_at (rest_at c left_rest) x) is in
-        let k : counted_at middle_rest x ≡ 0 + counted_at (rest_at c middle_rest) x =
-        total-rest_at c x middle_rest ∙ ap (λ b. cond b (count_first c middle_rest) 0 + counted_at (rest_at c middle_rest) x) is in
-        let r : counted_at right_rest x ≡ 0 + counted_at (rest_at c right_rest) x =
-        total-rest_at c x right_rest ∙ ap (λ b. cond b (count_first c right_rest) 0 + counted_at (rest_at c right_rest) x) is in
-        let one : counted_at (added left_rest middle_rest right_rest c ∷ []) x ≡ 0 + 0 =
-        ap (λ b. cond b (count_first c left_rest + count_first c middle_rest + count_first c right_rest) 0 + 0) is in
+        let l : counted_at left_remainder x ≡ 0 + counted_at (remainder_at c left_remainder) x =
+        total-remainder_at c x left_remainder ∙ ap (λ b. cond b (count_first c left_remainder) 0 + counted_at (remainder_at c left_remainder) x) is in
+        let k : counted_at middle_remainder x ≡ 0 + counted_at (remainder_at c middle_remainder) x =
+        total-remainder_at c x middle_remainder ∙ ap (λ b. cond b (count_first c middle_remainder) 0 + counted_at (remainder_at c middle_remainder) x) is in
+        let r : counted_at right_remainder x ≡ 0 + counted_at (remainder_at c right_remainder) x =
+        total-remainder_at c x right_remainder ∙ ap (λ b. cond b (count_first c right_remainder) 0 + counted_at (remainder_at c right_remainder) x) is in
+        let one : counted_at (added left_remainder middle_remainder right_remainder c ∷ []) x ≡ 0 + 0 =
+        ap (λ b. cond b (count_first c left_remainder + count_first c middle_remainder + count_first c right_remainder) 0 + 0) is in
         let all = m.totals x in
-        let pushed = total-append sums (added left_rest middle_rest right_rest c ∷ []) x in
+        let pushed = total-append sums (added left_remainder middle_remainder right_remainder c ∷ []) x in
         omega arith
 
     regroup : (s k r : Bool) → ((s || (k || false)) || r) ≡ (s || (k || r))
@@ -139,11 +139,11 @@ merging_more left middle right sums left_rest middle_rest right_rest c m e =
     regroup false true r = refl
     regroup false false r = refl
 
-    alive_more : (x : Cell) → (alive_at (sums ++ added left_rest middle_rest right_rest c ∷ []) x || alive_at (rest_at c middle_rest) x) ≡ alive_at middle x
+    alive_more : (x : Cell) → (alive_at (sums ++ added left_remainder middle_remainder right_remainder c ∷ []) x || alive_at (remainder_at c middle_remainder) x) ≡ alive_at middle x
     alive_more x =
-        ap (λ b. b || alive_at (rest_at c middle_rest) x) (alive_at-append sums (added left_rest middle_rest right_rest c ∷ []) x)
-        ∙ regroup (alive_at sums x) (same_cell x c && alive_first c middle_rest) (alive_at (rest_at c middle_rest) x)
-        ∙ ap (λ b. alive_at sums x || b) (sym (alive_at-rest_at c x middle_rest))
+        ap (λ b. b || alive_at (remainder_at c middle_remainder) x) (alive_at-append sums (added left_remainder middle_remainder right_remainder c ∷ []) x)
+        ∙ regroup (alive_at sums x) (same_cell x c && alive_first c middle_remainder) (alive_at (remainder_at c middle_remainder) x)
+        ∙ ap (λ b. alive_at sums x || b) (sym (alive_at-remainder_at c x middle_remainder))
         ∙ m.alive x
 
 first_in_total : (c : Cell) (ts : List Tally) → count_first c ts ≤ counted_at ts c
@@ -151,8 +151,8 @@ first_in_total c [] = omega arith
 first_in_total c (t ∷ ts) = elim (same_cell c t.cell) as (λ b. cond b t.count 0 ≤ cond b t.count 0 + counted_at ts c) [ true ↦ omega arith | false ↦ omega arith ]
 
 -- the sum at a cell is small where the totals are
-pub sum_small : (left middle right sums left_rest middle_rest right_rest : List Tally) (c : Cell)
-    → Merging left middle right sums left_rest middle_rest right_rest → ((x : Cell) → counted_at left x + (counted_at middle x + counted_at right x) < 256)
-    → count_first c left_rest + count_first c middle_rest + count_first c right_rest < 256
-sum_small left middle right sums left_rest middle_rest right_rest c m small =
-    omega (arith, m.totals c, small c, first_in_total c left_rest, first_in_total c middle_rest, first_in_total c right_rest)
+pub sum_small : (left middle right sums left_remainder middle_remainder right_remainder : List Tally) (c : Cell)
+    → Merging left middle right sums left_remainder middle_remainder right_remainder → ((x : Cell) → counted_at left x + (counted_at middle x + counted_at right x) < 256)
+    → count_first c left_remainder + count_first c middle_remainder + count_first c right_remainder < 256
+sum_small left middle right sums left_remainder middle_remainder right_remainder c m small =
+    omega (arith, m.totals c, small c, first_in_total c left_remainder, first_in_total c middle_remainder, first_in_total c right_remainder)

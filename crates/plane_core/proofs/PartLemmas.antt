@@ -200,7 +200,7 @@ parts-after rule S test n (suc g) o apart low c =
         not_false true h = absurd (false≢true h)
         not_false false h = refl
 
--- ---- a line with an empty band before it
+-- ---- a cut with an empty band before it
 
 less : (a b : ℤ) → int_lt a b ≡ true → a <ℤ b
 less a b h = grind (arith, ints)
@@ -208,19 +208,19 @@ less a b h = grind (arith, ints)
 not_less : (a b : ℤ) → int_lt a b ≡ false → b ≤ℤ a
 not_less a b h = grind (arith, ints)
 
-apart_on_line : (a b at : ℤ) (band : ℕ) → (a +ℤ pos band) <ℤ at → at ≤ℤ b → band < distance a b
-apart_on_line a b at band l h = omega (arith, ints)
+apart_at_cut : (a b at : ℤ) (band : ℕ) → (a +ℤ pos band) <ℤ at → at ≤ℤ b → band < distance a b
+apart_at_cut a b at band l h = omega (arith, ints)
 
 apart_by_place : (axis : Axis) (c d : Cell) → distance (place_on axis c) (place_on axis d) ≤ king_distance c d
 apart_by_place Columns c d = omega arith
 apart_by_place Rows c d = omega arith
 
-pub apart_by_line : (cut : Cut) (band : ℕ) (S : List Cell) → list_all (leaves_band cut band) S ≡ true → AreApart band (is_before cut) S
-apart_by_line cut band S all c d in_c in_d before past =
+pub apart_by_cut : (cut : Cut) (band : ℕ) (S : List Cell) → list_all (leaves_band cut band) S ≡ true → AreApart band (is_before cut) S
+apart_by_cut cut band S all c d in_c in_d before past =
     omega (
       arith,
       apart_by_place cut.axis c d,
-      apart_on_line (place_on cut.axis c) (place_on cut.axis d) cut.at band
+      apart_at_cut (place_on cut.axis c) (place_on cut.axis d) cut.at band
           (less _ _ (low (is_before cut c) before (list_all-has (leaves_band cut band) S all c in_c))) (not_less _ _ past),
     )
   where

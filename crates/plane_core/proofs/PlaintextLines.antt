@@ -134,5 +134,5 @@ unfolding live_cells
 no_cell_past_lines n y parts cells h = rw (no_place_past n y parts h) (append-nil cells)
 
 -- a loop's step: what is done grows by what the rest loses
-pub moved_over : (done more new rest later all : List Cell) → new ≡ done ++ more → rest ≡ more ++ later → done ++ rest ≡ all → new ++ later ≡ all
-moved_over done more new rest later all g e h = ap (λ cs. cs ++ later) g ∙ append_assoc done more later ∙ ap (λ cs. done ++ cs) (sym e) ∙ h
+pub moved_over : (done more new remainder later all : List Cell) → new ≡ done ++ more → remainder ≡ more ++ later → done ++ remainder ≡ all → new ++ later ≡ all
+moved_over done more new remainder later all g e h = ap (λ cs. cs ++ later) g ∙ append_assoc done more later ∙ ap (λ cs. done ++ cs) (sym e) ∙ h

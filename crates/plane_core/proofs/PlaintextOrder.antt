@@ -108,10 +108,10 @@ live_cells-on_plane : (ps : List Place) → first_fault ps ≡ None → list_all
 unfolding live_cells
 live_cells-on_plane [] h = refl
 live_cells-on_plane (p ∷ ps) h =
-    let rest = live_cells-on_plane ps (first_fault-cons p ps h).1 in
+    let remainder = live_cells-on_plane ps (first_fault-cons p ps h).1 in
     let here = cell_on_plane p (in_limits p (first_fault-cons p ps h).0) in
     elim (is_live p.byte) as (λ b. list_all on_plane (map cell_of (cond b (p ∷ filter (λ q. is_live q.byte) ps) (filter (λ q. is_live q.byte) ps)))
-    ≡ true) [ true ↦ and_from _ _ here rest | false ↦ rest ]
+    ≡ true) [ true ↦ and_from _ _ here remainder | false ↦ remainder ]
 
 pub IsPattern-live_cells : (text : List ℕ) → first_fault (places text) ≡ None → IsPattern (live_cells (places text))
 unfolding live_cells

@@ -55,9 +55,9 @@ unfolding row_text
 split_rows cells b [] = refl
 split_rows cells b (z ∷ zs) =
     let row = row_bytes cells b z in
-    let rest = flat_map (row_text cells b) zs in
-    ap parts_of (append_assoc row (line_feed ∷ []) rest)
-    ∙ slice_split_at (λ b. b == line_feed) row line_feed rest (no_feed (λ x. has cells (cell_at x z)) (span b.left b.right)) refl
+    let remainder = flat_map (row_text cells b) zs in
+    ap parts_of (append_assoc row (line_feed ∷ []) remainder)
+    ∙ slice_split_at (λ b. b == line_feed) row line_feed remainder (no_feed (λ x. has cells (cell_at x z)) (span b.left b.right)) refl
     ∙ ap (λ ps. row ∷ ps) (split_rows cells b zs)
 
 -- the places of those rows
@@ -72,10 +72,10 @@ places_of_rows cells b n y [] = refl
 places_of_rows cells b n y (z ∷ zs) =
     let f : ℤ → Bool = λ x. has cells (cell_at x z) in
     let row = row_bytes cells b z in
-    let rest = map (row_bytes cells b) zs ++ [] ∷ [] in
+    let remainder = map (row_bytes cells b) zs ++ [] ∷ [] in
     let same = stripped f (span b.left b.right) in
-    places_after-cons_row n y row rest (ap is_comment same ∙ no_comment f b.left (run (b.left +ℤ pos 1) (distance b.left b.right)))
-    ∙ ap (λ r. places_from n y 0 r ++ places_after (n + 1) (y + 1) rest) same
+    places_after-cons_row n y row remainder (ap is_comment same ∙ no_comment f b.left (run (b.left +ℤ pos 1) (distance b.left b.right)))
+    ∙ ap (λ r. places_from n y 0 r ++ places_after (n + 1) (y + 1) remainder) same
     ∙ ap (λ ps. places_from n y 0 row ++ ps) (places_of_rows cells b (n + 1) (y + 1) zs)
 
 no_fault_at : (line y x : ℕ) (v : Bool) → x < side_limit → y < side_limit → fault_at (record { line = line; y = y; x = x; byte = byte_of v }) ≡ None
@@ -139,13 +139,13 @@ unfolding live_cells
 rows_live cells b dx dy n y z zero ex ey = refl
 rows_live cells b dx dy n y z (suc h) ex ey =
     let row = row_cells z (span b.left b.right) in
-    let rest = grid b (run (z +ℤ pos 1) h) in
+    let remainder = grid b (run (z +ℤ pos 1) h) in
     live_cells-append (places_from n y 0 (row_bytes cells b z)) (grid_places cells b (n + 1) (y + 1) (run (z +ℤ pos 1) h))
     ∙ ap (λ cs. cs ++ live_cells (grid_places cells b (n + 1) (y + 1) (run (z +ℤ pos 1) h)))
     (row_live cells dx dy n y 0 z b.left (suc (distance b.left b.right)) ex ey)
     ∙ ap (λ cs. map (moved_by dx dy) (filter (has cells) row) ++ cs) (rows_live cells b dx dy (n + 1) (y + 1) (z +ℤ pos 1) h ex (omega (arith, ints)))
-    ∙ sym (map-append (moved_by dx dy) (filter (has cells) row) (filter (has cells) rest))
-    ∙ ap (map (moved_by dx dy)) (sym (filter-append (has cells) row rest))
+    ∙ sym (map-append (moved_by dx dy) (filter (has cells) row) (filter (has cells) remainder))
+    ∙ ap (map (moved_by dx dy)) (sym (filter-append (has cells) row remainder))
 
 row_in_row : (z a : ℤ) (m : ℕ) → AllByRecursion (λ c. (c.y ≡ z) × (a ≤ℤ c.x)) (row_cells z (run a m))
 row_in_row z a zero = tt
@@ -174,10 +174,10 @@ grid_in_order : (b : Bounds) (z : ℤ) (h : ℕ) → InOrder (grid b (run z h))
 grid_in_order b z zero = in_order-nil
 grid_in_order b z (suc h) =
     let row = row_cells z (span b.left b.right) in
-    let rest = grid b (run (z +ℤ pos 1) h) in
-    IsStrictlySortedBy-append cell_cmp row rest (row_in_order z b.left (suc (distance b.left b.right))) (grid_in_order b (z +ℤ pos 1) h)
-    (AllByRecursion-weaker (λ c. (c.y ≡ z) × (b.left ≤ℤ c.x)) (λ c. AllByRecursion (λ d. cell_cmp c d ≡ Less) rest) row
-    (λ c k. let e = k.0 in AllByRecursion-weaker (λ d. (z +ℤ pos 1) ≤ℤ d.y) (λ d. cell_cmp c d ≡ Less) rest (λ d l. above c d (omega (arith, ints)))
+    let remainder = grid b (run (z +ℤ pos 1) h) in
+    IsStrictlySortedBy-append cell_cmp row remainder (row_in_order z b.left (suc (distance b.left b.right))) (grid_in_order b (z +ℤ pos 1) h)
+    (AllByRecursion-weaker (λ c. (c.y ≡ z) × (b.left ≤ℤ c.x)) (λ c. AllByRecursion (λ d. cell_cmp c d ≡ Less) remainder) row
+    (λ c k. let e = k.0 in AllByRecursion-weaker (λ d. (z +ℤ pos 1) ≤ℤ d.y) (λ d. cell_cmp c d ≡ Less) remainder (λ d l. above c d (omega (arith, ints)))
     (grid_below b (z +ℤ pos 1) h))
     (row_in_row z b.left (suc (distance b.left b.right))))
 
@@ -188,30 +188,30 @@ or_right false b e = e
 has_row : (d : Cell) (z a : ℤ) (m : ℕ) → d.y ≡ z → a ≤ℤ d.x → d.x <ℤ (a +ℤ pos m) → has (row_cells z (run a m)) d ≡ true
 has_row d z a zero e l u = absurd (omega (arith, ints))
 has_row d z a (suc m) e l u =
-    let rest = row_cells z (run (a +ℤ pos 1) m) in
+    let remainder = row_cells z (run (a +ℤ pos 1) m) in
     ⊎_elim
-    (λ t. let past : a <ℤ d.x = lt_z-true a d.x t in or_right (same_cell d (cell_at a z)) (has rest d)
+    (λ t. let past : a <ℤ d.x = lt_z-true a d.x t in or_right (same_cell d (cell_at a z)) (has remainder d)
     (has_row d z (a +ℤ pos 1) m e (omega (arith, ints)) (omega (arith, ints))))
     (λ t. let not_past : d.x ≤ℤ a = lt_z-false a d.x t in
     let ex : d.x ≡ a = omega (arith, ints) in
     let here : d ≡ cell_at a z = ap (λ w. cell_at d.x w) e ∙ ap (λ w. cell_at w z) ex in
-    subst (λ k. has (k ∷ rest) d ≡ true) here (has-head d rest))
+    subst (λ k. has (k ∷ remainder) d ≡ true) here (has-head d remainder))
     (cases_Bool (lt_z a d.x))
 
 has_grid : (d : Cell) (b : Bounds) (z : ℤ) (h : ℕ) → IsWithin b d → b.left ≤ℤ b.right → z ≤ℤ d.y → d.y <ℤ (z +ℤ pos h) → has (grid b (run z h)) d ≡ true
 has_grid d b z zero w wide l u = absurd (omega (arith, ints))
 has_grid d b z (suc h) w wide l u =
     let row = row_cells z (span b.left b.right) in
-    let rest = grid b (run (z +ℤ pos 1) h) in
+    let remainder = grid b (run (z +ℤ pos 1) h) in
     let left = w.left in
     let right = w.right in
-    has-append row rest d ∙
+    has-append row remainder d ∙
     ⊎_elim
-    (λ t. let past : z <ℤ d.y = lt_z-true z d.y t in or_right (has row d) (has rest d)
+    (λ t. let past : z <ℤ d.y = lt_z-true z d.y t in or_right (has row d) (has remainder d)
     (has_grid d b (z +ℤ pos 1) h w wide (omega (arith, ints)) (omega (arith, ints))))
     (λ t. let not_past : d.y ≤ℤ z = lt_z-false z d.y t in
     let ey : d.y ≡ z = omega (arith, ints) in
-    ap (λ v. v || has rest d) (has_row d z b.left (suc (distance b.left b.right)) ey left (omega (arith, ints))))
+    ap (λ v. v || has remainder d) (has_row d z b.left (suc (distance b.left b.right)) ey left (omega (arith, ints))))
     (cases_Bool (lt_z z d.y))
 
 absorb : (g k : Bool) → (k ≡ true → g ≡ true) → (g && k) ≡ k

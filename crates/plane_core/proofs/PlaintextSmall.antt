@@ -21,10 +21,10 @@ live_cells-small : (ps : List Place) → first_fault ps ≡ None → LiesWithin9
 unfolding live_cells
 live_cells-small [] h = refl
 live_cells-small (p ∷ ps) h =
-    let rest = live_cells-small ps (first_fault-cons p ps h).1 in
+    let remainder = live_cells-small ps (first_fault-cons p ps h).1 in
     let here = cell_is_small p (in_limits p (first_fault-cons p ps h).0) in
     elim (is_live p.byte) as (λ b. LiesWithin999
-    (map cell_of (cond b (p ∷ filter (λ q. is_live q.byte) ps) (filter (λ q. is_live q.byte) ps)))) [ true ↦ and_from _ _ here rest | false ↦ rest ]
+    (map cell_of (cond b (p ∷ filter (λ q. is_live q.byte) ps) (filter (λ q. is_live q.byte) ps)))) [ true ↦ and_from _ _ here remainder | false ↦ remainder ]
 
 -- cells that some places without a fault give
 without_fault : (ps : List Place) (fault : Option PlaintextFault) (cells : List Cell) → first_fault ps ≡ fault

@@ -10,7 +10,7 @@ use Rattle.std.proofs.lemmas.Bool.{and_parts}
 use Rattle.plane_core.specs.declared.cell.Cell.{Cell}
 use Rattle.plane_core.specs.declared.tally.Tally.{Tally}
 use Rattle.plane_core.specs.Cells.{cell_cmp, same_cell, InOrder}
-use Rattle.plane_core.specs.Tallies.{cells_of, counted_at, alive_at, count_first, alive_first, rest_at, first_of, earlier_of}
+use Rattle.plane_core.specs.Tallies.{cells_of, counted_at, alive_at, count_first, alive_first, remainder_at, first_of, earlier_of}
 use Rattle.plane_core.proofs.CellLemmas.{cell_cmp_total, cell_cmp-same, same_cell-same, same_cell-itself}
 use Rattle.plane_core.proofs.SetLemmas.{IsBefore, in_order-head, in_order-tail, in_order-cons, in_order-nil, before-trans, greater_turned, filter-with, filter-without}
 
@@ -33,9 +33,9 @@ cells_of-append [] us = refl
 cells_of-append (t ∷ ts) us = ap (λ (cs : List Cell). t.cell ∷ cs) (cells_of-append ts us)
 
 -- what is taken off a list and what is left make up what it had
-pub total-rest_at : (c x : Cell) (ts : List Tally) → counted_at ts x ≡ cond (same_cell x c) (count_first c ts) 0 + counted_at (rest_at c ts) x
-total-rest_at c x [] = elim (same_cell x c) as (λ b. 0 ≡ cond b 0 0 + 0) [ true ↦ refl | false ↦ refl ]
-total-rest_at c x (t ∷ ts) = go (same_cell c t.cell) refl
+pub total-remainder_at : (c x : Cell) (ts : List Tally) → counted_at ts x ≡ cond (same_cell x c) (count_first c ts) 0 + counted_at (remainder_at c ts) x
+total-remainder_at c x [] = elim (same_cell x c) as (λ b. 0 ≡ cond b 0 0 + 0) [ true ↦ refl | false ↦ refl ]
+total-remainder_at c x (t ∷ ts) = go (same_cell c t.cell) refl
   where
     go : (b : Bool) → same_cell c t.cell ≡ b
         → cond (same_cell x t.cell) t.count 0 + counted_at ts x ≡ cond (same_cell x c) (cond b t.count 0) 0 + counted_at (cond b ts (t ∷ ts)) x
@@ -43,9 +43,9 @@ total-rest_at c x (t ∷ ts) = go (same_cell c t.cell) refl
     go false is = elim (same_cell x c) as (λ b. cond (same_cell x t.cell) t.count 0 + counted_at ts x
         ≡ cond b 0 0 + (cond (same_cell x t.cell) t.count 0 + counted_at ts x)) [ true ↦ omega arith | false ↦ omega arith ]
 
-pub alive_at-rest_at : (c x : Cell) (ts : List Tally) → alive_at ts x ≡ ((same_cell x c && alive_first c ts) || alive_at (rest_at c ts) x)
-alive_at-rest_at c x [] = elim (same_cell x c) as (λ b. false ≡ ((b && false) || false)) [ true ↦ refl | false ↦ refl ]
-alive_at-rest_at c x (t ∷ ts) = go (same_cell c t.cell) refl
+pub alive_at-remainder_at : (c x : Cell) (ts : List Tally) → alive_at ts x ≡ ((same_cell x c && alive_first c ts) || alive_at (remainder_at c ts) x)
+alive_at-remainder_at c x [] = elim (same_cell x c) as (λ b. false ≡ ((b && false) || false)) [ true ↦ refl | false ↦ refl ]
+alive_at-remainder_at c x (t ∷ ts) = go (same_cell c t.cell) refl
   where
     go : (b : Bool) → same_cell c t.cell ≡ b
         → ((same_cell x t.cell && t.alive) || alive_at ts x) ≡ ((same_cell x c && (b && t.alive)) || alive_at (cond b ts (t ∷ ts)) x)
@@ -61,9 +61,9 @@ NoneEarlier c [] = Unit {0}
 NoneEarlier c (d ∷ ds) = cell_cmp d c ≡ Less → ⊥
 
 -- c stands before each cell of the list but itself
-rest_after : (c : Cell) (ts : List Tally) → NoneEarlier c (cells_of ts) → InOrder (cells_of ts) → InOrder (c ∷ cells_of (rest_at c ts))
-rest_after c [] none o = in_order-cons c [] tt in_order-nil
-rest_after c (t ∷ ts) none o = go (cell_cmp c t.cell) refl
+remainder_after : (c : Cell) (ts : List Tally) → NoneEarlier c (cells_of ts) → InOrder (cells_of ts) → InOrder (c ∷ cells_of (remainder_at c ts))
+remainder_after c [] none o = in_order-cons c [] tt in_order-nil
+remainder_after c (t ∷ ts) none o = go (cell_cmp c t.cell) refl
   where
     go : (r : Ordering) → cell_cmp c t.cell ≡ r → InOrder (c ∷ cells_of (cond (is_eq r) ts (t ∷ ts)))
     go Less is = in_order-cons c (cells_of (t ∷ ts)) (is, before-trans c t.cell (cells_of ts) is (in_order-head t.cell (cells_of ts) o)) o
@@ -82,22 +82,22 @@ all-back : (P : Cell → Type 0) (cs ds : List Cell) → AllByRecursion P (cs ++
 all-back P [] ds h = h
 all-back P (c ∷ cs) ds h = all-back P cs ds h.1
 
-all-rest_at : (P : Cell → Type 0) (c : Cell) (ts : List Tally) → AllByRecursion P (cells_of ts) → AllByRecursion P (cells_of (rest_at c ts))
-all-rest_at P c [] h = tt
-all-rest_at P c (t ∷ ts) h = elim (same_cell c t.cell) as (λ b. AllByRecursion P (cells_of (cond b ts (t ∷ ts)))) [ true ↦ h.1 | false ↦ h ]
+all-remainder_at : (P : Cell → Type 0) (c : Cell) (ts : List Tally) → AllByRecursion P (cells_of ts) → AllByRecursion P (cells_of (remainder_at c ts))
+all-remainder_at P c [] h = tt
+all-remainder_at P c (t ∷ ts) h = elim (same_cell c t.cell) as (λ b. AllByRecursion P (cells_of (cond b ts (t ∷ ts)))) [ true ↦ h.1 | false ↦ h ]
 
 -- c goes after the sums, if one list goes on with c and no list goes on with an earlier cell
 pub push_order : (S : List Cell) (c : Cell) (ds : List Cell) (ts : List Tally) → InOrder (S ++ c ∷ ds) → InOrder (S ++ cells_of ts)
-    → NoneEarlier c (cells_of ts) → InOrder (S ++ c ∷ cells_of (rest_at c ts))
-push_order [] c ds ts one o none = rest_after c ts none o
+    → NoneEarlier c (cells_of ts) → InOrder (S ++ c ∷ cells_of (remainder_at c ts))
+push_order [] c ds ts one o none = remainder_after c ts none o
 push_order (s ∷ ss) c ds ts one o none =
     let P : Cell → Type 0 = λ d. cell_cmp s d ≡ Less in
     let head : IsBefore s (ss ++ c ∷ ds) = in_order-head s (ss ++ c ∷ ds) one in
     let listed : IsBefore s (ss ++ cells_of ts) = in_order-head s (ss ++ cells_of ts) o in
-    in_order-cons s (ss ++ c ∷ cells_of (rest_at c ts))
-    (all-append P ss (c ∷ cells_of (rest_at c ts)) (all-front P ss (c ∷ ds) head) (
+    in_order-cons s (ss ++ c ∷ cells_of (remainder_at c ts))
+    (all-append P ss (c ∷ cells_of (remainder_at c ts)) (all-front P ss (c ∷ ds) head) (
       (all-back P ss (c ∷ ds) head).0,
-      all-rest_at P c ts (all-back P ss (cells_of ts) listed),
+      all-remainder_at P c ts (all-back P ss (cells_of ts) listed),
     ))
     (push_order ss c ds ts (in_order-tail s (ss ++ c ∷ ds) one) (in_order-tail s (ss ++ cells_of ts) o) none)
 
@@ -152,11 +152,11 @@ pub begins : (c : Cell) (ts : List Tally) → first_of ts ≡ Some c → (ds : L
 begins c [] e = absurd cc
 begins c (t ∷ ts) e = (cells_of ts, ap (λ (d : Cell). d ∷ cells_of ts) cc)
 
-pub length-rest_at : (c : Cell) (ts : List Tally) → length (rest_at c ts) ≤ length ts
-length-rest_at c [] = omega arith
-length-rest_at c (t ∷ ts) = elim (same_cell c t.cell) as (λ b. length (cond b ts (t ∷ ts)) ≤ length (t ∷ ts)) [ true ↦ omega arith | false ↦ omega arith ]
+pub length-remainder_at : (c : Cell) (ts : List Tally) → length (remainder_at c ts) ≤ length ts
+length-remainder_at c [] = omega arith
+length-remainder_at c (t ∷ ts) = elim (same_cell c t.cell) as (λ b. length (cond b ts (t ∷ ts)) ≤ length (t ∷ ts)) [ true ↦ omega arith | false ↦ omega arith ]
 
-pub length-begins : (c : Cell) (ts : List Tally) → first_of ts ≡ Some c → length (rest_at c ts) < length ts
+pub length-begins : (c : Cell) (ts : List Tally) → first_of ts ≡ Some c → length (remainder_at c ts) < length ts
 length-begins c [] e = absurd cc
 length-begins c (t ∷ ts) e =
     let same : t.cell ≡ c = cc in

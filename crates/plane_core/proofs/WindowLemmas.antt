@@ -101,13 +101,13 @@ lit_of at words T c a d w shown e p = record {
     b = p.bottom
 
     is : c ≡ place at 1 d (a - 64)
-    is = place_of at c a d p.across p.down ∙ (λ i. place at (one i) d (rest i))
+    is = place_of at c a d p.across p.down ∙ (λ i. place at (one i) d (remainder i))
       where
         one : a / 64 ≡ 1
         one = omega arith
 
-        rest : a % 64 ≡ a - 64
-        rest = omega arith
+        remainder : a % 64 ≡ a - 64
+        remainder = omega arith
 
     bit : bit_at (slice_index words (80 + d)) (a - 64) ≡ 1
     bit =
@@ -266,9 +266,9 @@ seen_next rule at now old new T w clear dead step outer seen = record {
 -- ---- the first cell
 
 -- no cell of the window comes before its first live one
-pub first_is_head : (at : Layout) (words : List ℕ) (h : Cell) (rest : List Cell) (s : Spot) (a d : ℕ) → IsWindow at → IsSeen at words (h ∷ rest)
+pub first_is_head : (at : Layout) (words : List ℕ) (h : Cell) (remainder : List Cell) (s : Spot) (a d : ℕ) → IsWindow at → IsSeen at words (h ∷ remainder)
     → IsFirst words s → IsLit at words h a d → (a ≡ s.across) × (d ≡ s.down)
-first_is_head at words h rest s a d w seen first l = go (has-cases h rest f there)
+first_is_head at words h remainder s a d w seen first l = go (has-cases h remainder f there)
   where
     left : 64 ≤ s.across
     left = first.left
@@ -285,7 +285,7 @@ first_is_head at words h rest s a d w seen first l = go (has-cases h rest f ther
     f : Cell
     f = place at 1 s.down (s.across - 64)
 
-    there : has (h ∷ rest) (place at 1 s.down (s.across - 64)) ≡ true
+    there : has (h ∷ remainder) (place at 1 s.down (s.across - 64)) ≡ true
     there =
         seen.shown 1 s.down (s.across - 64) (let k = w.lanes in omega arith) (let k = w.blocks in omega arith) (omega arith)
         ∙ ap (λ (n : ℕ). bit_at (slice_index words n) (s.across - 64) == 1) (index_is at 1 s.down w)
@@ -318,13 +318,13 @@ first_is_head at words h rest s a d w seen first l = go (has-cases h rest f ther
         let k = ap (λ (n : ℕ). bit_at (slice_index words (80 + n)) (a - 64)) same in
         absurd (omega arith)
 
-    go : (f ≡ h) ⊎ (has rest f ≡ true) → (a ≡ s.across) × (d ≡ s.down)
+    go : (f ≡ h) ⊎ (has remainder f ≡ true) → (a ≡ s.across) × (d ≡ s.down)
     go (inl same) =
         let x = ap (λ (c : Cell). c.x) same in
         let y = ap (λ (c : Cell). c.y) same in
         (omega (arith, ints), omega (arith, ints))
     go (inr later) =
-        let before : cell_cmp h f ≡ Less = has-all (λ c. cell_cmp h c ≡ Less) rest f (in_order-head h rest seen.in_order) later in
+        let before : cell_cmp h f ≡ Less = has-all (λ c. cell_cmp h c ≡ Less) remainder f (in_order-head h remainder seen.in_order) later in
         let above = no_row_above h f before in
         elim (less_or_not d s.down) [
           | inl less ↦ absurd (row less)
@@ -519,8 +519,8 @@ pub not_again : (at : Layout) (words : List ℕ) (start : List Cell) (z c : Cell
     → bit_at (slice_index words (80 + d)) (a - 64) ≡ 1 → ⊥)
     → ⊥
 not_again at words [] z c cells dx dy spot from to w some seen same first f s e none = absurd (omega arith)
-not_again at words (c0 ∷ rest) z c cells dx dy spot from to w some seen same first f s e none =
-    moved_lit at words c0 rest c dx dy spot from to w (subst (λ (T : List Cell). IsSeen at words T) same seen) first f s e none
+not_again at words (c0 ∷ remainder) z c cells dx dy spot from to w some seen same first f s e none =
+    moved_lit at words c0 remainder c dx dy spot from to w (subst (λ (T : List Cell). IsSeen at words T) same seen) first f s e none
 
 pub not_both : (b : Bool) → not b ≡ true → b ≡ true → ⊥
 not_both true p q = false≢true p

@@ -13,15 +13,15 @@ abbrev pub place_on : Axis → Cell → ℤ
 place_on Columns c = c.x
 place_on Rows c = c.y
 
--- the cell lies before the line of a cut
+-- the cell lies before the cut
 abbrev pub is_before : Cut → Cell → Bool
 is_before cut c = int_lt (place_on cut.axis c) cut.at
 
--- the cell doesn't lie in the band of so many columns or rows before the line
+-- the cell doesn't lie in the band of so many columns or rows before the cut
 abbrev pub leaves_band : Cut → ℕ → Cell → Bool
 leaves_band cut band c = not (is_before cut c) || int_lt (place_on cut.axis c +ℤ pos band) cut.at
 
--- the cells on one side of the line
+-- the cells on one side of the cut
 abbrev pub is_on_side : Cut → Bool → Cell → Bool
 is_on_side cut before c = if before then is_before cut c else not (is_before cut c)
 
@@ -32,7 +32,7 @@ side cut before cells = filter (is_on_side cut before) cells
 abbrev pub AreApart : ℕ → (Cell → Bool) → List Cell → Type 0
 AreApart far test cells = (c d : Cell) → has cells c ≡ true → has cells d ≡ true → test c ≡ true → test d ≡ false → far < king_distance c d
 
--- a line that cuts a pattern in two with a band of so many columns or rows between
+-- a cut that parts a pattern in two with a band of so many columns or rows between
 pub record IsCut (band : ℕ) (cells : List Cell) (cut : Cut) : Type 0 where
   pub in_order : InOrder cells
   pub apart : AreApart band (is_before cut) cells

@@ -37,9 +37,9 @@ rule_text rule = codes "b" ++ (digits 1 rule.births ++ (codes "s" ++ digits 0 ru
 -- the text begins some rule's text
 pub record BeginsRule (text : List ℕ) : Type 0 where
   pub rule : Numbers
-  pub rest : List ℕ
+  pub remainder : List ℕ
   pub is_rule : IsRule rule
-  pub spelled : rule_text rule ≡ text ++ rest
+  pub spelled : rule_text rule ≡ text ++ remainder
 
 -- The bytes before the place begin some rule's text, and with the byte there they don't. At the text's end there is none.
 pub record IsFirstFault (text : List ℕ) (place : ℕ) : Type 0 where
@@ -50,17 +50,17 @@ pub record IsFirstFault (text : List ℕ) (place : ℕ) : Type 0 where
 -- numbers read off the front of a text, as a table of answers, and the text after them
 pub record Reading : Type 0 where
   pub answers : List Bool
-  pub rest : List ℕ
+  pub remainder : List ℕ
 
 abbrev pub with_answer : Bool → Reading → Reading
-with_answer answer read = record { answers = answer ∷ read.answers; rest = read.rest }
+with_answer answer read = record { answers = answer ∷ read.answers; remainder = read.remainder }
 
 abbrev pub begins : List ℕ → List ℕ → Bool
 begins text front = starts_with nat_eq text front
 
 -- so many numbers from n on: each is one whose digit stands next in the text
 unfoldable pub numbers_at : ℕ → ℕ → List ℕ → Reading
-numbers_at zero n text = record { answers = []; rest = text }
+numbers_at zero n text = record { answers = []; remainder = text }
 numbers_at (suc more) n text =
     if begins text ((48 + n) ∷ [])
     then with_answer true (numbers_at more (n + 1) (drop 1 text))
@@ -68,15 +68,15 @@ numbers_at (suc more) n text =
 
 -- the fault where this rest of the text begins
 abbrev pub rule_fault_at : List ℕ → List ℕ → Result Numbers RuleFault
-rule_fault_at text rest = Err (BadRule (length text - length rest))
+rule_fault_at text remainder = Err (BadRule (length text - length remainder))
 
 -- the rule that a text says, or its first fault from the left
 unfoldable pub rule_read : List ℕ → Result Numbers RuleFault
 rule_read text =
     let births = numbers_at 8 1 (drop 1 text) in
-    let survivals = numbers_at 9 0 (drop 1 births.rest) in
+    let survivals = numbers_at 9 0 (drop 1 births.remainder) in
     if not (begins text (codes "b")) then Err (BadRule 0)
     else if begins text (codes "b0") then Err BirthZero
-    else if not (begins births.rest (codes "s")) then rule_fault_at text births.rest
-    else if not (length survivals.rest == 0) then rule_fault_at text survivals.rest
+    else if not (begins births.remainder (codes "s")) then rule_fault_at text births.remainder
+    else if not (length survivals.remainder == 0) then rule_fault_at text survivals.remainder
     else Ok (record { births = births.answers; survivals = survivals.answers })

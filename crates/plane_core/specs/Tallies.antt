@@ -52,9 +52,9 @@ abbrev pub alive_first : Cell → List Tally → Bool
 alive_first c [] = false
 alive_first c (t ∷ ts) = same_cell c t.cell && t.alive
 
-abbrev pub rest_at : Cell → List Tally → List Tally
-rest_at c [] = []
-rest_at c (t ∷ ts) = if same_cell c t.cell then ts else t ∷ ts
+abbrev pub remainder_at : Cell → List Tally → List Tally
+remainder_at c [] = []
+remainder_at c (t ∷ ts) = if same_cell c t.cell then ts else t ∷ ts
 
 -- the first cell of the tallies, and the earlier of two such cells
 abbrev pub first_of : List Tally → Option Cell

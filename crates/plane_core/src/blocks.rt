@@ -263,11 +263,11 @@ pub(crate) fn next_mark(flags: u64, from: usize) -> Option<usize>
     if from == 64 {
         return None;
     }
-    let rest = flags >> from;
-    if rest == 0 {
+    let remainder = flags >> from;
+    if remainder == 0 {
         return None;
     }
-    Some(from + rest.trailing_zeros() as usize)
+    Some(from + remainder.trailing_zeros() as usize)
 }
 
 /// Does the marked ones of 64 blocks, of which w times 64 come before.

@@ -66,10 +66,10 @@ impl<V: Write> Out<V> {
         requires { self.old.failed ≡ false }
         ensures { Writes V.contents self.old self.new result piece.now }
     {
-        let mut rest = piece;
-        while !rest.is_empty() {
-            let taken = self.put_some(rest)?;
-            rest = &rest[taken..];
+        let mut remainder = piece;
+        while !remainder.is_empty() {
+            let taken = self.put_some(remainder)?;
+            remainder = &remainder[taken..];
         }
         Ok(())
     }
@@ -77,7 +77,7 @@ impl<V: Write> Out<V> {
     /// Writes a front of the piece, and says how long it is: one byte at least, where the piece isn't empty.
     fn put_some(&mut self, piece: &[u8]) -> Result<usize, WriteError>
         requires { self.old.failed ≡ false }
-        ensures told { self.new.failed ≡ is_err result }
+        ensures remembers { self.new.failed ≡ is_err result }
         ensures some { IfOk result (λ taken. (0 < taken) × (taken ≤ length piece.now)) }
         ensures written { IfOk result
             (λ taken. Appends (V.contents self.old.writer) (V.contents self.new.writer) (take taken piece.now)) }

@@ -1,6 +1,6 @@
 //! A pattern in parts that lie so far apart that they don't meet for some generations: each runs as if it were alone.
 //!
-//! A line between two columns, or two rows, cuts a pattern in two if there is an empty band before it that is wide
+//! A cut between two columns, or two rows, parts a pattern in two if there is an empty band before it that is wide
 //! enough. Each part is cut again as long as there is such a band. So a spaceship that has left costs no more than a
 //! board of its own.
 ghost use Rattle.std.specs.Prelude.{◌≡◌, ◌<◌, ◌^◌, ◌++◌, ◌+ℤ◌, IfOk, IfSome, pos};
@@ -20,7 +20,7 @@ pub(crate) enum Axis {
     Rows,
 }
 
-/// A line before a column, or above a row.
+/// A cut before a column, or above a row.
 #[derive(Clone, Copy)]
 pub(crate) struct Cut {
     axis: Axis,
@@ -48,7 +48,7 @@ impl Axis {
 }
 
 impl Cut {
-    /// A line that cuts the pattern in two, with an empty band of so many columns or rows before it, if one is found.
+    /// A cut that parts the pattern in two, with an empty band of so many columns or rows before it, if one is found.
     pub(crate) fn find(
         alloc: Global,
         pattern: &Pattern,
@@ -62,7 +62,7 @@ impl Cut {
         }
     }
 
-    /// Such a line, if one is found this way. It is guessed from which lanes of 64 have a cell, and then tested.
+    /// Such a cut, if one is found this way. It is guessed from which lanes of 64 have a cell, and then tested.
     fn along(
         alloc: Global,
         axis: Axis,
@@ -84,7 +84,7 @@ impl Cut {
         Ok(cut.if_it_leaves_a_band(band, pattern))
     }
 
-    /// The line, if no cell lies in the band of so many columns or rows before it.
+    /// The cut, if no cell lies in the band of so many columns or rows before it.
     fn if_it_leaves_a_band(self, band: u32, pattern: &Pattern) -> Option<Cut>
         ensures { IfSome result (IsCut band pattern.now) }
     {
@@ -95,14 +95,14 @@ impl Cut {
         }
     }
 
-    /// Whether the cell lies before the line.
+    /// Whether the cell lies before the cut.
     fn is_before(self, cell: Cell) -> bool
         ensures { result ≡ is_before self cell }
     {
         i64::from(self.axis.place(cell)) < self.at
     }
 
-    /// Whether the cell lies before the line, or past it.
+    /// Whether the cell lies before the cut, or past it.
     fn is_on_side(self, before: bool, cell: Cell) -> bool
         ensures { result ≡ is_on_side self before cell }
     {
@@ -113,21 +113,21 @@ impl Cut {
         }
     }
 
-    /// Whether the cell lies past the line, or before the band of so many columns or rows before it.
+    /// Whether the cell lies past the cut, or before the band of so many columns or rows before it.
     fn leaves_band_at(self, band: u32, cell: Cell) -> bool
         ensures { result ≡ leaves_band self band cell }
     {
         !self.is_before(cell) || past_band(self.axis.place(cell), band) < self.at
     }
 
-    /// Whether no cell lies in the band of so many columns or rows before the line.
+    /// Whether no cell lies in the band of so many columns or rows before the cut.
     fn leaves_band(self, band: u32, cells: &[Cell]) -> bool
         ensures { result ≡ list_all (leaves_band self band) cells.now }
     {
         cells.iter().all(|cell| self.leaves_band_at(band, *cell))
     }
 
-    /// The cells of a pattern that lie before the line, or those past it.
+    /// The cells of a pattern that lie before the cut, or those past it.
     pub(crate) fn side(
         self,
         alloc: Global,
@@ -140,7 +140,7 @@ impl Cut {
         Ok(Pattern::from_ordered(cells))
     }
 
-    /// Those of the cells that lie before the line, or those past it.
+    /// Those of the cells that lie before the cut, or those past it.
     fn cells_of_side(
         self,
         alloc: Global,

@@ -299,10 +299,10 @@ fn write_rows<V: Write>(out: &mut Out<V>, cells: &[Cell], bounds: Bounds) -> Res
     requires cells { IsAhead bounds.top bounds cells.now }
     ensures { Writes V.contents out.old out.new result (box_text (Some bounds) cells.now) }
 {
-    let mut rest = cells;
+    let mut remainder = cells;
     for y in bounds.top..bounds.bottom + 1 {
-        write_row(out, rest, bounds, y)?;
-        rest = below(rest, y);
+        write_row(out, remainder, bounds, y)?;
+        remainder = below(remainder, y);
     }
     Ok(())
 }

@@ -82,14 +82,14 @@ impl Rule {
         if text.starts_with(b"b0") {
             return Err(RuleFault::BirthZero);
         }
-        let (births, rest) = read_numbers(&text[1..], 1);
-        if !rest.starts_with(b"s") {
-            let place = text.len() - rest.len();
+        let (births, remainder) = read_numbers(&text[1..], 1);
+        if !remainder.starts_with(b"s") {
+            let place = text.len() - remainder.len();
             return Err(RuleFault::BadRule { place });
         }
-        let (survivals, rest) = read_numbers(&rest[1..], 0);
-        if !rest.is_empty() {
-            let place = text.len() - rest.len();
+        let (survivals, remainder) = read_numbers(&remainder[1..], 0);
+        if !remainder.is_empty() {
+            let place = text.len() - remainder.len();
             return Err(RuleFault::BadRule { place });
         }
         Ok(Rule { births, survivals })
@@ -159,15 +159,15 @@ fn write_digits<V: Write>(out: &mut Out<V>, least: u8, answers: &[bool]) -> Resu
 fn read_numbers<const N: usize>(text: &[u8], least: u8) -> ([bool; N], &[u8])
     requires { least + N ≤ 10 }
     ensures answers { result.0 ≡ (numbers_at N least text.now).answers }
-    ensures rest { result.1.now ≡ (numbers_at N least text.now).rest }
+    ensures remainder { result.1.now ≡ (numbers_at N least text.now).remainder }
 {
     let mut answers = [false; N];
-    let mut rest = text;
+    let mut remainder = text;
     for i in 0..N {
-        if rest.starts_with(&[b'0' + least + i as u8]) {
+        if remainder.starts_with(&[b'0' + least + i as u8]) {
             answers[i] = true;
-            rest = &rest[1..];
+            remainder = &remainder[1..];
         }
     }
-    (answers, rest)
+    (answers, remainder)
 }

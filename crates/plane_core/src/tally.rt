@@ -18,7 +18,7 @@ ghost use Rattle.std.specs.List.{list_all};
 ghost use Rattle.plane_core.specs.Cells.{InOrder, IsPattern, moved_by, near_plane};
 ghost use Rattle.plane_core.specs.Tallies.{AddsNeighbours, CountsNeighbourhoods, IsMerged, cells_of, counted_at};
 ghost use Rattle.plane_core.specs.Tallies.{alive_at, alive_first, count_first, earlier_of, first_of, moved_tally};
-ghost use Rattle.plane_core.specs.Tallies.{one_of, rest_at, tally_lives};
+ghost use Rattle.plane_core.specs.Tallies.{one_of, remainder_at, tally_lives};
 ghost use Rattle.plane_core.specs.declared.cell.Cell.{Cell};
 ghost use Rattle.plane_core.specs.declared.tally.Tally.{Tally};
 
@@ -149,20 +149,20 @@ fn merged(
     requires small { (c : Cell) → counted_at left.now c + (counted_at middle.now c + counted_at right.now c) < 256 }
     ensures { IfOk result (λ sums. IsMerged left.now middle.now right.now sums.items) }
 {
-    let (mut left_rest, mut middle_rest, mut right_rest) = (left, middle, right);
+    let (mut left_remainder, mut middle_remainder, mut right_remainder) = (left, middle, right);
     let mut sums = Vec::new(alloc);
-    while let Some(cell) = earliest(left_rest, middle_rest, right_rest) {
-        let from_left = take_at(left_rest, cell);
-        let from_middle = take_at(middle_rest, cell);
-        let from_right = take_at(right_rest, cell);
+    while let Some(cell) = earliest(left_remainder, middle_remainder, right_remainder) {
+        let from_left = take_at(left_remainder, cell);
+        let from_middle = take_at(middle_remainder, cell);
+        let from_right = take_at(right_remainder, cell);
         sums.push(Tally {
             cell,
             count: from_left.count + from_middle.count + from_right.count,
             alive: from_middle.alive,
         })?;
-        left_rest = from_left.rest;
-        middle_rest = from_middle.rest;
-        right_rest = from_right.rest;
+        left_remainder = from_left.remainder;
+        middle_remainder = from_middle.remainder;
+        right_remainder = from_right.remainder;
     }
     Ok(sums)
 }
@@ -172,25 +172,25 @@ fn merged(
 struct Taken<'a> {
     count: u8,
     alive: bool,
-    rest: &'a [Tally],
+    remainder: &'a [Tally],
 }
 
 /// Takes the first tally off the list if it is one of this cell.
 fn take_at(tallies: &[Tally], cell: Cell) -> Taken<'_>
     ensures count { result.count ≡ count_first cell tallies.now }
     ensures alive { result.alive ≡ alive_first cell tallies.now }
-    ensures rest { result.rest.now ≡ rest_at cell tallies.now }
+    ensures remainder { result.remainder.now ≡ remainder_at cell tallies.now }
 {
     match split(tallies) {
-        Some((first, rest)) if cell == first.cell => Taken {
+        Some((first, remainder)) if cell == first.cell => Taken {
             count: first.count,
             alive: first.alive,
-            rest,
+            remainder,
         },
         _ => Taken {
             count: 0,
             alive: false,
-            rest: tallies,
+            remainder: tallies,
         },
     }
 }
@@ -233,6 +233,6 @@ fn split(tallies: &[Tally]) -> Option<(Tally, &[Tally])>
 {
     match tallies {
         [] => None,
-        [first, rest @ ..] => Some((*first, rest)),
+        [first, remainder @ ..] => Some((*first, remainder)),
     }
 }

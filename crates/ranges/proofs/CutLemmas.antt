@@ -12,7 +12,7 @@ use Rattle.ranges.proofs.DecimalLemmas.{IsDecimal-decimal}
 
 -- the decimal ends before the rest
 abbrev pub Ends : List ℕ → List ℕ → Type 0
-Ends number rest = has_digit rest ≡ true → slice_index number 0 ≡ 48
+Ends number remainder = has_digit remainder ≡ true → slice_index number 0 ≡ 48
 
 cut_digits : (d e x y : List ℕ) → all_ascii_digits d ≡ true → all_ascii_digits e ≡ true → has_digit x ≡ false → has_digit y ≡ false → d ++ x ≡ e ++ y
     → (d ≡ e) × (x ≡ y)
@@ -27,8 +27,8 @@ cut_digits (a ∷ d) [] x y p q h k s =
     absurd (cc)
 cut_digits (a ∷ d) (b ∷ e) x y p q h k s =
     let same : a ≡ b = cc in
-    let rest : d ++ x ≡ e ++ y = cc in
-    let more = cut_digits d e x y (search rules) (search rules) h k rest in
+    let remainder : d ++ x ≡ e ++ y = cc in
+    let more = cut_digits d e x y (search rules) (search rules) h k remainder in
     (let m = more.0 in cc, more.1)
 
 zero_is : (d : List ℕ) → IsDecimal d → slice_index d 0 ≡ 48 → d ≡ 48 ∷ []
@@ -72,8 +72,8 @@ pub cut_pair : (w v : Written) (x y : List ℕ) → IsWritten w → IsWritten v 
 cut_pair w v x y p q h k s =
     let s' : w.first ++ 43 ∷ (w.count ++ x) ≡ v.first ++ 43 ∷ (v.count ++ y) = sym (pair-append w x) ∙ s ∙ pair-append v y in
     let first = cut w.first v.first (43 ∷ (w.count ++ x)) (43 ∷ (v.count ++ y)) p.0 q.0 (λ f. absurd (cc)) (λ f. absurd (cc)) s' in
-    let rest : w.count ++ x ≡ v.count ++ y = (let f = first.1 in cc) in
-    let count = cut w.count v.count x y p.1 q.1 h k rest in
+    let remainder : w.count ++ x ≡ v.count ++ y = (let f = first.1 in cc) in
+    let count = cut w.count v.count x y p.1 q.1 h k remainder in
     (λ i. record { first = first.0 i; count = count.0 i }, count.1)
 
 -- what follows the first range of a list

@@ -15,12 +15,12 @@ ascii = numerals_by_value _ tells_all_ascii_digits
 
 -- a digit more at the end
 pub decimal-push : (n d : ℕ) → 1 ≤ n → n < 2 ^ 64 → d ≤ 9 → decimal (10 * n + d) ≡ decimal n ++ (48 + d) ∷ []
-decimal-push n d some word digit =
+decimal-push n d some fits digit =
     let quotient : (10 * n + d) / 10 ≡ n = omega arith in
-    let rest : (10 * n + d) % 10 ≡ d = omega arith in
+    let remainder : (10 * n + d) % 10 ≡ d = omega arith in
     decimal_step_wide (10 * n + d) (omega arith) (omega arith)
     ∙ ap (λ (q : ℕ). decimal q ++ (48 + (10 * n + d) % 10) ∷ []) quotient
-    ∙ ap (λ (m : ℕ). decimal n ++ (48 + m) ∷ []) rest
+    ∙ ap (λ (m : ℕ). decimal n ++ (48 + m) ∷ []) remainder
 
 slice_index-front : (xs ys : List ℕ) → 1 ≤ length xs → slice_index (xs ++ ys) 0 ≡ slice_index xs 0
 slice_index-front [] ys some = absurd (omega arith)
@@ -31,27 +31,27 @@ all_ascii_digits-append [] ys h k = k
 all_ascii_digits-append (x ∷ xs) ys h k = search (rules, all_ascii_digits-append xs ys)
 
 pub IsDecimal-decimal : (n : ℕ) → n < 2 ^ 64 → IsDecimal (decimal n)
-IsDecimal-decimal n word = record {
-  digits = digits_decimal ascii n word;
-  some = decimal_nonempty n word;
-  plain = λ zero_first. go n word zero_first;
+IsDecimal-decimal n fits = record {
+  digits = digits_decimal ascii n fits;
+  some = decimal_nonempty n fits;
+  plain = λ zero_first. go n fits zero_first;
 }
   where
     go : (n : ℕ) → n < 2 ^ 64 → slice_index (decimal n) 0 ≡ 48 → length (decimal n) ≡ 1
-    go zero word h = ap length (decimal_digit 0 (omega arith))
-    go (suc n) word h = let f = first_decimal (suc n) (omega arith) word in absurd (omega arith)
+    go zero fits h = ap length (decimal_digit 0 (omega arith))
+    go (suc n) fits h = let f = first_decimal (suc n) (omega arith) fits in absurd (omega arith)
 
 -- where the next digit makes a number too large
-pub large : (n d : ℕ) (text rest : List ℕ) → 1 ≤ n → n < 2 ^ 64 → d ≤ 9 → 2 ^ 64 ≤ 10 * n + d → text ≡ decimal n ++ (48 + d) ∷ rest → BeginsLargeDecimal text
-large n d text rest some word digit big e =
+pub large : (n d : ℕ) (text remainder : List ℕ) → 1 ≤ n → n < 2 ^ 64 → d ≤ 9 → 2 ^ 64 ≤ 10 * n + d → text ≡ decimal n ++ (48 + d) ∷ remainder → BeginsLargeDecimal text
+large n d text remainder some fits digit big e =
     let m : ℕ = 10 * n + d in
-    let front : IsDecimal (decimal n) = IsDecimal-decimal n word in
-    let pushed : decimal m ≡ decimal n ++ (48 + d) ∷ [] = decimal-push n d some word digit in
+    let front : IsDecimal (decimal n) = IsDecimal-decimal n fits in
+    let pushed : decimal m ≡ decimal n ++ (48 + d) ∷ [] = decimal-push n d some fits digit in
     let numeral = decimal_is_IsNumeral_wide m (omega arith) in
-    let nonzero : 48 < slice_index (decimal n) 0 = first_decimal n some word in
+    let nonzero : 48 < slice_index (decimal n) 0 = first_decimal n some fits in
     record {
       number = decimal m;
-      rest = rest;
+      remainder = remainder;
       is_decimal = record {
         digits = ap all_ascii_digits pushed ∙ all_ascii_digits-append (decimal n) ((48 + d) ∷ []) front.digits (search (rules, arith));
         some = numeral.0.0;
@@ -59,44 +59,44 @@ large n d text rest some word digit big e =
             ap (λ (xs : List ℕ). slice_index xs 0) pushed ∙ slice_index-front (decimal n) ((48 + d) ∷ []) front.some in absurd (omega arith);
       };
       large = subst (λ (v : ℕ). 2 ^ 64 ≤ v) (sym numeral.1) big;
-      spelled = e ∙ sym (ap (λ (xs : List ℕ). xs ++ rest) pushed ∙ append_assoc (decimal n) ((48 + d) ∷ []) rest);
+      spelled = e ∙ sym (ap (λ (xs : List ℕ). xs ++ remainder) pushed ∙ append_assoc (decimal n) ((48 + d) ∷ []) remainder);
     }
 
 -- the digits so far are those of the number, which isn't 0
-pub record Reading (first : ℕ) (text : List ℕ) (number : ℕ) (rest : List ℕ) : Type 0 where
+pub record Reading (first : ℕ) (text : List ℕ) (number : ℕ) (remainder : List ℕ) : Type 0 where
   pub some : 1 ≤ number
-  pub word : number < 2 ^ 64
-  pub spelled : (48 + first) ∷ text ≡ decimal number ++ rest
+  pub fits : number < 2 ^ 64
+  pub spelled : (48 + first) ∷ text ≡ decimal number ++ remainder
 
 pub reading_first : (first : ℕ) (text : List ℕ) → 1 ≤ first → first ≤ 9 → Reading first text first text
 reading_first first text least most = record {
   some = least;
-  word = omega arith;
+  fits = omega arith;
   spelled = ap (λ (xs : List ℕ). xs ++ text) (sym (decimal_digit first (omega arith)));
 }
 
-pub reading_more : (first : ℕ) (text : List ℕ) (n : ℕ) (rest : List ℕ) (d next : ℕ) (more : List ℕ) → Reading first text n rest → rest ≡ (48 + d) ∷ more → d ≤ 9
+pub reading_more : (first : ℕ) (text : List ℕ) (n : ℕ) (remainder : List ℕ) (d next : ℕ) (more : List ℕ) → Reading first text n remainder → remainder ≡ (48 + d) ∷ more → d ≤ 9
     → next ≡ 10 * n + d → next < 2 ^ 64 → Reading first text next more
-reading_more first text n rest d next more r cut digit is word = record {
+reading_more first text n remainder d next more r cut digit is fits = record {
   some = let s = r.some in omega arith;
-  word = word;
+  fits = fits;
   spelled = r.spelled ∙ ap (λ (xs : List ℕ). decimal n ++ xs) cut ∙ sym (append_assoc (decimal n) ((48 + d) ∷ []) more)
-      ∙ ap (λ (xs : List ℕ). xs ++ more) (sym (decimal-push n d r.some r.word digit) ∙ ap decimal (sym is));
+      ∙ ap (λ (xs : List ℕ). xs ++ more) (sym (decimal-push n d r.some r.fits digit) ∙ ap decimal (sym is));
 }
 
-pub reading_large : (first : ℕ) (text : List ℕ) (n : ℕ) (rest : List ℕ) (d : ℕ) (more : List ℕ) → Reading first text n rest → rest ≡ (48 + d) ∷ more → d ≤ 9
+pub reading_large : (first : ℕ) (text : List ℕ) (n : ℕ) (remainder : List ℕ) (d : ℕ) (more : List ℕ) → Reading first text n remainder → remainder ≡ (48 + d) ∷ more → d ≤ 9
     → 2 ^ 64 ≤ 10 * n + d → BeginsLargeDecimal ((48 + first) ∷ text)
-reading_large first text n rest d more r cut digit big =
-    large n d ((48 + first) ∷ text) more r.some r.word digit big (r.spelled ∙ ap (λ (xs : List ℕ). decimal n ++ xs) cut)
+reading_large first text n remainder d more r cut digit big =
+    large n d ((48 + first) ∷ text) more r.some r.fits digit big (r.spelled ∙ ap (λ (xs : List ℕ). decimal n ++ xs) cut)
 
-pub reading_done : (first : ℕ) (text : List ℕ) (n : ℕ) (rest : List ℕ) → Reading first text n rest → has_digit rest ≡ false
-    → BeginsDecimal ((48 + first) ∷ text) n rest
-reading_done first text n rest r none = record { word = r.word; spelled = r.spelled; ends = λ h. absurd (cc) }
+pub reading_done : (first : ℕ) (text : List ℕ) (n : ℕ) (remainder : List ℕ) → Reading first text n remainder → has_digit remainder ≡ false
+    → BeginsDecimal ((48 + first) ∷ text) n remainder
+reading_done first text n remainder r none = record { fits = r.fits; spelled = r.spelled; ends = λ h. absurd (cc) }
 
 -- a `0` is a decimal by itself
-pub begins_zero : (text rest : List ℕ) (d : ℕ) → text ≡ (48 + d) ∷ rest → d ≡ 0 → BeginsDecimal text d rest
-begins_zero text rest d e z = record {
-  word = omega arith;
-  spelled = e ∙ ap (λ (xs : List ℕ). xs ++ rest) (sym (decimal_digit d (omega arith)));
+pub begins_zero : (text remainder : List ℕ) (d : ℕ) → text ≡ (48 + d) ∷ remainder → d ≡ 0 → BeginsDecimal text d remainder
+begins_zero text remainder d e z = record {
+  fits = omega arith;
+  spelled = e ∙ ap (λ (xs : List ℕ). xs ++ remainder) (sym (decimal_digit d (omega arith)));
   ends = λ h. z;
 }

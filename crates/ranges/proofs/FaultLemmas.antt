@@ -12,7 +12,7 @@ use Rattle.std.proofs.lemmas.Str.Parse.{digits_value-take-le}
 use Rattle.std.proofs.lemmas.List.Elements.{recursion_from_All}
 use Rattle.std.proofs.Math.Seq.{take-append_seam, drop-append_seam, get_or-append_seam}
 use Rattle.ranges.specs.declared.range.Range.{Range}
-use Rattle.ranges.specs.RangeLists.{AreWords, BeginsLargeDecimal, BeginsList, IsBadListByte, IsDecimal, IsLargeDecimal, IsListText, Written}
+use Rattle.ranges.specs.RangeLists.{FitU64, BeginsLargeDecimal, BeginsList, IsBadListByte, IsDecimal, IsLargeDecimal, IsListText, Written}
 use Rattle.ranges.specs.RangeLists.{joined, list_text, pair_text, written}
 use Rattle.ranges.specs.RangeListSteps.{has_byte, has_digit, ranges_and_commas}
 use Rattle.ranges.proofs.DecimalLemmas.{IsDecimal-decimal, ascii}
@@ -21,7 +21,7 @@ use Rattle.ranges.proofs.CutLemmas.{Ends, IsWritten, IsWritten-written, cut, cut
 -- the byte at the front, if there is one
 abbrev pub head_of : List ℕ → Option ℕ
 head_of [] = None
-head_of (b ∷ rest) = Some b
+head_of (b ∷ remainder) = Some b
 
 same_digit : (x y : List ℕ) → head_of x ≡ head_of y → has_digit x ≡ has_digit y
 same_digit [] [] h = refl
@@ -40,12 +40,12 @@ same_end [] y h k = refl
 same_end (a ∷ x) [] h k = absurd (cc)
 same_end (a ∷ x) (b ∷ y) h k = absurd (cc)
 
-abbrev pub IsWord : Range → Type 0
-IsWord r = (r.first < 2 ^ 64) × (r.count < 2 ^ 64)
+abbrev pub FitsU64 : Range → Type 0
+FitsU64 r = (r.first < 2 ^ 64) × (r.count < 2 ^ 64)
 
 -- the range is one of 64 bits, as it is written
-abbrev pub IsOfWords : Written → Type 0
-IsOfWords w = (r : Range) × (IsWord r × (w ≡ written r))
+abbrev pub IsOfU64 : Written → Type 0
+IsOfU64 w = (r : Range) × (FitsU64 r × (w ≡ written r))
 
 abbrev AreWritten : List Written → Type 0
 AreWritten ws = AllByRecursion IsWritten ws
@@ -56,23 +56,23 @@ record Walked (qs : List Written) (x : List ℕ) : Type 0 where
   each : AreWritten more
   spelled : joined more ≡ x
   some : qs ≢ [] → more ≢ []
-  keeps : AllByRecursion IsOfWords qs → AllByRecursion IsOfWords more
+  keeps : AllByRecursion IsOfU64 qs → AllByRecursion IsOfU64 more
 
 opening-cons : (r : Range) (rs : List Range) (x : List ℕ) → ranges_and_commas (r ∷ rs) ++ x ≡ pair_text (written r) ++ (44 ∷ (ranges_and_commas rs ++ x))
 opening-cons r rs x = append_assoc (pair_text (written r)) (44 ∷ ranges_and_commas rs) x
 
-walk : (ranges : List Range) → AllByRecursion IsWord ranges → (qs : List Written) → AreWritten qs → (x : List ℕ) → joined qs ≡ ranges_and_commas ranges ++ x → Walked qs x
-walk [] words qs each x s = record { more = qs; each = each; spelled = s; some = λ h. h; keeps = λ h. h }
-walk (r ∷ rs) words [] each x s = absurd (pair-some (written r) (44 ∷ (ranges_and_commas rs ++ x)) (sym (s ∙ opening-cons r rs x)))
-walk (r ∷ rs) words (q ∷ []) each x s =
-    let c = cut_pair q (written r) [] (44 ∷ (ranges_and_commas rs ++ x)) each.0 (IsWritten-written r words.0.0 words.0.1) (λ h. absurd (cc)) (λ h. absurd (cc))
+walk : (ranges : List Range) → AllByRecursion FitsU64 ranges → (qs : List Written) → AreWritten qs → (x : List ℕ) → joined qs ≡ ranges_and_commas ranges ++ x → Walked qs x
+walk [] fit qs each x s = record { more = qs; each = each; spelled = s; some = λ h. h; keeps = λ h. h }
+walk (r ∷ rs) fit [] each x s = absurd (pair-some (written r) (44 ∷ (ranges_and_commas rs ++ x)) (sym (s ∙ opening-cons r rs x)))
+walk (r ∷ rs) fit (q ∷ []) each x s =
+    let c = cut_pair q (written r) [] (44 ∷ (ranges_and_commas rs ++ x)) each.0 (IsWritten-written r fit.0.0 fit.0.1) (λ h. absurd (cc)) (λ h. absurd (cc))
     (append-nil (pair_text q) ∙ s ∙ opening-cons r rs x) in
     absurd (let e = c.1 in cc)
-walk (r ∷ rs) words (q ∷ q' ∷ qs) each x s =
-    let c = cut_pair q (written r) (44 ∷ joined (q' ∷ qs)) (44 ∷ (ranges_and_commas rs ++ x)) each.0 (IsWritten-written r words.0.0 words.0.1) (λ h. absurd (cc))
+walk (r ∷ rs) fit (q ∷ q' ∷ qs) each x s =
+    let c = cut_pair q (written r) (44 ∷ joined (q' ∷ qs)) (44 ∷ (ranges_and_commas rs ++ x)) each.0 (IsWritten-written r fit.0.0 fit.0.1) (λ h. absurd (cc))
     (λ h. absurd (cc)) (s ∙ opening-cons r rs x) in
     let t : joined (q' ∷ qs) ≡ ranges_and_commas rs ++ x = (let e = c.1 in cc) in
-    let w = walk rs words.1 (q' ∷ qs) each.1 x t in
+    let w = walk rs fit.1 (q' ∷ qs) each.1 x t in
     record { more = w.more; each = w.each; spelled = w.spelled; some = λ h. w.some (λ e. absurd (cc)); keeps = λ h. w.keeps h.1 }
 
 -- no list's text goes on as the text does after its front: with the byte there, or by ending there
@@ -87,10 +87,10 @@ empty_parts : (x y : List ℕ) → [] ≡ x ++ y → (x ≡ []) × (y ≡ [])
 empty_parts [] y h = (refl, sym h)
 empty_parts (a ∷ x) y h = absurd (cc)
 
-pub refused_after : (ranges : List Range) (front there : List ℕ) → AreWords ranges → (ranges_and_commas ranges ++ front) ++ there ≢ [] → RefusedRange front there
+pub refused_after : (ranges : List Range) (front there : List ℕ) → FitU64 ranges → (ranges_and_commas ranges ++ front) ++ there ≢ [] → RefusedRange front there
     → Refused (ranges_and_commas ranges ++ front) there
-refused_after ranges front there words some refused = λ qs each x same s.
-    let w = walk ranges (recursion_from_All IsWord ranges words) qs each (front ++ x) (s ∙ append_assoc (ranges_and_commas ranges) front x) in
+refused_after ranges front there fit some refused = λ qs each x same s.
+    let w = walk ranges (recursion_from_All FitsU64 ranges fit) qs each (front ++ x) (s ∙ append_assoc (ranges_and_commas ranges) front x) in
     go qs x same s w.more w.each w.spelled (w.some (λ e. none x same (ap joined (sym e) ∙ s)))
   where
     none : (x : List ℕ) → head_of there ≡ head_of x → [] ≢ (ranges_and_commas ranges ++ front) ++ x
@@ -129,8 +129,8 @@ ends_alike n there x ends same = λ h. zero_first n (ends (same_digit there x sa
 -- the first number of a range that begins with a decimal and the byte after it
 cut_first : (w : Written) (ws : List Written) (n : ℕ) (x : List ℕ) → IsWritten w → n < 2 ^ 64 → Ends (decimal n) x → pair_text w ++ tail ws ≡ decimal n ++ x
     → 43 ∷ (w.count ++ tail ws) ≡ x
-cut_first w ws n x each word ends s =
-    (cut w.first (decimal n) (43 ∷ (w.count ++ tail ws)) x each.0 (IsDecimal-decimal n word) (λ h. absurd (cc)) ends (sym (pair-append w (tail ws)) ∙ s)).1
+cut_first w ws n x each fits ends s =
+    (cut w.first (decimal n) (43 ∷ (w.count ++ tail ws)) x each.0 (IsDecimal-decimal n fits) (λ h. absurd (cc)) ends (sym (pair-append w (tail ws)) ∙ s)).1
 
 has_byte-front : (c : ℕ) (x y : List ℕ) → c ∷ y ≡ x → has_byte c x
 has_byte-front c [] y h = absurd (cc)
@@ -138,14 +138,14 @@ has_byte-front c (b ∷ x) y h = cc
 
 -- no `+` stands after a first number
 pub refused_plus : (n : ℕ) (there : List ℕ) → n < 2 ^ 64 → (has_digit there ≡ true → n ≡ 0) → ¬ has_byte 43 there → RefusedRange (decimal n) there
-refused_plus n there word ends other = λ w ws each x same s.
-    other (same_byte 43 there x same (has_byte-front 43 x (w.count ++ tail ws) (cut_first w ws n x each word (ends_alike n there x ends same) s)))
+refused_plus n there fits ends other = λ w ws each x same s.
+    other (same_byte 43 there x same (has_byte-front 43 x (w.count ++ tail ws) (cut_first w ws n x each fits (ends_alike n there x ends same) s)))
 
 -- no digit stands after a `+`
 pub refused_count : (n : ℕ) (there : List ℕ) → n < 2 ^ 64 → has_digit there ≡ false → RefusedRange (decimal n ++ 43 ∷ []) there
-refused_count n there word none = λ w ws each x same s.
+refused_count n there fits none = λ w ws each x same s.
     let t : 43 ∷ (w.count ++ tail ws) ≡ 43 ∷ x =
-    cut_first w ws n (43 ∷ x) each word (λ h. absurd (cc)) (s ∙ append_assoc (decimal n) (43 ∷ []) x) in
+    cut_first w ws n (43 ∷ x) each fits (λ h. absurd (cc)) (s ∙ append_assoc (decimal n) (43 ∷ []) x) in
     let u : w.count ++ tail ws ≡ x = cc in
     let d : has_digit x ≡ true = ap has_digit (sym u) ∙ first_digit w.count (tail ws) each.1 in
     let f = same_digit there x same in
@@ -156,10 +156,10 @@ tail-byte [] x some h = absurd (some (sym h))
 tail-byte (w ∷ ws) x some h = has_byte-front 44 x (joined (w ∷ ws)) h
 
 -- neither the end nor a `,` stands after a range
-pub refused_comma : (r : Range) (there : List ℕ) → IsWord r → (has_digit there ≡ true → r.count ≡ 0) → there ≢ [] → ¬ has_byte 44 there
+pub refused_comma : (r : Range) (there : List ℕ) → FitsU64 r → (has_digit there ≡ true → r.count ≡ 0) → there ≢ [] → ¬ has_byte 44 there
     → RefusedRange (pair_text (written r)) there
-refused_comma r there word ends some other = λ w ws each x same s.
-    let c = cut_pair w (written r) (tail ws) x each (IsWritten-written r word.0 word.1) (λ h. let n = tail-no_digit ws in absurd (cc))
+refused_comma r there fits ends some other = λ w ws each x same s.
+    let c = cut_pair w (written r) (tail ws) x each (IsWritten-written r fits.0 fits.1) (λ h. let n = tail-no_digit ws in absurd (cc))
     (ends_alike r.count there x ends same) s in
     other (same_byte 44 there x same (tail-byte ws x (λ e. some (same_end there x same e)) c.1))
 
@@ -171,16 +171,16 @@ all_digits_front [] (b ∷ e) x y digits none s =
     absurd (cc)
 all_digits_front (a ∷ d) (b ∷ e) x y digits none s =
     let same : a ≡ b = cc in
-    let rest : d ++ x ≡ e ++ y = cc in
-    let more = all_digits_front d e x y (search rules) none rest in
+    let remainder : d ++ x ≡ e ++ y = cc in
+    let more = all_digits_front d e x y (search rules) none remainder in
     λ i. same i ∷ more i
 
 -- a decimal of 64 bits doesn't begin with one of 2^64 or more
 pub small_decimal : (n : ℕ) (x there : List ℕ) → n < 2 ^ 64 → has_digit x ≡ false → BeginsLargeDecimal there → decimal n ++ x ≢ there
-small_decimal n x there word none b s =
-    let front = all_digits_front (decimal n) b.number x b.rest b.is_decimal.digits none (s ∙ b.spelled) in
+small_decimal n x there fits none b s =
+    let front = all_digits_front (decimal n) b.number x b.remainder b.is_decimal.digits none (s ∙ b.spelled) in
     let less = digits_value-take-le 10 (decimal n) (length b.number) (omega arith) in
-    let value : digits_value 10 (decimal n) ≡ n = digits_value-decimal ascii n word in
+    let value : digits_value 10 (decimal n) ≡ n = digits_value-decimal ascii n fits in
     let same : digits_value 10 (take (length b.number) (decimal n)) ≡ digits_value 10 b.number = ap (digits_value 10) front in
     let big = b.large in
     absurd (omega arith)
@@ -188,15 +188,15 @@ small_decimal n x there word none b s =
 pub large_some : (there : List ℕ) → BeginsLargeDecimal there → there ≢ []
 large_some there b e =
     let s = b.is_decimal.some in
-    let l : length there ≡ length b.number + length b.rest = ap length b.spelled ∙ length-append b.number b.rest in
+    let l : length there ≡ length b.number + length b.remainder = ap length b.spelled ∙ length-append b.number b.remainder in
     let z = ap length e in
     absurd (omega arith)
 
-written-words : (rs : List Range) → AllByRecursion IsWord rs → AllByRecursion IsOfWords (map written rs)
-written-words [] h = tt
-written-words (r ∷ rs) h = ((r, (h.0, refl)), written-words rs h.1)
+written-fit : (rs : List Range) → AllByRecursion FitsU64 rs → AllByRecursion IsOfU64 (map written rs)
+written-fit [] h = tt
+written-fit (r ∷ rs) h = ((r, (h.0, refl)), written-fit rs h.1)
 
-pub written-all : (rs : List Range) → AllByRecursion IsWord rs → AreWritten (map written rs)
+pub written-all : (rs : List Range) → AllByRecursion FitsU64 rs → AreWritten (map written rs)
 written-all [] h = tt
 written-all (r ∷ rs) h = (IsWritten-written r h.0.0 h.0.1, written-all rs h.1)
 
@@ -207,7 +207,7 @@ list_text-joined rs = refl
 -- what is refused is no list
 pub not_list : (text front there : List ℕ) → text ≡ front ++ there → Refused front there → ¬ IsListText text
 not_list text front there s refused list =
-    refused (map written list.ranges) (written-all list.ranges (recursion_from_All IsWord list.ranges list.words)) there refl
+    refused (map written list.ranges) (written-all list.ranges (recursion_from_All FitsU64 list.ranges list.fit)) there refl
     (sym (list_text-joined list.ranges) ∙ list.spelled ∙ s)
 
 place-front : (text front there : List ℕ) → text ≡ front ++ there → length text - length there ≡ length front
@@ -224,18 +224,18 @@ bad text front [] s begins refused = record {
   there = λ lt. absurd (omega arith);
   short = λ e. not_list text front [] s refused;
 }
-bad text front (b ∷ rest) s begins refused = record {
+bad text front (b ∷ remainder) s begins refused = record {
   within = omega arith;
-  before = subst BeginsList (sym (taken text front (b ∷ rest) s)) begins;
+  before = subst BeginsList (sym (taken text front (b ∷ remainder) s)) begins;
   there = λ lt long.
       let front' : List ℕ = front ++ b ∷ [] in
-      let s' : text ≡ front' ++ rest = s ∙ sym (append_assoc front (b ∷ []) rest) in
-      let place : length text - length (b ∷ rest) + 1 ≡ length text - length rest =
-      omega (arith, ap length s, length-append front (b ∷ rest)) in
-      let cut : take (length text - length (b ∷ rest) + 1) text ≡ front' = ap (λ (n : ℕ). take n text) place ∙ taken text front' rest s' in
-      refused long.ranges (recursion_from_All IsWritten long.ranges long.decimals) (b ∷ long.rest) refl
-      (long.spelled ∙ ap (λ (t : List ℕ). t ++ long.rest) cut ∙ append_assoc front (b ∷ []) long.rest);
-  short = λ e. let l : length text ≡ length front + suc (length rest) = omega (arith, ap length s, length-append front (b ∷ rest)) in absurd (omega arith);
+      let s' : text ≡ front' ++ remainder = s ∙ sym (append_assoc front (b ∷ []) remainder) in
+      let place : length text - length (b ∷ remainder) + 1 ≡ length text - length remainder =
+      omega (arith, ap length s, length-append front (b ∷ remainder)) in
+      let cut : take (length text - length (b ∷ remainder) + 1) text ≡ front' = ap (λ (n : ℕ). take n text) place ∙ taken text front' remainder s' in
+      refused long.ranges (recursion_from_All IsWritten long.ranges long.decimals) (b ∷ long.remainder) refl
+      (long.spelled ∙ ap (λ (t : List ℕ). t ++ long.remainder) cut ∙ append_assoc front (b ∷ []) long.remainder);
+  short = λ e. let l : length text ≡ length front + suc (length remainder) = omega (arith, ap length s, length-append front (b ∷ remainder)) in absurd (omega arith);
 }
 
 -- the text's last byte is no digit
@@ -281,36 +281,36 @@ large_at text front there s begins apart large = record {
 }
 
 -- a list whose next range begins with a number that is too large
-pub refused_large : (text there : List ℕ) (ranges : List Range) → AreWords ranges → text ≡ ranges_and_commas ranges ++ there → BeginsLargeDecimal there
+pub refused_large : (text there : List ℕ) (ranges : List Range) → FitU64 ranges → text ≡ ranges_and_commas ranges ++ there → BeginsLargeDecimal there
     → ¬ IsListText text
-refused_large text there ranges words s large list =
-    let w = walk ranges (recursion_from_All IsWord ranges words) (map written list.ranges)
-    (written-all list.ranges (recursion_from_All IsWord list.ranges list.words)) there (sym (list_text-joined list.ranges) ∙ list.spelled ∙ s) in
-    go w.more w.spelled (w.keeps (written-words list.ranges (recursion_from_All IsWord list.ranges list.words)))
+refused_large text there ranges fit s large list =
+    let w = walk ranges (recursion_from_All FitsU64 ranges fit) (map written list.ranges)
+    (written-all list.ranges (recursion_from_All FitsU64 list.ranges list.fit)) there (sym (list_text-joined list.ranges) ∙ list.spelled ∙ s) in
+    go w.more w.spelled (w.keeps (written-fit list.ranges (recursion_from_All FitsU64 list.ranges list.fit)))
   where
-    go : (more : List Written) → joined more ≡ there → AllByRecursion IsOfWords more → ⊥
-    go [] t words = large_some there large (sym t)
-    go (v ∷ vs) t words =
-        let r = words.0.0 in
-        let first : v.first ≡ decimal r.first = ap (λ (w : Written). w.first) words.0.1.1 in
-        small_decimal r.first (43 ∷ (v.count ++ tail vs)) there words.0.1.0.0 refl large
+    go : (more : List Written) → joined more ≡ there → AllByRecursion IsOfU64 more → ⊥
+    go [] t fit = large_some there large (sym t)
+    go (v ∷ vs) t fit =
+        let r = fit.0.0 in
+        let first : v.first ≡ decimal r.first = ap (λ (w : Written). w.first) fit.0.1.1 in
+        small_decimal r.first (43 ∷ (v.count ++ tail vs)) there fit.0.1.0.0 refl large
         (ap (λ (d : List ℕ). d ++ 43 ∷ (v.count ++ tail vs)) (sym first) ∙ sym (pair-append v (tail vs)) ∙ sym (joined-cons v vs) ∙ t)
 
 -- or whose next range has a count that is too large
-pub refused_large_count : (text there : List ℕ) (ranges : List Range) (n : ℕ) → AreWords ranges → n < 2 ^ 64
+pub refused_large_count : (text there : List ℕ) (ranges : List Range) (n : ℕ) → FitU64 ranges → n < 2 ^ 64
     → text ≡ ranges_and_commas ranges ++ (decimal n ++ 43 ∷ there)
     → BeginsLargeDecimal there → ¬ IsListText text
-refused_large_count text there ranges n words word s large list =
-    let w = walk ranges (recursion_from_All IsWord ranges words) (map written list.ranges)
-    (written-all list.ranges (recursion_from_All IsWord list.ranges list.words)) (decimal n ++ 43 ∷ there)
+refused_large_count text there ranges n fit fits s large list =
+    let w = walk ranges (recursion_from_All FitsU64 ranges fit) (map written list.ranges)
+    (written-all list.ranges (recursion_from_All FitsU64 list.ranges list.fit)) (decimal n ++ 43 ∷ there)
     (sym (list_text-joined list.ranges) ∙ list.spelled ∙ s) in
-    go w.more w.each w.spelled (w.keeps (written-words list.ranges (recursion_from_All IsWord list.ranges list.words)))
+    go w.more w.each w.spelled (w.keeps (written-fit list.ranges (recursion_from_All FitsU64 list.ranges list.fit)))
   where
-    go : (more : List Written) → AreWritten more → joined more ≡ decimal n ++ 43 ∷ there → AllByRecursion IsOfWords more → ⊥
-    go [] each t words = let e = ap length t in absurd (omega (arith, length-append (decimal n) (43 ∷ there)))
-    go (v ∷ vs) each t words =
-        let r = words.0.0 in
-        let count : v.count ≡ decimal r.count = ap (λ (w : Written). w.count) words.0.1.1 in
-        let c : 43 ∷ (v.count ++ tail vs) ≡ 43 ∷ there = cut_first v vs n (43 ∷ there) each.0 word (λ h. absurd (cc)) (sym (joined-cons v vs) ∙ t) in
-        let rest : v.count ++ tail vs ≡ there = cc in
-        small_decimal r.count (tail vs) there words.0.1.0.1 (tail-no_digit vs) large (ap (λ (d : List ℕ). d ++ tail vs) (sym count) ∙ rest)
+    go : (more : List Written) → AreWritten more → joined more ≡ decimal n ++ 43 ∷ there → AllByRecursion IsOfU64 more → ⊥
+    go [] each t fit = let e = ap length t in absurd (omega (arith, length-append (decimal n) (43 ∷ there)))
+    go (v ∷ vs) each t fit =
+        let r = fit.0.0 in
+        let count : v.count ≡ decimal r.count = ap (λ (w : Written). w.count) fit.0.1.1 in
+        let c : 43 ∷ (v.count ++ tail vs) ≡ 43 ∷ there = cut_first v vs n (43 ∷ there) each.0 fits (λ h. absurd (cc)) (sym (joined-cons v vs) ∙ t) in
+        let remainder : v.count ++ tail vs ≡ there = cc in
+        small_decimal r.count (tail vs) there fit.0.1.0.1 (tail-no_digit vs) large (ap (λ (d : List ℕ). d ++ tail vs) (sym count) ∙ remainder)

@@ -14,7 +14,7 @@ use Rattle.ranges.specs.RangeLists.{Written, joined, pair_text, written}
 use Rattle.ranges.specs.RangeListSteps.{ranges_and_commas}
 use Rattle.ranges.proofs.CutLemmas.{IsWritten, joined-cons, tail, tail-no_digit}
 use Rattle.ranges.proofs.DecimalLemmas.{IsDecimal-decimal}
-use Rattle.ranges.proofs.FaultLemmas.{Apart, IsWord, LastByte, large_some, list_text-joined, pair-append, small_decimal, written-all}
+use Rattle.ranges.proofs.FaultLemmas.{Apart, FitsU64, LastByte, large_some, list_text-joined, pair-append, small_decimal, written-all}
 
 -- ---- where a list's text can be cut after a byte that is no digit
 
@@ -25,11 +25,11 @@ none_last l = let e = ap length l.spelled in omega (arith, length-append l.start
 record Skipped (d x y z : List ℕ) : Type 0 where
   more : List ℕ
   front : x ≡ d ++ more
-  rest : z ≡ more ++ y
+  remainder : z ≡ more ++ y
   last : LastByte more
 
 skip : (d x y z start : List ℕ) (byte : ℕ) → all_ascii_digits d ≡ true → x ≡ start ++ byte ∷ [] → is_ascii_digit byte ≡ false → d ++ z ≡ x ++ y → Skipped d x y z
-skip [] x y z start byte digits e other s = record { more = x; front = refl; rest = s; last = record { start = start; byte = byte; spelled = e; other = other } }
+skip [] x y z start byte digits e other s = record { more = x; front = refl; remainder = s; last = record { start = start; byte = byte; spelled = e; other = other } }
 skip (a ∷ d) [] y z start byte digits e other s = absurd (none_last (record { start = start; byte = byte; spelled = e; other = other }))
 skip (a ∷ d) (b ∷ x) y z [] byte digits e other s =
     let digit : is_ascii_digit a ≡ true = search (rules) in
@@ -39,63 +39,63 @@ skip (a ∷ d) (b ∷ x) y z [] byte digits e other s =
     absurd (cc)
 skip (a ∷ d) (b ∷ x) y z (c ∷ start) byte digits e other s =
     let same : a ≡ b = cc in
-    let rest : d ++ z ≡ x ++ y = cc in
+    let remainder : d ++ z ≡ x ++ y = cc in
     let left : x ≡ start ++ byte ∷ [] = cc in
-    let m = skip d x y z start byte (search (rules)) left other rest in
-    record { more = m.more; front = λ i. sym same i ∷ m.front i; rest = m.rest; last = m.last }
+    let m = skip d x y z start byte (search (rules)) left other remainder in
+    record { more = m.more; front = λ i. sym same i ∷ m.front i; remainder = m.remainder; last = m.last }
 
 -- the text is cut where a range begins
 record StartsAt (x y : List ℕ) : Type 0 where
   front : List Range
   back : List Range
-  words : AllByRecursion IsWord front
-  more : AllByRecursion IsWord back
+  fit : AllByRecursion FitsU64 front
+  more : AllByRecursion FitsU64 back
   is : x ≡ ranges_and_commas front
-  rest : y ≡ joined (map written back)
+  remainder : y ≡ joined (map written back)
 
 -- or where a count does
 record CountsAt (x y : List ℕ) : Type 0 where
   front : List Range
   range : Range
   back : List Range
-  words : AllByRecursion IsWord front
-  word : IsWord range
+  fit : AllByRecursion FitsU64 front
+  fits : FitsU64 range
   is : x ≡ ranges_and_commas front ++ (decimal range.first ++ 43 ∷ [])
-  rest : y ≡ decimal range.count ++ tail (map written back)
+  remainder : y ≡ decimal range.count ++ tail (map written back)
 
 abbrev At : List ℕ → List ℕ → Type 0
 At x y = StartsAt x y ⊎ CountsAt x y
 
 -- with a range more in front
-consed : (r : Range) → IsWord r → (x more y : List ℕ) → x ≡ pair_text (written r) ++ 44 ∷ more → At more y → At x y
-consed r word x more y e (inl a) = inl (record {
+consed : (r : Range) → FitsU64 r → (x more y : List ℕ) → x ≡ pair_text (written r) ++ 44 ∷ more → At more y → At x y
+consed r fits x more y e (inl a) = inl (record {
   front = r ∷ a.front;
   back = a.back;
-  words = (word, a.words);
+  fit = (fits, a.fit);
   more = a.more;
   is = e ∙ ap (λ (t : List ℕ). pair_text (written r) ++ 44 ∷ t) a.is;
-  rest = a.rest;
+  remainder = a.remainder;
 })
-consed r word x more y e (inr a) = inr (record {
+consed r fits x more y e (inr a) = inr (record {
   front = r ∷ a.front;
   range = a.range;
   back = a.back;
-  words = (word, a.words);
-  word = a.word;
+  fit = (fits, a.fit);
+  fits = a.fits;
   is = e ∙ ap (λ (t : List ℕ). pair_text (written r) ++ 44 ∷ t) a.is
       ∙ sym (append_assoc (pair_text (written r)) (44 ∷ ranges_and_commas a.front) (decimal a.range.first ++ 43 ∷ []));
-  rest = a.rest;
+  remainder = a.remainder;
 })
 
 -- after the count of the first range
-after_count : (r : Range) (rs : List Range) → IsWord r → ((x y : List ℕ) → Apart x → joined (map written rs) ≡ x ++ y → At x y) → (x y more : List ℕ)
+after_count : (r : Range) (rs : List Range) → FitsU64 r → ((x y : List ℕ) → Apart x → joined (map written rs) ≡ x ++ y → At x y) → (x y more : List ℕ)
     → x ≡ pair_text (written r) ++ more → tail (map written rs) ≡ more ++ y → LastByte more → At x y
-after_count r rs word go x y [] e s last = absurd (none_last last)
-after_count r [] word go x y (b ∷ more) e s last = absurd (cc)
-after_count r (q ∷ rs) word go x y (b ∷ more) e s last =
+after_count r rs fits go x y [] e s last = absurd (none_last last)
+after_count r [] fits go x y (b ∷ more) e s last = absurd (cc)
+after_count r (q ∷ rs) fits go x y (b ∷ more) e s last =
     let comma : 44 ≡ b = cc in
-    let rest : joined (map written (q ∷ rs)) ≡ more ++ y = cc in
-    consed r word x more y (e ∙ ap (λ (n : ℕ). pair_text (written r) ++ n ∷ more) (sym comma)) (go more y (apart last.start last.spelled) rest)
+    let remainder : joined (map written (q ∷ rs)) ≡ more ++ y = cc in
+    consed r fits x more y (e ∙ ap (λ (n : ℕ). pair_text (written r) ++ n ∷ more) (sym comma)) (go more y (apart last.start last.spelled) remainder)
   where
     apart : (start : List ℕ) → b ∷ more ≡ start ++ last.byte ∷ [] → Apart more
     apart [] f = inl (cc)
@@ -103,69 +103,69 @@ after_count r (q ∷ rs) word go x y (b ∷ more) e s last =
         inr (record { start = start; byte = last.byte; spelled = left; other = last.other })
 
 -- after its first number
-after_first : (r : Range) (rs : List Range) → IsWord r → ((x y : List ℕ) → Apart x → joined (map written rs) ≡ x ++ y → At x y) → (x y more : List ℕ)
+after_first : (r : Range) (rs : List Range) → FitsU64 r → ((x y : List ℕ) → Apart x → joined (map written rs) ≡ x ++ y → At x y) → (x y more : List ℕ)
     → x ≡ decimal r.first ++ more → 43 ∷ (decimal r.count ++ tail (map written rs)) ≡ more ++ y → (last : LastByte more) → (start : List ℕ)
     → more ≡ start ++ last.byte ∷ [] → At x y
-after_first r rs word go x y [] e s last start f = absurd (none_last last)
-after_first r rs word go x y (b ∷ more) e s last [] f =
+after_first r rs fits go x y [] e s last start f = absurd (none_last last)
+after_first r rs fits go x y (b ∷ more) e s last [] f =
     let plus : 43 ≡ b = cc in
     let none : more ≡ [] = cc in
-    let rest : decimal r.count ++ tail (map written rs) ≡ more ++ y = cc in
+    let remainder : decimal r.count ++ tail (map written rs) ≡ more ++ y = cc in
     inr (record {
       front = [];
       range = r;
       back = rs;
-      words = tt;
-      word = word;
+      fit = tt;
+      fits = fits;
       is = e ∙ (λ i. decimal r.first ++ sym plus i ∷ none i);
-      rest = sym (rest ∙ ap (λ (t : List ℕ). t ++ y) none);
+      remainder = sym (remainder ∙ ap (λ (t : List ℕ). t ++ y) none);
     })
-after_first r rs word go x y (b ∷ more) e s last (c ∷ start) f =
+after_first r rs fits go x y (b ∷ more) e s last (c ∷ start) f =
     let plus : 43 ≡ b = cc in
     let left : more ≡ start ++ last.byte ∷ [] = cc in
-    let rest : decimal r.count ++ tail (map written rs) ≡ more ++ y = cc in
-    let digits = (IsDecimal-decimal r.count word.1).digits in
-    let m = skip (decimal r.count) more y (tail (map written rs)) start last.byte digits left last.other rest in
-    after_count r rs word go x y m.more
-    (e ∙ (λ i. decimal r.first ++ sym plus i ∷ m.front i) ∙ sym (append_assoc (decimal r.first) (43 ∷ decimal r.count) m.more)) m.rest m.last
+    let remainder : decimal r.count ++ tail (map written rs) ≡ more ++ y = cc in
+    let digits = (IsDecimal-decimal r.count fits.1).digits in
+    let m = skip (decimal r.count) more y (tail (map written rs)) start last.byte digits left last.other remainder in
+    after_count r rs fits go x y m.more
+    (e ∙ (λ i. decimal r.first ++ sym plus i ∷ m.front i) ∙ sym (append_assoc (decimal r.first) (43 ∷ decimal r.count) m.more)) m.remainder m.last
 
-at : (rs : List Range) → AllByRecursion IsWord rs → (x y : List ℕ) → Apart x → joined (map written rs) ≡ x ++ y → At x y
-at rs words x y (inl e) s =
-    inl (record { front = []; back = rs; words = tt; more = words; is = e; rest = sym (s ∙ ap (λ (t : List ℕ). t ++ y) e) })
-at [] words x y (inr l) s =
+at : (rs : List Range) → AllByRecursion FitsU64 rs → (x y : List ℕ) → Apart x → joined (map written rs) ≡ x ++ y → At x y
+at rs fit x y (inl e) s =
+    inl (record { front = []; back = rs; fit = tt; more = fit; is = e; remainder = sym (s ∙ ap (λ (t : List ℕ). t ++ y) e) })
+at [] fit x y (inr l) s =
     let e = ap length s in
     let f = ap length l.spelled in
     absurd (omega (arith, length-append x y, length-append l.start (l.byte ∷ [])))
-at (r ∷ rs) words x y (inr l) s =
+at (r ∷ rs) fit x y (inr l) s =
     let whole : decimal r.first ++ 43 ∷ (decimal r.count ++ tail (map written rs)) ≡ x ++ y =
     sym (pair-append (written r) (tail (map written rs))) ∙ sym (joined-cons (written r) (map written rs)) ∙ s in
-    let digits = (IsDecimal-decimal r.first words.0.0).digits in
+    let digits = (IsDecimal-decimal r.first fit.0.0).digits in
     let m = skip (decimal r.first) x y (43 ∷ (decimal r.count ++ tail (map written rs))) l.start l.byte digits l.spelled l.other whole in
-    after_first r rs words.0 (at rs words.1) x y m.more m.front m.rest m.last m.last.start m.last.spelled
+    after_first r rs fit.0 (at rs fit.1) x y m.more m.front m.remainder m.last m.last.start m.last.spelled
 
 -- ---- what begins a list
 
-begins_at : (x rest : List ℕ) → Apart x → IsListText (x ++ rest) → At x rest
-begins_at x rest apart list =
-    at list.ranges (recursion_from_All IsWord list.ranges list.words) x rest apart (sym (list_text-joined list.ranges) ∙ list.spelled)
+begins_at : (x remainder : List ℕ) → Apart x → IsListText (x ++ remainder) → At x remainder
+begins_at x remainder apart list =
+    at list.ranges (recursion_from_All FitsU64 list.ranges list.fit) x remainder apart (sym (list_text-joined list.ranges) ∙ list.spelled)
 
 -- no list has a decimal of 2^64 or more after a byte that is no digit
 no_large : (x there : List ℕ) → Apart x → BeginsLargeDecimal there → ¬ IsListText (x ++ there)
 no_large x there apart large list = go (begins_at x there apart list)
   where
-    starts : (back : List Range) → AllByRecursion IsWord back → there ≡ joined (map written back) → ⊥
+    starts : (back : List Range) → AllByRecursion FitsU64 back → there ≡ joined (map written back) → ⊥
     starts [] more e = large_some there large e
     starts (v ∷ vs) more e =
         small_decimal v.first (43 ∷ (decimal v.count ++ tail (map written vs))) there more.0.0 refl large
         (sym (e ∙ joined-cons (written v) (map written vs) ∙ pair-append (written v) (tail (map written vs))))
 
     go : At x there → ⊥
-    go (inl a) = starts a.back a.more a.rest
-    go (inr a) = small_decimal a.range.count (tail (map written a.back)) there a.word.1 (tail-no_digit (map written a.back)) large (sym a.rest)
+    go (inl a) = starts a.back a.more a.remainder
+    go (inr a) = small_decimal a.range.count (tail (map written a.back)) there a.fits.1 (tail-no_digit (map written a.back)) large (sym a.remainder)
 
-no_large_front : (x number : List ℕ) → Apart x → ((rest : List ℕ) → BeginsLargeDecimal (number ++ rest)) → ¬ BeginsList (x ++ number)
+no_large_front : (x number : List ℕ) → Apart x → ((remainder : List ℕ) → BeginsLargeDecimal (number ++ remainder)) → ¬ BeginsList (x ++ number)
 no_large_front x number apart large b =
-    no_large x (number ++ b.rest) apart (large b.rest) (subst IsListText (append_assoc x number b.rest) b.whole)
+    no_large x (number ++ b.remainder) apart (large b.remainder) (subst IsListText (append_assoc x number b.remainder) b.whole)
 
 tail-last : (rs : List Range) (w : Written) → tail (map written rs ++ w ∷ []) ≡ 44 ∷ joined (map written rs ++ w ∷ [])
 tail-last [] w = refl
@@ -178,9 +178,9 @@ joined-last (a ∷ rs) w =
     ∙ ap (λ (t : List ℕ). pair_text (written a) ++ t) (tail-last rs w ∙ ap (λ (t : List ℕ). 44 ∷ t) (joined-last rs w))
     ∙ sym (append_assoc (pair_text (written a)) (44 ∷ ranges_and_commas rs) (pair_text w))
 
-are_written : (rs : List Range) (w : Written) → AllByRecursion IsWord rs → IsWritten w → All (λ v. IsDecimal v.first × IsDecimal v.count) (map written rs ++ w ∷ [])
-are_written rs w words one =
-    All-append IsWritten (map written rs) (w ∷ []) (All-from_recursion IsWritten (map written rs) (written-all rs words))
+are_written : (rs : List Range) (w : Written) → AllByRecursion FitsU64 rs → IsWritten w → All (λ v. IsDecimal v.first × IsDecimal v.count) (map written rs ++ w ∷ [])
+are_written rs w fit one =
+    All-append IsWritten (map written rs) (w ∷ []) (All-from_recursion IsWritten (map written rs) (written-all rs fit))
     (All-cons IsWritten w [] one (All-nil IsWritten))
 
 zero_is_decimal : IsDecimal (48 ∷ [])
@@ -188,23 +188,23 @@ zero_is_decimal = record { digits = refl; some = omega arith; plain = λ e. refl
 
 -- after such a byte any decimal may stand, if numbers of any size are allowed
 goes_on : (x number : List ℕ) → Apart x → BeginsList x → IsDecimal number → BeginsLongList (x ++ number)
-goes_on x number apart b is = go (begins_at x b.rest apart b.whole)
+goes_on x number apart b is = go (begins_at x b.remainder apart b.whole)
   where
-    go : At x b.rest → BeginsLongList (x ++ number)
+    go : At x b.remainder → BeginsLongList (x ++ number)
     go (inl a) =
         let w : Written = record { first = number; count = 48 ∷ [] } in
         record {
           ranges = map written a.front ++ w ∷ [];
-          rest = 43 ∷ 48 ∷ [];
-          decimals = are_written a.front w a.words (is, zero_is_decimal);
+          remainder = 43 ∷ 48 ∷ [];
+          decimals = are_written a.front w a.fit (is, zero_is_decimal);
           spelled = joined-last a.front w ∙ ap (λ (t : List ℕ). t ++ (number ++ 43 ∷ 48 ∷ [])) (sym a.is) ∙ sym (append_assoc x number (43 ∷ 48 ∷ []));
         }
     go (inr a) =
         let w : Written = record { first = decimal a.range.first; count = number } in
         record {
           ranges = map written a.front ++ w ∷ [];
-          rest = [];
-          decimals = are_written a.front w a.words (IsDecimal-decimal a.range.first a.word.0, is);
+          remainder = [];
+          decimals = are_written a.front w a.fit (IsDecimal-decimal a.range.first a.fits.0, is);
           spelled = joined-last a.front w
               ∙ ap (λ (t : List ℕ). ranges_and_commas a.front ++ t) (sym (append_assoc (decimal a.range.first) (43 ∷ []) number))
               ∙ sym (append_assoc (ranges_and_commas a.front) (decimal a.range.first ++ 43 ∷ []) number)
@@ -214,9 +214,9 @@ goes_on x number apart b is = go (begins_at x b.rest apart b.whole)
 long_of : (x : List ℕ) → BeginsList x → BeginsLongList x
 long_of x b = record {
   ranges = map written b.whole.ranges;
-  rest = b.rest;
+  remainder = b.remainder;
   decimals = All-from_recursion IsWritten (map written b.whole.ranges)
-      (written-all b.whole.ranges (recursion_from_All IsWord b.whole.ranges b.whole.words));
+      (written-all b.whole.ranges (recursion_from_All FitsU64 b.whole.ranges b.whole.fit));
   spelled = sym (list_text-joined b.whole.ranges) ∙ b.whole.spelled;
 }
 
@@ -229,8 +229,8 @@ shorter : (text : List ℕ) (m n : ℕ) → m ≤ n → BeginsList (take n text)
 shorter text m n le b =
     let more : List ℕ = drop m (take n text) in
     record {
-      rest = more ++ b.rest;
-      whole = subst IsListText (ap (λ (t : List ℕ). t ++ b.rest) (front_of text m n le) ∙ append_assoc (take m text) more b.rest) b.whole;
+      remainder = more ++ b.remainder;
+      whole = subst IsListText (ap (λ (t : List ℕ). t ++ b.remainder) (front_of text m n le) ∙ append_assoc (take m text) more b.remainder) b.whole;
     }
 
 shorter_long : (text : List ℕ) (m n : ℕ) → m ≤ n → BeginsLongList (take n text) → BeginsLongList (take m text)
@@ -238,9 +238,9 @@ shorter_long text m n le b =
     let more : List ℕ = drop m (take n text) in
     record {
       ranges = b.ranges;
-      rest = more ++ b.rest;
+      remainder = more ++ b.remainder;
       decimals = b.decimals;
-      spelled = b.spelled ∙ ap (λ (t : List ℕ). t ++ b.rest) (front_of text m n le) ∙ append_assoc (take m text) more b.rest;
+      spelled = b.spelled ∙ ap (λ (t : List ℕ). t ++ b.remainder) (front_of text m n le) ∙ append_assoc (take m text) more b.remainder;
     }
 
 -- a text with a large decimal at a place
@@ -253,7 +253,7 @@ record Large (text : List ℕ) (place : ℕ) : Type 0 where
   long : length number ≡ size
   front : take (place + size) text ≡ take place text ++ number
   is : IsDecimal number
-  large : (rest : List ℕ) → BeginsLargeDecimal (number ++ rest)
+  large : (remainder : List ℕ) → BeginsLargeDecimal (number ++ remainder)
   whole : text ≡ take place text ++ (number ++ drop (place + size) text)
 
 apart_at : (text : List ℕ) (place : ℕ) → place ≤ length text → (1 ≤ place → is_ascii_digit (slice_index text (place - 1)) ≡ false) → Apart (take place text)
@@ -275,15 +275,15 @@ large_in : (text : List ℕ) (place : ℕ) → IsLargeDecimal text place → Lar
 large_in text place l =
     let n : List ℕ = l.there.number in
     let some = l.there.is_decimal.some in
-    let sizes : length (drop place text) ≡ length n + length l.there.rest = ap length l.there.spelled ∙ length-append n l.there.rest in
+    let sizes : length (drop place text) ≡ length n + length l.there.remainder = ap length l.there.spelled ∙ length-append n l.there.remainder in
     let left = length-drop place text in
     let within : place + length n ≤ length text = omega arith in
     let front : length (take place text) ≡ place = length-take-le place text (omega arith) in
-    let whole : text ≡ (take place text ++ n) ++ l.there.rest =
-    sym (take-append-drop place text) ∙ ap (λ (t : List ℕ). take place text ++ t) l.there.spelled ∙ sym (append_assoc (take place text) n l.there.rest) in
+    let whole : text ≡ (take place text ++ n) ++ l.there.remainder =
+    sym (take-append-drop place text) ∙ ap (λ (t : List ℕ). take place text ++ t) l.there.spelled ∙ sym (append_assoc (take place text) n l.there.remainder) in
     let size : length (take place text ++ n) ≡ place + length n = length-append (take place text) n ∙ ap (λ (m : ℕ). m + length n) front in
     let cut : take (place + length n) text ≡ take place text ++ n =
-    ap (take (place + length n)) whole ∙ take_at (take place text ++ n) l.there.rest (place + length n) size in
+    ap (take (place + length n)) whole ∙ take_at (take place text ++ n) l.there.remainder (place + length n) size in
     record {
       size = length n;
       some = some;
@@ -293,7 +293,7 @@ large_in text place l =
       long = refl;
       front = cut;
       is = l.there.is_decimal;
-      large = λ rest. record { number = n; rest = rest; is_decimal = l.there.is_decimal; large = l.there.large; spelled = refl };
+      large = λ remainder. record { number = n; remainder = remainder; is_decimal = l.there.is_decimal; large = l.there.large; spelled = refl };
       whole = sym (take-append-drop (place + length n) text) ∙ ap (λ (t : List ℕ). t ++ drop (place + length n) text) cut
           ∙ append_assoc (take place text) n (drop (place + length n) text);
     }

@@ -13,8 +13,8 @@ after place n (r ∷ rs) h k is = go (is_in_range n r) refl (after (end_of r) n 
     go : (b : Bool) → is_in_range n r ≡ b → (is_in rs n ≡ true → end_of r < n) → place < n
     go true e more = let f = first_of_in n r e in omega arith
     go false e more =
-        let rest : is_in rs n ≡ true = (let i = is in cc) in
-        let m = more rest in
+        let remainder : is_in rs n ≡ true = (let i = is in cc) in
+        let m = more remainder in
         omega arith
 
 -- and none of them comes before the first range
@@ -24,8 +24,8 @@ from_first n r rs h is = go (is_in_range n r) refl
     go : (b : Bool) → is_in_range n r ≡ b → r.first ≤ n
     go true e = first_of_in n r e
     go false e =
-        let rest : is_in rs n ≡ true = (let i = is in cc) in
-        let m = after (end_of r) n rs h.2 h.1 rest in
+        let remainder : is_in rs n ≡ true = (let i = is in cc) in
+        let m = after (end_of r) n rs h.2 h.1 remainder in
         omega arith
 
 first_in : (r : Range) (rs : List Range) → AreNormal (r ∷ rs) → is_in (r ∷ rs) r.first ≡ true
@@ -42,8 +42,8 @@ end_out r rs h = go (is_in (r ∷ rs) (end_of r)) refl
         inner : (b : Bool) → is_in_range (end_of r) r ≡ b → is_in (r ∷ rs) (end_of r) ≡ false
         inner true f = let l = end_of_in (end_of r) r f in absurd (omega arith)
         inner false f =
-            let rest : is_in rs (end_of r) ≡ true = (let i = e in cc) in
-            let m = after (end_of r) (end_of r) rs h.2 h.1 rest in
+            let remainder : is_in rs (end_of r) ≡ true = (let i = e in cc) in
+            let m = after (end_of r) (end_of r) rs h.2 h.1 remainder in
             absurd (omega arith)
 
 -- of two first ranges that begin at one number, neither ends before the other
@@ -61,8 +61,8 @@ no_sooner r s rs ss h k e same = go (cases_lt (end_of r) (end_of s))
         absurd (cc)
 
 -- after the first range the sets are those of the other ranges
-same_rest : (r : Range) (rs ss : List Range) (n : ℕ) → AreNormal (r ∷ rs) → AreNormal (r ∷ ss) → is_in (r ∷ rs) n ≡ is_in (r ∷ ss) n → is_in rs n ≡ is_in ss n
-same_rest r rs ss n h k same = go (is_in rs n) (is_in ss n) (is_in_range n r) refl refl refl
+same_remainder : (r : Range) (rs ss : List Range) (n : ℕ) → AreNormal (r ∷ rs) → AreNormal (r ∷ ss) → is_in (r ∷ rs) n ≡ is_in (r ∷ ss) n → is_in rs n ≡ is_in ss n
+same_remainder r rs ss n h k same = go (is_in rs n) (is_in ss n) (is_in_range n r) refl refl refl
   where
     go : (a b c : Bool) → is_in rs n ≡ a → is_in ss n ≡ b → is_in_range n r ≡ c → is_in rs n ≡ is_in ss n
     go true true c p q f = p ∙ sym q
@@ -76,7 +76,7 @@ same_all : (r s : Range) (rs ss : List Range) → r ≡ s → AreNormal (r ∷ r
     → (AreNormal rs → AreNormal ss → ((n : ℕ) → is_in rs n ≡ is_in ss n) → rs ≡ ss) → r ∷ rs ≡ s ∷ ss
 same_all r s rs ss one h k same more =
     let k' : AreNormal (r ∷ ss) = subst (λ (t : Range). AreNormal (t ∷ ss)) (sym one) k in
-    let e : rs ≡ ss = more h.2 k.2 (λ n. same_rest r rs ss n h k' (same n ∙ ap (λ (t : Range). is_in (t ∷ ss) n) (sym one))) in
+    let e : rs ≡ ss = more h.2 k.2 (λ n. same_remainder r rs ss n h k' (same n ∙ ap (λ (t : Range). is_in (t ∷ ss) n) (sym one))) in
     λ i. one i ∷ e i
 
 pub normal_forms : OneNormalForm

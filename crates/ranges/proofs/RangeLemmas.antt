@@ -80,13 +80,13 @@ unmet_more ranges i d low h before n = elim (cases_Bool (is_in_range n (get_or r
 -- ---- normal form
 
 -- what is joined so far, the latest range, which may still grow, and what is to come
-pub record Joining (all done : List Range) (latest : Range) (rest : List Range) : Type 0 where
+pub record Joining (all done : List Range) (latest : Range) (remainder : List Range) : Type 0 where
   pub normal : AreNormal (done ++ latest ∷ [])
-  pub ascending : Ascending (latest ∷ rest)
-  pub same : (n : ℕ) → is_in (done ++ latest ∷ rest) n ≡ is_in all n
-  pub size : size_of (done ++ latest ∷ rest) ≡ size_of all
+  pub ascending : Ascending (latest ∷ remainder)
+  pub same : (n : ℕ) → is_in (done ++ latest ∷ remainder) n ≡ is_in all n
+  pub size : size_of (done ++ latest ∷ remainder) ≡ size_of all
   pub done_below : AreBelow number_bound done
-  pub below : AreBelow number_bound (latest ∷ rest)
+  pub below : AreBelow number_bound (latest ∷ remainder)
 
 normal_last : (done : List Range) (a b : Range) → AreNormal (done ++ a ∷ []) → a.first ≡ b.first → 1 ≤ b.count → AreNormal (done ++ b ∷ [])
 normal_last [] a b n e s = (s, tt, tt)
@@ -108,51 +108,51 @@ or_assoc : (a b c : Bool) → ((a || b) || c) ≡ (a || (b || c))
 or_assoc true b c = refl
 or_assoc false b c = refl
 
-in_joined : (n : ℕ) (done : List Range) (a r : Range) (rest : List Range) → end_of a ≡ r.first
-    → is_in (done ++ grown a r ∷ rest) n ≡ is_in (done ++ a ∷ r ∷ rest) n
-in_joined n [] a r rest e = ap (λ (b : Bool). b || is_in rest n) (in_grown n a r e) ∙ or_assoc (is_in_range n a) (is_in_range n r) (is_in rest n)
-in_joined n (x ∷ more) a r rest e = ap (λ (b : Bool). is_in_range n x || b) (in_joined n more a r rest e)
+in_joined : (n : ℕ) (done : List Range) (a r : Range) (remainder : List Range) → end_of a ≡ r.first
+    → is_in (done ++ grown a r ∷ remainder) n ≡ is_in (done ++ a ∷ r ∷ remainder) n
+in_joined n [] a r remainder e = ap (λ (b : Bool). b || is_in remainder n) (in_grown n a r e) ∙ or_assoc (is_in_range n a) (is_in_range n r) (is_in remainder n)
+in_joined n (x ∷ more) a r remainder e = ap (λ (b : Bool). is_in_range n x || b) (in_joined n more a r remainder e)
 
-size_joined : (done : List Range) (a r : Range) (rest : List Range) → size_of (done ++ grown a r ∷ rest) ≡ size_of (done ++ a ∷ r ∷ rest)
-size_joined [] a r rest =
-    omega (arith, sum_by-cons (λ (x : Range). x.count) (grown a r) rest, sum_by-cons (λ (x : Range). x.count) a (r ∷ rest), sum_by-cons (λ (x : Range). x.count) r rest)
-size_joined (x ∷ more) a r rest =
-    sum_by-cons (λ (x : Range). x.count) x (more ++ grown a r ∷ rest) ∙ ap (λ (n : ℕ). x.count + n) (size_joined more a r rest)
-    ∙ sym (sum_by-cons (λ (x : Range). x.count) x (more ++ a ∷ r ∷ rest))
+size_joined : (done : List Range) (a r : Range) (remainder : List Range) → size_of (done ++ grown a r ∷ remainder) ≡ size_of (done ++ a ∷ r ∷ remainder)
+size_joined [] a r remainder =
+    omega (arith, sum_by-cons (λ (x : Range). x.count) (grown a r) remainder, sum_by-cons (λ (x : Range). x.count) a (r ∷ remainder), sum_by-cons (λ (x : Range). x.count) r remainder)
+size_joined (x ∷ more) a r remainder =
+    sum_by-cons (λ (x : Range). x.count) x (more ++ grown a r ∷ remainder) ∙ ap (λ (n : ℕ). x.count + n) (size_joined more a r remainder)
+    ∙ sym (sum_by-cons (λ (x : Range). x.count) x (more ++ a ∷ r ∷ remainder))
 
 -- the next range touches the latest
-pub joining_touch : (all done : List Range) (a r : Range) (rest : List Range) → end_of a ≡ r.first → Joining all done a (r ∷ rest)
-    → Joining all done (grown a r) rest
-joining_touch all done a r rest e j =
+pub joining_touch : (all done : List Range) (a r : Range) (remainder : List Range) → end_of a ≡ r.first → Joining all done a (r ∷ remainder)
+    → Joining all done (grown a r) remainder
+joining_touch all done a r remainder e j =
     let end : end_of r ≡ end_of (grown a r) = omega arith in
     record {
       normal = normal_last done a (grown a r) j.normal refl (omega (arith, j.ascending.0));
-      ascending = (omega (arith, j.ascending.0), subst (λ (p : ℕ). BeginFrom p rest) end j.ascending.2.1, j.ascending.2.2);
-      same = λ n. in_joined n done a r rest e ∙ j.same n;
-      size = size_joined done a r rest ∙ j.size;
+      ascending = (omega (arith, j.ascending.0), subst (λ (p : ℕ). BeginFrom p remainder) end j.ascending.2.1, j.ascending.2.2);
+      same = λ n. in_joined n done a r remainder e ∙ j.same n;
+      size = size_joined done a r remainder ∙ j.size;
       done_below = j.done_below;
-      below = All-cons (λ x. end_of x ≤ number_bound) (grown a r) rest
-          (subst (λ (p : ℕ). p ≤ number_bound) end (All-head (λ x. end_of x ≤ number_bound) r rest (All-tail (λ x. end_of x ≤ number_bound) a (r ∷ rest) j.below)))
-          (All-tail (λ x. end_of x ≤ number_bound) r rest (All-tail (λ x. end_of x ≤ number_bound) a (r ∷ rest) j.below));
+      below = All-cons (λ x. end_of x ≤ number_bound) (grown a r) remainder
+          (subst (λ (p : ℕ). p ≤ number_bound) end (All-head (λ x. end_of x ≤ number_bound) r remainder (All-tail (λ x. end_of x ≤ number_bound) a (r ∷ remainder) j.below)))
+          (All-tail (λ x. end_of x ≤ number_bound) r remainder (All-tail (λ x. end_of x ≤ number_bound) a (r ∷ remainder) j.below));
     }
 
 -- a gap comes before the next range
-pub joining_gap : (all done : List Range) (a r : Range) (rest : List Range) → end_of a ≢ r.first → Joining all done a (r ∷ rest)
-    → Joining all (done ++ a ∷ []) r rest
-joining_gap all done a r rest apart j =
+pub joining_gap : (all done : List Range) (a r : Range) (remainder : List Range) → end_of a ≢ r.first → Joining all done a (r ∷ remainder)
+    → Joining all (done ++ a ∷ []) r remainder
+joining_gap all done a r remainder apart j =
     let goes : end_of a ≤ r.first = j.ascending.1 in
-    let same : (done ++ a ∷ []) ++ r ∷ rest ≡ done ++ a ∷ r ∷ rest = append_assoc done (a ∷ []) (r ∷ rest) in
+    let same : (done ++ a ∷ []) ++ r ∷ remainder ≡ done ++ a ∷ r ∷ remainder = append_assoc done (a ∷ []) (r ∷ remainder) in
     record {
       normal = subst AreNormal (sym (append_assoc done (a ∷ []) (r ∷ []))) (normal_two done a r j.normal (omega arith) j.ascending.2.0);
       ascending = j.ascending.2;
       same = λ n. ap (λ (xs : List Range). is_in xs n) same ∙ j.same n;
       size = ap size_of same ∙ j.size;
-      done_below = All-push (λ x. end_of x ≤ number_bound) done a j.done_below (All-head (λ x. end_of x ≤ number_bound) a (r ∷ rest) j.below);
-      below = All-tail (λ x. end_of x ≤ number_bound) a (r ∷ rest) j.below;
+      done_below = All-push (λ x. end_of x ≤ number_bound) done a j.done_below (All-head (λ x. end_of x ≤ number_bound) a (r ∷ remainder) j.below);
+      below = All-tail (λ x. end_of x ≤ number_bound) a (r ∷ remainder) j.below;
     }
 
-pub joining_start : (a : Range) (rest : List Range) → Ascending (a ∷ rest) → AreBelow number_bound (a ∷ rest) → Joining (a ∷ rest) [] a rest
-joining_start a rest asc below = record {
+pub joining_start : (a : Range) (remainder : List Range) → Ascending (a ∷ remainder) → AreBelow number_bound (a ∷ remainder) → Joining (a ∷ remainder) [] a remainder
+joining_start a remainder asc below = record {
   normal = (asc.0, tt, tt);
   ascending = asc;
   same = λ n. refl;
@@ -261,31 +261,31 @@ form_of ranges ordered joined same form = record {
 pub size_of_ordered : (ranges ordered : List Range) → IsPermutation (filter has_numbers ranges) ordered → size_of ordered ≡ size_of ranges
 size_of_ordered ranges ordered same = sum_by-IsPermutation (λ (r : Range). r.count) (filter has_numbers ranges) ordered same ∙ size_of-some ranges
 
-pub latest_below : (all done : List Range) (latest : Range) (rest : List Range) → Joining all done latest rest → end_of latest ≤ number_bound
-latest_below all done latest rest j = All-head (λ x. end_of x ≤ number_bound) latest rest j.below
+pub latest_below : (all done : List Range) (latest : Range) (remainder : List Range) → Joining all done latest remainder → end_of latest ≤ number_bound
+latest_below all done latest remainder j = All-head (λ x. end_of x ≤ number_bound) latest remainder j.below
 
-pub next_below : (all done : List Range) (latest r : Range) (rest : List Range) → Joining all done latest (r ∷ rest) → end_of r ≤ number_bound
-next_below all done latest r rest j = All-head (λ x. end_of x ≤ number_bound) r rest (All-tail (λ x. end_of x ≤ number_bound) latest (r ∷ rest) j.below)
+pub next_below : (all done : List Range) (latest r : Range) (remainder : List Range) → Joining all done latest (r ∷ remainder) → end_of r ≤ number_bound
+next_below all done latest r remainder j = All-head (λ x. end_of x ≤ number_bound) r remainder (All-tail (λ x. end_of x ≤ number_bound) latest (r ∷ remainder) j.below)
 
 -- the same, range by range of a slice
 pub touch_at : (all done : List Range) (latest : Range) (more : List Range) (i : ℕ) (d : Range) → i < length more → end_of latest ≡ (get_or more i d).first
     → Joining all done latest (drop i more) → Joining all done (grown latest (get_or more i d)) (drop (i + 1) more)
 touch_at all done latest more i d low e j =
-    joining_touch all done latest (get_or more i d) (drop (i + 1) more) e (subst (λ (rest : List Range). Joining all done latest rest) (drop_more more i d low) j)
+    joining_touch all done latest (get_or more i d) (drop (i + 1) more) e (subst (λ (remainder : List Range). Joining all done latest remainder) (drop_more more i d low) j)
 
 pub gap_at : (all done : List Range) (latest : Range) (more : List Range) (i : ℕ) (d : Range) → i < length more → end_of latest ≢ (get_or more i d).first
     → Joining all done latest (drop i more) → Joining all (done ++ latest ∷ []) (get_or more i d) (drop (i + 1) more)
 gap_at all done latest more i d low e j =
-    joining_gap all done latest (get_or more i d) (drop (i + 1) more) e (subst (λ (rest : List Range). Joining all done latest rest) (drop_more more i d low) j)
+    joining_gap all done latest (get_or more i d) (drop (i + 1) more) e (subst (λ (remainder : List Range). Joining all done latest remainder) (drop_more more i d low) j)
 
 pub next_below_at : (all done : List Range) (latest : Range) (more : List Range) (i : ℕ) (d : Range) → i < length more
     → Joining all done latest (drop i more) → end_of (get_or more i d) ≤ number_bound
 next_below_at all done latest more i d low j =
-    next_below all done latest (get_or more i d) (drop (i + 1) more) (subst (λ (rest : List Range). Joining all done latest rest) (drop_more more i d low) j)
+    next_below all done latest (get_or more i d) (drop (i + 1) more) (subst (λ (remainder : List Range). Joining all done latest remainder) (drop_more more i d low) j)
 
-pub start_from : (all : List Range) (a : Range) (rest : List Range) → all ≡ a ∷ rest → Ascending all → AreBelow number_bound all → Joining all [] a rest
-start_from all a rest e asc below =
-    subst (λ (xs : List Range). Joining xs [] a rest) (sym e) (joining_start a rest (subst Ascending e asc) (subst (AreBelow number_bound) e below))
+pub start_from : (all : List Range) (a : Range) (remainder : List Range) → all ≡ a ∷ remainder → Ascending all → AreBelow number_bound all → Joining all [] a remainder
+start_from all a remainder e asc below =
+    subst (λ (xs : List Range). Joining xs [] a remainder) (sym e) (joining_start a remainder (subst Ascending e asc) (subst (AreBelow number_bound) e below))
 
 -- all is joined
 pub all_joined : (all done joined more : List Range) (latest : Range) (i : ℕ) → length more ≤ i → Joining all done latest (drop i more)

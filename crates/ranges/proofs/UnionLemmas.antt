@@ -16,8 +16,8 @@ count_out : (n : ℕ) (rs : List Range) → is_in rs n ≡ false → count_by (i
 count_out n [] h = refl
 count_out n (r ∷ rs) h =
     let here : is_in_range n r ≡ false = search (rules) in
-    let rest : is_in rs n ≡ false = search (rules) in
-    count_miss (is_in_range n) r rs here ∙ count_out n rs rest
+    let remainder : is_in rs n ≡ false = search (rules) in
+    count_miss (is_in_range n) r rs here ∙ count_out n rs remainder
 
 in_counted : (n : ℕ) (rs : List Range) → 1 ≤ count_by (is_in_range n) rs → is_in rs n ≡ true
 in_counted n rs h = go (is_in rs n) refl
@@ -32,8 +32,8 @@ count_normal n [] h = omega arith
 count_normal n (r ∷ rs) h = go (is_in_range n r) refl (count_normal n rs h.2)
   where
     go : (b : Bool) → is_in_range n r ≡ b → count_by (is_in_range n) rs ≤ 1 → count_by (is_in_range n) (r ∷ rs) ≤ 1
-    go false e rest = let c = count_miss (is_in_range n) r rs e in omega arith
-    go true e rest = out (is_in rs n) refl
+    go false e remainder = let c = count_miss (is_in_range n) r rs e in omega arith
+    go true e remainder = out (is_in rs n) refl
       where
         out : (b : Bool) → is_in rs n ≡ b → count_by (is_in_range n) (r ∷ rs) ≤ 1
         out false f = let c = count_hit (is_in_range n) r rs e in let d = count_out n rs f in omega arith
@@ -45,8 +45,8 @@ count-append n (r ∷ a) b = go (is_in_range n r) refl (count-append n a b)
   where
     go : (t : Bool) → is_in_range n r ≡ t → count_by (is_in_range n) (a ++ b) ≡ count_by (is_in_range n) a + count_by (is_in_range n) b
         → count_by (is_in_range n) ((r ∷ a) ++ b) ≡ count_by (is_in_range n) (r ∷ a) + count_by (is_in_range n) b
-    go true e rest = let c = count_hit (is_in_range n) r (a ++ b) e in let d = count_hit (is_in_range n) r a e in omega arith
-    go false e rest = let c = count_miss (is_in_range n) r (a ++ b) e in let d = count_miss (is_in_range n) r a e in omega arith
+    go true e remainder = let c = count_hit (is_in_range n) r (a ++ b) e in let d = count_hit (is_in_range n) r a e in omega arith
+    go false e remainder = let c = count_miss (is_in_range n) r (a ++ b) e in let d = count_miss (is_in_range n) r a e in omega arith
 
 -- so two sets that share no number don't overlap
 pub apart_sets : (a b : List Range) → AreNormal a → AreNormal b → ¬ ShareNumber a b → ¬ Overlap (a ++ b)
@@ -67,18 +67,18 @@ shared_by r a b i low h =
     in_at : (n : ℕ) (b : List Range) (i : ℕ) → i < length b → is_in_range n (get_or b i r) ≡ true → is_in b n ≡ true
     in_at n [] i low h = absurd (omega arith)
     in_at n (s ∷ b) zero low h = search (rules)
-    in_at n (s ∷ b) (suc i) low h = let rest = in_at n b i (omega arith) h in search (rules)
+    in_at n (s ∷ b) (suc i) low h = let remainder = in_at n b i (omega arith) h in search (rules)
 
 counted_in : (n : ℕ) (rs : List Range) → is_in rs n ≡ true → 1 ≤ count_by (is_in_range n) rs
 counted_in n [] h = absurd (false≢true h)
 counted_in n (r ∷ rs) h = go (is_in_range n r) refl (counted_in n rs)
   where
     go : (b : Bool) → is_in_range n r ≡ b → (is_in rs n ≡ true → 1 ≤ count_by (is_in_range n) rs) → 1 ≤ count_by (is_in_range n) (r ∷ rs)
-    go true e rest = let c = count_hit (is_in_range n) r rs e in omega arith
-    go false e rest =
+    go true e remainder = let c = count_hit (is_in_range n) r rs e in omega arith
+    go false e remainder =
         let c = count_miss (is_in_range n) r rs e in
         let there : is_in rs n ≡ true = search (rules) in
-        let more = rest there in
+        let more = remainder there in
         omega arith
 
 -- one range more that has no number in common with the other set

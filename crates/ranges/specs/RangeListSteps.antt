@@ -7,62 +7,62 @@ use Rattle.ranges.specs.RangeLists.{BeginsLargeDecimal, list_text, pair_text, wr
 -- a digit stands at the front
 abbrev pub has_digit : List ℕ → Bool
 has_digit [] = false
-has_digit (b ∷ rest) = is_ascii_digit b
+has_digit (b ∷ remainder) = is_ascii_digit b
 
 -- the byte stands at the front
 abbrev pub has_byte : ℕ → List ℕ → Type 0
 has_byte b [] = ⊥
-has_byte b (c ∷ rest) = b ≡ c
+has_byte b (c ∷ remainder) = b ≡ c
 
 -- a number of 64 bits begins the text, and its decimal ends before the rest
-pub record BeginsDecimal (text : List ℕ) (n : ℕ) (rest : List ℕ) : Type 0 where
-  pub word : n < 2 ^ 64
-  pub spelled : text ≡ decimal n ++ rest
-  pub ends : has_digit rest ≡ true → n ≡ 0
+pub record BeginsDecimal (text : List ℕ) (n : ℕ) (remainder : List ℕ) : Type 0 where
+  pub fits : n < 2 ^ 64
+  pub spelled : text ≡ decimal n ++ remainder
+  pub ends : has_digit remainder ≡ true → n ≡ 0
 
 -- no digit begins the text, or those that do are a number of 2^64 or more
 abbrev pub BeginsNoDecimal : List ℕ → Type 0
 BeginsNoDecimal text = has_digit text ≡ true → BeginsLargeDecimal text
 
 -- a range begins the text, and its count ends before the rest
-pub record BeginsRange (text : List ℕ) (r : Range) (rest : List ℕ) : Type 0 where
+pub record BeginsRange (text : List ℕ) (r : Range) (remainder : List ℕ) : Type 0 where
   pub first : r.first < 2 ^ 64
   pub count : r.count < 2 ^ 64
-  pub spelled : text ≡ pair_text (written r) ++ rest
-  pub ends : has_digit rest ≡ true → r.count ≡ 0
+  pub spelled : text ≡ pair_text (written r) ++ remainder
+  pub ends : has_digit remainder ≡ true → r.count ≡ 0
 
 -- a first number begins the text, and the rest is no `+` (43)
-pub record LacksPlus (text rest : List ℕ) : Type 0 where
+pub record LacksPlus (text remainder : List ℕ) : Type 0 where
   pub n : ℕ
-  pub begins : BeginsDecimal text n rest
-  pub other : ¬ has_byte 43 rest
+  pub begins : BeginsDecimal text n remainder
+  pub other : ¬ has_byte 43 remainder
 
 -- a first number and a `+` (43) begin the text, and no count follows
-pub record LacksCount (text rest : List ℕ) : Type 0 where
+pub record LacksCount (text remainder : List ℕ) : Type 0 where
   pub n : ℕ
-  pub begins : BeginsDecimal text n (43 ∷ rest)
-  pub none : BeginsNoDecimal rest
+  pub begins : BeginsDecimal text n (43 ∷ remainder)
+  pub none : BeginsNoDecimal remainder
 
 -- no range begins the text: the rest is where the fault is
 abbrev pub IsNoRange : List ℕ → List ℕ → Type 0
-IsNoRange text rest = ((rest ≡ text) × BeginsNoDecimal text) ⊎ (LacksPlus text rest ⊎ LacksCount text rest)
+IsNoRange text remainder = ((remainder ≡ text) × BeginsNoDecimal text) ⊎ (LacksPlus text remainder ⊎ LacksCount text remainder)
 
 -- a range begins the text, and after it there is neither the end nor a `,` (44)
-pub record LacksComma (text rest : List ℕ) : Type 0 where
+pub record LacksComma (text remainder : List ℕ) : Type 0 where
   pub range : Range
-  pub begins : BeginsRange text range rest
-  pub some : rest ≢ []
-  pub other : ¬ has_byte 44 rest
+  pub begins : BeginsRange text range remainder
+  pub some : remainder ≢ []
+  pub other : ¬ has_byte 44 remainder
 
 -- where the first range begins, if there is one
 abbrev pub Starts : List ℕ → Option (List ℕ) → Type 0
 Starts text None = text ≡ []
-Starts text (Some rest) = (rest ≡ text) × (rest ≢ [])
+Starts text (Some remainder) = (remainder ≡ text) × (remainder ≢ [])
 
 -- a range is passed, and either it ends the text or the next one begins after a `,` (44)
 abbrev pub Passes : List ℕ → Range → Option (List ℕ) → Type 0
 Passes text r None = BeginsRange text r []
-Passes text r (Some rest) = BeginsRange text r (44 ∷ rest)
+Passes text r (Some remainder) = BeginsRange text r (44 ∷ remainder)
 
 -- ranges with a `,` (44) after each
 abbrev pub ranges_and_commas : List Range → List ℕ
@@ -72,4 +72,4 @@ ranges_and_commas (r ∷ more) = pair_text (written r) ++ 44 ∷ ranges_and_comm
 -- these ranges have been passed, and the next one begins the rest, if there is one
 abbrev pub HasPassed : List ℕ → List Range → Option (List ℕ) → Type 0
 HasPassed text ranges None = list_text ranges ≡ text
-HasPassed text ranges (Some rest) = text ≡ ranges_and_commas ranges ++ rest
+HasPassed text ranges (Some remainder) = text ≡ ranges_and_commas ranges ++ remainder

@@ -29,19 +29,19 @@ unfoldable pub list_text : List Range → List ℕ
 list_text ranges = joined (map written ranges)
 
 -- both numbers of each range have 64 bits
-abbrev pub AreWords : List Range → Type 0
-AreWords ranges = All (λ r. (r.first < 2 ^ 64) × (r.count < 2 ^ 64)) ranges
+abbrev pub FitU64 : List Range → Type 0
+FitU64 ranges = All (λ r. (r.first < 2 ^ 64) × (r.count < 2 ^ 64)) ranges
 
 -- the text is that of some ranges
 pub record IsListText (text : List ℕ) : Type 0 where
   pub ranges : List Range
-  pub words : AreWords ranges
+  pub fit : FitU64 ranges
   pub spelled : list_text ranges ≡ text
 
 -- the text begins that of some ranges
 pub record BeginsList (text : List ℕ) : Type 0 where
-  pub rest : List ℕ
-  pub whole : IsListText (text ++ rest)
+  pub remainder : List ℕ
+  pub whole : IsListText (text ++ remainder)
 
 -- a decimal of any size: digits, of which the first is `0` (48) only if there is no other
 pub record IsDecimal (text : List ℕ) : Type 0 where
@@ -52,17 +52,17 @@ pub record IsDecimal (text : List ℕ) : Type 0 where
 -- the text begins that of some ranges, if numbers of any size are allowed
 pub record BeginsLongList (text : List ℕ) : Type 0 where
   pub ranges : List Written
-  pub rest : List ℕ
+  pub remainder : List ℕ
   pub decimals : All (λ w. IsDecimal w.first × IsDecimal w.count) ranges
-  pub spelled : joined ranges ≡ text ++ rest
+  pub spelled : joined ranges ≡ text ++ remainder
 
 -- a decimal of 2^64 or more begins the text
 pub record BeginsLargeDecimal (text : List ℕ) : Type 0 where
   pub number : List ℕ
-  pub rest : List ℕ
+  pub remainder : List ℕ
   pub is_decimal : IsDecimal number
   pub large : 2 ^ 64 ≤ digits_value 10 number
-  pub spelled : text ≡ number ++ rest
+  pub spelled : text ≡ number ++ remainder
 
 -- What stands before the place begins a list. With the byte there it doesn't, whatever the size of numbers; or the text ends there too early.
 pub record IsBadListByte (text : List ℕ) (place : ℕ) : Type 0 where
@@ -83,7 +83,7 @@ IsFirstListFault text place = IsBadListByte text place ⊎ IsLargeDecimal text p
 
 -- a text is that of one list of ranges
 abbrev pub TextsHaveOneList : Type 0
-TextsHaveOneList = (one other : List Range) → AreWords one → AreWords other → list_text one ≡ list_text other → one ≡ other
+TextsHaveOneList = (one other : List Range) → FitU64 one → FitU64 other → list_text one ≡ list_text other → one ≡ other
 
 -- a text has its first fault at one place
 abbrev pub TextsHaveOneFault : Type 0

@@ -10,7 +10,7 @@ ghost use Rattle.std.specs.Prelude.{◌≡◌, ◌≢◌, ◌⊎◌, ◌≤◌, 
 ghost use Rattle.std.specs.Prelude.{IfNone, IfOk, IfSome, IsErrOf, MatchResult};
 ghost use Rattle.ranges.specs.RangeListSteps.{BeginsDecimal, BeginsNoDecimal, BeginsRange, IsNoRange, LacksComma};
 ghost use Rattle.ranges.specs.RangeListSteps.{Passes, Starts, has_digit};
-ghost use Rattle.ranges.specs.RangeLists.{AreWords, BeginsLargeDecimal, IsFirstListFault, IsListText};
+ghost use Rattle.ranges.specs.RangeLists.{FitU64, BeginsLargeDecimal, IsFirstListFault, IsListText};
 ghost use Rattle.ranges.specs.RangeLists.{TextsHaveOneFault, TextsHaveOneList, list_text};
 ghost use Rattle.ranges.specs.declared.range.Range.{Range as Numbers};
 ghost use Rattle.ranges.specs.declared.range_list.ListError.TheVariants.{BadList, Memory};
@@ -50,9 +50,9 @@ impl Range {
     /// - [`ListError::Memory`] if memory runs out.
     pub fn read_list(alloc: Global, text: &str) -> Result<Vec<Range>, ListError>
         // What is read has the text as its one text, and each list of ranges is read from its text.
-        ensures words { IfOk result (λ read. AreWords read.items) }
+        ensures fit { IfOk result (λ read. FitU64 read.items) }
         ensures ranges { IfOk result (λ read. list_text read.items ≡ text.now) }
-        ensures complete { (ranges : List Numbers) → AreWords ranges → list_text ranges ≡ text.now
+        ensures complete { (ranges : List Numbers) → FitU64 ranges → list_text ranges ≡ text.now
             → MatchResult result (λ read. read.items ≡ ranges) (λ error. error ≡ Memory) }
 
         // Which error it is.
@@ -81,10 +81,10 @@ fn fault_in(text: &[u8]) -> Option<usize>
     ensures refused { IfSome result (λ _. ¬ IsListText text.now) }
     ensures none { IfNone result (IsListText text.now) }
 {
-    let mut rest = unless_empty(text);
-    while let Some(here) = rest {
+    let mut remainder = unless_empty(text);
+    while let Some(here) = remainder {
         match next_range(here) {
-            Ok((_, more)) => rest = more,
+            Ok((_, more)) => remainder = more,
             Err(there) => return Some(text.len() - there.len()),
         }
     }
@@ -95,16 +95,16 @@ fn fault_in(text: &[u8]) -> Option<usize>
 #[tactic(auto, using(crate::proofs::ListLemmas::passed_first))]
 fn ranges_in(alloc: Global, text: &[u8]) -> Result<Vec<Range>, AllocError>
     requires { IsListText text.now }
-    ensures words { IfOk result (λ read. AreWords read.items) }
+    ensures fit { IfOk result (λ read. FitU64 read.items) }
     ensures text { IfOk result (λ read. list_text read.items ≡ text.now) }
 {
     let mut ranges = Vec::new(alloc);
-    let mut rest = unless_empty(text);
-    while let Some(here) = rest {
+    let mut remainder = unless_empty(text);
+    while let Some(here) = remainder {
         match next_range(here) {
             Ok((range, more)) => {
                 ranges.push(range)?;
-                rest = more;
+                remainder = more;
             }
             Err(_) => unreachable!(),
         }
@@ -114,7 +114,7 @@ fn ranges_in(alloc: Global, text: &[u8]) -> Result<Vec<Range>, AllocError>
 
 /// Where the first range begins, if there is one.
 fn unless_empty(text: &[u8]) -> Option<&[u8]>
-    ensures { Starts text.now (option_map (λ rest. rest.now) result) }
+    ensures { Starts text.now (option_map (λ remainder. remainder.now) result) }
 {
     if text.is_empty() { None } else { Some(text) }
 }
@@ -122,32 +122,32 @@ fn unless_empty(text: &[u8]) -> Option<&[u8]>
 /// The range at the front of a text, and where the next one begins if a comma follows. If no range stands there, or
 /// neither the end nor a comma after it, the answer is the text from the fault on.
 fn next_range(text: &[u8]) -> Result<(Range, Option<&[u8]>), &[u8]>
-    ensures ok { IfOk result (λ next. Passes text.now next.0 (option_map (λ rest. rest.now) next.1)) }
-    ensures err { IfErr result (λ rest. IsNoRange text.now rest.now ⊎ LacksComma text.now rest.now) }
+    ensures ok { IfOk result (λ next. Passes text.now next.0 (option_map (λ remainder. remainder.now) next.1)) }
+    ensures err { IfErr result (λ remainder. IsNoRange text.now remainder.now ⊎ LacksComma text.now remainder.now) }
 {
-    let (range, rest) = first_range(text)?;
-    match rest {
+    let (range, remainder) = first_range(text)?;
+    match remainder {
         [] => Ok((range, None)),
         [b',', more @ ..] => Ok((range, Some(more))),
-        _ => Err(rest),
+        _ => Err(remainder),
     }
 }
 
 /// The range at the front of a text and the text after it, or the text from the fault on.
 fn first_range(text: &[u8]) -> Result<(Range, &[u8]), &[u8]>
     ensures ok { IfOk result (λ first. BeginsRange text.now first.0 first.1.now) }
-    ensures err { IfErr result (λ rest. IsNoRange text.now rest.now) }
+    ensures err { IfErr result (λ remainder. IsNoRange text.now remainder.now) }
 {
-    let Some((first, rest)) = first_decimal(text) else {
+    let Some((first, remainder)) = first_decimal(text) else {
         return Err(text);
     };
-    let [b'+', rest @ ..] = rest else {
-        return Err(rest);
+    let [b'+', remainder @ ..] = remainder else {
+        return Err(remainder);
     };
-    let Some((count, rest)) = first_decimal(rest) else {
-        return Err(rest);
+    let Some((count, remainder)) = first_decimal(remainder) else {
+        return Err(remainder);
     };
-    Ok((Range { first, count }, rest))
+    Ok((Range { first, count }, remainder))
 }
 
 /// The decimal at the front of a text and the text after it. There is none if no digit stands there, or if the number
@@ -157,11 +157,11 @@ pub fn first_decimal(text: &[u8]) -> Option<(u64, &[u8])>
     ensures some { IfSome result (λ first. BeginsDecimal text.now first.0 first.1.now) }
     ensures none { IfNone result (BeginsNoDecimal text.now) }
 {
-    let (digit, rest) = first_digit(text)?;
+    let (digit, remainder) = first_digit(text)?;
     if digit == 0 {
-        return Some((0, rest));
+        return Some((0, remainder));
     }
-    more_digits(digit, rest)
+    more_digits(digit, remainder)
 }
 
 /// The decimal of a first digit that isn't 0 and of those at the front of a text, and the text after them. There is
@@ -174,12 +174,12 @@ fn more_digits(first: u8, text: &[u8]) -> Option<(u64, &[u8])>
     ensures none { IfNone result (BeginsLargeDecimal ((48 + first) ∷ text.now)) }
 {
     let mut number = u64::from(first);
-    let mut rest = text;
-    while let Some((digit, more)) = first_digit(rest) {
+    let mut remainder = text;
+    while let Some((digit, more)) = first_digit(remainder) {
         number = with_digit(number, digit)?;
-        rest = more;
+        remainder = more;
     }
-    Some((number, rest))
+    Some((number, remainder))
 }
 
 /// The number with a digit more at its end, if it is below 2^64.
@@ -197,9 +197,9 @@ fn first_digit(text: &[u8]) -> Option<(u8, &[u8])>
     ensures digit { IfSome result (λ first. first.0 ≤ 9) }
     ensures none { IfNone result (has_digit text.now ≡ false) }
 {
-    let (byte, rest) = text.split_first()?;
+    let (byte, remainder) = text.split_first()?;
     if byte.is_ascii_digit() {
-        Some((*byte - b'0', rest))
+        Some((*byte - b'0', remainder))
     } else {
         None
     }

@@ -20,20 +20,20 @@ one_of_number k s [] =
     ((λ low. none), omega (arith, none))
 one_of_number k s (part ∷ parts) = go (s == k) refl (one_of_number k (s + 1) parts)
   where
-    rest : List (List Cell)
-    rest = members k (range_with_len (s + 1) (length parts)) parts
+    remainder : List (List Cell)
+    remainder = members k (range_with_len (s + 1) (length parts)) parts
 
     go : (b : Bool) → (s == k) ≡ b → IsOne k (s + 1) parts → IsOne k s (part ∷ parts)
     go true here h =
         let is : s ≡ k = eqb-true s k here in
-        let none : length rest ≡ 0 = h.0 (omega arith) in
-        let all : length (members k (range_with_len s (suc (length parts))) (part ∷ parts)) ≡ suc (length rest) =
-        ap length (members-cons k s (range_with_len (s + 1) (length parts)) part parts ∙ ap (λ (b : Bool). cond b (part ∷ rest) rest) here) in
+        let none : length remainder ≡ 0 = h.0 (omega arith) in
+        let all : length (members k (range_with_len s (suc (length parts))) (part ∷ parts)) ≡ suc (length remainder) =
+        ap length (members-cons k s (range_with_len (s + 1) (length parts)) part parts ∙ ap (λ (b : Bool). cond b (part ∷ remainder) remainder) here) in
         ((λ low. absurd (omega arith)), omega (arith, all, none))
     go false here h =
-        let all : length (members k (range_with_len s (suc (length parts))) (part ∷ parts)) ≡ length rest =
-        ap length (members-cons k s (range_with_len (s + 1) (length parts)) part parts ∙ ap (λ (b : Bool). cond b (part ∷ rest) rest) here) in
-        let few : length rest ≤ 1 = h.1 in
+        let all : length (members k (range_with_len s (suc (length parts))) (part ∷ parts)) ≡ length remainder =
+        ap length (members-cons k s (range_with_len (s + 1) (length parts)) part parts ∙ ap (λ (b : Bool). cond b (part ∷ remainder) remainder) here) in
+        let few : length remainder ≤ 1 = h.1 in
         ((λ low. all ∙ h.0 (omega arith)), omega (arith, all, few))
 
 pub groups_run_alone : GroupsRunAlone

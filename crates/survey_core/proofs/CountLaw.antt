@@ -40,13 +40,13 @@ none_left k [] = refl
 none_left k (c ∷ cs) = go (is_code k c) refl (none_left k cs)
   where
     go : (b : Bool) → is_code k c ≡ b → count_by (is_code k) (others k cs) ≡ 0 → count_by (is_code k) (others k (c ∷ cs)) ≡ 0
-    go true e rest = ap (λ (b : Bool). count_by (is_code k) (cond (not b) (c ∷ others k cs) (others k cs))) e ∙ rest
-    go false e rest =
+    go true e remainder = ap (λ (b : Bool). count_by (is_code k) (cond (not b) (c ∷ others k cs) (others k cs))) e ∙ remainder
+    go false e remainder =
         let kept : count_by (is_code k) (others k (c ∷ cs)) ≡ count_by (is_code k) (c ∷ others k cs) =
         ap (λ (b : Bool). count_by (is_code k) (cond (not b) (c ∷ others k cs) (others k cs))) e in
         let one : count_by (is_code k) (c ∷ others k cs) ≡ 0 + count_by (is_code k) (others k cs) =
         one_more (is_code k) c (others k cs) ∙ ap (λ (b : Bool). cond b 1 0 + count_by (is_code k) (others k cs)) e in
-        omega (arith, kept, one, rest)
+        omega (arith, kept, one, remainder)
 
 -- and another code isn't among those that are this one
 none_counted : (code k : List ℕ) → is_code code k ≡ false → (codes : List (List ℕ)) → count_by (is_code code) (filter (is_code k) codes) ≡ 0
@@ -55,19 +55,19 @@ none_counted code k other (c ∷ cs) = go (code_cmp k c) refl (none_counted code
   where
     dropped : is_code k c ≡ false → count_by (is_code code) (filter (is_code k) cs) ≡ 0
         → count_by (is_code code) (filter (is_code k) (c ∷ cs)) ≡ 0
-    dropped e rest = ap (λ (b : Bool). count_by (is_code code) (cond b (c ∷ filter (is_code k) cs) (filter (is_code k) cs))) e ∙ rest
+    dropped e remainder = ap (λ (b : Bool). count_by (is_code code) (cond b (c ∷ filter (is_code k) cs) (filter (is_code k) cs))) e ∙ remainder
 
     go : (r : Ordering) → code_cmp k c ≡ r → count_by (is_code code) (filter (is_code k) cs) ≡ 0
         → count_by (is_code code) (filter (is_code k) (c ∷ cs)) ≡ 0
-    go Equal e rest =
+    go Equal e remainder =
         let miss : is_code code c ≡ false = ap (is_code code) (sym (same_code k c e)) ∙ other in
         let kept : count_by (is_code code) (filter (is_code k) (c ∷ cs)) ≡ count_by (is_code code) (c ∷ filter (is_code k) cs) =
         ap (λ (b : Bool). count_by (is_code code) (cond b (c ∷ filter (is_code k) cs) (filter (is_code k) cs))) (ap is_eq e) in
         let one : count_by (is_code code) (c ∷ filter (is_code k) cs) ≡ 0 + count_by (is_code code) (filter (is_code k) cs) =
         one_more (is_code code) c (filter (is_code k) cs) ∙ ap (λ (b : Bool). cond b 1 0 + count_by (is_code code) (filter (is_code k) cs)) miss in
-        omega (arith, kept, one, rest)
-    go Less e rest = dropped (ap is_eq e) rest
-    go Greater e rest = dropped (ap is_eq e) rest
+        omega (arith, kept, one, remainder)
+    go Less e remainder = dropped (ap is_eq e) remainder
+    go Greater e remainder = dropped (ap is_eq e) remainder
 
 -- so another code is counted among the others as it is among all
 same_count : (code k : List ℕ) (codes : List (List ℕ)) → is_code code k ≡ false
@@ -86,10 +86,10 @@ counts_add (x ∷ xs) codes order same =
     length-filter_both (is_code x.0) (λ c. not (is_code x.0 c)) (λ c. refl) codes in
     let here : length (filter (is_code x.0) codes) ≡ count_by (is_code x.0) codes = length-filter (is_code x.0) codes in
     let first : x.1 ≡ count_by (is_code x.0) codes = sym (count-head x xs) ∙ same x.0 in
-    let rest : sum (values_of xs) ≡ length (others x.0 codes) =
+    let remainder : sum (values_of xs) ≡ length (others x.0 codes) =
     counts_add xs (others x.0 codes) (in_order-tail x xs order) (λ code. tails code (code_cmp code x.0) refl) in
     let all : sum (values_of (x ∷ xs)) ≡ x.1 + sum (values_of xs) = sum_by-cons (λ n. n) x.1 (values_of xs) in
-    omega (arith, parts, here, first, rest, all)
+    omega (arith, parts, here, first, remainder, all)
   where
     past : (code : List ℕ) → is_code code x.0 ≡ false → count_of xs code ≡ count_by (is_code code) (others x.0 codes)
     past code other =

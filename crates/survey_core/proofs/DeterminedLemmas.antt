@@ -37,8 +37,8 @@ one_list_of_codes rule limit (x ∷ xs) [] other some h k = absurd h
 one_list_of_codes rule limit (x ∷ xs) (y ∷ ys) [] some h k = absurd k
 one_list_of_codes rule limit (x ∷ xs) (y ∷ ys) (z ∷ zs) some h k =
     let first : y ≡ z = codes_are_determined rule x limit y z (some 0 x (omega arith)) h.0 k.0 in
-    let rest : ys ≡ zs = one_list_of_codes rule limit xs ys zs (λ i d low. some (suc i) d (omega arith)) h.1 k.1 in
-    λ i. first i ∷ rest i
+    let others : ys ≡ zs = one_list_of_codes rule limit xs ys zs (λ i d low. some (suc i) d (omega arith)) h.1 k.1 in
+    λ i. first i ∷ others i
 
 abbrev pub code_cmp : List ℕ → List ℕ → Ordering
 code_cmp a b = slice_cmp nat_cmp a b
@@ -120,8 +120,8 @@ one_list (x ∷ xs) (y ∷ ys) o p h k same = go (code_cmp x.0 y.0) refl (one_li
     go Equal e ih =
         let first : x.0 ≡ y.0 = same_code x.0 y.0 e in
         let count : x.1 ≡ y.1 = sym (count-head x xs) ∙ same x.0 ∙ ap (count_of (y ∷ ys)) first ∙ count-head y ys in
-        let rest : xs ≡ ys = ih (λ code. tails code (code_cmp code x.0) refl first) in
-        λ i. (first i, count i) ∷ rest i
+        let others : xs ≡ ys = ih (λ code. tails code (code_cmp code x.0) refl first) in
+        λ i. (first i, count i) ∷ others i
 
 pub one_list_of_objects : (one other : List (List ℕ × ℕ)) → AreObjects one → AreObjects other → ((code : List ℕ) → count_of one code ≡ count_of other code)
     → one ≡ other

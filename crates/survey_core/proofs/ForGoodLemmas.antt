@@ -72,8 +72,8 @@ after_periods rule cells p (suc k) back =
     ∙ ap (λ (state : List Cell). after rule state p) (after_periods rule cells p k back) ∙ back
 
 -- so only the rest of the division by the period matters
-pub after_rest : (rule : Numbers) (cells : List Cell) (p g : ℕ) → after rule cells p ≡ cells → after rule cells g ≡ after rule cells (g % p)
-after_rest rule cells p g back =
+pub after_remainder : (rule : Numbers) (cells : List Cell) (p g : ℕ) → after rule cells p ≡ cells → after rule cells g ≡ after rule cells (g % p)
+after_remainder rule cells p g back =
     ap (after rule cells) (sym (div-add-mod g p) ∙ ap (λ (n : ℕ). n + g % p) (mul_comm p (g / p)))
     ∙ sym (after-then rule cells ((g / p) * p) (g % p))
     ∙ ap (λ (state : List Cell). after rule state (g % p)) (after_periods rule cells p (g / p) back)
@@ -127,9 +127,9 @@ listed_code (object ∷ objects) code some P all =
   where
     go : (o : Ordering) → slice_cmp nat_cmp code object.0 ≡ o → 1 ≤ unwrap_or (cond (is_eq o) (Some object.1) (lookup (is_code code) objects)) 0
         → (1 ≤ unwrap_or (lookup (is_code code) objects) 0 → P code) → P code
-    go Equal e h rest = subst P (sym (same_code code object.0 e)) (all 0 object (omega arith))
-    go Less e h rest = rest h
-    go Greater e h rest = rest h
+    go Equal e h more = subst P (sym (same_code code object.0 e)) (all 0 object (omega arith))
+    go Less e h more = more h
+    go Greater e h more = more h
 
 count_by-cons : (p : List ℕ → Bool) (y : List ℕ) (ys : List (List ℕ)) → count_by p (y ∷ ys) ≡ (0 + cond (p y) 1 0) + count_by p ys
 count_by-cons p y ys = sum_by-append (λ x. cond (p x) 1 0) (y ∷ []) ys
@@ -185,8 +185,8 @@ module _ (rule : Numbers) (cells : List Cell) (clusters : List (List Cell)) (L :
         let inside : g % L ≤ L = omega arith in
         subst (λ (parts : List (List Cell)). Partition (after rule cells g) parts)
         (map_same (λ part. after rule part (g % L)) (λ part. after rule part g) clusters
-        (λ k d there. sym (after_rest rule (get_or clusters k d) L g (each k d there))))
-        (subst (λ (whole : List Cell). Partition whole (map (λ part. after rule part (g % L)) clusters)) (sym (after_rest rule cells L g whole_back))
+        (λ k d there. sym (after_remainder rule (get_or clusters k d) L g (each k d there))))
+        (subst (λ (whole : List Cell). Partition whole (map (λ part. after rule part (g % L)) clusters)) (sym (after_remainder rule cells L g whole_back))
         (apart (g % L) inside))
 
 pub at_rest_for_good : AtRestForGood

@@ -26,7 +26,7 @@ use Rattle.survey_core.specs.Objects.{AreObjects, AreObjectsOf, CountsAreSome, I
 -- a multiple of n is what n divides without a rest
 pub multiple_then : (m n : ℕ) → IsTrue (nat_eq (m % n) 0) ↔ IsMultiple m n
 multiple_then m n = (
-  λ e. (m / n, sym (div-add-mod m n) ∙ ap (λ (rest : ℕ). n * (m / n) + rest) ((Decides-eqb (m % n) 0).0 e) ∙ add-zero (n * (m / n)) ∙ mul_comm n (m / n)),
+  λ e. (m / n, sym (div-add-mod m n) ∙ ap (λ (remainder : ℕ). n * (m / n) + remainder) ((Decides-eqb (m % n) 0).0 e) ∙ add-zero (n * (m / n)) ∙ mul_comm n (m / n)),
   λ (k, is). (Decides-eqb (m % n) 0).1 (ap (λ (x : ℕ). x % n) is ∙ mul-mod_left k n),
 )
 

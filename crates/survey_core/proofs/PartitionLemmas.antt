@@ -75,20 +75,20 @@ length-set_of_le : (cells : List Cell) → length (set_of cells) ≤ length cell
 length-set_of_le [] = omega arith
 length-set_of_le (c ∷ cells) =
     let more : length (put c (set_of cells)) ≤ suc (length (set_of cells)) = length-put_le c (set_of cells) (in_order-set_of cells) in
-    let rest : length (set_of cells) ≤ length cells = length-set_of_le cells in
+    let remainder : length (set_of cells) ≤ length cells = length-set_of_le cells in
     omega arith
 
 -- ---- from disjoint parts to lengths
 
 -- a list in order, before cells that it doesn't share
-front_adds : (front rest : List Cell) → InOrder front → Disjoint front rest → length (set_of (front ++ rest)) ≡ length front + length (set_of rest)
-front_adds [] rest order apart = omega arith
-front_adds (c ∷ cs) rest order apart =
-    let new : has (set_of (cs ++ rest)) c ≡ false = has-set_of (cs ++ rest) c ∙ has-append cs rest c
+front_adds : (front remainder : List Cell) → InOrder front → Disjoint front remainder → length (set_of (front ++ remainder)) ≡ length front + length (set_of remainder)
+front_adds [] remainder order apart = omega arith
+front_adds (c ∷ cs) remainder order apart =
+    let new : has (set_of (cs ++ remainder)) c ≡ false = has-set_of (cs ++ remainder) c ∙ has-append cs remainder c
     ∙ (λ i. has-before c cs (in_order-head c cs order) i || apart c (has-head c cs) i) in
-    let more : length (put c (set_of (cs ++ rest))) ≡ suc (length (set_of (cs ++ rest))) = length-put c (set_of (cs ++ rest)) new in
-    let later : length (set_of (cs ++ rest)) ≡ length cs + length (set_of rest) =
-    front_adds cs rest (in_order-tail c cs order) (λ d h. apart d (or_right (same_cell d c) (has cs d) h)) in
+    let more : length (put c (set_of (cs ++ remainder))) ≡ suc (length (set_of (cs ++ remainder))) = length-put c (set_of (cs ++ remainder)) new in
+    let later : length (set_of (cs ++ remainder)) ≡ length cs + length (set_of remainder) =
+    front_adds cs remainder (in_order-tail c cs order) (λ d h. apart d (or_right (same_cell d c) (has cs d) h)) in
     omega arith
   where
     or_right : (a b : Bool) → b ≡ true → (a || b) ≡ true
@@ -108,7 +108,7 @@ length-joined (part ∷ parts) orders apart =
     let head : Disjoint part (joined parts) = apart_from_all part parts (λ k d low. apart 0 (suc k) d (omega arith) (omega arith)) in
     let front : length (set_of (part ++ joined parts)) ≡ length part + length (set_of (joined parts)) =
     front_adds part (joined parts) (orders 0 [] (omega arith)) head in
-    let rest : length (set_of (joined parts)) ≡ length (joined parts) =
+    let remainder : length (set_of (joined parts)) ≡ length (joined parts) =
     length-joined parts (λ k d low. orders (suc k) d (omega arith)) (λ i j d lt low. apart (suc i) (suc j) d (omega arith) (omega arith)) in
     let all : length (part ++ joined parts) ≡ length part + length (joined parts) = length-append part (joined parts) in
     omega arith
@@ -116,20 +116,20 @@ length-joined (part ∷ parts) orders apart =
 -- ---- from lengths to disjoint parts
 
 -- where nothing is lost in the union, the front shares no cell with the rest, and nothing is lost in the rest
-front_apart : (front rest : List Cell) → length (set_of (front ++ rest)) ≡ length (front ++ rest) → Disjoint front rest × (length (set_of rest) ≡ length rest)
-front_apart [] rest same = (λ c h. absurd (false≢true h), same)
-front_apart (c ∷ cs) rest same = elim (cases_Bool (has (set_of (cs ++ rest)) c)) [
+front_apart : (front remainder : List Cell) → length (set_of (front ++ remainder)) ≡ length (front ++ remainder) → Disjoint front remainder × (length (set_of remainder) ≡ length remainder)
+front_apart [] remainder same = (λ c h. absurd (false≢true h), same)
+front_apart (c ∷ cs) remainder same = elim (cases_Bool (has (set_of (cs ++ remainder)) c)) [
   | inl there ↦
-      let e : length (put c (set_of (cs ++ rest))) ≡ length (set_of (cs ++ rest)) =
-      length-put_again c (set_of (cs ++ rest)) (in_order-set_of (cs ++ rest)) there in
-      let low : length (set_of (cs ++ rest)) ≤ length (cs ++ rest) = length-set_of_le (cs ++ rest) in
+      let e : length (put c (set_of (cs ++ remainder))) ≡ length (set_of (cs ++ remainder)) =
+      length-put_again c (set_of (cs ++ remainder)) (in_order-set_of (cs ++ remainder)) there in
+      let low : length (set_of (cs ++ remainder)) ≤ length (cs ++ remainder) = length-set_of_le (cs ++ remainder) in
       absurd (omega arith)
   | inr new ↦
-      let e : length (put c (set_of (cs ++ rest))) ≡ suc (length (set_of (cs ++ rest))) = length-put c (set_of (cs ++ rest)) new in
-      let later = front_apart cs rest (omega arith) in (
+      let e : length (put c (set_of (cs ++ remainder))) ≡ suc (length (set_of (cs ++ remainder))) = length-put c (set_of (cs ++ remainder)) new in
+      let later = front_apart cs remainder (omega arith) in (
         λ d h. elim (has-cases c cs d h) [
-          | inl is ↦ subst (λ (x : Cell). has rest x ≡ false) (sym is)
-              (neither (has cs c) (has rest c) (sym (has-append cs rest c) ∙ sym (has-set_of (cs ++ rest) c) ∙ new)).1
+          | inl is ↦ subst (λ (x : Cell). has remainder x ≡ false) (sym is)
+              (neither (has cs c) (has remainder c) (sym (has-append cs remainder c) ∙ sym (has-set_of (cs ++ remainder) c) ∙ new)).1
           | inr more ↦ later.0 d more
         ],
         later.1,

@@ -68,9 +68,9 @@ module _ {X : Type 0} (key : X → Cell) where
   pub sorted-keys : (xs : List X) → KeysDiffer xs → map key (sorted xs) ≡ set_of (map key xs)
   sorted-keys [] differ = refl
   sorted-keys (x ∷ xs) differ =
-      let rest : map key (sorted xs) ≡ set_of (map key xs) = sorted-keys xs differ.1 in
-      place-put x (sorted xs) (ap (λ (cells : List Cell). has cells (key x)) rest ∙ has-set_of (map key xs) (key x) ∙ differ.0)
-      ∙ ap (put (key x)) rest
+      let remainder : map key (sorted xs) ≡ set_of (map key xs) = sorted-keys xs differ.1 in
+      place-put x (sorted xs) (ap (λ (cells : List Cell). has cells (key x)) remainder ∙ has-set_of (map key xs) (key x) ∙ differ.0)
+      ∙ ap (put (key x)) remainder
 
 -- clusters with a cell whose first cells stand in order
 pairs_from : (clusters : List (List Cell)) → All (λ cluster. cluster ≢ []) clusters → InOrder (map first clusters) → AllPairs FirstBefore clusters

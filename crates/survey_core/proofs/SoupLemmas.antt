@@ -53,9 +53,9 @@ all_near p a (suc n) low = go (p a) (all_near p (a + 1) n (omega arith))
   where
     go : (b : Bool) → list_all (is_within 15) (map square_cell (filter p (range_with_len (a + 1) n))) ≡ true
         → list_all (is_within 15) (map square_cell (cond {A = List ℕ} b (a ∷ filter p (range_with_len (a + 1) n)) (filter p (range_with_len (a + 1) n)))) ≡ true
-    go true rest = and_from (is_within 15 (square_cell a)) (list_all (is_within 15) (map square_cell (filter p (range_with_len (a + 1) n))))
-        (near_origin a (omega arith)) rest
-    go false rest = rest
+    go true remainder = and_from (is_within 15 (square_cell a)) (list_all (is_within 15) (map square_cell (filter p (range_with_len (a + 1) n))))
+        (near_origin a (omega arith)) remainder
+    go false remainder = remainder
 
 cells_near : (digest : List ℕ) → list_all (is_within 15) (live_in_square digest 256) ≡ true
 unfolding live_in_square
@@ -85,15 +85,15 @@ absent p a (suc n) m low = go (p a) (absent p (a + 1) n m (omega arith))
   where
     go : (b : Bool) → has (map square_cell (filter p (range_with_len (a + 1) n))) (square_cell m) ≡ false
         → has (map square_cell (cond {A = List ℕ} b (a ∷ filter p (range_with_len (a + 1) n)) (filter p (range_with_len (a + 1) n)))) (square_cell m) ≡ false
-    go true rest = rw (different m a low) rest
-    go false rest = rest
+    go true remainder = rw (different m a low) remainder
+    go false remainder = remainder
 
 -- and the one at a place among them is alive exactly if it passes
 present : (p : ℕ → Bool) (a n m : ℕ) → a ≤ m → m < a + n → has (map square_cell (filter p (range_with_len a n))) (square_cell m) ≡ p m
 present p a zero m low high = absurd (omega arith)
 present p a (suc n) m low high = elim (eq-or-lt_of_le low) [
   | inl same ↦ subst (λ (k : ℕ). has (map square_cell (filter p (range_with_len a (suc n)))) (square_cell k) ≡ p k) same (first (p a) refl)
-  | inr less ↦ rest (p a) (present p (a + 1) n m (omega arith) (omega arith)) less
+  | inr less ↦ remainder (p a) (present p (a + 1) n m (omega arith) (omega arith)) less
 ]
   where
     first : (b : Bool) → p a ≡ b
@@ -101,14 +101,14 @@ present p a (suc n) m low high = elim (eq-or-lt_of_le low) [
     first true e = rw e (has-head (square_cell a) (map square_cell (filter p (range_with_len (a + 1) n))))
     first false e = rw e (absent p (a + 1) n a (omega arith))
 
-    rest : (b : Bool) → has (map square_cell (filter p (range_with_len (a + 1) n))) (square_cell m) ≡ p m → a < m
+    remainder : (b : Bool) → has (map square_cell (filter p (range_with_len (a + 1) n))) (square_cell m) ≡ p m → a < m
         → has (map square_cell (cond {A = List ℕ} b (a ∷ filter p (range_with_len (a + 1) n)) (filter p (range_with_len (a + 1) n)))) (square_cell m) ≡ p m
-    rest true more less =
+    remainder true more less =
         let other : same_cell (square_cell m) (square_cell a) ≡ false = false_unless (same_cell (square_cell m) (square_cell a)) (λ e.
         false≢true (sym (different a m less) ∙ ap (same_cell (square_cell a)) (same_cell-same (square_cell m) (square_cell a) e)
         ∙ same_cell-itself (square_cell a))) in
         rw other more
-    rest false more less = more
+    remainder false more less = more
 
 pub soups_by_cells : SoupsByCells
 unfolding live_in_square is_alive_at
@@ -132,11 +132,11 @@ in_square p a (suc n) low c h = go (p a) h (in_square p (a + 1) n (omega arith) 
 
     go : (b : Bool) → has (map square_cell (cond {A = List ℕ} b (a ∷ filter p (range_with_len (a + 1) n)) (filter p (range_with_len (a + 1) n)))) c ≡ true
         → (has (map square_cell (filter p (range_with_len (a + 1) n))) c ≡ true → IsWithin square c) → IsWithin square c
-    go true e rest = elim (has-cases (square_cell a) (map square_cell (filter p (range_with_len (a + 1) n))) c e) [
+    go true e remainder = elim (has-cases (square_cell a) (map square_cell (filter p (range_with_len (a + 1) n))) c e) [
       | inl same ↦ subst (IsWithin square) (sym same) here
-      | inr more ↦ rest more
+      | inr more ↦ remainder more
     ]
-    go false e rest = rest e
+    go false e remainder = remainder e
 
 pub soup_in_square : (digest : List ℕ) → All (IsWithin square) (set_of (live_in_square digest 256))
 unfolding live_in_square

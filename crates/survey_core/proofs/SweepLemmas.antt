@@ -17,7 +17,7 @@ use Rattle.code_core.proofs.MovedCodes.{after-shifted}
 use Rattle.survey_core.specs.declared.sweep.Sweep.{Sweep}
 use Rattle.survey_core.specs.Sweeps.{AreSweeps, IsSweep, Serves, ShipsMoveByTurns, StayApart, StayClear, both_boxes, carried, is_clear, is_parting, is_past, times}
 use Rattle.survey_core.proofs.FindingLemmas.{after-then}
-use Rattle.survey_core.proofs.ForGoodLemmas.{after_rest, shifted-none}
+use Rattle.survey_core.proofs.ForGoodLemmas.{after_remainder, shifted-none}
 
 -- ---- turns
 
@@ -85,10 +85,10 @@ in_turn rule limit cells s p n r is (inr still) low =
     let some : 1 ≤ s.recurrence.period = is.recurs.some in
     let back : after rule cells s.recurrence.period ≡ cells =
     is.recurs.back ∙ (λ i. shifted (still.0 i) (still.1 i) cells) ∙ shifted-none cells in
-    let rest : (n * p + r) % s.recurrence.period < s.recurrence.period = omega arith in
+    let within : (n * p + r) % s.recurrence.period < s.recurrence.period = omega arith in
     subst (λ (b : Bounds). All (IsWithin b) (after rule cells (n * p + r))) (sym (stays still))
-    (subst (All (IsWithin s.bounds)) (sym (after_rest rule cells s.recurrence.period (n * p + r) back))
-    (is.within ((n * p + r) % s.recurrence.period) rest))
+    (subst (All (IsWithin s.bounds)) (sym (after_remainder rule cells s.recurrence.period (n * p + r) back))
+    (is.within ((n * p + r) % s.recurrence.period) within))
   where
     zero_more : (a t : ℤ) → t ≡ pos 0 → a +ℤ t ≡ a
     zero_more a t e = omega (arith, ints, e)
@@ -128,7 +128,7 @@ clear_apart : (one other : Sweep) (n : ℕ) (c d : Cell)
     → is_clear one.bounds other.bounds (times n (other.recurrence.dx -ℤ one.recurrence.dx)) (times n (other.recurrence.dy -ℤ one.recurrence.dy)) ≡ true
     → IsWithin (carried n one) c → IsWithin (carried n other) d → 3 ≤ king_distance c d
 clear_apart one other n c d clear v w = elim (or_cases _ _ clear) [
-  | inl rest ↦ elim (or_cases _ _ rest) [
+  | inl others ↦ elim (or_cases _ _ others) [
     | inl more ↦ elim (or_cases _ _ more) [
       | inl right ↦ across (far_past one.bounds.right other.bounds.left (times n (other.recurrence.dx -ℤ one.recurrence.dx)) (times n one.recurrence.dx)
           (times n other.recurrence.dx) c.x d.x right ex v.right w.left)

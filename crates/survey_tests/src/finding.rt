@@ -91,9 +91,10 @@ fn code_count(finding: &Finding) -> Option<usize> {
 
 /// The finding of a picture where nothing is born or dies.
 fn of_still_picture(alloc: Global, picture: &str) -> Result<Finding, Fail> {
-    let pattern = drawn(alloc, picture)?;
     let rule = Rule::read("bs012345678")?;
-    Ok(survey_pattern(alloc, &at_once(1, 1)?, &rule, pattern)?)
+    let profile = at_once(1, 1)?;
+    let pattern = drawn(alloc, picture)?;
+    Ok(survey_pattern(alloc, &profile, &rule, pattern)?)
 }
 
 // Each line is a still life, and each has a population of its own.

@@ -188,13 +188,13 @@ module _ (command : Command) (here : IsIn command commands) where
       let name = (entry_in u).name in
       let first = fresh name (ap (λ b. b || is_used name more) ((bytes_eq-Decides name name).1 refl)) in
       let one = read_more u h position rows are.0 first is in
-      let rest = uses_read more one.held one.end (rows ++ row_in u ∷ []) are.2 (still_fresh rows u more fresh are.1) one.is in
+      let remainder = uses_read more one.held one.end (rows ++ row_in u ∷ []) are.2 (still_fresh rows u more fresh are.1) one.is in
       record {
-        held = rest.held;
-        end = rest.end;
-        is = subst (IsAt command rest.held rest.end) (append_assoc rows (row_in u ∷ []) (rows_in more)) rest.is;
+        held = remainder.held;
+        end = remainder.end;
+        is = subst (IsAt command remainder.held remainder.end) (append_assoc rows (row_in u ∷ []) (rows_in more)) remainder.is;
         runs = λ words. ap (run (leaf command) (at h position)) (append_assoc (words_of u) (words_in more) words)
-            ∙ one.runs (words_in more ++ words) ∙ rest.runs words;
+            ∙ one.runs (words_in more ++ words) ∙ remainder.runs words;
       }
 
   pub all_read : (uses : List Use) → AreUses command uses → ReadsOn command nothing_held 1 (words_in uses) (rows_in uses)

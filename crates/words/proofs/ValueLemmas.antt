@@ -60,7 +60,7 @@ unfolding defaults_fault
 no_default_fault [] rows fine = refl
 no_default_fault (a ∷ c) rows fine =
     let first = ap (λ ks. get_or ks 0 []) fine in
-    let rest = no_default_fault c (with_default rows a) (ap (drop 1) fine) in
+    let remainder = no_default_fault c (with_default rows a) (ap (drop 1) fine) in
     grind arith
 
 -- ---- the values of uses

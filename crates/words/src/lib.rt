@@ -21,7 +21,7 @@ pub mod options;
 pub mod reading;
 /// What words ask for.
 pub mod request;
+/// A text among the words of a call.
+pub mod text;
 /// The values that a request takes, each looked up by its row.
 pub mod values;
-/// A text that stands in the words.
-pub mod word;

@@ -1,4 +1,4 @@
-use crate::word::Word;
+use crate::text::Text;
 
 /// A command with its values.
 #[derive(Drop)]
@@ -6,20 +6,20 @@ pub enum Request<'a> {
     /// The pattern of the input so many generations later, at most 100,000, under the rule of a text.
     Run {
         generations: u32,
-        rule: Word<'a>,
+        rule: Text<'a>,
     },
     /// What the input's pattern becomes, under a profile, and under the rule of a text.
     Name {
         profile: ProfileNumbers,
-        rule: Word<'a>,
+        rule: Text<'a>,
     },
     /// The object that a code names.
     Show {
-        code: Word<'a>,
+        code: Text<'a>,
     },
     /// The soup with this number, which is below 2^40, of the seed of a text.
     Soup {
-        seed: Word<'a>,
+        seed: Text<'a>,
         number: u64,
     },
     /// The haul of all soups of a set by so many workers, 1 to 16, and whether a line of progress is asked for.
@@ -50,20 +50,20 @@ pub struct Plan<'a> {
     /// When a soup counts as settled.
     pub profile: ProfileNumbers,
     /// The rule.
-    pub rule: Word<'a>,
+    pub rule: Text<'a>,
 }
 
 /// The soups of a seed whose numbers stand in a range, or in the ranges of a list beside it.
 #[derive(Drop)]
 pub struct SoupSet<'a> {
     /// The seed.
-    pub seed: Word<'a>,
+    pub seed: Text<'a>,
     /// The first number of the range, at most 2^40.
     pub first: u64,
     /// How many numbers the range has, at most 2^24.
     pub count: u64,
     /// The list of the other ranges.
-    pub also: Word<'a>,
+    pub also: Text<'a>,
 }
 
 /// The four numbers of a profile: when a pattern counts as settled.

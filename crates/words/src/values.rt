@@ -4,7 +4,7 @@ ghost use Rattle.words.specs.Table.{entry_of};
 ghost use Rattle.words.specs.Values.{IsInRange, is_given, number_found, number_up_to, text_found, within};
 
 use crate::options::{Argument, Kind};
-use crate::word::Word;
+use crate::text::Text;
 use clap::ArgMatches;
 
 /// The number that was found for the argument of a row, in its range.
@@ -47,11 +47,11 @@ fn within(most: u64, number: Option<u64>) -> Option<u64>
 }
 
 /// The text that was found for the argument of a row.
-pub fn text_found<'a>(found: &ArgMatches<'a>, row: &Argument) -> Option<Word<'a>>
+pub fn text_found<'a>(found: &ArgMatches<'a>, row: &Argument) -> Option<Text<'a>>
     ensures { result ≡ text_found (entry_of row.now) (rows_of (found_of found.now)) }
 {
     let text = found.get_str(row.name)?;
-    Some(Word::new(text))
+    Some(Text::new(text))
 }
 
 /// Whether the flag of a row was given.

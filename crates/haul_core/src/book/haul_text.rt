@@ -18,7 +18,7 @@ use survey_core::profile::Profile;
 /// Writes the haul text of a census: the job, the set of soup numbers, the sums, and two lines for each code, one with
 /// how many objects have it and one with its samples. The `Out` must not have failed.
 ///
-/// It takes no memory. Each word and number is a write, so the writer should be buffered, as by a `BufWriter`.
+/// It takes no memory. Each name and number is a write, so the writer should be buffered, as by a `BufWriter`.
 ///
 /// # Errors
 ///
@@ -127,16 +127,16 @@ fn put_samples<W: Write>(out: &mut Out<W>, rows: &[Row]) -> Result<(), WriteErro
     Ok(())
 }
 
-/// Writes a line: a word, and numbers in decimal with a space before each.
+/// Writes a line: a name, and numbers in decimal with a space before each.
 fn put_line<W: Write, N: Integer>(
     out: &mut Out<W>,
-    word: &[u8],
+    name: &[u8],
     numbers: &[N],
 ) -> Result<(), WriteError>
     requires { out.old.failed ≡ false }
-    ensures { Writes W.contents out.old out.new result (ended (line_of word.now (map N.text numbers.now))) }
+    ensures { Writes W.contents out.old out.new result (ended (line_of name.now (map N.text numbers.now))) }
 {
-    out.put(word)?;
+    out.put(name)?;
     for number in numbers {
         put_number(out, b" ", *number)?;
     }

@@ -20,7 +20,7 @@ use survey_core::profile::Profile;
 
 /// Writes the line of a report, in version 2, with the line feed that ends it. The `Out` must not have failed.
 ///
-/// It takes no memory. Each word and number is a write, so the writer should be buffered, as by a `BufWriter`.
+/// It takes no memory. Each name and number is a write, so the writer should be buffered, as by a `BufWriter`.
 ///
 /// # Errors
 ///

@@ -17,7 +17,7 @@ returns-in_default-clause-complains g c =
       status = statuses.Memory;
       written = record { before = before; after = before; failed = false };
       told = stream g.E.Write.contents c.args.machine.now.errors c.tell.new.errors;
-      does = inr (record { told = refl; nothing = nothing.0; line = c.tell.ensures.line });
+      does = inr (record { status_is = refl; nothing = nothing.0; line = c.tell.ensures.line });
       from = refl;
       sent = nothing.1;
       ends = inl (refl, ap exit_code c.tell.ensures.status, refl);

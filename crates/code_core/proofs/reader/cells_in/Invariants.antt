@@ -3,7 +3,7 @@ use Rattle.code_core.proofs.ReaderLoops.{Gathered}
 use Rattle.code_core.proofs.reader.cells_in.Given as goal
 
 abbrev pub invariant-loop-token : goal.invariant-loop-token
-invariant-loop-token l = Gathered l.text l.rest l.cells.items l.head.strip l.head.x
+invariant-loop-token l = Gathered l.text l.remainder l.cells.items l.head.strip l.head.x
 
 abbrev pub decreases-loop-token : goal.decreases-loop-token
-decreases-loop-token l = length l.rest
+decreases-loop-token l = length l.remainder

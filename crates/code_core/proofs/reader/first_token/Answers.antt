@@ -8,7 +8,7 @@ use Rattle.code_core.proofs.reader.first_token.Goals as goal
 
 pub returns-then-byte-ne-MANY_EMPTY-clause-token : goal.returns-then-byte-ne-MANY_EMPTY-clause-token
 returns-then-byte-ne-MANY_EMPTY-clause-token c =
-    Begins_single c.args.text.now c.single.result c.in_ok-byte.byte.now c.in_ok-byte.rest.now c.in_ok-byte.ensures.cases.0 c.single.ensures
+    Begins_single c.args.text.now c.single.result c.in_ok-byte.byte.now c.in_ok-byte.remainder.now c.in_ok-byte.ensures.cases.0 c.single.ensures
     (sym c.is_character.ensures ∙ c.if-not-is_character.false) c.if-byte-ne-MANY_EMPTY.true
 
 pub returns-in_err-byte-clause-none : goal.returns-in_err-byte-clause-none
@@ -23,7 +23,7 @@ returns-then-not-is_character-clause-none c =
 pub returns-in_err-length-clause-none : goal.returns-in_err-length-clause-none
 returns-in_err-length-clause-none c =
     rw c.from_residual-in_err-length.ensures (subst IsStuck (sym c.in_ok-byte.ensures.cases.0)
-    (λ h. (c.if-byte-ne-MANY_EMPTY.false, no_character c.in_ok-byte.rest.now c.in_err-length.ensures.cases)))
+    (λ h. (c.if-byte-ne-MANY_EMPTY.false, no_character c.in_ok-byte.remainder.now c.in_err-length.ensures.cases)))
 
 pub returns-then-not-is_character-2-clause-none : goal.returns-then-not-is_character-2-clause-none
 returns-then-not-is_character-2-clause-none c =
@@ -38,11 +38,11 @@ character_value-requires c = sym c.is_character-2.ensures ∙ c.if-not-is_charac
 pub returns-clause-token : goal.returns-clause-token
 returns-clause-token c =
     let length = c.in_ok-length.length.now in
-    let rest = c.in_ok-length.rest.now in
-    subst₂ (λ (text : List ℕ) (token : Token). Begins text token rest)
+    let remainder = c.in_ok-length.remainder.now in
+    subst₂ (λ (text : List ℕ) (token : Token). Begins text token remainder)
     (sym (c.in_ok-byte.ensures.cases.0 ∙ (λ i. c.if-byte-ne-MANY_EMPTY.false i ∷ c.in_ok-length.ensures.cases.0 i)))
     (ap (λ n. Gap (n + 4)) (sym c.character_value.ensures.value))
-    (Begins_long_gap length rest (sym c.is_character-2.ensures ∙ c.if-not-is_character-2.false))
+    (Begins_long_gap length remainder (sym c.is_character-2.ensures ∙ c.if-not-is_character-2.false))
 
 pub returns-in_err-byte-clause-token : goal.returns-in_err-byte-clause-token
 returns-in_err-byte-clause-token c = rw c.from_residual.ensures tt

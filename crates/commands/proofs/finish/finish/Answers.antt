@@ -26,7 +26,7 @@ returns-in_err-write_haul-clause-finishes g c =
       census = c.in_ok-census.census;
       counted = rw (← c.close.ensures.taken, ← c.close.ensures.terms) c.in_ok-census.ensures;
       front = c.in_err-write_haul.ensures.front;
-      cut = c.in_err-write_haul.ensures.told;
+      cut = c.in_err-write_haul.ensures.remembers;
     })
 
 pub returns-in_err-write_haul-clause-none : goal.returns-in_err-write_haul-clause-none
@@ -39,13 +39,13 @@ pub returns-in_err-write_haul-clause-no_memory : goal.returns-in_err-write_haul-
 returns-in_err-write_haul-clause-no_memory g c = rw (err_of _ _ c.from_residual-in_err-write_haul.ensures.1) (λ is. cc)
 
 pub flush-requires : goal.flush-requires
-flush-requires g c = c.in_ok-write_haul.ensures.told
+flush-requires g c = c.in_ok-write_haul.ensures.remembers
 
 pub returns-in_err-flush-clause-finishes : goal.returns-in_err-flush-clause-finishes
 returns-in_err-flush-clause-finishes g c =
     let sent = Writes_same (append-nil _) (Writes_then c.in_ok-write_haul.ensures c.in_err-flush.ensures) in
     rw (err_of _ _ c.from_residual-in_err-flush.ensures.1)
-    (record { census = c.in_ok-census.census; counted = rw (← c.close.ensures.taken, ← c.close.ensures.terms) c.in_ok-census.ensures; front = sent.front; cut = sent.told })
+    (record { census = c.in_ok-census.census; counted = rw (← c.close.ensures.taken, ← c.close.ensures.terms) c.in_ok-census.ensures; front = sent.front; cut = sent.remembers })
 
 pub returns-in_err-flush-clause-none : goal.returns-in_err-flush-clause-none
 returns-in_err-flush-clause-none g c = rw c.missing_count-missing.ensures.count at c.missing_count-missing.ensures.none
@@ -63,7 +63,7 @@ returns-clause-finishes g c =
       counted = rw (← c.close.ensures.taken, ← c.close.ensures.terms) c.in_ok-census.ensures;
       missing_is = c.missing_count-missing.ensures.count;
       text = sent.whole;
-      fine = sent.told;
+      fine = sent.remembers;
     }
 
 pub returns-clause-none : goal.returns-clause-none

@@ -17,19 +17,19 @@ returns-in_err-extend_from_slice-clause-stops c =
     rw (err_of _ _ c.from_residual-in_err-extend_from_slice.ensures.1)
     (record {
       ranges = c.in_ok-ranges.ranges.items;
-      words = c.in_ok-ranges.ensures.words;
+      fit = c.in_ok-ranges.ensures.fit;
       spelled = c.in_ok-ranges.ensures.ranges ∙ c.as_str.ensures;
     })
 
 pub returns-clause-named : goal.returns-clause-named
 returns-clause-named c = record {
   listed = c.in_ok-ranges.ranges.items;
-  words = c.in_ok-ranges.ensures.words;
+  fit = c.in_ok-ranges.ensures.fit;
   spelled = c.in_ok-ranges.ensures.ranges ∙ c.as_str.ensures;
   all = c.in_ok-extend_from_slice.ensures.items;
 }
 
 pub returns-clause-only : goal.returns-clause-only
 returns-clause-only c = λ others of.
-    let listed : of.listed ≡ c.in_ok-ranges.ranges.items = sym (c.in_ok-ranges.ensures.complete of.listed of.words (of.spelled ∙ sym c.as_str.ensures)) in
+    let listed : of.listed ≡ c.in_ok-ranges.ranges.items = sym (c.in_ok-ranges.ensures.complete of.listed of.fit (of.spelled ∙ sym c.as_str.ensures)) in
     of.all ∙ ap (λ (rs : List Range). rs ++ own_range c.args.set.now ∷ []) listed ∙ sym c.in_ok-extend_from_slice.ensures.items

@@ -9,9 +9,9 @@ returns-clause-gathers c =
     let table = c.tickets.inside.table.shared in
     let first = c.first.inside in
     let left = c.args.passes.items in
-    let ends = ended table.key c.join_all.new.seat.id c.join_all.new.seat.me.0 _ _ c.word-word.result c.close_with-closed.ensures.values.2 c.word-word.ensures in
-    let m = min c.word-word.result table.key.count in
-    let same : m ≡ c.min.result = ap (λ (n : ℕ). min c.word-word.result n) (sym c.tickets.invariant.0) ∙ sym c.min.ensures in
+    let ends = ended table.key c.join_all.new.seat.id c.join_all.new.seat.me.0 _ _ c.word-counter.result c.close_with-closed.ensures.values.2 c.word-counter.ensures in
+    let m = min c.word-counter.result table.key.count in
+    let same : m ≡ c.min.result = ap (λ (n : ℕ). min c.word-counter.result n) (sym c.tickets.invariant.0) ∙ sym c.min.ensures in
     let pass : Drawn = record { series = series_of first.seat.table_id first.seat.me.0.issue; numbers = first.seat.me.0.numbers; heard_none = first.heard_none } in
     let whole = gathers table.key table.table_id left pass first.seat.me.0 c.join_all.new.seat.me.0 m c.first.invariant.0 c.first.invariant.1
     (λ i. first.seat.me.0.numbers)

@@ -79,20 +79,20 @@ fn fault_in(line: &[u8]) -> Option<usize>
 
 /// The place of the first fault among the counts of a line.
 fn fault_in_counts(line: &[u8], counts: Option<&[u8]>) -> Option<usize>
-    requires { (start : Before) × HasReadStart line.now start (option_map (λ rest. rest.now) counts) }
+    requires { (start : Before) × HasReadStart line.now start (option_map (λ remainder. remainder.now) counts) }
     ensures fault { IfSome result (IsFirstFaultOf line.now) }
     ensures refused { IfSome result (λ _. ¬ IsClaimLine line.now) }
     ensures none { IfNone result (IsClaimLine line.now) }
 {
     let mut last = None;
-    let mut rest = counts;
-    while let Some(here) = rest {
+    let mut remainder = counts;
+    while let Some(here) = remainder {
         let (field, more) = cut_at(b' ', here);
         let Some((code, _)) = count_after(last, field) else {
             return Some(place_of(line, here));
         };
         last = Some(code);
-        rest = more;
+        remainder = more;
     }
     None
 }
@@ -124,21 +124,21 @@ fn with_counts(
     counts: Option<&[u8]>,
 ) -> Result<Claim, AllocError>
     requires line { IsClaimLine line.now }
-    requires start { HasReadStart line.now start (option_map (λ rest. rest.now) counts) }
+    requires start { HasReadStart line.now start (option_map (λ remainder. remainder.now) counts) }
     ensures lawful { IfOk result IsClaim }
     ensures line { IfOk result (λ claim. claim_line claim ≡ line.now) }
 {
     let mut read = Vec::new(alloc);
     let mut last = None;
-    let mut rest = counts;
-    while let Some(here) = rest {
+    let mut remainder = counts;
+    while let Some(here) = remainder {
         let (field, more) = cut_at(b' ', here);
         let Some((code, count)) = count_after(last, field) else {
             unreachable!();
         };
         read.push((ClaimedCode::make(alloc, code)?, count))?;
         last = Some(code);
-        rest = more;
+        remainder = more;
     }
     Ok(claim_of(start, read))
 }

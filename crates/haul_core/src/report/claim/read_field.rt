@@ -19,7 +19,7 @@ use survey_core::seed::Seed;
 
 /// The front of a text up to the first such byte, and the text after the byte, if there is one.
 pub(crate) fn cut_at(byte: u8, text: &[u8]) -> (&[u8], Option<&[u8]>)
-    ensures { Cuts byte text.now result.0.now (option_map (λ rest. rest.now) result.1) }
+    ensures { Cuts byte text.now result.0.now (option_map (λ remainder. remainder.now) result.1) }
 {
     match place_of(byte, text) {
         Some(place) => (&text[..place], Some(&text[place + 1..])),
@@ -39,23 +39,23 @@ fn place_of(byte: u8, text: &[u8]) -> Option<usize>
 pub(crate) fn number_in(text: &[u8]) -> Option<u64>
     ensures { Tells IsNumber decimal text.now result }
 {
-    let (number, rest) = first_decimal(text)?;
-    if rest.is_empty() { Some(number) } else { None }
+    let (number, remainder) = first_decimal(text)?;
+    if remainder.is_empty() { Some(number) } else { None }
 }
 
-/// The number below 2^64 whose decimal stands after a word.
-pub(crate) fn number_after(word: &[u8], field: &[u8]) -> Option<u64>
-    ensures { Tells IsNumber (λ n. word.now ++ decimal n) field.now result }
+/// The number below 2^64 whose decimal stands after a name.
+pub(crate) fn number_after(name: &[u8], field: &[u8]) -> Option<u64>
+    ensures { Tells IsNumber (λ n. name.now ++ decimal n) field.now result }
 {
-    number_in(after(word, field)?)
+    number_in(after(name, field)?)
 }
 
-/// What stands after a word at the front of a field, if it stands there.
-fn after<'a>(word: &[u8], field: &'a [u8]) -> Option<&'a [u8]>
-    ensures { MatchOption result ((rest : List ℕ) → field.now ≢ word.now ++ rest)
-        (λ rest. field.now ≡ word.now ++ rest.now) }
+/// What stands after a name at the front of a field, if it stands there.
+fn after<'a>(name: &[u8], field: &'a [u8]) -> Option<&'a [u8]>
+    ensures { MatchOption result ((remainder : List ℕ) → field.now ≢ name.now ++ remainder)
+        (λ remainder. field.now ≡ name.now ++ remainder.now) }
 {
-    field.strip_prefix(word)
+    field.strip_prefix(name)
 }
 
 /// The worker that a field names.
@@ -125,10 +125,10 @@ pub(crate) fn profile_in(field: &[u8]) -> Option<Profile>
 fn profile_of(text: &[u8]) -> Option<Profile>
     ensures { Tells IsProfile numbers_text text.now result }
 {
-    let (period, rest) = first_number(text)?;
-    let (horizon, rest) = first_number(rest)?;
-    let (stride, rest) = first_number(rest)?;
-    let limit = small_number_in(rest)?;
+    let (period, remainder) = first_number(text)?;
+    let (horizon, remainder) = first_number(remainder)?;
+    let (stride, remainder) = first_number(remainder)?;
+    let limit = small_number_in(remainder)?;
     match Profile::new(period, horizon, stride, limit) {
         Ok(profile) => Some(profile),
         Err(_) => None,
@@ -139,11 +139,11 @@ fn profile_of(text: &[u8]) -> Option<Profile>
 fn first_number(text: &[u8]) -> Option<(u32, &[u8])>
     ensures { BeginsNumber text.now (option_map (λ first. (first.0, first.1.now)) result) }
 {
-    let (front, Some(rest)) = cut_at(b',', text) else {
+    let (front, Some(remainder)) = cut_at(b',', text) else {
         return None;
     };
     let number = small_number_in(front)?;
-    Some((number, rest))
+    Some((number, remainder))
 }
 
 /// The number up to 100,000 whose decimal the text is.

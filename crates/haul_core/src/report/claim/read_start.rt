@@ -39,11 +39,11 @@ pub(crate) struct WhenSettled {
 /// What a line says before its counts, and the text of the counts, if there are any. If no lawful claim has such a
 /// line, the answer is the text from the first fault on.
 pub(crate) fn start_in(line: &[u8]) -> Result<(LineStart, Option<&[u8]>), &[u8]>
-    ensures ok { IfOk result (λ read. HasReadStart line.now read.0 (option_map (λ rest. rest.now) read.1)) }
+    ensures ok { IfOk result (λ read. HasReadStart line.now read.0 (option_map (λ remainder. remainder.now) read.1)) }
     ensures err { IfErr result (λ there. IsFirstFaultOf line.now (length line.now - length there.now)) }
 {
     match head_in(line) {
-        Ok((head, rest)) => after_head(line, head, rest),
+        Ok((head, remainder)) => after_head(line, head, remainder),
         Err(there) => Err(there),
     }
 }
@@ -52,13 +52,13 @@ pub(crate) fn start_in(line: &[u8]) -> Result<(LineStart, Option<&[u8]>), &[u8]>
 fn after_head<'a>(
     line: &'a [u8],
     head: LineStart,
-    rest: Option<&'a [u8]>,
+    remainder: Option<&'a [u8]>,
 ) -> Result<(LineStart, Option<&'a [u8]>), &'a [u8]>
-    requires { HasHead line.now 7 head (option_map (λ rest. rest.now) rest) }
-    ensures ok { IfOk result (λ read. HasReadStart line.now read.0 (option_map (λ rest. rest.now) read.1)) }
+    requires { HasHead line.now 7 head (option_map (λ remainder. remainder.now) remainder) }
+    ensures ok { IfOk result (λ read. HasReadStart line.now read.0 (option_map (λ remainder. remainder.now) read.1)) }
     ensures err { IfErr result (λ there. IsFirstFaultOf line.now (length line.now - length there.now)) }
 {
-    let Some(here) = rest else {
+    let Some(here) = remainder else {
         return Err(end_of(line));
     };
     let (field, more) = cut_at(b' ', here);
@@ -76,13 +76,13 @@ fn after_head<'a>(
 
 /// The fields of the head, and the text after them.
 fn head_in(line: &[u8]) -> Result<(LineStart, Option<&[u8]>), &[u8]>
-    ensures ok { IfOk result (λ read. HasHead line.now 7 read.0 (option_map (λ rest. rest.now) read.1)) }
+    ensures ok { IfOk result (λ read. HasHead line.now 7 read.0 (option_map (λ remainder. remainder.now) read.1)) }
     ensures err { IfErr result (λ there. IsFirstFaultOf line.now (length line.now - length there.now)) }
 {
     let mut head = blank();
-    let mut rest = Some(line);
+    let mut remainder = Some(line);
     for place in 0..7 {
-        let Some(here) = rest else {
+        let Some(here) = remainder else {
             return Err(end_of(line));
         };
         let (field, more) = cut_at(b' ', here);
@@ -90,9 +90,9 @@ fn head_in(line: &[u8]) -> Result<(LineStart, Option<&[u8]>), &[u8]>
             return Err(here);
         };
         head = read;
-        rest = more;
+        remainder = more;
     }
-    Ok((head, rest))
+    Ok((head, remainder))
 }
 
 /// Some head, with which reading begins.
@@ -142,19 +142,19 @@ fn settled_in<'a>(
     line: &'a [u8],
     head: LineStart,
     checkpoint: u32,
-    rest: Option<&'a [u8]>,
+    remainder: Option<&'a [u8]>,
 ) -> Result<(LineStart, Option<&'a [u8]>), &'a [u8]>
     requires head { IsHead head }
     requires checkpoint { checkpoint ≤ 100000 }
     requires follows { FollowsFields line.now (head_of (claimed head []) ++ (codes "at=" ++ decimal checkpoint) ∷ [])
-        (option_map (λ rest. rest.now) rest) }
-    ensures ok { IfOk result (λ read. HasReadStart line.now read.0 (option_map (λ rest. rest.now) read.1)) }
+        (option_map (λ remainder. remainder.now) remainder) }
+    ensures ok { IfOk result (λ read. HasReadStart line.now read.0 (option_map (λ remainder. remainder.now) read.1)) }
     ensures err { IfErr result (λ there. IsFirstFaultOf line.now (length line.now - length there.now)) }
 {
     if head.version == 1 {
-        return Ok((with_state(head, checkpoint, None), rest));
+        return Ok((with_state(head, checkpoint, None), remainder));
     }
-    let Some(here) = rest else {
+    let Some(here) = remainder else {
         return Err(end_of(line));
     };
     let (field, more) = cut_at(b' ', here);

@@ -1,23 +1,23 @@
-use Rattle.std.proofs.KnownBytes.{Appends-nil}
-use Rattle.std.proofs.Common.{is_ok, true}
+use Rattle.std.proofs.Common.{◌∙◌, is_ok, sym, true}
 use Rattle.pattern_commands.specs.Answers.{only}
 use Rattle.pattern_commands.specs.Inputs.{rule_named}
 use Rattle.pattern_commands.specs.Run.{run_answer}
-use Rattle.pattern_commands.proofs.TextLemmas.{text_complains, text_done}
+use Rattle.pattern_commands.proofs.TextLemmas.{text_ends, text_memory, text_refused}
 use Rattle.pattern_commands.proofs.run.do_run.Goals as goal
 
-pub returns-in-Ok-clause-ends : goal.returns-in-Ok-clause-ends
-returns-in-Ok-clause-ends g c =
-    let told = c.in-Ok.ensures.reached in (
-      told.0,
-      told.1,
-      text_done (is_ok (rule_named c.args.rule_text.now)) true (λ bytes. only (run_answer c.args.rule_text.now c.args.generations bytes)) _ told.0 _ _ told.2 (Appends-nil _, c.requires.errors),
+pub returns-clause-ends : goal.returns-clause-ends
+returns-clause-ends g c =
+    let reached = c.run-outcome.ensures.reached in (
+      reached.0,
+      reached.1,
+      text_ends (is_ok (rule_named c.args.rule_text.now)) true (λ bytes. only (run_answer c.args.rule_text.now c.args.generations bytes)) _ reached.0 c.run-outcome.result _ _ _ reached.2
+          c.tell_end_of_text.ensures.status c.tell_end_of_text.ensures.last,
     )
 
-pub returns-in-Err-clause-ends : goal.returns-in-Err-clause-ends
-returns-in-Err-clause-ends g c =
-    let told = c.in-Err.ensures.reached in (
-      told.0,
-      told.1,
-      text_complains (is_ok (rule_named c.args.rule_text.now)) true (λ bytes. only (run_answer c.args.rule_text.now c.args.generations bytes)) _ told.0 c.in-Err.complaint _ _ _ told.2 c.tell.ensures.status c.tell.ensures.line,
-    )
+pub returns-clause-untouched : goal.returns-clause-untouched
+returns-clause-untouched g c refused =
+    text_refused c.run-outcome.result (sym c.tell_end_of_text.ensures.status ∙ refused) c.run-outcome.ensures.untouched
+
+pub returns-clause-no_memory : goal.returns-clause-no_memory
+returns-clause-no_memory g c memory =
+    text_memory c.run-outcome.result (sym c.tell_end_of_text.ensures.status ∙ memory) c.run-outcome.ensures.no_memory

@@ -1,14 +1,18 @@
-use Rattle.std.proofs.KnownBytes.{Appends-nil}
-use Rattle.std.proofs.Common.{false, true}
+use Rattle.std.proofs.Common.{◌∙◌, false, sym, true}
 use Rattle.pattern_commands.specs.Answers.{only}
 use Rattle.pattern_commands.specs.Show.{show_answer}
-use Rattle.pattern_commands.proofs.TextLemmas.{text_complains, text_done}
+use Rattle.pattern_commands.proofs.TextLemmas.{text_ends, text_memory, text_refused}
 use Rattle.pattern_commands.proofs.show.do_show.Goals as goal
 
-pub returns-in-Ok-clause-ends : goal.returns-in-Ok-clause-ends
-returns-in-Ok-clause-ends g c known bytes =
-    text_done false true (λ _. only (show_answer c.args.code.now)) known bytes _ _ c.in-Ok.ensures.reached (Appends-nil _, c.requires.errors)
+pub returns-clause-ends : goal.returns-clause-ends
+returns-clause-ends g c known bytes =
+    text_ends false true (λ _. only (show_answer c.args.code.now)) known bytes c.show-outcome.result _ _ _ c.show-outcome.ensures.reached c.tell_end_of_text.ensures.status
+    c.tell_end_of_text.ensures.last
 
-pub returns-in-Err-clause-ends : goal.returns-in-Err-clause-ends
-returns-in-Err-clause-ends g c known bytes =
-    text_complains false true (λ _. only (show_answer c.args.code.now)) known bytes c.in-Err.complaint _ _ _ c.in-Err.ensures.reached c.tell.ensures.status c.tell.ensures.line
+pub returns-clause-untouched : goal.returns-clause-untouched
+returns-clause-untouched g c refused =
+    text_refused c.show-outcome.result (sym c.tell_end_of_text.ensures.status ∙ refused) c.show-outcome.ensures.untouched
+
+pub returns-clause-no_memory : goal.returns-clause-no_memory
+returns-clause-no_memory g c memory =
+    text_memory c.show-outcome.result (sym c.tell_end_of_text.ensures.status ∙ memory) c.show-outcome.ensures.no_memory

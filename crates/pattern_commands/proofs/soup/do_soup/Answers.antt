@@ -1,14 +1,18 @@
-use Rattle.std.proofs.KnownBytes.{Appends-nil}
-use Rattle.std.proofs.Common.{false, true}
+use Rattle.std.proofs.Common.{◌∙◌, false, sym, true}
 use Rattle.pattern_commands.specs.Answers.{only}
 use Rattle.pattern_commands.specs.Soup.{soup_answer}
-use Rattle.pattern_commands.proofs.TextLemmas.{text_complains, text_done}
+use Rattle.pattern_commands.proofs.TextLemmas.{text_ends, text_memory, text_refused}
 use Rattle.pattern_commands.proofs.soup.do_soup.Goals as goal
 
-pub returns-in-Ok-clause-ends : goal.returns-in-Ok-clause-ends
-returns-in-Ok-clause-ends g c known bytes =
-    text_done false true (λ _. only (soup_answer c.args.seed_text.now c.args.number)) known bytes _ _ c.in-Ok.ensures.reached (Appends-nil _, c.requires.errors)
+pub returns-clause-ends : goal.returns-clause-ends
+returns-clause-ends g c known bytes =
+    text_ends false true (λ _. only (soup_answer c.args.seed_text.now c.args.number)) known bytes c.put_soup-outcome.result _ _ _ c.put_soup-outcome.ensures.reached c.tell_end_of_text.ensures.status
+    c.tell_end_of_text.ensures.last
 
-pub returns-in-Err-clause-ends : goal.returns-in-Err-clause-ends
-returns-in-Err-clause-ends g c known bytes =
-    text_complains false true (λ _. only (soup_answer c.args.seed_text.now c.args.number)) known bytes c.in-Err.complaint _ _ _ c.in-Err.ensures.reached c.tell.ensures.status c.tell.ensures.line
+pub returns-clause-untouched : goal.returns-clause-untouched
+returns-clause-untouched g c refused =
+    text_refused c.put_soup-outcome.result (sym c.tell_end_of_text.ensures.status ∙ refused) c.put_soup-outcome.ensures.untouched
+
+pub returns-clause-no_memory : goal.returns-clause-no_memory
+returns-clause-no_memory g c memory =
+    text_memory c.put_soup-outcome.result (sym c.tell_end_of_text.ensures.status ∙ memory) c.put_soup-outcome.ensures.no_memory

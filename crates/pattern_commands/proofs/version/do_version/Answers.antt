@@ -1,14 +1,10 @@
-use Rattle.std.proofs.KnownBytes.{Appends-nil}
-use Rattle.std.proofs.Common.{false, true}
+use Rattle.std.proofs.Common.{◌∙◌, false, sym, true}
 use Rattle.pattern_commands.specs.Answers.{only}
 use Rattle.pattern_commands.specs.Version.{version_answer}
-use Rattle.pattern_commands.proofs.TextLemmas.{text_complains, text_done}
+use Rattle.pattern_commands.proofs.TextLemmas.{text_ends, text_memory, text_refused}
 use Rattle.pattern_commands.proofs.version.do_version.Goals as goal
 
-pub returns-in-Ok-clause-ends : goal.returns-in-Ok-clause-ends
-returns-in-Ok-clause-ends g c known bytes =
-    text_done false true (λ _. only version_answer) known bytes _ _ c.in-Ok.ensures.reached (Appends-nil _, c.requires.errors)
-
-pub returns-in-Err-clause-ends : goal.returns-in-Err-clause-ends
-returns-in-Err-clause-ends g c known bytes =
-    text_complains false true (λ _. only version_answer) known bytes c.in-Err.complaint _ _ _ c.in-Err.ensures.reached c.tell.ensures.status c.tell.ensures.line
+pub returns-clause-ends : goal.returns-clause-ends
+returns-clause-ends g c known bytes =
+    text_ends false true (λ _. only version_answer) known bytes c.put_version-outcome.result _ _ _ c.put_version-outcome.ensures.reached c.tell_end_of_text.ensures.status
+    c.tell_end_of_text.ensures.last

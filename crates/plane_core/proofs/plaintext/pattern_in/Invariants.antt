@@ -7,5 +7,5 @@ use Rattle.plane_core.proofs.plaintext.pattern_in.Given as goal
 abbrev pub invariant-loop-line : goal.invariant-loop-line
 invariant-loop-line l =
     let n = length l.yielded in
-    let rest = places_after (n + 1) l.y (drop n (parts_of l.text)) in
-    (l.y ≤ n) × (first_fault rest ≡ None) × (l.cells.items ++ live_cells rest ≡ live_cells (places l.text))
+    let remainder = places_after (n + 1) l.y (drop n (parts_of l.text)) in
+    (l.y ≤ n) × (first_fault remainder ≡ None) × (l.cells.items ++ live_cells remainder ≡ live_cells (places l.text))

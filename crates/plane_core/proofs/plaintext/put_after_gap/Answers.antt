@@ -1,6 +1,6 @@
 use Rattle.std.proofs.Common.{◌∷◌, [], ◌++◌, ◌-◌, replicate, arith, ap}
 use Rattle.plane_core.proofs.OutLemmas.{Writes_then, Writes_stops}
-use Rattle.plane_core.proofs.PlaintextWriting.{Writes_as, replicate_more, replicate_more_rest}
+use Rattle.plane_core.proofs.PlaintextWriting.{Writes_as, replicate_more, replicate_more_remainder}
 use Rattle.plane_core.specs.PlaintextPlaces.{dot}
 use Rattle.plane_core.proofs.plaintext.put_after_gap.Goals as goal
 
@@ -8,7 +8,7 @@ pub returns-in_err-put : goal.returns-in_err-put
 returns-in_err-put g c =
     let left = c.loop-left.left in
     let some = c.min-some.result in
-    Writes_as (replicate_more_rest (c.args.gap - left) some (left - some) c.args.gap dot (c.args.byte ∷ []) (omega arith))
+    Writes_as (replicate_more_remainder (c.args.gap - left) some (left - some) c.args.gap dot (c.args.byte ∷ []) (omega arith))
     (Writes_stops (replicate (left - some) dot ++ c.args.byte ∷ []) c.from_residual.ensures.0
     (Writes_then c.loop-left.invariant.1 (Writes_as c.dead_cells.ensures c.in_err-put.ensures)))
 

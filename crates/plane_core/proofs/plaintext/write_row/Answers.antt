@@ -6,7 +6,7 @@ use Rattle.plane_core.specs.Cells.{distance}
 use Rattle.plane_core.specs.Plaintext.{row_text}
 use Rattle.plane_core.proofs.OutLemmas.{Writes_nothing, Writes_then, Writes_stops}
 use Rattle.plane_core.proofs.PlaintextWalks.{IsRowAhead, IsRowAhead-taken, IsRowAhead-next, IsRowAhead-at, len_in_row}
-use Rattle.plane_core.proofs.PlaintextWriting.{Writes_as, row_rest, row_rest-at, row_rest-end, row_text_is, row_text-taken}
+use Rattle.plane_core.proofs.PlaintextWriting.{Writes_as, row_remainder, row_remainder-at, row_remainder-end, row_text_is, row_text-taken}
 use Rattle.plane_core.specs.PlaintextWalk.{IsBox}
 use Rattle.plane_core.specs.PlaintextPlaces.{dot, letter_o, line_feed}
 use Rattle.plane_core.proofs.plaintext.write_row.Goals as goal
@@ -92,7 +92,7 @@ loop-cell-preserved g c =
       IsRowAhead-next y x end cell later ahead,
       (
         front.0 ++ (replicate (distance x cell.x) dot ++ letter_o ∷ []),
-        row_rest-at y x end row i (record { y = pos 0; x = pos 0 }) front.0 (row_text c.args.cells.now c.args.bounds y) c.loop-cell-test.true inv.2 front.1,
+        row_remainder-at y x end row i (record { y = pos 0; x = pos 0 }) front.0 (row_text c.args.cells.now c.args.bounds y) c.loop-cell-test.true inv.2 front.1,
         Writes_then front.2 (Writes_as (ap (λ n. replicate n dot ++ letter_o ∷ []) gap) c.in_ok-put_after_gap.ensures),
       ),
     )
@@ -115,9 +115,9 @@ returns-in_err-put_after_gap g c =
     let call : c.abs_diff.result ≡ distance x (to_z w32 (of_z w32 cell.x)) = c.abs_diff.ensures in
     let gap : c.abs_diff.result ≡ distance x cell.x = call ∙ ap (λ z. distance x z) at_cell in
     let front = inv.3 in
-    Writes_as (sym (row_rest-at y x end row i (record { y = pos 0; x = pos 0 }) front.0 (row_text c.args.cells.now c.args.bounds y)
+    Writes_as (sym (row_remainder-at y x end row i (record { y = pos 0; x = pos 0 }) front.0 (row_text c.args.cells.now c.args.bounds y)
     c.loop-cell-test.true inv.2 front.1))
-    (Writes_stops (row_rest later y (cell.x +ℤ pos 1) end) c.from_residual.ensures.0
+    (Writes_stops (row_remainder later y (cell.x +ℤ pos 1) end) c.from_residual.ensures.0
     (Writes_then front.2 (Writes_as (ap (λ n. replicate n dot ++ letter_o ∷ []) gap) c.in_err-put_after_gap.ensures)))
 
 pub returns : goal.returns
@@ -135,17 +135,17 @@ returns g c =
     let call : c.abs_diff-2.result ≡ distance x (to_z w32 (of_z w32 (to_z w32 (of_z w32 c.args.bounds.right) +ℤ pos 1))) = c.abs_diff-2.ensures in
     let gap : c.abs_diff-2.result ≡ distance x end = call ∙ ap (λ z. distance x (to_z w32 (of_z w32 (z +ℤ pos 1)))) right
     ∙ ap (λ z. distance x z) (to_z-of_z w32 end fits) in
-    Writes_as (sym (row_rest-end y x end row c.loop-cell.cell-index front.0 (row_text c.args.cells.now c.args.bounds y) c.loop-cell-test.false front.1))
+    Writes_as (sym (row_remainder-end y x end row c.loop-cell.cell-index front.0 (row_text c.args.cells.now c.args.bounds y) c.loop-cell-test.false front.1))
     (Writes_then front.2 (Writes_as (ap (λ n. replicate n dot ++ line_feed ∷ []) gap) c.put_after_gap-2.ensures))
 
 pub slice_bounds-cell-items-end : goal.slice_bounds-cell-items-end
 slice_bounds-cell-items-end g c = sym (length-take-le c.row_len.result c.args.cells.now c.row_len.ensures.bound)
 
 pub put_after_gap-requires : goal.put_after_gap-requires
-put_after_gap-requires g c = c.loop-cell.invariant.3.2.told
+put_after_gap-requires g c = c.loop-cell.invariant.3.2.remembers
 
 pub put_after_gap-requires-2 : goal.put_after_gap-requires-2
-put_after_gap-requires-2 g c = c.loop-cell.invariant.3.2.told
+put_after_gap-requires-2 g c = c.loop-cell.invariant.3.2.remembers
 
 pub overflow_add-bounds : goal.overflow_add-bounds
 overflow_add-bounds g c =

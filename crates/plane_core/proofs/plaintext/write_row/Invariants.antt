@@ -3,7 +3,7 @@ use Rattle.plane_core.specs.declared.output.WriteError.{WriteError}
 use Rattle.plane_core.specs.Out.{Writes}
 use Rattle.plane_core.specs.Plaintext.{row_text}
 use Rattle.plane_core.proofs.PlaintextWalks.{IsRowAhead}
-use Rattle.plane_core.proofs.PlaintextWriting.{row_rest}
+use Rattle.plane_core.proofs.PlaintextWriting.{row_remainder}
 use Rattle.plane_core.proofs.plaintext.write_row.Given as goal
 
 -- a front of the row has been written, and what is left begins at column x
@@ -12,5 +12,5 @@ invariant-loop-cell g l =
     let left = drop l.cell-index l.cell-items in
     let end = l.bounds.right +ℤ pos 1 in
     (l.bounds.left ≤ℤ l.x) × (l.x ≤ℤ end) × IsRowAhead l.fn.y l.x end left
-    × ((front : List ℕ) × (row_text l.cells l.bounds l.fn.y ≡ front ++ row_rest left l.fn.y l.x end)
+    × ((front : List ℕ) × (row_text l.cells l.bounds l.fn.y ≡ front ++ row_remainder left l.fn.y l.x end)
     × Writes {E = WriteError} g.V.Write.contents l.fn.out l.out (Ok tt) front)

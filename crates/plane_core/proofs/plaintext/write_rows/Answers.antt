@@ -5,7 +5,7 @@ use Rattle.plane_core.specs.PlaintextWalk.{IsBox}
 use Rattle.plane_core.specs.Plaintext.{box_text, row_text}
 use Rattle.plane_core.proofs.OutLemmas.{Writes_nothing, Writes_then, Writes_stops}
 use Rattle.plane_core.proofs.PlaintextWalks.{IsAhead-next, len_in_row, lt_z-true, lt_z-false}
-use Rattle.plane_core.proofs.PlaintextWriting.{Writes_as, box_text_is, rows_rest, rows_rest-at, rows_rest-end, SameFrom-next}
+use Rattle.plane_core.proofs.PlaintextWriting.{Writes_as, box_text_is, rows_remainder, rows_remainder-at, rows_remainder-end, SameFrom-next}
 use Rattle.plane_core.proofs.plaintext.write_rows.Goals as goal
 
 -- rows of a box, and those past a row and past the box
@@ -49,7 +49,7 @@ pub loop-y-preserved : goal.loop-y-preserved
 loop-y-preserved g c =
     let b = c.args.bounds in
     let cells = c.args.cells.now in
-    let rest = c.loop-y.rest.now in
+    let remainder = c.loop-y.remainder.now in
     let end = b.bottom +ℤ pos 1 in
     let y = to_z w32 c.loop-y.y-bits in
     let inv = c.loop-y.invariant in
@@ -57,16 +57,16 @@ loop-y-preserved g c =
     let test = rw at_end at c.loop-y-test.true in
     let l : y <ℤ end = lt_z-true y end test in
     let next = next_inside b y c.requires.bounds inv.0 l in
-    let below : c.below-rest.result.now ≡ drop (len_in_row y rest) rest = c.below-rest.ensures in
+    let below : c.below-remainder.result.now ≡ drop (len_in_row y remainder) remainder = c.below-remainder.ensures in
     let front = inv.4 in
     rw (to_z-of_z w32 (y +ℤ pos 1) (next_fits b y c.requires.bounds inv.0 l), below) (
       next.0,
       next.1,
-      IsAhead-next y b rest inv.2,
-      SameFrom-next y cells rest inv.3,
+      IsAhead-next y b remainder inv.2,
+      SameFrom-next y cells remainder inv.3,
       (
-        front.0 ++ row_text rest b y,
-        rows_rest-at cells rest b y front.0 (box_text (Some b) cells) l inv.3 front.1,
+        front.0 ++ row_text remainder b y,
+        rows_remainder-at cells remainder b y front.0 (box_text (Some b) cells) l inv.3 front.1,
         Writes_then front.2 c.in_ok-write_row.ensures,
       ),
     )
@@ -75,7 +75,7 @@ pub returns-in_err-write_row : goal.returns-in_err-write_row
 returns-in_err-write_row g c =
     let b = c.args.bounds in
     let cells = c.args.cells.now in
-    let rest = c.loop-y.rest.now in
+    let remainder = c.loop-y.remainder.now in
     let end = b.bottom +ℤ pos 1 in
     let y = to_z w32 c.loop-y.y-bits in
     let inv = c.loop-y.invariant in
@@ -83,8 +83,8 @@ returns-in_err-write_row g c =
     let test = rw at_end at c.loop-y-test.true in
     let l : y <ℤ end = lt_z-true y end test in
     let front = inv.4 in
-    Writes_as (sym (rows_rest-at cells rest b y front.0 (box_text (Some b) cells) l inv.3 front.1))
-    (Writes_stops (rows_rest cells b (y +ℤ pos 1)) c.from_residual.ensures.0 (Writes_then front.2 c.in_err-write_row.ensures))
+    Writes_as (sym (rows_remainder-at cells remainder b y front.0 (box_text (Some b) cells) l inv.3 front.1))
+    (Writes_stops (rows_remainder cells b (y +ℤ pos 1)) c.from_residual.ensures.0 (Writes_then front.2 c.in_err-write_row.ensures))
 
 pub returns : goal.returns
 returns g c =
@@ -96,4 +96,4 @@ returns g c =
     let at_end = past_bottom b c.requires.bounds in
     let test = rw at_end at c.loop-y-test.false in
     let front = inv.4 in
-    Writes_as (sym (rows_rest-end cells b y front.0 (box_text (Some b) cells) (lt_z-false y end test) inv.1 front.1)) front.2
+    Writes_as (sym (rows_remainder-end cells b y front.0 (box_text (Some b) cells) (lt_z-false y end test) inv.1 front.1)) front.2

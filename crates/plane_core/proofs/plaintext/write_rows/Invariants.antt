@@ -3,12 +3,12 @@ use Rattle.plane_core.specs.declared.output.WriteError.{WriteError}
 use Rattle.plane_core.specs.Out.{Writes}
 use Rattle.plane_core.specs.Plaintext.{box_text}
 use Rattle.plane_core.specs.PlaintextWalk.{IsAhead}
-use Rattle.plane_core.proofs.PlaintextWriting.{rows_rest, SameFrom}
+use Rattle.plane_core.proofs.PlaintextWriting.{rows_remainder, SameFrom}
 use Rattle.plane_core.proofs.plaintext.write_rows.Given as goal
 
 -- the rows above row y have been written, and the rest has the cells of the others
 abbrev pub invariant-loop-y : goal.invariant-loop-y
 invariant-loop-y g l =
-    (l.bounds.top ≤ℤ l.y) × (l.y ≤ℤ (l.bounds.bottom +ℤ pos 1)) × IsAhead l.y l.bounds l.rest × SameFrom l.y l.cells l.rest
-    × ((front : List ℕ) × (box_text (Some l.bounds) l.cells ≡ front ++ rows_rest l.cells l.bounds l.y)
+    (l.bounds.top ≤ℤ l.y) × (l.y ≤ℤ (l.bounds.bottom +ℤ pos 1)) × IsAhead l.y l.bounds l.remainder × SameFrom l.y l.cells l.remainder
+    × ((front : List ℕ) × (box_text (Some l.bounds) l.cells ≡ front ++ rows_remainder l.cells l.bounds l.y)
     × Writes {E = WriteError} g.V.Write.contents l.fn.out l.out (Ok tt) front)

@@ -14,8 +14,8 @@ overflow_add-from_left-in-Some c =
 
 pub loop-cell-smaller : goal.loop-cell-smaller
 loop-cell-smaller c =
-    let least = shorter c.loop-cell.left_rest.now c.loop-cell.middle_rest.now c.loop-cell.right_rest.now c.in-Some.cell (sym c.in-Some.ensures) in
-    rw (c.take_at-from_left.ensures.rest, c.take_at-from_middle.ensures.rest, c.take_at-from_right.ensures.rest) least
+    let least = shorter c.loop-cell.left_remainder.now c.loop-cell.middle_remainder.now c.loop-cell.right_remainder.now c.in-Some.cell (sym c.in-Some.ensures) in
+    rw (c.take_at-from_left.ensures.remainder, c.take_at-from_middle.ensures.remainder, c.take_at-from_right.ensures.remainder) least
 
 -- what is pushed is what the merge adds at the earliest cell
 pub loop-cell-preserved : goal.loop-cell-preserved
@@ -23,9 +23,9 @@ loop-cell-preserved c =
     let more = merging_more _ _ _ _ _ _ _ c.in-Some.cell c.loop-cell.invariant (sym c.in-Some.ensures) in
     rw (
       c.in_ok-push.ensures.items,
-      c.take_at-from_left.ensures.rest,
-      c.take_at-from_middle.ensures.rest,
-      c.take_at-from_right.ensures.rest,
+      c.take_at-from_left.ensures.remainder,
+      c.take_at-from_middle.ensures.remainder,
+      c.take_at-from_right.ensures.remainder,
       c.take_at-from_left.ensures.count,
       c.take_at-from_middle.ensures.count,
       c.take_at-from_right.ensures.count,

@@ -2,8 +2,8 @@ use Rattle.std.specs.Prelude.{option_map}
 use Rattle.ranges.proofs.ListLemmas.{Passed, left_of}
 use Rattle.ranges.proofs.range_list.ranges_in.Given as goal
 
-abbrev pub invariant-loop-rest : goal.invariant-loop-rest
-invariant-loop-rest l = Passed l.text l.ranges.items (option_map (λ rest. rest.now) l.rest)
+abbrev pub invariant-loop-remainder : goal.invariant-loop-remainder
+invariant-loop-remainder l = Passed l.text l.ranges.items (option_map (λ remainder. remainder.now) l.remainder)
 
-abbrev pub decreases-loop-rest : goal.decreases-loop-rest
-decreases-loop-rest l = left_of (option_map (λ rest. rest.now) l.rest)
+abbrev pub decreases-loop-remainder : goal.decreases-loop-remainder
+decreases-loop-remainder l = left_of (option_map (λ remainder. remainder.now) l.remainder)

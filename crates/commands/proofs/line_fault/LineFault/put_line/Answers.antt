@@ -1,22 +1,22 @@
 use Rattle.std.proofs.Common.{◌++◌, codes}
 use Rattle.plane_core.proofs.OutLemmas.{Writes_then, Writes_stops}
-use Rattle.commands.specs.GatheredLines.{fault_words}
+use Rattle.commands.specs.GatheredLines.{fault_text}
 use Rattle.commands.proofs.line_fault.LineFault.put_line.Goals as goal
 
 pub returns-in_err-put_number : goal.returns-in_err-put_number
 returns-in_err-put_number g c =
-    Writes_stops (codes ": " ++ (fault_words c.args.self ++ codes "\n")) c.from_residual.ensures.0 c.in_err-put_number.ensures
+    Writes_stops (codes ": " ++ (fault_text c.args.self ++ codes "\n")) c.from_residual.ensures.0 c.in_err-put_number.ensures
 
 pub returns-in_err-put : goal.returns-in_err-put
 returns-in_err-put g c =
     Writes_then c.in_ok-put_number.ensures
-    (Writes_stops (fault_words c.args.self ++ codes "\n") c.from_residual-in_err-put.ensures.0 c.in_err-put.ensures)
+    (Writes_stops (fault_text c.args.self ++ codes "\n") c.from_residual-in_err-put.ensures.0 c.in_err-put.ensures)
 
-pub returns-in_err-put_words : goal.returns-in_err-put_words
-returns-in_err-put_words g c =
+pub returns-in_err-put_text : goal.returns-in_err-put_text
+returns-in_err-put_text g c =
     Writes_then c.in_ok-put_number.ensures (Writes_then c.in_ok-put.ensures
-    (Writes_stops (codes "\n") c.from_residual-in_err-put_words.ensures.0 c.in_err-put_words.ensures))
+    (Writes_stops (codes "\n") c.from_residual-in_err-put_text.ensures.0 c.in_err-put_text.ensures))
 
 pub returns : goal.returns
 returns g c =
-    Writes_then c.in_ok-put_number.ensures (Writes_then c.in_ok-put.ensures (Writes_then c.in_ok-put_words.ensures c.put-2.ensures))
+    Writes_then c.in_ok-put_number.ensures (Writes_then c.in_ok-put.ensures (Writes_then c.in_ok-put_text.ensures c.put-2.ensures))

@@ -6,16 +6,16 @@ use Rattle.haul_core.proofs.book.haul_text.put_line.Goals as goal
 
 pub returns-in_err-put : goal.returns-in_err-put
 returns-in_err-put g c =
-    let word = c.args.word.now in
+    let name = c.args.name.now in
     let all : List ℕ = flat_map (λ n. spaced (g.N.Integer.text n)) c.args.numbers.now in
-    Writes_same (sym (append_assoc word all (codes "\n")) ∙ line_spelled g.N.Integer.text word c.args.numbers.now)
+    Writes_same (sym (append_assoc name all (codes "\n")) ∙ line_spelled g.N.Integer.text name c.args.numbers.now)
     (Writes_stops (all ++ codes "\n") c.from_residual.ensures.0 c.in_err-put.ensures)
 
 pub loop-number-init : goal.loop-number-init
-loop-number-init g c = (c.args.word.now, refl, c.in_ok-put.ensures)
+loop-number-init g c = (c.args.name.now, refl, c.in_ok-put.ensures)
 
 pub put_number-requires : goal.put_number-requires
-put_number-requires g c = c.loop-number.invariant.2.told
+put_number-requires g c = c.loop-number.invariant.2.remembers
 
 pub loop-number-preserved : goal.loop-number-preserved
 loop-number-preserved g c =
@@ -24,7 +24,7 @@ loop-number-preserved g c =
     let i = c.loop-number.number-index in
     let text : g.row.N.Denot → List ℕ = (λ n. spaced (g.N.Integer.text n)) in (
       front.0 ++ text c.number-item.result,
-      text_more text numbers i c.number-item.result (c.args.word.now ++ flat_map text numbers) front.0 c.loop-number-test.true c.number-item.is front.1,
+      text_more text numbers i c.number-item.result (c.args.name.now ++ flat_map text numbers) front.0 c.loop-number-test.true c.number-item.is front.1,
       Writes_then front.2 c.in_ok-put_number.ensures,
     )
 
@@ -32,22 +32,22 @@ pub returns-in_err-put_number : goal.returns-in_err-put_number
 returns-in_err-put_number g c =
     let front = c.loop-number.invariant in
     let numbers = c.args.numbers.now in
-    let word = c.args.word.now in
+    let name = c.args.name.now in
     let i = c.loop-number.number-index in
     let text : g.row.N.Denot → List ℕ = (λ n. spaced (g.N.Integer.text n)) in
-    let more = text_more text numbers i c.number-item.result (word ++ flat_map text numbers) front.0 c.loop-number-test.true c.number-item.is front.1 in
+    let more = text_more text numbers i c.number-item.result (name ++ flat_map text numbers) front.0 c.loop-number-test.true c.number-item.is front.1 in
     let err = c.from_residual-in_err-put_number.ensures.0 in
-    Writes_same (ap (λ (t : List ℕ). t ++ codes "\n") (sym more) ∙ line_spelled g.N.Integer.text word numbers)
+    Writes_same (ap (λ (t : List ℕ). t ++ codes "\n") (sym more) ∙ line_spelled g.N.Integer.text name numbers)
     (Writes_longer (codes "\n") err (Writes_stops (flat_map text (drop (i + 1) numbers)) err (Writes_then front.2 c.in_err-put_number.ensures)))
 
 pub put-requires-2 : goal.put-requires-2
-put-requires-2 g c = c.loop-number.invariant.2.told
+put-requires-2 g c = c.loop-number.invariant.2.remembers
 
 pub returns : goal.returns
 returns g c =
     let front = c.loop-number.invariant in
     let numbers = c.args.numbers.now in
-    let word = c.args.word.now in
+    let name = c.args.name.now in
     let text : g.row.N.Denot → List ℕ = (λ n. spaced (g.N.Integer.text n)) in
-    let all = text_done text numbers c.loop-number.number-index (word ++ flat_map text numbers) front.0 c.loop-number-test.false front.1 in
-    Writes_same (ap (λ (t : List ℕ). t ++ codes "\n") all ∙ line_spelled g.N.Integer.text word numbers) (Writes_then front.2 c.put-2.ensures)
+    let all = text_done text numbers c.loop-number.number-index (name ++ flat_map text numbers) front.0 c.loop-number-test.false front.1 in
+    Writes_same (ap (λ (t : List ℕ). t ++ codes "\n") all ∙ line_spelled g.N.Integer.text name numbers) (Writes_then front.2 c.put-2.ensures)

@@ -4,9 +4,9 @@ use Rattle.plane_core.specs.Out.{Writes}
 use Rattle.haul_core.specs.HaulTexts.{spaced}
 use Rattle.haul_core.proofs.book.haul_text.put_line.Given as goal
 
--- the word and those numbers that were passed have been written
+-- the name and those numbers that were passed have been written
 abbrev pub invariant-loop-number : goal.invariant-loop-number
 invariant-loop-number g l =
-    (front : List ℕ) × (l.word ++ flat_map (λ n. spaced (g.N.Integer.text n)) l.fn.numbers
+    (front : List ℕ) × (l.name ++ flat_map (λ n. spaced (g.N.Integer.text n)) l.fn.numbers
     ≡ front ++ flat_map (λ n. spaced (g.N.Integer.text n)) (drop l.number-index l.numbers))
     × Writes {E = WriteError} g.W.Write.contents l.fn.out l.out (Ok tt) front

@@ -37,7 +37,7 @@ returns-in_err-put_line g c =
     (Writes_same ((λ i. ended (line_of_numbers ((c.as_bytes.ensures.value ∙ c.text.ensures.text) i) (c.as_slice.ensures.samples i)))) c.in_err-put_line.ensures)))
 
 pub put_line-requires : goal.put_line-requires
-put_line-requires g c = c.loop-row.invariant.2.told
+put_line-requires g c = c.loop-row.invariant.2.remembers
 
 pub returns : goal.returns
 returns g c =

@@ -22,7 +22,7 @@ loop-row-preserved g c =
       front.0 ++ text c.row-item.result,
       text_more text rows i c.row-item.result (text_of (total_lines rows)) front.0 c.loop-row-test.true c.row-item.is front.1,
       Writes_then front.2
-          (Writes_same (ap (λ (word : List ℕ). ended (line_of_numbers word (c.row-item.result.total ∷ []))) (c.as_bytes.ensures.value ∙ c.text.ensures.text)) c.in_ok-put_line.ensures),
+          (Writes_same (ap (λ (name : List ℕ). ended (line_of_numbers name (c.row-item.result.total ∷ []))) (c.as_bytes.ensures.value ∙ c.text.ensures.text)) c.in_ok-put_line.ensures),
     )
 
 pub returns-in_err-put_line : goal.returns-in_err-put_line
@@ -34,10 +34,10 @@ returns-in_err-put_line g c =
     let more = text_more text rows i c.row-item.result (text_of (total_lines rows)) front.0 c.loop-row-test.true c.row-item.is front.1 in
     Writes_same (sym more) (Writes_stops (flat_map text (drop (i + 1) rows)) c.from_residual-in_err-put_line.ensures.0
     (Writes_then front.2
-    (Writes_same (ap (λ (word : List ℕ). ended (line_of_numbers word (c.row-item.result.total ∷ []))) (c.as_bytes.ensures.value ∙ c.text.ensures.text)) c.in_err-put_line.ensures)))
+    (Writes_same (ap (λ (name : List ℕ). ended (line_of_numbers name (c.row-item.result.total ∷ []))) (c.as_bytes.ensures.value ∙ c.text.ensures.text)) c.in_err-put_line.ensures)))
 
 pub put_line-requires : goal.put_line-requires
-put_line-requires g c = c.loop-row.invariant.2.told
+put_line-requires g c = c.loop-row.invariant.2.remembers
 
 pub returns : goal.returns
 returns g c =

@@ -27,16 +27,16 @@ returns-then-starts_with-clause-complete c = reads_complete c.args.text.now _ (r
 pub overflow_sub-place : goal.overflow_sub-place
 overflow_sub-place c =
     let text = c.as_bytes-text.result.now in
-    let rest = births_sliced text c.read_numbers.result.1.now c.read_numbers.ensures.rest in
-    rw rest (length-births text)
+    let remainder = births_sliced text c.read_numbers.result.1.now c.read_numbers.ensures.remainder in
+    rw remainder (length-births text)
 
 pub returns-then-not-starts_with-2-clause-exact : goal.returns-then-not-starts_with-2-clause-exact
 returns-then-not-starts_with-2-clause-exact c =
     let text = c.as_bytes-text.result.now in
-    let rest = births_sliced text c.read_numbers.result.1.now c.read_numbers.ensures.rest in
-    let s : begins (births_in text).rest (codes "s") ≡ false =
-    ap (λ (xs : List ℕ). begins xs (codes "s")) (sym rest) ∙ sym c.starts_with-3.ensures.value ∙ c.if-not-starts_with-2.true in
-    rw rest (sym (rule_read-no_s text (sym c.starts_with.ensures.value ∙ c.if-not-starts_with.false) (sym c.starts_with-2.ensures.value
+    let remainder = births_sliced text c.read_numbers.result.1.now c.read_numbers.ensures.remainder in
+    let s : begins (births_in text).remainder (codes "s") ≡ false =
+    ap (λ (xs : List ℕ). begins xs (codes "s")) (sym remainder) ∙ sym c.starts_with-3.ensures.value ∙ c.if-not-starts_with-2.true in
+    rw remainder (sym (rule_read-no_s text (sym c.starts_with.ensures.value ∙ c.if-not-starts_with.false) (sym c.starts_with-2.ensures.value
     ∙ c.if-starts_with.false) s))
     ∙ ap rule_read c.as_bytes-text.ensures.value
 
@@ -49,18 +49,18 @@ returns-then-not-starts_with-2-clause-bad_rule c = reads_first c.args.text.now _
 pub overflow_sub-place-then-not-is_empty : goal.overflow_sub-place-then-not-is_empty
 overflow_sub-place-then-not-is_empty c =
     let text = c.as_bytes-text.result.now in
-    let rest = births_sliced text c.read_numbers.result.1.now c.read_numbers.ensures.rest in
-    let end = c.read_numbers-2.ensures.rest ∙ ap (λ (r : Reading). r.rest) (survivals_sliced text c.read_numbers.result.1.now rest) in
+    let remainder = births_sliced text c.read_numbers.result.1.now c.read_numbers.ensures.remainder in
+    let end = c.read_numbers-2.ensures.remainder ∙ ap (λ (r : Reading). r.remainder) (survivals_sliced text c.read_numbers.result.1.now remainder) in
     rw end (length-survivals text)
 
 pub returns-then-not-is_empty-clause-exact : goal.returns-then-not-is_empty-clause-exact
 returns-then-not-is_empty-clause-exact c =
     let text = c.as_bytes-text.result.now in
-    let rest = births_sliced text c.read_numbers.result.1.now c.read_numbers.ensures.rest in
-    let end = c.read_numbers-2.ensures.rest ∙ ap (λ (r : Reading). r.rest) (survivals_sliced text c.read_numbers.result.1.now rest) in
-    let s : begins (births_in text).rest (codes "s") ≡ true =
-    ap (λ (xs : List ℕ). begins xs (codes "s")) (sym rest) ∙ sym c.starts_with-3.ensures.value ∙ c.if-not-starts_with-2.false in
-    let more : (length (survivals_in text).rest == 0) ≡ false =
+    let remainder = births_sliced text c.read_numbers.result.1.now c.read_numbers.ensures.remainder in
+    let end = c.read_numbers-2.ensures.remainder ∙ ap (λ (r : Reading). r.remainder) (survivals_sliced text c.read_numbers.result.1.now remainder) in
+    let s : begins (births_in text).remainder (codes "s") ≡ true =
+    ap (λ (xs : List ℕ). begins xs (codes "s")) (sym remainder) ∙ sym c.starts_with-3.ensures.value ∙ c.if-not-starts_with-2.false in
+    let more : (length (survivals_in text).remainder == 0) ≡ false =
     ap (λ (xs : List ℕ). length xs == 0) (sym end) ∙ sym c.is_empty.ensures ∙ c.if-not-is_empty.true in
     rw end (sym (rule_read-more text (sym c.starts_with.ensures.value ∙ c.if-not-starts_with.false) (sym c.starts_with-2.ensures.value
     ∙ c.if-starts_with.false) s more))
@@ -75,12 +75,12 @@ returns-then-not-is_empty-clause-bad_rule c = reads_first c.args.text.now _ (ret
 pub returns-clause-exact : goal.returns-clause-exact
 returns-clause-exact c =
     let text = c.as_bytes-text.result.now in
-    let rest = births_sliced text c.read_numbers.result.1.now c.read_numbers.ensures.rest in
-    let survivals = survivals_sliced text c.read_numbers.result.1.now rest in
-    let end = c.read_numbers-2.ensures.rest ∙ ap (λ (r : Reading). r.rest) survivals in
-    let s : begins (births_in text).rest (codes "s") ≡ true =
-    ap (λ (xs : List ℕ). begins xs (codes "s")) (sym rest) ∙ sym c.starts_with-3.ensures.value ∙ c.if-not-starts_with-2.false in
-    let none : (length (survivals_in text).rest == 0) ≡ true =
+    let remainder = births_sliced text c.read_numbers.result.1.now c.read_numbers.ensures.remainder in
+    let survivals = survivals_sliced text c.read_numbers.result.1.now remainder in
+    let end = c.read_numbers-2.ensures.remainder ∙ ap (λ (r : Reading). r.remainder) survivals in
+    let s : begins (births_in text).remainder (codes "s") ≡ true =
+    ap (λ (xs : List ℕ). begins xs (codes "s")) (sym remainder) ∙ sym c.starts_with-3.ensures.value ∙ c.if-not-starts_with-2.false in
+    let none : (length (survivals_in text).remainder == 0) ≡ true =
     ap (λ (xs : List ℕ). length xs == 0) (sym end) ∙ sym c.is_empty.ensures ∙ c.if-not-is_empty.false in
     let births : c.read_numbers.result.0 ≡ (births_in text).answers = c.read_numbers.ensures.answers ∙ ap (λ (r : Reading). r.answers) (sliced 8 1 text) in
     let others : c.read_numbers-2.result.0 ≡ (survivals_in text).answers = c.read_numbers-2.ensures.answers ∙ ap (λ (r : Reading). r.answers) survivals in

@@ -44,13 +44,13 @@ pub returns-clause-rule : goal.returns-clause-rule
 returns-clause-rule g c = subst IsRule c.self.view_is (record { births = c.self.told.0; survivals = c.self.told.1 })
 
 pub write_digits-requires-clause-fresh : goal.write_digits-requires-clause-fresh
-write_digits-requires-clause-fresh g c = c.in_ok-put.ensures.told
+write_digits-requires-clause-fresh g c = c.in_ok-put.ensures.remembers
 
 pub put-requires-2 : goal.put-requires-2
-put-requires-2 g c = c.in_ok-write_digits.ensures.told
+put-requires-2 g c = c.in_ok-write_digits.ensures.remembers
 
 pub write_digits-requires-2-clause-fresh : goal.write_digits-requires-2-clause-fresh
-write_digits-requires-2-clause-fresh g c = c.in_ok-put-2.ensures.told
+write_digits-requires-2-clause-fresh g c = c.in_ok-put-2.ensures.remembers
 
 pub write_digits-requires-clause-digits : goal.write_digits-requires-clause-digits
 write_digits-requires-clause-digits g c = omega (arith, c.self.told.0)

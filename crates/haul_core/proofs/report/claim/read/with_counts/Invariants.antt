@@ -3,8 +3,8 @@ use Rattle.haul_core.specs.ClaimSteps.{HasCounts}
 use Rattle.ranges.proofs.ListLemmas.{left_of}
 use Rattle.haul_core.proofs.report.claim.read.with_counts.Given as goal
 
-abbrev pub invariant-loop-rest : goal.invariant-loop-rest
-invariant-loop-rest l = HasCounts l.line l.start l.read.items (option_map (λ last. last.now) l.last) (option_map (λ rest. rest.now) l.rest)
+abbrev pub invariant-loop-remainder : goal.invariant-loop-remainder
+invariant-loop-remainder l = HasCounts l.line l.start l.read.items (option_map (λ last. last.now) l.last) (option_map (λ remainder. remainder.now) l.remainder)
 
-abbrev pub decreases-loop-rest : goal.decreases-loop-rest
-decreases-loop-rest l = left_of (option_map (λ rest. rest.now) l.rest)
+abbrev pub decreases-loop-remainder : goal.decreases-loop-remainder
+decreases-loop-remainder l = left_of (option_map (λ remainder. remainder.now) l.remainder)

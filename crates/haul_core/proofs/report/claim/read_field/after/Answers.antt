@@ -3,4 +3,4 @@ use Rattle.std.proofs.lemmas.Slice.Eq.{strip_prefix_is}
 use Rattle.haul_core.proofs.report.claim.read_field.after.Goals as goal
 
 pub returns : goal.returns
-returns c = strip_prefix_is Decides-eqb c.args.field.now c.args.word.now c.strip_prefix.result c.strip_prefix.ensures.cases
+returns c = strip_prefix_is Decides-eqb c.args.field.now c.args.name.now c.strip_prefix.result c.strip_prefix.ensures.cases

@@ -18,7 +18,7 @@ returns-in_err-count c =
     let cut = subst (λ o. Cuts 42 c.args.field.now c.cut_at.result.0.now (option_map (λ r. r.now) o)) c.in_default-Some.is-1 c.cut_at.ensures in
     rw c.from_residual.ensures (λ a lawful e.
     let same = same_count c.args.field.now c.cut_at.result.0.now c.in_default-Some.text.now a cut lawful e in
-    c.in_err-count.ensures a.1 lawful.word (ap (λ r. r.now) c.in_default-Some.text-is ∙ same.1))
+    c.in_err-count.ensures a.1 lawful.fits (ap (λ r. r.now) c.in_default-Some.text-is ∙ same.1))
 
 pub returns-then-count-eq0 : goal.returns-then-count-eq0
 returns-then-count-eq0 c =
@@ -26,7 +26,7 @@ returns-then-count-eq0 c =
     λ a lawful e.
     let same = same_count c.args.field.now c.cut_at.result.0.now c.in_default-Some.text.now a cut lawful e in
     let told = c.in_ok-count.ensures in
-    let n : c.in_ok-count.count ≡ a.1 = one_number [] c.in_default-Some.text.now c.in_ok-count.count a.1 told.0 lawful.word
+    let n : c.in_ok-count.count ≡ a.1 = one_number [] c.in_default-Some.text.now c.in_ok-count.count a.1 told.0 lawful.fits
     (sym (ap (λ r. r.now) c.in_default-Some.text-is) ∙ told.1) same.1 in
     let some = lawful.some in
     let zero = c.if-count-eq0.true in

@@ -5,4 +5,4 @@ use Rattle.haul_core.proofs.report.claim.read_field.number_after.Goals as goal
 
 pub returns : goal.returns
 returns c =
-    tells_after IsNumber decimal c.args.word.now c.args.field.now c.in_ok-after.field-0.now c.number_in.result c.in_ok-after.ensures c.number_in.ensures
+    tells_after IsNumber decimal c.args.name.now c.args.field.now c.in_ok-after.field-0.now c.number_in.result c.in_ok-after.ensures c.number_in.ensures

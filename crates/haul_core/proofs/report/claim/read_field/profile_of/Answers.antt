@@ -9,7 +9,7 @@ returns-in_err-horizon c =
     rw c.from_residual-in_err-horizon.ensures (λ p lawful e.
     let small = are_small p lawful in
     let one = c.in_ok-period.ensures in
-    let first = same_first c.args.text.now c.in_ok-period.rest.now (decimal p.horizon ++ 44 ∷ (decimal p.stride ++ 44 ∷ decimal p.limit))
+    let first = same_first c.args.text.now c.in_ok-period.remainder.now (decimal p.horizon ++ 44 ∷ (decimal p.stride ++ 44 ∷ decimal p.limit))
     c.in_ok-period.period p.period
     one.0 small.period one.1 e in
     c.in_err-horizon.ensures p.horizon (decimal p.stride ++ 44 ∷ decimal p.limit) small.horizon first.1)
@@ -20,10 +20,10 @@ returns-in_err-stride c =
     let small = are_small p lawful in
     let one = c.in_ok-period.ensures in
     let two = c.in_ok-horizon.ensures in
-    let first = same_first c.args.text.now c.in_ok-period.rest.now (decimal p.horizon ++ 44 ∷ (decimal p.stride ++ 44 ∷ decimal p.limit))
+    let first = same_first c.args.text.now c.in_ok-period.remainder.now (decimal p.horizon ++ 44 ∷ (decimal p.stride ++ 44 ∷ decimal p.limit))
     c.in_ok-period.period p.period
     one.0 small.period one.1 e in
-    let second = same_first c.in_ok-period.rest.now c.in_ok-horizon.rest.now (decimal p.stride ++ 44 ∷ decimal p.limit) c.in_ok-horizon.horizon p.horizon
+    let second = same_first c.in_ok-period.remainder.now c.in_ok-horizon.remainder.now (decimal p.stride ++ 44 ∷ decimal p.limit) c.in_ok-horizon.horizon p.horizon
     two.0 small.horizon two.1 first.1 in
     c.in_err-stride.ensures p.stride (decimal p.limit) small.stride second.1)
 
@@ -34,12 +34,12 @@ returns-in_err-limit c =
     let one = c.in_ok-period.ensures in
     let two = c.in_ok-horizon.ensures in
     let three = c.in_ok-stride.ensures in
-    let first = same_first c.args.text.now c.in_ok-period.rest.now (decimal p.horizon ++ 44 ∷ (decimal p.stride ++ 44 ∷ decimal p.limit))
+    let first = same_first c.args.text.now c.in_ok-period.remainder.now (decimal p.horizon ++ 44 ∷ (decimal p.stride ++ 44 ∷ decimal p.limit))
     c.in_ok-period.period p.period
     one.0 small.period one.1 e in
-    let second = same_first c.in_ok-period.rest.now c.in_ok-horizon.rest.now (decimal p.stride ++ 44 ∷ decimal p.limit) c.in_ok-horizon.horizon p.horizon
+    let second = same_first c.in_ok-period.remainder.now c.in_ok-horizon.remainder.now (decimal p.stride ++ 44 ∷ decimal p.limit) c.in_ok-horizon.horizon p.horizon
     two.0 small.horizon two.1 first.1 in
-    let third = same_first c.in_ok-horizon.rest.now c.in_ok-stride.rest.now (decimal p.limit)
+    let third = same_first c.in_ok-horizon.remainder.now c.in_ok-stride.remainder.now (decimal p.limit)
     c.in_ok-stride.stride p.stride three.0 small.stride three.1 second.1 in
     c.in_err-limit.ensures p.limit small.limit third.1)
 
@@ -51,14 +51,14 @@ returns-in-Err c =
     let two = c.in_ok-horizon.ensures in
     let three = c.in_ok-stride.ensures in
     let four = c.in_ok-limit.ensures in
-    let first = same_first c.args.text.now c.in_ok-period.rest.now (decimal p.horizon ++ 44 ∷ (decimal p.stride ++ 44 ∷ decimal p.limit))
+    let first = same_first c.args.text.now c.in_ok-period.remainder.now (decimal p.horizon ++ 44 ∷ (decimal p.stride ++ 44 ∷ decimal p.limit))
     c.in_ok-period.period p.period
     one.0 small.period one.1 e in
-    let second = same_first c.in_ok-period.rest.now c.in_ok-horizon.rest.now (decimal p.stride ++ 44 ∷ decimal p.limit) c.in_ok-horizon.horizon p.horizon
+    let second = same_first c.in_ok-period.remainder.now c.in_ok-horizon.remainder.now (decimal p.stride ++ 44 ∷ decimal p.limit) c.in_ok-horizon.horizon p.horizon
     two.0 small.horizon two.1 first.1 in
-    let third = same_first c.in_ok-horizon.rest.now c.in_ok-stride.rest.now (decimal p.limit)
+    let third = same_first c.in_ok-horizon.remainder.now c.in_ok-stride.remainder.now (decimal p.limit)
     c.in_ok-stride.stride p.stride three.0 small.stride three.1 second.1 in
-    let last : c.in_ok-limit.limit ≡ p.limit = one_number [] c.in_ok-stride.rest.now c.in_ok-limit.limit p.limit
+    let last : c.in_ok-limit.limit ≡ p.limit = one_number [] c.in_ok-stride.remainder.now c.in_ok-limit.limit p.limit
     (let a = four.0 in omega arith) (let b = small.limit in omega arith) four.1 third.1 in
     let same : p ≡ record { period = c.in_ok-period.period; horizon = c.in_ok-horizon.horizon; stride = c.in_ok-stride.stride; limit = c.in_ok-limit.limit } =
     (λ i. record { period = sym first.0 i; horizon = sym second.0 i; stride = sym third.0 i; limit = sym last i }) in

@@ -5,7 +5,7 @@ use Rattle.haul_core.proofs.report.claim.read_start.settled_in.Goals as goal
 
 pub returns-then-head-eq1-clause-ok : goal.returns-then-head-eq1-clause-ok
 returns-then-head-eq1-clause-ok c =
-    settled_first c.args.line.now c.args.head c.with_state.result c.args.checkpoint (option_map (λ r. r.now) c.args.rest) c.requires.head c.requires.checkpoint
+    settled_first c.args.line.now c.args.head c.with_state.result c.args.checkpoint (option_map (λ r. r.now) c.args.remainder) c.requires.head c.requires.checkpoint
     c.if-head-eq1.true c.requires.follows c.with_state.ensures
 
 pub returns-in_default-clause-err : goal.returns-in_default-clause-err

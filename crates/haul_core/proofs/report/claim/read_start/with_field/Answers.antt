@@ -1,6 +1,6 @@
 use Rattle.std.proofs.Common.{◌≡◌, ◌≢◌, arith, codes, rules, sym}
 use Rattle.haul_core.specs.ReportLines.{head_fields}
-use Rattle.haul_core.proofs.HeadLemmas.{filled_number, filled_profile, filled_rule, filled_seed, filled_version, filled_word, filled_worker}
+use Rattle.haul_core.proofs.HeadLemmas.{filled_number, filled_profile, filled_rule, filled_seed, filled_version, filled_report, filled_worker}
 use Rattle.haul_core.proofs.report.claim.read_start.with_field.Goals as goal
 use Rattle.haul_core.proofs.report.claim.read_start.with_field.Goals.{in-0+else-ne, in-1+in_ok-head-in-1, in-2+in_ok-head-in-2, in-3+in_ok-head-in-3}
 use Rattle.haul_core.proofs.report.claim.read_start.with_field.Goals.{in-4+in_ok-head-in-4, in-5+in_ok-head-in-5, in_default+in_ok-head-in_default}
@@ -47,7 +47,7 @@ returns c =
     let field = c.args.field.now in
     let h = c.requires.head in
     elim c.match-place.branch [
-      | in-0+else-ne w ↦ let word : field ≡ codes "report" = search rules in rw (w.in-0.is, w.head-is) (filled_word head field h word)
+      | in-0+else-ne w ↦ let is : field ≡ codes "report" = search rules in rw (w.in-0.is, w.head-is) (filled_report head field h is)
       | in-1+in_ok-head-in-1 w ↦
           let told = w.in_ok-head-in-1 in
           rw (w.in-1.is, w.head-is) (filled_version head field told.field-0 h told.ensures.0 told.ensures.1)

@@ -4,7 +4,7 @@ use Rattle.handover.specs.BeltRule.{IsFront, left_over}
 use Rattle.handover.specs.Belts.{Left, NothingLeft, notes_of, with_first}
 use Rattle.handover.specs.declared.belt.Share.{Share}
 use Rattle.handover.proofs.BeltLemmas.{if_none, learns, none_left, pops, took}
-use Rattle.handover.proofs.belt.Rest.next.Goals as goal
+use Rattle.handover.proofs.belt.Remainder.next.Goals as goal
 
 pub pop_as-requires-clause-rule : goal.pop_as-requires-clause-rule
 pop_as-requires-clause-rule g c =

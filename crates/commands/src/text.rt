@@ -2,28 +2,28 @@ ghost use Rattle.std.specs.Prelude.{◌≡◌};
 
 use std::marker::Model;
 
-/// A text that stands in the words of a command, as that of a rule. Its form is not looked at yet.
+/// A text among the words of a call, as that of a rule. Its form is not looked at yet.
 ///
 /// Contracts see it as its bytes.
 #[derive(Drop)]
-pub struct Word<'a> {
+pub struct Text<'a> {
     text: &'a str,
 }
 
-impl<'a> Model for Word<'a> {
+impl<'a> Model for Text<'a> {
     ghost use Rattle.std.specs.Prelude.{ℕ, List};
 
     ghost Value = { List ℕ };
 
-    ghost view = { λ word. word.text.now };
+    ghost view = { λ text. text.text.now };
 }
 
-impl<'a> Word<'a> {
-    /// The word with this text.
-    pub fn new(text: &'a str) -> Word<'a>
+impl<'a> Text<'a> {
+    /// The text with these bytes.
+    pub fn new(text: &'a str) -> Text<'a>
         ensures { result ≡ text.now }
     {
-        Word { text }
+        Text { text }
     }
 
     /// Its text.
