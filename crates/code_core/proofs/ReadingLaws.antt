@@ -14,7 +14,8 @@ use Rattle.code_core.specs.declared.reader.WechslerFault.{WechslerFault}
 use Rattle.code_core.specs.declared.reader.WechslerFault.TheVariants.{TooLong, BadByte, ShortRun, Empty}
 use Rattle.code_core.specs.Columns.{token_cells}
 use Rattle.code_core.specs.Tokens.{spelling, is_character}
-use Rattle.code_core.specs.Reading.{tokens_at, unless_empty, pattern_of_tokens, wechsler_pattern, wechsler_read, Says, IsBadByte, IsShortRun}
+use Rattle.code_core.specs.Reading.{tokens_at, unless_empty, pattern_of_tokens, wechsler_pattern, wechsler_read, Says}
+use Rattle.code_core.specs.ReadingFaults.{IsBadByte, IsShortRun}
 use Rattle.code_core.specs.ReadingSteps.{has_character}
 use Rattle.code_core.proofs.TokenReading.{Outcome, tokens_at-outcome, Stops, IsBad, IsShort, Stops-bad, Stops-short, tokens_at-Stops_bad}
 use Rattle.code_core.proofs.TokenReading.{tokens_at-Stops_short, tokens_at-Spells, Spells-tokens_at}

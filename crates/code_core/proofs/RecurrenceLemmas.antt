@@ -9,11 +9,11 @@ use Rattle.plane_core.specs.declared.generation.StepError.{StepError}
 use Rattle.plane_core.specs.declared.generation.StepError.TheVariants.{Edge, Memory}
 use Rattle.plane_core.specs.Bounds.{shifted}
 use Rattle.plane_core.specs.Cells.{plane_bound}
-use Rattle.plane_core.specs.Generations.{after, lies_within, next, touches_edge}
+use Rattle.plane_core.specs.Generations.{NeverBack, after, lies_within, next, touches_edge}
 use Rattle.plane_core.specs.Rules.{Numbers}
 use Rattle.plane_core.proofs.GenerationLemmas.{after-none, after-more}
 use Rattle.plane_core.proofs.SpeedLemmas.{run_inside}
-use Rattle.code_core.specs.Recurrences.{Follows, IsNew, MeetsEdge, Recurs, phases}
+use Rattle.code_core.specs.Recurrences.{Follows, MeetsEdge, Recurs, phases}
 
 -- one phase more
 pub phases-more : (rule : Numbers) (cells : List Cell) (n : ℕ) → phases rule cells (n + 1) ≡ phases rule cells n ++ after rule cells n ∷ []
@@ -57,7 +57,7 @@ follows-more rule cells n before latest later h off next_is other = record {
     is : later ≡ after rule cells (n + 1)
     is = next_of rule cells latest later n h.latest next_is
 
-    new : IsNew rule cells (n + 1)
+    new : NeverBack rule cells (n + 1)
     new p dx dy some low back = elim (eq-or-lt_of_le low) [
       | inl e ↦ other dx dy (sym (subst (λ (q : ℕ). after rule cells q ≡ shifted dx dy cells) e back) ∙ sym is)
       | inr less ↦ h.new p dx dy some (omega arith) back
@@ -77,7 +77,7 @@ recurs_then rule cells n limit before latest later dx dy h low next_is is = reco
 -- no generation that was stepped on touches the edge
 pub inside_then : (rule : Numbers) (cells : List Cell) (n : ℕ) (before : List (List Cell)) (latest later : List Cell) (dx dy : ℤ)
     → Follows rule cells n before latest
-    → touches_edge latest ≡ false → later ≡ next rule latest → shifted dx dy cells ≡ later → (g : ℕ) → IsNew rule cells g
+    → touches_edge latest ≡ false → later ≡ next rule latest → shifted dx dy cells ≡ later → (g : ℕ) → NeverBack rule cells g
     → touches_edge (after rule cells g) ≡ false
 inside_then rule cells n before latest later dx dy h off next_is is g new =
     elim (le_or_lt (n + 1) g) [

@@ -2,7 +2,8 @@
 use Rattle.std.proofs.Common.{◌≡◌, ◌∙◌, ap, refl, ℕ, ◌≤◌, false, List, [], ◌∷◌, Some, Ok, arith, length, nat_lt, le-ltb}
 use Rattle.plane_core.specs.declared.cell.Cell.{Cell}
 use Rattle.plane_core.specs.Bounds.{at_corner}
-use Rattle.code_core.specs.Reading.{TextsAreRead, pattern_of_tokens, unless_empty, wechsler_pattern, wechsler_read}
+use Rattle.code_core.specs.Reading.{pattern_of_tokens, unless_empty, wechsler_pattern, wechsler_read}
+use Rattle.code_core.specs.ReadingFaults.{TextsAreRead}
 use Rattle.code_core.specs.Texts.{text}
 use Rattle.code_core.proofs.TokenReading.{tokens_at-Spells}
 use Rattle.code_core.proofs.TextLaw.{texts_have_their_shape, texts_spell_patterns}

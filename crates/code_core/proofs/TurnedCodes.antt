@@ -11,7 +11,8 @@ use Rattle.plane_core.specs.declared.orientation.Orientation.TheVariants.{Same, 
 use Rattle.plane_core.specs.Bounds.{at_corner, box_of, grown, shifted}
 use Rattle.plane_core.specs.Cells.{InOrder, cell_at, cell_cmp, put, set_of}
 use Rattle.plane_core.specs.Generations.{after, next}
-use Rattle.plane_core.specs.Orientations.{image, product, turned, turned_cell}
+use Rattle.plane_core.specs.Orientations.{image, turned, turned_cell}
+use Rattle.plane_core.specs.OrientationLaws.{product}
 use Rattle.plane_core.specs.Rules.{Numbers}
 use Rattle.plane_core.proofs.CommuteLemmas.{next-image, set_of-in_order}
 use Rattle.plane_core.proofs.GenerationLemmas.{after-none}

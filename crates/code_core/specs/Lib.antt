@@ -3,6 +3,7 @@ pub mod Columns
 pub mod Least
 pub mod Names
 pub mod Reading
+pub mod ReadingFaults
 pub mod ReadingSteps
 pub mod Recurrences
 pub mod Texts

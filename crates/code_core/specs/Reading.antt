@@ -1,9 +1,7 @@
 -- What a text says in extended Wechsler format (LifeWiki, "Apgcode").
-use Rattle.std.specs.Prelude.{◌≡◌, ◌==◌, ◌+◌, ◌-◌, ◌<◌, ℕ, false, not, List, [], ◌∷◌, length, take, Some, Result, Ok, Err, nat_lt}
-use Rattle.std.specs.Prelude.{slice_index, if◌then◌else◌}
+use Rattle.std.specs.Prelude.{◌≡◌, ◌==◌, ◌+◌, ◌-◌, ℕ, not, List, [], ◌∷◌, length, Result, Ok, Err, nat_lt}
+use Rattle.std.specs.Prelude.{if◌then◌else◌}
 use Rattle.plane_core.specs.declared.cell.Cell.{Cell}
-use Rattle.plane_core.specs.Bounds.{at_corner}
-use Rattle.plane_core.specs.Cells.{InOrder}
 use Rattle.code_core.specs.declared.token.Token.{Token}
 use Rattle.code_core.specs.declared.token.Token.TheVariants.{Column, Gap, NextStrip}
 use Rattle.code_core.specs.declared.reader.WechslerFault.{WechslerFault}
@@ -72,22 +70,3 @@ pub record Says (text : List ℕ) (cells : List Cell) : Type 0 where
   pub tokens : List Token
   pub spells : Spells tokens text
   pub pattern : cells ≡ token_cells tokens
-
--- tokens spell the bytes before the place, and the byte there is no character
-pub record IsBadByte (text : List ℕ) (place : ℕ) : Type 0 where
-  pub tokens : List Token
-  pub before : Spells tokens (take place text)
-  pub within : place < length text
-  pub bad : is_character (slice_index text place) ≡ false
-
--- tokens spell the bytes before the place, and there is a `y` (121) with no character after it
-pub record IsShortRun (text : List ℕ) (place : ℕ) : Type 0 where
-  pub tokens : List Token
-  pub before : Spells tokens (take place text)
-  pub within : place < length text
-  pub run : slice_index text place ≡ 121
-  pub short : place + 1 < length text → is_character (slice_index text (place + 1)) ≡ false
-
--- each text of a pattern is read again, as the pattern moved to the corner
-abbrev pub TextsAreRead : Type 0
-TextsAreRead = (cells : List Cell) (t : List ℕ) → InOrder cells → text cells ≡ Some t → wechsler_read t ≡ Ok (at_corner cells)

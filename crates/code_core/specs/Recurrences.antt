@@ -3,13 +3,9 @@ use Rattle.std.specs.Prelude.{◌≡◌, ◌≢◌, ◌<◌, ◌≤◌, ℕ, ℤ
 use Rattle.std.specs.List.{range_with_len}
 use Rattle.plane_core.specs.declared.cell.Cell.{Cell}
 use Rattle.plane_core.specs.Bounds.{shifted}
-use Rattle.plane_core.specs.Generations.{after, touches_edge}
+use Rattle.plane_core.specs.Generations.{NeverBack, after, touches_edge}
 use Rattle.plane_core.specs.Rules.{Numbers}
 use Rattle.code_core.specs.declared.recurrence.Recurrence.{Recurrence}
-
--- in none of the generations from 1 to g is the pattern itself again, moved or not
-abbrev pub IsNew : Numbers → List Cell → ℕ → Type 0
-IsNew rule cells g = (p : ℕ) (dx dy : ℤ) → 1 ≤ p → p ≤ g → after rule cells p ≢ shifted dx dy cells
 
 -- the pattern recurs: after the period it is itself, moved by (dx, dy), and after no earlier generation; the period is 1 to the limit
 pub record Recurs (rule : Numbers) (cells : List Cell) (limit : ℕ) (r : Recurrence) : Type 0 where
@@ -20,11 +16,11 @@ pub record Recurs (rule : Numbers) (cells : List Cell) (limit : ℕ) (r : Recurr
 
 -- a generation below the limit, up to which the pattern isn't itself again, touches the edge of the plane
 abbrev pub MeetsEdge : Numbers → List Cell → ℕ → Type 0
-MeetsEdge rule cells limit = (g : ℕ) × (g < limit) × IsNew rule cells g × (touches_edge (after rule cells g) ≡ true)
+MeetsEdge rule cells limit = (g : ℕ) × (g < limit) × NeverBack rule cells g × (touches_edge (after rule cells g) ≡ true)
 
 -- no such generation does
 abbrev pub StaysInside : Numbers → List Cell → ℕ → Type 0
-StaysInside rule cells limit = (g : ℕ) → g < limit → IsNew rule cells g → touches_edge (after rule cells g) ≡ false
+StaysInside rule cells limit = (g : ℕ) → g < limit → NeverBack rule cells g → touches_edge (after rule cells g) ≡ false
 
 -- the first n generations, from the pattern itself on
 unfoldable pub phases : Numbers → List Cell → ℕ → List (List Cell)
@@ -34,5 +30,5 @@ phases rule cells n = map (after rule cells) (range_with_len 0 n)
 pub record Follows (rule : Numbers) (cells : List Cell) (n : ℕ) (before : List (List Cell)) (last : List Cell) : Type 0 where
   pub earlier : before ≡ phases rule cells n
   pub latest : last ≡ after rule cells n
-  pub new : IsNew rule cells n
+  pub new : NeverBack rule cells n
   pub inside : (g : ℕ) → g < n → touches_edge (after rule cells g) ≡ false

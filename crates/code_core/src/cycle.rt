@@ -1,8 +1,8 @@
 ghost use Rattle.std.specs.Prelude.{◌≡◌, ◌≢◌, ◌++◌, ◌<◌, ◌≤◌, ◌+◌, ℕ, suc, [], ◌∷◌, Err, true, IfOk, IfSome, IfNone};
 ghost use Rattle.std.specs.Prelude.{OnOk, IsErrOf};
 ghost use Rattle.plane_core.specs.Cells.{plane_bound};
-ghost use Rattle.plane_core.specs.Generations.{lies_within, touches_edge};
-ghost use Rattle.code_core.specs.Recurrences.{IsNew, MeetsEdge, Recurs, StaysInside, phases};
+ghost use Rattle.plane_core.specs.Generations.{NeverBack, lies_within, touches_edge};
+ghost use Rattle.code_core.specs.Recurrences.{MeetsEdge, Recurs, StaysInside, phases};
 
 use crate::recurrence::Recurrence;
 use plane_core::generation::StepError;
@@ -29,7 +29,7 @@ pub(crate) fn follow(
     ensures recurs { IfOk result (λ found. IfSome found (λ cycle. Recurs rule.now pattern.now limit cycle.recurrence)) }
     ensures phases { IfOk result
         (λ found. IfSome found (λ cycle. cycle.phases.items ≡ phases rule.now pattern.now cycle.recurrence.period)) }
-    ensures never { IfOk result (λ found. IfNone found (IsNew rule.now pattern.now limit)) }
+    ensures never { IfOk result (λ found. IfNone found (NeverBack rule.now pattern.now limit)) }
     ensures inside { OnOk result (StaysInside rule.now pattern.now limit) }
     ensures edge { IsErrOf result StepError.Edge → MeetsEdge rule.now pattern.now limit }
     ensures edge_first { touches_edge pattern.now ≡ true → result ≡ Err StepError.Edge }

@@ -14,17 +14,15 @@
 //! Each phase is made once and kept, and no text is made of a pattern that doesn't come back.
 
 ghost use Rattle.std.specs.Prelude.{Option, ℕ, ◌≡◌, ◌≢◌, ◌<◌, ◌≤◌, ◌+◌, [], Some, Err, true, length, option_map};
-ghost use Rattle.std.specs.Prelude.{string_bytes};
-ghost use Rattle.std.specs.Prelude.{IfOk, IfSome, IfNone, OnOk, IsErrOf};
+ghost use Rattle.std.specs.Prelude.{string_bytes, IfOk, IfSome, IfNone, OnOk, IsErrOf};
 ghost use Rattle.std.specs.Cmp.{IsTotalOrder};
 ghost use Rattle.plane_core.specs.Cells.{plane_bound};
-ghost use Rattle.plane_core.specs.Generations.{lies_within, touches_edge};
+ghost use Rattle.plane_core.specs.Generations.{NeverBack, lies_within, touches_edge};
 ghost use Rattle.plane_core.specs.Orientations.{turned};
 ghost use Rattle.code_core.specs.Names.{CodesAreDetermined, CodesHaveTheirShape, CodesLater, CodesMoved, CodesTurned};
-ghost use Rattle.code_core.specs.Names.{IsCode, OnlyEqualTextsTie};
-ghost use Rattle.code_core.specs.Names.{IsLeastOf, kind_of, number_of, text_cmp};
+ghost use Rattle.code_core.specs.Names.{IsCode, OnlyEqualTextsTie, IsLeastOf, kind_of, number_of, text_cmp};
 ghost use Rattle.code_core.specs.Least.{Among, IsImageAt, IsImageOf, IsNameBy, earlier_text};
-ghost use Rattle.code_core.specs.Recurrences.{IsNew, MeetsEdge, StaysInside};
+ghost use Rattle.code_core.specs.Recurrences.{MeetsEdge, StaysInside};
 ghost use Rattle.code_core.specs.Texts.{text};
 
 use crate::apgcode::{Apgcode, Kind};
@@ -63,7 +61,7 @@ pub fn name(
     requires least { 1 ≤ limit }
     requires most { limit ≤ 64 }
     ensures code { IfOk result (λ found. IfSome found (IsCode rule.now pattern.now limit)) }
-    ensures never { IfOk result (λ found. IfNone found (IsNew rule.now pattern.now limit)) }
+    ensures never { IfOk result (λ found. IfNone found (NeverBack rule.now pattern.now limit)) }
     ensures inside { OnOk result (StaysInside rule.now pattern.now limit) }
     ensures edge { IsErrOf result StepError.Edge → MeetsEdge rule.now pattern.now limit }
     // The edge comes before memory where the pattern lies on it.

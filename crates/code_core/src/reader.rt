@@ -1,13 +1,12 @@
 ghost use Rattle.std.specs.Prelude.{◌≡◌, ◌≢◌, ◌↔◌, ◌<◌, ◌≤◌, ◌+◌, ◌*◌, ◌++◌, ◌∷◌, [], ℕ, List, Some, None, Ok, Err};
-ghost use Rattle.std.specs.Prelude.{true, length, pos};
-ghost use Rattle.std.specs.Prelude.{IfOk, IfErr, OnOk, IsErrOf, MatchResult, IfSome, IfNone};
+ghost use Rattle.std.specs.Prelude.{true, length, pos, IfOk, IfErr, OnOk, IsErrOf, MatchResult, IfSome, IfNone};
 ghost use Rattle.std.specs.Result.{result_err};
 ghost use Rattle.plane_core.specs.declared.cell.Cell.{Cell};
 ghost use Rattle.plane_core.specs.Cells.{cell_at};
 ghost use Rattle.code_core.specs.Columns.{is_lit, lit_cells, cells_from};
 ghost use Rattle.code_core.specs.Tokens.{IsToken, Spells, is_character};
-ghost use Rattle.code_core.specs.Reading.{wechsler_pattern, wechsler_read, character_value, single, Says, IsBadByte};
-ghost use Rattle.code_core.specs.Reading.{IsShortRun, TextsAreRead};
+ghost use Rattle.code_core.specs.Reading.{wechsler_pattern, wechsler_read, character_value, single, Says};
+ghost use Rattle.code_core.specs.ReadingFaults.{IsBadByte, IsShortRun, TextsAreRead};
 ghost use Rattle.code_core.specs.ReadingSteps.{Begins, IsStuck, fault_without_token, is_column};
 ghost use Rattle.code_core.specs.declared.token.Token.{Token};
 ghost use Rattle.code_core.specs.declared.reader.WechslerFault.{WechslerFault};

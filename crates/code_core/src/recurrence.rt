@@ -1,7 +1,7 @@
 ghost use Rattle.std.specs.Prelude.{◌≡◌, ◌≢◌, ◌<◌, ◌≤◌, ◌+◌, ℕ, [], Err, true, IfOk, IfSome, IfNone, OnOk, IsErrOf};
 ghost use Rattle.plane_core.specs.Cells.{plane_bound};
-ghost use Rattle.plane_core.specs.Generations.{lies_within, touches_edge};
-ghost use Rattle.code_core.specs.Recurrences.{IsNew, MeetsEdge, Recurs, StaysInside};
+ghost use Rattle.plane_core.specs.Generations.{NeverBack, lies_within, touches_edge};
+ghost use Rattle.code_core.specs.Recurrences.{MeetsEdge, Recurs, StaysInside};
 
 use crate::cycle::follow;
 use plane_core::generation::StepError;
@@ -44,7 +44,7 @@ impl Recurrence {
         requires least { 1 ≤ limit }
         requires most { limit ≤ 64 }
         ensures recurs { IfOk result (λ found. IfSome found (Recurs rule.now pattern.now limit)) }
-        ensures never { IfOk result (λ found. IfNone found (IsNew rule.now pattern.now limit)) }
+        ensures never { IfOk result (λ found. IfNone found (NeverBack rule.now pattern.now limit)) }
         ensures inside { OnOk result (StaysInside rule.now pattern.now limit) }
         ensures edge { IsErrOf result StepError.Edge → MeetsEdge rule.now pattern.now limit }
         // The edge comes before memory where the pattern lies on it.

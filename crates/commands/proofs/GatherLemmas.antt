@@ -7,9 +7,11 @@ use Rattle.haul_core.specs.declared.book.arrival.Arrival.{Arrival}
 use Rattle.haul_core.specs.declared.book.arrival.Arrival.TheVariants.{Offer}
 use Rattle.haul_core.specs.declared.book.refused.OfferError.{OfferError}
 use Rattle.haul_core.specs.declared.book.refused.OfferError.TheVariants as offer_error
-use Rattle.haul_core.specs.Books.{Held, IsReply, StandsFor, Terms, refusal_of}
+use Rattle.haul_core.specs.Books.{Held, StandsFor, Terms}
+use Rattle.haul_core.specs.Refusals.{IsReply, refusal_of}
 use Rattle.haul_core.specs.ClaimChecks.{Agrees, IsFoundFor}
-use Rattle.haul_core.specs.ReportLines.{Claimed, said_of}
+use Rattle.haul_core.specs.ReportLines.{said_of}
+use Rattle.haul_core.specs.LawfulClaims.{Claimed}
 use Rattle.haul_core.specs.Reports.{Reported}
 use Rattle.commands.specs.declared.line_fault.LineFault.{LineFault}
 use Rattle.commands.specs.declared.line_fault.LineFault.TheVariants.{BadLine}

@@ -23,7 +23,8 @@ use Rattle.haul_core.specs.Censuses.{IsCensus}
 use Rattle.haul_core.specs.HaulTexts.{haul_text}
 use Rattle.haul_core.specs.Keeping.{numbers_in}
 use Rattle.haul_core.specs.Missing.{AreAll, IsComplete, is_taken, missing_of, numbers_of}
-use Rattle.ranges.specs.RangeLists.{FitU64, IsFirstListFault, IsListText, list_text}
+use Rattle.ranges.specs.RangeLists.{FitU64, IsListText, list_text}
+use Rattle.ranges.specs.RangeListFaults.{IsFirstListFault}
 use Rattle.ranges.specs.Ranges.{AreSmall, IsNormalForm, is_in}
 use Rattle.crew.specs.Shifts.{StopsAt}
 use Rattle.crew.specs.Takes.{HasTaken, was_missing}

@@ -6,11 +6,13 @@ use Rattle.haul_core.specs.declared.book.arrival.Arrival.{Arrival}
 use Rattle.haul_core.specs.declared.book.arrival.Arrival.TheVariants.{Offer}
 use Rattle.haul_core.specs.declared.book.refused.OfferError.{OfferError}
 use Rattle.haul_core.specs.declared.book.refused.OfferError.TheVariants as offer_error
-use Rattle.haul_core.specs.Books.{Terms, refusal_of}
+use Rattle.haul_core.specs.Books.{Terms}
+use Rattle.haul_core.specs.Refusals.{refusal_of}
 use Rattle.haul_core.specs.ClaimChecks.{Agrees, IsConfirmed, IsFoundFor}
 use Rattle.haul_core.specs.Claims.{IsFirstFaultOf}
 use Rattle.survey_core.specs.Jobs.{same_job}
-use Rattle.haul_core.specs.ReportLines.{Claimed, IsClaim, claim_line}
+use Rattle.haul_core.specs.ReportLines.{claim_line}
+use Rattle.haul_core.specs.LawfulClaims.{Claimed, IsClaim}
 use Rattle.haul_core.specs.Reports.{Reported}
 use Rattle.commands.specs.declared.line_fault.LineFault.{LineFault}
 use Rattle.commands.specs.declared.line_fault.LineFault.TheVariants.{BadLine, OtherJob, Disagrees, UnknownWorker, OutOfRange, Double}

@@ -2,7 +2,8 @@
 use Rattle.std.specs.Prelude.{◌≡◌, ◌++◌, ℕ, List, [], ◌∷◌, Result, Ok, Err}
 use Rattle.survey_core.specs.declared.job.Job.{Job}
 use Rattle.ranges.specs.declared.range.Range.{Range}
-use Rattle.ranges.specs.RangeLists.{FitU64, IsFirstListFault, IsListText, list_text}
+use Rattle.ranges.specs.RangeLists.{FitU64, IsListText, list_text}
+use Rattle.ranges.specs.RangeListFaults.{IsFirstListFault}
 use Rattle.ranges.specs.Ranges.{AreSmall, Overlap}
 use Rattle.pattern_commands.specs.declared.complaint.Complaint.{Complaint}
 use Rattle.pattern_commands.specs.declared.complaint.Complaint.TheVariants.{Refused, Memory, ReadFailed, WriteFailed}

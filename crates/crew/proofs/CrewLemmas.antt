@@ -7,7 +7,8 @@ use Rattle.std.proofs.lemmas.List.{map-append}
 use Rattle.std.proofs.lemmas.List.Elements.{All-append, All-cons, All-nil}
 use Rattle.std.proofs.lemmas.List.Sums.{sum_by_push}
 use native.Mathlib.Decide.{dec_le}
-use Rattle.haul_core.specs.Books.{Held, StandsFor, Terms, entry, eligible, refusal_of}
+use Rattle.haul_core.specs.Books.{Held, StandsFor, Terms, entry, eligible}
+use Rattle.haul_core.specs.Refusals.{refusal_of}
 use Rattle.haul_core.specs.Reports.{Reported}
 use Rattle.haul_core.specs.declared.book.arrival.Arrival.{Arrival}
 use Rattle.haul_core.specs.declared.book.arrival.Arrival.TheVariants.{Offer}

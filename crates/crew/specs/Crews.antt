@@ -1,6 +1,7 @@
 -- A crew: what its workers say, and what becomes of it.
 use Rattle.std.specs.Prelude.{◌≡◌, ◌<◌, ◌≤◌, ◌+◌, ◌++◌, ◌⊎◌, ℕ, Bool, true, false, All, List, [], ◌∷◌, None, count_by, flat_map, map}
-use Rattle.haul_core.specs.Books.{Held, StandsFor, entry, refusal_of}
+use Rattle.haul_core.specs.Books.{Held, StandsFor, entry}
+use Rattle.haul_core.specs.Refusals.{refusal_of}
 use Rattle.haul_core.specs.Reports.{Reported}
 use Rattle.haul_core.specs.declared.book.arrival.Arrival.{Arrival}
 use Rattle.haul_core.specs.declared.book.arrival.Arrival.TheVariants.{Offer}

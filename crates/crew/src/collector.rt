@@ -1,6 +1,7 @@
 //! The collector: it receives the workers' notes and offers their reports to the haul.
 ghost use Rattle.std.specs.Prelude.{◌≡◌, ◌∷◌, ◌⊎◌, [], List, None, false, is_ok, true};
-ghost use Rattle.haul_core.specs.Books.{StandsFor, refusal_of};
+ghost use Rattle.haul_core.specs.Books.{StandsFor};
+ghost use Rattle.haul_core.specs.Refusals.{refusal_of};
 ghost use Rattle.haul_core.specs.declared.book.arrival.Arrival.{Arrival};
 ghost use Rattle.crew.specs.Crews.{Collected, HasAdded, HasComeAll};
 

@@ -15,8 +15,9 @@ use Rattle.haul_core.specs.declared.book.arrival.Arrival.TheVariants.{Closing, O
 use Rattle.haul_core.specs.declared.book.refused.OfferError.{OfferError}
 use Rattle.haul_core.specs.declared.book.refused.OfferError.TheVariants.{Closed, Memory, OtherJob, OutOfRange, UnknownWorker}
 use Rattle.haul_core.specs.Replies.{IsTakenNext, StandsForFront, refusal_at, worker_in}
-use Rattle.haul_core.specs.Books.{Held, IsReply, StandsFor, Terms, double, eligible, entry, first_of_each, first_worker}
-use Rattle.haul_core.specs.Books.{has_closing, has_number, is_closing, is_lawful, offered, refusal_of, replies_to, reply_to, taken_of}
+use Rattle.haul_core.specs.Books.{Held, StandsFor, Terms, eligible, entry, first_of_each}
+use Rattle.haul_core.specs.Refusals.{IsReply, double, first_worker, refusal_of, replies_to, reply_to}
+use Rattle.haul_core.specs.Books.{has_closing, has_number, is_closing, is_lawful, offered, taken_of}
 use Rattle.haul_core.specs.declared.book.arrival.Reply.{Reply}
 use Rattle.survey_core.specs.Jobs.{same_job}
 use Rattle.ranges.specs.Ranges.{is_in}

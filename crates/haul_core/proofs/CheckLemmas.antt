@@ -16,7 +16,8 @@ use Rattle.survey_core.specs.declared.finding.Finding.{Finding}
 use Rattle.survey_core.specs.declared.job.Job.{Job}
 use Rattle.haul_core.specs.ClaimChecks.{Agrees, HaveShape, IsConfirmed, IsFoundFor}
 use Rattle.survey_core.specs.Jobs.{same_job}
-use Rattle.haul_core.specs.ReportLines.{Claimed, IsClaim, IsCount, IsFound, claim_of, said_of}
+use Rattle.haul_core.specs.ReportLines.{claim_of, said_of}
+use Rattle.haul_core.specs.LawfulClaims.{Claimed, IsClaim, IsCount, IsFound}
 use Rattle.haul_core.specs.Reports.{IsReport, Reported}
 use Rattle.survey_core.proofs.JobLemmas.{jobs_decide}
 

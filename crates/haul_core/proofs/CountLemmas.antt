@@ -4,7 +4,8 @@ use Rattle.std.proofs.lemmas.Bool.{le-leb}
 use Rattle.std.proofs.lemmas.Fmt.{decimal_injective}
 use Rattle.survey_core.specs.Profiles.{IsProfile, Settling, profile_of}
 use Rattle.haul_core.specs.FieldSteps.{Cuts, IsSmall}
-use Rattle.haul_core.specs.ReportLines.{IsCount, count_field}
+use Rattle.haul_core.specs.ReportLines.{count_field}
+use Rattle.haul_core.specs.LawfulClaims.{IsCount}
 use Rattle.haul_core.proofs.SpaceLemmas.{code_lacks_star, cut_once, decimal_lacks}
 
 -- a field that is cut at `*` (42) and is that of a count has its code and its number

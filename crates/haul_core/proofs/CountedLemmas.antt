@@ -8,7 +8,8 @@ use Rattle.std.specs.List.{AllByRecursion}
 use Rattle.haul_core.specs.ClaimSteps.{FollowsFields, HasCounts, HasReadStart, MayFollow, claimed, head_of, last_code, said_with}
 use Rattle.haul_core.specs.Claims.{BeginClaim, IsClaimLine, IsFirstFaultOf, fields_of}
 use Rattle.haul_core.specs.FieldSteps.{Cuts}
-use Rattle.haul_core.specs.ReportLines.{IsCount, IsFound, IsMark, SaidOfSoup, claim_line, count_field, found_fields, head_fields, mark_fields}
+use Rattle.haul_core.specs.ReportLines.{claim_line, count_field, found_fields, head_fields, mark_fields}
+use Rattle.haul_core.specs.LawfulClaims.{IsCount, IsFound, IsMark, SaidOfSoup}
 use Rattle.haul_core.specs.declared.report.claim.read_start.LineStart.{LineStart}
 use Rattle.haul_core.specs.declared.report.claim.read_start.WhenSettled.{WhenSettled}
 use Rattle.haul_core.proofs.FaultyLines.{bad_at, follows_more}

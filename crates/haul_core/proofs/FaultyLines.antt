@@ -10,7 +10,8 @@ use Rattle.haul_core.specs.Claims.{BeginClaim, IsFirstFaultOf, fields_of, follow
 use Rattle.haul_core.specs.FieldSteps.{Cuts, Lacks}
 use Rattle.haul_core.specs.HaulTexts.{line_of, spaced}
 use Rattle.ranges.specs.RangeListSteps.{has_byte}
-use Rattle.haul_core.specs.ReportLines.{Claimed, IsClaim, SaidOfSoup, found_fields, head_fields}
+use Rattle.haul_core.specs.ReportLines.{found_fields, head_fields}
+use Rattle.haul_core.specs.LawfulClaims.{Claimed, IsClaim, SaidOfSoup}
 use Rattle.haul_core.specs.declared.report.claim.read_start.LineStart.{LineStart}
 use Rattle.haul_core.proofs.SpaceLemmas.{claim_line-lined, fields_lack, begin_spaceless, followed-cons, line_of-lined, one_cut}
 

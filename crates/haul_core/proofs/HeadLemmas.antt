@@ -5,7 +5,8 @@ use Rattle.survey_core.specs.Profiles.{IsProfile, Settling}
 use Rattle.survey_core.specs.Seeds.{IsSeed}
 use Rattle.haul_core.specs.ClaimSteps.{HasFilled, IsHead, said_with}
 use Rattle.haul_core.specs.FieldSteps.{IsVersion}
-use Rattle.haul_core.specs.ReportLines.{IsFound, head_fields, profile_field}
+use Rattle.haul_core.specs.ReportLines.{head_fields, profile_field}
+use Rattle.haul_core.specs.LawfulClaims.{IsFound}
 use Rattle.haul_core.specs.Reports.{IsWorker}
 use Rattle.haul_core.specs.declared.report.claim.read_start.LineStart.{LineStart}
 use Rattle.haul_core.specs.declared.report.claim.read_start.WhenSettled.{WhenSettled}

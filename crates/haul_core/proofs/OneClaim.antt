@@ -9,7 +9,8 @@ use Rattle.plane_core.specs.Rules.{IsRule, Numbers, rule_read, rule_text}
 use Rattle.survey_core.specs.Profiles.{IsProfile, Settling}
 use Rattle.haul_core.specs.Claims.{fields_of}
 use Rattle.haul_core.specs.FieldSteps.{numbers_text}
-use Rattle.haul_core.specs.ReportLines.{Claimed, IsClaim, IsCount, IsFound, IsMark, SaidOfSoup, claim_line, count_field, found_fields, head_fields, mark_field, mark_fields, profile_field}
+use Rattle.haul_core.specs.ReportLines.{claim_line, count_field, found_fields, head_fields, mark_field, mark_fields, profile_field}
+use Rattle.haul_core.specs.LawfulClaims.{Claimed, IsClaim, IsCount, IsFound, IsMark, SaidOfSoup}
 use Rattle.haul_core.proofs.CountLemmas.{are_small, same_first}
 use Rattle.haul_core.proofs.CountedLemmas.{one_count}
 use Rattle.haul_core.proofs.SpaceLemmas.{claim_line-lined, fields_lack, one_cut}

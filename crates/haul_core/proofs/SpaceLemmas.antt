@@ -16,7 +16,8 @@ use Rattle.haul_core.specs.Claims.{BeginClaim, IsBadField, IsClaimLine, IsFirstF
 use Rattle.haul_core.specs.FieldSteps.{Lacks, numbers_text}
 use Rattle.haul_core.specs.HaulTexts.{line_of, spaced}
 use Rattle.ranges.specs.RangeListSteps.{has_byte}
-use Rattle.haul_core.specs.ReportLines.{Claimed, IsClaim, IsCount, IsFound, SaidOfSoup, claim_line, count_field, found_fields, head_fields, mark_field, mark_fields, profile_field}
+use Rattle.haul_core.specs.ReportLines.{claim_line, count_field, found_fields, head_fields, mark_field, mark_fields, profile_field}
+use Rattle.haul_core.specs.LawfulClaims.{Claimed, IsClaim, IsCount, IsFound, SaidOfSoup}
 use Rattle.ranges.proofs.DecimalLemmas.{IsDecimal-decimal}
 
 -- ---- texts without a byte

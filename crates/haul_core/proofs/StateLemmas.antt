@@ -7,7 +7,8 @@ use Rattle.std.specs.List.Sorted.{IsStrictlySortedBy}
 use Rattle.haul_core.specs.ClaimSteps.{FollowsFields, HasReadStart, HasHead, IsHead, claimed, head_of, said_with}
 use Rattle.haul_core.specs.Claims.{BeginClaim, IsFirstFaultOf, fields_of}
 use Rattle.haul_core.specs.FieldSteps.{Cuts, IsAnyMark, IsState, state_field}
-use Rattle.haul_core.specs.ReportLines.{Claimed, IsClaim, IsCount, IsFound, IsMark, SaidOfSoup, count_field, found_fields, head_fields, mark_field, mark_fields}
+use Rattle.haul_core.specs.ReportLines.{count_field, found_fields, head_fields, mark_field, mark_fields}
+use Rattle.haul_core.specs.LawfulClaims.{Claimed, IsClaim, IsCount, IsFound, IsMark, SaidOfSoup}
 use Rattle.haul_core.specs.declared.report.claim.read_start.LineStart.{LineStart}
 use Rattle.haul_core.specs.declared.report.claim.read_start.WhenSettled.{WhenSettled}
 use Rattle.haul_core.proofs.FaultyLines.{bad_at, begin_head, follows_more, lacks_at, over_at}

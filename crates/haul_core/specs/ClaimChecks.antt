@@ -10,7 +10,8 @@ use Rattle.survey_core.specs.declared.job.Job.{Job}
 use Rattle.haul_core.specs.declared.report.claim.check.CheckError.{CheckError}
 use Rattle.haul_core.specs.declared.report.claim.check.CheckError.TheVariants.{Disagrees, Memory, OtherJob}
 use Rattle.survey_core.specs.Jobs.{same_job}
-use Rattle.haul_core.specs.ReportLines.{Claimed, claim_of, said_of}
+use Rattle.haul_core.specs.ReportLines.{claim_of, said_of}
+use Rattle.haul_core.specs.LawfulClaims.{Claimed}
 use Rattle.haul_core.specs.Reports.{IsReport, Reported}
 
 -- the claim says of the soup what the finding does, in the words of the claim's version: version 1 has no mark

@@ -7,7 +7,8 @@ use Rattle.haul_core.specs.declared.report.claim.read_start.LineStart.{LineStart
 use Rattle.haul_core.specs.declared.report.claim.read_start.WhenSettled.{WhenSettled}
 use Rattle.haul_core.specs.Claims.{fields_of, followed}
 use Rattle.haul_core.specs.HaulTexts.{line_of}
-use Rattle.haul_core.specs.ReportLines.{Claimed, IsClaim, IsCount, SaidOfSoup, head_fields}
+use Rattle.haul_core.specs.ReportLines.{head_fields}
+use Rattle.haul_core.specs.LawfulClaims.{Claimed, IsClaim, IsCount, SaidOfSoup}
 
 -- the seven fields of the head
 abbrev pub head_of : Claimed → List (List ℕ)

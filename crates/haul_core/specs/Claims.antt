@@ -3,7 +3,8 @@ use Rattle.std.specs.Prelude.{◌≡◌, ◌⊎◌, ◌++◌, ℕ, List, [], ◌
 use Rattle.haul_core.specs.FieldSteps.{Lacks}
 use Rattle.haul_core.specs.HaulTexts.{line_of}
 use Rattle.ranges.specs.RangeListSteps.{has_byte}
-use Rattle.haul_core.specs.ReportLines.{Claimed, IsClaim, claim_line, found_fields, head_fields}
+use Rattle.haul_core.specs.ReportLines.{claim_line, found_fields, head_fields}
+use Rattle.haul_core.specs.LawfulClaims.{Claimed, IsClaim}
 
 -- the bytes are the line of a lawful claim
 pub record IsClaimLine (line : List ℕ) : Type 0 where

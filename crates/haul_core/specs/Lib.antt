@@ -9,8 +9,10 @@ pub mod HaulLaws
 pub mod HaulTexts
 pub mod Joins
 pub mod Keeping
+pub mod LawfulClaims
 pub mod Missing
 pub mod MissingSteps
+pub mod Refusals
 pub mod Replies
 pub mod ReportLines
 pub mod Reports

@@ -4,7 +4,8 @@ use Rattle.std.specs.Map.{lookup}
 use Rattle.haul_core.specs.declared.book.refused.OfferError.{OfferError}
 use Rattle.haul_core.specs.declared.book.refused.OfferError.TheVariants.{Closed, Memory, OtherJob, OutOfRange, UnknownWorker}
 use Rattle.haul_core.specs.declared.book.refused.Refused.{Refused}
-use Rattle.haul_core.specs.Books.{Held, StandsFor, Terms, double, refusal_of}
+use Rattle.haul_core.specs.Books.{Held, StandsFor, Terms}
+use Rattle.haul_core.specs.Refusals.{double, refusal_of}
 use Rattle.haul_core.specs.declared.book.arrival.Arrival.{Arrival}
 use Rattle.haul_core.specs.declared.book.arrival.Arrival.TheVariants.{Closing, Offer}
 use Rattle.survey_core.specs.Jobs.{same_job}

@@ -2,21 +2,21 @@
 use Rattle.std.proofs.Common.{◌≡◌, ◌≢◌, ◌==◌, ◌+◌, ◌-◌, ◌*◌, ◌/◌, ◌%◌, ◌^◌, ◌<◌, ◌≤◌, ℕ, zero, suc, Bool}
 use Rattle.std.proofs.Common.{true, false, not, cond, List, length, nat_lt, arith, refl, ap, ◌∙◌, sym, subst, inl, inr, ◌⊎◌}
 use Rattle.std.proofs.Common.{get_or, set, get_or-set_same, get_or-set_other, bit_or, bit_xor, w64, slice_index}
-use Rattle.std.specs.Int.{bit_at, from_bool}
+use Rattle.std.specs.Int.{bit_at, from_bool, trailing_zeros}
 use Rattle.std.specs.Int.Bits.{or_zero_r}
 use Rattle.std.proofs.lemmas.Bool.{eqb-true, eqb-false, ltb-true, ltb-false}
 use Rattle.std.proofs.lemmas.Nat.Bits.{bit_at-zero, bit_at-lt, bit_at_xor, bit_at_set_same, bit_at_set_other, bit_at_or, same_from_bits}
 use Rattle.std.proofs.lemmas.Nat.Bits.{bit_at_above, bit_at_cat_high, bit_at-trailing_zeros}
 use Rattle.std.proofs.lemmas.Nat.{div-add-mod', pow_pos}
 use Rattle.std.proofs.Math.Nat.{div-le_self, mod-lt}
-use Rattle.std.specs.Int.{trailing_zeros}
 use Rattle.plane_core.specs.declared.word.WordInRow.{WordInRow}
 use Rattle.plane_core.specs.declared.blocks.Changes.{Changes}
 use Rattle.plane_core.specs.declared.blocks.Grid.{Grid}
 use Rattle.plane_core.specs.Rules.{Numbers}
 use Rattle.plane_core.specs.Tallies.{lives_by}
 use Rattle.plane_core.specs.Words.{one_if, west_of, row_count, IsNextWord}
-use Rattle.plane_core.specs.Boards.{row_at, AreNoMarks, IsClear, IsGoing, IsInner, IsNext, IsNextAt, IsNextMark, IsQuiet, IsRight, IsStill, IsUnmarked, IsWritten, TellsChanges}
+use Rattle.plane_core.specs.Boards.{row_at, IsClear, IsInner, IsNext, IsNextAt, IsQuiet, IsRight, IsStill}
+use Rattle.plane_core.specs.BoardSteps.{AreNoMarks, IsGoing, IsNextMark, IsUnmarked, IsWritten, TellsChanges}
 
 -- ---- marks
 

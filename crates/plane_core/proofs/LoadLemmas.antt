@@ -12,7 +12,8 @@ use Rattle.plane_core.specs.declared.blocks.Grid.{Grid}
 use Rattle.plane_core.specs.declared.layout.Layout.{Layout}
 use Rattle.plane_core.specs.declared.cell.Cell.{Cell}
 use Rattle.plane_core.specs.Bounds.{IsWithin}
-use Rattle.plane_core.specs.Boards.{IsClear, IsFar, IsInner, IsQuiet, IsStill}
+use Rattle.plane_core.specs.Boards.{IsClear, IsInner, IsQuiet, IsStill}
+use Rattle.plane_core.specs.BoardSteps.{IsFar}
 use Rattle.plane_core.specs.Cells.{has, same_cell}
 use Rattle.plane_core.specs.Layouts.{grid_of, place, index_of, IsShown, room, IsDead, IsLaid}
 use Rattle.plane_core.proofs.BoardLemmas.{less_or_not, same_or_not}

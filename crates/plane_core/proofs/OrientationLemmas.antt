@@ -11,8 +11,9 @@ use Rattle.plane_core.specs.declared.orientation.Orientation.{Orientation}
 use Rattle.plane_core.specs.declared.orientation.Orientation.TheVariants.{Same, Quarter, Half, ThreeQuarter, Mirror, Flip, Diagonal, AntiDiagonal}
 use Rattle.plane_core.specs.Bounds.{box_of, grown, shifted, at_corner, cornered}
 use Rattle.plane_core.specs.Cells.{cell_at, same_cell, moved_by, has, set_of}
-use Rattle.plane_core.specs.Orientations.{orientations, turned_cell, image, turned, quarter_after, mirror_after, product, OrientationsDiffer}
-use Rattle.plane_core.specs.Orientations.{ProductAssociates, SameIsIdentity, TurningTwice, TurningBack, TurningMoved}
+use Rattle.plane_core.specs.Orientations.{orientations, turned_cell, image, turned}
+use Rattle.plane_core.specs.OrientationLaws.{quarter_after, mirror_after, product, OrientationsDiffer}
+use Rattle.plane_core.specs.OrientationLaws.{ProductAssociates, SameIsIdentity, TurningTwice, TurningBack, TurningMoved}
 use Rattle.plane_core.proofs.SetLemmas.{same_lists, in_order-set_of, has-set_of, has-head, has-cases, or_right}
 use Rattle.plane_core.proofs.TurnLemmas.{set_of-moved}
 

@@ -9,8 +9,9 @@ use Rattle.std.proofs.lemmas.Bool.{false≢true, or_cases, eqb-true}
 use Rattle.plane_core.specs.declared.layout.Layout.{Layout}
 use Rattle.plane_core.specs.declared.cell.Cell.{Cell}
 use Rattle.plane_core.specs.Cells.{InOrder, cell_at, has, set_of}
-use Rattle.plane_core.specs.Boards.{AreNoMarks}
-use Rattle.plane_core.specs.Layouts.{AreAmong, HasRead, HasReadRow, HasReadRows, IsBandEmpty, IsBlockEmpty, IsRowEmpty, place, index_of, IsShown, HasRoom}
+use Rattle.plane_core.specs.BoardSteps.{AreNoMarks}
+use Rattle.plane_core.specs.Layouts.{place, index_of, IsShown, HasRoom}
+use Rattle.plane_core.specs.BoardReading.{AreAmong, HasRead, HasReadRow, HasReadRows, IsBandEmpty, IsBlockEmpty, IsRowEmpty}
 use Rattle.plane_core.proofs.BoardLemmas.{less_or_not, same_or_not}
 use Rattle.plane_core.proofs.LayoutLemmas.{same_cells}
 use Rattle.plane_core.proofs.LoadLemmas.{place_of, spot_inside}

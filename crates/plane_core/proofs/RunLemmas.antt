@@ -6,10 +6,12 @@ use Rattle.std.proofs.lemmas.Nat.Bits.{bit_at-zero}
 use Rattle.plane_core.specs.declared.blocks.Grid.{Grid}
 use Rattle.plane_core.specs.declared.layout.Layout.{Layout}
 use Rattle.plane_core.specs.declared.cell.Cell.{Cell}
-use Rattle.plane_core.specs.Boards.{row_at, IsNext, IsNextAt, IsQuiet, IsReady, IsRight, IsStill, KeepsMarks, KeepsOuter}
+use Rattle.plane_core.specs.Boards.{row_at, IsNext, IsNextAt, IsQuiet, IsRight, IsStill}
+use Rattle.plane_core.specs.BoardSteps.{IsReady, KeepsMarks, KeepsOuter}
 use Rattle.plane_core.specs.Cells.{InOrder, IsPattern, plane_bound, on_plane}
 use Rattle.plane_core.specs.Generations.{next, after, lies_within, touches_edge}
-use Rattle.plane_core.specs.Layouts.{grid_of, IsShown, HasRoom, IsDead, IsLoaded}
+use Rattle.plane_core.specs.Layouts.{grid_of, IsShown, HasRoom, IsDead}
+use Rattle.plane_core.specs.BoardReading.{IsLoaded}
 use Rattle.plane_core.specs.Rules.{Numbers}
 use Rattle.plane_core.specs.Tallies.{lives_by}
 use Rattle.plane_core.specs.Words.{one_if, west_of, row_count}

@@ -11,7 +11,8 @@ use Rattle.plane_core.specs.declared.layout.Layout.{Layout}
 use Rattle.plane_core.specs.declared.bounds.Bounds.{Bounds}
 use Rattle.plane_core.specs.declared.cell.Cell.{Cell}
 use Rattle.plane_core.specs.declared.window.Spot.{Spot}
-use Rattle.plane_core.specs.Boards.{IsInner, IsNext, IsNextAt, KeepsOuter, row_at}
+use Rattle.plane_core.specs.Boards.{IsInner, IsNext, IsNextAt, row_at}
+use Rattle.plane_core.specs.BoardSteps.{KeepsOuter}
 use Rattle.plane_core.specs.Bounds.{IsWithin, shifted}
 use Rattle.plane_core.specs.Cells.{InOrder, cell_cmp, distance, has, is_within, moved_by}
 use Rattle.plane_core.specs.Generations.{after, next, touches_edge}

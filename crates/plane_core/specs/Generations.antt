@@ -1,5 +1,5 @@
 -- Generations under a rule (LifeWiki, "Life-like cellular automaton").
-use Rattle.std.specs.Prelude.{◌≡◌, ◌+◌, ◌≤◌, true, ◌==◌, ℕ, ℤ, zero, suc, pos, negsuc, Bool, List, [], ◌∷◌, All, count_by, filter, flat_map, if◌then◌else◌}
+use Rattle.std.specs.Prelude.{◌≡◌, ◌≢◌, ◌+◌, ◌≤◌, true, ◌==◌, ℕ, ℤ, zero, suc, pos, negsuc, Bool, List, [], ◌∷◌, All, count_by, filter, flat_map, if◌then◌else◌}
 use Rattle.std.specs.List.{list_any, list_all}
 use Rattle.plane_core.specs.declared.cell.Cell.{Cell}
 use Rattle.plane_core.specs.Cells.{InOrder, king_distance, moved_by, has, set_of, on_edge, is_within}
@@ -40,6 +40,10 @@ touches_edge cells = list_any on_edge cells
 -- every cell lies within reach of the origin
 abbrev pub lies_within : ℕ → List Cell → Bool
 lies_within reach cells = list_all (is_within reach) cells
+
+-- none of the generations from 1 to n is the pattern itself again, moved or not
+abbrev pub NeverBack : Numbers → List Cell → ℕ → Type 0
+NeverBack rule cells n = (p : ℕ) (dx dy : ℤ) → 1 ≤ p → p ≤ n → after rule cells p ≢ shifted dx dy cells
 
 -- the next generation of a pattern moved, or turned, is its next generation, moved or turned
 abbrev pub NextMoved : Type 0

@@ -1,3 +1,5 @@
+pub mod BoardReading
+pub mod BoardSteps
 pub mod Boards
 pub mod Bounds
 pub mod Cells
@@ -5,6 +7,7 @@ pub mod Clusters
 pub mod Forest
 pub mod Generations
 pub mod Layouts
+pub mod OrientationLaws
 pub mod Orientations
 pub mod Out
 pub mod Parts

@@ -76,7 +76,8 @@ pub record IsMerged (left middle right sums : List Tally) : Type 0 where
 
 -- each cell has its own count and those of the cells a step (dx, dy) from it, one on either side
 pub record AddsNeighbours (dx dy : ℤ) (tallies sums : List Tally) : Type 0 where
-  pub totals : (c : Cell) → counted_at sums c ≡ counted_at tallies (moved_by dx dy c) + (counted_at tallies c + counted_at tallies (moved_by (neg_ℤ dx) (neg_ℤ dy) c))
+  pub totals : (c : Cell) → counted_at sums c
+      ≡ counted_at tallies (moved_by dx dy c) + (counted_at tallies c + counted_at tallies (moved_by (neg_ℤ dx) (neg_ℤ dy) c))
   pub alive : (c : Cell) → alive_at sums c ≡ alive_at tallies c
   pub in_order : InOrder (cells_of sums)
   pub near : list_all on_plane (cells_of tallies) ≡ true → list_all near_plane (cells_of sums) ≡ true

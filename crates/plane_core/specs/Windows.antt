@@ -1,15 +1,14 @@
 -- A window: 64 columns by 64 rows, in which a pattern is run for as long as no cell stands on the rim. It is the inside of a board of
 -- three lanes of ten blocks, of which the outer blocks stay empty.
-use Rattle.std.specs.Prelude.{◌≡◌, ◌≢◌, ◌+◌, ◌-◌, ◌<◌, ◌≤◌, ℕ, ℤ, ◌-ℤ◌, pos, List, slice_index, unsigned_abs}
+use Rattle.std.specs.Prelude.{◌≡◌, ◌+◌, ◌-◌, ◌<◌, ◌≤◌, ℕ, ℤ, ◌-ℤ◌, pos, List, slice_index, unsigned_abs}
 use Rattle.std.specs.Int.{bit_at}
 use Rattle.plane_core.specs.declared.blocks.Grid.{Grid}
 use Rattle.plane_core.specs.declared.layout.Layout.{Layout}
 use Rattle.plane_core.specs.declared.cell.Cell.{Cell}
 use Rattle.plane_core.specs.declared.window.Spot.{Spot}
 use Rattle.plane_core.specs.Boards.{IsNextAt}
-use Rattle.plane_core.specs.Bounds.{shifted}
 use Rattle.plane_core.specs.Cells.{InOrder}
-use Rattle.plane_core.specs.Generations.{after}
+use Rattle.plane_core.specs.Generations.{NeverBack, after}
 use Rattle.plane_core.specs.Layouts.{HasRoom, IsDead, IsShown}
 use Rattle.plane_core.specs.Rules.{Numbers}
 
@@ -73,10 +72,6 @@ pub record IsFirst (words : List ℕ) (s : Spot) : Type 0 where
   pub alive : bit_at (slice_index words (80 + s.down)) (s.across - 64) ≡ 1
   pub above : (r : ℕ) → 8 ≤ r → r < s.down → slice_index words (80 + r) ≡ 0
   pub before : (b : ℕ) → b < s.across - 64 → bit_at (slice_index words (80 + s.down)) b ≡ 0
-
--- none of the generations from 1 to n is the pattern itself again, moved or not
-abbrev pub NeverBack : Numbers → List Cell → ℕ → Type 0
-NeverBack rule cells n = (p : ℕ) (dx dy : ℤ) → 1 ≤ p → p ≤ n → after rule cells p ≢ shifted dx dy cells
 
 -- and up to generation n it stays in the window
 pub record HasChanged (rule : Numbers) (at : Layout) (cells : List Cell) (n : ℕ) : Type 0 where

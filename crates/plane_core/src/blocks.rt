@@ -8,9 +8,10 @@
 ghost use Rattle.std.specs.Prelude.{◌≡◌, ◌≢◌, ◌==◌, ◌+◌, ◌-◌, ◌*◌, ◌/◌, ◌%◌, ◌^◌, ◌<◌, ◌≤◌, ◌↔◌, IfNone, IfSome};
 ghost use Rattle.std.specs.Prelude.{IsTrue, ℕ, List, length, slice_index};
 ghost use Rattle.std.specs.Int.{bit_at};
-ghost use Rattle.plane_core.specs.Boards.{AreNoMarks, IsBeside, IsClear, IsFar, IsGoing, IsInner, IsMarkedRound};
-ghost use Rattle.plane_core.specs.Boards.{IsNext, IsNextAt, IsNextMark, IsRight, IsStill, IsUnmarked, IsWritten};
-ghost use Rattle.plane_core.specs.Boards.{KeepsMarks, KeepsOuter, TellsChanges, row_at};
+ghost use Rattle.plane_core.specs.Boards.{IsBeside, IsClear, IsInner, IsNext, IsNextAt, IsRight, IsStill, row_at};
+ghost use Rattle.plane_core.specs.BoardSteps.{AreNoMarks, IsFar, IsGoing, IsMarkedRound};
+ghost use Rattle.plane_core.specs.BoardSteps.{IsNextMark, IsUnmarked, IsWritten};
+ghost use Rattle.plane_core.specs.BoardSteps.{KeepsMarks, KeepsOuter, TellsChanges};
 ghost use Rattle.plane_core.specs.Words.{life};
 
 use crate::word::{self, Answers, WordInRow};

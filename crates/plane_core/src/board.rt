@@ -5,12 +5,14 @@
 ghost use Rattle.std.specs.Prelude.{◌≡◌, ◌+◌, ◌*◌, ◌<◌, ◌≤◌, ◌^◌, ◌++◌, ◌∷◌, [], ◌-ℤ◌, ◌+ℤ◌, ℕ, List, length, pos};
 ghost use Rattle.std.specs.Prelude.{slice_index, IfOk, IfSome, IsTrue, OnOk, OnSome, ◌-◌, true, false, unsigned_abs};
 ghost use Rattle.std.specs.Int.{bit_at};
-ghost use Rattle.plane_core.specs.Boards.{IsInner, IsMarkedRound, IsNext, IsReady, IsStill, KeepsMarks, KeepsOuter};
+ghost use Rattle.plane_core.specs.Boards.{IsInner, IsNext, IsStill};
+ghost use Rattle.plane_core.specs.BoardSteps.{IsMarkedRound, IsReady, KeepsMarks, KeepsOuter};
 ghost use Rattle.plane_core.specs.Bounds.{IsWithin};
 ghost use Rattle.plane_core.specs.Cells.{InOrder, cell_at, has, plane_bound};
 ghost use Rattle.plane_core.specs.Generations.{after, lies_within};
-ghost use Rattle.plane_core.specs.Layouts.{AreSidesWithin, HasRead, HasReadRow, HasReadRows, HasRoom, IsBandEmpty};
-ghost use Rattle.plane_core.specs.Layouts.{IsBlockEmpty, IsDead, IsLaid, IsLoaded, IsRowEmpty, IsShown, grid_of};
+ghost use Rattle.plane_core.specs.Layouts.{AreSidesWithin, HasRoom, IsDead, IsLaid, IsShown, grid_of};
+ghost use Rattle.plane_core.specs.BoardReading.{HasRead, HasReadRow, HasReadRows, IsBandEmpty};
+ghost use Rattle.plane_core.specs.BoardReading.{IsBlockEmpty, IsLoaded, IsRowEmpty};
 ghost use Rattle.plane_core.specs.Layouts.{index_of, place, room};
 ghost use Rattle.plane_core.specs.declared.cell.Cell.{Cell};
 

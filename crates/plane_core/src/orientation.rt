@@ -1,7 +1,8 @@
 ghost use Rattle.std.specs.Prelude.{◌≡◌, true};
 ghost use Rattle.plane_core.specs.Cells.{cell_at, on_plane};
-ghost use Rattle.plane_core.specs.Orientations.{orientations, turned_cell, OrientationsDiffer, ProductAssociates};
-ghost use Rattle.plane_core.specs.Orientations.{SameIsIdentity, TurningBack, TurningMoved, TurningTwice};
+ghost use Rattle.plane_core.specs.Orientations.{orientations, turned_cell};
+ghost use Rattle.plane_core.specs.OrientationLaws.{OrientationsDiffer, ProductAssociates};
+ghost use Rattle.plane_core.specs.OrientationLaws.{SameIsIdentity, TurningBack, TurningMoved, TurningTwice};
 
 use crate::cell::Cell;
 use crate::coordinate::negated;

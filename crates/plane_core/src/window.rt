@@ -14,14 +14,14 @@
 ghost use Rattle.std.specs.Prelude.{◌≡◌, ◌≢◌, ◌+◌, ◌-◌, ◌*◌, ◌/◌, ◌%◌, ◌<◌, ◌≤◌, [], ℕ, ℤ, IfSome, IsTrue, List, false};
 ghost use Rattle.std.specs.Prelude.{length, slice_index};
 ghost use Rattle.std.specs.Int.{bit_at};
-ghost use Rattle.plane_core.specs.Boards.{IsNext, IsNextAt, KeepsOuter};
-ghost use Rattle.plane_core.specs.Bounds.{shifted};
+ghost use Rattle.plane_core.specs.Boards.{IsNext, IsNextAt};
+ghost use Rattle.plane_core.specs.BoardSteps.{KeepsOuter};
+ghost use Rattle.plane_core.specs.Bounds.{shifted, IsWithin};
 ghost use Rattle.plane_core.specs.Cells.{InOrder};
-ghost use Rattle.plane_core.specs.Generations.{after, next, touches_edge};
+ghost use Rattle.plane_core.specs.Generations.{NeverBack, after, next, touches_edge};
 ghost use Rattle.plane_core.specs.Layouts.{AreSidesWithin, HasRoom, IsDead, IsLaid, IsShown, room};
-ghost use Rattle.plane_core.specs.Bounds.{IsWithin};
 ghost use Rattle.plane_core.specs.Windows.{AreSidesClear, HasChanged, IsColumnClear, IsEmptyRound, IsFirst, IsInland};
-ghost use Rattle.plane_core.specs.Windows.{IsRimClear, IsSeen, IsSpot, IsStepped, IsWindow, NeverBack, window_grid};
+ghost use Rattle.plane_core.specs.Windows.{IsRimClear, IsSeen, IsSpot, IsStepped, IsWindow, window_grid};
 ghost use Rattle.plane_core.specs.declared.cell.Cell.{Cell};
 
 use crate::blocks::{Grid, next_words};

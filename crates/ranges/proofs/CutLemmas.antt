@@ -6,7 +6,8 @@ use Rattle.std.specs.List.{AllByRecursion}
 use Rattle.std.specs.Prelude.{slice_index}
 use Rattle.std.specs.Str.{all_ascii_digits}
 use Rattle.ranges.specs.declared.range.Range.{Range}
-use Rattle.ranges.specs.RangeLists.{IsDecimal, Written, joined, pair_text, written}
+use Rattle.ranges.specs.RangeLists.{Written, joined, pair_text, written}
+use Rattle.ranges.specs.RangeListFaults.{IsDecimal}
 use Rattle.ranges.specs.RangeListSteps.{has_digit}
 use Rattle.ranges.proofs.DecimalLemmas.{IsDecimal-decimal}
 

@@ -1,13 +1,12 @@
 -- Decimals, a digit more at a time, and where one ends in a text.
 use Rattle.std.proofs.Common.{◌≡◌, ◌<◌, ◌≤◌, ◌+◌, ◌*◌, ◌/◌, ◌%◌, ◌^◌, ◌++◌, ℕ, zero, suc, true, false, List, [], ◌∷◌, length, decimal, refl, sym, ◌∙◌, ap}
-use Rattle.std.proofs.Common.{subst, arith, rules}
-use Rattle.std.proofs.Common.{append_assoc}
+use Rattle.std.proofs.Common.{subst, arith, rules, append_assoc}
 use Rattle.std.specs.Prelude.{slice_index}
 use Rattle.std.specs.Str.{all_ascii_digits}
 use Rattle.std.specs.Str.Parse.{digits_value}
 use Rattle.std.proofs.lemmas.Fmt.{decimal_digit, decimal_is_IsNumeral_wide, decimal_nonempty, decimal_step_wide, digits_decimal, first_decimal}
 use Rattle.std.proofs.lemmas.Str.Parse.{IsNumeralModel, numerals_by_value, tells_all_ascii_digits}
-use Rattle.ranges.specs.RangeLists.{BeginsLargeDecimal, IsDecimal}
+use Rattle.ranges.specs.RangeListFaults.{BeginsLargeDecimal, IsDecimal}
 use Rattle.ranges.specs.RangeListSteps.{BeginsDecimal, has_digit}
 
 pub ascii : IsNumeralModel (λ ds. all_ascii_digits ds ≡ true) (digits_value 10)

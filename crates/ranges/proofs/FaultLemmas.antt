@@ -12,8 +12,8 @@ use Rattle.std.proofs.lemmas.Str.Parse.{digits_value-take-le}
 use Rattle.std.proofs.lemmas.List.Elements.{recursion_from_All}
 use Rattle.std.proofs.Math.Seq.{take-append_seam, drop-append_seam, get_or-append_seam}
 use Rattle.ranges.specs.declared.range.Range.{Range}
-use Rattle.ranges.specs.RangeLists.{FitU64, BeginsLargeDecimal, BeginsList, IsBadListByte, IsDecimal, IsLargeDecimal, IsListText, Written}
-use Rattle.ranges.specs.RangeLists.{joined, list_text, pair_text, written}
+use Rattle.ranges.specs.RangeLists.{FitU64, IsListText, Written, joined, list_text, pair_text, written}
+use Rattle.ranges.specs.RangeListFaults.{BeginsLargeDecimal, BeginsList, IsBadListByte, IsDecimal, IsLargeDecimal}
 use Rattle.ranges.specs.RangeListSteps.{has_byte, has_digit, ranges_and_commas}
 use Rattle.ranges.proofs.DecimalLemmas.{IsDecimal-decimal, ascii}
 use Rattle.ranges.proofs.CutLemmas.{Ends, IsWritten, IsWritten-written, cut, cut_pair, joined-cons, pair-some, tail, tail-no_digit}

@@ -9,8 +9,8 @@ use Rattle.std.proofs.lemmas.Bool.{cases_lt, cases_order}
 use Rattle.std.proofs.lemmas.List.{get_or-append_right, get_or_append_left, length-drop, length-take-le, take-append-drop, take-take, take_at, take_more}
 use Rattle.std.proofs.lemmas.List.Elements.{All-append, All-cons, All-from_recursion, All-nil, recursion_from_All}
 use Rattle.ranges.specs.declared.range.Range.{Range}
-use Rattle.ranges.specs.RangeLists.{BeginsLargeDecimal, BeginsList, BeginsLongList, IsBadListByte, IsDecimal, IsFirstListFault, IsLargeDecimal, IsListText}
-use Rattle.ranges.specs.RangeLists.{Written, joined, pair_text, written}
+use Rattle.ranges.specs.RangeLists.{IsListText, Written, joined, pair_text, written}
+use Rattle.ranges.specs.RangeListFaults.{BeginsLargeDecimal, BeginsList, BeginsLongList, IsBadListByte, IsDecimal, IsFirstListFault, IsLargeDecimal}
 use Rattle.ranges.specs.RangeListSteps.{ranges_and_commas}
 use Rattle.ranges.proofs.CutLemmas.{IsWritten, joined-cons, tail, tail-no_digit}
 use Rattle.ranges.proofs.DecimalLemmas.{IsDecimal-decimal}

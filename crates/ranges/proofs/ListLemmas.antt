@@ -1,12 +1,12 @@
 -- The ranges of a text one after another, and the first fault.
 use Rattle.std.proofs.Common.{◌≡◌, ◌≢◌, ◌+◌, ◌-◌, ◌++◌, ◌⊎◌, inl, inr, ℕ, Bool, true, false, List, [], ◌∷◌, Option, Some, None, length, map}
-use Rattle.std.proofs.Common.{decimal, refl, sym, ◌∙◌, ap, subst, arith}
-use Rattle.std.proofs.Common.{append_assoc, append-nil}
+use Rattle.std.proofs.Common.{decimal, refl, sym, ◌∙◌, ap, subst, arith, append_assoc, append-nil}
 use Rattle.std.proofs.lemmas.Fmt.{decimal_injective}
 use Rattle.std.proofs.lemmas.List.Elements.{All-nil, All-push, recursion_from_All}
 use Rattle.std.specs.List.{AllByRecursion}
 use Rattle.ranges.specs.declared.range.Range.{Range}
-use Rattle.ranges.specs.RangeLists.{FitU64, BeginsList, IsFirstListFault, IsListText, joined, list_text, pair_text, written}
+use Rattle.ranges.specs.RangeLists.{FitU64, IsListText, joined, list_text, pair_text, written}
+use Rattle.ranges.specs.RangeListFaults.{BeginsList, IsFirstListFault}
 use Rattle.ranges.specs.RangeListSteps.{BeginsNoDecimal, HasPassed, IsNoRange, LacksComma, LacksCount, LacksPlus, Passes, Starts, has_digit, ranges_and_commas}
 use Rattle.ranges.proofs.CutLemmas.{joined-cons, joined-injective, tail}
 use Rattle.ranges.proofs.FaultLemmas.{Apart, FitsU64, Refused, bad, large_at, list_text-joined, not_list, opening-apart, refused_after, refused_comma}

@@ -1,3 +1,4 @@
+pub mod RangeListFaults
 pub mod RangeListSteps
 pub mod RangeLists
 pub mod RangeSteps

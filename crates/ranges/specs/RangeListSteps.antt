@@ -2,7 +2,8 @@
 use Rattle.std.specs.Prelude.{◌≡◌, ◌≢◌, ◌<◌, ◌^◌, ◌⊎◌, ◌++◌, ℕ, Bool, false, true, List, [], ◌∷◌, Option, None, Some, decimal}
 use Rattle.std.specs.Char.{is_ascii_digit}
 use Rattle.ranges.specs.declared.range.Range.{Range}
-use Rattle.ranges.specs.RangeLists.{BeginsLargeDecimal, list_text, pair_text, written}
+use Rattle.ranges.specs.RangeLists.{list_text, pair_text, written}
+use Rattle.ranges.specs.RangeListFaults.{BeginsLargeDecimal}
 
 -- a digit stands at the front
 abbrev pub has_digit : List ℕ → Bool

@@ -10,8 +10,8 @@ ghost use Rattle.std.specs.Prelude.{◌≡◌, ◌≢◌, ◌⊎◌, ◌≤◌, 
 ghost use Rattle.std.specs.Prelude.{IfNone, IfOk, IfSome, IsErrOf, MatchResult};
 ghost use Rattle.ranges.specs.RangeListSteps.{BeginsDecimal, BeginsNoDecimal, BeginsRange, IsNoRange, LacksComma};
 ghost use Rattle.ranges.specs.RangeListSteps.{Passes, Starts, has_digit};
-ghost use Rattle.ranges.specs.RangeLists.{FitU64, BeginsLargeDecimal, IsFirstListFault, IsListText};
-ghost use Rattle.ranges.specs.RangeLists.{TextsHaveOneFault, TextsHaveOneList, list_text};
+ghost use Rattle.ranges.specs.RangeLists.{FitU64, IsListText, TextsHaveOneList, list_text};
+ghost use Rattle.ranges.specs.RangeListFaults.{BeginsLargeDecimal, IsFirstListFault, TextsHaveOneFault};
 ghost use Rattle.ranges.specs.declared.range.Range.{Range as Numbers};
 ghost use Rattle.ranges.specs.declared.range_list.ListError.TheVariants.{BadList, Memory};
 

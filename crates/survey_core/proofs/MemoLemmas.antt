@@ -6,9 +6,8 @@ use Rattle.plane_core.specs.declared.bounds.Bounds.{Bounds}
 use Rattle.plane_core.specs.declared.cell.Cell.{Cell}
 use Rattle.plane_core.specs.Bounds.{IsWithin, shifted}
 use Rattle.plane_core.specs.Cells.{moved_by}
-use Rattle.plane_core.specs.Generations.{after}
+use Rattle.plane_core.specs.Generations.{NeverBack, after}
 use Rattle.plane_core.specs.Rules.{Numbers}
-use Rattle.plane_core.specs.Windows.{NeverBack}
 use Rattle.plane_core.proofs.PlacementLemmas.{in_order-shifted}
 use Rattle.code_core.specs.Names.{IsCode}
 use Rattle.code_core.proofs.MovedCodes.{after-shifted, codes_moved, recurs-shifted}

@@ -7,17 +7,19 @@
 //! ```
 
 ghost use Rattle.std.specs.Prelude.{◌≡◌, ◌⊎◌, ◌↔◌, ◌<◌, ◌≤◌, ◌+◌, ◌^◌, ◌++◌, ◌∷◌, [], ℕ, All, List, Option, None, Some};
-ghost use Rattle.std.specs.Prelude.{IfErr, IfOk, IsErrOf, IsTrue, OnErr, OnOk, false, length, true, vec_len};
-ghost use Rattle.std.specs.Prelude.{vec_capacity, nat_eq, is_err};
+ghost use Rattle.std.specs.Prelude.{IfErr, IfOk, IsErrOf, IsTrue, OnErr, OnOk, false, is_err, length, nat_eq, true};
+ghost use Rattle.std.specs.Prelude.{vec_capacity, vec_len};
 ghost use Rattle.std.specs.List.{IsDistinct};
 ghost use Rattle.std.specs.List.Sorted.{IsStrictlyIncreasing};
 ghost use Rattle.indexmap.specs.IndexMap.{get, spare};
-ghost use Rattle.haul_core.specs.Books.{IsReply, StandsFor, has_closing, refusal_of};
+ghost use Rattle.haul_core.specs.Books.{StandsFor, has_closing};
+ghost use Rattle.haul_core.specs.Refusals.{IsReply, refusal_of};
 ghost use Rattle.haul_core.specs.Replies.{refusal_at, reply_of, IsAnswered};
 ghost use Rattle.haul_core.specs.Censuses.{IsCensus};
 ghost use Rattle.haul_core.specs.Keeping.{numbers_in};
 ghost use Rattle.haul_core.specs.Missing.{AreAll, IsComplete, missing_of};
-ghost use Rattle.ranges.specs.Ranges.{AreBelow, AreNormal, AreSmall, IsNormalForm, Overlap, is_in, number_bound, size_of};
+ghost use Rattle.ranges.specs.Ranges.{AreBelow, AreNormal, AreSmall, IsNormalForm, Overlap, is_in, number_bound};
+ghost use Rattle.ranges.specs.Ranges.{size_of};
 ghost use Rattle.haul_core.specs.Reports.{IsWorker};
 ghost use Rattle.haul_core.specs.Scores.{Extends, HasScores};
 ghost use Rattle.haul_core.specs.declared.book.arrival.Arrival.{Arrival};
@@ -297,10 +299,8 @@ impl Haul {
         })
     }
 
-    /// Offers a report. It is taken if the haul is open, the report is of its job, of one of its workers, and of a
-    /// number of its set that has not been taken.
-    ///
-    /// It takes time in proportion to the report's objects, and to the ranges of the set.
+    /// Offers a report. An open haul takes one of its job, of one of its workers, and of a number that is missing.
+    /// That takes time in proportion to the report's objects, and to the ranges of the set.
     ///
     /// # Errors
     ///

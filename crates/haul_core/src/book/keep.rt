@@ -1,6 +1,7 @@
 ghost use Rattle.std.specs.Prelude.{◌≡◌, ◌++◌, ◌∷◌, [], List, IfOk, OnErr, OnOk};
 ghost use Rattle.haul_core.specs.BookLaws.{WorkersAreTakenInOrder};
-ghost use Rattle.haul_core.specs.Books.{StandsFor, replies_to, reply_to};
+ghost use Rattle.haul_core.specs.Books.{StandsFor};
+ghost use Rattle.haul_core.specs.Refusals.{replies_to, reply_to};
 ghost use Rattle.haul_core.specs.Replies.{IsTakenNext, StandsForFront};
 ghost use Rattle.haul_core.specs.declared.book.arrival.Arrival.{Arrival as Arrived};
 

@@ -1,7 +1,7 @@
 //! Claims: what a report line says, right or wrong. A claim is read from its line, and then checked.
 
 ghost use Rattle.std.specs.Prelude.{◌≡◌, option_map};
-ghost use Rattle.haul_core.specs.ReportLines.{IsClaim};
+ghost use Rattle.haul_core.specs.LawfulClaims.{IsClaim};
 
 use crate::report::claim::claimed_code::ClaimedCode;
 use std::marker::Model;
@@ -29,7 +29,7 @@ pub struct Claim {
 }
 
 impl Model for Claim {
-    ghost use Rattle.haul_core.specs.ReportLines.{Claimed, IsClaim};
+    ghost use Rattle.haul_core.specs.LawfulClaims.{Claimed, IsClaim};
 
     ghost Value = { Claimed };
 
@@ -90,7 +90,7 @@ pub struct SettledClaim {
 }
 
 impl Model for SettledClaim {
-    ghost use Rattle.haul_core.specs.ReportLines.{SaidOfSoup};
+    ghost use Rattle.haul_core.specs.LawfulClaims.{SaidOfSoup};
 
     ghost Value = { SaidOfSoup };
 

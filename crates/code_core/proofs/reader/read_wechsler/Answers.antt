@@ -3,7 +3,8 @@ use Rattle.std.specs.Prelude.{IfOk, IsErrOf}
 use Rattle.std.proofs.lemmas.Result.{IfOk-weaker}
 use Rattle.code_core.specs.declared.reader.WechslerError.TheVariants.{Fault}
 use Rattle.code_core.specs.declared.reader.WechslerFault.TheVariants.{TooLong, BadByte, ShortRun, Empty}
-use Rattle.code_core.specs.Reading.{wechsler_read, Says, IsBadByte, IsShortRun}
+use Rattle.code_core.specs.Reading.{wechsler_read, Says}
+use Rattle.code_core.specs.ReadingFaults.{IsBadByte, IsShortRun}
 use Rattle.code_core.proofs.ReadingLaws.{Says-read, wechsler_read-Says, read_as, too_long, no_cell, bad_byte, short_run, told}
 use Rattle.code_core.proofs.reader.read_wechsler.Goals as goal
 

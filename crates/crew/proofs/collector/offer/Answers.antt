@@ -1,5 +1,6 @@
 use Rattle.std.proofs.Common.{◌≡◌, ◌≢◌, ◌∙◌, ℕ, Bool, true, false, List, None, Option, Some, ap, if◌then◌else◌, inl, inr, nat_lt, not, sym, true≢false}
-use Rattle.haul_core.specs.Books.{IsReply, Terms, double, eligible, first_worker, has_closing, refusal_of}
+use Rattle.haul_core.specs.Books.{Terms, eligible, has_closing}
+use Rattle.haul_core.specs.Refusals.{IsReply, double, first_worker, refusal_of}
 use Rattle.survey_core.specs.Jobs.{same_job}
 use Rattle.haul_core.specs.Reports.{Reported}
 use Rattle.haul_core.specs.declared.book.arrival.Arrival.{Arrival}

@@ -3,7 +3,8 @@
 ghost use Rattle.std.specs.Prelude.{◌≡◌, ◌==◌, ◌↔◌, All, IfErr, IfOk, IsTrue, MatchResult, None, Some, if◌then◌else◌};
 ghost use Rattle.code_core.specs.Apgcodes.{HasCodeShape};
 ghost use Rattle.haul_core.specs.ClaimChecks.{Agrees, Fails, HaveShape, IsConfirmed};
-ghost use Rattle.haul_core.specs.ReportLines.{IsClaim, claim_of};
+ghost use Rattle.haul_core.specs.ReportLines.{claim_of};
+ghost use Rattle.haul_core.specs.LawfulClaims.{IsClaim};
 ghost use Rattle.haul_core.specs.Reports.{Reported};
 ghost use Rattle.haul_core.specs.declared.report.claim.check.CheckError.TheVariants.{Memory};
 

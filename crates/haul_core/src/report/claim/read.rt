@@ -7,7 +7,8 @@ ghost use Rattle.haul_core.specs.ClaimSteps.{HasReadStart, IsAfter, MayFollow, c
 ghost use Rattle.haul_core.specs.Claims.{FaultyLinesHaveNoClaim, IsClaimLine, IsFirstFaultOf, LinesHaveOneClaim};
 ghost use Rattle.haul_core.specs.Claims.{LinesHaveOneFault};
 ghost use Rattle.haul_core.specs.FieldSteps.{Tells};
-ghost use Rattle.haul_core.specs.ReportLines.{Claimed, IsClaim, claim_line, count_field};
+ghost use Rattle.haul_core.specs.ReportLines.{claim_line, count_field};
+ghost use Rattle.haul_core.specs.LawfulClaims.{Claimed, IsClaim};
 ghost use Rattle.haul_core.specs.declared.report.claim.read_start.LineStart.{LineStart as Before};
 ghost use Rattle.haul_core.specs.declared.report.claim.read.LineError.TheVariants.{BadLine, Memory};
 

@@ -9,7 +9,8 @@ ghost use Rattle.survey_core.specs.Seeds.{IsSeed};
 ghost use Rattle.haul_core.specs.FieldSteps.{BeginsNumber, Cuts, IsAnyMark, IsNumber, IsSmall, IsState, IsVersion};
 ghost use Rattle.haul_core.specs.FieldSteps.{Tells, numbers_text, state_field};
 ghost use Rattle.survey_core.specs.Profiles.{IsProfile};
-ghost use Rattle.haul_core.specs.ReportLines.{IsCount, count_field, mark_field, profile_field};
+ghost use Rattle.haul_core.specs.ReportLines.{count_field, mark_field, profile_field};
+ghost use Rattle.haul_core.specs.LawfulClaims.{IsCount};
 ghost use Rattle.haul_core.specs.Reports.{IsWorker};
 
 use plane_core::rule::Rule;
@@ -40,7 +41,11 @@ pub(crate) fn number_in(text: &[u8]) -> Option<u64>
     ensures { Tells IsNumber decimal text.now result }
 {
     let (number, remainder) = first_decimal(text)?;
-    if remainder.is_empty() { Some(number) } else { None }
+    if remainder.is_empty() {
+        Some(number)
+    } else {
+        None
+    }
 }
 
 /// The number below 2^64 whose decimal stands after a name.

@@ -1,5 +1,5 @@
 use Rattle.std.proofs.Common.{ℕ, arith, refl, subst}
-use Rattle.plane_core.specs.Boards.{IsGoing}
+use Rattle.plane_core.specs.BoardSteps.{IsGoing}
 use Rattle.plane_core.proofs.BoardLemmas.{going_start, going_end}
 use Rattle.plane_core.proofs.blocks.generation.Goals as goal
 

@@ -1,5 +1,5 @@
 use Rattle.std.proofs.Common.{◌*◌}
-use Rattle.plane_core.specs.Boards.{IsGoing}
+use Rattle.plane_core.specs.BoardSteps.{IsGoing}
 use Rattle.plane_core.proofs.blocks.generation.Given as goal
 
 abbrev pub invariant-loop-w : goal.invariant-loop-w

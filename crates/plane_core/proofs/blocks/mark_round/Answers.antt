@@ -1,5 +1,5 @@
 use Rattle.std.proofs.Common.{ℕ, subst, sym}
-use Rattle.plane_core.specs.Boards.{IsFar}
+use Rattle.plane_core.specs.BoardSteps.{IsFar}
 use Rattle.plane_core.proofs.blocks.mark_round.Goals as goal
 
 pub returns-then-j-last : goal.returns-then-j-last

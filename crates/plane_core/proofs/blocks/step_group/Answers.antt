@@ -1,5 +1,5 @@
 use Rattle.std.proofs.Common.{◌*◌, ◌≤◌, ℕ, arith, subst, sym}
-use Rattle.plane_core.specs.Boards.{AreNoMarks, IsGoing, IsNextMark}
+use Rattle.plane_core.specs.BoardSteps.{AreNoMarks, IsGoing, IsNextMark}
 use Rattle.plane_core.proofs.BoardLemmas.{going_skip_marks}
 use Rattle.plane_core.proofs.blocks.step_group.Goals as goal
 

@@ -1,5 +1,6 @@
 use Rattle.std.proofs.Common.{◌≡◌, ◌+◌, ◌-◌, ◌*◌, ◌≤◌, ℕ, List, length, slice_index}
-use Rattle.plane_core.specs.Boards.{IsGoing, IsRight}
+use Rattle.plane_core.specs.Boards.{IsRight}
+use Rattle.plane_core.specs.BoardSteps.{IsGoing}
 use Rattle.plane_core.proofs.blocks.step_group.Given as goal
 
 abbrev pub invariant-loop-b : goal.invariant-loop-b

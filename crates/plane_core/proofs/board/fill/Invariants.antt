@@ -1,5 +1,6 @@
 use Rattle.std.proofs.Common.{[], take}
-use Rattle.plane_core.specs.Boards.{IsMarkedRound, IsStill}
+use Rattle.plane_core.specs.Boards.{IsStill}
+use Rattle.plane_core.specs.BoardSteps.{IsMarkedRound}
 use Rattle.plane_core.specs.Layouts.{IsDead, IsShown, grid_of}
 use Rattle.plane_core.proofs.board.fill.Given as goal
 

@@ -1,5 +1,5 @@
 use Rattle.std.proofs.Common.{◌≤◌, ◌-◌}
-use Rattle.plane_core.specs.Layouts.{IsBandEmpty}
+use Rattle.plane_core.specs.BoardReading.{IsBandEmpty}
 use Rattle.plane_core.proofs.board.first_lane.Given as goal
 
 abbrev pub invariant-loop-lane : goal.invariant-loop-lane

@@ -1,5 +1,5 @@
 use Rattle.std.proofs.Common.{◌∙◌, ◌*◌, ℕ, arith, subst}
-use Rattle.plane_core.specs.Layouts.{HasReadRows}
+use Rattle.plane_core.specs.BoardReading.{HasReadRows}
 use Rattle.plane_core.proofs.ReadLemmas.{read_all, rows-none}
 use Rattle.plane_core.proofs.board.read.Goals as goal
 

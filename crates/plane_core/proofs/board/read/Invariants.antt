@@ -1,5 +1,5 @@
 use Rattle.std.proofs.Common.{◌*◌}
-use Rattle.plane_core.specs.Layouts.{HasReadRows}
+use Rattle.plane_core.specs.BoardReading.{HasReadRows}
 use Rattle.plane_core.proofs.board.read.Given as goal
 
 abbrev pub invariant-loop-band : goal.invariant-loop-band

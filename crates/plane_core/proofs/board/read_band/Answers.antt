@@ -1,5 +1,5 @@
 use Rattle.std.proofs.Common.{ℕ, arith, subst}
-use Rattle.plane_core.specs.Layouts.{HasReadRows, IsBandEmpty}
+use Rattle.plane_core.specs.BoardReading.{HasReadRows, IsBandEmpty}
 use Rattle.plane_core.proofs.ReadLemmas.{row-empty, rows-more, rows-on}
 use Rattle.plane_core.proofs.board.read_band.Goals as goal
 

@@ -1,5 +1,5 @@
 use Rattle.std.proofs.Common.{ℕ, arith, ap, subst, slice_index}
-use Rattle.plane_core.specs.Layouts.{HasReadRow}
+use Rattle.plane_core.specs.BoardReading.{HasReadRow}
 use Rattle.plane_core.proofs.ReadLemmas.{row-none, row-more, row-on}
 use Rattle.plane_core.proofs.board.read_row.Goals as goal
 

@@ -1,4 +1,4 @@
-use Rattle.plane_core.specs.Layouts.{HasReadRow}
+use Rattle.plane_core.specs.BoardReading.{HasReadRow}
 use Rattle.plane_core.proofs.board.read_row.Given as goal
 
 abbrev pub invariant-loop-lane : goal.invariant-loop-lane

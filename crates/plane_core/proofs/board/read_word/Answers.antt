@@ -1,8 +1,8 @@
 use Rattle.std.proofs.Common.{◌≡◌, ◌+◌, ◌+ℤ◌, ◌∙◌, ◌∷◌, ◌++◌, [], pos, arith, sym, ap, subst, List}
 use Rattle.plane_core.specs.declared.cell.Cell.{Cell}
-use Rattle.plane_core.specs.Boards.{AreNoMarks, IsNextMark}
+use Rattle.plane_core.specs.BoardSteps.{AreNoMarks, IsNextMark}
 use Rattle.plane_core.specs.Cells.{cell_at}
-use Rattle.plane_core.specs.Layouts.{HasRead}
+use Rattle.plane_core.specs.BoardReading.{HasRead}
 use Rattle.plane_core.proofs.ReadLemmas.{read_on, read_one}
 use Rattle.plane_core.proofs.board.read_word.Goals as goal
 

@@ -1,5 +1,5 @@
 use Rattle.std.proofs.Common.{◌≤◌, ◌-◌}
-use Rattle.plane_core.specs.Layouts.{HasRead}
+use Rattle.plane_core.specs.BoardReading.{HasRead}
 use Rattle.plane_core.proofs.board.read_word.Given as goal
 
 abbrev pub invariant-loop-i : goal.invariant-loop-i

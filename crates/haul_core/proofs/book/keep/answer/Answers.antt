@@ -1,5 +1,6 @@
 use Rattle.std.proofs.Common.{◌∙◌, ◌++◌, ◌∷◌, [], ap, sym, subst, Some}
-use Rattle.haul_core.specs.Books.{StandsFor, reply_for, reply_to}
+use Rattle.haul_core.specs.Books.{StandsFor}
+use Rattle.haul_core.specs.Refusals.{reply_for, reply_to}
 use Rattle.haul_core.specs.Replies.{IsTakenNext}
 use Rattle.haul_core.specs.declared.book.arrival.Arrival.{Arrival}
 use Rattle.haul_core.specs.declared.book.refused.OfferError.{OfferError}

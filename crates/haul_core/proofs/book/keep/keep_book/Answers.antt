@@ -2,7 +2,8 @@ use Rattle.std.proofs.Common.{◌≡◌, ◌∙◌, ◌++◌, ◌∷◌, [], ap,
 use Rattle.std.proofs.lemmas.List.{append_assoc}
 use Rattle.std.specs.Vec.Iter.{into_iter_items}
 use Rattle.haul_core.specs.declared.book.arrival.Arrival.{Arrival}
-use Rattle.haul_core.specs.Books.{StandsFor, Terms, reply_to}
+use Rattle.haul_core.specs.Books.{StandsFor, Terms}
+use Rattle.haul_core.specs.Refusals.{reply_to}
 use Rattle.haul_core.proofs.BookLemmas.{pushed, replies_push, stopped_at, taken_front}
 use Rattle.haul_core.proofs.book.keep.keep_book.Goals as goal
 

@@ -1,6 +1,7 @@
 use Rattle.std.proofs.Common.{◌≡◌, ◌++◌, ◌+◌, ◌≤◌, List, vec_len, vec_capacity}
 use Rattle.std.specs.Vec.Iter.{into_iter_len}
-use Rattle.haul_core.specs.Books.{StandsFor, replies_to}
+use Rattle.haul_core.specs.Books.{StandsFor}
+use Rattle.haul_core.specs.Refusals.{replies_to}
 use Rattle.haul_core.specs.declared.book.arrival.Arrival.{Arrival}
 use Rattle.haul_core.proofs.book.keep.keep_book.Given as goal
 

@@ -2,7 +2,8 @@ use Rattle.std.proofs.Common.{◌≡◌, ◌∙◌, ◌*◌, ◌^◌, ◌<◌, �
 use Rattle.std.proofs.lemmas.List.{with_items_is}
 use Rattle.std.specs.declared.vec.Vec.{Vec}
 use Rattle.std.specs.Vec.{with_items}
-use Rattle.plane_core.specs.Boards.{IsNext, IsRight, IsStill, KeepsMarks, KeepsOuter}
+use Rattle.plane_core.specs.Boards.{IsNext, IsRight, IsStill}
+use Rattle.plane_core.specs.BoardSteps.{KeepsMarks, KeepsOuter}
 use Rattle.plane_core.proofs.board.Board.advance.Goals as goal
 
 -- what was written over a list is what stands there after the exchange

@@ -1,5 +1,6 @@
 use Rattle.std.proofs.Common.{◌≤◌, arith}
-use Rattle.code_core.specs.Recurrences.{IsNew, Recurs}
+use Rattle.plane_core.specs.Generations.{NeverBack}
+use Rattle.code_core.specs.Recurrences.{Recurs}
 use Rattle.survey_core.proofs.sweep.Sweep.find.Goals as goal
 
 pub returns-in_ok-bounds-in-Ok-Some-clause-sweep : goal.returns-in_ok-bounds-in-Ok-Some-clause-sweep
@@ -10,7 +11,7 @@ returns-in_ok-bounds-in-Ok-Some-clause-sweep c =
 
 pub returns-in-Ok-None-clause-never : goal.returns-in-Ok-None-clause-never
 returns-in-Ok-None-clause-never c = λ back.
-    let new : IsNew c.args.rule.now c.args.pattern.now c.args.limit = rw c.in-Ok-None.field-0-is at c.in-Ok-None.ensures.never in
+    let new : NeverBack c.args.rule.now c.args.pattern.now c.args.limit = rw c.in-Ok-None.field-0-is at c.in-Ok-None.ensures.never in
     new back.0.period back.0.dx back.0.dy back.1.some back.1.within back.1.back
 
 pub swept-requires-clause-some : goal.swept-requires-clause-some

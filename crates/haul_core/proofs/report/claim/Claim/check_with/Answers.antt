@@ -1,7 +1,7 @@
 use Rattle.std.proofs.Common.{◌≡◌, ◌∙◌, ap, subst, sym, true}
 use Rattle.haul_core.specs.ClaimChecks.{Agrees, IsFoundFor}
 use Rattle.survey_core.specs.Jobs.{same_job}
-use Rattle.haul_core.specs.ReportLines.{Claimed}
+use Rattle.haul_core.specs.LawfulClaims.{Claimed}
 use Rattle.haul_core.proofs.CheckLemmas.{IsMade, agrees_if_confirmed, confirmed, found_for, one_report}
 use Rattle.haul_core.proofs.report.claim.Claim.check_with.Goals as goal
 use Rattle.haul_core.proofs.report.claim.Claim.check_with.Goals.{In-Ok}

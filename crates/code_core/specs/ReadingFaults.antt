@@ -1,0 +1,28 @@
+-- Where a text goes wrong that says no pattern, and that the text of a pattern is read again.
+use Rattle.std.specs.Prelude.{◌≡◌, ◌+◌, ◌<◌, ℕ, false, List, length, take, Some, Ok, slice_index}
+use Rattle.plane_core.specs.declared.cell.Cell.{Cell}
+use Rattle.plane_core.specs.Bounds.{at_corner}
+use Rattle.plane_core.specs.Cells.{InOrder}
+use Rattle.code_core.specs.declared.token.Token.{Token}
+use Rattle.code_core.specs.Texts.{text}
+use Rattle.code_core.specs.Tokens.{Spells, is_character}
+use Rattle.code_core.specs.Reading.{wechsler_read}
+
+-- tokens spell the bytes before the place, and the byte there is no character
+pub record IsBadByte (text : List ℕ) (place : ℕ) : Type 0 where
+  pub tokens : List Token
+  pub before : Spells tokens (take place text)
+  pub within : place < length text
+  pub bad : is_character (slice_index text place) ≡ false
+
+-- tokens spell the bytes before the place, and there is a `y` (121) with no character after it
+pub record IsShortRun (text : List ℕ) (place : ℕ) : Type 0 where
+  pub tokens : List Token
+  pub before : Spells tokens (take place text)
+  pub within : place < length text
+  pub run : slice_index text place ≡ 121
+  pub short : place + 1 < length text → is_character (slice_index text (place + 1)) ≡ false
+
+-- each text of a pattern is read again, as the pattern moved to the corner
+abbrev pub TextsAreRead : Type 0
+TextsAreRead = (cells : List Cell) (t : List ℕ) → InOrder cells → text cells ≡ Some t → wechsler_read t ≡ Ok (at_corner cells)

@@ -1,0 +1,59 @@
+-- What a claim says of a soup, and which claims a report may make.
+use Rattle.std.specs.Prelude.{◌≡◌, ◌<◌, ◌≤◌, ◌^◌, ◌⊎◌, ℕ, Bool, List, Option, None, Some}
+use Rattle.std.specs.Cmp.Lexicographic.{slice_cmp}
+use Rattle.std.specs.List.{All}
+use Rattle.std.specs.List.Sorted.{IsStrictlySortedBy}
+use Rattle.std.specs.Map.{keys_of}
+use Rattle.std.specs.Ordering.{nat_cmp}
+use Rattle.plane_core.specs.Rules.{IsRule}
+use Rattle.code_core.specs.Apgcodes.{HasCodeShape}
+use Rattle.survey_core.specs.Profiles.{IsProfile}
+use Rattle.survey_core.specs.Seeds.{IsSeed}
+use Rattle.survey_core.specs.declared.job.Job.{Job}
+use Rattle.haul_core.specs.Reports.{IsWorker}
+
+-- what a line says of a soup that settled: when, whether for good, if it says so, and how many objects there are of each code
+pub record SaidOfSoup : Type 0 where
+  pub checkpoint : ℕ
+  pub for_good : Option Bool
+  pub counts : List (List ℕ × ℕ)
+
+-- who says what of which soup of a job, and the version of the line that says it; `None` stands for an unsettled soup
+pub record Claimed : Type 0 where
+  pub version : ℕ
+  pub job : Job
+  pub worker : ℕ
+  pub number : ℕ
+  pub found : Option SaidOfSoup
+
+-- a code of 1 to 400 bytes, each one of `a` to `z`, `0` to `9` and `_`, and a count of 1 to 2^64 - 1
+pub record IsCount (object : List ℕ × ℕ) : Type 0 where
+  pub code : HasCodeShape object.0
+  pub some : 1 ≤ object.1
+  pub fits : object.1 < 2 ^ 64
+
+-- the mark is told in version 2, and not in version 1
+abbrev pub IsMark : ℕ → Option Bool → Type 0
+IsMark version None = version ≡ 1
+IsMark version (Some for_good) = version ≡ 2
+
+-- what a line may say of a soup that settled; codes stand in ASCII order, each once
+pub record IsSaid (version : ℕ) (told : SaidOfSoup) : Type 0 where
+  pub checkpoint : told.checkpoint ≤ 100000
+  pub mark : IsMark version told.for_good
+  pub counts : All IsCount told.counts
+  pub in_order : IsStrictlySortedBy (slice_cmp nat_cmp) (keys_of told.counts)
+
+abbrev pub IsFound : ℕ → Option SaidOfSoup → Type 0
+IsFound version None = Unit {0}
+IsFound version (Some told) = IsSaid version told
+
+-- what a line may say, right or wrong
+pub record IsClaim (claim : Claimed) : Type 0 where
+  pub version : (claim.version ≡ 1) ⊎ (claim.version ≡ 2)
+  pub rule : IsRule claim.job.rule
+  pub profile : IsProfile claim.job.profile
+  pub seed : IsSeed claim.job.seed
+  pub worker : IsWorker claim.worker
+  pub number : claim.number < 2 ^ 40
+  pub found : IsFound claim.version claim.found
