@@ -40,7 +40,11 @@ pub(crate) fn number_in(text: &[u8]) -> Option<u64>
     ensures { Tells IsNumber decimal text.now result }
 {
     let (number, remainder) = first_decimal(text)?;
-    if remainder.is_empty() { Some(number) } else { None }
+    if remainder.is_empty() {
+        Some(number)
+    } else {
+        None
+    }
 }
 
 /// The number below 2^64 whose decimal stands after a name.
