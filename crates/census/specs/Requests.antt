@@ -5,7 +5,7 @@ use Rattle.commands.specs.declared.plan.Plan.{Plan}
 use Rattle.pattern_commands.specs.declared.profile.ProfileNumbers.{ProfileNumbers}
 use Rattle.commands.specs.declared.soup_set.SoupSet.{SoupSet}
 use Rattle.pattern_commands.specs.declared.status.Status.{Status}
-use Rattle.pattern_commands.specs.declared.status.Status.TheVariants.{Memory}
+use Rattle.pattern_commands.specs.declared.status.Status.TheVariants.{Memory, Refused}
 use Rattle.pattern_commands.specs.Answers.{IsInput}
 use Rattle.pattern_commands.specs.Complaints.{complaint_line}
 use Rattle.pattern_commands.specs.Ends.{Ends}
@@ -67,6 +67,14 @@ tells_lines request = false
 -- what is right for a request, on an input
 abbrev pub right_for : Request → List ℕ → Makes
 right_for request = (task_of request).right
+
+-- What a request leaves as it was, by how it ended: the input, where it isn't looked at or can't be what is refused; and standard
+-- output, where something is refused, or memory ran out for a text that is whole before it is written.
+pub record Spares (request : Request) (status : Status) (input output : Type 0) : Type 0 where
+  pub unread : reads_input request ≡ false → input
+  pub unread_refused : status ≡ Refused → refuses_input request ≡ false → input
+  pub untouched : status ≡ Refused → output
+  pub no_memory : status ≡ Memory → is_whole request ≡ true → output
 
 -- a request was done on an input, and ended well
 pub record DoesRequest (known : Option (List ℕ)) (status : Status) (output errors : Stream) (request : Request) : Type 0 where

@@ -1,14 +1,14 @@
-ghost use Rattle.std.specs.Prelude.{◌≡◌, ◌≢◌, ℕ, Bool, IfSome, List, Option, false, true, is_some, map};
+ghost use Rattle.std.specs.Prelude.{◌≡◌, ◌≢◌, ℕ, IfSome, List, Option, false, true, is_some, map};
 ghost use Rattle.words.specs.Requests.{AreInTheirRanges, AreProfileNumbers, asked_by};
 ghost use Rattle.words.specs.declared.request.Request.TheVariants as request;
 ghost use Rattle.pattern_commands.specs.Ends.{Ends};
 ghost use Rattle.pattern_commands.specs.Profiles.{AreInRange};
 ghost use Rattle.pattern_commands.specs.Streams.{stream};
-ghost use Rattle.census.specs.Requests.{DoesRequest, DoesWords, is_whole, numbers_for, reads_input, refuses_input};
-ghost use Rattle.census.specs.Requests.{plan_for, soups_for, task_of};
+ghost use Rattle.census.specs.Requests.{DoesRequest, DoesWords, Spares, is_whole, numbers_for, plan_for, reads_input};
+ghost use Rattle.census.specs.Requests.{refuses_input, soups_for, task_of};
 
 use commands::gather::do_gather;
-use commands::machine::{Machine, Watch};
+use commands::machine::Machine;
 use commands::plan::Plan;
 use commands::progress::Progress;
 use commands::soup_set::SoupSet;
@@ -101,10 +101,7 @@ fn do_request<T: Threads + Wait + Sync, R: Read, W: Write, E: Write, P: Write, C
     ensures ends { DoesRequest (R.remaining input.old) result
         (stream W.contents output.old output.new) (stream E.contents machine.old.errors machine.new.errors)
         request.now }
-    ensures unread { reads_input request.now ≡ false → input.new ≡ input.old }
-    ensures unread_refused { result ≡ Status.Refused → refuses_input request.now ≡ false → input.new ≡ input.old }
-    ensures untouched { result ≡ Status.Refused → output.new ≡ output.old }
-    ensures no_memory { result ≡ Status.Memory → is_whole request.now ≡ true → output.new ≡ output.old }
+    ensures spares { Spares request.now result (input.new ≡ input.old) (output.new ≡ output.old) }
 {
     let alloc = machine.alloc;
     match request {
@@ -125,10 +122,7 @@ fn do_request<T: Threads + Wait + Sync, R: Read, W: Write, E: Write, P: Write, C
             plan,
             workers,
             progress,
-        } => {
-            machine.watch.ask(*progress);
-            take_soups(machine, plan, *workers, output)
-        }
+        } => take_soups(machine, plan, *workers, *progress, output),
         Request::Work { plan, worker } => {
             work_on_soups(alloc, plan, *worker, output, &mut machine.errors)
         }
@@ -139,23 +133,24 @@ fn do_request<T: Threads + Wait + Sync, R: Read, W: Write, E: Write, P: Write, C
     }
 }
 
-/// Takes the soups that a request names, by so many workers. Whether a line of progress is asked for is no number, so
-/// either value serves in the condition on the numbers' ranges.
-fn take_soups<T: Threads + Wait + Sync, W: Write, E: Write, H: Watch>(
-    machine: &mut Machine<'_, T, E, H>,
+/// Takes the soups that a request names, by so many workers, with a line of progress if it is asked for.
+fn take_soups<T: Threads + Wait + Sync, W: Write, E: Write, P: Write, C: Clock>(
+    machine: &mut Machine<'_, T, E, Progress<P, C>>,
     asked: &words::request::Plan<'_>,
     workers: u8,
+    progress: bool,
     output: &mut Out<W>,
 ) -> Status
-    requires request { AreInTheirRanges (request.Take asked.now workers true) }
+    requires request { AreInTheirRanges (request.Take asked.now workers progress) }
     requires output { output.old.failed ≡ false }
     requires errors { machine.old.errors.failed ≡ false }
-    ensures ends { (progress : Bool) (known : Option (List ℕ)) (bytes : List ℕ)
+    ensures ends { (known : Option (List ℕ)) (bytes : List ℕ)
         → Ends (task_of (request.Take asked.now workers progress)) known bytes result
         (stream W.contents output.old output.new) (stream E.contents machine.old.errors machine.new.errors) }
     ensures untouched { result ≡ Status.Refused → output.new ≡ output.old }
     ensures no_memory { result ≡ Status.Memory → output.new ≡ output.old }
 {
+    machine.watch.ask(progress);
     let plan = plan_for(asked);
     do_take(machine, &plan, workers, output)
 }

@@ -5,13 +5,13 @@ pub returns-in-Ok-clause-command : goal.returns-in-Ok-clause-command
 returns-in-Ok-clause-command g c _ = inl (rw c.in-Ok.ensures.asked c.do_request.ensures.ends)
 
 pub returns-in-Ok-clause-unread : goal.returns-in-Ok-clause-unread
-returns-in-Ok-clause-unread g c = rw c.in-Ok.ensures.asked c.do_request.ensures.unread
+returns-in-Ok-clause-unread g c = rw c.in-Ok.ensures.asked c.do_request.ensures.spares.unread
 
 pub returns-in-Ok-clause-unread_refused : goal.returns-in-Ok-clause-unread_refused
-returns-in-Ok-clause-unread_refused g c refused = rw c.in-Ok.ensures.asked (c.do_request.ensures.unread_refused refused)
+returns-in-Ok-clause-unread_refused g c refused = rw c.in-Ok.ensures.asked (c.do_request.ensures.spares.unread_refused refused)
 
 pub returns-in-Ok-clause-untouched : goal.returns-in-Ok-clause-untouched
-returns-in-Ok-clause-untouched g c = c.do_request.ensures.untouched
+returns-in-Ok-clause-untouched g c = c.do_request.ensures.spares.untouched
 
 pub returns-in-Ok-clause-no_memory : goal.returns-in-Ok-clause-no_memory
-returns-in-Ok-clause-no_memory g c memory = rw c.in-Ok.ensures.asked (c.do_request.ensures.no_memory memory)
+returns-in-Ok-clause-no_memory g c memory = rw c.in-Ok.ensures.asked (c.do_request.ensures.spares.no_memory memory)
