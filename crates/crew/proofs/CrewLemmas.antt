@@ -7,31 +7,32 @@ use Rattle.std.proofs.lemmas.List.{map-append}
 use Rattle.std.proofs.lemmas.List.Elements.{All-append, All-cons, All-nil}
 use Rattle.std.proofs.lemmas.List.Sums.{sum_by_push}
 use native.Mathlib.Decide.{dec_le}
+use Rattle.haul_core.specs.BookLaws.{IsSubsequence}
 use Rattle.haul_core.specs.Books.{Held, StandsFor, Terms, entry, eligible, refusal_of}
 use Rattle.haul_core.specs.Reports.{Reported}
 use Rattle.haul_core.specs.declared.book.arrival.Arrival.{Arrival}
 use Rattle.haul_core.specs.declared.book.arrival.Arrival.TheVariants.{Offer}
 use Rattle.handover.specs.Belts.{GotOne, BeltId, Received}
-use Rattle.crew.specs.Crews.{Collected, HasAdded, HasLost, HasComeAll, IsPart, dones, is_done, report_in, reports_in}
+use Rattle.crew.specs.Crews.{Collected, HasAdded, HasComeAll, HasLost, dones, is_done, report_in, reports_in}
 use Rattle.crew.specs.declared.note.Note.{Note}
 use Rattle.crew.specs.declared.note.Note.TheVariants.{Done, Report}
 
 -- ---- parts of a list
 
 module _ {X : Type 0} where
-  pub part_none : (xs : List X) → IsPart [] xs
+  pub part_none : (xs : List X) → IsSubsequence [] xs
   part_none [] = refl
   part_none (x ∷ xs) = inl (part_none xs)
 
-  pub part_all : (xs : List X) → IsPart xs xs
+  pub part_all : (xs : List X) → IsSubsequence xs xs
   part_all [] = refl
   part_all (x ∷ xs) = inr (xs, refl, part_all xs)
 
-  pub part_append : (part xs more ys : List X) → IsPart part xs → IsPart more ys → IsPart (part ++ more) (xs ++ ys)
-  part_append part [] more ys p q = subst (λ (l : List X). IsPart (l ++ more) ys) (sym p) q
+  pub part_append : (part xs more ys : List X) → IsSubsequence part xs → IsSubsequence more ys → IsSubsequence (part ++ more) (xs ++ ys)
+  part_append part [] more ys p q = subst (λ (l : List X). IsSubsequence (l ++ more) ys) (sym p) q
   part_append part (x ∷ xs) more ys p q =
-      ⊎_elim (λ (h : IsPart part xs). inl (part_append part xs more ys h q))
-      (λ (h : (remainder : List X) × (part ≡ x ∷ remainder) × IsPart remainder xs).
+      ⊎_elim (λ (h : IsSubsequence part xs). inl (part_append part xs more ys h q))
+      (λ (h : (remainder : List X) × (part ≡ x ∷ remainder) × IsSubsequence remainder xs).
       inr (h.0 ++ more, ap (λ (l : List X). l ++ more) h.1, part_append h.0 xs more ys h.2 q)) p
 
 -- ---- notes
@@ -87,14 +88,14 @@ collected_none started pass held = record {
 
 module _ {started left : ℕ} {before after : Received Note} {old mid : Held} {answered : Bool} (c : Collected started left before after old mid answered) where
   -- a part of what was received before and after this report
-  some_more : (r : Reported) (sender : ℕ) (part more : List Reported) → IsPart part (reports_in c.notes) → IsPart more (r ∷ [])
-      → IsPart (part ++ more) (reports_in (c.notes ++ (sender, Report r) ∷ []))
+  some_more : (r : Reported) (sender : ℕ) (part more : List Reported) → IsSubsequence part (reports_in c.notes) → IsSubsequence more (r ∷ [])
+      → IsSubsequence (part ++ more) (reports_in (c.notes ++ (sender, Report r) ∷ []))
   some_more r sender part more p q =
-      subst (λ (l : List Reported). IsPart (part ++ more) l) (sym (reports_push c.notes (sender, Report r)))
+      subst (λ (l : List Reported). IsSubsequence (part ++ more) l) (sym (reports_push c.notes (sender, Report r)))
       (part_append part (reports_in c.notes) more (r ∷ []) p q)
 
   -- one was lost before, and of this report the haul has taken `more`
-  lost_more : (r : Reported) (sender : ℕ) (more : List Reported) → IsPart more (r ∷ []) → HasLost (reports_in c.notes) c.part old
+  lost_more : (r : Reported) (sender : ℕ) (more : List Reported) → IsSubsequence more (r ∷ []) → HasLost (reports_in c.notes) c.part old
       → HasLost (reports_in (c.notes ++ (sender, Report r) ∷ [])) (c.part ++ more) old
   lost_more r sender more q lost =
       record {
@@ -102,7 +103,7 @@ module _ {started left : ℕ} {before after : Received Note} {old mid : Held} {a
         report = lost.report;
         later = lost.later ++ more;
         taken = ap (λ (l : List Reported). l ++ more) lost.taken ∙ append_assoc lost.before lost.later more;
-        some = subst (λ (l : List Reported). IsPart l (reports_in (c.notes ++ (sender, Report r) ∷ [])))
+        some = subst (λ (l : List Reported). IsSubsequence l (reports_in (c.notes ++ (sender, Report r) ∷ [])))
             (append_assoc lost.before (lost.report ∷ lost.later) more)
             (some_more r sender (lost.before ++ lost.report ∷ lost.later) more lost.some q);
         eligible = lost.eligible;
@@ -111,7 +112,7 @@ module _ {started left : ℕ} {before after : Received Note} {old mid : Held} {a
   -- what is taken after a report, and which reports that are
   record Takes (r : Reported) (sender : ℕ) (new : Held) : Type 0 where
     part : List Reported
-    some : IsPart part (reports_in (c.notes ++ (sender, Report r) ∷ []))
+    some : IsSubsequence part (reports_in (c.notes ++ (sender, Report r) ∷ []))
     added : HasAdded part old new
     lost : HasLost (reports_in c.notes) c.part old → HasLost (reports_in (c.notes ++ (sender, Report r) ∷ [])) part old
 
@@ -120,7 +121,7 @@ module _ {started left : ℕ} {before after : Received Note} {old mid : Held} {a
       ⊎_elim
       (λ (same : new ≡ mid). record {
         part = c.part;
-        some = subst (λ (l : List Reported). IsPart l (reports_in (c.notes ++ (sender, Report r) ∷ []))) (append-nil c.part)
+        some = subst (λ (l : List Reported). IsSubsequence l (reports_in (c.notes ++ (sender, Report r) ∷ []))) (append-nil c.part)
             (some_more r sender c.part [] c.some (part_none (r ∷ [])));
         added = subst (HasAdded c.part old) (sym same) c.added;
         lost = λ lost. subst (λ (l : List Reported). HasLost (reports_in (c.notes ++ (sender, Report r) ∷ [])) l old) (append-nil c.part)
@@ -180,7 +181,7 @@ module _ {started left : ℕ} {before after next : Received Note} {old mid : Hel
         done = let a = dones_push c.notes (g.sender, Report r) in let b = c.done in omega arith;
         ends = inl some;
         part = c.part;
-        some = subst (λ (l : List Reported). IsPart l (reports_in (c.notes ++ (g.sender, Report r) ∷ []))) (append-nil c.part)
+        some = subst (λ (l : List Reported). IsSubsequence l (reports_in (c.notes ++ (g.sender, Report r) ∷ []))) (append-nil c.part)
             (some_more c r g.sender c.part [] c.some (part_none (r ∷ [])));
         added = subst (HasAdded c.part old) (sym same) c.added;
         all = λ yes. absurd (true≢false (sym yes));
@@ -208,7 +209,7 @@ module _ {started left : ℕ} {before after next : Received Note} {old mid : Hel
         done = let a = dones_push c.notes (g.sender, Done worker) in let b = c.done in omega arith;
         ends = inr (inr (c.notes, g.sender, worker, refl));
         part = c.part;
-        some = subst (λ (l : List Reported). IsPart c.part l) (sym whole) c.some;
+        some = subst (λ (l : List Reported). IsSubsequence c.part l) (sym whole) c.some;
         added = c.added;
         all = λ yes. subst (λ (l : List Reported). HasComeAll l old mid) (sym whole) (c.all yes);
         lost = λ no. subst (λ (l : List Reported). HasLost l c.part old) (sym whole) (c.lost no);

@@ -13,10 +13,11 @@ use Rattle.crew.specs.CrewSteps.{HasRunAll, IsTakenOut, MayRun}
 use Rattle.crew.specs.Crews.{Collected}
 use Rattle.crew.specs.Shifts.{AreBack, HasWorked, Leaves, sender_numbers}
 use Rattle.crew.specs.declared.note.Note.{Note}
-use Rattle.crew.specs.declared.shift.Site.{Site}
+use Rattle.crew.specs.declared.shift.Shift.{Shift}
+use Rattle.crew.specs.declared.site.Site.{Site}
 use Rattle.crew.specs.declared.workers.Crew.{Crew}
 use Rattle.crew.specs.declared.posts.Posts.{Posts}
-use Rattle.crew.proofs.ShiftLemmas.{back_more}
+use Rattle.crew.proofs.ShiftLemmas.{WasStopped, back_more}
 use Rattle.crew.proofs.TakeLemmas.{all_left, all_right, all_silent, silent_length}
 
 -- how a crew stands while so many of its workers more are away
@@ -40,9 +41,9 @@ ready_first {may_stop} site posts crew workers passes many senders few away rece
       few = omega (arith, count, few, away);
       receiver = receiver;
       room = omega (arith, count, back, room);
-      back = subst (λ (o : Option ℕ). AreBack may_stop site.belt.name site.job site.missing.items crew.senders.items o) (sym stopped)
-          (subst (λ (ps : List (Presented Note)). AreBack may_stop site.belt.name site.job site.missing.items ps None) (sym none)
-          (record { worked = All-nil (HasWorked site.belt.name site.job site.missing.items); stops = tt; one = tt }));
+      back = subst (λ (o : Option ℕ). AreBack may_stop site crew.senders.items o) (sym stopped)
+          (subst (λ (ps : List (Presented Note)). AreBack may_stop site ps None) (sym none)
+          (record { worked = All-nil (HasWorked site); stops = tt; one = tt }));
     }
 
 -- a test counts at most one
@@ -110,8 +111,8 @@ module _ {may_stop : ℕ → ℕ → Type 0} {site : Site} where
       → (answered : Bool) × Collected crew.away 0 crew.receiver new.receiver crew.haul new.haul answered → new.senders ≡ crew.senders
       → new.stopped ≡ crew.stopped → new.away ≡ crew.away → HasRunAll may_stop site posts crew new
   run_none posts crew new may none collected senders stopped away = record {
-    back = subst₂ (λ (ps : List (Presented Note)) (o : Option ℕ). AreBack may_stop site.belt.name site.job site.missing.items ps o)
-        (sym (ap (λ v. v.items) senders)) (sym stopped) may.back;
+    back = subst₂ (λ (ps : List (Presented Note)) (o : Option ℕ). AreBack may_stop site ps o) (sym (ap (λ v. v.items) senders))
+        (sym stopped) may.back;
     numbers =
         ap (λ v. sender_numbers v.items) senders
         ∙ sym (ap (λ (ps : List (Presented Note)). sender_numbers crew.senders.items ++ sender_numbers ps) none
@@ -122,16 +123,15 @@ module _ {may_stop : ℕ → ℕ → Type 0} {site : Site} where
   }
 
   -- the others are back, and then the worker that was started first of these
-  pub run_more : (posts next : Posts) (crew mid new : Crew) (post : Drawn × Presented Note) (shift : Presented Note) (started : ℕ)
-      (Stopped : Type 0) → IsTakenOut post posts next → HasRunAll may_stop site next (with_away crew started) mid
-      → Leaves may_stop site.belt.name site.job site.missing.items post.1.number shift Stopped
-      → new.senders.items ≡ mid.senders.items ++ shift ∷ [] → vec_capacity new.senders ≡ vec_capacity mid.senders
-      → IfSome new.stopped (λ w. (mid.stopped ≡ Some w) ⊎ (Stopped × (w ≡ shift.number))) → new.haul ≡ mid.haul → new.receiver ≡ mid.receiver
+  pub run_more : (posts next : Posts) (crew mid new : Crew) (post : Drawn × Presented Note) (shift : Shift) (started : ℕ)
+      → IsTakenOut post posts next → HasRunAll may_stop site next (with_away crew started) mid → Leaves may_stop site post.1.number shift
+      → new.senders.items ≡ mid.senders.items ++ shift.sender ∷ [] → vec_capacity new.senders ≡ vec_capacity mid.senders
+      → IfSome new.stopped (WasStopped mid.stopped shift) → new.haul ≡ mid.haul → new.receiver ≡ mid.receiver
       → new.away ≡ mid.away - started → HasRunAll may_stop site posts crew new
-  run_more posts next crew mid new post shift started Stopped is ran leaves senders room stopped haul receiver away = record {
-    back = back_more mid.senders.items new.senders.items shift mid.stopped new.stopped post.1.number Stopped ran.back leaves senders stopped;
+  run_more posts next crew mid new post shift started is ran leaves senders room stopped haul receiver away = record {
+    back = back_more mid.senders.items new.senders.items shift mid.stopped new.stopped post.1.number ran.back leaves senders stopped;
     numbers =
-        ap sender_numbers senders ∙ map-append number mid.senders.items (shift ∷ [])
+        ap sender_numbers senders ∙ map-append number mid.senders.items (shift.sender ∷ [])
         ∙ (λ i. ran.numbers i ++ leaves.number i ∷ [])
         ∙ append_assoc (sender_numbers crew.senders.items) (sender_numbers next.senders.items) (post.1.number ∷ [])
         ∙ ap (λ (ns : List ℕ). sender_numbers crew.senders.items ++ ns)

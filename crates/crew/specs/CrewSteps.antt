@@ -5,7 +5,7 @@ use Rattle.handover.specs.Tickets.{Drawn, fresh}
 use Rattle.crew.specs.Crews.{Collected}
 use Rattle.crew.specs.Shifts.{AreBack, sender_numbers}
 use Rattle.crew.specs.declared.note.Note.{Note}
-use Rattle.crew.specs.declared.shift.Site.{Site}
+use Rattle.crew.specs.declared.site.Site.{Site}
 use Rattle.crew.specs.declared.workers.Crew.{Crew}
 use Rattle.crew.specs.declared.posts.Posts.{Posts}
 
@@ -22,11 +22,11 @@ pub record MayRun (may_stop : ℕ → ℕ → Type 0) (site : Site) (posts : Pos
   pub few : crew.away + length posts.senders.items ≤ 255
   pub receiver : crew.receiver.belt ≡ site.belt
   pub room : length crew.senders.items + length posts.senders.items ≤ vec_capacity crew.senders
-  pub back : AreBack may_stop site.belt.name site.job site.missing.items crew.senders.items crew.stopped
+  pub back : AreBack may_stop site crew.senders.items crew.stopped
 
 -- All workers of the posts are back, as many are away as before, and the notes of those that were started were collected.
 pub record HasRunAll (may_stop : ℕ → ℕ → Type 0) (site : Site) (posts : Posts) (old new : Crew) : Type 0 where
-  pub back : AreBack may_stop site.belt.name site.job site.missing.items new.senders.items new.stopped
+  pub back : AreBack may_stop site new.senders.items new.stopped
   pub numbers : sender_numbers new.senders.items ≡ sender_numbers old.senders.items ++ sender_numbers posts.senders.items
   pub room : vec_capacity new.senders ≡ vec_capacity old.senders
   pub away : new.away ≡ old.away

@@ -1,5 +1,6 @@
 -- A crew: what its workers say, and what becomes of it.
 use Rattle.std.specs.Prelude.{◌≡◌, ◌<◌, ◌≤◌, ◌+◌, ◌++◌, ◌⊎◌, ℕ, Bool, true, false, All, List, [], ◌∷◌, None, count_by, flat_map, map}
+use Rattle.haul_core.specs.BookLaws.{IsSubsequence}
 use Rattle.haul_core.specs.Books.{Held, StandsFor, entry, refusal_of}
 use Rattle.haul_core.specs.Reports.{Reported}
 use Rattle.haul_core.specs.declared.book.arrival.Arrival.{Arrival}
@@ -7,11 +8,6 @@ use Rattle.haul_core.specs.declared.book.arrival.Arrival.TheVariants.{Offer}
 use Rattle.handover.specs.Belts.{Received}
 use Rattle.crew.specs.declared.note.Note.{Note}
 use Rattle.crew.specs.declared.note.Note.TheVariants.{Done, Report}
-
--- some of the items, in their order
-abbrev pub IsPart : {X : Type 0} → List X → List X → Type 0
-IsPart part [] = part ≡ []
-IsPart part (x ∷ xs) = IsPart part xs ⊎ ((remainder : _) × (part ≡ x ∷ remainder) × IsPart remainder xs)
 
 abbrev pub report_in : Note → List Reported
 report_in (Report report) = report ∷ []
@@ -50,7 +46,7 @@ pub record HasLost (reports part : List Reported) (old : Held) : Type 0 where
   pub report : Reported
   pub later : List Reported
   pub taken : part ≡ before ++ later
-  pub some : IsPart (before ++ report ∷ later) reports
+  pub some : IsSubsequence (before ++ report ∷ later) reports
   pub eligible : (arrivals : List Arrival) → StandsFor arrivals old → refusal_of old.terms (arrivals ++ map Offer before) report ≡ None
 
 -- Notes were received until so many workers were done, all but the last few. Of the reports in them a haul has taken some: all that
@@ -63,7 +59,7 @@ pub record Collected (started left : ℕ) (before after : Received Note) (old ne
   pub done : dones notes + left ≡ started
   pub ends : (0 < left) ⊎ EndsDone notes
   pub part : List Reported
-  pub some : IsPart part (reports_in notes)
+  pub some : IsSubsequence part (reports_in notes)
   pub added : HasAdded part old new
   pub all : answered ≡ true → HasComeAll (reports_in notes) old new
   pub lost : answered ≡ false → HasLost (reports_in notes) part old

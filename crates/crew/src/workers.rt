@@ -18,7 +18,8 @@ use crate::collector::collect;
 use crate::gate::Gate;
 use crate::note::Note;
 use crate::posts::Posts;
-use crate::shift::{End, Shift, Site, work};
+use crate::shift::{End, Shift, work};
+use crate::site::Site;
 use crate::watch::Watch;
 use handover::belt::{Belt, ReceiverPass, SenderPass};
 use handover::tickets::{Pass, Tickets};
@@ -156,9 +157,7 @@ struct Duty<'s, G> {
 }
 
 impl<'s, G: Gate> Promise<Shift> for Duty<'s, G> {
-    ghost kept_by = { λ d shift. Leaves
-        (G.may_stop d.gate.now) d.site.now.belt.name d.site.now.job d.site.now.missing.items d.worker shift.sender
-        (shift.end ≡ End.Stopped) };
+    ghost kept_by = { λ d shift. Leaves (G.may_stop d.gate.now) d.site.now d.worker shift };
 }
 
 /// The haul, what its collector has received, and what the workers have left that are back.
@@ -239,16 +238,13 @@ fn begin_shift<'s, E, G: Gate + Sync, R: Threads + Wait + Sync>(
     ensures worker { IfOk result (λ handle. handle.promise.worker ≡ sender.number) }
     ensures site { IfOk result (λ handle. handle.promise.site ≡ site.entry) }
     ensures gate { IfOk result (λ handle. handle.promise.gate ≡ gate.entry) }
-    ensures here { IfErr result (λ shift. Leaves
-        (G.may_stop gate.now) site.now.belt.name site.now.job site.now.missing.items
-        sender.number shift.sender (shift.end ≡ End.Stopped)) }
+    ensures here { IfErr result (Leaves (G.may_stop gate.now) site.now sender.number) }
 {
     let worker = sender.number();
     let duty = Duty { worker, site, gate };
     let shift = move || -> Shift
         requires { (pass ≡ fresh site.now.tickets) × (sender ≡ silent site.now.belt.name sender.number) }
-        ensures { Leaves (G.may_stop gate.entry.now) site.entry.now.belt.name site.entry.now.job
-            site.entry.now.missing.items sender.number result.sender (result.end ≡ End.Stopped) }
+        ensures { Leaves (G.may_stop gate.entry.now) site.entry.now sender.number result }
     { work(alloc, rt, site, gate, pass, sender) };
     match scope.spawn_with(duty, shift) {
         Ok(handle) => Ok(handle),
@@ -266,12 +262,8 @@ fn end_shift<'s, G: Gate, R: Threads>(
     begun: Result<PromisedHandle<Shift, Duty<'s, G>>, Shift>,
 ) -> Shift
     requires thread { IfOk begun (λ handle. handle.promise ≡ duty) }
-    requires here { IfErr begun (λ shift. Leaves
-        (G.may_stop duty.gate.now) duty.site.now.belt.name duty.site.now.job
-        duty.site.now.missing.items duty.worker shift.sender (shift.end ≡ End.Stopped)) }
-    ensures { Leaves
-        (G.may_stop duty.entry.gate.now) duty.entry.site.now.belt.name duty.entry.site.now.job
-        duty.entry.site.now.missing.items duty.entry.worker result.sender (result.end ≡ End.Stopped) }
+    requires here { IfErr begun (Leaves (G.may_stop duty.gate.now) duty.site.now duty.worker) }
+    ensures { Leaves (G.may_stop duty.entry.gate.now) duty.entry.site.now duty.entry.worker result }
 {
     match begun {
         Ok(handle) => handle.join(rt),
