@@ -9,8 +9,8 @@ use mir.Val.{bool_byte}
 use Rattle.haul_core.specs.Books.{Held}
 use Rattle.handover.specs.Belts.{Presented, Received, silent}
 use Rattle.handover.specs.Tickets.{Drawn, fresh}
-use Rattle.crew.specs.CrewSteps.{HasRunAll, IsTakenOut, MayRun}
-use Rattle.crew.specs.Crews.{Collected}
+use Rattle.crew.specs.CrewSteps.{HasRunAll, IsTakenOut, MayRun, collector_of}
+use Rattle.crew.specs.Crews.{Collected, collector_with}
 use Rattle.crew.specs.Shifts.{AreBack, HasWorked, Leaves, sender_numbers}
 use Rattle.crew.specs.declared.note.Note.{Note}
 use Rattle.crew.specs.declared.shift.Shift.{Shift}
@@ -108,7 +108,7 @@ module _ {may_stop : ℕ → ℕ → Type 0} {site : Site} where
 
   -- no post is left, and the notes of all that were started are collected
   pub run_none : (posts : Posts) (crew new : Crew) → MayRun may_stop site posts crew → posts.senders.items ≡ []
-      → (answered : Bool) × Collected crew.away 0 crew.receiver new.receiver crew.haul new.haul answered → new.senders ≡ crew.senders
+      → (answered : Bool) × Collected (collector_of crew.away crew) (collector_of 0 new) answered → new.senders ≡ crew.senders
       → new.stopped ≡ crew.stopped → new.away ≡ crew.away → HasRunAll may_stop site posts crew new
   run_none posts crew new may none collected senders stopped away = record {
     back = subst₂ (λ (ps : List (Presented Note)) (o : Option ℕ). AreBack may_stop site ps o) (sym (ap (λ v. v.items) senders))
@@ -141,8 +141,8 @@ module _ {may_stop : ℕ → ℕ → Type 0} {site : Site} where
     collected = (
       ran.collected.0,
       ran.collected.1,
-      subst (λ (h : Held). Collected ran.collected.0 0 crew.receiver new.receiver crew.haul h ran.collected.1) (sym haul)
-          (subst (λ (r : Received Note). Collected ran.collected.0 0 crew.receiver r crew.haul mid.haul ran.collected.1) (sym receiver) ran.collected.2),
+      subst₂ (λ (r : Received Note) (h : Held). Collected (collector_of ran.collected.0 crew) (collector_with 0 r h) ran.collected.1)
+          (sym receiver) (sym haul) ran.collected.2,
     );
   }
     where

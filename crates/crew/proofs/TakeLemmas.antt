@@ -20,7 +20,7 @@ use Rattle.haul_core.specs.Books.{Held, entry}
 use Rattle.haul_core.specs.Keeping.{numbers_in}
 use Rattle.haul_core.specs.Reports.{Reported}
 use Rattle.handover.specs.Belts.{IsWhole, Presented, Received, deaf, notes_of, silent}
-use Rattle.crew.specs.Crews.{Collected, report_in, reports_in}
+use Rattle.crew.specs.Crews.{Collected, Collector, report_in, reports_in}
 use Rattle.crew.specs.Shifts.{HasWorked, StopsAt, reported, sender_numbers}
 use Rattle.crew.specs.Takes.{HasTaken, taken_by, was_missing}
 use Rattle.crew.specs.declared.note.Note.{Note}
@@ -323,17 +323,17 @@ pub belts_of : (site : Site) (passes : List (Presented Note)) → All (HasWorked
 belts_of site passes worked k d lt = (worked k d lt).1.belt
 
 -- what is known when a crew ends
-module _ {started : ℕ} {before after : Received Note} {old mid : Held} {answered : Bool} (site : Site) (workers : ℕ)
-    (passes first back : List (Presented Note)) (c : Collected started 0 before after old mid answered) (begun : before ≡ deaf site.belt)
-    (as_many : site.belt.workers ≡ workers) (listed : site.missing.items ≡ was_missing old) (up : IsStrictlyIncreasing site.missing.items)
+module _ {before after : Collector} {answered : Bool} (site : Site) (workers : ℕ) (passes first back : List (Presented Note))
+    (c : Collected before after answered) (begun : before.receiver ≡ deaf site.belt) (as_many : site.belt.workers ≡ workers)
+    (listed : site.missing.items ≡ was_missing before.haul) (up : IsStrictlyIncreasing site.missing.items)
     (silents : first ≡ map (silent site.belt.name) (range_with_len 1 workers)) (none : back ≡ [])
     (numbers : sender_numbers passes ≡ sender_numbers back ++ sender_numbers first) (worked : All (HasWorked site) passes)
-    (whole : All (IsWhole after.got) passes) where
+    (whole : All (IsWhole after.receiver.got) passes) where
   crew_part : (part : List Reported) → IsSubsequence part (reports_in c.notes) → OfCrew workers site.job site.missing.items part
   crew_part part is =
-      let notes_are : after.got ≡ c.notes = c.got ∙ ap (λ (r : Received Note). r.got ++ c.notes) begun in
-      let bound : before.belt.workers ≡ workers = ap (λ (r : Received Note). r.belt.workers) begun ∙ as_many in
-      of_crew site workers after.got passes part (AllPairs-from_increasing site.missing.items up)
+      let notes_are : after.receiver.got ≡ c.notes = c.got ∙ ap (λ (r : Received Note). r.got ++ c.notes) begun in
+      let bound : before.receiver.belt.workers ≡ workers = ap (λ (r : Received Note). r.belt.workers) begun ∙ as_many in
+      of_crew site workers after.receiver.got passes part (AllPairs-from_increasing site.missing.items up)
       (numbers ∙ ap (λ (l : List (Presented Note)). sender_numbers l ++ sender_numbers first) none ∙ ap sender_numbers silents
       ∙ silent_numbers site.belt.name (range_with_len 1 workers))
       worked whole
@@ -341,17 +341,18 @@ module _ {started : ℕ} {before after : Received Note} {old mid : Held} {answer
       (λ k d lt. let s = c.senders k d lt in (s.0, omega (arith, s.1, bound))))
       (subst (λ (l : List (ℕ × Note)). IsSubsequence part (reports_in l)) (sym notes_are) is)
 
-  pub crew_has_taken : (new : Held) → new ≡ mid → IsDistinct nat_eq (numbers_in mid.taken) → site.job ≡ old.terms.job → HasTaken workers old new
+  pub crew_has_taken : (new : Held) → new ≡ after.haul → IsDistinct nat_eq (numbers_in after.haul.taken) → site.job ≡ before.haul.terms.job
+      → HasTaken workers before.haul new
   crew_has_taken new same distinct of_haul =
       let of = crew_part c.part c.some in
-      subst (HasTaken workers old) (sym same) (record {
+      subst (HasTaken workers before.haul) (sym same) (record {
         offers = c.part;
         added = c.added;
         job = subst (λ (j : Job). All (λ (r : Reported). r.job ≡ j) c.part) of_haul of.of_job;
         by_workers = of.by_workers;
         missing = subst (λ (l : List ℕ). All (λ (r : Reported). Contains l r.number) c.part) listed of.listed;
-        once = distinct_right (numbers_in old.taken) (numbers_in (map entry c.part))
-            (subst (IsDistinct nat_eq) (ap numbers_in c.added.taken ∙ map-append (λ (t : ℕ × ℕ). t.1) old.taken (map entry c.part)) distinct);
+        once = distinct_right (numbers_in before.haul.taken) (numbers_in (map entry c.part))
+            (subst (IsDistinct nat_eq) (ap numbers_in c.added.taken ∙ map-append (λ (t : ℕ × ℕ). t.1) before.haul.taken (map entry c.part)) distinct);
         in_order = of.rises;
       })
 

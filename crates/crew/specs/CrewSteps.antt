@@ -2,12 +2,16 @@
 use Rattle.std.specs.Prelude.{◌≡◌, ◌≤◌, ◌+◌, ◌++◌, ◌∷◌, [], ℕ, All, Bool, length, vec_capacity}
 use Rattle.handover.specs.Belts.{Presented, silent}
 use Rattle.handover.specs.Tickets.{Drawn, fresh}
-use Rattle.crew.specs.Crews.{Collected}
+use Rattle.crew.specs.Crews.{Collected, Collector, collector_with}
 use Rattle.crew.specs.Shifts.{AreBack, sender_numbers}
 use Rattle.crew.specs.declared.note.Note.{Note}
 use Rattle.crew.specs.declared.site.Site.{Site}
 use Rattle.crew.specs.declared.workers.Crew.{Crew}
 use Rattle.crew.specs.declared.posts.Posts.{Posts}
+
+-- the collector of a crew that waits for so many workers
+abbrev pub collector_of : ℕ → Crew → Collector
+collector_of awaited crew = collector_with awaited crew.receiver crew.haul
 
 -- the last post was taken out
 pub record IsTakenOut (post : Drawn × Presented Note) (old new : Posts) : Type 0 where
@@ -30,4 +34,4 @@ pub record HasRunAll (may_stop : ℕ → ℕ → Type 0) (site : Site) (posts : 
   pub numbers : sender_numbers new.senders.items ≡ sender_numbers old.senders.items ++ sender_numbers posts.senders.items
   pub room : vec_capacity new.senders ≡ vec_capacity old.senders
   pub away : new.away ≡ old.away
-  pub collected : (started : ℕ) × (answered : Bool) × Collected started 0 old.receiver new.receiver old.haul new.haul answered
+  pub collected : (started : ℕ) × (answered : Bool) × Collected (collector_of started old) (collector_of 0 new) answered

@@ -2,7 +2,7 @@
 ghost use Rattle.std.specs.Prelude.{◌≡◌, ◌∷◌, ◌⊎◌, [], List, None, false, is_ok, true};
 ghost use Rattle.haul_core.specs.Books.{StandsFor, refusal_of};
 ghost use Rattle.haul_core.specs.declared.book.arrival.Arrival.{Arrival};
-ghost use Rattle.crew.specs.Crews.{Collected, HasAdded, HasComeAll};
+ghost use Rattle.crew.specs.Crews.{Collected, HasAdded, HasComeAll, collector_with};
 
 use crate::note::Note;
 use crate::watch::Watch;
@@ -30,7 +30,8 @@ pub fn collect<R: Wait, H: Watch>(
     watch: &mut H,
 ) -> Result<(), AllocError>
     requires { pass.old.belt ≡ belt.now }
-    ensures { Collected started 0 pass.old pass.new haul.old haul.new (is_ok result) }
+    ensures { Collected (collector_with started pass.old haul.old) (collector_with 0 pass.new haul.new)
+        (is_ok result) }
 {
     let mut left = started;
     let mut answered = true;

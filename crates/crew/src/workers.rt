@@ -6,7 +6,7 @@ ghost use Rattle.std.specs.List.Sorted.{IsStrictlyIncreasing};
 ghost use Rattle.haul_core.specs.Keeping.{numbers_in};
 ghost use Rattle.haul_core.specs.Missing.{AreAll, IsComplete};
 ghost use Rattle.handover.specs.Belts.{IsWhole, deaf, silent};
-ghost use Rattle.crew.specs.CrewSteps.{HasRunAll, MayRun};
+ghost use Rattle.crew.specs.CrewSteps.{HasRunAll, MayRun, collector_of};
 ghost use Rattle.crew.specs.Crews.{Collected};
 ghost use Rattle.crew.specs.Shifts.{Leaves, StopsAt};
 ghost use Rattle.crew.specs.Takes.{HasTaken, was_missing};
@@ -204,7 +204,7 @@ fn run_crew<'s, E, G: Gate + Sync, R: Threads + Wait + Sync, H: Watch>(
 fn receive_all<R: Wait, H: Watch>(rt: &R, site: &Site, crew: &mut Crew, watch: &mut H)
     requires { crew.old.receiver.belt ≡ site.now.belt }
     ensures collected { (answered : Bool)
-        × Collected crew.old.away 0 crew.old.receiver crew.new.receiver crew.old.haul crew.new.haul answered }
+        × Collected (collector_of crew.old.away crew.old) (collector_of 0 crew.new) answered }
     ensures senders { crew.new.senders ≡ crew.old.senders }
     ensures stopped { crew.new.stopped ≡ crew.old.stopped }
     ensures away { crew.new.away ≡ crew.old.away }
