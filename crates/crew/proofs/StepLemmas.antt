@@ -20,18 +20,25 @@ use Rattle.crew.specs.declared.posts.Posts.{Posts}
 use Rattle.crew.proofs.ShiftLemmas.{WasStopped, back_more}
 use Rattle.crew.proofs.TakeLemmas.{all_left, all_right, all_silent, silent_length}
 
--- how a crew stands while so many of its workers more are away
-abbrev with_away : Crew → ℕ → Crew
-with_away crew started =
-    record { haul = crew.haul; receiver = crew.receiver; senders = crew.senders; away = crew.away + started; stopped = crew.stopped }
+-- how a crew stands once only these posts are left, while so many of its workers more are away
+abbrev left_with : Crew → Posts → ℕ → Crew
+left_with crew posts started = record {
+  posts = posts;
+  haul = crew.haul;
+  receiver = crew.receiver;
+  senders = crew.senders;
+  away = crew.away + started;
+  stopped = crew.stopped;
+}
 
 -- at first all posts are there, and nobody is back
-pub ready_first : {may_stop : ℕ → ℕ → Type 0} (site : Site) (posts : Posts) (crew : Crew) (workers : ℕ) → All (λ p. p ≡ fresh site.tickets) posts.passes.items
-    → length posts.passes.items ≡ workers → posts.senders.items ≡ map (silent site.belt.name) (range_with_len 1 workers) → workers ≤ 255 → crew.away ≡ 0
+pub ready_first : {may_stop : ℕ → ℕ → Type 0} (site : Site) (crew : Crew) (workers : ℕ)
+    → All (λ p. p ≡ fresh site.tickets) crew.posts.passes.items → length crew.posts.passes.items ≡ workers
+    → crew.posts.senders.items ≡ map (silent site.belt.name) (range_with_len 1 workers) → workers ≤ 255 → crew.away ≡ 0
     → crew.receiver.belt ≡ site.belt → crew.senders.items ≡ [] → workers ≤ vec_capacity crew.senders → crew.stopped ≡ None
-    → MayRun may_stop site posts crew
-ready_first {may_stop} site posts crew workers passes many senders few away receiver none room stopped =
-    let count : length posts.senders.items ≡ workers = ap length senders ∙ silent_length site.belt.name workers in
+    → MayRun may_stop site crew
+ready_first {may_stop} site crew workers passes many senders few away receiver none room stopped =
+    let count : length crew.posts.senders.items ≡ workers = ap length senders ∙ silent_length site.belt.name workers in
     let back : length crew.senders.items ≡ 0 = ap length none in
     record {
       passes = passes;
@@ -57,27 +64,27 @@ not_more a b n is = omega arith
 
 module _ {may_stop : ℕ → ℕ → Type 0} {site : Site} where
   -- the pass of the post that was taken out is fresh
-  pub pass_out : (posts next : Posts) (crew : Crew) (post : Drawn × Presented Note) → MayRun may_stop site posts crew → IsTakenOut post posts next
+  pub pass_out : (next : Posts) (crew : Crew) (post : Drawn × Presented Note) → MayRun may_stop site crew → IsTakenOut post crew.posts next
       → post.0 ≡ fresh site.tickets
-  pass_out posts next crew post may is =
+  pass_out next crew post may is =
       let P : Drawn → Type 0 = λ p. p ≡ fresh site.tickets in
       All-head P post.0 [] (all_right P next.passes.items (post.0 ∷ []) (subst (All P) is.passes may.passes))
 
   -- and its sender has sent nothing
-  pub sender_out : (posts next : Posts) (crew : Crew) (post : Drawn × Presented Note) → MayRun may_stop site posts crew → IsTakenOut post posts next
+  pub sender_out : (next : Posts) (crew : Crew) (post : Drawn × Presented Note) → MayRun may_stop site crew → IsTakenOut post crew.posts next
       → post.1 ≡ silent site.belt.name post.1.number
-  sender_out posts next crew post may is =
+  sender_out next crew post may is =
       let P : Presented Note → Type 0 = λ s. s ≡ silent site.belt.name s.number in
       All-head P post.1 [] (all_right P next.senders.items (post.1 ∷ []) (subst (All P) is.senders may.senders))
 
   -- with the posts that are left the crew may be run
-  pub others_may_run : (posts next : Posts) (crew : Crew) (post : Drawn × Presented Note) (started : ℕ) → started ≤ 1 → MayRun may_stop site posts crew
-      → IsTakenOut post posts next → MayRun may_stop site next (with_away crew started)
-  others_may_run posts next crew post started one may is =
+  pub others_may_run : (next : Posts) (crew : Crew) (post : Drawn × Presented Note) (started : ℕ) → started ≤ 1 → MayRun may_stop site crew
+      → IsTakenOut post crew.posts next → MayRun may_stop site (left_with crew next started)
+  others_may_run next crew post started one may is =
       let P : Drawn → Type 0 = λ p. p ≡ fresh site.tickets in
       let S : Presented Note → Type 0 = λ s. s ≡ silent site.belt.name s.number in
-      let passes : length posts.passes.items ≡ length next.passes.items + 1 = ap length is.passes ∙ length-append next.passes.items (post.0 ∷ []) in
-      let senders : length posts.senders.items ≡ length next.senders.items + 1 = ap length is.senders ∙ length-append next.senders.items (post.1 ∷ []) in
+      let passes : length crew.posts.passes.items ≡ length next.passes.items + 1 = ap length is.passes ∙ length-append next.passes.items (post.0 ∷ []) in
+      let senders : length crew.posts.senders.items ≡ length next.senders.items + 1 = ap length is.senders ∙ length-append next.senders.items (post.1 ∷ []) in
       let many = may.many in
       let few = may.few in
       let room = may.room in
@@ -92,11 +99,11 @@ module _ {may_stop : ℕ → ℕ → Type 0} {site : Site} where
       }
 
   -- the others are back, and there is room for one more
-  pub room_for_one : (posts next : Posts) (crew mid : Crew) (post : Drawn × Presented Note) (started : ℕ) → MayRun may_stop site posts crew
-      → IsTakenOut post posts next → HasRunAll may_stop site next (with_away crew started) mid → length mid.senders.items < vec_capacity mid.senders
-  room_for_one posts next crew mid post started may is ran =
+  pub room_for_one : (next : Posts) (crew mid : Crew) (post : Drawn × Presented Note) (started : ℕ) → MayRun may_stop site crew
+      → IsTakenOut post crew.posts next → HasRunAll may_stop site (left_with crew next started) mid → length mid.senders.items < vec_capacity mid.senders
+  room_for_one next crew mid post started may is ran =
       let number : Presented Note → ℕ = λ s. s.number in
-      let senders : length posts.senders.items ≡ length next.senders.items + 1 = ap length is.senders ∙ length-append next.senders.items (post.1 ∷ []) in
+      let senders : length crew.posts.senders.items ≡ length next.senders.items + 1 = ap length is.senders ∙ length-append next.senders.items (post.1 ∷ []) in
       let all : length (sender_numbers mid.senders.items) ≡ length (sender_numbers crew.senders.items) + length (sender_numbers next.senders.items) =
       ap length ran.numbers ∙ length-append (sender_numbers crew.senders.items) (sender_numbers next.senders.items) in
       let a : length (sender_numbers mid.senders.items) ≡ length mid.senders.items = length-map mid.senders.items number in
@@ -107,10 +114,10 @@ module _ {may_stop : ℕ → ℕ → Type 0} {site : Site} where
       omega (arith, senders, all, a, b, d, same, room)
 
   -- no post is left, and the notes of all that were started are collected
-  pub run_none : (posts : Posts) (crew new : Crew) → MayRun may_stop site posts crew → posts.senders.items ≡ []
+  pub run_none : (crew new : Crew) → MayRun may_stop site crew → crew.posts.senders.items ≡ []
       → (answered : Bool) × Collected (collector_of crew.away crew) (collector_of 0 new) answered → new.senders ≡ crew.senders
-      → new.stopped ≡ crew.stopped → new.away ≡ crew.away → HasRunAll may_stop site posts crew new
-  run_none posts crew new may none collected senders stopped away = record {
+      → new.stopped ≡ crew.stopped → new.away ≡ crew.away → HasRunAll may_stop site crew new
+  run_none crew new may none collected senders stopped away = record {
     back = subst₂ (λ (ps : List (Presented Note)) (o : Option ℕ). AreBack may_stop site ps o) (sym (ap (λ v. v.items) senders))
         (sym stopped) may.back;
     numbers =
@@ -123,12 +130,12 @@ module _ {may_stop : ℕ → ℕ → Type 0} {site : Site} where
   }
 
   -- the others are back, and then the worker that was started first of these
-  pub run_more : (posts next : Posts) (crew mid new : Crew) (post : Drawn × Presented Note) (shift : Shift) (started : ℕ)
-      → IsTakenOut post posts next → HasRunAll may_stop site next (with_away crew started) mid → Leaves may_stop site post.1.number shift
+  pub run_more : (next : Posts) (crew mid new : Crew) (post : Drawn × Presented Note) (shift : Shift) (started : ℕ)
+      → IsTakenOut post crew.posts next → HasRunAll may_stop site (left_with crew next started) mid → Leaves may_stop site post.1.number shift
       → new.senders.items ≡ mid.senders.items ++ shift.sender ∷ [] → vec_capacity new.senders ≡ vec_capacity mid.senders
       → IfSome new.stopped (WasStopped mid.stopped shift) → new.haul ≡ mid.haul → new.receiver ≡ mid.receiver
-      → new.away ≡ mid.away - started → HasRunAll may_stop site posts crew new
-  run_more posts next crew mid new post shift started is ran leaves senders room stopped haul receiver away = record {
+      → new.away ≡ mid.away - started → HasRunAll may_stop site crew new
+  run_more next crew mid new post shift started is ran leaves senders room stopped haul receiver away = record {
     back = back_more mid.senders.items new.senders.items shift mid.stopped new.stopped post.1.number ran.back leaves senders stopped;
     numbers =
         ap sender_numbers senders ∙ map-append number mid.senders.items (shift.sender ∷ [])

@@ -19,19 +19,19 @@ pub record IsTakenOut (post : Drawn × Presented Note) (old new : Posts) : Type 
   pub senders : old.senders.items ≡ new.senders.items ++ post.1 ∷ []
 
 -- a worker can be started with each post: none was used yet, there is room for all who will come back, and a byte counts them
-pub record MayRun (may_stop : ℕ → ℕ → Type 0) (site : Site) (posts : Posts) (crew : Crew) : Type 0 where
-  pub passes : All (λ p. p ≡ fresh site.tickets) posts.passes.items
-  pub senders : All (λ s. s ≡ silent site.belt.name s.number) posts.senders.items
-  pub many : length posts.passes.items ≡ length posts.senders.items
-  pub few : crew.away + length posts.senders.items ≤ 255
+pub record MayRun (may_stop : ℕ → ℕ → Type 0) (site : Site) (crew : Crew) : Type 0 where
+  pub passes : All (λ p. p ≡ fresh site.tickets) crew.posts.passes.items
+  pub senders : All (λ s. s ≡ silent site.belt.name s.number) crew.posts.senders.items
+  pub many : length crew.posts.passes.items ≡ length crew.posts.senders.items
+  pub few : crew.away + length crew.posts.senders.items ≤ 255
   pub receiver : crew.receiver.belt ≡ site.belt
-  pub room : length crew.senders.items + length posts.senders.items ≤ vec_capacity crew.senders
+  pub room : length crew.senders.items + length crew.posts.senders.items ≤ vec_capacity crew.senders
   pub back : AreBack may_stop site crew.senders.items crew.stopped
 
 -- All workers of the posts are back, as many are away as before, and the notes of those that were started were collected.
-pub record HasRunAll (may_stop : ℕ → ℕ → Type 0) (site : Site) (posts : Posts) (old new : Crew) : Type 0 where
+pub record HasRunAll (may_stop : ℕ → ℕ → Type 0) (site : Site) (old new : Crew) : Type 0 where
   pub back : AreBack may_stop site new.senders.items new.stopped
-  pub numbers : sender_numbers new.senders.items ≡ sender_numbers old.senders.items ++ sender_numbers posts.senders.items
+  pub numbers : sender_numbers new.senders.items ≡ sender_numbers old.senders.items ++ sender_numbers old.posts.senders.items
   pub room : vec_capacity new.senders ≡ vec_capacity old.senders
   pub away : new.away ≡ old.away
   pub collected : (started : ℕ) × (answered : Bool) × Collected (collector_of started old) (collector_of 0 new) answered

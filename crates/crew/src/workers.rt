@@ -138,13 +138,14 @@ fn take_missing<G: Gate + Sync, R: Threads + Wait + Sync, H: Watch>(
         back,
     } = start;
     let crew = Crew {
+        posts,
         haul,
         receiver,
         senders: back,
         away: 0,
         stopped: None,
     };
-    let crew = run_in_scope(alloc, rt, &site, gate, posts, crew, watch);
+    let crew = run_in_scope(alloc, rt, &site, gate, crew, watch);
     end_crew(site, crew)
 }
 
@@ -160,9 +161,11 @@ impl<'s, G: Gate> Promise<Shift> for Duty<'s, G> {
     ghost kept_by = { λ d shift. Leaves (G.may_stop d.gate.now) d.site.now d.worker shift };
 }
 
-/// The haul, what its collector has received, and what the workers have left that are back.
+/// The workers that are still to be started, the haul, what its collector has received, and what the workers have left
+/// that are back.
 #[derive(Drop)]
 struct Crew {
+    posts: Posts,
     haul: Haul,
     receiver: ReceiverPass<Note>,
     senders: Vec<SenderPass<Note>>,
@@ -180,14 +183,13 @@ fn run_crew<'s, E, G: Gate + Sync, R: Threads + Wait + Sync, H: Watch>(
     scope: &'s Scope<'s, E>,
     site: &'s Site,
     gate: &'s G,
-    posts: &mut Posts,
     crew: &mut Crew,
     watch: &mut H,
 )
-    requires { MayRun (G.may_stop gate.now) site.now posts.old crew.old }
-    ensures { HasRunAll (G.may_stop gate.now) site.now posts.old crew.old crew.new }
+    requires { MayRun (G.may_stop gate.now) site.now crew.old }
+    ensures { HasRunAll (G.may_stop gate.now) site.now crew.old crew.new }
 {
-    let Some((pass, sender)) = posts.take_last() else {
+    let Some((pass, sender)) = crew.posts.take_last() else {
         receive_all(rt, site, crew, watch);
         return;
     };
@@ -195,7 +197,7 @@ fn run_crew<'s, E, G: Gate + Sync, R: Threads + Wait + Sync, H: Watch>(
     let begun = begin_shift(alloc, rt, scope, site, gate, pass, sender);
     let started = u8::from(begun.is_ok());
     crew.away += started;
-    run_crew(alloc, rt, scope, site, gate, posts, crew, watch);
+    run_crew(alloc, rt, scope, site, gate, crew, watch);
     crew.away -= started;
     note_shift(crew, end_shift(rt, Duty { worker, site, gate }, begun));
 }
@@ -344,22 +346,21 @@ fn run_in_scope<G: Gate + Sync, R: Threads + Wait + Sync, H: Watch>(
     rt: &R,
     site: &Site,
     gate: &G,
-    posts: Posts,
     crew: Crew,
     watch: &mut H,
 ) -> Crew
-    requires { MayRun (G.may_stop gate.now) site.now posts crew }
-    ensures { HasRunAll (G.may_stop gate.now) site.now posts crew result }
+    requires { MayRun (G.may_stop gate.now) site.now crew }
+    ensures { HasRunAll (G.may_stop gate.now) site.now crew result }
 {
     thread::scope(
         thread::scope_env(),
         rt,
         move |scope| -> Crew
-            requires { MayRun (G.may_stop gate.now) site.now posts crew }
-            ensures { HasRunAll (G.may_stop gate.entry.now) site.entry.now posts crew result }
+            requires { MayRun (G.may_stop gate.now) site.now crew }
+            ensures { HasRunAll (G.may_stop gate.entry.now) site.entry.now crew result }
         {
-            let (mut posts, mut crew) = (posts, crew);
-            run_crew(alloc, rt, scope, site, gate, &mut posts, &mut crew, watch);
+            let mut crew = crew;
+            run_crew(alloc, rt, scope, site, gate, &mut crew, watch);
             crew
         },
     )
