@@ -1,7 +1,7 @@
 -- A crew is run a worker at a time.
-use Rattle.std.proofs.Common.{◌≡◌, ◌≤◌, ◌+◌, ◌-◌, ◌++◌, ◌∙◌, ◌⊎◌, ◌<◌, ℕ, All, Bool, true, false, List, [], ◌∷◌, ap, append-nil, append_assoc, arith, length}
+use Rattle.std.proofs.Common.{◌≡◌, ◌≤◌, ◌+◌, ◌-◌, ◌++◌, ◌∙◌, ◌<◌, ℕ, All, Bool, true, false, List, [], ◌∷◌, ap, append-nil, append_assoc, arith, length}
 use Rattle.std.proofs.Common.{map, subst, subst₂, sym}
-use Rattle.std.specs.Prelude.{IfSome, None, Option, Some, vec_capacity}
+use Rattle.std.specs.Prelude.{IfSome, None, Option, vec_capacity}
 use Rattle.std.specs.List.{range_with_len}
 use Rattle.std.proofs.lemmas.List.{length-append, length-map, map-append}
 use Rattle.std.proofs.lemmas.List.Elements.{All-head, All-nil}

@@ -38,7 +38,7 @@ EndsByDone worker notes = (front : List Note) × (notes ≡ front ++ Done worker
 abbrev pub StopsAt : (ℕ → ℕ → Type 0) → List ℕ → ℕ → Type 0
 StopsAt may_stop missing worker = (n : ℕ) × Contains missing n × may_stop worker n
 
--- what a worker with this number leaves; its gate stopped it only where it may
+-- what the worker with this number leaves at the end of its shift; if its gate stopped it, that is where the gate may
 pub record Leaves (may_stop : ℕ → ℕ → Type 0) (site : Site) (worker : ℕ) (shift : Shift) : Type 0 where
   pub number : shift.sender.number ≡ worker
   pub worked : HasWorked site shift.sender

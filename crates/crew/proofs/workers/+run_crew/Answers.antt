@@ -1,4 +1,4 @@
-use Rattle.std.proofs.Common.{◌≡◌, subst}
+use Rattle.std.proofs.Common.{subst}
 use Rattle.crew.specs.Shifts.{Leaves}
 use Rattle.crew.proofs.StepLemmas.{not_more, one_at_most, others_may_run, pass_out, room_for_one, run_more, run_none, sender_out}
 use Rattle.crew.proofs.workers.+run_crew.Goals as goal
