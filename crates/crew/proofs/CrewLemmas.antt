@@ -13,8 +13,8 @@ use Rattle.haul_core.specs.Reports.{Reported}
 use Rattle.haul_core.specs.declared.book.arrival.Arrival.{Arrival}
 use Rattle.haul_core.specs.declared.book.arrival.Arrival.TheVariants.{Offer}
 use Rattle.handover.specs.Belts.{GotOne, BeltId, Received}
-use Rattle.crew.specs.Crews.{Collected, Collector, HasAdded, HasComeAll, HasLost, collector_with, dones, is_done, report_in}
-use Rattle.crew.specs.Crews.{reports_in}
+use Rattle.crew.specs.Crews.{Collected, Collector, HasAdded, HasComeAll, HasLost, collector_with, dones, is_done}
+use Rattle.crew.specs.Crews.{report_in, reports_in}
 use Rattle.crew.specs.declared.note.Note.{Note}
 use Rattle.crew.specs.declared.note.Note.TheVariants.{Done, Report}
 
@@ -29,7 +29,8 @@ module _ {X : Type 0} where
   part_all [] = refl
   part_all (x ∷ xs) = inr (xs, refl, part_all xs)
 
-  pub part_append : (part xs more ys : List X) → IsSubsequence part xs → IsSubsequence more ys → IsSubsequence (part ++ more) (xs ++ ys)
+  pub part_append : (part xs more ys : List X) → IsSubsequence part xs → IsSubsequence more ys
+      → IsSubsequence (part ++ more) (xs ++ ys)
   part_append part [] more ys p q = subst (λ (l : List X). IsSubsequence (l ++ more) ys) (sym p) q
   part_append part (x ∷ xs) more ys p q =
       ⊎_elim (λ (h : IsSubsequence part xs). inl (part_append part xs more ys h q))
@@ -89,14 +90,16 @@ collected_none begun = record {
 
 module _ {before after : Collector} {answered : Bool} (c : Collected before after answered) where
   -- a part of what was received before and after this report
-  some_more : (r : Reported) (sender : ℕ) (part more : List Reported) → IsSubsequence part (reports_in c.notes) → IsSubsequence more (r ∷ [])
+  some_more : (r : Reported) (sender : ℕ) (part more : List Reported) → IsSubsequence part (reports_in c.notes)
+      → IsSubsequence more (r ∷ [])
       → IsSubsequence (part ++ more) (reports_in (c.notes ++ (sender, Report r) ∷ []))
   some_more r sender part more p q =
       subst (λ (l : List Reported). IsSubsequence (part ++ more) l) (sym (reports_push c.notes (sender, Report r)))
       (part_append part (reports_in c.notes) more (r ∷ []) p q)
 
   -- one was lost before, and of this report the haul has taken `more`
-  lost_more : (r : Reported) (sender : ℕ) (more : List Reported) → IsSubsequence more (r ∷ []) → HasLost (reports_in c.notes) c.part before.haul
+  lost_more : (r : Reported) (sender : ℕ) (more : List Reported) → IsSubsequence more (r ∷ [])
+      → HasLost (reports_in c.notes) c.part before.haul
       → HasLost (reports_in (c.notes ++ (sender, Report r) ∷ [])) (c.part ++ more) before.haul
   lost_more r sender more q lost =
       record {
@@ -115,18 +118,20 @@ module _ {before after : Collector} {answered : Bool} (c : Collected before afte
     part : List Reported
     some : IsSubsequence part (reports_in (c.notes ++ (sender, Report r) ∷ []))
     added : HasAdded part before.haul new
-    lost : HasLost (reports_in c.notes) c.part before.haul → HasLost (reports_in (c.notes ++ (sender, Report r) ∷ [])) part before.haul
+    lost : HasLost (reports_in c.notes) c.part before.haul
+        → HasLost (reports_in (c.notes ++ (sender, Report r) ∷ [])) part before.haul
 
-  takes : (r : Reported) (sender : ℕ) (new : Held) → (new ≡ after.haul) ⊎ HasAdded (r ∷ []) after.haul new → Takes r sender new
+  takes : (r : Reported) (sender : ℕ) (new : Held) → (new ≡ after.haul) ⊎ HasAdded (r ∷ []) after.haul new
+      → Takes r sender new
   takes r sender new added =
       ⊎_elim
       (λ (same : new ≡ after.haul). record {
         part = c.part;
-        some = subst (λ (l : List Reported). IsSubsequence l (reports_in (c.notes ++ (sender, Report r) ∷ []))) (append-nil c.part)
-            (some_more r sender c.part [] c.some (part_none (r ∷ [])));
+        some = subst (λ (l : List Reported). IsSubsequence l (reports_in (c.notes ++ (sender, Report r) ∷ [])))
+            (append-nil c.part) (some_more r sender c.part [] c.some (part_none (r ∷ [])));
         added = subst (HasAdded c.part before.haul) (sym same) c.added;
-        lost = λ lost. subst (λ (l : List Reported). HasLost (reports_in (c.notes ++ (sender, Report r) ∷ [])) l before.haul) (append-nil c.part)
-            (lost_more r sender [] (part_none (r ∷ [])) lost);
+        lost = λ lost. subst (λ (l : List Reported). HasLost (reports_in (c.notes ++ (sender, Report r) ∷ [])) l before.haul)
+            (append-nil c.part) (lost_more r sender [] (part_none (r ∷ [])) lost);
       })
       (λ (more : HasAdded (r ∷ []) after.haul new). record {
         part = c.part ++ r ∷ [];
@@ -143,12 +148,15 @@ module _ {before after : Collector} {next : Received Note} {answered : Bool} (c 
       All-append P c.notes ((g.sender, note) ∷ []) c.senders
       (All-cons P (g.sender, note) [] (g.some_worker.0, subst (λ (b : BeltId). g.sender ≤ b.workers) c.belt g.some_worker.1) (All-nil P))
 
-  got_more : (note : Note) (g : GotOne after.receiver next note) → next.got ≡ before.receiver.got ++ (c.notes ++ (g.sender, note) ∷ [])
+  got_more : (note : Note) (g : GotOne after.receiver next note)
+      → next.got ≡ before.receiver.got ++ (c.notes ++ (g.sender, note) ∷ [])
   got_more note g =
-      g.got ∙ ap (λ (l : List (ℕ × Note)). l ++ (g.sender, note) ∷ []) c.got ∙ append_assoc before.receiver.got c.notes ((g.sender, note) ∷ [])
+      g.got ∙ ap (λ (l : List (ℕ × Note)). l ++ (g.sender, note) ∷ []) c.got
+      ∙ append_assoc before.receiver.got c.notes ((g.sender, note) ∷ [])
 
   -- a report that was answered
-  pub collected_heard : (r : Reported) (new : Held) → GotOne after.receiver next (Report r) → 0 < after.awaited → (new ≡ after.haul) ⊎ HasAdded (r ∷ []) after.haul new
+  pub collected_heard : (r : Reported) (new : Held) → GotOne after.receiver next (Report r) → 0 < after.awaited
+      → (new ≡ after.haul) ⊎ HasAdded (r ∷ []) after.haul new
       → HasComeAll (r ∷ []) after.haul new → Collected before (collector_with after.awaited next new) answered
   collected_heard r new g some added met =
       let whole = reports_push c.notes (g.sender, Report r) in
@@ -169,7 +177,8 @@ module _ {before after : Collector} {next : Received Note} {answered : Bool} (c 
       }
 
   -- a report for which there was no memory
-  pub collected_unheard : (r : Reported) (new : Held) → GotOne after.receiver next (Report r) → 0 < after.awaited → new ≡ after.haul
+  pub collected_unheard : (r : Reported) (new : Held) → GotOne after.receiver next (Report r) → 0 < after.awaited
+      → new ≡ after.haul
       → ((arrivals : List Arrival) → StandsFor arrivals after.haul → refusal_of after.haul.terms arrivals r ≡ None)
       → Collected before (collector_with after.awaited next new) false
   collected_unheard r new g some same eligible =
@@ -181,8 +190,8 @@ module _ {before after : Collector} {next : Received Note} {answered : Bool} (c 
         done = let a = dones_push c.notes (g.sender, Report r) in let b = c.done in omega arith;
         ends = inl some;
         part = c.part;
-        some = subst (λ (l : List Reported). IsSubsequence l (reports_in (c.notes ++ (g.sender, Report r) ∷ []))) (append-nil c.part)
-            (some_more c r g.sender c.part [] c.some (part_none (r ∷ [])));
+        some = subst (λ (l : List Reported). IsSubsequence l (reports_in (c.notes ++ (g.sender, Report r) ∷ [])))
+            (append-nil c.part) (some_more c r g.sender c.part [] c.some (part_none (r ∷ [])));
         added = subst (HasAdded c.part before.haul) (sym same) c.added;
         all = λ yes. absurd (true≢false (sym yes));
         lost = λ no. record {
@@ -197,7 +206,8 @@ module _ {before after : Collector} {next : Received Note} {answered : Bool} (c 
       }
 
   -- a worker that is done
-  pub collected_done : (worker : ℕ) → GotOne after.receiver next (Done worker) → 0 < after.awaited → Collected before (collector_with (after.awaited - 1) next after.haul) answered
+  pub collected_done : (worker : ℕ) → GotOne after.receiver next (Done worker) → 0 < after.awaited
+      → Collected before (collector_with (after.awaited - 1) next after.haul) answered
   collected_done worker g some =
       let whole : reports_in (c.notes ++ (g.sender, Done worker) ∷ []) ≡ reports_in c.notes =
       reports_push c.notes (g.sender, Done worker) ∙ append-nil (reports_in c.notes) in

@@ -29,7 +29,8 @@ reported_none site worker = record {
   of_job = All-nil (λ (r : Reported). r.job ≡ site.job);
 }
 
-pub reported_more : (site : Site) (places : List ℕ) (pass : Presented Note) (n : ℕ) (r : Reported) → HasReported site places pass
+pub reported_more : (site : Site) (places : List ℕ) (pass : Presented Note) (n : ℕ) (r : Reported)
+    → HasReported site places pass
     → All (λ m. m < n) places → n < length site.missing.items → r.worker ≡ pass.number → r.job ≡ site.job
     → r.number ≡ slice_index site.missing.items n → HasReported site (places ++ n ∷ []) (with_note (Report r) pass)
 reported_more site places pass n r h less below mine of number =
@@ -51,9 +52,11 @@ reported_more site places pass n r h less below mine of number =
     }
 
 -- the same of a pass and a sender that drew and presented
-pub reported_next : (site : Site) (places now : List ℕ) (pass next : Presented Note) (n : ℕ) (r : Reported) → HasReported site places pass
+pub reported_next : (site : Site) (places now : List ℕ) (pass next : Presented Note) (n : ℕ) (r : Reported)
+    → HasReported site places pass
     → All (λ m. m < n) places → n < length site.missing.items → r.worker ≡ pass.number → r.job ≡ site.job
-    → r.number ≡ slice_index site.missing.items n → now ≡ places ++ n ∷ [] → next ≡ with_note (Report r) pass → HasReported site now next
+    → r.number ≡ slice_index site.missing.items n → now ≡ places ++ n ∷ [] → next ≡ with_note (Report r) pass
+    → HasReported site now next
 reported_next site places now pass next n r h less below mine of number drawn presented =
     subst (λ (s : Presented Note). HasReported site now s) (sym presented)
     (subst (λ (l : List ℕ). HasReported site l (with_note (Report r) pass)) (sym drawn)
@@ -63,7 +66,8 @@ reported_next site places now pass next n r h less below mine of number drawn pr
 pub worked_none : (site : Site) (pass : Presented Note) → pass ≡ silent site.belt.name pass.number → HasWorked site pass
 worked_none site pass is = subst (HasWorked site) (sym is) ([], reported_none site pass.number)
 
-pub worked_done : (site : Site) (pass : Presented Note) (worker : ℕ) → HasWorked site pass → HasWorked site (with_note (Done worker) pass)
+pub worked_done : (site : Site) (pass : Presented Note) (worker : ℕ) → HasWorked site pass
+    → HasWorked site (with_note (Done worker) pass)
 worked_done site pass worker h =
     let whole : reported (pass.notes ++ Done worker ∷ []) ≡ reported pass.notes =
     reported_push pass.notes (Done worker) ∙ append-nil (reported pass.notes) in (
@@ -83,11 +87,13 @@ abbrev pub WasStopped : Option ℕ → Shift → ℕ → Type 0
 WasStopped stopped shift w = (stopped ≡ Some w) ⊎ ((shift.end ≡ Stopped) × (w ≡ shift.sender.number))
 
 -- a worker more that is back
-pub back_more : {may_stop : ℕ → ℕ → Type 0} {site : Site} (passes all : List (Presented Note)) (shift : Shift) (stopped now : Option ℕ)
-    (worker : ℕ) → AreBack may_stop site passes stopped → Leaves may_stop site worker shift → all ≡ passes ++ shift.sender ∷ []
+pub back_more : {may_stop : ℕ → ℕ → Type 0} {site : Site} (passes all : List (Presented Note)) (shift : Shift)
+    (stopped now : Option ℕ) (worker : ℕ) → AreBack may_stop site passes stopped → Leaves may_stop site worker shift
+    → all ≡ passes ++ shift.sender ∷ []
     → IfSome now (WasStopped stopped shift) → AreBack may_stop site all now
 back_more {may_stop} {site} passes all shift stopped now worker back leaves is told = record {
-  worked = subst (All (HasWorked site)) (sym is) (All-push (HasWorked site) passes shift.sender back.worked leaves.worked);
+  worked = subst (All (HasWorked site)) (sym is)
+      (All-push (HasWorked site) passes shift.sender back.worked leaves.worked);
   stops = go now told;
   one = member now told;
 }
@@ -109,6 +115,7 @@ back_more {may_stop} {site} passes all shift stopped now worker back leaves is t
     go : (o : Option ℕ) → IfSome o (WasStopped stopped shift) → IfSome o (StopsAt may_stop site.missing.items)
     go None h = tt
     go (Some w) h =
-        ⊎_elim (λ (same : stopped ≡ Some w). subst (λ (p : Option ℕ). IfSome p (StopsAt may_stop site.missing.items)) same back.stops)
+        ⊎_elim (λ (same : stopped ≡ Some w).
+        subst (λ (p : Option ℕ). IfSome p (StopsAt may_stop site.missing.items)) same back.stops)
         (λ (x : (shift.end ≡ Stopped) × (w ≡ shift.sender.number)).
         subst (StopsAt may_stop site.missing.items) (sym (x.1 ∙ leaves.number)) (leaves.stops x.0)) h

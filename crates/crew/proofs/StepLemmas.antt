@@ -1,5 +1,6 @@
 -- A crew is run a worker at a time.
-use Rattle.std.proofs.Common.{◌≡◌, ◌≤◌, ◌+◌, ◌-◌, ◌++◌, ◌∙◌, ◌<◌, ℕ, All, Bool, true, false, List, [], ◌∷◌, ap, append-nil, append_assoc, arith, length}
+use Rattle.std.proofs.Common.{◌≡◌, ◌≤◌, ◌+◌, ◌-◌, ◌++◌, ◌∙◌, ◌<◌, ℕ, All, Bool, true, false, List, [], ◌∷◌, ap}
+use Rattle.std.proofs.Common.{append-nil, append_assoc, arith, length}
 use Rattle.std.proofs.Common.{map, subst, subst₂, sym}
 use Rattle.std.specs.Prelude.{IfSome, None, Option, vec_capacity}
 use Rattle.std.specs.List.{range_with_len}
@@ -64,27 +65,32 @@ not_more a b n is = omega arith
 
 module _ {may_stop : ℕ → ℕ → Type 0} {site : Site} where
   -- the pass of the post that was taken out is fresh
-  pub pass_out : (next : Posts) (crew : Crew) (post : Drawn × Presented Note) → MayRun may_stop site crew → IsTakenOut post crew.posts next
+  pub pass_out : (next : Posts) (crew : Crew) (post : Drawn × Presented Note) → MayRun may_stop site crew
+      → IsTakenOut post crew.posts next
       → post.0 ≡ fresh site.tickets
   pass_out next crew post may is =
       let P : Drawn → Type 0 = λ p. p ≡ fresh site.tickets in
       All-head P post.0 [] (all_right P next.passes.items (post.0 ∷ []) (subst (All P) is.passes may.passes))
 
   -- and its sender has sent nothing
-  pub sender_out : (next : Posts) (crew : Crew) (post : Drawn × Presented Note) → MayRun may_stop site crew → IsTakenOut post crew.posts next
+  pub sender_out : (next : Posts) (crew : Crew) (post : Drawn × Presented Note) → MayRun may_stop site crew
+      → IsTakenOut post crew.posts next
       → post.1 ≡ silent site.belt.name post.1.number
   sender_out next crew post may is =
       let P : Presented Note → Type 0 = λ s. s ≡ silent site.belt.name s.number in
       All-head P post.1 [] (all_right P next.senders.items (post.1 ∷ []) (subst (All P) is.senders may.senders))
 
   -- with the posts that are left the crew may be run
-  pub others_may_run : (next : Posts) (crew : Crew) (post : Drawn × Presented Note) (started : ℕ) → started ≤ 1 → MayRun may_stop site crew
+  pub others_may_run : (next : Posts) (crew : Crew) (post : Drawn × Presented Note) (started : ℕ) → started ≤ 1
+      → MayRun may_stop site crew
       → IsTakenOut post crew.posts next → MayRun may_stop site (left_with crew next started)
   others_may_run next crew post started one may is =
       let P : Drawn → Type 0 = λ p. p ≡ fresh site.tickets in
       let S : Presented Note → Type 0 = λ s. s ≡ silent site.belt.name s.number in
-      let passes : length crew.posts.passes.items ≡ length next.passes.items + 1 = ap length is.passes ∙ length-append next.passes.items (post.0 ∷ []) in
-      let senders : length crew.posts.senders.items ≡ length next.senders.items + 1 = ap length is.senders ∙ length-append next.senders.items (post.1 ∷ []) in
+      let passes : length crew.posts.passes.items ≡ length next.passes.items + 1 =
+      ap length is.passes ∙ length-append next.passes.items (post.0 ∷ []) in
+      let senders : length crew.posts.senders.items ≡ length next.senders.items + 1 =
+      ap length is.senders ∙ length-append next.senders.items (post.1 ∷ []) in
       let many = may.many in
       let few = may.few in
       let room = may.room in
@@ -99,11 +105,14 @@ module _ {may_stop : ℕ → ℕ → Type 0} {site : Site} where
       }
 
   -- the others are back, and there is room for one more
-  pub room_for_one : (next : Posts) (crew mid : Crew) (post : Drawn × Presented Note) (started : ℕ) → MayRun may_stop site crew
-      → IsTakenOut post crew.posts next → HasRunAll may_stop site (left_with crew next started) mid → length mid.senders.items < vec_capacity mid.senders
+  pub room_for_one : (next : Posts) (crew mid : Crew) (post : Drawn × Presented Note) (started : ℕ)
+      → MayRun may_stop site crew
+      → IsTakenOut post crew.posts next → HasRunAll may_stop site (left_with crew next started) mid
+      → length mid.senders.items < vec_capacity mid.senders
   room_for_one next crew mid post started may is ran =
       let number : Presented Note → ℕ = λ s. s.number in
-      let senders : length crew.posts.senders.items ≡ length next.senders.items + 1 = ap length is.senders ∙ length-append next.senders.items (post.1 ∷ []) in
+      let senders : length crew.posts.senders.items ≡ length next.senders.items + 1 =
+      ap length is.senders ∙ length-append next.senders.items (post.1 ∷ []) in
       let all : length (sender_numbers mid.senders.items) ≡ length (sender_numbers crew.senders.items) + length (sender_numbers next.senders.items) =
       ap length ran.numbers ∙ length-append (sender_numbers crew.senders.items) (sender_numbers next.senders.items) in
       let a : length (sender_numbers mid.senders.items) ≡ length mid.senders.items = length-map mid.senders.items number in
@@ -115,11 +124,12 @@ module _ {may_stop : ℕ → ℕ → Type 0} {site : Site} where
 
   -- no post is left, and the notes of all that were started are collected
   pub run_none : (crew new : Crew) → MayRun may_stop site crew → crew.posts.senders.items ≡ []
-      → (answered : Bool) × Collected (collector_of crew.away crew) (collector_of 0 new) answered → new.senders ≡ crew.senders
+      → (answered : Bool) × Collected (collector_of crew.away crew) (collector_of 0 new) answered
+      → new.senders ≡ crew.senders
       → new.stopped ≡ crew.stopped → new.away ≡ crew.away → HasRunAll may_stop site crew new
   run_none crew new may none collected senders stopped away = record {
-    back = subst₂ (λ (ps : List (Presented Note)) (o : Option ℕ). AreBack may_stop site ps o) (sym (ap (λ v. v.items) senders))
-        (sym stopped) may.back;
+    back = subst₂ (λ (ps : List (Presented Note)) (o : Option ℕ). AreBack may_stop site ps o)
+        (sym (ap (λ v. v.items) senders)) (sym stopped) may.back;
     numbers =
         ap (λ v. sender_numbers v.items) senders
         ∙ sym (ap (λ (ps : List (Presented Note)). sender_numbers crew.senders.items ++ sender_numbers ps) none
@@ -131,12 +141,14 @@ module _ {may_stop : ℕ → ℕ → Type 0} {site : Site} where
 
   -- the others are back, and then the worker that was started first of these
   pub run_more : (next : Posts) (crew mid new : Crew) (post : Drawn × Presented Note) (shift : Shift) (started : ℕ)
-      → IsTakenOut post crew.posts next → HasRunAll may_stop site (left_with crew next started) mid → Leaves may_stop site post.1.number shift
+      → IsTakenOut post crew.posts next → HasRunAll may_stop site (left_with crew next started) mid
+      → Leaves may_stop site post.1.number shift
       → new.senders.items ≡ mid.senders.items ++ shift.sender ∷ [] → vec_capacity new.senders ≡ vec_capacity mid.senders
       → IfSome new.stopped (WasStopped mid.stopped shift) → new.haul ≡ mid.haul → new.receiver ≡ mid.receiver
       → new.away ≡ mid.away - started → HasRunAll may_stop site crew new
   run_more next crew mid new post shift started is ran leaves senders room stopped haul receiver away = record {
-    back = back_more mid.senders.items new.senders.items shift mid.stopped new.stopped post.1.number ran.back leaves senders stopped;
+    back = back_more mid.senders.items new.senders.items shift mid.stopped new.stopped post.1.number ran.back leaves
+        senders stopped;
     numbers =
         ap sender_numbers senders ∙ map-append number mid.senders.items (shift.sender ∷ [])
         ∙ (λ i. ran.numbers i ++ leaves.number i ∷ [])
@@ -148,8 +160,8 @@ module _ {may_stop : ℕ → ℕ → Type 0} {site : Site} where
     collected = (
       ran.collected.0,
       ran.collected.1,
-      subst₂ (λ (r : Received Note) (h : Held). Collected (collector_of ran.collected.0 crew) (collector_with 0 r h) ran.collected.1)
-          (sym receiver) (sym haul) ran.collected.2,
+      subst₂ (λ (r : Received Note) (h : Held).
+          Collected (collector_of ran.collected.0 crew) (collector_with 0 r h) ran.collected.1) (sym receiver) (sym haul) ran.collected.2,
     );
   }
     where

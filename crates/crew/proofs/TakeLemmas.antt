@@ -119,7 +119,8 @@ both job missing worker (r ∷ rs) own listed of =
     (both job missing worker rs (All-tail (λ (s : Reported). s.worker ≡ worker) r rs own)
     (All-tail (Contains missing) r.number (map (λ (s : Reported). s.number) rs) listed) (All-tail (λ (s : Reported). s.job ≡ job) r rs of))
 
-received_of : (site : Site) (got : List (ℕ × Note)) (pass : Presented Note) → Rises site.missing.items → HasWorked site pass
+received_of : (site : Site) (got : List (ℕ × Note)) (pass : Presented Note) → Rises site.missing.items
+    → HasWorked site pass
     → IsWhole got pass → ReceivedOf site.job site.missing.items pass.number got
 received_of site got pass up worked whole =
     let job = site.job in
@@ -154,7 +155,8 @@ sender_of P first (suc n) (s ∷ ss) is all worker le lt =
     (λ apart. sender_of P (first + 1) n ss (ap (λ (l : List ℕ). drop 1 l) is) (All-tail (λ (t : Presented Note). P t.number) s ss all) worker
     (omega (arith, apart)) (omega arith))
 
-pub received_each : (site : Site) (got : List (ℕ × Note)) (passes : List (Presented Note)) (workers : ℕ) → Rises site.missing.items
+pub received_each : (site : Site) (got : List (ℕ × Note)) (passes : List (Presented Note)) (workers : ℕ)
+    → Rises site.missing.items
     → sender_numbers passes ≡ range_with_len 1 workers → All (HasWorked site) passes → All (IsWhole got) passes
     → (worker : ℕ) → 1 ≤ worker → worker ≤ workers → ReceivedOf site.job site.missing.items worker got
 received_each site got passes workers up numbers worked whole worker le ge =
@@ -200,7 +202,8 @@ by_no w t ts e =
     ap (λ (b : Bool). map (λ (s : ℕ × ℕ). s.1) (cond b (t ∷ filter (λ (s : ℕ × ℕ). nat_eq w s.0) ts) (filter (λ (s : ℕ × ℕ). nat_eq w s.0) ts)))
     (ne_eqb w t.0 e)
 
-taken_part : (w : ℕ) (part rs : List Reported) → IsSubsequence part rs → IsSubsequence (taken_by w (map entry part)) (taken_by w (map entry rs))
+taken_part : (w : ℕ) (part rs : List Reported) → IsSubsequence part rs
+    → IsSubsequence (taken_by w (map entry part)) (taken_by w (map entry rs))
 taken_part w part [] p = ap (λ (l : List Reported). taken_by w (map entry l)) p
 taken_part w part (r ∷ rs) p =
     dite (ℕ_discrete w r.worker)
@@ -323,13 +326,15 @@ pub belts_of : (site : Site) (passes : List (Presented Note)) → All (HasWorked
 belts_of site passes worked k d lt = (worked k d lt).1.belt
 
 -- what is known when a crew ends
-module _ {before after : Collector} {answered : Bool} (site : Site) (workers : ℕ) (passes first back : List (Presented Note))
-    (c : Collected before after answered) (begun : before.receiver ≡ deaf site.belt) (as_many : site.belt.workers ≡ workers)
+module _ {before after : Collector} {answered : Bool} (site : Site) (workers : ℕ)
+    (passes first back : List (Presented Note)) (c : Collected before after answered)
+    (begun : before.receiver ≡ deaf site.belt) (as_many : site.belt.workers ≡ workers)
     (listed : site.missing.items ≡ was_missing before.haul) (up : IsStrictlyIncreasing site.missing.items)
     (silents : first ≡ map (silent site.belt.name) (range_with_len 1 workers)) (none : back ≡ [])
-    (numbers : sender_numbers passes ≡ sender_numbers back ++ sender_numbers first) (worked : All (HasWorked site) passes)
-    (whole : All (IsWhole after.receiver.got) passes) where
-  crew_part : (part : List Reported) → IsSubsequence part (reports_in c.notes) → OfCrew workers site.job site.missing.items part
+    (numbers : sender_numbers passes ≡ sender_numbers back ++ sender_numbers first)
+    (worked : All (HasWorked site) passes) (whole : All (IsWhole after.receiver.got) passes) where
+  crew_part : (part : List Reported) → IsSubsequence part (reports_in c.notes)
+      → OfCrew workers site.job site.missing.items part
   crew_part part is =
       let notes_are : after.receiver.got ≡ c.notes = c.got ∙ ap (λ (r : Received Note). r.got ++ c.notes) begun in
       let bound : before.receiver.belt.workers ≡ workers = ap (λ (r : Received Note). r.belt.workers) begun ∙ as_many in
@@ -341,7 +346,8 @@ module _ {before after : Collector} {answered : Bool} (site : Site) (workers : �
       (λ k d lt. let s = c.senders k d lt in (s.0, omega (arith, s.1, bound))))
       (subst (λ (l : List (ℕ × Note)). IsSubsequence part (reports_in l)) (sym notes_are) is)
 
-  pub crew_has_taken : (new : Held) → new ≡ after.haul → IsDistinct nat_eq (numbers_in after.haul.taken) → site.job ≡ before.haul.terms.job
+  pub crew_has_taken : (new : Held) → new ≡ after.haul → IsDistinct nat_eq (numbers_in after.haul.taken)
+      → site.job ≡ before.haul.terms.job
       → HasTaken workers before.haul new
   crew_has_taken new same distinct of_haul =
       let of = crew_part c.part c.some in
@@ -352,7 +358,8 @@ module _ {before after : Collector} {answered : Bool} (site : Site) (workers : �
         by_workers = of.by_workers;
         missing = subst (λ (l : List ℕ). All (λ (r : Reported). Contains l r.number) c.part) listed of.listed;
         once = distinct_right (numbers_in before.haul.taken) (numbers_in (map entry c.part))
-            (subst (IsDistinct nat_eq) (ap numbers_in c.added.taken ∙ map-append (λ (t : ℕ × ℕ). t.1) before.haul.taken (map entry c.part)) distinct);
+            (subst (IsDistinct nat_eq)
+            (ap numbers_in c.added.taken ∙ map-append (λ (t : ℕ × ℕ). t.1) before.haul.taken (map entry c.part)) distinct);
         in_order = of.rises;
       })
 

@@ -31,7 +31,8 @@ pub record MayRun (may_stop : ℕ → ℕ → Type 0) (site : Site) (crew : Crew
 -- All workers of the posts are back, as many are away as before, and the notes of those that were started were collected.
 pub record HasRunAll (may_stop : ℕ → ℕ → Type 0) (site : Site) (old new : Crew) : Type 0 where
   pub back : AreBack may_stop site new.senders.items new.stopped
-  pub numbers : sender_numbers new.senders.items ≡ sender_numbers old.senders.items ++ sender_numbers old.posts.senders.items
+  pub numbers : sender_numbers new.senders.items
+      ≡ sender_numbers old.senders.items ++ sender_numbers old.posts.senders.items
   pub room : vec_capacity new.senders ≡ vec_capacity old.senders
   pub away : new.away ≡ old.away
   pub collected : (started : ℕ) × (answered : Bool) × Collected (collector_of started old) (collector_of 0 new) answered

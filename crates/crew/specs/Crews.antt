@@ -58,8 +58,8 @@ pub record Collector : Type 0 where
 abbrev pub collector_with : ℕ → Received Note → Held → Collector
 collector_with awaited receiver haul = record { awaited = awaited; receiver = receiver; haul = haul }
 
--- Notes were received until fewer workers were awaited, the last of whom said last that it is done. Of the reports in them the haul
--- has taken some: all that the book takes if `answered`, and else one was lost.
+-- Notes were received, each from one of the workers, and those that say so are done. Once no worker is awaited the last note
+-- was such a one. Of the reports received the haul has taken some: all that the book takes if `answered`, and else one was lost.
 pub record Collected (before after : Collector) (answered : Bool) : Type 0 where
   pub notes : List (ℕ × Note)
   pub belt : after.receiver.belt ≡ before.receiver.belt

@@ -45,7 +45,8 @@ pub record Leaves (may_stop : ℕ → ℕ → Type 0) (site : Site) (worker : �
   pub stops : shift.end ≡ Stopped → StopsAt may_stop site.missing.items worker
 
 -- what workers left that are back, and one of them whose gate stopped it
-pub record AreBack (may_stop : ℕ → ℕ → Type 0) (site : Site) (passes : List (Presented Note)) (stopped : Option ℕ) : Type 0 where
+pub record AreBack (may_stop : ℕ → ℕ → Type 0) (site : Site) (passes : List (Presented Note)) (stopped : Option ℕ)
+    : Type 0 where
   pub worked : All (HasWorked site) passes
   pub stops : IfSome stopped (StopsAt may_stop site.missing.items)
   pub one : IfSome stopped (Contains (sender_numbers passes))

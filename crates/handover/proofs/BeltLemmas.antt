@@ -18,7 +18,8 @@ use Rattle.std.specs.List.{range_with_len}
 use Rattle.atomic_table.specs.Seated.{TableId}
 use Rattle.handover.specs.Belts.{IsWhole, NothingLeft, Presented, left_of, notes_of, silent, with_first}
 use Rattle.handover.specs.BeltRule.{Delivers, GetsNote, IsFront, KnowsItsNotes, PutsNote, TellsWhatIsLeft, both_shares}
-use Rattle.handover.specs.BeltRule.{first_notes, first_share, left_over, new_sender, notes_entry, owners, owns, receives}
+use Rattle.handover.specs.BeltRule.{first_notes, first_share, left_over, new_sender, notes_entry, owners, owns}
+use Rattle.handover.specs.BeltRule.{receives}
 use Rattle.handover.specs.BeltRule.{share, spent_share, with_sender, with_senders}
 use Rattle.handover.specs.declared.belt.Share.{Share}
 use Rattle.handover.proofs.SumLemmas.{each_push, each_set, sum_at, sum_set, sum_two}
@@ -296,12 +297,14 @@ module _ {N : Type 0} where
   drop_front (x ∷ xs) more = drop_front xs more
 
   -- the passes that are handed back, with what the rule tells of them
-  pub told : (passes : List (Presented N)) (v : Share N) (items : List (ℕ × N)) → v.senders ≡ [] → TellsWhatIsLeft (with_senders passes v) items
+  pub told : (passes : List (Presented N)) (v : Share N) (items : List (ℕ × N)) → v.senders ≡ []
+      → TellsWhatIsLeft (with_senders passes v) items
       → All (λ (p : Presented N). IsFront (notes_of p.number v.got) p.notes) passes
   told passes v items none tells = go passes (subst (λ (l : List (ℕ × List N)). All (λ (e : ℕ × List N). e.1 ≡ notes_of e.0 (v.got ++ items)) l)
       (ap (λ (l : List (ℕ × List N)). map notes_entry passes ++ l) none ∙ append-nil (map notes_entry passes)) tells)
     where
-      go : (passes : List (Presented N)) → All (λ (e : ℕ × List N). e.1 ≡ notes_of e.0 (v.got ++ items)) (map notes_entry passes)
+      go : (passes : List (Presented N))
+          → All (λ (e : ℕ × List N). e.1 ≡ notes_of e.0 (v.got ++ items)) (map notes_entry passes)
           → All (λ (p : Presented N). IsFront (notes_of p.number v.got) p.notes) passes
       go [] all = All-nil (λ (p : Presented N). IsFront (notes_of p.number v.got) p.notes)
       go (p ∷ ps) all =

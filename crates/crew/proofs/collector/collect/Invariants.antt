@@ -2,4 +2,5 @@ use Rattle.crew.specs.Crews.{Collected, collector_with}
 use Rattle.crew.proofs.collector.collect.Given as goal
 
 abbrev pub invariant-loop : goal.invariant-loop
-invariant-loop g l = Collected (collector_with l.fn.started l.fn.pass l.fn.haul) (collector_with l.left l.pass l.haul) l.answered
+invariant-loop g l =
+    Collected (collector_with l.fn.started l.fn.pass l.fn.haul) (collector_with l.left l.pass l.haul) l.answered

@@ -15,8 +15,9 @@ loop-preserved g c =
     let below : place < length missing = omega (arith, c.in-Some-draw.ensures.below, site.listed) in (
       c.draw.ensures.series ∙ so_far.0,
       ap (λ (s : Presented Note). s.number) c.present.ensures ∙ so_far.1,
-      reported_next site c.loop.pass.numbers c.draw.new.pass.numbers c.loop.sender c.present.new.pass place c.in-Ok.report so_far.2
-          c.in-Some-draw.ensures.greater below (c.in-Ok.ensures.worker ∙ c.number-worker.ensures ∙ sym so_far.1) c.in-Ok.ensures.job
+      reported_next site c.loop.pass.numbers c.draw.new.pass.numbers c.loop.sender c.present.new.pass place
+          c.in-Ok.report so_far.2 c.in-Some-draw.ensures.greater below
+          (c.in-Ok.ensures.worker ∙ c.number-worker.ensures ∙ sym so_far.1) c.in-Ok.ensures.job
           (c.in-Ok.ensures.number ∙ get_or_read missing _ _ below c.index-number.ensures 0)
           (ap (λ (d : Drawn). d.numbers) c.in-Some-draw.ensures.drawn) c.present.ensures,
     )
