@@ -1,7 +1,8 @@
 -- A crew is run a worker at a time.
-use Rattle.std.proofs.Common.{◌≡◌, ◌≤◌, ◌+◌, ◌-◌, ◌++◌, ◌∙◌, ◌⊎◌, ◌<◌, ℕ, All, Bool, true, false, List, [], ◌∷◌, ap, append-nil, append_assoc, arith, length}
+use Rattle.std.proofs.Common.{◌≡◌, ◌≤◌, ◌+◌, ◌-◌, ◌++◌, ◌∙◌, ◌<◌, ℕ, All, Bool, true, false, List, [], ◌∷◌, ap}
+use Rattle.std.proofs.Common.{append-nil, append_assoc, arith, length}
 use Rattle.std.proofs.Common.{map, subst, subst₂, sym}
-use Rattle.std.specs.Prelude.{IfSome, None, Option, Some, vec_capacity}
+use Rattle.std.specs.Prelude.{IfSome, None, Option, vec_capacity}
 use Rattle.std.specs.List.{range_with_len}
 use Rattle.std.proofs.lemmas.List.{length-append, length-map, map-append}
 use Rattle.std.proofs.lemmas.List.Elements.{All-head, All-nil}
@@ -9,28 +10,36 @@ use mir.Val.{bool_byte}
 use Rattle.haul_core.specs.Books.{Held}
 use Rattle.handover.specs.Belts.{Presented, Received, silent}
 use Rattle.handover.specs.Tickets.{Drawn, fresh}
-use Rattle.crew.specs.CrewSteps.{HasRunAll, IsTakenOut, MayRun}
-use Rattle.crew.specs.Crews.{Collected}
+use Rattle.crew.specs.CrewSteps.{HasRunAll, IsTakenOut, MayRun, collector_of}
+use Rattle.crew.specs.Crews.{Collected, collector_with}
 use Rattle.crew.specs.Shifts.{AreBack, HasWorked, Leaves, sender_numbers}
 use Rattle.crew.specs.declared.note.Note.{Note}
-use Rattle.crew.specs.declared.shift.Site.{Site}
+use Rattle.crew.specs.declared.shift.Shift.{Shift}
+use Rattle.crew.specs.declared.site.Site.{Site}
 use Rattle.crew.specs.declared.workers.Crew.{Crew}
 use Rattle.crew.specs.declared.posts.Posts.{Posts}
-use Rattle.crew.proofs.ShiftLemmas.{back_more}
+use Rattle.crew.proofs.ShiftLemmas.{WasStopped, back_more}
 use Rattle.crew.proofs.TakeLemmas.{all_left, all_right, all_silent, silent_length}
 
--- how a crew stands while so many of its workers more are away
-abbrev with_away : Crew → ℕ → Crew
-with_away crew started =
-    record { haul = crew.haul; receiver = crew.receiver; senders = crew.senders; away = crew.away + started; stopped = crew.stopped }
+-- how a crew stands once only these posts are left, while so many of its workers more are away
+abbrev left_with : Crew → Posts → ℕ → Crew
+left_with crew posts started = record {
+  posts = posts;
+  haul = crew.haul;
+  receiver = crew.receiver;
+  senders = crew.senders;
+  away = crew.away + started;
+  stopped = crew.stopped;
+}
 
 -- at first all posts are there, and nobody is back
-pub ready_first : {may_stop : ℕ → ℕ → Type 0} (site : Site) (posts : Posts) (crew : Crew) (workers : ℕ) → All (λ p. p ≡ fresh site.tickets) posts.passes.items
-    → length posts.passes.items ≡ workers → posts.senders.items ≡ map (silent site.belt.name) (range_with_len 1 workers) → workers ≤ 255 → crew.away ≡ 0
+pub ready_first : {may_stop : ℕ → ℕ → Type 0} (site : Site) (crew : Crew) (workers : ℕ)
+    → All (λ p. p ≡ fresh site.tickets) crew.posts.passes.items → length crew.posts.passes.items ≡ workers
+    → crew.posts.senders.items ≡ map (silent site.belt.name) (range_with_len 1 workers) → workers ≤ 255 → crew.away ≡ 0
     → crew.receiver.belt ≡ site.belt → crew.senders.items ≡ [] → workers ≤ vec_capacity crew.senders → crew.stopped ≡ None
-    → MayRun may_stop site posts crew
-ready_first {may_stop} site posts crew workers passes many senders few away receiver none room stopped =
-    let count : length posts.senders.items ≡ workers = ap length senders ∙ silent_length site.belt.name workers in
+    → MayRun may_stop site crew
+ready_first {may_stop} site crew workers passes many senders few away receiver none room stopped =
+    let count : length crew.posts.senders.items ≡ workers = ap length senders ∙ silent_length site.belt.name workers in
     let back : length crew.senders.items ≡ 0 = ap length none in
     record {
       passes = passes;
@@ -40,9 +49,9 @@ ready_first {may_stop} site posts crew workers passes many senders few away rece
       few = omega (arith, count, few, away);
       receiver = receiver;
       room = omega (arith, count, back, room);
-      back = subst (λ (o : Option ℕ). AreBack may_stop site.belt.name site.job site.missing.items crew.senders.items o) (sym stopped)
-          (subst (λ (ps : List (Presented Note)). AreBack may_stop site.belt.name site.job site.missing.items ps None) (sym none)
-          (record { worked = All-nil (HasWorked site.belt.name site.job site.missing.items); stops = tt; one = tt }));
+      back = subst (λ (o : Option ℕ). AreBack may_stop site crew.senders.items o) (sym stopped)
+          (subst (λ (ps : List (Presented Note)). AreBack may_stop site ps None) (sym none)
+          (record { worked = All-nil (HasWorked site); stops = tt; one = tt }));
     }
 
 -- a test counts at most one
@@ -56,27 +65,32 @@ not_more a b n is = omega arith
 
 module _ {may_stop : ℕ → ℕ → Type 0} {site : Site} where
   -- the pass of the post that was taken out is fresh
-  pub pass_out : (posts next : Posts) (crew : Crew) (post : Drawn × Presented Note) → MayRun may_stop site posts crew → IsTakenOut post posts next
+  pub pass_out : (next : Posts) (crew : Crew) (post : Drawn × Presented Note) → MayRun may_stop site crew
+      → IsTakenOut post crew.posts next
       → post.0 ≡ fresh site.tickets
-  pass_out posts next crew post may is =
+  pass_out next crew post may is =
       let P : Drawn → Type 0 = λ p. p ≡ fresh site.tickets in
       All-head P post.0 [] (all_right P next.passes.items (post.0 ∷ []) (subst (All P) is.passes may.passes))
 
   -- and its sender has sent nothing
-  pub sender_out : (posts next : Posts) (crew : Crew) (post : Drawn × Presented Note) → MayRun may_stop site posts crew → IsTakenOut post posts next
+  pub sender_out : (next : Posts) (crew : Crew) (post : Drawn × Presented Note) → MayRun may_stop site crew
+      → IsTakenOut post crew.posts next
       → post.1 ≡ silent site.belt.name post.1.number
-  sender_out posts next crew post may is =
+  sender_out next crew post may is =
       let P : Presented Note → Type 0 = λ s. s ≡ silent site.belt.name s.number in
       All-head P post.1 [] (all_right P next.senders.items (post.1 ∷ []) (subst (All P) is.senders may.senders))
 
   -- with the posts that are left the crew may be run
-  pub others_may_run : (posts next : Posts) (crew : Crew) (post : Drawn × Presented Note) (started : ℕ) → started ≤ 1 → MayRun may_stop site posts crew
-      → IsTakenOut post posts next → MayRun may_stop site next (with_away crew started)
-  others_may_run posts next crew post started one may is =
+  pub others_may_run : (next : Posts) (crew : Crew) (post : Drawn × Presented Note) (started : ℕ) → started ≤ 1
+      → MayRun may_stop site crew
+      → IsTakenOut post crew.posts next → MayRun may_stop site (left_with crew next started)
+  others_may_run next crew post started one may is =
       let P : Drawn → Type 0 = λ p. p ≡ fresh site.tickets in
       let S : Presented Note → Type 0 = λ s. s ≡ silent site.belt.name s.number in
-      let passes : length posts.passes.items ≡ length next.passes.items + 1 = ap length is.passes ∙ length-append next.passes.items (post.0 ∷ []) in
-      let senders : length posts.senders.items ≡ length next.senders.items + 1 = ap length is.senders ∙ length-append next.senders.items (post.1 ∷ []) in
+      let passes : length crew.posts.passes.items ≡ length next.passes.items + 1 =
+      ap length is.passes ∙ length-append next.passes.items (post.0 ∷ []) in
+      let senders : length crew.posts.senders.items ≡ length next.senders.items + 1 =
+      ap length is.senders ∙ length-append next.senders.items (post.1 ∷ []) in
       let many = may.many in
       let few = may.few in
       let room = may.room in
@@ -91,11 +105,14 @@ module _ {may_stop : ℕ → ℕ → Type 0} {site : Site} where
       }
 
   -- the others are back, and there is room for one more
-  pub room_for_one : (posts next : Posts) (crew mid : Crew) (post : Drawn × Presented Note) (started : ℕ) → MayRun may_stop site posts crew
-      → IsTakenOut post posts next → HasRunAll may_stop site next (with_away crew started) mid → length mid.senders.items < vec_capacity mid.senders
-  room_for_one posts next crew mid post started may is ran =
+  pub room_for_one : (next : Posts) (crew mid : Crew) (post : Drawn × Presented Note) (started : ℕ)
+      → MayRun may_stop site crew
+      → IsTakenOut post crew.posts next → HasRunAll may_stop site (left_with crew next started) mid
+      → length mid.senders.items < vec_capacity mid.senders
+  room_for_one next crew mid post started may is ran =
       let number : Presented Note → ℕ = λ s. s.number in
-      let senders : length posts.senders.items ≡ length next.senders.items + 1 = ap length is.senders ∙ length-append next.senders.items (post.1 ∷ []) in
+      let senders : length crew.posts.senders.items ≡ length next.senders.items + 1 =
+      ap length is.senders ∙ length-append next.senders.items (post.1 ∷ []) in
       let all : length (sender_numbers mid.senders.items) ≡ length (sender_numbers crew.senders.items) + length (sender_numbers next.senders.items) =
       ap length ran.numbers ∙ length-append (sender_numbers crew.senders.items) (sender_numbers next.senders.items) in
       let a : length (sender_numbers mid.senders.items) ≡ length mid.senders.items = length-map mid.senders.items number in
@@ -106,11 +123,12 @@ module _ {may_stop : ℕ → ℕ → Type 0} {site : Site} where
       omega (arith, senders, all, a, b, d, same, room)
 
   -- no post is left, and the notes of all that were started are collected
-  pub run_none : (posts : Posts) (crew new : Crew) → MayRun may_stop site posts crew → posts.senders.items ≡ []
-      → (answered : Bool) × Collected crew.away 0 crew.receiver new.receiver crew.haul new.haul answered → new.senders ≡ crew.senders
-      → new.stopped ≡ crew.stopped → new.away ≡ crew.away → HasRunAll may_stop site posts crew new
-  run_none posts crew new may none collected senders stopped away = record {
-    back = subst₂ (λ (ps : List (Presented Note)) (o : Option ℕ). AreBack may_stop site.belt.name site.job site.missing.items ps o)
+  pub run_none : (crew new : Crew) → MayRun may_stop site crew → crew.posts.senders.items ≡ []
+      → (answered : Bool) × Collected (collector_of crew.away crew) (collector_of 0 new) answered
+      → new.senders ≡ crew.senders
+      → new.stopped ≡ crew.stopped → new.away ≡ crew.away → HasRunAll may_stop site crew new
+  run_none crew new may none collected senders stopped away = record {
+    back = subst₂ (λ (ps : List (Presented Note)) (o : Option ℕ). AreBack may_stop site ps o)
         (sym (ap (λ v. v.items) senders)) (sym stopped) may.back;
     numbers =
         ap (λ v. sender_numbers v.items) senders
@@ -122,16 +140,17 @@ module _ {may_stop : ℕ → ℕ → Type 0} {site : Site} where
   }
 
   -- the others are back, and then the worker that was started first of these
-  pub run_more : (posts next : Posts) (crew mid new : Crew) (post : Drawn × Presented Note) (shift : Presented Note) (started : ℕ)
-      (Stopped : Type 0) → IsTakenOut post posts next → HasRunAll may_stop site next (with_away crew started) mid
-      → Leaves may_stop site.belt.name site.job site.missing.items post.1.number shift Stopped
-      → new.senders.items ≡ mid.senders.items ++ shift ∷ [] → vec_capacity new.senders ≡ vec_capacity mid.senders
-      → IfSome new.stopped (λ w. (mid.stopped ≡ Some w) ⊎ (Stopped × (w ≡ shift.number))) → new.haul ≡ mid.haul → new.receiver ≡ mid.receiver
-      → new.away ≡ mid.away - started → HasRunAll may_stop site posts crew new
-  run_more posts next crew mid new post shift started Stopped is ran leaves senders room stopped haul receiver away = record {
-    back = back_more mid.senders.items new.senders.items shift mid.stopped new.stopped post.1.number Stopped ran.back leaves senders stopped;
+  pub run_more : (next : Posts) (crew mid new : Crew) (post : Drawn × Presented Note) (shift : Shift) (started : ℕ)
+      → IsTakenOut post crew.posts next → HasRunAll may_stop site (left_with crew next started) mid
+      → Leaves may_stop site post.1.number shift
+      → new.senders.items ≡ mid.senders.items ++ shift.sender ∷ [] → vec_capacity new.senders ≡ vec_capacity mid.senders
+      → IfSome new.stopped (WasStopped mid.stopped shift) → new.haul ≡ mid.haul → new.receiver ≡ mid.receiver
+      → new.away ≡ mid.away - started → HasRunAll may_stop site crew new
+  run_more next crew mid new post shift started is ran leaves senders room stopped haul receiver away = record {
+    back = back_more mid.senders.items new.senders.items shift mid.stopped new.stopped post.1.number ran.back leaves
+        senders stopped;
     numbers =
-        ap sender_numbers senders ∙ map-append number mid.senders.items (shift ∷ [])
+        ap sender_numbers senders ∙ map-append number mid.senders.items (shift.sender ∷ [])
         ∙ (λ i. ran.numbers i ++ leaves.number i ∷ [])
         ∙ append_assoc (sender_numbers crew.senders.items) (sender_numbers next.senders.items) (post.1.number ∷ [])
         ∙ ap (λ (ns : List ℕ). sender_numbers crew.senders.items ++ ns)
@@ -141,8 +160,8 @@ module _ {may_stop : ℕ → ℕ → Type 0} {site : Site} where
     collected = (
       ran.collected.0,
       ran.collected.1,
-      subst (λ (h : Held). Collected ran.collected.0 0 crew.receiver new.receiver crew.haul h ran.collected.1) (sym haul)
-          (subst (λ (r : Received Note). Collected ran.collected.0 0 crew.receiver r crew.haul mid.haul ran.collected.1) (sym receiver) ran.collected.2),
+      subst₂ (λ (r : Received Note) (h : Held).
+          Collected (collector_of ran.collected.0 crew) (collector_with 0 r h) ran.collected.1) (sym receiver) (sym haul) ran.collected.2,
     );
   }
     where

@@ -15,15 +15,17 @@ use mathlib.Core.Logic.{dite}
 use native.Mathlib.Decide.{ℕ_discrete}
 use Rattle.atomic_table.specs.Seated.{TableId}
 use Rattle.survey_core.specs.declared.job.Job.{Job}
+use Rattle.haul_core.specs.BookLaws.{IsSubsequence}
 use Rattle.haul_core.specs.Books.{Held, entry}
 use Rattle.haul_core.specs.Keeping.{numbers_in}
 use Rattle.haul_core.specs.Reports.{Reported}
-use Rattle.handover.specs.Belts.{IsWhole, BeltId, Presented, Received, deaf, notes_of, silent}
-use Rattle.crew.specs.Crews.{Collected, IsPart, report_in, reports_in}
+use Rattle.handover.specs.Belts.{IsWhole, Presented, Received, deaf, notes_of, silent}
+use Rattle.crew.specs.Crews.{Collected, Collector, report_in, reports_in}
 use Rattle.crew.specs.Shifts.{HasWorked, StopsAt, reported, sender_numbers}
 use Rattle.crew.specs.Takes.{HasTaken, taken_by, was_missing}
 use Rattle.crew.specs.declared.note.Note.{Note}
 use Rattle.crew.specs.declared.note.Note.TheVariants.{Done, Report}
+use Rattle.crew.specs.declared.site.Site.{Site}
 use Rattle.handover.proofs.BeltLemmas.{notes_first, notes_other}
 use Rattle.crew.proofs.CrewLemmas.{added_none}
 
@@ -41,11 +43,11 @@ module _ {X : Type 0} (P : X → Type 0) where
   all_right [] ys h = h
   all_right (x ∷ xs) ys h = all_right xs ys (All-tail P x (xs ++ ys) h)
 
-  pub all_part : (part xs : List X) → IsPart part xs → All P xs → All P part
+  pub all_part : (part xs : List X) → IsSubsequence part xs → All P xs → All P part
   all_part part [] p h = subst (All P) (sym p) (All-nil P)
   all_part part (x ∷ xs) p h =
-      ⊎_elim (λ (q : IsPart part xs). all_part part xs q (All-tail P x xs h))
-      (λ (q : (remainder : List X) × (part ≡ x ∷ remainder) × IsPart remainder xs).
+      ⊎_elim (λ (q : IsSubsequence part xs). all_part part xs q (All-tail P x xs h))
+      (λ (q : (remainder : List X) × (part ≡ x ∷ remainder) × IsSubsequence remainder xs).
       subst (All P) (sym q.1) (All-cons P x q.0 (All-head P x xs h) (all_part q.0 xs q.2 (All-tail P x xs h)))) p
 
 rises_head : (x : ℕ) (xs : List ℕ) → Rises (x ∷ xs) → All (λ y. x < y) xs
@@ -59,11 +61,11 @@ rises_left [] ys h = λ i j d lt below. absurd (omega arith)
 rises_left (x ∷ xs) ys h =
     AllPairs-cons (λ a b. a < b) x xs (all_left (λ y. x < y) xs ys (rises_head x (xs ++ ys) h)) (rises_left xs ys (rises_tail x (xs ++ ys) h))
 
-rises_part : (part xs : List ℕ) → IsPart part xs → Rises xs → Rises part
+rises_part : (part xs : List ℕ) → IsSubsequence part xs → Rises xs → Rises part
 rises_part part [] p h = subst Rises (sym p) h
 rises_part part (x ∷ xs) p h =
-    ⊎_elim (λ (q : IsPart part xs). rises_part part xs q (rises_tail x xs h))
-    (λ (q : (remainder : List ℕ) × (part ≡ x ∷ remainder) × IsPart remainder xs).
+    ⊎_elim (λ (q : IsSubsequence part xs). rises_part part xs q (rises_tail x xs h))
+    (λ (q : (remainder : List ℕ) × (part ≡ x ∷ remainder) × IsSubsequence remainder xs).
     subst Rises (sym q.1) (AllPairs-cons (λ a b. a < b) x q.0 (all_part (λ y. x < y) q.0 xs q.2 (rises_head x xs h))
     (rises_part q.0 xs q.2 (rises_tail x xs h)))) p
 
@@ -117,9 +119,12 @@ both job missing worker (r ∷ rs) own listed of =
     (both job missing worker rs (All-tail (λ (s : Reported). s.worker ≡ worker) r rs own)
     (All-tail (Contains missing) r.number (map (λ (s : Reported). s.number) rs) listed) (All-tail (λ (s : Reported). s.job ≡ job) r rs of))
 
-received_of : (name : TableId) (job : Job) (missing : List ℕ) (got : List (ℕ × Note)) (pass : Presented Note) → Rises missing → HasWorked name job missing pass
-    → IsWhole got pass → ReceivedOf job missing pass.number got
-received_of name job missing got pass up worked whole =
+received_of : (site : Site) (got : List (ℕ × Note)) (pass : Presented Note) → Rises site.missing.items
+    → HasWorked site pass
+    → IsWhole got pass → ReceivedOf site.job site.missing.items pass.number got
+received_of site got pass up worked whole =
+    let job = site.job in
+    let missing = site.missing.items in
     let h = worked.1 in
     let front = notes_of pass.number got in
     let remainder = drop (length front) pass.notes in
@@ -150,12 +155,13 @@ sender_of P first (suc n) (s ∷ ss) is all worker le lt =
     (λ apart. sender_of P (first + 1) n ss (ap (λ (l : List ℕ). drop 1 l) is) (All-tail (λ (t : Presented Note). P t.number) s ss all) worker
     (omega (arith, apart)) (omega arith))
 
-pub received_each : (name : TableId) (job : Job) (missing : List ℕ) (got : List (ℕ × Note)) (passes : List (Presented Note)) (workers : ℕ) → Rises missing
-    → sender_numbers passes ≡ range_with_len 1 workers → All (HasWorked name job missing) passes → All (IsWhole got) passes
-    → (worker : ℕ) → 1 ≤ worker → worker ≤ workers → ReceivedOf job missing worker got
-received_each name job missing got passes workers up numbers worked whole worker le ge =
-    sender_of (λ w. ReceivedOf job missing w got) 1 workers passes numbers
-    (λ k d lt. received_of name job missing got (get_or passes k d) up (worked k d lt) (whole k d lt)) worker le (omega arith)
+pub received_each : (site : Site) (got : List (ℕ × Note)) (passes : List (Presented Note)) (workers : ℕ)
+    → Rises site.missing.items
+    → sender_numbers passes ≡ range_with_len 1 workers → All (HasWorked site) passes → All (IsWhole got) passes
+    → (worker : ℕ) → 1 ≤ worker → worker ≤ workers → ReceivedOf site.job site.missing.items worker got
+received_each site got passes workers up numbers worked whole worker le ge =
+    sender_of (λ w. ReceivedOf site.job site.missing.items w got) 1 workers passes numbers
+    (λ k d lt. received_of site got (get_or passes k d) up (worked k d lt) (whole k d lt)) worker le (omega arith)
 
 -- ---- what was received of all workers
 
@@ -196,22 +202,23 @@ by_no w t ts e =
     ap (λ (b : Bool). map (λ (s : ℕ × ℕ). s.1) (cond b (t ∷ filter (λ (s : ℕ × ℕ). nat_eq w s.0) ts) (filter (λ (s : ℕ × ℕ). nat_eq w s.0) ts)))
     (ne_eqb w t.0 e)
 
-taken_part : (w : ℕ) (part rs : List Reported) → IsPart part rs → IsPart (taken_by w (map entry part)) (taken_by w (map entry rs))
+taken_part : (w : ℕ) (part rs : List Reported) → IsSubsequence part rs
+    → IsSubsequence (taken_by w (map entry part)) (taken_by w (map entry rs))
 taken_part w part [] p = ap (λ (l : List Reported). taken_by w (map entry l)) p
 taken_part w part (r ∷ rs) p =
     dite (ℕ_discrete w r.worker)
-    (λ same. subst (IsPart (taken_by w (map entry part))) (sym (by_yes w (entry r) (map entry rs) same))
-    (⊎_elim (λ (q : IsPart part rs). inl (taken_part w part rs q))
-    (λ (q : (remainder : List Reported) × (part ≡ r ∷ remainder) × IsPart remainder rs).
+    (λ same. subst (IsSubsequence (taken_by w (map entry part))) (sym (by_yes w (entry r) (map entry rs) same))
+    (⊎_elim (λ (q : IsSubsequence part rs). inl (taken_part w part rs q))
+    (λ (q : (remainder : List Reported) × (part ≡ r ∷ remainder) × IsSubsequence remainder rs).
     inr (
       taken_by w (map entry q.0),
       ap (λ (l : List Reported). taken_by w (map entry l)) q.1 ∙ by_yes w (entry r) (map entry q.0) same,
       taken_part w q.0 rs q.2,
     )) p))
-    (λ apart. subst (IsPart (taken_by w (map entry part))) (sym (by_no w (entry r) (map entry rs) apart))
-    (⊎_elim (λ (q : IsPart part rs). taken_part w part rs q)
-    (λ (q : (remainder : List Reported) × (part ≡ r ∷ remainder) × IsPart remainder rs).
-    subst (λ (l : List ℕ). IsPart l (taken_by w (map entry rs)))
+    (λ apart. subst (IsSubsequence (taken_by w (map entry part))) (sym (by_no w (entry r) (map entry rs) apart))
+    (⊎_elim (λ (q : IsSubsequence part rs). taken_part w part rs q)
+    (λ (q : (remainder : List Reported) × (part ≡ r ∷ remainder) × IsSubsequence remainder rs).
+    subst (λ (l : List ℕ). IsSubsequence l (taken_by w (map entry rs)))
     (sym (ap (λ (l : List Reported). taken_by w (map entry l)) q.1 ∙ by_no w (entry r) (map entry q.0) apart)) (taken_part w q.0 rs q.2)) p))
 
 taken_all : (job : Job) (missing : List ℕ) (w : ℕ) (got : List (ℕ × Note)) → All (λ m. All (IsOwn job missing m.0) (report_in m.1)) got
@@ -248,11 +255,14 @@ record OfCrew (workers : ℕ) (job : Job) (missing : List ℕ) (part : List Repo
   listed : All (λ r. Contains missing r.number) part
   rises : (worker : ℕ) → 1 ≤ worker → worker ≤ workers → Rises (taken_by worker (map entry part))
 
-of_crew : (name : TableId) (job : Job) (missing : List ℕ) (workers : ℕ) (got : List (ℕ × Note)) (passes : List (Presented Note)) (part : List Reported)
-    → Rises missing → sender_numbers passes ≡ range_with_len 1 workers → All (HasWorked name job missing) passes
-    → All (IsWhole got) passes → All (λ m. (1 ≤ m.0) × (m.0 ≤ workers)) got → IsPart part (reports_in got) → OfCrew workers job missing part
-of_crew name job missing workers got passes part up numbers worked whole few is =
-    let each = received_each name job missing got passes workers up numbers worked whole in
+of_crew : (site : Site) (workers : ℕ) (got : List (ℕ × Note)) (passes : List (Presented Note)) (part : List Reported)
+    → Rises site.missing.items → sender_numbers passes ≡ range_with_len 1 workers → All (HasWorked site) passes
+    → All (IsWhole got) passes → All (λ m. (1 ≤ m.0) × (m.0 ≤ workers)) got → IsSubsequence part (reports_in got)
+    → OfCrew workers site.job site.missing.items part
+of_crew site workers got passes part up numbers worked whole few is =
+    let job = site.job in
+    let missing = site.missing.items in
+    let each = received_each site got passes workers up numbers worked whole in
     let own : All (λ (m : ℕ × Note). All (IsOwn job missing m.0) (report_in m.1)) got =
     all_own (IsOwn job missing) got workers few (λ w le ge. (each w le ge).own) in
     record {
@@ -267,17 +277,17 @@ of_crew name job missing workers got passes part up numbers worked whole few is 
     }
   where
     workers_in : (got : List (ℕ × Note)) → All (λ m. (1 ≤ m.0) × (m.0 ≤ workers)) got
-        → All (λ (m : ℕ × Note). All (IsOwn job missing m.0) (report_in m.1)) got
+        → All (λ (m : ℕ × Note). All (IsOwn site.job site.missing.items m.0) (report_in m.1)) got
         → All (λ (r : Reported). (1 ≤ r.worker) × (r.worker ≤ workers)) (reports_in got)
     workers_in [] few own = All-nil (λ (r : Reported). (1 ≤ r.worker) × (r.worker ≤ workers))
     workers_in (m ∷ ms) few own =
         let P : Reported → Type 0 = λ r. (1 ≤ r.worker) × (r.worker ≤ workers) in
         let here = All-head (λ (n : ℕ × Note). (1 ≤ n.0) × (n.0 ≤ workers)) m ms few in
-        let mine = All-head (λ (n : ℕ × Note). All (IsOwn job missing n.0) (report_in n.1)) m ms own in
+        let mine = All-head (λ (n : ℕ × Note). All (IsOwn site.job site.missing.items n.0) (report_in n.1)) m ms own in
         All-append P (report_in m.1) (reports_in ms)
         (λ k d lt. let e = (mine k d lt).0 in (omega (arith, here.0, e), omega (arith, here.1, e)))
         (workers_in ms (All-tail (λ (n : ℕ × Note). (1 ≤ n.0) × (n.0 ≤ workers)) m ms few)
-        (All-tail (λ (n : ℕ × Note). All (IsOwn job missing n.0) (report_in n.1)) m ms own))
+        (All-tail (λ (n : ℕ × Note). All (IsOwn site.job site.missing.items n.0) (report_in n.1)) m ms own))
 
 distinct_none : IsDistinct nat_eq []
 unfolding IsDistinct
@@ -311,41 +321,45 @@ silent_length name workers = length-map (range_with_len 1 workers) (silent {N = 
 
 -- ---- what it leaves
 
-pub belts_of : (name : TableId) (job : Job) (missing : List ℕ) (passes : List (Presented Note)) → All (HasWorked name job missing) passes
-    → All (λ (s : Presented Note). s.belt ≡ name) passes
-belts_of name job missing passes worked k d lt = (worked k d lt).1.belt
+pub belts_of : (site : Site) (passes : List (Presented Note)) → All (HasWorked site) passes
+    → All (λ (s : Presented Note). s.belt ≡ site.belt.name) passes
+belts_of site passes worked k d lt = (worked k d lt).1.belt
 
 -- what is known when a crew ends
-module _ {name : TableId} {job : Job} {started : ℕ} {before after : Received Note} {old mid : Held} {answered : Bool} (belt : BeltId) (workers : ℕ)
-    (missing : List ℕ) (passes first back : List (Presented Note)) (c : Collected started 0 before after old mid answered) (begun : before ≡ deaf belt)
-    (as_many : belt.workers ≡ workers) (listed : missing ≡ was_missing old) (up : IsStrictlyIncreasing missing)
-    (silents : first ≡ map (silent name) (range_with_len 1 workers)) (none : back ≡ [])
-    (numbers : sender_numbers passes ≡ sender_numbers back ++ sender_numbers first) (worked : All (HasWorked name job missing) passes)
-    (whole : All (IsWhole after.got) passes) where
-  crew_part : (part : List Reported) → IsPart part (reports_in c.notes) → OfCrew workers job (was_missing old) part
+module _ {before after : Collector} {answered : Bool} (site : Site) (workers : ℕ)
+    (passes first back : List (Presented Note)) (c : Collected before after answered)
+    (begun : before.receiver ≡ deaf site.belt) (as_many : site.belt.workers ≡ workers)
+    (listed : site.missing.items ≡ was_missing before.haul) (up : IsStrictlyIncreasing site.missing.items)
+    (silents : first ≡ map (silent site.belt.name) (range_with_len 1 workers)) (none : back ≡ [])
+    (numbers : sender_numbers passes ≡ sender_numbers back ++ sender_numbers first)
+    (worked : All (HasWorked site) passes) (whole : All (IsWhole after.receiver.got) passes) where
+  crew_part : (part : List Reported) → IsSubsequence part (reports_in c.notes)
+      → OfCrew workers site.job site.missing.items part
   crew_part part is =
-      let notes_are : after.got ≡ c.notes = c.got ∙ ap (λ (r : Received Note). r.got ++ c.notes) begun in
-      let bound : before.belt.workers ≡ workers = ap (λ (r : Received Note). r.belt.workers) begun ∙ as_many in
-      of_crew name job (was_missing old) workers after.got passes part
-      (AllPairs-from_increasing (was_missing old) (subst IsStrictlyIncreasing listed up))
+      let notes_are : after.receiver.got ≡ c.notes = c.got ∙ ap (λ (r : Received Note). r.got ++ c.notes) begun in
+      let bound : before.receiver.belt.workers ≡ workers = ap (λ (r : Received Note). r.belt.workers) begun ∙ as_many in
+      of_crew site workers after.receiver.got passes part (AllPairs-from_increasing site.missing.items up)
       (numbers ∙ ap (λ (l : List (Presented Note)). sender_numbers l ++ sender_numbers first) none ∙ ap sender_numbers silents
-      ∙ silent_numbers name (range_with_len 1 workers))
-      (subst (λ (l : List ℕ). All (HasWorked name job l) passes) listed worked) whole
+      ∙ silent_numbers site.belt.name (range_with_len 1 workers))
+      worked whole
       (subst (All (λ (m : ℕ × Note). (1 ≤ m.0) × (m.0 ≤ workers))) (sym notes_are)
       (λ k d lt. let s = c.senders k d lt in (s.0, omega (arith, s.1, bound))))
-      (subst (λ (l : List (ℕ × Note)). IsPart part (reports_in l)) (sym notes_are) is)
+      (subst (λ (l : List (ℕ × Note)). IsSubsequence part (reports_in l)) (sym notes_are) is)
 
-  pub crew_has_taken : (new : Held) → new ≡ mid → IsDistinct nat_eq (numbers_in mid.taken) → job ≡ old.terms.job → HasTaken workers old new
+  pub crew_has_taken : (new : Held) → new ≡ after.haul → IsDistinct nat_eq (numbers_in after.haul.taken)
+      → site.job ≡ before.haul.terms.job
+      → HasTaken workers before.haul new
   crew_has_taken new same distinct of_haul =
       let of = crew_part c.part c.some in
-      subst (HasTaken workers old) (sym same) (record {
+      subst (HasTaken workers before.haul) (sym same) (record {
         offers = c.part;
         added = c.added;
         job = subst (λ (j : Job). All (λ (r : Reported). r.job ≡ j) c.part) of_haul of.of_job;
         by_workers = of.by_workers;
-        missing = of.listed;
-        once = distinct_right (numbers_in old.taken) (numbers_in (map entry c.part))
-            (subst (IsDistinct nat_eq) (ap numbers_in c.added.taken ∙ map-append (λ (t : ℕ × ℕ). t.1) old.taken (map entry c.part)) distinct);
+        missing = subst (λ (l : List ℕ). All (λ (r : Reported). Contains l r.number) c.part) listed of.listed;
+        once = distinct_right (numbers_in before.haul.taken) (numbers_in (map entry c.part))
+            (subst (IsDistinct nat_eq)
+            (ap numbers_in c.added.taken ∙ map-append (λ (t : ℕ × ℕ). t.1) before.haul.taken (map entry c.part)) distinct);
         in_order = of.rises;
       })
 

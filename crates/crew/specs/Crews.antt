@@ -2,17 +2,13 @@
 use Rattle.std.specs.Prelude.{◌≡◌, ◌<◌, ◌≤◌, ◌+◌, ◌++◌, ◌⊎◌, ℕ, Bool, true, false, All, List, [], ◌∷◌, None, count_by, flat_map, map}
 use Rattle.haul_core.specs.Books.{Held, StandsFor, entry}
 use Rattle.haul_core.specs.Refusals.{refusal_of}
+use Rattle.haul_core.specs.BookLaws.{IsSubsequence}
 use Rattle.haul_core.specs.Reports.{Reported}
 use Rattle.haul_core.specs.declared.book.arrival.Arrival.{Arrival}
 use Rattle.haul_core.specs.declared.book.arrival.Arrival.TheVariants.{Offer}
 use Rattle.handover.specs.Belts.{Received}
 use Rattle.crew.specs.declared.note.Note.{Note}
 use Rattle.crew.specs.declared.note.Note.TheVariants.{Done, Report}
-
--- some of the items, in their order
-abbrev pub IsPart : {X : Type 0} → List X → List X → Type 0
-IsPart part [] = part ≡ []
-IsPart part (x ∷ xs) = IsPart part xs ⊎ ((remainder : _) × (part ≡ x ∷ remainder) × IsPart remainder xs)
 
 abbrev pub report_in : Note → List Reported
 report_in (Report report) = report ∷ []
@@ -51,20 +47,29 @@ pub record HasLost (reports part : List Reported) (old : Held) : Type 0 where
   pub report : Reported
   pub later : List Reported
   pub taken : part ≡ before ++ later
-  pub some : IsPart (before ++ report ∷ later) reports
+  pub some : IsSubsequence (before ++ report ∷ later) reports
   pub eligible : (arrivals : List Arrival) → StandsFor arrivals old → refusal_of old.terms (arrivals ++ map Offer before) report ≡ None
 
--- Notes were received until so many workers were done, all but the last few. Of the reports in them a haul has taken some: all that
--- the book takes if `answered`, and else one was lost.
-pub record Collected (started left : ℕ) (before after : Received Note) (old new : Held) (answered : Bool) : Type 0 where
+-- where a collector stands: how many workers it waits for that are not done, what it has received, and its haul
+pub record Collector : Type 0 where
+  pub awaited : ℕ
+  pub receiver : Received Note
+  pub haul : Held
+
+abbrev pub collector_with : ℕ → Received Note → Held → Collector
+collector_with awaited receiver haul = record { awaited = awaited; receiver = receiver; haul = haul }
+
+-- Notes were received, each from one of the workers, and those that say so are done. Once no worker is awaited the last note
+-- was such a one. Of the reports received the haul has taken some: all that the book takes if `answered`, and else one was lost.
+pub record Collected (before after : Collector) (answered : Bool) : Type 0 where
   pub notes : List (ℕ × Note)
-  pub belt : after.belt ≡ before.belt
-  pub got : after.got ≡ before.got ++ notes
-  pub senders : All (λ m. (1 ≤ m.0) × (m.0 ≤ before.belt.workers)) notes
-  pub done : dones notes + left ≡ started
-  pub ends : (0 < left) ⊎ EndsDone notes
+  pub belt : after.receiver.belt ≡ before.receiver.belt
+  pub got : after.receiver.got ≡ before.receiver.got ++ notes
+  pub senders : All (λ m. (1 ≤ m.0) × (m.0 ≤ before.receiver.belt.workers)) notes
+  pub done : dones notes + after.awaited ≡ before.awaited
+  pub ends : (0 < after.awaited) ⊎ EndsDone notes
   pub part : List Reported
-  pub some : IsPart part (reports_in notes)
-  pub added : HasAdded part old new
-  pub all : answered ≡ true → HasComeAll (reports_in notes) old new
-  pub lost : answered ≡ false → HasLost (reports_in notes) part old
+  pub some : IsSubsequence part (reports_in notes)
+  pub added : HasAdded part before.haul after.haul
+  pub all : answered ≡ true → HasComeAll (reports_in notes) before.haul after.haul
+  pub lost : answered ≡ false → HasLost (reports_in notes) part before.haul

@@ -3,7 +3,7 @@ ghost use Rattle.std.specs.Prelude.{◌≡◌, ◌∷◌, ◌⊎◌, [], List, N
 ghost use Rattle.haul_core.specs.Books.{StandsFor};
 ghost use Rattle.haul_core.specs.Refusals.{refusal_of};
 ghost use Rattle.haul_core.specs.declared.book.arrival.Arrival.{Arrival};
-ghost use Rattle.crew.specs.Crews.{Collected, HasAdded, HasComeAll};
+ghost use Rattle.crew.specs.Crews.{Collected, HasAdded, HasComeAll, collector_with};
 
 use crate::note::Note;
 use crate::watch::Watch;
@@ -31,7 +31,8 @@ pub fn collect<R: Wait, H: Watch>(
     watch: &mut H,
 ) -> Result<(), AllocError>
     requires { pass.old.belt ≡ belt.now }
-    ensures { Collected started 0 pass.old pass.new haul.old haul.new (is_ok result) }
+    ensures { Collected (collector_with started pass.old haul.old) (collector_with 0 pass.new haul.new)
+        (is_ok result) }
 {
     let mut left = started;
     let mut answered = true;

@@ -11,6 +11,8 @@ pub mod note;
 mod posts;
 /// A worker's shift.
 mod shift;
+/// What all workers share.
+mod site;
 /// Who hears how far a haul has come.
 pub mod watch;
 /// The workers, and the call that runs them.

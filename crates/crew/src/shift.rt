@@ -1,6 +1,5 @@
 //! A worker's shift: it draws, asks the gate, surveys and reports, until none is left or it has to stop.
-ghost use Rattle.std.specs.Prelude.{◌≡◌, ◌<◌, ◌⊎◌, All, vec_len};
-ghost use Rattle.ranges.specs.Ranges.{number_bound};
+ghost use Rattle.std.specs.Prelude.{◌≡◌, ◌⊎◌};
 ghost use Rattle.handover.specs.Belts.{silent};
 ghost use Rattle.crew.specs.Shifts.{EndsByDone, HasWorked, StopsAt};
 ghost use Rattle.handover.specs.Tickets.{fresh};
@@ -8,28 +7,14 @@ ghost use Rattle.crew.specs.declared.shift.End.TheVariants as End;
 
 use crate::gate::Gate;
 use crate::note::Note;
-use handover::belt::{Belt, SenderPass};
-use handover::tickets::{Pass, Tickets};
+use crate::site::Site;
+use handover::belt::SenderPass;
+use handover::tickets::Pass;
 use haul_core::report::Report;
 use std::alloc::Global;
 use std::sync::Wait;
-use std::sync::atomic::{AtomicU64, Ordering};
-use survey_core::job::Job;
+use std::sync::atomic::Ordering;
 use survey_core::memo::Memo;
-
-/// What all workers share.
-#[derive(Drop)]
-pub(crate) struct Site {
-    pub(crate) job: Job,
-    pub(crate) tickets: Tickets,
-    pub(crate) belt: Belt<Note>,
-    /// The numbers to be surveyed. A ticket is a place of this list.
-    pub(crate) missing: Vec<u64>,
-    /// The worker that was not started, if there is one.
-    pub(crate) called_off: AtomicU64,
-    ghost listed: { tickets.count ≡ vec_len missing },
-    ghost below: { All (λ n. n < number_bound) missing.items },
-}
 
 /// How a worker ended.
 #[derive(Clone, Copy, PartialEq, Eq)]
@@ -63,7 +48,7 @@ fn survey_all<G: Gate, R: Wait>(
     requires pass { pass.old ≡ fresh site.now.tickets }
     requires sender { sender.old ≡ silent site.now.belt.name sender.old.number }
     ensures number { sender.new.number ≡ sender.old.number }
-    ensures worked { HasWorked site.now.belt.name site.now.job site.now.missing.items sender.new }
+    ensures worked { HasWorked site.now sender.new }
     ensures stopped { result ≡ End.Stopped → StopsAt (G.may_stop gate.now) site.now.missing.items sender.old.number }
 {
     let mut memo = Memo::new(alloc);
@@ -84,7 +69,7 @@ fn survey_left<G: Gate, R: Wait>(
     requires pass { pass.old ≡ fresh site.now.tickets }
     requires sender { sender.old ≡ silent site.now.belt.name sender.old.number }
     ensures number { sender.new.number ≡ sender.old.number }
-    ensures worked { HasWorked site.now.belt.name site.now.job site.now.missing.items sender.new }
+    ensures worked { HasWorked site.now sender.new }
     ensures stopped { result ≡ End.Stopped → StopsAt (G.may_stop gate.now) site.now.missing.items sender.old.number }
 {
     let worker = sender.number();
@@ -117,7 +102,7 @@ pub(crate) fn work<G: Gate, R: Wait>(
     requires pass { pass ≡ fresh site.now.tickets }
     requires sender { sender ≡ silent site.now.belt.name sender.number }
     ensures number { result.sender.number ≡ sender.number }
-    ensures worked { HasWorked site.now.belt.name site.now.job site.now.missing.items result.sender }
+    ensures worked { HasWorked site.now result.sender }
     ensures stopped { result.end ≡ End.Stopped → StopsAt (G.may_stop gate.now) site.now.missing.items sender.number }
     ensures done { (result.end ≡ End.CalledOff) ⊎ EndsByDone sender.number result.sender.notes }
 {

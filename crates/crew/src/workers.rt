@@ -6,7 +6,7 @@ ghost use Rattle.std.specs.List.Sorted.{IsStrictlyIncreasing};
 ghost use Rattle.haul_core.specs.Keeping.{numbers_in};
 ghost use Rattle.haul_core.specs.Missing.{AreAll, IsComplete};
 ghost use Rattle.handover.specs.Belts.{IsWhole, deaf, silent};
-ghost use Rattle.crew.specs.CrewSteps.{HasRunAll, MayRun};
+ghost use Rattle.crew.specs.CrewSteps.{HasRunAll, MayRun, collector_of};
 ghost use Rattle.crew.specs.Crews.{Collected};
 ghost use Rattle.crew.specs.Shifts.{Leaves, StopsAt};
 ghost use Rattle.crew.specs.Takes.{HasTaken, was_missing};
@@ -18,7 +18,8 @@ use crate::collector::collect;
 use crate::gate::Gate;
 use crate::note::Note;
 use crate::posts::Posts;
-use crate::shift::{End, Shift, Site, work};
+use crate::shift::{End, Shift, work};
+use crate::site::Site;
 use crate::watch::Watch;
 use handover::belt::{Belt, ReceiverPass, SenderPass};
 use handover::tickets::{Pass, Tickets};
@@ -137,13 +138,14 @@ fn take_missing<G: Gate + Sync, R: Threads + Wait + Sync, H: Watch>(
         back,
     } = start;
     let crew = Crew {
+        posts,
         haul,
         receiver,
         senders: back,
         away: 0,
         stopped: None,
     };
-    let crew = run_in_scope(alloc, rt, &site, gate, posts, crew, watch);
+    let crew = run_in_scope(alloc, rt, &site, gate, crew, watch);
     end_crew(site, crew)
 }
 
@@ -156,14 +158,14 @@ struct Duty<'s, G> {
 }
 
 impl<'s, G: Gate> Promise<Shift> for Duty<'s, G> {
-    ghost kept_by = { λ d shift. Leaves
-        (G.may_stop d.gate.now) d.site.now.belt.name d.site.now.job d.site.now.missing.items d.worker shift.sender
-        (shift.end ≡ End.Stopped) };
+    ghost kept_by = { λ d shift. Leaves (G.may_stop d.gate.now) d.site.now d.worker shift };
 }
 
-/// The haul, what its collector has received, and what the workers have left that are back.
+/// The workers that are still to be started, the haul, what its collector has received, and what the workers have left
+/// that are back.
 #[derive(Drop)]
 struct Crew {
+    posts: Posts,
     haul: Haul,
     receiver: ReceiverPass<Note>,
     senders: Vec<SenderPass<Note>>,
@@ -181,14 +183,13 @@ fn run_crew<'s, E, G: Gate + Sync, R: Threads + Wait + Sync, H: Watch>(
     scope: &'s Scope<'s, E>,
     site: &'s Site,
     gate: &'s G,
-    posts: &mut Posts,
     crew: &mut Crew,
     watch: &mut H,
 )
-    requires { MayRun (G.may_stop gate.now) site.now posts.old crew.old }
-    ensures { HasRunAll (G.may_stop gate.now) site.now posts.old crew.old crew.new }
+    requires { MayRun (G.may_stop gate.now) site.now crew.old }
+    ensures { HasRunAll (G.may_stop gate.now) site.now crew.old crew.new }
 {
-    let Some((pass, sender)) = posts.take_last() else {
+    let Some((pass, sender)) = crew.posts.take_last() else {
         receive_all(rt, site, crew, watch);
         return;
     };
@@ -196,7 +197,7 @@ fn run_crew<'s, E, G: Gate + Sync, R: Threads + Wait + Sync, H: Watch>(
     let begun = begin_shift(alloc, rt, scope, site, gate, pass, sender);
     let started = u8::from(begun.is_ok());
     crew.away += started;
-    run_crew(alloc, rt, scope, site, gate, posts, crew, watch);
+    run_crew(alloc, rt, scope, site, gate, crew, watch);
     crew.away -= started;
     note_shift(crew, end_shift(rt, Duty { worker, site, gate }, begun));
 }
@@ -205,7 +206,7 @@ fn run_crew<'s, E, G: Gate + Sync, R: Threads + Wait + Sync, H: Watch>(
 fn receive_all<R: Wait, H: Watch>(rt: &R, site: &Site, crew: &mut Crew, watch: &mut H)
     requires { crew.old.receiver.belt ≡ site.now.belt }
     ensures collected { (answered : Bool)
-        × Collected crew.old.away 0 crew.old.receiver crew.new.receiver crew.old.haul crew.new.haul answered }
+        × Collected (collector_of crew.old.away crew.old) (collector_of 0 crew.new) answered }
     ensures senders { crew.new.senders ≡ crew.old.senders }
     ensures stopped { crew.new.stopped ≡ crew.old.stopped }
     ensures away { crew.new.away ≡ crew.old.away }
@@ -239,16 +240,13 @@ fn begin_shift<'s, E, G: Gate + Sync, R: Threads + Wait + Sync>(
     ensures worker { IfOk result (λ handle. handle.promise.worker ≡ sender.number) }
     ensures site { IfOk result (λ handle. handle.promise.site ≡ site.entry) }
     ensures gate { IfOk result (λ handle. handle.promise.gate ≡ gate.entry) }
-    ensures here { IfErr result (λ shift. Leaves
-        (G.may_stop gate.now) site.now.belt.name site.now.job site.now.missing.items
-        sender.number shift.sender (shift.end ≡ End.Stopped)) }
+    ensures here { IfErr result (Leaves (G.may_stop gate.now) site.now sender.number) }
 {
     let worker = sender.number();
     let duty = Duty { worker, site, gate };
     let shift = move || -> Shift
         requires { (pass ≡ fresh site.now.tickets) × (sender ≡ silent site.now.belt.name sender.number) }
-        ensures { Leaves (G.may_stop gate.entry.now) site.entry.now.belt.name site.entry.now.job
-            site.entry.now.missing.items sender.number result.sender (result.end ≡ End.Stopped) }
+        ensures { Leaves (G.may_stop gate.entry.now) site.entry.now sender.number result }
     { work(alloc, rt, site, gate, pass, sender) };
     match scope.spawn_with(duty, shift) {
         Ok(handle) => Ok(handle),
@@ -266,12 +264,8 @@ fn end_shift<'s, G: Gate, R: Threads>(
     begun: Result<PromisedHandle<Shift, Duty<'s, G>>, Shift>,
 ) -> Shift
     requires thread { IfOk begun (λ handle. handle.promise ≡ duty) }
-    requires here { IfErr begun (λ shift. Leaves
-        (G.may_stop duty.gate.now) duty.site.now.belt.name duty.site.now.job
-        duty.site.now.missing.items duty.worker shift.sender (shift.end ≡ End.Stopped)) }
-    ensures { Leaves
-        (G.may_stop duty.entry.gate.now) duty.entry.site.now.belt.name duty.entry.site.now.job
-        duty.entry.site.now.missing.items duty.entry.worker result.sender (result.end ≡ End.Stopped) }
+    requires here { IfErr begun (Leaves (G.may_stop duty.gate.now) duty.site.now duty.worker) }
+    ensures { Leaves (G.may_stop duty.entry.gate.now) duty.entry.site.now duty.entry.worker result }
 {
     match begun {
         Ok(handle) => handle.join(rt),
@@ -352,22 +346,21 @@ fn run_in_scope<G: Gate + Sync, R: Threads + Wait + Sync, H: Watch>(
     rt: &R,
     site: &Site,
     gate: &G,
-    posts: Posts,
     crew: Crew,
     watch: &mut H,
 ) -> Crew
-    requires { MayRun (G.may_stop gate.now) site.now posts crew }
-    ensures { HasRunAll (G.may_stop gate.now) site.now posts crew result }
+    requires { MayRun (G.may_stop gate.now) site.now crew }
+    ensures { HasRunAll (G.may_stop gate.now) site.now crew result }
 {
     thread::scope(
         thread::scope_env(),
         rt,
         move |scope| -> Crew
-            requires { MayRun (G.may_stop gate.now) site.now posts crew }
-            ensures { HasRunAll (G.may_stop gate.entry.now) site.entry.now posts crew result }
+            requires { MayRun (G.may_stop gate.now) site.now crew }
+            ensures { HasRunAll (G.may_stop gate.entry.now) site.entry.now crew result }
         {
-            let (mut posts, mut crew) = (posts, crew);
-            run_crew(alloc, rt, scope, site, gate, &mut posts, &mut crew, watch);
+            let mut crew = crew;
+            run_crew(alloc, rt, scope, site, gate, &mut crew, watch);
             crew
         },
     )

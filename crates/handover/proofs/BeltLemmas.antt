@@ -17,8 +17,10 @@ use Rattle.std.proofs.Common.{add-zero}
 use Rattle.std.specs.List.{range_with_len}
 use Rattle.atomic_table.specs.Seated.{TableId}
 use Rattle.handover.specs.Belts.{IsWhole, NothingLeft, Presented, left_of, notes_of, silent, with_first}
-use Rattle.handover.specs.BeltRule.{Delivers, Gets, KnowsItsNotes, IsFront, Puts, Tells, both_shares, entry_of, first_notes, first_share, left_over, new_sender}
-use Rattle.handover.specs.BeltRule.{owners, owns, receives, share, spent_share, with_sender, with_senders}
+use Rattle.handover.specs.BeltRule.{Delivers, GetsNote, IsFront, KnowsItsNotes, PutsNote, TellsWhatIsLeft, both_shares}
+use Rattle.handover.specs.BeltRule.{first_notes, first_share, left_over, new_sender, notes_entry, owners, owns}
+use Rattle.handover.specs.BeltRule.{receives}
+use Rattle.handover.specs.BeltRule.{share, spent_share, with_sender, with_senders}
 use Rattle.handover.specs.declared.belt.Share.{Share}
 use Rattle.handover.proofs.SumLemmas.{each_push, each_set, sum_at, sum_set, sum_two}
 
@@ -94,7 +96,8 @@ module _ {N : Type 0} where
 
   -- ---- the steps
 
-  pub pushes : (n id : ℕ) (v : Share N) (p : ℕ) (note : N) → v.senders ≡ (p, first_notes v.senders) ∷ [] → Pushes Delivers n id v (p, note) (Puts v (p, note))
+  pub pushes : (n id : ℕ) (v : Share N) (p : ℕ) (note : N) → v.senders ≡ (p, first_notes v.senders) ∷ []
+      → Pushes Delivers n id v (p, note) (PutsNote v (p, note))
   pushes n id v p note is items views room d at =
       let w : Share N = share ((p, first_notes v.senders ++ note ∷ []) ∷ []) v.receives v.made v.got in
       let all : List (ℕ × N) = d.got ++ items in
@@ -142,7 +145,7 @@ module _ {N : Type 0} where
         refl,
       )
 
-  pub pops : (id : ℕ) (v : Share N) → v.receives ≡ true → Pops Delivers id v (Gets v)
+  pub pops : (id : ℕ) (v : Share N) → v.receives ≡ true → Pops Delivers id v (GetsNote v)
   pops id v may x items views d at =
       let w : Share N = share v.senders v.receives v.made (v.got ++ x ∷ []) in
       let got : List (ℕ × N) = d.got ++ x ∷ [] in
@@ -190,7 +193,7 @@ module _ {N : Type 0} where
         },
       )
 
-  pub learns : (id : ℕ) (v : Share N) → v.receives ≡ true → Learns Delivers id v (Tells v)
+  pub learns : (id : ℕ) (v : Share N) → v.receives ≡ true → Learns Delivers id v (TellsWhatIsLeft v)
   learns id v may items views d at =
       let mine = d.holds id v at in
       subst (λ (l : List (ℕ × N)). All (λ (e : ℕ × List N). e.1 ≡ notes_of e.0 (l ++ items)) v.senders) (sym (mine.got_is may)) mine.senders
@@ -284,9 +287,9 @@ module _ {N : Type 0} where
   taken_more left old s v w target is one so_far =
       ap (λ (u : Share N). with_senders left u) one
       ∙ ap (λ (l : List (ℕ × List N)). share l v.receives v.made v.got)
-      (sym (append_assoc (map entry_of left) (entry_of s ∷ []) v.senders)
-      ∙ ap (λ (l : List (ℕ × List N)). l ++ v.senders) (sym (map-append entry_of left (s ∷ [])))
-      ∙ ap (λ (l : List (Presented N)). map entry_of l ++ v.senders) (sym is))
+      (sym (append_assoc (map notes_entry left) (notes_entry s ∷ []) v.senders)
+      ∙ ap (λ (l : List (ℕ × List N)). l ++ v.senders) (sym (map-append notes_entry left (s ∷ [])))
+      ∙ ap (λ (l : List (Presented N)). map notes_entry l ++ v.senders) (sym is))
       ∙ so_far
 
   drop_front : (front more : List N) → drop (length front) (front ++ more) ≡ more
@@ -294,21 +297,23 @@ module _ {N : Type 0} where
   drop_front (x ∷ xs) more = drop_front xs more
 
   -- the passes that are handed back, with what the rule tells of them
-  pub told : (passes : List (Presented N)) (v : Share N) (items : List (ℕ × N)) → v.senders ≡ [] → Tells (with_senders passes v) items
+  pub told : (passes : List (Presented N)) (v : Share N) (items : List (ℕ × N)) → v.senders ≡ []
+      → TellsWhatIsLeft (with_senders passes v) items
       → All (λ (p : Presented N). IsFront (notes_of p.number v.got) p.notes) passes
   told passes v items none tells = go passes (subst (λ (l : List (ℕ × List N)). All (λ (e : ℕ × List N). e.1 ≡ notes_of e.0 (v.got ++ items)) l)
-      (ap (λ (l : List (ℕ × List N)). map entry_of passes ++ l) none ∙ append-nil (map entry_of passes)) tells)
+      (ap (λ (l : List (ℕ × List N)). map notes_entry passes ++ l) none ∙ append-nil (map notes_entry passes)) tells)
     where
-      go : (passes : List (Presented N)) → All (λ (e : ℕ × List N). e.1 ≡ notes_of e.0 (v.got ++ items)) (map entry_of passes)
+      go : (passes : List (Presented N))
+          → All (λ (e : ℕ × List N). e.1 ≡ notes_of e.0 (v.got ++ items)) (map notes_entry passes)
           → All (λ (p : Presented N). IsFront (notes_of p.number v.got) p.notes) passes
       go [] all = All-nil (λ (p : Presented N). IsFront (notes_of p.number v.got) p.notes)
       go (p ∷ ps) all =
           All-cons (λ (p : Presented N). IsFront (notes_of p.number v.got) p.notes) p ps (
             notes_of p.number items,
-            All-head (λ (e : ℕ × List N). e.1 ≡ notes_of e.0 (v.got ++ items)) (entry_of p) (map entry_of ps) all
+            All-head (λ (e : ℕ × List N). e.1 ≡ notes_of e.0 (v.got ++ items)) (notes_entry p) (map notes_entry ps) all
                 ∙ notes-append p.number v.got items,
           )
-          (go ps (All-tail (λ (e : ℕ × List N). e.1 ≡ notes_of e.0 (v.got ++ items)) (entry_of p) (map entry_of ps) all))
+          (go ps (All-tail (λ (e : ℕ × List N). e.1 ≡ notes_of e.0 (v.got ++ items)) (notes_entry p) (map notes_entry ps) all))
 
   pub whole : (got : List (ℕ × N)) (passes : List (Presented N)) → All (λ (p : Presented N). IsFront (notes_of p.number got) p.notes) passes
       → All (IsWhole got) passes
@@ -322,14 +327,15 @@ module _ {N : Type 0} where
   pub seen_remainder : (passes : List (Presented N)) (v : Share N) → v.senders ≡ []
       → map (left_over v.got) (with_senders passes v).senders ≡ map (left_of v.got) passes
   seen_remainder passes v none =
-      ap (λ (l : List (ℕ × List N)). map (left_over v.got) l) (ap (λ (l : List (ℕ × List N)). map entry_of passes ++ l) none
-      ∙ append-nil (map entry_of passes)) ∙ go passes
+      ap (λ (l : List (ℕ × List N)). map (left_over v.got) l) (ap (λ (l : List (ℕ × List N)). map notes_entry passes ++ l) none
+      ∙ append-nil (map notes_entry passes)) ∙ go passes
     where
-      go : (passes : List (Presented N)) → map (left_over v.got) (map entry_of passes) ≡ map (left_of v.got) passes
+      go : (passes : List (Presented N)) → map (left_over v.got) (map notes_entry passes) ≡ map (left_of v.got) passes
       go [] = refl
       go (p ∷ ps) = λ i. left_of v.got p ∷ go ps i
 
-  pub fronts_kept : (v : Share N) (items : List (ℕ × N)) → Tells v items → All (λ (e : ℕ × List N). IsFront (notes_of e.0 v.got) e.1) v.senders
+  pub fronts_kept : (v : Share N) (items : List (ℕ × N)) → TellsWhatIsLeft v items
+      → All (λ (e : ℕ × List N). IsFront (notes_of e.0 v.got) e.1) v.senders
   fronts_kept v items tells k z lt =
       let e = get_or v.senders k z in
       (notes_of e.0 items, tells k z lt ∙ notes-append e.0 v.got items)
@@ -380,7 +386,8 @@ module _ {N : Type 0} where
       (left_none got es (All-tail (λ (e : ℕ × List N). e.1 ≡ notes_of e.0 got) e es whole))
 
   -- an empty queue
-  pub none_left : (v : Share N) → Held 0 (Tells v) → NothingLeft (record { workers = v.made; lists = map (left_over v.got) v.senders })
+  pub none_left : (v : Share N) → Held 0 (TellsWhatIsLeft v)
+      → NothingLeft (record { workers = v.made; lists = map (left_over v.got) v.senders })
   none_left v (items, none, tells) =
       let empty : items ≡ [] = nil_from_length items none in
       left_none v.got v.senders (subst (λ (l : List (ℕ × N)). All (λ (e : ℕ × List N). e.1 ≡ notes_of e.0 l) v.senders)

@@ -29,12 +29,12 @@ module _ {N : Type 0} where
   both_shares v w = share (w.senders ++ v.senders) v.receives v.made v.got
 
   -- number and notes of a sender's pass
-  abbrev pub entry_of : Presented N → ℕ × List N
-  entry_of pass = (pass.number, pass.notes)
+  abbrev pub notes_entry : Presented N → ℕ × List N
+  notes_entry pass = (pass.number, pass.notes)
 
   -- the receiver that took in these passes
   abbrev pub with_senders : List (Presented N) → Share N → Share N
-  with_senders passes v = share (map entry_of passes ++ v.senders) v.receives v.made v.got
+  with_senders passes v = share (map notes_entry passes ++ v.senders) v.receives v.made v.got
 
   abbrev pub first_notes : List (ℕ × List N) → List N
   first_notes [] = []
@@ -65,14 +65,14 @@ module _ {N : Type 0} where
     pub holds : (seat : ℕ) (v : Share N) → get_elem? views seat ≡ some v → KnowsItsNotes (got ++ items) got (owners views) v
 
   -- a note presented
-  abbrev pub Puts : Share N → ℕ × N → Share N → Type 0
-  Puts v x w = w ≡ share ((x.0, first_notes v.senders ++ x.1 ∷ []) ∷ []) v.receives v.made v.got
+  abbrev pub PutsNote : Share N → ℕ × N → Share N → Type 0
+  PutsNote v x w = w ≡ share ((x.0, first_notes v.senders ++ x.1 ∷ []) ∷ []) v.receives v.made v.got
 
   abbrev pub IsFront : List N → List N → Type 0
   IsFront front whole = (remainder : List N) × (whole ≡ front ++ remainder)
 
   -- a note got
-  pub record Gets (v : Share N) (x : ℕ × N) (w : Share N) : Type 0 where
+  pub record GetsNote (v : Share N) (x : ℕ × N) (w : Share N) : Type 0 where
     pub got : w ≡ share v.senders v.receives v.made (v.got ++ x ∷ [])
     pub made : (1 ≤ x.0) × (x.0 ≤ v.made)
     pub fronts : All (λ e. IsFront (notes_of e.0 (v.got ++ x ∷ [])) e.1) v.senders
@@ -82,5 +82,5 @@ module _ {N : Type 0} where
   left_over got e = (e.0, drop (length (notes_of e.0 got)) e.1)
 
   -- what the queue holds is what was presented and not got
-  abbrev pub Tells : Share N → List (ℕ × N) → Type 0
-  Tells v items = All (λ e. e.1 ≡ notes_of e.0 (v.got ++ items)) v.senders
+  abbrev pub TellsWhatIsLeft : Share N → List (ℕ × N) → Type 0
+  TellsWhatIsLeft v items = All (λ e. e.1 ≡ notes_of e.0 (v.got ++ items)) v.senders

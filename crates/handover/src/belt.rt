@@ -61,23 +61,23 @@ impl<N> Join<Share<N>> for TakeIn {
 struct Put;
 
 impl<N> Outcome<(u8, N), Share<N>> for Put {
-    ghost use Rattle.handover.specs.BeltRule.{Puts};
+    ghost use Rattle.handover.specs.BeltRule.{PutsNote};
 
-    ghost then = { Puts };
+    ghost then = { PutsNote };
 }
 
 struct Get;
 
 impl<N> Outcome<(u8, N), Share<N>> for Get {
-    ghost use Rattle.handover.specs.BeltRule.{Gets};
+    ghost use Rattle.handover.specs.BeltRule.{GetsNote};
 
-    ghost then = { Gets };
+    ghost then = { GetsNote };
 }
 
 impl<N> Lesson<(u8, N), Share<N>> for Get {
-    ghost use Rattle.handover.specs.BeltRule.{Tells};
+    ghost use Rattle.handover.specs.BeltRule.{TellsWhatIsLeft};
 
-    ghost fact = { Tells };
+    ghost fact = { TellsWhatIsLeft };
 }
 
 type Queue<N> = RuledArrayQueue<(u8, N), Share<N>, InOrder>;

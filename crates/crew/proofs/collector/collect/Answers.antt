@@ -1,9 +1,10 @@
 use Rattle.std.proofs.Common.{arith}
+use Rattle.crew.specs.Crews.{collector_with}
 use Rattle.crew.proofs.CrewLemmas.{collected_done, collected_heard, collected_none, collected_unheard}
 use Rattle.crew.proofs.collector.collect.Goals as goal
 
 pub loop-init : goal.loop-init
-loop-init g c = collected_none c.args.started c.args.pass.now c.args.haul.now
+loop-init g c = collected_none (collector_with c.args.started c.args.pass.now c.args.haul.now)
 
 pub loop-preserved-then-not-offer : goal.loop-preserved-then-not-offer
 loop-preserved-then-not-offer g c =

@@ -1,5 +1,6 @@
-use Rattle.crew.specs.Crews.{Collected}
+use Rattle.crew.specs.Crews.{Collected, collector_with}
 use Rattle.crew.proofs.collector.collect.Given as goal
 
 abbrev pub invariant-loop : goal.invariant-loop
-invariant-loop g l = Collected l.fn.started l.left l.fn.pass l.pass l.fn.haul l.haul l.answered
+invariant-loop g l =
+    Collected (collector_with l.fn.started l.fn.pass l.fn.haul) (collector_with l.left l.pass l.haul) l.answered

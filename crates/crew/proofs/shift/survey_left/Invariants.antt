@@ -5,4 +5,5 @@ use Rattle.crew.proofs.shift.survey_left.Given as goal
 abbrev pub invariant-loop : goal.invariant-loop
 invariant-loop g l =
     (l.pass.series ≡ l.fn.site.tickets)
-    × HasReported l.fn.site.belt.name l.fn.site.job l.fn.sender.number l.fn.site.missing.items l.pass.numbers l.sender
+    × (l.sender.number ≡ l.fn.sender.number)
+    × HasReported l.fn.site l.pass.numbers l.sender

@@ -8,12 +8,13 @@ use Rattle.crew.proofs.workers.take_missing.Goals as goal
 pub run_in_scope-crew-requires-after_bounds : goal.run_in_scope-crew-requires-after_bounds
 run_in_scope-crew-requires-after_bounds g c κs within =
     let start = c.in-Ok.ensures in
-    ready_first c.in-Ok.start.site c.in-Ok.start.posts _ c.args.workers start.passes start.many start.senders (omega (arith, c.ranges.workers.fits)) refl
+    ready_first c.in-Ok.start.site _ c.args.workers start.passes start.many start.senders
+    (omega (arith, c.ranges.workers.fits)) refl
     (ap (λ (r : Received Note). r.belt) start.receiver) start.back start.room refl
 
 pub end_crew-requires-clause-senders : goal.end_crew-requires-clause-senders
 end_crew-requires-clause-senders g c =
-    belts_of c.in-Ok.start.site.belt.name c.in-Ok.start.site.job c.in-Ok.start.site.missing.items c.run_in_scope-crew.result.senders.items c.run_in_scope-crew.ensures.back.worked
+    belts_of c.in-Ok.start.site c.run_in_scope-crew.result.senders.items c.run_in_scope-crew.ensures.back.worked
 
 pub end_crew-requires-clause-receiver : goal.end_crew-requires-clause-receiver
 end_crew-requires-clause-receiver g c =
@@ -23,9 +24,10 @@ pub returns-clause-taken : goal.returns-clause-taken
 returns-clause-taken g c =
     let start = c.in-Ok.ensures in
     let crew = c.run_in_scope-crew.ensures in
-    crew_has_taken c.in-Ok.start.site.belt c.args.workers c.in-Ok.start.site.missing.items c.run_in_scope-crew.result.senders.items
-    c.in-Ok.start.posts.senders.items c.in-Ok.start.back.items crew.collected.2 start.receiver start.workers start.missing start.ascending start.senders start.back
-    crew.numbers crew.back.worked c.end_crew.ensures.whole c.end_crew.result.0 c.end_crew.ensures.haul c.end_crew.ensures.distinct start.job
+    crew_has_taken c.in-Ok.start.site c.args.workers c.run_in_scope-crew.result.senders.items
+    c.in-Ok.start.posts.senders.items c.in-Ok.start.back.items crew.collected.2 start.receiver start.workers start.missing
+    start.ascending start.senders start.back crew.numbers crew.back.worked c.end_crew.ensures.whole c.end_crew.result.0
+    c.end_crew.ensures.haul c.end_crew.ensures.distinct start.job
 
 pub returns-clause-stopped : goal.returns-clause-stopped
 returns-clause-stopped g c =

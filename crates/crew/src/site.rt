@@ -1,0 +1,23 @@
+//! The site of a crew.
+ghost use Rattle.std.specs.Prelude.{◌≡◌, ◌<◌, All, vec_len};
+ghost use Rattle.ranges.specs.Ranges.{number_bound};
+
+use crate::note::Note;
+use handover::belt::Belt;
+use handover::tickets::Tickets;
+use std::sync::atomic::AtomicU64;
+use survey_core::job::Job;
+
+/// What all workers share.
+#[derive(Drop)]
+pub(crate) struct Site {
+    pub(crate) job: Job,
+    pub(crate) tickets: Tickets,
+    pub(crate) belt: Belt<Note>,
+    /// The numbers to be surveyed. A ticket is a place of this list.
+    pub(crate) missing: Vec<u64>,
+    /// The worker that was not started, if there is one.
+    pub(crate) called_off: AtomicU64,
+    ghost listed: { tickets.count ≡ vec_len missing },
+    ghost below: { All (λ n. n < number_bound) missing.items },
+}
