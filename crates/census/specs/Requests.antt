@@ -68,8 +68,9 @@ tells_lines request = false
 abbrev pub right_for : Request → List ℕ → Makes
 right_for request = (task_of request).right
 
--- What a request leaves as it was, by how it ended: the input, where it isn't looked at or can't be what is refused; and standard
--- output, where something is refused, or memory ran out for a text that is whole before it is written.
+-- What a request leaves as it was, by how it ended; `input` says so of the reader, and `output` of standard output. The reader: if the
+-- command doesn't look at it, and if what was refused can't be the input. The output: if something was refused, and if memory ran out
+-- for a text that is whole before its first byte is written.
 pub record Spares (request : Request) (status : Status) (input output : Type 0) : Type 0 where
   pub unread : reads_input request ≡ false → input
   pub unread_refused : status ≡ Refused → refuses_input request ≡ false → input

@@ -1,4 +1,4 @@
-use Rattle.std.proofs.Common.{◌≡◌, ℕ, List, Option, refl, rules, subst}
+use Rattle.std.proofs.Common.{◌≡◌, ℕ, List, Option, refl, subst}
 use Rattle.pattern_commands.specs.declared.status.Status.{Status}
 use Rattle.pattern_commands.specs.declared.status.Status.TheVariants.{Memory, Refused}
 use Rattle.pattern_commands.specs.Ends.{Ends}
@@ -29,26 +29,10 @@ returns-in-Run-clause-ends g c =
     let ended = rw c.as_str.ensures at c.do_run.ensures.ends in
     rw c.in-Run.is (record { bytes = ended.0; input = ended.1; ends = ended.2 })
 
-pub returns-in-Run-clause-spares : goal.returns-in-Run-clause-spares
-returns-in-Run-clause-spares g c = record {
-  unread = search rules;
-  unread_refused = search rules;
-  untouched = c.do_run.ensures.untouched;
-  no_memory = λ memory _. c.do_run.ensures.no_memory memory;
-}
-
 pub returns-in-Name-clause-ends : goal.returns-in-Name-clause-ends
 returns-in-Name-clause-ends g c =
     let ended = rw (c.as_str-in-Name.ensures, c.numbers_for-profile.ensures.numbers) at c.do_name.ensures.ends in
     rw c.in-Name.is (record { bytes = ended.0; input = ended.1; ends = ended.2 })
-
-pub returns-in-Name-clause-spares : goal.returns-in-Name-clause-spares
-returns-in-Name-clause-spares g c = record {
-  unread = search rules;
-  unread_refused = search rules;
-  untouched = c.do_name.ensures.untouched;
-  no_memory = λ memory _. c.do_name.ensures.no_memory memory;
-}
 
 pub returns-in-Show-clause-ends : goal.returns-in-Show-clause-ends
 returns-in-Show-clause-ends g c = rw c.in-Show.is (does _ _ (λ i. show_task (c.as_str-in-Show.ensures i)) c.do_show.ensures.ends)
