@@ -1,5 +1,5 @@
 -- The table of the program's commands and their arguments, and how `clap` reads words by it.
-use Rattle.std.specs.Prelude.{List, [], ◌∷◌, Option, None, Some, Bool, true, false, pos, map, codes, not, is_some, if◌then◌else◌}
+use Rattle.std.specs.Prelude.{◌-◌, ◌^◌, ℕ, List, [], ◌∷◌, Option, None, Some, Bool, true, false, pos, map, codes, not, is_some, if◌then◌else◌}
 use Rattle.std.specs.Option.{option_map, option_map_or}
 use Rattle.clap.specs.Words.{App, Rule, Shape, Text, new_app, new_rule, with_rule, with_subcommand}
 use Rattle.clap.specs.declared.builder.action.ArgAction.TheVariants.{SetTrue}
@@ -41,6 +41,14 @@ command_of row = record { name = row.name.now; arguments = map entry_of row.argu
 
 -- ---- the table
 
+-- the most workers that a haul may have, and so the greatest number of one
+abbrev pub most_workers : ℕ
+most_workers = 16
+
+-- the greatest first number of a range: the numbers of soups are below it
+abbrev pub most_first : ℕ
+most_first = 2 ^ 40
+
 -- an argument that stands by itself, and must be given
 abbrev pub position : Text → Kind → Entry
 position name kind = record { name = name; is_named = false; kind = kind; default = None }
@@ -60,7 +68,7 @@ abbrev pub code : Entry
 code = position (codes "CODE") kind.Text
 
 abbrev pub number : Entry
-number = position (codes "N") (kind.LargeNumber 1099511627775)
+number = position (codes "N") (kind.LargeNumber (most_first - 1))
 
 abbrev pub rule : Entry
 rule = option (codes "rule") kind.Text (codes "b3s23")
@@ -69,7 +77,7 @@ abbrev pub seed : Entry
 seed = option (codes "seed") kind.Text []
 
 abbrev pub first : Entry
-first = option (codes "first") (kind.LargeNumber 1099511627776) (codes "0")
+first = option (codes "first") (kind.LargeNumber most_first) (codes "0")
 
 abbrev pub count : Entry
 count = required (codes "count") (kind.Number 0 16777216)
@@ -90,10 +98,10 @@ abbrev pub limit : Entry
 limit = option (codes "limit") (kind.Number 0 100000) (codes "30300")
 
 abbrev pub workers : Entry
-workers = option (codes "workers") (kind.Number 1 16) (codes "1")
+workers = option (codes "workers") (kind.Number 1 most_workers) (codes "1")
 
 abbrev pub worker : Entry
-worker = required (codes "worker") (kind.Number 1 16)
+worker = required (codes "worker") (kind.Number 1 most_workers)
 
 abbrev pub progress : Entry
 progress = required (codes "progress") kind.Flag

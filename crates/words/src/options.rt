@@ -42,6 +42,12 @@ pub struct Argument {
     pub help: &'static str,
 }
 
+/// The most workers there may be, and so the greatest number of one: as many as a haul may have.
+const MOST_WORKERS: u32 = 16;
+
+/// The greatest first number of a range. The numbers of soups are below it, so a range that begins there is empty.
+const MOST_FIRST: u64 = 1 << 40;
+
 /// Help shows what nearly nobody changes under a heading of its own.
 const SETTLING: Option<&'static str> = Some("When a soup has settled");
 
@@ -70,7 +76,7 @@ pub const CODE: Argument = Argument {
 pub const NUMBER: Argument = Argument {
     name: "N",
     place: Place::Position,
-    kind: Kind::LargeNumber(1_099_511_627_775),
+    kind: Kind::LargeNumber(MOST_FIRST - 1),
     default: None,
     heading: None,
     help: "The number of the soup, from 0 to 1099511627775",
@@ -102,7 +108,7 @@ pub const SEED: Argument = Argument {
 pub const FIRST: Argument = Argument {
     name: "first",
     place: Place::Named("NUMBER"),
-    kind: Kind::LargeNumber(1_099_511_627_776),
+    kind: Kind::LargeNumber(MOST_FIRST),
     default: Some("0"),
     heading: None,
     help: "The number of the first soup, from 0 to 1099511627776",
@@ -176,7 +182,7 @@ pub const LIMIT: Argument = Argument {
 pub const WORKERS: Argument = Argument {
     name: "workers",
     place: Place::Named("WORKERS"),
-    kind: Kind::Number(1, 16),
+    kind: Kind::Number(1, MOST_WORKERS),
     default: Some("1"),
     heading: None,
     help: "How many workers run soups at a time, at most 16, each in a thread\n\
@@ -188,7 +194,7 @@ pub const WORKERS: Argument = Argument {
 pub const REPORTERS: Argument = Argument {
     name: "workers",
     place: Place::Named("WORKERS"),
-    kind: Kind::Number(1, 16),
+    kind: Kind::Number(1, MOST_WORKERS),
     default: Some("1"),
     heading: None,
     help: "The greatest number of a worker whose lines are taken, at most 16:\n\
@@ -199,7 +205,7 @@ pub const REPORTERS: Argument = Argument {
 pub const WORKER: Argument = Argument {
     name: "worker",
     place: Place::Named("WORKER"),
-    kind: Kind::Number(1, 16),
+    kind: Kind::Number(1, MOST_WORKERS),
     default: None,
     heading: None,
     help: "The number of the worker that reports, from 1 to 16",
