@@ -16,8 +16,8 @@ use Rattle.clap.specs.declared.error.kind.ErrorKind.TheVariants.{DisplayHelp}
 use Rattle.clap.specs.declared.parser.matches.ValueSource.{ValueSource}
 use Rattle.clap.specs.declared.parser.matches.ValueSource.TheVariants.{CommandLine, DefaultValue}
 use Rattle.clap.proofs.OnLiterals.{clap_on_literals}
-use Rattle.words.specs.declared.options.Kind.{Kind}
-use Rattle.words.specs.declared.options.Kind.TheVariants as kind
+use Rattle.words.specs.declared.options.ValueKind.{ValueKind}
+use Rattle.words.specs.declared.options.ValueKind.TheVariants as kind
 use Rattle.words.specs.Requests.{is_version}
 use Rattle.words.specs.Table.{Command, Entry, census_app, commands, shape_in}
 use Rattle.words.specs.Uses.{IsIn, is_flag, is_required, is_used}
@@ -96,14 +96,14 @@ number_of (number n) = n
 number_of other = None
 
 -- of the row that was found for an argument of this kind
-abbrev pub taken : Kind → Option Row → Value
+abbrev pub taken : ValueKind → Option Row → Value
 taken kind.Text row = text (option_and_then (λ (r : Row). slice_get r.values 0) row)
 taken kind.Flag row = flag (option_map_or (λ t. bytes_eq t (codes "true")) (option_and_then (λ (r : Row). slice_get r.values 0) row) false)
 taken (kind.Number least most) row = number (option_and_then (at_least least) (option_and_then (number_named most) (option_and_then row_text row)))
 taken (kind.LargeNumber most) row = number (option_and_then (number_named most) (option_and_then row_text row))
 
 -- where the argument has this value, or the flag is used or not
-abbrev pub given : Kind → Text → Bool → Value
+abbrev pub given : ValueKind → Text → Bool → Value
 given kind.Text v used = text (Some v)
 given kind.Flag v used = flag used
 given (kind.Number least most) v used = number (Some (digits_value 10 v))

@@ -6,8 +6,8 @@ use Rattle.clap.specs.declared.builder.action.ArgAction.TheVariants.{SetTrue}
 use Rattle.clap.specs.declared.builder.value_parser.ValueParser.TheVariants.{Signed, Unsigned}
 use Rattle.words.specs.declared.commands.CommandRow.{CommandRow}
 use Rattle.words.specs.declared.options.Argument.{Argument}
-use Rattle.words.specs.declared.options.Kind.{Kind}
-use Rattle.words.specs.declared.options.Kind.TheVariants as kind
+use Rattle.words.specs.declared.options.ValueKind.{ValueKind}
+use Rattle.words.specs.declared.options.ValueKind.TheVariants as kind
 use Rattle.words.specs.declared.options.Place.{Place}
 use Rattle.words.specs.declared.options.Place.TheVariants as place
 
@@ -15,7 +15,7 @@ use Rattle.words.specs.declared.options.Place.TheVariants as place
 pub record Entry : Type 0 where
   pub name : Text
   pub is_named : Bool
-  pub kind : Kind
+  pub kind : ValueKind
   pub default : Option Text
 
 -- the command's name, and its arguments
@@ -50,15 +50,15 @@ abbrev pub most_first : ℕ
 most_first = 2 ^ 40
 
 -- an argument that stands by itself, and must be given
-abbrev pub position : Text → Kind → Entry
+abbrev pub position : Text → ValueKind → Entry
 position name kind = record { name = name; is_named = false; kind = kind; default = None }
 
 -- `--name`, with what is meant if it isn't given
-abbrev pub option : Text → Kind → Text → Entry
+abbrev pub option : Text → ValueKind → Text → Entry
 option name kind default = record { name = name; is_named = true; kind = kind; default = Some default }
 
 -- `--name`, which must be given
-abbrev pub required : Text → Kind → Entry
+abbrev pub required : Text → ValueKind → Entry
 required name kind = record { name = name; is_named = true; kind = kind; default = None }
 
 abbrev pub generations : Entry
@@ -157,7 +157,7 @@ placed entry = record (named entry) {
 }
 
 -- the same where it takes what its kind says; numbers of 32 bits may have a sign
-abbrev pub rule_by : Entry → Kind → Rule
+abbrev pub rule_by : Entry → ValueKind → Rule
 rule_by entry kind.Text = placed entry
 rule_by entry kind.Flag = record (new_rule entry.name) { long = Some entry.name; action = Some SetTrue }
 rule_by entry (kind.Number least most) = record (placed entry) { parser = Some (Signed (pos least) (pos most)) }

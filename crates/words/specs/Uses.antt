@@ -5,8 +5,8 @@ use Rattle.std.specs.Str.{bytes_eq}
 use Rattle.std.specs.Str.Parse.{IsNumeral, digits_value, starts_with_minus, without_leading_plus}
 use Rattle.clap.specs.Words.{Text}
 use Rattle.clap.specs.Lexer.{long_of}
-use Rattle.words.specs.declared.options.Kind.{Kind}
-use Rattle.words.specs.declared.options.Kind.TheVariants as kind
+use Rattle.words.specs.declared.options.ValueKind.{ValueKind}
+use Rattle.words.specs.declared.options.ValueKind.TheVariants as kind
 use Rattle.words.specs.Table.{Command, Entry}
 
 -- an argument in a call: VALUE alone, `--name VALUE`, `--name=VALUE`, or `--name` of a flag
@@ -46,12 +46,12 @@ abbrev pub IsIn : {X : Type 0} → X → List X → Type 0
 IsIn x [] = ⊥
 IsIn x (y ∷ more) = (y ≡ x) ⊎ IsIn x more
 
-abbrev pub is_flag : Kind → Bool
+abbrev pub is_flag : ValueKind → Bool
 is_flag kind.Flag = true
 is_flag _ = false
 
 -- in a word of its own a text doesn't begin with `-`
-abbrev pub IsBare : Kind → Text → Type 0
+abbrev pub IsBare : ValueKind → Text → Type 0
 IsBare kind.Text value = starts_with_minus value ≡ false
 IsBare _ value = ⊤
 
@@ -69,7 +69,7 @@ pub record IsNumberFromTo (least most : ℕ) (text : Text) : Type 0 where
   pub high : digits_value 10 text ≤ most
 
 -- a value is one of this kind
-abbrev pub IsOfKind : Kind → Text → Type 0
+abbrev pub IsOfKind : ValueKind → Text → Type 0
 IsOfKind (kind.Number least most) value = IsNumberFromTo least most value
 IsOfKind (kind.LargeNumber most) value = IsNumberFromTo 0 most value
 IsOfKind kind.Flag value = value ≡ codes "true"
@@ -103,7 +103,7 @@ abbrev pub IsNoNumber : ℕ → ℕ → Text → Type 0
 IsNoNumber least most text =
     (starts_with_minus text ≡ false) × (without_leading_plus text ≡ text) × (IsNumberFromTo least most text → ⊥)
 
-abbrev pub IsNotOfKind : Kind → Text → Type 0
+abbrev pub IsNotOfKind : ValueKind → Text → Type 0
 IsNotOfKind (kind.Number least most) value = IsNoNumber least most value
 IsNotOfKind (kind.LargeNumber most) value = IsNoNumber 0 most value
 IsNotOfKind _ value = ⊥
