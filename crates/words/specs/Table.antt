@@ -61,6 +61,10 @@ option name kind default = record { name = name; is_named = true; kind = kind; d
 abbrev pub required : Text → ValueKind → Entry
 required name kind = record { name = name; is_named = true; kind = kind; default = None }
 
+-- a flag: `--name` alone
+abbrev pub flag : Text → Entry
+flag name = record { name = name; is_named = true; kind = kind.Flag; default = None }
+
 abbrev pub generations : Entry
 generations = position (codes "N") (kind.Number 0 100000)
 
@@ -104,7 +108,7 @@ abbrev pub worker : Entry
 worker = required (codes "worker") (kind.Number 1 most_workers)
 
 abbrev pub progress : Entry
-progress = required (codes "progress") kind.Flag
+progress = flag (codes "progress")
 
 abbrev pub run_command : Command
 run_command = record { name = codes "run"; arguments = generations ∷ rule ∷ [] }
