@@ -18,9 +18,12 @@ use Rattle.clap.specs.declared.parser.matches.ValueSource.TheVariants.{CommandLi
 use Rattle.clap.proofs.OnLiterals.{clap_on_literals}
 use Rattle.words.specs.declared.options.ValueKind.{ValueKind}
 use Rattle.words.specs.declared.options.ValueKind.TheVariants as kind
+use Rattle.words.specs.Application.{census_app, shape_in}
+use Rattle.words.specs.Entries.{Command, Entry}
+use Rattle.words.specs.LawfulUses.{IsIn, is_required}
 use Rattle.words.specs.Requests.{is_version}
-use Rattle.words.specs.Table.{Command, Entry, census_app, commands, shape_in}
-use Rattle.words.specs.Uses.{IsIn, is_flag, is_required, is_used}
+use Rattle.words.specs.Table.{commands}
+use Rattle.words.specs.Uses.{is_flag, is_used}
 use Rattle.words.specs.Values.{at_least, number_named}
 use Rattle.words.proofs.NumberLemmas.{is_small, parser_for}
 use Rattle.words.proofs.WalkLemmas.{Met, at, met, settling}

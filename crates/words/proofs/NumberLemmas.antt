@@ -14,7 +14,7 @@ use Rattle.clap.specs.declared.builder.value_parser.ValueParser.{ValueParser}
 use Rattle.clap.specs.declared.builder.value_parser.ValueParser.TheVariants as parser
 use Rattle.words.specs.declared.options.ValueKind.{ValueKind}
 use Rattle.words.specs.declared.options.ValueKind.TheVariants as kind
-use Rattle.words.specs.Uses.{IsNotOfKind, IsNumberFromTo, IsOfKind}
+use Rattle.words.specs.LawfulUses.{IsNotOfKind, IsNumberFromTo, IsOfKind}
 use Rattle.words.specs.Values.{at_least, number_named, within}
 
 digits-Decides : (ds : List ℕ) → Decides (list_all (λ d. nat_lt (digit_value d) 10) ds) (AllDigits 10 ds)

@@ -19,10 +19,12 @@ use Rattle.clap.specs.declared.error.kind.ErrorKind.TheVariants.{DisplayHelp}
 use Rattle.clap.proofs.KindLemmas.{value_kinds-refused}
 use Rattle.clap.proofs.OnLiterals.{clap_on_literals}
 use Rattle.words.specs.declared.request.Request.{Request}
-use Rattle.words.specs.Calls.{OthersAskForNothing, NoCommandAsksForNothing}
+use Rattle.words.specs.Calls.{NoCommandAsksForNothing, OthersAskForNothing}
+use Rattle.words.specs.Entries.{Command, Entry}
+use Rattle.words.specs.LawfulUses.{AreUses, IsIn, IsNotOfKind, IsUnknown}
 use Rattle.words.specs.Requests.{asked_by, asks_version, unless_faulty}
-use Rattle.words.specs.Table.{Command, Entry, commands}
-use Rattle.words.specs.Uses.{AreUses, IsIn, IsNotOfKind, IsUnknown, Stands, Use, alone, entry_in, value_in, words_in, words_of}
+use Rattle.words.specs.Table.{commands}
+use Rattle.words.specs.Uses.{Stands, Use, alone, entry_in, value_in, words_in, words_of}
 use Rattle.words.proofs.KnownLemmas.{CommandFacts, census_built, faults_of, holding, known, leaf, lone, takes_name}
 use Rattle.words.proofs.LawLemmas.{asked_by-called, asked_of, asks, asks_uses, not_version}
 use Rattle.words.proofs.NumberLemmas.{kind_refused, parser_for}

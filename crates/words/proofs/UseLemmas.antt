@@ -13,8 +13,10 @@ use Rattle.clap.specs.declared.parser.matches.ValueSource.TheVariants.{CommandLi
 use Rattle.clap.proofs.KindLemmas.{value_kinds-ok}
 use Rattle.words.specs.declared.options.ValueKind.{ValueKind}
 use Rattle.words.specs.declared.options.ValueKind.TheVariants as kind
-use Rattle.words.specs.Table.{Command, Entry, commands}
-use Rattle.words.specs.Uses.{AreUses, IsBare, IsIn, IsNotOfKind, IsOfKind, IsUse, Stands, Use, alone, attached, entry_in, flagged, is_flag, is_used, spaced}
+use Rattle.words.specs.Entries.{Command, Entry}
+use Rattle.words.specs.LawfulUses.{AreUses, IsIn, IsNotOfKind, IsOfKind, IsUse}
+use Rattle.words.specs.Table.{commands}
+use Rattle.words.specs.Uses.{IsBare, Stands, Use, alone, attached, entry_in, flagged, is_flag, is_used, spaced}
 use Rattle.words.specs.Uses.{value_in, words_in, words_of}
 use Rattle.words.proofs.KnownLemmas.{ArgumentFacts, asks, faults_of, goes_alone, holding, known_of, leaf, lone, reacts, row_of, rows_with, so, stands_alone}
 use Rattle.words.proofs.KnownLemmas.{takes_value}

@@ -15,9 +15,11 @@ use Rattle.clap.specs.Walk.{has_row, with_default}
 use Rattle.clap.specs.declared.parser.matches.ValueSource.TheVariants.{CommandLine}
 use Rattle.words.specs.declared.options.ValueKind.{ValueKind}
 use Rattle.words.specs.declared.options.ValueKind.TheVariants as kind
-use Rattle.words.specs.Calls.{text_given}
-use Rattle.words.specs.Table.{Command, Entry, commands}
-use Rattle.words.specs.Uses.{AreUses, IsIn, IsOfKind, Use, entry_in, is_required, is_used, lacks_some, value_in}
+use Rattle.words.specs.Entries.{Command, Entry}
+use Rattle.words.specs.GivenValues.{text_given}
+use Rattle.words.specs.LawfulUses.{AreUses, IsIn, IsOfKind, is_required, lacks_some}
+use Rattle.words.specs.Table.{commands}
+use Rattle.words.specs.Uses.{Use, entry_in, is_used, value_in}
 use Rattle.words.proofs.KnownLemmas.{ArgumentFacts, so, known_of, default_for, default_row, flag, given, leaf, number, taken}
 use Rattle.words.proofs.NumberLemmas.{large_read, number_read, parser_for}
 use Rattle.words.proofs.UseLemmas.{row_in, rows_in}

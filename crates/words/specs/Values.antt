@@ -7,7 +7,7 @@ use Rattle.clap.specs.Words.{Row, Text, first_of, one_of}
 use Rattle.clap.specs.ValueTests.{is_numeral}
 use Rattle.words.specs.declared.options.ValueKind.{ValueKind}
 use Rattle.words.specs.declared.options.ValueKind.TheVariants as kind
-use Rattle.words.specs.Table.{Entry}
+use Rattle.words.specs.Entries.{Entry}
 
 -- the number up to a limit that a text names: a numeral, before which a plus may stand
 abbrev pub number_named : ℕ → Text → Option ℕ

@@ -1,8 +1,10 @@
 ghost use Rattle.std.specs.Prelude.{◌≡◌, IfOk, map, true, false};
 ghost use Rattle.clap.specs.Words.{app_of, rule_of, shape_of, with_rule, with_subcommand};
 ghost use Rattle.clap.specs.declared.builder.command.Command.TheViews.{out-Command as fields_of};
-ghost use Rattle.words.specs.Table.{census_app, command_of, commands, entry_of, named, placed, program, rule_in};
-ghost use Rattle.words.specs.Table.{shape_in, with_commands, with_rules};
+ghost use Rattle.words.specs.Application.{census_app, named, placed, program, rule_in, shape_in};
+ghost use Rattle.words.specs.Application.{with_commands, with_rules};
+ghost use Rattle.words.specs.Entries.{command_of, entry_of};
+ghost use Rattle.words.specs.Table.{commands};
 
 use crate::commands::{COMMANDS, CommandRow};
 use crate::options::{Argument, Place, ValueKind};

@@ -1,6 +1,6 @@
 ghost use Rattle.std.specs.Prelude.{◌≡◌, ◌≤◌, IfSome, option_and_then};
 ghost use Rattle.clap.specs.Words.{found_of, rows_of};
-ghost use Rattle.words.specs.Table.{entry_of};
+ghost use Rattle.words.specs.Entries.{entry_of};
 ghost use Rattle.words.specs.Values.{IsInRange, is_given, number_found, number_up_to, text_found, within};
 
 use crate::options::{Argument, ValueKind};
