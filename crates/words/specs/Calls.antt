@@ -8,7 +8,7 @@ use Rattle.words.specs.declared.request.Request.{Request}
 use Rattle.words.specs.declared.request.Request.TheVariants.{Run, Name, Show, Soup, Take, Work, Gather, Version}
 use Rattle.words.specs.Entries.{Command}
 use Rattle.words.specs.GivenValues.{number_given, plan_given, profile_given, text_given}
-use Rattle.words.specs.LawfulUses.{AreUses, IsIn, IsOutOfRange, IsUnknown, IsUse, lacks_some}
+use Rattle.words.specs.LawfulUses.{AreUses, IsIn, IsOutOfRange, IsShort, IsUnknown, IsUse, lacks_some}
 use Rattle.words.specs.Requests.{asked_by}
 use Rattle.words.specs.Table.{commands}
 use Rattle.words.specs.Table as table
@@ -33,7 +33,7 @@ pub record AskForTheirValues : Type 0 where
   pub gather : AsksFor table.gather_command (λ uses. Gather (plan_given uses) (number_given table.workers uses))
 
 -- Words of a command that ask for nothing: an argument that has to be there is missing; or after arguments that are lawful there is one
--- a second time, one with a value out of its range, an unknown option, or `--help`, whatever comes after it.
+-- a second time, one with a value out of its range, an unknown option, a word as `-x` or `-h`, or `--help`, whatever comes after it.
 pub record AskForNothing (command : Command) : Type 0 where
   pub missing : (program : Text) (uses : List Use) → AreUses command uses → lacks_some command uses ≡ true
       → asked_by (program ∷ command.name ∷ words_in uses) ≡ None
@@ -42,6 +42,8 @@ pub record AskForNothing (command : Command) : Type 0 where
   pub out_of_range : (program : Text) (uses : List Use) (u : Use) (more : List Text) → AreUses command uses → IsOutOfRange command u
       → asked_by (program ∷ command.name ∷ (words_in uses ++ (words_of u ++ more))) ≡ None
   pub unknown : (program word : Text) (uses : List Use) (more : List Text) → AreUses command uses → IsUnknown command word
+      → asked_by (program ∷ command.name ∷ (words_in uses ++ word ∷ more)) ≡ None
+  pub short : (program word : Text) (uses : List Use) (more : List Text) → AreUses command uses → IsShort word
       → asked_by (program ∷ command.name ∷ (words_in uses ++ word ∷ more)) ≡ None
   pub help : (program : Text) (uses : List Use) (more : List Text) → AreUses command uses
       → asked_by (program ∷ command.name ∷ (words_in uses ++ codes "--help" ∷ more)) ≡ None

@@ -1,10 +1,10 @@
 -- Which arguments, with which values, a command takes, and which it refuses.
-use Rattle.std.specs.Prelude.{◌≡◌, ◌⊎◌, ◌≤◌, ◌&&◌, ℕ, Bool, false, not, List, [], ◌∷◌, Option, Some, ⊤, codes, is_some}
+use Rattle.std.specs.Prelude.{◌≡◌, ◌⊎◌, ◌≤◌, ◌&&◌, ℕ, Bool, false, not, List, [], ◌∷◌, Option, Some, ⊤, codes, is_some, slice_get}
 use Rattle.std.specs.List.{list_any}
-use Rattle.std.specs.Str.{bytes_eq}
+use Rattle.std.specs.Str.{bytes_eq, chars}
 use Rattle.std.specs.Str.Parse.{IsNumeral, digits_value, starts_with_minus, without_leading_plus}
 use Rattle.clap.specs.Words.{Text}
-use Rattle.clap.specs.Lexer.{long_of}
+use Rattle.clap.specs.Lexer.{long_of, short_of}
 use Rattle.words.specs.declared.options.ValueKind.{ValueKind}
 use Rattle.words.specs.declared.options.ValueKind.TheVariants as kind
 use Rattle.words.specs.Entries.{Command, Entry}
@@ -62,6 +62,13 @@ pub record IsOutOfRange (command : Command) (u : Use) : Type 0 where
   pub argument : IsIn (entry_in u) command.arguments
   pub stands : Stands u
   pub refused : IsNotOfKind (entry_in u).kind (value_in u)
+
+-- `-x`, with whatever follows in the word: a hyphen, and then a character that isn't one
+pub record IsShort (word : Text) : Type 0 where
+  pub letters : Text
+  pub letter : ℕ
+  pub is_short : short_of word ≡ Some letters
+  pub first : slice_get (chars letters) 0 ≡ Some letter
 
 -- `--name` or `--name=VALUE`, which is no option of the command, nor `--help`
 pub record IsUnknown (command : Command) (word : Text) : Type 0 where
