@@ -12,7 +12,7 @@ use Rattle.std.proofs.lemmas.Slice.Eq.{bytes_eq-Decides}
 use Rattle.clap.specs.Words.{Kinds, Row, Rule, Shape, Text}
 use Rattle.clap.specs.Faults.{bundle_fault, flag_word_fault, flags_fault, long_fault, other_fault, short_fault, positional_fault, step_fault, stray_fault, walk_fault}
 use Rattle.clap.specs.Kinds.{or_else}
-use Rattle.clap.specs.Lexer.{long_of, short_of}
+use Rattle.clap.specs.Lexer.{long_of}
 use Rattle.clap.specs.Simple.{names_of}
 use Rattle.clap.specs.Walk.{Held, answers_to, arg_by_index, arg_by_long, arg_by_short, bundle_met, has_row, idle, long_or_other, nothing_held, short_word, subcommand_met}
 use Rattle.clap.specs.Walk.{subcommand_or_other, takes_several, walk_from, walked}
@@ -69,10 +69,6 @@ letters_faulty : (s : Shape) (h : Held) (letters : Text) (x : ℕ) (b : Bool) (o
 unfolding flags_fault chars
 letters_faulty s h [] x b o none first is f = cc
 letters_faulty s h (y ∷ ys) x b o none first is f = rw (none, first, is) (letter_faulty s b o _ h _ f)
-
-short_faulty : (s : Shape) (h : Held) (word letters : Text) → short_of word ≡ Some letters
-    → IsFaulty (bundle_fault s.rules s.args_override_self letters h) → IsFaulty (other_fault s None word h)
-short_faulty s h word letters is f = grind (arith, is, f)
 
 -- What is held is settled with a fault. No argument takes several values.
 module _ (s : Shape) (rows : List Row) (p : Option (Text × List Text)) (single : list_any takes_several s.rules ≡ false)
@@ -169,14 +165,12 @@ module _ (command : Command) (here : IsIn command commands) {h : Held} {position
   help_faulty : IsFaulty (other_fault s None (codes "--help") h)
   help_faulty = subst IsFaulty (sym (ap (λ (f : CommandFacts). f.help h) (known command here) ∙ (λ j. or_else (is.settles j).0 (DisplayHelp ∷ [])))) refl
 
-  refused_help : Refused (codes "--help" ∷ more)
-  refused_help = refused_word (codes "--help") help_faulty
-
   -- `-x`, and `-h`
   refused_short : (word : Text) → IsShort word → Refused (word ∷ more)
-  refused_short word u = refused_word word (short_faulty s h word u.letters u.is_short
-      (letters_faulty s h u.letters u.letter (104 == u.letter || false) (arg_by_long s.rules (codes "help")) (ap (λ (p : Kinds × Held). p.1.skip) is.settles)
-      u.first (ap (λ (f : CommandFacts). f.letters u.letter) (known command here)) help_faulty))
+  refused_short word u =
+      let bad = letters_faulty s h u.letters u.letter (104 == u.letter || false) (arg_by_long s.rules (codes "help"))
+      (ap (λ (p : Kinds × Held). p.1.skip) is.settles) u.first (ap (λ (f : CommandFacts). f.letters u.letter) (known command here)) help_faulty in
+      refused_word word (grind (arith, u.is_short, bad))
 
   -- an option that is unknown
   refused_unknown : (word : Text) → IsUnknown command word → Refused (word ∷ more)
@@ -212,7 +206,7 @@ others_ask_for_nothing command here = record {
   short = λ program word uses more are is. none_asked command here program uses are (word ∷ more)
       (refused_short command here (all_read command here uses are).is more word is);
   help = λ program uses more are. none_asked command here program uses are (codes "--help" ∷ more)
-      (refused_help command here (all_read command here uses are).is more);
+      (refused_word command here (all_read command here uses are).is more (codes "--help") (help_faulty command here (all_read command here uses are).is more));
 }
 
 -- ---- no command
