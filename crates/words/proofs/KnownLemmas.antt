@@ -1,5 +1,5 @@
 -- What `clap` makes of the seven commands and of their arguments: one equation, which computes.
-use Rattle.std.proofs.Common.{◌≡◌, ◌||◌, ◌&&◌, ◌++◌, ℕ, Bool, true, false, cond, Option, None, Some, List, [], ◌∷◌, codes, inl, inr, not, refl, ap, subst}
+use Rattle.std.proofs.Common.{◌≡◌, ◌||◌, ◌&&◌, ◌++◌, ◌==◌, ℕ, Bool, true, false, cond, Option, None, Some, List, [], ◌∷◌, codes, inl, inr, not, refl, ap, subst}
 use Rattle.std.proofs.Common.{bytes_eq, drop, find, get_or, is_some, map, option_and_then, slice_get, unwrap_or}
 use Rattle.std.specs.List.{list_any}
 use Rattle.std.specs.Option.{option_map_or}
@@ -10,17 +10,20 @@ use Rattle.clap.specs.Faults.{check_fault, default_fault, other_fault, repeat_fa
 use Rattle.clap.specs.Kinds.{check_kinds, or_else, values_kinds}
 use Rattle.clap.specs.Simple.{built_leaf, inherited, label_of, marked_built, names_of, with_leaf_noted}
 use Rattle.clap.specs.Takes as takes
-use Rattle.clap.specs.Walk.{Held, Step, Walk, answers_to, arg_by_index, has_long, idle, next, nothing_held, option, plain_word, pushed, reading_by, row_text}
+use Rattle.clap.specs.Walk.{Held, Step, Walk, answers_to, arg_by_index, arg_by_long, arg_by_short, has_long, idle, next, nothing_held, option, plain_word, pushed, reading_by, row_text}
 use Rattle.clap.specs.Walk.{takes_several, to_positional, value, walk_from, walked, with_values, without}
 use Rattle.clap.specs.declared.error.kind.ErrorKind.TheVariants.{DisplayHelp}
 use Rattle.clap.specs.declared.parser.matches.ValueSource.{ValueSource}
 use Rattle.clap.specs.declared.parser.matches.ValueSource.TheVariants.{CommandLine, DefaultValue}
 use Rattle.clap.proofs.OnLiterals.{clap_on_literals}
-use Rattle.words.specs.declared.options.Kind.{Kind}
-use Rattle.words.specs.declared.options.Kind.TheVariants as kind
+use Rattle.words.specs.declared.options.ValueKind.{ValueKind}
+use Rattle.words.specs.declared.options.ValueKind.TheVariants as kind
+use Rattle.words.specs.Application.{census_app, shape_in}
+use Rattle.words.specs.Entries.{Command, Entry}
+use Rattle.words.specs.LawfulUses.{IsIn, is_required}
 use Rattle.words.specs.Requests.{is_version}
-use Rattle.words.specs.Table.{Command, Entry, census_app, commands, shape_in}
-use Rattle.words.specs.Uses.{IsIn, is_flag, is_required, is_used}
+use Rattle.words.specs.Table.{commands}
+use Rattle.words.specs.Uses.{is_flag, is_used}
 use Rattle.words.specs.Values.{at_least, number_named}
 use Rattle.words.proofs.NumberLemmas.{is_small, parser_for}
 use Rattle.words.proofs.WalkLemmas.{Met, at, met, settling}
@@ -96,14 +99,14 @@ number_of (number n) = n
 number_of other = None
 
 -- of the row that was found for an argument of this kind
-abbrev pub taken : Kind → Option Row → Value
+abbrev pub taken : ValueKind → Option Row → Value
 taken kind.Text row = text (option_and_then (λ (r : Row). slice_get r.values 0) row)
 taken kind.Flag row = flag (option_map_or (λ t. bytes_eq t (codes "true")) (option_and_then (λ (r : Row). slice_get r.values 0) row) false)
 taken (kind.Number least most) row = number (option_and_then (at_least least) (option_and_then (number_named most) (option_and_then row_text row)))
 taken (kind.LargeNumber most) row = number (option_and_then (number_named most) (option_and_then row_text row))
 
 -- where the argument has this value, or the flag is used or not
-abbrev pub given : Kind → Text → Bool → Value
+abbrev pub given : ValueKind → Text → Bool → Value
 given kind.Text v used = text (Some v)
 given kind.Flag v used = flag used
 given (kind.Number least most) v used = number (Some (digits_value 10 v))
@@ -152,6 +155,7 @@ pub record CommandFacts : Type 0 where
   pub default_faults : List Kinds
   pub checks : List Row → Kinds
   pub long_names : Text → Bool
+  pub letters : ℕ → Option Rule
   pub help : Held → Kinds
   pub walks : Walk
   pub fault : Kinds
@@ -194,6 +198,7 @@ command_facts clap command =
           (check_kinds false false (list_any (λ e. is_required e && not (takes.is_given e.name rows)) es));
       long_names = λ name. cond clap (list_any (takes_name name) s.rules)
           (list_any (λ e. e.is_named && (bytes_eq e.name name || false)) (es ++ help_entry ∷ []));
+      letters = λ x. cond clap (arg_by_short s.rules x) (cond (104 == x || false) (arg_by_long s.rules (codes "help")) None);
       help = λ h. cond clap (other_fault s None (codes "--help") h) (or_else (settling s h).0 (DisplayHelp ∷ []));
       walks = cond clap (walked top.rules (names_of census_built) (walk_from nothing_held) command.name)
           (record { held = nothing_held; waiting = idle; position = 1; is_trailing = false; stopped = Some (command.name, []) });

@@ -14,12 +14,17 @@ use Rattle.clap.proofs.FaultLemmas.{stopped_fault}
 use Rattle.clap.proofs.OnLiterals.{clap_on_literals}
 use Rattle.clap.proofs.WalkLemmas.{walk_stopped}
 use Rattle.words.specs.declared.request.Request.{Request}
-use Rattle.words.specs.Calls.{AskForTheirValues, AsksForVersion, AsksFor, plan_given}
-use Rattle.words.specs.Requests.{all_four, asked_by, asks_version, called_by, gather_from, is_version, name_from, plan_in, plan_of_three, request_in, run_from}
-use Rattle.words.specs.Requests.{set_of_four, show_from, soup_from, take_from, unless_faulty, work_from}
-use Rattle.words.specs.Table.{Command, Entry, census_app, commands}
+use Rattle.words.specs.Application.{census_app}
+use Rattle.words.specs.Calls.{AskForTheirValues, AsksFor, AsksForVersion}
+use Rattle.words.specs.Entries.{Command, Entry}
+use Rattle.words.specs.GivenValues.{plan_given}
+use Rattle.words.specs.LawfulUses.{AreUses, IsIn, is_required, lacks_some}
+use Rattle.words.specs.Plans.{all_four, plan_in, plan_of_three, set_of_four}
+use Rattle.words.specs.Reading.{gather_from, name_from, run_from, show_from, soup_from, take_from, work_from}
+use Rattle.words.specs.Requests.{asked_by, asks_version, called_by, is_version, request_in, unless_faulty}
+use Rattle.words.specs.Table.{commands}
+use Rattle.words.specs.Uses.{Use, words_in}
 use Rattle.words.specs.Table as table
-use Rattle.words.specs.Uses.{AreUses, IsIn, Use, is_required, lacks_some, words_in}
 use Rattle.words.proofs.KnownLemmas.{CommandFacts, census_built, flag_of, known, leaf, number_of, text_of}
 use Rattle.words.proofs.UseLemmas.{all_read, rows_in}
 use Rattle.words.proofs.ValueLemmas.{AllTaken, all_taken, completed, given_used, no_default_fault}

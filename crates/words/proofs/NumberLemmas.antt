@@ -12,9 +12,9 @@ use Rattle.clap.specs.Words.{Accepts, ReadsOne, Text, without_minus}
 use Rattle.clap.specs.ValueTests.{is_numeral}
 use Rattle.clap.specs.declared.builder.value_parser.ValueParser.{ValueParser}
 use Rattle.clap.specs.declared.builder.value_parser.ValueParser.TheVariants as parser
-use Rattle.words.specs.declared.options.Kind.{Kind}
-use Rattle.words.specs.declared.options.Kind.TheVariants as kind
-use Rattle.words.specs.Uses.{IsNotOfKind, IsNumberFromTo, IsOfKind}
+use Rattle.words.specs.declared.options.ValueKind.{ValueKind}
+use Rattle.words.specs.declared.options.ValueKind.TheVariants as kind
+use Rattle.words.specs.LawfulUses.{IsNotOfKind, IsNumberFromTo, IsOfKind}
 use Rattle.words.specs.Values.{at_least, number_named, within}
 
 digits-Decides : (ds : List ℕ) → Decides (list_all (λ d. nat_lt (digit_value d) 10) ds) (AllDigits 10 ds)
@@ -34,19 +34,19 @@ no_sign (d ∷ ds) h =
 
 -- ---- what `clap` accepts as a number
 
-abbrev pub parser_for : Kind → ValueParser
+abbrev pub parser_for : ValueKind → ValueParser
 parser_for kind.Text = parser.String
 parser_for kind.Flag = parser.Bool
 parser_for (kind.Number least most) = parser.Signed (pos least) (pos most)
 parser_for (kind.LargeNumber most) = parser.Unsigned 0 most
 
 -- the limit of a kind is small enough for the code
-abbrev pub is_small : Kind → Bool
+abbrev pub is_small : ValueKind → Bool
 is_small (kind.Number least most) = nat_lt most (2 ^ 63)
 is_small (kind.LargeNumber most) = nat_lt most (2 ^ 64)
 is_small _ = true
 
-pub kind_accepted : (k : Kind) (v : Text) → is_small k ≡ true → IsOfKind k v → Accepts false (parser_for k) v
+pub kind_accepted : (k : ValueKind) (v : Text) → is_small k ≡ true → IsOfKind k v → Accepts false (parser_for k) v
 kind_accepted kind.Text v small h = tt
 kind_accepted kind.Flag v small h = rw h refl
 kind_accepted (kind.Number least most) v small h =
@@ -57,7 +57,7 @@ kind_accepted (kind.LargeNumber most) v small h =
     let fits = ltb-true most (2 ^ 64) small in
     rw (no_sign v h.numeral).1 (h.numeral, omega arith, h.low, h.high)
 
-pub kind_refused : (k : Kind) (v : Text) → IsNotOfKind k v → Accepts false (parser_for k) v → ⊥
+pub kind_refused : (k : ValueKind) (v : Text) → IsNotOfKind k v → Accepts false (parser_for k) v → ⊥
 kind_refused (kind.Number least most) v h a =
     let is = rw (h.0, h.1) at a in
     h.2 (record { numeral = is.0; low = omega (arith, ints); high = omega (arith, ints) })

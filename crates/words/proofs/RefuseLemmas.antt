@@ -1,28 +1,31 @@
 -- Words that ask for nothing: faults after arguments that are lawful, whatever comes after them, and calls without a command.
-use Rattle.std.proofs.Common.{arith, ◌≡◌, ◌∙◌, ◌++◌, ◌||◌, ℕ, Bool, true, false, cond, Option, None, Some, List, [], ◌∷◌, codes, ap, bytes_eq, inl, inr}
-use Rattle.std.proofs.Common.{option_map, refl, sym, subst, ⊎_elim}
+use Rattle.std.proofs.Common.{arith, ◌≡◌, ◌∙◌, ◌++◌, ◌==◌, ◌||◌, ℕ, Bool, true, false, cond, Option, None, Some, List, [], ◌∷◌, codes, ap, bytes_eq, inl, inr}
+use Rattle.std.proofs.Common.{option_map, refl, slice_get, sym, subst, ⊎_elim}
 use Rattle.std.specs.List.{list_any}
 use Rattle.std.specs.Option.{option_map_or}
+use Rattle.std.specs.Str.{chars}
 use Rattle.std.specs.Str.Parse.{starts_with_minus}
 use Rattle.std.proofs.Math.Bool.{or-false}
 use Rattle.std.proofs.lemmas.Bool.{cases_Bool, false_from_ne_true}
 use Rattle.std.proofs.lemmas.List.Folds.{list_any-append}
 use Rattle.std.proofs.lemmas.Slice.Eq.{bytes_eq-Decides}
 use Rattle.clap.specs.Words.{Kinds, Row, Rule, Shape, Text}
-use Rattle.clap.specs.Faults.{bundle_fault, flag_word_fault, flags_fault, other_fault, positional_fault, step_fault, stray_fault, walk_fault}
+use Rattle.clap.specs.Faults.{bundle_fault, flag_word_fault, flags_fault, long_fault, other_fault, short_fault, positional_fault, step_fault, stray_fault, walk_fault}
 use Rattle.clap.specs.Kinds.{or_else}
 use Rattle.clap.specs.Lexer.{long_of}
 use Rattle.clap.specs.Simple.{names_of}
-use Rattle.clap.specs.Walk.{Held, answers_to, arg_by_index, bundle_met, has_row, idle, long_or_other, nothing_held, short_word, subcommand_met}
+use Rattle.clap.specs.Walk.{Held, answers_to, arg_by_index, arg_by_long, arg_by_short, bundle_met, has_row, idle, long_or_other, nothing_held, short_word, subcommand_met}
 use Rattle.clap.specs.Walk.{subcommand_or_other, takes_several, walk_from, walked}
 use Rattle.clap.specs.declared.error.kind.ErrorKind.TheVariants.{DisplayHelp}
 use Rattle.clap.proofs.KindLemmas.{value_kinds-refused}
 use Rattle.clap.proofs.OnLiterals.{clap_on_literals}
 use Rattle.words.specs.declared.request.Request.{Request}
-use Rattle.words.specs.Calls.{OthersAskForNothing, NoCommandAsksForNothing}
+use Rattle.words.specs.Calls.{NoCommandAsksForNothing, OthersAskForNothing}
+use Rattle.words.specs.Entries.{Command, Entry}
+use Rattle.words.specs.LawfulUses.{AreUses, IsIn, IsNotOfKind, IsShort, IsUnknown}
 use Rattle.words.specs.Requests.{asked_by, asks_version, unless_faulty}
-use Rattle.words.specs.Table.{Command, Entry, commands}
-use Rattle.words.specs.Uses.{AreUses, IsIn, IsNotOfKind, IsUnknown, Stands, Use, alone, entry_in, value_in, words_in, words_of}
+use Rattle.words.specs.Table.{commands}
+use Rattle.words.specs.Uses.{Stands, Use, alone, entry_in, value_in, words_in, words_of}
 use Rattle.words.proofs.KnownLemmas.{CommandFacts, census_built, faults_of, holding, known, leaf, lone, takes_name}
 use Rattle.words.proofs.LawLemmas.{asked_by-called, asked_of, asks, asks_uses, not_version}
 use Rattle.words.proofs.NumberLemmas.{kind_refused, parser_for}
@@ -52,6 +55,20 @@ word_faulty : (s : Shape) (h : Held) (position : ℕ) (word : Text) (more : List
     → IsFaulty (faults_by s (run s (at h position) (word ∷ more)))
 unfolding walked walk_fault
 word_faulty s h position word more f = faulty_first _ _ (faulty_first (turn_kinds s position (met s idle h position word)) _ f)
+
+-- a letter that is no option is a fault, and so is one that stands for an option whose long name is a fault
+letter_faulty : (s : Shape) (b : Bool) (o : Option Rule) (flags : Text) (h : Held) (next : Held → Kinds)
+    → IsFaulty (long_fault s.rules s.args_override_self o None h)
+    → IsFaulty (short_fault s.rules s.args_override_self (cond b o None) flags (record h { skip = 0 }) next)
+letter_faulty s b o flags h next f = grind arith
+
+-- `-abc` is a fault if its first letter is
+letters_faulty : (s : Shape) (h : Held) (letters : Text) (x : ℕ) (b : Bool) (o : Option Rule) → h.skip ≡ 0 → slice_get (chars letters) 0 ≡ Some x
+    → arg_by_short s.rules x ≡ cond b o None → IsFaulty (long_fault s.rules s.args_override_self o None h)
+    → IsFaulty (bundle_fault s.rules s.args_override_self letters h)
+unfolding flags_fault chars
+letters_faulty s h [] x b o none first is f = cc
+letters_faulty s h (y ∷ ys) x b o none first is f = rw (none, first, is) (letter_faulty s b o _ h _ f)
 
 -- What is held is settled with a fault. No argument takes several values.
 module _ (s : Shape) (rows : List Row) (p : Option (Text × List Text)) (single : list_any takes_several s.rules ≡ false)
@@ -145,9 +162,15 @@ module _ (command : Command) (here : IsIn command commands) {h : Held} {position
   refused_word word f = word_faulty s h position word more (faulty_first (other_fault s None word h) _ f)
 
   -- `--help`
-  refused_help : Refused (codes "--help" ∷ more)
-  refused_help = refused_word (codes "--help") (subst IsFaulty
-      (sym (ap (λ (f : CommandFacts). f.help h) (known command here) ∙ (λ j. or_else (is.settles j).0 (DisplayHelp ∷ [])))) refl)
+  help_faulty : IsFaulty (other_fault s None (codes "--help") h)
+  help_faulty = subst IsFaulty (sym (ap (λ (f : CommandFacts). f.help h) (known command here) ∙ (λ j. or_else (is.settles j).0 (DisplayHelp ∷ [])))) refl
+
+  -- `-x`, and `-h`
+  refused_short : (word : Text) → IsShort word → Refused (word ∷ more)
+  refused_short word u =
+      let bad = letters_faulty s h u.letters u.letter (104 == u.letter || false) (arg_by_long s.rules (codes "help"))
+      (ap (λ (p : Kinds × Held). p.1.skip) is.settles) u.first (ap (λ (f : CommandFacts). f.letters u.letter) (known command here)) help_faulty in
+      refused_word word (grind (arith, u.is_short, bad))
 
   -- an option that is unknown
   refused_unknown : (word : Text) → IsUnknown command word → Refused (word ∷ more)
@@ -180,8 +203,10 @@ others_ask_for_nothing command here = record {
       (range_faulty (entry_in u) (value_in u) (rows_in uses) is.refused));
   unknown = λ program word uses more are is. none_asked command here program uses are (word ∷ more)
       (refused_unknown command here (all_read command here uses are).is more word is);
+  short = λ program word uses more are is. none_asked command here program uses are (word ∷ more)
+      (refused_short command here (all_read command here uses are).is more word is);
   help = λ program uses more are. none_asked command here program uses are (codes "--help" ∷ more)
-      (refused_help command here (all_read command here uses are).is more);
+      (refused_word command here (all_read command here uses are).is more (codes "--help") (help_faulty command here (all_read command here uses are).is more));
 }
 
 -- ---- no command

@@ -11,10 +11,12 @@ use Rattle.clap.specs.Kinds.{or_else}
 use Rattle.clap.specs.Walk.{Held, arg_by_index, has_row, idle, nothing_held, option, to_positional, value}
 use Rattle.clap.specs.declared.parser.matches.ValueSource.TheVariants.{CommandLine}
 use Rattle.clap.proofs.KindLemmas.{value_kinds-ok}
-use Rattle.words.specs.declared.options.Kind.{Kind}
-use Rattle.words.specs.declared.options.Kind.TheVariants as kind
-use Rattle.words.specs.Table.{Command, Entry, commands}
-use Rattle.words.specs.Uses.{AreUses, IsBare, IsIn, IsNotOfKind, IsOfKind, IsUse, Stands, Use, alone, attached, entry_in, flagged, is_flag, is_used, spaced}
+use Rattle.words.specs.declared.options.ValueKind.{ValueKind}
+use Rattle.words.specs.declared.options.ValueKind.TheVariants as kind
+use Rattle.words.specs.Entries.{Command, Entry}
+use Rattle.words.specs.LawfulUses.{AreUses, IsIn, IsNotOfKind, IsOfKind, IsUse}
+use Rattle.words.specs.Table.{commands}
+use Rattle.words.specs.Uses.{IsBare, Stands, Use, alone, attached, entry_in, flagged, is_flag, is_used, spaced}
 use Rattle.words.specs.Uses.{value_in, words_in, words_of}
 use Rattle.words.proofs.KnownLemmas.{ArgumentFacts, asks, faults_of, goes_alone, holding, known_of, leaf, lone, reacts, row_of, rows_with, so, stands_alone}
 use Rattle.words.proofs.KnownLemmas.{takes_value}
@@ -33,7 +35,7 @@ abbrev pub HasOrLacks : Use → Type 0
 HasOrLacks u = IsOfKind (entry_in u).kind (value_in u) ⊎ IsNotOfKind (entry_in u).kind (value_in u)
 
 -- so it has no sign, if it stands in a word of its own
-pub bare_value : (k : Kind) (v : Text) → is_flag k ≡ false → IsBare k v → IsOfKind k v ⊎ IsNotOfKind k v → starts_with_minus v ≡ false
+pub bare_value : (k : ValueKind) (v : Text) → is_flag k ≡ false → IsBare k v → IsOfKind k v ⊎ IsNotOfKind k v → starts_with_minus v ≡ false
 bare_value kind.Text v no_flag bare of = bare
 bare_value kind.Flag v no_flag bare of = cc
 bare_value _ v no_flag bare of = ⊎_elim (λ n. (no_sign v n.numeral).0) (λ n. n.0) of

@@ -13,11 +13,13 @@ use Rattle.clap.specs.Faults.{default_fault, defaults_fault}
 use Rattle.clap.specs.Takes as takes
 use Rattle.clap.specs.Walk.{has_row, with_default}
 use Rattle.clap.specs.declared.parser.matches.ValueSource.TheVariants.{CommandLine}
-use Rattle.words.specs.declared.options.Kind.{Kind}
-use Rattle.words.specs.declared.options.Kind.TheVariants as kind
-use Rattle.words.specs.Calls.{text_given}
-use Rattle.words.specs.Table.{Command, Entry, commands}
-use Rattle.words.specs.Uses.{AreUses, IsIn, IsOfKind, Use, entry_in, is_required, is_used, lacks_some, value_in}
+use Rattle.words.specs.declared.options.ValueKind.{ValueKind}
+use Rattle.words.specs.declared.options.ValueKind.TheVariants as kind
+use Rattle.words.specs.Entries.{Command, Entry}
+use Rattle.words.specs.GivenValues.{text_given}
+use Rattle.words.specs.LawfulUses.{AreUses, IsIn, IsOfKind, is_required, lacks_some}
+use Rattle.words.specs.Table.{commands}
+use Rattle.words.specs.Uses.{Use, entry_in, is_used, value_in}
 use Rattle.words.proofs.KnownLemmas.{ArgumentFacts, so, known_of, default_for, default_row, flag, given, leaf, number, taken}
 use Rattle.words.proofs.NumberLemmas.{large_read, number_read, parser_for}
 use Rattle.words.proofs.UseLemmas.{row_in, rows_in}
@@ -70,7 +72,7 @@ rows_have name [] = refl
 rows_have name (u ∷ more) = ap (λ b. bytes_eq (entry_in u).name name || b) (rows_have name more)
 
 -- what a request takes of an argument with a value
-value_taken : (k : Kind) (name v : Text) → IsOfKind k v
+value_taken : (k : ValueKind) (name v : Text) → IsOfKind k v
     → taken k (Some (record { id = name; values = v ∷ []; count = None; source = Some CommandLine; reading = reading_of (parser_for k) })) ≡ given k v true
 value_taken kind.Text name v h = refl
 value_taken kind.Flag name v h = ap (λ t. flag (bytes_eq t (codes "true"))) h

@@ -1,49 +1,18 @@
--- What the calls of the program ask for, whatever the words.
-use Rattle.std.specs.Prelude.{◌≡◌, ◌++◌, ℕ, false, true, List, [], ◌∷◌, None, Some, codes, unwrap_or, if◌then◌else◌}
+-- The laws: what the calls of the program ask for, whatever the words.
+use Rattle.std.specs.Prelude.{◌≡◌, ◌++◌, false, true, List, [], ◌∷◌, None, Some, codes}
 use Rattle.std.specs.List.{list_any}
 use Rattle.std.specs.Str.{bytes_eq}
-use Rattle.std.specs.Str.Parse.{digits_value, starts_with_minus}
+use Rattle.std.specs.Str.Parse.{starts_with_minus}
 use Rattle.clap.specs.Words.{Text}
-use Rattle.words.specs.declared.request.ProfileNumbers.{ProfileNumbers}
 use Rattle.words.specs.declared.request.Request.{Request}
 use Rattle.words.specs.declared.request.Request.TheVariants.{Run, Name, Show, Soup, Take, Work, Gather, Version}
-use Rattle.words.specs.declared.request.SoupSet.{SoupSet}
-use Rattle.words.specs.declared.request.Plan.{Plan}
+use Rattle.words.specs.Entries.{Command}
+use Rattle.words.specs.GivenValues.{number_given, plan_given, profile_given, text_given}
+use Rattle.words.specs.LawfulUses.{AreUses, IsIn, IsOutOfRange, IsShort, IsUnknown, IsUse, lacks_some}
 use Rattle.words.specs.Requests.{asked_by}
-use Rattle.words.specs.Table.{Command, Entry, commands}
+use Rattle.words.specs.Table.{commands}
 use Rattle.words.specs.Table as table
-use Rattle.words.specs.Uses.{AreUses, IsIn, IsOutOfRange, IsUnknown, IsUse, Use, entry_in, is_used, lacks_some, value_in, words_in, words_of}
-
--- ---- values
-
--- the value of an argument: the one that is given, or else the default
-abbrev pub text_given : Entry → List Use → Text
-text_given entry [] = unwrap_or entry.default []
-text_given entry (u ∷ more) = if bytes_eq (entry_in u).name entry.name then value_in u else text_given entry more
-
-abbrev pub number_given : Entry → List Use → ℕ
-number_given entry uses = digits_value 10 (text_given entry uses)
-
-abbrev pub profile_given : List Use → ProfileNumbers
-profile_given uses = record {
-  period = number_given table.period uses;
-  horizon = number_given table.horizon uses;
-  stride = number_given table.stride uses;
-  limit = number_given table.limit uses;
-}
-
-abbrev pub set_given : List Use → SoupSet
-set_given uses = record {
-  seed = text_given table.seed uses;
-  first = number_given table.first uses;
-  count = number_given table.count uses;
-  also = text_given table.also uses;
-}
-
-abbrev pub plan_given : List Use → Plan
-plan_given uses = record { set = set_given uses; profile = profile_given uses; rule = text_given table.rule uses }
-
--- ---- the laws
+use Rattle.words.specs.Uses.{Use, entry_in, is_used, words_in, words_of}
 
 -- The command's name and then its arguments, each at most once, in any order, with values that they take, ask for this request if no
 -- argument that has to be there is missing.
@@ -64,7 +33,7 @@ pub record AskForTheirValues : Type 0 where
   pub gather : AsksFor table.gather_command (λ uses. Gather (plan_given uses) (number_given table.workers uses))
 
 -- Words of a command that ask for nothing: an argument that has to be there is missing; or after arguments that are lawful there is one
--- a second time, one with a value out of its range, an unknown option, or `--help`, whatever comes after it.
+-- a second time, one with a value out of its range, an unknown option, a word as `-x` or `-h`, or `--help`, whatever comes after it.
 pub record AskForNothing (command : Command) : Type 0 where
   pub missing : (program : Text) (uses : List Use) → AreUses command uses → lacks_some command uses ≡ true
       → asked_by (program ∷ command.name ∷ words_in uses) ≡ None
@@ -73,6 +42,8 @@ pub record AskForNothing (command : Command) : Type 0 where
   pub out_of_range : (program : Text) (uses : List Use) (u : Use) (more : List Text) → AreUses command uses → IsOutOfRange command u
       → asked_by (program ∷ command.name ∷ (words_in uses ++ (words_of u ++ more))) ≡ None
   pub unknown : (program word : Text) (uses : List Use) (more : List Text) → AreUses command uses → IsUnknown command word
+      → asked_by (program ∷ command.name ∷ (words_in uses ++ word ∷ more)) ≡ None
+  pub short : (program word : Text) (uses : List Use) (more : List Text) → AreUses command uses → IsShort word
       → asked_by (program ∷ command.name ∷ (words_in uses ++ word ∷ more)) ≡ None
   pub help : (program : Text) (uses : List Use) (more : List Text) → AreUses command uses
       → asked_by (program ∷ command.name ∷ (words_in uses ++ codes "--help" ∷ more)) ≡ None

@@ -1,4 +1,12 @@
+pub mod Application
 pub mod Calls
+pub mod Entries
+pub mod GivenValues
+pub mod LawfulUses
+pub mod NumbersInRange
+pub mod Options
+pub mod Plans
+pub mod Reading
 pub mod Requests
 pub mod Table
 pub mod Uses

@@ -5,9 +5,9 @@ use Rattle.std.specs.Str.{bytes_eq}
 use Rattle.std.specs.Str.Parse.{digits_value, without_leading_plus}
 use Rattle.clap.specs.Words.{Row, Text, first_of, one_of}
 use Rattle.clap.specs.ValueTests.{is_numeral}
-use Rattle.words.specs.declared.options.Kind.{Kind}
-use Rattle.words.specs.declared.options.Kind.TheVariants as kind
-use Rattle.words.specs.Table.{Entry}
+use Rattle.words.specs.declared.options.ValueKind.{ValueKind}
+use Rattle.words.specs.declared.options.ValueKind.TheVariants as kind
+use Rattle.words.specs.Entries.{Entry}
 
 -- the number up to a limit that a text names: a numeral, before which a plus may stand
 abbrev pub number_named : ℕ → Text → Option ℕ
@@ -28,7 +28,7 @@ abbrev pub at_least : ℕ → ℕ → Option ℕ
 at_least least n = if nat_le least n then Some n else None
 
 -- the number that was found for an argument of this kind, in its range
-abbrev pub number_by : Kind → Text → List Row → Option ℕ
+abbrev pub number_by : ValueKind → Text → List Row → Option ℕ
 number_by kind.Text id rows = None
 number_by kind.Flag id rows = None
 number_by (kind.Number least most) id rows = option_and_then (at_least least) (number_up_to most id rows)
@@ -46,7 +46,7 @@ abbrev pub is_given : Entry → List Row → Bool
 is_given entry rows = option_map_or (λ text. bytes_eq text (codes "true")) (first_of entry.name rows) false
 
 -- a number is in the range of a kind
-abbrev pub IsInRange : Kind → ℕ → Type 0
+abbrev pub IsInRange : ValueKind → ℕ → Type 0
 IsInRange kind.Text n = ⊥
 IsInRange kind.Flag n = ⊥
 IsInRange (kind.Number least most) n = (least ≤ n) × (n ≤ most)

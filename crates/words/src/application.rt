@@ -1,11 +1,13 @@
 ghost use Rattle.std.specs.Prelude.{◌≡◌, IfOk, map, true, false};
 ghost use Rattle.clap.specs.Words.{app_of, rule_of, shape_of, with_rule, with_subcommand};
 ghost use Rattle.clap.specs.declared.builder.command.Command.TheViews.{out-Command as fields_of};
-ghost use Rattle.words.specs.Table.{census_app, command_of, commands, entry_of, named, placed, program, rule_in};
-ghost use Rattle.words.specs.Table.{shape_in, with_commands, with_rules};
+ghost use Rattle.words.specs.Application.{census_app, named, placed, program, rule_in, shape_in};
+ghost use Rattle.words.specs.Application.{with_commands, with_rules};
+ghost use Rattle.words.specs.Entries.{command_of, entry_of};
+ghost use Rattle.words.specs.Table.{commands};
 
 use crate::commands::{COMMANDS, CommandRow};
-use crate::options::{Argument, Kind, Place};
+use crate::options::{Argument, Place, ValueKind};
 use clap::builder::ValueParser;
 use clap::{Arg, ArgAction, Command};
 use std::alloc::{AllocError, Global};
@@ -140,16 +142,16 @@ fn argument<'a>(alloc: Global, row: &Argument) -> Arg<'a>
     ensures local { result.global ≡ false }
 {
     match row.kind {
-        Kind::Text => with_value(alloc, row),
-        Kind::Flag => Arg::new(alloc, row.name)
+        ValueKind::Text => with_value(alloc, row),
+        ValueKind::Flag => Arg::new(alloc, row.name)
             .long(row.name)
             .action(ArgAction::SetTrue)
             .help(row.help),
-        Kind::Number(least, most) => {
+        ValueKind::Number(least, most) => {
             let parser = ValueParser::signed(i64::from(least), i64::from(most));
             with_value(alloc, row).value_parser(parser)
         }
-        Kind::LargeNumber(most) => {
+        ValueKind::LargeNumber(most) => {
             with_value(alloc, row).value_parser(ValueParser::unsigned(0, most))
         }
     }

@@ -5,7 +5,7 @@
 
 /// What the value of an argument has to be.
 #[derive(Clone, Copy)]
-pub enum Kind {
+pub enum ValueKind {
     /// Any text.
     Text,
     /// There is no value: the argument is given or not.
@@ -33,7 +33,7 @@ pub struct Argument {
     /// Where it stands.
     pub place: Place,
     /// What its value has to be.
-    pub kind: Kind,
+    pub kind: ValueKind,
     /// The value that is meant if it isn't given. Without one it must be given, unless it is a flag.
     pub default: Option<&'static str>,
     /// The heading under which help shows it. Without one it stands with the others.
@@ -42,6 +42,12 @@ pub struct Argument {
     pub help: &'static str,
 }
 
+/// The most workers there may be, and so the greatest number of one: as many as a haul may have.
+const MOST_WORKERS: u32 = 16;
+
+/// The greatest first number of a range. The numbers of soups are below it, so a range that begins there is empty.
+const MOST_FIRST: u64 = 1 << 40;
+
 /// Help shows what nearly nobody changes under a heading of its own.
 const SETTLING: Option<&'static str> = Some("When a soup has settled");
 
@@ -49,7 +55,7 @@ const SETTLING: Option<&'static str> = Some("When a soup has settled");
 pub const GENERATIONS: Argument = Argument {
     name: "N",
     place: Place::Position,
-    kind: Kind::Number(0, 100_000),
+    kind: ValueKind::Number(0, 100_000),
     default: None,
     heading: None,
     help: "How many generations to run, from 0 to 100000",
@@ -59,7 +65,7 @@ pub const GENERATIONS: Argument = Argument {
 pub const CODE: Argument = Argument {
     name: "CODE",
     place: Place::Position,
-    kind: Kind::Text,
+    kind: ValueKind::Text,
     default: None,
     heading: None,
     help: "An apgcode, as xs7_178c or xp2_7, or the text after its `_`. The\n\
@@ -70,7 +76,7 @@ pub const CODE: Argument = Argument {
 pub const NUMBER: Argument = Argument {
     name: "N",
     place: Place::Position,
-    kind: Kind::LargeNumber(1_099_511_627_775),
+    kind: ValueKind::LargeNumber(MOST_FIRST - 1),
     default: None,
     heading: None,
     help: "The number of the soup, from 0 to 1099511627775",
@@ -80,7 +86,7 @@ pub const NUMBER: Argument = Argument {
 pub const RULE: Argument = Argument {
     name: "rule",
     place: Place::Named("RULE"),
-    kind: Kind::Text,
+    kind: ValueKind::Text,
     default: Some("b3s23"),
     heading: None,
     help: "The rule: `b`, the numbers of live neighbours that give birth, `s`,\n\
@@ -92,7 +98,7 @@ pub const RULE: Argument = Argument {
 pub const SEED: Argument = Argument {
     name: "seed",
     place: Place::Named("SEED"),
-    kind: Kind::Text,
+    kind: ValueKind::Text,
     default: Some(""),
     heading: None,
     help: "The seed: at most 64 visible ASCII characters",
@@ -102,7 +108,7 @@ pub const SEED: Argument = Argument {
 pub const FIRST: Argument = Argument {
     name: "first",
     place: Place::Named("NUMBER"),
-    kind: Kind::LargeNumber(1_099_511_627_776),
+    kind: ValueKind::LargeNumber(MOST_FIRST),
     default: Some("0"),
     heading: None,
     help: "The number of the first soup, from 0 to 1099511627776",
@@ -112,7 +118,7 @@ pub const FIRST: Argument = Argument {
 pub const COUNT: Argument = Argument {
     name: "count",
     place: Place::Named("COUNT"),
-    kind: Kind::Number(0, 16_777_216),
+    kind: ValueKind::Number(0, 16_777_216),
     default: None,
     heading: None,
     help: "How many soups, from 0 to 16777216",
@@ -122,7 +128,7 @@ pub const COUNT: Argument = Argument {
 pub const ALSO: Argument = Argument {
     name: "also",
     place: Place::Named("LIST"),
-    kind: Kind::Text,
+    kind: ValueKind::Text,
     default: Some(""),
     heading: None,
     help: "A list of further ranges of numbers, as 100+20,500+1: the numbers\n\
@@ -133,7 +139,7 @@ pub const ALSO: Argument = Argument {
 pub const PERIOD: Argument = Argument {
     name: "period",
     place: Place::Named("PERIOD"),
-    kind: Kind::Number(1, 64),
+    kind: ValueKind::Number(1, 64),
     default: Some("64"),
     heading: SETTLING,
     help: "The longest period that counts, from 1 to 64",
@@ -143,7 +149,7 @@ pub const PERIOD: Argument = Argument {
 pub const HORIZON: Argument = Argument {
     name: "horizon",
     place: Place::Named("HORIZON"),
-    kind: Kind::Number(0, 4096),
+    kind: ValueKind::Number(0, 4096),
     default: Some("512"),
     heading: SETTLING,
     help: "For how many generations objects may not come into each other's way,\n\
@@ -154,7 +160,7 @@ pub const HORIZON: Argument = Argument {
 pub const STRIDE: Argument = Argument {
     name: "stride",
     place: Place::Named("STRIDE"),
-    kind: Kind::Number(1, 10_000),
+    kind: ValueKind::Number(1, 10_000),
     default: Some("101"),
     heading: SETTLING,
     help: "How many generations lie between two looks, from 1 to 10000",
@@ -164,7 +170,7 @@ pub const STRIDE: Argument = Argument {
 pub const LIMIT: Argument = Argument {
     name: "limit",
     place: Place::Named("LIMIT"),
-    kind: Kind::Number(0, 100_000),
+    kind: ValueKind::Number(0, 100_000),
     default: Some("30300"),
     heading: SETTLING,
     help: "The last generation at which there may be a look, from 0 to 100000.\n\
@@ -176,7 +182,7 @@ pub const LIMIT: Argument = Argument {
 pub const WORKERS: Argument = Argument {
     name: "workers",
     place: Place::Named("WORKERS"),
-    kind: Kind::Number(1, 16),
+    kind: ValueKind::Number(1, MOST_WORKERS),
     default: Some("1"),
     heading: None,
     help: "How many workers run soups at a time, at most 16, each in a thread\n\
@@ -188,7 +194,7 @@ pub const WORKERS: Argument = Argument {
 pub const REPORTERS: Argument = Argument {
     name: "workers",
     place: Place::Named("WORKERS"),
-    kind: Kind::Number(1, 16),
+    kind: ValueKind::Number(1, MOST_WORKERS),
     default: Some("1"),
     heading: None,
     help: "The greatest number of a worker whose lines are taken, at most 16:\n\
@@ -199,7 +205,7 @@ pub const REPORTERS: Argument = Argument {
 pub const WORKER: Argument = Argument {
     name: "worker",
     place: Place::Named("WORKER"),
-    kind: Kind::Number(1, 16),
+    kind: ValueKind::Number(1, MOST_WORKERS),
     default: None,
     heading: None,
     help: "The number of the worker that reports, from 1 to 16",
@@ -209,7 +215,7 @@ pub const WORKER: Argument = Argument {
 pub const PROGRESS: Argument = Argument {
     name: "progress",
     place: Place::Named(""),
-    kind: Kind::Flag,
+    kind: ValueKind::Flag,
     default: None,
     heading: None,
     help: "Says on standard error how many soups are run, also if that is no\n\

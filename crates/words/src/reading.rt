@@ -1,9 +1,10 @@
 ghost use Rattle.std.specs.Prelude.{◌≡◌, IfSome};
 ghost use Rattle.clap.specs.Words.{found_of, rows_of};
+ghost use Rattle.words.specs.NumbersInRange.{AreInTheirRanges, ArePlanNumbers, AreProfileNumbers};
+ghost use Rattle.words.specs.Plans.{plan_in, profile_in, set_in};
+ghost use Rattle.words.specs.Reading.{gather_in, name_in, run_in, show_in, soup_in, take_in, work_in};
 ghost use Rattle.words.specs.Table.{count, first};
 ghost use Rattle.words.specs.Values.{IsInRange};
-ghost use Rattle.words.specs.Requests.{AreInTheirRanges, AreProfileNumbers, ArePlanNumbers, gather_in, name_in};
-ghost use Rattle.words.specs.Requests.{profile_in, run_in, set_in, show_in, soup_in, plan_in, take_in, work_in};
 
 use crate::options;
 use crate::request::{Plan, ProfileNumbers, Request, SoupSet};

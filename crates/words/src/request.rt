@@ -1,9 +1,11 @@
 use crate::text::Text;
 
 /// A command with its values.
+///
+/// If words ask for it, each number is in the range of its row in the table of the arguments.
 #[derive(Drop)]
 pub enum Request<'a> {
-    /// The pattern of the input so many generations later, at most 100,000, under the rule of a text.
+    /// The pattern of the input so many generations later, under the rule of a text.
     Run {
         generations: u32,
         rule: Text<'a>,
@@ -17,23 +19,23 @@ pub enum Request<'a> {
     Show {
         code: Text<'a>,
     },
-    /// The soup with this number, which is below 2^40, of the seed of a text.
+    /// The soup with this number, of the seed of a text.
     Soup {
         seed: Text<'a>,
         number: u64,
     },
-    /// The haul of all soups of a set by so many workers, 1 to 16, and whether a line of progress is asked for.
+    /// The haul of all soups of a set by so many workers, and whether a line of progress is asked for.
     Take {
         plan: Plan<'a>,
         workers: u8,
         progress: bool,
     },
-    /// The report lines of this worker, 1 to 16, for all soups of a set.
+    /// The report lines of this worker for all soups of a set.
     Work {
         plan: Plan<'a>,
         worker: u8,
     },
-    /// The haul that report lines of so many workers, 1 to 16, make over a set.
+    /// The haul that report lines of so many workers make over a set.
     Gather {
         plan: Plan<'a>,
         workers: u8,
@@ -58,9 +60,9 @@ pub struct Plan<'a> {
 pub struct SoupSet<'a> {
     /// The seed.
     pub seed: Text<'a>,
-    /// The first number of the range, at most 2^40.
+    /// The first number of the range.
     pub first: u64,
-    /// How many numbers the range has, at most 2^24.
+    /// How many numbers the range has.
     pub count: u64,
     /// The list of the other ranges.
     pub also: Text<'a>,
@@ -69,12 +71,12 @@ pub struct SoupSet<'a> {
 /// The four numbers of a profile: when a pattern counts as settled.
 #[derive(Clone, Copy)]
 pub struct ProfileNumbers {
-    /// The longest period that counts, 1 to 64.
+    /// The longest period that counts.
     pub period: u32,
-    /// For how many generations clusters may not come into each other's way, at most 4,096.
+    /// For how many generations clusters may not come into each other's way.
     pub horizon: u32,
-    /// How many generations there are from one look to the next, 1 to 10,000.
+    /// How many generations there are from one look to the next.
     pub stride: u32,
-    /// The last generation at which there may be a look, at most 100,000.
+    /// The last generation at which there may be a look.
     pub limit: u32,
 }

@@ -1,9 +1,9 @@
 ghost use Rattle.std.specs.Prelude.{◌≡◌, ◌≤◌, IfSome, option_and_then};
 ghost use Rattle.clap.specs.Words.{found_of, rows_of};
-ghost use Rattle.words.specs.Table.{entry_of};
+ghost use Rattle.words.specs.Entries.{entry_of};
 ghost use Rattle.words.specs.Values.{IsInRange, is_given, number_found, number_up_to, text_found, within};
 
-use crate::options::{Argument, Kind};
+use crate::options::{Argument, ValueKind};
 use crate::text::Text;
 use clap::ArgMatches;
 
@@ -15,15 +15,15 @@ pub fn number_found(found: &ArgMatches<'_>, row: &Argument) -> Option<u64>
     ensures range { IfSome result (IsInRange row.now.kind) }
 {
     match row.kind {
-        Kind::Text | Kind::Flag => None,
-        Kind::Number(least, most) => {
+        ValueKind::Text | ValueKind::Flag => None,
+        ValueKind::Number(least, most) => {
             let number = number_up_to(found, row.name, u64::from(most))?;
             if number < u64::from(least) {
                 return None;
             }
             Some(number)
         }
-        Kind::LargeNumber(most) => number_up_to(found, row.name, most),
+        ValueKind::LargeNumber(most) => number_up_to(found, row.name, most),
     }
 }
 

@@ -1,6 +1,7 @@
 use Rattle.std.proofs.Common.{◌∙◌, add-one, ap, drop-cons, map, sym}
 use Rattle.clap.specs.Words.{app_of}
-use Rattle.words.specs.Table.{entry_of, rule_in, with_rules}
+use Rattle.words.specs.Application.{rule_in, with_rules}
+use Rattle.words.specs.Entries.{entry_of}
 use Rattle.words.proofs.application.with_arguments.Goals as goal
 
 pub loop-row-preserved : goal.loop-row-preserved

@@ -1,7 +1,8 @@
 use Rattle.std.proofs.Common.{◌≡◌, drop, false, map}
 use Rattle.clap.specs.Words.{app_of}
 use Rattle.clap.specs.declared.builder.command.Command.TheViews.{out-Command as fields_of}
-use Rattle.words.specs.Table.{entry_of, rule_in, with_rules}
+use Rattle.words.specs.Application.{rule_in, with_rules}
+use Rattle.words.specs.Entries.{entry_of}
 use Rattle.words.proofs.application.with_arguments.Given as goal
 
 abbrev pub invariant-loop-row : goal.invariant-loop-row

@@ -1,6 +1,7 @@
 use Rattle.std.proofs.Common.{◌∙◌, add-one, ap, drop-cons, map, sym}
 use Rattle.clap.specs.Words.{app_of}
-use Rattle.words.specs.Table.{command_of, shape_in, with_commands}
+use Rattle.words.specs.Application.{shape_in, with_commands}
+use Rattle.words.specs.Entries.{command_of}
 use Rattle.words.proofs.application.with_commands.Goals as goal
 
 pub loop-row-preserved : goal.loop-row-preserved

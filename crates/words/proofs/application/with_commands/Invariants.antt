@@ -1,6 +1,7 @@
 use Rattle.std.proofs.Common.{◌≡◌, drop, map}
 use Rattle.clap.specs.Words.{app_of}
-use Rattle.words.specs.Table.{command_of, shape_in, with_commands}
+use Rattle.words.specs.Application.{shape_in, with_commands}
+use Rattle.words.specs.Entries.{command_of}
 use Rattle.words.proofs.application.with_commands.Given as goal
 
 abbrev pub invariant-loop-row : goal.invariant-loop-row
