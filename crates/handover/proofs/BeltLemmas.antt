@@ -313,7 +313,8 @@ module _ {N : Type 0} where
             All-head (λ (e : ℕ × List N). e.1 ≡ notes_of e.0 (v.got ++ items)) (notes_entry p) (map notes_entry ps) all
                 ∙ notes-append p.number v.got items,
           )
-          (go ps (All-tail (λ (e : ℕ × List N). e.1 ≡ notes_of e.0 (v.got ++ items)) (notes_entry p) (map notes_entry ps) all))
+          (go ps (All-tail (λ (e : ℕ × List N). e.1 ≡ notes_of e.0 (v.got ++ items)) (notes_entry p) (map notes_entry ps)
+          all))
 
   pub whole : (got : List (ℕ × N)) (passes : List (Presented N)) → All (λ (p : Presented N). IsFront (notes_of p.number got) p.notes) passes
       → All (IsWhole got) passes
@@ -327,8 +328,8 @@ module _ {N : Type 0} where
   pub seen_remainder : (passes : List (Presented N)) (v : Share N) → v.senders ≡ []
       → map (left_over v.got) (with_senders passes v).senders ≡ map (left_of v.got) passes
   seen_remainder passes v none =
-      ap (λ (l : List (ℕ × List N)). map (left_over v.got) l) (ap (λ (l : List (ℕ × List N)). map notes_entry passes ++ l) none
-      ∙ append-nil (map notes_entry passes)) ∙ go passes
+      ap (λ (l : List (ℕ × List N)). map (left_over v.got) l)
+      (ap (λ (l : List (ℕ × List N)). map notes_entry passes ++ l) none ∙ append-nil (map notes_entry passes)) ∙ go passes
     where
       go : (passes : List (Presented N)) → map (left_over v.got) (map notes_entry passes) ≡ map (left_of v.got) passes
       go [] = refl

@@ -34,6 +34,8 @@ returns-clause-left g c =
 pub returns-clause-whole : goal.returns-clause-whole
 returns-clause-whole g c =
     let v = c.receiver.inside.pass.me.0.client in
-    let tells = subst (λ (u : Share g.row.N.Denot). TellsWhatIsLeft u c.learn_as.ensures.rule.0) c.take_in.ensures.taken c.learn_as.ensures.rule.1 in
+    let tells =
+    subst (λ (u : Share g.row.N.Denot). TellsWhatIsLeft u c.learn_as.ensures.rule.0) c.take_in.ensures.taken
+    c.learn_as.ensures.rule.1 in
     subst (λ (r : Received g.row.N.Denot). All (IsWhole r.got) c.args.senders.items) c.receiver.view_is
     (whole v.got c.args.senders.items (told c.args.senders.items v c.learn_as.ensures.rule.0 c.receiver.invariant.1 tells))
