@@ -1,13 +1,11 @@
 -- From what a command leaves in a buffer to what is with the writer below it.
 use Rattle.std.proofs.Common.{◌≡◌, ◌∙◌, ℕ, zero, suc, List, [], true, false, Option, None, Some, Ok, Err, IsSomeAnd, IfSome}
-use Rattle.std.proofs.Common.{inl, inr, refl, sym, ap, subst, append-nil}
+use Rattle.std.proofs.Common.{inl, inr, refl, rules, sym, ap, subst, append-nil}
 use Rattle.std.specs.Io.KnownBytes.{Appends, Keeps, append_known}
 use Rattle.std.specs.Prelude.{MatchBool}
 use Rattle.words.specs.Requests.{Text, asked_by}
 use Rattle.words.specs.declared.request.Request.{Request}
-use Rattle.words.specs.declared.request.Request.TheVariants.{Run, Name, Show, Soup, Take, Work, Gather, Version}
 use Rattle.pattern_commands.specs.declared.complaint.Complaint.{Complaint}
-use Rattle.pattern_commands.specs.declared.complaint.Complaint.TheVariants.{Refused, Memory, ReadFailed, WriteFailed}
 use Rattle.pattern_commands.specs.declared.status.Status.{Status}
 use Rattle.pattern_commands.specs.declared.status.Status.TheVariants as statuses
 use Rattle.pattern_commands.specs.Complaints.{status_of}
@@ -54,21 +52,11 @@ nothing_more (Some xs) (Some ys) (Some zs) first second = second ∙ append-nil 
 
 -- no complaint has the status of a command that printed
 unprinted : (complaint : Complaint) → has_printed (status_of complaint) ≡ false
-unprinted (Refused refusal) = refl
-unprinted Memory = refl
-unprinted ReadFailed = refl
-unprinted WriteFailed = refl
+unprinted complaint = search rules
 
 -- only gathering tells of its input
 quiet : (request : Request) (bytes : List ℕ) (made : Made) → tells_lines request ≡ false → right_for request bytes (Ok made) → made.told ≡ []
-quiet (Run n rule) bytes made mute is = is.1
-quiet (Name profile rule) bytes made mute is = is.1
-quiet (Show code) bytes made mute is = is.1
-quiet (Soup seed n) bytes made mute is = is.1
-quiet (Take plan workers progress) bytes made mute is = is.1
-quiet (Work plan worker) bytes made mute is = is.1
-quiet (Gather plan workers) bytes made mute is = cc
-quiet Version bytes made mute is = is.1
+quiet request bytes made mute is = search rules
 
 -- the last line, which is none if nothing is missing
 told_last : (missing : ℕ) (s : Stream) → HasLast (Ok missing) s → HasLine s (last_line (Ok missing))
@@ -139,9 +127,4 @@ at_incomplete P zero is p = cc
 at_incomplete P (suc n) is p = (n, p)
 
 pub unlike : (P : Status → Type 0) (status : Status) → has_printed status ≡ true → P statuses.Done → P statuses.Incomplete → P status
-unlike P statuses.Done printed done less = done
-unlike P statuses.Incomplete printed done less = less
-unlike P statuses.Usage printed done less = cc
-unlike P statuses.Refused printed done less = cc
-unlike P statuses.Memory printed done less = cc
-unlike P statuses.Failed printed done less = cc
+unlike P status printed done less = search rules
