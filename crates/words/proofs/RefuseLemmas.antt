@@ -6,9 +6,8 @@ use Rattle.std.specs.Option.{option_map_or}
 use Rattle.std.specs.Str.{chars}
 use Rattle.std.specs.Str.Parse.{starts_with_minus}
 use Rattle.std.proofs.Math.Bool.{or-false}
-use Rattle.std.proofs.lemmas.Bool.{cases_Bool, false_from_ne_true}
+use Rattle.std.proofs.lemmas.Bool.{cases_Bool}
 use Rattle.std.proofs.lemmas.List.Folds.{list_any-append}
-use Rattle.std.proofs.lemmas.Slice.Eq.{bytes_eq-Decides}
 use Rattle.clap.specs.Words.{Kinds, Row, Rule, Shape, Text}
 use Rattle.clap.specs.Faults.{bundle_fault, flag_word_fault, flags_fault, long_fault, other_fault, short_fault, positional_fault, step_fault, stray_fault, walk_fault}
 use Rattle.clap.specs.Kinds.{or_else}
@@ -23,7 +22,7 @@ use Rattle.words.specs.declared.request.Request.{Request}
 use Rattle.words.specs.Calls.{NoCommandAsksForNothing, OthersAskForNothing}
 use Rattle.words.specs.Entries.{Command, Entry}
 use Rattle.words.specs.LawfulUses.{AreUses, IsIn, IsNotOfKind, IsShort, IsUnknown}
-use Rattle.words.specs.Requests.{asked_by, asks_version, unless_faulty}
+use Rattle.words.specs.Requests.{asked_by, unless_faulty}
 use Rattle.words.specs.Table.{commands}
 use Rattle.words.specs.Uses.{Stands, Use, alone, entry_in, value_in, words_in, words_of}
 use Rattle.words.proofs.KnownLemmas.{CommandFacts, census_built, faults_of, holding, known, leaf, lone, takes_name}

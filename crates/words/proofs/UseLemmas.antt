@@ -7,7 +7,6 @@ use Rattle.std.proofs.lemmas.List.Folds.{list_any-append}
 use Rattle.std.proofs.lemmas.Slice.Eq.{bytes_eq-Decides}
 use Rattle.clap.specs.Words.{Kinds, Row, Shape, Text}
 use Rattle.clap.specs.Faults.{step_fault}
-use Rattle.clap.specs.Kinds.{or_else}
 use Rattle.clap.specs.Walk.{Held, arg_by_index, has_row, idle, nothing_held, option, to_positional, value}
 use Rattle.clap.specs.declared.parser.matches.ValueSource.TheVariants.{CommandLine}
 use Rattle.clap.proofs.KindLemmas.{value_kinds-ok}
