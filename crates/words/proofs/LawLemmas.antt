@@ -1,5 +1,5 @@
 -- What the calls of the program ask for.
-use Rattle.std.proofs.Common.{◌≡◌, ◌∙◌, ◌&&◌, ◌⊎◌, Bool, true, false, None, Some, Option, List, [], ◌∷◌, append-nil, option_and_then, option_map, fold, inl}
+use Rattle.std.proofs.Common.{arith, ◌≡◌, ◌∙◌, ◌&&◌, ◌⊎◌, Bool, true, false, None, Some, Option, List, [], ◌∷◌, append-nil, option_and_then, option_map, fold, inl}
 use Rattle.std.proofs.Common.{inr, not, refl, sym, ap, ap₂, subst, ⊎_elim}
 use Rattle.std.specs.List.{list_any}
 use Rattle.std.proofs.lemmas.Bool.{and_parts}
@@ -73,8 +73,7 @@ asked_of s r = unless_faulty (or_else (faults_by s r) []) (request_in (s.name, f
 
 -- the name of a command and words after it don't ask for the version
 pub not_version : (program name : Text) (words : List Text) → is_version name ≡ false → asks_version (program ∷ name ∷ words) ≡ false
-not_version program name [] other = other
-not_version program name (w ∷ ws) other = refl
+not_version program name words other = grind (arith, other)
 
 module _ (command : Command) (here : IsIn command commands) (program : Text) where
   pub asks : (words : List Text) → asked_by (program ∷ command.name ∷ words) ≡ asked_of (leaf command) (run (leaf command) (at nothing_held 1) words)

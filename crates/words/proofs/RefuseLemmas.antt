@@ -6,9 +6,8 @@ use Rattle.std.specs.Option.{option_map_or}
 use Rattle.std.specs.Str.{chars}
 use Rattle.std.specs.Str.Parse.{starts_with_minus}
 use Rattle.std.proofs.Math.Bool.{or-false}
-use Rattle.std.proofs.lemmas.Bool.{cases_Bool, false_from_ne_true}
+use Rattle.std.proofs.lemmas.Bool.{cases_Bool}
 use Rattle.std.proofs.lemmas.List.Folds.{list_any-append}
-use Rattle.std.proofs.lemmas.Slice.Eq.{bytes_eq-Decides}
 use Rattle.clap.specs.Words.{Kinds, Row, Rule, Shape, Text}
 use Rattle.clap.specs.Faults.{bundle_fault, flag_word_fault, flags_fault, long_fault, other_fault, short_fault, positional_fault, step_fault, stray_fault, walk_fault}
 use Rattle.clap.specs.Kinds.{or_else}
@@ -23,7 +22,7 @@ use Rattle.words.specs.declared.request.Request.{Request}
 use Rattle.words.specs.Calls.{NoCommandAsksForNothing, OthersAskForNothing}
 use Rattle.words.specs.Entries.{Command, Entry}
 use Rattle.words.specs.LawfulUses.{AreUses, IsIn, IsNotOfKind, IsShort, IsUnknown}
-use Rattle.words.specs.Requests.{asked_by, asks_version, unless_faulty}
+use Rattle.words.specs.Requests.{asked_by, unless_faulty}
 use Rattle.words.specs.Table.{commands}
 use Rattle.words.specs.Uses.{Stands, Use, alone, entry_in, value_in, words_in, words_of}
 use Rattle.words.proofs.KnownLemmas.{CommandFacts, census_built, faults_of, holding, known, leaf, lone, takes_name}
@@ -111,19 +110,9 @@ told_or_held : (told held later last : Kinds) → IsFaulty (or_else told held) �
     → IsFaulty (or_else (or_else told later) last)
 told_or_held told held later last f stuck = grind arith
 
--- ---- why a use is refused
-
--- it is there already
-twice_faulty : (e : Entry) (v : Text) (rows : List Row) → has_row e.name rows ≡ true → IsFaulty (faults_of e v rows)
-twice_faulty e v rows there = rw there refl
-
--- its value is out of its range
+-- a use is refused whose value is out of its range
 range_faulty : (e : Entry) (v : Text) (rows : List Row) → IsNotOfKind e.kind v → IsFaulty (faults_of e v rows)
 range_faulty e v rows refused = grind (arith, value_kinds-refused false (parser_for e.kind) v (kind_refused e.kind v refused))
-
-not_dashes : (word name : Text) (v : Option Text) → long_of word ≡ Some (name, v) → bytes_eq word (codes "--") ≡ false
-not_dashes word name v is = false_from_ne_true _ (λ e.
-    let bad : None ≡ Some (name, v) = sym (ap long_of ((bytes_eq-Decides word (codes "--")).0 e)) ∙ is in cc)
 
 -- ---- at a place in the words of a command
 
@@ -177,7 +166,8 @@ module _ (command : Command) (here : IsIn command commands) {h : Held} {position
   refused_unknown word u =
       let none : list_any (takes_name u.name) s.rules ≡ false =
       ap (λ (f : CommandFacts). f.long_names u.name) (known command here) ∙ simp (list_any-append, or-false, u.no_option, u.no_help) in
-      refused_word word (rw (not_dashes word u.name u.value u.is_option, u.is_option, find_none (takes_name u.name) s.rules none) refl)
+      let bad : IsFaulty (long_fault s.rules s.args_override_self (arg_by_long s.rules u.name) u.value h) = rw (find_none (takes_name u.name) s.rules none) refl in
+      refused_word word (grind (arith, u.is_option, bad))
 
 -- ---- the laws
 
@@ -197,7 +187,7 @@ others_ask_for_nothing command here = record {
   missing = λ program uses are lacking. asks_uses command here program uses true are lacking;
   twice = λ program uses u more are is used. none_asked command here program uses are (words_of u ++ more)
       (refused command here (all_read command here uses are).is more u is.argument is.stands (inl is.taken)
-      (twice_faulty (entry_in u) (value_in u) (rows_in uses) (rows_have (entry_in u).name uses ∙ used)));
+      (rw (rows_have (entry_in u).name uses ∙ used) refl));
   out_of_range = λ program uses u more are is. none_asked command here program uses are (words_of u ++ more)
       (refused command here (all_read command here uses are).is more u is.argument is.stands (inr is.refused)
       (range_faulty (entry_in u) (value_in u) (rows_in uses) is.refused));
@@ -210,11 +200,6 @@ others_ask_for_nothing command here = record {
 }
 
 -- ---- no command
-
--- a value doesn't ask for the version
-value_no_version : (program word : Text) (words : List Text) → starts_with_minus word ≡ false → asks_version (program ∷ word ∷ words) ≡ false
-value_no_version program [] words h = not_version program [] words refl
-value_no_version program (x ∷ xs) words h = not_version program (x ∷ xs) words (rw h refl)
 
 -- a word that isn't the name of a command
 abbrev help_command : Command
@@ -238,7 +223,7 @@ asks_unknown program word words is_value none no_help =
     let met_by : Option Text → Kinds =
     λ o. turn_kinds top 1 (subcommand_or_other top.rules o idle 1 word nothing_held, other_fault top o word nothing_held) in
     let is = ap met_by (unnamed word none no_help) ∙ ap (turn_kinds top 1) (plain_met top idle nothing_held 1 word is_value) in
-    asked_by-called (program ∷ word ∷ words) (value_no_version program word words is_value)
+    asked_by-called (program ∷ word ∷ words) (not_version program word words (grind (arith, is_value)))
     ∙ no_request _ _ (faulty_first (walk_fault top (names_of census_built) (walk_from nothing_held) (word ∷ words)) _
     (faulty_first (met_by (subcommand_met (names_of census_built) idle word)) _ (subst IsFaulty (sym is) (stray top))))
 

@@ -7,7 +7,6 @@ use Rattle.std.proofs.lemmas.List.Folds.{list_any-append}
 use Rattle.std.proofs.lemmas.Slice.Eq.{bytes_eq-Decides}
 use Rattle.clap.specs.Words.{Kinds, Row, Shape, Text}
 use Rattle.clap.specs.Faults.{step_fault}
-use Rattle.clap.specs.Kinds.{or_else}
 use Rattle.clap.specs.Walk.{Held, arg_by_index, has_row, idle, nothing_held, option, to_positional, value}
 use Rattle.clap.specs.declared.parser.matches.ValueSource.TheVariants.{CommandLine}
 use Rattle.clap.proofs.KindLemmas.{value_kinds-ok}
@@ -133,9 +132,6 @@ pub record ReadsOn (command : Command) (h : Held) (position : ℕ) (words : List
   pub is : IsAt command held end rows
   pub runs : (more : List Text) → run (leaf command) (at h position) (words ++ more) ≡ run (leaf command) (at held end) more
 
-both_nil : (one two : Kinds) → or_else one two ≡ [] → (one ≡ []) × (two ≡ [])
-both_nil one two is = grind arith
-
 fresh_rows : (e : Entry) (v : Text) (rows : List Row) → has_row e.name rows ≡ false → rows_with e v rows ≡ rows ++ row_of e v CommandLine ∷ []
 fresh_rows e v rows fresh = grind (arith, append-nil rows, at_row_none)
 
@@ -162,7 +158,7 @@ module _ (command : Command) (here : IsIn command commands) where
       let held = holding step.kept step.pending in
       let small = ap (λ (f : ArgumentFacts). f.small) (known_of command here e lawful.argument) in
       let fine : faults_of e v rows ≡ [] = rw (fresh, value_kinds-ok false (parser_for e.kind) v (kind_accepted e.kind v small lawful.taken)) refl in
-      let none = both_nil _ _ (ap (λ (p : Kinds × Held). p.0) step.settles ∙ fine) in
+      let none : (step.told ≡ []) × ((settling (leaf command) held).0 ≡ []) = grind (arith, ap (λ (p : Kinds × Held). p.0) step.settles ∙ fine) in
       let left = ap (λ (p : Kinds × Held). p.1) step.settles ∙ ap (λ rs. holding rs None) (fresh_rows e v rows fresh) in
       record {
         held = held;

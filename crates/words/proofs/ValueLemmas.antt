@@ -40,11 +40,7 @@ is_found p [] = refl
 is_found p (x ∷ xs) = grind (arith, is_found p xs)
 
 pub find_none : {X : Type 0} (p : X → Bool) (xs : List X) → list_any p xs ≡ false → find p xs ≡ None
-find_none p [] none = refl
-find_none p (x ∷ xs) none = let parts = or_parts (p x) (list_any p xs) none in rw parts.0 (find_none p xs parts.1)
-
-or_none : {X : Type 0} (o : Option X) → option_or o None ≡ o
-or_none o = grind arith
+find_none p xs none = grind (arith, is_found p xs, none)
 
 -- a default is found if nothing was found before
 default_found : (id : Text) (rows : List Row) (a : Rule) (later : Option Row)
@@ -53,7 +49,7 @@ default_found : (id : Text) (rows : List Row) (a : Rule) (later : Option Row)
 default_found id rows a later = grind (arith, is_found (λ (r : Row). bytes_eq r.id id) rows, find-append {X = Row}, (bytes_eq-Decides a.id id).0, at_row_none)
 
 all_found : (id : Text) (c : List Rule) (rows : List Row) → lookup id (fold with_default rows c) ≡ option_or (lookup id rows) (default_for id c)
-all_found id [] rows = sym (or_none (lookup id rows))
+all_found id [] rows = grind arith
 all_found id (a ∷ c) rows = all_found id c (with_default rows a) ∙ default_found id rows a (default_for id c)
 
 -- no default is faulty where none is by itself

@@ -57,8 +57,7 @@ turn s waiting h position word more m is = ap (goes_on s waiting h position word
 -- a word that doesn't begin with `-` is no flag
 pub plain_met : (s : Shape) (waiting : Waiting) (h : Held) (position : ℕ) (word : Text) → starts_with_minus word ≡ false
     → met s waiting h position word ≡ (plain_word s.rules waiting word h, [])
-plain_met s waiting h position [] bare = refl
-plain_met s waiting h position (x ∷ xs) bare = rw (bare, bare) refl
+plain_met s waiting h position word bare = grind (arith, bare)
 
 pub or_else_nil : (kinds : Kinds) → or_else kinds [] ≡ kinds
 or_else_nil kinds = grind arith
