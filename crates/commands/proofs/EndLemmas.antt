@@ -87,7 +87,8 @@ reads_named plan job named unread = let bad : true ≡ false = sym (ap is_ok nam
 
 -- what was gathered
 is_gathered : (terms : Terms) (held closed : Held) (census : Census) (n : ℕ) (known : Option (List ℕ)) (errors : Stream)
-    → (all : HasGatheredShort known errors held) → held.terms ≡ terms → closed.terms ≡ held.terms → closed.taken ≡ held.taken
+    → (all : HasGatheredShort known errors held) → held.terms ≡ terms → closed.terms ≡ held.terms
+    → closed.taken ≡ held.taken
     → ((arrivals : List Arrival) → StandsFor arrivals held → StandsFor (arrivals ++ Closing ∷ []) closed)
     → IsCensusOf held census → n ≡ length (missing_of held.terms.ranges held.taken)
     → IsGathered terms all.2.bytes (record { text = haul_text census; told = all.2.told; missing = n })
@@ -130,14 +131,16 @@ gathers_lines terms bytes known WriteFailed output errors ends nothing = inr (re
 
 -- what became of a haul to which all lines have come, when it was finished
 pub gathers_haul : (terms : Terms) (held closed : Held) (known : Option (List ℕ)) (outcome : Outcome) (output errors : Stream)
-    → (all : HasGatheredShort known errors held) → held.terms ≡ terms → closed.terms ≡ held.terms → closed.taken ≡ held.taken
+    → (all : HasGatheredShort known errors held) → held.terms ≡ terms → closed.terms ≡ held.terms
+    → closed.taken ≡ held.taken
     → ((arrivals : List Arrival) → StandsFor arrivals held → StandsFor (arrivals ++ Closing ∷ []) closed)
     → Finishes held outcome output → errors.failed ≡ false → Reaches (haul_task terms) known all.2.bytes outcome output errors
 gathers_haul terms held closed known outcome output errors all same kept took closes finishes fine = go outcome finishes
   where
     gathered : (census : Census) (n : ℕ) → IsCensusOf held census → n ≡ length (missing_of held.terms.ranges held.taken)
         → IsGathered terms all.2.bytes (record { text = haul_text census; told = all.2.told; missing = n })
-    gathered census n counted many = is_gathered terms held closed census n known errors all same kept took closes counted many
+    gathered census n counted many = is_gathered terms held closed census n known errors all same kept took closes
+        counted many
 
     go : (outcome : Outcome) → Finishes held outcome output → Reaches (haul_task terms) known all.2.bytes outcome output errors
     go (Ok missing) is = record {
@@ -150,7 +153,8 @@ gathers_haul terms held closed known outcome output errors all same kept took cl
       fine = fine;
     }
     go (Err Memory) nothing =
-        gathers_memory terms all.2.bytes known output errors (all_begun known errors all.0 held terms all.2 same) nothing fine
+        gathers_memory terms all.2.bytes known output errors (all_begun known errors all.0 held terms all.2 same)
+        nothing fine
     go (Err WriteFailed) is = inl (record {
       left = (
         record { text = haul_text is.census; told = all.2.told; missing = length (missing_of held.terms.ranges held.taken) },

@@ -75,20 +75,24 @@ wrong unique claim found is differs finding right agrees =
 -- one line more that has come to the haul
 pub come_more : (lines : List (List ℕ)) (line told : List ℕ) (old new : Held) (before : ℕ) (fault : Option LineFault)
     → before ≡ length lines → (come : HasCome lines old told) → new.terms ≡ old.terms
-    → (arrived : List Arrival) × ComesOf old.terms come.arrivals line arrived fault × StandsFor (come.arrivals ++ arrived) new
+    → (arrived : List Arrival) × ComesOf old.terms come.arrivals line arrived fault
+    × StandsFor (come.arrivals ++ arrived) new
     → HasCome (lines ++ line ∷ []) new (told ++ told_fault (before + 1) fault)
 come_more lines line told old new before fault count come same step = record {
   arrivals = come.arrivals ++ step.0;
   gathered =
-      let P : ℕ → Type 0 = λ n. Gathered new.terms (lines ++ line ∷ []) (come.arrivals ++ step.0) (told ++ told_fault n fault) in
-      let Q : Terms → Type 0 = λ t. Gathered t (lines ++ line ∷ []) (come.arrivals ++ step.0) (told ++ told_fault (suc (length lines)) fault) in
+      let P : ℕ → Type 0 = λ n. Gathered new.terms (lines ++ line ∷ []) (come.arrivals ++ step.0)
+      (told ++ told_fault n fault) in
+      let Q : Terms → Type 0 = λ t. Gathered t (lines ++ line ∷ []) (come.arrivals ++ step.0)
+      (told ++ told_fault (suc (length lines)) fault) in
       let number : before + 1 ≡ suc (length lines) = omega (arith, count) in
       subst P (sym number) (subst Q (sym same) (Next lines come.arrivals told line step.0 fault come.gathered step.1));
   stands = step.2;
 }
 
 abbrev passage : (known left : Option (List ℕ)) → Stream → ℕ → ℕ → Passage
-passage known left errors count size = record { known = known; left = left; errors = errors; count = count; size = size }
+passage known left errors count size =
+    record { known = known; left = left; errors = errors; count = count; size = size }
 
 -- no line has come
 pub none_gathered : (known : Option (List ℕ)) (errors : Stream) (held : Held) → Has errors [] → StandsFor [] held
@@ -106,7 +110,8 @@ none_gathered known errors held silent stands = record {
 }
 
 -- no line is left
-pub no_more : (known left new : Option (List ℕ)) (errors : Stream) (count size : ℕ) (held : Held) (kept : List ℕ) (line : LineRead)
+pub no_more : (known left new : Option (List ℕ)) (errors : Stream) (count size : ℕ) (held : Held) (kept : List ℕ)
+    (line : LineRead)
     → HasGathered (passage known left errors count size) held → (read : HasReadLine left new kept line) → line.size ≡ 0
     → GoesOn (passage known new errors (count + 1) (size + line.size)) held line.end
 no_more known left new errors count size held kept line gathered read none = go line.end refl
@@ -132,9 +137,10 @@ no_more known left new errors count size held kept line gathered read none = go 
         }
 
 -- a line more, after which others may follow or none
-pub goes_on : {V : Type 0} (contents : V → Option (List ℕ)) (known left new : Option (List ℕ)) (first old later : Output V) (count size : ℕ)
-    (held next : Held) (kept : List ℕ) (line : LineRead)
-    → (gathered : HasGathered (passage known left (stream contents first old) count size) held) → (read : HasReadLine left new kept line) → 0 < line.size
+pub goes_on : {V : Type 0} (contents : V → Option (List ℕ)) (known left new : Option (List ℕ))
+    (first old later : Output V) (count size : ℕ) (held next : Held) (kept : List ℕ) (line : LineRead)
+    → (gathered : HasGathered (passage known left (stream contents first old) count size) held)
+    → (read : HasReadLine left new kept line) → 0 < line.size
     → HasComeBy (gathered.lines ++ read.line ∷ []) next gathered.told (stream contents old later)
     → GoesOn (passage known new (stream contents first later) (count + 1) (size + line.size)) next line.end
 goes_on contents known left new first old later count size held next kept line gathered read some by = go line.end refl
@@ -146,9 +152,11 @@ goes_on contents known left new first old later count size held next kept line g
     total = ap₂ (λ a b. a + b) gathered.size_is read.size_is ∙ sym (length-append gathered.read whole)
 
     written : Has (stream contents first later) (gathered.told ++ by.more)
-    written = Appends-append (contents first.writer) (contents old.writer) (contents later.writer) gathered.told by.more gathered.written by.written
+    written = Appends-append (contents first.writer) (contents old.writer) (contents later.writer) gathered.told by.more
+        gathered.written by.written
 
-    go : (end : LineEnd) → line.end ≡ end → GoesOn (passage known new (stream contents first later) (count + 1) (size + line.size)) next end
+    go : (end : LineEnd) → line.end ≡ end
+        → GoesOn (passage known new (stream contents first later) (count + 1) (size + line.size)) next end
     go Feed is = record {
       read = gathered.read ++ (read.line ++ 10 ∷ []);
       lines = gathered.lines ++ read.line ∷ [];
@@ -168,7 +176,8 @@ goes_on contents known left new first old later count size held next kept line g
           input = all_read known left new gathered.read read.line gathered.consumed (subst (Consumes left new) bare read.consumed) (read.last is);
           size_is = total ∙ ap (λ l. length (gathered.read ++ l)) bare;
           told = gathered.told ++ by.more;
-          come = subst Q (sym (lines_bare gathered.read gathered.lines read.line gathered.ended read.one there)) by.come;
+          come = subst Q (sym (lines_bare gathered.read gathered.lines read.line gathered.ended read.one there))
+              by.come;
           written = written;
         }
 
@@ -192,7 +201,8 @@ begun way held terms gathered same = record {
 }
 
 -- and so is all that has come
-pub all_begun : (known : Option (List ℕ)) (errors : Stream) (size : ℕ) (held : Held) (terms : Terms) → HasGatheredAll known errors size held
+pub all_begun : (known : Option (List ℕ)) (errors : Stream) (size : ℕ) (held : Held) (terms : Terms)
+    → HasGatheredAll known errors size held
     → held.terms ≡ terms → HasBegun terms known errors.before errors.after
 all_begun known errors size held terms all same = record {
   lines = input_lines all.bytes;
@@ -223,15 +233,18 @@ goes_no_further way held Feed is gathered = let bad : Feed ≡ Input = is in cc
 goes_no_further way held Input is all = all
 
 -- a complaint over a line, after all lines before it
-pub lines_ended_by : {V : Type 0} (contents : V → Option (List ℕ)) (known left : Option (List ℕ)) (first : Output V) (count size : ℕ) (held : Held)
-    (terms : Terms) (old new : Output V) (complaint : Complaint) → HasGathered (passage known left (stream contents first old) count size) held
-    → held.terms ≡ terms → old.failed ≡ false → EndsLine old new complaint → EndsLines terms known (stream contents first new) complaint
+pub lines_ended_by : {V : Type 0} (contents : V → Option (List ℕ)) (known left : Option (List ℕ)) (first : Output V)
+    (count size : ℕ) (held : Held) (terms : Terms) (old new : Output V) (complaint : Complaint)
+    → HasGathered (passage known left (stream contents first old) count size) held
+    → held.terms ≡ terms → old.failed ≡ false → EndsLine old new complaint
+    → EndsLines terms known (stream contents first new) complaint
 lines_ended_by contents known left first count size held terms old new Memory gathered same fine kept =
     rw kept (begun (passage known left (stream contents first old) count size) held terms gathered same, fine)
 lines_ended_by contents known left first count size held terms old new ReadFailed gathered same fine kept =
     rw kept (begun (passage known left (stream contents first old) count size) held terms gathered same, fine)
 lines_ended_by contents known left first count size held terms old new WriteFailed gathered same fine failed = failed
-lines_ended_by contents known left first count size held terms old new (Refused refusal) gathered same fine none = absurd none
+lines_ended_by contents known left first count size held terms old new (Refused refusal) gathered same fine none =
+    absurd none
 
 -- ---- what is looked at of a line
 

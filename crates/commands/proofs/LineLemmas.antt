@@ -25,14 +25,18 @@ pub kept_short : (n : ℕ) (kept front : List ℕ) → kept ≡ take n front →
 kept_short n kept front is = subst (λ (l : List ℕ). length l ≤ n) (sym is) (omega (arith, length-take n front))
 
 -- a piece more of a line of which a front was read
-pub read_more : (start old new : Option (List ℕ)) (kept after front more : List ℕ) (size : ℕ) (piece : Piece) → kept ≡ take (2 ^ 24 + 1) front
-    → IsOneLine front → Consumes start old front → size ≡ length front → after ≡ take (2 ^ 24 + 1) (kept ++ more) → HasPiece old new more piece
+pub read_more : (start old new : Option (List ℕ)) (kept after front more : List ℕ) (size : ℕ) (piece : Piece)
+    → kept ≡ take (2 ^ 24 + 1) front
+    → IsOneLine front → Consumes start old front → size ≡ length front → after ≡ take (2 ^ 24 + 1) (kept ++ more)
+    → HasPiece old new more piece
     → (after ≡ take (2 ^ 24 + 1) (front ++ more)) × IsOneLine (front ++ more)
-    × Consumes start new ((front ++ more) ++ piece_end piece.end) × (size + piece.size ≡ length ((front ++ more) ++ piece_end piece.end))
+    × Consumes start new ((front ++ more) ++ piece_end piece.end)
+    × (size + piece.size ≡ length ((front ++ more) ++ piece_end piece.end))
 read_more start old new kept after front more size piece kept_is one consumed size_is after_is read =
     let n : ℕ = 2 ^ 24 + 1 in
     let bytes = more ++ piece_end piece.end in
-    let flat : front ++ bytes ≡ (front ++ more) ++ piece_end piece.end = sym (append_assoc front more (piece_end piece.end)) in (
+    let flat : front ++ bytes ≡ (front ++ more) ++ piece_end piece.end =
+    sym (append_assoc front more (piece_end piece.end)) in (
       after_is ∙ ap (λ l. take n (l ++ more)) kept_is ∙ kept_more n front more,
       All-append IsNotFeed front more one read.one,
       subst (Consumes start new) flat (Consumes-trans start old new front bytes consumed read.consumed),

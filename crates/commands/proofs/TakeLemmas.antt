@@ -252,12 +252,16 @@ complete_right job set opened held census open_ h all is = record {
   };
 }
 
+-- what is told of the ranges of a set if some numbers are missing
+abbrev stopped_text : (ℕ → ℕ → Type 0) → ℕ → Job → List Range → List ℕ → Type 0
+stopped_text may_stop missing job ranges text = MayStop may_stop ranges × TellsTaken job ranges missing text
+
 -- some numbers are missing
 pub stopped_told : {workers : ℕ} (may_stop : ℕ → ℕ → Type 0) (job : Job) (set : SoupSet) (opened held : Held) (census : Census) (missing : ℕ)
     → IsOpened job set workers opened → HasTaken workers opened held → missing ≡ length (missing_of held.terms.ranges held.taken)
     → ¬ IsComplete held.terms.ranges held.taken → ((worker : ℕ) × StopsAt may_stop (was_missing opened) worker)
     → IsCensus held.terms.job held.terms.ranges (numbers_in held.taken) census
-    → right_for_set set (λ ranges text. MayStop may_stop ranges × TellsTaken job ranges missing text) (Ok (haul_text census))
+    → right_for_set set (stopped_text may_stop missing job) (Ok (haul_text census))
 stopped_told may_stop job set opened held census missing open_ h many incomplete stops is = record {
   ranges = open_.ranges;
   named = open_.named;
@@ -271,7 +275,8 @@ stopped_told may_stop job set opened held census missing open_ h many incomplete
       taken = held.taken;
       within = subst (All (λ (t : ℕ × ℕ). is_in open_.ranges t.1 ≡ true)) (sym entries)
           (All-map (λ (t : ℕ × ℕ). is_in open_.ranges t.1 ≡ true) entry h.offers
-          (λ k d low. in_set open_.ranges opened.terms.ranges opened.taken (get_or h.offers k d).number open_.form (h.missing k d low)));
+          (λ k d low. in_set open_.ranges opened.terms.ranges opened.taken (get_or h.offers k d).number open_.form
+          (h.missing k d low)));
       once = subst (λ (ts : List (ℕ × ℕ)). IsDistinct nat_eq (numbers_in ts)) (sym entries) h.once;
       incomplete = subst (λ (t : Terms). ¬ IsComplete t.ranges held.taken) h.added.terms incomplete;
       missing_is = many ∙ ap (λ (t : Terms). length (missing_of t.ranges held.taken)) h.added.terms;
@@ -301,7 +306,7 @@ taken_told may_stop plan held census missing h many none is = go missing many no
     go zero many none (inr less) = absurd (less.0 (none.0 refl))
     go (suc n) many none (inl whole) = let bad = none.1 whole.0 in cc
     go (suc n) many none (inr less) =
-        right_given plan (λ j. right_for_set plan.set (λ ranges text. MayStop may_stop ranges × TellsTaken j ranges (suc n) text)) h.is.job (haul_text census) h.is.named
+        right_given plan (λ j. right_for_set plan.set (stopped_text may_stop (suc n) j)) h.is.job (haul_text census) h.is.named
         (stopped_told may_stop h.is.job plan.set h.opened held census (suc n) h.is.opened h.taken many less.0 (less.1, less.2) is)
 
 -- ---- how `take` ends
@@ -373,7 +378,7 @@ never_right : (may_stop : ℕ → ℕ → Type 0) (plan : Plan) (missing : ℕ) 
 never_right may_stop plan missing text never = go (job_named plan)
   where
     go : (r : Result Job Complaint)
-        → given_right r (λ job. right_for_set plan.set (λ ranges text. MayStop may_stop ranges × TellsTaken job ranges missing text)) (Ok text) → ⊥
+        → given_right r (λ job. right_for_set plan.set (stopped_text may_stop missing job)) (Ok text) → ⊥
     go (Ok job) told = let stops = told.is_text.0 in never stops.0 stops.1 stops.3
     go (Err complaint) is = cc
 

@@ -45,7 +45,8 @@ each-append job worker (n ∷ ns) ms [] ss one two = absurd one
 each-append job worker (n ∷ ns) ms (r ∷ rs) ss one two = (one.0, each-append job worker ns ms rs ss one.1 two)
 
 -- no reports on no numbers
-pub puts_nothing : (job : Job) (worker : ℕ) (known : Option (List ℕ)) (failed : Bool) → failed ≡ false → Puts (reports_on job worker []) (Ok tt) (over known known failed)
+pub puts_nothing : (job : Job) (worker : ℕ) (known : Option (List ℕ)) (failed : Bool) → failed ≡ false
+    → Puts (reports_on job worker []) (Ok tt) (over known known failed)
 puts_nothing job worker known failed fine = record { reports = []; each = tt; is_written = Appends-nil known; fine = fine }
 
 -- memory that runs out over the first of them
@@ -81,7 +82,8 @@ puts_failed job worker n report output is wrote told = (
 
 -- reports on some numbers and then on others
 pub puts_then : (job : Job) (worker : ℕ) (ns ms : List ℕ) (outcome : TextOutcome) (x y z : Option (List ℕ)) (was failed : Bool)
-    → Puts (reports_on job worker ns) (Ok tt) (over x y was) → Puts (reports_on job worker ms) outcome (over y z failed) → Puts (reports_on job worker (ns ++ ms)) outcome (over x z failed)
+    → Puts (reports_on job worker ns) (Ok tt) (over x y was) → Puts (reports_on job worker ms) outcome (over y z failed)
+    → Puts (reports_on job worker (ns ++ ms)) outcome (over x z failed)
 puts_then job worker ns ms (Ok u) x y z was failed one two = record {
   reports = one.reports ++ two.reports;
   each = each-append job worker ns ms one.reports two.reports one.each two.each;
@@ -114,7 +116,8 @@ puts_then job worker ns ms (Err ReadFailed) x y z was failed one two = absurd tw
 puts_then job worker ns ms (Err (Refused refusal)) x y z was failed one two = absurd two
 
 -- what stops the first of some numbers stops them all
-pub puts_stops : (job : Job) (worker : ℕ) (ns ms : List ℕ) (complaint : Complaint) (output : Stream) → Puts (reports_on job worker ns) (Err complaint) output
+pub puts_stops : (job : Job) (worker : ℕ) (ns ms : List ℕ) (complaint : Complaint) (output : Stream)
+    → Puts (reports_on job worker ns) (Err complaint) output
     → Puts (reports_on job worker (ns ++ ms)) (Err complaint) output
 puts_stops job worker ns ms Memory output h = record {
   done = h.done;
@@ -150,7 +153,8 @@ range_split a (suc n) k =
 
 -- one number more of a range
 pub puts_next : (job : Job) (worker first number : ℕ) (outcome : TextOutcome) (x y z : Option (List ℕ)) (was failed : Bool) → first ≤ number
-    → Puts (reports_on job worker (range_with_len first (number - first))) (Ok tt) (over x y was) → Puts (reports_on job worker (number ∷ [])) outcome (over y z failed)
+    → Puts (reports_on job worker (range_with_len first (number - first))) (Ok tt) (over x y was)
+    → Puts (reports_on job worker (number ∷ [])) outcome (over y z failed)
     → Puts (reports_on job worker (range_with_len first (number + 1 - first))) outcome (over x z failed)
 puts_next job worker first number outcome x y z was failed low one two =
     let one_more : (number - first) + 1 ≡ number + 1 - first = omega arith in
@@ -183,7 +187,8 @@ puts_more job worker ranges i d outcome x y z was failed more one two =
 
 -- what stops the first of some ranges stops them all
 pub puts_early : (job : Job) (worker : ℕ) (ranges : List Range) (k : ℕ) (complaint : Complaint) (output : Stream)
-    → Puts (reports_on job worker (numbers_of (take k ranges))) (Err complaint) output → Puts (reports_on job worker (numbers_of ranges)) (Err complaint) output
+    → Puts (reports_on job worker (numbers_of (take k ranges))) (Err complaint) output
+    → Puts (reports_on job worker (numbers_of ranges)) (Err complaint) output
 puts_early job worker ranges k complaint output h =
     subst (λ (ns : List ℕ). Puts (reports_on job worker ns) (Err complaint) output)
     (sym (flat_map-append numbers_of_range (take k ranges) (drop k ranges)) ∙ ap numbers_of (take-append-drop k ranges))
@@ -258,7 +263,8 @@ front_of determined job worker numbers answer output tells begun =
     (AppendsFront-longer output.before output.after (flat_map report_text begun.reports) (flat_map report_text remainder.0) begun.is_written)
 
 -- whole lines are a front of themselves
-begun_whole : (job : Job) (worker : ℕ) (numbers : List ℕ) (output : Stream) → IsBegun (reports_on job worker numbers) (Has output)
+begun_whole : (job : Job) (worker : ℕ) (numbers : List ℕ) (output : Stream)
+    → IsBegun (reports_on job worker numbers) (Has output)
     → IsBegun (reports_on job worker numbers) (HasFront output)
 begun_whole job worker numbers output begun = record {
   done = begun.done;
@@ -275,7 +281,8 @@ pub reaches_work : {workers : ℕ} → FindingsAreDetermined → OneNormalForm �
     → Puts (reports_on held.terms.job worker (numbers_of held.terms.ranges)) outcome output
     → ReachesText false false (work_right plan worker) outcome output
 reaches_work determined one_form plan worker held outcome output is puts =
-    go outcome (subst (λ (j : Job). Puts (reports_on j worker (numbers_of held.terms.ranges)) outcome output) is.opened.job_is puts)
+    go outcome (subst (λ (j : Job). Puts (reports_on j worker (numbers_of held.terms.ranges)) outcome output)
+    is.opened.job_is puts)
   where
     job : Job
     job = is.job
@@ -291,7 +298,8 @@ reaches_work determined one_form plan worker held outcome output is puts =
         let told = (tells (Err complaint) is).told in
         cc
 
-    go : (o : TextOutcome) → Puts (reports_on job worker (numbers_of held.terms.ranges)) o output → ReachesText false false right o output
+    go : (o : TextOutcome) → Puts (reports_on job worker (numbers_of held.terms.ranges)) o output
+        → ReachesText false false right o output
     go (Ok u) put =
         let text : List ℕ = flat_map report_text put.reports in
         let told : right_for_set plan.set (TellsReports job worker) (Ok text) = record {

@@ -204,10 +204,20 @@ fn next_line<R: BufRead, E: Write>(
     ensures terms { haul.new.terms ≡ haul.old.terms }
     ensures short { IfOk result (λ read. read.size ≤ 2 ^ 32) }
     ensures going { (known : Option (List ℕ)) (first : Output E) (size : ℕ)
-        → HasGathered (record { known = known; left = R.remaining input.old;
-        errors = stream E.contents first errors.old; count = before; size = size }) haul.old
-        → IfOk result (λ read. GoesOn (record { known = known; left = R.remaining input.new;
-        errors = stream E.contents first errors.new; count = before + 1; size = size + read.size }) haul.new read.end) }
+        → HasGathered (record {
+          known = known;
+          left = R.remaining input.old;
+          errors = stream E.contents first errors.old;
+          count = before;
+          size = size;
+        }) haul.old
+        → IfOk result (λ read. GoesOn (record {
+          known = known;
+          left = R.remaining input.new;
+          errors = stream E.contents first errors.new;
+          count = before + 1;
+          size = size + read.size;
+        }) haul.new read.end) }
     ensures fine { OnOk result (errors.new.failed ≡ false) }
     ensures ended { IfErr result (EndsLine errors.old errors.new) }
 {

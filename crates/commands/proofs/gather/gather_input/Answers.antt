@@ -6,5 +6,7 @@ use Rattle.commands.proofs.gather.gather_input.Goals as goal
 
 pub returns-in_default-clause-ended : goal.returns-in_default-clause-ended
 returns-in_default-clause-ended g c =
-    let errors = stream g.E.Write.contents c.args.errors.now c.args.errors.now in
-    (begun _ _ _ (none_gathered (g.R.Read.remaining c.args.input.now) errors _ (Appends-nil _) c.requires.haul) refl, c.requires.errors)
+    let errors = stream g.E.Write.contents c.args.errors.now c.args.errors.now in (
+      begun _ _ _ (none_gathered (g.R.Read.remaining c.args.input.now) errors _ (Appends-nil _) c.requires.haul) refl,
+      c.requires.errors,
+    )

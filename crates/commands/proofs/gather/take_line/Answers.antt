@@ -9,7 +9,7 @@ returns-in_ok-write_line-clause-come g c line lines told kept count come = recor
   more = fault_line (c.args.before + 1) c.in-Some.fault;
   come =
       come_more lines line told _ _ c.args.before (Some c.in-Some.fault) count come c.in_ok-fault.ensures.terms
-          (rw c.in-Some.is at c.in_ok-fault.ensures.come line come.arrivals kept come.stands);
+      (rw c.in-Some.is at c.in_ok-fault.ensures.come line come.arrivals kept come.stands);
   written = c.in_ok-write_line.ensures.whole;
 }
 

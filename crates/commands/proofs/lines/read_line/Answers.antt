@@ -13,7 +13,8 @@ returns-in-Some g c =
     let piece = c.in_ok-piece.piece in
     let more = read_more _ _ _ _ _ was.0 read.0 c.loop.size piece was.1 was.2 was.3 was.4 read.1 read.2 in
     let sum : c.saturating_add-size.result ≡ c.loop.size + piece.size = omega (arith, c.saturating_add-size.ensures, c.if-size-gt-GATHER_LIMIT.false) in
-    let whole : c.saturating_add-size.result ≡ length ((was.0 ++ read.0) ++ piece_end piece.end) = sum ∙ more.3 in record {
+    let whole : c.saturating_add-size.result ≡ length ((was.0 ++ read.0) ++ piece_end piece.end) = sum
+    ∙ more.3 in record {
       line = was.0 ++ read.0;
       kept_is = more.0;
       one = more.1;
@@ -31,5 +32,14 @@ loop-preserved g c =
     let more = read_more _ _ _ _ _ was.0 read.0 c.loop.size piece was.1 was.2 was.3 was.4 read.1 read.2 in
     let sum : c.saturating_add-size.result ≡ c.loop.size + piece.size = omega (arith, c.saturating_add-size.ensures, c.if-size-gt-GATHER_LIMIT.false) in
     let whole : c.saturating_add-size.result ≡ length ((was.0 ++ read.0) ++ piece_end piece.end) = sum ∙ more.3 in
-    let bare = append-nil (was.0 ++ read.0) in
-    (c.if-size-gt-GATHER_LIMIT.false, (was.0 ++ read.0, more.0, more.1, rw bare at (rw c.in_default.is at more.2), rw bare at (rw c.in_default.is at whole)))
+    let bare = append-nil (was.0 ++ read.0) in (
+      c.if-size-gt-GATHER_LIMIT.false,
+      (
+        was.0 ++ read.0,
+        more.0,
+        more.1,
+        rw bare at (rw c.in_default.is at more.2),
+        rw bare at
+            (rw c.in_default.is at whole),
+      ),
+    )

@@ -15,7 +15,8 @@ returns g c =
     let size = c.first_piece-piece.result.size in
     let rested = c.fill_buf.follows.lender-at-none in
     let filled = subst (FillKeeps _ (g.R.Read.remaining rested) (g.R.BufRead.consumable_len rested)) c.in-Ok.is c.fill_buf.follows.holds-at-none in
-    let moved = Consumes_shown _ _ _ _ shown size piece.bound c.in-Ok.ensures.front c.in-Ok.ensures.end filled.0 filled.1 c.consume.ensures.bytes in (
+    let moved = Consumes_shown _ _ _ _ shown size piece.bound c.in-Ok.ensures.front c.in-Ok.ensures.end filled.0
+    filled.1 c.consume.ensures.bytes in (
       take c.first_piece-piece.result.length shown,
       c.truncate.ensures.items ∙ ap (take (2 ^ 24 + 1)) c.in_ok-extend_from_slice.ensures.items,
       record {

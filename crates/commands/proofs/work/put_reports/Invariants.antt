@@ -7,4 +7,5 @@ use Rattle.commands.proofs.work.put_reports.Given as goal
 -- the reports on the ranges that were passed were written
 abbrev pub invariant-loop-range : goal.invariant-loop-range
 invariant-loop-range g l =
-    Puts (reports_on l.fn.job l.fn.worker (numbers_of (take l.range-index l.ranges))) (Ok tt) (stream g.W.Write.contents l.fn.output l.output)
+    Puts (reports_on l.fn.job l.fn.worker (numbers_of (take l.range-index l.ranges))) (Ok tt)
+    (stream g.W.Write.contents l.fn.output l.output)
