@@ -19,10 +19,13 @@ use Rattle.commands.specs.declared.soup_set.SoupSet.{SoupSet}
 use Rattle.pattern_commands.specs.declared.status.Status.TheVariants as statuses
 use Rattle.pattern_commands.specs.Answers.{NeedsMemory}
 use Rattle.pattern_commands.specs.Complaints.{status_of}
-use Rattle.pattern_commands.specs.Ends.{IsSilent, Outcome, Reaches, status_after}
+use Rattle.pattern_commands.specs.Ends.{status_after}
+use Rattle.pattern_commands.specs.Reached.{IsSilent, Outcome, Reaches}
 use Rattle.commands.specs.Finish.{Finishes, IsCensusOf}
-use Rattle.commands.specs.Gather.{BeginsHaul, IsGathered, IsGathering, IsHaulOver, IsSame, gather_opens, gather_reads, gather_right, gather_task, haul_task}
-use Rattle.commands.specs.GatherSteps.{EndsLines, HasBegun, HasGatheredShort}
+use Rattle.commands.specs.Gather.{BeginsHaul, IsSame, gather_reads, gather_task, haul_task}
+use Rattle.commands.specs.GatherSteps.{EndsLines, HasGatheredShort}
+use Rattle.commands.specs.Gathering.{IsGathered, IsHaulOver, gather_opens, gather_right}
+use Rattle.commands.specs.LinesSoFar.{HasBegun}
 use Rattle.commands.specs.GatheredLines.{Gathered}
 use Rattle.commands.specs.Lines.{input_lines}
 use Rattle.commands.specs.SoupSets.{Bad_list, IsRefused, Overlapping, Too_large, job_named}
@@ -83,12 +86,13 @@ pub reads_named : (plan : Plan) (job : Job) → job_named plan ≡ Ok job
 reads_named plan job named unread = let bad : true ≡ false = sym (ap is_ok named) ∙ unread in cc
 
 -- what was gathered
-is_gathered : (terms : Terms) (held closed : Held) (census : Census) (n : ℕ) (known before after : Option (List ℕ))
-    → (all : HasGatheredShort known before after held) → held.terms ≡ terms → closed.terms ≡ held.terms → closed.taken ≡ held.taken
+is_gathered : (terms : Terms) (held closed : Held) (census : Census) (n : ℕ) (known : Option (List ℕ)) (errors : Stream)
+    → (all : HasGatheredShort known errors held) → held.terms ≡ terms → closed.terms ≡ held.terms
+    → closed.taken ≡ held.taken
     → ((arrivals : List Arrival) → StandsFor arrivals held → StandsFor (arrivals ++ Closing ∷ []) closed)
     → IsCensusOf held census → n ≡ length (missing_of held.terms.ranges held.taken)
     → IsGathered terms all.2.bytes (record { text = haul_text census; told = all.2.told; missing = n })
-is_gathered terms held closed census n known before after all same kept took closes counted many =
+is_gathered terms held closed census n known errors all same kept took closes counted many =
     let read = all.2 in
     let P : Terms → Type 0 = λ t. Gathered t (input_lines read.bytes) read.come.arrivals read.told in
     let Q : Terms → Type 0 = λ t. IsCensus t.job t.ranges (numbers_in held.taken) census in
@@ -117,7 +121,7 @@ gathers_memory terms bytes known output errors begun nothing fine = record {
 
 -- a complaint over the lines
 pub gathers_lines : (terms : Terms) (bytes : List ℕ) (known : Option (List ℕ)) (complaint : Complaint) (output errors : Stream)
-    → EndsLines terms known errors.before errors.after errors.failed complaint → Has output []
+    → EndsLines terms known errors complaint → Has output []
     → Reaches (haul_task terms) known bytes (Err complaint) output errors
 gathers_lines terms bytes known (Refused refusal) output errors ends nothing = absurd ends
 gathers_lines terms bytes known Memory output errors ends nothing = gathers_memory terms bytes known output errors ends.0 nothing ends.1
@@ -127,14 +131,16 @@ gathers_lines terms bytes known WriteFailed output errors ends nothing = inr (re
 
 -- what became of a haul to which all lines have come, when it was finished
 pub gathers_haul : (terms : Terms) (held closed : Held) (known : Option (List ℕ)) (outcome : Outcome) (output errors : Stream)
-    → (all : HasGatheredShort known errors.before errors.after held) → held.terms ≡ terms → closed.terms ≡ held.terms → closed.taken ≡ held.taken
+    → (all : HasGatheredShort known errors held) → held.terms ≡ terms → closed.terms ≡ held.terms
+    → closed.taken ≡ held.taken
     → ((arrivals : List Arrival) → StandsFor arrivals held → StandsFor (arrivals ++ Closing ∷ []) closed)
     → Finishes held outcome output → errors.failed ≡ false → Reaches (haul_task terms) known all.2.bytes outcome output errors
 gathers_haul terms held closed known outcome output errors all same kept took closes finishes fine = go outcome finishes
   where
     gathered : (census : Census) (n : ℕ) → IsCensusOf held census → n ≡ length (missing_of held.terms.ranges held.taken)
         → IsGathered terms all.2.bytes (record { text = haul_text census; told = all.2.told; missing = n })
-    gathered census n counted many = is_gathered terms held closed census n known errors.before errors.after all same kept took closes counted many
+    gathered census n counted many = is_gathered terms held closed census n known errors all same kept took closes
+        counted many
 
     go : (outcome : Outcome) → Finishes held outcome output → Reaches (haul_task terms) known all.2.bytes outcome output errors
     go (Ok missing) is = record {
@@ -147,7 +153,8 @@ gathers_haul terms held closed known outcome output errors all same kept took cl
       fine = fine;
     }
     go (Err Memory) nothing =
-        gathers_memory terms all.2.bytes known output errors (all_begun known errors.before errors.after all.0 held terms all.2 same) nothing fine
+        gathers_memory terms all.2.bytes known output errors (all_begun known errors all.0 held terms all.2 same)
+        nothing fine
     go (Err WriteFailed) is = inl (record {
       left = (
         record { text = haul_text is.census; told = all.2.told; missing = length (missing_of held.terms.ranges held.taken) },
@@ -180,15 +187,13 @@ pub gathers_over : (plan : Plan) (workers : ℕ) (bytes : List ℕ) (known : Opt
     → Reaches (gather_task plan workers) known bytes outcome output errors
 gathers_over plan workers bytes known job terms outcome output errors named over = go outcome
   where
-    right : (gathering : Made) → IsGathered terms bytes gathering → gather_right plan workers bytes (Ok gathering)
-    right gathering is =
-        let gathers : IsGathering plan.set workers bytes gathering job = record { terms = terms; opened = over; is = is } in
-        rw named gathers
-
     opens : (others : Terms) → others ≡ terms → gather_opens plan workers others
     opens others same =
         let other : IsHaulOver plan.set workers job others = subst (IsHaulOver plan.set workers job) (sym same) over in
         rw named other
+
+    right : (gathering : Made) → IsGathered terms bytes gathering → gather_right plan workers bytes (Ok gathering)
+    right gathering is = record { terms = terms; opened = opens terms refl; is = is }
 
     begins : BeginsHaul (IsSame terms) known errors.before errors.after
         → BeginsHaul (gather_opens plan workers) known errors.before errors.after

@@ -19,14 +19,16 @@ use Rattle.survey_core.specs.declared.job.Job.{Job}
 use Rattle.std.proofs.KnownBytes.{Consumes-nil, Consumes-trans}
 use Rattle.std.proofs.lemmas.List.Elements.{All-nil}
 use Rattle.std.specs.Io.KnownBytes.{Consumes}
-use Rattle.plane_core.proofs.OutLemmas.{Appends-append, Appends-nil}
+use Rattle.plane_core.proofs.OutLemmas.{Appends-append}
 use Rattle.plane_core.specs.Out.{Output}
 use Rattle.pattern_commands.specs.declared.complaint.Complaint.{Complaint}
 use Rattle.pattern_commands.specs.declared.complaint.Complaint.TheVariants.{Refused, Memory, ReadFailed, WriteFailed}
 use Rattle.commands.specs.declared.lines.LineEnd.{LineEnd}
 use Rattle.commands.specs.declared.lines.LineEnd.TheVariants.{Feed, Input}
 use Rattle.commands.specs.declared.lines.LineRead.{LineRead}
-use Rattle.commands.specs.GatherSteps.{EndsLine, EndsLines, GoesOn, HasBegun, HasGathered, HasGatheredAll, HasCome, HasComeBy, Passage, passage}
+use Rattle.pattern_commands.specs.Streams.{Stream, Has, stream}
+use Rattle.commands.specs.GatherSteps.{EndsLine, EndsLines, GoesOn, HasGathered, HasGatheredAll, Passage}
+use Rattle.commands.specs.LinesSoFar.{HasBegun, HasCome, HasComeBy}
 use Rattle.commands.specs.Lines.{HasReadLine, IsOneLine, input_lines, with_end}
 use Rattle.commands.proofs.LineLemmas.{all_read, ended_more, lines_bare, lines_ended, all_lines, first_lines}
 use Rattle.commands.specs.GatheredLines.{Faulty, Front, Gathered, IsChecked, IsFrontFault, IsLookedAt, IsWrong, ComesOf, Next, Offered, Start, Whole, offer_fault, told_fault}
@@ -73,22 +75,31 @@ wrong unique claim found is differs finding right agrees =
     differs (ap (said_of claim.version) same ∙ agrees)
 
 -- one line more that has come to the haul
-pub come_more : (terms : Terms) (lines : List (List ℕ)) (line told : List ℕ) (old new : Held) (before : ℕ) (fault : Option LineFault)
-    → before ≡ length lines → (come : HasCome terms lines old told)
-    → (arrived : List Arrival) × ComesOf terms come.arrivals line arrived fault × StandsFor (come.arrivals ++ arrived) new
-    → HasCome terms (lines ++ line ∷ []) new (told ++ told_fault (before + 1) fault)
-come_more terms lines line told old new before fault count come step = record {
+pub come_more : (lines : List (List ℕ)) (line told : List ℕ) (old new : Held) (before : ℕ) (fault : Option LineFault)
+    → before ≡ length lines → (come : HasCome lines old told) → new.terms ≡ old.terms
+    → (arrived : List Arrival) × ComesOf old.terms come.arrivals line arrived fault
+    × StandsFor (come.arrivals ++ arrived) new
+    → HasCome (lines ++ line ∷ []) new (told ++ told_fault (before + 1) fault)
+come_more lines line told old new before fault count come same step = record {
   arrivals = come.arrivals ++ step.0;
   gathered =
-      let P : ℕ → Type 0 = λ n. Gathered terms (lines ++ line ∷ []) (come.arrivals ++ step.0) (told ++ told_fault n fault) in
+      let P : ℕ → Type 0 = λ n. Gathered new.terms (lines ++ line ∷ []) (come.arrivals ++ step.0)
+      (told ++ told_fault n fault) in
+      let Q : Terms → Type 0 = λ t. Gathered t (lines ++ line ∷ []) (come.arrivals ++ step.0)
+      (told ++ told_fault (suc (length lines)) fault) in
       let number : before + 1 ≡ suc (length lines) = omega (arith, count) in
-      subst P (sym number) (Next lines come.arrivals told line step.0 fault come.gathered step.1);
+      subst P (sym number) (subst Q (sym same) (Next lines come.arrivals told line step.0 fault come.gathered step.1));
   stands = step.2;
 }
 
+abbrev passage : (known left : Option (List ℕ)) → Stream → ℕ → ℕ → Passage
+passage known left errors count size =
+    record { known = known; left = left; errors = errors; count = count; size = size }
+
 -- no line has come
-pub none_gathered : (known before : Option (List ℕ)) (held : Held) → StandsFor [] held → HasGathered (passage known known before before 0 0) held
-none_gathered known before held stands = record {
+pub none_gathered : (known : Option (List ℕ)) (errors : Stream) (held : Held) → Has errors [] → StandsFor [] held
+    → HasGathered (passage known known errors 0 0) held
+none_gathered known errors held silent stands = record {
   read = [];
   lines = [];
   told = [];
@@ -97,14 +108,15 @@ none_gathered known before held stands = record {
   count_is = refl;
   size_is = refl;
   come = record { arrivals = []; gathered = Start; stands = stands };
-  written = Appends-nil before;
+  written = silent;
 }
 
 -- no line is left
-pub no_more : (known left new before after : Option (List ℕ)) (count size : ℕ) (held : Held) (kept : List ℕ) (line : LineRead)
-    → HasGathered (passage known left before after count size) held → (read : HasReadLine left new kept line) → line.size ≡ 0
-    → GoesOn (passage known new before after (count + 1) (size + line.size)) held line.end
-no_more known left new before after count size held kept line gathered read none = go line.end refl
+pub no_more : (known left new : Option (List ℕ)) (errors : Stream) (count size : ℕ) (held : Held) (kept : List ℕ)
+    (line : LineRead)
+    → HasGathered (passage known left errors count size) held → (read : HasReadLine left new kept line) → line.size ≡ 0
+    → GoesOn (passage known new errors (count + 1) (size + line.size)) held line.end
+no_more known left new errors count size held kept line gathered read none = go line.end refl
   where
     short : length (with_end line.end read.line) ≡ 0
     short = sym read.size_is ∙ none
@@ -113,11 +125,11 @@ no_more known left new before after count size held kept line gathered read none
     bare [] e = refl
     bare (x ∷ xs) e = absurd (omega (arith, e))
 
-    go : (end : LineEnd) → line.end ≡ end → GoesOn (passage known new before after (count + 1) (size + line.size)) held end
+    go : (end : LineEnd) → line.end ≡ end → GoesOn (passage known new errors (count + 1) (size + line.size)) held end
     go Feed is = absurd (omega (arith, rw is at short, length-append read.line (10 ∷ [])))
     go Input is =
         let P : List ℕ → Type 0 = λ l. Consumes left new l in
-        let Q : List (List ℕ) → Type 0 = λ lines. HasCome held.terms lines held gathered.told in record {
+        let Q : List (List ℕ) → Type 0 = λ lines. HasCome lines held gathered.told in record {
           bytes = gathered.read ++ [];
           input = all_read known left new gathered.read [] gathered.consumed (subst P (bare (with_end line.end read.line) short) read.consumed) (read.last is);
           size_is = ap (λ n. size + n) none ∙ omega (arith, gathered.size_is, ap length (append-nil gathered.read));
@@ -127,11 +139,13 @@ no_more known left new before after count size held kept line gathered read none
         }
 
 -- a line more, after which others may follow or none
-pub goes_on : (known left new before after later : Option (List ℕ)) (count size : ℕ) (held next : Held) (kept : List ℕ) (line : LineRead)
-    → (gathered : HasGathered (passage known left before after count size) held) → (read : HasReadLine left new kept line) → 0 < line.size
-    → HasComeBy held.terms gathered.lines read.line next gathered.told after later → next.terms ≡ held.terms
-    → GoesOn (passage known new before later (count + 1) (size + line.size)) next line.end
-goes_on known left new before after later count size held next kept line gathered read some by same = go line.end refl
+pub goes_on : {V : Type 0} (contents : V → Option (List ℕ)) (known left new : Option (List ℕ))
+    (first old later : Output V) (count size : ℕ) (held next : Held) (kept : List ℕ) (line : LineRead)
+    → (gathered : HasGathered (passage known left (stream contents first old) count size) held)
+    → (read : HasReadLine left new kept line) → 0 < line.size
+    → HasComeBy (gathered.lines ++ read.line ∷ []) next gathered.told (stream contents old later)
+    → GoesOn (passage known new (stream contents first later) (count + 1) (size + line.size)) next line.end
+goes_on contents known left new first old later count size held next kept line gathered read some by = go line.end refl
   where
     whole : List ℕ
     whole = with_end line.end read.line
@@ -139,10 +153,12 @@ goes_on known left new before after later count size held next kept line gathere
     total : size + line.size ≡ length (gathered.read ++ whole)
     total = ap₂ (λ a b. a + b) gathered.size_is read.size_is ∙ sym (length-append gathered.read whole)
 
-    come : HasCome next.terms (gathered.lines ++ read.line ∷ []) next (gathered.told ++ by.more)
-    come = subst (λ (terms : Terms). HasCome terms (gathered.lines ++ read.line ∷ []) next (gathered.told ++ by.more)) (sym same) by.come
+    written : Has (stream contents first later) (gathered.told ++ by.more)
+    written = Appends-append (contents first.writer) (contents old.writer) (contents later.writer) gathered.told by.more
+        gathered.written by.written
 
-    go : (end : LineEnd) → line.end ≡ end → GoesOn (passage known new before later (count + 1) (size + line.size)) next end
+    go : (end : LineEnd) → line.end ≡ end
+        → GoesOn (passage known new (stream contents first later) (count + 1) (size + line.size)) next end
     go Feed is = record {
       read = gathered.read ++ (read.line ++ 10 ∷ []);
       lines = gathered.lines ++ read.line ∷ [];
@@ -151,19 +167,20 @@ goes_on known left new before after later count size held next kept line gathere
       ended = ended_more gathered.read gathered.lines read.line gathered.ended read.one;
       count_is = ap (λ n. n + 1) gathered.count_is ∙ sym (length-append gathered.lines (read.line ∷ []));
       size_is = rw is at total;
-      come = come;
-      written = Appends-append before after later gathered.told by.more gathered.written by.written;
+      come = by.come;
+      written = written;
     }
     go Input is =
         let bare : with_end line.end read.line ≡ read.line = ap (λ e. with_end e read.line) is ∙ append-nil read.line in
-        let Q : List (List ℕ) → Type 0 = λ lines. HasCome next.terms lines next (gathered.told ++ by.more) in
+        let Q : List (List ℕ) → Type 0 = λ lines. HasCome lines next (gathered.told ++ by.more) in
         let there : 0 < length read.line = omega (arith, some, read.size_is, ap length bare) in record {
           bytes = gathered.read ++ read.line;
           input = all_read known left new gathered.read read.line gathered.consumed (subst (Consumes left new) bare read.consumed) (read.last is);
           size_is = total ∙ ap (λ l. length (gathered.read ++ l)) bare;
           told = gathered.told ++ by.more;
-          come = subst Q (sym (lines_bare gathered.read gathered.lines read.line gathered.ended read.one there)) come;
-          written = Appends-append before after later gathered.told by.more gathered.written by.written;
+          come = subst Q (sym (lines_bare gathered.read gathered.lines read.line gathered.ended read.one there))
+              by.come;
+          written = written;
         }
 
 -- there is no fault
@@ -172,7 +189,8 @@ no_fault None not = refl
 no_fault (Some x) not = absurd (not x refl)
 
 -- what has come so far is a beginning
-pub begun : (way : Passage) (held : Held) (terms : Terms) → HasGathered way held → held.terms ≡ terms → HasBegun terms way.known way.before way.after
+pub begun : (way : Passage) (held : Held) (terms : Terms) → HasGathered way held → held.terms ≡ terms
+    → HasBegun terms way.known way.errors.before way.errors.after
 begun way held terms gathered same = record {
   lines = gathered.lines;
   first = first_lines way.known way.left gathered.read gathered.lines gathered.consumed gathered.ended;
@@ -185,9 +203,10 @@ begun way held terms gathered same = record {
 }
 
 -- and so is all that has come
-pub all_begun : (known before after : Option (List ℕ)) (size : ℕ) (held : Held) (terms : Terms) → HasGatheredAll known before after size held
-    → held.terms ≡ terms → HasBegun terms known before after
-all_begun known before after size held terms all same = record {
+pub all_begun : (known : Option (List ℕ)) (errors : Stream) (size : ℕ) (held : Held) (terms : Terms)
+    → HasGatheredAll known errors size held
+    → held.terms ≡ terms → HasBegun terms known errors.before errors.after
+all_begun known errors size held terms all same = record {
   lines = input_lines all.bytes;
   first = all_lines known all.bytes all.input;
   arrivals = all.come.arrivals;
@@ -200,9 +219,9 @@ all_begun known before after size held terms all same = record {
 
 -- the same where there may be more lines, or none
 pub goes_begun : (way : Passage) (held : Held) (terms : Terms) (end : LineEnd) → GoesOn way held end → held.terms ≡ terms
-    → HasBegun terms way.known way.before way.after
+    → HasBegun terms way.known way.errors.before way.errors.after
 goes_begun way held terms Feed gathered same = begun way held terms gathered same
-goes_begun way held terms Input all same = all_begun way.known way.before way.after way.size held terms all same
+goes_begun way held terms Input all same = all_begun way.known way.errors way.size held terms all same
 
 -- a line after which others may follow
 pub goes_further : (way : Passage) (held : Held) (end : LineEnd) → (end ≡ Input → ⊥) → GoesOn way held end → HasGathered way held
@@ -211,20 +230,23 @@ goes_further way held Input more all = absurd (more refl)
 
 -- the last line
 pub goes_no_further : (way : Passage) (held : Held) (end : LineEnd) → end ≡ Input → GoesOn way held end
-    → HasGatheredAll way.known way.before way.after way.size held
+    → HasGatheredAll way.known way.errors way.size held
 goes_no_further way held Feed is gathered = let bad : Feed ≡ Input = is in cc
 goes_no_further way held Input is all = all
 
 -- a complaint over a line, after all lines before it
-pub lines_ended_by : {V : Type 0} (contents : V → Option (List ℕ)) (known left before : Option (List ℕ)) (count size : ℕ) (held : Held) (terms : Terms)
-    (old new : Output V) (complaint : Complaint) → HasGathered (passage known left before (contents old.writer) count size) held → held.terms ≡ terms
-    → old.failed ≡ false → EndsLine old new complaint → EndsLines terms known before (contents new.writer) new.failed complaint
-lines_ended_by contents known left before count size held terms old new Memory gathered same fine kept =
-    rw kept (begun (passage known left before (contents old.writer) count size) held terms gathered same, fine)
-lines_ended_by contents known left before count size held terms old new ReadFailed gathered same fine kept =
-    rw kept (begun (passage known left before (contents old.writer) count size) held terms gathered same, fine)
-lines_ended_by contents known left before count size held terms old new WriteFailed gathered same fine failed = failed
-lines_ended_by contents known left before count size held terms old new (Refused refusal) gathered same fine none = absurd none
+pub lines_ended_by : {V : Type 0} (contents : V → Option (List ℕ)) (known left : Option (List ℕ)) (first : Output V)
+    (count size : ℕ) (held : Held) (terms : Terms) (old new : Output V) (complaint : Complaint)
+    → HasGathered (passage known left (stream contents first old) count size) held
+    → held.terms ≡ terms → old.failed ≡ false → EndsLine old new complaint
+    → EndsLines terms known (stream contents first new) complaint
+lines_ended_by contents known left first count size held terms old new Memory gathered same fine kept =
+    rw kept (begun (passage known left (stream contents first old) count size) held terms gathered same, fine)
+lines_ended_by contents known left first count size held terms old new ReadFailed gathered same fine kept =
+    rw kept (begun (passage known left (stream contents first old) count size) held terms gathered same, fine)
+lines_ended_by contents known left first count size held terms old new WriteFailed gathered same fine failed = failed
+lines_ended_by contents known left first count size held terms old new (Refused refusal) gathered same fine none =
+    absurd none
 
 -- ---- what is looked at of a line
 

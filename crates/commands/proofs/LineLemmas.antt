@@ -8,7 +8,7 @@ use Rattle.std.specs.Io.KnownBytes.{Consumes, IsAtEnd, Keeps}
 use Rattle.pattern_commands.specs.Answers.{IsInput}
 use Rattle.commands.specs.declared.lines.LineEnd.TheVariants.{Feed, Input}
 use Rattle.commands.specs.declared.lines.Piece.{Piece}
-use Rattle.commands.specs.GatherSteps.{AreEnded}
+use Rattle.commands.specs.LinesSoFar.{AreEnded}
 use Rattle.commands.specs.Lines.{HasPiece, IsOneLine, IsSpent, begun_with, input_lines, piece_end, with_end}
 
 abbrev IsNotFeed : ℕ → Type 0
@@ -25,16 +25,20 @@ pub kept_short : (n : ℕ) (kept front : List ℕ) → kept ≡ take n front →
 kept_short n kept front is = subst (λ (l : List ℕ). length l ≤ n) (sym is) (omega (arith, length-take n front))
 
 -- a piece more of a line of which a front was read
-pub read_more : (start old new : Option (List ℕ)) (kept after front : List ℕ) (size : ℕ) (piece : Piece) → kept ≡ take (2 ^ 24 + 1) front → IsOneLine front
-    → Consumes start old front → size ≡ length front → (read : HasPiece old new kept after piece)
-    → (after ≡ take (2 ^ 24 + 1) (front ++ read.piece)) × IsOneLine (front ++ read.piece)
-    × Consumes start new ((front ++ read.piece) ++ piece_end piece.end) × (size + piece.size ≡ length ((front ++ read.piece) ++ piece_end piece.end))
-read_more start old new kept after front size piece kept_is one consumed size_is read =
+pub read_more : (start old new : Option (List ℕ)) (kept after front more : List ℕ) (size : ℕ) (piece : Piece)
+    → kept ≡ take (2 ^ 24 + 1) front
+    → IsOneLine front → Consumes start old front → size ≡ length front → after ≡ take (2 ^ 24 + 1) (kept ++ more)
+    → HasPiece old new more piece
+    → (after ≡ take (2 ^ 24 + 1) (front ++ more)) × IsOneLine (front ++ more)
+    × Consumes start new ((front ++ more) ++ piece_end piece.end)
+    × (size + piece.size ≡ length ((front ++ more) ++ piece_end piece.end))
+read_more start old new kept after front more size piece kept_is one consumed size_is after_is read =
     let n : ℕ = 2 ^ 24 + 1 in
-    let bytes = read.piece ++ piece_end piece.end in
-    let flat : front ++ bytes ≡ (front ++ read.piece) ++ piece_end piece.end = sym (append_assoc front read.piece (piece_end piece.end)) in (
-      read.kept_is ∙ ap (λ l. take n (l ++ read.piece)) kept_is ∙ kept_more n front read.piece,
-      All-append IsNotFeed front read.piece one read.one,
+    let bytes = more ++ piece_end piece.end in
+    let flat : front ++ bytes ≡ (front ++ more) ++ piece_end piece.end =
+    sym (append_assoc front more (piece_end piece.end)) in (
+      after_is ∙ ap (λ l. take n (l ++ more)) kept_is ∙ kept_more n front more,
+      All-append IsNotFeed front more one read.one,
       subst (Consumes start new) flat (Consumes-trans start old new front bytes consumed read.consumed),
       ap₂ (λ a b. a + b) size_is read.size_is ∙ sym (length-append front bytes) ∙ ap length flat,
     )
@@ -47,16 +51,19 @@ spent_from (Some all) (Some left) new front consumed spent = spent
 
 -- a read that was interrupted read nothing
 pub nothing_read : {E : Type 0} (old new : Option (List ℕ)) (kept : List ℕ) (result : Result Piece E) → length kept ≤ 2 ^ 24 + 1 → Keeps old new
-    → IfOk result (λ piece. piece ≡ record { length = 0; size = 0; end = None }) → IfOk result (HasPiece old new kept kept)
+    → IfOk result (λ piece. piece ≡ record { length = 0; size = 0; end = None })
+    → IfOk result (λ read. (piece : List ℕ) × (kept ≡ take (2 ^ 24 + 1) (kept ++ piece)) × HasPiece old new piece read)
 nothing_read old new kept (Err e) short same is = tt
-nothing_read old new kept (Ok piece) short same is = record {
-  piece = [];
-  kept_is = sym (ap (take (2 ^ 24 + 1)) (append-nil kept) ∙ take_all (2 ^ 24 + 1) kept short);
-  one = All-nil IsNotFeed;
-  consumed = rw is (Consumes-kept old old new [] (Consumes-nil old) same);
-  size_is = rw is refl;
-  last = λ end. let bad : None ≡ Some Input = ap (λ (p : Piece). p.end) (sym is) ∙ end in cc;
-}
+nothing_read old new kept (Ok piece) short same is = (
+  [],
+  sym (ap (take (2 ^ 24 + 1)) (append-nil kept) ∙ take_all (2 ^ 24 + 1) kept short),
+  record {
+    one = All-nil IsNotFeed;
+    consumed = rw is (Consumes-kept old old new [] (Consumes-nil old) same);
+    size_is = rw is refl;
+    last = λ end. let bad : None ≡ Some Input = ap (λ (p : Piece). p.end) (sym is) ∙ end in cc;
+  },
+)
 
 -- all was read
 pub all_read : (start old new : Option (List ℕ)) (read line : List ℕ) → Consumes start old read → Consumes old new line → IfSome old (λ _. IsAtEnd new)

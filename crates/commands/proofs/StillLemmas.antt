@@ -8,7 +8,7 @@ use Rattle.survey_core.specs.declared.job.Job.{Job}
 use Rattle.pattern_commands.specs.Complaints.{status_of}
 use Rattle.pattern_commands.specs.Streams.{Stream}
 use Rattle.pattern_commands.specs.TextSteps.{TextOutcome}
-use Rattle.commands.specs.WorkSteps.{Puts}
+use Rattle.commands.specs.WorkSteps.{Puts, reports_on}
 
 -- where nothing is refused, whatever is said of a refusal holds
 pub never_refused : {A : Type 0} (P : Type 0) (r : Result A Complaint) → IfErr r (λ complaint. status_of complaint ≢ Refused)
@@ -17,11 +17,13 @@ never_refused P (Ok a) accepted = tt
 never_refused P (Err e) accepted = λ is. absurd (accepted is)
 
 -- reports that are written are never refused
-pub reports_accepted : (P : Type 0) (job : Job) (worker : ℕ) (numbers : List ℕ) (r : TextOutcome) (output : Stream) → Puts job worker numbers r output
+pub reports_accepted : (P : Type 0) (job : Job) (worker : ℕ) (numbers : List ℕ) (r : TextOutcome) (output : Stream)
+    → Puts (reports_on job worker numbers) r output
     → IfErr r (λ complaint. status_of complaint ≡ Refused → P)
 reports_accepted P job worker numbers r output puts = never_refused P r (go r puts)
   where
-    go : (r : TextOutcome) → Puts job worker numbers r output → IfErr r (λ complaint. status_of complaint ≢ Refused)
+    go : (r : TextOutcome) → Puts (reports_on job worker numbers) r output
+        → IfErr r (λ complaint. status_of complaint ≢ Refused)
     go (Ok a) is = tt
     go (Err complaint.Memory) is = λ told. cc
     go (Err complaint.WriteFailed) is = λ told. cc

@@ -37,13 +37,14 @@ use Rattle.pattern_commands.specs.declared.refusal.Refusal.TheVariants.{SeedBadB
 use Rattle.commands.specs.declared.soup_set.SoupSet.{SoupSet}
 use Rattle.pattern_commands.specs.declared.status.Status.{Status}
 use Rattle.pattern_commands.specs.Answers.{NeedsMemory, Right, given, given_right, output_text}
-use Rattle.pattern_commands.specs.Ends.{Ends, Outcome, Reaches}
+use Rattle.pattern_commands.specs.Ends.{Ends}
+use Rattle.pattern_commands.specs.Reached.{Outcome, Reaches}
 use Rattle.commands.specs.Finish.{Finishes, IsCensusOf}
 use Rattle.pattern_commands.specs.Inputs.{rule_complaint, rule_named, list_complaint}
 use Rattle.pattern_commands.specs.Profiles.{profile_named, settling}
 use Rattle.pattern_commands.specs.Soup.{seed_complaint, seed_named}
 use Rattle.commands.specs.SoupSets.{AreRangesOf, IsRefused, job_named, right_for_set, Bad_list, Overlapping, Too_large}
-use Rattle.commands.specs.Stopped.{TellsTaken, gated_task, right_if, stopped_right, taken_right}
+use Rattle.commands.specs.Stopped.{MayStop, TellsTaken, gated_task, right_if, stopped_right, taken_right}
 use Rattle.pattern_commands.specs.Streams.{Stream, Has, IsUntouched}
 use Rattle.commands.specs.Take.{TellsAll, take_right, take_task}
 use Rattle.commands.specs.TakeSteps.{EndsCrew, IsOpened, IsOpenedFor, IsTaken, Stops, StopsOpening, StopsSet}
@@ -252,32 +253,39 @@ complete_right job set opened held census open_ h all is = record {
   };
 }
 
+-- what is told of the ranges of a set if some numbers are missing
+abbrev stopped_text : (ℕ → ℕ → Type 0) → ℕ → Job → List Range → List ℕ → Type 0
+stopped_text may_stop missing job ranges text = MayStop may_stop ranges × TellsTaken job ranges missing text
+
 -- some numbers are missing
 pub stopped_told : {workers : ℕ} (may_stop : ℕ → ℕ → Type 0) (job : Job) (set : SoupSet) (opened held : Held) (census : Census) (missing : ℕ)
     → IsOpened job set workers opened → HasTaken workers opened held → missing ≡ length (missing_of held.terms.ranges held.taken)
     → ¬ IsComplete held.terms.ranges held.taken → ((worker : ℕ) × StopsAt may_stop (was_missing opened) worker)
     → IsCensus held.terms.job held.terms.ranges (numbers_in held.taken) census
-    → right_for_set set (TellsTaken may_stop missing job) (Ok (haul_text census))
+    → right_for_set set (stopped_text may_stop missing job) (Ok (haul_text census))
 stopped_told may_stop job set opened held census missing open_ h many incomplete stops is = record {
   ranges = open_.ranges;
   named = open_.named;
   small = open_.small;
   apart = open_.apart;
-  is_text = record {
-    normal = opened.terms.ranges;
-    form = open_.form;
-    taken = held.taken;
-    within = subst (All (λ (t : ℕ × ℕ). is_in open_.ranges t.1 ≡ true)) (sym entries)
-        (All-map (λ (t : ℕ × ℕ). is_in open_.ranges t.1 ≡ true) entry h.offers
-        (λ k d low. in_set open_.ranges opened.terms.ranges opened.taken (get_or h.offers k d).number open_.form (h.missing k d low)));
-    once = subst (λ (ts : List (ℕ × ℕ)). IsDistinct nat_eq (numbers_in ts)) (sym entries) h.once;
-    incomplete = subst (λ (t : Terms). ¬ IsComplete t.ranges held.taken) h.added.terms incomplete;
-    missing_is = many ∙ ap (λ (t : Terms). length (missing_of t.ranges held.taken)) h.added.terms;
-    stops = (stops.0, stops.1.0, in_set open_.ranges opened.terms.ranges opened.taken stops.1.0 open_.form stops.1.1, stops.1.2);
-    census = census;
-    counted = counted_by job set opened held census open_ h is;
-    text_is = refl;
-  };
+  is_text = (
+    (stops.0, stops.1.0, in_set open_.ranges opened.terms.ranges opened.taken stops.1.0 open_.form stops.1.1, stops.1.2),
+    record {
+      normal = opened.terms.ranges;
+      form = open_.form;
+      taken = held.taken;
+      within = subst (All (λ (t : ℕ × ℕ). is_in open_.ranges t.1 ≡ true)) (sym entries)
+          (All-map (λ (t : ℕ × ℕ). is_in open_.ranges t.1 ≡ true) entry h.offers
+          (λ k d low. in_set open_.ranges opened.terms.ranges opened.taken (get_or h.offers k d).number open_.form
+          (h.missing k d low)));
+      once = subst (λ (ts : List (ℕ × ℕ)). IsDistinct nat_eq (numbers_in ts)) (sym entries) h.once;
+      incomplete = subst (λ (t : Terms). ¬ IsComplete t.ranges held.taken) h.added.terms incomplete;
+      missing_is = many ∙ ap (λ (t : Terms). length (missing_of t.ranges held.taken)) h.added.terms;
+      census = census;
+      counted = counted_by job set opened held census open_ h is;
+      text_is = refl;
+    },
+  );
 }
   where
     entries : held.taken ≡ map entry h.offers
@@ -299,7 +307,7 @@ taken_told may_stop plan held census missing h many none is = go missing many no
     go zero many none (inr less) = absurd (less.0 (none.0 refl))
     go (suc n) many none (inl whole) = let bad = none.1 whole.0 in cc
     go (suc n) many none (inr less) =
-        right_given plan (λ j. right_for_set plan.set (TellsTaken may_stop (suc n) j)) h.is.job (haul_text census) h.is.named
+        right_given plan (λ j. right_for_set plan.set (stopped_text may_stop (suc n) j)) h.is.job (haul_text census) h.is.named
         (stopped_told may_stop h.is.job plan.set h.opened held census (suc n) h.is.opened h.taken many less.0 (less.1, less.2) is)
 
 -- ---- how `take` ends
@@ -370,8 +378,9 @@ never_right : (may_stop : ℕ → ℕ → Type 0) (plan : Plan) (missing : ℕ) 
     → ((worker n : ℕ) → may_stop worker n → ⊥) → stopped_right may_stop plan missing (Ok text) → ⊥
 never_right may_stop plan missing text never = go (job_named plan)
   where
-    go : (r : Result Job Complaint) → given_right r (λ job. right_for_set plan.set (TellsTaken may_stop missing job)) (Ok text) → ⊥
-    go (Ok job) told = let stops = told.is_text.stops in never stops.0 stops.1 stops.3
+    go : (r : Result Job Complaint)
+        → given_right r (λ job. right_for_set plan.set (stopped_text may_stop missing job)) (Ok text) → ⊥
+    go (Ok job) told = let stops = told.is_text.0 in never stops.0 stops.1 stops.3
     go (Err complaint) is = cc
 
 -- so what it makes is a text alone

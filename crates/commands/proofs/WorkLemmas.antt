@@ -26,7 +26,7 @@ use Rattle.haul_core.specs.Missing.{numbers_of_range, numbers_of}
 use Rattle.commands.specs.TakeSteps.{IsOpened, IsOpenedFor}
 use Rattle.pattern_commands.specs.TextSteps.{ReachesText, TextOutcome}
 use Rattle.commands.specs.Work.{AreReportsOn, IsReportOn, TellsReports, work_right}
-use Rattle.commands.specs.WorkSteps.{IsBegun, Puts}
+use Rattle.commands.specs.WorkSteps.{IsBegun, Puts, reports_on}
 use Rattle.commands.proofs.NumberLemmas.{range_more}
 use Rattle.commands.proofs.TakeLemmas.{listed}
 
@@ -45,18 +45,19 @@ each-append job worker (n ∷ ns) ms [] ss one two = absurd one
 each-append job worker (n ∷ ns) ms (r ∷ rs) ss one two = (one.0, each-append job worker ns ms rs ss one.1 two)
 
 -- no reports on no numbers
-pub puts_nothing : (job : Job) (worker : ℕ) (known : Option (List ℕ)) (failed : Bool) → failed ≡ false → Puts job worker [] (Ok tt) (over known known failed)
+pub puts_nothing : (job : Job) (worker : ℕ) (known : Option (List ℕ)) (failed : Bool) → failed ≡ false
+    → Puts (reports_on job worker []) (Ok tt) (over known known failed)
 puts_nothing job worker known failed fine = record { reports = []; each = tt; is_written = Appends-nil known; fine = fine }
 
 -- memory that runs out over the first of them
 pub puts_no_memory : (job : Job) (worker : ℕ) (numbers : List ℕ) (known : Option (List ℕ)) (failed : Bool)
-    → Puts job worker numbers (Err Memory) (over known known failed)
+    → Puts (reports_on job worker numbers) (Err Memory) (over known known failed)
 puts_no_memory job worker numbers known failed =
     record { done = []; more = numbers; parts = refl; reports = []; each = tt; is_written = Appends-nil known }
 
 -- a report on one number
 pub puts_one : (job : Job) (worker n : ℕ) (report : Reported) (output : Stream) → IsReportOn job worker n report → Has output (report_text report)
-    → output.failed ≡ false → Puts job worker (n ∷ []) (Ok tt) output
+    → output.failed ≡ false → Puts (reports_on job worker (n ∷ [])) (Ok tt) output
 puts_one job worker n report output is wrote fine = record {
   reports = report ∷ [];
   each = (is, tt);
@@ -66,7 +67,7 @@ puts_one job worker n report output is wrote fine = record {
 
 -- and one that could not be written whole
 pub puts_failed : (job : Job) (worker n : ℕ) (report : Reported) (output : Stream) → IsReportOn job worker n report → HasFront output (report_text report)
-    → output.failed ≡ true → Puts job worker (n ∷ []) (Err WriteFailed) output
+    → output.failed ≡ true → Puts (reports_on job worker (n ∷ [])) (Err WriteFailed) output
 puts_failed job worker n report output is wrote told = (
   record {
     done = n ∷ [];
@@ -81,7 +82,8 @@ puts_failed job worker n report output is wrote told = (
 
 -- reports on some numbers and then on others
 pub puts_then : (job : Job) (worker : ℕ) (ns ms : List ℕ) (outcome : TextOutcome) (x y z : Option (List ℕ)) (was failed : Bool)
-    → Puts job worker ns (Ok tt) (over x y was) → Puts job worker ms outcome (over y z failed) → Puts job worker (ns ++ ms) outcome (over x z failed)
+    → Puts (reports_on job worker ns) (Ok tt) (over x y was) → Puts (reports_on job worker ms) outcome (over y z failed)
+    → Puts (reports_on job worker (ns ++ ms)) outcome (over x z failed)
 puts_then job worker ns ms (Ok u) x y z was failed one two = record {
   reports = one.reports ++ two.reports;
   each = each-append job worker ns ms one.reports two.reports one.each two.each;
@@ -114,8 +116,9 @@ puts_then job worker ns ms (Err ReadFailed) x y z was failed one two = absurd tw
 puts_then job worker ns ms (Err (Refused refusal)) x y z was failed one two = absurd two
 
 -- what stops the first of some numbers stops them all
-pub puts_stops : (job : Job) (worker : ℕ) (ns ms : List ℕ) (complaint : Complaint) (output : Stream) → Puts job worker ns (Err complaint) output
-    → Puts job worker (ns ++ ms) (Err complaint) output
+pub puts_stops : (job : Job) (worker : ℕ) (ns ms : List ℕ) (complaint : Complaint) (output : Stream)
+    → Puts (reports_on job worker ns) (Err complaint) output
+    → Puts (reports_on job worker (ns ++ ms)) (Err complaint) output
 puts_stops job worker ns ms Memory output h = record {
   done = h.done;
   more = h.more ++ ms;
@@ -150,42 +153,44 @@ range_split a (suc n) k =
 
 -- one number more of a range
 pub puts_next : (job : Job) (worker first number : ℕ) (outcome : TextOutcome) (x y z : Option (List ℕ)) (was failed : Bool) → first ≤ number
-    → Puts job worker (range_with_len first (number - first)) (Ok tt) (over x y was) → Puts job worker (number ∷ []) outcome (over y z failed)
-    → Puts job worker (range_with_len first (number + 1 - first)) outcome (over x z failed)
+    → Puts (reports_on job worker (range_with_len first (number - first))) (Ok tt) (over x y was)
+    → Puts (reports_on job worker (number ∷ [])) outcome (over y z failed)
+    → Puts (reports_on job worker (range_with_len first (number + 1 - first))) outcome (over x z failed)
 puts_next job worker first number outcome x y z was failed low one two =
     let one_more : (number - first) + 1 ≡ number + 1 - first = omega arith in
-    subst (λ (ns : List ℕ). Puts job worker ns outcome (over x z failed))
+    subst (λ (ns : List ℕ). Puts (reports_on job worker ns) outcome (over x z failed))
     (sym (range_more first (number - first) number (omega arith)) ∙ ap (range_with_len first) one_more)
     (puts_then job worker (range_with_len first (number - first)) (number ∷ []) outcome x y z was failed one two)
 
 -- what stops one number of a range stops the range
 pub puts_short : (job : Job) (worker first number count : ℕ) (complaint : Complaint) (output : Stream) → first ≤ number → number < first + count
-    → Puts job worker (range_with_len first (number + 1 - first)) (Err complaint) output
-    → Puts job worker (range_with_len first count) (Err complaint) output
+    → Puts (reports_on job worker (range_with_len first (number + 1 - first))) (Err complaint) output
+    → Puts (reports_on job worker (range_with_len first count)) (Err complaint) output
 puts_short job worker first number count complaint output low high h =
     let k = number + 1 - first in
     let whole : k + (count - k) ≡ count = omega arith in
-    subst (λ (ns : List ℕ). Puts job worker ns (Err complaint) output)
+    subst (λ (ns : List ℕ). Puts (reports_on job worker ns) (Err complaint) output)
     (sym (range_split first k (count - k)) ∙ ap (range_with_len first) whole)
     (puts_stops job worker (range_with_len first k) (range_with_len (first + k) (count - k)) complaint output h)
 
 -- one range more of some
 pub puts_more : (job : Job) (worker : ℕ) (ranges : List Range) (i : ℕ) (d : Range) (outcome : TextOutcome) (x y z : Option (List ℕ)) (was failed : Bool)
-    → i < length ranges → Puts job worker (numbers_of (take i ranges)) (Ok tt) (over x y was)
-    → Puts job worker (numbers_of_range (get_or ranges i d)) outcome (over y z failed)
-    → Puts job worker (numbers_of (take (i + 1) ranges)) outcome (over x z failed)
+    → i < length ranges → Puts (reports_on job worker (numbers_of (take i ranges))) (Ok tt) (over x y was)
+    → Puts (reports_on job worker (numbers_of_range (get_or ranges i d))) outcome (over y z failed)
+    → Puts (reports_on job worker (numbers_of (take (i + 1) ranges))) outcome (over x z failed)
 puts_more job worker ranges i d outcome x y z was failed more one two =
     let r : Range = get_or ranges i d in
-    subst (λ (ns : List ℕ). Puts job worker ns outcome (over x z failed))
+    subst (λ (ns : List ℕ). Puts (reports_on job worker ns) outcome (over x z failed))
     (sym (ap numbers_of (take_more ranges i d more) ∙ flat_map-append numbers_of_range (take i ranges) (r ∷ [])
     ∙ ap (λ (ns : List ℕ). numbers_of (take i ranges) ++ ns) (append-nil (numbers_of_range r))))
     (puts_then job worker (numbers_of (take i ranges)) (numbers_of_range r) outcome x y z was failed one two)
 
 -- what stops the first of some ranges stops them all
 pub puts_early : (job : Job) (worker : ℕ) (ranges : List Range) (k : ℕ) (complaint : Complaint) (output : Stream)
-    → Puts job worker (numbers_of (take k ranges)) (Err complaint) output → Puts job worker (numbers_of ranges) (Err complaint) output
+    → Puts (reports_on job worker (numbers_of (take k ranges))) (Err complaint) output
+    → Puts (reports_on job worker (numbers_of ranges)) (Err complaint) output
 puts_early job worker ranges k complaint output h =
-    subst (λ (ns : List ℕ). Puts job worker ns (Err complaint) output)
+    subst (λ (ns : List ℕ). Puts (reports_on job worker ns) (Err complaint) output)
     (sym (flat_map-append numbers_of_range (take k ranges) (drop k ranges)) ∙ ap numbers_of (take-append-drop k ranges))
     (puts_stops job worker (numbers_of (take k ranges)) (numbers_of (drop k ranges)) complaint output h)
 
@@ -247,7 +252,7 @@ only_text one_form job worker set held opened (Err WriteFailed) is = absurd is
 
 -- the lines of the first reports are a front of each right text
 front_of : FindingsAreDetermined → (job : Job) (worker : ℕ) (numbers : List ℕ) (answer : Answer) (output : Stream) → Tells job worker numbers answer
-    → IsBegun job worker numbers (HasFront output) → HasFront output (output_text answer)
+    → IsBegun (reports_on job worker numbers) (HasFront output) → HasFront output (output_text answer)
 front_of determined job worker numbers answer output tells begun =
     let every = subst (λ (ns : List ℕ). AreReportsOn job worker ns tells.reports) begun.parts tells.each in
     let remainder = first_reports determined job worker begun.done begun.more begun.reports tells.reports begun.each every in
@@ -258,8 +263,9 @@ front_of determined job worker numbers answer output tells begun =
     (AppendsFront-longer output.before output.after (flat_map report_text begun.reports) (flat_map report_text remainder.0) begun.is_written)
 
 -- whole lines are a front of themselves
-begun_whole : (job : Job) (worker : ℕ) (numbers : List ℕ) (output : Stream) → IsBegun job worker numbers (Has output)
-    → IsBegun job worker numbers (HasFront output)
+begun_whole : (job : Job) (worker : ℕ) (numbers : List ℕ) (output : Stream)
+    → IsBegun (reports_on job worker numbers) (Has output)
+    → IsBegun (reports_on job worker numbers) (HasFront output)
 begun_whole job worker numbers output begun = record {
   done = begun.done;
   more = begun.more;
@@ -272,10 +278,11 @@ begun_whole job worker numbers output begun = record {
 -- what became of the reports on a set that was opened is a right end of the command
 pub reaches_work : {workers : ℕ} → FindingsAreDetermined → OneNormalForm → (plan : Plan) (worker : ℕ)
     (held : Held) (outcome : TextOutcome) (output : Stream) → IsOpenedFor plan workers held
-    → Puts held.terms.job worker (numbers_of held.terms.ranges) outcome output
+    → Puts (reports_on held.terms.job worker (numbers_of held.terms.ranges)) outcome output
     → ReachesText false false (work_right plan worker) outcome output
 reaches_work determined one_form plan worker held outcome output is puts =
-    go outcome (subst (λ (j : Job). Puts j worker (numbers_of held.terms.ranges) outcome output) is.opened.job_is puts)
+    go outcome (subst (λ (j : Job). Puts (reports_on j worker (numbers_of held.terms.ranges)) outcome output)
+    is.opened.job_is puts)
   where
     job : Job
     job = is.job
@@ -291,7 +298,8 @@ reaches_work determined one_form plan worker held outcome output is puts =
         let told = (tells (Err complaint) is).told in
         cc
 
-    go : (o : TextOutcome) → Puts job worker (numbers_of held.terms.ranges) o output → ReachesText false false right o output
+    go : (o : TextOutcome) → Puts (reports_on job worker (numbers_of held.terms.ranges)) o output
+        → ReachesText false false right o output
     go (Ok u) put =
         let text : List ℕ = flat_map report_text put.reports in
         let told : right_for_set plan.set (TellsReports job worker) (Ok text) = record {

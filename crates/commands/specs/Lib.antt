@@ -2,7 +2,9 @@ pub mod Finish
 pub mod Gather
 pub mod GatherSteps
 pub mod GatheredLines
+pub mod Gathering
 pub mod Lines
+pub mod LinesSoFar
 pub mod SoupSets
 pub mod Stopped
 pub mod Take

@@ -55,10 +55,8 @@ pub record IsPieceOf (bytes : List ℕ) (read : Piece) : Type 0 where
   pub ended : take read.size bytes ≡ take read.length bytes ++ piece_end read.end
   pub last : read.end ≡ Some Input → bytes ≡ []
 
--- a piece of a line was read, and added to what is kept of it
-pub record HasPiece (old new : Option (List ℕ)) (before after : List ℕ) (read : Piece) : Type 0 where
-  pub piece : List ℕ
-  pub kept_is : after ≡ take (2 ^ 24 + 1) (before ++ piece)
+-- this piece of a line was read of an input, with the line feed that ends the line, if it ends there
+pub record HasPiece (old new : Option (List ℕ)) (piece : List ℕ) (read : Piece) : Type 0 where
   pub one : IsOneLine piece
   pub consumed : Consumes old new (piece ++ piece_end read.end)
   pub size_is : read.size ≡ length (piece ++ piece_end read.end)

@@ -19,9 +19,8 @@ use Rattle.pattern_commands.specs.Tasks.{Makes, Task, silent_task}
 abbrev pub MayStop : (ℕ → ℕ → Type 0) → List Range → Type 0
 MayStop may_stop ranges = (worker : ℕ) × (n : ℕ) × (is_in ranges n ≡ true) × may_stop worker n
 
--- A text that tells the census of a job over what was taken of a set, each number once. So many numbers are missing, and the
--- gate may have stopped a worker.
-pub record TellsTaken (may_stop : ℕ → ℕ → Type 0) (missing : ℕ) (job : Job) (ranges : List Range) (text : List ℕ) : Type 0 where
+-- a text that tells the census of a job over what was taken of a set, each number once, with so many numbers missing
+pub record TellsTaken (job : Job) (ranges : List Range) (missing : ℕ) (text : List ℕ) : Type 0 where
   pub normal : List Range
   pub form : IsNormalForm ranges normal
   pub taken : List (ℕ × ℕ)
@@ -29,15 +28,16 @@ pub record TellsTaken (may_stop : ℕ → ℕ → Type 0) (missing : ℕ) (job :
   pub once : IsDistinct nat_eq (numbers_in taken)
   pub incomplete : ¬ IsComplete normal taken
   pub missing_is : missing ≡ length (missing_of normal taken)
-  pub stops : MayStop may_stop ranges
   pub census : Census
   pub counted : IsCensus job normal (numbers_in taken) census
   pub text_is : text ≡ haul_text census
 
--- the census of a haul of which so many numbers are missing; what makes up its job is looked at first
+-- The census of a haul of which so many numbers are missing, where the gate may have stopped a worker. What makes up its
+-- job is looked at first.
 abbrev pub stopped_right : (ℕ → ℕ → Type 0) → Plan → ℕ → Right
 stopped_right may_stop plan missing =
-    given_right (job_named plan) (λ job. right_for_set plan.set (TellsTaken may_stop missing job))
+    given_right (job_named plan) (λ job. right_for_set plan.set (λ ranges text.
+    MayStop may_stop ranges × TellsTaken job ranges missing text))
 
 -- what is right if all was taken, or if so many numbers are missing
 abbrev pub right_if : Right → (ℕ → Right) → ℕ → Right

@@ -8,27 +8,36 @@ use Rattle.pattern_commands.specs.Streams.{Stream, Has, HasFront}
 use Rattle.pattern_commands.specs.TextSteps.{TextOutcome}
 use Rattle.commands.specs.Work.{AreReportsOn}
 
--- reports on the first of some numbers were made, and this was done with their lines
-pub record IsBegun (job : Job) (worker : ℕ) (numbers : List ℕ) (written : List ℕ → Type 0) : Type 0 where
+-- Which reports are wanted: those of a worker, for a job, on the soups with these numbers.
+pub record WantedReports : Type 0 where
+  pub job : Job
+  pub worker : ℕ
+  pub numbers : List ℕ
+
+abbrev pub reports_on : Job → ℕ → List ℕ → WantedReports
+reports_on job worker numbers = record { job = job; worker = worker; numbers = numbers }
+
+-- the first of the reports that are wanted were made, and this was done with their lines
+pub record IsBegun (wanted : WantedReports) (written : List ℕ → Type 0) : Type 0 where
   pub done : List ℕ
   pub more : List ℕ
-  pub parts : numbers ≡ done ++ more
+  pub parts : wanted.numbers ≡ done ++ more
   pub reports : List Reported
-  pub each : AreReportsOn job worker done reports
+  pub each : AreReportsOn wanted.job wanted.worker done reports
   pub is_written : written (flat_map report_text reports)
 
--- reports on all of them were
-pub record IsPut (job : Job) (worker : ℕ) (numbers : List ℕ) (output : Stream) : Type 0 where
+-- all of them were made, and their lines written
+pub record IsPut (wanted : WantedReports) (output : Stream) : Type 0 where
   pub reports : List Reported
-  pub each : AreReportsOn job worker numbers reports
+  pub each : AreReportsOn wanted.job wanted.worker wanted.numbers reports
   pub is_written : Has output (flat_map report_text reports)
   pub fine : output.failed ≡ false
 
--- What became of the reports on some numbers: their lines were written; or memory ran out over one, and the lines of those before
--- it were; or a write failed, and a front of the lines so far was.
-abbrev pub Puts : Job → ℕ → List ℕ → TextOutcome → Stream → Type 0
-Puts job worker numbers (Ok _) output = IsPut job worker numbers output
-Puts job worker numbers (Err Memory) output = IsBegun job worker numbers (Has output)
-Puts job worker numbers (Err WriteFailed) output = IsBegun job worker numbers (HasFront output) × (output.failed ≡ true)
-Puts job worker numbers (Err ReadFailed) output = ⊥
-Puts job worker numbers (Err (Refused refusal)) output = ⊥
+-- What became of the reports that are wanted: their lines were written; or memory ran out over one, and the lines of
+-- those before it were; or a write failed, and a front of the lines so far was.
+abbrev pub Puts : WantedReports → TextOutcome → Stream → Type 0
+Puts wanted (Ok _) output = IsPut wanted output
+Puts wanted (Err Memory) output = IsBegun wanted (Has output)
+Puts wanted (Err WriteFailed) output = IsBegun wanted (HasFront output) × (output.failed ≡ true)
+Puts wanted (Err ReadFailed) output = ⊥
+Puts wanted (Err (Refused refusal)) output = ⊥

@@ -6,19 +6,21 @@
 //!            └───────┴─────────┴── a line on standard error, if it isn't taken
 //! ```
 
-ghost use Rattle.std.specs.Prelude.{◌≡◌, ◌≢◌, ◌<◌, ◌≤◌, Ok, Result, ◌+◌, ◌^◌, ◌++◌, [], ℕ, List, Option, Some};
+ghost use Rattle.std.specs.Prelude.{◌≡◌, ◌≢◌, ◌<◌, ◌≤◌, Ok, Result, ◌+◌, ◌^◌, ◌++◌, ◌∷◌, [], ℕ, List, Option, Some};
 ghost use Rattle.std.specs.Prelude.{IfErr, IfOk, OnOk, false, length, take};
 ghost use Rattle.haul_core.specs.Reports.{IsWorker, Reported};
+ghost use Rattle.plane_core.specs.Out.{Output};
 ghost use Rattle.pattern_commands.specs.Answers.{IsInput};
 ghost use Rattle.pattern_commands.specs.Complaints.{status_of};
-ghost use Rattle.pattern_commands.specs.Ends.{Ends, Reaches};
+ghost use Rattle.pattern_commands.specs.Ends.{Ends};
+ghost use Rattle.pattern_commands.specs.Reached.{Reaches};
 ghost use Rattle.commands.specs.Gather.{gather_reads, gather_task, haul_task};
 ghost use Rattle.pattern_commands.specs.Profiles.{AreInRange};
 ghost use Rattle.pattern_commands.specs.Streams.{stream};
 ghost use Rattle.haul_core.specs.Books.{StandsFor};
 ghost use Rattle.haul_core.specs.declared.book.arrival.Arrival.{Arrival};
-ghost use Rattle.commands.specs.GatherSteps.{EndsLine, EndsLines, GoesOn, HasGathered, HasGatheredShort, HasCome};
-ghost use Rattle.commands.specs.GatherSteps.{HasComeBy, passage};
+ghost use Rattle.commands.specs.GatherSteps.{EndsLine, EndsLines, GoesOn, HasGathered, HasGatheredShort};
+ghost use Rattle.commands.specs.LinesSoFar.{HasCome, HasComeBy};
 ghost use Rattle.commands.specs.GatheredLines.{IsChecked, IsFrontFault, IsLookedAt, ComesOf, offer_fault};
 ghost use Rattle.haul_core.specs.declared.book.refused.OfferError.TheVariants as offer_error;
 
@@ -140,9 +142,9 @@ fn gather_input<R: Read, E: Write>(
     requires errors { errors.old.failed ≡ false }
     ensures terms { haul.new.terms ≡ haul.old.terms }
     ensures gathered { OnOk result (HasGatheredShort (R.remaining input.old)
-        (E.contents errors.old.writer) (E.contents errors.new.writer) haul.new) }
+        (stream E.contents errors.old errors.new) haul.new) }
     ensures ended { IfErr result (EndsLines haul.old.terms (R.remaining input.old)
-        (E.contents errors.old.writer) (E.contents errors.new.writer) errors.new.failed) }
+        (stream E.contents errors.old errors.new)) }
     ensures fine { OnOk result (errors.new.failed ≡ false) }
 {
     let Ok(mut buffered) = BufReader::with_capacity(alloc, READ_LENGTH, input) else {
@@ -165,9 +167,9 @@ fn gather_lines<R: BufRead, E: Write>(
     requires errors { errors.old.failed ≡ false }
     ensures terms { haul.new.terms ≡ haul.old.terms }
     ensures gathered { OnOk result (HasGatheredShort (R.remaining input.old)
-        (E.contents errors.old.writer) (E.contents errors.new.writer) haul.new) }
+        (stream E.contents errors.old errors.new) haul.new) }
     ensures ended { IfErr result (EndsLines haul.old.terms (R.remaining input.old)
-        (E.contents errors.old.writer) (E.contents errors.new.writer) errors.new.failed) }
+        (stream E.contents errors.old errors.new)) }
     ensures fine { OnOk result (errors.new.failed ≡ false) }
 {
     let mut line = Vec::new(alloc);
@@ -201,11 +203,21 @@ fn next_line<R: BufRead, E: Write>(
     requires errors { errors.old.failed ≡ false }
     ensures terms { haul.new.terms ≡ haul.old.terms }
     ensures short { IfOk result (λ read. read.size ≤ 2 ^ 32) }
-    ensures going { (known first : Option (List ℕ)) (size : ℕ)
-        → HasGathered (passage known (R.remaining input.old) first (E.contents errors.old.writer) before size) haul.old
-        → IfOk result (λ read. GoesOn
-        (passage known (R.remaining input.new) first (E.contents errors.new.writer) (before + 1) (size + read.size))
-        haul.new read.end) }
+    ensures going { (known : Option (List ℕ)) (first : Output E) (size : ℕ)
+        → HasGathered (record {
+          known = known;
+          left = R.remaining input.old;
+          errors = stream E.contents first errors.old;
+          count = before;
+          size = size;
+        }) haul.old
+        → IfOk result (λ read. GoesOn (record {
+          known = known;
+          left = R.remaining input.new;
+          errors = stream E.contents first errors.new;
+          count = before + 1;
+          size = size + read.size;
+        }) haul.new read.end) }
     ensures fine { OnOk result (errors.new.failed ≡ false) }
     ensures ended { IfErr result (EndsLine errors.old errors.new) }
 {
@@ -230,10 +242,8 @@ fn take_line<E: Write>(
     requires errors { errors.old.failed ≡ false }
     ensures terms { haul.new.terms ≡ haul.old.terms }
     ensures come { (line : List ℕ) (lines : List (List ℕ)) (told : List ℕ) → kept.now ≡ take (2 ^ 24 + 1) line
-        → before ≡ length lines
-        → HasCome haul.old.terms lines haul.old told
-        → OnOk result (HasComeBy haul.old.terms lines line haul.new told (E.contents errors.old.writer)
-        (E.contents errors.new.writer)) }
+        → before ≡ length lines → HasCome lines haul.old told
+        → OnOk result (HasComeBy (lines ++ line ∷ []) haul.new told (stream E.contents errors.old errors.new)) }
     ensures fine { OnOk result (errors.new.failed ≡ false) }
     ensures ended { IfErr result (EndsLine errors.old errors.new) }
 {

@@ -9,7 +9,7 @@
 //! No more of a line is kept than its first 2^24 bytes and the byte after them, so an input without a line feed takes
 //! no more memory than that.
 
-ghost use Rattle.std.specs.Prelude.{◌≡◌, ◌≤◌, ◌+◌, ◌^◌, IfOk, None, length};
+ghost use Rattle.std.specs.Prelude.{◌≡◌, ◌≤◌, ◌+◌, ◌^◌, ◌++◌, ℕ, List, IfOk, None, length, take};
 ghost use Rattle.commands.specs.Lines.{HasPiece, HasReadLine, IsPieceOf};
 
 use memchr::memchr;
@@ -82,7 +82,8 @@ pub(crate) fn read_line<R: BufRead>(
 /// Puts what the reader has at hand of a line at the end of `line`, of which no more than 2^24 + 1 bytes are kept.
 fn read_piece<R: BufRead>(input: &mut R, line: &mut Vec<u8>) -> Result<Piece, InputError>
     requires { length line.old.items ≤ 2 ^ 24 + 1 }
-    ensures { IfOk result (HasPiece (R.remaining input.old) (R.remaining input.new) line.old.items line.new.items) }
+    ensures { IfOk result (λ read. (piece : List ℕ) × (line.new.items ≡ take (2 ^ 24 + 1) (line.old.items ++ piece))
+        × HasPiece (R.remaining input.old) (R.remaining input.new) piece read) }
 {
     let available = match input.fill_buf() {
         Ok(available) => available,

@@ -10,7 +10,7 @@ ghost use Rattle.pattern_commands.specs.Streams.{stream};
 ghost use Rattle.haul_core.specs.Missing.{numbers_of_range, numbers_of};
 ghost use Rattle.pattern_commands.specs.TextSteps.{ReachesText};
 ghost use Rattle.commands.specs.Work.{work_right, work_task};
-ghost use Rattle.commands.specs.WorkSteps.{Puts};
+ghost use Rattle.commands.specs.WorkSteps.{Puts, reports_on};
 
 use crate::plan::{Plan, open_haul};
 use haul_core::book::haul::Haul;
@@ -87,7 +87,7 @@ fn put_all<W: Write>(
 ) -> Result<(), Complaint>
     requires worker { IsWorker worker }
     requires output { output.old.failed ≡ false }
-    ensures { Puts haul.now.terms.job worker (numbers_of haul.now.terms.ranges) result
+    ensures { Puts (reports_on haul.now.terms.job worker (numbers_of haul.now.terms.ranges)) result
         (stream W.contents output.old output.new) }
 {
     let mut memo = Memo::new(alloc);
@@ -106,7 +106,8 @@ fn put_reports<W: Write>(
     requires worker { IsWorker worker }
     requires ranges { AreBelow number_bound ranges.now }
     requires output { output.old.failed ≡ false }
-    ensures { Puts job.now worker (numbers_of ranges.now) result (stream W.contents output.old output.new) }
+    ensures { Puts (reports_on job.now worker (numbers_of ranges.now)) result
+        (stream W.contents output.old output.new) }
 {
     for range in ranges {
         put_range(alloc, job, worker, *range, memo, output)?;
@@ -126,7 +127,8 @@ fn put_range<W: Write>(
     requires worker { IsWorker worker }
     requires range { end_of range ≤ number_bound }
     requires output { output.old.failed ≡ false }
-    ensures { Puts job.now worker (numbers_of_range range) result (stream W.contents output.old output.new) }
+    ensures { Puts (reports_on job.now worker (numbers_of_range range)) result
+        (stream W.contents output.old output.new) }
 {
     for number in range.first..range.first + range.count {
         put_report(alloc, job, worker, number, memo, output)?;
@@ -146,7 +148,7 @@ fn put_report<W: Write>(
     requires worker { IsWorker worker }
     requires number { number < number_bound }
     requires output { output.old.failed ≡ false }
-    ensures { Puts job.now worker (number ∷ []) result (stream W.contents output.old output.new) }
+    ensures { Puts (reports_on job.now worker (number ∷ [])) result (stream W.contents output.old output.new) }
 {
     let Ok(report) = Report::make_with(alloc, job, worker, number, memo) else {
         return Err(Complaint::Memory);

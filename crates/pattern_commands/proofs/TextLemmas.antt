@@ -7,7 +7,8 @@ use Rattle.pattern_commands.specs.declared.status.Status.{Status}
 use Rattle.pattern_commands.specs.declared.status.Status.TheVariants as statuses
 use Rattle.pattern_commands.specs.Answers.{Right}
 use Rattle.pattern_commands.specs.Complaints.{status_of}
-use Rattle.pattern_commands.specs.Ends.{Ends, HasLast, LeavesFront, LeavesPart, Reaches, status_after}
+use Rattle.pattern_commands.specs.Ends.{Ends, HasLast, status_after}
+use Rattle.pattern_commands.specs.Reached.{LeavesFront, LeavesPart, Reaches}
 use Rattle.pattern_commands.specs.Streams.{Stream, HasFront, IsUntouched}
 use Rattle.pattern_commands.specs.Tasks.{Made, alone, text_made, text_task}
 use Rattle.pattern_commands.specs.TextSteps.{LeavesTextFront, LeavesTextPart, ReachesText, TextOutcome, none_missing}

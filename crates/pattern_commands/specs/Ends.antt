@@ -1,79 +1,11 @@
 -- How a command ends: every one by the same rule.
-use Rattle.std.specs.Prelude.{◌≡◌, ◌⊎◌, ℕ, zero, suc, Bool, true, false, List, [], Option, Result, Ok, Err}
-use Rattle.pattern_commands.specs.declared.complaint.Complaint.{Complaint}
-use Rattle.pattern_commands.specs.declared.complaint.Complaint.TheVariants.{Refused, Memory, ReadFailed, WriteFailed}
+pub use Rattle.pattern_commands.specs.Reached.{Outcome, Reaches}
+use Rattle.std.specs.Prelude.{◌≡◌, ℕ, zero, suc, true, false, List, [], Option, Ok, Err}
 use Rattle.pattern_commands.specs.declared.status.Status.{Status}
 use Rattle.pattern_commands.specs.declared.status.Status.TheVariants as statuses
 use Rattle.pattern_commands.specs.Complaints.{complaint_line, missing_line, status_of}
-use Rattle.pattern_commands.specs.Streams.{Stream, Has, HasFront, HasLine}
-use Rattle.pattern_commands.specs.Tasks.{Made, Makes, NeedsMemoryAlone, Task, text_made}
-
--- how many soups are missing after a command, or its complaint
-abbrev pub Outcome : Type 0
-Outcome = Result ℕ Complaint
-
--- what was made stands on both streams, whole; so many soups are missing
-pub record IsPrinted (right : Makes) (missing : ℕ) (output errors : Stream) : Type 0 where
-  pub made : Made
-  pub is : right (Ok made)
-  pub missing_is : missing ≡ made.missing
-  pub text : Has output made.text
-  pub written : output.failed ≡ false
-  pub told : Has errors made.told
-  pub fine : errors.failed ≡ false
-
--- nothing was written to either stream
-pub record IsSilent (output errors : Stream) : Type 0 where
-  pub nothing : Has output []
-  pub silent : Has errors []
-  pub fine : errors.failed ≡ false
-
--- The input was cut off: nothing stands on standard output, and on standard error what is told of its beginning.
-pub record IsCutOff (task : Task) (known : Option (List ℕ)) (output errors : Stream) : Type 0 where
-  pub reads : task.reads ≡ true
-  pub begun : task.begins known errors.before errors.after
-  pub nothing : Has output []
-  pub fine : errors.failed ≡ false
-
--- what stands on standard output if memory ran out: nothing of a text that is whole before it is written, and else a front of each
--- right one
-abbrev pub LeavesPart : Bool → Makes → Stream → Type 0
-LeavesPart true right output = Has output []
-LeavesPart false right output = (answer : Result Made Complaint) → right answer → HasFront output (text_made answer)
-
--- memory ran out: over the input, or before it was looked at
-pub record HasRunOut (task : Task) (known : Option (List ℕ)) (bytes : List ℕ) (output errors : Stream) : Type 0 where
-  pub hides : task.refuses ≡ false → NeedsMemoryAlone (task.right bytes)
-  pub left : LeavesPart task.whole (task.right bytes) output
-  pub told : Has errors [] ⊎ task.begins known errors.before errors.after
-  pub fine : errors.failed ≡ false
-
--- What stands on the streams if a write of the text failed: of a text that was whole before it was written, a front, and all that is
--- told. One that is written as it is made isn't known to its end: then there is a front of each right text, and no complaint is right.
-abbrev pub LeavesFront : Bool → Makes → Stream → Stream → Type 0
-LeavesFront true right output errors = (made : Made) × right (Ok made) × HasFront output made.text × Has errors made.told
-LeavesFront false right output errors = ((complaint : Complaint) → right (Err complaint) → ⊥)
-    × ((made : Made) → right (Ok made) → HasFront output made.text) × Has errors []
-
--- standard output failed
-pub record IsCutShort (task : Task) (bytes : List ℕ) (output errors : Stream) : Type 0 where
-  pub left : LeavesFront task.whole (task.right bytes) output errors
-  pub cut : output.failed ≡ true
-  pub fine : errors.failed ≡ false
-
--- what is told of the input was not written whole
-pub record IsUntold (task : Task) (output errors : Stream) : Type 0 where
-  pub tells : task.may_tell
-  pub nothing : Has output []
-  pub cut : errors.failed ≡ true
-
--- What stands on the streams before the last line of standard error. A refusal is a right answer.
-abbrev pub Reaches : Task → Option (List ℕ) → List ℕ → Outcome → Stream → Stream → Type 0
-Reaches task known bytes (Ok missing) output errors = IsPrinted (task.right bytes) missing output errors
-Reaches task known bytes (Err (Refused refusal)) output errors = task.right bytes (Err (Refused refusal)) × IsSilent output errors
-Reaches task known bytes (Err Memory) output errors = HasRunOut task known bytes output errors
-Reaches task known bytes (Err ReadFailed) output errors = IsCutOff task known output errors
-Reaches task known bytes (Err WriteFailed) output errors = IsCutShort task bytes output errors ⊎ IsUntold task output errors
+use Rattle.pattern_commands.specs.Streams.{Stream, Has, HasLine}
+use Rattle.pattern_commands.specs.Tasks.{Task}
 
 -- the last line of standard error: how many soups are missing, or the complaint; and none if all was done
 abbrev pub last_line : Outcome → List ℕ

@@ -4,6 +4,7 @@ pub mod Ends
 pub mod Inputs
 pub mod Name
 pub mod Profiles
+pub mod Reached
 pub mod Run
 pub mod Show
 pub mod Soup

@@ -3,7 +3,7 @@ use Rattle.std.specs.Prelude.{◌≡◌, Bool, true, false, ℕ, List, [], Resul
 use Rattle.pattern_commands.specs.declared.complaint.Complaint.{Complaint}
 use Rattle.pattern_commands.specs.declared.complaint.Complaint.TheVariants.{Refused, Memory, ReadFailed, WriteFailed}
 use Rattle.pattern_commands.specs.Answers.{Answer, NeedsMemory, Right, output_text}
-use Rattle.pattern_commands.specs.Ends.{Outcome}
+use Rattle.pattern_commands.specs.Reached.{Outcome}
 use Rattle.pattern_commands.specs.Streams.{Stream, Has, HasFront}
 
 -- the text was written, or there is a complaint

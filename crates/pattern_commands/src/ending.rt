@@ -1,6 +1,6 @@
 ghost use Rattle.std.specs.Prelude.{◌≡◌, OnOk, false, true};
 ghost use Rattle.pattern_commands.specs.Complaints.{complaint_line, status_of};
-ghost use Rattle.pattern_commands.specs.Ends.{HasLast, Outcome, status_after};
+ghost use Rattle.pattern_commands.specs.Ends.{HasLast, status_after};
 ghost use Rattle.pattern_commands.specs.Streams.{stream, HasLine};
 ghost use Rattle.pattern_commands.specs.TextSteps.{none_missing};
 

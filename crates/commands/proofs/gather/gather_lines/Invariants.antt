@@ -1,5 +1,6 @@
 use Rattle.std.proofs.Common.{◌≡◌, ◌≤◌, ◌^◌, false}
-use Rattle.commands.specs.GatherSteps.{HasGathered, passage}
+use Rattle.pattern_commands.specs.Streams.{stream}
+use Rattle.commands.specs.GatherSteps.{HasGathered}
 use Rattle.commands.proofs.gather.gather_lines.Given as goal
 
 -- the lines before this one have come to the haul
@@ -8,6 +9,11 @@ invariant-loop-before g l = record {
   terms : l.haul.terms ≡ l.fn.haul.terms;
   fine : l.errors.failed ≡ false;
   few : l.size ≤ 2 ^ 32;
-  gathered : HasGathered (passage (g.R.Read.remaining l.fn.input) (g.R.Read.remaining l.input) (g.E.Write.contents l.fn.errors.writer)
-      (g.E.Write.contents l.errors.writer) l.before l.size) l.haul;
+  gathered : HasGathered (record {
+    known = g.R.Read.remaining l.fn.input;
+    left = g.R.Read.remaining l.input;
+    errors = stream g.E.Write.contents l.fn.errors l.errors;
+    count = l.before;
+    size = l.size;
+  }) l.haul;
 }

@@ -8,7 +8,8 @@ pub returns-in_ok-write_line-clause-come : goal.returns-in_ok-write_line-clause-
 returns-in_ok-write_line-clause-come g c line lines told kept count come = record {
   more = fault_line (c.args.before + 1) c.in-Some.fault;
   come =
-      come_more _ lines line told _ _ c.args.before (Some c.in-Some.fault) count come (rw c.in-Some.is at c.in_ok-fault.ensures.come line come.arrivals kept come.stands);
+      come_more lines line told _ _ c.args.before (Some c.in-Some.fault) count come c.in_ok-fault.ensures.terms
+      (rw c.in-Some.is at c.in_ok-fault.ensures.come line come.arrivals kept come.stands);
   written = c.in_ok-write_line.ensures.whole;
 }
 
@@ -16,6 +17,7 @@ pub returns-in_default-clause-come : goal.returns-in_default-clause-come
 returns-in_default-clause-come g c line lines told kept count come =
     let none = no_fault c.in_ok-fault.field-0 c.in_default.not-Some in record {
       more = [];
-      come = come_more _ lines line told _ _ c.args.before None count come (rw none at c.in_ok-fault.ensures.come line come.arrivals kept come.stands);
+      come = come_more lines line told _ _ c.args.before None count come c.in_ok-fault.ensures.terms
+          (rw none at c.in_ok-fault.ensures.come line come.arrivals kept come.stands);
       written = Appends-nil _;
     }

@@ -11,16 +11,17 @@ returns-in-Some g c =
     let was = c.loop.invariant.1 in
     let read = c.in_ok-piece.ensures in
     let piece = c.in_ok-piece.piece in
-    let more = read_more _ _ _ _ _ was.0 c.loop.size piece was.1 was.2 was.3 was.4 read in
+    let more = read_more _ _ _ _ _ was.0 read.0 c.loop.size piece was.1 was.2 was.3 was.4 read.1 read.2 in
     let sum : c.saturating_add-size.result ≡ c.loop.size + piece.size = omega (arith, c.saturating_add-size.ensures, c.if-size-gt-GATHER_LIMIT.false) in
-    let whole : c.saturating_add-size.result ≡ length ((was.0 ++ read.piece) ++ piece_end piece.end) = sum ∙ more.3 in record {
-      line = was.0 ++ read.piece;
+    let whole : c.saturating_add-size.result ≡ length ((was.0 ++ read.0) ++ piece_end piece.end) = sum
+    ∙ more.3 in record {
+      line = was.0 ++ read.0;
       kept_is = more.0;
       one = more.1;
       consumed = rw c.in-Some.is at more.2;
       size_is = rw c.in-Some.is at whole;
       short = c.if-size-gt-GATHER_LIMIT.false;
-      last = λ end. spent_from _ _ _ was.0 was.3 (read.last (c.in-Some.is ∙ ap Some end));
+      last = λ end. spent_from _ _ _ was.0 was.3 (read.2.last (c.in-Some.is ∙ ap Some end));
     }
 
 pub loop-preserved : goal.loop-preserved
@@ -28,8 +29,17 @@ loop-preserved g c =
     let was = c.loop.invariant.1 in
     let read = c.in_ok-piece.ensures in
     let piece = c.in_ok-piece.piece in
-    let more = read_more _ _ _ _ _ was.0 c.loop.size piece was.1 was.2 was.3 was.4 read in
+    let more = read_more _ _ _ _ _ was.0 read.0 c.loop.size piece was.1 was.2 was.3 was.4 read.1 read.2 in
     let sum : c.saturating_add-size.result ≡ c.loop.size + piece.size = omega (arith, c.saturating_add-size.ensures, c.if-size-gt-GATHER_LIMIT.false) in
-    let whole : c.saturating_add-size.result ≡ length ((was.0 ++ read.piece) ++ piece_end piece.end) = sum ∙ more.3 in
-    let bare = append-nil (was.0 ++ read.piece) in
-    (c.if-size-gt-GATHER_LIMIT.false, (was.0 ++ read.piece, more.0, more.1, rw bare at (rw c.in_default.is at more.2), rw bare at (rw c.in_default.is at whole)))
+    let whole : c.saturating_add-size.result ≡ length ((was.0 ++ read.0) ++ piece_end piece.end) = sum ∙ more.3 in
+    let bare = append-nil (was.0 ++ read.0) in (
+      c.if-size-gt-GATHER_LIMIT.false,
+      (
+        was.0 ++ read.0,
+        more.0,
+        more.1,
+        rw bare at (rw c.in_default.is at more.2),
+        rw bare at
+            (rw c.in_default.is at whole),
+      ),
+    )

@@ -15,11 +15,14 @@ returns g c =
     let size = c.first_piece-piece.result.size in
     let rested = c.fill_buf.follows.lender-at-none in
     let filled = subst (FillKeeps _ (g.R.Read.remaining rested) (g.R.BufRead.consumable_len rested)) c.in-Ok.is c.fill_buf.follows.holds-at-none in
-    let moved = Consumes_shown _ _ _ _ shown size piece.bound c.in-Ok.ensures.front c.in-Ok.ensures.end filled.0 filled.1 c.consume.ensures.bytes in record {
-      piece = take c.first_piece-piece.result.length shown;
-      kept_is = c.truncate.ensures.items ∙ ap (take (2 ^ 24 + 1)) c.in_ok-extend_from_slice.ensures.items;
-      one = piece.one;
-      consumed = subst (Consumes _ _) piece.ended moved.0;
-      size_is = sym (length-take-le size shown piece.bound) ∙ ap length piece.ended;
-      last = λ end. moved.1 (ap length (piece.last end));
-    }
+    let moved = Consumes_shown _ _ _ _ shown size piece.bound c.in-Ok.ensures.front c.in-Ok.ensures.end filled.0
+    filled.1 c.consume.ensures.bytes in (
+      take c.first_piece-piece.result.length shown,
+      c.truncate.ensures.items ∙ ap (take (2 ^ 24 + 1)) c.in_ok-extend_from_slice.ensures.items,
+      record {
+        one = piece.one;
+        consumed = subst (Consumes _ _) piece.ended moved.0;
+        size_is = sym (length-take-le size shown piece.bound) ∙ ap length piece.ended;
+        last = λ end. moved.1 (ap length (piece.last end));
+      },
+    )

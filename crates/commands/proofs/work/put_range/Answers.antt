@@ -1,7 +1,7 @@
 use Rattle.std.proofs.Common.{◌≡◌, ◌-◌, ℕ, Ok, Err, arith, sym, subst}
 use Rattle.std.specs.List.{range_with_len}
 use Rattle.pattern_commands.specs.Streams.{stream}
-use Rattle.commands.specs.WorkSteps.{Puts}
+use Rattle.commands.specs.WorkSteps.{Puts, reports_on}
 use Rattle.pattern_commands.proofs.AnswerLemmas.{err_of}
 use Rattle.commands.proofs.WorkLemmas.{puts_next, puts_nothing, puts_short}
 use Rattle.commands.proofs.work.put_range.Goals as goal
@@ -10,7 +10,8 @@ pub loop-number-init : goal.loop-number-init
 loop-number-init g c =
     let output = c.args.output.now in
     let none : c.args.range.first - c.args.range.first ≡ 0 = omega arith in
-    subst (λ (k : ℕ). Puts c.args.job.now c.args.worker (range_with_len c.args.range.first k) (Ok tt) (stream g.W.Write.contents output output)) (sym none)
+    subst (λ (k : ℕ). Puts (reports_on c.args.job.now c.args.worker (range_with_len c.args.range.first k)) (Ok tt)
+    (stream g.W.Write.contents output output)) (sym none)
     (puts_nothing c.args.job.now c.args.worker (g.W.Write.contents output.writer) output.failed c.requires.output)
 
 pub put_report-requires-clause-output : goal.put_report-requires-clause-output

@@ -1,7 +1,7 @@
-use Rattle.std.proofs.Common.{◌∙◌, false, sym, true}
+use Rattle.std.proofs.Common.{false, true}
 use Rattle.pattern_commands.specs.Answers.{only}
 use Rattle.pattern_commands.specs.Version.{version_answer}
-use Rattle.pattern_commands.proofs.TextLemmas.{text_ends, text_memory, text_refused}
+use Rattle.pattern_commands.proofs.TextLemmas.{text_ends}
 use Rattle.pattern_commands.proofs.version.do_version.Goals as goal
 
 pub returns-clause-ends : goal.returns-clause-ends

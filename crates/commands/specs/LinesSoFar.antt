@@ -1,0 +1,36 @@
+-- The lines of an input that have come to a haul so far.
+use Rattle.std.specs.Prelude.{◌≡◌, ◌++◌, ℕ, List, All, IfSome, Option, flat_map}
+use Rattle.std.specs.Io.KnownBytes.{Appends}
+use Rattle.haul_core.specs.declared.book.arrival.Arrival.{Arrival}
+use Rattle.haul_core.specs.Books.{Held, StandsFor, Terms}
+use Rattle.pattern_commands.specs.Streams.{Stream, Has}
+use Rattle.commands.specs.declared.lines.LineEnd.TheVariants.{Feed}
+use Rattle.commands.specs.GatheredLines.{Gathered}
+use Rattle.commands.specs.Lines.{IsOneLine, input_lines, with_end}
+
+-- the bytes are these lines, each ended by a line feed
+pub record AreEnded (bytes : List ℕ) (lines : List (List ℕ)) : Type 0 where
+  pub spelled : bytes ≡ flat_map (with_end Feed) lines
+  pub whole : All IsOneLine lines
+
+-- the lines have come to the haul, and this was told of them
+pub record HasCome (lines : List (List ℕ)) (held : Held) (told : List ℕ) : Type 0 where
+  pub arrivals : List Arrival
+  pub gathered : Gathered held.terms lines arrivals told
+  pub stands : StandsFor arrivals held
+
+-- The lines have come to the haul. This was told of them before, and what else is told of them was added to standard
+-- error.
+pub record HasComeBy (lines : List (List ℕ)) (held : Held) (told : List ℕ) (errors : Stream) : Type 0 where
+  pub more : List ℕ
+  pub come : HasCome lines held (told ++ more)
+  pub written : Has errors more
+
+-- The first lines of an input have come to a haul, and standard error has what is told of them.
+pub record HasBegun (terms : Terms) (known before after : Option (List ℕ)) : Type 0 where
+  pub lines : List (List ℕ)
+  pub first : IfSome known (λ bytes. (more : List (List ℕ)) × (input_lines bytes ≡ lines ++ more))
+  pub arrivals : List Arrival
+  pub told : List ℕ
+  pub gathered : Gathered terms lines arrivals told
+  pub written : Appends before after told
