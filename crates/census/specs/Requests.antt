@@ -64,6 +64,13 @@ abbrev pub tells_lines : Request → Bool
 tells_lines (Gather plan workers) = true
 tells_lines request = false
 
+-- the request is for soups of a set
+abbrev pub is_over_sets : Request → Bool
+is_over_sets (Take plan workers progress) = true
+is_over_sets (Work plan worker) = true
+is_over_sets (Gather plan workers) = true
+is_over_sets request = false
+
 -- what is right for a request, on an input
 abbrev pub right_for : Request → List ℕ → Makes
 right_for request = (task_of request).right

@@ -4,7 +4,7 @@ ghost use Rattle.words.specs.declared.request.Request.TheVariants as request;
 ghost use Rattle.pattern_commands.specs.Ends.{Ends};
 ghost use Rattle.pattern_commands.specs.Profiles.{AreInRange};
 ghost use Rattle.pattern_commands.specs.Streams.{stream};
-ghost use Rattle.census.specs.Requests.{DoesRequest, DoesWords, Spares, is_whole, numbers_for, plan_for, reads_input};
+ghost use Rattle.census.specs.Requests.{DoesRequest, DoesWords, Spares, is_over_sets, is_whole, numbers_for, plan_for, reads_input};
 ghost use Rattle.census.specs.Requests.{refuses_input, soups_for, task_of};
 
 use commands::gather::do_gather;
@@ -103,37 +103,54 @@ fn do_request<T: Threads + Wait + Sync, R: Read, W: Write, E: Write, P: Write, C
         request.now }
     ensures spares { Spares request.now result (input.new ≡ input.old) (output.new ≡ output.old) }
 {
-    let alloc = machine.alloc;
     match request {
-        Request::Run { generations, rule } => {
-            run_pattern(
-                alloc,
-                *generations,
-                rule,
-                input,
-                output,
-                &mut machine.errors,
-            )
-        }
-        Request::Name { profile, rule } => {
-            name_pattern(alloc, *profile, rule, input, output, &mut machine.errors)
-        }
-        Request::Show { code } => show_code(alloc, code, output, &mut machine.errors),
-        Request::Soup { seed, number } => {
-            show_soup(alloc, seed, *number, output, &mut machine.errors)
-        }
         Request::Take {
             plan,
             workers,
             progress,
         } => take_soups(machine, plan, *workers, *progress, output),
         Request::Work { plan, worker } => {
-            work_on_soups(alloc, plan, *worker, output, &mut machine.errors)
+            work_on_soups(machine.alloc, plan, *worker, output, &mut machine.errors)
         }
-        Request::Gather { plan, workers } => {
-            gather_lines(alloc, plan, *workers, input, output, &mut machine.errors)
+        Request::Gather { plan, workers } => gather_lines(
+            machine.alloc,
+            plan,
+            *workers,
+            input,
+            output,
+            &mut machine.errors,
+        ),
+        _ => do_pattern_request(machine.alloc, request, input, output, &mut machine.errors),
+    }
+}
+
+/// Does what a request over one pattern asks for, or prints the version.
+fn do_pattern_request<R: Read, W: Write, E: Write>(
+    alloc: Global,
+    request: &Request<'_>,
+    input: &mut R,
+    output: &mut Out<W>,
+    errors: &mut Out<E>,
+) -> Status
+    requires request { AreInTheirRanges request.now }
+    requires one_pattern { is_over_sets request.now ≡ false }
+    requires output { output.old.failed ≡ false }
+    requires errors { errors.old.failed ≡ false }
+    ensures ends { DoesRequest (R.remaining input.old) result
+        (stream W.contents output.old output.new) (stream E.contents errors.old errors.new) request.now }
+    ensures spares { Spares request.now result (input.new ≡ input.old) (output.new ≡ output.old) }
+{
+    match request {
+        Request::Run { generations, rule } => {
+            run_pattern(alloc, *generations, rule, input, output, errors)
         }
-        Request::Version => do_version(output, &mut machine.errors),
+        Request::Name { profile, rule } => {
+            name_pattern(alloc, *profile, rule, input, output, errors)
+        }
+        Request::Show { code } => show_code(alloc, code, output, errors),
+        Request::Soup { seed, number } => show_soup(alloc, seed, *number, output, errors),
+        Request::Version => do_version(output, errors),
+        Request::Take { .. } | Request::Work { .. } | Request::Gather { .. } => unreachable!(),
     }
 }
 

@@ -22,30 +22,6 @@ spares : {input output : Type 0} (request : Request) (status : Status) → input
 spares request status same untouched no_memory =
     record { unread = λ _. same; unread_refused = λ _ _. same; untouched = untouched; no_memory = λ memory _. no_memory memory }
 
-pub returns-in-Run-clause-ends : goal.returns-in-Run-clause-ends
-returns-in-Run-clause-ends g c = rw c.in-Run.is c.run_pattern.ensures.ends
-
-pub returns-in-Run-clause-spares : goal.returns-in-Run-clause-spares
-returns-in-Run-clause-spares g c = rw c.in-Run.is c.run_pattern.ensures.spares
-
-pub returns-in-Name-clause-ends : goal.returns-in-Name-clause-ends
-returns-in-Name-clause-ends g c = rw c.in-Name.is c.name_pattern.ensures.ends
-
-pub returns-in-Name-clause-spares : goal.returns-in-Name-clause-spares
-returns-in-Name-clause-spares g c = rw c.in-Name.is c.name_pattern.ensures.spares
-
-pub returns-in-Show-clause-ends : goal.returns-in-Show-clause-ends
-returns-in-Show-clause-ends g c = rw c.in-Show.is (does _ _ refl c.show_code.ensures.ends)
-
-pub returns-in-Show-clause-spares : goal.returns-in-Show-clause-spares
-returns-in-Show-clause-spares g c = spares _ _ refl c.show_code.ensures.untouched c.show_code.ensures.no_memory
-
-pub returns-in-Soup-clause-ends : goal.returns-in-Soup-clause-ends
-returns-in-Soup-clause-ends g c = rw c.in-Soup.is (does _ _ refl c.show_soup.ensures.ends)
-
-pub returns-in-Soup-clause-spares : goal.returns-in-Soup-clause-spares
-returns-in-Soup-clause-spares g c = spares _ _ refl c.show_soup.ensures.untouched c.show_soup.ensures.no_memory
-
 pub returns-in-Take-clause-ends : goal.returns-in-Take-clause-ends
 returns-in-Take-clause-ends g c = rw c.in-Take.is (does _ _ refl c.take_soups.ensures.ends)
 
@@ -75,11 +51,3 @@ returns-in-Gather-clause-spares g c = rw c.in-Gather.is (record {
   untouched = λ refused. (c.gather_lines.ensures.untouched refused).1;
   no_memory = λ memory _. c.gather_lines.ensures.no_memory memory;
 })
-
-pub returns-in-Version-clause-ends : goal.returns-in-Version-clause-ends
-returns-in-Version-clause-ends g c = rw c.in-Version.is (does _ _ refl c.do_version.ensures.ends)
-
--- the version is never refused, and takes no memory
-pub returns-in-Version-clause-spares : goal.returns-in-Version-clause-spares
-returns-in-Version-clause-spares g c =
-    spares _ _ refl (λ refused. absurd (c.do_version.ensures.status refused)) (λ memory. absurd (c.do_version.ensures.no_memory memory))
