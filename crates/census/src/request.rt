@@ -142,97 +142,17 @@ fn do_pattern_request<R: Read, W: Write, E: Write>(
 {
     match request {
         Request::Run { generations, rule } => {
-            run_pattern(alloc, *generations, rule, input, output, errors)
+            do_run(alloc, *generations, rule.as_str(), input, output, errors)
         }
         Request::Name { profile, rule } => {
-            name_pattern(alloc, *profile, rule, input, output, errors)
+            let profile = numbers_for(*profile);
+            do_name(alloc, profile, rule.as_str(), input, output, errors)
         }
-        Request::Show { code } => show_code(alloc, code, output, errors),
-        Request::Soup { seed, number } => show_soup(alloc, seed, *number, output, errors),
+        Request::Show { code } => do_show(alloc, code.as_str(), output, errors),
+        Request::Soup { seed, number } => do_soup(alloc, seed.as_str(), *number, output, errors),
         Request::Version => do_version(output, errors),
         Request::Take { .. } | Request::Work { .. } | Request::Gather { .. } => unreachable!(),
     }
-}
-
-/// Runs the input's pattern under the rule of a text that a request names.
-fn run_pattern<R: Read, W: Write, E: Write>(
-    alloc: Global,
-    generations: u32,
-    rule: &words::text::Text<'_>,
-    input: &mut R,
-    output: &mut Out<W>,
-    errors: &mut Out<E>,
-) -> Status
-    requires request { AreInTheirRanges (request.Run generations rule.now) }
-    requires output { output.old.failed ≡ false }
-    requires errors { errors.old.failed ≡ false }
-    ensures ends { DoesRequest (R.remaining input.old) result
-        (stream W.contents output.old output.new) (stream E.contents errors.old errors.new)
-        (request.Run generations rule.now) }
-    ensures spares { Spares (request.Run generations rule.now) result
-        (input.new ≡ input.old) (output.new ≡ output.old) }
-{
-    do_run(alloc, generations, rule.as_str(), input, output, errors)
-}
-
-/// Says what becomes of the input's pattern, under the profile and the rule that a request names.
-fn name_pattern<R: Read, W: Write, E: Write>(
-    alloc: Global,
-    profile: words::request::ProfileNumbers,
-    rule: &words::text::Text<'_>,
-    input: &mut R,
-    output: &mut Out<W>,
-    errors: &mut Out<E>,
-) -> Status
-    requires request { AreInTheirRanges (request.Name profile rule.now) }
-    requires output { output.old.failed ≡ false }
-    requires errors { errors.old.failed ≡ false }
-    ensures ends { DoesRequest (R.remaining input.old) result
-        (stream W.contents output.old output.new) (stream E.contents errors.old errors.new)
-        (request.Name profile rule.now) }
-    ensures spares { Spares (request.Name profile rule.now) result
-        (input.new ≡ input.old) (output.new ≡ output.old) }
-{
-    let profile = numbers_for(profile);
-    do_name(alloc, profile, rule.as_str(), input, output, errors)
-}
-
-/// Draws the object of the code that a request names.
-fn show_code<W: Write, E: Write>(
-    alloc: Global,
-    code: &words::text::Text<'_>,
-    output: &mut Out<W>,
-    errors: &mut Out<E>,
-) -> Status
-    requires output { output.old.failed ≡ false }
-    requires errors { errors.old.failed ≡ false }
-    ensures ends { (known : Option (List ℕ)) (bytes : List ℕ)
-        → Ends (task_of (request.Show code.now)) known bytes result
-        (stream W.contents output.old output.new) (stream E.contents errors.old errors.new) }
-    ensures untouched { result ≡ Status.Refused → output.new ≡ output.old }
-    ensures no_memory { result ≡ Status.Memory → output.new ≡ output.old }
-{
-    do_show(alloc, code.as_str(), output, errors)
-}
-
-/// Draws the soup that a request names.
-fn show_soup<W: Write, E: Write>(
-    alloc: Global,
-    seed: &words::text::Text<'_>,
-    number: u64,
-    output: &mut Out<W>,
-    errors: &mut Out<E>,
-) -> Status
-    requires request { AreInTheirRanges (request.Soup seed.now number) }
-    requires output { output.old.failed ≡ false }
-    requires errors { errors.old.failed ≡ false }
-    ensures ends { (known : Option (List ℕ)) (bytes : List ℕ)
-        → Ends (task_of (request.Soup seed.now number)) known bytes result
-        (stream W.contents output.old output.new) (stream E.contents errors.old errors.new) }
-    ensures untouched { result ≡ Status.Refused → output.new ≡ output.old }
-    ensures no_memory { result ≡ Status.Memory → output.new ≡ output.old }
-{
-    do_soup(alloc, seed.as_str(), number, output, errors)
 }
 
 /// Takes the soups that a request names, by so many workers, with a line of progress if it is asked for.

@@ -59,8 +59,9 @@ pub record Collector : Type 0 where
 abbrev pub collector_with : ℕ → Received Note → Held → Collector
 collector_with awaited receiver haul = record { awaited = awaited; receiver = receiver; haul = haul }
 
--- Notes were received, each from one of the workers, and those that say so are done. Once no worker is awaited the last note
--- was such a one. Of the reports received the haul has taken some: all that the book takes if `answered`, and else one was lost.
+-- Notes were received from the workers, and so many fewer are awaited as say that they are done; if none is awaited any more, the
+-- last note says so. Of the reports among the notes the haul has taken some: all that the book takes if `answered`, and else one
+-- was lost.
 pub record Collected (before after : Collector) (answered : Bool) : Type 0 where
   pub notes : List (ℕ × Note)
   pub belt : after.receiver.belt ≡ before.receiver.belt

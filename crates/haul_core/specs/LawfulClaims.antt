@@ -32,21 +32,21 @@ pub record IsCount (object : List ℕ × ℕ) : Type 0 where
   pub some : 1 ≤ object.1
   pub fits : object.1 < 2 ^ 64
 
--- the mark is told in version 2, and not in version 1
+-- the mark stands in version 2, and not in version 1
 abbrev pub IsMark : ℕ → Option Bool → Type 0
 IsMark version None = version ≡ 1
 IsMark version (Some for_good) = version ≡ 2
 
 -- what a line may say of a soup that settled; codes stand in ASCII order, each once
-pub record IsSaid (version : ℕ) (told : SaidOfSoup) : Type 0 where
-  pub checkpoint : told.checkpoint ≤ 100000
-  pub mark : IsMark version told.for_good
-  pub counts : All IsCount told.counts
-  pub in_order : IsStrictlySortedBy (slice_cmp nat_cmp) (keys_of told.counts)
+pub record IsSaid (version : ℕ) (said : SaidOfSoup) : Type 0 where
+  pub checkpoint : said.checkpoint ≤ 100000
+  pub mark : IsMark version said.for_good
+  pub counts : All IsCount said.counts
+  pub in_order : IsStrictlySortedBy (slice_cmp nat_cmp) (keys_of said.counts)
 
 abbrev pub IsFound : ℕ → Option SaidOfSoup → Type 0
 IsFound version None = Unit {0}
-IsFound version (Some told) = IsSaid version told
+IsFound version (Some said) = IsSaid version said
 
 -- what a line may say, right or wrong
 pub record IsClaim (claim : Claimed) : Type 0 where

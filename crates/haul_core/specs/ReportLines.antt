@@ -42,7 +42,7 @@ count_field object = object.0 ++ (codes "*" ++ decimal object.1)
 -- what was found
 unfoldable pub found_fields : Option SaidOfSoup → List (List ℕ)
 found_fields None = codes "unsettled" ∷ []
-found_fields (Some told) = (codes "at=" ++ decimal told.checkpoint) ∷ (mark_fields told.for_good ++ map count_field told.counts)
+found_fields (Some said) = (codes "at=" ++ decimal said.checkpoint) ∷ (mark_fields said.for_good ++ map count_field said.counts)
 
 -- the one line of a claim, without the line feed that ends it
 unfoldable pub claim_line : Claimed → List ℕ

@@ -1,4 +1,3 @@
-pub mod NeighbourhoodLemmas
 pub mod BoardLemmas
 pub mod BoundsLemmas
 pub mod CellLemmas
@@ -8,11 +7,13 @@ pub mod CommuteLemmas
 pub mod ForestLemmas
 pub mod GatherLemmas
 pub mod GenerationLemmas
+pub mod GlanceLemmas
 pub mod LayLemmas
 pub mod LayoutLemmas
 pub mod LoadLemmas
 pub mod MergeLemmas
 pub mod NeighbourLemmas
+pub mod NeighbourhoodLemmas
 pub mod OrientationLemmas
 pub mod OutLemmas
 pub mod PartLemmas
@@ -36,5 +37,4 @@ pub mod SetLemmas
 pub mod SpeedLemmas
 pub mod TallyLemmas
 pub mod TurnLemmas
-pub mod WindowLemmas
 pub mod WordLemmas

@@ -56,8 +56,8 @@ abbrev pub at_corner : List Cell → List Cell
 at_corner cells = cornered (box_of cells) cells
 
 -- The answer is a shift that makes S into T, if there is one. A pattern with a cell has no other; for two empty ones it is (0, 0).
-pub record TellsShift (S T : List Cell) (told : Option (ℤ × ℤ)) : Type 0 where
-  pub some : IfSome told (λ v. shifted v.0 v.1 S ≡ T)
-  pub none : IfNone told ((dx dy : ℤ) → shifted dx dy S ≢ T)
-  pub only : (dx dy : ℤ) → S ≢ [] → shifted dx dy S ≡ T → told ≡ Some (dx, dy)
-  pub empty : S ≡ [] → T ≡ [] → told ≡ Some (pos 0, pos 0)
+pub record TellsShift (S T : List Cell) (found : Option (ℤ × ℤ)) : Type 0 where
+  pub some : IfSome found (λ v. shifted v.0 v.1 S ≡ T)
+  pub none : IfNone found ((dx dy : ℤ) → shifted dx dy S ≢ T)
+  pub only : (dx dy : ℤ) → S ≢ [] → shifted dx dy S ≡ T → found ≡ Some (dx, dy)
+  pub empty : S ≡ [] → T ≡ [] → found ≡ Some (pos 0, pos 0)

@@ -10,13 +10,17 @@ mod board;
 pub mod bounds;
 /// Cells of the plane, and their order.
 pub mod cell;
+mod change;
 /// Clusters: the objects that a pattern falls into.
 pub mod clusters;
 /// Sums and differences of coordinates.
 pub mod coordinate;
 mod forest;
+mod frame;
 /// The next generation, and later ones.
 pub mod generation;
+/// Whether a small pattern is seen not to come back.
+pub mod glance;
 mod layout;
 /// The eight orientations.
 pub mod orientation;
@@ -25,6 +29,7 @@ pub mod output;
 mod parts;
 /// Patterns: finite sets of cells.
 pub mod pattern;
+mod place;
 /// Patterns moved on the plane.
 pub mod placement;
 /// Plaintext pattern files.
@@ -34,6 +39,4 @@ pub mod rule;
 /// The shift from one pattern to another.
 pub mod shift_to;
 mod tally;
-/// Whether a small pattern is seen not to come back.
-pub mod window;
 mod word;

@@ -2,7 +2,7 @@ use Rattle.std.proofs.Common.{List, subst}
 use Rattle.plane_core.specs.declared.cell.Cell.{Cell}
 use Rattle.plane_core.specs.Generations.{NeverBack, after}
 use Rattle.plane_core.specs.Layouts.{HasRoom}
-use Rattle.plane_core.proofs.WindowLemmas.{inside_edge_of}
+use Rattle.plane_core.proofs.GlanceLemmas.{inside_edge_of}
 use Rattle.plane_core.proofs.pattern.Pattern.is_seen_to_change.Goals as goal
 
 pub returns-clause-new : goal.returns-clause-new

@@ -1,0 +1,17 @@
+-- How a request was done, by how its command ended.
+use Rattle.std.proofs.Common.{◌≡◌, ℕ, List, Option, subst}
+use Rattle.pattern_commands.specs.declared.status.Status.{Status}
+use Rattle.pattern_commands.specs.Ends.{Ends}
+use Rattle.pattern_commands.specs.Streams.{Stream}
+use Rattle.pattern_commands.specs.Tasks.{Task}
+use Rattle.pattern_commands.proofs.AnswerLemmas.{some_input}
+use Rattle.words.specs.declared.request.Request.{Request}
+use Rattle.census.specs.Requests.{DoesRequest, task_of}
+
+-- a command that was to do what the request asks for did it, whatever the input
+pub does : {known : Option (List ℕ)} {status : Status} {output errors : Stream} (request : Request) (task : Task)
+    → task ≡ task_of request → ((known : Option (List ℕ)) (bytes : List ℕ) → Ends task known bytes status output errors)
+    → DoesRequest known status output errors request
+does {known} {status} {output} {errors} request task is ends =
+    let some = some_input known in
+    record { bytes = some.0; input = some.1; ends = subst (λ (t : Task). Ends t known some.0 status output errors) is (ends known some.0) }

@@ -1,0 +1,30 @@
+-- Where the cells of a board lie on the plane.
+use Rattle.std.specs.Prelude.{◌≡◌, ◌==◌, ◌+◌, ◌*◌, ◌<◌, ◌≤◌, ◌^◌, ℕ, ◌+ℤ◌, pos, List, length, slice_index, true, unsigned_abs}
+use Rattle.std.specs.Int.{bit_at}
+use Rattle.plane_core.specs.declared.frame.Frame.{Frame}
+use Rattle.plane_core.specs.declared.cell.Cell.{Cell}
+use Rattle.plane_core.specs.Cells.{cell_at, has}
+
+-- the cell that bit i of row r of lane s is
+abbrev pub cell_of : Frame → ℕ → ℕ → ℕ → Cell
+cell_of at s r i = cell_at (at.left +ℤ pos (64 * s + i)) (at.top +ℤ pos r)
+
+-- that row's place in the list of words
+abbrev pub word_of : Frame → ℕ → ℕ → ℕ
+word_of at s r = s * at.rows + r
+
+-- on the board, the bits that are 1 are the cells of the list
+abbrev pub Shows : Frame → List ℕ → List Cell → Type 0
+Shows at words cells = (s r i : ℕ) → s < at.lanes → r < at.rows → i < 64
+    → has cells (cell_of at s r i) ≡ (bit_at (slice_index words (word_of at s r)) i == 1)
+
+-- a frame round cells of the plane
+pub record IsFrame (at : Frame) : Type 0 where
+  pub left : unsigned_abs at.left ≤ 2 ^ 21
+  pub top : unsigned_abs at.top ≤ 2 ^ 21
+  pub lanes : at.lanes ≤ 2 ^ 16
+  pub rows : at.rows ≤ 2 ^ 22
+
+-- a board has a word for each row of each lane
+abbrev pub FillsFrame : Frame → List ℕ → Type 0
+FillsFrame at words = length words ≡ at.lanes * at.rows
