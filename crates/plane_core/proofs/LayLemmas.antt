@@ -22,7 +22,7 @@ fewer_sides m n b low h = record {
 }
 
 -- all cells of a pattern lie in its box
-in_box : (S : List Cell) (b : Bounds) (c : Cell) → IsLeastBox S b → has S c ≡ true → IsWithin b c
+pub in_box : (S : List Cell) (b : Bounds) (c : Cell) → IsLeastBox S b → has S c ≡ true → IsWithin b c
 in_box S b c least e = has-all (IsWithin b) S c (recursion_from_All (IsWithin b) S least.within) e
 
 pub room_round : (S : List Cell) (b : Bounds) (at : Layout) (n : ℕ) → IsLeastBox S b → ((c : Cell) → IsWithin b c → IsWithin (room at n) c) → HasRoom at n S

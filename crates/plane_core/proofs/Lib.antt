@@ -5,6 +5,7 @@ pub mod ClusterLaws
 pub mod ClusterLemmas
 pub mod CommuteLemmas
 pub mod ForestLemmas
+pub mod FrameLemmas
 pub mod GatherLemmas
 pub mod GenerationLemmas
 pub mod GlanceLemmas

@@ -1,8 +1,10 @@
--- Where the cells of a board lie on the plane.
-use Rattle.std.specs.Prelude.{◌≡◌, ◌==◌, ◌+◌, ◌*◌, ◌<◌, ◌≤◌, ◌^◌, ℕ, ◌+ℤ◌, pos, List, length, slice_index, true, unsigned_abs}
+-- A board: a rectangle of cells in words, a word for each row of a lane of 64 columns, and where its cells lie on the plane.
+use Rattle.std.specs.Prelude.{◌≡◌, ◌==◌, ◌+◌, ◌*◌, ◌/◌, ◌<◌, ◌≤◌, ◌^◌, ℕ, ◌+ℤ◌, ◌-ℤ◌, pos, List, length, slice_index, true, unsigned_abs}
 use Rattle.std.specs.Int.{bit_at}
+use Rattle.plane_core.specs.declared.bounds.Bounds.{Bounds}
 use Rattle.plane_core.specs.declared.frame.Frame.{Frame}
 use Rattle.plane_core.specs.declared.cell.Cell.{Cell}
+use Rattle.plane_core.specs.Bounds.{IsWithin}
 use Rattle.plane_core.specs.Cells.{cell_at, has}
 
 -- the cell that bit i of row r of lane s is
@@ -24,7 +26,22 @@ pub record IsFrame (at : Frame) : Type 0 where
   pub top : unsigned_abs at.top ≤ 2 ^ 21
   pub lanes : at.lanes ≤ 2 ^ 16
   pub rows : at.rows ≤ 2 ^ 22
+  pub bands : at.rows ≡ 8 * (at.rows / 8)
 
 -- a board has a word for each row of each lane
 abbrev pub FillsFrame : Frame → List ℕ → Type 0
 FillsFrame at words = length words ≡ at.lanes * at.rows
+
+-- the board's rectangle
+abbrev pub bounds_of : Frame → Bounds
+bounds_of at = record {
+  left = at.left;
+  top = at.top;
+  right = at.left +ℤ (pos (64 * at.lanes) -ℤ pos 1);
+  bottom = at.top +ℤ (pos at.rows -ℤ pos 1);
+}
+
+-- all cells lie in it
+abbrev pub LieOn : Frame → List Cell → Type 0
+LieOn at cells = (c : Cell) → has cells c ≡ true → IsWithin (bounds_of at) c
+

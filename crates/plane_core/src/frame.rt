@@ -8,12 +8,152 @@
 //! row 1    word 1                 word 1 + rows
 //! row 2    word 2                 word 2 + rows
 //! ```
+ghost use Rattle.std.specs.Prelude.{◌≡◌, ◌+◌, ◌*◌, ◌<◌, ◌≤◌, ◌^◌, ◌-ℤ◌, IfSome, OnSome, ◌-◌, true, false, pos};
+ghost use Rattle.std.specs.Prelude.{unsigned_abs};
+ghost use Rattle.plane_core.specs.Bounds.{IsWithin};
+ghost use Rattle.plane_core.specs.Cells.{plane_bound};
+ghost use Rattle.plane_core.specs.Frames.{IsFrame, LieOn, bounds_of, cell_of, word_of};
+ghost use Rattle.plane_core.specs.Generations.{lies_within};
+ghost use Rattle.plane_core.specs.Layouts.{AreSidesWithin};
+ghost use Rattle.plane_core.specs.declared.cell.Cell.{Cell};
 
-/// Where a board lies: its first column and row, how many lanes of 64 columns it has, and how many rows.
+use crate::bounds::Bounds;
+use crate::cell::{BOUND, Cell};
+use crate::coordinate::{apart, back};
+use crate::pattern::Pattern;
+
+/// Where a board lies: its first column and row, how many lanes of 64 columns it has, and how many rows. The rows are a
+/// multiple of eight.
 #[derive(Clone, Copy)]
 pub(crate) struct Frame {
     pub(crate) left: i32,
     pub(crate) top: i32,
     pub(crate) lanes: usize,
     pub(crate) rows: usize,
+}
+
+/// How many columns and rows a board has more on each side than what its pattern may reach: windows that cover a cell
+/// reach no further.
+const MARGIN: u32 = 64;
+
+impl Frame {
+    /// A frame round the pattern that is mostly large enough for so many generations, if a board is worth it: the
+    /// pattern has a cell, it won't get to the edge of the plane, and there are not many more words than cells.
+    pub(crate) fn round(pattern: &Pattern, generations: u32) -> Option<Frame>
+        requires { generations ≤ 1000 }
+        ensures frame { IfSome result IsFrame }
+        ensures on { IfSome result (λ at. LieOn at pattern.now) }
+        ensures inside { OnSome result (lies_within (plane_bound - generations) pattern.now ≡ true) }
+    {
+        let bounds = pattern.bounds()?;
+        if farthest(bounds) > BOUND - generations {
+            return None;
+        }
+        let at = Frame::round_box(bounds, generations + MARGIN);
+        if at.is_sparse(pattern.population()) {
+            return None;
+        }
+        Some(at)
+    }
+
+    /// A frame round the pattern for one generation, if there are at most eight words a cell.
+    pub(crate) fn for_a_step(pattern: &Pattern) -> Option<Frame>
+        ensures frame { IfSome result IsFrame }
+        ensures on { IfSome result (λ at. LieOn at pattern.now) }
+        ensures inside { OnSome result (lies_within (plane_bound - 1) pattern.now ≡ true) }
+    {
+        let at = Frame::round(pattern, 1)?;
+        if at.count() / 8 > pattern.population() {
+            return None;
+        }
+        Some(at)
+    }
+
+    /// A frame round the box, with so many columns and rows more on each side, and then some.
+    fn round_box(bounds: Bounds, margin: u32) -> Frame
+        requires margin { margin ≤ 2000 }
+        requires sides { AreSidesWithin plane_bound bounds }
+        ensures frame { IsFrame result }
+        ensures on { (c : Cell) → IsWithin bounds c → IsWithin (bounds_of result) c }
+    {
+        let width = apart(bounds.left, bounds.right) + 2 * margin + 1;
+        let height = apart(bounds.top, bounds.bottom) + 2 * margin + 1;
+        Frame {
+            left: back(bounds.left, margin),
+            top: back(bounds.top, margin),
+            lanes: (width / 64 + 1) as usize,
+            rows: (height / 8 * 8 + 8) as usize,
+        }
+    }
+
+    /// Whether there are many more words than cells: over 262,144, which take 2 megabytes, and 256 a cell.
+    fn is_sparse(self, population: usize) -> bool
+        requires { IsFrame self }
+        ensures { result ≡ false → self.lanes * self.rows ≤ 256 * population + 262400 }
+    {
+        let count = self.count();
+        count > 262_144 && (count - 262_144) / 256 > population
+    }
+
+    /// How many words there are.
+    pub(crate) fn count(self) -> usize
+        requires { IsFrame self }
+        ensures count { result ≡ self.lanes * self.rows }
+        ensures small { result < 2 ^ 40 }
+    {
+        self.lanes * self.rows
+    }
+
+    /// The place of a row of a lane in the list of words.
+    pub(crate) fn index(self, lane: usize, row: usize) -> usize
+        requires frame { IsFrame self }
+        requires lane { lane < self.lanes }
+        requires row { row < self.rows }
+        ensures index { result ≡ word_of self lane row }
+        ensures inside { result < self.lanes * self.rows }
+        ensures small { result < 2 ^ 40 }
+    {
+        lane * self.rows + row
+    }
+
+    /// The first cell of a row of a lane.
+    pub(crate) fn corner(self, lane: usize, row: usize) -> Cell
+        requires frame { IsFrame self }
+        requires lane { lane < self.lanes }
+        requires row { row < self.rows }
+        ensures corner { result ≡ cell_of self lane row 0 }
+        ensures small { unsigned_abs result.x ≤ 2 ^ 24 }
+    {
+        Cell {
+            x: self.left + (64 * lane) as i32,
+            y: self.top + row as i32,
+        }
+    }
+
+    /// How many columns of the board are left of the cell.
+    pub(crate) fn across(self, cell: Cell) -> usize
+        requires frame { IsFrame self }
+        requires within { IsWithin (bounds_of self) cell }
+        ensures { pos result ≡ cell.x -ℤ self.left }
+    {
+        (cell.x - self.left) as usize
+    }
+
+    /// How many rows of the board are above the cell.
+    pub(crate) fn down(self, cell: Cell) -> usize
+        requires frame { IsFrame self }
+        requires within { IsWithin (bounds_of self) cell }
+        ensures { pos result ≡ cell.y -ℤ self.top }
+    {
+        (cell.y - self.top) as usize
+    }
+}
+
+/// How far the sides of a box are from the origin, at most.
+fn farthest(bounds: Bounds) -> u32
+    ensures { AreSidesWithin result bounds }
+{
+    let across = bounds.left.unsigned_abs().max(bounds.right.unsigned_abs());
+    let down = bounds.top.unsigned_abs().max(bounds.bottom.unsigned_abs());
+    across.max(down)
 }

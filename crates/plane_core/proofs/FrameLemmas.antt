@@ -1,0 +1,103 @@
+-- Where cells stand on a board, and a frame round a pattern.
+use Rattle.std.proofs.Common.{◌≡◌, ◌≢◌, ◌+◌, ◌-◌, ◌*◌, ◌/◌, ◌%◌, ◌^◌, ◌<◌, ◌≤◌, ℕ, pos, ◌+ℤ◌, ◌-ℤ◌, true, List}
+use Rattle.std.proofs.Common.{arith, ap, sym, subst, inl, inr, ◌⊎◌, unsigned_abs}
+use Rattle.std.proofs.lemmas.Int.{ints}
+use Rattle.std.proofs.Math.Nat.{mul-le-mul}
+use Rattle.plane_core.specs.declared.frame.Frame.{Frame}
+use Rattle.plane_core.specs.declared.bounds.Bounds.{Bounds}
+use Rattle.plane_core.specs.declared.cell.Cell.{Cell}
+use Rattle.plane_core.specs.Bounds.{IsWithin, IsLeastBox}
+use Rattle.plane_core.specs.Cells.{plane_bound, distance, has}
+use Rattle.plane_core.specs.Frames.{IsFrame, LieOn, bounds_of, cell_of, word_of}
+use Rattle.plane_core.specs.Layouts.{AreSidesWithin}
+use Rattle.plane_core.proofs.BoardLemmas.{less_or_not, same_or_not}
+use Rattle.plane_core.proofs.LayLemmas.{in_box}
+use Rattle.plane_core.proofs.LayoutLemmas.{same_cells}
+
+-- ---- places in the list
+
+-- a row's place in the list is inside it, and isn't large
+pub word-inside : (at : Frame) (s r : ℕ) → s < at.lanes → r < at.rows → word_of at s r < at.lanes * at.rows
+word-inside at s r hs hr =
+    let many : at.lanes ≡ s + 1 + (at.lanes - (s + 1)) = omega arith in
+    let whole : at.lanes * at.rows ≡ (s + 1 + (at.lanes - (s + 1))) * at.rows = ap (λ (m : ℕ). m * at.rows) many in
+    omega (arith, whole)
+
+pub frame-small : (at : Frame) → IsFrame at → at.lanes * at.rows ≤ 2 ^ 16 * 2 ^ 22
+frame-small at frame = mul-le-mul frame.lanes frame.rows
+
+-- two rows have one place in the list only if they are one
+pub one_word : (h s r t y : ℕ) → s * h + r ≡ t * h + y → r < h → y < h → (s ≡ t) × (r ≡ y)
+one_word h s r t y e hr hy = go (same_or_not s t)
+  where
+    before : (a b u v : ℕ) → a * h + u ≡ b * h + v → u < h → v < h → a < b → ⊥
+    before a b u v e hu hv low =
+        let more : b ≡ a + 1 + (b - (a + 1)) = omega arith in
+        let whole : b * h ≡ (a + 1 + (b - (a + 1))) * h = ap (λ (m : ℕ). m * h) more in
+        omega (arith, whole)
+
+    go : (s ≡ t) ⊎ (s ≢ t) → (s ≡ t) × (r ≡ y)
+    go (inl same) = (same, let whole : s * h ≡ t * h = ap (λ (m : ℕ). m * h) same in omega (arith, whole))
+    go (inr apart) = elim (less_or_not s t) [
+      | inl low ↦ absurd (before s t r y e hr hy low)
+      | inr high ↦ absurd (before t s y r (sym e) hy hr (omega arith))
+    ]
+
+-- ---- cells
+
+-- the cell so many columns and rows away from the board's corner
+pub spot_of : (at : Frame) (c : Cell) (a d : ℕ) → pos a ≡ c.x -ℤ at.left → pos d ≡ c.y -ℤ at.top → c ≡ cell_of at (a / 64) d (a % 64)
+spot_of at c a d p q = same_cells c.x c.y _ _ (omega (arith, ints)) (omega (arith, ints))
+
+pub one_spot : (at : Frame) (t y k s d i : ℕ) → k < 64 → i < 64 → cell_of at t y k ≡ cell_of at s d i → (t ≡ s) × (y ≡ d) × (k ≡ i)
+one_spot at t y k s d i hk hi e =
+    let x : at.left +ℤ pos (64 * t + k) ≡ at.left +ℤ pos (64 * s + i) = ap (λ (c : Cell). c.x) e in
+    let z : at.top +ℤ pos y ≡ at.top +ℤ pos d = ap (λ (c : Cell). c.y) e in
+    (omega (arith, ints), omega (arith, ints), omega (arith, ints))
+
+-- a cell on the board stands in one of its lanes and rows
+pub spot_inside : (at : Frame) (c : Cell) (a d : ℕ) → IsWithin (bounds_of at) c → pos a ≡ c.x -ℤ at.left → pos d ≡ c.y -ℤ at.top
+    → (a / 64 < at.lanes) × (d < at.rows)
+spot_inside at c a d within p q =
+    let right = within.right in
+    let bottom = within.bottom in
+    (omega (arith, ints), omega (arith, ints))
+
+-- ---- a frame round a pattern
+
+pub lie_on : (S : List Cell) (b : Bounds) (at : Frame) → IsLeastBox S b → ((c : Cell) → IsWithin b c → IsWithin (bounds_of at) c) → LieOn at S
+lie_on S b at least h c e = h c (in_box S b c least e)
+
+-- a frame that is made so
+pub record IsRoundBox (b : Bounds) (margin : ℕ) (at : Frame) : Type 0 where
+  pub left : at.left ≡ b.left -ℤ pos margin
+  pub top : at.top ≡ b.top -ℤ pos margin
+  pub lanes : at.lanes ≡ (distance b.left b.right + 2 * margin + 1) / 64 + 1
+  pub rows : at.rows ≡ (distance b.top b.bottom + 2 * margin + 1) / 8 * 8 + 8
+
+pub round_is_frame : (b : Bounds) (margin : ℕ) (at : Frame) → margin ≤ 2000 → AreSidesWithin plane_bound b → IsRoundBox b margin at → IsFrame at
+round_is_frame b margin at low sides is =
+    let sl = sides.left in
+    let st = sides.top in
+    let sr = sides.right in
+    let sd = sides.bottom in
+    record {
+      left = let p = is.left in omega (arith, ints);
+      top = let p = is.top in omega (arith, ints);
+      lanes = let p = is.lanes in omega (arith, ints);
+      rows = let p = is.rows in omega (arith, ints);
+      bands = let p = is.rows in omega arith;
+    }
+
+pub round_has_on : (b : Bounds) (margin : ℕ) (at : Frame) → IsRoundBox b margin at → (c : Cell) → IsWithin b c → IsWithin (bounds_of at) c
+round_has_on b margin at is c within =
+    let l = is.left in
+    let t = is.top in
+    let s = is.lanes in
+    let k = is.rows in
+    record {
+      left = let p = within.left in omega (arith, ints);
+      top = let p = within.top in omega (arith, ints);
+      right = let p = within.right in omega (arith, ints);
+      bottom = let p = within.bottom in omega (arith, ints);
+    }
