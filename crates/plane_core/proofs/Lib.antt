@@ -4,6 +4,7 @@ pub mod CellLemmas
 pub mod ClusterLaws
 pub mod ClusterLemmas
 pub mod CommuteLemmas
+pub mod FillLemmas
 pub mod ForestLemmas
 pub mod FrameLemmas
 pub mod GatherLemmas
