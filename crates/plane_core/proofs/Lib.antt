@@ -13,6 +13,7 @@ pub mod GlanceLemmas
 pub mod LayLemmas
 pub mod LayoutLemmas
 pub mod LoadLemmas
+pub mod ListingLemmas
 pub mod MergeLemmas
 pub mod NeighbourLemmas
 pub mod NeighbourhoodLemmas

@@ -9,6 +9,7 @@ pub mod Frames
 pub mod Generations
 pub mod Glances
 pub mod Layouts
+pub mod Listing
 pub mod OrientationLaws
 pub mod Orientations
 pub mod Out

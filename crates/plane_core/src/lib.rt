@@ -22,6 +22,7 @@ pub mod generation;
 /// Whether a small pattern is seen not to come back.
 pub mod glance;
 mod layout;
+mod listing;
 mod loading;
 /// The eight orientations.
 pub mod orientation;

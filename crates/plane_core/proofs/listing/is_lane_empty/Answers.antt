@@ -1,0 +1,8 @@
+use Rattle.std.proofs.lemmas.Bool.{eqb-true}
+use Rattle.plane_core.proofs.ListingLemmas.{lane-empty}
+use Rattle.plane_core.proofs.listing.is_lane_empty.Goals as goal
+
+pub returns : goal.returns
+returns c = λ e.
+    lane-empty c.args.at c.args.words.now c.args.lane c.args.band c.index.result c.columns_of_eight.result c.index.ensures.index
+    (eqb-true c.columns_of_eight.result 0 e) c.columns_of_eight.ensures

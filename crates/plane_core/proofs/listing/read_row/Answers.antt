@@ -1,0 +1,24 @@
+use Rattle.std.proofs.Common.{ℕ, arith, ap, subst, slice_index}
+use Rattle.plane_core.specs.Listing.{HasReadRow}
+use Rattle.plane_core.proofs.ListingLemmas.{row-none, row-more, row-on}
+use Rattle.plane_core.proofs.listing.read_row.Goals as goal
+
+pub loop-lane-init : goal.loop-lane-init
+loop-lane-init c =
+    let at = c.args.at in
+    let words = c.args.words.now in
+    let old = c.args.cells.now.items in
+    row-on at words c.args.row 0 c.args.first old old c.requires.left (row-none at words c.args.row old)
+
+pub loop-lane-preserved : goal.loop-lane-preserved
+loop-lane-preserved c =
+    row-more c.args.at c.args.words.now c.loop-lane.lane c.args.row _ _ _ _ _ (omega arith) c.requires.row
+    (ap (λ (n : ℕ). slice_index c.args.words.now n) c.index.ensures.index) c.corner.ensures.corner c.loop-lane.invariant
+    c.in_ok-read_word.ensures
+
+pub returns : goal.returns
+returns c =
+    let old = c.args.cells.now.items in
+    let new = c.loop-lane.cells.items in
+    let read = subst (λ (n : ℕ). HasReadRow c.args.at c.args.words.now c.args.row old n new) (omega arith) c.loop-lane.invariant in
+    row-on c.args.at c.args.words.now c.args.row c.args.end c.args.at.lanes old new c.requires.right read

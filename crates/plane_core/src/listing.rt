@@ -1,0 +1,181 @@
+//! The cells of a board in a list, in their order: row by row, and each row from the left.
+//!
+//! The rows are gone through in bands of eight. Most bands have no live cell, and of the others most lanes, so that each is
+//! first seen to be empty or not by eight words at once.
+ghost use Rattle.std.specs.Prelude.{◌≡◌, ◌+◌, ◌*◌, ◌/◌, ◌<◌, ◌≤◌, ◌^◌, ◌-ℤ◌, ◌+ℤ◌, ℕ, List, length, pos};
+ghost use Rattle.std.specs.Prelude.{slice_index, IfNone, IfOk, IfSome, IsTrue, OnOk, unsigned_abs};
+ghost use Rattle.std.specs.Int.{bit_at};
+ghost use Rattle.plane_core.specs.Cells.{InOrder, cell_at};
+ghost use Rattle.plane_core.specs.Frames.{FillsFrame, IsFrame, LieOn, Shows};
+ghost use Rattle.plane_core.specs.Listing.{AreDead, HasRead, HasReadRow, HasReadRows, IsBandEmpty};
+ghost use Rattle.plane_core.specs.Listing.{IsLaneEmpty, IsNextAlive, IsRowEmpty};
+ghost use Rattle.plane_core.specs.declared.cell.Cell.{Cell};
+
+use crate::cell::Cell;
+use crate::frame::Frame;
+use crate::pattern::in_order;
+use std::alloc::{AllocError, Global};
+
+/// All cells of a board, for so many of which there is room from the start. They come in their order, so it costs little to
+/// see to that.
+pub(crate) fn list(alloc: Global, at: Frame, words: &[u64], room: usize) -> Result<Vec<Cell>, AllocError>
+    requires frame { IsFrame at }
+    requires long { FillsFrame at words.now }
+    ensures { IfOk result
+        (λ read. (cells : List Cell) → InOrder cells → LieOn at cells → Shows at words.now cells
+        → read.items ≡ cells) }
+{
+    let mut cells = Vec::with_capacity(alloc, room)?;
+    for band in 0..at.rows / 8 {
+        read_band(at, words, band, &mut cells)?;
+    }
+    Ok(in_order(cells))
+}
+
+/// Reads the cells of a word, whose first cell this is, and adds them to a list.
+fn read_word(word: u64, first: Cell, cells: &mut Vec<Cell>) -> Result<(), AllocError>
+    requires { unsigned_abs first.x ≤ 2 ^ 24 }
+    ensures { OnOk result (HasRead word first cells.old.items 64 cells.new.items) }
+{
+    let mut done = 0;
+    while let Some(i) = next_alive(word, done) {
+        cells.push(along(first, i))?;
+        done = i + 1;
+    }
+    Ok(())
+}
+
+/// The cell so many columns to the right.
+fn along(cell: Cell, columns: usize) -> Cell
+    requires cell { unsigned_abs cell.x ≤ 2 ^ 24 }
+    requires columns { columns < 64 }
+    ensures { result ≡ cell_at (cell.x +ℤ pos columns) cell.y }
+{
+    Cell {
+        x: cell.x + columns as i32,
+        y: cell.y,
+    }
+}
+
+/// Reads the cells of a row from the left, and adds them to a list. The lanes before the first and from the end on have
+/// none.
+fn read_row(
+    at: Frame,
+    words: &[u64],
+    row: usize,
+    first: usize,
+    end: usize,
+    cells: &mut Vec<Cell>,
+) -> Result<(), AllocError>
+    requires frame { IsFrame at }
+    requires row { row < at.rows }
+    requires long { FillsFrame at words.now }
+    requires order { first ≤ end }
+    requires end { end ≤ at.lanes }
+    requires left { IsRowEmpty at words.now row 0 first }
+    requires right { IsRowEmpty at words.now row end at.lanes }
+    ensures { OnOk result (HasReadRow at words.now row cells.old.items at.lanes cells.new.items) }
+{
+    for lane in first..end {
+        let word = words[at.index(lane, row)];
+        read_word(word, at.corner(lane, row), cells)?;
+    }
+    Ok(())
+}
+
+/// Reads the cells of a band of eight rows, row by row, and adds them to a list. Most bands are empty,
+/// and of the others most lanes, since a board is laid out for what its cells may become.
+fn read_band(
+    at: Frame,
+    words: &[u64],
+    band: usize,
+    cells: &mut Vec<Cell>,
+) -> Result<(), AllocError>
+    requires frame { IsFrame at }
+    requires band { band < at.rows / 8 }
+    requires long { FillsFrame at words.now }
+    ensures { OnOk result
+        (HasReadRows at words.now (8 * band) cells.old.items
+        → HasReadRows at words.now (8 * band + 8) cells.new.items) }
+{
+    let first = first_lane(at, words, band);
+    if first == at.lanes {
+        return Ok(());
+    }
+    let end = end_of_lanes(at, words, band, first);
+    for row in 8 * band..8 * band + 8 {
+        read_row(at, words, row, first, end, cells)?;
+    }
+    Ok(())
+}
+
+/// The first lane in which a cell of a band is alive. If there is none, it is how many lanes there are.
+fn first_lane(at: Frame, words: &[u64], band: usize) -> usize
+    requires frame { IsFrame at }
+    requires band { band < at.rows / 8 }
+    requires long { FillsFrame at words.now }
+    ensures most { result ≤ at.lanes }
+    ensures empty { IsBandEmpty at words.now band 0 result }
+{
+    let mut lane = 0;
+    while lane < at.lanes && is_lane_empty(at, words, lane, band) {
+        lane += 1;
+    }
+    lane
+}
+
+/// One more than the last lane, from this one on, in which a cell of a band is alive.
+fn end_of_lanes(at: Frame, words: &[u64], band: usize, first: usize) -> usize
+    requires frame { IsFrame at }
+    requires band { band < at.rows / 8 }
+    requires long { FillsFrame at words.now }
+    requires first { first ≤ at.lanes }
+    ensures least { first ≤ result }
+    ensures most { result ≤ at.lanes }
+    ensures empty { IsBandEmpty at words.now band result at.lanes }
+{
+    let mut end = at.lanes;
+    while end > first && is_lane_empty(at, words, end - 1, band) {
+        end -= 1;
+    }
+    end
+}
+
+/// Whether no cell of a band is alive in a lane.
+fn is_lane_empty(at: Frame, words: &[u64], lane: usize, band: usize) -> bool
+    requires frame { IsFrame at }
+    requires lane { lane < at.lanes }
+    requires band { band < at.rows / 8 }
+    requires long { FillsFrame at words.now }
+    ensures { IsTrue result → IsLaneEmpty at words.now band lane }
+{
+    columns_of_eight(words, at.index(lane, 8 * band)) == 0
+}
+
+/// Which columns have a live cell in eight words, from this one on.
+fn columns_of_eight(words: &[u64], from: usize) -> u64
+    requires { from + 8 ≤ length words.now }
+    ensures { (b k : ℕ) → bit_at result b ≡ 0 → k < 8 → bit_at (slice_index words.now (from + k)) b ≡ 0 }
+{
+    let mut columns = 0;
+    for k in 0..8 {
+        columns |= words[from + k];
+    }
+    columns
+}
+
+/// The first live cell of a word, from this place on: the first bit that is 1.
+fn next_alive(word: u64, from: usize) -> Option<usize>
+    requires { from ≤ 64 }
+    ensures some { IfSome result (IsNextAlive word from) }
+    ensures none { IfNone result (AreDead word from 64) }
+{
+    if from == 64 {
+        return None;
+    }
+    let remainder = word >> from;
+    if remainder == 0 {
+        return None;
+    }
+    Some(from + remainder.trailing_zeros() as usize)
+}
