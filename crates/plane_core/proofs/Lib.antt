@@ -17,6 +17,7 @@ pub mod ListingLemmas
 pub mod MergeLemmas
 pub mod NeighbourLemmas
 pub mod NeighbourhoodLemmas
+pub mod OnBoardLemmas
 pub mod OrientationLemmas
 pub mod OutLemmas
 pub mod PartLemmas

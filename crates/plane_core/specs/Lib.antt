@@ -10,6 +10,7 @@ pub mod Generations
 pub mod Glances
 pub mod Layouts
 pub mod Listing
+pub mod OnBoard
 pub mod OrientationLaws
 pub mod Orientations
 pub mod Out
