@@ -1,0 +1,36 @@
+-- A board that goes on by leaps.
+use Rattle.std.specs.Prelude.{◌≡◌, ◌%◌, ◌*◌, ℕ, Bool, true, All, List}
+use Rattle.plane_core.specs.declared.bounds.Bounds.{Bounds}
+use Rattle.plane_core.specs.declared.cell.Cell.{Cell}
+use Rattle.plane_core.specs.declared.frame.Frame.{Frame}
+use Rattle.plane_core.specs.Boxes.{HoldAll, IsQuiet, box_bound}
+use Rattle.plane_core.specs.Frames.{FillsFrame, IsFrame}
+use Rattle.plane_core.specs.Generations.{after}
+use Rattle.plane_core.specs.Layouts.{AreSidesWithin}
+use Rattle.plane_core.specs.OnBoard.{cells_on}
+use Rattle.plane_core.specs.Rules.{Numbers}
+use Rattle.plane_core.specs.Words.{life}
+
+-- a pattern under a rule
+pub record Running : Type 0 where
+  pub rule : Numbers
+  pub cells : List Cell
+
+-- what the boxes have to say before a leap of n generations
+pub record AreRightFor (rule : Numbers) (cells : List Cell) (boxes : List Bounds) (n : ℕ) : Type 0 where
+  pub even : n % 2 ≡ 0 → IsQuiet rule cells boxes
+  pub odd : n % 2 ≡ 1 → HoldAll boxes cells
+
+-- a board that was led on by n generations, with its boxes
+pub record HasLeapt (rule : Numbers) (at : Frame) (n : ℕ) (old new : List ℕ) (boxes : List Bounds) : Type 0 where
+  pub cells : cells_on at new ≡ after rule (cells_on at old) n
+  pub right : AreRightFor rule (cells_on at new) boxes n
+
+-- a board's words and boxes
+pub record IsBoard (at : Frame) (rule : Numbers) (is_life : Bool) (words : List ℕ) (boxes : List Bounds) (holds_all : Bool) : Type 0 where
+  pub frame : IsFrame at
+  pub life : is_life ≡ true → rule ≡ life
+  pub long : FillsFrame at words
+  pub sides : All (AreSidesWithin box_bound) boxes
+  pub quiet : IsQuiet rule (cells_on at words) boxes
+  pub all : holds_all ≡ true → HoldAll boxes (cells_on at words)
