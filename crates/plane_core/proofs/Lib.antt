@@ -1,5 +1,6 @@
 pub mod BoardLemmas
 pub mod BoundsLemmas
+pub mod BoxLemmas
 pub mod CellLemmas
 pub mod ClusterLaws
 pub mod ClusterLemmas
@@ -31,6 +32,7 @@ pub mod PlaintextRows
 pub mod PlaintextSmall
 pub mod PlaintextWalks
 pub mod PlaintextWriting
+pub mod QuietLemmas
 pub mod ReadLemmas
 pub mod RuleLemmas
 pub mod RuleNumbers

@@ -2,6 +2,7 @@ pub mod BoardReading
 pub mod BoardSteps
 pub mod Boards
 pub mod Bounds
+pub mod Boxes
 pub mod Cells
 pub mod Clusters
 pub mod Forest

@@ -1,0 +1,61 @@
+-- Boxes outside of which nothing changes from one generation to the next but one, and windows that cover them.
+use Rattle.std.specs.Prelude.{◌≡◌, ◌≢◌, ◌<◌, ◌≤◌, ℕ, true, List, Option, All, Any, IsSomeAnd, length, slice_index_or, unsigned_abs}
+use Rattle.plane_core.specs.declared.bounds.Bounds.{Bounds}
+use Rattle.plane_core.specs.declared.cell.Cell.{Cell}
+use Rattle.plane_core.specs.declared.change.Change.{Change}
+use Rattle.plane_core.specs.declared.place.Place.{Place}
+use Rattle.plane_core.specs.Bounds.{IsWithin, enlarged}
+use Rattle.plane_core.specs.Cells.{has}
+use Rattle.plane_core.specs.Generations.{after}
+use Rattle.plane_core.specs.Layouts.{AreSidesWithin}
+use Rattle.plane_core.specs.Places.{HoldsChange, IsCovered, IsInnerCell}
+use Rattle.plane_core.specs.Rules.{Numbers}
+
+-- how far from the origin the sides of a box may be, and of a rectangle of united boxes: no board reaches further
+abbrev pub box_bound : ℕ
+box_bound = 8388608
+
+abbrev pub rectangle_bound : ℕ
+rectangle_bound = 8388612
+
+-- the window begins so near to the origin that a box of its cells has its sides within the bound
+pub record IsInReach (p : Place) : Type 0 where
+  pub left : unsigned_abs p.left ≤ 6291456
+  pub top : unsigned_abs p.top ≤ 6291456
+
+-- the cell lies in one of the boxes
+abbrev pub IsInOne : List Bounds → Cell → Type 0
+IsInOne boxes c = Any (λ b. IsWithin b c) boxes
+
+-- the cell lies within n columns and rows of one of the boxes
+abbrev pub IsNearOne : ℕ → List Bounds → Cell → Type 0
+IsNearOne n boxes c = Any (λ b. IsWithin (enlarged n b) c) boxes
+
+-- each cell that is not within 2 of a box is the same two generations on
+abbrev pub IsQuiet : Numbers → List Cell → List Bounds → Type 0
+IsQuiet rule cells boxes = (c : Cell) → ¬ IsNearOne 2 boxes c → has (after rule cells 2) c ≡ has cells c
+
+-- each live cell lies in a box
+abbrev pub HoldAll : List Bounds → List Cell → Type 0
+HoldAll boxes cells = (c : Cell) → has cells c ≡ true → IsInOne boxes c
+
+-- each cell within 4 of a box lies in the inner part of a window
+abbrev pub AreCovered : List Place → List Bounds → Type 0
+AreCovered places boxes = (c : Cell) → IsNearOne 4 boxes c → IsCovered places c
+
+-- each cell that lies in no inner part is n generations on what it is
+abbrev pub IsStillOutside : Numbers → List Place → List Cell → ℕ → Type 0
+IsStillOutside rule places cells n = (c : Cell) → ¬ IsCovered places c → has (after rule cells n) c ≡ has cells c
+
+-- in each window the two patterns differ only as its change says
+abbrev pub HoldChanges : List Place → List Cell → List Cell → List Change → Type 0
+HoldChanges places one other changes = (k : ℕ) (p : Place) (d : Change) → k < length places
+    → HoldsChange (slice_index_or places k p) one other (slice_index_or changes k d)
+
+-- the box, if there is one, has each inner cell of the window in it in which the two patterns differ
+abbrev pub HoldsDifference : Place → List Cell → List Cell → Option Bounds → Type 0
+HoldsDifference p one other found = (c : Cell) → IsInnerCell p c → has one c ≢ has other c → IsSomeAnd found (λ b. IsWithin b c)
+
+-- each cell of an inner part in which the two patterns differ lies in one of the boxes
+abbrev pub HoldDifferences : List Place → List Cell → List Cell → List Bounds → Type 0
+HoldDifferences places one other boxes = (c : Cell) → IsCovered places c → has one c ≢ has other c → IsInOne boxes c
