@@ -5,12 +5,14 @@ pub mod ClusterLaws
 pub mod ClusterLemmas
 pub mod CommuteLemmas
 pub mod ForestLemmas
+pub mod FrontierLemmas
 pub mod GatherLemmas
 pub mod GenerationLemmas
 pub mod GlanceLemmas
 pub mod LayLemmas
 pub mod LayoutLemmas
 pub mod LoadLemmas
+pub mod LocalityLemmas
 pub mod MergeLemmas
 pub mod NeighbourLemmas
 pub mod NeighbourhoodLemmas

@@ -6,9 +6,11 @@ pub mod Cells
 pub mod Clusters
 pub mod Forest
 pub mod Frames
+pub mod Frontiers
 pub mod Generations
 pub mod Glances
 pub mod Layouts
+pub mod Locality
 pub mod OrientationLaws
 pub mod Orientations
 pub mod Out

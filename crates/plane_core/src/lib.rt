@@ -17,11 +17,15 @@ pub mod clusters;
 pub mod coordinate;
 mod forest;
 mod frame;
+/// How fast patterns grow in diagonal directions.
+pub mod frontier;
 /// The next generation, and later ones.
 pub mod generation;
 /// Whether a small pattern is seen not to come back.
 pub mod glance;
 mod layout;
+/// How far a cell sees.
+pub mod locality;
 /// The eight orientations.
 pub mod orientation;
 /// A writer that remembers that it failed.
