@@ -8,13 +8,16 @@ pub mod CommuteLemmas
 pub mod FillLemmas
 pub mod ForestLemmas
 pub mod FrameLemmas
+pub mod FrontierLemmas
 pub mod GatherLemmas
 pub mod GenerationLemmas
 pub mod GlanceLemmas
 pub mod LayLemmas
 pub mod LayoutLemmas
-pub mod LoadLemmas
+pub mod LeapLemmas
 pub mod ListingLemmas
+pub mod LoadLemmas
+pub mod LocalityLemmas
 pub mod MergeLemmas
 pub mod NeighbourLemmas
 pub mod NeighbourhoodLemmas

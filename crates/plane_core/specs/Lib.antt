@@ -7,10 +7,13 @@ pub mod Cells
 pub mod Clusters
 pub mod Forest
 pub mod Frames
+pub mod Frontiers
 pub mod Generations
 pub mod Glances
 pub mod Layouts
+pub mod Leaping
 pub mod Listing
+pub mod Locality
 pub mod OnBoard
 pub mod OrientationLaws
 pub mod Orientations

@@ -17,6 +17,8 @@ pub mod clusters;
 pub mod coordinate;
 mod forest;
 mod frame;
+/// How fast patterns grow in diagonal directions.
+pub mod frontier;
 /// The next generation, and later ones.
 pub mod generation;
 /// Whether a small pattern is seen not to come back.
@@ -24,6 +26,8 @@ pub mod glance;
 mod layout;
 mod listing;
 mod loading;
+/// How far a cell sees.
+pub mod locality;
 /// The eight orientations.
 pub mod orientation;
 /// A writer that remembers that it failed.

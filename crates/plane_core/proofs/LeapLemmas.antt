@@ -1,0 +1,120 @@
+-- A leap of a board: what it shows afterwards, and its boxes.
+use Rattle.std.proofs.Common.{◌≡◌, ◌≢◌, ◌==◌, ◌+◌, ◌-◌, ◌*◌, ◌/◌, ◌%◌, ◌<◌, ◌≤◌, ℕ, ℤ, zero, suc, pos, ◌-ℤ◌, ◌+ℤ◌, ◌≤ℤ◌, ◌<ℤ◌, Bool, true, false, List, [], ◌∷◌}
+use Rattle.std.proofs.Common.{arith, refl, ap, ◌∙◌, sym, subst, inl, inr, ◌⊎◌}
+use Rattle.std.specs.List.{Any, All}
+use Rattle.std.proofs.lemmas.Int.{ints, by_lt_z}
+use Rattle.plane_core.specs.declared.bounds.Bounds.{Bounds}
+use Rattle.plane_core.specs.declared.cell.Cell.{Cell}
+use Rattle.plane_core.specs.declared.frame.Frame.{Frame}
+use Rattle.plane_core.specs.declared.place.Place.{Place}
+use Rattle.plane_core.specs.Bounds.{IsWithin}
+use Rattle.plane_core.specs.Boxes.{AreCovered, HoldAll, HoldDifferences, IsNearOne, IsQuiet, IsStillOutside}
+use Rattle.plane_core.specs.Cells.{InOrder, has}
+use Rattle.plane_core.specs.Frames.{LieOn, Shows, bounds_of}
+use Rattle.plane_core.specs.Generations.{after}
+use Rattle.plane_core.specs.Leaping.{AreRightFor, HasLeapt}
+use Rattle.plane_core.specs.OnBoard.{cells_on}
+use Rattle.plane_core.specs.Places.{IsCovered, IsInnerCell, IsOnBoard, compared_with}
+use Rattle.plane_core.specs.Rules.{Numbers}
+use Rattle.plane_core.proofs.BoardLemmas.{same_or_not}
+use Rattle.plane_core.proofs.GenerationLemmas.{after-none}
+use Rattle.plane_core.proofs.OnBoardLemmas.{cells_in_order, cells_lie_on, only_cells}
+use Rattle.plane_core.proofs.QuietLemmas.{boxed-next, quiet-next, quiet-start, still_outside-held, still_outside-quiet}
+use Rattle.plane_core.proofs.RunLemmas.{after-plus, in_order-after}
+use Rattle.plane_core.proofs.SetLemmas.{same_lists}
+
+-- ---- the cells stay on the board
+
+-- that a cell lies in a box is known if it can't lie outside
+within_unless : (b : Bounds) (c : Cell) → ¬ (¬ IsWithin b c) → IsWithin b c
+within_unless b c h = record {
+  left = by_lt_z {P = b.left ≤ℤ c.x} c.x b.left (λ out. absurd (h (λ w. off b.left c.x out w.left))) (λ le. le);
+  top = by_lt_z {P = b.top ≤ℤ c.y} c.y b.top (λ out. absurd (h (λ w. off b.top c.y out w.top))) (λ le. le);
+  right = by_lt_z {P = c.x ≤ℤ b.right} b.right c.x (λ out. absurd (h (λ w. off c.x b.right out w.right))) (λ le. le);
+  bottom = by_lt_z {P = c.y ≤ℤ b.bottom} b.bottom c.y (λ out. absurd (h (λ w. off c.y b.bottom out w.bottom))) (λ le. le);
+}
+  where
+    off : (x y : ℤ) → y <ℤ x → x ≤ℤ y → ⊥
+    off x y low high = omega (arith, ints)
+
+-- an inner part lies on the board
+inner_on : (at : Frame) (p : Place) (c : Cell) → IsOnBoard at p → IsInnerCell p c → IsWithin (bounds_of at) c
+inner_on at p c on inner =
+    let l = on.left in
+    let t = on.top in
+    let lanes = on.lanes in
+    let rows = on.rows in
+    record {
+      left = let h = inner.left in omega (arith, ints);
+      top = let h = inner.top in omega (arith, ints);
+      right = let h = inner.right in omega (arith, ints);
+      bottom = let h = inner.bottom in omega (arith, ints);
+    }
+
+-- what lives after a leap lies on the board: in an inner part, or where it was alive before
+stays_on : (rule : Numbers) (at : Frame) (places : List Place) (S : List Cell) (n : ℕ) → ((c : Cell) → IsCovered places c → IsWithin (bounds_of at) c)
+    → IsStillOutside rule places S n → LieOn at S → LieOn at (after rule S n)
+stays_on rule at places S n inside still on c e =
+    within_unless (bounds_of at) c (λ out. out (on c (sym (still c (λ covered. out (inside c covered))) ∙ e)))
+
+-- ---- a leap
+
+odd_or_even : (n : ℕ) → (n % 2 ≡ 0) ⊎ (n % 2 ≡ 1)
+odd_or_even n = go (same_or_not (n % 2) 0)
+  where
+    go : (n % 2 ≡ 0) ⊎ (n % 2 ≢ 0) → (n % 2 ≡ 0) ⊎ (n % 2 ≡ 1)
+    go (inl even) = inl even
+    go (inr odd) = inr (omega arith)
+
+-- what lies in no inner part stays as it is
+pub still_for_leap : (rule : Numbers) (S : List Cell) (boxes : List Bounds) (places : List Place) (n : ℕ) → InOrder S → AreRightFor rule S boxes n
+    → AreCovered places boxes → 1 ≤ n → n ≤ 4 → IsStillOutside rule places S n
+still_for_leap rule S boxes places n o right covered low high = elim (odd_or_even n) [
+  | inl even ↦ still_outside-quiet rule S boxes places n o (right.even even) covered low high even
+  | inr odd ↦ still_outside-held rule S boxes places n (right.odd odd) covered high
+]
+
+-- so a board that shows the generation after the leap is one that has leapt
+pub has_leapt : (rule : Numbers) (at : Frame) (n : ℕ) (old new : List ℕ) (boxes later : List Bounds) (places : List Place)
+    → AreRightFor rule (cells_on at old) boxes n → AreCovered places boxes → 1 ≤ n → n ≤ 4
+    → ((c : Cell) → IsCovered places c → IsWithin (bounds_of at) c) → Shows at new (after rule (cells_on at old) n)
+    → HoldDifferences places (after rule (cells_on at old) n) (compared_with rule (cells_on at old) n) later
+    → HasLeapt rule at n old new later
+has_leapt rule at n old new boxes later places right covered low high inside shown differ = record {
+  cells = is;
+  right = subst (λ (T : List Cell). AreRightFor rule T later n) (sym is) record {
+    even = λ even. quiet-next rule S boxes later places n (cells_in_order at old) (right.even even) covered low high even differ;
+    odd = λ odd. boxed-next rule S boxes later places n (right.odd odd) covered high odd differ;
+  };
+}
+  where
+    S : List Cell
+    S = cells_on at old
+
+    on : LieOn at (after rule S n)
+    on = stays_on rule at places S n inside (still_for_leap rule S boxes places n (cells_in_order at old) right covered low high) (cells_lie_on at old)
+
+    is : cells_on at new ≡ after rule S n
+    is = only_cells at new (after rule S n) (in_order-after rule S n (cells_in_order at old)) on shown
+
+-- ---- without boxes
+
+-- where nothing lies in a box, two generations change nothing
+quiet_everywhere : (rule : Numbers) (S : List Cell) → InOrder S → IsQuiet rule S [] → after rule S 2 ≡ S
+quiet_everywhere rule S o quiet = same_lists (after rule S 2) S (in_order-after rule S 2 o) o (λ c. quiet c (none c))
+  where
+    none : (c : Cell) → ¬ IsNearOne 2 [] c
+    none c some = absurd (omega (arith, some))
+
+-- and so no even number of generations does
+pub still_forever : (rule : Numbers) (S : List Cell) (n : ℕ) → InOrder S → IsQuiet rule S [] → n % 2 ≡ 0 → after rule S n ≡ S
+still_forever rule S n o quiet even = ap (λ (m : ℕ). after rule S m) twice ∙ go (n / 2)
+  where
+    twice : n ≡ 2 * (n / 2)
+    twice = omega arith
+
+    go : (k : ℕ) → after rule S (2 * k) ≡ S
+    go zero = after-none rule S
+    go (suc k) =
+        ap (λ (m : ℕ). after rule S m) (omega arith) ∙ sym (after-plus rule S (2 * k) 2) ∙ ap (λ (T : List Cell). after rule T 2) (go k)
+        ∙ quiet_everywhere rule S o quiet
