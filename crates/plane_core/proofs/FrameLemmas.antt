@@ -1,6 +1,6 @@
 -- Where cells stand on a board, and a frame round a pattern.
 use Rattle.std.proofs.Common.{◌≡◌, ◌≢◌, ◌+◌, ◌-◌, ◌*◌, ◌/◌, ◌%◌, ◌^◌, ◌<◌, ◌≤◌, ℕ, pos, ◌+ℤ◌, ◌-ℤ◌, true, List}
-use Rattle.std.proofs.Common.{arith, ap, sym, subst, inl, inr, ◌⊎◌, unsigned_abs}
+use Rattle.std.proofs.Common.{◌≤ℤ◌, arith, refl, ap, sym, subst, inl, inr, ◌⊎◌, unsigned_abs}
 use Rattle.std.proofs.lemmas.Int.{ints}
 use Rattle.std.proofs.Math.Nat.{mul-le-mul}
 use Rattle.plane_core.specs.declared.frame.Frame.{Frame}
@@ -11,7 +11,7 @@ use Rattle.plane_core.specs.Cells.{plane_bound, distance, has}
 use Rattle.plane_core.specs.Frames.{IsFrame, LieOn, bounds_of, cell_of, word_of}
 use Rattle.plane_core.specs.Layouts.{AreSidesWithin}
 use Rattle.plane_core.proofs.BoardLemmas.{less_or_not, same_or_not}
-use Rattle.plane_core.proofs.LayLemmas.{in_box}
+use Rattle.plane_core.proofs.LayLemmas.{fewer_sides, in_box}
 use Rattle.plane_core.proofs.LayoutLemmas.{same_cells}
 
 -- ---- places in the list
@@ -68,6 +68,9 @@ spot_inside at c a d within p q =
 pub lie_on : (S : List Cell) (b : Bounds) (at : Frame) → IsLeastBox S b → ((c : Cell) → IsWithin b c → IsWithin (bounds_of at) c) → LieOn at S
 lie_on S b at least h c e = h c (in_box S b c least e)
 
+pub sides_on_plane : (b : Bounds) (margin : ℕ) → AreSidesWithin (plane_bound - margin - 64) b → AreSidesWithin plane_bound b
+sides_on_plane b margin sides = fewer_sides (plane_bound - margin - 64) plane_bound b (omega arith) sides
+
 -- a frame that is made so
 pub record IsRoundBox (b : Bounds) (margin : ℕ) (at : Frame) : Type 0 where
   pub left : at.left ≡ b.left -ℤ pos margin
@@ -75,7 +78,8 @@ pub record IsRoundBox (b : Bounds) (margin : ℕ) (at : Frame) : Type 0 where
   pub lanes : at.lanes ≡ (distance b.left b.right + 2 * margin + 1) / 64 + 1
   pub rows : at.rows ≡ (distance b.top b.bottom + 2 * margin + 1) / 8 * 8 + 8
 
-pub round_is_frame : (b : Bounds) (margin : ℕ) (at : Frame) → margin ≤ 2000 → AreSidesWithin plane_bound b → IsRoundBox b margin at → IsFrame at
+pub round_is_frame : (b : Bounds) (margin : ℕ) (at : Frame) → margin ≤ 2000 → AreSidesWithin (plane_bound - margin - 64) b → IsRoundBox b margin at
+    → IsFrame at
 round_is_frame b margin at low sides is =
     let sl = sides.left in
     let st = sides.top in
@@ -100,4 +104,33 @@ round_has_on b margin at is c within =
       top = let p = within.top in omega (arith, ints);
       right = let p = within.right in omega (arith, ints);
       bottom = let p = within.bottom in omega (arith, ints);
+    }
+
+-- the sides of a least box stand in their order
+pub box_in_order : (S : List Cell) (b : Bounds) → IsLeastBox S b → (b.left ≤ℤ b.right) × (b.top ≤ℤ b.bottom)
+box_in_order S b least =
+    let (k, x, low, same, left) = least.left in
+    let (j, y, few, here, top) = least.top in
+    let w : IsWithin b x = subst (λ (c : Cell). IsWithin b c) same (least.within k x low) in
+    let v : IsWithin b y = subst (λ (c : Cell). IsWithin b c) here (least.within j y few) in
+    (let h = w.right in omega (arith, ints, left), let h = v.bottom in omega (arith, ints, top))
+
+pub round_on_plane : (b : Bounds) (margin : ℕ) (at : Frame) → margin ≤ 2000 → b.left ≤ℤ b.right → b.top ≤ℤ b.bottom
+    → AreSidesWithin (plane_bound - margin - 64) b → IsRoundBox b margin at → AreSidesWithin plane_bound (bounds_of at)
+round_on_plane b margin at low across down sides is =
+    let l = is.left in
+    let t = is.top in
+    let s = is.lanes in
+    let k = is.rows in
+    let sl = sides.left in
+    let st = sides.top in
+    let sr = sides.right in
+    let sd = sides.bottom in
+    let right : (bounds_of at).right ≡ at.left +ℤ (pos (64 * at.lanes) -ℤ pos 1) = refl in
+    let bottom : (bounds_of at).bottom ≡ at.top +ℤ (pos at.rows -ℤ pos 1) = refl in
+    record {
+      left = omega (arith, ints);
+      top = omega (arith, ints);
+      right = omega (arith, ints);
+      bottom = omega (arith, ints);
     }

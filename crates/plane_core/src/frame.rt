@@ -8,7 +8,7 @@
 //! row 1    word 1                 word 1 + rows
 //! row 2    word 2                 word 2 + rows
 //! ```
-ghost use Rattle.std.specs.Prelude.{◌≡◌, ◌+◌, ◌*◌, ◌<◌, ◌≤◌, ◌^◌, ◌-ℤ◌, IfSome, OnSome, ◌-◌, true, false, pos};
+ghost use Rattle.std.specs.Prelude.{◌≡◌, ◌+◌, ◌*◌, ◌<◌, ◌≤◌, ◌^◌, ◌-ℤ◌, ◌≤ℤ◌, IfSome, OnSome, ◌-◌, true, false, pos};
 ghost use Rattle.std.specs.Prelude.{unsigned_abs};
 ghost use Rattle.plane_core.specs.Bounds.{IsWithin};
 ghost use Rattle.plane_core.specs.Cells.{plane_bound};
@@ -38,18 +38,20 @@ const MARGIN: u32 = 64;
 
 impl Frame {
     /// A frame round the pattern that is mostly large enough for so many generations, if a board is worth it: the
-    /// pattern has a cell, it won't get to the edge of the plane, and there are not many more words than cells.
+    /// pattern has a cell, the frame lies on the plane, and there are not many more words than cells.
     pub(crate) fn round(pattern: &Pattern, generations: u32) -> Option<Frame>
         requires { generations ≤ 1000 }
         ensures frame { IfSome result IsFrame }
+        ensures plane { IfSome result (λ at. AreSidesWithin plane_bound (bounds_of at)) }
         ensures on { IfSome result (λ at. LieOn at pattern.now) }
         ensures inside { OnSome result (lies_within (plane_bound - generations) pattern.now ≡ true) }
     {
         let bounds = pattern.bounds()?;
-        if farthest(bounds) > BOUND - generations {
+        let margin = generations + MARGIN;
+        if farthest(bounds) > BOUND - margin - 64 {
             return None;
         }
-        let at = Frame::round_box(bounds, generations + MARGIN);
+        let at = Frame::round_box(bounds, margin);
         if at.is_sparse(pattern.population()) {
             return None;
         }
@@ -59,6 +61,7 @@ impl Frame {
     /// A frame round the pattern for one generation, if there are at most eight words a cell.
     pub(crate) fn for_a_step(pattern: &Pattern) -> Option<Frame>
         ensures frame { IfSome result IsFrame }
+        ensures plane { IfSome result (λ at. AreSidesWithin plane_bound (bounds_of at)) }
         ensures on { IfSome result (λ at. LieOn at pattern.now) }
         ensures inside { OnSome result (lies_within (plane_bound - 1) pattern.now ≡ true) }
     {
@@ -72,8 +75,11 @@ impl Frame {
     /// A frame round the box, with so many columns and rows more on each side, and then some.
     fn round_box(bounds: Bounds, margin: u32) -> Frame
         requires margin { margin ≤ 2000 }
-        requires sides { AreSidesWithin plane_bound bounds }
+        requires across { bounds.left ≤ℤ bounds.right }
+        requires down { bounds.top ≤ℤ bounds.bottom }
+        requires sides { AreSidesWithin (plane_bound - margin - 64) bounds }
         ensures frame { IsFrame result }
+        ensures plane { AreSidesWithin plane_bound (bounds_of result) }
         ensures on { (c : Cell) → IsWithin bounds c → IsWithin (bounds_of result) c }
     {
         let width = apart(bounds.left, bounds.right) + 2 * margin + 1;

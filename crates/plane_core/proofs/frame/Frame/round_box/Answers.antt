@@ -1,7 +1,7 @@
-use Rattle.std.proofs.Common.{ap, ℕ, ◌+◌, ◌*◌, ◌/◌, rules, w32, FitsSigned}
+use Rattle.std.proofs.Common.{◌≤ℤ◌, ap, ℕ, ◌+◌, ◌*◌, ◌/◌, rules, w32, FitsSigned}
 use Rattle.std.proofs.lemmas.Int.{to_z-of_z}
 use Rattle.plane_core.proofs.CellLemmas.{passed_within}
-use Rattle.plane_core.proofs.FrameLemmas.{IsRoundBox, round_is_frame, round_has_on}
+use Rattle.plane_core.proofs.FrameLemmas.{IsRoundBox, round_is_frame, round_has_on, round_on_plane, sides_on_plane}
 use Rattle.plane_core.proofs.frame.Frame.round_box.Goals as goal
 
 is_round : (c : goal.After-back-2) → IsRoundBox c.args.bounds c.args.margin (record {
@@ -28,6 +28,18 @@ returns-clause-frame c =
     let top : FitsSigned w32 c.back-2.result = search rules in
     simp to_z-of_z (round_is_frame c.args.bounds c.args.margin _ c.requires.margin c.requires.sides (is_round c))
 
+pub returns-clause-plane : goal.returns-clause-plane
+returns-clause-plane c =
+    let left : FitsSigned w32 c.back.result = search rules in
+    let top : FitsSigned w32 c.back-2.result = search rules in
+    let l : FitsSigned w32 c.args.bounds.left = search rules in
+    let t : FitsSigned w32 c.args.bounds.top = search rules in
+    let r : FitsSigned w32 c.args.bounds.right = search rules in
+    let b : FitsSigned w32 c.args.bounds.bottom = search rules in
+    let across : c.args.bounds.left ≤ℤ c.args.bounds.right = simp to_z-of_z at c.requires.across in
+    let down : c.args.bounds.top ≤ℤ c.args.bounds.bottom = simp to_z-of_z at c.requires.down in
+    simp to_z-of_z (round_on_plane c.args.bounds c.args.margin _ c.requires.margin across down c.requires.sides (is_round c))
+
 pub returns-clause-on : goal.returns-clause-on
 returns-clause-on c =
     let left : FitsSigned w32 c.back.result = search rules in
@@ -35,19 +47,19 @@ returns-clause-on c =
     simp to_z-of_z (round_has_on c.args.bounds c.args.margin _ (is_round c))
 
 pub apart-requires-clause-a : goal.apart-requires-clause-a
-apart-requires-clause-a c = passed_within c.args.bounds.left (search rules) c.requires.sides.left
+apart-requires-clause-a c = passed_within c.args.bounds.left (search rules) (sides_on_plane c.args.bounds c.args.margin c.requires.sides).left
 
 pub apart-requires-clause-b : goal.apart-requires-clause-b
-apart-requires-clause-b c = passed_within c.args.bounds.right (search rules) c.requires.sides.right
+apart-requires-clause-b c = passed_within c.args.bounds.right (search rules) (sides_on_plane c.args.bounds c.args.margin c.requires.sides).right
 
 pub apart-requires-2-clause-a : goal.apart-requires-2-clause-a
-apart-requires-2-clause-a c = passed_within c.args.bounds.top (search rules) c.requires.sides.top
+apart-requires-2-clause-a c = passed_within c.args.bounds.top (search rules) (sides_on_plane c.args.bounds c.args.margin c.requires.sides).top
 
 pub apart-requires-2-clause-b : goal.apart-requires-2-clause-b
-apart-requires-2-clause-b c = passed_within c.args.bounds.bottom (search rules) c.requires.sides.bottom
+apart-requires-2-clause-b c = passed_within c.args.bounds.bottom (search rules) (sides_on_plane c.args.bounds c.args.margin c.requires.sides).bottom
 
 pub back-requires-clause-from : goal.back-requires-clause-from
-back-requires-clause-from c = passed_within c.args.bounds.left (search rules) c.requires.sides.left
+back-requires-clause-from c = passed_within c.args.bounds.left (search rules) (sides_on_plane c.args.bounds c.args.margin c.requires.sides).left
 
 pub back-requires-2-clause-from : goal.back-requires-2-clause-from
-back-requires-2-clause-from c = passed_within c.args.bounds.top (search rules) c.requires.sides.top
+back-requires-2-clause-from c = passed_within c.args.bounds.top (search rules) (sides_on_plane c.args.bounds c.args.margin c.requires.sides).top
