@@ -8,6 +8,7 @@ pub mod Forest
 pub mod Frames
 pub mod Generations
 pub mod Glances
+pub mod Lanes
 pub mod Layouts
 pub mod OrientationLaws
 pub mod Orientations
@@ -20,4 +21,5 @@ pub mod PlaintextWalk
 pub mod Refusals
 pub mod Rules
 pub mod Tallies
+pub mod Windows
 pub mod Words

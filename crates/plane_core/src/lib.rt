@@ -4,6 +4,7 @@
 //! for the finite set.
 #![tactic(auto)]
 
+mod answers;
 mod blocks;
 mod board;
 /// The least box round a pattern.
@@ -21,6 +22,7 @@ mod frame;
 pub mod generation;
 /// Whether a small pattern is seen not to come back.
 pub mod glance;
+mod lanes;
 mod layout;
 /// The eight orientations.
 pub mod orientation;
@@ -39,4 +41,5 @@ pub mod rule;
 /// The shift from one pattern to another.
 pub mod shift_to;
 mod tally;
+mod window;
 mod word;
