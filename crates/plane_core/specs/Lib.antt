@@ -10,6 +10,7 @@ pub mod Frames
 pub mod Frontiers
 pub mod Generations
 pub mod Glances
+pub mod Lanes
 pub mod Layouts
 pub mod Leaping
 pub mod Listing
@@ -26,4 +27,5 @@ pub mod PlaintextWalk
 pub mod Refusals
 pub mod Rules
 pub mod Tallies
+pub mod Windows
 pub mod Words
