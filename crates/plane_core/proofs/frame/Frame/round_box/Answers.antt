@@ -1,4 +1,4 @@
-use Rattle.std.proofs.Common.{◌≤ℤ◌, ap, ℕ, ◌+◌, ◌*◌, ◌/◌, rules, w32, FitsSigned}
+use Rattle.std.proofs.Common.{ap, ℕ, ◌+◌, ◌*◌, ◌/◌, rules, w32, FitsSigned}
 use Rattle.std.proofs.lemmas.Int.{to_z-of_z}
 use Rattle.plane_core.proofs.CellLemmas.{passed_within}
 use Rattle.plane_core.proofs.FrameLemmas.{IsRoundBox, round_is_frame, round_has_on, round_on_plane, sides_on_plane}
@@ -32,13 +32,7 @@ pub returns-clause-plane : goal.returns-clause-plane
 returns-clause-plane c =
     let left : FitsSigned w32 c.back.result = search rules in
     let top : FitsSigned w32 c.back-2.result = search rules in
-    let l : FitsSigned w32 c.args.bounds.left = search rules in
-    let t : FitsSigned w32 c.args.bounds.top = search rules in
-    let r : FitsSigned w32 c.args.bounds.right = search rules in
-    let b : FitsSigned w32 c.args.bounds.bottom = search rules in
-    let across : c.args.bounds.left ≤ℤ c.args.bounds.right = simp to_z-of_z at c.requires.across in
-    let down : c.args.bounds.top ≤ℤ c.args.bounds.bottom = simp to_z-of_z at c.requires.down in
-    simp to_z-of_z (round_on_plane c.args.bounds c.args.margin _ c.requires.margin across down c.requires.sides (is_round c))
+    simp to_z-of_z (round_on_plane c.args.bounds c.args.margin _ c.requires.margin c.requires.across c.requires.down c.requires.sides (is_round c))
 
 pub returns-clause-on : goal.returns-clause-on
 returns-clause-on c =
