@@ -1,27 +1,32 @@
 -- A leap of a board: what it shows afterwards, and its boxes.
 use Rattle.std.proofs.Common.{◌≡◌, ◌≢◌, ◌==◌, ◌+◌, ◌-◌, ◌*◌, ◌/◌, ◌%◌, ◌<◌, ◌≤◌, ℕ, ℤ, zero, suc, pos, ◌-ℤ◌, ◌+ℤ◌, ◌≤ℤ◌, ◌<ℤ◌, Bool, true, false, List, [], ◌∷◌}
-use Rattle.std.proofs.Common.{arith, refl, ap, ◌∙◌, sym, subst, inl, inr, ◌⊎◌}
+use Rattle.std.proofs.Common.{arith, refl, ap, ◌∙◌, sym, subst, inl, inr, ◌⊎◌, length, slice_index}
 use Rattle.std.specs.List.{Any, All}
+use Rattle.std.proofs.lemmas.Bool.{eqb-true, false≢true}
 use Rattle.std.proofs.lemmas.Int.{ints, by_lt_z}
+use Rattle.std.proofs.lemmas.List.Elements.{All-nil}
 use Rattle.plane_core.specs.declared.bounds.Bounds.{Bounds}
 use Rattle.plane_core.specs.declared.cell.Cell.{Cell}
 use Rattle.plane_core.specs.declared.frame.Frame.{Frame}
 use Rattle.plane_core.specs.declared.place.Place.{Place}
 use Rattle.plane_core.specs.Bounds.{IsWithin}
-use Rattle.plane_core.specs.Boxes.{AreCovered, HoldAll, HoldDifferences, IsNearOne, IsQuiet, IsStillOutside}
+use Rattle.plane_core.specs.Boxes.{AreCovered, HoldAll, HoldDifferences, IsNearOne, IsQuiet, IsStillOutside, box_bound}
 use Rattle.plane_core.specs.Cells.{InOrder, has}
-use Rattle.plane_core.specs.Frames.{LieOn, Shows, bounds_of}
+use Rattle.plane_core.specs.Frames.{FillsFrame, IsFrame, LieOn, Shows, bounds_of}
 use Rattle.plane_core.specs.Generations.{after}
-use Rattle.plane_core.specs.Leaping.{AreRightFor, HasLeapt}
+use Rattle.plane_core.specs.Leaping.{AreRightFor, HasLeapt, IsBoard}
 use Rattle.plane_core.specs.OnBoard.{cells_on}
 use Rattle.plane_core.specs.Places.{IsCovered, IsInnerCell, IsOnBoard, compared_with}
+use Rattle.plane_core.specs.Layouts.{AreSidesWithin}
 use Rattle.plane_core.specs.Rules.{Numbers}
+use Rattle.plane_core.specs.Words.{life}
 use Rattle.plane_core.proofs.BoardLemmas.{same_or_not}
+use Rattle.plane_core.proofs.FillLemmas.{shown-empty}
 use Rattle.plane_core.proofs.GenerationLemmas.{after-none}
 use Rattle.plane_core.proofs.OnBoardLemmas.{cells_in_order, cells_lie_on, only_cells}
 use Rattle.plane_core.proofs.QuietLemmas.{boxed-next, quiet-next, quiet-start, still_outside-held, still_outside-quiet}
 use Rattle.plane_core.proofs.RunLemmas.{after-plus, in_order-after}
-use Rattle.plane_core.proofs.SetLemmas.{same_lists}
+use Rattle.plane_core.proofs.SetLemmas.{in_order-nil, same_lists}
 
 -- ---- the cells stay on the board
 
@@ -118,3 +123,59 @@ still_forever rule S n o quiet even = ap (λ (m : ℕ). after rule S m) twice �
     go (suc k) =
         ap (λ (m : ℕ). after rule S m) (omega arith) ∙ sym (after-plus rule S (2 * k) 2) ∙ ap (λ (T : List Cell). after rule T 2) (go k)
         ∙ quiet_everywhere rule S o quiet
+
+pub no_boxes : (boxes : List Bounds) → length boxes ≡ 0 → boxes ≡ []
+no_boxes [] e = refl
+no_boxes (b ∷ bs) e = absurd (omega (arith, e))
+
+-- what windows on the board cover lies on it
+pub covered_on : (at : Frame) (places : List Place) → All (IsOnBoard at) places → (c : Cell) → IsCovered places c → IsWithin (bounds_of at) c
+covered_on at places on c (k, p, low, same, inner) = inner_on at p c (subst (λ (q : Place). IsOnBoard at q) same (on k p low)) inner
+
+-- ---- the board's words and boxes
+
+pub laid_board : (at : Frame) (rule : Numbers) (is_life : Bool) (words : List ℕ) (boxes : List Bounds) → IsFrame at → (is_life ≡ true → rule ≡ life)
+    → FillsFrame at words → All (AreSidesWithin box_bound) boxes → HoldAll boxes (cells_on at words) → IsBoard at rule is_life words boxes true
+laid_board at rule is_life words boxes frame is long sides all = record {
+  frame = frame;
+  life = is;
+  long = long;
+  sides = sides;
+  quiet = quiet-start rule (cells_on at words) boxes all;
+  all = λ e. all;
+}
+
+pub empty_board : (at : Frame) (rule : Numbers) (is_life : Bool) (old words : List ℕ) (boxes none : List Bounds) (holds_all : Bool) → none ≡ []
+    → IsBoard at rule is_life old boxes holds_all → length words ≡ length old → ((i : ℕ) → slice_index words i ≡ 0)
+    → IsBoard at rule is_life words none true
+empty_board at rule is_life old words boxes none holds_all nothing board long zeros =
+    subst (λ (bs : List Bounds). IsBoard at rule is_life words bs true) (sym nothing)
+    (laid_board at rule is_life words [] board.frame board.life (long ∙ board.long) (All-nil (AreSidesWithin box_bound))
+    (subst (λ (S : List Cell). HoldAll [] S) (sym is) (λ c e. absurd (false≢true e))))
+  where
+    is : cells_on at words ≡ []
+    is = only_cells at words [] in_order-nil (λ c e. absurd (false≢true e)) (shown-empty at words zeros)
+
+-- the boxes of a board are right for a leap
+pub right_for : (at : Frame) (rule : Numbers) (is_life : Bool) (words : List ℕ) (boxes : List Bounds) (holds_all : Bool) (n : ℕ)
+    → IsBoard at rule is_life words boxes holds_all → (n % 2 ≡ 1 → holds_all ≡ true) → AreRightFor rule (cells_on at words) boxes n
+right_for at rule is_life words boxes holds_all n board enough = record {
+  even = λ even. board.quiet;
+  odd = λ odd. board.all (enough odd);
+}
+
+-- and after it
+pub leapt_board : (at : Frame) (rule : Numbers) (is_life : Bool) (old new : List ℕ) (boxes later : List Bounds) (holds_all : Bool) (n : ℕ)
+    → IsBoard at rule is_life old boxes holds_all → length new ≡ length old → All (AreSidesWithin box_bound) later → HasLeapt rule at n old new later
+    → IsBoard at rule is_life new later (n % 2 == 1)
+leapt_board at rule is_life old new boxes later holds_all n board long sides leapt = record {
+  frame = board.frame;
+  life = board.life;
+  long = long ∙ board.long;
+  sides = sides;
+  quiet = elim (odd_or_even n) [
+    | inl even ↦ leapt.right.even even
+    | inr odd ↦ quiet-start rule (cells_on at new) later (leapt.right.odd odd)
+  ];
+  all = λ e. leapt.right.odd (eqb-true (n % 2) 1 e);
+}

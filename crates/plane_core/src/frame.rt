@@ -32,9 +32,9 @@ pub(crate) struct Frame {
     pub(crate) rows: usize,
 }
 
-/// How many columns and rows a board has more on each side than what its pattern may reach: windows that cover a cell
-/// reach no further.
-const MARGIN: u32 = 64;
+/// How many columns and rows a board has more on each side than what its pattern may reach: a window that covers a cell
+/// begins at most 36 columns or rows before it, and ends as far past it.
+const MARGIN: u32 = 40;
 
 impl Frame {
     /// A frame round the pattern that is mostly large enough for so many generations, if a board is worth it: the

@@ -46,6 +46,8 @@ pub mod plaintext;
 pub mod rule;
 /// The shift from one pattern to another.
 pub mod shift_to;
+mod sheet;
+mod stub;
 mod tally;
 mod window;
 mod word;

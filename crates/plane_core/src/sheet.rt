@@ -1,0 +1,316 @@
+//! A pattern on a board, which goes on by leaps of up to four generations.
+//!
+//! Beside the board stands a list of boxes: each cell that isn't the same two generations on lies in a box, or within 2 of
+//! one. So a leap is made in windows that cover the boxes, and all else stays as it is:
+//!
+//! ```text
+//! +--------+                     the box of what changes
+//! | .OO    |   +-----------+
+//! | OO.    |   |  window   |     Only a window's inner part is right after four generations, and is put back.
+//! |  O     |   | +-------+ |
+//! +--------+   | | inner | |     Where the last generation of the leap differs from the one two before it, there are
+//!              | +-------+ |     the boxes for the next leap.
+//!              +-----------+
+//! ```
+//!
+//! What holds after an odd number of generations isn't known by that: a blinker outside of all boxes is the same after two
+//! generations and not after one. So an odd leap is made first, while the boxes hold all live cells.
+ghost use Rattle.std.specs.Prelude.{◌≡◌, ◌%◌, ◌*◌, ◌<◌, ◌≤◌, ℕ, All, IfOk, IsTrue, List, OnOk, length, slice_index, true, false};
+ghost use Rattle.plane_core.specs.Boxes.{box_bound};
+ghost use Rattle.plane_core.specs.Frames.{FillsFrame, IsFrame, LieOn};
+ghost use Rattle.plane_core.specs.Generations.{after};
+ghost use Rattle.plane_core.specs.Layouts.{AreSidesWithin};
+ghost use Rattle.plane_core.specs.Leaping.{AreRightFor, HasLeapt};
+ghost use Rattle.plane_core.specs.OnBoard.{cells_on};
+ghost use Rattle.plane_core.specs.Words.{life};
+
+use crate::answers::{AnyRule, Answering, Life, is_life};
+use crate::bounds::Bounds;
+use crate::cell::Cell;
+use crate::change::Change;
+use crate::frame::Frame;
+use crate::listing::list;
+use crate::loading::fill;
+use crate::pattern::Pattern;
+use crate::place::Place;
+use crate::rule::Rule;
+use std::alloc::{AllocError, Global};
+use std::marker::Model;
+use crate::stub::{are_on_board, boxes_round, cover, leap, next_boxes};
+
+/// A pattern on a board under a rule.
+#[derive(Drop)]
+pub(crate) struct Board {
+    at: Frame,
+    answers: AnyRule,
+    is_life: bool,
+    words: Vec<u64>,
+    boxes: Vec<Bounds>,
+    /// Whether the boxes hold all live cells.
+    holds_all: bool,
+    lists: Lists,
+}
+
+/// The lists of a leap. They are kept from one to the next, since new ones each time would cost a tenth of all.
+#[derive(Drop)]
+struct Lists {
+    rectangles: Vec<Bounds>,
+    places: Vec<Place>,
+    held: Vec<[u64; 32]>,
+    changes: Vec<Change>,
+}
+
+impl Model for Board {
+    ghost use Rattle.plane_core.specs.Leaping.{IsBoard, Running};
+    ghost use Rattle.plane_core.specs.OnBoard.{cells_on};
+
+    ghost Value = { Running };
+
+    ghost view = { λ b. record { rule = b.answers.rule; cells = cells_on b.at b.words.items } };
+
+    ghost invariant = { λ b. IsBoard b.at b.answers.rule b.is_life b.words.items b.boxes.items b.holds_all };
+}
+
+impl Board {
+    /// A board that shows the pattern.
+    pub(crate) fn lay(
+        alloc: Global,
+        rule: &Rule,
+        at: Frame,
+        pattern: &Pattern,
+    ) -> Result<Board, AllocError>
+        requires frame { IsFrame at }
+        requires on { LieOn at pattern.now }
+        ensures rule { IfOk result (λ board. board.rule ≡ rule.now) }
+        ensures cells { IfOk result (λ board. board.cells ≡ pattern.now) }
+    {
+        let mut words = vec![in alloc; 0u64; at.count()]?;
+        fill(at, words.as_mut_slice(), pattern.cells());
+        let mut boxes = Vec::new(alloc);
+        boxes_round(pattern.cells(), &mut boxes)?;
+        Ok(Board {
+            at,
+            answers: AnyRule::new(rule),
+            is_life: is_life(rule),
+            words,
+            boxes,
+            holds_all: true,
+            lists: Lists::new(alloc),
+        })
+    }
+
+    /// Goes on by at most so many generations, and returns how many were made: fewer, where the next leap would have come
+    /// too near to the border of the board.
+    ///
+    /// # Errors
+    ///
+    /// `AllocError` if memory runs out. Then the board shows nothing that is known.
+    pub(crate) fn advance(&mut self, most: u32) -> Result<u32, AllocError>
+        ensures rule { self.new.rule ≡ self.old.rule }
+        ensures most { IfOk result (λ made. made ≤ most) }
+        ensures after { IfOk result (λ made. self.new.cells ≡ after self.old.rule self.old.cells made) }
+    {
+        let odd = self.advance_odd(most)?;
+        let even = self.advance_even(most - odd)?;
+        Ok(odd + even)
+    }
+
+    /// Makes one or three generations, if most is odd, so that an even number of them is left.
+    fn advance_odd(&mut self, most: u32) -> Result<u32, AllocError>
+        ensures rule { self.new.rule ≡ self.old.rule }
+        ensures most { IfOk result (λ made. made ≤ most) }
+        ensures after { IfOk result (λ made. self.new.cells ≡ after self.old.rule self.old.cells made) }
+    {
+        let count = most % 4;
+        if count % 2 == 0 {
+            return Ok(0);
+        }
+        let leapt = self.leap(count)?;
+        if leapt { Ok(count) } else { Ok(0) }
+    }
+
+    /// Goes on by leaps of four generations, and two at the end.
+    fn advance_even(&mut self, most: u32) -> Result<u32, AllocError>
+        ensures rule { self.new.rule ≡ self.old.rule }
+        ensures most { IfOk result (λ made. made ≤ most) }
+        ensures after { IfOk result (λ made. self.new.cells ≡ after self.old.rule self.old.cells made) }
+    {
+        let mut made = 0;
+        while most - made >= 2 {
+            let still = self.is_still();
+            if still {
+                return Ok(most / 2 * 2);
+            }
+            let count = even_count(most - made);
+            let leapt = self.leap(count)?;
+            if !leapt {
+                return Ok(made);
+            }
+            made += count;
+        }
+        Ok(made)
+    }
+
+    /// Whether no even number of generations changes anything.
+    fn is_still(&self) -> bool
+        ensures { IsTrue result → (n : ℕ) → n % 2 ≡ 0 → after self.now.rule self.now.cells n ≡ self.now.cells }
+    {
+        self.boxes.is_empty()
+    }
+
+    /// Makes one leap of so many generations, unless it would come too near to the border of the board, or it is an odd
+    /// number, and the boxes may not hold all live cells. Returns whether it was made.
+    fn leap(&mut self, count: u32) -> Result<bool, AllocError>
+        requires some { 1 ≤ count }
+        requires few { count ≤ 4 }
+        ensures rule { self.new.rule ≡ self.old.rule }
+        ensures stopped { IfOk result (λ leapt. leapt ≡ false → self.new.cells ≡ self.old.cells) }
+        ensures leapt { IfOk result
+            (λ leapt. leapt ≡ true → self.new.cells ≡ after self.old.rule self.old.cells count) }
+    {
+        if !are_enough(self.holds_all, count) {
+            return Ok(false);
+        }
+        let answers = self.answers;
+        let leapt = leap_by(
+            &answers,
+            self.is_life,
+            self.at,
+            self.words.as_mut_slice(),
+            &mut self.boxes,
+            &mut self.lists,
+            count,
+        );
+        match leapt {
+            Ok(true) => {
+                self.holds_all = count % 2 == 1;
+                Ok(true)
+            }
+            Ok(false) => Ok(false),
+            Err(error) => {
+                zero(self.words.as_mut_slice());
+                self.boxes.clear();
+                self.holds_all = true;
+                Err(error)
+            }
+        }
+    }
+
+    /// The cells, in order, with room for so many from the start.
+    pub(crate) fn cells(&self, alloc: Global, room: usize) -> Result<Vec<Cell>, AllocError>
+        ensures { IfOk result (λ cells. cells.items ≡ self.now.cells) }
+    {
+        list(alloc, self.at, self.words.as_slice(), room)
+    }
+}
+
+impl Lists {
+    /// Empty lists.
+    fn new(alloc: Global) -> Lists {
+        Lists {
+            rectangles: Vec::new(alloc),
+            places: Vec::new(alloc),
+            held: Vec::new(alloc),
+            changes: Vec::new(alloc),
+        }
+    }
+}
+
+/// Whether boxes are enough for a leap of so many generations: for an odd number they have to hold all live cells.
+fn are_enough(hold_all: bool, count: u32) -> bool
+    ensures { IsTrue result → count % 2 ≡ 1 → hold_all ≡ true }
+{
+    hold_all || count % 2 == 0
+}
+
+/// How many generations the next leap makes where so many are left: four, or else two.
+fn even_count(left: u32) -> u32
+    requires { 2 ≤ left }
+    ensures even { result % 2 ≡ 0 }
+    ensures some { 1 ≤ result }
+    ensures few { result ≤ 4 }
+    ensures most { result ≤ left }
+{
+    if left < 4 { 2 } else { 4 }
+}
+
+/// Makes a leap by the answers of a rule: by those of Life in a loop of their own.
+fn leap_by(
+    answers: &AnyRule,
+    is_life: bool,
+    at: Frame,
+    words: &mut [u64],
+    boxes: &mut Vec<Bounds>,
+    lists: &mut Lists,
+    count: u32,
+) -> Result<bool, AllocError>
+    requires life { is_life ≡ true → answers.now.rule ≡ life }
+    requires frame { IsFrame at }
+    requires long { FillsFrame at words.old }
+    requires sides { All (AreSidesWithin box_bound) boxes.old.items }
+    requires some { 1 ≤ count }
+    requires few { count ≤ 4 }
+    ensures long { length words.new ≡ length words.old }
+    ensures sides { OnOk result (All (AreSidesWithin box_bound) boxes.new.items) }
+    ensures stopped { IfOk result
+        (λ leapt. leapt ≡ false → (words.new ≡ words.old) × (boxes.new.items ≡ boxes.old.items)) }
+    ensures leapt { IfOk result
+        (λ leapt. leapt ≡ true → AreRightFor answers.now.rule (cells_on at words.old) boxes.old.items count
+        → HasLeapt answers.now.rule at count words.old words.new boxes.new.items) }
+{
+    if is_life {
+        return leap_on(&Life, at, words, boxes, lists, count);
+    }
+    leap_on(answers, at, words, boxes, lists, count)
+}
+
+/// Makes a leap of so many generations, unless a window would come too near to the border of the board. Returns whether
+/// it was made.
+fn leap_on<A: Answering>(
+    rule: &A,
+    at: Frame,
+    words: &mut [u64],
+    boxes: &mut Vec<Bounds>,
+    lists: &mut Lists,
+    count: u32,
+) -> Result<bool, AllocError>
+    requires frame { IsFrame at }
+    requires long { FillsFrame at words.old }
+    requires sides { All (AreSidesWithin box_bound) boxes.old.items }
+    requires some { 1 ≤ count }
+    requires few { count ≤ 4 }
+    ensures long { length words.new ≡ length words.old }
+    ensures sides { OnOk result (All (AreSidesWithin box_bound) boxes.new.items) }
+    ensures stopped { IfOk result
+        (λ leapt. leapt ≡ false → (words.new ≡ words.old) × (boxes.new.items ≡ boxes.old.items)) }
+    ensures leapt { IfOk result
+        (λ leapt. leapt ≡ true → AreRightFor (A.rule rule.now) (cells_on at words.old) boxes.old.items count
+        → HasLeapt (A.rule rule.now) at count words.old words.new boxes.new.items) }
+{
+    cover(boxes.as_slice(), &mut lists.rectangles, &mut lists.places)?;
+    let places = lists.places.as_slice();
+    let inside = are_on_board(at, places);
+    if !inside {
+        return Ok(false);
+    }
+    leap(
+        rule,
+        at,
+        words,
+        places,
+        count,
+        &mut lists.held,
+        &mut lists.changes,
+    )?;
+    next_boxes(places, lists.changes.as_slice(), boxes)?;
+    Ok(true)
+}
+
+/// Makes all words 0.
+fn zero(words: &mut [u64])
+    ensures { (i : ℕ) → slice_index words.new i ≡ 0 }
+{
+    for word in words.iter_mut() {
+        *word = 0;
+    }
+}
