@@ -2,6 +2,7 @@ pub mod BoardLemmas
 pub mod BoundsLemmas
 pub mod BoxLemmas
 pub mod CellLemmas
+pub mod ChangeLemmas
 pub mod ClusterLaws
 pub mod ClusterLemmas
 pub mod CommuteLemmas

@@ -12,10 +12,34 @@
 //! |                    |
 //! +--------------------+
 //! ```
+ghost use Rattle.std.specs.Prelude.{◌≡◌, ◌<◌, ◌+ℤ◌, pos};
+ghost use Rattle.plane_core.specs.Boxes.{IsInReach};
 
 /// The first column and row of a window.
 #[derive(Clone, Copy)]
 pub(crate) struct Place {
     pub(crate) left: i32,
     pub(crate) top: i32,
+}
+
+impl Place {
+    /// The column of the plane that a column of the window is.
+    #[inline(always)]
+    pub(crate) fn column(self, i: u32) -> i32
+        requires reach { IsInReach self }
+        requires i { i < 64 }
+        ensures { result ≡ self.left +ℤ pos i }
+    {
+        self.left + i as i32
+    }
+
+    /// The row of the plane that a row of the window is.
+    #[inline(always)]
+    pub(crate) fn row(self, r: u32) -> i32
+        requires reach { IsInReach self }
+        requires r { r < 64 }
+        ensures { result ≡ self.top +ℤ pos r }
+    {
+        self.top + r as i32
+    }
 }
