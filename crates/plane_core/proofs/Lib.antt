@@ -6,6 +6,7 @@ pub mod ChangeLemmas
 pub mod ClusterLaws
 pub mod ClusterLemmas
 pub mod CommuteLemmas
+pub mod CoverLemmas
 pub mod ForestLemmas
 pub mod GatherLemmas
 pub mod GenerationLemmas

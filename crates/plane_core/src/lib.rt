@@ -8,6 +8,7 @@ mod blocks;
 mod board;
 /// The least box round a pattern.
 pub mod bounds;
+mod boxes;
 /// Cells of the plane, and their order.
 pub mod cell;
 mod change;
@@ -15,6 +16,7 @@ mod change;
 pub mod clusters;
 /// Sums and differences of coordinates.
 pub mod coordinate;
+mod cover;
 mod forest;
 mod frame;
 /// The next generation, and later ones.
