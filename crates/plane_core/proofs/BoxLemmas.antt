@@ -1,13 +1,24 @@
 -- Boxes in lists: what lies in one of them, or near.
-use Rattle.std.proofs.Common.{◌≡◌, ◌+◌, ◌-◌, ◌<◌, ◌≤◌, ℕ, ℤ, pos, ◌+ℤ◌, ◌-ℤ◌, ◌≤ℤ◌, List, [], ◌∷◌, ◌++◌, length, get_or, take, set, zero, suc}
-use Rattle.std.proofs.Common.{arith, refl, ap, ◌∙◌, sym, subst, inl, inr, ◌⊎◌}
-use Rattle.std.specs.List.{Any, All}
-use Rattle.std.proofs.lemmas.Int.{ints}
+use Rattle.std.proofs.Common.{◌≡◌, ◌≢◌, ◌+◌, ◌-◌, ◌<◌, ◌≤◌, ℕ, ℤ, pos, ◌+ℤ◌, ◌-ℤ◌, ◌≤ℤ◌, List, [], ◌∷◌, ◌++◌, length, get_or, set, take, get_or-set_other, get_or-set_same}
+use Rattle.std.proofs.Common.{Bool, true, false, leb, unsigned_abs, refl, arith, ap, ◌∙◌, sym, subst, inl, inr, ◌⊎◌, Option, IsSomeAnd}
+use Rattle.std.specs.Int.{int_max, int_min}
+use Rattle.std.specs.List.{Any, list_all, swap_remove}
+use Rattle.std.proofs.Math.ListN.{length-set}
+use Rattle.std.proofs.Math.Seq.{take-length}
+use Rattle.std.proofs.lemmas.Bool.{and_parts, false≢true, leb-true}
+use Rattle.std.proofs.lemmas.Int.{clamps, ints}
+use Rattle.std.proofs.lemmas.List.{get_or-take, get_or_append_left, get_or_default, length-take-le, length_push}
+use Rattle.std.proofs.lemmas.List.Folds.{list_all_at}
+use Rattle.std.proofs.lemmas.List.Quantifiers.{Any-push, any-set}
 use Rattle.plane_core.specs.declared.bounds.Bounds.{Bounds}
 use Rattle.plane_core.specs.declared.cell.Cell.{Cell}
-use Rattle.plane_core.specs.Bounds.{IsWithin, enlarged}
-use Rattle.plane_core.specs.Boxes.{IsInOne, IsNearOne}
-use Rattle.plane_core.specs.Cells.{distance, king_distance}
+use Rattle.plane_core.specs.declared.place.Place.{Place}
+use Rattle.plane_core.specs.Bounds.{IsWithin, enlarged, widened}
+use Rattle.plane_core.specs.Boxes.{HoldDifferences, HoldsDifference, IsInOne, IsNearOne}
+use Rattle.plane_core.specs.Cells.{distance, has, is_within, king_distance}
+use Rattle.plane_core.specs.Layouts.{AreSidesWithin}
+use Rattle.plane_core.specs.Places.{IsInnerCell}
+use Rattle.plane_core.proofs.BoardLemmas.{less_or_not, same_or_not}
 
 -- a cell near a cell that is near the box is near the box
 within_further : (b : Bounds) (m n : ℕ) (c d : Cell) → king_distance c d ≤ n → IsWithin (enlarged m b) d → IsWithin (enlarged (m + n) b) c
@@ -70,3 +81,171 @@ near_wider boxes m n c le some =
 pub near_itself : (boxes : List Bounds) (c : Cell) → IsInOne boxes c → IsNearOne 0 boxes c
 near_itself boxes c some =
     any_weaker (λ (b : Bounds). IsWithin b c) (λ (b : Bounds). IsWithin (enlarged 0 b) c) boxes (λ b h. within_none b c h) some
+
+-- one element more at the end
+pub any_kept : {X : Type 0} (P : X → Type 0) (xs : List X) (y : X) → Any P xs → Any P (xs ++ y ∷ [])
+any_kept P xs y some =
+    (some.0, some.1, omega (arith, length_push xs y, some.2), get_or_append_left xs (y ∷ []) some.1 some.0 some.2 ∙ some.3, some.4)
+
+pub swapped : {P Q : Type 0} → P ⊎ Q → Q ⊎ P
+swapped (inl p) = inr p
+swapped (inr q) = inl q
+
+pub any_pushed : {X : Type 0} (P : X → Type 0) (xs new : List X) (y : X) → new ≡ xs ++ y ∷ [] → Any P xs ⊎ P y → Any P new
+any_pushed {X} P xs new y is (inl some) = subst (λ (zs : List X). Any P zs) (sym is) (any_kept P xs y some)
+any_pushed {X} P xs new y is (inr here) = subst (λ (zs : List X). Any P zs) (sym is) (Any-push P xs y here)
+
+-- an element that passes stands among the first n, or next to them
+pub any_take_more : {X : Type 0} (P : X → Type 0) (xs : List X) (n : ℕ) (d : X) → n < length xs → Any P (take (n + 1) xs)
+    → Any P (take n xs) ⊎ P (get_or xs n d)
+any_take_more {X} P xs n d less some = either (less_or_not some.0 n)
+  where
+    k : ℕ
+    k = some.0
+
+    x : X
+    x = some.1
+
+    below : k < n + 1
+    below = omega (arith, some.2, length-take-le (n + 1) xs (omega arith))
+
+    here : get_or xs k x ≡ x
+    here = sym (get_or-take (n + 1) xs k x below) ∙ some.3
+
+    either : (k < n) ⊎ (n ≤ k) → Any P (take n xs) ⊎ P (get_or xs n d)
+    either (inl before) = inl (k, x, omega (arith, length-take-le n xs (omega arith), before, less), get_or-take n xs k x before ∙ here, some.4)
+    either (inr after) =
+        let at : k ≡ n = omega (arith, below) in
+        inr (subst P (sym here ∙ ap (λ (m : ℕ). get_or xs m x) at ∙ get_or_default xs n x d less) some.4)
+
+pub take_whole : {X : Type 0} (xs : List X) (n : ℕ) → n ≤ length xs → length xs ≤ n → take n xs ≡ xs
+take_whole xs n low high =
+    let all : n ≡ length xs = omega arith in
+    ap (λ (m : ℕ). take m xs) all ∙ take-length xs
+
+-- an element that passes is the one that is taken out, or stays
+pub any_swap_remove : {X : Type 0} (P : X → Type 0) (xs : List X) (i : ℕ) (d : X) → i < length xs → Any P xs
+    → P (get_or xs i d) ⊎ Any P (swap_remove xs i d)
+any_swap_remove {X} P xs i d less some = either (same_or_not k i)
+  where
+    k : ℕ
+    k = some.0
+
+    x : X
+    x = some.1
+
+    below : k < length xs
+    below = some.2
+
+    last : X
+    last = get_or xs (length xs - 1) d
+
+    long : length (set xs i last) ≡ length xs
+    long = length-set xs i last
+
+    left : length (take (length xs - 1) (set xs i last)) ≡ length xs - 1
+    left = length-take-le (length xs - 1) (set xs i last) (omega (arith, long))
+
+    stays : k ≢ i → k < length xs - 1 → Any P (swap_remove xs i d)
+    stays other less =
+        (k, x, omega (arith, left),
+        get_or-take (length xs - 1) (set xs i last) k x less ∙ get_or-set_other xs i k last x other ∙ some.3, some.4)
+
+    moves : k ≢ i → length xs - 1 ≤ k → Any P (swap_remove xs i d)
+    moves other high =
+        let at : length xs - 1 ≡ k = omega (arith, below) in
+        let before : i < length xs - 1 = omega arith in
+        (i, x, omega (arith, left),
+        get_or-take (length xs - 1) (set xs i last) i x before ∙ get_or-set_same xs i last x less
+        ∙ ap (λ (m : ℕ). get_or xs m d) at ∙ get_or_default xs k d x below ∙ some.3, some.4)
+
+    either : (k ≡ i) ⊎ (k ≢ i) → P (get_or xs i d) ⊎ Any P (swap_remove xs i d)
+    either (inl at) = inl (subst P (sym some.3 ∙ ap (λ (m : ℕ). get_or xs m x) at ∙ get_or_default xs i x d less) some.4)
+    either (inr other) = inr (elim (less_or_not k (length xs - 1)) [ inl low ↦ stays other low | inr high ↦ moves other high ])
+
+-- an element that is written over passes if what stood there did
+pub any_set_kept : {X : Type 0} (P : X → Type 0) (xs : List X) (i : ℕ) (y d : X) → i < length xs → (P (get_or xs i d) → P y) → Any P xs
+    → Any P (set xs i y)
+any_set_kept {X} P xs i y d less over some = either (same_or_not some.0 i)
+  where
+    k : ℕ
+    k = some.0
+
+    x : X
+    x = some.1
+
+    either : (some.0 ≡ i) ⊎ (some.0 ≢ i) → Any P (set xs i y)
+    either (inl at) =
+        any-set P xs i y less (over (subst P (sym some.3 ∙ ap (λ (m : ℕ). get_or xs m x) at ∙ get_or_default xs i x d less) some.4))
+    either (inr other) = (k, x, omega (arith, length-set xs i y, some.2), get_or-set_other xs i k y x other ∙ some.3, some.4)
+
+pub passes_at : {X : Type 0} (p : X → Bool) (xs : List X) (i : ℕ) (d : X) → i < length xs → list_all p xs ≡ true → p (get_or xs i d) ≡ true
+passes_at p xs i d less all = go (p (get_or xs i d)) refl
+  where
+    go : (b : Bool) → p (get_or xs i d) ≡ b → p (get_or xs i d) ≡ true
+    go true is = is
+    go false is = absurd (false≢true (sym (list_all_at p xs i d less is) ∙ all))
+
+-- ---- a box with one cell more
+
+pub widened_kept : (c : Cell) (b : Bounds) (d : Cell) → IsWithin b d → IsWithin (widened c b) d
+widened_kept c b d h = record {
+  left = low c.x b.left d.x h.left;
+  top = low c.y b.top d.y h.top;
+  right = high c.x b.right d.x h.right;
+  bottom = high c.y b.bottom d.y h.bottom;
+}
+  where
+    low : (a l x : ℤ) → l ≤ℤ x → int_min a l ≤ℤ x
+    low a l x h = omega (arith, ints, clamps)
+
+    high : (a l x : ℤ) → x ≤ℤ l → x ≤ℤ int_max a l
+    high a l x h = omega (arith, ints, clamps)
+
+pub widened_sides : (n : ℕ) (c : Cell) (b : Bounds) → is_within n c ≡ true → AreSidesWithin n b → AreSidesWithin n (widened c b)
+widened_sides n c b e h = record {
+  left = least c.x b.left x h.left;
+  top = least c.y b.top y h.top;
+  right = greatest c.x b.right x h.right;
+  bottom = greatest c.y b.bottom y h.bottom;
+}
+  where
+    both : (leb (unsigned_abs c.x) n ≡ true) × (leb (unsigned_abs c.y) n ≡ true)
+    both = and_parts (leb (unsigned_abs c.x) n) (leb (unsigned_abs c.y) n) e
+
+    x : unsigned_abs c.x ≤ n
+    x = leb-true (unsigned_abs c.x) n both.0
+
+    y : unsigned_abs c.y ≤ n
+    y = leb-true (unsigned_abs c.y) n both.1
+
+    least : (a l : ℤ) → unsigned_abs a ≤ n → unsigned_abs l ≤ n → unsigned_abs (int_min a l) ≤ n
+    least a l h k = omega (arith, ints, clamps)
+
+    greatest : (a l : ℤ) → unsigned_abs a ≤ n → unsigned_abs l ≤ n → unsigned_abs (int_max a l) ≤ n
+    greatest a l h k = omega (arith, ints, clamps)
+
+-- ---- the boxes of changes
+
+-- the boxes hold what differs in the first n windows
+abbrev pub HoldFirst : ℕ → List Place → List Cell → List Cell → List Bounds → Type 0
+HoldFirst n places one other boxes = (k : ℕ) (p : Place) (c : Cell) → k < n → IsInnerCell (get_or places k p) c → has one c ≢ has other c
+    → IsInOne boxes c
+
+pub hold_all : (places : List Place) (one other : List Cell) (boxes : List Bounds) → HoldFirst (length places) places one other boxes
+    → HoldDifferences places one other boxes
+hold_all places one other boxes first c covered ne =
+    first covered.0 covered.1 c covered.2 (subst (λ (p : Place). IsInnerCell p c) (sym covered.3) covered.4) ne
+
+pub hold_more : (n : ℕ) (places : List Place) (one other : List Cell) (boxes new : List Bounds) (found : Option Bounds) (d : Place)
+    → n < length places → HoldsDifference (get_or places n d) one other found → ((c : Cell) → IsInOne boxes c → IsInOne new c)
+    → ((c : Cell) → IsSomeAnd found (λ b. IsWithin b c) → IsInOne new c) → HoldFirst n places one other boxes
+    → HoldFirst (n + 1) places one other new
+hold_more n places one other boxes new found d less difference kept added first k q c low inner ne = either (less_or_not k n)
+  where
+    either : (k < n) ⊎ (n ≤ k) → IsInOne new c
+    either (inl before) = kept c (first k q c before inner ne)
+    either (inr after) =
+        let at : k ≡ n = omega arith in
+        added c (difference c (subst (λ (p : Place). IsInnerCell p c)
+        (ap (λ (m : ℕ). get_or places m q) at ∙ get_or_default places n q d less) inner) ne)

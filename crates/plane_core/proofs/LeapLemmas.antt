@@ -11,9 +11,9 @@ use Rattle.plane_core.specs.declared.frame.Frame.{Frame}
 use Rattle.plane_core.specs.declared.place.Place.{Place}
 use Rattle.plane_core.specs.Bounds.{IsWithin}
 use Rattle.plane_core.specs.Boxes.{AreCovered, HoldAll, HoldDifferences, IsNearOne, IsQuiet, IsStillOutside, box_bound}
-use Rattle.plane_core.specs.Cells.{InOrder, has}
+use Rattle.plane_core.specs.Cells.{InOrder, IsPattern, has, on_plane, plane_bound}
 use Rattle.plane_core.specs.Frames.{FillsFrame, IsFrame, LieOn, Shows, bounds_of}
-use Rattle.plane_core.specs.Generations.{after}
+use Rattle.plane_core.specs.Generations.{after, lies_within}
 use Rattle.plane_core.specs.Leaping.{AreRightFor, HasLeapt, IsBoard}
 use Rattle.plane_core.specs.OnBoard.{cells_on}
 use Rattle.plane_core.specs.Places.{IsCovered, IsInnerCell, IsOnBoard, compared_with}
@@ -23,6 +23,7 @@ use Rattle.plane_core.specs.Words.{life}
 use Rattle.plane_core.proofs.BoardLemmas.{same_or_not}
 use Rattle.plane_core.proofs.FillLemmas.{shown-empty}
 use Rattle.plane_core.proofs.GenerationLemmas.{after-none}
+use Rattle.plane_core.proofs.LayLemmas.{fewer_sides}
 use Rattle.plane_core.proofs.OnBoardLemmas.{cells_in_order, cells_lie_on, only_cells}
 use Rattle.plane_core.proofs.QuietLemmas.{boxed-next, quiet-next, quiet-start, still_outside-held, still_outside-quiet}
 use Rattle.plane_core.proofs.RunLemmas.{after-plus, in_order-after}
@@ -179,3 +180,10 @@ leapt_board at rule is_life old new boxes later holds_all n board long sides lea
   ];
   all = λ e. leapt.right.odd (eqb-true (n % 2) 1 e);
 }
+
+-- the boxes round a pattern lie on the plane
+pub box_sides : (S cells : List Cell) (boxes : List Bounds) → cells ≡ S → IsPattern S
+    → ((n : ℕ) → lies_within n cells ≡ true → All (AreSidesWithin n) boxes) → All (AreSidesWithin box_bound) boxes
+unfolding on_plane
+box_sides S cells boxes is pattern sides k b low =
+    fewer_sides plane_bound box_bound _ (omega arith) (sides plane_bound (ap (λ (T : List Cell). lies_within plane_bound T) is ∙ pattern.on_plane) k b low)

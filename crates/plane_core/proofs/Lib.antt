@@ -3,9 +3,11 @@ pub mod BoardLemmas
 pub mod BoundsLemmas
 pub mod BoxLemmas
 pub mod CellLemmas
+pub mod ChangeLemmas
 pub mod ClusterLaws
 pub mod ClusterLemmas
 pub mod CommuteLemmas
+pub mod CoverLemmas
 pub mod FillLemmas
 pub mod ForestLemmas
 pub mod FrameLemmas

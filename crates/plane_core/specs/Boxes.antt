@@ -1,13 +1,14 @@
 -- Boxes outside of which nothing changes from one generation to the next but one, and windows that cover them.
-use Rattle.std.specs.Prelude.{◌≡◌, ◌≢◌, ◌<◌, ◌≤◌, ℕ, true, List, Option, All, Any, IsSomeAnd, length, slice_index_or, unsigned_abs}
+use Rattle.std.specs.Prelude.{◌≡◌, ◌≢◌, ◌<◌, ◌≤◌, ℕ, true, List, Option, Any, IsSomeAnd, length, slice_index_or, unsigned_abs}
+use Rattle.std.specs.Int.{bit_at}
 use Rattle.plane_core.specs.declared.bounds.Bounds.{Bounds}
 use Rattle.plane_core.specs.declared.cell.Cell.{Cell}
 use Rattle.plane_core.specs.declared.change.Change.{Change}
+use Rattle.plane_core.specs.declared.change.Span.{Span}
 use Rattle.plane_core.specs.declared.place.Place.{Place}
 use Rattle.plane_core.specs.Bounds.{IsWithin, enlarged}
 use Rattle.plane_core.specs.Cells.{has}
 use Rattle.plane_core.specs.Generations.{after}
-use Rattle.plane_core.specs.Layouts.{AreSidesWithin}
 use Rattle.plane_core.specs.Places.{HoldsChange, IsCovered, IsInnerCell}
 use Rattle.plane_core.specs.Rules.{Numbers}
 
@@ -51,6 +52,13 @@ IsStillOutside rule places cells n = (c : Cell) → ¬ IsCovered places c → ha
 abbrev pub HoldChanges : List Place → List Cell → List Cell → List Change → Type 0
 HoldChanges places one other changes = (k : ℕ) (p : Place) (d : Change) → k < length places
     → HoldsChange (slice_index_or places k p) one other (slice_index_or changes k d)
+
+-- each bit that is 1 lies between the first and the last, which are below 64
+pub record HasBits (word : ℕ) (span : Span) : Type 0 where
+  pub first : (i : ℕ) → bit_at word i ≡ 1 → span.first ≤ i
+  pub last : (i : ℕ) → bit_at word i ≡ 1 → i ≤ span.last
+  pub order : span.first ≤ span.last
+  pub high : span.last < 64
 
 -- the box, if there is one, has each inner cell of the window in it in which the two patterns differ
 abbrev pub HoldsDifference : Place → List Cell → List Cell → Option Bounds → Type 0

@@ -5,6 +5,7 @@ pub mod Bounds
 pub mod Boxes
 pub mod Cells
 pub mod Clusters
+pub mod Covers
 pub mod Forest
 pub mod Frames
 pub mod Frontiers

@@ -27,7 +27,7 @@ impl Pattern {
 
 impl Bounds {
     /// The box of one cell.
-    fn at(cell: Cell) -> Bounds
+    pub(crate) fn at(cell: Cell) -> Bounds
         ensures { result ≡ box_at cell }
     {
         Bounds {
@@ -39,7 +39,7 @@ impl Bounds {
     }
 
     /// The least box that has this box and the cell in it.
-    fn widened(self, cell: Cell) -> Bounds
+    pub(crate) fn widened(self, cell: Cell) -> Bounds
         ensures { result ≡ widened cell self }
     {
         Bounds {

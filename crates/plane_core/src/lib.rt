@@ -9,6 +9,7 @@ mod blocks;
 mod board;
 /// The least box round a pattern.
 pub mod bounds;
+mod boxes;
 /// Cells of the plane, and their order.
 pub mod cell;
 mod change;
@@ -16,6 +17,7 @@ mod change;
 pub mod clusters;
 /// Sums and differences of coordinates.
 pub mod coordinate;
+mod cover;
 mod forest;
 mod frame;
 /// How fast patterns grow in diagonal directions.

@@ -36,7 +36,9 @@ use crate::place::Place;
 use crate::rule::Rule;
 use std::alloc::{AllocError, Global};
 use std::marker::Model;
-use crate::stub::{are_on_board, boxes_round, cover, leap, next_boxes};
+use crate::boxes::{boxes_round, next_boxes};
+use crate::cover::{are_on_board, cover};
+use crate::stub::leap;
 
 /// A pattern on a board under a rule.
 #[derive(Drop)]

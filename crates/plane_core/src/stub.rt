@@ -16,47 +16,6 @@ use crate::frame::Frame;
 use crate::place::Place;
 use std::alloc::AllocError;
 
-pub(crate) fn boxes_round(cells: &[Cell], boxes: &mut Vec<Bounds>) -> Result<(), AllocError>
-    ensures all { OnOk result (HoldAll boxes.new.items cells.now) }
-    ensures sides { OnOk result (All (AreSidesWithin box_bound) boxes.new.items) }
-{
-    Err(AllocError)
-}
-
-pub(crate) fn next_boxes(
-    places: &[Place],
-    changes: &[Change],
-    boxes: &mut Vec<Bounds>,
-) -> Result<(), AllocError>
-    requires one_each { length places.now ≡ length changes.now }
-    requires reach { All IsInReach places.now }
-    ensures differences { OnOk result
-        ((one other : List Cell) → HoldChanges places.now one other changes.now
-        → HoldDifferences places.now one other boxes.new.items) }
-    ensures sides { OnOk result (All (AreSidesWithin box_bound) boxes.new.items) }
-{
-    Err(AllocError)
-}
-
-pub(crate) fn cover(
-    boxes: &[Bounds],
-    rectangles: &mut Vec<Bounds>,
-    places: &mut Vec<Place>,
-) -> Result<(), AllocError>
-    requires { All (AreSidesWithin box_bound) boxes.now }
-    ensures { OnOk result (AreCovered places.new.items boxes.now) }
-{
-    Err(AllocError)
-}
-
-pub(crate) fn are_on_board(at: Frame, places: &[Place]) -> bool
-    requires { IsFrame at }
-    ensures on_board { IsTrue result → All (IsOnBoard at) places.now }
-    ensures reach { IsTrue result → All IsInReach places.now }
-{
-    false
-}
-
 pub(crate) fn leap<A: Answering>(
     rule: &A,
     at: Frame,

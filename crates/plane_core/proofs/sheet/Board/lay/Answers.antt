@@ -5,7 +5,7 @@ use Rattle.plane_core.specs.Boxes.{HoldAll}
 use Rattle.plane_core.specs.Frames.{LieOn, Shows}
 use Rattle.plane_core.specs.OnBoard.{cells_on}
 use Rattle.plane_core.proofs.FillLemmas.{zeros}
-use Rattle.plane_core.proofs.LeapLemmas.{laid_board}
+use Rattle.plane_core.proofs.LeapLemmas.{box_sides, laid_board}
 use Rattle.plane_core.proofs.OnBoardLemmas.{only_cells}
 use Rattle.plane_core.proofs.sheet.Board.lay.Goals as goal
 
@@ -32,5 +32,6 @@ invariant_of-result c =
     rw (with_items_is c.in_ok-words.words c.fill.new.words long)
     (laid_board c.args.at c.new.result.rule c.is_life.result c.fill.new.words c.boxes_round.new.boxes.items c.requires.frame
     (λ life. c.new.ensures ∙ c.is_life.ensures life)
-    (c.fill.ensures.long ∙ c.as_mut_slice.ensures.len ∙ c.in_ok-words.ensures.len ∙ c.count.ensures.count) c.in_ok-boxes_round.ensures.sides
-    (subst (λ (S : List Cell). HoldAll c.boxes_round.new.boxes.items S) (sym (is ∙ same)) c.in_ok-boxes_round.ensures.all))
+    (c.fill.ensures.long ∙ c.as_mut_slice.ensures.len ∙ c.in_ok-words.ensures.len ∙ c.count.ensures.count) (box_sides c.args.pattern.now c.cells-2.result.now c.boxes_round.new.boxes.items c.cells-2.ensures.cells c.cells-2.ensures.pattern
+    c.in_ok-boxes_round.ensures.sides)
+    (subst (λ (S : List Cell). HoldAll c.boxes_round.new.boxes.items S) (sym (is ∙ same)) c.in_ok-boxes_round.ensures.held))

@@ -1,0 +1,138 @@
+-- Windows over rectangles: what a union has in it, and that windows side by side leave no gap.
+use Rattle.std.proofs.Common.{◌≡◌, ◌+◌, ◌*◌, ◌<◌, ◌≤◌, ℕ, ℤ, pos, ◌+ℤ◌, ◌-ℤ◌, ◌≤ℤ◌, ◌<ℤ◌, List, length, get_or, unsigned_abs}
+use Rattle.std.proofs.Common.{arith, sym, subst, inl, inr, ◌⊎◌}
+use Rattle.std.specs.Int.{int_max, int_min}
+use Rattle.std.specs.List.{swap_remove}
+use Rattle.std.proofs.lemmas.Int.{by_lt_z, clamps, ints}
+use Rattle.plane_core.specs.declared.bounds.Bounds.{Bounds}
+use Rattle.plane_core.specs.declared.cell.Cell.{Cell}
+use Rattle.plane_core.specs.declared.cover.Spans.{Spans}
+use Rattle.plane_core.specs.declared.place.Place.{Place}
+use Rattle.plane_core.specs.Bounds.{IsWithin}
+use Rattle.plane_core.specs.Boxes.{IsInOne}
+use Rattle.plane_core.specs.Covers.{AreSideBySide, BeginsAt, IsInRow}
+use Rattle.plane_core.specs.Layouts.{AreSidesWithin}
+use Rattle.plane_core.specs.Places.{IsCovered, IsInnerCell}
+use Rattle.plane_core.proofs.BoxLemmas.{any_swap_remove}
+
+-- ---- the union of two boxes
+
+pub record IsJoined (one other b : Bounds) : Type 0 where
+  pub left : b.left ≡ int_min one.left other.left
+  pub top : b.top ≡ int_min one.top other.top
+  pub right : b.right ≡ int_max one.right other.right
+  pub bottom : b.bottom ≡ int_max one.bottom other.bottom
+
+pub joined_one : (one other b : Bounds) (c : Cell) → IsJoined one other b → IsWithin one c → IsWithin b c
+joined_one one other b c is h = record {
+  left = low b.left one.left other.left c.x is.left h.left;
+  top = low b.top one.top other.top c.y is.top h.top;
+  right = high b.right one.right other.right c.x is.right h.right;
+  bottom = high b.bottom one.bottom other.bottom c.y is.bottom h.bottom;
+}
+  where
+    low : (l a d x : ℤ) → l ≡ int_min a d → a ≤ℤ x → l ≤ℤ x
+    low l a d x e h = omega (arith, ints, clamps)
+
+    high : (l a d x : ℤ) → l ≡ int_max a d → x ≤ℤ a → x ≤ℤ l
+    high l a d x e h = omega (arith, ints, clamps)
+
+pub joined_other : (one other b : Bounds) (c : Cell) → IsJoined one other b → IsWithin other c → IsWithin b c
+joined_other one other b c is h = record {
+  left = low b.left one.left other.left c.x is.left h.left;
+  top = low b.top one.top other.top c.y is.top h.top;
+  right = high b.right one.right other.right c.x is.right h.right;
+  bottom = high b.bottom one.bottom other.bottom c.y is.bottom h.bottom;
+}
+  where
+    low : (l a d x : ℤ) → l ≡ int_min a d → d ≤ℤ x → l ≤ℤ x
+    low l a d x e h = omega (arith, ints, clamps)
+
+    high : (l a d x : ℤ) → l ≡ int_max a d → x ≤ℤ d → x ≤ℤ l
+    high l a d x e h = omega (arith, ints, clamps)
+
+pub joined_sides : (n : ℕ) (one other b : Bounds) → IsJoined one other b → AreSidesWithin n one → AreSidesWithin n other → AreSidesWithin n b
+joined_sides n one other b is h k = record {
+  left = least b.left one.left other.left is.left h.left k.left;
+  top = least b.top one.top other.top is.top h.top k.top;
+  right = greatest b.right one.right other.right is.right h.right k.right;
+  bottom = greatest b.bottom one.bottom other.bottom is.bottom h.bottom k.bottom;
+}
+  where
+    least : (l a d : ℤ) → l ≡ int_min a d → unsigned_abs a ≤ n → unsigned_abs d ≤ n → unsigned_abs l ≤ n
+    least l a d e h k = omega (arith, ints, clamps)
+
+    greatest : (l a d : ℤ) → l ≡ int_max a d → unsigned_abs a ≤ n → unsigned_abs d ≤ n → unsigned_abs l ≤ n
+    greatest l a d e h k = omega (arith, ints, clamps)
+
+-- the union with a rectangle that is taken off the list
+pub joined_held : (boxes new : List Bounds) (i : ℕ) (other one b : Bounds) → i < length boxes → other ≡ get_or boxes i other
+    → new ≡ swap_remove boxes i other → ((c : Cell) → IsWithin other c → IsWithin b c) → ((c : Cell) → IsWithin one c → IsWithin b c)
+    → (c : Cell) → IsWithin one c ⊎ IsInOne boxes c → IsWithin b c ⊎ IsInOne new c
+joined_held boxes new i other one b less is removed first second c (inl h) = inl (second c h)
+joined_held boxes new i other one b less is removed first second c (inr some) =
+    elim (any_swap_remove (λ (d : Bounds). IsWithin d c) boxes i other less some) [
+      | inl h ↦ inl (first c (subst (λ (d : Bounds). IsWithin d c) (sym is) h))
+      | inr more ↦ inr (subst (λ (ds : List Bounds). IsInOne ds c) (sym removed) more)
+    ]
+
+-- ---- windows side by side
+
+-- a cell of a row of spans and one more lies in the row, or in the window over the span more
+pub row_more : (first : ℤ) (n : ℕ) (row : ℤ) (p : Place) (c : Cell) → BeginsAt p (first +ℤ pos (56 * n)) row
+    → IsInRow (record { first = first; count = n + 1 }) row c → IsInRow (record { first = first; count = n }) row c ⊎ IsInnerCell p c
+row_more first n row p c at h =
+    by_lt_z {P = IsInRow (record { first = first; count = n }) row c ⊎ IsInnerCell p c} c.x (first +ℤ pos (56 * n))
+    (λ less. inl (record { left = h.left; right = less; top = h.top; bottom = h.bottom }))
+    (λ not_less. inr (record {
+      left = from (first +ℤ pos (56 * n)) p.left c.x at.left not_less;
+      top = from row p.top c.y at.top h.top;
+      right = to (first +ℤ pos (56 * n)) p.left c.x 56 at.left (further first c.x n h.right);
+      bottom = to row p.top c.y 32 at.top h.bottom;
+    }))
+  where
+    from : (a p x : ℤ) → p ≡ a -ℤ pos 4 → a ≤ℤ x → (p +ℤ pos 4) ≤ℤ x
+    from a p x e h = omega (arith, ints)
+
+    to : (a p x : ℤ) (m : ℕ) → p ≡ a -ℤ pos 4 → x <ℤ (a +ℤ pos m) → x ≤ℤ (p +ℤ pos (m + 3))
+    to a p x m e h = omega (arith, ints)
+
+    further : (a x : ℤ) (n : ℕ) → x <ℤ (a +ℤ pos (56 * (n + 1))) → x <ℤ ((a +ℤ pos (56 * n)) +ℤ pos 56)
+    further a x n h = omega (arith, ints)
+
+-- a cell of the rectangle lies in the spans across it
+pub in_row : (rectangle : Bounds) (across : Spans) (row : ℤ) (c : Cell) → AreSideBySide rectangle.left rectangle.right 56 across
+    → IsWithin rectangle c → row ≤ℤ c.y → c.y <ℤ (row +ℤ pos 32) → IsInRow across row c
+in_row rectangle across row c beside within low high = record {
+  left = before across.first rectangle.left c.x beside.start within.left;
+  right = after c.x rectangle.right (across.first +ℤ pos (56 * across.count)) within.right beside.end;
+  top = low;
+  bottom = high;
+}
+  where
+    before : (a b x : ℤ) → a ≤ℤ b → b ≤ℤ x → a ≤ℤ x
+    before a b x h k = omega (arith, ints)
+
+    after : (x b e : ℤ) → x ≤ℤ b → b <ℤ e → x <ℤ e
+    after x b e h k = omega (arith, ints)
+
+-- what is laid in the rows so far, and in one more
+pub rows_more : (rectangle : Bounds) (across : Spans) (first row : ℤ) (n : ℕ) (old new : List Place) → row ≡ first +ℤ pos (32 * n)
+    → AreSideBySide rectangle.left rectangle.right 56 across
+    → ((c : Cell) → IsWithin rectangle c → c.y <ℤ (first +ℤ pos (32 * n)) → IsCovered old c) → ((c : Cell) → IsCovered old c → IsCovered new c)
+    → ((c : Cell) → IsInRow across row c → IsCovered new c) → (c : Cell) → IsWithin rectangle c → c.y <ℤ (first +ℤ pos (32 * (n + 1)))
+    → IsCovered new c
+rows_more rectangle across first row n old new is beside before kept laid c within high =
+    by_lt_z {P = IsCovered new c} c.y (first +ℤ pos (32 * n)) (λ less. kept c (before c within less))
+    (λ not_less. laid c (in_row rectangle across row c beside within (low first row c.y n is not_less) (further first row c.y n is high)))
+  where
+    low : (a r y : ℤ) (n : ℕ) → r ≡ a +ℤ pos (32 * n) → (a +ℤ pos (32 * n)) ≤ℤ y → r ≤ℤ y
+    low a r y n e h = omega (arith, ints)
+
+    further : (a r y : ℤ) (n : ℕ) → r ≡ a +ℤ pos (32 * n) → y <ℤ (a +ℤ pos (32 * (n + 1))) → y <ℤ (r +ℤ pos 32)
+    further a r y n e h = omega (arith, ints)
+
+-- a row of the rectangle lies above the end of its last windows
+pub below_end : (y bottom first : ℤ) (count n : ℕ) → y ≤ℤ bottom → bottom <ℤ (first +ℤ pos (32 * count)) → count ≤ n
+    → y <ℤ (first +ℤ pos (32 * n))
+below_end y bottom first count n h k le = omega (arith, ints)

@@ -1,0 +1,18 @@
+use Rattle.std.proofs.Common.{arith, sym, subst}
+use Rattle.plane_core.specs.declared.bounds.Bounds.{Bounds}
+use Rattle.plane_core.specs.Boxes.{rectangle_bound}
+use Rattle.plane_core.specs.Layouts.{AreSidesWithin}
+use Rattle.plane_core.proofs.CoverLemmas.{joined_held}
+use Rattle.plane_core.proofs.cover.absorbed_at.Goals as goal
+
+pub returns-clause-held : goal.returns-clause-held
+returns-clause-held c =
+    joined_held c.args.rectangles.now.items c.swap_remove-other.new.self.items c.args.i c.swap_remove-other.result c.args.rectangle c.joined.result
+    (omega (arith, c.args.rectangles.now.ok.0)) c.swap_remove-other.ensures.value c.swap_remove-other.ensures.items c.joined.ensures.one
+    c.joined.ensures.other
+
+pub returns-clause-sides : goal.returns-clause-sides
+returns-clause-sides c =
+    c.joined.ensures.sides rectangle_bound
+    (subst (λ (b : Bounds). AreSidesWithin rectangle_bound b) (sym c.swap_remove-other.ensures.value)
+    (c.requires.all_sides c.args.i c.swap_remove-other.result (omega (arith, c.args.rectangles.now.ok.0)))) c.requires.sides

@@ -1,0 +1,123 @@
+//! Boxes outside of which nothing changes from one generation to the next but one.
+//!
+//! When a board is loaded there is one for each group of cells that lie together. After a leap there is one for each window in which something still changes. So what is at rest, or alternates, costs
+//! nothing:
+//!
+//! ```text
+//! +-----+
+//! |.XX. |      .XX.       The cells of the glider change, and have a box. The block doesn't, and has none. Each cell that
+//! |X.X. |      .XX.       is not within 2 of a box is the same two generations on.
+//! |..X. |
+//! +-----+
+//! ```
+ghost use Rattle.std.specs.Prelude.{◌≡◌, ◌<◌, ℕ, true, All, IfSome, IsSomeAnd, List, OnOk, length};
+ghost use Rattle.plane_core.specs.Bounds.{IsWithin};
+ghost use Rattle.plane_core.specs.Boxes.{HoldAll, HoldChanges, HoldDifferences, IsInOne, IsInReach, box_bound};
+ghost use Rattle.plane_core.specs.Cells.{is_within};
+ghost use Rattle.plane_core.specs.Generations.{lies_within};
+ghost use Rattle.plane_core.specs.Layouts.{AreSidesWithin};
+ghost use Rattle.plane_core.specs.declared.cell.Cell.{Cell};
+
+use crate::bounds::Bounds;
+use crate::cell::Cell;
+use crate::change::Change;
+use crate::place::Place;
+use std::alloc::AllocError;
+
+/// With how many of the last boxes a cell is compared.
+const LAST_BOXES: usize = 16;
+
+/// The boxes of the changes, one for each window in which something changes, in place of those of the list.
+pub(crate) fn next_boxes(
+    places: &[Place],
+    changes: &[Change],
+    boxes: &mut Vec<Bounds>,
+) -> Result<(), AllocError>
+    requires one_each { length places.now ≡ length changes.now }
+    requires reach { All IsInReach places.now }
+    ensures differences { OnOk result
+        ((one other : List Cell) → HoldChanges places.now one other changes.now
+        → HoldDifferences places.now one other boxes.new.items) }
+    ensures sides { OnOk result (All (AreSidesWithin box_bound) boxes.new.items) }
+{
+    boxes.clear();
+    for i in 0..places.len() {
+        let found = changes[i].bounds(places[i]);
+        push_some(found, boxes)?;
+    }
+    Ok(())
+}
+
+/// Puts a box, if there is one, after the others.
+#[inline(always)]
+fn push_some(found: Option<Bounds>, boxes: &mut Vec<Bounds>) -> Result<(), AllocError>
+    ensures kept { OnOk result ((c : Cell) → IsInOne boxes.old.items c → IsInOne boxes.new.items c) }
+    ensures added { OnOk result
+        ((c : Cell) → IsSomeAnd found (λ b. IsWithin b c) → IsInOne boxes.new.items c) }
+    ensures sides { OnOk result
+        (IfSome found (AreSidesWithin box_bound) → All (AreSidesWithin box_bound) boxes.old.items
+        → All (AreSidesWithin box_bound) boxes.new.items) }
+{
+    if let Some(bounds) = found {
+        boxes.push(bounds)?;
+    }
+    Ok(())
+}
+
+/// Boxes that have all cells in them, one for each group of cells that lie together, in place of those of the list. With
+/// four columns and rows more on each side each fits the inner part of a window. So a trail across the plane gets some
+/// boxes along it, and not one of its length and height.
+pub(crate) fn boxes_round(cells: &[Cell], boxes: &mut Vec<Bounds>) -> Result<(), AllocError>
+    ensures held { OnOk result (HoldAll boxes.new.items cells.now) }
+    ensures sides { OnOk result
+        ((n : ℕ) → lies_within n cells.now ≡ true → All (AreSidesWithin n) boxes.new.items) }
+{
+    boxes.clear();
+    for cell in cells {
+        put_in_box(*cell, boxes)?;
+    }
+    Ok(())
+}
+
+/// Widens a box that is near the cell so that it has the cell in it. If there is none, the cell gets a new one.
+fn put_in_box(cell: Cell, boxes: &mut Vec<Bounds>) -> Result<(), AllocError>
+    ensures kept { OnOk result ((c : Cell) → IsInOne boxes.old.items c → IsInOne boxes.new.items c) }
+    ensures held { OnOk result (IsInOne boxes.new.items cell) }
+    ensures sides { OnOk result
+        ((n : ℕ) → is_within n cell ≡ true → All (AreSidesWithin n) boxes.old.items
+        → All (AreSidesWithin n) boxes.new.items) }
+{
+    let Some(i) = box_near(boxes.as_slice(), cell) else {
+        boxes.push(Bounds::at(cell))?;
+        return Ok(());
+    };
+    let widened = boxes[i].widened(cell);
+    boxes[i] = widened;
+    Ok(())
+}
+
+/// The last of the boxes that is near the cell, if one of the last sixteen is. Mostly it is the last one.
+fn box_near(boxes: &[Bounds], cell: Cell) -> Option<usize>
+    ensures { IfSome result (λ i. i < length boxes.now) }
+{
+    let mut i = boxes.len();
+    let earliest = i.saturating_sub(LAST_BOXES);
+    while i > earliest {
+        i -= 1;
+        if is_near(boxes[i], cell) {
+            return Some(i);
+        }
+    }
+    None
+}
+
+/// Whether the cell is at most eight columns and rows from the box, and the two fit one window.
+#[inline(always)]
+fn is_near(bounds: Bounds, cell: Cell) -> bool {
+    let wide = bounds.widened(cell);
+    wide.left.abs_diff(bounds.left) <= 8
+        && wide.right.abs_diff(bounds.right) <= 8
+        && wide.bottom.abs_diff(bounds.bottom) <= 8
+        && wide.left.abs_diff(wide.right) < 48
+        && wide.top.abs_diff(wide.bottom) < 24
+}

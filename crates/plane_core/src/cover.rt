@@ -1,0 +1,244 @@
+//! Windows whose inner parts cover the boxes, with four columns and rows more on each side.
+//!
+//! Boxes that lie together are united to rectangles first, where that saves windows. Then windows are laid side by side
+//! over each rectangle, so that their inner parts leave no gap:
+//!
+//! ```text
+//! +-------+-------+        The rectangle is 90 columns by 40 rows. Two inner parts of 56 columns side by side, and two of
+//! | +-----+-----+ |        32 rows below one another, cover it, and reach as far past it on one side as on the other.
+//! | |     |     | |
+//! +-------+-------+
+//! | |     |     | |
+//! | +-----+-----+ |
+//! +-------+-------+
+//! ```
+ghost use Rattle.std.specs.Prelude.{◌≡◌, ◌+◌, ◌*◌, ◌^◌, ◌<◌, ◌≤◌, ◌⊎◌, ◌≤ℤ◌, ◌<ℤ◌, ◌+ℤ◌, ℕ, pos, All, IsTrue, List, OnOk};
+ghost use Rattle.std.specs.Prelude.{unsigned_abs, vec_len};
+ghost use Rattle.plane_core.specs.Bounds.{IsWithin, enlarged};
+ghost use Rattle.plane_core.specs.Boxes.{AreCovered, IsInOne, IsInReach, IsNearOne, box_bound, rectangle_bound};
+ghost use Rattle.plane_core.specs.Covers.{AreSideBySide, BeginsAt, IsInRow};
+ghost use Rattle.plane_core.specs.Frames.{IsFrame};
+ghost use Rattle.plane_core.specs.Layouts.{AreSidesWithin};
+ghost use Rattle.plane_core.specs.Places.{IsCovered, IsOnBoard};
+ghost use Rattle.plane_core.specs.declared.cell.Cell.{Cell};
+
+use crate::bounds::Bounds;
+use crate::frame::Frame;
+use crate::place::Place;
+use std::alloc::AllocError;
+
+/// With how many of the last rectangles a box may be united.
+const UNITED_AT_ONCE: usize = 16;
+
+/// Spans of one length, side by side: where the first begins, and how many there are.
+#[derive(Clone, Copy)]
+struct Spans {
+    first: i32,
+    count: u32,
+}
+
+/// Lays windows over the boxes, in place of those of the list, so that each cell within 4 of a box lies in the inner part
+/// of one. The rectangles are of use for the time of the call alone.
+pub(crate) fn cover(
+    boxes: &[Bounds],
+    rectangles: &mut Vec<Bounds>,
+    places: &mut Vec<Place>,
+) -> Result<(), AllocError>
+    requires { All (AreSidesWithin box_bound) boxes.now }
+    ensures { OnOk result (AreCovered places.new.items boxes.now) }
+{
+    unite(boxes, rectangles)?;
+    tile(rectangles.as_slice(), places)?;
+    Ok(())
+}
+
+/// Whether all windows lie on the board.
+pub(crate) fn are_on_board(at: Frame, places: &[Place]) -> bool
+    requires { IsFrame at }
+    ensures on_board { IsTrue result → All (IsOnBoard at) places.now }
+    ensures reach { IsTrue result → All IsInReach places.now }
+{
+    for place in places {
+        if !place.is_on_board(at) {
+            return false;
+        }
+    }
+    true
+}
+
+/// Rectangles round the boxes, with four columns and rows more on each side, in place of those of the list.
+fn unite(boxes: &[Bounds], rectangles: &mut Vec<Bounds>) -> Result<(), AllocError>
+    requires { All (AreSidesWithin box_bound) boxes.now }
+    ensures near { OnOk result ((c : Cell) → IsNearOne 4 boxes.now c → IsInOne rectangles.new.items c) }
+    ensures sides { OnOk result (All (AreSidesWithin rectangle_bound) rectangles.new.items) }
+{
+    rectangles.clear();
+    for bounds in boxes {
+        let rectangle = absorbed(rectangles, with_margin(*bounds));
+        rectangles.push(rectangle)?;
+    }
+    Ok(())
+}
+
+/// The box with four columns and rows more on each side.
+#[inline(always)]
+fn with_margin(bounds: Bounds) -> Bounds
+    requires { AreSidesWithin box_bound bounds }
+    ensures margin { result ≡ enlarged 4 bounds }
+    ensures sides { AreSidesWithin rectangle_bound result }
+{
+    Bounds {
+        left: bounds.left - 4,
+        top: bounds.top - 4,
+        right: bounds.right + 4,
+        bottom: bounds.bottom + 4,
+    }
+}
+
+/// The rectangle, united with those of the last sixteen with which that saves windows. These are taken off the list.
+fn absorbed(rectangles: &mut Vec<Bounds>, rectangle: Bounds) -> Bounds
+    requires all_sides { All (AreSidesWithin rectangle_bound) rectangles.old.items }
+    requires sides { AreSidesWithin rectangle_bound rectangle }
+    ensures held { (c : Cell) → IsWithin rectangle c ⊎ IsInOne rectangles.old.items c
+        → IsWithin result c ⊎ IsInOne rectangles.new.items c }
+    ensures all_sides { All (AreSidesWithin rectangle_bound) rectangles.new.items }
+    ensures sides { AreSidesWithin rectangle_bound result }
+{
+    let mut i = rectangles.len();
+    let earliest = i.saturating_sub(UNITED_AT_ONCE);
+    let mut all = rectangle;
+    while i > earliest {
+        i -= 1;
+        all = absorbed_at(rectangles, i, all);
+    }
+    all
+}
+
+/// The rectangle, united with one of the list if that saves windows. It is taken off the list then.
+fn absorbed_at(rectangles: &mut Vec<Bounds>, i: usize, rectangle: Bounds) -> Bounds
+    requires i { i < vec_len rectangles.old }
+    requires all_sides { All (AreSidesWithin rectangle_bound) rectangles.old.items }
+    requires sides { AreSidesWithin rectangle_bound rectangle }
+    ensures held { (c : Cell) → IsWithin rectangle c ⊎ IsInOne rectangles.old.items c
+        → IsWithin result c ⊎ IsInOne rectangles.new.items c }
+    ensures all_sides { All (AreSidesWithin rectangle_bound) rectangles.new.items }
+    ensures sides { AreSidesWithin rectangle_bound result }
+    ensures long { i ≤ vec_len rectangles.new }
+{
+    if !saves_windows(rectangles[i], rectangle) {
+        return rectangle;
+    }
+    let other = rectangles.swap_remove(i);
+    joined(other, rectangle)
+}
+
+/// Whether the two take no fewer windows than the least rectangle that has both in it.
+#[inline(always)]
+fn saves_windows(one: Bounds, other: Bounds) -> bool {
+    windows_for(joined(one, other)) <= windows_for(one).saturating_add(windows_for(other))
+}
+
+/// How many windows it takes to cover the rectangle.
+#[inline(always)]
+fn windows_for(rectangle: Bounds) -> u64 {
+    let across = rectangle.left.abs_diff(rectangle.right) / 56 + 1;
+    let down = rectangle.top.abs_diff(rectangle.bottom) / 32 + 1;
+    u64::from(across) * u64::from(down)
+}
+
+/// The least rectangle that has both in it.
+#[inline(always)]
+fn joined(one: Bounds, other: Bounds) -> Bounds
+    ensures one { (c : Cell) → IsWithin one c → IsWithin result c }
+    ensures other { (c : Cell) → IsWithin other c → IsWithin result c }
+    ensures sides { (n : ℕ) → AreSidesWithin n one → AreSidesWithin n other → AreSidesWithin n result }
+{
+    Bounds {
+        left: one.left.min(other.left),
+        top: one.top.min(other.top),
+        right: one.right.max(other.right),
+        bottom: one.bottom.max(other.bottom),
+    }
+}
+
+/// Lays windows over the rectangles, in place of those of the list.
+fn tile(rectangles: &[Bounds], places: &mut Vec<Place>) -> Result<(), AllocError>
+    requires { All (AreSidesWithin rectangle_bound) rectangles.now }
+    ensures { OnOk result ((c : Cell) → IsInOne rectangles.now c → IsCovered places.new.items c) }
+{
+    places.clear();
+    for rectangle in rectangles {
+        lay(*rectangle, places)?;
+    }
+    Ok(())
+}
+
+/// Lays windows over a rectangle, row by row.
+fn lay(rectangle: Bounds, places: &mut Vec<Place>) -> Result<(), AllocError>
+    requires { AreSidesWithin rectangle_bound rectangle }
+    ensures kept { OnOk result ((c : Cell) → IsCovered places.old.items c → IsCovered places.new.items c) }
+    ensures laid { OnOk result ((c : Cell) → IsWithin rectangle c → IsCovered places.new.items c) }
+{
+    let across = side_by_side(rectangle.left, rectangle.right, 56);
+    let down = side_by_side(rectangle.top, rectangle.bottom, 32);
+    for i in 0..down.count {
+        lay_row(across, row_of(down, i), places)?;
+    }
+    Ok(())
+}
+
+/// The row in which a span of 32 rows begins.
+#[inline(always)]
+fn row_of(down: Spans, i: u32) -> i32
+    requires first { unsigned_abs down.first ≤ 2 ^ 25 }
+    requires i { i ≤ 2 ^ 20 }
+    ensures { result ≡ down.first +ℤ pos (32 * i) }
+{
+    down.first + 32 * i as i32
+}
+
+/// Lays windows side by side, whose inner parts begin in this row.
+fn lay_row(across: Spans, top: i32, places: &mut Vec<Place>) -> Result<(), AllocError>
+    requires top { unsigned_abs top ≤ 2 ^ 26 }
+    requires first { unsigned_abs across.first ≤ 2 ^ 26 }
+    requires count { across.count ≤ 2 ^ 20 }
+    ensures kept { OnOk result ((c : Cell) → IsCovered places.old.items c → IsCovered places.new.items c) }
+    ensures laid { OnOk result ((c : Cell) → IsInRow across top c → IsCovered places.new.items c) }
+{
+    for i in 0..across.count {
+        places.push(beginning_at(across.first + 56 * i as i32, top))?;
+    }
+    Ok(())
+}
+
+/// The window whose inner part begins in this column and this row.
+#[inline(always)]
+fn beginning_at(column: i32, row: i32) -> Place
+    requires column { unsigned_abs column ≤ 2 ^ 28 }
+    requires row { unsigned_abs row ≤ 2 ^ 28 }
+    ensures { BeginsAt result column row }
+{
+    Place {
+        left: column - 4,
+        top: row - 4,
+    }
+}
+
+/// Spans of this length, side by side, that reach from the first number to the last and as far past the one as past the
+/// other.
+#[inline(always)]
+fn side_by_side(first: i32, last: i32, size: u32) -> Spans
+    requires first { unsigned_abs first ≤ rectangle_bound }
+    requires last { unsigned_abs last ≤ rectangle_bound }
+    requires some { 1 ≤ size }
+    requires size { size ≤ 64 }
+    ensures { AreSideBySide first last size result }
+{
+    let length = first.abs_diff(last);
+    let count = length / size + 1;
+    let beside = count * size - length - 1;
+    Spans {
+        first: first - (beside / 2) as i32,
+        count,
+    }
+}
