@@ -1,3 +1,4 @@
+pub mod AdvanceLemmas
 pub mod AnswerLemmas
 pub mod BoardLemmas
 pub mod BoundsLemmas
@@ -18,7 +19,6 @@ pub mod GlanceLemmas
 pub mod LaneLemmas
 pub mod LayLemmas
 pub mod LayoutLemmas
-pub mod LeapLemmas
 pub mod ListingLemmas
 pub mod LoadLemmas
 pub mod LocalityLemmas

@@ -2,18 +2,19 @@ ghost use Rattle.std.specs.Prelude.{◌≡◌, ◌≢◌, ℕ, ◌+◌, ◌-◌,
 ghost use Rattle.plane_core.specs.Cells.{has, plane_bound};
 ghost use Rattle.plane_core.specs.Generations.{next, after, lives, touches_edge, lies_within, NextMoved, NextTurned};
 ghost use Rattle.plane_core.specs.Generations.{SpeedFromOrigin, SpeedOfCells, SpeedOfLight};
-ghost use Rattle.plane_core.specs.Layouts.{HasRoom, IsLaid};
+ghost use Rattle.plane_core.specs.Frames.{IsFrame, LieOn};
 ghost use Rattle.plane_core.specs.Parts.{FarPatternsRunAlone, HasRun};
 ghost use Rattle.plane_core.specs.Refusals.{RefusesStep};
 ghost use Rattle.plane_core.specs.declared.cell.Cell.{Cell};
 ghost use Rattle.plane_core.specs.declared.generation.StepError.TheVariants.{Memory};
 
+use crate::sheet::Board;
 use crate::cell::Cell;
-use crate::layout::Layout;
+use crate::frame::Frame;
 use crate::parts::Cut;
 use crate::pattern::Pattern;
 use crate::rule::Rule;
-use crate::{board, tally};
+use crate::tally;
 use std::alloc::{AllocError, Global};
 use thiserror::Error;
 
@@ -72,9 +73,19 @@ impl Pattern {
         requires { touches_edge self.now ≡ false }
         ensures { IfOk result (λ pattern. pattern ≡ next rule.now self.now) }
     {
-        match Layout::for_a_step(self) {
-            Some(at) => self.run_on(alloc, rule, at, 1),
+        match self.next_on_board(alloc, rule)? {
+            Some(pattern) => Ok(pattern),
             None => self.counted(alloc, rule),
+        }
+    }
+
+    /// The next generation, on a board if one is worth it.
+    fn next_on_board(&self, alloc: Global, rule: &Rule) -> Result<Option<Pattern>, AllocError>
+        ensures { IfOk result (λ ran. IfSome ran (λ pattern. pattern ≡ next rule.now self.now)) }
+    {
+        match Frame::for_a_step(self) {
+            Some(at) => self.run_on(alloc, rule, at, 1),
+            None => Ok(None),
         }
     }
 
@@ -181,29 +192,33 @@ impl Pattern {
         requires { generations ≤ 1000 }
         ensures { IfOk result (λ ran. IfSome ran (HasRun rule.now self.now generations)) }
     {
-        let Some(at) = Layout::round(self, generations) else {
-            return Ok(None);
-        };
-        let pattern = self.run_on(alloc, rule, at, generations)?;
-        Ok(Some(pattern))
+        match Frame::round(self, generations) {
+            Some(at) => self.run_on(alloc, rule, at, generations),
+            None => Ok(None),
+        }
     }
 
-    /// The pattern after so many generations, on a board with room for them.
+    /// The pattern after so many generations on a board, if there is room for them.
     fn run_on(
         &self,
         alloc: Global,
         rule: &Rule,
-        at: Layout,
+        at: Frame,
         generations: u32,
-    ) -> Result<Pattern, AllocError>
-        requires laid { IsLaid at }
-        requires room { HasRoom at generations self.now }
+    ) -> Result<Option<Pattern>, AllocError>
+        requires frame { IsFrame at }
+        requires on { LieOn at self.now }
         requires few { generations ≤ plane_bound }
         requires inside { lies_within (plane_bound - generations) self.now ≡ true }
-        ensures { IfOk result (λ pattern. pattern ≡ after rule.now self.now generations) }
+        ensures { IfOk result (λ ran. IfSome ran (λ pattern. pattern ≡ after rule.now self.now generations)) }
     {
-        let cells = board::run(alloc, rule, at, self.cells(), generations)?;
-        Ok(Pattern::from_ordered(cells))
+        let mut board = Board::lay(alloc, rule, at, self)?;
+        let made = board.advance(generations)?;
+        if made < generations {
+            return Ok(None);
+        }
+        let cells = board.cells(alloc, self.cells().len())?;
+        Ok(Some(Pattern::from_ordered(cells)))
     }
 }
 

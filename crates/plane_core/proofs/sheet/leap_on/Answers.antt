@@ -3,7 +3,7 @@ use Rattle.plane_core.specs.Places.{IsCovered}
 use Rattle.plane_core.specs.declared.bounds.Bounds.{Bounds}
 use Rattle.plane_core.specs.Boxes.{AreCovered}
 use Rattle.plane_core.specs.OnBoard.{cells_on}
-use Rattle.plane_core.proofs.LeapLemmas.{covered_on, has_leapt, still_for_leap}
+use Rattle.plane_core.proofs.AdvanceLemmas.{covered_on, has_leapt, still_for_leap}
 use Rattle.plane_core.proofs.OnBoardLemmas.{cells_in_order, shows_cells}
 use Rattle.plane_core.proofs.sheet.leap_on.Goals as goal
 

@@ -5,7 +5,7 @@ use Rattle.plane_core.specs.Boxes.{IsQuiet}
 use Rattle.plane_core.specs.Generations.{after}
 use Rattle.plane_core.specs.Leaping.{Running}
 use Rattle.plane_core.specs.OnBoard.{cells_on}
-use Rattle.plane_core.proofs.LeapLemmas.{no_boxes, still_forever}
+use Rattle.plane_core.proofs.AdvanceLemmas.{no_boxes, still_forever}
 use Rattle.plane_core.proofs.OnBoardLemmas.{cells_in_order}
 use Rattle.plane_core.proofs.sheet.Board.is_still.Goals as goal
 

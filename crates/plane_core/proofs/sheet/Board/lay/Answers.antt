@@ -5,7 +5,7 @@ use Rattle.plane_core.specs.Boxes.{HoldAll}
 use Rattle.plane_core.specs.Frames.{LieOn, Shows}
 use Rattle.plane_core.specs.OnBoard.{cells_on}
 use Rattle.plane_core.proofs.FillLemmas.{zeros}
-use Rattle.plane_core.proofs.LeapLemmas.{box_sides, laid_board}
+use Rattle.plane_core.proofs.AdvanceLemmas.{box_sides, laid_board}
 use Rattle.plane_core.proofs.OnBoardLemmas.{only_cells}
 use Rattle.plane_core.proofs.sheet.Board.lay.Goals as goal
 

@@ -4,7 +4,7 @@ use Rattle.std.proofs.lemmas.List.{with_items_is}
 use Rattle.plane_core.specs.Generations.{after}
 use Rattle.plane_core.specs.Leaping.{AreRightFor, HasLeapt, IsBoard, Running}
 use Rattle.plane_core.specs.OnBoard.{cells_on}
-use Rattle.plane_core.proofs.LeapLemmas.{empty_board, leapt_board, right_for}
+use Rattle.plane_core.proofs.AdvanceLemmas.{empty_board, leapt_board, right_for}
 use Rattle.plane_core.proofs.sheet.Board.leap.Goals as goal
 
 pub leap_by-leapt-requires-clause-long : goal.leap_by-leapt-requires-clause-long
