@@ -1,3 +1,4 @@
+pub mod AnswerLemmas
 pub mod BoardLemmas
 pub mod BoundsLemmas
 pub mod CellLemmas
@@ -9,6 +10,7 @@ pub mod FrontierLemmas
 pub mod GatherLemmas
 pub mod GenerationLemmas
 pub mod GlanceLemmas
+pub mod LaneLemmas
 pub mod LayLemmas
 pub mod LayoutLemmas
 pub mod LoadLemmas
@@ -39,4 +41,5 @@ pub mod SetLemmas
 pub mod SpeedLemmas
 pub mod TallyLemmas
 pub mod TurnLemmas
+pub mod WindowLemmas
 pub mod WordLemmas

@@ -9,6 +9,7 @@ pub mod Frames
 pub mod Frontiers
 pub mod Generations
 pub mod Glances
+pub mod Lanes
 pub mod Layouts
 pub mod Locality
 pub mod OrientationLaws
@@ -22,4 +23,5 @@ pub mod PlaintextWalk
 pub mod Refusals
 pub mod Rules
 pub mod Tallies
+pub mod Windows
 pub mod Words

@@ -4,6 +4,7 @@
 //! for the finite set.
 #![tactic(auto)]
 
+mod answers;
 mod blocks;
 mod board;
 /// The least box round a pattern.
@@ -23,6 +24,7 @@ pub mod frontier;
 pub mod generation;
 /// Whether a small pattern is seen not to come back.
 pub mod glance;
+mod lanes;
 mod layout;
 /// How far a cell sees.
 pub mod locality;
@@ -43,4 +45,5 @@ pub mod rule;
 /// The shift from one pattern to another.
 pub mod shift_to;
 mod tally;
+mod window;
 mod word;

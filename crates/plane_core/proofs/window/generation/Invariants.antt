@@ -1,0 +1,15 @@
+use Rattle.std.proofs.Common.{◌≡◌, ◌≤◌, ℕ, [], length, slice_index_or}
+use Rattle.plane_core.proofs.WindowLemmas.{AreAbove, AreHere, AreMade}
+use Rattle.plane_core.proofs.window.generation.Given as goal
+
+abbrev pub invariant-loop-k : goal.invariant-loop-k
+invariant-loop-k g l =
+    let n = g.row.N in
+    let x = l.initial.window in
+    record {
+      long : length l.window ≡ n;
+      up : AreAbove n x l.up l.k;
+      here : AreHere n x l.here l.k;
+      made : AreMade (g.A.Answering.rule l.rule) n x l.window l.k;
+      rest : (k : ℕ) → l.k ≤ k → slice_index_or l.window k [] ≡ slice_index_or x k [];
+    }
