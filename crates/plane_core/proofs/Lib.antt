@@ -1,3 +1,4 @@
+pub mod AgainLemmas
 pub mod AnswerLemmas
 pub mod BoardLemmas
 pub mod BoundsLemmas
@@ -18,6 +19,7 @@ pub mod LocalityLemmas
 pub mod MergeLemmas
 pub mod NeighbourLemmas
 pub mod NeighbourhoodLemmas
+pub mod NeverBackLemmas
 pub mod OrientationLemmas
 pub mod OutLemmas
 pub mod PartLemmas

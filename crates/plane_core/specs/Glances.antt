@@ -1,79 +1,80 @@
--- A window: 64 columns by 64 rows, in which a pattern is run for as long as no cell stands on the rim. It is the inside of a board of
--- three lanes of ten blocks, of which the outer blocks stay empty.
-use Rattle.std.specs.Prelude.{◌≡◌, ◌+◌, ◌-◌, ◌<◌, ◌≤◌, ℕ, ℤ, ◌-ℤ◌, pos, List, slice_index, unsigned_abs}
+-- A pattern in a window, which has nothing else in it: for as long as no cell stands on the rim, its generations are the window's.
+use Rattle.std.specs.Prelude.{◌≡◌, ◌==◌, ◌+◌, ◌-◌, ◌*◌, ◌<◌, ◌≤◌, ◌^◌, ℕ, ℤ, ◌+ℤ◌, ◌≤ℤ◌, ◌<ℤ◌, pos, List, [], length, slice_index, slice_index_or, true, unsigned_abs}
 use Rattle.std.specs.Int.{bit_at}
-use Rattle.plane_core.specs.declared.blocks.Grid.{Grid}
-use Rattle.plane_core.specs.declared.layout.Layout.{Layout}
 use Rattle.plane_core.specs.declared.cell.Cell.{Cell}
-use Rattle.plane_core.specs.declared.glance.Spot.{Spot}
-use Rattle.plane_core.specs.Boards.{IsNextAt}
-use Rattle.plane_core.specs.Cells.{InOrder}
+use Rattle.plane_core.specs.declared.never_back.Corner.{Corner}
+use Rattle.plane_core.specs.declared.place.Place.{Place}
+use Rattle.plane_core.specs.Cells.{InOrder, cell_at, has}
 use Rattle.plane_core.specs.Generations.{NeverBack, after}
-use Rattle.plane_core.specs.Layouts.{HasRoom, IsDead, IsShown}
 use Rattle.plane_core.specs.Rules.{Numbers}
+use Rattle.plane_core.specs.Windows.{IsShownInside, row_at}
 
-abbrev pub window_grid : Grid
-window_grid = record { blocks = 10; count = 30 }
+-- the cell lies in the window of n vectors that begins at (left, top): it has 64 columns and 4 n rows
+pub record IsInWindow (n : ℕ) (left top : ℤ) (c : Cell) : Type 0 where
+  pub west : left ≤ℤ c.x
+  pub north : top ≤ℤ c.y
+  pub east : c.x <ℤ (left +ℤ pos 64)
+  pub south : c.y <ℤ (top +ℤ pos (4 * n))
 
-pub record IsWindow (at : Layout) : Type 0 where
-  pub lanes : at.lanes ≡ 3
-  pub blocks : at.blocks ≡ 10
-
--- and one that lies far from the edge of the plane
-pub record IsInland (at : Layout) : Type 0 where
-  pub left : unsigned_abs at.left ≤ 950000
-  pub top : unsigned_abs at.top ≤ 950000
-
--- the cells lie in the window, and it shows just these
-pub record IsSeen (at : Layout) (words : List ℕ) (cells : List Cell) : Type 0 where
+-- the pattern lies in the window, and the window shows just this pattern
+pub record Holds (n : ℕ) (left top : ℤ) (x : List (List ℕ)) (cells : List Cell) : Type 0 where
   pub in_order : InOrder cells
-  pub room : HasRoom at 0 cells
-  pub shown : IsShown at words cells
-  pub dead : IsDead window_grid words
+  pub inside : (c : Cell) → has cells c ≡ true → IsInWindow n left top c
+  pub shown : IsShownInside n left top 0 x cells
 
--- in the rows of the window, up to a row, a column is empty
-abbrev pub IsColumnClear : List ℕ → ℕ → ℕ → Type 0
-IsColumnClear words n b = (i : ℕ) → 88 ≤ i → i < n → bit_at (slice_index words i) b ≡ 0
+-- up to generation g the pattern stays in the window, and none of the generations from 1 on is the pattern itself again
+pub record HasChanged (rule : Numbers) (n : ℕ) (left top : ℤ) (cells : List Cell) (g : ℕ) : Type 0 where
+  pub new : NeverBack rule cells g
+  pub inside : (h : ℕ) → h ≤ g → (c : Cell) → has (after rule cells h) c ≡ true → IsInWindow n left top c
 
--- neither the first nor the last column is among these
-abbrev pub AreSidesClear : ℕ → Type 0
-AreSidesClear columns = (bit_at columns 0 ≡ 0) × (bit_at columns 63 ≡ 0)
+-- a vector of four words
+pub record IsVector (v : List ℕ) : Type 0 where
+  pub long : length v ≡ 4
+  pub small : (j : ℕ) → slice_index v j < 2 ^ 64
+
+-- each vector of the window is one
+abbrev pub IsWhole : ℕ → List (List ℕ) → Type 0
+IsWhole n x = (k : ℕ) → k < n → IsVector (slice_index_or x k [])
+
+-- the word says which columns of the window have a live cell
+pub record IsColumns (n : ℕ) (x : List (List ℕ)) (columns : ℕ) : Type 0 where
+  pub all : (r i : ℕ) → r < 4 * n → bit_at (row_at n x r) i ≡ 1 → bit_at columns i ≡ 1
+  pub alive : (i : ℕ) → bit_at columns i ≡ 1 → (r : ℕ) × (r < 4 * n) × (bit_at (row_at n x r) i ≡ 1)
 
 -- no cell stands in the first or last row, or in the first or last column
-pub record IsRimClear (words : List ℕ) : Type 0 where
-  pub top : slice_index words 88 ≡ 0
-  pub bottom : slice_index words 151 ≡ 0
-  pub left : IsColumnClear words 152 0
-  pub right : IsColumnClear words 152 63
+pub record IsRimClear (n : ℕ) (x : List (List ℕ)) : Type 0 where
+  pub top : row_at n x 0 ≡ 0
+  pub bottom : row_at n x (4 * n - 1) ≡ 0
+  pub left : (r : ℕ) → r < 4 * n → bit_at (row_at n x r) 0 ≡ 0
+  pub right : (r : ℕ) → r < 4 * n → bit_at (row_at n x r) 63 ≡ 0
 
--- no cell is alive in eight rows of the window, nor in the words round them
-pub record IsEmptyRound (words : List ℕ) (from : ℕ) : Type 0 where
-  pub west : (k b : ℕ) → k < 10 → bit_at (slice_index words (from - 81 + k)) b ≡ 0
-  pub here : (k b : ℕ) → k < 10 → bit_at (slice_index words (from - 1 + k)) b ≡ 0
-  pub east : (k b : ℕ) → k < 10 → bit_at (slice_index words (from + 79 + k)) b ≡ 0
+-- two windows have the same cells
+abbrev pub AreAlike : ℕ → List (List ℕ) → List (List ℕ) → Type 0
+AreAlike n x y = (r i : ℕ) → r < 4 * n → bit_at (row_at n x r) i ≡ bit_at (row_at n y r) i
 
--- the rows before row n are those of the next generation, and the others are what they were
-pub record IsStepped (rule : Numbers) (n : ℕ) (now old new : List ℕ) : Type 0 where
-  pub next : (i : ℕ) → 88 ≤ i → i < n → IsNextAt rule window_grid now i (slice_index new i)
-  pub above : (i : ℕ) → i < 88 → slice_index new i ≡ slice_index old i
-  pub below : (i : ℕ) → n ≤ i → slice_index new i ≡ slice_index old i
+-- the row is the first with a live cell
+pub record IsFirstRow (n : ℕ) (x : List (List ℕ)) (row : ℕ) : Type 0 where
+  pub low : row < 4 * n
+  pub some : 0 < row_at n x row
+  pub none : (r : ℕ) → r < row → row_at n x r ≡ 0
 
--- the cell is so many columns and rows from the first cell of the board
-pub record IsSpot (at : Layout) (c : Cell) (across down : ℕ) : Type 0 where
-  pub across_is : pos across ≡ c.x -ℤ at.left
-  pub down_is : pos down ≡ c.y -ℤ at.top
+-- Which row and column a window's cells are counted from: the first row and the first column that have one.
+pub record IsCorner (n : ℕ) (x : List (List ℕ)) (columns : ℕ) (corner : Corner) : Type 0 where
+  pub row : IsFirstRow n x corner.row
+  pub low : corner.column < 64
+  pub some : bit_at columns corner.column ≡ 1
+  pub none : (i : ℕ) → i < corner.column → bit_at columns i ≡ 0
 
--- the first live cell of the window, row by row from the top and each row from the left
-pub record IsFirst (words : List ℕ) (s : Spot) : Type 0 where
-  pub left : 64 ≤ s.across
-  pub right : s.across < 128
-  pub top : 8 ≤ s.down
-  pub bottom : s.down < 72
-  pub alive : bit_at (slice_index words (80 + s.down)) (s.across - 64) ≡ 1
-  pub above : (r : ℕ) → 8 ≤ r → r < s.down → slice_index words (80 + r) ≡ 0
-  pub before : (b : ℕ) → b < s.across - 64 → bit_at (slice_index words (80 + s.down)) b ≡ 0
+-- a window of 64 by 64 that lies far from the edge of the plane
+pub record IsInland (p : Place) : Type 0 where
+  pub left : unsigned_abs p.left ≤ 950000
+  pub top : unsigned_abs p.top ≤ 950000
 
--- and up to generation n it stays in the window
-pub record HasChanged (rule : Numbers) (at : Layout) (cells : List Cell) (n : ℕ) : Type 0 where
-  pub new : NeverBack rule cells n
-  pub room : (g : ℕ) → g ≤ n → HasRoom at 0 (after rule cells g)
+-- the cell is so many columns and rows from the first cell of the window
+pub record IsSpot (p : Place) (c : Cell) (across down : ℕ) : Type 0 where
+  pub across_is : c.x ≡ p.left +ℤ pos across
+  pub down_is : c.y ≡ p.top +ℤ pos down
+
+-- 64 rows show the cells of the list that lie in the window
+abbrev pub ShowsRows : Place → List ℕ → List Cell → Type 0
+ShowsRows p rows cells = (r i : ℕ) → r < 64 → i < 64 → has cells (cell_at (p.left +ℤ pos i) (p.top +ℤ pos r)) ≡ (bit_at (slice_index rows r) i == 1)

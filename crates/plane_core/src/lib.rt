@@ -28,6 +28,7 @@ mod lanes;
 mod layout;
 /// How far a cell sees.
 pub mod locality;
+mod never_back;
 /// The eight orientations.
 pub mod orientation;
 /// A writer that remembers that it failed.
