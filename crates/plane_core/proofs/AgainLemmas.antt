@@ -1,17 +1,17 @@
 -- Whether a window shows the start again, moved or not, and what follows where it doesn't.
-use Rattle.std.proofs.Common.{◌≡◌, ◌≢◌, ◌==◌, ◌+◌, ◌-◌, ◌*◌, ◌/◌, ◌%◌, ◌^◌, ◌<◌, ◌≤◌, ℕ, ℤ, pos, ◌+ℤ◌, ◌-ℤ◌, ◌≤ℤ◌, ◌<ℤ◌, zero, suc, Bool, true, false}
-use Rattle.std.proofs.Common.{List, [], ◌∷◌, map, arith, refl, ap, ◌∙◌, sym, subst, inl, inr, ◌⊎◌, slice_index, w64}
+use Rattle.std.proofs.Common.{◌≡◌, ◌≢◌, ◌==◌, ◌+◌, ◌*◌, ◌/◌, ◌^◌, ◌<◌, ◌≤◌, ℕ, ℤ, pos, ◌+ℤ◌, ◌≤ℤ◌, zero, suc, Bool, true, false}
+use Rattle.std.proofs.Common.{List, [], ◌∷◌, arith, refl, ap, ◌∙◌, sym, subst, inl, inr, ◌⊎◌, w64}
 use Rattle.std.specs.Cmp.{both_ways as both_true}
 use Rattle.std.specs.Int.{bit_at, trailing_zeros}
-use Rattle.std.proofs.lemmas.Bool.{eqb-true, false≢true}
+use Rattle.std.proofs.lemmas.Bool.{false≢true}
 use Rattle.std.proofs.lemmas.Int.{ints}
 use Rattle.std.proofs.lemmas.Nat.Bits.{bit_at-lt, bit_at-trailing_zeros, bit_at-zero, same_from_bits}
 use Rattle.plane_core.specs.declared.cell.Cell.{Cell}
 use Rattle.plane_core.specs.declared.never_back.Corner.{Corner}
 use Rattle.plane_core.specs.Bounds.{shifted}
-use Rattle.plane_core.specs.Cells.{InOrder, cell_at, has, moved_by}
-use Rattle.plane_core.specs.Generations.{NeverBack, after, next}
-use Rattle.plane_core.specs.Glances.{AreAlike, HasChanged, Holds, IsColumns, IsCorner, IsFirstRow, IsInWindow, IsRimClear, IsWhole}
+use Rattle.plane_core.specs.Cells.{has, moved_by}
+use Rattle.plane_core.specs.Generations.{after, next}
+use Rattle.plane_core.specs.LonePatterns.{AreAlike, HasChanged, Holds, IsColumns, IsCorner, IsFirstRow, IsInWindow, IsRimClear, IsWhole}
 use Rattle.plane_core.specs.Rules.{Numbers}
 use Rattle.plane_core.specs.Windows.{IsNextWindow, row_at}
 use Rattle.plane_core.proofs.BoardLemmas.{less_or_not, same_or_not}
@@ -134,7 +134,7 @@ is_again n left top dx dy x y S b a e d some wx wy hx hy p q r s = record { same
     same i k = equal_bits _ _ (bit_at-lt (row_at n x (e + k)) (b + i)) (bit_at-lt (row_at n y (d + k)) (a + i))
         (sym (held_anywhere n left top x S (b + i) (e + k) some hx wx)
         ∙ sym (has-moved dx dy S (in_window left top (b + i) (e + k)) (in_window left top (a + i) (d + k))
-            (same_cell_at _ _ _ _ (omega (arith, ints, across)) (omega (arith, ints, down))))
+        (same_cell_at _ _ _ _ (omega (arith, ints, across)) (omega (arith, ints, down))))
         ∙ held_anywhere n left top y (shifted dx dy S) (a + i) (d + k) some hy wy)
 
 -- the rows are the same, counted from there

@@ -1,30 +1,25 @@
 -- A pattern alone in a window: its generations, and what the window says of the start.
 use Rattle.std.proofs.Common.{◌≡◌, ◌≢◌, ◌==◌, ◌+◌, ◌-◌, ◌*◌, ◌/◌, ◌%◌, ◌^◌, ◌<◌, ◌≤◌, ℕ, ℤ, pos, negsuc, ◌+ℤ◌, ◌-ℤ◌, ◌≤ℤ◌, ◌<ℤ◌, zero, suc, Bool, true, false, cond}
-use Rattle.std.proofs.Common.{List, [], ◌∷◌, map, arith, refl, ap, ◌∙◌, sym, subst, inl, inr, ◌⊎◌, slice_index, slice_index_or, unsigned_abs, get_or, length, max, w64, bit_or}
-use Rattle.std.specs.Cmp.{both_ways as both_true}
-use Rattle.std.specs.Int.{bit_at, trailing_zeros}
-use Rattle.std.proofs.lemmas.Bool.{eqb-true, false≢true}
+use Rattle.std.proofs.Common.{List, [], map, arith, refl, ap, ◌∙◌, sym, subst, inl, inr, ◌⊎◌, slice_index, slice_index_or, unsigned_abs, max, bit_or}
+use Rattle.std.specs.Int.{bit_at}
+use Rattle.std.proofs.lemmas.Bool.{eqb-true}
 use Rattle.std.proofs.lemmas.Int.{ints}
 use Rattle.std.proofs.lemmas.List.{get_or_past}
 use Rattle.std.proofs.lemmas.Nat.{div-mul-add, div_below, mod-mul-add, mod_below, pow-add}
-use Rattle.std.proofs.lemmas.Nat.Bits.{bit_at-lt, bit_at-zero, bit_at_above, bit_at_or, bit_at-trailing_zeros, same_from_bits}
+use Rattle.std.proofs.lemmas.Nat.Bits.{bit_at-lt, bit_at-zero, bit_at_above, bit_at_or}
 use Rattle.std.proofs.Math.Nat.{div-div-eq-div-mul, le-div_iff_mul-le}
 use Rattle.plane_core.specs.declared.cell.Cell.{Cell}
-use Rattle.plane_core.specs.declared.never_back.Corner.{Corner}
-use Rattle.plane_core.specs.Bounds.{shifted}
 use Rattle.plane_core.specs.Cells.{InOrder, cell_at, distance, has, king_distance, moved_by}
-use Rattle.plane_core.specs.Generations.{NeverBack, after, around, next}
-use Rattle.plane_core.specs.Glances.{AreAlike, HasChanged, Holds, IsColumns, IsCorner, IsFirstRow, IsInWindow, IsRimClear, IsVector, IsWhole}
+use Rattle.plane_core.specs.Generations.{around, next}
+use Rattle.plane_core.specs.LonePatterns.{AreAlike, Holds, IsColumns, IsInWindow, IsRimClear, IsVector, IsWhole}
 use Rattle.plane_core.specs.Lanes.{bit_of, row_sum}
 use Rattle.plane_core.specs.Rules.{Numbers}
 use Rattle.plane_core.specs.Tallies.{counted_at, lives_by, one_of}
 use Rattle.plane_core.specs.Windows.{IsNextWindow, lane_at, row_above, row_at, row_below}
-use Rattle.plane_core.specs.Words.{east_of, one_if, west_of}
-use Rattle.plane_core.proofs.GenerationLemmas.{a_neighbour, after-none, after-more, has-next, in_order-next, lives_cases, total-ones}
+use Rattle.plane_core.specs.Words.{west_of}
+use Rattle.plane_core.proofs.GenerationLemmas.{a_neighbour, has-next, in_order-next, lives_cases, total-ones}
 use Rattle.plane_core.proofs.NeighbourhoodLemmas.{neighbourhood_total-around, row_total}
-use Rattle.plane_core.proofs.OrientationLemmas.{has-map, has-map_from}
 use Rattle.plane_core.proofs.PartLemmas.{false_unless}
-use Rattle.plane_core.proofs.SetLemmas.{same_lists}
 use Rattle.plane_core.proofs.WindowLemmas.{in_window, lives_by-around, one_if-is, same_cell_at}
 use Rattle.plane_core.proofs.BoardLemmas.{less_or_not, same_or_not}
 
@@ -64,13 +59,16 @@ lit n left top x S c h e =
     let r = unsigned_abs (c.y -ℤ top) in
     let column : i < 64 = below c.x left 64 w.west w.east in
     let row : r < 4 * n = below c.y top (4 * n) w.north w.south in
-    let place : c ≡ in_window left top i r = same_cell_at _ _ _ _ (natural c.x left w.west) (natural c.y top w.north) in
-    (i, r, record {
-      column = column;
-      row = row;
-      place = place;
-      bit = eqb-true (bit_at (row_at n x r) i) 1 (sym (h.shown r i (omega arith) (omega arith) (omega arith) (omega arith)) ∙ sym (ap (has S) place) ∙ e);
-    })
+    let place : c ≡ in_window left top i r = same_cell_at _ _ _ _ (natural c.x left w.west) (natural c.y top w.north) in (
+      i,
+      r,
+      record {
+        column = column;
+        row = row;
+        place = place;
+        bit = eqb-true (bit_at (row_at n x r) i) 1 (sym (h.shown r i (omega arith) (omega arith) (omega arith) (omega arith)) ∙ sym (ap (has S) place) ∙ e);
+      },
+    )
 
 outside : (n : ℕ) (left top : ℤ) (x : List (List ℕ)) (S : List Cell) (c : Cell) → Holds n left top x S → (IsInWindow n left top c → ⊥) → has S c ≡ false
 outside n left top x S c h out = false_unless (has S c) (λ e. out (h.inside c e))
@@ -213,7 +211,7 @@ row_seen S n left top x some h whole e r i low is =
     west zero at =
         bit_if S (bit_at 0 63) (moved_by (negsuc 0) (pos 0) e) (moved_by (negsuc 0) (pos 0) e) refl (bit_at-lt 0 63)
         (outside n left top x S (moved_by (negsuc 0) (pos 0) e) h
-            (λ w. let k = w.west in let p = ap (λ (d : Cell). d.x) at in absurd (omega (arith, ints)))
+        (λ w. let k = w.west in let p = ap (λ (d : Cell). d.x) at in absurd (omega (arith, ints)))
         ∙ not_lit (bit_at 0 63) (bit_at-zero 63))
     west (suc k) at =
         bit_if S (bit_at word k) (moved_by (negsuc 0) (pos 0) e) (in_window left top k r)
@@ -224,7 +222,7 @@ row_seen S n left top x some h whole e r i low is =
         let last : i ≡ 63 = eqb-true i 63 t in
         bit_if S (bit_at 0 0) (moved_by (pos 1) (pos 0) e) (moved_by (pos 1) (pos 0) e) refl (bit_at-lt 0 0)
         (outside n left top x S (moved_by (pos 1) (pos 0) e) h
-            (λ w. let k = w.east in let p = ap (λ (d : Cell). d.x) is in absurd (omega (arith, ints)))
+        (λ w. let k = w.east in let p = ap (λ (d : Cell). d.x) is in absurd (omega (arith, ints)))
         ∙ not_lit (bit_at 0 0) (bit_at-zero 0))
     east false t =
         bit_if S (bit_at word (i + 1)) (moved_by (pos 1) (pos 0) e) (in_window left top (i + 1) r)
@@ -234,8 +232,15 @@ row_seen S n left top x some h whole e r i low is =
 row_over : (S : List Cell) (n : ℕ) (left top : ℤ) (x : List (List ℕ)) → Holds n left top x S → (e : Cell) (i : ℕ) → e.y ≡ top -ℤ pos 1
     → row_total (map one_of S) e ≡ row_sum 0 i
 row_over S n left top x h e i is =
-    omega (arith, none (moved_by (pos 1) (pos 0) e) (omega (arith, ints)), none e is, none (moved_by (negsuc 0) (pos 0) e) (omega (arith, ints)),
-    west i, bit_at-zero i, east (i == 63))
+    omega (
+      arith,
+      none (moved_by (pos 1) (pos 0) e) (omega (arith, ints)),
+      none e is,
+      none (moved_by (negsuc 0) (pos 0) e) (omega (arith, ints)),
+      west i,
+      bit_at-zero i,
+      east (i == 63),
+    )
   where
     none : (d : Cell) → d.y ≡ top -ℤ pos 1 → counted_at (map one_of S) d ≡ 0
     none d at = total-ones S d h.in_order

@@ -12,6 +12,7 @@ pub mod Glances
 pub mod Lanes
 pub mod Layouts
 pub mod Locality
+pub mod LonePatterns
 pub mod OrientationLaws
 pub mod Orientations
 pub mod Out

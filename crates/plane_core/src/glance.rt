@@ -12,12 +12,11 @@
 //! ```
 //!
 //! Only the 'no' is sure: what may have come back, or has come to the rim, is run elsewhere.
-ghost use Rattle.std.specs.Prelude.{◌≡◌, ◌==◌, ◌<◌, ◌≤◌, ℕ, IfSome, IsTrue, false, true, slice_index};
-ghost use Rattle.std.specs.Int.{bit_at};
+ghost use Rattle.std.specs.Prelude.{◌≡◌, ◌<◌, ◌≤◌, ℕ, ℤ, IfSome, IsTrue, List, false, true, slice_index};
 ghost use Rattle.plane_core.specs.Cells.{InOrder, has};
 ghost use Rattle.plane_core.specs.Generations.{NeverBack, after, touches_edge};
-ghost use Rattle.plane_core.specs.Layouts.{AreSidesWithin};
-ghost use Rattle.plane_core.specs.Glances.{Holds, IsInWindow, IsInland, IsSpot, ShowsRows};
+ghost use Rattle.plane_core.specs.Glances.{IsInland, IsNear, IsSpot, ShowsRows};
+ghost use Rattle.plane_core.specs.LonePatterns.{HasChanged, Holds, IsInWindow};
 ghost use Rattle.plane_core.specs.Windows.{row_at};
 ghost use Rattle.plane_core.specs.declared.cell.Cell.{Cell};
 
@@ -50,11 +49,19 @@ impl Pattern {
             return false;
         };
         let window = window_of(place, self.cells());
-        if is_life(rule) {
-            never_back(&window, &Life, generations)
-        } else {
-            never_back(&window, &AnyRule::new(rule), generations)
-        }
+        changes_in(&window, rule, generations)
+    }
+}
+
+/// Whether what the window shows is seen to change for so many generations. Life has a loop of its own.
+fn changes_in(window: &[u64x4; 16], rule: &Rule, generations: u32) -> bool
+    ensures { IsTrue result → (cells : List Cell) (left top : ℤ) → Holds 16 left top window.now cells
+        → HasChanged rule.now 16 left top cells generations }
+{
+    if is_life(rule) {
+        never_back(window, &Life, generations)
+    } else {
+        never_back(window, &AnyRule::new(rule), generations)
     }
 }
 
@@ -81,7 +88,7 @@ fn place_round(pattern: &Pattern) -> Option<Place>
 
 /// Whether the box lies far from the edge of the plane.
 fn is_near(bounds: Bounds) -> bool
-    ensures { IsTrue result → AreSidesWithin 900000 bounds }
+    ensures { IsTrue result → IsNear bounds }
 {
     bounds.left.unsigned_abs() <= 900_000
         && bounds.top.unsigned_abs() <= 900_000

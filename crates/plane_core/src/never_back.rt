@@ -15,8 +15,8 @@ ghost use Rattle.std.specs.Prelude.{◌≡◌, ◌+◌, ◌-◌, ◌*◌, ◌/�
 ghost use Rattle.std.specs.Prelude.{slice_index, slice_index_or};
 ghost use Rattle.std.specs.Int.{bit_at};
 ghost use Rattle.plane_core.specs.Bounds.{shifted};
-ghost use Rattle.plane_core.specs.Glances.{AreAlike, HasChanged, Holds, IsColumns, IsCorner, IsFirstRow, IsRimClear};
-ghost use Rattle.plane_core.specs.Glances.{IsVector, IsWhole};
+ghost use Rattle.plane_core.specs.LonePatterns.{AreAlike, HasChanged, Holds, IsColumns, IsCorner, IsFirstRow, IsRimClear};
+ghost use Rattle.plane_core.specs.LonePatterns.{IsVector, IsWhole};
 ghost use Rattle.plane_core.specs.Lanes.{bit_of};
 ghost use Rattle.plane_core.specs.Windows.{row_at};
 ghost use Rattle.plane_core.specs.declared.cell.Cell.{Cell};
@@ -35,7 +35,11 @@ struct Corner {
 /// Whether it is seen that no generation from 1 to `most` is the pattern again, moved or not, and that each lies in the
 /// window. The pattern is what `start` shows, and lies in the window whole. `false` says nothing.
 #[inline(always)]
-pub(crate) fn never_back<const N: usize, A: Answering>(start: &[u64x4; N], rule: &A, most: u32) -> bool
+pub(crate) fn never_back<const N: usize, A: Answering>(
+    start: &[u64x4; N],
+    rule: &A,
+    most: u32,
+) -> bool
     requires some { 0 < N }
     requires few { N ≤ 16 }
     ensures { IsTrue result → (cells : List Cell) (left top : ℤ) → Holds N left top start.now cells
@@ -184,7 +188,12 @@ fn marked(marks: u64x4, a: u64x4, b: u64x4) -> u64x4
 /// Whether the second window may show what the first one shows, moved or not. Given are the columns of both that have a
 /// live cell.
 #[inline(always)]
-fn may_be_again<const N: usize>(start: &[u64x4; N], from: u64, now: &[u64x4; N], columns: u64) -> bool
+fn may_be_again<const N: usize>(
+    start: &[u64x4; N],
+    from: u64,
+    now: &[u64x4; N],
+    columns: u64,
+) -> bool
     requires some { 0 < N }
     requires few { N ≤ 16 }
     requires alive { 0 < from }
@@ -205,7 +214,12 @@ fn may_be_again<const N: usize>(start: &[u64x4; N], from: u64, now: &[u64x4; N],
 }
 
 /// Whether the rows of both are the same, counted from the first row and the first column with a live cell.
-fn are_rows_again<const N: usize>(start: &[u64x4; N], from: u64, now: &[u64x4; N], columns: u64) -> bool
+fn are_rows_again<const N: usize>(
+    start: &[u64x4; N],
+    from: u64,
+    now: &[u64x4; N],
+    columns: u64,
+) -> bool
     requires some { 0 < N }
     requires few { N ≤ 16 }
     requires alive { 0 < from }
@@ -224,7 +238,9 @@ fn are_rows_again<const N: usize>(start: &[u64x4; N], from: u64, now: &[u64x4; N
         return true;
     };
     for r in 0..4 * N {
-        if row_or_none(start, first.row + r) >> first.column != row_or_none(now, second.row + r) >> second.column {
+        if row_or_none(start, first.row + r) >> first.column
+            != row_or_none(now, second.row + r) >> second.column
+        {
             return false;
         }
     }
@@ -239,7 +255,10 @@ fn corner_of<const N: usize>(window: &[u64x4; N], columns: u64) -> Option<Corner
     ensures { IfSome result (IsCorner N window.now columns) }
 {
     let row = first_row(window)?;
-    Some(Corner { row, column: columns.trailing_zeros() })
+    Some(Corner {
+        row,
+        column: columns.trailing_zeros(),
+    })
 }
 
 /// The first row with a live cell.

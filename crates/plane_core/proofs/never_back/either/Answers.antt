@@ -1,8 +1,7 @@
-use Rattle.std.proofs.Common.{◌≡◌, bit_or, ap, ◌∙◌}
+use Rattle.std.proofs.Common.{bit_or, ap, ◌∙◌}
 use Rattle.std.specs.Int.{bit_at}
 use Rattle.std.proofs.lemmas.Nat.Bits.{bit_at_or}
 use Rattle.plane_core.proofs.LaneLemmas.{lane_of}
-use Rattle.plane_core.proofs.NeverBackLemmas.{held_anywhere}
 use Rattle.plane_core.proofs.never_back.either.Goals as goal
 
 pub returns-clause-bits : goal.returns-clause-bits

@@ -1,7 +1,7 @@
 use Rattle.std.proofs.Common.{◌≡◌, ◌*◌, ◌<◌, ℕ, List, arith, inl, inr}
 use Rattle.std.specs.Int.{bit_at}
 use Rattle.std.proofs.lemmas.Nat.Bits.{bit_at-lt}
-use Rattle.plane_core.specs.Glances.{IsColumns}
+use Rattle.plane_core.specs.LonePatterns.{IsColumns}
 use Rattle.plane_core.specs.Windows.{row_at}
 use Rattle.plane_core.proofs.BoardLemmas.{same_or_not}
 use Rattle.plane_core.proofs.never_back.is_rim_clear.Goals as goal

@@ -1,5 +1,4 @@
 use Rattle.std.proofs.Common.{◌+◌, ℕ, List, arith, subst, sym}
-use Rattle.plane_core.specs.Rules.{Numbers}
 use Rattle.plane_core.proofs.AgainLemmas.{IsChanging, changed-fewer, changing_ends, changing_keeps, changing_more, changing_start}
 use Rattle.plane_core.proofs.never_back.never_back.Goals.{then-made-eq0, else-made-eq0}
 use Rattle.plane_core.proofs.never_back.never_back.Goals as goal
