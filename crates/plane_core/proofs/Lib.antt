@@ -1,4 +1,5 @@
 pub mod AdvanceLemmas
+pub mod AgainLemmas
 pub mod AnswerLemmas
 pub mod BoardLemmas
 pub mod BoundsLemmas
@@ -26,6 +27,7 @@ pub mod MergeLemmas
 pub mod NeighbourLemmas
 pub mod NeighbourhoodLemmas
 pub mod OnBoardLemmas
+pub mod NeverBackLemmas
 pub mod OrientationLemmas
 pub mod OutLemmas
 pub mod PartLemmas

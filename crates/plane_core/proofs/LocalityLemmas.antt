@@ -1,13 +1,10 @@
 -- How far a cell sees.
-use Rattle.std.proofs.Common.{◌≡◌, ◌+◌, ◌≤◌, ℕ, ℤ, ◌+ℤ◌, ◌-ℤ◌, ◌≤ℤ◌, pos, zero, suc, List, arith, ap, ◌∙◌, sym}
+use Rattle.std.proofs.Common.{◌≤◌, ℕ, ℤ, ◌+ℤ◌, ◌-ℤ◌, ◌≤ℤ◌, pos, zero, suc, List, arith, ap, ◌∙◌, sym}
 use Rattle.std.proofs.lemmas.Int.{ints}
 use Rattle.plane_core.specs.declared.cell.Cell.{Cell}
-use Rattle.plane_core.specs.declared.bounds.Bounds.{Bounds}
-use Rattle.plane_core.specs.Bounds.{IsWithin}
-use Rattle.plane_core.specs.Cells.{InOrder, distance, has, king_distance}
+use Rattle.plane_core.specs.Cells.{distance, has}
 use Rattle.plane_core.specs.Generations.{after}
-use Rattle.plane_core.specs.Locality.{RightInside, SeesNoFurther, narrowed}
-use Rattle.plane_core.specs.Rules.{Numbers}
+use Rattle.plane_core.specs.Locality.{RightInside, SeesNoFurther}
 use Rattle.plane_core.proofs.GenerationLemmas.{after-none, distance_itself, has-next}
 use Rattle.plane_core.proofs.PartLemmas.{lives-local, triangle}
 use Rattle.plane_core.proofs.RunLemmas.{in_order-after}

@@ -17,6 +17,7 @@ pub mod Leaping
 pub mod Listing
 pub mod Locality
 pub mod OnBoard
+pub mod LonePatterns
 pub mod OrientationLaws
 pub mod Orientations
 pub mod Out

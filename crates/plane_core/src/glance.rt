@@ -1,46 +1,36 @@
-//! A window of 64 by 64 cells, a word a row. A small pattern is run in it to see, at a few operations a row, that it
-//! doesn't come back:
+//! A glance at a small pattern: it is run alone, in a window of 64 by 64 cells, to see at a few operations a vector that
+//! it doesn't come back:
 //!
 //! ```text
 //! +----------------+
-//! |                |    A generation is compared with the start by its first cell: moved from the one first cell to
-//! |    X.O         |    the other, each cell of the start must be alive. Mostly the second or third isn't.
-//! |     OO.        |
-//! |      O         |    While no cell stands on the rim, the next generation is inside the window as well.
+//! |                |    The pattern lies in the middle of the window, with as many empty columns and rows on each
+//! |    XO          |    side, or one more to the right and below.
+//! |     OO         |
+//! |      O         |
+//! |                |
 //! +----------------+
 //! ```
 //!
 //! Only the 'no' is sure: what may have come back, or has come to the rim, is run elsewhere.
-ghost use Rattle.std.specs.Prelude.{◌≡◌, ◌≢◌, ◌+◌, ◌-◌, ◌*◌, ◌/◌, ◌%◌, ◌<◌, ◌≤◌, [], ℕ, ℤ, IfSome, IsTrue, List, false};
-ghost use Rattle.std.specs.Prelude.{length, slice_index};
-ghost use Rattle.std.specs.Int.{bit_at};
-ghost use Rattle.plane_core.specs.Boards.{IsNext, IsNextAt};
-ghost use Rattle.plane_core.specs.BoardSteps.{KeepsOuter};
-ghost use Rattle.plane_core.specs.Bounds.{shifted, IsWithin};
-ghost use Rattle.plane_core.specs.Cells.{InOrder};
-ghost use Rattle.plane_core.specs.Generations.{NeverBack, after, next, touches_edge};
-ghost use Rattle.plane_core.specs.Layouts.{AreSidesWithin, HasRoom, IsDead, IsLaid, IsShown, room};
-ghost use Rattle.plane_core.specs.Glances.{AreSidesClear, HasChanged, IsColumnClear, IsEmptyRound, IsFirst, IsInland};
-ghost use Rattle.plane_core.specs.Glances.{IsRimClear, IsSeen, IsSpot, IsStepped, IsWindow, window_grid};
+ghost use Rattle.std.specs.Prelude.{◌≡◌, ◌<◌, ◌≤◌, ℕ, ℤ, IfSome, IsTrue, List, false, true, slice_index};
+ghost use Rattle.plane_core.specs.Cells.{InOrder, has};
+ghost use Rattle.plane_core.specs.Generations.{NeverBack, after, touches_edge};
+ghost use Rattle.plane_core.specs.Glances.{IsInland, IsNear, IsSpot, ShowsRows};
+ghost use Rattle.plane_core.specs.LonePatterns.{HasChanged, Holds, IsInWindow};
+ghost use Rattle.plane_core.specs.Windows.{row_at};
 ghost use Rattle.plane_core.specs.declared.cell.Cell.{Cell};
 
-use crate::blocks::{Grid, next_words};
+use crate::answers::{AnyRule, Life, is_life};
 use crate::bounds::Bounds;
 use crate::cell::Cell;
 use crate::coordinate::{apart, back};
-use crate::layout::Layout;
+use crate::never_back::never_back;
 use crate::pattern::Pattern;
+use crate::place::Place;
 use crate::rule::Rule;
-use crate::word::Answers;
+use std::simd::prelude::*;
 
-/// The board of a window: three lanes of ten blocks. Cells stand in the middle lane, in the blocks 11 to 18 of the
-/// list.
-const WINDOW: Grid = Grid {
-    blocks: 10,
-    count: 30,
-};
-
-/// A place in the window: columns and rows from the first cell of its board.
+/// A place in the window: columns and rows from its first cell.
 #[derive(Clone, Copy)]
 struct Spot {
     across: usize,
@@ -55,22 +45,31 @@ impl Pattern {
         ensures new { IsTrue result → NeverBack rule.now self.now generations }
         ensures inside { IsTrue result → (g : ℕ) → g ≤ generations → touches_edge (after rule.now self.now g) ≡ false }
     {
-        if self.population() == 0 {
-            return false;
-        }
-        let Some(at) = window_round(self) else {
+        let Some(place) = place_round(self) else {
             return false;
         };
-        changes_in(at, rule, self.cells(), generations)
+        let window = window_of(place, self.cells());
+        changes_in(&window, rule, generations)
     }
 }
 
-/// A window round a small pattern that lies far from the edge of the plane.
-fn window_round(pattern: &Pattern) -> Option<Layout>
-    ensures laid { IfSome result IsLaid }
-    ensures window { IfSome result IsWindow }
+/// Whether what the window shows is seen to change for so many generations. Life has a loop of its own.
+fn changes_in(window: &[u64x4; 16], rule: &Rule, generations: u32) -> bool
+    ensures { IsTrue result → (cells : List Cell) (left top : ℤ) → Holds 16 left top window.now cells
+        → HasChanged rule.now 16 left top cells generations }
+{
+    if is_life(rule) {
+        never_back(window, &Life, generations)
+    } else {
+        never_back(window, &AnyRule::new(rule), generations)
+    }
+}
+
+/// Where a window round a small pattern lies, which is far from the edge of the plane.
+fn place_round(pattern: &Pattern) -> Option<Place>
     ensures inland { IfSome result IsInland }
-    ensures room { IfSome result (λ at. HasRoom at 0 pattern.now) }
+    ensures inside { IfSome result
+        (λ place. (c : Cell) → has pattern.now c ≡ true → IsInWindow 16 place.left place.top c) }
 {
     let bounds = pattern.bounds()?;
     if !is_near(bounds) {
@@ -81,17 +80,15 @@ fn window_round(pattern: &Pattern) -> Option<Layout>
     if width > 61 || height > 61 {
         return None;
     }
-    Some(Layout {
-        left: back(bounds.left, 64 + (63 - width) / 2),
-        top: back(bounds.top, 8 + (63 - height) / 2),
-        lanes: 3,
-        blocks: 10,
+    Some(Place {
+        left: back(bounds.left, (63 - width) / 2),
+        top: back(bounds.top, (63 - height) / 2),
     })
 }
 
 /// Whether the box lies far from the edge of the plane.
 fn is_near(bounds: Bounds) -> bool
-    ensures { IsTrue result → AreSidesWithin 900000 bounds }
+    ensures { IsTrue result → IsNear bounds }
 {
     bounds.left.unsigned_abs() <= 900_000
         && bounds.top.unsigned_abs() <= 900_000
@@ -99,252 +96,48 @@ fn is_near(bounds: Bounds) -> bool
         && bounds.bottom.unsigned_abs() <= 900_000
 }
 
-/// Whether the cells are seen to change in the window for so many generations.
-fn changes_in(at: Layout, rule: &Rule, cells: &[Cell], generations: u32) -> bool
-    requires laid { IsLaid at }
-    requires window { IsWindow at }
+/// The window at this place with these cells.
+fn window_of(place: Place, cells: &[Cell]) -> [u64x4; 16]
     requires order { InOrder cells.now }
-    requires some { 1 ≤ length cells.now }
-    requires room { HasRoom at 0 cells.now }
-    ensures { IsTrue result → HasChanged rule.now at cells.now generations }
+    requires inside { (c : Cell) → has cells.now c ≡ true → IsInWindow 16 place.left place.top c }
+    ensures { Holds 16 place.left place.top result cells.now }
 {
-    let answers = Answers::new(rule);
-    let mut now = [0; 240];
-    let mut later = [0; 240];
-    fill(at, &mut now, cells);
-    for half in 0..generations / 2 + 1 {
-        let changed = goes_on(&answers, at, cells, &now, &mut later);
-        if !changed {
-            return false;
-        }
-        let changed_again = goes_on(&answers, at, cells, &later, &mut now);
-        if !changed_again {
-            return false;
-        }
-    }
-    true
+    packed(&rows_of(place, cells))
 }
 
-/// Makes the next generation, and says whether it is seen not to be the start again, and to be inside the window.
-fn goes_on(answers: &Answers, at: Layout, start: &[Cell], now: &[u64], later: &mut [u64]) -> bool
-    requires laid { IsLaid at }
-    requires window { IsWindow at }
-    requires some { 1 ≤ length start.now }
-    requires room { HasRoom at 0 start.now }
-    requires now { length now.now ≡ 240 }
-    requires later { length later.old ≡ 240 }
-    ensures seen { IsTrue result → (cells : List Cell) → IsDead window_grid later.old → IsSeen at now.now cells
-        → IsSeen at later.new (next answers.now.rule cells) }
-    ensures new { IsTrue result → (cells : List Cell) (dx dy : ℤ) → IsDead window_grid later.old
-        → IsSeen at now.now cells → next answers.now.rule cells ≢ shifted dx dy start.now }
-    ensures long { length later.new ≡ 240 }
+/// The rows of a window, each as lane r / 16 of vector r % 16.
+fn packed(rows: &[u64; 64]) -> [u64x4; 16]
+    ensures { (r : ℕ) → r < 64 → row_at 16 result r ≡ slice_index rows.now r }
 {
-    if !is_rim_clear(now) {
-        return false;
+    let mut window = [u64x4::splat(0); 16];
+    for k in 0..16 {
+        window[k] = u64x4::from_array([rows[k], rows[16 + k], rows[32 + k], rows[48 + k]]);
     }
-    step(answers, now, later);
-    let maybe = may_be(at, later, start);
-    !maybe
+    window
 }
 
-/// Whether neither the first nor the last column is among these.
-fn are_sides_clear(columns: u64) -> bool
-    ensures { IsTrue result → AreSidesClear columns }
+/// The rows of the window at this place with these cells.
+fn rows_of(place: Place, cells: &[Cell]) -> [u64; 64]
+    requires { (c : Cell) → has cells.now c ≡ true → IsInWindow 16 place.left place.top c }
+    ensures { ShowsRows place result cells.now }
 {
-    if columns & 1 != 0 {
-        return false;
+    let mut rows = [0; 64];
+    for cell in cells {
+        let spot = spot_of(place, *cell);
+        rows[spot.down] |= 1 << spot.across;
     }
-    if columns >> 63 != 0 {
-        return false;
-    }
-    true
+    rows
 }
 
-/// Whether no cell stands on the rim.
-fn is_rim_clear(words: &[u64]) -> bool
-    requires { length words.now ≡ 240 }
-    ensures { IsTrue result → IsRimClear words.now }
-{
-    if words[88] != 0 {
-        return false;
-    }
-    if words[151] != 0 {
-        return false;
-    }
-    are_sides_clear(columns_of(words))
-}
-
-/// Which columns have a cell.
-fn columns_of(words: &[u64]) -> u64
-    requires { length words.now ≡ 240 }
-    ensures { (b : ℕ) → bit_at result b ≡ 0 → IsColumnClear words.now 152 b }
-{
-    let mut columns = 0;
-    for i in 88..152 {
-        columns |= words[i];
-    }
-    columns
-}
-
-/// Makes the next generation.
-fn step(answers: &Answers, now: &[u64], later: &mut [u64])
-    requires now { length now.now ≡ 240 }
-    requires later { length later.old ≡ 240 }
-    ensures next { IsNext answers.now.rule window_grid now.now later.new }
-    ensures outer { KeepsOuter window_grid later.old later.new }
-    ensures long { length later.new ≡ 240 }
-{
-    for band in 0..8 {
-        step_eight(answers, now, later, 88 + 8 * band);
-    }
-}
-
-/// Makes eight rows of the next generation, from this word on.
-fn step_eight(answers: &Answers, now: &[u64], later: &mut [u64], from: usize)
-    requires now { length now.now ≡ 240 }
-    requires later { length later.old ≡ 240 }
-    requires low { 88 ≤ from }
-    requires high { from ≤ 144 }
-    ensures stepped { (old : List ℕ) → IsStepped answers.now.rule from now.now old later.old
-        → IsStepped answers.now.rule (from + 8) now.now old later.new }
-    ensures long { length later.new ≡ 240 }
-{
-    let words = next_eight(answers, now, from);
-    for k in 0..8 {
-        later[from + k] = words[k];
-    }
-}
-
-/// Eight rows of the next generation, from this word on. Most are far from any cell, and stay empty.
-fn next_eight(answers: &Answers, now: &[u64], from: usize) -> [u64; 8]
-    requires now { length now.now ≡ 240 }
-    requires low { 88 ≤ from }
-    requires high { from ≤ 144 }
-    ensures { (k : ℕ) → k < 8 → IsNextAt answers.now.rule window_grid now.now (from + k) (slice_index result k) }
-{
-    if is_empty_round(now, from) {
-        return [0; 8];
-    }
-    next_words(answers, WINDOW, now, from)
-}
-
-/// Whether no cell is alive in eight rows, from this word on, nor in any word round them.
-fn is_empty_round(words: &[u64], from: usize) -> bool
-    requires now { length words.now ≡ 240 }
-    requires low { 88 ≤ from }
-    requires high { from ≤ 144 }
-    ensures { IsTrue result → IsEmptyRound words.now from }
-{
-    let west = columns_from(words, from - 81);
-    let here = columns_from(words, from - 1);
-    let east = columns_from(words, from + 79);
-    let columns = west | here | east;
-    columns == 0
-}
-
-/// Which columns have a cell in ten words, from this one on.
-fn columns_from(words: &[u64], from: usize) -> u64
-    requires { from + 10 ≤ length words.now }
-    ensures { (b k : ℕ) → bit_at result b ≡ 0 → k < 10 → bit_at (slice_index words.now (from + k)) b ≡ 0 }
-{
-    let mut columns = 0;
-    for k in 0..10 {
-        columns |= words[from + k];
-    }
-    columns
-}
-
-/// Whether the window may show the start again, moved or not.
-fn may_be(at: Layout, words: &[u64], start: &[Cell]) -> bool
-    requires laid { IsLaid at }
-    requires window { IsWindow at }
-    requires long { length words.now ≡ 240 }
-    requires some { 1 ≤ length start.now }
-    requires room { HasRoom at 0 start.now }
-    ensures { (cells : List Cell) (dx dy : ℤ) → IsSeen at words.now cells → cells ≡ shifted dx dy start.now
-        → IsTrue result }
-{
-    let Some(to) = first_spot(words) else {
-        return true;
-    };
-    let from = spot_of(at, start[0]);
-    for cell in start {
-        if !is_alive_moved(words, spot_of(at, *cell), from, to) {
-            return false;
-        }
-    }
-    true
-}
-
-/// Where the first live cell is.
-fn first_spot(words: &[u64]) -> Option<Spot>
-    requires { length words.now ≡ 240 }
-    ensures { IfSome result (IsFirst words.now) }
-{
-    for down in 8..72 {
-        let word = words[80 + down];
-        if word != 0 {
-            let across = 64 + word.trailing_zeros() as usize;
-            return Some(Spot { across, down });
-        }
-    }
-    None
-}
-
-/// Where the cell is.
-fn spot_of(at: Layout, cell: Cell) -> Spot
-    requires laid { IsLaid at }
-    requires window { IsWindow at }
-    requires within { IsWithin (room at 0) cell }
-    ensures spot { IsSpot at cell result.across result.down }
-    ensures across { result.across < 128 }
-    ensures down { result.down < 72 }
+/// Where the cell is in the window.
+fn spot_of(place: Place, cell: Cell) -> Spot
+    requires { IsInWindow 16 place.left place.top cell }
+    ensures spot { IsSpot place cell result.across result.down }
+    ensures across { result.across < 64 }
+    ensures down { result.down < 64 }
 {
     Spot {
-        across: (cell.x - at.left) as usize,
-        down: (cell.y - at.top) as usize,
-    }
-}
-
-/// Whether the cell is alive that is as far from the one place as this one is from the other.
-fn is_alive_moved(words: &[u64], spot: Spot, from: Spot, to: Spot) -> bool
-    requires long { length words.now ≡ 240 }
-    requires across { spot.across + to.across < 1000 }
-    requires down { spot.down + to.down < 1000 }
-    ensures { (a d : ℕ) → a + from.across ≡ spot.across + to.across → d + from.down ≡ spot.down + to.down → 64 ≤ a
-        → a < 128 → d < 80
-        → bit_at (slice_index words.now (80 + d)) (a - 64) ≡ 1 → IsTrue result }
-{
-    let across = spot.across + to.across;
-    let down = spot.down + to.down;
-    if across < from.across || down < from.down {
-        return false;
-    }
-    is_alive(words, across - from.across, down - from.down)
-}
-
-/// Whether the cell so many columns and rows from the first one of the board lies in the window and is alive.
-fn is_alive(words: &[u64], across: usize, down: usize) -> bool
-    requires { length words.now ≡ 240 }
-    ensures { 64 ≤ across → across < 128 → down < 80 → bit_at (slice_index words.now (80 + down)) (across - 64) ≡ 1
-        → IsTrue result }
-{
-    64 <= across && across < 128 && down < 80 && words[80 + down] >> (across - 64) & 1 == 1
-}
-
-/// Puts the cells into an empty window.
-fn fill(at: Layout, words: &mut [u64], cells: &[Cell])
-    requires laid { IsLaid at }
-    requires window { IsWindow at }
-    requires room { HasRoom at 0 cells.now }
-    requires long { length words.old ≡ 240 }
-    requires empty { (i : ℕ) → slice_index words.old i ≡ 0 }
-    ensures shown { IsShown at words.new cells.now }
-    ensures dead { IsDead window_grid words.new }
-    ensures long { length words.new ≡ 240 }
-{
-    for cell in cells {
-        let spot = spot_of(at, *cell);
-        words[spot.across / 64 * 80 + spot.down] |= 1 << (spot.across % 64);
+        across: (cell.x - place.left) as usize,
+        down: (cell.y - place.top) as usize,
     }
 }

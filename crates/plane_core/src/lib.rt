@@ -32,6 +32,7 @@ mod listing;
 mod loading;
 /// How far a cell sees.
 pub mod locality;
+mod never_back;
 /// The eight orientations.
 pub mod orientation;
 /// A writer that remembers that it failed.

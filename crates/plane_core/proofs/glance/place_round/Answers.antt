@@ -1,0 +1,32 @@
+use Rattle.std.proofs.Common.{FitsSigned, rules, w32}
+use Rattle.std.proofs.lemmas.Int.{to_z-of_z}
+use Rattle.plane_core.proofs.GlanceLemmas.{IsPlacedRound, place_has_cells, place_is_inland}
+use Rattle.plane_core.proofs.glance.place_round.Goals as goal
+
+is_round : (c : goal.After-back-2) → IsPlacedRound c.in_ok-bounds.bounds c.apart-width.result c.apart-height.result
+    (record { left = c.back.result; top = c.back-2.result })
+is_round c =
+    let left : FitsSigned w32 c.in_ok-bounds.bounds.left = search rules in
+    let top : FitsSigned w32 c.in_ok-bounds.bounds.top = search rules in
+    let right : FitsSigned w32 c.in_ok-bounds.bounds.right = search rules in
+    let bottom : FitsSigned w32 c.in_ok-bounds.bounds.bottom = search rules in
+    record {
+      left = simp to_z-of_z at c.back.ensures;
+      top = simp to_z-of_z at c.back-2.ensures;
+      across = simp to_z-of_z at c.apart-width.ensures;
+      down = simp to_z-of_z at c.apart-height.ensures;
+      wide = c.if-width-gt61.false;
+      high = c.if-height-gt61.false;
+    }
+
+pub returns-clause-inland : goal.returns-clause-inland
+returns-clause-inland c =
+    let left : FitsSigned w32 c.back.result = search rules in
+    let top : FitsSigned w32 c.back-2.result = search rules in
+    simp to_z-of_z (place_is_inland c.in_ok-bounds.bounds _ _ _ (c.is_near.ensures c.if-not-is_near.false) (is_round c))
+
+pub returns-clause-inside : goal.returns-clause-inside
+returns-clause-inside c =
+    let left : FitsSigned w32 c.back.result = search rules in
+    let top : FitsSigned w32 c.back-2.result = search rules in
+    simp to_z-of_z (place_has_cells c.in_ok-bounds.bounds _ _ _ c.args.pattern.now (is_round c) c.in_ok-bounds.ensures.least)

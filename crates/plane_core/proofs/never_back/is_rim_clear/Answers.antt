@@ -1,0 +1,22 @@
+use Rattle.std.proofs.Common.{◌≡◌, ◌*◌, ◌<◌, ℕ, List, arith, inl, inr}
+use Rattle.std.specs.Int.{bit_at}
+use Rattle.std.proofs.lemmas.Nat.Bits.{bit_at-lt}
+use Rattle.plane_core.specs.LonePatterns.{IsColumns}
+use Rattle.plane_core.specs.Windows.{row_at}
+use Rattle.plane_core.proofs.BoardLemmas.{same_or_not}
+use Rattle.plane_core.proofs.never_back.is_rim_clear.Goals as goal
+
+-- a column that isn't among the live ones
+dark : (n : ℕ) (x : List (List ℕ)) (w i r : ℕ) → IsColumns n x w → bit_at w i ≡ 0 → r < 4 * n → bit_at (row_at n x r) i ≡ 0
+dark n x w i r columns none low = elim (same_or_not (bit_at (row_at n x r) i) 1) [
+  | inl one ↦ absurd (let k = columns.all r i low one in omega arith)
+  | inr apart ↦ omega (arith, apart, bit_at-lt (row_at n x r) i)
+]
+
+pub returns : goal.returns
+returns g c = λ clear. let sides = c.are_sides_clear.ensures clear in record {
+  top = omega (arith, c.row.ensures, c.if-row-ne0.false);
+  bottom = omega (arith, c.row-2.ensures, c.if-row-ne0-2.false);
+  left = λ r low. dark g.row.N c.args.window.now c.args.columns 0 r c.requires.columns sides.0 low;
+  right = λ r low. dark g.row.N c.args.window.now c.args.columns 63 r c.requires.columns sides.1 low;
+}

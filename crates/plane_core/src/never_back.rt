@@ -1,0 +1,276 @@
+//! Whether a pattern in a window is seen not to come back. The window has the pattern and nothing else, so its
+//! generations are the pattern's as long as no cell stands on the rim:
+//!
+//! ```text
+//! +----------------+
+//! |                |    A generation that is the start again, moved or not, has live cells in the same columns from
+//! |    OO.         |    the first one on, and the same rows from the first row and the first column on. Mostly the
+//! |     OO.        |    columns already differ.
+//! |      O         |
+//! +----------------+    Where a generation is one that was there before, all that follow were there before too.
+//! ```
+//!
+//! Only the 'no' is sure: what may have come back, or has come to the rim, is run elsewhere.
+ghost use Rattle.std.specs.Prelude.{◌≡◌, ◌+◌, ◌-◌, ◌*◌, ◌/◌, ◌^◌, ◌<◌, ◌≤◌, [], ℕ, ℤ, IfSome, IsTrue, List, max};
+ghost use Rattle.std.specs.Prelude.{slice_index, slice_index_or};
+ghost use Rattle.std.specs.Int.{bit_at};
+ghost use Rattle.plane_core.specs.Bounds.{shifted};
+ghost use Rattle.plane_core.specs.LonePatterns.{AreAlike, HasChanged, Holds, IsColumns, IsCorner, IsFirstRow, IsRimClear};
+ghost use Rattle.plane_core.specs.LonePatterns.{IsVector, IsWhole};
+ghost use Rattle.plane_core.specs.Lanes.{bit_of};
+ghost use Rattle.plane_core.specs.Windows.{row_at};
+ghost use Rattle.plane_core.specs.declared.cell.Cell.{Cell};
+
+use crate::answers::Answering;
+use crate::window::generation;
+use std::simd::prelude::*;
+
+/// The first row and the first column of a window that have a live cell.
+#[derive(Clone, Copy)]
+struct Corner {
+    row: usize,
+    column: u32,
+}
+
+/// Whether it is seen that no generation from 1 to `most` is the pattern again, moved or not, and that each lies in the
+/// window. The pattern is what `start` shows, and lies in the window whole. `false` says nothing.
+#[inline(always)]
+pub(crate) fn never_back<const N: usize, A: Answering>(
+    start: &[u64x4; N],
+    rule: &A,
+    most: u32,
+) -> bool
+    requires some { 0 < N }
+    requires few { N ≤ 16 }
+    ensures { IsTrue result → (cells : List Cell) (left top : ℤ) → Holds N left top start.now cells
+        → HasChanged (A.rule rule.now) N left top cells most }
+{
+    let from = columns_of(start);
+    if from == 0 {
+        return false;
+    }
+    let mut now = *start;
+    let mut columns = from;
+    let mut kept = *start;
+    for made in 0..most {
+        if !is_rim_clear(&now, columns) {
+            return false;
+        }
+        generation(&mut now, rule);
+        columns = columns_of(&now);
+        if may_be_again(start, from, &now, columns) {
+            return false;
+        }
+        if are_alike(&now, &kept) {
+            return true;
+        }
+        // One that is kept at each power of two ends a cycle of any length.
+        if (made + 1) & made == 0 {
+            kept = now;
+        }
+    }
+    true
+}
+
+/// Which columns have a live cell.
+#[inline(always)]
+fn columns_of<const N: usize>(window: &[u64x4; N]) -> u64
+    ensures columns { IsColumns N window.now result }
+    ensures whole { IsWhole N window.now }
+{
+    let mut all = u64x4::splat(0);
+    for k in 0..N {
+        all = either(all, window[k]);
+    }
+    in_any_lane(all)
+}
+
+/// The bits of both.
+#[inline(always)]
+fn either(a: u64x4, b: u64x4) -> u64x4
+    ensures bits { (j i : ℕ) → j < 4 → bit_of result j i ≡ max (bit_of a j i) (bit_of b j i) }
+    ensures vector { IsVector b }
+{
+    a | b
+}
+
+/// The bits of all four lanes.
+#[inline(always)]
+fn in_any_lane(vector: u64x4) -> u64
+    ensures { (i : ℕ) → bit_at result i
+        ≡ max (max (bit_of vector 0 i) (bit_of vector 1 i)) (max (bit_of vector 2 i) (bit_of vector 3 i)) }
+{
+    let words = vector.to_array();
+    (words[0] | words[1]) | (words[2] | words[3])
+}
+
+/// A row of the window.
+#[inline(always)]
+fn row<const N: usize>(window: &[u64x4; N], r: usize) -> u64
+    requires some { 0 < N }
+    requires low { r < 4 * N }
+    ensures { result ≡ row_at N window.now r }
+{
+    lane(window[r % N], r / N)
+}
+
+/// The word in a lane.
+#[inline(always)]
+fn lane(vector: u64x4, j: usize) -> u64
+    requires { j < 4 }
+    ensures { result ≡ slice_index vector j }
+{
+    vector.to_array()[j]
+}
+
+/// A row of the window, or an empty one past its end.
+fn row_or_none<const N: usize>(window: &[u64x4; N], r: usize) -> u64
+    requires some { 0 < N }
+    requires few { N ≤ 16 }
+    ensures inside { r < 4 * N → result ≡ row_at N window.now r }
+    ensures outside { 4 * N ≤ r → result ≡ 0 }
+{
+    if r < 4 * N { row(window, r) } else { 0 }
+}
+
+/// Whether no cell stands on the rim.
+#[inline(always)]
+fn is_rim_clear<const N: usize>(window: &[u64x4; N], columns: u64) -> bool
+    requires some { 0 < N }
+    requires few { N ≤ 16 }
+    requires columns { IsColumns N window.now columns }
+    ensures { IsTrue result → IsRimClear N window.now }
+{
+    if row(window, 0) != 0 {
+        return false;
+    }
+    if row(window, 4 * N - 1) != 0 {
+        return false;
+    }
+    are_sides_clear(columns)
+}
+
+/// Whether neither the first nor the last column is among these.
+#[inline(always)]
+fn are_sides_clear(columns: u64) -> bool
+    ensures { IsTrue result → (bit_at columns 0 ≡ 0) × (bit_at columns 63 ≡ 0) }
+{
+    if columns & 1 != 0 {
+        return false;
+    }
+    if columns >> 63 != 0 {
+        return false;
+    }
+    true
+}
+
+/// Whether two windows have the same cells.
+#[inline(always)]
+fn are_alike<const N: usize>(one: &[u64x4; N], other: &[u64x4; N]) -> bool
+    ensures { IsTrue result → AreAlike N one.now other.now }
+{
+    let mut differ = u64x4::splat(0);
+    for k in 0..N {
+        differ = marked(differ, one[k], other[k]);
+    }
+    in_any_lane(differ) == 0
+}
+
+/// The marks, and a mark where the two differ.
+#[inline(always)]
+fn marked(marks: u64x4, a: u64x4, b: u64x4) -> u64x4
+    ensures before { (j i : ℕ) → j < 4 → bit_of result j i ≡ 0 → bit_of marks j i ≡ 0 }
+    ensures same { (j i : ℕ) → j < 4 → bit_of result j i ≡ 0 → bit_of a j i ≡ bit_of b j i }
+{
+    marks | (a ^ b)
+}
+
+/// Whether the second window may show what the first one shows, moved or not. Given are the columns of both that have a
+/// live cell.
+#[inline(always)]
+fn may_be_again<const N: usize>(
+    start: &[u64x4; N],
+    from: u64,
+    now: &[u64x4; N],
+    columns: u64,
+) -> bool
+    requires some { 0 < N }
+    requires few { N ≤ 16 }
+    requires alive { 0 < from }
+    requires from { IsColumns N start.now from }
+    requires columns { IsColumns N now.now columns }
+    requires whole { IsWhole N start.now }
+    requires whole_now { IsWhole N now.now }
+    ensures { (cells : List Cell) (left top dx dy : ℤ) → Holds N left top start.now cells
+        → Holds N left top now.now (shifted dx dy cells) → IsTrue result }
+{
+    if columns == 0 {
+        return false;
+    }
+    if from >> from.trailing_zeros() != columns >> columns.trailing_zeros() {
+        return false;
+    }
+    are_rows_again(start, from, now, columns)
+}
+
+/// Whether the rows of both are the same, counted from the first row and the first column with a live cell.
+fn are_rows_again<const N: usize>(
+    start: &[u64x4; N],
+    from: u64,
+    now: &[u64x4; N],
+    columns: u64,
+) -> bool
+    requires some { 0 < N }
+    requires few { N ≤ 16 }
+    requires alive { 0 < from }
+    requires alive_now { 0 < columns }
+    requires from { IsColumns N start.now from }
+    requires columns { IsColumns N now.now columns }
+    requires whole { IsWhole N start.now }
+    requires whole_now { IsWhole N now.now }
+    ensures { (cells : List Cell) (left top dx dy : ℤ) → Holds N left top start.now cells
+        → Holds N left top now.now (shifted dx dy cells) → IsTrue result }
+{
+    let Some(first) = corner_of(start, from) else {
+        return true;
+    };
+    let Some(second) = corner_of(now, columns) else {
+        return true;
+    };
+    for r in 0..4 * N {
+        if row_or_none(start, first.row + r) >> first.column
+            != row_or_none(now, second.row + r) >> second.column
+        {
+            return false;
+        }
+    }
+    true
+}
+
+/// The first row and the first column with a live cell.
+fn corner_of<const N: usize>(window: &[u64x4; N], columns: u64) -> Option<Corner>
+    requires some { 0 < N }
+    requires few { N ≤ 16 }
+    requires alive { 0 < columns }
+    ensures { IfSome result (IsCorner N window.now columns) }
+{
+    let row = first_row(window)?;
+    Some(Corner {
+        row,
+        column: columns.trailing_zeros(),
+    })
+}
+
+/// The first row with a live cell.
+fn first_row<const N: usize>(window: &[u64x4; N]) -> Option<usize>
+    requires some { 0 < N }
+    requires few { N ≤ 16 }
+    ensures { IfSome result (IsFirstRow N window.now) }
+{
+    for r in 0..4 * N {
+        if row(window, r) != 0 {
+            return Some(r);
+        }
+    }
+    None
+}
