@@ -14,16 +14,16 @@ use Rattle.plane_core.specs.Boxes.{AreCovered, HoldAll, HoldDifferences, IsNearO
 use Rattle.plane_core.specs.Cells.{InOrder, IsPattern, has, on_plane, plane_bound}
 use Rattle.plane_core.specs.Frames.{FillsFrame, IsFrame, LieOn, Shows, bounds_of}
 use Rattle.plane_core.specs.Generations.{after, lies_within}
-use Rattle.plane_core.specs.Leaping.{AreRightFor, HasLeapt, IsBoard}
+use Rattle.plane_core.specs.Boards.{AreRightFor, HasGoneOn, IsBoard}
 use Rattle.plane_core.specs.OnBoard.{cells_on}
 use Rattle.plane_core.specs.Places.{IsCovered, IsInnerCell, IsOnBoard, compared_with}
-use Rattle.plane_core.specs.Layouts.{AreSidesWithin}
+use Rattle.plane_core.specs.Bounds.{AreSidesWithin}
 use Rattle.plane_core.specs.Rules.{Numbers}
 use Rattle.plane_core.specs.Words.{life}
-use Rattle.plane_core.proofs.BoardLemmas.{same_or_not}
+use Rattle.plane_core.proofs.CaseLemmas.{same_or_not}
 use Rattle.plane_core.proofs.FillLemmas.{shown-empty}
 use Rattle.plane_core.proofs.GenerationLemmas.{after-none}
-use Rattle.plane_core.proofs.LayLemmas.{fewer_sides}
+use Rattle.plane_core.proofs.BoxRoundLemmas.{fewer_sides}
 use Rattle.plane_core.proofs.OnBoardLemmas.{cells_in_order, cells_lie_on, only_cells}
 use Rattle.plane_core.proofs.QuietLemmas.{boxed-next, quiet-next, quiet-start, still_outside-held, still_outside-quiet}
 use Rattle.plane_core.proofs.RunLemmas.{after-plus, in_order-after}
@@ -81,12 +81,12 @@ still_for_leap rule S boxes places n o right covered low high = elim (odd_or_eve
 ]
 
 -- so a board that shows the generation after the leap is one that has leapt
-pub has_leapt : (rule : Numbers) (at : Frame) (n : ℕ) (old new : List ℕ) (boxes later : List Bounds) (places : List Place)
+pub has_gone_on : (rule : Numbers) (at : Frame) (n : ℕ) (old new : List ℕ) (boxes later : List Bounds) (places : List Place)
     → AreRightFor rule (cells_on at old) boxes n → AreCovered places boxes → 1 ≤ n → n ≤ 4
     → ((c : Cell) → IsCovered places c → IsWithin (bounds_of at) c) → Shows at new (after rule (cells_on at old) n)
     → HoldDifferences places (after rule (cells_on at old) n) (compared_with rule (cells_on at old) n) later
-    → HasLeapt rule at n old new later
-has_leapt rule at n old new boxes later places right covered low high inside shown differ = record {
+    → HasGoneOn rule at n old new later
+has_gone_on rule at n old new boxes later places right covered low high inside shown differ = record {
   cells = is;
   right = subst (λ (T : List Cell). AreRightFor rule T later n) (sym is) record {
     even = λ even. quiet-next rule S boxes later places n (cells_in_order at old) (right.even even) covered low high even differ;
@@ -167,7 +167,7 @@ right_for at rule is_life words boxes holds_all n board enough = record {
 
 -- and after it
 pub leapt_board : (at : Frame) (rule : Numbers) (is_life : Bool) (old new : List ℕ) (boxes later : List Bounds) (holds_all : Bool) (n : ℕ)
-    → IsBoard at rule is_life old boxes holds_all → length new ≡ length old → All (AreSidesWithin box_bound) later → HasLeapt rule at n old new later
+    → IsBoard at rule is_life old boxes holds_all → length new ≡ length old → All (AreSidesWithin box_bound) later → HasGoneOn rule at n old new later
     → IsBoard at rule is_life new later (n % 2 == 1)
 leapt_board at rule is_life old new boxes later holds_all n board long sides leapt = record {
   frame = board.frame;

@@ -14,7 +14,7 @@ use Rattle.plane_core.specs.Generations.{after, next}
 use Rattle.plane_core.specs.LonePatterns.{AreAlike, HasChanged, Holds, IsColumns, IsCorner, IsFirstRow, IsInWindow, IsRimClear, IsWhole}
 use Rattle.plane_core.specs.Rules.{Numbers}
 use Rattle.plane_core.specs.Windows.{IsNextWindow, row_at}
-use Rattle.plane_core.proofs.BoardLemmas.{less_or_not, same_or_not}
+use Rattle.plane_core.proofs.CaseLemmas.{less_or_not, same_or_not}
 use Rattle.plane_core.proofs.GenerationLemmas.{after-more, after-none}
 use Rattle.plane_core.proofs.NeverBackLemmas.{IsLit, held_anywhere, lit, moved_bit, next_held, row_past, row_small}
 use Rattle.plane_core.proofs.OrientationLemmas.{has-map, has-map_from}

@@ -16,9 +16,9 @@ use Rattle.plane_core.specs.declared.place.Place.{Place}
 use Rattle.plane_core.specs.Bounds.{IsWithin, enlarged, widened}
 use Rattle.plane_core.specs.Boxes.{HoldDifferences, HoldsDifference, IsInOne, IsNearOne}
 use Rattle.plane_core.specs.Cells.{distance, has, is_within, king_distance}
-use Rattle.plane_core.specs.Layouts.{AreSidesWithin}
+use Rattle.plane_core.specs.Bounds.{AreSidesWithin}
 use Rattle.plane_core.specs.Places.{IsInnerCell}
-use Rattle.plane_core.proofs.BoardLemmas.{less_or_not, same_or_not}
+use Rattle.plane_core.proofs.CaseLemmas.{less_or_not, same_or_not}
 
 -- a cell near a cell that is near the box is near the box
 within_further : (b : Bounds) (m n : ℕ) (c d : Cell) → king_distance c d ≤ n → IsWithin (enlarged m b) d → IsWithin (enlarged (m + n) b) c

@@ -74,3 +74,7 @@ x_passed c fits on = passed_within c.x fits (leb-true _ _ ((and_parts (nat_le (u
 pub y_passed : (c : Cell) → FitsSigned w32 c.y → on_plane c ≡ true → unsigned_abs (to_z w32 (of_z w32 c.y)) ≤ plane_bound
 unfolding on_plane
 y_passed c fits on = passed_within c.y fits (leb-true _ _ ((and_parts (nat_le (unsigned_abs c.x) plane_bound) _ on).1))
+
+-- cells with the same column and row are one
+pub same_cells : (x y v w : ℤ) → x ≡ v → y ≡ w → cell_at x y ≡ cell_at v w
+same_cells x y v w p q i = cell_at (p i) (q i)

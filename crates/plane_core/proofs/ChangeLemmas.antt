@@ -13,9 +13,9 @@ use Rattle.plane_core.specs.declared.place.Place.{Place}
 use Rattle.plane_core.specs.Bounds.{IsWithin}
 use Rattle.plane_core.specs.Boxes.{HasBits, IsInReach, box_bound}
 use Rattle.plane_core.specs.Cells.{cell_at, has}
-use Rattle.plane_core.specs.Layouts.{AreSidesWithin}
+use Rattle.plane_core.specs.Bounds.{AreSidesWithin}
 use Rattle.plane_core.specs.Places.{HoldsChange, IsInnerCell}
-use Rattle.plane_core.proofs.BoardLemmas.{less_or_not}
+use Rattle.plane_core.proofs.CaseLemmas.{less_or_not}
 
 -- ---- the bits of a word
 

@@ -11,7 +11,7 @@ use Rattle.plane_core.specs.declared.place.Place.{Place}
 use Rattle.plane_core.specs.Bounds.{IsWithin}
 use Rattle.plane_core.specs.Boxes.{IsInOne}
 use Rattle.plane_core.specs.Covers.{AreSideBySide, BeginsAt, IsInRow}
-use Rattle.plane_core.specs.Layouts.{AreSidesWithin}
+use Rattle.plane_core.specs.Bounds.{AreSidesWithin}
 use Rattle.plane_core.specs.Places.{IsCovered, IsInnerCell}
 use Rattle.plane_core.proofs.BoxLemmas.{any_swap_remove}
 

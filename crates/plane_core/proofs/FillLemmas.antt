@@ -11,7 +11,7 @@ use Rattle.plane_core.specs.declared.cell.Cell.{Cell}
 use Rattle.plane_core.specs.Bounds.{IsWithin}
 use Rattle.plane_core.specs.Cells.{has, same_cell}
 use Rattle.plane_core.specs.Frames.{FillsFrame, Shows, bounds_of, cell_of, word_of}
-use Rattle.plane_core.proofs.BoardLemmas.{same_or_not}
+use Rattle.plane_core.proofs.CaseLemmas.{same_or_not}
 use Rattle.plane_core.proofs.CellLemmas.{same_cell-itself, same_cell-same}
 use Rattle.plane_core.proofs.FrameLemmas.{one_spot, one_word, spot_inside, spot_of, word-inside}
 use Rattle.plane_core.proofs.SetLemmas.{has-append, has-head, or_right}

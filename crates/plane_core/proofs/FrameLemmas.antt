@@ -9,10 +9,10 @@ use Rattle.plane_core.specs.declared.cell.Cell.{Cell}
 use Rattle.plane_core.specs.Bounds.{IsWithin, IsLeastBox}
 use Rattle.plane_core.specs.Cells.{plane_bound, distance, has}
 use Rattle.plane_core.specs.Frames.{IsFrame, LieOn, bounds_of, cell_of, word_of}
-use Rattle.plane_core.specs.Layouts.{AreSidesWithin}
-use Rattle.plane_core.proofs.BoardLemmas.{less_or_not, same_or_not}
-use Rattle.plane_core.proofs.LayLemmas.{fewer_sides, in_box}
-use Rattle.plane_core.proofs.LayoutLemmas.{same_cells}
+use Rattle.plane_core.specs.Bounds.{AreSidesWithin}
+use Rattle.plane_core.proofs.CaseLemmas.{less_or_not, same_or_not}
+use Rattle.plane_core.proofs.BoxRoundLemmas.{fewer_sides, in_box}
+use Rattle.plane_core.proofs.CellLemmas.{same_cells}
 
 -- ---- places in the list
 

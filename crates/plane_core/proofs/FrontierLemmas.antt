@@ -11,7 +11,7 @@ use Rattle.plane_core.specs.Generations.{after, around, next}
 use Rattle.plane_core.specs.Orientations.{image, turned_cell}
 use Rattle.plane_core.specs.Rules.{Numbers, is_birth, is_survival}
 use Rattle.plane_core.specs.Tallies.{counted_at, one_of}
-use Rattle.plane_core.proofs.BoardLemmas.{less_or_not}
+use Rattle.plane_core.proofs.CaseLemmas.{less_or_not}
 use Rattle.plane_core.proofs.CommuteLemmas.{next-image}
 use Rattle.plane_core.proofs.GenerationLemmas.{after-none, has-next, in_order-next, total-ones}
 use Rattle.plane_core.proofs.NeighbourhoodLemmas.{neighbourhood_total-around}

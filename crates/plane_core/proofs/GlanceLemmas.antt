@@ -17,7 +17,7 @@ use Rattle.plane_core.specs.Generations.{touches_edge}
 use Rattle.plane_core.specs.Glances.{IsInland, IsNear, IsSpot, ShowsRows}
 use Rattle.plane_core.specs.LonePatterns.{Holds, IsInWindow}
 use Rattle.plane_core.specs.Windows.{IsShownInside, lane_at, row_at}
-use Rattle.plane_core.proofs.BoardLemmas.{same_or_not}
+use Rattle.plane_core.proofs.CaseLemmas.{same_or_not}
 use Rattle.plane_core.proofs.CellLemmas.{same_cell-itself, same_cell-same}
 use Rattle.plane_core.proofs.SearchLemmas.{has-list_all}
 use Rattle.plane_core.proofs.SetLemmas.{has-all, has-append, has-head}

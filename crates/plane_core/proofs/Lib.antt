@@ -1,9 +1,10 @@
 pub mod AdvanceLemmas
 pub mod AgainLemmas
 pub mod AnswerLemmas
-pub mod BoardLemmas
 pub mod BoundsLemmas
 pub mod BoxLemmas
+pub mod BoxRoundLemmas
+pub mod CaseLemmas
 pub mod CellLemmas
 pub mod ChangeLemmas
 pub mod ClusterLaws
@@ -18,16 +19,13 @@ pub mod GatherLemmas
 pub mod GenerationLemmas
 pub mod GlanceLemmas
 pub mod LaneLemmas
-pub mod LayLemmas
-pub mod LayoutLemmas
 pub mod ListingLemmas
-pub mod LoadLemmas
 pub mod LocalityLemmas
 pub mod MergeLemmas
 pub mod NeighbourLemmas
 pub mod NeighbourhoodLemmas
-pub mod OnBoardLemmas
 pub mod NeverBackLemmas
+pub mod OnBoardLemmas
 pub mod OrientationLemmas
 pub mod OutLemmas
 pub mod PartLemmas
@@ -42,7 +40,6 @@ pub mod PlaintextSmall
 pub mod PlaintextWalks
 pub mod PlaintextWriting
 pub mod QuietLemmas
-pub mod ReadLemmas
 pub mod RuleLemmas
 pub mod RuleNumbers
 pub mod RuleReading

@@ -13,9 +13,9 @@ use Rattle.plane_core.specs.declared.cell.Cell.{Cell}
 use Rattle.plane_core.specs.Cells.{InOrder, cell_at, has, set_of}
 use Rattle.plane_core.specs.Frames.{LieOn, Shows, cell_of, word_of}
 use Rattle.plane_core.specs.Listing.{AreAmong, AreDead, HasRead, HasReadRow, HasReadRows, IsBandEmpty, IsLaneEmpty, IsNextAlive, IsRowEmpty}
-use Rattle.plane_core.proofs.BoardLemmas.{less_or_not, same_or_not}
+use Rattle.plane_core.proofs.CaseLemmas.{less_or_not, same_or_not}
 use Rattle.plane_core.proofs.FrameLemmas.{spot_inside, spot_of}
-use Rattle.plane_core.proofs.LayoutLemmas.{same_cells}
+use Rattle.plane_core.proofs.CellLemmas.{same_cells}
 use Rattle.plane_core.proofs.SetLemmas.{has-append, has-cases, has-head, is_set_of, or_right}
 
 or_left : (a b : Bool) → a ≡ true → (a || b) ≡ true

@@ -21,7 +21,7 @@ use Rattle.plane_core.proofs.GenerationLemmas.{a_neighbour, has-next, in_order-n
 use Rattle.plane_core.proofs.NeighbourhoodLemmas.{neighbourhood_total-around, row_total}
 use Rattle.plane_core.proofs.PartLemmas.{false_unless}
 use Rattle.plane_core.proofs.WindowLemmas.{in_window, lives_by-around, one_if-is, same_cell_at}
-use Rattle.plane_core.proofs.BoardLemmas.{less_or_not, same_or_not}
+use Rattle.plane_core.proofs.CaseLemmas.{less_or_not, same_or_not}
 
 -- ---- rows
 

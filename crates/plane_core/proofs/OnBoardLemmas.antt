@@ -13,7 +13,7 @@ use Rattle.plane_core.specs.Bounds.{IsWithin}
 use Rattle.plane_core.specs.Cells.{InOrder, has}
 use Rattle.plane_core.specs.Frames.{LieOn, Shows, bounds_of, cell_of, word_of}
 use Rattle.plane_core.specs.OnBoard.{cells_on, is_lit, lit_before, lit_cell}
-use Rattle.plane_core.proofs.BoardLemmas.{same_or_not}
+use Rattle.plane_core.proofs.CaseLemmas.{same_or_not}
 use Rattle.plane_core.proofs.FrameLemmas.{one_spot, spot_inside, spot_of, word-inside}
 use Rattle.plane_core.proofs.SetLemmas.{has-cases, has-head, has-set_of, in_order-set_of, or_right, same_lists}
 

@@ -10,7 +10,7 @@ use Rattle.plane_core.specs.Cells.{InOrder, has, king_distance}
 use Rattle.plane_core.specs.Generations.{after}
 use Rattle.plane_core.specs.Places.{IsCovered, compared_with}
 use Rattle.plane_core.specs.Rules.{Numbers}
-use Rattle.plane_core.proofs.BoardLemmas.{same_or_not}
+use Rattle.plane_core.proofs.CaseLemmas.{same_or_not}
 use Rattle.plane_core.proofs.BoxLemmas.{near_further, near_itself, near_wider}
 use Rattle.plane_core.proofs.GenerationLemmas.{after-none, distance_itself, has-next}
 use Rattle.plane_core.proofs.PartLemmas.{false_unless, lives-local, near-after, triangle}

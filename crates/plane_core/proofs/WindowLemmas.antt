@@ -17,7 +17,7 @@ use Rattle.plane_core.specs.Tallies.{lives_by, one_of}
 use Rattle.plane_core.specs.Windows.{lane_at, row_at, row_above, row_below, IsNextRow, IsNextWindow, IsShownInside}
 use Rattle.plane_core.specs.Words.{one_if}
 use Rattle.plane_core.proofs.NeighbourhoodLemmas.{row_total, neighbourhood_total-around}
-use Rattle.plane_core.proofs.BoardLemmas.{less_or_not}
+use Rattle.plane_core.proofs.CaseLemmas.{less_or_not}
 use Rattle.plane_core.proofs.GenerationLemmas.{after-more, after-none, has-next, total-ones}
 use Rattle.plane_core.proofs.RunLemmas.{in_order-after}
 

@@ -8,8 +8,7 @@ use Rattle.std.proofs.lemmas.Nat.Bits.{bit_at_and, bit_at_or, bit_at_xor, bit_at
 use Rattle.std.proofs.lemmas.Nat.Bits.{bit_at-lt, bit_at_above, bit_at_cat_low, bit_at_cat_high, bit_at-zero}
 use Rattle.plane_core.specs.Rules.{Numbers, is_birth, is_survival}
 use Rattle.plane_core.specs.Tallies.{lives_by}
-use Rattle.plane_core.specs.declared.word.WordInRow.{WordInRow}
-use Rattle.plane_core.specs.Words.{IsNextWord, west_of, east_of, one_if, row_count, neighbourhood_count, life}
+use Rattle.plane_core.specs.Words.{west_of, east_of, one_if, life}
 
 -- ---- moved by a place
 
@@ -82,23 +81,6 @@ joined_digits a b c d i = omega (
   bit_at-lt d i,
 )
 
--- if two digits of three words say their sum, so do those of the words to the left
-pub west_sums : (b1 b2 m1 m2 x y z u v w : ℕ) → ((i : ℕ) → bit_at b1 i + 2 * bit_at b2 i ≡ bit_at x i + bit_at y i + bit_at z i)
-    → ((i : ℕ) → bit_at m1 i + 2 * bit_at m2 i ≡ bit_at u i + bit_at v i + bit_at w i) → (i : ℕ)
-    → west_of b1 m1 i + 2 * west_of b2 m2 i ≡ west_of x u i + west_of y v i + west_of z w i
-west_sums b1 b2 m1 m2 x y z u v w h k zero = h 63
-west_sums b1 b2 m1 m2 x y z u v w h k (suc i) = k i
-
-pub east_sums : (m1 m2 a1 a2 u v w x y z : ℕ) → ((i : ℕ) → bit_at m1 i + 2 * bit_at m2 i ≡ bit_at u i + bit_at v i + bit_at w i)
-    → ((i : ℕ) → bit_at a1 i + 2 * bit_at a2 i ≡ bit_at x i + bit_at y i + bit_at z i) → (i : ℕ)
-    → east_of m1 a1 i + 2 * east_of m2 a2 i ≡ east_of u x i + east_of v y i + east_of w z i
-east_sums m1 m2 a1 a2 u v w x y z h k i = split (i == 63)
-  where
-    split : (b : Bool) → cond b (bit_at a1 0) (bit_at m1 (i + 1)) + 2 * cond b (bit_at a2 0) (bit_at m2 (i + 1))
-        ≡ cond b (bit_at x 0) (bit_at u (i + 1)) + cond b (bit_at y 0) (bit_at v (i + 1)) + cond b (bit_at z 0) (bit_at w (i + 1))
-    split true = k 0
-    split false = h (i + 1)
-
 -- ---- choices
 
 chosen : (t y n : ℕ) → t < 2 → y < 2 → n < 2 → (n + min ((n + y) % 2) t) % 2 ≡ cond (t == 1) y n
@@ -156,20 +138,6 @@ by_nine g a b c d high x y low r ha hb hc hd small p q s e f =
 
 -- ---- counts
 
-row_count-small : (row : WordInRow) (i : ℕ) → row_count row i ≤ 3
-row_count-small row i = omega (arith, west row.before row.here i, bit_at-lt row.here i, east (i == 63))
-  where
-    west : (before here i : ℕ) → west_of before here i < 2
-    west before here zero = bit_at-lt before 63
-    west before here (suc i) = bit_at-lt here i
-
-    east : (b : Bool) → cond b (bit_at row.after 0) (bit_at row.here (i + 1)) < 2
-    east true = bit_at-lt row.after 0
-    east false = bit_at-lt row.here (i + 1)
-
-pub neighbourhood_count-small : (above here below : WordInRow) (i : ℕ) → neighbourhood_count above here below i ≤ 9
-neighbourhood_count-small above here below i = omega (arith, row_count-small above i, row_count-small here i, row_count-small below i)
-
 -- ---- Life
 
 -- the answers of Life by the digits of a sum: three, or four around a live cell
@@ -202,9 +170,3 @@ life_digits (suc zero) zero zero (suc zero) zero p q r s u small = refl
 life_digits (suc zero) zero zero (suc zero) (suc zero) p q r s u small = refl
 life_digits a (suc zero) c (suc zero) t p q r s u small = absurd (omega arith)
 life_digits a zero (suc zero) (suc zero) t p q r s u small = absurd (omega arith)
-
--- the next word goes by the three rows alone
-pub next_of_rows : (rule : Numbers) (word : ℕ) {a a' b b' d d' : WordInRow} → a ≡ a' → b ≡ b' → d ≡ d' → IsNextWord rule a b d word
-    → IsNextWord rule a' b' d' word
-next_of_rows rule word {a} {a'} {b} {b'} {d} {d'} above here below is =
-    subst (λ x. IsNextWord rule x b' d' word) above (subst₂ (λ y z. IsNextWord rule a y z word) here below is)

@@ -1,5 +1,5 @@
 -- The least box round a pattern, and a pattern moved to the corner (0, 0).
-use Rattle.std.specs.Prelude.{◌≡◌, ℕ, ℤ, ◌+ℤ◌, ◌≤ℤ◌, List, [], ◌∷◌, Option, None, Some, All, Any, map, ◌≢◌, pos, IfSome, IfNone}
+use Rattle.std.specs.Prelude.{◌≡◌, ◌≤◌, unsigned_abs, ℕ, ℤ, ◌+ℤ◌, ◌≤ℤ◌, List, [], ◌∷◌, Option, None, Some, All, Any, map, ◌≢◌, pos, IfSome, IfNone}
 use Rattle.std.specs.Int.{int_min, int_max}
 use Rattle.plane_core.specs.declared.cell.Cell.{Cell}
 use Rattle.plane_core.specs.declared.bounds.Bounds.{Bounds}
@@ -42,6 +42,13 @@ pub record IsLeastBox (cells : List Cell) (b : Bounds) : Type 0 where
   pub top : Any (λ c. c.y ≡ b.top) cells
   pub right : Any (λ c. c.x ≡ b.right) cells
   pub bottom : Any (λ c. c.y ≡ b.bottom) cells
+
+-- the sides of a box are at most so far from the origin
+pub record AreSidesWithin (reach : ℕ) (b : Bounds) : Type 0 where
+  pub left : unsigned_abs b.left ≤ reach
+  pub top : unsigned_abs b.top ≤ reach
+  pub right : unsigned_abs b.right ≤ reach
+  pub bottom : unsigned_abs b.bottom ≤ reach
 
 -- S + v: every cell moved by (dx, dy)
 abbrev pub shifted : ℤ → ℤ → List Cell → List Cell

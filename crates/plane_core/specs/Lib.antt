@@ -1,5 +1,3 @@
-pub mod BoardReading
-pub mod BoardSteps
 pub mod Boards
 pub mod Bounds
 pub mod Boxes
@@ -12,12 +10,10 @@ pub mod Frontiers
 pub mod Generations
 pub mod Glances
 pub mod Lanes
-pub mod Layouts
-pub mod Leaping
 pub mod Listing
 pub mod Locality
-pub mod OnBoard
 pub mod LonePatterns
+pub mod OnBoard
 pub mod OrientationLaws
 pub mod Orientations
 pub mod Out

@@ -1,9 +1,7 @@
 -- Words of 64 cells of a row: bit i of a word is 1 if the cell in its column i is alive. Columns count from the left, from 0.
 use Rattle.std.specs.Prelude.{◌≡◌, ◌==◌, ◌+◌, ◌<◌, ℕ, zero, suc, Bool, true, false, [], ◌∷◌, if◌then◌else◌}
 use Rattle.std.specs.Int.{bit_at}
-use Rattle.plane_core.specs.declared.word.WordInRow.{WordInRow}
 use Rattle.plane_core.specs.Rules.{Numbers}
-use Rattle.plane_core.specs.Tallies.{lives_by}
 
 -- 1 for a live cell, 0 for a dead one
 abbrev pub one_if : Bool → ℕ
@@ -17,19 +15,6 @@ west_of before here (suc i) = bit_at here i
 -- the cell to its right, which is the first one of the word after if i is 63
 abbrev pub east_of : ℕ → ℕ → ℕ → ℕ
 east_of here after i = if i == 63 then bit_at after 0 else bit_at here (i + 1)
-
--- the live cells among the three of a row in columns i - 1, i and i + 1
-abbrev pub row_count : WordInRow → ℕ → ℕ
-row_count row i = west_of row.before row.here i + bit_at row.here i + east_of row.here row.after i
-
--- the live cells of the neighbourhood round column i of the middle row
-abbrev pub neighbourhood_count : WordInRow → WordInRow → WordInRow → ℕ → ℕ
-neighbourhood_count above here below i = row_count above i + row_count here i + row_count below i
-
--- the word is that of the middle row, one generation later
-abbrev pub IsNextWord : Numbers → WordInRow → WordInRow → WordInRow → ℕ → Type 0
-IsNextWord rule above here below word =
-    (i : ℕ) → i < 64 → bit_at word i ≡ one_if (lives_by rule (neighbourhood_count above here below i) (bit_at here.here i == 1))
 
 -- Conway's Life: birth for 3 neighbours, survival for 2 or 3
 abbrev pub life : Numbers

@@ -15,7 +15,7 @@ ghost use Rattle.plane_core.specs.Bounds.{IsWithin};
 ghost use Rattle.plane_core.specs.Boxes.{HoldAll, HoldChanges, HoldDifferences, IsInOne, IsInReach, box_bound};
 ghost use Rattle.plane_core.specs.Cells.{is_within};
 ghost use Rattle.plane_core.specs.Generations.{lies_within};
-ghost use Rattle.plane_core.specs.Layouts.{AreSidesWithin};
+ghost use Rattle.plane_core.specs.Bounds.{AreSidesWithin};
 ghost use Rattle.plane_core.specs.declared.cell.Cell.{Cell};
 
 use crate::bounds::Bounds;

@@ -10,7 +10,7 @@
 ghost use Rattle.std.specs.Prelude.{◌≡◌, ℕ, IfSome, List, MatchOption};
 ghost use Rattle.std.specs.Int.{bit_at};
 ghost use Rattle.plane_core.specs.Boxes.{HasBits, HoldsDifference, IsInReach, box_bound};
-ghost use Rattle.plane_core.specs.Layouts.{AreSidesWithin};
+ghost use Rattle.plane_core.specs.Bounds.{AreSidesWithin};
 ghost use Rattle.plane_core.specs.Places.{HoldsChange};
 ghost use Rattle.plane_core.specs.declared.cell.Cell.{Cell};
 

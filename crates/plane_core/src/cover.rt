@@ -18,7 +18,7 @@ ghost use Rattle.plane_core.specs.Bounds.{IsWithin, enlarged};
 ghost use Rattle.plane_core.specs.Boxes.{AreCovered, IsInOne, IsInReach, IsNearOne, box_bound, rectangle_bound};
 ghost use Rattle.plane_core.specs.Covers.{AreSideBySide, BeginsAt, IsInRow};
 ghost use Rattle.plane_core.specs.Frames.{IsFrame};
-ghost use Rattle.plane_core.specs.Layouts.{AreSidesWithin};
+ghost use Rattle.plane_core.specs.Bounds.{AreSidesWithin};
 ghost use Rattle.plane_core.specs.Places.{IsCovered, IsOnBoard};
 ghost use Rattle.plane_core.specs.declared.cell.Cell.{Cell};
 

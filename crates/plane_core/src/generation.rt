@@ -8,7 +8,7 @@ ghost use Rattle.plane_core.specs.Refusals.{RefusesStep};
 ghost use Rattle.plane_core.specs.declared.cell.Cell.{Cell};
 ghost use Rattle.plane_core.specs.declared.generation.StepError.TheVariants.{Memory};
 
-use crate::sheet::Board;
+use crate::board::Board;
 use crate::cell::Cell;
 use crate::frame::Frame;
 use crate::parts::Cut;

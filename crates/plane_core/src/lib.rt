@@ -5,7 +5,6 @@
 #![tactic(auto)]
 
 mod answers;
-mod blocks;
 mod board;
 /// The least box round a pattern.
 pub mod bounds;
@@ -27,7 +26,6 @@ pub mod generation;
 /// Whether a small pattern is seen not to come back.
 pub mod glance;
 mod lanes;
-mod layout;
 mod listing;
 mod loading;
 /// How far a cell sees.
@@ -49,8 +47,6 @@ pub mod plaintext;
 pub mod rule;
 /// The shift from one pattern to another.
 pub mod shift_to;
-mod sheet;
 mod stub;
 mod tally;
 mod window;
-mod word;

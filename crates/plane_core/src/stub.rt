@@ -4,7 +4,7 @@ ghost use Rattle.plane_core.specs.Boxes.{AreCovered, HoldAll, HoldChanges, HoldD
 ghost use Rattle.plane_core.specs.Cells.{InOrder};
 ghost use Rattle.plane_core.specs.Frames.{FillsFrame, IsFrame, Shows};
 ghost use Rattle.plane_core.specs.Generations.{after};
-ghost use Rattle.plane_core.specs.Layouts.{AreSidesWithin};
+ghost use Rattle.plane_core.specs.Bounds.{AreSidesWithin};
 ghost use Rattle.plane_core.specs.Cells.{plane_bound};
 ghost use Rattle.plane_core.specs.Places.{IsOnBoard, compared_with};
 ghost use Rattle.plane_core.specs.declared.cell.Cell.{Cell};

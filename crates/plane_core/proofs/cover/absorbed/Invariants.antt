@@ -3,7 +3,7 @@ use Rattle.std.specs.List.{All}
 use Rattle.plane_core.specs.declared.cell.Cell.{Cell}
 use Rattle.plane_core.specs.Bounds.{IsWithin}
 use Rattle.plane_core.specs.Boxes.{IsInOne, rectangle_bound}
-use Rattle.plane_core.specs.Layouts.{AreSidesWithin}
+use Rattle.plane_core.specs.Bounds.{AreSidesWithin}
 use Rattle.plane_core.proofs.cover.absorbed.Given as goal
 
 abbrev pub invariant-loop-i : goal.invariant-loop-i

@@ -1,7 +1,7 @@
 use Rattle.std.proofs.Common.{arith, sym, subst}
 use Rattle.plane_core.specs.declared.bounds.Bounds.{Bounds}
 use Rattle.plane_core.specs.Boxes.{rectangle_bound}
-use Rattle.plane_core.specs.Layouts.{AreSidesWithin}
+use Rattle.plane_core.specs.Bounds.{AreSidesWithin}
 use Rattle.plane_core.proofs.CoverLemmas.{joined_held}
 use Rattle.plane_core.proofs.cover.absorbed_at.Goals as goal
 

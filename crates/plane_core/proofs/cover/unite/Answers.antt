@@ -3,7 +3,7 @@ use Rattle.std.proofs.lemmas.List.Elements.{All-push, All-same}
 use Rattle.plane_core.specs.declared.bounds.Bounds.{Bounds}
 use Rattle.plane_core.specs.Bounds.{IsWithin, enlarged}
 use Rattle.plane_core.specs.Boxes.{IsNearOne, rectangle_bound}
-use Rattle.plane_core.specs.Layouts.{AreSidesWithin}
+use Rattle.plane_core.specs.Bounds.{AreSidesWithin}
 use Rattle.plane_core.proofs.BoxLemmas.{any_pushed, any_take_more, swapped, take_whole}
 use Rattle.plane_core.proofs.cover.unite.Goals as goal
 

@@ -3,7 +3,7 @@ use Rattle.std.specs.Int.{bit_at}
 use Rattle.std.proofs.lemmas.Nat.Bits.{bit_at-lt}
 use Rattle.plane_core.specs.LonePatterns.{IsColumns}
 use Rattle.plane_core.specs.Windows.{row_at}
-use Rattle.plane_core.proofs.BoardLemmas.{same_or_not}
+use Rattle.plane_core.proofs.CaseLemmas.{same_or_not}
 use Rattle.plane_core.proofs.never_back.is_rim_clear.Goals as goal
 
 -- a column that isn't among the live ones

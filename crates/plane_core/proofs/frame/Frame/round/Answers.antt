@@ -1,6 +1,6 @@
 use Rattle.std.proofs.Common.{arith}
 use Rattle.plane_core.proofs.FrameLemmas.{box_in_order, lie_on}
-use Rattle.plane_core.proofs.LayLemmas.{lies_round, fewer_sides}
+use Rattle.plane_core.proofs.BoxRoundLemmas.{lies_round, fewer_sides}
 use Rattle.plane_core.proofs.frame.Frame.round.Goals as goal
 
 pub returns-clause-on : goal.returns-clause-on

@@ -1,9 +1,0 @@
-use Rattle.std.proofs.Common.{◌≡◌, ◌+◌, ◌<◌, ℕ, length, slice_index}
-use Rattle.plane_core.specs.Boards.{IsNextAt}
-use Rattle.plane_core.proofs.blocks.next_words_by_rule.Given as goal
-
-abbrev pub invariant-loop-k : goal.invariant-loop-k
-invariant-loop-k l = record {
-  long : length l.words ≡ 8;
-  next : (m : ℕ) → m < l.k → IsNextAt l.answers.rule l.grid l.now (l.from + m) (slice_index l.words m);
-}

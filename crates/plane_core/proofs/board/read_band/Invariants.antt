@@ -1,6 +1,0 @@
-use Rattle.std.proofs.Common.{◌*◌}
-use Rattle.plane_core.specs.BoardReading.{HasReadRows}
-use Rattle.plane_core.proofs.board.read_band.Given as goal
-
-abbrev pub invariant-loop-row : goal.invariant-loop-row
-invariant-loop-row l = HasReadRows l.at l.words (8 * l.band) l.fn.cells.items → HasReadRows l.at l.words l.row l.cells.items
