@@ -19,6 +19,7 @@ pub mod NeighbourhoodLemmas
 pub mod OrientationLemmas
 pub mod OutLemmas
 pub mod PartLemmas
+pub mod PlacedLemmas
 pub mod PlacementLemmas
 pub mod PlaintextBox
 pub mod PlaintextCells
@@ -36,6 +37,7 @@ pub mod RuleReading
 pub mod RunLemmas
 pub mod SearchLemmas
 pub mod SetLemmas
+pub mod ShiftLemmas
 pub mod SpeedLemmas
 pub mod TallyLemmas
 pub mod TurnLemmas

@@ -14,6 +14,7 @@ pub mod OrientationLaws
 pub mod Orientations
 pub mod Out
 pub mod Parts
+pub mod Placed
 pub mod Places
 pub mod Plaintext
 pub mod PlaintextPlaces

@@ -32,6 +32,7 @@ mod parts;
 /// Patterns: finite sets of cells.
 pub mod pattern;
 mod place;
+mod placed;
 /// Patterns moved on the plane.
 pub mod placement;
 /// Plaintext pattern files.
