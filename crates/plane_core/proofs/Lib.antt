@@ -5,6 +5,7 @@ pub mod CellLemmas
 pub mod ClusterLaws
 pub mod ClusterLemmas
 pub mod CommuteLemmas
+pub mod DifferenceLemmas
 pub mod ForestLemmas
 pub mod GatherLemmas
 pub mod GenerationLemmas
@@ -12,6 +13,7 @@ pub mod GlanceLemmas
 pub mod LaneLemmas
 pub mod LayLemmas
 pub mod LayoutLemmas
+pub mod LeapLemmas
 pub mod LoadLemmas
 pub mod MergeLemmas
 pub mod NeighbourLemmas

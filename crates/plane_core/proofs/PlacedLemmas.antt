@@ -7,7 +7,7 @@ use Rattle.std.proofs.lemmas.Nat.{div-add-mod', div_below, mod_below}
 use Rattle.std.proofs.lemmas.Nat.Bits.{bit_at_mask_above, bit_at_mask_below, bit_at_mask_inside}
 use Rattle.plane_core.specs.declared.frame.Frame.{Frame}
 use Rattle.plane_core.specs.Frames.{word_of}
-use Rattle.plane_core.specs.Placed.{bit_on, IsReadAt, IsInnerColumn, IsInnerRow, IsInner, IsRowPut, IsPutBack}
+use Rattle.plane_core.specs.Placed.{bit_on, inner_mask, IsReadAt, IsInnerColumn, IsInnerRow, IsInner, IsRowPut, IsPutBack}
 use Rattle.plane_core.specs.Windows.{lane_at, row_at}
 use Rattle.plane_core.proofs.LoadLemmas.{same_spot}
 
@@ -68,12 +68,8 @@ all_unpacked window rows is r low =
 
 -- ---- putting back
 
--- the mask of the inner columns
-abbrev pub inner_mask : ℕ
-inner_mask = 1152921504606846960
-
--- a bit of it says whether the column is an inner one
-inner_bit : (i : ℕ) → ((bit_at inner_mask i ≡ 1) × (4 ≤ i) × (i < 60)) ⊎ ((bit_at inner_mask i ≡ 0) × (4 ≤ i → i < 60 → ⊥))
+-- a bit of the mask says whether the column is an inner one
+pub inner_bit : (i : ℕ) → ((bit_at inner_mask i ≡ 1) × (4 ≤ i) × (i < 60)) ⊎ ((bit_at inner_mask i ≡ 0) × (4 ≤ i → i < 60 → ⊥))
 inner_bit i = split (cases_lt i 4) (cases_lt i 60)
   where
     split : (i < 4) ⊎ (4 ≤ i) → (i < 60) ⊎ (60 ≤ i) → ((bit_at inner_mask i ≡ 1) × (4 ≤ i) × (i < 60)) ⊎ ((bit_at inner_mask i ≡ 0) × (4 ≤ i → i < 60 → ⊥))

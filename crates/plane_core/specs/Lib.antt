@@ -4,12 +4,14 @@ pub mod Boards
 pub mod Bounds
 pub mod Cells
 pub mod Clusters
+pub mod Differences
 pub mod Forest
 pub mod Frames
 pub mod Generations
 pub mod Glances
 pub mod Lanes
 pub mod Layouts
+pub mod Leaps
 pub mod OrientationLaws
 pub mod Orientations
 pub mod Out

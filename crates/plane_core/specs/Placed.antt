@@ -14,6 +14,10 @@ abbrev pub IsReadAt : Frame → List ℕ → ℕ → ℕ → ℕ → List (List 
 IsReadAt at words x y n window =
     (r i : ℕ) → r < 4 * n → i < 64 → bit_at (row_at n window r) i ≡ bit_on at words (x + i) (y + r)
 
+-- the mask of a window's inner columns, 4 to 59
+abbrev pub inner_mask : ℕ
+inner_mask = 0x0fff_ffff_ffff_fff0
+
 -- column u is one of the inner columns of a window that begins at column x: it is its column i
 pub record IsInnerColumn (x u : ℕ) : Type 0 where
   pub i : ℕ

@@ -16,6 +16,7 @@ mod change;
 pub mod clusters;
 /// Sums and differences of coordinates.
 pub mod coordinate;
+mod difference;
 mod forest;
 mod frame;
 /// The next generation, and later ones.
@@ -24,6 +25,7 @@ pub mod generation;
 pub mod glance;
 mod lanes;
 mod layout;
+mod leap;
 /// The eight orientations.
 pub mod orientation;
 /// A writer that remembers that it failed.

@@ -21,7 +21,7 @@ use crate::place::Place;
 use std::simd::prelude::*;
 
 /// The inner columns of a window, 4 to 59.
-const INNER: u64 = 0x0fff_ffff_ffff_fff0;
+pub(crate) const INNER: u64 = 0x0fff_ffff_ffff_fff0;
 
 /// The column of the board in which a window begins.
 #[inline(always)]

@@ -1,0 +1,1 @@
+-- What a leap makes of a board.
