@@ -1,5 +1,5 @@
 -- Leaps: some generations of a board, made in windows that are read first and put back afterwards.
-use Rattle.std.specs.Prelude.{◌≡◌, ◌==◌, ◌+◌, ◌<◌, ◌≤◌, ℕ, ◌+ℤ◌, pos, List, length, slice_index, slice_index_or, []}
+use Rattle.std.specs.Prelude.{◌≡◌, ◌==◌, ◌+◌, ◌*◌, ◌<◌, ◌≤◌, ◌⊎◌, ℕ, ◌+ℤ◌, pos, List, length, slice_index, slice_index_or, []}
 use Rattle.std.specs.Int.{bit_at}
 use Rattle.plane_core.specs.declared.cell.Cell.{Cell}
 use Rattle.plane_core.specs.declared.change.Change.{Change}
@@ -8,7 +8,8 @@ use Rattle.plane_core.specs.declared.place.Place.{Place}
 use Rattle.plane_core.specs.Cells.{InOrder, cell_at, has}
 use Rattle.plane_core.specs.Frames.{Shows}
 use Rattle.plane_core.specs.Generations.{after}
-use Rattle.plane_core.specs.Places.{HoldsChange, IsCovered, compared_with}
+use Rattle.plane_core.specs.Placed.{bit_on, cell_on}
+use Rattle.plane_core.specs.Places.{HoldsChange, IsCovered, IsInnerCell, compared_with}
 use Rattle.plane_core.specs.Rules.{Numbers}
 use Rattle.plane_core.specs.Windows.{IsShownInside}
 
@@ -33,6 +34,15 @@ pub record AreRun (at : Frame) (words : List ℕ) (rule : Numbers) (count : ℕ)
   pub changes_long : length changes ≡ length places
   pub run : (k : ℕ) (p : Place) (c : Change) → k < length places
       → IsRunAt at words rule count (slice_index_or places k p) (slice_index_or held k []) (slice_index_or changes k c)
+
+-- The inner parts of the first places were put back: each cell of the board is one that they show, or lies in none of them and
+-- is what it was.
+abbrev pub ArePutBack : Frame → List Place → List (List ℕ) → ℕ → List ℕ → List ℕ → Type 0
+ArePutBack at places held count old new = (cells : List Cell)
+    → ((k : ℕ) (p : Place) → k < count → ShowsInner (slice_index_or places k p) (slice_index_or held k []) cells)
+    → (u v : ℕ) → u < 64 * at.lanes → v < at.rows
+    → (has cells (cell_on at u v) ≡ (bit_on at new u v == 1))
+    ⊎ (((k : ℕ) (p : Place) → k < count → ¬ IsInnerCell (slice_index_or places k p) (cell_on at u v)) × (bit_on at new u v ≡ bit_on at old u v))
 
 -- If each cell off all inner parts is some generations later what it was, the board shows the cells of that time.
 abbrev pub HasLeapt : Frame → Numbers → ℕ → List Place → List ℕ → List ℕ → Type 0

@@ -1,9 +1,15 @@
 -- Windows read from a board and put back. Column u and row v of a board count from its first column and row.
-use Rattle.std.specs.Prelude.{◌≡◌, ◌≢◌, ◌==◌, ◌+◌, ◌*◌, ◌/◌, ◌%◌, ◌<◌, ◌≤◌, ℕ, List, slice_index, ◌⊎◌}
+use Rattle.std.specs.Prelude.{◌≡◌, ◌≢◌, ◌==◌, ◌+◌, ◌*◌, ◌/◌, ◌%◌, ◌<◌, ◌≤◌, ℕ, List, slice_index, ◌⊎◌, ◌+ℤ◌, pos}
 use Rattle.std.specs.Int.{bit_at}
+use Rattle.plane_core.specs.declared.cell.Cell.{Cell}
 use Rattle.plane_core.specs.declared.frame.Frame.{Frame}
+use Rattle.plane_core.specs.Cells.{cell_at}
 use Rattle.plane_core.specs.Frames.{word_of}
 use Rattle.plane_core.specs.Windows.{row_at}
+
+-- the cell in column u of row v
+abbrev pub cell_on : Frame → ℕ → ℕ → Cell
+cell_on at u v = cell_at (at.left +ℤ pos u) (at.top +ℤ pos v)
 
 -- the board's bit in column u of row v
 abbrev pub bit_on : Frame → List ℕ → ℕ → ℕ → ℕ

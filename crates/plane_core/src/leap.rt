@@ -11,7 +11,7 @@
 //! So windows may overlap: what two of them put back is the same.
 ghost use Rattle.std.specs.Prelude.{◌≡◌, ◌+◌, ◌<◌, ◌≤◌, ℕ, All, IfErr, OnOk, [], length};
 ghost use Rattle.plane_core.specs.Frames.{FillsFrame, IsFrame};
-ghost use Rattle.plane_core.specs.Leaps.{AreRun, HasLeapt, IsRun, IsRunAt, TellsChanges};
+ghost use Rattle.plane_core.specs.Leaps.{ArePutBack, AreRun, HasLeapt, IsRun, IsRunAt, TellsChanges};
 ghost use Rattle.plane_core.specs.Places.{IsOnBoard};
 
 use crate::answers::Answering;
@@ -99,5 +99,53 @@ fn run_all<A: Answering>(
         held.push(ran.rows)?;
         changes.push(ran.change)?;
     }
+    Ok(())
+}
+
+/// Puts all inner parts back.
+fn put_all(words: &mut [u64], at: Frame, places: &[Place], held: &[[u64; 40]])
+    requires frame { IsFrame at }
+    requires long { FillsFrame at words.old }
+    requires on_board { All (IsOnBoard at) places.now }
+    requires each { length held.now ≡ length places.now }
+    ensures put { ArePutBack at places.now held.now (length places.now) words.old words.new }
+    ensures long { length words.new ≡ length words.old }
+{
+    for k in 0..places.len() {
+        let x = column_of(at, places[k]);
+        let y = row_of(at, places[k]);
+        write(words, at, x, y, &held[k]);
+    }
+}
+
+/// Makes one to four generations of a board at once.
+///
+/// Both lists are cleared and filled anew: `held` with the rows of the windows, and `changes` with what has changed in
+/// each of them. All room is made before the first word is written.
+pub(crate) fn leap<A: Answering>(
+    words: &mut [u64],
+    at: Frame,
+    places: &[Place],
+    rule: &A,
+    count: usize,
+    held: &mut Vec<[u64; 40]>,
+    changes: &mut Vec<Change>,
+) -> Result<(), AllocError>
+    requires frame { IsFrame at }
+    requires long { FillsFrame at words.old }
+    requires on_board { All (IsOnBoard at) places.now }
+    requires some { 1 ≤ count }
+    requires few { count ≤ 4 }
+    ensures shown { OnOk result (HasLeapt at (A.rule rule.now) count places.now words.old words.new) }
+    ensures each { OnOk result (length changes.new.items ≡ length places.now) }
+    ensures changes { OnOk result
+        (TellsChanges at (A.rule rule.now) count places.now words.old changes.new.items) }
+    ensures untouched { IfErr result (λ _. words.new ≡ words.old) }
+    ensures long { length words.new ≡ length words.old }
+{
+    held.clear();
+    changes.clear();
+    run_all(words, at, places, rule, count, held, changes)?;
+    put_all(words, at, places, held.as_slice());
     Ok(())
 }
