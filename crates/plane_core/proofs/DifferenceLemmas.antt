@@ -1,6 +1,6 @@
 -- Where two windows differ.
-use Rattle.std.proofs.Common.{◌≡◌, ◌==◌, ◌+◌, ◌-◌, ◌*◌, ◌/◌, ◌%◌, ◌<◌, ◌≤◌, ℕ, List, [], length, ◌^◌, zero, suc, Bool, true, false, not, cond, map, replicate, w64, slice_index, get_or, inl, inr, ◌⊎◌}
-use Rattle.std.proofs.Common.{arith, refl, ap, ◌∙◌, sym, subst, bit_and, bit_or, bit_xor, max, min}
+use Rattle.std.proofs.Common.{◌≡◌, ◌+◌, ◌-◌, ◌*◌, ◌/◌, ◌%◌, ◌<◌, ◌≤◌, ℕ, List, length, ◌^◌, Bool, true, false, not, cond, map, replicate, w64, slice_index, get_or, inl, inr, ◌⊎◌}
+use Rattle.std.proofs.Common.{arith, refl, ap, ◌∙◌, sym, subst, bit_and, bit_or, bit_xor}
 use Rattle.std.specs.Int.{bit_at}
 use Rattle.std.proofs.lemmas.Nat.Bits.{bit_at_and, bit_at_or, bit_at_xor, bit_at-lt, bit_at-zero}
 use Rattle.std.proofs.lemmas.Bool.{eqb-true}
@@ -8,7 +8,7 @@ use Rattle.std.proofs.lemmas.Simd.{tops_compared, length-zip2, get_or-sel_l, get
 use Rattle.plane_core.specs.declared.change.Change.{Change}
 use Rattle.plane_core.specs.Differences.{DiffersOnlyIn}
 use Rattle.plane_core.specs.Lanes.{bit_of}
-use Rattle.plane_core.specs.Windows.{lane_at, row_at}
+use Rattle.plane_core.specs.Windows.{lane_at}
 use Rattle.plane_core.proofs.BoardLemmas.{less_or_not}
 use Rattle.plane_core.proofs.LaneLemmas.{lane_of, four_lanes}
 use Rattle.plane_core.proofs.ShiftLemmas.{bit_left_high}

@@ -1,5 +1,5 @@
 -- What a leap makes of a board.
-use Rattle.std.proofs.Common.{◌≡◌, ◌==◌, ◌+◌, ◌-◌, ◌*◌, ◌/◌, ◌%◌, ◌<◌, ◌≤◌, ℕ, ℤ, pos, ◌+ℤ◌, ◌≤ℤ◌, Bool, cond, List, [], ◌∷◌, ◌++◌, length}
+use Rattle.std.proofs.Common.{◌≡◌, ◌==◌, ◌+◌, ◌-◌, ◌*◌, ◌/◌, ◌%◌, ◌<◌, ◌≤◌, ℕ, ℤ, pos, ◌+ℤ◌, cond, List, [], ◌∷◌, ◌++◌, length}
 use Rattle.std.proofs.Common.{arith, refl, ap, ◌∙◌, sym, subst, inl, inr, ◌⊎◌, replicate, get_or, slice_index, slice_index_or}
 use Rattle.std.specs.Int.{bit_at}
 use Rattle.std.proofs.lemmas.Bool.{cases_lt}
@@ -10,13 +10,13 @@ use Rattle.plane_core.specs.declared.cell.Cell.{Cell}
 use Rattle.plane_core.specs.declared.change.Change.{Change}
 use Rattle.plane_core.specs.declared.frame.Frame.{Frame}
 use Rattle.plane_core.specs.declared.place.Place.{Place}
-use Rattle.plane_core.specs.Cells.{InOrder, cell_at, has}
+use Rattle.plane_core.specs.Cells.{has}
 use Rattle.plane_core.specs.Differences.{DiffersOnlyIn}
 use Rattle.plane_core.specs.Frames.{Shows, cell_of, word_of}
 use Rattle.plane_core.specs.Generations.{after}
-use Rattle.plane_core.specs.Leaps.{ArePutBack, AreRun, HasLeapt, IsRun, IsRunAt, ShowsInner, TellsChanges}
+use Rattle.plane_core.specs.Leaps.{ArePutBack, AreRun, HasLeapt, IsRun, IsRunAt, TellsChanges}
 use Rattle.plane_core.specs.Placed.{IsInner, IsPutBack, IsReadAt, bit_on, cell_on}
-use Rattle.plane_core.specs.Places.{HoldsChange, IsCovered, IsInnerCell, compared_with}
+use Rattle.plane_core.specs.Places.{HoldsChange, IsInnerCell, compared_with}
 use Rattle.plane_core.specs.Rules.{Numbers}
 use Rattle.plane_core.specs.Windows.{IsShownInside, row_at}
 use Rattle.plane_core.proofs.RunLemmas.{after-plus, in_order-after}
@@ -44,9 +44,11 @@ empty_window left top r i a b d e =
 -- an odd number of generations is compared with nothing
 pub run_odd : (rule : Numbers) (count : ℕ) (x y : List (List ℕ)) (change : Change) → count ≤ 4 → count % 2 ≡ 1 → HasMade rule 10 x y count
     → DiffersOnlyIn change y (replicate 10 (replicate 4 0)) → IsRun rule count x y change
-run_odd rule count x y change few odd made differs p cells o shown =
-    (later, subst (λ (S : List Cell). HoldsChange p (after rule cells count) S change) (sym none)
-        (holds_change p (after rule cells count) [] y (replicate 10 (replicate 4 0)) change later (empty_window p.left p.top) differs))
+run_odd rule count x y change few odd made differs p cells o shown = (
+  later,
+  subst (λ (S : List Cell). HoldsChange p (after rule cells count) S change) (sym none)
+      (holds_change p (after rule cells count) [] y (replicate 10 (replicate 4 0)) change later (empty_window p.left p.top) differs),
+)
   where
     later : IsShownInside 10 p.left p.top 4 y (after rule cells count)
     later r i a b d e = made cells p.left p.top 0 o shown r i (omega arith) (omega arith) (omega arith) (omega arith)
@@ -57,9 +59,11 @@ run_odd rule count x y change few odd made differs p cells o shown =
 -- an even number is compared with the generation two before it
 pub run_even : (rule : Numbers) (count : ℕ) (x y z : List (List ℕ)) (change : Change) → 2 ≤ count → count ≤ 4 → count % 2 ≡ 0 → HasMade rule 10 x y (count - 2)
     → HasMade rule 10 y z 2 → DiffersOnlyIn change z y → IsRun rule count x z change
-run_even rule count x y z change some few even first second differs p cells o shown =
-    (later, subst (λ (S : List Cell). HoldsChange p (after rule cells count) S change) (sym before)
-        (holds_change p (after rule cells count) (after rule cells (count - 2)) z y change later earlier differs))
+run_even rule count x y z change some few even first second differs p cells o shown = (
+  later,
+  subst (λ (S : List Cell). HoldsChange p (after rule cells count) S change) (sym before)
+      (holds_change p (after rule cells count) (after rule cells (count - 2)) z y change later earlier differs),
+)
   where
     shown_then : IsShownInside 10 p.left p.top (0 + (count - 2)) y (after rule cells (count - 2))
     shown_then = first cells p.left p.top 0 o shown

@@ -1,13 +1,13 @@
 -- Windows read from a board and put back.
-use Rattle.std.proofs.Common.{◌≡◌, ◌≢◌, ◌==◌, ◌+◌, ◌-◌, ◌*◌, ◌/◌, ◌%◌, ◌^◌, ◌<◌, ◌≤◌, ℕ, List, [], cond, get_or, slice_index}
-use Rattle.std.proofs.Common.{arith, refl, ap, ◌∙◌, sym, subst, inl, inr, ◌⊎◌}
+use Rattle.std.proofs.Common.{◌≡◌, ◌≢◌, ◌==◌, ◌+◌, ◌-◌, ◌*◌, ◌/◌, ◌%◌, ◌<◌, ◌≤◌, ℕ, List, [], cond, get_or, slice_index}
+use Rattle.std.proofs.Common.{arith, refl, ap, ◌∙◌, sym, inl, inr, ◌⊎◌}
 use Rattle.std.specs.Int.{bit_at}
 use Rattle.std.proofs.lemmas.Bool.{cases_eq, cases_lt}
 use Rattle.std.proofs.lemmas.Nat.{div-add-mod', div_below, mod_below}
 use Rattle.std.proofs.lemmas.Nat.Bits.{bit_at_mask_above, bit_at_mask_below, bit_at_mask_inside}
 use Rattle.plane_core.specs.declared.frame.Frame.{Frame}
 use Rattle.plane_core.specs.Frames.{word_of}
-use Rattle.plane_core.specs.Placed.{bit_on, inner_mask, IsReadAt, IsInnerColumn, IsInnerRow, IsInner, IsRowPut, IsPutBack}
+use Rattle.plane_core.specs.Placed.{bit_on, inner_mask, IsReadAt, IsInnerColumn, IsInner, IsRowPut, IsPutBack}
 use Rattle.plane_core.specs.Windows.{lane_at, row_at}
 use Rattle.plane_core.proofs.LoadLemmas.{same_spot}
 
@@ -97,8 +97,11 @@ put_there x y word old new u v i mask value row there back m w is = split (inner
     split (inl (one, low, high)) =
         inl (record { i = i; low = low; high = high; is = there (omega arith) }, row, is ∙ chosen_yes mask value old (m ∙ one) ∙ w)
     split (inr (none, outside)) =
-        inr ((λ c e. let at : u ≡ x + i = back c in let a = c.is in let b = c.low in let d = c.high in
-        outside (omega arith) (omega arith)), is ∙ chosen_no mask value old (m ∙ none))
+        inr (
+          (λ c e. let at : u ≡ x + i = back c in let a = c.is in let b = c.low in let d = c.high in
+              outside (omega arith) (omega arith)),
+          is ∙ chosen_no mask value old (m ∙ none),
+        )
 
 -- both words of a row
 pub row_put : (at : Frame) (old mid new : List ℕ) (x y word m1 v1 m2 v2 : ℕ) → y < at.rows

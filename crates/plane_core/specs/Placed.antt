@@ -1,5 +1,5 @@
 -- Windows read from a board and put back. Column u and row v of a board count from its first column and row.
-use Rattle.std.specs.Prelude.{◌≡◌, ◌≢◌, ◌==◌, ◌+◌, ◌*◌, ◌/◌, ◌%◌, ◌<◌, ◌≤◌, ℕ, List, slice_index, ◌⊎◌, ◌+ℤ◌, pos}
+use Rattle.std.specs.Prelude.{◌≡◌, ◌≢◌, ◌+◌, ◌*◌, ◌/◌, ◌%◌, ◌<◌, ◌≤◌, ℕ, List, slice_index, ◌⊎◌, ◌+ℤ◌, pos}
 use Rattle.std.specs.Int.{bit_at}
 use Rattle.plane_core.specs.declared.cell.Cell.{Cell}
 use Rattle.plane_core.specs.declared.frame.Frame.{Frame}

@@ -79,7 +79,10 @@ fn of_any_lane(vector: u64x4) -> u64
     ensures { (j i : ℕ) → j < 4 → bit_at result i ≡ 0 → bit_of vector j i ≡ 0 }
 {
     let lanes = vector.to_array();
-    either_word(either_word(lanes[0], lanes[1]), either_word(lanes[2], lanes[3]))
+    either_word(
+        either_word(lanes[0], lanes[1]),
+        either_word(lanes[2], lanes[3]),
+    )
 }
 
 /// Where two windows differ in their inner parts.

@@ -51,13 +51,7 @@ fn run<A: Answering>(window: &mut [u64x4; 10], rule: &A, count: usize) -> Change
 
 /// Reads the window of a place and runs it.
 #[inline(always)]
-fn run_at<A: Answering>(
-    words: &[u64],
-    at: Frame,
-    place: Place,
-    rule: &A,
-    count: usize,
-) -> Ran
+fn run_at<A: Answering>(words: &[u64], at: Frame, place: Place, rule: &A, count: usize) -> Ran
     requires frame { IsFrame at }
     requires long { FillsFrame at words.now }
     requires on_board { IsOnBoard at place }
@@ -66,7 +60,13 @@ fn run_at<A: Answering>(
     ensures { IsRunAt at words.now (A.rule rule.now) count place result.rows result.change }
 {
     let mut window = [u64x4::splat(0); 10];
-    read(words, at, column_of(at, place), row_of(at, place), &mut window);
+    read(
+        words,
+        at,
+        column_of(at, place),
+        row_of(at, place),
+        &mut window,
+    );
     let change = run(&mut window, rule, count);
     Ran {
         rows: unpacked(&window),

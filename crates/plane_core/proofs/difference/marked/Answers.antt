@@ -1,5 +1,4 @@
 use Rattle.std.proofs.Common.{◌≡◌, ◌+◌, ◌*◌, ◌<◌, ◌%◌, ◌^◌, ℕ, List, [], ◌∷◌, zero, suc, arith, refl}
-use Rattle.std.specs.Int.{bit_at}
 use Rattle.plane_core.specs.Lanes.{bit_of}
 use Rattle.plane_core.proofs.DifferenceLemmas.{not_marked, one_bit}
 use Rattle.plane_core.proofs.difference.marked.Goals as goal

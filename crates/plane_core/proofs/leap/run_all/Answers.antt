@@ -1,9 +1,8 @@
-use Rattle.std.proofs.Common.{◌≡◌, ◌+◌, ◌∙◌, ℕ, List, pos, arith, length, subst, sym}
+use Rattle.std.proofs.Common.{◌≡◌, ◌∙◌, pos, arith, length, subst}
 use Rattle.std.proofs.lemmas.List.{get_or_default}
-use Rattle.plane_core.specs.declared.change.Change.{Change}
 use Rattle.plane_core.specs.declared.place.Place.{Place}
 use Rattle.plane_core.specs.Leaps.{IsRunAt}
-use Rattle.plane_core.proofs.LeapLemmas.{AreRunFirst, run_more}
+use Rattle.plane_core.proofs.LeapLemmas.{run_more}
 use Rattle.plane_core.proofs.leap.run_all.Goals as goal
 
 pub loop-place-preserved : goal.loop-place-preserved

@@ -1,4 +1,3 @@
-use Rattle.std.proofs.Common.{arith}
 use Rattle.plane_core.proofs.LeapLemmas.{run_place, shown_read}
 use Rattle.plane_core.proofs.leap.run_at.Goals as goal
 
