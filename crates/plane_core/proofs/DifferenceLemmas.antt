@@ -1,5 +1,6 @@
 -- Where two windows differ.
-use Rattle.std.proofs.Common.{◌≡◌, ◌+◌, ◌-◌, ◌*◌, ◌/◌, ◌%◌, ◌<◌, ◌≤◌, ℕ, List, length, ◌^◌, Bool, true, false, not, cond, map, replicate, w64, slice_index, get_or, inl, inr, ◌⊎◌}
+use Rattle.std.proofs.Common.{◌≡◌, ◌+◌, ◌-◌, ◌*◌, ◌/◌, ◌%◌, ◌<◌, ◌≤◌, ℕ, List, length, ◌^◌, Bool, true, false, not, cond, map, replicate, w64}
+use Rattle.std.proofs.Common.{slice_index, get_or, inl, inr, ◌⊎◌}
 use Rattle.std.proofs.Common.{arith, refl, ap, ◌∙◌, sym, subst, bit_and, bit_or, bit_xor}
 use Rattle.std.specs.Int.{bit_at}
 use Rattle.std.proofs.lemmas.Nat.Bits.{bit_at_and, bit_at_or, bit_at_xor, bit_at-lt, bit_at-zero}
@@ -21,7 +22,8 @@ no_difference one other mask j i lo lt lm low set none =
     let word : slice_index (zip2 bit_and (zip2 bit_xor one other) mask) j ≡ bit_and (bit_xor (slice_index one j) (slice_index other j)) (slice_index mask j) =
     lane_of bit_and (zip2 bit_xor one other) mask j (four_lanes bit_xor one other lo lt) lm low
     ∙ ap (λ (w : ℕ). bit_and w (slice_index mask j)) (lane_of bit_xor one other j lo lt low) in
-    let zero_is : bit_at (bit_and (bit_xor (slice_index one j) (slice_index other j)) (slice_index mask j)) i ≡ 0 = ap (λ (w : ℕ). bit_at w i) (sym word) ∙ none in
+    let zero_is : bit_at (bit_and (bit_xor (slice_index one j) (slice_index other j)) (slice_index mask j)) i ≡ 0 = ap (λ (w : ℕ). bit_at w i) (sym word)
+    ∙ none in
     omega (
       arith,
       bit_at_and (bit_xor (slice_index one j) (slice_index other j)) (slice_index mask j) i,
@@ -33,7 +35,8 @@ no_difference one other mask j i lo lt lm low set none =
 pub neither : (one other : List ℕ) (j i : ℕ) → length one ≡ 4 → length other ≡ 4 → j < 4 → bit_of (zip2 bit_or one other) j i ≡ 0
     → (bit_of one j i ≡ 0) × (bit_of other j i ≡ 0)
 neither one other j i lo lt low none =
-    let at : bit_at (bit_or (slice_index one j) (slice_index other j)) i ≡ 0 = ap (λ (w : ℕ). bit_at w i) (sym (lane_of bit_or one other j lo lt low)) ∙ none in
+    let at : bit_at (bit_or (slice_index one j) (slice_index other j)) i ≡ 0 = ap (λ (w : ℕ). bit_at w i) (sym (lane_of bit_or one other j lo lt low))
+    ∙ none in
     (omega (arith, bit_at_or (slice_index one j) (slice_index other j) i), omega (arith, bit_at_or (slice_index one j) (slice_index other j) i))
 
 pub neither_word : (a b i : ℕ) → bit_at (bit_or a b) i ≡ 0 → (bit_at a i ≡ 0) × (bit_at b i ≡ 0)
@@ -68,7 +71,8 @@ not_marked places rows j i q lp lr low one none = split (other_than (slice_index
 
     split : (b : Bool) → other_than (slice_index places j) 0 ≡ b → bit_of places j i ≡ 0
     split true e =
-        let same : slice_index (sel_l (map (top 63) (zip2 (λ (a b : ℕ). cond (other_than a b) (2 ^ 64 - 1) 0) places (replicate 4 0))) rows (replicate 4 0)) j ≡ slice_index rows j =
+        let same : slice_index (sel_l (map (top 63) (zip2 (λ (a b : ℕ). cond (other_than a b) (2 ^ 64 - 1) 0) places (replicate 4 0))) rows (replicate 4 0)) j
+        ≡ slice_index rows j =
         word ∙ ap (λ (b : Bool). cond b (slice_index rows j) 0) e in
         let zero_is : bit_of rows j q ≡ 0 = ap (λ (n : ℕ). bit_at n q) (sym same) ∙ none in
         absurd (omega arith)
@@ -122,11 +126,14 @@ rows_more one other rows places marks more k before here mark old new m low j i 
         subst (λ (q : ℕ). bit_at (lane_at one q j) i ≡ bit_at (lane_at other q j) i) is
         (here j i lane a b (omega arith) (omega arith) (mark j i lane (new j (j * 10 + k) lane at)))
 
-pub differs_only : (one other : List (List ℕ)) (columns rows : List ℕ) (change : Change) → DifferInColumns one other columns 10 → DifferInRows one other rows 10
+pub differs_only : (one other : List (List ℕ)) (columns rows : List ℕ) (change : Change) → DifferInColumns one other columns 10
+    → DifferInRows one other rows 10
     → ((j i : ℕ) → j < 4 → bit_at change.columns i ≡ 0 → bit_of columns j i ≡ 0) → ((j i : ℕ) → j < 4 → bit_at change.rows i ≡ 0 → bit_of rows j i ≡ 0)
     → DiffersOnlyIn change one other
 differs_only one other columns rows change by_columns by_rows all_columns all_rows = record {
-  columns = λ r i a b d e none. by_columns (r % 10) (omega arith) (r / 10) i (omega arith) d e (omega arith) (omega arith) (all_columns (r / 10) i (omega arith) none);
+  columns =
+      λ r i a b d e none.
+      by_columns (r % 10) (omega arith) (r / 10) i (omega arith) d e (omega arith) (omega arith) (all_columns (r / 10) i (omega arith) none);
   rows = λ r i a b d e none.
       let whole : r ≡ r / 10 * 10 + r % 10 = omega arith in
       by_rows (r % 10) (omega arith) (r / 10) i (omega arith) d e (omega arith) (omega arith)

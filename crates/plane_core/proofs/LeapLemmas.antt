@@ -27,8 +27,10 @@ use Rattle.plane_core.proofs.WindowLemmas.{HasMade, same_cell_at}
 holds_change : (p : Place) (one other : List Cell) (x y : List (List ℕ)) (change : Change) → IsShownInside 10 p.left p.top 4 x one
     → IsShownInside 10 p.left p.top 4 y other → DiffersOnlyIn change x y → HoldsChange p one other change
 holds_change p one other x y change sx sy differs = record {
-  columns = λ i r a b d e none. sx r i d (omega arith) a (omega arith) ∙ ap (λ (n : ℕ). n == 1) (differs.columns r i d e a b none) ∙ sym (sy r i d (omega arith) a (omega arith));
-  rows = λ i r a b d e none. sx r i d (omega arith) a (omega arith) ∙ ap (λ (n : ℕ). n == 1) (differs.rows r i d e a b none) ∙ sym (sy r i d (omega arith) a (omega arith));
+  columns = λ i r a b d e none. sx r i d (omega arith) a (omega arith) ∙ ap (λ (n : ℕ). n == 1) (differs.columns r i d e a b none)
+      ∙ sym (sy r i d (omega arith) a (omega arith));
+  rows = λ i r a b d e none. sx r i d (omega arith) a (omega arith) ∙ ap (λ (n : ℕ). n == 1) (differs.rows r i d e a b none)
+      ∙ sym (sy r i d (omega arith) a (omega arith));
 }
 
 -- a window of which all is dead shows no cell
@@ -119,7 +121,8 @@ run_place at p words rule count window later rows change shown run unpacked cell
 -- ---- place after place
 
 -- the first places were run
-pub record AreRunFirst (at : Frame) (words : List ℕ) (rule : Numbers) (count : ℕ) (places : List Place) (held : List (List ℕ)) (changes : List Change) (done : ℕ) : Type 0 where
+pub record AreRunFirst (at : Frame) (words : List ℕ) (rule : Numbers) (count : ℕ) (places : List Place) (held : List (List ℕ))
+    (changes : List Change) (done : ℕ) : Type 0 where
   pub held_long : length held ≡ done
   pub changes_long : length changes ≡ done
   pub run : (k : ℕ) (p : Place) (c : Change) → k < done
@@ -142,7 +145,8 @@ run_one_more at words rule count places held changes done rows change before her
         split : (k < done) ⊎ (done ≤ k)
             → IsRunAt at words rule count (slice_index_or places k p) (slice_index_or (held ++ rows ∷ []) k []) (slice_index_or (changes ++ change ∷ []) k c)
         split (inl less) =
-            let rows_kept : slice_index_or held k [] ≡ slice_index_or (held ++ rows ∷ []) k [] = sym (get_or_append_left held (rows ∷ []) [] k (omega (arith, before.held_long))) in
+            let rows_kept : slice_index_or held k [] ≡ slice_index_or (held ++ rows ∷ []) k [] =
+            sym (get_or_append_left held (rows ∷ []) [] k (omega (arith, before.held_long))) in
             let change_kept : slice_index_or changes k c ≡ slice_index_or (changes ++ change ∷ []) k c =
             sym (get_or_append_left changes (change ∷ []) c k (omega (arith, before.changes_long))) in
             subst (λ (a : List ℕ). IsRunAt at words rule count (slice_index_or places k p) a (slice_index_or (changes ++ change ∷ []) k c)) rows_kept
@@ -167,7 +171,8 @@ run_more at words rule count places held held2 changes changes2 done rows change
 -- ---- putting back
 
 -- a cell of the inner part, by the board's columns and rows
-inner_place : (at : Frame) (p : Place) (x y u v : ℕ) → p.left ≡ at.left +ℤ pos x → p.top ≡ at.top +ℤ pos y → IsInnerCell p (cell_on at u v) → IsInner x y 36 u v
+inner_place : (at : Frame) (p : Place) (x y u v : ℕ) → p.left ≡ at.left +ℤ pos x → p.top ≡ at.top +ℤ pos y → IsInnerCell p (cell_on at u v)
+    → IsInner x y 36 u v
 inner_place at p x y u v left top inner =
     let a = inner.left in
     let b = inner.right in
@@ -181,7 +186,8 @@ inner_place at p x y u v left top inner =
 pub none_back : (at : Frame) (places : List Place) (held : List (List ℕ)) (old : List ℕ) → ArePutBack at places held 0 old old
 none_back at places held old cells shown u v hu hv = inr (λ k p low. absurd (omega arith), refl)
 
-pub back_more : (at : Frame) (places : List Place) (held : List (List ℕ)) (old mid new : List ℕ) (k x y : ℕ) → ((p : Place) → (slice_index_or places k p).left ≡ at.left +ℤ pos x)
+pub back_more : (at : Frame) (places : List Place) (held : List (List ℕ)) (old mid new : List ℕ) (k x y : ℕ)
+    → ((p : Place) → (slice_index_or places k p).left ≡ at.left +ℤ pos x)
     → ((p : Place) → (slice_index_or places k p).top ≡ at.top +ℤ pos y) → ArePutBack at places held k old mid
     → IsPutBack at x y 36 (slice_index_or held k []) mid new → ArePutBack at places held (k + 1) old new
 back_more at places held old mid new k x y left top before put cells shown u v hu hv =
@@ -231,7 +237,8 @@ leapt at rule count places held changes old new ran put cells o shows off s r i 
     new_bit = bit_of_lane at new s r i hi
 
     split : (has (after rule cells count) c ≡ (bit_on at new (64 * s + i) r == 1))
-        ⊎ (((k : ℕ) (p : Place) → k < length places → IsInnerCell (slice_index_or places k p) c → ⊥) × (bit_on at new (64 * s + i) r ≡ bit_on at old (64 * s + i) r))
+        ⊎ (((k : ℕ) (p : Place) → k < length places → IsInnerCell (slice_index_or places k p) c → ⊥)
+        × (bit_on at new (64 * s + i) r ≡ bit_on at old (64 * s + i) r))
         → has (after rule cells count) c ≡ (bit_at (slice_index new (word_of at s r)) i == 1)
     split (inl is) = is ∙ ap (λ (n : ℕ). n == 1) new_bit
     split (inr (none, kept)) =

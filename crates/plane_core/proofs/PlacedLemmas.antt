@@ -137,7 +137,11 @@ row_put at old mid new x y word m1 v1 m2 v2 inside m1low m1high v1high m2is v2is
 
     in_first : spot ≡ a → (u / 64 ≡ x / 64) × (v ≡ y) → (u % 64 < x % 64) ⊎ (x % 64 ≤ u % 64) → IsOnePut x y word (bit_on at old u v) (bit_on at new u v) u v
     in_first e (lane, row) (inl left) =
-        inr (λ c same. let is = c.is in absurd (omega arith), new_first e ∙ chosen_no (bit_at m1 (u % 64)) (bit_at v1 (u % 64)) (bit_on at old u v) (m1low (u % 64) left))
+        inr (
+          λ c same. let is = c.is in absurd (omega arith),
+          new_first e
+              ∙ chosen_no (bit_at m1 (u % 64)) (bit_at v1 (u % 64)) (bit_on at old u v) (m1low (u % 64) left),
+        )
     in_first e (lane, row) (inr right) =
         put_there x y word (bit_on at old u v) (bit_on at new u v) u v (u % 64 - x % 64) (bit_at m1 (u % 64)) (bit_at v1 (u % 64)) row
         (λ less. omega arith) (λ c. omega arith) (m1high (u % 64) right (omega arith)) (v1high (u % 64) right (omega arith)) (new_first e)

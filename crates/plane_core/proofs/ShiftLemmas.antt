@@ -116,7 +116,8 @@ pub joined_right : (first second : List ℕ) (s j i : ℕ) → length first ≡ 
     → bit_of (joined_lanes first second s) j i ≡ bit_of second j (i + s - 64)
 joined_right first second s j i lf fits ls small low inside past =
     let fit : Fits w64 (slice_index first j) = Each1-get_or (Fits w64) first j 0 (omega arith) fits in
-    let none : bit_at (slice_index first j / 2 ^ s) i ≡ 0 = bit_right (slice_index first j) s i ∙ bit_at_above (slice_index first j) 64 (i + s) fit.fits past in
+    let none : bit_at (slice_index first j / 2 ^ s) i ≡ 0 = bit_right (slice_index first j) s i
+    ∙ bit_at_above (slice_index first j) 64 (i + s) fit.fits past in
     ap (λ (w : ℕ). bit_at w i) (joined_lane first second s j lf ls low)
     ∙ no_first (slice_index first j / 2 ^ s) (slice_index second j * 2 % 2 ^ 64 * 2 ^ (63 - s) % 2 ^ 64) i none
     ∙ bit_end_high (slice_index second j) s i small inside past

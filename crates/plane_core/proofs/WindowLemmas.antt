@@ -196,7 +196,15 @@ row_shown : (S : List Cell) (n : ℕ) (left top : ℤ) (depth : ℕ) (x : List (
     → row_total (map one_of S) e ≡ row_sum (row_at n x r) i
 row_shown S n left top depth x o shown e r zero h1 h2 h3 h4 is = absurd (omega arith)
 row_shown S n left top depth x o shown e r (suc i) h1 h2 h3 h4 is =
-    omega (arith, total-ones S (moved_by (pos 1) (pos 0) e) o, total-ones S e o, total-ones S (moved_by (negsuc 0) (pos 0) e) o, here, west, east (suc i == 63) refl)
+    omega (
+      arith,
+      total-ones S (moved_by (pos 1) (pos 0) e) o,
+      total-ones S e o,
+      total-ones S (moved_by (negsuc 0) (pos 0) e) o,
+      here,
+      west,
+      east (suc i == 63) refl,
+    )
   where
     word : ℕ
     word = row_at n x r
@@ -260,8 +268,10 @@ none_made rule n x cells left top depth o shown =
     subst (λ (S : List Cell). IsShownInside n left top (depth + 0) x S) (sym (after-none rule cells))
     (λ r i a b d e. shown r i (omega arith) (omega arith) (omega arith) (omega arith))
 
-pub one_made : (rule : Numbers) (n : ℕ) (x y z : List (List ℕ)) (count : ℕ) → HasMade rule n x y count → IsNextWindow rule n y z → HasMade rule n x z (count + 1)
+pub one_made : (rule : Numbers) (n : ℕ) (x y z : List (List ℕ)) (count : ℕ) → HasMade rule n x y count → IsNextWindow rule n y z
+    → HasMade rule n x z (count + 1)
 one_made rule n x y z count made step cells left top depth o shown =
-    let more = shown_next rule (after rule cells count) n left top (depth + count) y z (in_order-after rule cells count o) (made cells left top depth o shown) step in
+    let more =
+    shown_next rule (after rule cells count) n left top (depth + count) y z (in_order-after rule cells count o) (made cells left top depth o shown) step in
     subst (λ (S : List Cell). IsShownInside n left top (depth + (count + 1)) z S) (sym (after-more rule cells count))
     (λ r i a b d e. more r i (omega arith) (omega arith) (omega arith) (omega arith))

@@ -29,7 +29,8 @@ IsRunAt at words rule count p rows change = (cells : List Cell) → InOrder cell
     → ShowsInner p rows (after rule cells count) × HoldsChange p (after rule cells count) (compared_with rule cells count) change
 
 -- each place was run
-pub record AreRun (at : Frame) (words : List ℕ) (rule : Numbers) (count : ℕ) (places : List Place) (held : List (List ℕ)) (changes : List Change) : Type 0 where
+pub record AreRun (at : Frame) (words : List ℕ) (rule : Numbers) (count : ℕ) (places : List Place) (held : List (List ℕ))
+    (changes : List Change) : Type 0 where
   pub held_long : length held ≡ length places
   pub changes_long : length changes ≡ length places
   pub run : (k : ℕ) (p : Place) (c : Change) → k < length places

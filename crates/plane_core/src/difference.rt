@@ -1,7 +1,7 @@
 //! Where two windows differ in their inner parts.
 //!
-//! The windows are laid over one another, and what differs is gathered in two words, one for the columns and one for the
-//! rows. No branch depends on a cell:
+//! The windows are laid over one another, and what differs is gathered in two words, one for the columns and one for
+//! the rows. No branch depends on a cell:
 //!
 //! ```text
 //!   . . . .      . . . .      . . . .   rows

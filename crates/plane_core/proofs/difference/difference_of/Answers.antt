@@ -14,7 +14,9 @@ loop-k-preserved c =
     let hold : HoldPlaces one other places k =
     λ j i low a b d e none. c.differing-places.ensures j i low (c.inner_of.ensures j i low a b d e) none in
     record {
-      columns = columns_more one other c.loop-k.columns places c.either-columns.result k c.loop-k.invariant.columns hold c.either-columns.ensures.one c.either-columns.ensures.other;
+      columns =
+          columns_more one other c.loop-k.columns places c.either-columns.result k c.loop-k.invariant.columns hold
+          c.either-columns.ensures.one c.either-columns.ensures.other;
       rows = rows_more one other c.loop-k.rows places c.marked.result c.either-rows.result k c.loop-k.invariant.rows hold c.marked.ensures
           c.either-rows.ensures.one c.either-rows.ensures.other;
     }
