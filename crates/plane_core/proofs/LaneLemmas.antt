@@ -52,7 +52,8 @@ lane_adder a b c j i la lb lc low = (λ t. bit_at (ones t) i + 2 * bit_at (twos 
 
 -- a pair of digits and another that counts twice
 pub lane_joined : (a b c d : List ℕ) (j i : ℕ) → length b ≡ 4 → length c ≡ 4 → length d ≡ 4 → j < 4
-    → bit_of a j i + 2 * bit_of (zip2 bit_xor b c) j i + 4 * bit_of (zip2 bit_xor d (zip2 bit_and b c)) j i + 8 * bit_of (zip2 bit_and d (zip2 bit_and b c)) j i
+    → bit_of a j i + 2 * bit_of (zip2 bit_xor b c) j i + 4 * bit_of (zip2 bit_xor d (zip2 bit_and b c)) j i
+    + 8 * bit_of (zip2 bit_and d (zip2 bit_and b c)) j i
     ≡ bit_of a j i + 2 * bit_of b j i + 2 * (bit_of c j i + 2 * bit_of d j i)
 lane_joined a b c d j i lb lc ld low =
     (λ t. bit_of a j i + 2 * bit_at (lane_of bit_xor b c j lb lc low t) i + 4 * bit_at (fours t) i + 8 * bit_at (eights t) i)

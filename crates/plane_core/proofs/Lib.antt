@@ -12,6 +12,7 @@ pub mod ClusterLemmas
 pub mod CommuteLemmas
 pub mod CoverLemmas
 pub mod FillLemmas
+pub mod DifferenceLemmas
 pub mod ForestLemmas
 pub mod FrameLemmas
 pub mod FrontierLemmas
@@ -21,6 +22,10 @@ pub mod GlanceLemmas
 pub mod LaneLemmas
 pub mod ListingLemmas
 pub mod LocalityLemmas
+pub mod LayLemmas
+pub mod LayoutLemmas
+pub mod LeapLemmas
+pub mod LoadLemmas
 pub mod MergeLemmas
 pub mod NeighbourLemmas
 pub mod NeighbourhoodLemmas
@@ -29,6 +34,7 @@ pub mod OnBoardLemmas
 pub mod OrientationLemmas
 pub mod OutLemmas
 pub mod PartLemmas
+pub mod PlacedLemmas
 pub mod PlacementLemmas
 pub mod PlaintextBox
 pub mod PlaintextCells
@@ -46,6 +52,7 @@ pub mod RuleReading
 pub mod RunLemmas
 pub mod SearchLemmas
 pub mod SetLemmas
+pub mod ShiftLemmas
 pub mod SpeedLemmas
 pub mod TallyLemmas
 pub mod TurnLemmas

@@ -130,21 +130,27 @@ made_next rule n x up here down now next k low p q r same is j lane i inside =
     is j i lane inside
     ∙ (λ t. one_if (lives_by rule (p j i lane inside t + q j i lane inside t + r j i lane inside t) (bit_at (word t) i == 1)))
 
+-- what is said of each word of the first vectors is said of those of one vector more
+pub vectors_more : (P : ℕ → ℕ → ℕ → Type 0) (y : List (List ℕ)) (next : List ℕ) (k : ℕ) → k < length y
+    → ((m : ℕ) → m < k → (j : ℕ) → j < 4 → P m j (lane_at y m j)) → ((j : ℕ) → j < 4 → P k j (slice_index next j))
+    → (m : ℕ) → m < k + 1 → (j : ℕ) → j < 4 → P m j (lane_at (set y k next) m j)
+vectors_more P y next k within made more m low j lane = split (less_or_not m k)
+  where
+    split : (m < k) ⊎ (k ≤ m) → P m j (lane_at (set y k next) m j)
+    split (inl less) =
+        let kept : lane_at y m j ≡ lane_at (set y k next) m j =
+        sym (ap (λ (v : List ℕ). slice_index v j) (get_or-set_other y k m next [] (λ e. absurd (omega arith)))) in
+        subst (λ (w : ℕ). P m j w) kept (made m less j lane)
+    split (inr not_less) =
+        let is : k ≡ m = omega arith in
+        let new : slice_index next j ≡ lane_at (set y k next) k j = sym (ap (λ (v : List ℕ). slice_index v j) (get_or-set_same y k next [] within)) in
+        subst (λ (q : ℕ). P q j (lane_at (set y k next) q j)) is (subst (λ (w : ℕ). P k j w) new (more j lane))
+
 pub made_more : (rule : Numbers) (n : ℕ) (x y : List (List ℕ)) (next : List ℕ) (k : ℕ) → k < length y → AreMade rule n x y k
     → ((j : ℕ) → j < 4 → IsNextRow rule (row_above n x (j * n + k)) (row_at n x (j * n + k)) (row_below n x (j * n + k)) (slice_index next j))
     → AreMade rule n x (set y k next) (k + 1)
-made_more rule n x y next k within made more m low j lane = split (less_or_not m k)
-  where
-    split : (m < k) ⊎ (k ≤ m) → IsNextRow rule (row_above n x (j * n + m)) (row_at n x (j * n + m)) (row_below n x (j * n + m)) (lane_at (set y k next) m j)
-    split (inl less) =
-        let kept : lane_at (set y k next) m j ≡ lane_at y m j =
-        ap (λ (v : List ℕ). slice_index v j) (get_or-set_other y k m next [] (λ e. absurd (omega arith))) in
-        λ i inside. ap (λ (w : ℕ). bit_at w i) kept ∙ made m less j lane i inside
-    split (inr not_less) =
-        let is : k ≡ m = omega arith in
-        let new : lane_at (set y k next) k j ≡ slice_index next j = ap (λ (v : List ℕ). slice_index v j) (get_or-set_same y k next [] within) in
-        subst (λ (q : ℕ). IsNextRow rule (row_above n x (j * n + q)) (row_at n x (j * n + q)) (row_below n x (j * n + q)) (lane_at (set y k next) q j)) is
-        (λ i inside. ap (λ (w : ℕ). bit_at w i) new ∙ more j lane i inside)
+made_more rule n x y next k =
+    vectors_more (λ m j w. IsNextRow rule (row_above n x (j * n + m)) (row_at n x (j * n + m)) (row_below n x (j * n + m)) w) y next k
 
 -- all vectors are all rows
 pub all_made : (rule : Numbers) (n : ℕ) (x y : List (List ℕ)) → 0 < n → AreMade rule n x y n → IsNextWindow rule n x y
@@ -190,7 +196,15 @@ row_shown : (S : List Cell) (n : ℕ) (left top : ℤ) (depth : ℕ) (x : List (
     → row_total (map one_of S) e ≡ row_sum (row_at n x r) i
 row_shown S n left top depth x o shown e r zero h1 h2 h3 h4 is = absurd (omega arith)
 row_shown S n left top depth x o shown e r (suc i) h1 h2 h3 h4 is =
-    omega (arith, total-ones S (moved_by (pos 1) (pos 0) e) o, total-ones S e o, total-ones S (moved_by (negsuc 0) (pos 0) e) o, here, west, east (suc i == 63) refl)
+    omega (
+      arith,
+      total-ones S (moved_by (pos 1) (pos 0) e) o,
+      total-ones S e o,
+      total-ones S (moved_by (negsuc 0) (pos 0) e) o,
+      here,
+      west,
+      east (suc i == 63) refl,
+    )
   where
     word : ℕ
     word = row_at n x r
@@ -254,8 +268,10 @@ none_made rule n x cells left top depth o shown =
     subst (λ (S : List Cell). IsShownInside n left top (depth + 0) x S) (sym (after-none rule cells))
     (λ r i a b d e. shown r i (omega arith) (omega arith) (omega arith) (omega arith))
 
-pub one_made : (rule : Numbers) (n : ℕ) (x y z : List (List ℕ)) (count : ℕ) → HasMade rule n x y count → IsNextWindow rule n y z → HasMade rule n x z (count + 1)
+pub one_made : (rule : Numbers) (n : ℕ) (x y z : List (List ℕ)) (count : ℕ) → HasMade rule n x y count → IsNextWindow rule n y z
+    → HasMade rule n x z (count + 1)
 one_made rule n x y z count made step cells left top depth o shown =
-    let more = shown_next rule (after rule cells count) n left top (depth + count) y z (in_order-after rule cells count o) (made cells left top depth o shown) step in
+    let more =
+    shown_next rule (after rule cells count) n left top (depth + count) y z (in_order-after rule cells count o) (made cells left top depth o shown) step in
     subst (λ (S : List Cell). IsShownInside n left top (depth + (count + 1)) z S) (sym (after-more rule cells count))
     (λ r i a b d e. more r i (omega arith) (omega arith) (omega arith) (omega arith))

@@ -4,6 +4,7 @@ pub mod Boxes
 pub mod Cells
 pub mod Clusters
 pub mod Covers
+pub mod Differences
 pub mod Forest
 pub mod Frames
 pub mod Frontiers
@@ -14,10 +15,13 @@ pub mod Listing
 pub mod Locality
 pub mod LonePatterns
 pub mod OnBoard
+pub mod Layouts
+pub mod Leaps
 pub mod OrientationLaws
 pub mod Orientations
 pub mod Out
 pub mod Parts
+pub mod Placed
 pub mod Places
 pub mod Plaintext
 pub mod PlaintextPlaces

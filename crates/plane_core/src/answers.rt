@@ -1,7 +1,7 @@
 //! What a rule answers, as words: which cells live next, by how many live cells their neighbourhoods have.
 //!
-//! The answer for each total from 0 to 9 is a word of equal bits, and the digits of the total choose between them. So no
-//! branch depends on a cell or on the rule:
+//! The answer for each total from 0 to 9 is a word of equal bits, and the digits of the total choose between them. So
+//! no branch depends on a cell or on the rule:
 //!
 //! ```text
 //! eights ?  ones ? 9 : 8

@@ -17,6 +17,7 @@ pub mod clusters;
 /// Sums and differences of coordinates.
 pub mod coordinate;
 mod cover;
+mod difference;
 mod forest;
 mod frame;
 /// How fast patterns grow in diagonal directions.
@@ -31,6 +32,8 @@ mod loading;
 /// How far a cell sees.
 pub mod locality;
 mod never_back;
+mod layout;
+mod leap;
 /// The eight orientations.
 pub mod orientation;
 /// A writer that remembers that it failed.
@@ -39,6 +42,7 @@ mod parts;
 /// Patterns: finite sets of cells.
 pub mod pattern;
 mod place;
+mod placed;
 /// Patterns moved on the plane.
 pub mod placement;
 /// Plaintext pattern files.

@@ -1,7 +1,7 @@
 //! Windows: a piece of the plane, 64 columns wide, in vectors.
 //!
-//! A window of N vectors has 4 N rows. Row r is lane r / N of vector r % N, so the rows above and below those of a vector
-//! are those of the vectors beside it, and only at the two ends a lane further:
+//! A window of N vectors has 4 N rows. Row r is lane r / N of vector r % N, so the rows above and below those of a
+//! vector are those of the vectors beside it, and only at the two ends a lane further:
 //!
 //! ```text
 //!            lane 0    lane 1    lane 2    lane 3

@@ -8,6 +8,7 @@ pub returns : goal.returns
 returns c e =
     let rule = c.args.rule.now in
     let made = c.life.result in
-    let tables = Decides-and _ _ (pointwise_decides booleans_Decides rule.births made.births) (pointwise_decides booleans_Decides rule.survivals made.survivals) in
+    let tables =
+    Decides-and _ _ (pointwise_decides booleans_Decides rule.births made.births) (pointwise_decides booleans_Decides rule.survivals made.survivals) in
     let same = tables.0 (sym c.eq.ensures ∙ e) in
     λ i. record { births = (same.0 ∙ c.life.ensures.births) i; survivals = (same.1 ∙ c.life.ensures.survivals) i }

@@ -26,7 +26,8 @@ loop-k-preserved g c =
     let more : k + 1 < n = omega arith in
     let down : AreOfVector x c.across-down.result (k + 1) =
     λ j i low inside. c.across-down.ensures j i low inside ∙ ap (λ (v : List ℕ). row_sum (slice_index v j) i) (inv.rest (k + 1) (omega arith)) in
-    let made = made_next (g.A.Answering.rule c.args.rule.now) n x c.loop-k.up c.loop-k.here c.across-down.result _ c.answer.result k (omega arith) inv.up inv.here
+    let made =
+    made_next (g.A.Answering.rule c.args.rule.now) n x c.loop-k.up c.loop-k.here c.across-down.result _ c.answer.result k (omega arith) inv.up inv.here
     (below_step n x c.across-down.result k more down) (inv.rest k (omega arith)) c.answer.ensures in
     record {
       long = length-set y k c.answer.result ∙ inv.long;

@@ -1,0 +1,251 @@
+-- What a leap makes of a board.
+use Rattle.std.proofs.Common.{◌≡◌, ◌==◌, ◌+◌, ◌-◌, ◌*◌, ◌/◌, ◌%◌, ◌<◌, ◌≤◌, ℕ, ℤ, pos, ◌+ℤ◌, cond, List, [], ◌∷◌, ◌++◌, length}
+use Rattle.std.proofs.Common.{arith, refl, ap, ◌∙◌, sym, subst, inl, inr, ◌⊎◌, replicate, get_or, slice_index, slice_index_or}
+use Rattle.std.specs.Int.{bit_at}
+use Rattle.std.proofs.lemmas.Bool.{cases_lt}
+use Rattle.std.proofs.lemmas.Int.{ints}
+use Rattle.std.proofs.lemmas.List.{get_or_append_left, get_or_push, length_push, get_or-replicate}
+use Rattle.std.proofs.lemmas.Nat.Bits.{bit_at-zero}
+use Rattle.plane_core.specs.declared.cell.Cell.{Cell}
+use Rattle.plane_core.specs.declared.change.Change.{Change}
+use Rattle.plane_core.specs.declared.frame.Frame.{Frame}
+use Rattle.plane_core.specs.declared.place.Place.{Place}
+use Rattle.plane_core.specs.Cells.{has}
+use Rattle.plane_core.specs.Differences.{DiffersOnlyIn}
+use Rattle.plane_core.specs.Frames.{Shows, cell_of, word_of}
+use Rattle.plane_core.specs.Generations.{after}
+use Rattle.plane_core.specs.Leaps.{ArePutBack, AreRun, HasLeapt, IsRun, IsRunAt, TellsChanges}
+use Rattle.plane_core.specs.Placed.{IsInner, IsPutBack, IsReadAt, bit_on, cell_on}
+use Rattle.plane_core.specs.Places.{HoldsChange, IsInnerCell, compared_with}
+use Rattle.plane_core.specs.Rules.{Numbers}
+use Rattle.plane_core.specs.Windows.{IsShownInside, row_at}
+use Rattle.plane_core.proofs.RunLemmas.{after-plus, in_order-after}
+use Rattle.plane_core.proofs.WindowLemmas.{HasMade, same_cell_at}
+
+-- ---- what has changed in a window
+
+holds_change : (p : Place) (one other : List Cell) (x y : List (List ℕ)) (change : Change) → IsShownInside 10 p.left p.top 4 x one
+    → IsShownInside 10 p.left p.top 4 y other → DiffersOnlyIn change x y → HoldsChange p one other change
+holds_change p one other x y change sx sy differs = record {
+  columns = λ i r a b d e none. sx r i d (omega arith) a (omega arith) ∙ ap (λ (n : ℕ). n == 1) (differs.columns r i d e a b none)
+      ∙ sym (sy r i d (omega arith) a (omega arith));
+  rows = λ i r a b d e none. sx r i d (omega arith) a (omega arith) ∙ ap (λ (n : ℕ). n == 1) (differs.rows r i d e a b none)
+      ∙ sym (sy r i d (omega arith) a (omega arith));
+}
+
+-- a window of which all is dead shows no cell
+empty_window : (left top : ℤ) → IsShownInside 10 left top 4 (replicate 10 (replicate 4 0)) []
+empty_window left top r i a b d e =
+    let k : r % 10 < 10 = omega arith in
+    let j : r / 10 < 4 = omega arith in
+    let vector : get_or (replicate 10 (replicate 4 0)) (r % 10) [] ≡ replicate 4 0 = get_or-replicate 10 (r % 10) (replicate 4 0) [] k in
+    let row : row_at 10 (replicate 10 (replicate 4 0)) r ≡ 0 =
+    ap (λ (v : List ℕ). slice_index v (r / 10)) vector ∙ get_or-replicate 4 (r / 10) 0 0 j in
+    ap (λ (n : ℕ). n == 1) (sym (ap (λ (w : ℕ). bit_at w i) row ∙ bit_at-zero i))
+
+-- an odd number of generations is compared with nothing
+pub run_odd : (rule : Numbers) (count : ℕ) (x y : List (List ℕ)) (change : Change) → count ≤ 4 → count % 2 ≡ 1 → HasMade rule 10 x y count
+    → DiffersOnlyIn change y (replicate 10 (replicate 4 0)) → IsRun rule count x y change
+run_odd rule count x y change few odd made differs p cells o shown = (
+  later,
+  subst (λ (S : List Cell). HoldsChange p (after rule cells count) S change) (sym none)
+      (holds_change p (after rule cells count) [] y (replicate 10 (replicate 4 0)) change later (empty_window p.left p.top) differs),
+)
+  where
+    later : IsShownInside 10 p.left p.top 4 y (after rule cells count)
+    later r i a b d e = made cells p.left p.top 0 o shown r i (omega arith) (omega arith) (omega arith) (omega arith)
+
+    none : compared_with rule cells count ≡ []
+    none = ap (λ (n : ℕ). cond (n == 0) (after rule cells (count - 2)) []) odd
+
+-- an even number is compared with the generation two before it
+pub run_even : (rule : Numbers) (count : ℕ) (x y z : List (List ℕ)) (change : Change) → 2 ≤ count → count ≤ 4 → count % 2 ≡ 0 → HasMade rule 10 x y (count - 2)
+    → HasMade rule 10 y z 2 → DiffersOnlyIn change z y → IsRun rule count x z change
+run_even rule count x y z change some few even first second differs p cells o shown = (
+  later,
+  subst (λ (S : List Cell). HoldsChange p (after rule cells count) S change) (sym before)
+      (holds_change p (after rule cells count) (after rule cells (count - 2)) z y change later earlier differs),
+)
+  where
+    shown_then : IsShownInside 10 p.left p.top (0 + (count - 2)) y (after rule cells (count - 2))
+    shown_then = first cells p.left p.top 0 o shown
+
+    earlier : IsShownInside 10 p.left p.top 4 y (after rule cells (count - 2))
+    earlier r i a b d e = shown_then r i (omega arith) (omega arith) (omega arith) (omega arith)
+
+    sum : after rule (after rule cells (count - 2)) 2 ≡ after rule cells count
+    sum = let whole : count - 2 + 2 ≡ count = omega arith in after-plus rule cells (count - 2) 2 ∙ ap (after rule cells) whole
+
+    shown_now : IsShownInside 10 p.left p.top (0 + (count - 2) + 2) z (after rule cells count)
+    shown_now =
+        subst (λ (S : List Cell). IsShownInside 10 p.left p.top (0 + (count - 2) + 2) z S) sum
+        (second (after rule cells (count - 2)) p.left p.top (0 + (count - 2)) (in_order-after rule cells (count - 2) o) shown_then)
+
+    later : IsShownInside 10 p.left p.top 4 z (after rule cells count)
+    later r i a b d e = shown_now r i (omega arith) (omega arith) (omega arith) (omega arith)
+
+    before : compared_with rule cells count ≡ after rule cells (count - 2)
+    before = ap (λ (n : ℕ). cond (n == 0) (after rule cells (count - 2)) []) even
+
+-- ---- what a board shows, by columns and rows
+
+pub shows_bit : (at : Frame) (words : List ℕ) (cells : List Cell) (u v : ℕ) → Shows at words cells → u < 64 * at.lanes → v < at.rows
+    → has cells (cell_on at u v) ≡ (bit_on at words u v == 1)
+shows_bit at words cells u v shows hu hv =
+    ap (has cells) (same_cell_at _ _ (at.left +ℤ pos (64 * (u / 64) + u % 64)) (at.top +ℤ pos v) (omega (arith, ints)) refl)
+    ∙ shows (u / 64) v (u % 64) (omega arith) hv (omega arith)
+
+bit_of_lane : (at : Frame) (words : List ℕ) (s r i : ℕ) → i < 64 → bit_on at words (64 * s + i) r ≡ bit_at (slice_index words (word_of at s r)) i
+bit_of_lane at words s r i low =
+    let lane : (64 * s + i) / 64 ≡ s = omega arith in
+    let bit : (64 * s + i) % 64 ≡ i = omega arith in
+    λ t. bit_at (slice_index words (word_of at (lane t) r)) (bit t)
+
+-- a window that was read shows what the board shows
+pub shown_read : (at : Frame) (p : Place) (words : List ℕ) (x y n : ℕ) (window : List (List ℕ)) (cells : List Cell) → x / 64 + 1 < at.lanes
+    → y + 4 * n ≤ at.rows → p.left ≡ at.left +ℤ pos x → p.top ≡ at.top +ℤ pos y → Shows at words cells → IsReadAt at words x y n window
+    → IsShownInside n p.left p.top 0 window cells
+shown_read at p words x y n window cells lanes rows left top shows read r i a low d inside =
+    ap (has cells) (same_cell_at _ _ (at.left +ℤ pos (x + i)) (at.top +ℤ pos (y + r)) (omega (arith, ints)) (omega (arith, ints)))
+    ∙ shows_bit at words cells (x + i) (y + r) shows (omega arith) (omega arith)
+    ∙ ap (λ (m : ℕ). m == 1) (sym (read r i (omega arith) (omega arith)))
+
+-- so the rows of a window that was run are those of some generations later
+pub run_place : (at : Frame) (p : Place) (words : List ℕ) (rule : Numbers) (count : ℕ) (window later : List (List ℕ)) (rows : List ℕ) (change : Change)
+    → ((cells : List Cell) → Shows at words cells → IsShownInside 10 p.left p.top 0 window cells) → IsRun rule count window later change
+    → ((r : ℕ) → r < 40 → slice_index rows r ≡ row_at 10 later r) → IsRunAt at words rule count p rows change
+run_place at p words rule count window later rows change shown run unpacked cells o shows =
+    let both = run p cells o (shown cells shows) in
+    (λ r i a b d e. both.0 r i a (omega arith) d (omega arith) ∙ ap (λ (w : ℕ). bit_at w i == 1) (sym (unpacked r (omega arith))), both.1)
+
+-- ---- place after place
+
+-- the first places were run
+pub record AreRunFirst (at : Frame) (words : List ℕ) (rule : Numbers) (count : ℕ) (places : List Place) (held : List (List ℕ))
+    (changes : List Change) (done : ℕ) : Type 0 where
+  pub held_long : length held ≡ done
+  pub changes_long : length changes ≡ done
+  pub run : (k : ℕ) (p : Place) (c : Change) → k < done
+      → IsRunAt at words rule count (slice_index_or places k p) (slice_index_or held k []) (slice_index_or changes k c)
+
+run_one_more : (at : Frame) (words : List ℕ) (rule : Numbers) (count : ℕ) (places : List Place) (held : List (List ℕ)) (changes : List Change) (done : ℕ)
+    (rows : List ℕ) (change : Change) → AreRunFirst at words rule count places held changes done
+    → ((p : Place) → IsRunAt at words rule count (slice_index_or places done p) rows change)
+    → AreRunFirst at words rule count places (held ++ rows ∷ []) (changes ++ change ∷ []) (done + 1)
+run_one_more at words rule count places held changes done rows change before here = record {
+  held_long = length_push held rows ∙ ap (λ (n : ℕ). n + 1) before.held_long;
+  changes_long = length_push changes change ∙ ap (λ (n : ℕ). n + 1) before.changes_long;
+  run = each;
+}
+  where
+    each : (k : ℕ) (p : Place) (c : Change) → k < done + 1
+        → IsRunAt at words rule count (slice_index_or places k p) (slice_index_or (held ++ rows ∷ []) k []) (slice_index_or (changes ++ change ∷ []) k c)
+    each k p c low = split (cases_lt k done)
+      where
+        split : (k < done) ⊎ (done ≤ k)
+            → IsRunAt at words rule count (slice_index_or places k p) (slice_index_or (held ++ rows ∷ []) k []) (slice_index_or (changes ++ change ∷ []) k c)
+        split (inl less) =
+            let rows_kept : slice_index_or held k [] ≡ slice_index_or (held ++ rows ∷ []) k [] =
+            sym (get_or_append_left held (rows ∷ []) [] k (omega (arith, before.held_long))) in
+            let change_kept : slice_index_or changes k c ≡ slice_index_or (changes ++ change ∷ []) k c =
+            sym (get_or_append_left changes (change ∷ []) c k (omega (arith, before.changes_long))) in
+            subst (λ (a : List ℕ). IsRunAt at words rule count (slice_index_or places k p) a (slice_index_or (changes ++ change ∷ []) k c)) rows_kept
+            (subst (λ (b : Change). IsRunAt at words rule count (slice_index_or places k p) (slice_index_or held k []) b) change_kept (before.run k p c less))
+        split (inr last) =
+            let is : done ≡ k = omega arith in
+            let new_rows : rows ≡ slice_index_or (held ++ rows ∷ []) k [] = sym (get_or_push held rows [] k (before.held_long ∙ is)) in
+            let new_change : change ≡ slice_index_or (changes ++ change ∷ []) k c = sym (get_or_push changes change c k (before.changes_long ∙ is)) in
+            subst (λ (a : List ℕ). IsRunAt at words rule count (slice_index_or places k p) a (slice_index_or (changes ++ change ∷ []) k c)) new_rows
+            (subst (λ (b : Change). IsRunAt at words rule count (slice_index_or places k p) rows b) new_change
+            (subst (λ (q : ℕ). IsRunAt at words rule count (slice_index_or places q p) rows change) is (here p)))
+
+pub run_more : (at : Frame) (words : List ℕ) (rule : Numbers) (count : ℕ) (places : List Place) (held held2 : List (List ℕ)) (changes changes2 : List Change)
+    (done : ℕ) (rows : List ℕ) (change : Change) → AreRunFirst at words rule count places held changes done
+    → ((p : Place) → IsRunAt at words rule count (slice_index_or places done p) rows change) → held2 ≡ held ++ rows ∷ [] → changes2 ≡ changes ++ change ∷ []
+    → AreRunFirst at words rule count places held2 changes2 (done + 1)
+run_more at words rule count places held held2 changes changes2 done rows change before here p q =
+    subst (λ (hs : List (List ℕ)). AreRunFirst at words rule count places hs changes2 (done + 1)) (sym p)
+    (subst (λ (ds : List Change). AreRunFirst at words rule count places (held ++ rows ∷ []) ds (done + 1)) (sym q)
+    (run_one_more at words rule count places held changes done rows change before here))
+
+-- ---- putting back
+
+-- a cell of the inner part, by the board's columns and rows
+inner_place : (at : Frame) (p : Place) (x y u v : ℕ) → p.left ≡ at.left +ℤ pos x → p.top ≡ at.top +ℤ pos y → IsInnerCell p (cell_on at u v)
+    → IsInner x y 36 u v
+inner_place at p x y u v left top inner =
+    let a = inner.left in
+    let b = inner.right in
+    let d = inner.top in
+    let e = inner.bottom in
+    record {
+      column = record { i = u - x; low = omega (arith, ints); high = omega (arith, ints); is = omega (arith, ints) };
+      row = record { r = v - y; low = omega (arith, ints); high = omega (arith, ints); is = omega (arith, ints) };
+    }
+
+pub none_back : (at : Frame) (places : List Place) (held : List (List ℕ)) (old : List ℕ) → ArePutBack at places held 0 old old
+none_back at places held old cells shown u v hu hv = inr (λ k p low. absurd (omega arith), refl)
+
+pub back_more : (at : Frame) (places : List Place) (held : List (List ℕ)) (old mid new : List ℕ) (k x y : ℕ)
+    → ((p : Place) → (slice_index_or places k p).left ≡ at.left +ℤ pos x)
+    → ((p : Place) → (slice_index_or places k p).top ≡ at.top +ℤ pos y) → ArePutBack at places held k old mid
+    → IsPutBack at x y 36 (slice_index_or held k []) mid new → ArePutBack at places held (k + 1) old new
+back_more at places held old mid new k x y left top before put cells shown u v hu hv =
+    split (put u v hu hv) (before cells (λ m p low. shown m p (omega arith)) u v hu hv)
+  where
+    some_place : Place
+    some_place = record { left = pos 0; top = pos 0 }
+
+    split : ((c : IsInner x y 36 u v) × (bit_on at new u v ≡ bit_at (slice_index (slice_index_or held k []) c.row.r) c.column.i))
+        ⊎ ((IsInner x y 36 u v → ⊥) × (bit_on at new u v ≡ bit_on at mid u v))
+        → (has cells (cell_on at u v) ≡ (bit_on at mid u v == 1))
+        ⊎ (((m : ℕ) (p : Place) → m < k → IsInnerCell (slice_index_or places m p) (cell_on at u v) → ⊥) × (bit_on at mid u v ≡ bit_on at old u v))
+        → (has cells (cell_on at u v) ≡ (bit_on at new u v == 1))
+        ⊎ (((m : ℕ) (p : Place) → m < k + 1 → IsInnerCell (slice_index_or places m p) (cell_on at u v) → ⊥) × (bit_on at new u v ≡ bit_on at old u v))
+    split (inl (c, is)) known =
+        let column = c.column.is in
+        let row = c.row.is in
+        let west = left some_place in
+        let north = top some_place in
+        inl (ap (has cells) (same_cell_at _ _ ((slice_index_or places k some_place).left +ℤ pos c.column.i)
+        ((slice_index_or places k some_place).top +ℤ pos c.row.r) (omega (arith, ints)) (omega (arith, ints)))
+        ∙ shown k some_place (omega arith) c.row.r c.column.i c.row.low c.row.high c.column.low c.column.high ∙ ap (λ (n : ℕ). n == 1) (sym is))
+    split (inr (off, kept)) (inl same) = inl (same ∙ ap (λ (n : ℕ). n == 1) (sym kept))
+    split (inr (off, kept)) (inr (none, same)) = inr (each, kept ∙ same)
+      where
+        each : (m : ℕ) (p : Place) → m < k + 1 → IsInnerCell (slice_index_or places m p) (cell_on at u v) → ⊥
+        each m p low inner = by_place (cases_lt m k)
+          where
+            by_place : (m < k) ⊎ (k ≤ m) → ⊥
+            by_place (inl less) = none m p less inner
+            by_place (inr last) =
+                let is : m ≡ k = omega arith in
+                off (inner_place at (slice_index_or places k p) x y u v (left p) (top p)
+                (subst (λ (q : ℕ). IsInnerCell (slice_index_or places q p) (cell_on at u v)) is inner))
+
+-- ---- the whole leap
+
+pub leapt : (at : Frame) (rule : Numbers) (count : ℕ) (places : List Place) (held : List (List ℕ)) (changes : List Change) (old new : List ℕ)
+    → AreRun at old rule count places held changes → ArePutBack at places held (length places) old new → HasLeapt at rule count places old new
+leapt at rule count places held changes old new ran put cells o shows off s r i hs hr hi =
+    split (put (after rule cells count) (λ k p low. (ran.run k p (record { columns = 0; rows = 0 }) low cells o shows).0) (64 * s + i) r (omega arith) hr)
+  where
+    c : Cell
+    c = cell_of at s r i
+
+    new_bit : bit_on at new (64 * s + i) r ≡ bit_at (slice_index new (word_of at s r)) i
+    new_bit = bit_of_lane at new s r i hi
+
+    split : (has (after rule cells count) c ≡ (bit_on at new (64 * s + i) r == 1))
+        ⊎ (((k : ℕ) (p : Place) → k < length places → IsInnerCell (slice_index_or places k p) c → ⊥)
+        × (bit_on at new (64 * s + i) r ≡ bit_on at old (64 * s + i) r))
+        → has (after rule cells count) c ≡ (bit_at (slice_index new (word_of at s r)) i == 1)
+    split (inl is) = is ∙ ap (λ (n : ℕ). n == 1) new_bit
+    split (inr (none, kept)) =
+        off c (λ (k, p, low, is, inner). none k p low (subst (λ (q : Place). IsInnerCell q c) (sym is) inner))
+        ∙ shows s r i hs hr hi
+        ∙ ap (λ (n : ℕ). n == 1) (sym (bit_of_lane at old s r i hi) ∙ sym kept ∙ new_bit)
+
+pub tells_changes : (at : Frame) (rule : Numbers) (count : ℕ) (places : List Place) (held : List (List ℕ)) (changes : List Change) (old : List ℕ)
+    → AreRun at old rule count places held changes → TellsChanges at rule count places old changes
+tells_changes at rule count places held changes old ran cells o shows k p c low = (ran.run k p c low cells o shows).1

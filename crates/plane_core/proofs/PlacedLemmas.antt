@@ -1,0 +1,206 @@
+-- Windows read from a board and put back.
+use Rattle.std.proofs.Common.{◌≡◌, ◌≢◌, ◌==◌, ◌+◌, ◌-◌, ◌*◌, ◌/◌, ◌%◌, ◌<◌, ◌≤◌, ℕ, List, [], cond, get_or, slice_index}
+use Rattle.std.proofs.Common.{arith, refl, ap, ◌∙◌, sym, inl, inr, ◌⊎◌}
+use Rattle.std.specs.Int.{bit_at}
+use Rattle.std.proofs.lemmas.Bool.{cases_eq, cases_lt}
+use Rattle.std.proofs.lemmas.Nat.{div-add-mod', div_below, mod_below}
+use Rattle.std.proofs.lemmas.Nat.Bits.{bit_at_mask_above, bit_at_mask_below, bit_at_mask_inside}
+use Rattle.plane_core.specs.declared.frame.Frame.{Frame}
+use Rattle.plane_core.specs.Frames.{word_of}
+use Rattle.plane_core.specs.Placed.{bit_on, inner_mask, IsReadAt, IsInnerColumn, IsInner, IsRowPut, IsPutBack}
+use Rattle.plane_core.specs.Windows.{lane_at, row_at}
+use Rattle.plane_core.proofs.LoadLemmas.{same_spot}
+
+-- ---- reading
+
+-- a word that is joined of two words of the board
+pub read_word : (at : Frame) (words : List ℕ) (x y n k j i word : ℕ) → i < 64
+    → (i + x % 64 < 64 → bit_at word i ≡ bit_at (slice_index words (x / 64 * at.rows + y + k + j * n)) (i + x % 64))
+    → (64 ≤ i + x % 64 → bit_at word i ≡ bit_at (slice_index words (x / 64 * at.rows + y + at.rows + k + j * n)) (i + x % 64 - 64))
+    → bit_at word i ≡ bit_on at words (x + i) (y + (j * n + k))
+read_word at words x y n k j i word low left right = split (cases_lt (i + x % 64) 64)
+  where
+    split : (i + x % 64 < 64) ⊎ (64 ≤ i + x % 64) → bit_at word i ≡ bit_on at words (x + i) (y + (j * n + k))
+    split (inl first) =
+        let lane : x / 64 ≡ (x + i) / 64 = omega arith in
+        let rows : x / 64 * at.rows ≡ (x + i) / 64 * at.rows = ap (λ (m : ℕ). m * at.rows) lane in
+        let place : x / 64 * at.rows + y + k + j * n ≡ (x + i) / 64 * at.rows + (y + (j * n + k)) = omega arith in
+        let bit : i + x % 64 ≡ (x + i) % 64 = omega arith in
+        left first ∙ (λ t. bit_at (slice_index words (place t)) (bit t))
+    split (inr second) =
+        let lane : x / 64 + 1 ≡ (x + i) / 64 = omega arith in
+        let rows : (x / 64 + 1) * at.rows ≡ (x + i) / 64 * at.rows = ap (λ (m : ℕ). m * at.rows) lane in
+        let place : x / 64 * at.rows + y + at.rows + k + j * n ≡ (x + i) / 64 * at.rows + (y + (j * n + k)) = omega arith in
+        let bit : i + x % 64 - 64 ≡ (x + i) % 64 = omega arith in
+        right second ∙ (λ t. bit_at (slice_index words (place t)) (bit t))
+
+-- the first vectors of a window have the bits of the board
+abbrev pub AreRead : Frame → List ℕ → ℕ → ℕ → ℕ → List (List ℕ) → ℕ → Type 0
+AreRead at words x y n window count = (k : ℕ) → k < count → (j : ℕ) → j < 4 → (i : ℕ) → i < 64
+    → bit_at (lane_at window k j) i ≡ bit_on at words (x + i) (y + (j * n + k))
+
+pub all_read : (at : Frame) (words : List ℕ) (x y n : ℕ) (window : List (List ℕ)) → AreRead at words x y n window n → IsReadAt at words x y n window
+all_read at words x y n window read r i low inside =
+    let some : 0 < n = omega arith in
+    let whole : r / n * n + r % n ≡ r = div-add-mod' r n in
+    read (r % n) (mod_below r n some) (r / n) (div_below r n 4 some low) i inside ∙ ap (λ (m : ℕ). bit_on at words (x + i) (y + m)) whole
+
+-- ---- unpacking
+
+-- the rows of the first vectors stand in their places
+abbrev pub AreUnpacked : List (List ℕ) → List ℕ → ℕ → Type 0
+AreUnpacked window rows count = (j m : ℕ) → j < 4 → m < count → slice_index rows (j * 10 + m) ≡ lane_at window m j
+
+pub unpacked_more : (window : List (List ℕ)) (rows more vector : List ℕ) (k : ℕ) → k < 10 → AreUnpacked window rows k → vector ≡ get_or window k []
+    → ((j : ℕ) → j < 4 → slice_index more (j * 10 + k) ≡ slice_index vector j)
+    → ((j m : ℕ) → j < 4 → m < 10 → m ≢ k → slice_index more (j * 10 + m) ≡ slice_index rows (j * 10 + m)) → AreUnpacked window more (k + 1)
+unpacked_more window rows more vector k small is same at others j m low less = split (cases_eq m k)
+  where
+    split : (m ≡ k) ⊎ (m ≡ k → ⊥) → slice_index more (j * 10 + m) ≡ lane_at window m j
+    split (inl e) =
+        ap (λ (q : ℕ). slice_index more (j * 10 + q)) e ∙ at j low ∙ ap (λ (v : List ℕ). slice_index v j) same ∙ ap (λ (q : ℕ). lane_at window q j) (sym e)
+    split (inr apart) = others j m low (omega arith) apart ∙ is j m low (omega arith)
+
+pub all_unpacked : (window : List (List ℕ)) (rows : List ℕ) → AreUnpacked window rows 10 → (r : ℕ) → r < 40 → slice_index rows r ≡ row_at 10 window r
+all_unpacked window rows is r low =
+    let whole : r / 10 * 10 + r % 10 ≡ r = omega arith in
+    ap (slice_index rows) (sym whole) ∙ is (r / 10) (r % 10) (omega arith) (omega arith)
+
+-- ---- putting back
+
+-- a bit of the mask says whether the column is an inner one
+pub inner_bit : (i : ℕ) → ((bit_at inner_mask i ≡ 1) × (4 ≤ i) × (i < 60)) ⊎ ((bit_at inner_mask i ≡ 0) × (4 ≤ i → i < 60 → ⊥))
+inner_bit i = split (cases_lt i 4) (cases_lt i 60)
+  where
+    split : (i < 4) ⊎ (4 ≤ i) → (i < 60) ⊎ (60 ≤ i) → ((bit_at inner_mask i ≡ 1) × (4 ≤ i) × (i < 60)) ⊎ ((bit_at inner_mask i ≡ 0) × (4 ≤ i → i < 60 → ⊥))
+    split (inl left) v = inr (bit_at_mask_below 4 60 i left, λ a b. absurd (omega arith))
+    split (inr low) (inl high) = inl (bit_at_mask_inside 4 60 i low high, low, high)
+    split (inr low) (inr right) = inr (bit_at_mask_above 4 60 i right, λ a b. absurd (omega arith))
+
+chosen_yes : (t y n : ℕ) → t ≡ 1 → cond (t == 1) y n ≡ y
+chosen_yes t y n e = ap (λ (m : ℕ). cond (m == 1) y n) e
+
+chosen_no : (t y n : ℕ) → t ≡ 0 → cond (t == 1) y n ≡ n
+chosen_no t y n e = ap (λ (m : ℕ). cond (m == 1) y n) e
+
+-- what becomes of one place of the board
+abbrev IsOnePut : ℕ → ℕ → ℕ → ℕ → ℕ → ℕ → ℕ → Type 0
+IsOnePut x y word old new u v =
+    ((c : IsInnerColumn x u) × (v ≡ y) × (new ≡ bit_at word c.i)) ⊎ ((IsInnerColumn x u → v ≢ y) × (new ≡ old))
+
+-- a place in one of the two lanes: it is column i of the word, if that is an inner one
+put_there : (x y word old new u v i mask value : ℕ) → v ≡ y → (i < 64 → u ≡ x + i) → (IsInnerColumn x u → u ≡ x + i)
+    → mask ≡ bit_at inner_mask i → value ≡ bit_at word i → new ≡ cond (mask == 1) value old → IsOnePut x y word old new u v
+put_there x y word old new u v i mask value row there back m w is = split (inner_bit i)
+  where
+    split : ((bit_at inner_mask i ≡ 1) × (4 ≤ i) × (i < 60)) ⊎ ((bit_at inner_mask i ≡ 0) × (4 ≤ i → i < 60 → ⊥)) → IsOnePut x y word old new u v
+    split (inl (one, low, high)) =
+        inl (record { i = i; low = low; high = high; is = there (omega arith) }, row, is ∙ chosen_yes mask value old (m ∙ one) ∙ w)
+    split (inr (none, outside)) =
+        inr (
+          (λ c e. let at : u ≡ x + i = back c in let a = c.is in let b = c.low in let d = c.high in
+              outside (omega arith) (omega arith)),
+          is ∙ chosen_no mask value old (m ∙ none),
+        )
+
+-- both words of a row
+pub row_put : (at : Frame) (old mid new : List ℕ) (x y word m1 v1 m2 v2 : ℕ) → y < at.rows
+    → ((i : ℕ) → i < x % 64 → bit_at m1 i ≡ 0) → ((i : ℕ) → x % 64 ≤ i → i < 64 → bit_at m1 i ≡ bit_at inner_mask (i - x % 64))
+    → ((i : ℕ) → x % 64 ≤ i → i < 64 → bit_at v1 i ≡ bit_at word (i - x % 64))
+    → ((i : ℕ) → bit_at m2 i ≡ bit_at inner_mask (i + 64 - x % 64)) → ((i : ℕ) → bit_at v2 i ≡ bit_at word (i + 64 - x % 64))
+    → ((b : ℕ) → bit_at (slice_index mid (x / 64 * at.rows + y)) b ≡ cond (bit_at m1 b == 1) (bit_at v1 b) (bit_at (slice_index old (x / 64 * at.rows + y)) b))
+    → ((m : ℕ) → m ≢ x / 64 * at.rows + y → slice_index mid m ≡ slice_index old m)
+    → ((b : ℕ) → bit_at (slice_index new (x / 64 * at.rows + y + at.rows)) b
+    ≡ cond (bit_at m2 b == 1) (bit_at v2 b) (bit_at (slice_index mid (x / 64 * at.rows + y + at.rows)) b))
+    → ((m : ℕ) → m ≢ x / 64 * at.rows + y + at.rows → slice_index new m ≡ slice_index mid m) → IsRowPut at x y word old new
+row_put at old mid new x y word m1 v1 m2 v2 inside m1low m1high v1high m2is v2is first first_others second second_others u v hu hv =
+    split (cases_eq spot a) (cases_eq spot b)
+  where
+    a : ℕ
+    a = x / 64 * at.rows + y
+
+    b : ℕ
+    b = x / 64 * at.rows + y + at.rows
+
+    spot : ℕ
+    spot = word_of at (u / 64) v
+
+    later : a ≢ b
+    later e = absurd (omega arith)
+
+    new_first : spot ≡ a → bit_on at new u v ≡ cond (bit_at m1 (u % 64) == 1) (bit_at v1 (u % 64)) (bit_on at old u v)
+    new_first e =
+        ap (λ (w : ℕ). bit_at w (u % 64)) (second_others spot (λ f. later (sym e ∙ f)))
+        ∙ ap (λ (m : ℕ). bit_at (slice_index mid m) (u % 64)) e
+        ∙ first (u % 64)
+        ∙ ap (λ (m : ℕ). cond (bit_at m1 (u % 64) == 1) (bit_at v1 (u % 64)) (bit_at (slice_index old m) (u % 64))) (sym e)
+
+    in_first : spot ≡ a → (u / 64 ≡ x / 64) × (v ≡ y) → (u % 64 < x % 64) ⊎ (x % 64 ≤ u % 64) → IsOnePut x y word (bit_on at old u v) (bit_on at new u v) u v
+    in_first e (lane, row) (inl left) =
+        inr (
+          λ c same. let is = c.is in absurd (omega arith),
+          new_first e
+              ∙ chosen_no (bit_at m1 (u % 64)) (bit_at v1 (u % 64)) (bit_on at old u v) (m1low (u % 64) left),
+        )
+    in_first e (lane, row) (inr right) =
+        put_there x y word (bit_on at old u v) (bit_on at new u v) u v (u % 64 - x % 64) (bit_at m1 (u % 64)) (bit_at v1 (u % 64)) row
+        (λ less. omega arith) (λ c. omega arith) (m1high (u % 64) right (omega arith)) (v1high (u % 64) right (omega arith)) (new_first e)
+
+    new_second : spot ≡ b → bit_on at new u v ≡ cond (bit_at m2 (u % 64) == 1) (bit_at v2 (u % 64)) (bit_on at old u v)
+    new_second e =
+        ap (λ (m : ℕ). bit_at (slice_index new m) (u % 64)) e
+        ∙ second (u % 64)
+        ∙ ap (λ (w : ℕ). cond (bit_at m2 (u % 64) == 1) (bit_at v2 (u % 64)) (bit_at w (u % 64))) (first_others b (λ f. later (sym f)))
+        ∙ ap (λ (m : ℕ). cond (bit_at m2 (u % 64) == 1) (bit_at v2 (u % 64)) (bit_at (slice_index old m) (u % 64))) (sym e)
+
+    in_second : spot ≡ b → (u / 64 ≡ x / 64 + 1) × (v ≡ y) → IsOnePut x y word (bit_on at old u v) (bit_on at new u v) u v
+    in_second e (lane, row) =
+        put_there x y word (bit_on at old u v) (bit_on at new u v) u v (u % 64 + 64 - x % 64) (bit_at m2 (u % 64)) (bit_at v2 (u % 64)) row
+        (λ less. omega arith) (λ c. omega arith) (m2is (u % 64)) (v2is (u % 64)) (new_second e)
+
+    outside : (spot ≡ a → ⊥) → (spot ≡ b → ⊥) → IsInnerColumn x u → v ≢ y
+    outside apart further c row = lanes (cases_eq (u / 64) (x / 64))
+      where
+        lanes : (u / 64 ≡ x / 64) ⊎ (u / 64 ≡ x / 64 → ⊥) → ⊥
+        lanes (inl same) = apart (λ t. same t * at.rows + row t)
+        lanes (inr other) =
+            let is = c.is in
+            let high = c.high in
+            let lane : u / 64 ≡ x / 64 + 1 = omega arith in
+            let rows : u / 64 * at.rows ≡ (x / 64 + 1) * at.rows = ap (λ (m : ℕ). m * at.rows) lane in
+            further (omega arith)
+
+    split : (spot ≡ a) ⊎ (spot ≡ a → ⊥) → (spot ≡ b) ⊎ (spot ≡ b → ⊥) → IsOnePut x y word (bit_on at old u v) (bit_on at new u v) u v
+    split (inl e) other = in_first e (same_spot at.rows (u / 64) v (x / 64) y e hv inside) (cases_lt (u % 64) (x % 64))
+    split (inr apart) (inl e) = in_second e (same_spot at.rows (u / 64) v (x / 64 + 1) y (omega arith) hv inside)
+    split (inr apart) (inr further) =
+        inr (outside apart further, ap (λ (w : ℕ). bit_at w (u % 64)) (second_others spot further ∙ first_others spot apart))
+
+-- one row more
+pub put_more : (at : Frame) (x y end : ℕ) (rows old mid new : List ℕ) → 4 ≤ end → IsPutBack at x y end rows old mid
+    → IsRowPut at x (y + end) (slice_index rows end) mid new → IsPutBack at x y (end + 1) rows old new
+put_more at x y end rows old mid new least put row u v hu hv = split (row u v hu hv) (put u v hu hv)
+  where
+    split : IsOnePut x (y + end) (slice_index rows end) (bit_on at mid u v) (bit_on at new u v) u v
+        → ((c : IsInner x y end u v) × (bit_on at mid u v ≡ bit_at (slice_index rows c.row.r) c.column.i))
+        ⊎ ((IsInner x y end u v → ⊥) × (bit_on at mid u v ≡ bit_on at old u v))
+        → ((c : IsInner x y (end + 1) u v) × (bit_on at new u v ≡ bit_at (slice_index rows c.row.r) c.column.i))
+        ⊎ ((IsInner x y (end + 1) u v → ⊥) × (bit_on at new u v ≡ bit_on at old u v))
+    split (inl (c, same, is)) before =
+        inl (record { column = c; row = record { r = end; low = least; high = omega arith; is = same } }, is)
+    split (inr (off, kept)) (inl (c, is)) =
+        let high = c.row.high in
+        inl (record { column = c.column; row = record { r = c.row.r; low = c.row.low; high = omega arith; is = c.row.is } }, kept ∙ is)
+    split (inr (off, kept)) (inr (outside, same)) = inr (none, kept ∙ same)
+      where
+        none : IsInner x y (end + 1) u v → ⊥
+        none c = rows_of (cases_eq c.row.r end)
+          where
+            rows_of : (c.row.r ≡ end) ⊎ (c.row.r ≡ end → ⊥) → ⊥
+            rows_of (inl last) = off c.column (c.row.is ∙ ap (λ (m : ℕ). y + m) last)
+            rows_of (inr apart) =
+                let high = c.row.high in
+                outside (record { column = c.column; row = record { r = c.row.r; low = c.row.low; high = omega arith; is = c.row.is } })
+
+pub none_put : (at : Frame) (x y : ℕ) (rows old : List ℕ) → IsPutBack at x y 4 rows old old
+none_put at x y rows old u v hu hv = inr (λ c. let low = c.row.low in let high = c.row.high in absurd (omega arith), refl)

@@ -1,0 +1,31 @@
+use Rattle.std.proofs.Common.{◌≡◌, ℕ, arith, subst}
+use Rattle.plane_core.proofs.DifferenceLemmas.{DifferInColumns, DifferInRows, HoldPlaces, columns_more, rows_more, differs_only}
+use Rattle.plane_core.proofs.difference.difference_of.Goals as goal
+
+pub loop-k-init : goal.loop-k-init
+loop-k-init c = record { columns = λ k low. absurd (omega arith); rows = λ k low. absurd (omega arith) }
+
+pub loop-k-preserved : goal.loop-k-preserved
+loop-k-preserved c =
+    let one = c.args.one.now in
+    let other = c.args.other.now in
+    let k = c.loop-k.k in
+    let places = c.differing-places.result in
+    let hold : HoldPlaces one other places k =
+    λ j i low a b d e none. c.differing-places.ensures j i low (c.inner_of.ensures j i low a b d e) none in
+    record {
+      columns =
+          columns_more one other c.loop-k.columns places c.either-columns.result k c.loop-k.invariant.columns hold
+          c.either-columns.ensures.one c.either-columns.ensures.other;
+      rows = rows_more one other c.loop-k.rows places c.marked.result c.either-rows.result k c.loop-k.invariant.rows hold c.marked.ensures
+          c.either-rows.ensures.one c.either-rows.ensures.other;
+    }
+
+pub returns : goal.returns
+returns c =
+    let one = c.args.one.now in
+    let other = c.args.other.now in
+    let all : c.loop-k.k ≡ 10 = omega arith in
+    differs_only one other c.loop-k.columns c.loop-k.rows _
+    (subst (λ (k : ℕ). DifferInColumns one other c.loop-k.columns k) all c.loop-k.invariant.columns)
+    (subst (λ (k : ℕ). DifferInRows one other c.loop-k.rows k) all c.loop-k.invariant.rows) c.of_any_lane.ensures c.of_any_lane-2.ensures

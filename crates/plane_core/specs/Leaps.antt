@@ -1,0 +1,56 @@
+-- Leaps: some generations of a board, made in windows that are read first and put back afterwards.
+use Rattle.std.specs.Prelude.{◌≡◌, ◌==◌, ◌*◌, ◌<◌, ◌≤◌, ◌⊎◌, ℕ, ◌+ℤ◌, pos, List, length, slice_index, slice_index_or, []}
+use Rattle.std.specs.Int.{bit_at}
+use Rattle.plane_core.specs.declared.cell.Cell.{Cell}
+use Rattle.plane_core.specs.declared.change.Change.{Change}
+use Rattle.plane_core.specs.declared.frame.Frame.{Frame}
+use Rattle.plane_core.specs.declared.place.Place.{Place}
+use Rattle.plane_core.specs.Cells.{InOrder, cell_at, has}
+use Rattle.plane_core.specs.Frames.{Shows}
+use Rattle.plane_core.specs.Generations.{after}
+use Rattle.plane_core.specs.Placed.{bit_on, cell_on}
+use Rattle.plane_core.specs.Places.{HoldsChange, IsCovered, IsInnerCell, compared_with}
+use Rattle.plane_core.specs.Rules.{Numbers}
+use Rattle.plane_core.specs.Windows.{IsShownInside}
+
+-- in the inner part of a window, whose rows these are, the bits are the cells of the list
+abbrev pub ShowsInner : Place → List ℕ → List Cell → Type 0
+ShowsInner p rows cells = (r i : ℕ) → 4 ≤ r → r < 36 → 4 ≤ i → i < 60
+    → has cells (cell_at (p.left +ℤ pos i) (p.top +ℤ pos r)) ≡ (bit_at (slice_index rows r) i == 1)
+
+-- A window was run: it is right four cells inside its border, and what has changed is told.
+abbrev pub IsRun : Numbers → ℕ → List (List ℕ) → List (List ℕ) → Change → Type 0
+IsRun rule count x y change = (p : Place) (cells : List Cell) → InOrder cells → IsShownInside 10 p.left p.top 0 x cells
+    → IsShownInside 10 p.left p.top 4 y (after rule cells count) × HoldsChange p (after rule cells count) (compared_with rule cells count) change
+
+-- The rows of a place are those of the board some generations later, and what has changed is told.
+abbrev pub IsRunAt : Frame → List ℕ → Numbers → ℕ → Place → List ℕ → Change → Type 0
+IsRunAt at words rule count p rows change = (cells : List Cell) → InOrder cells → Shows at words cells
+    → ShowsInner p rows (after rule cells count) × HoldsChange p (after rule cells count) (compared_with rule cells count) change
+
+-- each place was run
+pub record AreRun (at : Frame) (words : List ℕ) (rule : Numbers) (count : ℕ) (places : List Place) (held : List (List ℕ))
+    (changes : List Change) : Type 0 where
+  pub held_long : length held ≡ length places
+  pub changes_long : length changes ≡ length places
+  pub run : (k : ℕ) (p : Place) (c : Change) → k < length places
+      → IsRunAt at words rule count (slice_index_or places k p) (slice_index_or held k []) (slice_index_or changes k c)
+
+-- The inner parts of the first places were put back: each cell of the board is one that they show, or lies in none of them and
+-- is what it was.
+abbrev pub ArePutBack : Frame → List Place → List (List ℕ) → ℕ → List ℕ → List ℕ → Type 0
+ArePutBack at places held count old new = (cells : List Cell)
+    → ((k : ℕ) (p : Place) → k < count → ShowsInner (slice_index_or places k p) (slice_index_or held k []) cells)
+    → (u v : ℕ) → u < 64 * at.lanes → v < at.rows
+    → (has cells (cell_on at u v) ≡ (bit_on at new u v == 1))
+    ⊎ (((k : ℕ) (p : Place) → k < count → ¬ IsInnerCell (slice_index_or places k p) (cell_on at u v)) × (bit_on at new u v ≡ bit_on at old u v))
+
+-- If each cell off all inner parts is some generations later what it was, the board shows the cells of that time.
+abbrev pub HasLeapt : Frame → Numbers → ℕ → List Place → List ℕ → List ℕ → Type 0
+HasLeapt at rule count places old new = (cells : List Cell) → InOrder cells → Shows at old cells
+    → ((c : Cell) → ¬ IsCovered places c → has (after rule cells count) c ≡ has cells c) → Shows at new (after rule cells count)
+
+-- each place has its change
+abbrev pub TellsChanges : Frame → Numbers → ℕ → List Place → List ℕ → List Change → Type 0
+TellsChanges at rule count places words changes = (cells : List Cell) → InOrder cells → Shows at words cells → (k : ℕ) (p : Place) (c : Change)
+    → k < length places → HoldsChange (slice_index_or places k p) (after rule cells count) (compared_with rule cells count) (slice_index_or changes k c)

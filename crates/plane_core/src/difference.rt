@@ -1,0 +1,104 @@
+//! Where two windows differ in their inner parts.
+//!
+//! The windows are laid over one another, and what differs is gathered in two words, one for the columns and one for
+//! the rows. No branch depends on a cell:
+//!
+//! ```text
+//!   . . . .      . . . .      . . . .   rows
+//!   . o o .  and . o . o  :   . . x x    1
+//!   . o . .      . o . .      . . . .    0
+//!                    columns  0 0 1 1
+//! ```
+ghost use Rattle.std.specs.Prelude.{◌≡◌, ◌+◌, ◌*◌, ◌<◌, ◌≤◌, IsTrue, ℕ};
+ghost use Rattle.std.specs.Int.{bit_at};
+ghost use Rattle.plane_core.specs.Lanes.{bit_of};
+ghost use Rattle.plane_core.specs.Placed.{inner_mask};
+ghost use Rattle.plane_core.specs.Differences.{DiffersOnlyIn};
+
+use crate::change::Change;
+use crate::placed::INNER;
+use std::simd::prelude::*;
+
+/// The inner columns of a row, or none.
+#[inline(always)]
+fn inner_if(inside: bool) -> u64
+    ensures { IsTrue inside → result ≡ inner_mask }
+{
+    if inside { INNER } else { 0 }
+}
+
+/// The places of vector k that lie in the inner part of its window.
+#[inline(always)]
+fn inner_of(k: usize) -> u64x4
+    requires { k < 10 }
+    ensures { (j i : ℕ) → j < 4 → 4 ≤ i → i < 60 → 4 ≤ j * 10 + k → j * 10 + k < 36 → bit_of result j i ≡ 1 }
+{
+    u64x4::from_array([inner_if(k >= 4), INNER, INNER, inner_if(k < 6)])
+}
+
+/// The places of the mask in which two vectors differ.
+#[inline(always)]
+fn differing(one: u64x4, other: u64x4, mask: u64x4) -> u64x4
+    ensures { (j i : ℕ) → j < 4 → bit_of mask j i ≡ 1 → bit_of result j i ≡ 0 → bit_of one j i ≡ bit_of other j i }
+{
+    (one ^ other) & mask
+}
+
+/// The places of both vectors.
+#[inline(always)]
+fn either(one: u64x4, other: u64x4) -> u64x4
+    ensures one { (j i : ℕ) → j < 4 → bit_of result j i ≡ 0 → bit_of one j i ≡ 0 }
+    ensures other { (j i : ℕ) → j < 4 → bit_of result j i ≡ 0 → bit_of other j i ≡ 0 }
+{
+    one | other
+}
+
+/// The rows of vector k of which a place is set, as bits of a word in each lane.
+#[inline(always)]
+fn marked(places: u64x4, k: usize) -> u64x4
+    requires { k < 10 }
+    ensures { (j i : ℕ) → j < 4 → bit_of result j (j * 10 + k) ≡ 0 → bit_of places j i ≡ 0 }
+{
+    let rows = u64x4::from_array([1 << k, 1 << (10 + k), 1 << (20 + k), 1 << (30 + k)]);
+    places
+        .simd_ne(u64x4::splat(0))
+        .select(rows, u64x4::splat(0))
+}
+
+/// The bits of both words.
+#[inline(always)]
+fn either_word(one: u64, other: u64) -> u64
+    ensures { (i : ℕ) → bit_at result i ≡ 0 → (bit_at one i ≡ 0) × (bit_at other i ≡ 0) }
+{
+    one | other
+}
+
+/// The bits that any lane has.
+#[inline(always)]
+fn of_any_lane(vector: u64x4) -> u64
+    ensures { (j i : ℕ) → j < 4 → bit_at result i ≡ 0 → bit_of vector j i ≡ 0 }
+{
+    let lanes = vector.to_array();
+    either_word(
+        either_word(lanes[0], lanes[1]),
+        either_word(lanes[2], lanes[3]),
+    )
+}
+
+/// Where two windows differ in their inner parts.
+#[inline(always)]
+pub(crate) fn difference_of(one: &[u64x4; 10], other: &[u64x4; 10]) -> Change
+    ensures { DiffersOnlyIn result one.now other.now }
+{
+    let mut columns = u64x4::splat(0);
+    let mut rows = u64x4::splat(0);
+    for k in 0..10 {
+        let places = differing(one[k], other[k], inner_of(k));
+        columns = either(columns, places);
+        rows = either(rows, marked(places, k));
+    }
+    Change {
+        columns: of_any_lane(columns),
+        rows: of_any_lane(rows),
+    }
+}

@@ -1,0 +1,151 @@
+//! Leaps: one to four generations of a board at once.
+//!
+//! All windows are read from the board and run by themselves, and then all inner parts are put back:
+//!
+//! ```text
+//! board  ->  window 0  ->  ..  ->  window 0  ->
+//!        ->  window 1  ->  ..  ->  window 1  ->  board, some generations later
+//!        ->  window 2  ->  ..  ->  window 2  ->
+//! ```
+//!
+//! So windows may overlap: what two of them put back is the same.
+ghost use Rattle.std.specs.Prelude.{◌≡◌, ◌+◌, ◌<◌, ◌≤◌, ℕ, All, IfErr, OnOk, [], length};
+ghost use Rattle.plane_core.specs.Frames.{FillsFrame, IsFrame};
+ghost use Rattle.plane_core.specs.Leaps.{ArePutBack, AreRun, HasLeapt, IsRun, IsRunAt, TellsChanges};
+ghost use Rattle.plane_core.specs.Places.{IsOnBoard};
+
+use crate::answers::Answering;
+use crate::change::Change;
+use crate::difference::difference_of;
+use crate::frame::Frame;
+use crate::place::Place;
+use crate::placed::{column_of, read, row_of, unpacked, write};
+use crate::window::generations;
+use std::alloc::AllocError;
+use std::simd::prelude::*;
+
+/// The rows of a window that was run, and where it has changed.
+#[derive(Clone, Copy)]
+struct Ran {
+    rows: [u64; 40],
+    change: Change,
+}
+
+/// Runs a window for one to four generations. For an even number it tells where the last one differs from the one two
+/// before it, and for an odd one where it has live cells.
+#[inline(always)]
+fn run<A: Answering>(window: &mut [u64x4; 10], rule: &A, count: usize) -> Change
+    requires some { 1 ≤ count }
+    requires few { count ≤ 4 }
+    ensures { IsRun (A.rule rule.now) count window.old window.new result }
+{
+    if count % 2 == 1 {
+        generations(window, rule, count);
+        return difference_of(window, &[u64x4::splat(0); 10]);
+    }
+    generations(window, rule, count - 2);
+    let earlier = *window;
+    generations(window, rule, 2);
+    difference_of(window, &earlier)
+}
+
+/// Reads the window of a place and runs it.
+#[inline(always)]
+fn run_at<A: Answering>(words: &[u64], at: Frame, place: Place, rule: &A, count: usize) -> Ran
+    requires frame { IsFrame at }
+    requires long { FillsFrame at words.now }
+    requires on_board { IsOnBoard at place }
+    requires some { 1 ≤ count }
+    requires few { count ≤ 4 }
+    ensures { IsRunAt at words.now (A.rule rule.now) count place result.rows result.change }
+{
+    let mut window = [u64x4::splat(0); 10];
+    read(
+        words,
+        at,
+        column_of(at, place),
+        row_of(at, place),
+        &mut window,
+    );
+    let change = run(&mut window, rule, count);
+    Ran {
+        rows: unpacked(&window),
+        change,
+    }
+}
+
+/// Runs the windows of all places.
+fn run_all<A: Answering>(
+    words: &[u64],
+    at: Frame,
+    places: &[Place],
+    rule: &A,
+    count: usize,
+    held: &mut Vec<[u64; 40]>,
+    changes: &mut Vec<Change>,
+) -> Result<(), AllocError>
+    requires frame { IsFrame at }
+    requires long { FillsFrame at words.now }
+    requires on_board { All (IsOnBoard at) places.now }
+    requires some { 1 ≤ count }
+    requires few { count ≤ 4 }
+    requires held { held.old.items ≡ [] }
+    requires changes { changes.old.items ≡ [] }
+    ensures { OnOk result
+        (AreRun at words.now (A.rule rule.now) count places.now held.new.items changes.new.items) }
+{
+    for place in places {
+        let ran = run_at(words, at, *place, rule, count);
+        held.push(ran.rows)?;
+        changes.push(ran.change)?;
+    }
+    Ok(())
+}
+
+/// Puts all inner parts back.
+fn put_all(words: &mut [u64], at: Frame, places: &[Place], held: &[[u64; 40]])
+    requires frame { IsFrame at }
+    requires long { FillsFrame at words.old }
+    requires on_board { All (IsOnBoard at) places.now }
+    requires each { length held.now ≡ length places.now }
+    ensures put { ArePutBack at places.now held.now (length places.now) words.old words.new }
+    ensures long { length words.new ≡ length words.old }
+{
+    for k in 0..places.len() {
+        let x = column_of(at, places[k]);
+        let y = row_of(at, places[k]);
+        write(words, at, x, y, &held[k]);
+    }
+}
+
+/// Makes one to four generations of a board at once.
+///
+/// Both lists are cleared and filled anew: `held` with the rows of the windows, and `changes` with what has changed in
+/// each of them. All room is made before the first word is written.
+pub(crate) fn leap<A: Answering>(
+    words: &mut [u64],
+    at: Frame,
+    places: &[Place],
+    rule: &A,
+    count: usize,
+    held: &mut Vec<[u64; 40]>,
+    changes: &mut Vec<Change>,
+) -> Result<(), AllocError>
+    requires frame { IsFrame at }
+    requires long { FillsFrame at words.old }
+    requires on_board { All (IsOnBoard at) places.now }
+    requires some { 1 ≤ count }
+    requires few { count ≤ 4 }
+    ensures shown { OnOk result (HasLeapt at (A.rule rule.now) count places.now words.old words.new) }
+    ensures each { OnOk result (length changes.new.items ≡ length places.now) }
+    ensures changes { OnOk result
+        (TellsChanges at (A.rule rule.now) count places.now words.old changes.new.items) }
+    ensures untouched { IfErr result (λ _. words.new ≡ words.old) }
+    ensures long { length words.new ≡ length words.old }
+{
+    held.clear();
+    changes.clear();
+    run_all(words, at, places, rule, count, held, changes)?;
+    put_all(words, at, places, held.as_slice());
+    Ok(())
+}

@@ -1,0 +1,188 @@
+//! Windows read from a board, and their inner parts put back.
+//!
+//! A window may begin in any column, so each of its rows lies in two lanes of the board:
+//!
+//! ```text
+//!   lane x / 64        |  the lane after it
+//!   ..........[aaaaaaaa|bbbbbbbbbbbb].......
+//!             column x
+//! ```
+ghost use Rattle.std.specs.Prelude.{◌≡◌, ◌≢◌, ◌==◌, ◌+◌, ◌-◌, ◌*◌, ◌/◌, ◌<◌, ◌≤◌, ℕ, ◌+ℤ◌, pos, length};
+ghost use Rattle.std.specs.Prelude.{if◌then◌else◌, slice_index};
+ghost use Rattle.std.specs.Int.{bit_at};
+ghost use Rattle.plane_core.specs.Frames.{FillsFrame, IsFrame};
+ghost use Rattle.plane_core.specs.Lanes.{bit_of};
+ghost use Rattle.plane_core.specs.Placed.{IsPutBack, IsReadAt, IsRowPut};
+ghost use Rattle.plane_core.specs.Places.{IsOnBoard};
+ghost use Rattle.plane_core.specs.Windows.{row_at};
+
+use crate::frame::Frame;
+use crate::place::Place;
+use std::simd::prelude::*;
+
+/// The inner columns of a window, 4 to 59.
+pub(crate) const INNER: u64 = 0x0fff_ffff_ffff_fff0;
+
+/// The column of the board in which a window begins.
+#[inline(always)]
+pub(crate) fn column_of(at: Frame, place: Place) -> usize
+    requires frame { IsFrame at }
+    requires on_board { IsOnBoard at place }
+    ensures is { place.left ≡ at.left +ℤ pos result }
+    ensures lanes { result / 64 + 1 < at.lanes }
+{
+    (place.left - at.left) as usize
+}
+
+/// The row of the board in which a window begins.
+#[inline(always)]
+pub(crate) fn row_of(at: Frame, place: Place) -> usize
+    requires frame { IsFrame at }
+    requires on_board { IsOnBoard at place }
+    ensures is { place.top ≡ at.top +ℤ pos result }
+    ensures rows { result + 40 ≤ at.rows }
+{
+    (place.top - at.top) as usize
+}
+
+/// Four words of the board, so many rows apart.
+#[inline(always)]
+fn gathered(words: &[u64], from: usize, step: usize) -> u64x4
+    requires { from + 3 * step < length words.now }
+    ensures { (j : ℕ) → j < 4 → slice_index result j ≡ slice_index words.now (from + j * step) }
+{
+    u64x4::from_array([
+        words[from],
+        words[from + step],
+        words[from + 2 * step],
+        words[from + 3 * step],
+    ])
+}
+
+/// The words that begin so many columns further: the ends of the first ones with the beginnings of the second ones.
+#[inline(always)]
+fn joined(first: u64x4, second: u64x4, shift: usize) -> u64x4
+    requires { shift < 64 }
+    ensures left { (j i : ℕ) → j < 4 → i + shift < 64 → bit_of result j i ≡ bit_of first j (i + shift) }
+    ensures right { (j i : ℕ) → j < 4 → i < 64 → 64 ≤ i + shift
+        → bit_of result j i ≡ bit_of second j (i + shift - 64) }
+{
+    let shift = shift as u64;
+    (first >> u64x4::splat(shift)) | (second << 1 << u64x4::splat(63 - shift))
+}
+
+/// Reads the window that begins in column x and row y of the board.
+#[inline(always)]
+pub(crate) fn read<const N: usize>(
+    words: &[u64],
+    at: Frame,
+    x: usize,
+    y: usize,
+    window: &mut [u64x4; N],
+)
+    requires long { FillsFrame at words.now }
+    requires lanes { x / 64 + 1 < at.lanes }
+    requires rows { y + 4 * N ≤ at.rows }
+    ensures { IsReadAt at words.now x y N window.new }
+{
+    let first = x / 64 * at.rows + y;
+    let second = first + at.rows;
+    for k in 0..N {
+        let left = gathered(words, first + k, N);
+        let right = gathered(words, second + k, N);
+        window[k] = joined(left, right, x % 64);
+    }
+}
+
+/// The word's columns that lie in the first lane, where it begins in this column of it.
+#[inline(always)]
+fn in_first(word: u64, shift: usize) -> u64
+    requires { shift < 64 }
+    ensures low { (i : ℕ) → i < shift → bit_at result i ≡ 0 }
+    ensures high { (i : ℕ) → shift ≤ i → i < 64 → bit_at result i ≡ bit_at word (i - shift) }
+{
+    word << shift
+}
+
+/// The word's columns that lie in the second lane.
+#[inline(always)]
+fn in_second(word: u64, shift: usize) -> u64
+    requires { shift < 64 }
+    ensures { (i : ℕ) → bit_at result i ≡ bit_at word (i + 64 - shift) }
+{
+    word >> 1 >> (63 - shift)
+}
+
+/// Puts the bits of the value into a word where the mask has a 1.
+#[inline(always)]
+fn put_word(words: &mut [u64], i: usize, mask: u64, value: u64)
+    requires { i < length words.old }
+    ensures at { (b : ℕ) → bit_at (slice_index words.new i) b
+        ≡ (if bit_at mask b == 1 then bit_at value b else bit_at (slice_index words.old i) b) }
+    ensures others { (m : ℕ) → m ≢ i → slice_index words.new m ≡ slice_index words.old m }
+    ensures long { length words.new ≡ length words.old }
+{
+    let old = words[i];
+    words[i] = old ^ ((old ^ value) & mask);
+}
+
+/// Puts the inner columns of a row back.
+#[inline(always)]
+fn write_row(words: &mut [u64], at: Frame, x: usize, y: usize, word: u64)
+    requires long { FillsFrame at words.old }
+    requires lanes { x / 64 + 1 < at.lanes }
+    requires rows { y < at.rows }
+    ensures put { IsRowPut at x y word words.old words.new }
+    ensures long { length words.new ≡ length words.old }
+{
+    let i = x / 64 * at.rows + y;
+    let shift = x % 64;
+    put_word(words, i, in_first(INNER, shift), in_first(word, shift));
+    put_word(
+        words,
+        i + at.rows,
+        in_second(INNER, shift),
+        in_second(word, shift),
+    );
+}
+
+/// Puts the inner part of a window back, whose rows these are. It begins in column x and row y of the board.
+#[inline(always)]
+pub(crate) fn write(words: &mut [u64], at: Frame, x: usize, y: usize, rows: &[u64; 40])
+    requires long { FillsFrame at words.old }
+    requires lanes { x / 64 + 1 < at.lanes }
+    requires rows { y + 40 ≤ at.rows }
+    ensures put { IsPutBack at x y 36 rows.now words.old words.new }
+    ensures long { length words.new ≡ length words.old }
+{
+    for r in 4..36 {
+        write_row(words, at, x, y + r, rows[r]);
+    }
+}
+
+/// Puts the four rows of a vector in their places.
+#[inline(always)]
+fn unpack_vector(vector: u64x4, k: usize, rows: &mut [u64; 40])
+    requires { k < 10 }
+    ensures at { (j : ℕ) → j < 4 → slice_index rows.new (j * 10 + k) ≡ slice_index vector j }
+    ensures others { (j m : ℕ) → j < 4 → m < 10 → m ≢ k
+        → slice_index rows.new (j * 10 + m) ≡ slice_index rows.old (j * 10 + m) }
+{
+    let lanes = vector.to_array();
+    rows[k] = lanes[0];
+    rows[10 + k] = lanes[1];
+    rows[20 + k] = lanes[2];
+    rows[30 + k] = lanes[3];
+}
+
+/// The rows of a window one after another.
+#[inline(always)]
+pub(crate) fn unpacked(window: &[u64x4; 10]) -> [u64; 40]
+    ensures { (r : ℕ) → r < 40 → slice_index result r ≡ row_at 10 window.now r }
+{
+    let mut rows = [0; 40];
+    for k in 0..10 {
+        unpack_vector(window[k], k, &mut rows);
+    }
+    rows
+}
