@@ -1,12 +1,12 @@
 //! Boxes outside of which nothing changes from one generation to the next but one.
 //!
-//! When a board is loaded there is one for each group of cells that lie together. After a leap there is one for each window in which something still changes. So what is at rest, or alternates, costs
-//! nothing:
+//! When a board is loaded there is one for each group of cells that lie together. After a leap there is one for each
+//! window in which something still changes. So what is at rest, or alternates, costs nothing:
 //!
 //! ```text
 //! +-----+
-//! |.XX. |      .XX.       The cells of the glider change, and have a box. The block doesn't, and has none. Each cell that
-//! |X.X. |      .XX.       is not within 2 of a box is the same two generations on.
+//! |.XX. |      .XX.       The cells of the glider change, and have a box. The block doesn't, and has none.
+//! |X.X. |      .XX.       Each cell that is not within 2 of a box is the same two generations on.
 //! |..X. |
 //! +-----+
 //! ```
@@ -64,9 +64,9 @@ fn push_some(found: Option<Bounds>, boxes: &mut Vec<Bounds>) -> Result<(), Alloc
     Ok(())
 }
 
-/// Boxes that have all cells in them, one for each group of cells that lie together, in place of those of the list. With
-/// four columns and rows more on each side each fits the inner part of a window. So a trail across the plane gets some
-/// boxes along it, and not one of its length and height.
+/// Boxes that have all cells in them, one for each group of cells that lie together, in place of those of the list.
+/// With four columns and rows more on each side, each fits the inner part of a window. So a trail across the plane gets
+/// some boxes along it, and not one of its length and height.
 pub(crate) fn boxes_round(cells: &[Cell], boxes: &mut Vec<Bounds>) -> Result<(), AllocError>
     ensures held { OnOk result (HoldAll boxes.new.items cells.now) }
     ensures sides { OnOk result
