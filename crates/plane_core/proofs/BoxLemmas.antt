@@ -214,6 +214,20 @@ widened_kept c b d h = record {
     high : (a l x : ℤ) → x ≤ℤ l → x ≤ℤ int_max a l
     high a l x h = omega (arith, ints, clamps)
 
+pub widened_near : (n : ℕ) (c : Cell) (b : Bounds) (d : Cell) → IsWithin (enlarged n b) d → IsWithin (enlarged n (widened c b)) d
+widened_near n c b d h = record {
+  left = low c.x b.left d.x h.left;
+  top = low c.y b.top d.y h.top;
+  right = high c.x b.right d.x h.right;
+  bottom = high c.y b.bottom d.y h.bottom;
+}
+  where
+    low : (a l x : ℤ) → (l -ℤ pos n) ≤ℤ x → (int_min a l -ℤ pos n) ≤ℤ x
+    low a l x h = omega (arith, ints, clamps)
+
+    high : (a l x : ℤ) → x ≤ℤ (l +ℤ pos n) → x ≤ℤ (int_max a l +ℤ pos n)
+    high a l x h = omega (arith, ints, clamps)
+
 pub widened_sides : (n : ℕ) (c : Cell) (b : Bounds) → is_within n c ≡ true → AreSidesWithin n b → AreSidesWithin n (widened c b)
 widened_sides n c b e h = record {
   left = least c.x b.left x h.left;

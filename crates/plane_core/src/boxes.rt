@@ -12,7 +12,7 @@
 //! ```
 ghost use Rattle.std.specs.Prelude.{◌≡◌, ◌<◌, ℕ, true, All, IfSome, IsSomeAnd, List, OnOk, length};
 ghost use Rattle.plane_core.specs.Bounds.{IsWithin};
-ghost use Rattle.plane_core.specs.Boxes.{HoldAll, HoldChanges, HoldDifferences, IsInOne, IsInReach, box_bound};
+ghost use Rattle.plane_core.specs.Boxes.{HoldAll, HoldChanges, HoldDifferences, IsInOne, IsInReach, IsNearOne, box_bound};
 ghost use Rattle.plane_core.specs.Cells.{is_within};
 ghost use Rattle.plane_core.specs.Generations.{lies_within};
 ghost use Rattle.plane_core.specs.Layouts.{AreSidesWithin};
@@ -73,6 +73,19 @@ pub(crate) fn boxes_round(cells: &[Cell], boxes: &mut Vec<Bounds>) -> Result<(),
         ((n : ℕ) → lies_within n cells.now ≡ true → All (AreSidesWithin n) boxes.new.items) }
 {
     boxes.clear();
+    put_in_boxes(cells, boxes)?;
+    Ok(())
+}
+
+/// Widens the boxes of the list, and adds others to it, so that they have these cells in them as well.
+pub(crate) fn put_in_boxes(cells: &[Cell], boxes: &mut Vec<Bounds>) -> Result<(), AllocError>
+    ensures near { OnOk result
+        ((n : ℕ) (c : Cell) → IsNearOne n boxes.old.items c → IsNearOne n boxes.new.items c) }
+    ensures held { OnOk result (HoldAll boxes.new.items cells.now) }
+    ensures sides { OnOk result
+        ((n : ℕ) → lies_within n cells.now ≡ true → All (AreSidesWithin n) boxes.old.items
+        → All (AreSidesWithin n) boxes.new.items) }
+{
     for cell in cells {
         put_in_box(*cell, boxes)?;
     }
@@ -82,6 +95,8 @@ pub(crate) fn boxes_round(cells: &[Cell], boxes: &mut Vec<Bounds>) -> Result<(),
 /// Widens a box that is near the cell so that it has the cell in it. If there is none, the cell gets a new one.
 fn put_in_box(cell: Cell, boxes: &mut Vec<Bounds>) -> Result<(), AllocError>
     ensures kept { OnOk result ((c : Cell) → IsInOne boxes.old.items c → IsInOne boxes.new.items c) }
+    ensures near { OnOk result
+        ((n : ℕ) (c : Cell) → IsNearOne n boxes.old.items c → IsNearOne n boxes.new.items c) }
     ensures held { OnOk result (IsInOne boxes.new.items cell) }
     ensures sides { OnOk result
         ((n : ℕ) → is_within n cell ≡ true → All (AreSidesWithin n) boxes.old.items
