@@ -214,6 +214,15 @@ widened_kept c b d h = record {
     high : (a l x : ℤ) → x ≤ℤ l → x ≤ℤ int_max a l
     high a l x h = omega (arith, ints, clamps)
 
+pub widened_has : (c : Cell) (b : Bounds) → IsWithin (widened c b) c
+widened_has c b = record { left = low c.x b.left; top = low c.y b.top; right = high c.x b.right; bottom = high c.y b.bottom }
+  where
+    low : (a l : ℤ) → int_min a l ≤ℤ a
+    low a l = omega (arith, ints, clamps)
+
+    high : (a l : ℤ) → a ≤ℤ int_max a l
+    high a l = omega (arith, ints, clamps)
+
 pub widened_near : (n : ℕ) (c : Cell) (b : Bounds) (d : Cell) → IsWithin (enlarged n b) d → IsWithin (enlarged n (widened c b)) d
 widened_near n c b d h = record {
   left = low c.x b.left d.x h.left;
