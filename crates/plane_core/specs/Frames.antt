@@ -1,5 +1,5 @@
 -- Where the cells of a board lie on the plane.
-use Rattle.std.specs.Prelude.{◌≡◌, ◌==◌, ◌+◌, ◌*◌, ◌<◌, ◌≤◌, ◌^◌, ℕ, ◌+ℤ◌, pos, List, length, slice_index, unsigned_abs}
+use Rattle.std.specs.Prelude.{◌≡◌, ◌==◌, ◌+◌, ◌*◌, ◌<◌, ◌≤◌, ◌^◌, ℕ, ◌+ℤ◌, pos, List, length, slice_index, true, unsigned_abs}
 use Rattle.std.specs.Int.{bit_at}
 use Rattle.plane_core.specs.declared.frame.Frame.{Frame}
 use Rattle.plane_core.specs.declared.cell.Cell.{Cell}

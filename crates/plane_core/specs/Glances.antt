@@ -1,6 +1,6 @@
 -- A window: 64 columns by 64 rows, in which a pattern is run for as long as no cell stands on the rim. It is the inside of a board of
 -- three lanes of ten blocks, of which the outer blocks stay empty.
-use Rattle.std.specs.Prelude.{◌≡◌, ◌+◌, ◌-◌, ◌<◌, ◌≤◌, ℕ, ◌-ℤ◌, pos, List, slice_index, unsigned_abs}
+use Rattle.std.specs.Prelude.{◌≡◌, ◌+◌, ◌-◌, ◌<◌, ◌≤◌, ℕ, ℤ, ◌-ℤ◌, pos, List, slice_index, unsigned_abs}
 use Rattle.std.specs.Int.{bit_at}
 use Rattle.plane_core.specs.declared.blocks.Grid.{Grid}
 use Rattle.plane_core.specs.declared.layout.Layout.{Layout}

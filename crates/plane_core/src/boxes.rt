@@ -12,7 +12,8 @@
 //! ```
 ghost use Rattle.std.specs.Prelude.{◌≡◌, ◌<◌, ℕ, true, All, IfSome, IsSomeAnd, List, OnOk, length};
 ghost use Rattle.plane_core.specs.Bounds.{IsWithin};
-ghost use Rattle.plane_core.specs.Boxes.{HoldAll, HoldChanges, HoldDifferences, IsInOne, IsInReach, IsNearOne, box_bound};
+ghost use Rattle.plane_core.specs.Boxes.{HoldAll, HoldChanges, HoldDifferences, IsInOne, IsInReach, IsNearOne};
+ghost use Rattle.plane_core.specs.Boxes.{box_bound};
 ghost use Rattle.plane_core.specs.Cells.{is_within};
 ghost use Rattle.plane_core.specs.Generations.{lies_within};
 ghost use Rattle.plane_core.specs.Layouts.{AreSidesWithin};
