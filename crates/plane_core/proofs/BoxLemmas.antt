@@ -1,24 +1,28 @@
 -- Boxes in lists: what lies in one of them, or near.
-use Rattle.std.proofs.Common.{◌≡◌, ◌≢◌, ◌+◌, ◌-◌, ◌<◌, ◌≤◌, ℕ, ℤ, pos, ◌+ℤ◌, ◌-ℤ◌, ◌≤ℤ◌, List, [], ◌∷◌, ◌++◌, length, get_or, set, take, get_or-set_other, get_or-set_same}
+use Rattle.std.proofs.Common.{◌≡◌, ◌≢◌, ◌+◌, ◌-◌, ◌<◌, ◌≤◌, ℕ, ℤ, pos, ◌+ℤ◌, ◌-ℤ◌}
+use Rattle.std.proofs.Common.{◌≤ℤ◌, List, [], ◌∷◌, ◌++◌, length, get_or, set, take, get_or-set_other, get_or-set_same}
 use Rattle.std.proofs.Common.{Bool, true, false, leb, unsigned_abs, refl, arith, ap, ◌∙◌, sym, subst, inl, inr, ◌⊎◌, Option, IsSomeAnd}
 use Rattle.std.specs.Int.{int_max, int_min}
-use Rattle.std.specs.List.{Any, list_all, swap_remove}
+use Rattle.std.specs.List.{All, Any, list_all, swap_remove}
 use Rattle.std.proofs.Math.ListN.{length-set}
 use Rattle.std.proofs.Math.Seq.{take-length}
 use Rattle.std.proofs.lemmas.Bool.{and_parts, false≢true, leb-true}
 use Rattle.std.proofs.lemmas.Int.{clamps, ints}
 use Rattle.std.proofs.lemmas.List.{get_or-take, get_or_append_left, get_or_default, length-take-le, length_push}
+use Rattle.std.proofs.lemmas.List.Elements.{All-weaker}
 use Rattle.std.proofs.lemmas.List.Folds.{list_all_at}
 use Rattle.std.proofs.lemmas.List.Quantifiers.{Any-push, any-set}
 use Rattle.plane_core.specs.declared.bounds.Bounds.{Bounds}
 use Rattle.plane_core.specs.declared.cell.Cell.{Cell}
 use Rattle.plane_core.specs.declared.place.Place.{Place}
 use Rattle.plane_core.specs.Bounds.{IsWithin, enlarged, widened}
-use Rattle.plane_core.specs.Boxes.{HoldDifferences, HoldsDifference, IsInOne, IsNearOne}
-use Rattle.plane_core.specs.Cells.{distance, has, is_within, king_distance}
-use Rattle.plane_core.specs.Bounds.{AreSidesWithin}
+use Rattle.plane_core.specs.Boxes.{box_bound, HoldDifferences, HoldsDifference, IsInOne, IsNearOne}
+use Rattle.plane_core.specs.Cells.{IsPattern, distance, has, is_within, king_distance, on_plane, plane_bound}
+use Rattle.plane_core.specs.Generations.{lies_within}
+use Rattle.plane_core.specs.Layouts.{AreSidesWithin}
 use Rattle.plane_core.specs.Places.{IsInnerCell}
-use Rattle.plane_core.proofs.CaseLemmas.{less_or_not, same_or_not}
+use Rattle.plane_core.proofs.BoardLemmas.{less_or_not, same_or_not}
+use Rattle.plane_core.proofs.LayLemmas.{fewer_sides}
 
 -- a cell near a cell that is near the box is near the box
 within_further : (b : Bounds) (m n : ℕ) (c d : Cell) → king_distance c d ≤ n → IsWithin (enlarged m b) d → IsWithin (enlarged (m + n) b) c
@@ -147,17 +151,25 @@ any_swap_remove {X} P xs i d less some = either (same_or_not k i)
     left = length-take-le (length xs - 1) (set xs i last) (omega (arith, long))
 
     stays : k ≢ i → k < length xs - 1 → Any P (swap_remove xs i d)
-    stays other less =
-        (k, x, omega (arith, left),
-        get_or-take (length xs - 1) (set xs i last) k x less ∙ get_or-set_other xs i k last x other ∙ some.3, some.4)
+    stays other less = (
+      k,
+      x,
+      omega (arith, left),
+      get_or-take (length xs - 1) (set xs i last) k x less ∙ get_or-set_other xs i k last x other ∙ some.3,
+      some.4,
+    )
 
     moves : k ≢ i → length xs - 1 ≤ k → Any P (swap_remove xs i d)
     moves other high =
         let at : length xs - 1 ≡ k = omega (arith, below) in
-        let before : i < length xs - 1 = omega arith in
-        (i, x, omega (arith, left),
-        get_or-take (length xs - 1) (set xs i last) i x before ∙ get_or-set_same xs i last x less
-        ∙ ap (λ (m : ℕ). get_or xs m d) at ∙ get_or_default xs k d x below ∙ some.3, some.4)
+        let before : i < length xs - 1 = omega arith in (
+          i,
+          x,
+          omega (arith, left),
+          get_or-take (length xs - 1) (set xs i last) i x before ∙ get_or-set_same xs i last x less
+              ∙ ap (λ (m : ℕ). get_or xs m d) at ∙ get_or_default xs k d x below ∙ some.3,
+          some.4,
+        )
 
     either : (k ≡ i) ⊎ (k ≢ i) → P (get_or xs i d) ⊎ Any P (swap_remove xs i d)
     either (inl at) = inl (subst P (sym some.3 ∙ ap (λ (m : ℕ). get_or xs m x) at ∙ get_or_default xs i x d less) some.4)
@@ -200,6 +212,29 @@ widened_kept c b d h = record {
     low a l x h = omega (arith, ints, clamps)
 
     high : (a l x : ℤ) → x ≤ℤ l → x ≤ℤ int_max a l
+    high a l x h = omega (arith, ints, clamps)
+
+pub widened_has : (c : Cell) (b : Bounds) → IsWithin (widened c b) c
+widened_has c b = record { left = low c.x b.left; top = low c.y b.top; right = high c.x b.right; bottom = high c.y b.bottom }
+  where
+    low : (a l : ℤ) → int_min a l ≤ℤ a
+    low a l = omega (arith, ints, clamps)
+
+    high : (a l : ℤ) → a ≤ℤ int_max a l
+    high a l = omega (arith, ints, clamps)
+
+pub widened_near : (n : ℕ) (c : Cell) (b : Bounds) (d : Cell) → IsWithin (enlarged n b) d → IsWithin (enlarged n (widened c b)) d
+widened_near n c b d h = record {
+  left = low c.x b.left d.x h.left;
+  top = low c.y b.top d.y h.top;
+  right = high c.x b.right d.x h.right;
+  bottom = high c.y b.bottom d.y h.bottom;
+}
+  where
+    low : (a l x : ℤ) → (l -ℤ pos n) ≤ℤ x → (int_min a l -ℤ pos n) ≤ℤ x
+    low a l x h = omega (arith, ints, clamps)
+
+    high : (a l x : ℤ) → x ≤ℤ (l +ℤ pos n) → x ≤ℤ (int_max a l +ℤ pos n)
     high a l x h = omega (arith, ints, clamps)
 
 pub widened_sides : (n : ℕ) (c : Cell) (b : Bounds) → is_within n c ≡ true → AreSidesWithin n b → AreSidesWithin n (widened c b)
@@ -249,3 +284,13 @@ hold_more n places one other boxes new found d less difference kept added first 
         let at : k ≡ n = omega arith in
         added c (difference c (subst (λ (p : Place). IsInnerCell p c)
         (ap (λ (m : ℕ). get_or places m q) at ∙ get_or_default places n q d less) inner) ne)
+
+-- ---- boxes round the cells of a pattern
+
+-- what is said of boxes round any cells, of those of a pattern
+pub sides_of_pattern : (cells : List Cell) (boxes : List Bounds) → IsPattern cells
+    → ((n : ℕ) → lies_within n cells ≡ true → All (AreSidesWithin n) boxes) → All (AreSidesWithin box_bound) boxes
+unfolding on_plane
+sides_of_pattern cells boxes p sides =
+    All-weaker (AreSidesWithin plane_bound) (AreSidesWithin box_bound) (λ b h. fewer_sides plane_bound box_bound b (omega arith) h) boxes
+    (sides plane_bound p.on_plane)

@@ -1,8 +1,9 @@
 -- Windows over rectangles: what a union has in it, and that windows side by side leave no gap.
-use Rattle.std.proofs.Common.{◌≡◌, ◌+◌, ◌*◌, ◌<◌, ◌≤◌, ℕ, ℤ, pos, ◌+ℤ◌, ◌-ℤ◌, ◌≤ℤ◌, ◌<ℤ◌, List, length, get_or, unsigned_abs}
+use Rattle.std.proofs.Common.{◌/◌, ◌%◌, ◌-◌, ◌<◌, ◌-ℤ◌, ◌≡◌, ◌+◌, ◌*◌, ◌≤◌, ℕ, ℤ, pos, ◌+ℤ◌, ◌≤ℤ◌, ◌<ℤ◌, List, length, get_or, unsigned_abs}
 use Rattle.std.proofs.Common.{arith, sym, subst, inl, inr, ◌⊎◌}
 use Rattle.std.specs.Int.{int_max, int_min}
 use Rattle.std.specs.List.{swap_remove}
+use Rattle.std.proofs.lemmas.Nat.{div-add-mod', mod_below}
 use Rattle.std.proofs.lemmas.Int.{by_lt_z, clamps, ints}
 use Rattle.plane_core.specs.declared.bounds.Bounds.{Bounds}
 use Rattle.plane_core.specs.declared.cell.Cell.{Cell}
@@ -10,6 +11,7 @@ use Rattle.plane_core.specs.declared.cover.Spans.{Spans}
 use Rattle.plane_core.specs.declared.place.Place.{Place}
 use Rattle.plane_core.specs.Bounds.{IsWithin}
 use Rattle.plane_core.specs.Boxes.{IsInOne}
+use Rattle.plane_core.specs.Cells.{distance}
 use Rattle.plane_core.specs.Covers.{AreSideBySide, BeginsAt, IsInRow}
 use Rattle.plane_core.specs.Bounds.{AreSidesWithin}
 use Rattle.plane_core.specs.Places.{IsCovered, IsInnerCell}
@@ -136,3 +138,41 @@ rows_more rectangle across first row n old new is beside before kept laid c with
 pub below_end : (y bottom first : ℤ) (count n : ℕ) → y ≤ℤ bottom → bottom <ℤ (first +ℤ pos (32 * count)) → count ≤ n
     → y <ℤ (first +ℤ pos (32 * n))
 below_end y bottom first count n h k le = omega (arith, ints)
+
+-- and none lies above the first of them
+pub none_above : (y top first : ℤ) → first ≤ℤ top → top ≤ℤ y → ¬ (y <ℤ (first +ℤ pos 0))
+none_above y top first h k less = absurd (omega (arith, ints))
+
+-- ---- how many spans there are, and where they begin
+
+-- how much longer the spans are than what they reach over
+pub left_over : (length size : ℕ) → 1 ≤ size → (length / size + 1) * size - length - 1 < size
+left_over length size some =
+    let whole : length / size * size + length % size ≡ length = div-add-mod' length size in
+    let rest : length % size < size = mod_below length size some in
+    omega arith
+
+pub side_by_side_is : (first last begin : ℤ) (size length : ℕ) → 1 ≤ size → length ≡ distance first last
+    → begin ≡ first -ℤ pos (((length / size + 1) * size - length - 1) / 2)
+    → AreSideBySide first last size (record { first = begin; count = length / size + 1 })
+side_by_side_is first last begin size length some is at = record {
+  start = omega (arith, ints);
+  near = omega (arith, ints, half, beside);
+  end = omega (arith, ints, half, whole, rest, reach);
+  small = omega (arith, whole, rest);
+}
+  where
+    whole : length / size * size + length % size ≡ length
+    whole = div-add-mod' length size
+
+    rest : length % size < size
+    rest = mod_below length size some
+
+    beside : (length / size + 1) * size - length - 1 < size
+    beside = left_over length size some
+
+    half : ((length / size + 1) * size - length - 1) / 2 ≤ (length / size + 1) * size - length - 1
+    half = omega arith
+
+    reach : last ≤ℤ (first +ℤ pos length)
+    reach = omega (arith, ints)

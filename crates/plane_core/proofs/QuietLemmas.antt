@@ -42,20 +42,18 @@ same_unless true false h = absurd (h (λ e. false≢true (sym e)))
 same_unless false true h = absurd (h (λ e. false≢true e))
 same_unless false false h = refl
 
--- ---- while the boxes hold all live cells
+-- what lies within n of a cell in a box lies within n of the box
+near_in : (boxes : List Bounds) (n : ℕ) (c d : Cell) → king_distance c d ≤ n → IsInOne boxes d → IsNearOne n boxes c
+near_in boxes n c d near h = near_wider boxes (0 + n) n c (omega arith) (near_further boxes 0 n c d near (near_itself boxes d h))
 
--- a cell that was alive within n of this one lay in a box
-near_alive : (boxes : List Bounds) (S : List Cell) (n : ℕ) (c d : Cell) → HoldAll boxes S → king_distance c d ≤ n → has S d ≡ true
-    → IsNearOne n boxes c
-near_alive boxes S n c d all near h =
-    near_wider boxes (0 + n) n c (omega arith) (near_further boxes 0 n c d near (near_itself boxes d (all d h)))
+-- ---- while the boxes hold all live cells
 
 pub still-early : (rule : Numbers) (S : List Cell) (boxes : List Bounds) (m n : ℕ) (c : Cell) → HoldAll boxes S → n ≤ m
     → ¬ IsNearOne m boxes c → has (after rule S n) c ≡ has S c
 still-early rule S boxes m n c all le far =
-    none-after rule S n c (λ d near h. far (near_alive boxes S m c d all (omega arith) h))
+    none-after rule S n c (λ d near h. far (near_in boxes m c d (omega arith) (all d h)))
     ∙ sym (false_unless (has S c)
-    (λ h. far (near_alive boxes S m c c all (omega (arith, distance_itself c.x, distance_itself c.y)) h)))
+    (λ h. far (near_in boxes m c c (omega (arith, distance_itself c.x, distance_itself c.y)) (all c h))))
 
 -- so the same boxes begin the leaps over an even number of generations
 pub quiet-start : (rule : Numbers) (S : List Cell) (boxes : List Bounds) → HoldAll boxes S → IsQuiet rule S boxes
@@ -106,7 +104,7 @@ quiet_by_last : (rule : Numbers) (S last : List Cell) (new : List Bounds) → In
     → ((d : Cell) → ¬ IsInOne new d → has S d ≡ has last d) → IsQuiet rule S new
 quiet_by_last rule S last new o u is same c far =
     after-local rule S last 2 c o u
-    (λ d near. same d (λ in_one. far (near_wider new (0 + 2) 2 c (omega arith) (near_further new 0 2 c d near (near_itself new d in_one)))))
+    (λ d near. same d (λ in_one. far (near_in new 2 c d near in_one)))
     ∙ ap (λ (T : List Cell). has T c) (sym is)
 
 -- what the last generation is compared with
@@ -153,9 +151,22 @@ boxed-next rule S boxes new places n all covered le odd differ c h =
     let d = near-after rule S n c h in
     let compared : HoldDifferences places (after rule S n) [] new =
     subst (λ (T : List Cell). HoldDifferences places (after rule S n) T new) (compared-odd rule S n odd) differ in
-    compared c (covered c (near_alive boxes S 4 c d.0 all (omega (arith, d.2)) d.1)) (λ e. false≢true (sym e ∙ h))
+    compared c (covered c (near_in boxes 4 c d.0 (omega (arith, d.2)) (all d.0 d.1))) (λ e. false≢true (sym e ∙ h))
 
 -- what lies in no inner part is more than 4 from each box
 pub far_from_boxes : (boxes : List Bounds) (places : List Place) (c : Cell) → AreCovered places boxes → ¬ IsCovered places c
     → ¬ IsNearOne 4 boxes c
 far_from_boxes boxes places c covered out near = out (covered c near)
+
+-- ---- when cells are taken out or put in
+
+-- where the two patterns differ only in cells of some boxes more, these with the old boxes are quiet for the other pattern
+pub quiet-changed : (rule : Numbers) (S T : List Cell) (boxes more new : List Bounds) → InOrder S → InOrder T → IsQuiet rule S boxes
+    → ((c : Cell) → has T c ≢ has S c → IsInOne more c) → ((c : Cell) → IsNearOne 2 boxes c → IsNearOne 2 new c)
+    → ((c : Cell) → IsNearOne 2 more c → IsNearOne 2 new c) → IsQuiet rule T new
+quiet-changed rule S T boxes more new o u quiet differ old added c far =
+    after-local rule T S 2 c u o same ∙ quiet c (λ near. far (old c near))
+    ∙ sym (same c (omega (arith, distance_itself c.x, distance_itself c.y)))
+  where
+    same : (d : Cell) → king_distance c d ≤ 2 → has T d ≡ has S d
+    same d near = same_unless (has T d) (has S d) (λ ne. far (added c (near_in more 2 c d near (differ d ne))))

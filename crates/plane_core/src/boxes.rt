@@ -1,18 +1,19 @@
 //! Boxes outside of which nothing changes from one generation to the next but one.
 //!
-//! When a board is loaded there is one for each group of cells that lie together. After a leap there is one for each window in which something still changes. So what is at rest, or alternates, costs
-//! nothing:
+//! When a board is loaded there is one for each group of cells that lie together. After a leap there is one for each
+//! window in which something still changes. So what is at rest, or alternates, costs nothing:
 //!
 //! ```text
 //! +-----+
-//! |.XX. |      .XX.       The cells of the glider change, and have a box. The block doesn't, and has none. Each cell that
-//! |X.X. |      .XX.       is not within 2 of a box is the same two generations on.
+//! |.XX. |      .XX.       The cells of the glider change, and have a box. The block doesn't, and has none.
+//! |X.X. |      .XX.       Each cell that is not within 2 of a box is the same two generations on.
 //! |..X. |
 //! +-----+
 //! ```
 ghost use Rattle.std.specs.Prelude.{◌≡◌, ◌<◌, ℕ, true, All, IfSome, IsSomeAnd, List, OnOk, length};
 ghost use Rattle.plane_core.specs.Bounds.{IsWithin};
-ghost use Rattle.plane_core.specs.Boxes.{HoldAll, HoldChanges, HoldDifferences, IsInOne, IsInReach, box_bound};
+ghost use Rattle.plane_core.specs.Boxes.{HoldAll, HoldChanges, HoldDifferences, IsInOne, IsInReach, IsNearOne};
+ghost use Rattle.plane_core.specs.Boxes.{box_bound};
 ghost use Rattle.plane_core.specs.Cells.{is_within};
 ghost use Rattle.plane_core.specs.Generations.{lies_within};
 ghost use Rattle.plane_core.specs.Bounds.{AreSidesWithin};
@@ -64,15 +65,28 @@ fn push_some(found: Option<Bounds>, boxes: &mut Vec<Bounds>) -> Result<(), Alloc
     Ok(())
 }
 
-/// Boxes that have all cells in them, one for each group of cells that lie together, in place of those of the list. With
-/// four columns and rows more on each side each fits the inner part of a window. So a trail across the plane gets some
-/// boxes along it, and not one of its length and height.
+/// Boxes that have all cells in them, one for each group of cells that lie together, in place of those of the list.
+/// With four columns and rows more on each side, each fits the inner part of a window. So a trail across the plane gets
+/// some boxes along it, and not one of its length and height.
 pub(crate) fn boxes_round(cells: &[Cell], boxes: &mut Vec<Bounds>) -> Result<(), AllocError>
     ensures held { OnOk result (HoldAll boxes.new.items cells.now) }
     ensures sides { OnOk result
         ((n : ℕ) → lies_within n cells.now ≡ true → All (AreSidesWithin n) boxes.new.items) }
 {
     boxes.clear();
+    put_in_boxes(cells, boxes)?;
+    Ok(())
+}
+
+/// Widens the boxes of the list, and adds others to it, so that they have these cells in them as well.
+pub(crate) fn put_in_boxes(cells: &[Cell], boxes: &mut Vec<Bounds>) -> Result<(), AllocError>
+    ensures near { OnOk result
+        ((n : ℕ) (c : Cell) → IsNearOne n boxes.old.items c → IsNearOne n boxes.new.items c) }
+    ensures held { OnOk result (HoldAll boxes.new.items cells.now) }
+    ensures sides { OnOk result
+        ((n : ℕ) → lies_within n cells.now ≡ true → All (AreSidesWithin n) boxes.old.items
+        → All (AreSidesWithin n) boxes.new.items) }
+{
     for cell in cells {
         put_in_box(*cell, boxes)?;
     }
@@ -82,6 +96,8 @@ pub(crate) fn boxes_round(cells: &[Cell], boxes: &mut Vec<Bounds>) -> Result<(),
 /// Widens a box that is near the cell so that it has the cell in it. If there is none, the cell gets a new one.
 fn put_in_box(cell: Cell, boxes: &mut Vec<Bounds>) -> Result<(), AllocError>
     ensures kept { OnOk result ((c : Cell) → IsInOne boxes.old.items c → IsInOne boxes.new.items c) }
+    ensures near { OnOk result
+        ((n : ℕ) (c : Cell) → IsNearOne n boxes.old.items c → IsNearOne n boxes.new.items c) }
     ensures held { OnOk result (IsInOne boxes.new.items cell) }
     ensures sides { OnOk result
         ((n : ℕ) → is_within n cell ≡ true → All (AreSidesWithin n) boxes.old.items

@@ -3,8 +3,8 @@
 //! ```text
 //!   rows         columns   0011010...
 //!    0   . . . . . . .
-//!    1   . . . X . . .     The box reaches from the first column and row in which something differs to the last: it has
-//!    1   . . X . . X .     each cell in it whose column and row are both in the change.
+//!    1   . . . X . . .     The box reaches from the first column and row in which something differs to the
+//!    1   . . X . . X .     last: it has each cell in it whose column and row are both in the change.
 //!    0   . . . . . . .
 //! ```
 ghost use Rattle.std.specs.Prelude.{◌≡◌, ℕ, IfSome, List, MatchOption};
@@ -23,8 +23,8 @@ const INNER_COLUMNS: u64 = 0x0fff_ffff_ffff_fff0;
 /// And the rows 4 to 35.
 const INNER_ROWS: u64 = 0x0000_000f_ffff_fff0;
 
-/// In which columns of a window, and in which rows, something differs: a bit for each, counted from the left and from the
-/// top.
+/// In which columns of a window, and in which rows, something differs: a bit for each, counted from the left and from
+/// the top.
 #[derive(Clone, Copy)]
 pub(crate) struct Change {
     pub(crate) columns: u64,

@@ -4,16 +4,16 @@
 //! over each rectangle, so that their inner parts leave no gap:
 //!
 //! ```text
-//! +-------+-------+        The rectangle is 90 columns by 40 rows. Two inner parts of 56 columns side by side, and two of
-//! | +-----+-----+ |        32 rows below one another, cover it, and reach as far past it on one side as on the other.
-//! | |     |     | |
+//! +-------+-------+        The rectangle is 90 columns by 40 rows. Two inner parts of 56 columns side by side,
+//! | +-----+-----+ |        and two of 32 rows below one another, cover it. They reach as far past it on one side
+//! | |     |     | |        as on the other.
 //! +-------+-------+
 //! | |     |     | |
 //! | +-----+-----+ |
 //! +-------+-------+
 //! ```
-ghost use Rattle.std.specs.Prelude.{◌≡◌, ◌+◌, ◌*◌, ◌^◌, ◌<◌, ◌≤◌, ◌⊎◌, ◌≤ℤ◌, ◌<ℤ◌, ◌+ℤ◌, ℕ, pos, All, IsTrue, List, OnOk};
-ghost use Rattle.std.specs.Prelude.{unsigned_abs, vec_len};
+ghost use Rattle.std.specs.Prelude.{◌≡◌, ◌+◌, ◌*◌, ◌^◌, ◌<◌, ◌≤◌, ◌⊎◌, ◌≤ℤ◌, ◌<ℤ◌, ◌+ℤ◌, ℕ, pos, All};
+ghost use Rattle.std.specs.Prelude.{IsTrue, List, OnOk, unsigned_abs, vec_len};
 ghost use Rattle.plane_core.specs.Bounds.{IsWithin, enlarged};
 ghost use Rattle.plane_core.specs.Boxes.{AreCovered, IsInOne, IsInReach, IsNearOne, box_bound, rectangle_bound};
 ghost use Rattle.plane_core.specs.Covers.{AreSideBySide, BeginsAt, IsInRow};
@@ -37,8 +37,8 @@ struct Spans {
     count: u32,
 }
 
-/// Lays windows over the boxes, in place of those of the list, so that each cell within 4 of a box lies in the inner part
-/// of one. The rectangles are of use for the time of the call alone.
+/// Lays windows over the boxes, in place of those of the list, so that each cell within 4 of a box lies in the inner
+/// part of one. The rectangles are of use for the time of the call alone.
 pub(crate) fn cover(
     boxes: &[Bounds],
     rectangles: &mut Vec<Bounds>,

@@ -1,7 +1,7 @@
 //! Where a window lies on the plane.
 //!
-//! A window has 64 columns and 40 rows, and is cut off at its border. So after four generations it is right in its inner
-//! part alone, four cells inside its border:
+//! A window has 64 columns and 40 rows, and is cut off at its border. So after four generations it is right in its
+//! inner part alone, four cells inside its border:
 //!
 //! ```text
 //! +--------------------+

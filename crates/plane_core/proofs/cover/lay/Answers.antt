@@ -1,7 +1,17 @@
 use Rattle.std.proofs.Common.{◌∙◌, arith, rules, w32, FitsSigned}
 use Rattle.std.proofs.lemmas.Int.{to_z-of_z}
-use Rattle.plane_core.proofs.CoverLemmas.{below_end, rows_more}
+use Rattle.plane_core.proofs.CoverLemmas.{below_end, none_above, rows_more}
 use Rattle.plane_core.proofs.cover.lay.Goals as goal
+
+pub loop-i-init : goal.loop-i-init
+loop-i-init c =
+    let top : FitsSigned w32 c.args.rectangle.top = search rules in
+    record {
+      kept = λ d some. some;
+      laid = λ d within above.
+          absurd (none_above d.y c.args.rectangle.top c.side_by_side-down.result.first (simp to_z-of_z at c.side_by_side-down.ensures.start)
+          within.top above);
+    }
 
 pub loop-i-preserved : goal.loop-i-preserved
 loop-i-preserved c =

@@ -17,9 +17,9 @@ loop-i-preserved c =
           (inl (c.loop-i.invariant.kept d some));
       laid = λ d row.
           any_pushed (λ (p : Place). IsInnerCell p d) c.loop-i.places.items c.push.new.self.items c.beginning_at.result c.in_ok-push.ensures.items (
-            elim (row_more c.args.across.first c.loop-i.i (to_z w32 (of_z w32 c.args.top)) c.beginning_at.result d begins row) [
-              | inl before ↦ inl (c.loop-i.invariant.laid d before)
-              | inr inner ↦ inr inner
-            ]
+          elim (row_more c.args.across.first c.loop-i.i (to_z w32 (of_z w32 c.args.top)) c.beginning_at.result d begins row) [
+            | inl before ↦ inl (c.loop-i.invariant.laid d before)
+            | inr inner ↦ inr inner
+          ]
           );
     }

@@ -12,11 +12,11 @@ loop-bounds-preserved c = record {
   near = λ d some.
       any_pushed (λ (b : Bounds). IsWithin b d) c.absorbed-rectangle.new.rectangles.items c.push.new.self.items c.absorbed-rectangle.result
       c.in_ok-push.ensures.items (
-        elim (any_take_more (λ (b : Bounds). IsWithin (enlarged 4 b) d) c.args.boxes.now c.loop-bounds.bounds-index _ (omega arith) some) [
-          | inl before ↦ swapped (c.absorbed-rectangle.ensures.held d (inr (c.loop-bounds.invariant.near d before)))
-          | inr here ↦ swapped (c.absorbed-rectangle.ensures.held d
-              (inl (subst (λ (b : Bounds). IsWithin b d) (sym c.with_margin.ensures.margin) here)))
-        ]
+      elim (any_take_more (λ (b : Bounds). IsWithin (enlarged 4 b) d) c.args.boxes.now c.loop-bounds.bounds-index _ (omega arith) some) [
+        | inl before ↦ swapped (c.absorbed-rectangle.ensures.held d (inr (c.loop-bounds.invariant.near d before)))
+        | inr here ↦ swapped (c.absorbed-rectangle.ensures.held d
+            (inl (subst (λ (b : Bounds). IsWithin b d) (sym c.with_margin.ensures.margin) here)))
+      ]
       );
   sides = All-same (AreSidesWithin rectangle_bound) c.push.new.self.items
       (c.absorbed-rectangle.new.rectangles.items ++ c.absorbed-rectangle.result ∷ []) c.in_ok-push.ensures.items
