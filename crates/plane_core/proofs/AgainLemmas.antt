@@ -120,7 +120,8 @@ pub record IsAgain (n : ℕ) (x y : List (List ℕ)) (b a e d : ℕ) : Type 0 wh
   pub same : (i r : ℕ) → bit_at (row_at n x (e + r)) (b + i) ≡ bit_at (row_at n y (d + r)) (a + i)
 
 pub is_again : (n : ℕ) (left top dx dy : ℤ) (x y : List (List ℕ)) (S : List Cell) (b a e d : ℕ) → 0 < n → IsWhole n x → IsWhole n y → Holds n left top x S
-    → Holds n left top y (shifted dx dy S) → BeginsColumn left S b → BeginsColumn left (shifted dx dy S) a → BeginsRow top S e → BeginsRow top (shifted dx dy S) d
+    → Holds n left top y (shifted dx dy S) → BeginsColumn left S b → BeginsColumn left (shifted dx dy S) a → BeginsRow top S e
+    → BeginsRow top (shifted dx dy S) d
     → IsAgain n x y b a e d
 is_again n left top dx dy x y S b a e d some wx wy hx hy p q r s = record { same = λ i k. same i k }
   where
@@ -195,7 +196,8 @@ some_again n left top dx dy x y S w v some wx cw cv hx hy alive small none =
     go c (k, s, l) = let one = cv.all s k l.row l.bit in let z = bit_at-zero k in let m = ap (λ (u : ℕ). bit_at u k) none in absurd (omega arith)
 
 -- from the words of columns: the first one is that of the pattern
-pub begins : (n : ℕ) (left top : ℤ) (x : List (List ℕ)) (S : List Cell) (w : ℕ) → 0 < n → Holds n left top x S → IsWhole n x → IsColumns n x w → 0 < w → w < 2 ^ 64
+pub begins : (n : ℕ) (left top : ℤ) (x : List (List ℕ)) (S : List Cell) (w : ℕ) → 0 < n → Holds n left top x S → IsWhole n x → IsColumns n x w → 0 < w
+    → w < 2 ^ 64
     → BeginsColumn left S (trailing_zeros w64 w)
 begins n left top x S w some h whole columns alive small =
     let f = bit_at-trailing_zeros w64 w alive small in begins_column n left top x S w (trailing_zeros w64 w) some h whole columns f.1 f.2
@@ -280,7 +282,8 @@ unmoved (c ∷ cs) = λ i. same_cell_at _ _ _ _ (still c.x) (still c.y) i ∷ un
     still a = omega (arith, ints)
 
 -- a generation that was there before: all that follow were there before too
-pub changed-ever : (rule : Numbers) (n : ℕ) (left top : ℤ) (S : List Cell) (m h g : ℕ) → h < m → after rule S h ≡ after rule S m → HasChanged rule n left top S m
+pub changed-ever : (rule : Numbers) (n : ℕ) (left top : ℤ) (S : List Cell) (m h g : ℕ) → h < m → after rule S h ≡ after rule S m
+    → HasChanged rule n left top S m
     → HasChanged rule n left top S g
 changed-ever rule n left top S m h g less back changed = record {
   new = λ p dx dy some low e. let q = earlier p in changed.new q.0 dx dy (q.2 some) (omega (arith, q.1)) (sym q.3 ∙ e);

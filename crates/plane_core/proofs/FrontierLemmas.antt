@@ -225,7 +225,8 @@ ends-further : (m n : ℤ) (S : List Cell) → m ≡ n → EndsAt m S → EndsAt
 ends-further m n S same ends = subst (λ (d : ℤ). EndsAt d S) same ends
 
 ends-after : (rule : Numbers) (m : ℤ) (S : List Cell) (k : ℕ) → InOrder S → AnswersSlowly rule → EndsAt m S → EndsAt (m +ℤ pos k) (after rule S (k + k))
-ends-after rule m S zero o slow ends = ends-further m (m +ℤ pos 0) (after rule S 0) (omega (arith, ints)) (ends-later m S (after rule S 0) (sym (after-none rule S)) ends)
+ends-after rule m S zero o slow ends = ends-further m (m +ℤ pos 0) (after rule S 0) (omega (arith, ints)) (ends-later m S (after rule S 0)
+    (sym (after-none rule S)) ends)
 ends-after rule m S (suc k) o slow ends =
     ends-further ((m +ℤ pos k) +ℤ pos 1) (m +ℤ pos (suc k)) (after rule S (suc k + suc k)) (omega (arith, ints))
     (ends-later ((m +ℤ pos k) +ℤ pos 1) _ _ (sym (two_more rule S k))

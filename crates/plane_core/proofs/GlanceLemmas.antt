@@ -1,6 +1,8 @@
 -- Where the window of a glance lies, and what is put into it.
-use Rattle.std.proofs.Common.{◌≡◌, ◌≢◌, ◌==◌, ◌+◌, ◌-◌, ◌*◌, ◌/◌, ◌%◌, ◌^◌, ◌<◌, ◌≤◌, ℕ, zero, suc, pos, ◌+ℤ◌, ◌-ℤ◌, Bool, true, false, ◌||◌, List, [], ◌∷◌, ◌++◌}
-use Rattle.std.proofs.Common.{arith, refl, ap, ◌∙◌, sym, subst, inl, inr, ◌⊎◌, slice_index, unsigned_abs, get_or, set, length, take, bit_or, w64, leb, replicate}
+use Rattle.std.proofs.Common.{◌≡◌, ◌≢◌, ◌==◌, ◌+◌, ◌-◌, ◌*◌, ◌/◌, ◌%◌, ◌^◌, ◌<◌, ◌≤◌, ℕ}
+use Rattle.std.proofs.Common.{zero, suc, pos, ◌+ℤ◌, ◌-ℤ◌, Bool, true, false, ◌||◌, List, [], ◌∷◌, ◌++◌}
+use Rattle.std.proofs.Common.{arith, refl, ap, ◌∙◌, sym, subst, inl, inr, ◌⊎◌}
+use Rattle.std.proofs.Common.{slice_index, unsigned_abs, get_or, set, length, take, bit_or, w64, leb, replicate}
 use Rattle.std.proofs.Common.{get_or-set_same, get_or-set_other}
 use Rattle.std.specs.Int.{bit_at}
 use Rattle.std.proofs.lemmas.Bool.{le-leb, and_from}
@@ -142,7 +144,8 @@ put_shown p rows S c a d at ha hd shown r i low near = has-append S (c ∷ []) e
 
     row : (r ≡ d) ⊎ (r ≢ d) → (has S e || (same_cell e c || false)) ≡ (bit_at (slice_index (set rows d new) r) i == 1)
     row (inl here) =
-        bit here (same_or_not i a) ∙ ap (λ (w : ℕ). bit_at w i == 1) (sym (ap (λ (n : ℕ). slice_index (set rows d new) n) here ∙ get_or-set_same rows d new 0 hd))
+        bit here (same_or_not i a) ∙ ap (λ (w : ℕ). bit_at w i == 1) (sym (ap (λ (n : ℕ). slice_index (set rows d new) n) here
+        ∙ get_or-set_same rows d new 0 hd))
     row (inr apart) =
         missed (same_cell e c) refl (λ (u, v). apart v) ∙ shown r i low near
         ∙ ap (λ (w : ℕ). bit_at w i == 1) (sym (get_or-set_other rows d r new 0 apart))

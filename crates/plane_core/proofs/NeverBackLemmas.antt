@@ -1,5 +1,6 @@
 -- A pattern alone in a window: its generations, and what the window says of the start.
-use Rattle.std.proofs.Common.{◌≡◌, ◌≢◌, ◌==◌, ◌+◌, ◌-◌, ◌*◌, ◌/◌, ◌%◌, ◌^◌, ◌<◌, ◌≤◌, ℕ, ℤ, pos, negsuc, ◌+ℤ◌, ◌-ℤ◌, ◌≤ℤ◌, ◌<ℤ◌, zero, suc, Bool, true, false, cond}
+use Rattle.std.proofs.Common.{◌≡◌, ◌≢◌, ◌==◌, ◌+◌, ◌-◌, ◌*◌, ◌/◌, ◌%◌, ◌^◌, ◌<◌, ◌≤◌, ℕ}
+use Rattle.std.proofs.Common.{ℤ, pos, negsuc, ◌+ℤ◌, ◌-ℤ◌, ◌≤ℤ◌, ◌<ℤ◌, zero, suc, Bool, true, false, cond}
 use Rattle.std.proofs.Common.{List, [], map, arith, refl, ap, ◌∙◌, sym, subst, inl, inr, ◌⊎◌, slice_index, slice_index_or, unsigned_abs, max, bit_or}
 use Rattle.std.specs.Int.{bit_at}
 use Rattle.std.proofs.lemmas.Bool.{eqb-true}
@@ -29,7 +30,12 @@ pub row_small : (n : ℕ) (x : List (List ℕ)) (r : ℕ) → 0 < n → IsWhole 
 row_small n x r some whole = (whole (r % n) (mod_below r n some)).small (r / n)
 
 pub row_past : (n : ℕ) (x : List (List ℕ)) (r : ℕ) → 0 < n → IsWhole n x → 4 * n ≤ r → row_at n x r ≡ 0
-row_past n x r some whole far = get_or_past _ (r / n) 0 (omega (arith, (whole (r % n) (mod_below r n some)).long, (le-div_iff_mul-le {x = 4} {y = r} some).1 far))
+row_past n x r some whole far = get_or_past _ (r / n) 0 (omega (
+  arith,
+  (whole (r % n) (mod_below r n some)).long,
+  (le-div_iff_mul-le {x =
+      4} {y = r} some).1 far,
+))
 
 -- a bit of a word moved down
 pub moved_bit : (n k i : ℕ) → bit_at (n / 2 ^ k) i ≡ bit_at n (k + i)
@@ -160,7 +166,8 @@ inside_next rule n left top x S c h clear e = go (lives_cases rule S c (sym (has
     beside d near w = record {
       west = let k = w.west in let p : distance c.x d.x ≤ 1 = omega arith in low left d.x c.x p k;
       north = let k = w.north in let p : distance c.y d.y ≤ 1 = omega arith in low top d.y c.y p k;
-      east = let k = w.east in let p : distance c.x d.x ≤ 1 = omega arith in high (left +ℤ pos 63) (left +ℤ pos 64) d.x c.x p (omega (arith, ints)) (omega (arith, ints));
+      east = let k = w.east in let p : distance c.x d.x ≤ 1 = omega arith in
+          high (left +ℤ pos 63) (left +ℤ pos 64) d.x c.x p (omega (arith, ints)) (omega (arith, ints));
       south = let k = w.south in let p : distance c.y d.y ≤ 1 = omega arith in
           high (top +ℤ (pos (4 * n) -ℤ pos 1)) (top +ℤ pos (4 * n)) d.y c.y p (omega (arith, ints)) (omega (arith, ints));
     }
@@ -193,7 +200,16 @@ bit_if S m e c same small shown = ap (λ (d : Cell). cond {A = ℕ} (has S d) 1 
 row_seen : (S : List Cell) (n : ℕ) (left top : ℤ) (x : List (List ℕ)) → 0 < n → Holds n left top x S → IsWhole n x → (e : Cell) (r i : ℕ) → i < 64
     → e ≡ in_window left top i r → row_total (map one_of S) e ≡ row_sum (row_at n x r) i
 row_seen S n left top x some h whole e r i low is =
-    omega (arith, total-ones S (moved_by (pos 1) (pos 0) e) o, total-ones S e o, total-ones S (moved_by (negsuc 0) (pos 0) e) o, here, west i is, east (i == 63) refl)
+    omega (
+      arith,
+      total-ones S (moved_by (pos 1) (pos 0) e) o,
+      total-ones S e o,
+      total-ones S (moved_by (negsuc 0)
+          (pos 0) e) o,
+      here,
+      west i is,
+      east (i == 63) refl,
+    )
   where
     o : InOrder S
     o = h.in_order
@@ -268,7 +284,8 @@ block_seen : (S : List Cell) (n : ℕ) (left top : ℤ) (x : List (List ℕ)) �
 block_seen S n left top x some h whole r i low =
     let c = in_window left top i r in
     let here = row_seen S n left top x some h whole c r i low refl in
-    let below = row_seen S n left top x some h whole (moved_by (pos 0) (pos 1) c) (r + 1) i low (same_cell_at _ _ _ _ (omega (arith, ints)) (omega (arith, ints))) in
+    let below = row_seen S n left top x some h whole (moved_by (pos 0) (pos 1) c) (r + 1) i low (same_cell_at _ _ _ _ (omega (arith, ints))
+    (omega (arith, ints))) in
     let under : row_sum (row_below n x r) i ≡ row_sum (row_at n x (r + 1)) i = ap (λ (w : ℕ). row_sum w i) (row_next n x r some whole) in
     omega (arith, neighbourhood_total-around S c, total-ones S c h.in_order, above r, here, below, under)
   where
@@ -383,7 +400,8 @@ joined_more x all later v k before is vector bits = record {
     found j i h (inr none) e =
         let old = before.alive j i h (omega (arith, bits j i h, bit_at-lt (slice_index v j) i)) in (old.0, omega (arith, old.1), old.2)
 
-pub columns_joined : (n : ℕ) (x : List (List ℕ)) (all : List ℕ) (w k : ℕ) → HasJoined x all k → k ≡ n → ((i : ℕ) → bit_at w i ≡ joined_bit all i) → IsColumns n x w
+pub columns_joined : (n : ℕ) (x : List (List ℕ)) (all : List ℕ) (w k : ℕ) → HasJoined x all k → k ≡ n → ((i : ℕ) → bit_at w i ≡ joined_bit all i)
+    → IsColumns n x w
 columns_joined n x all w k joined is bits = record {
   all = λ r i low e.
       let some : 0 < n = omega arith in
@@ -416,7 +434,8 @@ alike_more x y marks later a b k before p q kept same m j i low h none = go (sam
         ∙ sym (ap (λ (w : List ℕ). bit_of w j i) (ap (λ (c : ℕ). slice_index_or y c []) e ∙ q))
     go (inr apart) = before m j i (omega arith) h (kept j i h none)
 
-pub all_alike : (n : ℕ) (x y : List (List ℕ)) (marks : List ℕ) (w k : ℕ) → AreAlikeBelow x y marks k → k ≡ n → ((i : ℕ) → bit_at w i ≡ joined_bit marks i) → w ≡ 0
+pub all_alike : (n : ℕ) (x y : List (List ℕ)) (marks : List ℕ) (w k : ℕ) → AreAlikeBelow x y marks k → k ≡ n → ((i : ℕ)
+    → bit_at w i ≡ joined_bit marks i) → w ≡ 0
     → AreAlike n x y
 all_alike n x y marks w k alike is bits none r i low =
     let some : 0 < n = omega arith in

@@ -1,5 +1,5 @@
-//! A glance at a small pattern: it is run alone, in a window of 64 by 64 cells, to see at a few operations a vector that
-//! it doesn't come back:
+//! A glance at a small pattern: it is run alone, in a window of 64 by 64 cells, to see at a few operations a vector
+//! that it doesn't come back:
 //!
 //! ```text
 //! +----------------+

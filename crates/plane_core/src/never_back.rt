@@ -15,8 +15,8 @@ ghost use Rattle.std.specs.Prelude.{◌≡◌, ◌+◌, ◌-◌, ◌*◌, ◌/�
 ghost use Rattle.std.specs.Prelude.{slice_index, slice_index_or};
 ghost use Rattle.std.specs.Int.{bit_at};
 ghost use Rattle.plane_core.specs.Bounds.{shifted};
-ghost use Rattle.plane_core.specs.LonePatterns.{AreAlike, HasChanged, Holds, IsColumns, IsCorner, IsFirstRow, IsRimClear};
-ghost use Rattle.plane_core.specs.LonePatterns.{IsVector, IsWhole};
+ghost use Rattle.plane_core.specs.LonePatterns.{AreAlike, HasChanged, Holds, IsColumns, IsCorner, IsFirstRow};
+ghost use Rattle.plane_core.specs.LonePatterns.{IsRimClear, IsVector, IsWhole};
 ghost use Rattle.plane_core.specs.Lanes.{bit_of};
 ghost use Rattle.plane_core.specs.Windows.{row_at};
 ghost use Rattle.plane_core.specs.declared.cell.Cell.{Cell};
@@ -34,7 +34,6 @@ struct Corner {
 
 /// Whether it is seen that no generation from 1 to `most` is the pattern again, moved or not, and that each lies in the
 /// window. The pattern is what `start` shows, and lies in the window whole. `false` says nothing.
-#[inline(always)]
 pub(crate) fn never_back<const N: usize, A: Answering>(
     start: &[u64x4; N],
     rule: &A,
@@ -52,6 +51,7 @@ pub(crate) fn never_back<const N: usize, A: Answering>(
     let mut now = *start;
     let mut columns = from;
     let mut kept = *start;
+    let mut kept_columns = from;
     for made in 0..most {
         if !is_rim_clear(&now, columns) {
             return false;
@@ -61,12 +61,13 @@ pub(crate) fn never_back<const N: usize, A: Answering>(
         if may_be_again(start, from, &now, columns) {
             return false;
         }
-        if are_alike(&now, &kept) {
+        if is_kept(&now, columns, &kept, kept_columns) {
             return true;
         }
         // One that is kept at each power of two ends a cycle of any length.
         if (made + 1) & made == 0 {
             kept = now;
+            kept_columns = columns;
         }
     }
     true
@@ -164,8 +165,23 @@ fn are_sides_clear(columns: u64) -> bool
     true
 }
 
-/// Whether two windows have the same cells.
+/// Whether the window has the same cells as the one that was kept. Mostly their columns with a live cell differ.
 #[inline(always)]
+fn is_kept<const N: usize>(
+    now: &[u64x4; N],
+    columns: u64,
+    kept: &[u64x4; N],
+    kept_columns: u64,
+) -> bool
+    ensures { IsTrue result → AreAlike N now.now kept.now }
+{
+    if columns != kept_columns {
+        return false;
+    }
+    are_alike(now, kept)
+}
+
+/// Whether two windows have the same cells.
 fn are_alike<const N: usize>(one: &[u64x4; N], other: &[u64x4; N]) -> bool
     ensures { IsTrue result → AreAlike N one.now other.now }
 {

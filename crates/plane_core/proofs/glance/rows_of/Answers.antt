@@ -14,7 +14,8 @@ pub loop-cell-preserved : goal.loop-cell-preserved
 loop-cell-preserved c = record {
   long = length-set c.loop-cell.rows c.spot_of-spot.result.down _ ∙ c.loop-cell.invariant.long;
   shown = shown_taken c.args.place _ c.args.cells.now c.loop-cell.cell-index _ c.loop-cell-test.true
-      (put_shown c.args.place c.loop-cell.rows _ _ c.spot_of-spot.result.across c.spot_of-spot.result.down c.spot_of-spot.ensures.spot c.spot_of-spot.ensures.across
+      (put_shown c.args.place c.loop-cell.rows _ _ c.spot_of-spot.result.across c.spot_of-spot.result.down c.spot_of-spot.ensures.spot
+      c.spot_of-spot.ensures.across
       (omega (arith, c.loop-cell.invariant.long, c.spot_of-spot.ensures.down)) c.loop-cell.invariant.shown);
 }
 

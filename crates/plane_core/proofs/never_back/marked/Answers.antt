@@ -10,7 +10,8 @@ use lib.Lanes.{zip2}
 marks : (m a b : List ℕ) (j i : ℕ) → length m ≡ 4 → length a ≡ 4 → length b ≡ 4 → j < 4
     → bit_of (zip2 bit_or m (zip2 bit_xor a b)) j i ≡ max (bit_of m j i) ((bit_of a j i + bit_of b j i) % 2)
 marks m a b j i lm la lb low =
-    ap (λ n. bit_at n i) (lane_of bit_or m (zip2 bit_xor a b) j lm (four_lanes bit_xor a b la lb) low ∙ ap (λ n. bit_or (slice_index m j) n) (lane_of bit_xor a b j la lb low))
+    ap (λ n. bit_at n i) (lane_of bit_or m (zip2 bit_xor a b) j lm (four_lanes bit_xor a b la lb) low
+    ∙ ap (λ n. bit_or (slice_index m j) n) (lane_of bit_xor a b j la lb low))
     ∙ bit_at_or _ _ i ∙ ap (λ n. max (bit_of m j i) n) (bit_at_xor (slice_index a j) (slice_index b j) i)
 
 pub returns-clause-before : goal.returns-clause-before
