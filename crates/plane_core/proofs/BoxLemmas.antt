@@ -19,10 +19,10 @@ use Rattle.plane_core.specs.Bounds.{IsWithin, enlarged, widened}
 use Rattle.plane_core.specs.Boxes.{box_bound, HoldDifferences, HoldsDifference, IsInOne, IsNearOne}
 use Rattle.plane_core.specs.Cells.{IsPattern, distance, has, is_within, king_distance, on_plane, plane_bound}
 use Rattle.plane_core.specs.Generations.{lies_within}
-use Rattle.plane_core.specs.Layouts.{AreSidesWithin}
+use Rattle.plane_core.specs.Bounds.{AreSidesWithin}
 use Rattle.plane_core.specs.Places.{IsInnerCell}
-use Rattle.plane_core.proofs.BoardLemmas.{less_or_not, same_or_not}
-use Rattle.plane_core.proofs.LayLemmas.{fewer_sides}
+use Rattle.plane_core.proofs.CaseLemmas.{less_or_not, same_or_not}
+use Rattle.plane_core.proofs.BoxRoundLemmas.{fewer_sides}
 
 -- a cell near a cell that is near the box is near the box
 within_further : (b : Bounds) (m n : ℕ) (c d : Cell) → king_distance c d ≤ n → IsWithin (enlarged m b) d → IsWithin (enlarged (m + n) b) c

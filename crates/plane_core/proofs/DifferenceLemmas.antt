@@ -10,7 +10,7 @@ use Rattle.plane_core.specs.declared.change.Change.{Change}
 use Rattle.plane_core.specs.Differences.{DiffersOnlyIn}
 use Rattle.plane_core.specs.Lanes.{bit_of}
 use Rattle.plane_core.specs.Windows.{lane_at}
-use Rattle.plane_core.proofs.BoardLemmas.{less_or_not}
+use Rattle.plane_core.proofs.CaseLemmas.{less_or_not}
 use Rattle.plane_core.proofs.LaneLemmas.{lane_of, four_lanes}
 use Rattle.plane_core.proofs.ShiftLemmas.{bit_left_high}
 use lib.Lanes.{zip2, sel_l, top}

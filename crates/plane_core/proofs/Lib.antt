@@ -11,8 +11,8 @@ pub mod ClusterLaws
 pub mod ClusterLemmas
 pub mod CommuteLemmas
 pub mod CoverLemmas
-pub mod FillLemmas
 pub mod DifferenceLemmas
+pub mod FillLemmas
 pub mod ForestLemmas
 pub mod FrameLemmas
 pub mod FrontierLemmas
@@ -20,12 +20,9 @@ pub mod GatherLemmas
 pub mod GenerationLemmas
 pub mod GlanceLemmas
 pub mod LaneLemmas
+pub mod LeapLemmas
 pub mod ListingLemmas
 pub mod LocalityLemmas
-pub mod LayLemmas
-pub mod LayoutLemmas
-pub mod LeapLemmas
-pub mod LoadLemmas
 pub mod MergeLemmas
 pub mod NeighbourLemmas
 pub mod NeighbourhoodLemmas

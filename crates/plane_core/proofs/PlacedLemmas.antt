@@ -9,7 +9,7 @@ use Rattle.plane_core.specs.declared.frame.Frame.{Frame}
 use Rattle.plane_core.specs.Frames.{word_of}
 use Rattle.plane_core.specs.Placed.{bit_on, inner_mask, IsReadAt, IsInnerColumn, IsInner, IsRowPut, IsPutBack}
 use Rattle.plane_core.specs.Windows.{lane_at, row_at}
-use Rattle.plane_core.proofs.LoadLemmas.{same_spot}
+use Rattle.plane_core.proofs.FrameLemmas.{one_word as same_spot}
 
 -- ---- reading
 

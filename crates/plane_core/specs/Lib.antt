@@ -11,12 +11,11 @@ pub mod Frontiers
 pub mod Generations
 pub mod Glances
 pub mod Lanes
+pub mod Leaps
 pub mod Listing
 pub mod Locality
 pub mod LonePatterns
 pub mod OnBoard
-pub mod Layouts
-pub mod Leaps
 pub mod OrientationLaws
 pub mod Orientations
 pub mod Out

@@ -38,7 +38,7 @@ use std::alloc::{AllocError, Global};
 use std::marker::Model;
 use crate::boxes::{boxes_round, next_boxes};
 use crate::cover::{are_on_board, cover};
-use crate::stub::leap;
+use crate::leap::leap;
 
 /// A pattern on a board under a rule.
 #[derive(Drop)]
@@ -58,7 +58,7 @@ pub(crate) struct Board {
 struct Lists {
     rectangles: Vec<Bounds>,
     places: Vec<Place>,
-    held: Vec<[u64; 32]>,
+    held: Vec<[u64; 40]>,
     changes: Vec<Change>,
 }
 
@@ -296,11 +296,11 @@ fn leap_on<A: Answering>(
         return Ok(false);
     }
     leap(
-        rule,
-        at,
         words,
+        at,
         places,
-        count,
+        rule,
+        count as usize,
         &mut lists.held,
         &mut lists.changes,
     )?;

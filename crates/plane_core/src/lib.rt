@@ -27,13 +27,12 @@ pub mod generation;
 /// Whether a small pattern is seen not to come back.
 pub mod glance;
 mod lanes;
+mod leap;
 mod listing;
 mod loading;
 /// How far a cell sees.
 pub mod locality;
 mod never_back;
-mod layout;
-mod leap;
 /// The eight orientations.
 pub mod orientation;
 /// A writer that remembers that it failed.
@@ -51,6 +50,5 @@ pub mod plaintext;
 pub mod rule;
 /// The shift from one pattern to another.
 pub mod shift_to;
-mod stub;
 mod tally;
 mod window;

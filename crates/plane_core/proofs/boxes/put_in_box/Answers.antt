@@ -3,7 +3,7 @@ use Rattle.std.proofs.lemmas.List.Elements.{All-set}
 use Rattle.std.proofs.lemmas.List.Quantifiers.{any-set}
 use Rattle.plane_core.specs.declared.bounds.Bounds.{Bounds}
 use Rattle.plane_core.specs.Bounds.{IsWithin, enlarged}
-use Rattle.plane_core.specs.Layouts.{AreSidesWithin}
+use Rattle.plane_core.specs.Bounds.{AreSidesWithin}
 use Rattle.plane_core.proofs.BoxLemmas.{any_set_kept, widened_has, widened_kept, widened_near, widened_sides}
 use Rattle.plane_core.proofs.boxes.put_in_box.Goals as goal
 

@@ -3,7 +3,7 @@ use Rattle.std.specs.List.{All}
 use Rattle.plane_core.specs.declared.cell.Cell.{Cell}
 use Rattle.plane_core.specs.Boxes.{IsInOne, IsNearOne}
 use Rattle.plane_core.specs.Generations.{lies_within}
-use Rattle.plane_core.specs.Layouts.{AreSidesWithin}
+use Rattle.plane_core.specs.Bounds.{AreSidesWithin}
 use Rattle.plane_core.proofs.boxes.put_in_boxes.Given as goal
 
 abbrev pub invariant-loop-cell : goal.invariant-loop-cell
