@@ -50,6 +50,7 @@ pub mod RunLemmas
 pub mod SearchLemmas
 pub mod SetLemmas
 pub mod ShiftLemmas
+pub mod SpanLemmas
 pub mod SpeedLemmas
 pub mod TallyLemmas
 pub mod TurnLemmas

@@ -50,5 +50,6 @@ pub mod plaintext;
 pub mod rule;
 /// The shift from one pattern to another.
 pub mod shift_to;
+mod spans;
 mod tally;
 mod window;
