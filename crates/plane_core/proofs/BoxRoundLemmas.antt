@@ -1,12 +1,12 @@
 -- A box round a pattern, and how far it lies from the origin.
-use Rattle.std.proofs.Common.{◌≡◌, ◌+◌, ◌*◌, ◌/◌, ◌≤◌, ◌-ℤ◌, ℕ, pos, true, List, arith, unsigned_abs, leb}
+use Rattle.std.proofs.Common.{◌≡◌, ◌≤◌, ℕ, true, List, arith, unsigned_abs, leb}
 use Rattle.std.proofs.lemmas.Int.{ints}
 use Rattle.std.proofs.lemmas.Bool.{le-leb, and_from}
 use Rattle.std.proofs.lemmas.List.Elements.{recursion_from_All}
 use Rattle.plane_core.specs.declared.bounds.Bounds.{Bounds}
 use Rattle.plane_core.specs.declared.cell.Cell.{Cell}
 use Rattle.plane_core.specs.Bounds.{AreSidesWithin, IsWithin, IsLeastBox}
-use Rattle.plane_core.specs.Cells.{plane_bound, distance, has, is_within}
+use Rattle.plane_core.specs.Cells.{has, is_within}
 use Rattle.plane_core.specs.Generations.{lies_within}
 use Rattle.plane_core.proofs.SearchLemmas.{has-list_all}
 use Rattle.plane_core.proofs.SetLemmas.{has-all}

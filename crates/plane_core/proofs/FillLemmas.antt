@@ -1,5 +1,5 @@
 -- Cells that are put on a board, one after another.
-use Rattle.std.proofs.Common.{◌≡◌, ◌≢◌, ◌==◌, ◌+◌, ◌*◌, ◌/◌, ◌%◌, ◌^◌, ◌<◌, ◌≤◌, ℕ}
+use Rattle.std.proofs.Common.{◌≡◌, ◌≢◌, ◌==◌, ◌+◌, ◌*◌, ◌/◌, ◌%◌, ◌^◌, ◌<◌, ℕ}
 use Rattle.std.proofs.Common.{pos, ◌-ℤ◌, zero, suc, Bool, true, false, ◌||◌, List, [], ◌∷◌, ◌++◌}
 use Rattle.std.proofs.Common.{arith, refl, ap, ◌∙◌, sym, subst, inl, inr, ◌⊎◌}
 use Rattle.std.proofs.Common.{slice_index, get_or, set, get_or-set_same, get_or-set_other, length, bit_or, w64, take, replicate}
@@ -10,7 +10,7 @@ use Rattle.plane_core.specs.declared.frame.Frame.{Frame}
 use Rattle.plane_core.specs.declared.cell.Cell.{Cell}
 use Rattle.plane_core.specs.Bounds.{IsWithin}
 use Rattle.plane_core.specs.Cells.{has, same_cell}
-use Rattle.plane_core.specs.Frames.{FillsFrame, Shows, bounds_of, cell_of, word_of}
+use Rattle.plane_core.specs.Frames.{Shows, bounds_of, cell_of, word_of}
 use Rattle.plane_core.proofs.CaseLemmas.{same_or_not}
 use Rattle.plane_core.proofs.CellLemmas.{same_cell-itself, same_cell-same}
 use Rattle.plane_core.proofs.FrameLemmas.{one_spot, one_word, spot_inside, spot_of, word-inside}

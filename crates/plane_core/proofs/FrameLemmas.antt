@@ -1,13 +1,13 @@
 -- Where cells stand on a board, and a frame round a pattern.
-use Rattle.std.proofs.Common.{◌≡◌, ◌≢◌, ◌+◌, ◌-◌, ◌*◌, ◌/◌, ◌%◌, ◌^◌, ◌<◌, ◌≤◌, ℕ, pos, ◌+ℤ◌, ◌-ℤ◌, true, List}
-use Rattle.std.proofs.Common.{◌≤ℤ◌, arith, refl, ap, sym, subst, inl, inr, ◌⊎◌, unsigned_abs}
+use Rattle.std.proofs.Common.{◌≡◌, ◌≢◌, ◌+◌, ◌-◌, ◌*◌, ◌/◌, ◌%◌, ◌^◌, ◌<◌, ◌≤◌, ℕ, pos, ◌+ℤ◌, ◌-ℤ◌, List}
+use Rattle.std.proofs.Common.{◌≤ℤ◌, arith, refl, ap, sym, subst, inl, inr, ◌⊎◌}
 use Rattle.std.proofs.lemmas.Int.{ints}
 use Rattle.std.proofs.Math.Nat.{mul-le-mul}
 use Rattle.plane_core.specs.declared.frame.Frame.{Frame}
 use Rattle.plane_core.specs.declared.bounds.Bounds.{Bounds}
 use Rattle.plane_core.specs.declared.cell.Cell.{Cell}
 use Rattle.plane_core.specs.Bounds.{IsWithin, IsLeastBox}
-use Rattle.plane_core.specs.Cells.{plane_bound, distance, has}
+use Rattle.plane_core.specs.Cells.{plane_bound, distance}
 use Rattle.plane_core.specs.Frames.{IsFrame, LieOn, bounds_of, cell_of, word_of}
 use Rattle.plane_core.specs.Bounds.{AreSidesWithin}
 use Rattle.plane_core.proofs.CaseLemmas.{less_or_not, same_or_not}

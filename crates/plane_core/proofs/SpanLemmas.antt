@@ -1,6 +1,6 @@
 -- The rows of the lanes of a board that may have a live cell.
-use Rattle.std.proofs.Common.{◌≡◌, ◌≢◌, ◌==◌, ◌+◌, ◌-◌, ◌*◌, ◌/◌, ◌%◌, ◌<◌, ◌≤◌, ℕ, pos, ◌+ℤ◌, ◌-ℤ◌, ◌≤ℤ◌, Bool, true, false, List, [], ◌∷◌, ◌++◌}
-use Rattle.std.proofs.Common.{arith, refl, ap, ◌∙◌, sym, subst, inl, inr, ◌⊎◌, length, take, get_or, set, get_or-set_same, get_or-set_other}
+use Rattle.std.proofs.Common.{◌≡◌, ◌≢◌, ◌==◌, ◌+◌, ◌/◌, ◌%◌, ◌<◌, ◌≤◌, ℕ, pos, ◌+ℤ◌, ◌-ℤ◌, true, List, [], ◌∷◌}
+use Rattle.std.proofs.Common.{arith, ap, ◌∙◌, sym, subst, inl, inr, ◌⊎◌, length, take, get_or, set, get_or-set_same, get_or-set_other}
 use Rattle.std.proofs.Common.{slice_index, slice_index_or}
 use Rattle.std.specs.Int.{bit_at}
 use Rattle.std.proofs.lemmas.Bool.{false≢true, or_cases}
@@ -17,13 +17,14 @@ use Rattle.plane_core.specs.Cells.{has}
 use Rattle.plane_core.specs.Frames.{Shows, cell_of, word_of}
 use Rattle.plane_core.specs.Generations.{after}
 use Rattle.plane_core.specs.OnBoard.{cells_on}
-use Rattle.plane_core.specs.Places.{IsCovered, IsInnerCell}
+use Rattle.plane_core.specs.Places.{IsInnerCell}
 use Rattle.plane_core.specs.Rules.{Numbers}
-use Rattle.plane_core.specs.Spans.{AreWidened, HoldCovered, HoldInner, HoldsSpans, IsIn, IsInHull, IsInSpan, LieInSpans, span_of}
+use Rattle.plane_core.specs.Spans.{AreSpans, AreWidened, HoldCovered, HoldInner, HoldsSpans, IsIn, IsInHull, IsInSpan, LieInSpans, span_of}
 use Rattle.plane_core.proofs.CaseLemmas.{less_or_not, same_or_not}
+use Rattle.plane_core.proofs.FillLemmas.{shown-empty}
 use Rattle.plane_core.proofs.FrameLemmas.{one_spot, spot_of}
-use Rattle.plane_core.proofs.OnBoardLemmas.{shows_cells}
-use Rattle.plane_core.proofs.SetLemmas.{has-append, has-cases}
+use Rattle.plane_core.proofs.OnBoardLemmas.{only_cells, shows_cells}
+use Rattle.plane_core.proofs.SetLemmas.{has-append, has-cases, in_order-nil}
 
 -- ---- numbers in a span
 
@@ -139,7 +140,7 @@ zeroed_more old mid new first second m = go (first m) (second m)
     go (inr none) (inl here) = inr (here ∙ none)
 
 pub zero_stays : (old new : List ℕ) (m : ℕ) → AreZeroed old new → slice_index old m ≡ 0 → slice_index new m ≡ 0
-zero_stays old new m zeroed none = elim (zeroed m) [ | inl same ↦ same ∙ none | inr is ↦ is ]
+zero_stays old new m zeroed none = elim (zeroed m) [ inl same ↦ same ∙ none | inr is ↦ is ]
 
 -- a row more of a lane
 pub row_zeroed : (at : Frame) (old : List ℕ) (lane from row i : ℕ) → i ≡ word_of at lane row → i < length old
@@ -194,3 +195,15 @@ lane_emptied at old mid new spans lane low live first before second here s r i n
 
 pub shown_dead : (at : Frame) (words : List ℕ) → AreLanesDead at words at.lanes → Shows at words []
 shown_dead at words dead s r i hs hr hi = ap (λ (n : ℕ). n == 1) (sym (dead s r i hs hr hi))
+
+-- a board of which all words are 0 has no live cell
+pub no_cells : (at : Frame) (words : List ℕ) → ((i : ℕ) → slice_index words i ≡ 0) → cells_on at words ≡ []
+no_cells at words zeros = only_cells at words [] in_order-nil (λ c e. absurd (false≢true e)) (shown-empty at words zeros)
+
+-- so it may have any spans
+pub zero_spans : (at : Frame) (words : List ℕ) (spans : List Span) → ((i : ℕ) → slice_index words i ≡ 0) → length spans ≡ at.lanes
+    → AreSpans at (cells_on at words) spans
+zero_spans at words spans zeros long = record {
+  lanes = long;
+  live = λ s r i hs hr hi e. absurd (false≢true (sym (ap (λ (S : List Cell). has S (cell_of at s r i)) (no_cells at words zeros)) ∙ e));
+}

@@ -44,4 +44,3 @@ bounds_of at = record {
 -- all cells lie in it
 abbrev pub LieOn : Frame → List Cell → Type 0
 LieOn at cells = (c : Cell) → has cells c ≡ true → IsWithin (bounds_of at) c
-

@@ -41,7 +41,7 @@ pub record HasReadRows (at : Frame) (words : List ℕ) (n : ℕ) (new : List Cel
 
 -- no cell of a band of eight rows is alive in a lane
 abbrev pub IsLaneEmpty : Frame → List ℕ → ℕ → ℕ → Type 0
-IsLaneEmpty at words band s = (k b : ℕ) → k < 8 → bit_at (slice_index words (word_of at s (8 * band + k))) b ≡ 0
+IsLaneEmpty at words band s = (k b : ℕ) → k < 8 → b < 64 → bit_at (slice_index words (word_of at s (8 * band + k))) b ≡ 0
 
 -- nor of any lane from one to before another
 abbrev pub IsBandEmpty : Frame → List ℕ → ℕ → ℕ → ℕ → Type 0
@@ -49,4 +49,4 @@ IsBandEmpty at words band from to = (s : ℕ) → from ≤ s → s < to → IsLa
 
 -- no cell of a row is alive in these lanes
 abbrev pub IsRowEmpty : Frame → List ℕ → ℕ → ℕ → ℕ → Type 0
-IsRowEmpty at words r from to = (s b : ℕ) → from ≤ s → s < to → bit_at (slice_index words (word_of at s r)) b ≡ 0
+IsRowEmpty at words r from to = (s b : ℕ) → from ≤ s → s < to → b < 64 → bit_at (slice_index words (word_of at s r)) b ≡ 0

@@ -1,5 +1,5 @@
 -- Which rows of each lane of a board may have a live cell.
-use Rattle.std.specs.Prelude.{◌≡◌, ◌+◌, ◌*◌, ◌<◌, ◌≤◌, ℕ, List, length, slice_index_or, true}
+use Rattle.std.specs.Prelude.{◌≡◌, ◌<◌, ◌≤◌, ℕ, List, length, slice_index_or, true}
 use Rattle.plane_core.specs.declared.cell.Cell.{Cell}
 use Rattle.plane_core.specs.declared.frame.Frame.{Frame}
 use Rattle.plane_core.specs.declared.place.Place.{Place}
@@ -42,6 +42,10 @@ AreWidened old new = (s r : ℕ) → IsInSpan old s r → IsInSpan new s r
 pub record AreSpans (at : Frame) (cells : List Cell) (spans : List Span) : Type 0 where
   pub lanes : length spans ≡ at.lanes
   pub live : LieInSpans at spans cells
+
+-- only these lanes have rows in their spans
+abbrev pub LieInLanes : Frame → List Span → Span → Type 0
+LieInLanes at spans lanes = (s r : ℕ) → s < at.lanes → IsInSpan spans s r → IsIn lanes s
 
 -- the lane is in the hull, and the row
 pub record IsInHull (hull : Hull) (s r : ℕ) : Type 0 where

@@ -20,25 +20,26 @@ ghost use Rattle.plane_core.specs.Boxes.{box_bound};
 ghost use Rattle.plane_core.specs.Frames.{FillsFrame, IsFrame, LieOn};
 ghost use Rattle.plane_core.specs.Generations.{after};
 ghost use Rattle.plane_core.specs.Bounds.{AreSidesWithin};
-ghost use Rattle.plane_core.specs.Boards.{AreRightFor, HasGoneOn};
+ghost use Rattle.plane_core.specs.Boards.{AreRightFor, HasGoneOn, StayInSpans};
 ghost use Rattle.plane_core.specs.OnBoard.{cells_on};
 ghost use Rattle.plane_core.specs.Words.{life};
 
-use crate::answers::{AnyRule, Answering, Life, is_life};
+use crate::answers::{Answering, AnyRule, Life, is_life};
 use crate::bounds::Bounds;
+use crate::boxes::{boxes_round, next_boxes};
 use crate::cell::Cell;
 use crate::change::Change;
+use crate::cover::{are_on_board, cover};
 use crate::frame::Frame;
+use crate::leap::leap;
 use crate::listing::list;
 use crate::loading::fill;
 use crate::pattern::Pattern;
 use crate::place::Place;
 use crate::rule::Rule;
+use crate::spans::{Span, widen_by, widen_by_cells};
 use std::alloc::{AllocError, Global};
 use std::marker::Model;
-use crate::boxes::{boxes_round, next_boxes};
-use crate::cover::{are_on_board, cover};
-use crate::leap::leap;
 
 /// A pattern on a board under a rule.
 #[derive(Drop)]
@@ -47,6 +48,8 @@ pub(crate) struct Board {
     answers: AnyRule,
     is_life: bool,
     words: Vec<u64>,
+    /// Which rows of each lane may have a live cell.
+    spans: Vec<Span>,
     boxes: Vec<Bounds>,
     /// Whether the boxes hold all live cells.
     holds_all: bool,
@@ -63,14 +66,14 @@ struct Lists {
 }
 
 impl Model for Board {
-    ghost use Rattle.plane_core.specs.Boards.{IsBoard, Running};
+    ghost use Rattle.plane_core.specs.Boards.{IsSpannedBoard, Running};
     ghost use Rattle.plane_core.specs.OnBoard.{cells_on};
 
     ghost Value = { Running };
 
     ghost view = { λ b. record { rule = b.answers.rule; cells = cells_on b.at b.words.items } };
 
-    ghost invariant = { λ b. IsBoard b.at b.answers.rule b.is_life b.words.items b.boxes.items b.holds_all };
+    ghost invariant = { λ b. IsSpannedBoard b.at b.answers.rule b.is_life b.words.items b.boxes.items b.holds_all b.spans.items };
 }
 
 impl Board {
@@ -88,6 +91,8 @@ impl Board {
     {
         let mut words = vec![in alloc; 0u64; at.count()]?;
         fill(at, words.as_mut_slice(), pattern.cells());
+        let mut spans = vec![in alloc; Span::empty(); at.lanes]?;
+        widen_by_cells(at, spans.as_mut_slice(), pattern.cells());
         let mut boxes = Vec::new(alloc);
         boxes_round(pattern.cells(), &mut boxes)?;
         Ok(Board {
@@ -95,6 +100,7 @@ impl Board {
             answers: AnyRule::new(rule),
             is_life: is_life(rule),
             words,
+            spans,
             boxes,
             holds_all: true,
             lists: Lists::new(alloc),
@@ -179,6 +185,7 @@ impl Board {
             self.is_life,
             self.at,
             self.words.as_mut_slice(),
+            self.spans.as_mut_slice(),
             &mut self.boxes,
             &mut self.lists,
             count,
@@ -202,7 +209,13 @@ impl Board {
     pub(crate) fn cells(&self, alloc: Global, room: usize) -> Result<Vec<Cell>, AllocError>
         ensures { IfOk result (λ cells. cells.items ≡ self.now.cells) }
     {
-        list(alloc, self.at, self.words.as_slice(), room)
+        list(
+            alloc,
+            self.at,
+            self.words.as_slice(),
+            self.spans.as_slice(),
+            room,
+        )
     }
 }
 
@@ -242,6 +255,7 @@ fn leap_by(
     is_life: bool,
     at: Frame,
     words: &mut [u64],
+    spans: &mut [Span],
     boxes: &mut Vec<Bounds>,
     lists: &mut Lists,
     count: u32,
@@ -249,21 +263,27 @@ fn leap_by(
     requires life { is_life ≡ true → answers.now.rule ≡ life }
     requires frame { IsFrame at }
     requires long { FillsFrame at words.old }
+    requires lanes { length spans.old ≡ at.lanes }
     requires sides { All (AreSidesWithin box_bound) boxes.old.items }
     requires some { 1 ≤ count }
     requires few { count ≤ 4 }
     ensures long { length words.new ≡ length words.old }
+    ensures lanes { length spans.new ≡ length spans.old }
     ensures sides { OnOk result (All (AreSidesWithin box_bound) boxes.new.items) }
     ensures stopped { IfOk result
-        (λ leapt. leapt ≡ false → (words.new ≡ words.old) × (boxes.new.items ≡ boxes.old.items)) }
+        (λ leapt. leapt ≡ false
+        → (words.new ≡ words.old) × (boxes.new.items ≡ boxes.old.items) × (spans.new ≡ spans.old)) }
     ensures leapt { IfOk result
         (λ leapt. leapt ≡ true → AreRightFor answers.now.rule (cells_on at words.old) boxes.old.items count
         → HasGoneOn answers.now.rule at count words.old words.new boxes.new.items) }
+    ensures live { IfOk result
+        (λ leapt. leapt ≡ true
+        → StayInSpans answers.now.rule at count words.old words.new boxes.old.items spans.old spans.new) }
 {
     if is_life {
-        return leap_on(&Life, at, words, boxes, lists, count);
+        return leap_on(&Life, at, words, spans, boxes, lists, count);
     }
-    leap_on(answers, at, words, boxes, lists, count)
+    leap_on(answers, at, words, spans, boxes, lists, count)
 }
 
 /// Makes a leap of so many generations, unless a window would come too near to the border of the board. Returns whether
@@ -272,22 +292,29 @@ fn leap_on<A: Answering>(
     rule: &A,
     at: Frame,
     words: &mut [u64],
+    spans: &mut [Span],
     boxes: &mut Vec<Bounds>,
     lists: &mut Lists,
     count: u32,
 ) -> Result<bool, AllocError>
     requires frame { IsFrame at }
     requires long { FillsFrame at words.old }
+    requires lanes { length spans.old ≡ at.lanes }
     requires sides { All (AreSidesWithin box_bound) boxes.old.items }
     requires some { 1 ≤ count }
     requires few { count ≤ 4 }
     ensures long { length words.new ≡ length words.old }
+    ensures lanes { length spans.new ≡ length spans.old }
     ensures sides { OnOk result (All (AreSidesWithin box_bound) boxes.new.items) }
     ensures stopped { IfOk result
-        (λ leapt. leapt ≡ false → (words.new ≡ words.old) × (boxes.new.items ≡ boxes.old.items)) }
+        (λ leapt. leapt ≡ false
+        → (words.new ≡ words.old) × (boxes.new.items ≡ boxes.old.items) × (spans.new ≡ spans.old)) }
     ensures leapt { IfOk result
         (λ leapt. leapt ≡ true → AreRightFor (A.rule rule.now) (cells_on at words.old) boxes.old.items count
         → HasGoneOn (A.rule rule.now) at count words.old words.new boxes.new.items) }
+    ensures live { IfOk result
+        (λ leapt. leapt ≡ true
+        → StayInSpans (A.rule rule.now) at count words.old words.new boxes.old.items spans.old spans.new) }
 {
     cover(boxes.as_slice(), &mut lists.rectangles, &mut lists.places)?;
     let places = lists.places.as_slice();
@@ -295,6 +322,7 @@ fn leap_on<A: Answering>(
     if !inside {
         return Ok(false);
     }
+    widen_by(at, spans, places);
     leap(
         words,
         at,

@@ -1,12 +1,11 @@
-use Rattle.std.proofs.Common.{◌≡◌, ◌≢◌, ◌∙◌, ◌+◌, ◌≤◌, ◌<◌, ℕ, List, [], arith, get_or-set_other, inl, refl, set, subst, sym}
+use Rattle.std.proofs.Common.{◌≡◌, ◌≢◌, ◌∙◌, ◌<◌, [], arith, get_or-set_other, inl, refl, subst, sym}
 use Rattle.std.proofs.lemmas.Bool.{false≢true}
 use Rattle.std.proofs.lemmas.List.{length-set}
 use Rattle.plane_core.specs.declared.spans.Span.{Span}
-use Rattle.plane_core.specs.Frames.{Shows}
-use Rattle.plane_core.specs.Spans.{IsIn, span_of}
+use Rattle.plane_core.specs.Spans.{IsIn}
 use Rattle.plane_core.proofs.OnBoardLemmas.{only_cells}
 use Rattle.plane_core.proofs.SetLemmas.{in_order-nil}
-use Rattle.plane_core.proofs.SpanLemmas.{AreLanesDead, lane_emptied, shown_dead, zeroed_more}
+use Rattle.plane_core.proofs.SpanLemmas.{lane_emptied, shown_dead, zeroed_more}
 use Rattle.plane_core.proofs.spans.empty.Goals as goal
 
 pub loop-lane-init : goal.loop-lane-init

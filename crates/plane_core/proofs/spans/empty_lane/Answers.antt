@@ -1,5 +1,4 @@
-use Rattle.std.proofs.Common.{◌≡◌, ◌∙◌, ◌<◌, ℕ, arith, inl, refl, subst, sym}
-use Rattle.plane_core.proofs.SpanLemmas.{row_zeroed, zeroed, zeroed_more}
+use Rattle.std.proofs.Common.{arith, inl, refl}
 use Rattle.plane_core.proofs.spans.empty_lane.Goals as goal
 
 pub loop-row-init : goal.loop-row-init

@@ -1,10 +1,7 @@
-use Rattle.std.proofs.Common.{◌≡◌, ◌∙◌, ◌<◌, ◌+◌, ℕ, arith, inl, inr, pos, refl, slice_index_or, subst, sym}
-use Rattle.std.proofs.lemmas.List.{get_or_default}
+use Rattle.std.proofs.Common.{◌∙◌, arith, pos, refl, subst, sym}
 use Rattle.plane_core.specs.declared.place.Place.{Place}
 use Rattle.plane_core.specs.Frames.{cell_of}
 use Rattle.plane_core.specs.Places.{IsInnerCell}
-use Rattle.plane_core.specs.Spans.{HoldInner}
-use Rattle.plane_core.proofs.CaseLemmas.{same_or_not}
 use Rattle.plane_core.proofs.SpanLemmas.{places_more}
 use Rattle.plane_core.proofs.spans.widen_by.Goals as goal
 

@@ -1,4 +1,4 @@
-use Rattle.std.proofs.Common.{◌∙◌, List, false, refl, subst, take}
+use Rattle.std.proofs.Common.{◌∙◌, List, refl, subst}
 use Rattle.std.proofs.lemmas.Bool.{false≢true}
 use Rattle.std.proofs.lemmas.List.{take_all}
 use Rattle.plane_core.specs.declared.cell.Cell.{Cell}

@@ -15,3 +15,6 @@ returns c =
     let read = subst (λ (ws : List ℕ). Shows at ws (cells_on at words)) (sym c.as_slice.ensures.value) (shows_cells at words) in
     IfOk-weaker c.list.result (λ v. (S : List Cell) → InOrder S → LieOn at S → Shows at c.as_slice.result.now S → v.items ≡ S) _
     (λ v h. h (cells_on at words) (cells_in_order at words) (cells_lie_on at words) read ∙ ap (λ (b : Running). b.cells) c.self.view_is) c.list.ensures
+
+pub list-requires-clause-live : goal.list-requires-clause-live
+list-requires-clause-live c = rw (c.as_slice.ensures.value, c.as_slice-2.ensures.value) c.self.invariant.spanned.live

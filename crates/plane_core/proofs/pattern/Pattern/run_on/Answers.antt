@@ -1,5 +1,4 @@
-use Rattle.std.proofs.Common.{◌≡◌, ◌∙◌, ◌<◌, ◌≤◌, ℕ, ap, arith, List, sym}
-use Rattle.plane_core.specs.declared.cell.Cell.{Cell}
+use Rattle.std.proofs.Common.{◌≡◌, ◌∙◌, ◌≤◌, ℕ, arith}
 use Rattle.plane_core.specs.Generations.{after}
 use Rattle.plane_core.proofs.RunLemmas.{is_pattern-after}
 use Rattle.plane_core.proofs.pattern.Pattern.run_on.Goals as goal
