@@ -201,9 +201,13 @@ pub no_cells : (at : Frame) (words : List ℕ) → ((i : ℕ) → slice_index wo
 no_cells at words zeros = only_cells at words [] in_order-nil (λ c e. absurd (false≢true e)) (shown-empty at words zeros)
 
 -- so it may have any spans
+pub empty_spans : (at : Frame) (words : List ℕ) (spans : List Span) → cells_on at words ≡ [] → length spans ≡ at.lanes
+    → AreSpans at (cells_on at words) spans
+empty_spans at words spans none long = record {
+  lanes = long;
+  live = λ s r i hs hr hi e. absurd (false≢true (sym (ap (λ (S : List Cell). has S (cell_of at s r i)) none) ∙ e));
+}
+
 pub zero_spans : (at : Frame) (words : List ℕ) (spans : List Span) → ((i : ℕ) → slice_index words i ≡ 0) → length spans ≡ at.lanes
     → AreSpans at (cells_on at words) spans
-zero_spans at words spans zeros long = record {
-  lanes = long;
-  live = λ s r i hs hr hi e. absurd (false≢true (sym (ap (λ (S : List Cell). has S (cell_of at s r i)) (no_cells at words zeros)) ∙ e));
-}
+zero_spans at words spans zeros long = empty_spans at words spans (no_cells at words zeros) long

@@ -15,9 +15,10 @@
 //!
 //! What holds after an odd number of generations isn't known by that: a blinker outside of all boxes is the same after two
 //! generations and not after one. So an odd leap is made first, while the boxes hold all live cells.
-ghost use Rattle.std.specs.Prelude.{◌≡◌, ◌%◌, ◌*◌, ◌<◌, ◌≤◌, ℕ, All, IfOk, IsTrue, List, OnOk, length, slice_index, true, false};
+ghost use Rattle.std.specs.Prelude.{◌≡◌, ◌%◌, ◌*◌, ◌<◌, ◌≤◌, ℕ, All, IfOk, IfSome, IsTrue, List, [], OnOk, length, slice_index, true, false};
 ghost use Rattle.plane_core.specs.Boxes.{box_bound};
-ghost use Rattle.plane_core.specs.Frames.{FillsFrame, IsFrame, LieOn};
+ghost use Rattle.plane_core.specs.Frames.{FillsFrame, IsFrame, LieOn, bounds_of};
+ghost use Rattle.plane_core.specs.Cells.{IsPattern, plane_bound};
 ghost use Rattle.plane_core.specs.Generations.{after};
 ghost use Rattle.plane_core.specs.Bounds.{AreSidesWithin};
 ghost use Rattle.plane_core.specs.Boards.{AreRightFor, HasGoneOn, StayInSpans};
@@ -37,9 +38,12 @@ use crate::loading::fill;
 use crate::pattern::Pattern;
 use crate::place::Place;
 use crate::rule::Rule;
-use crate::spans::{Span, widen_by, widen_by_cells};
+use crate::spans::{Span, empty, widen_by, widen_by_cells};
 use std::alloc::{AllocError, Global};
 use std::marker::Model;
+
+/// For how many cells there is room from the start where a pattern is read: it takes a kilobyte.
+const ROOM: usize = 128;
 
 /// A pattern on a board under a rule.
 #[derive(Drop)]
@@ -71,12 +75,25 @@ impl Model for Board {
 
     ghost Value = { Running };
 
-    ghost view = { λ b. record { rule = b.answers.rule; cells = cells_on b.at b.words.items } };
+    ghost view = { λ b. record { at = b.at; rule = b.answers.rule; cells = cells_on b.at b.words.items } };
 
     ghost invariant = { λ b. IsSpannedBoard b.at b.answers.rule b.is_life b.words.items b.boxes.items b.holds_all b.spans.items };
 }
 
 impl Board {
+    /// An empty board that lies round the origin, for patterns that are shown one after another. It has 4,096 columns, and a
+    /// lane more, and 4,168 rows.
+    ///
+    /// # Errors
+    ///
+    /// `AllocError` if memory runs out.
+    pub(crate) fn new(alloc: Global, rule: &Rule) -> Result<Board, AllocError>
+        ensures rule { IfOk result (λ board. board.rule ≡ rule.now) }
+        ensures cells { IfOk result (λ board. board.cells ≡ []) }
+    {
+        Board::blank(alloc, rule, Frame::round_origin())
+    }
+
     /// A board that shows the pattern.
     pub(crate) fn lay(
         alloc: Global,
@@ -85,16 +102,27 @@ impl Board {
         pattern: &Pattern,
     ) -> Result<Board, AllocError>
         requires frame { IsFrame at }
+        requires plane { AreSidesWithin plane_bound (bounds_of at) }
         requires on { LieOn at pattern.now }
         ensures rule { IfOk result (λ board. board.rule ≡ rule.now) }
         ensures cells { IfOk result (λ board. board.cells ≡ pattern.now) }
     {
-        let mut words = vec![in alloc; 0u64; at.count()]?;
-        fill(at, words.as_mut_slice(), pattern.cells());
-        let mut spans = vec![in alloc; Span::empty(); at.lanes]?;
-        widen_by_cells(at, spans.as_mut_slice(), pattern.cells());
-        let mut boxes = Vec::new(alloc);
-        boxes_round(pattern.cells(), &mut boxes)?;
+        let mut board = Board::blank(alloc, rule, at)?;
+        board.place(at, pattern)?;
+        Ok(board)
+    }
+
+    /// An empty board.
+    fn blank(alloc: Global, rule: &Rule, at: Frame) -> Result<Board, AllocError>
+        requires frame { IsFrame at }
+        requires plane { AreSidesWithin plane_bound (bounds_of at) }
+        ensures at { IfOk result (λ board. board.at ≡ at) }
+        ensures rule { IfOk result (λ board. board.rule ≡ rule.now) }
+        ensures cells { IfOk result (λ board. board.cells ≡ []) }
+    {
+        let words = vec![in alloc; 0u64; at.count()]?;
+        let spans = vec![in alloc; Span::empty(); at.lanes]?;
+        let boxes = Vec::new(alloc);
         Ok(Board {
             at,
             answers: AnyRule::new(rule),
@@ -105,6 +133,81 @@ impl Board {
             holds_all: true,
             lists: Lists::new(alloc),
         })
+    }
+
+    /// Shows another pattern under a rule, in the middle of the board. If it has no room there, the board shows nothing,
+    /// and it is `false`.
+    ///
+    /// # Errors
+    ///
+    /// `AllocError` if memory runs out. Then the board shows nothing that is known.
+    pub(crate) fn show(&mut self, rule: &Rule, pattern: &Pattern) -> Result<bool, AllocError>
+        ensures rule { self.new.rule ≡ rule.now }
+        ensures shown { IfOk result (λ shown. shown ≡ true → self.new.cells ≡ pattern.now) }
+        ensures none { IfOk result (λ shown. shown ≡ false → self.new.cells ≡ []) }
+    {
+        self.clear(rule);
+        match self.frame_for(pattern) {
+            Some(at) => {
+                self.place(at, pattern)?;
+                Ok(true)
+            }
+            None => Ok(false),
+        }
+    }
+
+    /// Empties the board.
+    fn clear(&mut self, rule: &Rule)
+        ensures at { self.new.at ≡ self.old.at }
+        ensures rule { self.new.rule ≡ rule.now }
+        ensures cells { self.new.cells ≡ [] }
+    {
+        empty(
+            self.at,
+            self.words.as_mut_slice(),
+            self.spans.as_mut_slice(),
+        );
+        self.boxes.clear();
+        self.holds_all = true;
+        self.answers = AnyRule::new(rule);
+        self.is_life = is_life(rule);
+    }
+
+    /// The frame that has the pattern in its middle, if it has room there.
+    fn frame_for(&self, pattern: &Pattern) -> Option<Frame>
+        ensures frame { IfSome result IsFrame }
+        ensures plane { IfSome result (λ at. AreSidesWithin plane_bound (bounds_of at)) }
+        ensures on { IfSome result (λ at. LieOn at pattern.now) }
+        ensures lanes { IfSome result (λ at. at.lanes ≡ self.now.at.lanes) }
+        ensures rows { IfSome result (λ at. at.rows ≡ self.now.at.rows) }
+    {
+        self.at.centred(pattern)
+    }
+
+    /// Puts a pattern on an empty board, which is to lie here.
+    fn place(&mut self, at: Frame, pattern: &Pattern) -> Result<(), AllocError>
+        requires frame { IsFrame at }
+        requires plane { AreSidesWithin plane_bound (bounds_of at) }
+        requires on { LieOn at pattern.now }
+        requires lanes { at.lanes ≡ self.old.at.lanes }
+        requires rows { at.rows ≡ self.old.at.rows }
+        requires empty { self.old.cells ≡ [] }
+        ensures rule { self.new.rule ≡ self.old.rule }
+        ensures cells { OnOk result (self.new.cells ≡ pattern.now) }
+    {
+        match boxes_round(pattern.cells(), &mut self.boxes) {
+            Ok(()) => {
+                self.at = at;
+                self.holds_all = true;
+                fill(at, self.words.as_mut_slice(), pattern.cells());
+                widen_by_cells(at, self.spans.as_mut_slice(), pattern.cells());
+                Ok(())
+            }
+            Err(error) => {
+                self.boxes.clear();
+                Err(error)
+            }
+        }
     }
 
     /// Goes on by at most so many generations, and returns how many were made: fewer, where the next leap would have come
@@ -207,7 +310,8 @@ impl Board {
 
     /// The cells, in order, with room for so many from the start.
     pub(crate) fn cells(&self, alloc: Global, room: usize) -> Result<Vec<Cell>, AllocError>
-        ensures { IfOk result (λ cells. cells.items ≡ self.now.cells) }
+        ensures cells { IfOk result (λ cells. cells.items ≡ self.now.cells) }
+        ensures pattern { IsPattern self.now.cells }
     {
         list(
             alloc,
@@ -216,6 +320,18 @@ impl Board {
             self.spans.as_slice(),
             room,
         )
+    }
+
+    /// The pattern that the board shows.
+    ///
+    /// # Errors
+    ///
+    /// `AllocError` if memory runs out.
+    pub(crate) fn pattern(&self, alloc: Global) -> Result<Pattern, AllocError>
+        ensures { IfOk result (λ pattern. pattern ≡ self.now.cells) }
+    {
+        let cells = self.cells(alloc, ROOM)?;
+        Ok(Pattern::from_ordered(cells))
     }
 }
 

@@ -2,7 +2,8 @@ ghost use Rattle.std.specs.Prelude.{◌≡◌, ◌≢◌, ℕ, ◌+◌, ◌-◌,
 ghost use Rattle.plane_core.specs.Cells.{has, plane_bound};
 ghost use Rattle.plane_core.specs.Generations.{next, after, lives, touches_edge, lies_within, NextMoved, NextTurned};
 ghost use Rattle.plane_core.specs.Generations.{SpeedFromOrigin, SpeedOfCells, SpeedOfLight};
-ghost use Rattle.plane_core.specs.Frames.{IsFrame, LieOn};
+ghost use Rattle.plane_core.specs.Bounds.{AreSidesWithin};
+ghost use Rattle.plane_core.specs.Frames.{IsFrame, LieOn, bounds_of};
 ghost use Rattle.plane_core.specs.Parts.{FarPatternsRunAlone, HasRun};
 ghost use Rattle.plane_core.specs.Refusals.{RefusesStep};
 ghost use Rattle.plane_core.specs.declared.cell.Cell.{Cell};
@@ -207,6 +208,7 @@ impl Pattern {
         generations: u32,
     ) -> Result<Option<Pattern>, AllocError>
         requires frame { IsFrame at }
+        requires plane { AreSidesWithin plane_bound (bounds_of at) }
         requires on { LieOn at self.now }
         requires few { generations ≤ plane_bound }
         requires inside { lies_within (plane_bound - generations) self.now ≡ true }

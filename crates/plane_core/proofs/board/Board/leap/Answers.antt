@@ -36,6 +36,7 @@ invariant_of-self c =
         lanes = held ∙ ap length c.as_mut_slice-2.ensures.value ∙ c.self.invariant.spanned.lanes;
         live = live right c.self.invariant.spanned.live;
       };
+      plane = c.self.invariant.plane;
     }
 
 pub returns-in-Ok-true-clause-leapt : goal.returns-in-Ok-true-clause-leapt
@@ -82,4 +83,5 @@ invariant_of-self-in-Err c =
       board = empty_board inside.at inside.answers.rule inside.is_life inside.words.items new inside.boxes.items c.clear.new.self.items inside.holds_all
           c.clear.ensures.items c.self.invariant.board (long ∙ sym first) c.zero.ensures;
       spanned = zero_spans inside.at new spans c.zero.ensures (held ∙ ap length c.as_mut_slice-2.ensures.value ∙ c.self.invariant.spanned.lanes);
+      plane = c.self.invariant.plane;
     }
