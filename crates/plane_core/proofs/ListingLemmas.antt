@@ -133,8 +133,8 @@ row-empty at words band r n m low high empty s b past near small =
     ap (λ (q : ℕ). bit_at (slice_index words (word_of at s q)) b) (sym row) ∙ empty s past near (r - 8 * band) b (omega arith) small
 
 pub row-more : (at : Frame) (words : List ℕ) (s r word : ℕ) (first : Cell) (old new more : List Cell) → s < at.lanes → r < at.rows
-    → ((i : ℕ) → i < 64 → bit_at word i ≡ bit_at (slice_index words (word_of at s r)) i) → first ≡ cell_of at s r 0 → HasReadRow at words r old s new → HasRead word first new 64 more
-    → HasReadRow at words r old (s + 1) more
+    → ((i : ℕ) → i < 64 → bit_at word i ≡ bit_at (slice_index words (word_of at s r)) i) → first ≡ cell_of at s r 0
+    → HasReadRow at words r old s new → HasRead word first new 64 more → HasReadRow at words r old (s + 1) more
 row-more at words s r word first old new more hs hr word_is first_is before read = record {
   grows = λ d e. read.grows d (before.grows d e);
   sound = λ others shown among. read.sound others (alive others shown) (before.sound others shown among);

@@ -1,7 +1,7 @@
 //! A pattern on a board, which goes on by leaps of up to four generations.
 //!
-//! Beside the board stands a list of boxes: each cell that isn't the same two generations on lies in a box, or within 2 of
-//! one. So a leap is made in windows that cover the boxes, and all else stays as it is:
+//! Beside the board stands a list of boxes: each cell that isn't the same two generations on lies in a box, or within 2
+//! of one. So a leap is made in windows that cover the boxes, and all else stays as it is:
 //!
 //! ```text
 //! +--------+                     the box of what changes
@@ -13,9 +13,10 @@
 //!              +-----------+
 //! ```
 //!
-//! What holds after an odd number of generations isn't known by that: a blinker outside of all boxes is the same after two
-//! generations and not after one. So an odd leap is made first, while the boxes hold all live cells.
-ghost use Rattle.std.specs.Prelude.{◌≡◌, ◌%◌, ◌*◌, ◌<◌, ◌≤◌, ℕ, All, IfOk, IfSome, IsTrue, List, [], OnOk, length, slice_index, true, false};
+//! What holds after an odd number of generations isn't known by that: a blinker outside of all boxes is the same after
+//! two generations and not after one. So an odd leap is made first, while the boxes hold all live cells.
+ghost use Rattle.std.specs.Prelude.{◌≡◌, ◌%◌, ◌*◌, ◌<◌, ◌≤◌, ℕ, List, [], length, slice_index};
+ghost use Rattle.std.specs.Prelude.{All, IfOk, IfSome, IsTrue, OnOk, true, false};
 ghost use Rattle.plane_core.specs.Boxes.{box_bound};
 ghost use Rattle.plane_core.specs.Frames.{FillsFrame, IsFrame, LieOn, bounds_of};
 ghost use Rattle.plane_core.specs.Cells.{IsPattern, plane_bound};
@@ -77,12 +78,13 @@ impl Model for Board {
 
     ghost view = { λ b. record { at = b.at; rule = b.answers.rule; cells = cells_on b.at b.words.items } };
 
-    ghost invariant = { λ b. IsSpannedBoard b.at b.answers.rule b.is_life b.words.items b.boxes.items b.holds_all b.spans.items };
+    ghost invariant = { λ b.
+        IsSpannedBoard b.at b.answers.rule b.is_life b.words.items b.boxes.items b.holds_all b.spans.items };
 }
 
 impl Board {
-    /// An empty board that lies round the origin, for patterns that are shown one after another. It has 4,096 columns, and a
-    /// lane more, and 4,168 rows.
+    /// An empty board that lies round the origin, for patterns that are shown one after another. It has 4,096 columns,
+    /// and a lane more, and 4,168 rows.
     ///
     /// # Errors
     ///
@@ -135,8 +137,8 @@ impl Board {
         })
     }
 
-    /// Shows another pattern under a rule, in the middle of the board. If it has no room there, the board shows nothing,
-    /// and it is `false`.
+    /// Shows another pattern under a rule, in the middle of the board. If it has no room there, the board shows
+    /// nothing, and it is `false`.
     ///
     /// # Errors
     ///
@@ -210,8 +212,8 @@ impl Board {
         }
     }
 
-    /// Goes on by at most so many generations, and returns how many were made: fewer, where the next leap would have come
-    /// too near to the border of the board.
+    /// Goes on by at most so many generations, and returns how many were made: fewer, where the next leap would have
+    /// come too near to the border of the board.
     ///
     /// # Errors
     ///

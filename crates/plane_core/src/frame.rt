@@ -8,7 +8,8 @@
 //! row 1    word 1                 word 1 + rows
 //! row 2    word 2                 word 2 + rows
 //! ```
-ghost use Rattle.std.specs.Prelude.{◌≡◌, ◌+◌, ◌*◌, ◌<◌, ◌≤◌, ◌^◌, ◌-ℤ◌, ◌≤ℤ◌, IfSome, IsTrue, OnSome, ◌-◌, true, false, pos};
+ghost use Rattle.std.specs.Prelude.{◌≡◌, ◌+◌, ◌*◌, ◌<◌, ◌≤◌, ◌^◌, ◌-ℤ◌, ◌≤ℤ◌, ◌-◌, true, false, pos};
+ghost use Rattle.std.specs.Prelude.{IfSome, IsTrue, OnSome};
 ghost use Rattle.std.specs.Prelude.{unsigned_abs};
 ghost use Rattle.plane_core.specs.Bounds.{IsWithin};
 ghost use Rattle.plane_core.specs.Cells.{plane_bound};
@@ -95,9 +96,9 @@ impl Frame {
         }
     }
 
-    /// A frame round the origin for patterns that are shown one after another: 64 lanes and one more, since a window wants
-    /// a lane to its right. The number of rows is no multiple of 512, so that the same row of several lanes doesn't fall
-    /// into one place of the processor's cache.
+    /// A frame round the origin for patterns that are shown one after another: 64 lanes and one more, since a window
+    /// wants a lane to its right. The number of rows is no multiple of 512, so that the same row of several lanes
+    /// doesn't fall into one place of the processor's cache.
     pub(crate) fn round_origin() -> Frame
         ensures frame { IsFrame result }
         ensures plane { AreSidesWithin plane_bound (bounds_of result) }

@@ -1,7 +1,7 @@
 //! The cells of a board in a list, in their order: row by row, and each row from the left.
 //!
-//! The rows are gone through in bands of eight, from the first that a span reaches to the last. Most lanes have no live cell
-//! in a band: either its span doesn't reach there, or eight words at once are seen to be empty.
+//! The rows are gone through in bands of eight, from the first that a span reaches to the last. Most lanes have no live
+//! cell in a band: either its span doesn't reach there, or eight words at once are seen to be empty.
 //!
 //! ```text
 //! lane      0     1     2     3     4
@@ -27,8 +27,8 @@ use crate::pattern::in_order;
 use crate::spans::{Span, hull_of};
 use std::alloc::{AllocError, Global};
 
-/// All cells of a board, which lie in these spans. For so many there is room from the start. They come in their order, so
-/// it costs little to see to that.
+/// All cells of a board, which lie in these spans. For so many there is room from the start. They come in their order,
+/// so it costs little to see to that.
 pub(crate) fn list(
     alloc: Global,
     at: Frame,
@@ -79,7 +79,7 @@ fn along(cell: Cell, columns: usize) -> Cell
     }
 }
 
-/// The word of a row of a lane, of which this is the span. Outside of it nothing is alive, and the word isn't looked at.
+/// The word of a row of a lane, of which this is the span. Outside of it nothing is alive, and no word is looked at.
 fn word_at(at: Frame, words: &[u64], span: Span, lane: usize, row: usize) -> u64
     requires frame { IsFrame at }
     requires lane { lane < at.lanes }

@@ -1,5 +1,5 @@
-//! Which rows of each lane of a board may have a live cell. So a large board that is nearly empty is read and emptied at
-//! little cost:
+//! Which rows of each lane of a board may have a live cell. So a large board that is nearly empty is read and emptied
+//! at little cost:
 //!
 //! ```text
 //! lane      0     1     2     3
@@ -8,12 +8,14 @@
 //! row 2     .     #     #     .      all is dead.
 //! row 3     .     .     #     .
 //! ```
-ghost use Rattle.std.specs.Prelude.{◌≡◌, ◌+◌, ◌*◌, ◌/◌, ◌<◌, ◌≤◌, ◌^◌, ◌∷◌, ◌⊎◌, [], All, ℕ, IsTrue, length, slice_index};
+ghost use Rattle.std.specs.Prelude.{◌≡◌, ◌+◌, ◌*◌, ◌/◌, ◌<◌, ◌≤◌, ◌^◌, ◌∷◌, ◌⊎◌};
+ghost use Rattle.std.specs.Prelude.{[], All, ℕ, IsTrue, length, slice_index};
 ghost use Rattle.plane_core.specs.Bounds.{IsWithin};
 ghost use Rattle.plane_core.specs.Frames.{FillsFrame, IsFrame, LieOn, Shows, bounds_of, cell_of, word_of};
 ghost use Rattle.plane_core.specs.OnBoard.{cells_on};
 ghost use Rattle.plane_core.specs.Places.{IsOnBoard};
-ghost use Rattle.plane_core.specs.Spans.{AreWidened, HoldCovered, HoldInner, HoldsSpans, IsIn, IsInHull, IsInSpan, LieInSpans};
+ghost use Rattle.plane_core.specs.Spans.{AreWidened, HoldCovered, HoldInner, HoldsSpans};
+ghost use Rattle.plane_core.specs.Spans.{IsIn, IsInHull, IsInSpan, LieInSpans};
 
 use crate::cell::Cell;
 use crate::frame::Frame;

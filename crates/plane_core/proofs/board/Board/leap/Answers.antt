@@ -45,8 +45,8 @@ returns-in-Ok-true-clause-leapt c e =
     let new = c.leap_by-leapt.new.words in
     let kept : length new ≡ length c.as_mut_slice.result.now = c.leap_by-leapt.ensures.long in
     let long : length new ≡ inside.words.len = omega (arith, kept, c.as_mut_slice.ensures.len) in
-    let right = right_for inside.at inside.answers.rule inside.is_life inside.words.items inside.boxes.items inside.holds_all c.args.count c.self.invariant.board
-    (c.are_enough.ensures c.if-not-are_enough.false) in
+    let right = right_for inside.at inside.answers.rule inside.is_life inside.words.items inside.boxes.items inside.holds_all c.args.count
+    c.self.invariant.board (c.are_enough.ensures c.if-not-are_enough.false) in
     let moved = rw c.as_mut_slice.ensures.value at (c.in-Ok-true.ensures.leapt c.in-Ok-true.field-0-test) in
     rw (with_items_is inside.words new long)
     ((moved right).cells ∙ (λ i. after (c.self.view_is i).rule (c.self.view_is i).cells c.args.count))
