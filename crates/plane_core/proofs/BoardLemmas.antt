@@ -10,7 +10,7 @@ use Rattle.plane_core.specs.Boards.{IsBoard}
 use Rattle.plane_core.specs.Bounds.{AreSidesWithin}
 use Rattle.plane_core.specs.Boxes.{HoldAll, box_bound}
 use Rattle.plane_core.specs.Cells.{IsPattern, has, on_plane, plane_bound}
-use Rattle.plane_core.specs.Frames.{FillsFrame, IsFrame, Shows, bounds_of, cell_of}
+use Rattle.plane_core.specs.Frames.{FillsFrame, IsFrame, Shows, bounds_of, board_cell}
 use Rattle.plane_core.specs.OnBoard.{cells_on}
 use Rattle.plane_core.specs.Rules.{Numbers}
 use Rattle.plane_core.specs.Words.{life}
@@ -37,7 +37,7 @@ blank_board at rule is_life words boxes holds_all frame is long none empty = sub
 -- nor does it matter where it lies
 pub moved_empty : (at new : Frame) (words : List ℕ) → new.lanes ≡ at.lanes → new.rows ≡ at.rows → cells_on at words ≡ [] → Shows new words []
 moved_empty at new words lanes rows empty s r i hs hr hi =
-    sym (ap (λ (S : List Cell). has S (cell_of at s r i)) empty)
+    sym (ap (λ (S : List Cell). has S (board_cell at s r i)) empty)
     ∙ shows_cells at words s r i (omega (arith, hs, lanes)) (omega (arith, hr, rows)) hi
     ∙ ap (λ (n : ℕ). bit_at (slice_index words (s * n + r)) i == 1) (sym rows)
 

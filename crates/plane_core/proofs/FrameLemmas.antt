@@ -8,7 +8,7 @@ use Rattle.plane_core.specs.declared.bounds.Bounds.{Bounds}
 use Rattle.plane_core.specs.declared.cell.Cell.{Cell}
 use Rattle.plane_core.specs.Bounds.{IsWithin, IsLeastBox}
 use Rattle.plane_core.specs.Cells.{plane_bound, distance}
-use Rattle.plane_core.specs.Frames.{HasRoom, IsFrame, LieOn, bounds_of, cell_of, word_of}
+use Rattle.plane_core.specs.Frames.{HasRoom, IsFrame, LieOn, bounds_of, board_cell, word_of}
 use Rattle.plane_core.specs.Bounds.{AreSidesWithin}
 use Rattle.plane_core.proofs.CaseLemmas.{less_or_not, same_or_not}
 use Rattle.plane_core.proofs.BoxRoundLemmas.{fewer_sides, in_box}
@@ -46,10 +46,10 @@ one_word h s r t y e hr hy = go (same_or_not s t)
 -- ---- cells
 
 -- the cell so many columns and rows away from the board's corner
-pub spot_of : (at : Frame) (c : Cell) (a d : ℕ) → pos a ≡ c.x -ℤ at.left → pos d ≡ c.y -ℤ at.top → c ≡ cell_of at (a / 64) d (a % 64)
+pub spot_of : (at : Frame) (c : Cell) (a d : ℕ) → pos a ≡ c.x -ℤ at.left → pos d ≡ c.y -ℤ at.top → c ≡ board_cell at (a / 64) d (a % 64)
 spot_of at c a d p q = same_cells c.x c.y _ _ (omega (arith, ints)) (omega (arith, ints))
 
-pub one_spot : (at : Frame) (t y k s d i : ℕ) → k < 64 → i < 64 → cell_of at t y k ≡ cell_of at s d i → (t ≡ s) × (y ≡ d) × (k ≡ i)
+pub one_spot : (at : Frame) (t y k s d i : ℕ) → k < 64 → i < 64 → board_cell at t y k ≡ board_cell at s d i → (t ≡ s) × (y ≡ d) × (k ≡ i)
 one_spot at t y k s d i hk hi e =
     let x : at.left +ℤ pos (64 * t + k) ≡ at.left +ℤ pos (64 * s + i) = ap (λ (c : Cell). c.x) e in
     let z : at.top +ℤ pos y ≡ at.top +ℤ pos d = ap (λ (c : Cell). c.y) e in

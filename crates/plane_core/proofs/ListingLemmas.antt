@@ -11,7 +11,7 @@ use Rattle.std.proofs.lemmas.Bool.{false≢true, or_cases, eqb-true}
 use Rattle.plane_core.specs.declared.frame.Frame.{Frame}
 use Rattle.plane_core.specs.declared.cell.Cell.{Cell}
 use Rattle.plane_core.specs.Cells.{InOrder, cell_at, has, set_of}
-use Rattle.plane_core.specs.Frames.{LieOn, Shows, cell_of, word_of}
+use Rattle.plane_core.specs.Frames.{LieOn, Shows, board_cell, word_of}
 use Rattle.plane_core.specs.Listing.{AreAmong, AreDead, HasRead, HasReadRow, HasReadRows, IsBandEmpty, IsLaneEmpty, IsNextAlive, IsRowEmpty}
 use Rattle.plane_core.specs.OnBoard.{cells_on}
 use Rattle.plane_core.specs.Spans.{IsIn, IsInSpan, LieInLanes, LieInSpans}
@@ -106,7 +106,7 @@ read_on word first old new i j none read = record {
 
 -- ---- a row
 
-pub along_cell : (at : Frame) (s r i : ℕ) → cell_at ((cell_of at s r 0).x +ℤ pos i) (cell_of at s r 0).y ≡ cell_of at s r i
+pub along_cell : (at : Frame) (s r i : ℕ) → cell_at ((board_cell at s r 0).x +ℤ pos i) (board_cell at s r 0).y ≡ board_cell at s r i
 along_cell at s r i = same_cells _ _ _ _ (omega (arith, ints)) refl
 
 pub row-none : (at : Frame) (words : List ℕ) (r : ℕ) (old : List Cell) → HasReadRow at words r old 0 old
@@ -121,7 +121,7 @@ row-on at words r n m old new empty before = record {
   complete = λ s i near low bit. found s i near low bit (less_or_not s n);
 }
   where
-    found : (s i : ℕ) → s < m → i < 64 → bit_at (slice_index words (word_of at s r)) i ≡ 1 → (s < n) ⊎ (n ≤ s) → has new (cell_of at s r i) ≡ true
+    found : (s i : ℕ) → s < m → i < 64 → bit_at (slice_index words (word_of at s r)) i ≡ 1 → (s < n) ⊎ (n ≤ s) → has new (board_cell at s r i) ≡ true
     found s i near low bit (inl done) = before.complete s i done low bit
     found s i near low bit (inr past) = let none = empty s i past near low in absurd (omega (arith, none, bit))
 
@@ -133,7 +133,7 @@ row-empty at words band r n m low high empty s b past near small =
     ap (λ (q : ℕ). bit_at (slice_index words (word_of at s q)) b) (sym row) ∙ empty s past near (r - 8 * band) b (omega arith) small
 
 pub row-more : (at : Frame) (words : List ℕ) (s r word : ℕ) (first : Cell) (old new more : List Cell) → s < at.lanes → r < at.rows
-    → ((i : ℕ) → i < 64 → bit_at word i ≡ bit_at (slice_index words (word_of at s r)) i) → first ≡ cell_of at s r 0
+    → ((i : ℕ) → i < 64 → bit_at word i ≡ bit_at (slice_index words (word_of at s r)) i) → first ≡ board_cell at s r 0
     → HasReadRow at words r old s new → HasRead word first new 64 more → HasReadRow at words r old (s + 1) more
 row-more at words s r word first old new more hs hr word_is first_is before read = record {
   grows = λ d e. read.grows d (before.grows d e);
@@ -141,7 +141,7 @@ row-more at words s r word first old new more hs hr word_is first_is before read
   complete = λ k i near low bit. found k i near low bit (same_or_not k s);
 }
   where
-    cell : (i : ℕ) → cell_at (first.x +ℤ pos i) first.y ≡ cell_of at s r i
+    cell : (i : ℕ) → cell_at (first.x +ℤ pos i) first.y ≡ board_cell at s r i
     cell i = ap (λ (c : Cell). cell_at (c.x +ℤ pos i) c.y) first_is ∙ along_cell at s r i
 
     alive : (others : List Cell) → Shows at words others → (i : ℕ) → i < 64 → bit_at word i ≡ 1 → has others (cell_at (first.x +ℤ pos i) first.y) ≡ true
@@ -149,11 +149,11 @@ row-more at words s r word first old new more hs hr word_is first_is before read
         ap (λ (c : Cell). has others c) (cell i) ∙ shown s r i hs hr low
         ∙ ap (λ (n : ℕ). n == 1) (sym (word_is i low) ∙ bit)
 
-    found : (k i : ℕ) → k < s + 1 → i < 64 → bit_at (slice_index words (word_of at k r)) i ≡ 1 → (k ≡ s) ⊎ (k ≢ s) → has more (cell_of at k r i) ≡ true
+    found : (k i : ℕ) → k < s + 1 → i < 64 → bit_at (slice_index words (word_of at k r)) i ≡ 1 → (k ≡ s) ⊎ (k ≢ s) → has more (board_cell at k r i) ≡ true
     found k i near low bit (inl same) =
         let here : bit_at word i ≡ 1 = word_is i low ∙ ap (λ (n : ℕ). bit_at (slice_index words (word_of at n r)) i) (sym same) ∙ bit in
-        ap (λ (n : ℕ). has more (cell_of at n r i)) same ∙ ap (λ (c : Cell). has more c) (sym (cell i)) ∙ read.complete i low here
-    found k i near low bit (inr apart) = read.grows (cell_of at k r i) (before.complete k i (omega arith) low bit)
+        ap (λ (n : ℕ). has more (board_cell at n r i)) same ∙ ap (λ (c : Cell). has more c) (sym (cell i)) ∙ read.complete i low here
+    found k i near low bit (inr apart) = read.grows (board_cell at k r i) (before.complete k i (omega arith) low bit)
 
 -- ---- the board
 
@@ -165,11 +165,11 @@ rows-more at words r new more before read = record {
 }
   where
     found : (s k i : ℕ) → s < at.lanes → k < r + 1 → i < 64 → bit_at (slice_index words (word_of at s k)) i ≡ 1 → (k ≡ r) ⊎ (k ≢ r)
-        → has more (cell_of at s k i) ≡ true
+        → has more (board_cell at s k i) ≡ true
     found s k i hs near low bit (inl same) =
-        ap (λ (n : ℕ). has more (cell_of at s n i)) same
+        ap (λ (n : ℕ). has more (board_cell at s n i)) same
         ∙ read.complete s i hs low (ap (λ (n : ℕ). bit_at (slice_index words (word_of at s n)) i) (sym same) ∙ bit)
-    found s k i hs near low bit (inr apart) = read.grows (cell_of at s k i) (before.complete s k i hs (omega arith) low bit)
+    found s k i hs near low bit (inr apart) = read.grows (board_cell at s k i) (before.complete s k i hs (omega arith) low bit)
 
 pub rows-none : (at : Frame) (words : List ℕ) (cells : List Cell) → cells ≡ [] → HasReadRows at words 0 cells
 rows-none at words cells none = record {
@@ -186,7 +186,7 @@ rows-on at words band new empty before = record {
 }
   where
     found : (s r i : ℕ) → s < at.lanes → r < 8 * band + 8 → i < 64 → bit_at (slice_index words (word_of at s r)) i ≡ 1
-        → (r < 8 * band) ⊎ (8 * band ≤ r) → has new (cell_of at s r i) ≡ true
+        → (r < 8 * band) ⊎ (8 * band ≤ r) → has new (board_cell at s r i) ≡ true
     found s r i hs near low bit (inl done) = before.complete s r i hs done low bit
     found s r i hs near low bit (inr here) =
         let row : 8 * band + (r - 8 * band) ≡ r = omega arith in
@@ -292,6 +292,6 @@ read_all at words S new o fits shown read = sym (is_set_of S new o (λ c. both_t
         let is = spot_of at c a d p q in
         let hs : a / 64 < at.lanes = (spot_inside at c a d within p q).0 in
         let hr : d < at.rows = (spot_inside at c a d within p q).1 in
-        let alive : has S (cell_of at (a / 64) d (a % 64)) ≡ true = ap (λ (x : Cell). has S x) (sym is) ∙ e in
+        let alive : has S (board_cell at (a / 64) d (a % 64)) ≡ true = ap (λ (x : Cell). has S x) (sym is) ∙ e in
         let bit : (bit_at (slice_index words (word_of at (a / 64) d)) (a % 64) == 1) ≡ true = sym (shown (a / 64) d (a % 64) hs hr (omega arith)) ∙ alive in
         ap (λ (x : Cell). has new x) is ∙ read.complete (a / 64) d (a % 64) hs hr (omega arith) (eqb-true _ 1 bit)

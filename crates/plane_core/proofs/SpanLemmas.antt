@@ -14,7 +14,7 @@ use Rattle.plane_core.specs.declared.spans.Hull.{Hull}
 use Rattle.plane_core.specs.declared.spans.Span.{Span}
 use Rattle.plane_core.specs.Boxes.{IsStillOutside}
 use Rattle.plane_core.specs.Cells.{has}
-use Rattle.plane_core.specs.Frames.{Shows, cell_of, word_of}
+use Rattle.plane_core.specs.Frames.{Shows, board_cell, word_of}
 use Rattle.plane_core.specs.Generations.{after}
 use Rattle.plane_core.specs.OnBoard.{cells_on}
 use Rattle.plane_core.specs.Places.{IsInnerCell}
@@ -44,7 +44,7 @@ in_or_not span n = low (less_or_not n span.from)
 -- a cell that is put on the board lies in a row that is put in the span of its lane
 pub cell_held : (at : Frame) (spans : List Span) (c : Cell) (a d : ℕ) → pos a ≡ c.x -ℤ at.left → pos d ≡ c.y -ℤ at.top
     → ((r : ℕ) → d ≤ r → r < d + 1 → IsInSpan spans (a / 64) r) → LieInSpans at spans (c ∷ [])
-cell_held at spans c a d p q held s r i hs hr hi e = elim (has-cases c [] (cell_of at s r i) e) [
+cell_held at spans c a d p q held s r i hs hr hi e = elim (has-cases c [] (board_cell at s r i) e) [
   | inr none ↦ absurd (false≢true none)
   | inl same ↦
       let is = one_spot at s r i (a / 64) d (a % 64) hi (omega arith) (same ∙ spot_of at c a d p q) in
@@ -62,7 +62,7 @@ held_more at old new cs k d low wide before here s r i hs hr hi e =
     ]
   where
     c : Cell
-    c = cell_of at s r i
+    c = board_cell at s r i
 
 -- the inner part of a window lies in two lanes
 pub inner_held : (at : Frame) (p : Place) (x y : ℕ) (mid new : List Span) → p.left ≡ at.left +ℤ pos x → p.top ≡ at.top +ℤ pos y
@@ -90,7 +90,7 @@ pub places_more : (at : Frame) (old new : List Span) (places : List Place) (done
     → (k : ℕ) (p : Place) → k < done + 1 → HoldInner at new (slice_index_or places k p)
 places_more at old new places done d low wide before here k p near s r i hs hr hi inner = elim (same_or_not k done) [
   | inl same ↦
-      here s r i hs hr hi (subst (λ (q : Place). IsInnerCell q (cell_of at s r i))
+      here s r i hs hr hi (subst (λ (q : Place). IsInnerCell q (board_cell at s r i))
       (ap (λ (m : ℕ). slice_index_or places m p) same ∙ get_or_default places done p d low) inner)
   | inr apart ↦ wide s r (before k p (omega (arith, near, apart)) s r i hs hr hi inner)
 ]
@@ -104,7 +104,7 @@ spans_after rule at places S n old new live wide covered still s r i hs hr hi e 
   | inl inside ↦ inside
   | inr outside ↦
       absurd (outside (wide s r (live s r i hs hr hi
-      (sym (still (cell_of at s r i) (λ under. outside (covered s r i hs hr hi under))) ∙ e))))
+      (sym (still (board_cell at s r i) (λ under. outside (covered s r i hs hr hi under))) ∙ e))))
 ]
 
 -- ---- the hull
@@ -153,7 +153,7 @@ row_zeroed at old lane from row i is low before r past near = elim (same_or_not 
 
 -- a bit of a board that is 1 is a live cell
 pub live_bit : (at : Frame) (words : List ℕ) (s r i : ℕ) → s < at.lanes → r < at.rows → i < 64 → bit_at (slice_index words (word_of at s r)) i ≡ 1
-    → has (cells_on at words) (cell_of at s r i) ≡ true
+    → has (cells_on at words) (board_cell at s r i) ≡ true
 live_bit at words s r i hs hr hi one = shows_cells at words s r i hs hr hi ∙ ap (λ (n : ℕ). n == 1) one
 
 -- outside of the spans all is dead
@@ -205,7 +205,7 @@ pub empty_spans : (at : Frame) (words : List ℕ) (spans : List Span) → cells_
     → AreSpans at (cells_on at words) spans
 empty_spans at words spans none long = record {
   lanes = long;
-  live = λ s r i hs hr hi e. absurd (false≢true (sym (ap (λ (S : List Cell). has S (cell_of at s r i)) none) ∙ e));
+  live = λ s r i hs hr hi e. absurd (false≢true (sym (ap (λ (S : List Cell). has S (board_cell at s r i)) none) ∙ e));
 }
 
 pub zero_spans : (at : Frame) (words : List ℕ) (spans : List Span) → ((i : ℕ) → slice_index words i ≡ 0) → length spans ≡ at.lanes

@@ -8,8 +8,8 @@ use Rattle.plane_core.specs.Bounds.{AreSidesWithin, IsWithin}
 use Rattle.plane_core.specs.Cells.{cell_at, distance, has, plane_bound}
 
 -- the cell that bit i of row r of lane s is
-abbrev pub cell_of : Frame → ℕ → ℕ → ℕ → Cell
-cell_of at s r i = cell_at (at.left +ℤ pos (64 * s + i)) (at.top +ℤ pos r)
+abbrev pub board_cell : Frame → ℕ → ℕ → ℕ → Cell
+board_cell at s r i = cell_at (at.left +ℤ pos (64 * s + i)) (at.top +ℤ pos r)
 
 -- that row's place in the list of words
 abbrev pub word_of : Frame → ℕ → ℕ → ℕ
@@ -18,7 +18,7 @@ word_of at s r = s * at.rows + r
 -- on the board, the bits that are 1 are the cells of the list
 abbrev pub Shows : Frame → List ℕ → List Cell → Type 0
 Shows at words cells = (s r i : ℕ) → s < at.lanes → r < at.rows → i < 64
-    → has cells (cell_of at s r i) ≡ (bit_at (slice_index words (word_of at s r)) i == 1)
+    → has cells (board_cell at s r i) ≡ (bit_at (slice_index words (word_of at s r)) i == 1)
 
 -- a frame round cells of the plane
 pub record IsFrame (at : Frame) : Type 0 where

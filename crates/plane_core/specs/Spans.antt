@@ -6,7 +6,7 @@ use Rattle.plane_core.specs.declared.place.Place.{Place}
 use Rattle.plane_core.specs.declared.spans.Hull.{Hull}
 use Rattle.plane_core.specs.declared.spans.Span.{Span}
 use Rattle.plane_core.specs.Cells.{has}
-use Rattle.plane_core.specs.Frames.{cell_of}
+use Rattle.plane_core.specs.Frames.{board_cell}
 use Rattle.plane_core.specs.Places.{IsCovered, IsInnerCell}
 
 -- the number lies in the span
@@ -24,15 +24,15 @@ IsInSpan spans s r = IsIn (span_of spans s) r
 
 -- each live cell of the board lies in the span of its lane
 abbrev pub LieInSpans : Frame → List Span → List Cell → Type 0
-LieInSpans at spans cells = (s r i : ℕ) → s < at.lanes → r < at.rows → i < 64 → has cells (cell_of at s r i) ≡ true → IsInSpan spans s r
+LieInSpans at spans cells = (s r i : ℕ) → s < at.lanes → r < at.rows → i < 64 → has cells (board_cell at s r i) ≡ true → IsInSpan spans s r
 
 -- and so does each cell of the board in the inner part of a window
 abbrev pub HoldInner : Frame → List Span → Place → Type 0
-HoldInner at spans p = (s r i : ℕ) → s < at.lanes → r < at.rows → i < 64 → IsInnerCell p (cell_of at s r i) → IsInSpan spans s r
+HoldInner at spans p = (s r i : ℕ) → s < at.lanes → r < at.rows → i < 64 → IsInnerCell p (board_cell at s r i) → IsInSpan spans s r
 
 -- or in one of the inner parts of windows
 abbrev pub HoldCovered : Frame → List Span → List Place → Type 0
-HoldCovered at spans places = (s r i : ℕ) → s < at.lanes → r < at.rows → i < 64 → IsCovered places (cell_of at s r i) → IsInSpan spans s r
+HoldCovered at spans places = (s r i : ℕ) → s < at.lanes → r < at.rows → i < 64 → IsCovered places (board_cell at s r i) → IsInSpan spans s r
 
 -- what was in the old spans is in the new ones
 abbrev pub AreWidened : List Span → List Span → Type 0

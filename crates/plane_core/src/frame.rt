@@ -13,7 +13,7 @@ ghost use Rattle.std.specs.Prelude.{IfSome, IsTrue, OnSome};
 ghost use Rattle.std.specs.Prelude.{unsigned_abs};
 ghost use Rattle.plane_core.specs.Bounds.{IsWithin};
 ghost use Rattle.plane_core.specs.Cells.{plane_bound};
-ghost use Rattle.plane_core.specs.Frames.{HasRoom, IsFrame, LieOn, bounds_of, cell_of, word_of};
+ghost use Rattle.plane_core.specs.Frames.{HasRoom, IsFrame, LieOn, bounds_of, board_cell, word_of};
 ghost use Rattle.plane_core.specs.Generations.{lies_within};
 ghost use Rattle.plane_core.specs.Bounds.{AreSidesWithin};
 ghost use Rattle.plane_core.specs.declared.cell.Cell.{Cell};
@@ -204,7 +204,7 @@ impl Frame {
         requires frame { IsFrame self }
         requires lane { lane < self.lanes }
         requires row { row < self.rows }
-        ensures corner { result ≡ cell_of self lane row 0 }
+        ensures corner { result ≡ board_cell self lane row 0 }
         ensures small { unsigned_abs result.x ≤ 2 ^ 24 }
     {
         Cell {

@@ -32,7 +32,7 @@ pub enum StepError {
 
 /// The most generations on one board. Then the pattern is read back and a board is laid out anew, so that it is no
 /// wider than the pattern for long.
-const STRETCH: u32 = 128;
+const STRETCH: u32 = 256;
 
 /// The most cuts that lead to a part of a pattern. Each is near the middle, so there may be very many parts.
 const CUTS: u32 = 40;

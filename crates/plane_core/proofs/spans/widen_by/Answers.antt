@@ -1,6 +1,6 @@
 use Rattle.std.proofs.Common.{◌∙◌, arith, pos, refl, subst, sym}
 use Rattle.plane_core.specs.declared.place.Place.{Place}
-use Rattle.plane_core.specs.Frames.{cell_of}
+use Rattle.plane_core.specs.Frames.{board_cell}
 use Rattle.plane_core.specs.Places.{IsInnerCell}
 use Rattle.plane_core.proofs.SpanLemmas.{places_more}
 use Rattle.plane_core.proofs.spans.widen_by.Goals as goal
@@ -21,4 +21,4 @@ loop-place-preserved c =
 pub returns-clause-covered : goal.returns-clause-covered
 returns-clause-covered c = λ s r i hs hr hi (k, p, low, is, inner).
     c.loop-place.invariant.covered k p (omega (arith, low)) s r i hs hr hi
-    (subst (λ (q : Place). IsInnerCell q (cell_of c.args.at s r i)) (sym is) inner)
+    (subst (λ (q : Place). IsInnerCell q (board_cell c.args.at s r i)) (sym is) inner)
