@@ -48,7 +48,7 @@ const ROOM: usize = 128;
 
 /// A pattern on a board under a rule.
 #[derive(Drop)]
-pub(crate) struct Board {
+pub struct Board {
     at: Frame,
     answers: AnyRule,
     is_life: bool,
@@ -89,7 +89,7 @@ impl Board {
     /// # Errors
     ///
     /// `AllocError` if memory runs out.
-    pub(crate) fn new(alloc: Global, rule: &Rule) -> Result<Board, AllocError>
+    pub fn new(alloc: Global, rule: &Rule) -> Result<Board, AllocError>
         ensures rule { IfOk result (λ board. board.rule ≡ rule.now) }
         ensures cells { IfOk result (λ board. board.cells ≡ []) }
     {
@@ -143,7 +143,7 @@ impl Board {
     /// # Errors
     ///
     /// `AllocError` if memory runs out. Then the board shows nothing that is known.
-    pub(crate) fn show(&mut self, rule: &Rule, pattern: &Pattern) -> Result<bool, AllocError>
+    pub fn show(&mut self, rule: &Rule, pattern: &Pattern) -> Result<bool, AllocError>
         ensures rule { self.new.rule ≡ rule.now }
         ensures shown { IfOk result (λ shown. shown ≡ true → self.new.cells ≡ pattern.now) }
         ensures none { IfOk result (λ shown. shown ≡ false → self.new.cells ≡ []) }
@@ -218,7 +218,7 @@ impl Board {
     /// # Errors
     ///
     /// `AllocError` if memory runs out. Then the board shows nothing that is known.
-    pub(crate) fn advance(&mut self, most: u32) -> Result<u32, AllocError>
+    pub fn advance(&mut self, most: u32) -> Result<u32, AllocError>
         ensures rule { self.new.rule ≡ self.old.rule }
         ensures most { IfOk result (λ made. made ≤ most) }
         ensures after { IfOk result (λ made. self.new.cells ≡ after self.old.rule self.old.cells made) }
@@ -329,7 +329,7 @@ impl Board {
     /// # Errors
     ///
     /// `AllocError` if memory runs out.
-    pub(crate) fn pattern(&self, alloc: Global) -> Result<Pattern, AllocError>
+    pub fn pattern(&self, alloc: Global) -> Result<Pattern, AllocError>
         ensures { IfOk result (λ pattern. pattern ≡ self.now.cells) }
     {
         let cells = self.cells(alloc, ROOM)?;

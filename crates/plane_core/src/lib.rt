@@ -5,7 +5,8 @@
 #![tactic(auto)]
 
 mod answers;
-mod board;
+/// A pattern on a board, which goes on by leaps.
+pub mod board;
 /// The least box round a pattern.
 pub mod bounds;
 mod boxes;

@@ -1,6 +1,6 @@
 use Rattle.std.proofs.Common.{◌≡◌, ◌∙◌, ◌*◌, ℕ, List, ap, length, slice_index, true}
 use Rattle.std.proofs.lemmas.List.{length-replicate}
-use Rattle.plane_core.proofs.CaseLemmas.{blank_board}
+use Rattle.plane_core.proofs.BoardLemmas.{blank_board}
 use Rattle.plane_core.proofs.FillLemmas.{zeros}
 use Rattle.plane_core.proofs.SpanLemmas.{no_cells, zero_spans}
 use Rattle.plane_core.proofs.board.Board.blank.Goals as goal

@@ -5,7 +5,7 @@ use Rattle.plane_core.specs.Cells.{InOrder, IsPattern}
 use Rattle.plane_core.specs.Frames.{LieOn, Shows}
 use Rattle.plane_core.specs.Boards.{Running}
 use Rattle.plane_core.specs.OnBoard.{cells_on}
-use Rattle.plane_core.proofs.CaseLemmas.{board_pattern}
+use Rattle.plane_core.proofs.BoardLemmas.{board_pattern}
 use Rattle.plane_core.proofs.OnBoardLemmas.{cells_in_order, cells_lie_on, shows_cells}
 use Rattle.plane_core.proofs.board.Board.cells.Goals as goal
 

@@ -1,6 +1,6 @@
 use Rattle.std.proofs.Common.{◌≡◌, ◌∙◌, ap, arith, length}
 use Rattle.std.proofs.lemmas.List.{with_items_is}
-use Rattle.plane_core.proofs.CaseLemmas.{blank_board}
+use Rattle.plane_core.proofs.BoardLemmas.{blank_board}
 use Rattle.plane_core.proofs.SpanLemmas.{empty_spans}
 use Rattle.plane_core.proofs.board.Board.clear.Goals as goal
 

@@ -5,7 +5,7 @@ use Rattle.plane_core.specs.Boards.{Running}
 use Rattle.plane_core.specs.Boxes.{HoldAll}
 use Rattle.plane_core.specs.Spans.{LieInSpans}
 use Rattle.plane_core.proofs.AdvanceLemmas.{box_sides, laid_board}
-use Rattle.plane_core.proofs.CaseLemmas.{blank_board, moved_empty}
+use Rattle.plane_core.proofs.BoardLemmas.{blank_board, moved_empty}
 use Rattle.plane_core.proofs.OnBoardLemmas.{only_cells}
 use Rattle.plane_core.proofs.board.Board.place.Goals as goal
 
