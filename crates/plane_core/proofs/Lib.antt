@@ -13,6 +13,7 @@ pub mod CommuteLemmas
 pub mod CoverLemmas
 pub mod DifferenceLemmas
 pub mod FillLemmas
+pub mod FloodLemmas
 pub mod ForestLemmas
 pub mod FrameLemmas
 pub mod FrontierLemmas

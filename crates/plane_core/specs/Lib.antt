@@ -5,6 +5,7 @@ pub mod Cells
 pub mod Clusters
 pub mod Covers
 pub mod Differences
+pub mod Floods
 pub mod Forest
 pub mod Frames
 pub mod Frontiers

@@ -18,6 +18,7 @@ pub mod clusters;
 pub mod coordinate;
 mod cover;
 mod difference;
+mod flood;
 mod forest;
 mod frame;
 /// How fast patterns grow in diagonal directions.
