@@ -44,6 +44,7 @@ pub mod PlaintextSmall
 pub mod PlaintextWalks
 pub mod PlaintextWriting
 pub mod QuietLemmas
+pub mod RefusingLemmas
 pub mod RuleLemmas
 pub mod RuleNumbers
 pub mod RuleReading
@@ -52,6 +53,7 @@ pub mod SearchLemmas
 pub mod SetLemmas
 pub mod ShiftLemmas
 pub mod SpeedLemmas
+pub mod StrayLemmas
 pub mod TallyLemmas
 pub mod TurnLemmas
 pub mod WindowLemmas

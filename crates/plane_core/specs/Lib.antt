@@ -27,6 +27,7 @@ pub mod Plaintext
 pub mod PlaintextPlaces
 pub mod PlaintextWalk
 pub mod Refusals
+pub mod Refusing
 pub mod Rules
 pub mod Tallies
 pub mod Windows

@@ -25,8 +25,6 @@ const ROUNDS: usize = 64;
 /// Grows the cluster of the cell in a row and a column, which replaces `flood`. Returns whether it is all there, and
 /// lies well inside the window; `false` says nothing.
 pub(crate) fn flood(rows: &[u64; 64], flood: &mut [u64; 64], row: usize, column: u32) -> bool
-    requires row { row < 64 }
-    requires column { column < 64 }
     ensures { IsTrue result → IsFlooded rows.now flood.new row column }
 {
     if !may_begin(rows, row, column) {
@@ -48,8 +46,6 @@ pub(crate) fn flood(rows: &[u64; 64], flood: &mut [u64; 64], row: usize, column:
 
 /// Whether there is a cell, and it lies well inside.
 fn may_begin(rows: &[u64; 64], row: usize, column: u32) -> bool
-    requires row { row < 64 }
-    requires column { column < 64 }
     ensures place { IsTrue result → IsWellInside row column }
     ensures alive { IsTrue result → bit_in rows.now row column ≡ 1 }
 {

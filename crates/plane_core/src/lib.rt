@@ -18,6 +18,7 @@ pub mod clusters;
 pub mod coordinate;
 mod cover;
 mod difference;
+mod early_no;
 mod flood;
 mod forest;
 mod frame;
@@ -47,9 +48,11 @@ mod placed;
 pub mod placement;
 /// Plaintext pattern files.
 pub mod plaintext;
+mod refusing;
 /// Rules by birth and survival numbers.
 pub mod rule;
 /// The shift from one pattern to another.
 pub mod shift_to;
+mod stray;
 mod tally;
 mod window;
