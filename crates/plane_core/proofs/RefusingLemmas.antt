@@ -2,15 +2,14 @@
 use Rattle.std.proofs.Common.{◌≡◌, ◌≢◌, ◌==◌, ◌&&◌, ◌+◌, ◌*◌, ◌/◌, ◌%◌, ◌<◌, ◌≤◌, ◌⊎◌, ℕ, ℤ, ◌+ℤ◌, ◌-ℤ◌, pos, unsigned_abs, Bool, true, false}
 use Rattle.std.proofs.Common.{List, [], ◌∷◌, filter, get_or, slice_index, ap, ◌∙◌, sym, subst, refl, arith, inl, inr}
 use Rattle.std.specs.Int.{bit_at}
-use Rattle.std.specs.Cmp.{both_ways as both_true}
 use Rattle.std.proofs.lemmas.Bool.{and_parts, eqb-true}
 use Rattle.std.proofs.lemmas.Int.{ints}
 use Rattle.plane_core.specs.declared.cell.Cell.{Cell}
-use Rattle.plane_core.specs.Cells.{InOrder, cell_at, distance, has, king_distance, same_cell}
+use Rattle.plane_core.specs.Cells.{InOrder, cell_at, distance, has, same_cell}
 use Rattle.plane_core.specs.Clusters.{IsCluster, Leads, Linked}
 use Rattle.plane_core.specs.Floods.{AreNear, IsFlooded, ShowsInRows, bit_in}
 use Rattle.plane_core.specs.LonePatterns.{HasChanged, Holds, IsInWindow}
-use Rattle.plane_core.specs.Refusing.{HoldsCluster, IsAlone, RefusesAll, ShowsStray}
+use Rattle.plane_core.specs.Refusing.{HoldsCluster, RefusesAll, ShowsStray}
 use Rattle.plane_core.specs.Rules.{Numbers}
 use Rattle.plane_core.specs.Windows.{IsShownInside, lane_at, row_at}
 use Rattle.plane_core.proofs.CaseLemmas.{same_or_not}

@@ -1,5 +1,5 @@
 -- A cluster alone beside the whole, generation after generation.
-use Rattle.std.proofs.Common.{◌≡◌, ◌==◌, ◌+◌, ◌<◌, ◌≤◌, ℕ, ℤ, ◌+ℤ◌, pos, List, ap, ◌∙◌, arith}
+use Rattle.std.proofs.Common.{◌==◌, ◌+◌, ◌≤◌, ℕ, ◌+ℤ◌, pos, List, ap, ◌∙◌}
 use Rattle.plane_core.specs.Cells.{cell_at}
 use Rattle.plane_core.specs.Refusing.{HasStray, ShowsStray}
 use Rattle.plane_core.specs.Rules.{Numbers}

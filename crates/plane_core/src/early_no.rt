@@ -119,7 +119,14 @@ fn refuses_in<A: Answering>(words: &[u64], at: Frame, bounds: Bounds, rule: &A, 
 }
 
 /// Reads the window that begins in column x and row y of the board, and tries it.
-fn refuses_at<A: Answering>(words: &[u64], at: Frame, x: usize, y: usize, rule: &A, look: Look) -> bool
+fn refuses_at<A: Answering>(
+    words: &[u64],
+    at: Frame,
+    x: usize,
+    y: usize,
+    rule: &A,
+    look: Look,
+) -> bool
     requires long { FillsFrame at words.now }
     requires lanes { x / 64 + 1 < at.lanes }
     requires rows { y + 64 ≤ at.rows }
@@ -145,5 +152,9 @@ fn first_of(from: i32, to: i32, start: i32) -> Option<usize> {
         return None;
     }
     let twice = from.abs_diff(start) as usize + to.abs_diff(start) as usize;
-    if twice < 64 { None } else { Some((twice - 64) / 2) }
+    if twice < 64 {
+        None
+    } else {
+        Some((twice - 64) / 2)
+    }
 }

@@ -1,4 +1,4 @@
-use Rattle.std.proofs.Common.{arith, refl, replicate}
+use Rattle.std.proofs.Common.{replicate}
 use Rattle.plane_core.proofs.FloodLemmas.{begun_only, begun_start, none_lit}
 use Rattle.plane_core.proofs.flood.begun.Goals as goal
 

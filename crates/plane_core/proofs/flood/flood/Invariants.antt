@@ -1,4 +1,4 @@
-use Rattle.std.proofs.Common.{◌<◌, ◌≤◌, ℕ}
+use Rattle.std.proofs.Common.{◌<◌, ◌≤◌}
 use Rattle.plane_core.specs.Floods.{HasGrown}
 use Rattle.plane_core.proofs.flood.flood.Given as goal
 

@@ -1,5 +1,4 @@
-use Rattle.std.proofs.Common.{◌≡◌, ◌⊎◌, inl, inr, bit_and}
-use Rattle.std.specs.Int.{bit_at}
+use Rattle.std.proofs.Common.{inl, inr, bit_and}
 use Rattle.plane_core.proofs.FloodLemmas.{and_one, in_mask, near_twice, one_or, or_one}
 use Rattle.plane_core.proofs.flood.grown.Goals as goal
 

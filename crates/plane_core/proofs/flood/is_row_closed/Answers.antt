@@ -1,4 +1,4 @@
-use Rattle.std.proofs.Common.{ℕ, ap, ◌∙◌, arith, bit_and, slice_index, sym}
+use Rattle.std.proofs.Common.{ℕ, ap, ◌∙◌, arith, slice_index}
 use Rattle.std.specs.Int.{bit_at}
 use Rattle.std.proofs.lemmas.Bool.{eqb-true}
 use Rattle.plane_core.proofs.FloodLemmas.{and_one, below_64, between, one_and}

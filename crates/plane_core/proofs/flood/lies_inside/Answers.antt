@@ -1,4 +1,4 @@
-use Rattle.std.proofs.Common.{◌<◌, arith, below_more, subst, ℕ}
+use Rattle.std.proofs.Common.{arith, below_more}
 use Rattle.plane_core.proofs.FloodLemmas.{rows_inside}
 use Rattle.plane_core.proofs.flood.lies_inside.Goals as goal
 
