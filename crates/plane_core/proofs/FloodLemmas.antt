@@ -1,6 +1,6 @@
 -- Bits of words, and how a flood grows.
-use Rattle.std.proofs.Common.{◌==◌, ◌+ℤ◌, pos}
-use Rattle.std.proofs.Common.{◌≡◌, ◌≢◌, ◌+◌, ◌-◌, ◌*◌, ◌/◌, ◌%◌, ◌^◌, ◌<◌, ◌≤◌, ℕ, ℤ, List, ◌⊎◌, inl, inr, length, slice_index}
+use Rattle.std.proofs.Common.{◌==◌, ◌+ℤ◌, pos, ◌⊎◌, inl, inr, length, slice_index}
+use Rattle.std.proofs.Common.{◌≡◌, ◌≢◌, ◌+◌, ◌-◌, ◌*◌, ◌/◌, ◌%◌, ◌^◌, ◌<◌, ◌≤◌, ℕ, ℤ, List}
 use Rattle.std.proofs.Common.{arith, refl, ap, ◌∙◌, sym, subst, bit_and, bit_or, slice_set, replicate}
 use Rattle.std.specs.Int.{bit_at}
 use Rattle.std.proofs.lemmas.List.{get_or-replicate, get_or-set_same, get_or-set_other, get_or_past}
@@ -175,7 +175,8 @@ begun_only flood row column in_it low none r i one = rows_same (same_or_not r ro
     columns_same : (r ≡ row) → (i ≡ column) ⊎ (i ≢ column) → (r ≡ row) × (i ≡ column)
     columns_same e (inl f) = (e, f)
     columns_same e (inr apart) = absurd (
-        let a : bit_at new i ≡ 1 = ap (λ (w : ℕ). bit_at w i) (sym (get_or-set_same flood row new 0 in_it) ∙ ap (λ (q : ℕ). slice_index (slice_set flood row new) q) (sym e)) ∙ one in
+        let a : bit_at new i ≡ 1 = ap (λ (w : ℕ). bit_at w i)
+        (sym (get_or-set_same flood row new 0 in_it) ∙ ap (λ (q : ℕ). slice_index (slice_set flood row new) q) (sym e)) ∙ one in
         let b : bit_at new i ≡ 0 = ap (λ (w : ℕ). bit_at w i) (power column low) ∙ bit_at-pow_other column i apart in
         omega arith)
 

@@ -68,7 +68,8 @@ seen_flooded : (flood : List ℕ) (left top : ℤ) (i r : ℕ) → is_flooded fl
 unfolding is_flooded
 seen_flooded flood left top i r =
     let c = in_window left top i r in
-    (λ t. same_cell c (in_window left top (column_seen left top i r t) (row_seen left top i r t)) && (bit_in flood (row_seen left top i r t) (column_seen left top i r t) == 1))
+    (λ t. same_cell c (in_window left top (column_seen left top i r t) (row_seen left top i r t))
+    && (bit_in flood (row_seen left top i r t) (column_seen left top i r t) == 1))
     ∙ ap (λ (b : Bool). b && (bit_in flood r i == 1)) (same_cell-itself c)
 
 -- a cell that is in the flood

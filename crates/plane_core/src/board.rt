@@ -22,14 +22,14 @@ ghost use Rattle.plane_core.specs.Generations.{after};
 ghost use Rattle.plane_core.specs.Bounds.{AreSidesWithin};
 ghost use Rattle.plane_core.specs.Boards.{AreRightFor, HasGoneOn};
 ghost use Rattle.plane_core.specs.OnBoard.{cells_on};
-ghost use Rattle.plane_core.specs.Refusing.{IsRefused};
 ghost use Rattle.plane_core.specs.Words.{life};
+
+mod early_no;
 
 use crate::answers::{AnyRule, Answering, Life, is_life};
 use crate::bounds::Bounds;
 use crate::cell::Cell;
 use crate::change::Change;
-use crate::early_no::{Look, refuses_near};
 use crate::frame::Frame;
 use crate::listing::list;
 use crate::loading::fill;
@@ -205,28 +205,6 @@ impl Board {
         ensures { IfOk result (λ cells. cells.items ≡ self.now.cells) }
     {
         list(alloc, self.at, self.words.as_slice(), room)
-    }
-}
-
-impl Board {
-    /// Whether it is seen that so many generations ahead, at most 1, the pattern is not at rest: one of its clusters strays
-    /// from it within the horizon, or is never itself again within the period. `false` says nothing.
-    pub(crate) fn refuses(&self, ahead: u32, horizon: u32, period: u32) -> bool
-        requires { ahead ≤ 1 }
-        ensures { IsTrue result
-            → IsRefused self.now.rule (after self.now.rule self.now.cells ahead) horizon period }
-    {
-        let look = Look {
-            ahead,
-            horizon,
-            period,
-        };
-        let words = self.words.as_slice();
-        let boxes = self.boxes.as_slice();
-        if self.is_life {
-            return refuses_near(words, self.at, boxes, &Life, look);
-        }
-        refuses_near(words, self.at, boxes, &self.answers, look)
     }
 }
 

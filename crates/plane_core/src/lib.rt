@@ -18,7 +18,6 @@ pub mod clusters;
 pub mod coordinate;
 mod cover;
 mod difference;
-mod early_no;
 mod flood;
 mod forest;
 mod frame;

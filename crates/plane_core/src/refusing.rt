@@ -1,9 +1,9 @@
 //! Whether a window shows a pattern that isn't at rest, told by one cluster:
 //!
 //! ```text
-//! . . . . . . . .      The window has a piece of the pattern. A cell that changes within two generations is looked for,
-//! . O O . . . S .      and its cluster is grown from it. Alone, that cluster may stray from what the whole does, or
-//! . O O . . S S .      never be itself again. Then the pattern hasn't fallen into objects at rest.
+//! . . . . . . . .      The window has a piece of the pattern. A cell that changes within two generations is looked
+//! . O O . . . S .      for, and its cluster is grown from it. Alone, that cluster may stray from what the whole does,
+//! . O O . . S S .      or never be itself again. Then the pattern hasn't fallen into objects at rest.
 //! . . . . . . S .
 //! ```
 //!

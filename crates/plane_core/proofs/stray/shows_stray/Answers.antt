@@ -16,6 +16,7 @@ returns-then-has_stray g c = λ _.
     let deep : c.args.depth + 1 + c.loop-made.made ≡ c.args.depth + (c.loop-made.made + 1) = omega arith in
     let found = subst (λ (d : ℕ). HasStray 16 c.generation.new.window c.generation-in-loop-made.new.window d) deep (c.has_stray.ensures c.if-has_stray.true) in
     let more = made_more (g.A.Answering.rule c.args.rule.now) 16 c.args.whole.now c.args.alone.now c.loop-made.whole c.loop-made.alone
-    c.generation.new.window c.generation-in-loop-made.new.window c.loop-made.made c.loop-made.invariant c.generation.ensures c.generation-in-loop-made.ensures in
-    stray_seen (g.A.Answering.rule c.args.rule.now) 16 c.args.whole.now c.args.alone.now c.generation.new.window c.generation-in-loop-made.new.window c.args.depth
-    (c.loop-made.made + 1) c.args.most more (omega arith) found
+    c.generation.new.window c.generation-in-loop-made.new.window c.loop-made.made c.loop-made.invariant
+    c.generation.ensures c.generation-in-loop-made.ensures in
+    stray_seen (g.A.Answering.rule c.args.rule.now) 16 c.args.whole.now c.args.alone.now c.generation.new.window
+    c.generation-in-loop-made.new.window c.args.depth (c.loop-made.made + 1) c.args.most more (omega arith) found

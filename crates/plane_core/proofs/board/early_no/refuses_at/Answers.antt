@@ -4,7 +4,7 @@ use Rattle.plane_core.proofs.LeapLemmas.{shown_read}
 use Rattle.plane_core.proofs.OnBoardLemmas.{cells_in_order, shows_cells}
 use Rattle.plane_core.specs.Generations.{after}
 use Rattle.plane_core.proofs.RunLemmas.{in_order-after}
-use Rattle.plane_core.proofs.early_no.refuses_at.Goals as goal
+use Rattle.plane_core.proofs.board.early_no.refuses_at.Goals as goal
 
 pub returns : goal.returns
 returns g c = λ e.

@@ -22,7 +22,8 @@ ghost use Rattle.plane_core.specs.Generations.{after};
 ghost use Rattle.plane_core.specs.OnBoard.{cells_on};
 ghost use Rattle.plane_core.specs.Refusing.{IsRefused};
 
-use crate::answers::Answering;
+use crate::answers::{Answering, Life};
+use crate::board::Board;
 use crate::bounds::Bounds;
 use crate::frame::Frame;
 use crate::placed::read;
@@ -36,17 +37,39 @@ const TRIES: u32 = 4;
 /// How many columns and rows the box of what changes in a small oscillator has at most.
 const SMALL: u32 = 6;
 
-/// What is asked: of the pattern so many generations ahead, at most 1, whether a cluster strays within the horizon, or is
-/// never itself again within the period.
+/// What is asked of the pattern so many generations ahead, at most 1: whether a cluster strays within the horizon, or
+/// is never itself again within the period.
 #[derive(Clone, Copy)]
-pub(crate) struct Look {
-    pub(crate) ahead: u32,
-    pub(crate) horizon: u32,
-    pub(crate) period: u32,
+struct Look {
+    ahead: u32,
+    horizon: u32,
+    period: u32,
+}
+
+impl Board {
+    /// Whether it is seen that so many generations ahead, at most 1, the pattern is not at rest: one of its clusters
+    /// strays from it within the horizon, or is never itself again within the period. `false` says nothing.
+    pub fn refuses(&self, ahead: u32, horizon: u32, period: u32) -> bool
+        requires { ahead ≤ 1 }
+        ensures { IsTrue result
+            → IsRefused self.now.rule (after self.now.rule self.now.cells ahead) horizon period }
+    {
+        let look = Look {
+            ahead,
+            horizon,
+            period,
+        };
+        let words = self.words.as_slice();
+        let boxes = self.boxes.as_slice();
+        if self.is_life {
+            return refuses_near(words, self.at, boxes, &Life, look);
+        }
+        refuses_near(words, self.at, boxes, &self.answers, look)
+    }
 }
 
 /// Whether it is seen that the board's pattern, as it is asked for, is refused. `false` says nothing.
-pub(crate) fn refuses_near<A: Answering>(
+fn refuses_near<A: Answering>(
     words: &[u64],
     at: Frame,
     boxes: &[Bounds],
@@ -55,8 +78,8 @@ pub(crate) fn refuses_near<A: Answering>(
 ) -> bool
     requires long { FillsFrame at words.now }
     requires ahead { look.ahead ≤ 1 }
-    ensures { IsTrue result
-        → IsRefused (A.rule rule.now) (after (A.rule rule.now) (cells_on at words.now) look.ahead) look.horizon look.period }
+    ensures { IsTrue result → IsRefused (A.rule rule.now)
+        (after (A.rule rule.now) (cells_on at words.now) look.ahead) look.horizon look.period }
 {
     let mut tries = TRIES;
     if refuses_by(words, at, boxes, rule, look, true, &mut tries) {
@@ -77,8 +100,8 @@ fn refuses_by<A: Answering>(
 ) -> bool
     requires long { FillsFrame at words.now }
     requires ahead { look.ahead ≤ 1 }
-    ensures { IsTrue result
-        → IsRefused (A.rule rule.now) (after (A.rule rule.now) (cells_on at words.now) look.ahead) look.horizon look.period }
+    ensures { IsTrue result → IsRefused (A.rule rule.now)
+        (after (A.rule rule.now) (cells_on at words.now) look.ahead) look.horizon look.period }
 {
     for bounds in boxes {
         if *tries == 0 {
@@ -103,8 +126,8 @@ fn is_large(bounds: Bounds) -> bool {
 fn refuses_in<A: Answering>(words: &[u64], at: Frame, bounds: Bounds, rule: &A, look: Look) -> bool
     requires long { FillsFrame at words.now }
     requires ahead { look.ahead ≤ 1 }
-    ensures { IsTrue result
-        → IsRefused (A.rule rule.now) (after (A.rule rule.now) (cells_on at words.now) look.ahead) look.horizon look.period }
+    ensures { IsTrue result → IsRefused (A.rule rule.now)
+        (after (A.rule rule.now) (cells_on at words.now) look.ahead) look.horizon look.period }
 {
     let Some(x) = first_of(bounds.left, bounds.right, at.left) else {
         return false;
@@ -131,8 +154,8 @@ fn refuses_at<A: Answering>(
     requires lanes { x / 64 + 1 < at.lanes }
     requires rows { y + 64 ≤ at.rows }
     requires ahead { look.ahead ≤ 1 }
-    ensures { IsTrue result
-        → IsRefused (A.rule rule.now) (after (A.rule rule.now) (cells_on at words.now) look.ahead) look.horizon look.period }
+    ensures { IsTrue result → IsRefused (A.rule rule.now)
+        (after (A.rule rule.now) (cells_on at words.now) look.ahead) look.horizon look.period }
 {
     let mut window = [u64x4::splat(0); 16];
     read(words, at, x, y, &mut window);
