@@ -6,7 +6,6 @@ mod ForGoodLemmas
 mod GroupingLemmas
 mod ImageLemmas
 mod MemoLemmas
-mod NearbyLemmas
 mod ObjectLemmas
 mod PartitionLemmas
 mod PlacedFindings
@@ -19,3 +18,4 @@ pub mod CourseLemmas
 pub mod GroupLemmas
 pub mod JobLemmas
 pub mod PlaneLemmas
+pub mod RefusedLemmas

@@ -5,7 +5,6 @@ pub mod Grouping
 pub mod Groups
 pub mod Jobs
 pub mod Memos
-pub mod Nearby
 pub mod Objects
 pub mod Profiles
 pub mod Rest

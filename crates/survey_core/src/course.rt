@@ -12,11 +12,13 @@
 //!
 //! Where the board has no room for the next leap, the pattern goes on from that generation as a list.
 
-ghost use Rattle.std.specs.Prelude.{◌≡◌, ◌+◌, ◌<◌, ◌≤◌, ℕ, IfOk, true};
+ghost use Rattle.std.specs.Prelude.{◌≡◌, ◌+◌, ◌<◌, ◌≤◌, ℕ, IfOk, IsTrue, true};
 ghost use Rattle.plane_core.specs.Generations.{after, lies_within};
 ghost use Rattle.survey_core.specs.Courses.{IsKept, StaysNear, kept, survey_reach};
+ghost use Rattle.survey_core.specs.Rest.{IsAtRest};
 
 use crate::memo::Memo;
+use crate::profile::Profile;
 use plane_core::board::Board;
 use plane_core::generation::StepError;
 use plane_core::pattern::Pattern;
@@ -70,6 +72,18 @@ impl Course {
         match &self.place {
             Kept::Listed(pattern) => pattern.copy(alloc),
             Kept::Shown(board, ahead) => shown(alloc, &self.rule, board, *ahead),
+        }
+    }
+
+    /// Whether the pattern is seen at a glance not to be at rest. `false` says nothing.
+    pub(crate) fn is_seen_to_move(&self, profile: &Profile) -> bool
+        ensures { IsTrue result → ¬ IsAtRest self.now.rule profile.now self.now.cells }
+    {
+        match &self.place {
+            Kept::Listed(_) => false,
+            Kept::Shown(board, ahead) => {
+                board.refuses(*ahead, profile.horizon(), profile.period())
+            }
         }
     }
 

@@ -160,11 +160,15 @@ fn look_at(
     course: &Course,
     memo: &mut Memo,
 ) -> Result<Option<Finding>, AllocError>
-    requires { lies_within survey_reach course.now.cells ≡ true }
+    requires rule { course.now.rule ≡ rule.now }
+    requires near { lies_within survey_reach course.now.cells ≡ true }
     ensures settled { IfOk result (λ found. IfSome found (SettlesAt rule.now profile.now course.now.cells checkpoint)) }
     ensures moves { IfOk result (λ found. IfNone found (¬ IsAtRest rule.now profile.now course.now.cells)) }
     ensures few { IfOk result (λ found. IfSome found (λ finding. objects_in finding < 2 ^ 64)) }
 {
+    if course.is_seen_to_move(profile) {
+        return Ok(None);
+    }
     let latest = course.look(alloc)?;
     finding_at(alloc, profile, rule, checkpoint, &latest, memo)
 }

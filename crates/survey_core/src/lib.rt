@@ -23,7 +23,5 @@ pub mod sweep;
 mod course;
 /// Groups of clusters that may meet.
 mod groups;
-/// An early no, from the clusters near a place.
-mod nearby;
 /// In which slot of a memo a pattern belongs.
 mod slot;

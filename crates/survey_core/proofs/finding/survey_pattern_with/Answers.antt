@@ -20,8 +20,8 @@ loop-place-init c = record {
   before = λ u check low rest. let e : 0 * c.args.profile.now.stride ≡ 0 = zero-mul c.args.profile.now.stride in absurd (omega arith);
 }
 
-pub look_at-requires : goal.look_at-requires
-look_at-requires c =
+pub look_at-requires-clause-near : goal.look_at-requires-clause-near
+look_at-requires-clause-near c =
     let low : c.loop-place.place ≤ c.args.profile.now.limit / c.args.profile.now.stride =
     subst (λ (n : ℕ). c.loop-place.place ≤ n) (λ i. c.limit.ensures.limit i / c.stride.ensures.stride i) (omega arith) in
     let check : IsCheckpoint c.args.profile.now (c.loop-place.place * c.args.profile.now.stride) =
@@ -31,8 +31,8 @@ look_at-requires c =
     ap (lies_within 101000) c.loop-place.invariant.latest
     ∙ within_later 1000 101000 c.args.rule.now c.args.pattern (c.loop-place.place * c.args.profile.now.stride) (omega arith) c.requires
 
-pub look_at-requires-2 : goal.look_at-requires-2
-look_at-requires-2 c =
+pub look_at-requires-2-clause-near : goal.look_at-requires-2-clause-near
+look_at-requires-2-clause-near c =
     let low : c.loop-place.place ≤ c.args.profile.now.limit / c.args.profile.now.stride =
     subst (λ (n : ℕ). c.loop-place.place ≤ n) (λ i. c.limit.ensures.limit i / c.stride.ensures.stride i) (omega arith) in
     let check : IsCheckpoint c.args.profile.now (c.loop-place.place * c.args.profile.now.stride) =
