@@ -1,10 +1,10 @@
 -- Bits of words, and how a flood grows.
 use Rattle.std.proofs.Common.{◌==◌, ◌+ℤ◌, pos, ◌⊎◌, inl, inr, length, slice_index}
 use Rattle.std.proofs.Common.{◌≡◌, ◌≢◌, ◌+◌, ◌-◌, ◌*◌, ◌/◌, ◌%◌, ◌^◌, ◌<◌, ◌≤◌, ℕ, ℤ, List}
-use Rattle.std.proofs.Common.{arith, refl, ap, ◌∙◌, sym, subst, bit_and, bit_or, slice_set, replicate}
-use Rattle.std.specs.Int.{bit_at}
+use Rattle.std.proofs.Common.{arith, refl, ap, ◌∙◌, sym, subst, bit_and, bit_or, bit_xor, slice_set, replicate, w64}
+use Rattle.std.specs.Int.{bit_at, bit_not}
 use Rattle.std.proofs.lemmas.List.{get_or-replicate, get_or-set_same, get_or-set_other, get_or_past}
-use Rattle.std.proofs.lemmas.Nat.Bits.{bit_at-lt, bit_at_above, bit_at_and, bit_at_or, bit_at-zero}
+use Rattle.std.proofs.lemmas.Nat.Bits.{bit_at-lt, bit_at_above, bit_at_and, bit_at_not, bit_at_or, bit_at_xor, bit_at-zero}
 use Rattle.std.proofs.lemmas.Int.{ints}
 use Rattle.std.proofs.Math.Pow.{pow-lt}
 use Rattle.std.proofs.lemmas.Nat.Bits.{bit_at-pow_other, bit_at-pow_same, bit_at_mask_above, bit_at_mask_below}
@@ -38,6 +38,17 @@ and_one a b i e = let m = bit_at_and a b i in let p = bit_at-lt a i in let q = b
 pub one_and : (a b i : ℕ) → bit_at a i ≡ 1 → bit_at b i ≡ 1 → bit_at (bit_and a b) i ≡ 1
 one_and a b i e f = let m = bit_at_and a b i in omega arith
 
+pub or_none : (a b i : ℕ) → bit_at (bit_or a b) i ≡ 0 → (bit_at a i ≡ 0) × (bit_at b i ≡ 0)
+or_none a b i e = let m = bit_at_or a b i in (omega arith, omega arith)
+
+-- a bit of the one word that is not missing in the other
+pub not_missing : (a b i : ℕ) → bit_at (bit_and a (bit_xor a b)) i ≡ 0 → bit_at a i ≡ 1 → bit_at b i ≡ 1
+not_missing a b i none one =
+    let m = bit_at_and a (bit_xor a b) i in
+    let n = bit_at_xor a b i in
+    let p = bit_at-lt b i in
+    omega arith
+
 -- a mask's columns
 pub in_mask : (lo hi i : ℕ) → bit_at (2 ^ hi - 2 ^ lo) i ≡ 1 → (lo ≤ i) × (i < hi)
 in_mask lo hi i one = (least (less_or_not i lo), most (less_or_not i hi))
@@ -56,6 +67,14 @@ below_64 n i small one = go (less_or_not i 64)
     go : (i < 64) ⊎ (64 ≤ i) → i < 64
     go (inl low) = low
     go (inr far) = absurd (let z = bit_at_above n 64 i small far in omega arith)
+
+-- the columns that a mask doesn't clear
+pub not_outside : (word mask i : ℕ) → mask < 2 ^ 64 → word < 2 ^ 64 → bit_at (bit_and word (bit_not w64 mask)) i ≡ 0 → bit_at word i ≡ 1 → bit_at mask i ≡ 1
+not_outside word mask i fits small none one =
+    let m = bit_at_and word (bit_not w64 mask) i in
+    let n = bit_at_not w64 mask i fits (below_64 word i small one) in
+    let p = bit_at-lt mask i in
+    omega arith
 
 -- ---- beside
 

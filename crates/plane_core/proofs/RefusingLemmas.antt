@@ -132,7 +132,7 @@ walks rows flood left top row column cells is shows c d (e ∷ es) leads s = wal
           r = r.0;
           i = i.0;
           place = place;
-          lit = is.closed r.0 (omega arith) (omega arith) s.r s.i i.0 s.lit r.2 i.2 (omega arith) (eqb-true _ 1 alive);
+          lit = is.closed r.0 i.0 (omega arith) (omega arith) (omega arith) s.r s.i s.lit r.2 i.2 (eqb-true _ 1 alive);
         }
 
 pub flooded_cluster : (rows flood : List ℕ) (left top : ℤ) (row column : ℕ) (cells : List Cell) → IsFlooded rows flood row column

@@ -40,13 +40,13 @@ pub record IsWellInside (r i : ℕ) : Type 0 where
 abbrev pub LiesInside : List ℕ → Type 0
 LiesInside flood = (r i : ℕ) → bit_in flood r i ≡ 1 → IsWellInside r i
 
--- each bit of row q within 2 of one of the flood is in the flood
-abbrev pub IsClosedAt : List ℕ → List ℕ → ℕ → Type 0
-IsClosedAt rows flood q = (r i j : ℕ) → bit_in flood r i ≡ 1 → AreNear 2 q r → AreNear 2 j i → j < 64 → bit_in rows q j ≡ 1 → bit_in flood q j ≡ 1
+-- if bit j of row q is one of the rows', and within 2 of one of the flood, it is in the flood
+abbrev pub IsClosedAt : List ℕ → List ℕ → ℕ → ℕ → Type 0
+IsClosedAt rows flood q j = (r i : ℕ) → bit_in flood r i ≡ 1 → AreNear 2 q r → AreNear 2 j i → bit_in rows q j ≡ 1 → bit_in flood q j ≡ 1
 
--- and of each row that is two or more inside the window
+-- and so is each, but for the two rows at either border
 abbrev pub IsClosed : List ℕ → List ℕ → Type 0
-IsClosed rows flood = (q : ℕ) → 2 ≤ q → q < 62 → IsClosedAt rows flood q
+IsClosed rows flood = (q j : ℕ) → 2 ≤ q → q < 62 → j < 64 → IsClosedAt rows flood q j
 
 -- the flood is all that is linked to bit i of row r
 pub record IsFlooded (rows flood : List ℕ) (r i : ℕ) : Type 0 where

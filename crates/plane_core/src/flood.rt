@@ -192,51 +192,46 @@ fn is_all(rows: &[u64; 64], flood: &[u64; 64]) -> bool
     lies_inside(flood) && is_closed(rows, flood)
 }
 
-/// Whether the flood lies well inside the window.
+/// Whether the flood lies well inside the window. No branch depends on a row, so that four are looked at at once.
 fn lies_inside(flood: &[u64; 64]) -> bool
     ensures { IsTrue result → LiesInside flood.now }
 {
+    let mut all = 0;
     for r in 0..64 {
-        if !is_row_inside(flood[r], r) {
-            return false;
-        }
+        all |= outside(flood[r], r);
     }
-    true
+    all == 0
 }
 
-/// Whether a row of the flood lies well inside the window.
+/// The bits of a row of the flood that don't lie well inside the window.
 #[inline(always)]
-fn is_row_inside(word: u64, r: usize) -> bool
-    ensures { IsTrue result → (i : ℕ) → bit_at word i ≡ 1 → IsWellInside r i }
+fn outside(word: u64, r: usize) -> u64
+    ensures { (i : ℕ) → bit_at result i ≡ 0 → bit_at word i ≡ 1 → IsWellInside r i }
 {
-    if word == 0 {
-        return true;
-    }
     if r < 4 || r >= 60 {
-        return false;
+        return word;
     }
-    word & INSIDE == word
+    word & !INSIDE
 }
 
 /// Whether no cell near the flood is missing.
 fn is_closed(rows: &[u64; 64], flood: &[u64; 64]) -> bool
     ensures { IsTrue result → IsClosed rows.now flood.now }
 {
+    let mut all = 0;
     for r in 2..62 {
-        if !is_row_closed(rows, flood, r) {
-            return false;
-        }
+        all |= missing(rows, flood, r);
     }
-    true
+    all == 0
 }
 
-/// Whether no cell of this row that is near the flood is missing.
+/// The cells of this row that are near the flood and not in it.
 #[inline(always)]
-fn is_row_closed(rows: &[u64; 64], flood: &[u64; 64], q: usize) -> bool
+fn missing(rows: &[u64; 64], flood: &[u64; 64], q: usize) -> u64
     requires low { 2 ≤ q }
     requires high { q < 62 }
-    ensures { IsTrue result → IsClosedAt rows.now flood.now q }
+    ensures { (j : ℕ) → bit_at result j ≡ 0 → j < 64 → IsClosedAt rows.now flood.now q j }
 {
     let cells = beside(beside(near_rows(flood, q))) & rows[q];
-    cells & flood[q] == cells
+    cells & (cells ^ flood[q])
 }
