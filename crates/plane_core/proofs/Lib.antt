@@ -1,6 +1,7 @@
 pub mod AdvanceLemmas
 pub mod AgainLemmas
 pub mod AnswerLemmas
+pub mod BoardLemmas
 pub mod BoundsLemmas
 pub mod BoxLemmas
 pub mod BoxRoundLemmas
@@ -50,6 +51,7 @@ pub mod RunLemmas
 pub mod SearchLemmas
 pub mod SetLemmas
 pub mod ShiftLemmas
+pub mod SpanLemmas
 pub mod SpeedLemmas
 pub mod TallyLemmas
 pub mod TurnLemmas

@@ -27,6 +27,7 @@ pub mod PlaintextPlaces
 pub mod PlaintextWalk
 pub mod Refusals
 pub mod Rules
+pub mod Spans
 pub mod Tallies
 pub mod Windows
 pub mod Words

@@ -1,3 +1,4 @@
+pub mod Courses
 pub mod FindingLaws
 pub mod Findings
 pub mod Grouping

@@ -28,6 +28,7 @@ use crate::slot::slot_of;
 use crate::sweep::Sweep;
 use code_core::apgcode::Apgcode;
 use code_core::name::name;
+use plane_core::board::Board;
 use plane_core::bounds::Bounds;
 use plane_core::cell::Cell;
 use plane_core::generation::StepError;
@@ -49,6 +50,10 @@ pub struct Memo {
     slots: Vec<Option<Known>>,
     /// The first cell of the last cluster that was seen not to come back.
     change: Option<Cell>,
+    /// A board for the next pattern, unless there is none yet, or a pattern is on it.
+    pub(crate) board: Option<Board>,
+    /// Whether there was no memory for a board.
+    lacks_board: bool,
 }
 
 /// What is known of a shape.
@@ -80,6 +85,8 @@ impl Memo {
             Ok(slots) => Memo {
                 slots,
                 change: None,
+                board: None,
+                lacks_board: false,
             },
             Err(AllocError) => Memo::without_room(alloc),
         }
@@ -90,6 +97,19 @@ impl Memo {
         Memo {
             slots: Vec::new(alloc),
             change: None,
+            board: None,
+            lacks_board: false,
+        }
+    }
+
+    /// Makes a board, if there is none and there is memory for it. One that a pattern is on counts as none.
+    pub(crate) fn make_board(&mut self, alloc: Global, rule: &Rule) {
+        if self.board.is_some() || self.lacks_board {
+            return;
+        }
+        match Board::new(alloc, rule) {
+            Ok(board) => self.board = Some(board),
+            Err(AllocError) => self.lacks_board = true,
         }
     }
 
