@@ -14,6 +14,7 @@ pub mod CommuteLemmas
 pub mod CoverLemmas
 pub mod DifferenceLemmas
 pub mod FillLemmas
+pub mod FloodLemmas
 pub mod ForestLemmas
 pub mod FrameLemmas
 pub mod FrontierLemmas
@@ -44,6 +45,7 @@ pub mod PlaintextSmall
 pub mod PlaintextWalks
 pub mod PlaintextWriting
 pub mod QuietLemmas
+pub mod RefusingLemmas
 pub mod RuleLemmas
 pub mod RuleNumbers
 pub mod RuleReading
@@ -53,6 +55,7 @@ pub mod SetLemmas
 pub mod ShiftLemmas
 pub mod SpanLemmas
 pub mod SpeedLemmas
+pub mod StrayLemmas
 pub mod TallyLemmas
 pub mod TurnLemmas
 pub mod WindowLemmas

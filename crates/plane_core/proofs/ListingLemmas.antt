@@ -14,7 +14,7 @@ use Rattle.plane_core.specs.Cells.{InOrder, cell_at, has, set_of}
 use Rattle.plane_core.specs.Frames.{LieOn, Shows, board_cell, word_of}
 use Rattle.plane_core.specs.Listing.{AreAmong, AreDead, HasRead, HasReadRow, HasReadRows, IsBandEmpty, IsLaneEmpty, IsNextAlive, IsRowEmpty}
 use Rattle.plane_core.specs.OnBoard.{cells_on}
-use Rattle.plane_core.specs.Spans.{IsIn, IsInSpan, LieInLanes, LieInSpans}
+use Rattle.plane_core.specs.Spans.{HasRow, IsInSpan, LieInLanes, LieInSpans}
 use Rattle.plane_core.specs.declared.spans.Span.{Span}
 use Rattle.plane_core.proofs.CaseLemmas.{less_or_not, same_or_not}
 use Rattle.plane_core.proofs.SpanLemmas.{dead_outside, live_bit}
@@ -238,7 +238,7 @@ lane_missed at words spans s band hs hb live missed k b low small =
 
 -- and where no span reaches, lanes are
 pub band_missed : (at : Frame) (words : List ℕ) (spans : List Span) (lanes : Span) (band from to : ℕ) → band < at.rows / 8 → to ≤ at.lanes
-    → LieInSpans at spans (cells_on at words) → LieInLanes at spans lanes → ((s : ℕ) → from ≤ s → s < to → IsIn lanes s → ⊥)
+    → LieInSpans at spans (cells_on at words) → LieInLanes at spans lanes → ((s : ℕ) → from ≤ s → s < to → HasRow lanes s → ⊥)
     → IsBandEmpty at words band from to
 band_missed at words spans lanes band from to hb most live held out s past near =
     lane_missed at words spans s band (omega (arith, near, most)) hb live
@@ -254,7 +254,7 @@ band_joined at words band from mid to first second s past near = elim (less_or_n
 
 -- outside of the bands that spans reach there is nothing to read
 pub bands_before : (at : Frame) (words : List ℕ) (spans : List Span) (bands : Span) (cells : List Cell) → cells ≡ [] → 8 * bands.from ≤ at.rows
-    → LieInSpans at spans (cells_on at words) → ((s r : ℕ) → s < at.lanes → r < at.rows → IsInSpan spans s r → IsIn bands (r / 8))
+    → LieInSpans at spans (cells_on at words) → ((s r : ℕ) → s < at.lanes → r < at.rows → IsInSpan spans s r → HasRow bands (r / 8))
     → HasReadRows at words (8 * bands.from) cells
 bands_before at words spans bands cells none low live held = record {
   sound = (rows-none at words cells none).sound;
@@ -265,7 +265,7 @@ bands_before at words spans bands cells none low live held = record {
 }
 
 pub bands_after : (at : Frame) (words : List ℕ) (spans : List Span) (bands : Span) (band : ℕ) (cells : List Cell) → bands.end ≤ band
-    → LieInSpans at spans (cells_on at words) → ((s r : ℕ) → s < at.lanes → r < at.rows → IsInSpan spans s r → IsIn bands (r / 8))
+    → LieInSpans at spans (cells_on at words) → ((s r : ℕ) → s < at.lanes → r < at.rows → IsInSpan spans s r → HasRow bands (r / 8))
     → HasReadRows at words (8 * band) cells → HasReadRows at words at.rows cells
 bands_after at words spans bands band cells low live held before = record {
   sound = before.sound;

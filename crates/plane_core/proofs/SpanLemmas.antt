@@ -19,7 +19,7 @@ use Rattle.plane_core.specs.Generations.{after}
 use Rattle.plane_core.specs.OnBoard.{cells_on}
 use Rattle.plane_core.specs.Places.{IsInnerCell}
 use Rattle.plane_core.specs.Rules.{Numbers}
-use Rattle.plane_core.specs.Spans.{AreSpans, AreWidened, HoldCovered, HoldInner, HoldsSpans, IsIn, IsInHull, IsInSpan, LieInSpans, span_of}
+use Rattle.plane_core.specs.Spans.{AreSpans, AreWidened, HoldCovered, HoldInner, HoldsSpans, HasRow, IsInHull, IsInSpan, LieInSpans, span_of}
 use Rattle.plane_core.proofs.CaseLemmas.{less_or_not, same_or_not}
 use Rattle.plane_core.proofs.FillLemmas.{shown-empty}
 use Rattle.plane_core.proofs.FrameLemmas.{one_spot, spot_of}
@@ -28,14 +28,14 @@ use Rattle.plane_core.proofs.SetLemmas.{has-append, has-cases, in_order-nil}
 
 -- ---- numbers in a span
 
-pub in_or_not : (span : Span) (n : ℕ) → IsIn span n ⊎ (IsIn span n → ⊥)
+pub in_or_not : (span : Span) (n : ℕ) → HasRow span n ⊎ (HasRow span n → ⊥)
 in_or_not span n = low (less_or_not n span.from)
   where
-    high : span.from ≤ n → (n < span.end) ⊎ (span.end ≤ n) → IsIn span n ⊎ (IsIn span n → ⊥)
+    high : span.from ≤ n → (n < span.end) ⊎ (span.end ≤ n) → HasRow span n ⊎ (HasRow span n → ⊥)
     high from (inl less) = inl (record { low = from; high = less })
     high from (inr past) = inr (λ is. let h = is.high in omega (arith, past))
 
-    low : (n < span.from) ⊎ (span.from ≤ n) → IsIn span n ⊎ (IsIn span n → ⊥)
+    low : (n < span.from) ⊎ (span.from ≤ n) → HasRow span n ⊎ (HasRow span n → ⊥)
     low (inl before) = inr (λ is. let h = is.low in omega (arith, before))
     low (inr from) = high from (less_or_not n span.end)
 
@@ -110,7 +110,7 @@ spans_after rule at places S n old new live wide covered still s r i hs hr hi e 
 -- ---- the hull
 
 pub hull_more : (spans : List Span) (n : ℕ) (old new : Hull) → HoldsSpans spans n old → ((s r : ℕ) → IsInHull old s r → IsInHull new s r)
-    → ((r : ℕ) → IsIn (span_of spans n) r → IsInHull new n r) → HoldsSpans spans (n + 1) new
+    → ((r : ℕ) → HasRow (span_of spans n) r → IsInHull new n r) → HoldsSpans spans (n + 1) new
 hull_more spans n old new before kept held s r low inside = elim (same_or_not s n) [
   | inl same ↦
       subst (λ (t : ℕ). IsInHull new t r) (sym same) (held r (subst (λ (t : ℕ). IsInSpan spans t r) same inside))

@@ -5,6 +5,7 @@ pub mod Cells
 pub mod Clusters
 pub mod Covers
 pub mod Differences
+pub mod Floods
 pub mod Forest
 pub mod Frames
 pub mod Frontiers
@@ -26,6 +27,7 @@ pub mod Plaintext
 pub mod PlaintextPlaces
 pub mod PlaintextWalk
 pub mod Refusals
+pub mod Refusing
 pub mod Rules
 pub mod Spans
 pub mod Tallies

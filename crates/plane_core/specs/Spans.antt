@@ -10,7 +10,7 @@ use Rattle.plane_core.specs.Frames.{board_cell}
 use Rattle.plane_core.specs.Places.{IsCovered, IsInnerCell}
 
 -- the number lies in the span
-pub record IsIn (span : Span) (n : ℕ) : Type 0 where
+pub record HasRow (span : Span) (n : ℕ) : Type 0 where
   pub low : span.from ≤ n
   pub high : n < span.end
 
@@ -20,7 +20,7 @@ span_of spans s = slice_index_or spans s (record { from = 0; end = 0 })
 
 -- the row lies in the span of its lane
 abbrev pub IsInSpan : List Span → ℕ → ℕ → Type 0
-IsInSpan spans s r = IsIn (span_of spans s) r
+IsInSpan spans s r = HasRow (span_of spans s) r
 
 -- each live cell of the board lies in the span of its lane
 abbrev pub LieInSpans : Frame → List Span → List Cell → Type 0
@@ -45,12 +45,12 @@ pub record AreSpans (at : Frame) (cells : List Cell) (spans : List Span) : Type 
 
 -- only these lanes have rows in their spans
 abbrev pub LieInLanes : Frame → List Span → Span → Type 0
-LieInLanes at spans lanes = (s r : ℕ) → s < at.lanes → IsInSpan spans s r → IsIn lanes s
+LieInLanes at spans lanes = (s r : ℕ) → s < at.lanes → IsInSpan spans s r → HasRow lanes s
 
 -- the lane is in the hull, and the row
 pub record IsInHull (hull : Hull) (s r : ℕ) : Type 0 where
-  pub lane : IsIn hull.lanes s
-  pub row : IsIn hull.rows r
+  pub lane : HasRow hull.lanes s
+  pub row : HasRow hull.rows r
 
 -- all that the first n spans have is in the hull
 abbrev pub HoldsSpans : List Span → ℕ → Hull → Type 0

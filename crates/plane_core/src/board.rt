@@ -26,6 +26,8 @@ ghost use Rattle.plane_core.specs.Boards.{AreRightFor, HasGoneOn, StayInSpans};
 ghost use Rattle.plane_core.specs.OnBoard.{cells_on};
 ghost use Rattle.plane_core.specs.Words.{life};
 
+mod early_no;
+
 use crate::answers::{Answering, AnyRule, Life, is_life};
 use crate::bounds::Bounds;
 use crate::boxes::{boxes_round, next_boxes};

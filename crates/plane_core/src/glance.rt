@@ -106,7 +106,7 @@ fn window_of(place: Place, cells: &[Cell]) -> [u64x4; 16]
 }
 
 /// The rows of a window, each as lane r / 16 of vector r % 16.
-fn packed(rows: &[u64; 64]) -> [u64x4; 16]
+pub(crate) fn packed(rows: &[u64; 64]) -> [u64x4; 16]
     ensures { (r : ℕ) → r < 64 → row_at 16 result r ≡ slice_index rows.now r }
 {
     let mut window = [u64x4::splat(0); 16];

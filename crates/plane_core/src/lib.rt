@@ -19,6 +19,7 @@ pub mod clusters;
 pub mod coordinate;
 mod cover;
 mod difference;
+mod flood;
 mod forest;
 mod frame;
 /// How fast patterns grow in diagonal directions.
@@ -47,10 +48,12 @@ mod placed;
 pub mod placement;
 /// Plaintext pattern files.
 pub mod plaintext;
+mod refusing;
 /// Rules by birth and survival numbers.
 pub mod rule;
 /// The shift from one pattern to another.
 pub mod shift_to;
 mod spans;
+mod stray;
 mod tally;
 mod window;

@@ -16,7 +16,7 @@ ghost use Rattle.std.specs.Int.{bit_at};
 ghost use Rattle.plane_core.specs.Cells.{InOrder, cell_at};
 ghost use Rattle.plane_core.specs.Frames.{FillsFrame, IsFrame, LieOn, Shows, word_of};
 ghost use Rattle.plane_core.specs.OnBoard.{cells_on};
-ghost use Rattle.plane_core.specs.Spans.{IsIn, LieInLanes, LieInSpans};
+ghost use Rattle.plane_core.specs.Spans.{HasRow, LieInLanes, LieInSpans};
 ghost use Rattle.plane_core.specs.Listing.{AreDead, HasRead, HasReadRow, HasReadRows, IsBandEmpty};
 ghost use Rattle.plane_core.specs.Listing.{IsLaneEmpty, IsNextAlive, IsRowEmpty};
 ghost use Rattle.plane_core.specs.declared.cell.Cell.{Cell};
@@ -85,7 +85,7 @@ fn word_at(at: Frame, words: &[u64], span: Span, lane: usize, row: usize) -> u64
     requires lane { lane < at.lanes }
     requires row { row < at.rows }
     requires long { FillsFrame at words.now }
-    requires live { (i : ℕ) → i < 64 → bit_at (slice_index words.now (word_of at lane row)) i ≡ 1 → IsIn span row }
+    requires live { (i : ℕ) → i < 64 → bit_at (slice_index words.now (word_of at lane row)) i ≡ 1 → HasRow span row }
     ensures { (i : ℕ) → i < 64 → bit_at result i ≡ bit_at (slice_index words.now (word_of at lane row)) i }
 {
     if row < span.from || span.end <= row {

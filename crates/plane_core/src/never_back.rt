@@ -97,7 +97,7 @@ fn either(a: u64x4, b: u64x4) -> u64x4
 
 /// The bits of all four lanes.
 #[inline(always)]
-fn in_any_lane(vector: u64x4) -> u64
+pub(crate) fn in_any_lane(vector: u64x4) -> u64
     ensures { (i : ℕ) → bit_at result i
         ≡ max (max (bit_of vector 0 i) (bit_of vector 1 i)) (max (bit_of vector 2 i) (bit_of vector 3 i)) }
 {
@@ -107,7 +107,7 @@ fn in_any_lane(vector: u64x4) -> u64
 
 /// A row of the window.
 #[inline(always)]
-fn row<const N: usize>(window: &[u64x4; N], r: usize) -> u64
+pub(crate) fn row<const N: usize>(window: &[u64x4; N], r: usize) -> u64
     requires some { 0 < N }
     requires low { r < 4 * N }
     ensures { result ≡ row_at N window.now r }

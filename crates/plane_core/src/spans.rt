@@ -15,7 +15,7 @@ ghost use Rattle.plane_core.specs.Frames.{FillsFrame, IsFrame, LieOn, Shows, bou
 ghost use Rattle.plane_core.specs.OnBoard.{cells_on};
 ghost use Rattle.plane_core.specs.Places.{IsOnBoard};
 ghost use Rattle.plane_core.specs.Spans.{AreWidened, HoldCovered, HoldInner, HoldsSpans};
-ghost use Rattle.plane_core.specs.Spans.{IsIn, IsInHull, IsInSpan, LieInSpans};
+ghost use Rattle.plane_core.specs.Spans.{HasRow, IsInHull, IsInSpan, LieInSpans};
 
 use crate::cell::Cell;
 use crate::frame::Frame;
@@ -32,7 +32,7 @@ pub(crate) struct Span {
 impl Span {
     /// No numbers.
     pub(crate) fn empty() -> Span
-        ensures { (n : ℕ) → ¬ IsIn result n }
+        ensures { (n : ℕ) → ¬ HasRow result n }
     {
         Span {
             from: usize::MAX,
@@ -42,8 +42,8 @@ impl Span {
 
     /// The least span that has both.
     pub(crate) fn joined(self, other: Span) -> Span
-        ensures first { (n : ℕ) → IsIn self n → IsIn result n }
-        ensures second { (n : ℕ) → IsIn other n → IsIn result n }
+        ensures first { (n : ℕ) → HasRow self n → HasRow result n }
+        ensures second { (n : ℕ) → HasRow other n → HasRow result n }
     {
         Span {
             from: self.from.min(other.from),
@@ -54,7 +54,7 @@ impl Span {
     /// Whether none of eight numbers, from this one on, lies in the span.
     pub(crate) fn misses_eight(self, from: usize) -> bool
         requires { from < 2 ^ 32 }
-        ensures { IsTrue result → (k : ℕ) → k < 8 → ¬ IsIn self (from + k) }
+        ensures { IsTrue result → (k : ℕ) → k < 8 → ¬ HasRow self (from + k) }
     {
         self.end <= from || from + 8 <= self.from
     }
@@ -147,7 +147,7 @@ impl Hull {
     fn with(self, lane: usize, span: Span) -> Hull
         requires { lane < 2 ^ 32 }
         ensures kept { (s r : ℕ) → IsInHull self s r → IsInHull result s r }
-        ensures held { (r : ℕ) → IsIn span r → IsInHull result lane r }
+        ensures held { (r : ℕ) → HasRow span r → IsInHull result lane r }
     {
         if span.end <= span.from {
             return self;
@@ -165,7 +165,7 @@ impl Hull {
     pub(crate) fn lanes_on(self, at: Frame) -> Span
         ensures order { result.from ≤ result.end }
         ensures most { result.end ≤ at.lanes }
-        ensures held { (s : ℕ) → s < at.lanes → IsIn self.lanes s → IsIn result s }
+        ensures held { (s : ℕ) → s < at.lanes → HasRow self.lanes s → HasRow result s }
     {
         let from = self.lanes.from.min(at.lanes);
         Span {
@@ -179,7 +179,7 @@ impl Hull {
         requires { IsFrame at }
         ensures from { 8 * result.from ≤ at.rows }
         ensures end { result.end ≤ at.rows / 8 }
-        ensures held { (r : ℕ) → r < at.rows → IsIn self.rows r → IsIn result (r / 8) }
+        ensures held { (r : ℕ) → r < at.rows → HasRow self.rows r → HasRow result (r / 8) }
     {
         Span {
             from: self.rows.from.min(at.rows) / 8,
@@ -223,7 +223,7 @@ fn empty_lane(at: Frame, words: &mut [u64], lane: usize, span: Span)
     requires frame { IsFrame at }
     requires lane { lane < at.lanes }
     requires long { FillsFrame at words.old }
-    ensures dead { (r : ℕ) → r < at.rows → IsIn span r → slice_index words.new (word_of at lane r) ≡ 0 }
+    ensures dead { (r : ℕ) → r < at.rows → HasRow span r → slice_index words.new (word_of at lane r) ≡ 0 }
     ensures others { (m : ℕ) → slice_index words.new m ≡ slice_index words.old m ⊎ slice_index words.new m ≡ 0 }
     ensures long { length words.new ≡ length words.old }
 {

@@ -2,7 +2,7 @@ use Rattle.std.proofs.Common.{◌≡◌, ◌≢◌, ◌∙◌, ◌<◌, [], arit
 use Rattle.std.proofs.lemmas.Bool.{false≢true}
 use Rattle.std.proofs.lemmas.List.{length-set}
 use Rattle.plane_core.specs.declared.spans.Span.{Span}
-use Rattle.plane_core.specs.Spans.{IsIn}
+use Rattle.plane_core.specs.Spans.{HasRow}
 use Rattle.plane_core.proofs.OnBoardLemmas.{only_cells}
 use Rattle.plane_core.proofs.SetLemmas.{in_order-nil}
 use Rattle.plane_core.proofs.SpanLemmas.{lane_emptied, shown_dead, zeroed_more}
@@ -30,7 +30,7 @@ loop-lane-preserved c =
           get_or-set_other c.loop-lane.spans lane s c.empty.result (record { from = 0; end = 0 }) apart ∙ before.kept s (omega (arith, low));
       dead = lane_emptied c.args.at c.args.words.now c.loop-lane.words c.empty_lane.new.words c.args.spans.now lane near c.requires.live before.others
           before.dead c.empty_lane.ensures.others
-          (λ r hr inside. c.empty_lane.ensures.dead r hr (subst (λ (span : Span). IsIn span r) (sym (before.kept lane (omega arith))) inside));
+          (λ r hr inside. c.empty_lane.ensures.dead r hr (subst (λ (span : Span). HasRow span r) (sym (before.kept lane (omega arith))) inside));
       others = zeroed_more c.args.words.now c.loop-lane.words c.empty_lane.new.words before.others c.empty_lane.ensures.others;
     }
 

@@ -1,0 +1,57 @@
+-- Patterns that are seen not to be at rest, by one cluster that is run alone.
+use Rattle.std.specs.Prelude.{◌≡◌, ◌+◌, ◌*◌, ◌<◌, ◌≤◌, ◌⊎◌, ℕ, ℤ, true, false, List}
+use Rattle.std.specs.Int.{bit_at}
+use Rattle.plane_core.specs.declared.cell.Cell.{Cell}
+use Rattle.plane_core.specs.Cells.{InOrder, has}
+use Rattle.plane_core.specs.Clusters.{IsCluster}
+use Rattle.plane_core.specs.Generations.{NeverBack, after}
+use Rattle.plane_core.specs.LonePatterns.{Holds}
+use Rattle.plane_core.specs.Rules.{Numbers}
+use Rattle.plane_core.specs.Windows.{IsShownInside, row_at}
+
+-- at some generation up to the horizon the cluster, run alone, has a cell that the whole hasn't
+pub record Strays (rule : Numbers) (whole cluster : List Cell) (horizon : ℕ) : Type 0 where
+  pub generation : ℕ
+  pub early : generation ≤ horizon
+  pub cell : Cell
+  pub alone : has (after rule cluster generation) cell ≡ true
+  pub missing : has (after rule whole generation) cell ≡ false
+
+-- some cluster of the pattern strays from it within the horizon, or is itself never again within the period
+pub record IsRefused (rule : Numbers) (cells : List Cell) (horizon period : ℕ) : Type 0 where
+  pub cluster : List Cell
+  pub is : IsCluster cells cluster
+  pub why : Strays rule cells cluster horizon ⊎ NeverBack rule cluster period
+
+-- each pattern that the window of n vectors shows at this depth is refused
+abbrev pub RefusesAll : Numbers → ℕ → List (List ℕ) → ℕ → ℕ → ℕ → Type 0
+RefusesAll rule n window depth horizon period =
+    (cells : List Cell) (left top : ℤ) → InOrder cells → IsShownInside n left top depth window cells → IsRefused rule cells horizon period
+
+-- a cluster of the pattern, which is alone in the window of n vectors
+pub record IsAlone (n : ℕ) (left top : ℤ) (window : List (List ℕ)) (cells cluster : List Cell) : Type 0 where
+  pub is : IsCluster cells cluster
+  pub held : Holds n left top window cluster
+
+-- for each pattern that the whole window shows at this depth, the other window holds one of its clusters, and nothing else
+abbrev pub HoldsCluster : ℕ → List (List ℕ) → List (List ℕ) → ℕ → Type 0
+HoldsCluster n whole alone depth =
+    (cells : List Cell) (left top : ℤ) → InOrder cells → IsShownInside n left top depth whole cells
+    → (cluster : List Cell) × IsAlone n left top alone cells cluster
+
+-- At least so deep inside the windows there is a cell alone that the whole hasn't: in column i of row r.
+pub record HasStray (n : ℕ) (whole alone : List (List ℕ)) (depth : ℕ) : Type 0 where
+  pub r : ℕ
+  pub i : ℕ
+  pub above : depth ≤ r
+  pub below : r + depth < 4 * n
+  pub west : depth ≤ i
+  pub east : i + depth < 64
+  pub lit : bit_at (row_at n alone r) i ≡ 1
+  pub dark : bit_at (row_at n whole r) i ≡ 0
+
+-- what the one window shows strays from what the other shows
+abbrev pub ShowsStray : Numbers → ℕ → List (List ℕ) → List (List ℕ) → ℕ → ℕ → Type 0
+ShowsStray rule n whole alone depth horizon =
+    (cells cluster : List Cell) (left top : ℤ) → InOrder cells → InOrder cluster → IsShownInside n left top depth whole cells
+    → IsShownInside n left top depth alone cluster → Strays rule cells cluster horizon

@@ -1,0 +1,242 @@
+//! One cluster of a window of 64 rows, grown from one of its cells:
+//!
+//! ```text
+//! . O . . O      . 1 . . O      . 2 . . O     The start, then what is within 2 of it, then what is within 2 of that.
+//! . O . . O      . 1 . . O      . 2 . . O     When nothing new comes, one pass over all rows tells whether this is
+//! . S . . O      . S . . O      . S . . O     all.
+//! ```
+//!
+//! Near the border of the window not all cells may be right, and what lies outside isn't seen: so a flood that comes
+//! within four of the border is none.
+ghost use Rattle.std.specs.Prelude.{◌≡◌, ◌<◌, ◌≤◌, ◌⊎◌, ℕ, IsTrue};
+ghost use Rattle.std.specs.Int.{bit_at};
+ghost use Rattle.plane_core.specs.Floods.{AreNear, HasGrown, IsClosed, IsClosedAt, IsFlooded, IsWellInside, LiesInside};
+ghost use Rattle.plane_core.specs.Floods.{bit_in};
+
+/// The columns in which a window is right two generations after it was read, 2 to 61.
+const COLUMNS: u64 = 0x3fff_ffff_ffff_fffc;
+
+/// The columns that are four or more from the border, 4 to 59.
+const INSIDE: u64 = 0x0fff_ffff_ffff_fff0;
+
+/// How many times the rows are gone through at most. A cluster that winds more is not told.
+const ROUNDS: usize = 64;
+
+/// Grows the cluster of the cell in a row and a column, which replaces `flood`. Returns whether it is all there, and
+/// lies well inside the window; `false` says nothing.
+pub(crate) fn flood(rows: &[u64; 64], flood: &mut [u64; 64], row: usize, column: u32) -> bool
+    ensures { IsTrue result → IsFlooded rows.now flood.new row column }
+{
+    if !may_begin(rows, row, column) {
+        return false;
+    }
+    *flood = begun(row, column);
+    let mut first = row;
+    let mut end = row + 1;
+    for _ in 0..ROUNDS {
+        first = earlier_first(flood, first);
+        end = later_end(flood, end);
+        let new = grow(rows, flood, first, end);
+        if new == 0 {
+            return is_all(rows, flood);
+        }
+    }
+    false
+}
+
+/// Whether there is a cell, and it lies well inside.
+fn may_begin(rows: &[u64; 64], row: usize, column: u32) -> bool
+    ensures place { IsTrue result → IsWellInside row column }
+    ensures alive { IsTrue result → bit_in rows.now row column ≡ 1 }
+{
+    if row < 4 || row >= 60 {
+        return false;
+    }
+    if column < 4 || column >= 60 {
+        return false;
+    }
+    (rows[row] >> column) & 1 != 0
+}
+
+/// A flood of one cell.
+fn begun(row: usize, column: u32) -> [u64; 64]
+    requires row { row < 64 }
+    requires column { column < 64 }
+    ensures start { bit_in result row column ≡ 1 }
+    ensures only { (r i : ℕ) → bit_in result r i ≡ 1 → (r ≡ row) × (i ≡ column) }
+{
+    let mut flood = [0; 64];
+    flood[row] = 1 << column;
+    flood
+}
+
+/// The first row to look at: two further, where the flood has come to it.
+#[inline(always)]
+fn earlier_first(flood: &[u64; 64], first: usize) -> usize
+    requires low { 2 ≤ first }
+    requires high { first < 62 }
+    ensures low { 2 ≤ result }
+    ensures high { result ≤ first }
+{
+    if first < 4 {
+        return 2;
+    }
+    if flood[first] | flood[first + 1] != 0 {
+        return first - 2;
+    }
+    first
+}
+
+/// The row before which to stop: two further, where the flood has come to it.
+#[inline(always)]
+fn later_end(flood: &[u64; 64], end: usize) -> usize
+    requires low { 2 ≤ end }
+    requires high { end ≤ 62 }
+    ensures low { end ≤ result }
+    ensures high { result ≤ 62 }
+{
+    if end > 60 {
+        return 62;
+    }
+    if flood[end - 2] | flood[end - 1] != 0 {
+        return end + 2;
+    }
+    end
+}
+
+/// Grows the flood in these rows, downwards and then upwards. Returns what has come, or 0.
+fn grow(rows: &[u64; 64], flood: &mut [u64; 64], first: usize, end: usize) -> u64
+    requires first { 2 ≤ first }
+    requires end { end ≤ 62 }
+    ensures { HasGrown rows.now flood.old flood.new }
+{
+    let down = grow_down(rows, flood, first, end);
+    let up = grow_up(rows, flood, first, end);
+    down | up
+}
+
+/// Grows the flood in these rows, from the first one on.
+fn grow_down(rows: &[u64; 64], flood: &mut [u64; 64], first: usize, end: usize) -> u64
+    requires first { 2 ≤ first }
+    requires end { end ≤ 62 }
+    ensures { HasGrown rows.now flood.old flood.new }
+{
+    let mut new = 0;
+    for r in first..end {
+        new |= grow_row(rows, flood, r);
+    }
+    new
+}
+
+/// Grows the flood in these rows, from the last one on.
+fn grow_up(rows: &[u64; 64], flood: &mut [u64; 64], first: usize, end: usize) -> u64
+    requires first { 2 ≤ first }
+    requires end { end ≤ 62 }
+    ensures { HasGrown rows.now flood.old flood.new }
+{
+    let mut new = 0;
+    for r in (first..end).rev() {
+        new |= grow_row(rows, flood, r);
+    }
+    new
+}
+
+/// Grows the flood in one row. Returns what has come.
+#[inline(always)]
+fn grow_row(rows: &[u64; 64], flood: &mut [u64; 64], r: usize) -> u64
+    requires low { 2 ≤ r }
+    requires high { r < 62 }
+    ensures { HasGrown rows.now flood.old flood.new }
+{
+    let here = flood[r];
+    let grown = grown(here, near_rows(flood, r), rows[r]);
+    flood[r] = grown;
+    grown ^ here
+}
+
+/// The flood in a row, and those cells of the row that are near it.
+#[inline(always)]
+fn grown(here: u64, near: u64, row: u64) -> u64
+    ensures kept { (i : ℕ) → bit_at here i ≡ 1 → bit_at result i ≡ 1 }
+    ensures new { (i : ℕ) → bit_at result i ≡ 1 → (bit_at here i ≡ 1)
+        ⊎ ((bit_at row i ≡ 1) × (2 ≤ i) × (i < 62) × (j : ℕ) × (AreNear 2 i j) × (bit_at near j ≡ 1)) }
+{
+    here | (beside(beside(near)) & row & COLUMNS)
+}
+
+/// The bits of the rows that are at most two away.
+#[inline(always)]
+fn near_rows(flood: &[u64; 64], r: usize) -> u64
+    requires low { 2 ≤ r }
+    requires high { r < 62 }
+    ensures from { (i : ℕ) → bit_at result i ≡ 1 → (q : ℕ) × (AreNear 2 r q) × (bit_in flood.now q i ≡ 1) }
+    ensures all { (q i : ℕ) → AreNear 2 r q → bit_in flood.now q i ≡ 1 → bit_at result i ≡ 1 }
+{
+    flood[r - 2] | flood[r - 1] | flood[r] | flood[r + 1] | flood[r + 2]
+}
+
+/// The bits, and those beside them.
+#[inline(always)]
+fn beside(word: u64) -> u64
+    ensures from { (i : ℕ) → bit_at result i ≡ 1 → (i < 64) × (j : ℕ) × (AreNear 1 i j) × (bit_at word j ≡ 1) }
+    ensures all { (i j : ℕ) → i < 64 → AreNear 1 i j → bit_at word j ≡ 1 → bit_at result i ≡ 1 }
+{
+    word << 1 | word | word >> 1
+}
+
+/// Whether the flood is all there and lies well inside the window.
+fn is_all(rows: &[u64; 64], flood: &[u64; 64]) -> bool
+    ensures inside { IsTrue result → LiesInside flood.now }
+    ensures closed { IsTrue result → IsClosed rows.now flood.now }
+{
+    lies_inside(flood) && is_closed(rows, flood)
+}
+
+/// Whether the flood lies well inside the window.
+fn lies_inside(flood: &[u64; 64]) -> bool
+    ensures { IsTrue result → LiesInside flood.now }
+{
+    for r in 0..64 {
+        if !is_row_inside(flood[r], r) {
+            return false;
+        }
+    }
+    true
+}
+
+/// Whether a row of the flood lies well inside the window.
+#[inline(always)]
+fn is_row_inside(word: u64, r: usize) -> bool
+    ensures { IsTrue result → (i : ℕ) → bit_at word i ≡ 1 → IsWellInside r i }
+{
+    if word == 0 {
+        return true;
+    }
+    if r < 4 || r >= 60 {
+        return false;
+    }
+    word & INSIDE == word
+}
+
+/// Whether no cell near the flood is missing.
+fn is_closed(rows: &[u64; 64], flood: &[u64; 64]) -> bool
+    ensures { IsTrue result → IsClosed rows.now flood.now }
+{
+    for r in 2..62 {
+        if !is_row_closed(rows, flood, r) {
+            return false;
+        }
+    }
+    true
+}
+
+/// Whether no cell of this row that is near the flood is missing.
+#[inline(always)]
+fn is_row_closed(rows: &[u64; 64], flood: &[u64; 64], q: usize) -> bool
+    requires low { 2 ≤ q }
+    requires high { q < 62 }
+    ensures { IsTrue result → IsClosedAt rows.now flood.now q }
+{
+    let cells = beside(beside(near_rows(flood, q))) & rows[q];
+    cells & flood[q] == cells
+}

@@ -1,0 +1,115 @@
+//! Whether a cluster that is run alone comes to have a cell that the whole pattern hasn't:
+//!
+//! ```text
+//! the whole              one cluster alone
+//! . . . . . . . .        . . . . . . . .
+//! . . x . . O O .        . . x . . . . .     What else is there keeps cell x from living. So the cluster is not one
+//! . . O O . O O .        . . O O . . . .     of the objects at rest that the pattern falls into.
+//! . . O . . . . .        . . O . . . . .
+//! ```
+//!
+//! Both are run in windows, which are right a cell less far out with each generation.
+ghost use Rattle.std.specs.Prelude.{◌≤◌, ◌<◌, IsTrue};
+ghost use Rattle.plane_core.specs.Refusing.{HasStray, ShowsStray};
+
+use crate::answers::Answering;
+use crate::never_back::{in_any_lane, row};
+use crate::window::generation;
+use std::simd::prelude::*;
+
+/// A row and a column of a window.
+#[derive(Clone, Copy)]
+pub(crate) struct Spot {
+    pub(crate) row: usize,
+    pub(crate) column: u32,
+}
+
+/// Whether it is seen within so many generations, and within 15, that what one window shows alone strays from the whole
+/// that the other one shows, both right at this depth. `false` says nothing.
+pub(crate) fn shows_stray<A: Answering>(
+    whole: &[u64x4; 16],
+    alone: &[u64x4; 16],
+    rule: &A,
+    depth: usize,
+    most: u32,
+) -> bool
+    requires { depth ≤ 2 }
+    ensures { IsTrue result → ShowsStray (A.rule rule.now) 16 whole.now alone.now depth most }
+{
+    let mut whole = *whole;
+    let mut alone = *alone;
+    for made in 0..most.min(15) {
+        generation(&mut whole, rule);
+        generation(&mut alone, rule);
+        if made % 4 == 2 {
+            if has_stray(&whole, &alone, depth + 1 + made as usize) {
+                return true;
+            }
+        }
+    }
+    false
+}
+
+/// Whether so deep inside there is a cell alone that the whole hasn't.
+fn has_stray(whole: &[u64x4; 16], alone: &[u64x4; 16], depth: usize) -> bool
+    requires { depth < 32 }
+    ensures { IsTrue result → HasStray 16 whole.now alone.now depth }
+{
+    if columns_astray(whole, alone) & columns_inside(depth) == 0 {
+        return false;
+    }
+    match find_stray(whole, alone, depth) {
+        Some(spot) => is_stray(whole, alone, depth, spot),
+        None => false,
+    }
+}
+
+/// The columns that have a cell alone which the whole hasn't.
+fn columns_astray(whole: &[u64x4; 16], alone: &[u64x4; 16]) -> u64 {
+    let mut all = u64x4::splat(0);
+    for k in 0..16 {
+        all = all | (alone[k] & (alone[k] ^ whole[k]));
+    }
+    in_any_lane(all)
+}
+
+/// The columns that are so deep inside.
+fn columns_inside(depth: usize) -> u64
+    requires { depth < 32 }
+{
+    u64::MAX >> (2 * depth) << depth
+}
+
+/// Where a stray may be.
+fn find_stray(whole: &[u64x4; 16], alone: &[u64x4; 16], depth: usize) -> Option<Spot>
+    requires { depth < 32 }
+{
+    for r in depth..64 - depth {
+        let here = row(alone, r);
+        let cells = here & (here ^ row(whole, r)) & columns_inside(depth);
+        if cells != 0 {
+            return Some(Spot {
+                row: r,
+                column: cells.trailing_zeros(),
+            });
+        }
+    }
+    None
+}
+
+/// Whether there is a stray so deep inside.
+fn is_stray(whole: &[u64x4; 16], alone: &[u64x4; 16], depth: usize, spot: Spot) -> bool
+    requires { depth < 32 }
+    ensures { IsTrue result → HasStray 16 whole.now alone.now depth }
+{
+    if spot.row < depth || spot.row >= 64 - depth {
+        return false;
+    }
+    if (spot.column as usize) < depth || (spot.column as usize) >= 64 - depth {
+        return false;
+    }
+    if (row(alone, spot.row) >> spot.column) & 1 == 0 {
+        return false;
+    }
+    (row(whole, spot.row) >> spot.column) & 1 == 0
+}
