@@ -7,17 +7,18 @@ use std::alloc::{AllocError, Global};
 use std::test::Fail;
 
 /// Puts a blinker round a cell.
-fn push_blinker(
-    cells: &mut Vec<Cell>,
-    x: i32,
-    y: i32,
-    is_upright: bool,
-) -> Result<(), AllocError> {
+fn push_blinker(cells: &mut Vec<Cell>, x: i32, y: i32, is_upright: bool) -> Result<(), AllocError> {
     for step in [-1, 0, 1] {
         cells.push(if is_upright {
-            Cell { y: y + step, x }
+            Cell {
+                y: y.wrapping_add(step),
+                x,
+            }
         } else {
-            Cell { y, x: x + step }
+            Cell {
+                y,
+                x: x.wrapping_add(step),
+            }
         })?;
     }
     Ok(())
@@ -26,8 +27,10 @@ fn push_blinker(
 /// A thousand blinkers on a diagonal, each 250 columns and rows from the next.
 fn diagonal(alloc: Global, are_upright: bool) -> Result<Pattern, FromCellsError> {
     let mut cells = Vec::new(alloc);
-    for i in -500..500 {
-        push_blinker(&mut cells, 250 * i, 250 * i, are_upright)?;
+    let mut at = -125_000_i32;
+    for _ in 0..1_000 {
+        push_blinker(&mut cells, at, at, are_upright)?;
+        at = at.wrapping_add(250);
     }
     Pattern::from_cells(alloc, cells.as_slice())
 }
@@ -40,7 +43,7 @@ fn ends_with(ran: Result<Pattern, StepError>, wanted: &Pattern) -> bool {
     }
 }
 
-// Their box has 250,000 columns and rows, and in 128 generations two neighbours could meet.
+// Their box has 250,000 columns and rows, and they lie too near to each other to be run apart for long.
 #[test]
 fn a_thousand_blinkers_on_a_diagonal_turn(rt: HostRuntime) -> Result<(), Fail> {
     let upright = diagonal(rt.alloc(), true)?;
@@ -50,24 +53,29 @@ fn a_thousand_blinkers_on_a_diagonal_turn(rt: HostRuntime) -> Result<(), Fail> {
     Ok(())
 }
 
-const GLIDER: [(i32, i32); 5] = [(1, 0), (2, 1), (0, 2), (1, 2), (2, 2)];
+/// The cells of a glider that flies to the lower right, by its columns and rows.
+fn is_in_glider(x: i32, y: i32) -> bool {
+    match y {
+        0 => x == 1,
+        1 => x == 2,
+        2 => x < 3,
+        _ => false,
+    }
+}
 
 fn glider_cells(alloc: Global) -> Result<Vec<Cell>, AllocError> {
     let mut cells = Vec::new(alloc);
-    for i in 0..100 {
-        for j in 0..60 {
-            for (x, y) in GLIDER {
-                cells.push(Cell {
-                    y: 10 * j + y,
-                    x: 10 * i + x,
-                })?;
+    for x in 0..1_000 {
+        for y in 0..600 {
+            if is_in_glider(x % 10, y % 10) {
+                cells.push(Cell { y, x })?;
             }
         }
     }
     Ok(cells)
 }
 
-/// Gliders in 100 columns and 60 rows, ten apart, that fly side by side to the lower right.
+/// Gliders in 100 columns and 60 rows, ten cells from one to the next.
 fn gliders(alloc: Global) -> Result<Pattern, FromCellsError> {
     let cells = glider_cells(alloc)?;
     Pattern::from_cells(alloc, cells.as_slice())
