@@ -1,7 +1,7 @@
 -- A leap of a board: what it shows afterwards, and its boxes.
-use Rattle.std.proofs.Common.{◌≡◌, ◌≢◌, ◌==◌, ◌+◌, ◌-◌, ◌*◌, ◌/◌, ◌%◌, ◌<◌, ◌≤◌, ℕ, ℤ, zero, suc, pos, ◌-ℤ◌, ◌+ℤ◌, ◌≤ℤ◌, ◌<ℤ◌, Bool, true, false, List, [], ◌∷◌}
+use Rattle.std.proofs.Common.{◌≡◌, ◌≢◌, ◌==◌, ◌*◌, ◌/◌, ◌%◌, ◌≤◌, ℕ, ℤ, zero, suc, ◌≤ℤ◌, ◌<ℤ◌, Bool, true, List, [], ◌∷◌}
 use Rattle.std.proofs.Common.{arith, refl, ap, ◌∙◌, sym, subst, inl, inr, ◌⊎◌, length, slice_index}
-use Rattle.std.specs.List.{Any, All}
+use Rattle.std.specs.List.{All}
 use Rattle.std.proofs.lemmas.Bool.{eqb-true, false≢true}
 use Rattle.std.proofs.lemmas.Int.{ints, by_lt_z}
 use Rattle.std.proofs.lemmas.List.Elements.{All-nil}
@@ -11,7 +11,7 @@ use Rattle.plane_core.specs.declared.frame.Frame.{Frame}
 use Rattle.plane_core.specs.declared.place.Place.{Place}
 use Rattle.plane_core.specs.Bounds.{IsWithin}
 use Rattle.plane_core.specs.Boxes.{AreCovered, HoldAll, HoldDifferences, IsNearOne, IsQuiet, IsStillOutside, box_bound}
-use Rattle.plane_core.specs.Cells.{InOrder, IsPattern, has, on_plane, plane_bound}
+use Rattle.plane_core.specs.Cells.{InOrder, IsPattern, on_plane, plane_bound}
 use Rattle.plane_core.specs.Frames.{FillsFrame, IsFrame, LieOn, Shows, bounds_of}
 use Rattle.plane_core.specs.Generations.{after, lies_within}
 use Rattle.plane_core.specs.Boards.{AreRightFor, HasGoneOn, IsBoard}

@@ -11,7 +11,7 @@ use Rattle.plane_core.specs.declared.never_back.Corner.{Corner}
 use Rattle.plane_core.specs.Bounds.{shifted}
 use Rattle.plane_core.specs.Cells.{has, moved_by}
 use Rattle.plane_core.specs.Generations.{after, next}
-use Rattle.plane_core.specs.LonePatterns.{AreAlike, HasChanged, Holds, IsColumns, IsCorner, IsFirstRow, IsInWindow, IsRimClear, IsWhole}
+use Rattle.plane_core.specs.LonePatterns.{AreAlike, HasChanged, Holds, IsColumns, IsCorner, IsFirstRow, IsInWindow, IsRimClear, AreVectors}
 use Rattle.plane_core.specs.Rules.{Numbers}
 use Rattle.plane_core.specs.Windows.{IsNextWindow, row_at}
 use Rattle.plane_core.proofs.CaseLemmas.{less_or_not, same_or_not}
@@ -59,11 +59,11 @@ row_moves top dx dy S b a p q =
     one cx ex fx p q r s t = omega (arith, ints)
 
 -- a lit bit is a cell
-cell_of : (n : ℕ) (left top : ℤ) (x : List (List ℕ)) (S : List Cell) (i r : ℕ) → 0 < n → Holds n left top x S → IsWhole n x → bit_at (row_at n x r) i ≡ 1
+cell_of : (n : ℕ) (left top : ℤ) (x : List (List ℕ)) (S : List Cell) (i r : ℕ) → 0 < n → Holds n left top x S → AreVectors n x → bit_at (row_at n x r) i ≡ 1
     → has S (in_window left top i r) ≡ true
 cell_of n left top x S i r some h whole e = held_anywhere n left top x S i r some h whole ∙ ap (λ (m : ℕ). m == 1) e
 
-pub begins_column : (n : ℕ) (left top : ℤ) (x : List (List ℕ)) (S : List Cell) (w i : ℕ) → 0 < n → Holds n left top x S → IsWhole n x → IsColumns n x w
+pub begins_column : (n : ℕ) (left top : ℤ) (x : List (List ℕ)) (S : List Cell) (w i : ℕ) → 0 < n → Holds n left top x S → AreVectors n x → IsColumns n x w
     → bit_at w i ≡ 1 → ((k : ℕ) → k < i → bit_at w k ≡ 0) → BeginsColumn left S i
 begins_column n left top x S w i some h whole columns e none = record {
   some = let r = columns.alive i e in (in_window left top i r.0, cell_of n left top x S i r.0 some h whole r.2, refl);
@@ -76,7 +76,7 @@ begins_column n left top x S w i some h whole columns e none = record {
       | inr past ↦ let p = ap (λ (d : Cell). d.x) l.place in omega (arith, ints)
     ]
 
-pub begins_row : (n : ℕ) (left top : ℤ) (x : List (List ℕ)) (S : List Cell) (r : ℕ) → 0 < n → Holds n left top x S → IsWhole n x → IsFirstRow n x r
+pub begins_row : (n : ℕ) (left top : ℤ) (x : List (List ℕ)) (S : List Cell) (r : ℕ) → 0 < n → Holds n left top x S → AreVectors n x → IsFirstRow n x r
     → BeginsRow top S r
 begins_row n left top x S r some h whole first = record {
   some = let f = bit_at-trailing_zeros w64 (row_at n x r) first.some (row_small n x r some whole) in
@@ -119,7 +119,7 @@ equal_bits a (suc (suc b)) p q e = absurd (omega arith)
 pub record IsAgain (n : ℕ) (x y : List (List ℕ)) (b a e d : ℕ) : Type 0 where
   pub same : (i r : ℕ) → bit_at (row_at n x (e + r)) (b + i) ≡ bit_at (row_at n y (d + r)) (a + i)
 
-pub is_again : (n : ℕ) (left top dx dy : ℤ) (x y : List (List ℕ)) (S : List Cell) (b a e d : ℕ) → 0 < n → IsWhole n x → IsWhole n y → Holds n left top x S
+pub is_again : (n : ℕ) (left top dx dy : ℤ) (x y : List (List ℕ)) (S : List Cell) (b a e d : ℕ) → 0 < n → AreVectors n x → AreVectors n y → Holds n left top x S
     → Holds n left top y (shifted dx dy S) → BeginsColumn left S b → BeginsColumn left (shifted dx dy S) a → BeginsRow top S e
     → BeginsRow top (shifted dx dy S) d
     → IsAgain n x y b a e d
@@ -151,7 +151,7 @@ alike_bits (suc (suc a)) b p q f g = absurd (omega arith)
 alike_bits zero (suc (suc b)) p q f g = absurd (omega arith)
 
 -- the columns are the same, counted from the first one
-pub columns_again : (n : ℕ) (left top dx dy : ℤ) (x y : List (List ℕ)) (S : List Cell) (w v b a : ℕ) → 0 < n → IsWhole n x → IsWhole n y
+pub columns_again : (n : ℕ) (left top dx dy : ℤ) (x y : List (List ℕ)) (S : List Cell) (w v b a : ℕ) → 0 < n → AreVectors n x → AreVectors n y
     → IsColumns n x w → IsColumns n y v → Holds n left top x S → Holds n left top y (shifted dx dy S) → BeginsColumn left S b
     → BeginsColumn left (shifted dx dy S) a → w / 2 ^ b ≡ v / 2 ^ a
 columns_again n left top dx dy x y S w v b a some wx wy cw cv hx hy p q =
@@ -184,7 +184,7 @@ columns_again n left top dx dy x y S w v b a some wx wy cw cv hx hy p q =
             ap (λ (c : ℕ). bit_at w c) (sym at) ∙ cw.all s k l.row l.bit
 
 -- where there was a cell, there is one
-pub some_again : (n : ℕ) (left top dx dy : ℤ) (x y : List (List ℕ)) (S : List Cell) (w v : ℕ) → 0 < n → IsWhole n x → IsColumns n x w → IsColumns n y v
+pub some_again : (n : ℕ) (left top dx dy : ℤ) (x y : List (List ℕ)) (S : List Cell) (w v : ℕ) → 0 < n → AreVectors n x → IsColumns n x w → IsColumns n y v
     → Holds n left top x S → Holds n left top y (shifted dx dy S) → 0 < w → w < 2 ^ 64 → v ≡ 0 → ⊥
 some_again n left top dx dy x y S w v some wx cw cv hx hy alive small none =
     let i = trailing_zeros w64 w in
@@ -196,14 +196,14 @@ some_again n left top dx dy x y S w v some wx cw cv hx hy alive small none =
     go c (k, s, l) = let one = cv.all s k l.row l.bit in let z = bit_at-zero k in let m = ap (λ (u : ℕ). bit_at u k) none in absurd (omega arith)
 
 -- from the words of columns: the first one is that of the pattern
-pub begins : (n : ℕ) (left top : ℤ) (x : List (List ℕ)) (S : List Cell) (w : ℕ) → 0 < n → Holds n left top x S → IsWhole n x → IsColumns n x w → 0 < w
+pub begins : (n : ℕ) (left top : ℤ) (x : List (List ℕ)) (S : List Cell) (w : ℕ) → 0 < n → Holds n left top x S → AreVectors n x → IsColumns n x w → 0 < w
     → w < 2 ^ 64
     → BeginsColumn left S (trailing_zeros w64 w)
 begins n left top x S w some h whole columns alive small =
     let f = bit_at-trailing_zeros w64 w alive small in begins_column n left top x S w (trailing_zeros w64 w) some h whole columns f.1 f.2
 
 -- the same rows, where the code reads an empty one past the window
-pub same_rows : (n : ℕ) (left top dx dy : ℤ) (x y : List (List ℕ)) (S : List Cell) (w v p q r : ℕ) (first second : Corner) → 0 < n → IsWhole n x → IsWhole n y
+pub same_rows : (n : ℕ) (left top dx dy : ℤ) (x y : List (List ℕ)) (S : List Cell) (w v p q r : ℕ) (first second : Corner) → 0 < n → AreVectors n x → AreVectors n y
     → IsColumns n x w → IsColumns n y v → Holds n left top x S → Holds n left top y (shifted dx dy S) → IsCorner n x w first → IsCorner n y v second
     → (first.row + r < 4 * n → p ≡ row_at n x (first.row + r)) → (4 * n ≤ first.row + r → p ≡ 0)
     → (second.row + r < 4 * n → q ≡ row_at n y (second.row + r)) → (4 * n ≤ second.row + r → q ≡ 0)
@@ -218,7 +218,7 @@ same_rows n left top dx dy x y S w v p q r first second some wx wy cw cv hx hy c
     (begins_row n left top y (shifted dx dy S) second.row some hy wy cy.row))
     ∙ sym (ap (λ (m : ℕ). m / 2 ^ second.column) (read n y (second.row + r) q some wy q1 q2))
   where
-    read : (n : ℕ) (z : List (List ℕ)) (s m : ℕ) → 0 < n → IsWhole n z → (s < 4 * n → m ≡ row_at n z s) → (4 * n ≤ s → m ≡ 0) → m ≡ row_at n z s
+    read : (n : ℕ) (z : List (List ℕ)) (s m : ℕ) → 0 < n → AreVectors n z → (s < 4 * n → m ≡ row_at n z s) → (4 * n ≤ s → m ≡ 0) → m ≡ row_at n z s
     read n z s m some whole inside past = elim (less_or_not s (4 * n)) [ inl low ↦ inside low | inr far ↦ past far ∙ sym (row_past n z s some whole far) ]
 
 -- ---- generation after generation
@@ -317,13 +317,13 @@ changed-ever rule n left top S m h g less back changed = record {
 
 -- the window after some generations, with one that was kept
 pub record IsChanging (rule : Numbers) (n : ℕ) (start now kept : List (List ℕ)) (columns made : ℕ) : Type 0 where
-  pub whole : IsWhole n now
+  pub whole : AreVectors n now
   pub columns_are : IsColumns n now columns
   pub held : (S : List Cell) (left top : ℤ) → Holds n left top start S → Holds n left top now (after rule S made)
   pub earlier : (h : ℕ) × (h ≤ made) × ((S : List Cell) (left top : ℤ) → Holds n left top start S → Holds n left top kept (after rule S h))
   pub changed : (S : List Cell) (left top : ℤ) → Holds n left top start S → HasChanged rule n left top S made
 
-pub changing_start : (rule : Numbers) (n : ℕ) (start : List (List ℕ)) (columns : ℕ) → IsWhole n start → IsColumns n start columns
+pub changing_start : (rule : Numbers) (n : ℕ) (start : List (List ℕ)) (columns : ℕ) → AreVectors n start → IsColumns n start columns
     → IsChanging rule n start start start columns 0
 changing_start rule n start columns whole are = record {
   whole = whole;
@@ -338,7 +338,7 @@ changing_start rule n start columns whole are = record {
 
 -- a generation more, which isn't the start again
 pub changing_more : (rule : Numbers) (n : ℕ) (start now kept later : List (List ℕ)) (columns columns_later made : ℕ) (again : Bool) → 0 < n
-    → IsChanging rule n start now kept columns made → IsRimClear n now → IsNextWindow rule n now later → IsWhole n later → IsColumns n later columns_later
+    → IsChanging rule n start now kept columns made → IsRimClear n now → IsNextWindow rule n now later → AreVectors n later → IsColumns n later columns_later
     → ((S : List Cell) (left top dx dy : ℤ) → Holds n left top start S → Holds n left top later (shifted dx dy S) → again ≡ true) → again ≡ false
     → IsChanging rule n start later kept columns_later (made + 1)
 changing_more rule n start now kept later columns columns_later made again some before clear step whole are may not = record {

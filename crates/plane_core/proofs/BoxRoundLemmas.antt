@@ -1,12 +1,12 @@
 -- A box round a pattern, and how far it lies from the origin.
-use Rattle.std.proofs.Common.{◌≡◌, ◌+◌, ◌*◌, ◌/◌, ◌≤◌, ◌-ℤ◌, ℕ, pos, true, List, arith, unsigned_abs, leb}
+use Rattle.std.proofs.Common.{◌≡◌, ◌≤◌, ℕ, true, List, arith, unsigned_abs, leb}
 use Rattle.std.proofs.lemmas.Int.{ints}
 use Rattle.std.proofs.lemmas.Bool.{le-leb, and_from}
 use Rattle.std.proofs.lemmas.List.Elements.{recursion_from_All}
 use Rattle.plane_core.specs.declared.bounds.Bounds.{Bounds}
 use Rattle.plane_core.specs.declared.cell.Cell.{Cell}
 use Rattle.plane_core.specs.Bounds.{AreSidesWithin, IsWithin, IsLeastBox}
-use Rattle.plane_core.specs.Cells.{plane_bound, distance, has, is_within}
+use Rattle.plane_core.specs.Cells.{has, is_within}
 use Rattle.plane_core.specs.Generations.{lies_within}
 use Rattle.plane_core.proofs.SearchLemmas.{has-list_all}
 use Rattle.plane_core.proofs.SetLemmas.{has-all}
@@ -23,8 +23,9 @@ fewer_sides m n b low h = record {
 pub in_box : (S : List Cell) (b : Bounds) (c : Cell) → IsLeastBox S b → has S c ≡ true → IsWithin b c
 in_box S b c least e = has-all (IsWithin b) S c (recursion_from_All (IsWithin b) S least.within) e
 
-pub lies_round : (S : List Cell) (b : Bounds) (n : ℕ) → IsLeastBox S b → AreSidesWithin n b → lies_within n S ≡ true
-lies_round S b n least sides = has-list_all (is_within n) S (λ c e. near c (in_box S b c least e))
+-- the cells of a box are no further from the origin than its sides
+pub lies_in : (S : List Cell) (b : Bounds) (n : ℕ) → ((c : Cell) → has S c ≡ true → IsWithin b c) → AreSidesWithin n b → lies_within n S ≡ true
+lies_in S b n inside sides = has-list_all (is_within n) S (λ c e. near c (inside c e))
   where
     near : (c : Cell) → IsWithin b c → is_within n c ≡ true
     near c within =
@@ -38,3 +39,6 @@ lies_round S b n least sides = has-list_all (is_within n) S (λ c e. near c (in_
         let sd = sides.bottom in
         and_from (leb (unsigned_abs c.x) n) (leb (unsigned_abs c.y) n) (le-leb (unsigned_abs c.x) n (omega (arith, ints)))
         (le-leb (unsigned_abs c.y) n (omega (arith, ints)))
+
+pub lies_round : (S : List Cell) (b : Bounds) (n : ℕ) → IsLeastBox S b → AreSidesWithin n b → lies_within n S ≡ true
+lies_round S b n least sides = lies_in S b n (λ c e. in_box S b c least e) sides

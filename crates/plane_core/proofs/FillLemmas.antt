@@ -1,5 +1,5 @@
 -- Cells that are put on a board, one after another.
-use Rattle.std.proofs.Common.{◌≡◌, ◌≢◌, ◌==◌, ◌+◌, ◌*◌, ◌/◌, ◌%◌, ◌^◌, ◌<◌, ◌≤◌, ℕ}
+use Rattle.std.proofs.Common.{◌≡◌, ◌≢◌, ◌==◌, ◌+◌, ◌*◌, ◌/◌, ◌%◌, ◌^◌, ◌<◌, ℕ}
 use Rattle.std.proofs.Common.{pos, ◌-ℤ◌, zero, suc, Bool, true, false, ◌||◌, List, [], ◌∷◌, ◌++◌}
 use Rattle.std.proofs.Common.{arith, refl, ap, ◌∙◌, sym, subst, inl, inr, ◌⊎◌}
 use Rattle.std.proofs.Common.{slice_index, get_or, set, get_or-set_same, get_or-set_other, length, bit_or, w64, take, replicate}
@@ -10,7 +10,7 @@ use Rattle.plane_core.specs.declared.frame.Frame.{Frame}
 use Rattle.plane_core.specs.declared.cell.Cell.{Cell}
 use Rattle.plane_core.specs.Bounds.{IsWithin}
 use Rattle.plane_core.specs.Cells.{has, same_cell}
-use Rattle.plane_core.specs.Frames.{FillsFrame, Shows, bounds_of, cell_of, word_of}
+use Rattle.plane_core.specs.Frames.{Shows, bounds_of, board_cell, word_of}
 use Rattle.plane_core.proofs.CaseLemmas.{same_or_not}
 use Rattle.plane_core.proofs.CellLemmas.{same_cell-itself, same_cell-same}
 use Rattle.plane_core.proofs.FrameLemmas.{one_spot, one_word, spot_inside, spot_of, word-inside}
@@ -26,13 +26,13 @@ or_one : (a : Bool) → (a || (true || false)) ≡ true
 or_one true = refl
 or_one false = refl
 
-pub shown_more : (at : Frame) (ws : List ℕ) (S : List Cell) (c : Cell) (s d i : ℕ) → s < at.lanes → d < at.rows → i < 64 → c ≡ cell_of at s d i
+pub shown_more : (at : Frame) (ws : List ℕ) (S : List Cell) (c : Cell) (s d i : ℕ) → s < at.lanes → d < at.rows → i < 64 → c ≡ board_cell at s d i
     → word_of at s d < length ws → Shows at ws S
     → Shows at (set ws (word_of at s d) (bit_or (get_or ws (word_of at s d) 0) (1 * 2 ^ i % 2 ^ 64))) (S ++ c ∷ [])
 shown_more at ws S c s d i hs hd hi is low shown t y k ht hy hk = has-append S (c ∷ []) p ∙ row (same_or_not (word_of at t y) (word_of at s d))
   where
     p : Cell
-    p = cell_of at t y k
+    p = board_cell at t y k
 
     m : ℕ
     m = word_of at s d
@@ -52,7 +52,7 @@ shown_more at ws S c s d i hs hd hi is low shown t y k ht hy hk = has-append S (
 
     bit : (word_of at t y ≡ m) → (t ≡ s) × (y ≡ d) → (k ≡ i) ⊎ (k ≢ i) → (has S p || (same_cell p c || false)) ≡ (bit_at new k == 1)
     bit here (a, b) (inl same) =
-        let cell : p ≡ c = (λ j. cell_of at (a j) (b j) (same j)) ∙ sym is in
+        let cell : p ≡ c = (λ j. board_cell at (a j) (b j) (same j)) ∙ sym is in
         let one : bit_at new k ≡ 1 = ap (λ (n : ℕ). bit_at new n) same ∙ bit_at_set_same w64 (get_or ws m 0) i hi in
         ap (λ (b : Bool). has S p || (b || false)) (ap (λ (e : Cell). same_cell p e) (sym cell) ∙ same_cell-itself p) ∙ or_one (has S p)
         ∙ ap (λ (n : ℕ). n == 1) (sym one)

@@ -1,14 +1,14 @@
 -- Where cells stand on a board, and a frame round a pattern.
-use Rattle.std.proofs.Common.{◌≡◌, ◌≢◌, ◌+◌, ◌-◌, ◌*◌, ◌/◌, ◌%◌, ◌^◌, ◌<◌, ◌≤◌, ℕ, pos, ◌+ℤ◌, ◌-ℤ◌, true, List}
-use Rattle.std.proofs.Common.{◌≤ℤ◌, arith, refl, ap, sym, subst, inl, inr, ◌⊎◌, unsigned_abs}
+use Rattle.std.proofs.Common.{◌≡◌, ◌≢◌, ◌+◌, ◌-◌, ◌*◌, ◌/◌, ◌%◌, ◌^◌, ◌<◌, ◌≤◌, ℕ, pos, ◌+ℤ◌, ◌-ℤ◌, List}
+use Rattle.std.proofs.Common.{◌≤ℤ◌, arith, refl, ap, ◌∙◌, sym, subst, inl, inr, ◌⊎◌}
 use Rattle.std.proofs.lemmas.Int.{ints}
 use Rattle.std.proofs.Math.Nat.{mul-le-mul}
 use Rattle.plane_core.specs.declared.frame.Frame.{Frame}
 use Rattle.plane_core.specs.declared.bounds.Bounds.{Bounds}
 use Rattle.plane_core.specs.declared.cell.Cell.{Cell}
 use Rattle.plane_core.specs.Bounds.{IsWithin, IsLeastBox}
-use Rattle.plane_core.specs.Cells.{plane_bound, distance, has}
-use Rattle.plane_core.specs.Frames.{IsFrame, LieOn, bounds_of, cell_of, word_of}
+use Rattle.plane_core.specs.Cells.{plane_bound, distance}
+use Rattle.plane_core.specs.Frames.{HasRoom, IsFrame, LieOn, bounds_of, board_cell, word_of}
 use Rattle.plane_core.specs.Bounds.{AreSidesWithin}
 use Rattle.plane_core.proofs.CaseLemmas.{less_or_not, same_or_not}
 use Rattle.plane_core.proofs.BoxRoundLemmas.{fewer_sides, in_box}
@@ -46,10 +46,10 @@ one_word h s r t y e hr hy = go (same_or_not s t)
 -- ---- cells
 
 -- the cell so many columns and rows away from the board's corner
-pub spot_of : (at : Frame) (c : Cell) (a d : ℕ) → pos a ≡ c.x -ℤ at.left → pos d ≡ c.y -ℤ at.top → c ≡ cell_of at (a / 64) d (a % 64)
+pub spot_of : (at : Frame) (c : Cell) (a d : ℕ) → pos a ≡ c.x -ℤ at.left → pos d ≡ c.y -ℤ at.top → c ≡ board_cell at (a / 64) d (a % 64)
 spot_of at c a d p q = same_cells c.x c.y _ _ (omega (arith, ints)) (omega (arith, ints))
 
-pub one_spot : (at : Frame) (t y k s d i : ℕ) → k < 64 → i < 64 → cell_of at t y k ≡ cell_of at s d i → (t ≡ s) × (y ≡ d) × (k ≡ i)
+pub one_spot : (at : Frame) (t y k s d i : ℕ) → k < 64 → i < 64 → board_cell at t y k ≡ board_cell at s d i → (t ≡ s) × (y ≡ d) × (k ≡ i)
 one_spot at t y k s d i hk hi e =
     let x : at.left +ℤ pos (64 * t + k) ≡ at.left +ℤ pos (64 * s + i) = ap (λ (c : Cell). c.x) e in
     let z : at.top +ℤ pos y ≡ at.top +ℤ pos d = ap (λ (c : Cell). c.y) e in
@@ -133,4 +133,67 @@ round_on_plane b margin at low across down sides is =
       top = omega (arith, ints);
       right = omega (arith, ints);
       bottom = omega (arith, ints);
+    }
+
+-- ---- a frame in whose middle a box lies
+
+pub room_on_plane : (at : Frame) (b : Bounds) → HasRoom at b → AreSidesWithin plane_bound b
+room_on_plane at b room = fewer_sides (plane_bound - (64 * at.lanes + at.rows)) plane_bound b (omega arith) room.sides
+
+-- a frame that is made so
+pub record IsRoundMiddle (at : Frame) (b : Bounds) (new : Frame) : Type 0 where
+  pub left : new.left ≡ b.left -ℤ pos ((64 * at.lanes - (distance b.left b.right + 1)) / 2)
+  pub top : new.top ≡ b.top -ℤ pos ((at.rows - (distance b.top b.bottom + 1)) / 2)
+  pub lanes : new.lanes ≡ at.lanes
+  pub rows : new.rows ≡ at.rows
+
+pub middle_has_on : (at : Frame) (b : Bounds) (new : Frame) → b.left ≤ℤ b.right → b.top ≤ℤ b.bottom → HasRoom at b → IsRoundMiddle at b new
+    → (c : Cell) → IsWithin b c → IsWithin (bounds_of new) c
+middle_has_on at b new across down room is c within =
+    let l = is.left in
+    let t = is.top in
+    let s = is.lanes in
+    let k = is.rows in
+    let w = room.across in
+    let h = room.down in
+    record {
+      left = let p = within.left in omega (arith, ints);
+      top = let p = within.top in omega (arith, ints);
+      right = let p = within.right in omega (arith, ints);
+      bottom = let p = within.bottom in omega (arith, ints);
+    }
+
+pub middle_on_plane : (at : Frame) (b : Bounds) (new : Frame) → b.left ≤ℤ b.right → b.top ≤ℤ b.bottom → HasRoom at b → IsRoundMiddle at b new
+    → AreSidesWithin plane_bound (bounds_of new)
+middle_on_plane at b new across down room is =
+    let l = is.left in
+    let t = is.top in
+    let s = is.lanes in
+    let k = is.rows in
+    let w = room.across in
+    let h = room.down in
+    let m = room.plane in
+    let sl = room.sides.left in
+    let st = room.sides.top in
+    let right : (bounds_of new).right ≡ new.left +ℤ (pos (64 * new.lanes) -ℤ pos 1) = refl in
+    let bottom : (bounds_of new).bottom ≡ new.top +ℤ (pos new.rows -ℤ pos 1) = refl in
+    record {
+      left = omega (arith, ints);
+      top = omega (arith, ints);
+      right = omega (arith, ints);
+      bottom = omega (arith, ints);
+    }
+
+pub middle_is_frame : (at : Frame) (b : Bounds) (new : Frame) → b.left ≤ℤ b.right → b.top ≤ℤ b.bottom → IsFrame at → HasRoom at b
+    → IsRoundMiddle at b new → IsFrame new
+middle_is_frame at b new across down frame room is =
+    let plane = middle_on_plane at b new across down room is in
+    let s = is.lanes in
+    let k = is.rows in
+    record {
+      left = let p = plane.left in omega arith;
+      top = let p = plane.top in omega arith;
+      lanes = let p = frame.lanes in omega arith;
+      rows = let p = frame.rows in omega arith;
+      bands = k ∙ frame.bands ∙ ap (λ (n : ℕ). 8 * (n / 8)) (sym k);
     }

@@ -12,7 +12,7 @@ use Rattle.plane_core.specs.declared.frame.Frame.{Frame}
 use Rattle.plane_core.specs.declared.place.Place.{Place}
 use Rattle.plane_core.specs.Cells.{has}
 use Rattle.plane_core.specs.Differences.{DiffersOnlyIn}
-use Rattle.plane_core.specs.Frames.{Shows, cell_of, word_of}
+use Rattle.plane_core.specs.Frames.{Shows, board_cell, word_of}
 use Rattle.plane_core.specs.Generations.{after}
 use Rattle.plane_core.specs.Leaps.{ArePutBack, AreRun, HasLeapt, IsRun, IsRunAt, TellsChanges}
 use Rattle.plane_core.specs.Placed.{IsInner, IsPutBack, IsReadAt, bit_on, cell_on}
@@ -231,7 +231,7 @@ leapt at rule count places held changes old new ran put cells o shows off s r i 
     split (put (after rule cells count) (λ k p low. (ran.run k p (record { columns = 0; rows = 0 }) low cells o shows).0) (64 * s + i) r (omega arith) hr)
   where
     c : Cell
-    c = cell_of at s r i
+    c = board_cell at s r i
 
     new_bit : bit_on at new (64 * s + i) r ≡ bit_at (slice_index new (word_of at s r)) i
     new_bit = bit_of_lane at new s r i hi

@@ -1,6 +1,7 @@
 pub mod AdvanceLemmas
 pub mod AgainLemmas
 pub mod AnswerLemmas
+pub mod BoardLemmas
 pub mod BoundsLemmas
 pub mod BoxLemmas
 pub mod BoxRoundLemmas
@@ -52,6 +53,7 @@ pub mod RunLemmas
 pub mod SearchLemmas
 pub mod SetLemmas
 pub mod ShiftLemmas
+pub mod SpanLemmas
 pub mod SpeedLemmas
 pub mod StrayLemmas
 pub mod TallyLemmas

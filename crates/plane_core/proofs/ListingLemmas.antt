@@ -11,9 +11,13 @@ use Rattle.std.proofs.lemmas.Bool.{false≢true, or_cases, eqb-true}
 use Rattle.plane_core.specs.declared.frame.Frame.{Frame}
 use Rattle.plane_core.specs.declared.cell.Cell.{Cell}
 use Rattle.plane_core.specs.Cells.{InOrder, cell_at, has, set_of}
-use Rattle.plane_core.specs.Frames.{LieOn, Shows, cell_of, word_of}
+use Rattle.plane_core.specs.Frames.{LieOn, Shows, board_cell, word_of}
 use Rattle.plane_core.specs.Listing.{AreAmong, AreDead, HasRead, HasReadRow, HasReadRows, IsBandEmpty, IsLaneEmpty, IsNextAlive, IsRowEmpty}
+use Rattle.plane_core.specs.OnBoard.{cells_on}
+use Rattle.plane_core.specs.Spans.{HasRow, IsInSpan, LieInLanes, LieInSpans}
+use Rattle.plane_core.specs.declared.spans.Span.{Span}
 use Rattle.plane_core.proofs.CaseLemmas.{less_or_not, same_or_not}
+use Rattle.plane_core.proofs.SpanLemmas.{dead_outside, live_bit}
 use Rattle.plane_core.proofs.FrameLemmas.{spot_inside, spot_of}
 use Rattle.plane_core.proofs.CellLemmas.{same_cells}
 use Rattle.plane_core.proofs.SetLemmas.{has-append, has-cases, has-head, is_set_of, or_right}
@@ -102,7 +106,7 @@ read_on word first old new i j none read = record {
 
 -- ---- a row
 
-pub along_cell : (at : Frame) (s r i : ℕ) → cell_at ((cell_of at s r 0).x +ℤ pos i) (cell_of at s r 0).y ≡ cell_of at s r i
+pub along_cell : (at : Frame) (s r i : ℕ) → cell_at ((board_cell at s r 0).x +ℤ pos i) (board_cell at s r 0).y ≡ board_cell at s r i
 along_cell at s r i = same_cells _ _ _ _ (omega (arith, ints)) refl
 
 pub row-none : (at : Frame) (words : List ℕ) (r : ℕ) (old : List Cell) → HasReadRow at words r old 0 old
@@ -117,39 +121,39 @@ row-on at words r n m old new empty before = record {
   complete = λ s i near low bit. found s i near low bit (less_or_not s n);
 }
   where
-    found : (s i : ℕ) → s < m → i < 64 → bit_at (slice_index words (word_of at s r)) i ≡ 1 → (s < n) ⊎ (n ≤ s) → has new (cell_of at s r i) ≡ true
+    found : (s i : ℕ) → s < m → i < 64 → bit_at (slice_index words (word_of at s r)) i ≡ 1 → (s < n) ⊎ (n ≤ s) → has new (board_cell at s r i) ≡ true
     found s i near low bit (inl done) = before.complete s i done low bit
-    found s i near low bit (inr past) = let none = empty s i past near in absurd (omega (arith, none, bit))
+    found s i near low bit (inr past) = let none = empty s i past near low in absurd (omega (arith, none, bit))
 
 -- a row of an empty band is empty
 pub row-empty : (at : Frame) (words : List ℕ) (band r n m : ℕ) → 8 * band ≤ r → r < 8 * band + 8 → IsBandEmpty at words band n m
     → IsRowEmpty at words r n m
-row-empty at words band r n m low high empty s b past near =
+row-empty at words band r n m low high empty s b past near small =
     let row : 8 * band + (r - 8 * band) ≡ r = omega arith in
-    ap (λ (q : ℕ). bit_at (slice_index words (word_of at s q)) b) (sym row) ∙ empty s past near (r - 8 * band) b (omega arith)
+    ap (λ (q : ℕ). bit_at (slice_index words (word_of at s q)) b) (sym row) ∙ empty s past near (r - 8 * band) b (omega arith) small
 
 pub row-more : (at : Frame) (words : List ℕ) (s r word : ℕ) (first : Cell) (old new more : List Cell) → s < at.lanes → r < at.rows
-    → word ≡ slice_index words (word_of at s r) → first ≡ cell_of at s r 0 → HasReadRow at words r old s new → HasRead word first new 64 more
-    → HasReadRow at words r old (s + 1) more
+    → ((i : ℕ) → i < 64 → bit_at word i ≡ bit_at (slice_index words (word_of at s r)) i) → first ≡ board_cell at s r 0
+    → HasReadRow at words r old s new → HasRead word first new 64 more → HasReadRow at words r old (s + 1) more
 row-more at words s r word first old new more hs hr word_is first_is before read = record {
   grows = λ d e. read.grows d (before.grows d e);
   sound = λ others shown among. read.sound others (alive others shown) (before.sound others shown among);
   complete = λ k i near low bit. found k i near low bit (same_or_not k s);
 }
   where
-    cell : (i : ℕ) → cell_at (first.x +ℤ pos i) first.y ≡ cell_of at s r i
+    cell : (i : ℕ) → cell_at (first.x +ℤ pos i) first.y ≡ board_cell at s r i
     cell i = ap (λ (c : Cell). cell_at (c.x +ℤ pos i) c.y) first_is ∙ along_cell at s r i
 
     alive : (others : List Cell) → Shows at words others → (i : ℕ) → i < 64 → bit_at word i ≡ 1 → has others (cell_at (first.x +ℤ pos i) first.y) ≡ true
     alive others shown i low bit =
         ap (λ (c : Cell). has others c) (cell i) ∙ shown s r i hs hr low
-        ∙ ap (λ (n : ℕ). n == 1) (ap (λ (w : ℕ). bit_at w i) (sym word_is) ∙ bit)
+        ∙ ap (λ (n : ℕ). n == 1) (sym (word_is i low) ∙ bit)
 
-    found : (k i : ℕ) → k < s + 1 → i < 64 → bit_at (slice_index words (word_of at k r)) i ≡ 1 → (k ≡ s) ⊎ (k ≢ s) → has more (cell_of at k r i) ≡ true
+    found : (k i : ℕ) → k < s + 1 → i < 64 → bit_at (slice_index words (word_of at k r)) i ≡ 1 → (k ≡ s) ⊎ (k ≢ s) → has more (board_cell at k r i) ≡ true
     found k i near low bit (inl same) =
-        let here : bit_at word i ≡ 1 = ap (λ (w : ℕ). bit_at w i) (word_is ∙ ap (λ (n : ℕ). slice_index words (word_of at n r)) (sym same)) ∙ bit in
-        ap (λ (n : ℕ). has more (cell_of at n r i)) same ∙ ap (λ (c : Cell). has more c) (sym (cell i)) ∙ read.complete i low here
-    found k i near low bit (inr apart) = read.grows (cell_of at k r i) (before.complete k i (omega arith) low bit)
+        let here : bit_at word i ≡ 1 = word_is i low ∙ ap (λ (n : ℕ). bit_at (slice_index words (word_of at n r)) i) (sym same) ∙ bit in
+        ap (λ (n : ℕ). has more (board_cell at n r i)) same ∙ ap (λ (c : Cell). has more c) (sym (cell i)) ∙ read.complete i low here
+    found k i near low bit (inr apart) = read.grows (board_cell at k r i) (before.complete k i (omega arith) low bit)
 
 -- ---- the board
 
@@ -161,11 +165,11 @@ rows-more at words r new more before read = record {
 }
   where
     found : (s k i : ℕ) → s < at.lanes → k < r + 1 → i < 64 → bit_at (slice_index words (word_of at s k)) i ≡ 1 → (k ≡ r) ⊎ (k ≢ r)
-        → has more (cell_of at s k i) ≡ true
+        → has more (board_cell at s k i) ≡ true
     found s k i hs near low bit (inl same) =
-        ap (λ (n : ℕ). has more (cell_of at s n i)) same
+        ap (λ (n : ℕ). has more (board_cell at s n i)) same
         ∙ read.complete s i hs low (ap (λ (n : ℕ). bit_at (slice_index words (word_of at s n)) i) (sym same) ∙ bit)
-    found s k i hs near low bit (inr apart) = read.grows (cell_of at s k i) (before.complete s k i hs (omega arith) low bit)
+    found s k i hs near low bit (inr apart) = read.grows (board_cell at s k i) (before.complete s k i hs (omega arith) low bit)
 
 pub rows-none : (at : Frame) (words : List ℕ) (cells : List Cell) → cells ≡ [] → HasReadRows at words 0 cells
 rows-none at words cells none = record {
@@ -182,18 +186,18 @@ rows-on at words band new empty before = record {
 }
   where
     found : (s r i : ℕ) → s < at.lanes → r < 8 * band + 8 → i < 64 → bit_at (slice_index words (word_of at s r)) i ≡ 1
-        → (r < 8 * band) ⊎ (8 * band ≤ r) → has new (cell_of at s r i) ≡ true
+        → (r < 8 * band) ⊎ (8 * band ≤ r) → has new (board_cell at s r i) ≡ true
     found s r i hs near low bit (inl done) = before.complete s r i hs done low bit
     found s r i hs near low bit (inr here) =
         let row : 8 * band + (r - 8 * band) ≡ r = omega arith in
-        let none = empty s (omega arith) hs (r - 8 * band) i (omega arith) in
+        let none = empty s (omega arith) hs (r - 8 * band) i (omega arith) low in
         let same = ap (λ (n : ℕ). bit_at (slice_index words (word_of at s n)) i) row in
         absurd (omega (arith, none, same, bit))
 
 -- a block without a column is empty
 pub lane-empty : (at : Frame) (words : List ℕ) (s band from columns : ℕ) → from ≡ word_of at s (8 * band) → columns ≡ 0
     → ((b k : ℕ) → bit_at columns b ≡ 0 → k < 8 → bit_at (slice_index words (from + k)) b ≡ 0) → IsLaneEmpty at words band s
-lane-empty at words s band from columns is zero here k b low =
+lane-empty at words s band from columns is zero here k b low small =
     let spot : word_of at s (8 * band + k) ≡ from + k = omega (arith, is) in
     ap (λ (n : ℕ). bit_at (slice_index words n) b) spot ∙ here b k (ap (λ (n : ℕ). bit_at n b) zero ∙ bit_at-zero b) low
 
@@ -226,6 +230,50 @@ eight-more words from k columns before b m none near = go (same_or_not m k)
         let e = bit_at_or columns (slice_index words (from + k)) b in
         before b m (omega (arith, e, none)) (omega arith)
 
+-- where its span doesn't reach, a lane is empty
+pub lane_missed : (at : Frame) (words : List ℕ) (spans : List Span) (s band : ℕ) → s < at.lanes → band < at.rows / 8
+    → LieInSpans at spans (cells_on at words) → ((k : ℕ) → k < 8 → IsInSpan spans s (8 * band + k) → ⊥) → IsLaneEmpty at words band s
+lane_missed at words spans s band hs hb live missed k b low small =
+    dead_outside at words spans s (8 * band + k) b live hs (omega (arith, low, hb)) small (missed k low)
+
+-- and where no span reaches, lanes are
+pub band_missed : (at : Frame) (words : List ℕ) (spans : List Span) (lanes : Span) (band from to : ℕ) → band < at.rows / 8 → to ≤ at.lanes
+    → LieInSpans at spans (cells_on at words) → LieInLanes at spans lanes → ((s : ℕ) → from ≤ s → s < to → HasRow lanes s → ⊥)
+    → IsBandEmpty at words band from to
+band_missed at words spans lanes band from to hb most live held out s past near =
+    lane_missed at words spans s band (omega (arith, near, most)) hb live
+    (λ k low inside. out s past near (held s (8 * band + k) (omega (arith, near, most)) inside))
+
+-- two neighbouring bands
+pub band_joined : (at : Frame) (words : List ℕ) (band from mid to : ℕ) → IsBandEmpty at words band from mid → IsBandEmpty at words band mid to
+    → IsBandEmpty at words band from to
+band_joined at words band from mid to first second s past near = elim (less_or_not s mid) [
+  | inl less ↦ first s past less
+  | inr more ↦ second s more near
+]
+
+-- outside of the bands that spans reach there is nothing to read
+pub bands_before : (at : Frame) (words : List ℕ) (spans : List Span) (bands : Span) (cells : List Cell) → cells ≡ [] → 8 * bands.from ≤ at.rows
+    → LieInSpans at spans (cells_on at words) → ((s r : ℕ) → s < at.lanes → r < at.rows → IsInSpan spans s r → HasRow bands (r / 8))
+    → HasReadRows at words (8 * bands.from) cells
+bands_before at words spans bands cells none low live held = record {
+  sound = (rows-none at words cells none).sound;
+  complete = λ s r i hs near small bit.
+      let hr : r < at.rows = omega (arith, near, low) in
+      let h = (held s r hs hr (live s r i hs hr small (live_bit at words s r i hs hr small bit))).low in
+      absurd (omega (arith, h, near));
+}
+
+pub bands_after : (at : Frame) (words : List ℕ) (spans : List Span) (bands : Span) (band : ℕ) (cells : List Cell) → bands.end ≤ band
+    → LieInSpans at spans (cells_on at words) → ((s r : ℕ) → s < at.lanes → r < at.rows → IsInSpan spans s r → HasRow bands (r / 8))
+    → HasReadRows at words (8 * band) cells → HasReadRows at words at.rows cells
+bands_after at words spans bands band cells low live held before = record {
+  sound = before.sound;
+  complete = λ s r i hs hr small bit.
+      let h = (held s r hs hr (live s r i hs hr small (live_bit at words s r i hs hr small bit))).high in
+      before.complete s r i hs (omega (arith, h, low)) small bit;
+}
+
 natural : (d : ℤ) (a : ℤ) → a ≤ℤ d → pos (unsigned_abs (d -ℤ a)) ≡ d -ℤ a
 natural d a h = omega (arith, ints)
 
@@ -244,6 +292,6 @@ read_all at words S new o fits shown read = sym (is_set_of S new o (λ c. both_t
         let is = spot_of at c a d p q in
         let hs : a / 64 < at.lanes = (spot_inside at c a d within p q).0 in
         let hr : d < at.rows = (spot_inside at c a d within p q).1 in
-        let alive : has S (cell_of at (a / 64) d (a % 64)) ≡ true = ap (λ (x : Cell). has S x) (sym is) ∙ e in
+        let alive : has S (board_cell at (a / 64) d (a % 64)) ≡ true = ap (λ (x : Cell). has S x) (sym is) ∙ e in
         let bit : (bit_at (slice_index words (word_of at (a / 64) d)) (a % 64) == 1) ≡ true = sym (shown (a / 64) d (a % 64) hs hr (omega arith)) ∙ alive in
         ap (λ (x : Cell). has new x) is ∙ read.complete (a / 64) d (a % 64) hs hr (omega arith) (eqb-true _ 1 bit)

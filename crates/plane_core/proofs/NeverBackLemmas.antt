@@ -12,7 +12,7 @@ use Rattle.std.proofs.Math.Nat.{div-div-eq-div-mul, le-div_iff_mul-le}
 use Rattle.plane_core.specs.declared.cell.Cell.{Cell}
 use Rattle.plane_core.specs.Cells.{InOrder, cell_at, distance, has, king_distance, moved_by}
 use Rattle.plane_core.specs.Generations.{around, next}
-use Rattle.plane_core.specs.LonePatterns.{AreAlike, Holds, IsColumns, IsInWindow, IsRimClear, IsVector, IsWhole}
+use Rattle.plane_core.specs.LonePatterns.{AreAlike, Holds, IsColumns, IsInWindow, IsRimClear, IsVector, AreVectors}
 use Rattle.plane_core.specs.Lanes.{bit_of, row_sum}
 use Rattle.plane_core.specs.Rules.{Numbers}
 use Rattle.plane_core.specs.Tallies.{counted_at, lives_by, one_of}
@@ -26,10 +26,10 @@ use Rattle.plane_core.proofs.CaseLemmas.{less_or_not, same_or_not}
 
 -- ---- rows
 
-pub row_small : (n : ℕ) (x : List (List ℕ)) (r : ℕ) → 0 < n → IsWhole n x → row_at n x r < 2 ^ 64
+pub row_small : (n : ℕ) (x : List (List ℕ)) (r : ℕ) → 0 < n → AreVectors n x → row_at n x r < 2 ^ 64
 row_small n x r some whole = (whole (r % n) (mod_below r n some)).small (r / n)
 
-pub row_past : (n : ℕ) (x : List (List ℕ)) (r : ℕ) → 0 < n → IsWhole n x → 4 * n ≤ r → row_at n x r ≡ 0
+pub row_past : (n : ℕ) (x : List (List ℕ)) (r : ℕ) → 0 < n → AreVectors n x → 4 * n ≤ r → row_at n x r ≡ 0
 row_past n x r some whole far = get_or_past _ (r / n) 0 (omega (
   arith,
   (whole (r % n) (mod_below r n some)).long,
@@ -83,7 +83,7 @@ not_lit : (m : ℕ) → m ≡ 0 → false ≡ (m == 1)
 not_lit m none = ap (λ (k : ℕ). k == 1) (sym none)
 
 -- the window's rows and columns go on without end, with no cell in them
-pub held_anywhere : (n : ℕ) (left top : ℤ) (x : List (List ℕ)) (S : List Cell) (i r : ℕ) → 0 < n → Holds n left top x S → IsWhole n x
+pub held_anywhere : (n : ℕ) (left top : ℤ) (x : List (List ℕ)) (S : List Cell) (i r : ℕ) → 0 < n → Holds n left top x S → AreVectors n x
     → has S (in_window left top i r) ≡ (bit_at (row_at n x r) i == 1)
 held_anywhere n left top x S i r some h whole = go (less_or_not i 64) (less_or_not r (4 * n))
   where
@@ -197,7 +197,7 @@ bit_if S m e c same small shown = ap (λ (d : Cell). cond {A = ℕ} (has S d) 1 
     one (suc (suc n)) low = absurd (omega arith)
 
 -- the live cells of three in a row of the window
-row_seen : (S : List Cell) (n : ℕ) (left top : ℤ) (x : List (List ℕ)) → 0 < n → Holds n left top x S → IsWhole n x → (e : Cell) (r i : ℕ) → i < 64
+row_seen : (S : List Cell) (n : ℕ) (left top : ℤ) (x : List (List ℕ)) → 0 < n → Holds n left top x S → AreVectors n x → (e : Cell) (r i : ℕ) → i < 64
     → e ≡ in_window left top i r → row_total (map one_of S) e ≡ row_sum (row_at n x r) i
 row_seen S n left top x some h whole e r i low is =
     omega (
@@ -270,7 +270,7 @@ row_over S n left top x h e i is =
     east true = bit_at-zero 0
     east false = bit_at-zero (i + 1)
 
-row_next : (n : ℕ) (x : List (List ℕ)) (r : ℕ) → 0 < n → IsWhole n x → row_below n x r ≡ row_at n x (r + 1)
+row_next : (n : ℕ) (x : List (List ℕ)) (r : ℕ) → 0 < n → AreVectors n x → row_below n x r ≡ row_at n x (r + 1)
 row_next n x r some whole = go (r + 1 == 4 * n) refl
   where
     go : (b : Bool) → (r + 1 == 4 * n) ≡ b → cond b 0 (row_at n x (r + 1)) ≡ row_at n x (r + 1)
@@ -278,7 +278,7 @@ row_next n x r some whole = go (r + 1 == 4 * n) refl
     go false e = refl
 
 -- the neighbourhood of a cell of the window, at its border too
-block_seen : (S : List Cell) (n : ℕ) (left top : ℤ) (x : List (List ℕ)) → 0 < n → Holds n left top x S → IsWhole n x → (r i : ℕ) → i < 64
+block_seen : (S : List Cell) (n : ℕ) (left top : ℤ) (x : List (List ℕ)) → 0 < n → Holds n left top x S → AreVectors n x → (r i : ℕ) → i < 64
     → row_sum (row_above n x r) i + row_sum (row_at n x r) i + row_sum (row_below n x r) i
     ≡ around S (in_window left top i r) + cond (has S (in_window left top i r)) 1 0
 block_seen S n left top x some h whole r i low =
@@ -295,7 +295,7 @@ block_seen S n left top x some h whole r i low =
         (same_cell_at _ _ _ _ (omega (arith, ints)) (omega (arith, ints)))
 
 -- with a clear rim the next window holds the next generation
-pub next_held : (rule : Numbers) (n : ℕ) (left top : ℤ) (x y : List (List ℕ)) (S : List Cell) → 0 < n → IsWhole n x → IsRimClear n x → IsNextWindow rule n x y
+pub next_held : (rule : Numbers) (n : ℕ) (left top : ℤ) (x y : List (List ℕ)) (S : List Cell) → 0 < n → AreVectors n x → IsRimClear n x → IsNextWindow rule n x y
     → Holds n left top x S → Holds n left top y (next rule S)
 next_held rule n left top x y S some whole clear step h = record {
   in_order = in_order-next rule S;
@@ -416,7 +416,7 @@ columns_joined n x all w k joined is bits = record {
         let low : m.0 < n = omega (arith, m.1) in
         (j * n + m.0, row_low n j m.0 h low, ap (λ (v : ℕ). bit_at v i) (row_is_lane n x j m.0 low) ∙ m.2)
 
-pub whole_joined : (n : ℕ) (x : List (List ℕ)) (all : List ℕ) (k : ℕ) → HasJoined x all k → k ≡ n → IsWhole n x
+pub whole_joined : (n : ℕ) (x : List (List ℕ)) (all : List ℕ) (k : ℕ) → HasJoined x all k → k ≡ n → AreVectors n x
 whole_joined n x all k joined is m low = joined.whole m (omega arith)
 
 -- the vectors before vector k, compared

@@ -1,50 +1,50 @@
 -- The pattern that a board shows is one list of cells.
-use Rattle.std.proofs.Common.{◌≡◌, ◌≢◌, ◌==◌, ◌+◌, ◌*◌, ◌/◌, ◌%◌, ◌<◌, ◌≤◌, ℕ, zero, suc, pos, ◌-ℤ◌, ◌+ℤ◌, ◌≤ℤ◌, Bool, true, false, cond, List, [], ◌∷◌}
+use Rattle.std.proofs.Common.{◌≡◌, ◌≢◌, ◌==◌, ◌+◌, ◌*◌, ◌/◌, ◌%◌, ◌<◌, ℕ, zero, suc, pos, ◌-ℤ◌, ◌≤ℤ◌, Bool, true, false, cond, List, ◌∷◌}
 use Rattle.std.proofs.Common.{arith, refl, ap, ◌∙◌, sym, subst, inl, inr, ◌⊎◌, slice_index, unsigned_abs, ℤ}
 use Rattle.std.specs.Int.{bit_at}
 use Rattle.std.specs.Cmp.{both_ways as both_true}
 use Rattle.std.proofs.lemmas.Int.{ints}
-use Rattle.std.proofs.lemmas.Bool.{false≢true, eqb-true}
+use Rattle.std.proofs.lemmas.Bool.{false≢true}
 use Rattle.std.proofs.lemmas.Nat.{div_below, div-add-mod', div-mul-add, mod-mul-add}
 use Rattle.std.proofs.Math.Nat.{mod-lt}
 use Rattle.plane_core.specs.declared.frame.Frame.{Frame}
 use Rattle.plane_core.specs.declared.cell.Cell.{Cell}
 use Rattle.plane_core.specs.Bounds.{IsWithin}
 use Rattle.plane_core.specs.Cells.{InOrder, has}
-use Rattle.plane_core.specs.Frames.{LieOn, Shows, bounds_of, cell_of, word_of}
-use Rattle.plane_core.specs.OnBoard.{cells_on, is_lit, lit_before, lit_cell}
+use Rattle.plane_core.specs.Frames.{LieOn, Shows, bounds_of, board_cell, word_of}
+use Rattle.plane_core.specs.OnBoard.{cells_on, is_live_bit, lit_before, lit_cell}
 use Rattle.plane_core.proofs.CaseLemmas.{same_or_not}
 use Rattle.plane_core.proofs.FrameLemmas.{one_spot, spot_inside, spot_of, word-inside}
 use Rattle.plane_core.proofs.SetLemmas.{has-cases, has-head, has-set_of, in_order-set_of, or_right, same_lists}
 
 -- a bit that is 1 is one of the cells
-has-lit : (at : Frame) (ws : List ℕ) (n k : ℕ) → k < n → is_lit ws k ≡ true → has (lit_before at ws n) (lit_cell at k) ≡ true
+has-lit : (at : Frame) (ws : List ℕ) (n k : ℕ) → k < n → is_live_bit ws k ≡ true → has (lit_before at ws n) (lit_cell at k) ≡ true
 has-lit at ws zero k low lit = absurd (omega arith)
-has-lit at ws (suc n) k low lit = go (same_or_not k n) (is_lit ws n) refl (λ h. has-lit at ws n k h lit)
+has-lit at ws (suc n) k low lit = go (same_or_not k n) (is_live_bit ws n) refl (λ h. has-lit at ws n k h lit)
   where
     c : Cell
     c = lit_cell at k
 
-    go : (k ≡ n) ⊎ (k ≢ n) → (b : Bool) → is_lit ws n ≡ b → (k < n → has (lit_before at ws n) c ≡ true)
+    go : (k ≡ n) ⊎ (k ≢ n) → (b : Bool) → is_live_bit ws n ≡ b → (k < n → has (lit_before at ws n) c ≡ true)
         → has (cond b (lit_cell at n ∷ lit_before at ws n) (lit_before at ws n)) c ≡ true
     go (inl same) true is before =
         ap (λ (m : ℕ). has (lit_cell at n ∷ lit_before at ws n) (lit_cell at m)) same ∙ has-head (lit_cell at n) (lit_before at ws n)
-    go (inl same) false is before = absurd (false≢true (sym is ∙ ap (λ (m : ℕ). is_lit ws m) (sym same) ∙ lit))
+    go (inl same) false is before = absurd (false≢true (sym is ∙ ap (λ (m : ℕ). is_live_bit ws m) (sym same) ∙ lit))
     go (inr apart) true is before = or_right _ _ (before (omega arith))
     go (inr apart) false is before = before (omega arith)
 
 -- and each of the cells is such a bit
-lit-has : (at : Frame) (ws : List ℕ) (n : ℕ) (c : Cell) → has (lit_before at ws n) c ≡ true → (k : ℕ) × (k < n) × (is_lit ws k ≡ true) × (c ≡ lit_cell at k)
+lit-has : (at : Frame) (ws : List ℕ) (n : ℕ) (c : Cell) → has (lit_before at ws n) c ≡ true → (k : ℕ) × (k < n) × (is_live_bit ws k ≡ true) × (c ≡ lit_cell at k)
 lit-has at ws zero c e = absurd (false≢true e)
-lit-has at ws (suc n) c e = go (is_lit ws n) refl e (lit-has at ws n c)
+lit-has at ws (suc n) c e = go (is_live_bit ws n) refl e (lit-has at ws n c)
   where
     Found : ℕ → Type 0
-    Found m = (k : ℕ) × (k < m) × (is_lit ws k ≡ true) × (c ≡ lit_cell at k)
+    Found m = (k : ℕ) × (k < m) × (is_live_bit ws k ≡ true) × (c ≡ lit_cell at k)
 
     more : Found n → Found (suc n)
     more (k, low, lit, is) = (k, omega (arith, low), lit, is)
 
-    go : (b : Bool) → is_lit ws n ≡ b → has (cond b (lit_cell at n ∷ lit_before at ws n) (lit_before at ws n)) c ≡ true
+    go : (b : Bool) → is_live_bit ws n ≡ b → has (cond b (lit_cell at n ∷ lit_before at ws n) (lit_before at ws n)) c ≡ true
         → (has (lit_before at ws n) c ≡ true → Found n) → Found (suc n)
     go false is h before = more (before h)
     go true is h before = elim (has-cases (lit_cell at n) (lit_before at ws n) c h) [
@@ -56,16 +56,16 @@ lit-has at ws (suc n) c e = go (is_lit ws n) refl e (lit-has at ws n c)
 abbrev number_of : Frame → ℕ → ℕ → ℕ → ℕ
 number_of at s r i = 64 * word_of at s r + i
 
-lit_cell-number : (at : Frame) (s r i : ℕ) → r < at.rows → i < 64 → lit_cell at (number_of at s r i) ≡ cell_of at s r i
+lit_cell-number : (at : Frame) (s r i : ℕ) → r < at.rows → i < 64 → lit_cell at (number_of at s r i) ≡ board_cell at s r i
 lit_cell-number at s r i hr hi =
     let word : number_of at s r i / 64 ≡ word_of at s r = omega arith in
     let lane : number_of at s r i / 64 / at.rows ≡ s = ap (λ (m : ℕ). m / at.rows) word ∙ div-mul-add s at.rows r hr in
     let row : number_of at s r i / 64 % at.rows ≡ r = ap (λ (m : ℕ). m % at.rows) word ∙ mod-mul-add s at.rows r hr in
     let bit : number_of at s r i % 64 ≡ i = omega arith in
-    λ j. cell_of at (lane j) (row j) (bit j)
+    λ j. board_cell at (lane j) (row j) (bit j)
 
-is_lit-number : (at : Frame) (ws : List ℕ) (s r i : ℕ) → i < 64 → is_lit ws (number_of at s r i) ≡ (bit_at (slice_index ws (word_of at s r)) i == 1)
-is_lit-number at ws s r i hi =
+is_live_bit-number : (at : Frame) (ws : List ℕ) (s r i : ℕ) → i < 64 → is_live_bit ws (number_of at s r i) ≡ (bit_at (slice_index ws (word_of at s r)) i == 1)
+is_live_bit-number at ws s r i hi =
     let word : number_of at s r i / 64 ≡ word_of at s r = omega arith in
     let bit : number_of at s r i % 64 ≡ i = omega arith in
     λ j. bit_at (slice_index ws (word j)) (bit j) == 1
@@ -105,7 +105,7 @@ shows_cells at ws s r i hs hr hi = has-set_of _ c ∙ both_true (has (lit_before
     n = 64 * (at.lanes * at.rows)
 
     c : Cell
-    c = cell_of at s r i
+    c = board_cell at s r i
 
     there : has (lit_before at ws n) c ≡ true → (bit_at (slice_index ws (word_of at s r)) i == 1) ≡ true
     there e =
@@ -118,11 +118,11 @@ shows_cells at ws s r i hs hr hi = has-set_of _ c ∙ both_true (has (lit_before
     back e =
         let inside = word-inside at s r hs hr in
         ap (λ (x : Cell). has (lit_before at ws n) x) (sym (lit_cell-number at s r i hr hi))
-        ∙ has-lit at ws n (number_of at s r i) (omega (arith, inside)) (is_lit-number at ws s r i hi ∙ e)
+        ∙ has-lit at ws n (number_of at s r i) (omega (arith, inside)) (is_live_bit-number at ws s r i hi ∙ e)
 
 -- a cell of a board is one of its bits
 pub bit_of_cell : (at : Frame) (ws : List ℕ) (c : Cell) → has (cells_on at ws) c ≡ true
-    → (k : ℕ) × (k < 64 * (at.lanes * at.rows)) × (is_lit ws k ≡ true) × (c ≡ lit_cell at k)
+    → (k : ℕ) × (k < 64 * (at.lanes * at.rows)) × (is_live_bit ws k ≡ true) × (c ≡ lit_cell at k)
 unfolding cells_on
 bit_of_cell at ws c e = lit-has at ws _ c (sym (has-set_of _ c) ∙ e)
 
@@ -132,7 +132,7 @@ cells_lie_on at ws c e =
     let spot = placed at k low in
     subst (λ (x : Cell). IsWithin (bounds_of at) x) (sym is) (within (k / 64 / at.rows) (k / 64 % at.rows) (k % 64) spot.lane spot.row (omega arith))
   where
-    within : (s r i : ℕ) → s < at.lanes → r < at.rows → i < 64 → IsWithin (bounds_of at) (cell_of at s r i)
+    within : (s r i : ℕ) → s < at.lanes → r < at.rows → i < 64 → IsWithin (bounds_of at) (board_cell at s r i)
     within s r i hs hr hi = record {
       left = omega (arith, ints);
       top = omega (arith, ints);

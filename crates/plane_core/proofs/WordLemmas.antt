@@ -1,6 +1,6 @@
 -- Bits of words that were moved by a place, and sums in binary digits.
 use Rattle.std.proofs.Common.{◌≡◌, ◌==◌, ◌+◌, ◌-◌, ◌*◌, ◌/◌, ◌%◌, ◌^◌, ◌<◌, ◌≤◌, ℕ, zero, suc, Bool}
-use Rattle.std.proofs.Common.{true, false, cond, arith, refl, ap, ◌∙◌, sym, subst, subst₂, add-one, bit_and, bit_or, bit_xor, min, max}
+use Rattle.std.proofs.Common.{true, false, cond, arith, refl, ap, ◌∙◌, sym, add-one, bit_and, bit_or, bit_xor, min, max}
 use Rattle.std.specs.Int.{bit_at}
 use Rattle.std.proofs.lemmas.Bool.{eqb-true, eqb-false}
 use Rattle.std.proofs.lemmas.Bool.Decides.{nat_tests}

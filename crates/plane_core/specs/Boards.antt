@@ -1,18 +1,22 @@
 -- A board that goes on by leaps.
-use Rattle.std.specs.Prelude.{◌≡◌, ◌%◌, ◌*◌, ℕ, Bool, true, All, List}
+use Rattle.std.specs.Prelude.{◌≡◌, ◌%◌, ℕ, Bool, true, All, List}
 use Rattle.plane_core.specs.declared.bounds.Bounds.{Bounds}
 use Rattle.plane_core.specs.declared.cell.Cell.{Cell}
 use Rattle.plane_core.specs.declared.frame.Frame.{Frame}
+use Rattle.plane_core.specs.declared.spans.Span.{Span}
 use Rattle.plane_core.specs.Boxes.{HoldAll, IsQuiet, box_bound}
-use Rattle.plane_core.specs.Frames.{FillsFrame, IsFrame}
+use Rattle.plane_core.specs.Cells.{plane_bound}
+use Rattle.plane_core.specs.Frames.{FillsFrame, IsFrame, bounds_of}
 use Rattle.plane_core.specs.Generations.{after}
 use Rattle.plane_core.specs.Bounds.{AreSidesWithin}
 use Rattle.plane_core.specs.OnBoard.{cells_on}
 use Rattle.plane_core.specs.Rules.{Numbers}
+use Rattle.plane_core.specs.Spans.{AreSpans, LieInSpans}
 use Rattle.plane_core.specs.Words.{life}
 
--- a pattern under a rule
+-- a pattern under a rule, on a board that lies here
 pub record Running : Type 0 where
+  pub at : Frame
   pub rule : Numbers
   pub cells : List Cell
 
@@ -34,3 +38,15 @@ pub record IsBoard (at : Frame) (rule : Numbers) (is_life : Bool) (words : List 
   pub sides : All (AreSidesWithin box_bound) boxes
   pub quiet : IsQuiet rule (cells_on at words) boxes
   pub all : holds_all ≡ true → HoldAll boxes (cells_on at words)
+
+-- and the spans of its lanes, which have all live cells; it lies on the plane
+pub record IsSpannedBoard (at : Frame) (rule : Numbers) (is_life : Bool) (words : List ℕ) (boxes : List Bounds) (holds_all : Bool)
+    (spans : List Span) : Type 0 where
+  pub board : IsBoard at rule is_life words boxes holds_all
+  pub spanned : AreSpans at (cells_on at words) spans
+  pub plane : AreSidesWithin plane_bound (bounds_of at)
+
+-- a leap of n generations whose boxes are right leaves all live cells in the spans
+abbrev pub StayInSpans : Numbers → Frame → ℕ → List ℕ → List ℕ → List Bounds → List Span → List Span → Type 0
+StayInSpans rule at n old new boxes before later = AreRightFor rule (cells_on at old) boxes n
+    → LieInSpans at before (cells_on at old) → LieInSpans at later (cells_on at new)

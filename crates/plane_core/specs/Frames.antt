@@ -1,15 +1,15 @@
 -- A board: a rectangle of cells in words, a word for each row of a lane of 64 columns, and where its cells lie on the plane.
-use Rattle.std.specs.Prelude.{◌≡◌, ◌==◌, ◌+◌, ◌*◌, ◌/◌, ◌<◌, ◌≤◌, ◌^◌, ℕ, ◌+ℤ◌, ◌-ℤ◌, pos, List, length, slice_index, true, unsigned_abs}
+use Rattle.std.specs.Prelude.{◌≡◌, ◌==◌, ◌+◌, ◌*◌, ◌/◌, ◌<◌, ◌≤◌, ◌^◌, ℕ, ◌+ℤ◌, ◌-ℤ◌, ◌-◌, pos, List, length, slice_index, true, unsigned_abs}
 use Rattle.std.specs.Int.{bit_at}
 use Rattle.plane_core.specs.declared.bounds.Bounds.{Bounds}
 use Rattle.plane_core.specs.declared.frame.Frame.{Frame}
 use Rattle.plane_core.specs.declared.cell.Cell.{Cell}
-use Rattle.plane_core.specs.Bounds.{IsWithin}
-use Rattle.plane_core.specs.Cells.{cell_at, has}
+use Rattle.plane_core.specs.Bounds.{AreSidesWithin, IsWithin}
+use Rattle.plane_core.specs.Cells.{cell_at, distance, has, plane_bound}
 
 -- the cell that bit i of row r of lane s is
-abbrev pub cell_of : Frame → ℕ → ℕ → ℕ → Cell
-cell_of at s r i = cell_at (at.left +ℤ pos (64 * s + i)) (at.top +ℤ pos r)
+abbrev pub board_cell : Frame → ℕ → ℕ → ℕ → Cell
+board_cell at s r i = cell_at (at.left +ℤ pos (64 * s + i)) (at.top +ℤ pos r)
 
 -- that row's place in the list of words
 abbrev pub word_of : Frame → ℕ → ℕ → ℕ
@@ -18,7 +18,7 @@ word_of at s r = s * at.rows + r
 -- on the board, the bits that are 1 are the cells of the list
 abbrev pub Shows : Frame → List ℕ → List Cell → Type 0
 Shows at words cells = (s r i : ℕ) → s < at.lanes → r < at.rows → i < 64
-    → has cells (cell_of at s r i) ≡ (bit_at (slice_index words (word_of at s r)) i == 1)
+    → has cells (board_cell at s r i) ≡ (bit_at (slice_index words (word_of at s r)) i == 1)
 
 -- a frame round cells of the plane
 pub record IsFrame (at : Frame) : Type 0 where
@@ -45,3 +45,9 @@ bounds_of at = record {
 abbrev pub LieOn : Frame → List Cell → Type 0
 LieOn at cells = (c : Cell) → has cells c ≡ true → IsWithin (bounds_of at) c
 
+-- the box isn't larger than the board, and lies so far from the border of the plane that a board round it lies on the plane
+pub record HasRoom (at : Frame) (b : Bounds) : Type 0 where
+  pub across : distance b.left b.right + 1 ≤ 64 * at.lanes
+  pub down : distance b.top b.bottom + 1 ≤ at.rows
+  pub plane : 64 * at.lanes + at.rows ≤ plane_bound
+  pub sides : AreSidesWithin (plane_bound - (64 * at.lanes + at.rows)) b

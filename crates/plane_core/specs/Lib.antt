@@ -29,6 +29,7 @@ pub mod PlaintextWalk
 pub mod Refusals
 pub mod Refusing
 pub mod Rules
+pub mod Spans
 pub mod Tallies
 pub mod Windows
 pub mod Words

@@ -4,7 +4,7 @@ use Rattle.std.specs.Int.{bit_at}
 use Rattle.plane_core.specs.declared.frame.Frame.{Frame}
 use Rattle.plane_core.specs.declared.cell.Cell.{Cell}
 use Rattle.plane_core.specs.Cells.{cell_at, has}
-use Rattle.plane_core.specs.Frames.{Shows, cell_of, word_of}
+use Rattle.plane_core.specs.Frames.{Shows, board_cell, word_of}
 
 -- no bit of a word between two places is 1
 abbrev pub AreDead : ℕ → ℕ → ℕ → Type 0
@@ -32,16 +32,16 @@ pub record HasRead (word : ℕ) (first : Cell) (old : List Cell) (n : ℕ) (new 
 pub record HasReadRow (at : Frame) (words : List ℕ) (r : ℕ) (old : List Cell) (n : ℕ) (new : List Cell) : Type 0 where
   pub grows : AreAmong new old
   pub sound : (others : List Cell) → Shows at words others → AreAmong others old → AreAmong others new
-  pub complete : (s i : ℕ) → s < n → i < 64 → bit_at (slice_index words (word_of at s r)) i ≡ 1 → has new (cell_of at s r i) ≡ true
+  pub complete : (s i : ℕ) → s < n → i < 64 → bit_at (slice_index words (word_of at s r)) i ≡ 1 → has new (board_cell at s r i) ≡ true
 
 -- the first n rows have been read
 pub record HasReadRows (at : Frame) (words : List ℕ) (n : ℕ) (new : List Cell) : Type 0 where
   pub sound : (others : List Cell) → Shows at words others → AreAmong others new
-  pub complete : (s r i : ℕ) → s < at.lanes → r < n → i < 64 → bit_at (slice_index words (word_of at s r)) i ≡ 1 → has new (cell_of at s r i) ≡ true
+  pub complete : (s r i : ℕ) → s < at.lanes → r < n → i < 64 → bit_at (slice_index words (word_of at s r)) i ≡ 1 → has new (board_cell at s r i) ≡ true
 
 -- no cell of a band of eight rows is alive in a lane
 abbrev pub IsLaneEmpty : Frame → List ℕ → ℕ → ℕ → Type 0
-IsLaneEmpty at words band s = (k b : ℕ) → k < 8 → bit_at (slice_index words (word_of at s (8 * band + k))) b ≡ 0
+IsLaneEmpty at words band s = (k b : ℕ) → k < 8 → b < 64 → bit_at (slice_index words (word_of at s (8 * band + k))) b ≡ 0
 
 -- nor of any lane from one to before another
 abbrev pub IsBandEmpty : Frame → List ℕ → ℕ → ℕ → ℕ → Type 0
@@ -49,4 +49,4 @@ IsBandEmpty at words band from to = (s : ℕ) → from ≤ s → s < to → IsLa
 
 -- no cell of a row is alive in these lanes
 abbrev pub IsRowEmpty : Frame → List ℕ → ℕ → ℕ → ℕ → Type 0
-IsRowEmpty at words r from to = (s b : ℕ) → from ≤ s → s < to → bit_at (slice_index words (word_of at s r)) b ≡ 0
+IsRowEmpty at words r from to = (s b : ℕ) → from ≤ s → s < to → b < 64 → bit_at (slice_index words (word_of at s r)) b ≡ 0

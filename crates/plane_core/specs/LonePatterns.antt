@@ -32,8 +32,8 @@ pub record IsVector (v : List ℕ) : Type 0 where
   pub small : (j : ℕ) → slice_index v j < 2 ^ 64
 
 -- each vector of the window is one
-abbrev pub IsWhole : ℕ → List (List ℕ) → Type 0
-IsWhole n x = (k : ℕ) → k < n → IsVector (slice_index_or x k [])
+abbrev pub AreVectors : ℕ → List (List ℕ) → Type 0
+AreVectors n x = (k : ℕ) → k < n → IsVector (slice_index_or x k [])
 
 -- the word says which columns of the window have a live cell
 pub record IsColumns (n : ℕ) (x : List (List ℕ)) (columns : ℕ) : Type 0 where

@@ -4,20 +4,20 @@ use Rattle.std.specs.Int.{bit_at}
 use Rattle.plane_core.specs.declared.frame.Frame.{Frame}
 use Rattle.plane_core.specs.declared.cell.Cell.{Cell}
 use Rattle.plane_core.specs.Cells.{set_of}
-use Rattle.plane_core.specs.Frames.{cell_of}
+use Rattle.plane_core.specs.Frames.{board_cell}
 
 -- bit k of a board's words, counted through the whole list, is 1
-abbrev pub is_lit : List ℕ → ℕ → Bool
-is_lit words k = bit_at (slice_index words (k / 64)) (k % 64) == 1
+abbrev pub is_live_bit : List ℕ → ℕ → Bool
+is_live_bit words k = bit_at (slice_index words (k / 64)) (k % 64) == 1
 
 -- and the cell that it stands for
 abbrev pub lit_cell : Frame → ℕ → Cell
-lit_cell at k = cell_of at (k / 64 / at.rows) (k / 64 % at.rows) (k % 64)
+lit_cell at k = board_cell at (k / 64 / at.rows) (k / 64 % at.rows) (k % 64)
 
 -- the live cells among the first n
 abbrev pub lit_before : Frame → List ℕ → ℕ → List Cell
 lit_before at words zero = []
-lit_before at words (suc k) = if is_lit words k then lit_cell at k ∷ lit_before at words k else lit_before at words k
+lit_before at words (suc k) = if is_live_bit words k then lit_cell at k ∷ lit_before at words k else lit_before at words k
 
 -- all live cells of a board, in order
 unfoldable pub cells_on : Frame → List ℕ → List Cell

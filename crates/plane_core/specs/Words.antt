@@ -1,5 +1,5 @@
 -- Words of 64 cells of a row: bit i of a word is 1 if the cell in its column i is alive. Columns count from the left, from 0.
-use Rattle.std.specs.Prelude.{◌≡◌, ◌==◌, ◌+◌, ◌<◌, ℕ, zero, suc, Bool, true, false, [], ◌∷◌, if◌then◌else◌}
+use Rattle.std.specs.Prelude.{◌==◌, ◌+◌, ℕ, zero, suc, Bool, true, false, [], ◌∷◌, if◌then◌else◌}
 use Rattle.std.specs.Int.{bit_at}
 use Rattle.plane_core.specs.Rules.{Numbers}
 

@@ -1,7 +1,7 @@
 //! A pattern on a board, which goes on by leaps of up to four generations.
 //!
-//! Beside the board stands a list of boxes: each cell that isn't the same two generations on lies in a box, or within 2 of
-//! one. So a leap is made in windows that cover the boxes, and all else stays as it is:
+//! Beside the board stands a list of boxes: each cell that isn't the same two generations on lies in a box, or within 2
+//! of one. So a leap is made in windows that cover the boxes, and all else stays as it is:
 //!
 //! ```text
 //! +--------+                     the box of what changes
@@ -13,42 +13,50 @@
 //!              +-----------+
 //! ```
 //!
-//! What holds after an odd number of generations isn't known by that: a blinker outside of all boxes is the same after two
-//! generations and not after one. So an odd leap is made first, while the boxes hold all live cells.
-ghost use Rattle.std.specs.Prelude.{◌≡◌, ◌%◌, ◌*◌, ◌<◌, ◌≤◌, ℕ, All, IfOk, IsTrue, List, OnOk, length, slice_index, true, false};
+//! What holds after an odd number of generations isn't known by that: a blinker outside of all boxes is the same after
+//! two generations and not after one. So an odd leap is made first, while the boxes hold all live cells.
+ghost use Rattle.std.specs.Prelude.{◌≡◌, ◌%◌, ◌*◌, ◌<◌, ◌≤◌, ℕ, List, [], length, slice_index};
+ghost use Rattle.std.specs.Prelude.{All, IfOk, IfSome, IsTrue, OnOk, true, false};
 ghost use Rattle.plane_core.specs.Boxes.{box_bound};
-ghost use Rattle.plane_core.specs.Frames.{FillsFrame, IsFrame, LieOn};
+ghost use Rattle.plane_core.specs.Frames.{FillsFrame, IsFrame, LieOn, bounds_of};
+ghost use Rattle.plane_core.specs.Cells.{IsPattern, plane_bound};
 ghost use Rattle.plane_core.specs.Generations.{after};
 ghost use Rattle.plane_core.specs.Bounds.{AreSidesWithin};
-ghost use Rattle.plane_core.specs.Boards.{AreRightFor, HasGoneOn};
+ghost use Rattle.plane_core.specs.Boards.{AreRightFor, HasGoneOn, StayInSpans};
 ghost use Rattle.plane_core.specs.OnBoard.{cells_on};
 ghost use Rattle.plane_core.specs.Words.{life};
 
 mod early_no;
 
-use crate::answers::{AnyRule, Answering, Life, is_life};
+use crate::answers::{Answering, AnyRule, Life, is_life};
 use crate::bounds::Bounds;
+use crate::boxes::{boxes_round, next_boxes};
 use crate::cell::Cell;
 use crate::change::Change;
+use crate::cover::{are_on_board, cover};
 use crate::frame::Frame;
+use crate::leap::leap;
 use crate::listing::list;
 use crate::loading::fill;
 use crate::pattern::Pattern;
 use crate::place::Place;
 use crate::rule::Rule;
+use crate::spans::{Span, empty, widen_by, widen_by_cells};
 use std::alloc::{AllocError, Global};
 use std::marker::Model;
-use crate::boxes::{boxes_round, next_boxes};
-use crate::cover::{are_on_board, cover};
-use crate::leap::leap;
+
+/// For how many cells there is room from the start where a pattern is read: it takes a kilobyte.
+const ROOM: usize = 128;
 
 /// A pattern on a board under a rule.
 #[derive(Drop)]
-pub(crate) struct Board {
+pub struct Board {
     at: Frame,
     answers: AnyRule,
     is_life: bool,
     words: Vec<u64>,
+    /// Which rows of each lane may have a live cell.
+    spans: Vec<Span>,
     boxes: Vec<Bounds>,
     /// Whether the boxes hold all live cells.
     holds_all: bool,
@@ -65,17 +73,31 @@ struct Lists {
 }
 
 impl Model for Board {
-    ghost use Rattle.plane_core.specs.Boards.{IsBoard, Running};
+    ghost use Rattle.plane_core.specs.Boards.{IsSpannedBoard, Running};
     ghost use Rattle.plane_core.specs.OnBoard.{cells_on};
 
     ghost Value = { Running };
 
-    ghost view = { λ b. record { rule = b.answers.rule; cells = cells_on b.at b.words.items } };
+    ghost view = { λ b. record { at = b.at; rule = b.answers.rule; cells = cells_on b.at b.words.items } };
 
-    ghost invariant = { λ b. IsBoard b.at b.answers.rule b.is_life b.words.items b.boxes.items b.holds_all };
+    ghost invariant = { λ b.
+        IsSpannedBoard b.at b.answers.rule b.is_life b.words.items b.boxes.items b.holds_all b.spans.items };
 }
 
 impl Board {
+    /// An empty board that lies round the origin, for patterns that are shown one after another. It has 4,096 columns,
+    /// and a lane more, and 4,168 rows.
+    ///
+    /// # Errors
+    ///
+    /// `AllocError` if memory runs out.
+    pub fn new(alloc: Global, rule: &Rule) -> Result<Board, AllocError>
+        ensures rule { IfOk result (λ board. board.rule ≡ rule.now) }
+        ensures cells { IfOk result (λ board. board.cells ≡ []) }
+    {
+        Board::blank(alloc, rule, Frame::round_origin())
+    }
+
     /// A board that shows the pattern.
     pub(crate) fn lay(
         alloc: Global,
@@ -84,32 +106,121 @@ impl Board {
         pattern: &Pattern,
     ) -> Result<Board, AllocError>
         requires frame { IsFrame at }
+        requires plane { AreSidesWithin plane_bound (bounds_of at) }
         requires on { LieOn at pattern.now }
         ensures rule { IfOk result (λ board. board.rule ≡ rule.now) }
         ensures cells { IfOk result (λ board. board.cells ≡ pattern.now) }
     {
-        let mut words = vec![in alloc; 0u64; at.count()]?;
-        fill(at, words.as_mut_slice(), pattern.cells());
-        let mut boxes = Vec::new(alloc);
-        boxes_round(pattern.cells(), &mut boxes)?;
+        let mut board = Board::blank(alloc, rule, at)?;
+        board.place(at, pattern)?;
+        Ok(board)
+    }
+
+    /// An empty board.
+    fn blank(alloc: Global, rule: &Rule, at: Frame) -> Result<Board, AllocError>
+        requires frame { IsFrame at }
+        requires plane { AreSidesWithin plane_bound (bounds_of at) }
+        ensures at { IfOk result (λ board. board.at ≡ at) }
+        ensures rule { IfOk result (λ board. board.rule ≡ rule.now) }
+        ensures cells { IfOk result (λ board. board.cells ≡ []) }
+    {
+        let words = vec![in alloc; 0u64; at.count()]?;
+        let spans = vec![in alloc; Span::empty(); at.lanes]?;
+        let boxes = Vec::new(alloc);
         Ok(Board {
             at,
             answers: AnyRule::new(rule),
             is_life: is_life(rule),
             words,
+            spans,
             boxes,
             holds_all: true,
             lists: Lists::new(alloc),
         })
     }
 
-    /// Goes on by at most so many generations, and returns how many were made: fewer, where the next leap would have come
-    /// too near to the border of the board.
+    /// Shows another pattern under a rule, in the middle of the board. If it has no room there, the board shows
+    /// nothing, and it is `false`.
     ///
     /// # Errors
     ///
     /// `AllocError` if memory runs out. Then the board shows nothing that is known.
-    pub(crate) fn advance(&mut self, most: u32) -> Result<u32, AllocError>
+    pub fn show(&mut self, rule: &Rule, pattern: &Pattern) -> Result<bool, AllocError>
+        ensures rule { self.new.rule ≡ rule.now }
+        ensures shown { IfOk result (λ shown. shown ≡ true → self.new.cells ≡ pattern.now) }
+        ensures none { IfOk result (λ shown. shown ≡ false → self.new.cells ≡ []) }
+    {
+        self.clear(rule);
+        match self.frame_for(pattern) {
+            Some(at) => {
+                self.place(at, pattern)?;
+                Ok(true)
+            }
+            None => Ok(false),
+        }
+    }
+
+    /// Empties the board.
+    fn clear(&mut self, rule: &Rule)
+        ensures at { self.new.at ≡ self.old.at }
+        ensures rule { self.new.rule ≡ rule.now }
+        ensures cells { self.new.cells ≡ [] }
+    {
+        empty(
+            self.at,
+            self.words.as_mut_slice(),
+            self.spans.as_mut_slice(),
+        );
+        self.boxes.clear();
+        self.holds_all = true;
+        self.answers = AnyRule::new(rule);
+        self.is_life = is_life(rule);
+    }
+
+    /// The frame that has the pattern in its middle, if it has room there.
+    fn frame_for(&self, pattern: &Pattern) -> Option<Frame>
+        ensures frame { IfSome result IsFrame }
+        ensures plane { IfSome result (λ at. AreSidesWithin plane_bound (bounds_of at)) }
+        ensures on { IfSome result (λ at. LieOn at pattern.now) }
+        ensures lanes { IfSome result (λ at. at.lanes ≡ self.now.at.lanes) }
+        ensures rows { IfSome result (λ at. at.rows ≡ self.now.at.rows) }
+    {
+        self.at.centred(pattern)
+    }
+
+    /// Puts a pattern on an empty board, which is to lie here.
+    fn place(&mut self, at: Frame, pattern: &Pattern) -> Result<(), AllocError>
+        requires frame { IsFrame at }
+        requires plane { AreSidesWithin plane_bound (bounds_of at) }
+        requires on { LieOn at pattern.now }
+        requires lanes { at.lanes ≡ self.old.at.lanes }
+        requires rows { at.rows ≡ self.old.at.rows }
+        requires empty { self.old.cells ≡ [] }
+        ensures rule { self.new.rule ≡ self.old.rule }
+        ensures cells { OnOk result (self.new.cells ≡ pattern.now) }
+    {
+        match boxes_round(pattern.cells(), &mut self.boxes) {
+            Ok(()) => {
+                self.at = at;
+                self.holds_all = true;
+                fill(at, self.words.as_mut_slice(), pattern.cells());
+                widen_by_cells(at, self.spans.as_mut_slice(), pattern.cells());
+                Ok(())
+            }
+            Err(error) => {
+                self.boxes.clear();
+                Err(error)
+            }
+        }
+    }
+
+    /// Goes on by at most so many generations, and returns how many were made: fewer, where the next leap would have
+    /// come too near to the border of the board.
+    ///
+    /// # Errors
+    ///
+    /// `AllocError` if memory runs out. Then the board shows nothing that is known.
+    pub fn advance(&mut self, most: u32) -> Result<u32, AllocError>
         ensures rule { self.new.rule ≡ self.old.rule }
         ensures most { IfOk result (λ made. made ≤ most) }
         ensures after { IfOk result (λ made. self.new.cells ≡ after self.old.rule self.old.cells made) }
@@ -181,6 +292,7 @@ impl Board {
             self.is_life,
             self.at,
             self.words.as_mut_slice(),
+            self.spans.as_mut_slice(),
             &mut self.boxes,
             &mut self.lists,
             count,
@@ -202,9 +314,28 @@ impl Board {
 
     /// The cells, in order, with room for so many from the start.
     pub(crate) fn cells(&self, alloc: Global, room: usize) -> Result<Vec<Cell>, AllocError>
-        ensures { IfOk result (λ cells. cells.items ≡ self.now.cells) }
+        ensures cells { IfOk result (λ cells. cells.items ≡ self.now.cells) }
+        ensures pattern { IsPattern self.now.cells }
     {
-        list(alloc, self.at, self.words.as_slice(), room)
+        list(
+            alloc,
+            self.at,
+            self.words.as_slice(),
+            self.spans.as_slice(),
+            room,
+        )
+    }
+
+    /// The pattern that the board shows.
+    ///
+    /// # Errors
+    ///
+    /// `AllocError` if memory runs out.
+    pub fn pattern(&self, alloc: Global) -> Result<Pattern, AllocError>
+        ensures { IfOk result (λ pattern. pattern ≡ self.now.cells) }
+    {
+        let cells = self.cells(alloc, ROOM)?;
+        Ok(Pattern::from_ordered(cells))
     }
 }
 
@@ -244,6 +375,7 @@ fn leap_by(
     is_life: bool,
     at: Frame,
     words: &mut [u64],
+    spans: &mut [Span],
     boxes: &mut Vec<Bounds>,
     lists: &mut Lists,
     count: u32,
@@ -251,21 +383,27 @@ fn leap_by(
     requires life { is_life ≡ true → answers.now.rule ≡ life }
     requires frame { IsFrame at }
     requires long { FillsFrame at words.old }
+    requires lanes { length spans.old ≡ at.lanes }
     requires sides { All (AreSidesWithin box_bound) boxes.old.items }
     requires some { 1 ≤ count }
     requires few { count ≤ 4 }
     ensures long { length words.new ≡ length words.old }
+    ensures lanes { length spans.new ≡ length spans.old }
     ensures sides { OnOk result (All (AreSidesWithin box_bound) boxes.new.items) }
     ensures stopped { IfOk result
-        (λ leapt. leapt ≡ false → (words.new ≡ words.old) × (boxes.new.items ≡ boxes.old.items)) }
+        (λ leapt. leapt ≡ false
+        → (words.new ≡ words.old) × (boxes.new.items ≡ boxes.old.items) × (spans.new ≡ spans.old)) }
     ensures leapt { IfOk result
         (λ leapt. leapt ≡ true → AreRightFor answers.now.rule (cells_on at words.old) boxes.old.items count
         → HasGoneOn answers.now.rule at count words.old words.new boxes.new.items) }
+    ensures live { IfOk result
+        (λ leapt. leapt ≡ true
+        → StayInSpans answers.now.rule at count words.old words.new boxes.old.items spans.old spans.new) }
 {
     if is_life {
-        return leap_on(&Life, at, words, boxes, lists, count);
+        return leap_on(&Life, at, words, spans, boxes, lists, count);
     }
-    leap_on(answers, at, words, boxes, lists, count)
+    leap_on(answers, at, words, spans, boxes, lists, count)
 }
 
 /// Makes a leap of so many generations, unless a window would come too near to the border of the board. Returns whether
@@ -274,22 +412,29 @@ fn leap_on<A: Answering>(
     rule: &A,
     at: Frame,
     words: &mut [u64],
+    spans: &mut [Span],
     boxes: &mut Vec<Bounds>,
     lists: &mut Lists,
     count: u32,
 ) -> Result<bool, AllocError>
     requires frame { IsFrame at }
     requires long { FillsFrame at words.old }
+    requires lanes { length spans.old ≡ at.lanes }
     requires sides { All (AreSidesWithin box_bound) boxes.old.items }
     requires some { 1 ≤ count }
     requires few { count ≤ 4 }
     ensures long { length words.new ≡ length words.old }
+    ensures lanes { length spans.new ≡ length spans.old }
     ensures sides { OnOk result (All (AreSidesWithin box_bound) boxes.new.items) }
     ensures stopped { IfOk result
-        (λ leapt. leapt ≡ false → (words.new ≡ words.old) × (boxes.new.items ≡ boxes.old.items)) }
+        (λ leapt. leapt ≡ false
+        → (words.new ≡ words.old) × (boxes.new.items ≡ boxes.old.items) × (spans.new ≡ spans.old)) }
     ensures leapt { IfOk result
         (λ leapt. leapt ≡ true → AreRightFor (A.rule rule.now) (cells_on at words.old) boxes.old.items count
         → HasGoneOn (A.rule rule.now) at count words.old words.new boxes.new.items) }
+    ensures live { IfOk result
+        (λ leapt. leapt ≡ true
+        → StayInSpans (A.rule rule.now) at count words.old words.new boxes.old.items spans.old spans.new) }
 {
     cover(boxes.as_slice(), &mut lists.rectangles, &mut lists.places)?;
     let places = lists.places.as_slice();
@@ -297,6 +442,7 @@ fn leap_on<A: Answering>(
     if !inside {
         return Ok(false);
     }
+    widen_by(at, spans, places);
     leap(
         words,
         at,

@@ -8,11 +8,12 @@
 //! row 1    word 1                 word 1 + rows
 //! row 2    word 2                 word 2 + rows
 //! ```
-ghost use Rattle.std.specs.Prelude.{◌≡◌, ◌+◌, ◌*◌, ◌<◌, ◌≤◌, ◌^◌, ◌-ℤ◌, ◌≤ℤ◌, IfSome, OnSome, ◌-◌, true, false, pos};
+ghost use Rattle.std.specs.Prelude.{◌≡◌, ◌+◌, ◌*◌, ◌<◌, ◌≤◌, ◌^◌, ◌-ℤ◌, ◌≤ℤ◌, ◌-◌, true, false, pos};
+ghost use Rattle.std.specs.Prelude.{IfSome, IsTrue, OnSome};
 ghost use Rattle.std.specs.Prelude.{unsigned_abs};
 ghost use Rattle.plane_core.specs.Bounds.{IsWithin};
 ghost use Rattle.plane_core.specs.Cells.{plane_bound};
-ghost use Rattle.plane_core.specs.Frames.{IsFrame, LieOn, bounds_of, cell_of, word_of};
+ghost use Rattle.plane_core.specs.Frames.{HasRoom, IsFrame, LieOn, bounds_of, board_cell, word_of};
 ghost use Rattle.plane_core.specs.Generations.{lies_within};
 ghost use Rattle.plane_core.specs.Bounds.{AreSidesWithin};
 ghost use Rattle.plane_core.specs.declared.cell.Cell.{Cell};
@@ -35,6 +36,9 @@ pub(crate) struct Frame {
 /// How many columns and rows a board has more on each side than what its pattern may reach: a window that covers a cell
 /// begins at most 36 columns or rows before it, and ends as far past it.
 const MARGIN: u32 = 40;
+
+/// How many columns and rows a board has at least on each side of a pattern that is shown in its middle.
+const ROOM: u32 = 500;
 
 impl Frame {
     /// A frame round the pattern that is mostly large enough for so many generations, if a board is worth it: the
@@ -92,6 +96,79 @@ impl Frame {
         }
     }
 
+    /// A frame round the origin for patterns that are shown one after another: 64 lanes and one more, since a window
+    /// wants a lane to its right. The number of rows is no multiple of 512, so that the same row of several lanes
+    /// doesn't fall into one place of the processor's cache.
+    pub(crate) fn round_origin() -> Frame
+        ensures frame { IsFrame result }
+        ensures plane { AreSidesWithin plane_bound (bounds_of result) }
+    {
+        Frame {
+            left: -2048,
+            top: -2084,
+            lanes: 65,
+            rows: 4168,
+        }
+    }
+
+    /// The frame of the same size in whose middle the pattern lies, if it has room there, and the frame lies on the
+    /// plane.
+    pub(crate) fn centred(self, pattern: &Pattern) -> Option<Frame>
+        requires frame { IsFrame self }
+        requires plane { AreSidesWithin plane_bound (bounds_of self) }
+        ensures frame { IfSome result IsFrame }
+        ensures plane { IfSome result (λ at. AreSidesWithin plane_bound (bounds_of at)) }
+        ensures on { IfSome result (λ at. LieOn at pattern.now) }
+        ensures lanes { IfSome result (λ at. at.lanes ≡ self.lanes) }
+        ensures rows { IfSome result (λ at. at.rows ≡ self.rows) }
+    {
+        let Some(bounds) = pattern.bounds() else {
+            return Some(self);
+        };
+        let fits = self.has_room(bounds);
+        if !fits {
+            return None;
+        }
+        Some(self.round_middle(bounds))
+    }
+
+    /// Whether the box has room on a board of this size, in whose middle it lies, and the board lies on the plane then.
+    fn has_room(self, bounds: Bounds) -> bool
+        requires { IsFrame self }
+        ensures { IsTrue result → HasRoom self bounds }
+    {
+        let columns = 64 * self.lanes as u32;
+        let rows = self.rows as u32;
+        if columns + rows > BOUND || farthest(bounds) > BOUND - columns - rows {
+            return false;
+        }
+        let width = apart(bounds.left, bounds.right) + 1;
+        let height = apart(bounds.top, bounds.bottom) + 1;
+        width + 2 * ROOM <= columns && height + 2 * ROOM <= rows
+    }
+
+    /// The frame of the same size in whose middle the box lies.
+    fn round_middle(self, bounds: Bounds) -> Frame
+        requires frame { IsFrame self }
+        requires across { bounds.left ≤ℤ bounds.right }
+        requires down { bounds.top ≤ℤ bounds.bottom }
+        requires room { HasRoom self bounds }
+        ensures frame { IsFrame result }
+        ensures plane { AreSidesWithin plane_bound (bounds_of result) }
+        ensures on { (c : Cell) → IsWithin bounds c → IsWithin (bounds_of result) c }
+        ensures lanes { result.lanes ≡ self.lanes }
+        ensures rows { result.rows ≡ self.rows }
+    {
+        let width = apart(bounds.left, bounds.right) + 1;
+        let height = apart(bounds.top, bounds.bottom) + 1;
+        Frame {
+            left: back(bounds.left, (64 * self.lanes as u32 - width) / 2),
+            top: back(bounds.top, (self.rows as u32 - height) / 2),
+            lanes: self.lanes,
+            rows: self.rows,
+        }
+    }
+
     /// Whether there are many more words than cells: over 262,144, which take 2 megabytes, and 256 a cell.
     fn is_sparse(self, population: usize) -> bool
         requires { IsFrame self }
@@ -127,7 +204,7 @@ impl Frame {
         requires frame { IsFrame self }
         requires lane { lane < self.lanes }
         requires row { row < self.rows }
-        ensures corner { result ≡ cell_of self lane row 0 }
+        ensures corner { result ≡ board_cell self lane row 0 }
         ensures small { unsigned_abs result.x ≤ 2 ^ 24 }
     {
         Cell {

@@ -2,7 +2,8 @@ ghost use Rattle.std.specs.Prelude.{◌≡◌, ◌≢◌, ℕ, ◌+◌, ◌-◌,
 ghost use Rattle.plane_core.specs.Cells.{has, plane_bound};
 ghost use Rattle.plane_core.specs.Generations.{next, after, lives, touches_edge, lies_within, NextMoved, NextTurned};
 ghost use Rattle.plane_core.specs.Generations.{SpeedFromOrigin, SpeedOfCells, SpeedOfLight};
-ghost use Rattle.plane_core.specs.Frames.{IsFrame, LieOn};
+ghost use Rattle.plane_core.specs.Bounds.{AreSidesWithin};
+ghost use Rattle.plane_core.specs.Frames.{IsFrame, LieOn, bounds_of};
 ghost use Rattle.plane_core.specs.Parts.{FarPatternsRunAlone, HasRun};
 ghost use Rattle.plane_core.specs.Refusals.{RefusesStep};
 ghost use Rattle.plane_core.specs.declared.cell.Cell.{Cell};
@@ -31,7 +32,7 @@ pub enum StepError {
 
 /// The most generations on one board. Then the pattern is read back and a board is laid out anew, so that it is no
 /// wider than the pattern for long.
-const STRETCH: u32 = 128;
+const STRETCH: u32 = 256;
 
 /// The most cuts that lead to a part of a pattern. Each is near the middle, so there may be very many parts.
 const CUTS: u32 = 40;
@@ -207,6 +208,7 @@ impl Pattern {
         generations: u32,
     ) -> Result<Option<Pattern>, AllocError>
         requires frame { IsFrame at }
+        requires plane { AreSidesWithin plane_bound (bounds_of at) }
         requires on { LieOn at self.now }
         requires few { generations ≤ plane_bound }
         requires inside { lies_within (plane_bound - generations) self.now ≡ true }

@@ -5,7 +5,8 @@
 #![tactic(auto)]
 
 mod answers;
-mod board;
+/// A pattern on a board, which goes on by leaps.
+pub mod board;
 /// The least box round a pattern.
 pub mod bounds;
 mod boxes;
@@ -52,6 +53,7 @@ mod refusing;
 pub mod rule;
 /// The shift from one pattern to another.
 pub mod shift_to;
+mod spans;
 mod stray;
 mod tally;
 mod window;

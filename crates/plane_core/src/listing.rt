@@ -1,12 +1,22 @@
 //! The cells of a board in a list, in their order: row by row, and each row from the left.
 //!
-//! The rows are gone through in bands of eight. Most bands have no live cell, and of the others most lanes, so that each is
-//! first seen to be empty or not by eight words at once.
+//! The rows are gone through in bands of eight, from the first that a span reaches to the last. Most lanes have no live
+//! cell in a band: either its span doesn't reach there, or eight words at once are seen to be empty.
+//!
+//! ```text
+//! lane      0     1     2     3     4
+//! band 0    .     .     .     .     .
+//! band 1    .    [#]   [.]    .     .      Only where the spans reach, in brackets, is a word looked at.
+//! band 2    .    [#]   [#]   [#]    .
+//! band 3    .     .     .     .     .
+//! ```
 ghost use Rattle.std.specs.Prelude.{◌≡◌, ◌+◌, ◌*◌, ◌/◌, ◌<◌, ◌≤◌, ◌^◌, ◌-ℤ◌, ◌+ℤ◌, ℕ, List, length, pos};
 ghost use Rattle.std.specs.Prelude.{slice_index, IfNone, IfOk, IfSome, IsTrue, OnOk, unsigned_abs};
 ghost use Rattle.std.specs.Int.{bit_at};
 ghost use Rattle.plane_core.specs.Cells.{InOrder, cell_at};
-ghost use Rattle.plane_core.specs.Frames.{FillsFrame, IsFrame, LieOn, Shows};
+ghost use Rattle.plane_core.specs.Frames.{FillsFrame, IsFrame, LieOn, Shows, word_of};
+ghost use Rattle.plane_core.specs.OnBoard.{cells_on};
+ghost use Rattle.plane_core.specs.Spans.{HasRow, LieInLanes, LieInSpans};
 ghost use Rattle.plane_core.specs.Listing.{AreDead, HasRead, HasReadRow, HasReadRows, IsBandEmpty};
 ghost use Rattle.plane_core.specs.Listing.{IsLaneEmpty, IsNextAlive, IsRowEmpty};
 ghost use Rattle.plane_core.specs.declared.cell.Cell.{Cell};
@@ -14,20 +24,32 @@ ghost use Rattle.plane_core.specs.declared.cell.Cell.{Cell};
 use crate::cell::Cell;
 use crate::frame::Frame;
 use crate::pattern::in_order;
+use crate::spans::{Span, hull_of};
 use std::alloc::{AllocError, Global};
 
-/// All cells of a board, for so many of which there is room from the start. They come in their order, so it costs little to
-/// see to that.
-pub(crate) fn list(alloc: Global, at: Frame, words: &[u64], room: usize) -> Result<Vec<Cell>, AllocError>
+/// All cells of a board, which lie in these spans. For so many there is room from the start. They come in their order,
+/// so it costs little to see to that.
+pub(crate) fn list(
+    alloc: Global,
+    at: Frame,
+    words: &[u64],
+    spans: &[Span],
+    room: usize,
+) -> Result<Vec<Cell>, AllocError>
     requires frame { IsFrame at }
     requires long { FillsFrame at words.now }
+    requires spans { length spans.now ≡ at.lanes }
+    requires live { LieInSpans at spans.now (cells_on at words.now) }
     ensures { IfOk result
         (λ read. (cells : List Cell) → InOrder cells → LieOn at cells → Shows at words.now cells
         → read.items ≡ cells) }
 {
     let mut cells = Vec::with_capacity(alloc, room)?;
-    for band in 0..at.rows / 8 {
-        read_band(at, words, band, &mut cells)?;
+    let hull = hull_of(at, spans);
+    let lanes = hull.lanes_on(at);
+    let bands = hull.bands_on(at);
+    for band in bands.from..bands.end {
+        read_band(at, words, spans, lanes, band, &mut cells)?;
     }
     Ok(in_order(cells))
 }
@@ -57,11 +79,27 @@ fn along(cell: Cell, columns: usize) -> Cell
     }
 }
 
+/// The word of a row of a lane, of which this is the span. Outside of it nothing is alive, and no word is looked at.
+fn word_at(at: Frame, words: &[u64], span: Span, lane: usize, row: usize) -> u64
+    requires frame { IsFrame at }
+    requires lane { lane < at.lanes }
+    requires row { row < at.rows }
+    requires long { FillsFrame at words.now }
+    requires live { (i : ℕ) → i < 64 → bit_at (slice_index words.now (word_of at lane row)) i ≡ 1 → HasRow span row }
+    ensures { (i : ℕ) → i < 64 → bit_at result i ≡ bit_at (slice_index words.now (word_of at lane row)) i }
+{
+    if row < span.from || span.end <= row {
+        return 0;
+    }
+    words[at.index(lane, row)]
+}
+
 /// Reads the cells of a row from the left, and adds them to a list. The lanes before the first and from the end on have
 /// none.
 fn read_row(
     at: Frame,
     words: &[u64],
+    spans: &[Span],
     row: usize,
     first: usize,
     end: usize,
@@ -70,6 +108,8 @@ fn read_row(
     requires frame { IsFrame at }
     requires row { row < at.rows }
     requires long { FillsFrame at words.now }
+    requires spans { length spans.now ≡ at.lanes }
+    requires live { LieInSpans at spans.now (cells_on at words.now) }
     requires order { first ≤ end }
     requires end { end ≤ at.lanes }
     requires left { IsRowEmpty at words.now row 0 first }
@@ -77,78 +117,106 @@ fn read_row(
     ensures { OnOk result (HasReadRow at words.now row cells.old.items at.lanes cells.new.items) }
 {
     for lane in first..end {
-        let word = words[at.index(lane, row)];
+        let word = word_at(at, words, spans[lane], lane, row);
         read_word(word, at.corner(lane, row), cells)?;
     }
     Ok(())
 }
 
-/// Reads the cells of a band of eight rows, row by row, and adds them to a list. Most bands are empty,
-/// and of the others most lanes, since a board is laid out for what its cells may become.
+/// Reads the cells of a band of eight rows, row by row, and adds them to a list. All lie in these lanes.
 fn read_band(
     at: Frame,
     words: &[u64],
+    spans: &[Span],
+    lanes: Span,
     band: usize,
     cells: &mut Vec<Cell>,
 ) -> Result<(), AllocError>
     requires frame { IsFrame at }
     requires band { band < at.rows / 8 }
     requires long { FillsFrame at words.now }
+    requires spans { length spans.now ≡ at.lanes }
+    requires live { LieInSpans at spans.now (cells_on at words.now) }
+    requires order { lanes.from ≤ lanes.end }
+    requires most { lanes.end ≤ at.lanes }
+    requires lanes { LieInLanes at spans.now lanes }
     ensures { OnOk result
         (HasReadRows at words.now (8 * band) cells.old.items
         → HasReadRows at words.now (8 * band + 8) cells.new.items) }
 {
-    let first = first_lane(at, words, band);
-    if first == at.lanes {
+    let first = first_lane(at, words, spans, lanes, band);
+    if first == lanes.end {
         return Ok(());
     }
-    let end = end_of_lanes(at, words, band, first);
+    let end = end_of_lanes(at, words, spans, lanes, band, first);
     for row in 8 * band..8 * band + 8 {
-        read_row(at, words, row, first, end, cells)?;
+        read_row(at, words, spans, row, first, end, cells)?;
     }
     Ok(())
 }
 
-/// The first lane in which a cell of a band is alive. If there is none, it is how many lanes there are.
-fn first_lane(at: Frame, words: &[u64], band: usize) -> usize
+/// The first lane in which a cell of a band is alive. If there is none, it is the end of the lanes.
+fn first_lane(at: Frame, words: &[u64], spans: &[Span], lanes: Span, band: usize) -> usize
     requires frame { IsFrame at }
     requires band { band < at.rows / 8 }
     requires long { FillsFrame at words.now }
-    ensures most { result ≤ at.lanes }
+    requires spans { length spans.now ≡ at.lanes }
+    requires live { LieInSpans at spans.now (cells_on at words.now) }
+    requires order { lanes.from ≤ lanes.end }
+    requires most { lanes.end ≤ at.lanes }
+    requires lanes { LieInLanes at spans.now lanes }
+    ensures most { result ≤ lanes.end }
     ensures empty { IsBandEmpty at words.now band 0 result }
 {
-    let mut lane = 0;
-    while lane < at.lanes && is_lane_empty(at, words, lane, band) {
+    let mut lane = lanes.from;
+    while lane < lanes.end && is_lane_empty(at, words, spans, lane, band) {
         lane += 1;
     }
     lane
 }
 
 /// One more than the last lane, from this one on, in which a cell of a band is alive.
-fn end_of_lanes(at: Frame, words: &[u64], band: usize, first: usize) -> usize
+fn end_of_lanes(
+    at: Frame,
+    words: &[u64],
+    spans: &[Span],
+    lanes: Span,
+    band: usize,
+    first: usize,
+) -> usize
     requires frame { IsFrame at }
     requires band { band < at.rows / 8 }
     requires long { FillsFrame at words.now }
-    requires first { first ≤ at.lanes }
+    requires spans { length spans.now ≡ at.lanes }
+    requires live { LieInSpans at spans.now (cells_on at words.now) }
+    requires order { lanes.from ≤ lanes.end }
+    requires most { lanes.end ≤ at.lanes }
+    requires lanes { LieInLanes at spans.now lanes }
+    requires first { first ≤ lanes.end }
     ensures least { first ≤ result }
     ensures most { result ≤ at.lanes }
     ensures empty { IsBandEmpty at words.now band result at.lanes }
 {
-    let mut end = at.lanes;
-    while end > first && is_lane_empty(at, words, end - 1, band) {
+    let mut end = lanes.end;
+    while end > first && is_lane_empty(at, words, spans, end - 1, band) {
         end -= 1;
     }
     end
 }
 
 /// Whether no cell of a band is alive in a lane.
-fn is_lane_empty(at: Frame, words: &[u64], lane: usize, band: usize) -> bool
+fn is_lane_empty(at: Frame, words: &[u64], spans: &[Span], lane: usize, band: usize) -> bool
     requires frame { IsFrame at }
     requires lane { lane < at.lanes }
     requires band { band < at.rows / 8 }
     requires long { FillsFrame at words.now }
+    requires spans { length spans.now ≡ at.lanes }
+    requires live { LieInSpans at spans.now (cells_on at words.now) }
     ensures { IsTrue result → IsLaneEmpty at words.now band lane }
 {
+    if spans[lane].misses_eight(8 * band) {
+        return true;
+    }
     columns_of_eight(words, at.index(lane, 8 * band)) == 0
 }
 

@@ -1,5 +1,5 @@
 //! Cells that are put on an empty board, one after another: the bit of each is set in the word of its row and lane.
-ghost use Rattle.std.specs.Prelude.{◌≡◌, ◌*◌, ◌++◌, ◌∷◌, [], ℕ, List, length, slice_index};
+ghost use Rattle.std.specs.Prelude.{◌≡◌, ◌*◌, ◌++◌, ◌∷◌, [], List, length};
 ghost use Rattle.plane_core.specs.Bounds.{IsWithin};
 ghost use Rattle.plane_core.specs.Frames.{FillsFrame, IsFrame, LieOn, Shows, bounds_of};
 ghost use Rattle.plane_core.specs.declared.cell.Cell.{Cell};
@@ -25,7 +25,7 @@ pub(crate) fn fill(at: Frame, words: &mut [u64], cells: &[Cell])
     requires frame { IsFrame at }
     requires on { LieOn at cells.now }
     requires long { FillsFrame at words.old }
-    requires empty { (i : ℕ) → slice_index words.old i ≡ 0 }
+    requires empty { Shows at words.old [] }
     ensures shown { Shows at words.new cells.now }
     ensures long { length words.new ≡ length words.old }
 {

@@ -16,7 +16,7 @@ ghost use Rattle.std.specs.Prelude.{slice_index, slice_index_or};
 ghost use Rattle.std.specs.Int.{bit_at};
 ghost use Rattle.plane_core.specs.Bounds.{shifted};
 ghost use Rattle.plane_core.specs.LonePatterns.{AreAlike, HasChanged, Holds, IsColumns, IsCorner, IsFirstRow};
-ghost use Rattle.plane_core.specs.LonePatterns.{IsRimClear, IsVector, IsWhole};
+ghost use Rattle.plane_core.specs.LonePatterns.{IsRimClear, IsVector, AreVectors};
 ghost use Rattle.plane_core.specs.Lanes.{bit_of};
 ghost use Rattle.plane_core.specs.Windows.{row_at};
 ghost use Rattle.plane_core.specs.declared.cell.Cell.{Cell};
@@ -77,7 +77,7 @@ pub(crate) fn never_back<const N: usize, A: Answering>(
 #[inline(always)]
 fn columns_of<const N: usize>(window: &[u64x4; N]) -> u64
     ensures columns { IsColumns N window.now result }
-    ensures whole { IsWhole N window.now }
+    ensures whole { AreVectors N window.now }
 {
     let mut all = u64x4::splat(0);
     for k in 0..N {
@@ -215,8 +215,8 @@ fn may_be_again<const N: usize>(
     requires alive { 0 < from }
     requires from { IsColumns N start.now from }
     requires columns { IsColumns N now.now columns }
-    requires whole { IsWhole N start.now }
-    requires whole_now { IsWhole N now.now }
+    requires whole { AreVectors N start.now }
+    requires whole_now { AreVectors N now.now }
     ensures { (cells : List Cell) (left top dx dy : ℤ) → Holds N left top start.now cells
         → Holds N left top now.now (shifted dx dy cells) → IsTrue result }
 {
@@ -242,8 +242,8 @@ fn are_rows_again<const N: usize>(
     requires alive_now { 0 < columns }
     requires from { IsColumns N start.now from }
     requires columns { IsColumns N now.now columns }
-    requires whole { IsWhole N start.now }
-    requires whole_now { IsWhole N now.now }
+    requires whole { AreVectors N start.now }
+    requires whole_now { AreVectors N now.now }
     ensures { (cells : List Cell) (left top dx dy : ℤ) → Holds N left top start.now cells
         → Holds N left top now.now (shifted dx dy cells) → IsTrue result }
 {

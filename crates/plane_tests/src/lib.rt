@@ -2,8 +2,12 @@
 #![tactic(auto)]
 
 #[cfg(test)]
+mod memory;
+#[cfg(test)]
 mod output;
 #[cfg(test)]
 mod pictures;
+#[cfg(test)]
+mod runs;
 #[cfg(test)]
 mod sizes;

@@ -1,10 +1,10 @@
+pub mod Courses
 pub mod FindingLaws
 pub mod Findings
 pub mod Grouping
 pub mod Groups
 pub mod Jobs
 pub mod Memos
-pub mod Nearby
 pub mod Objects
 pub mod Profiles
 pub mod Rest

@@ -1,18 +1,19 @@
 ghost use Rattle.std.specs.Prelude.{◌≡◌, ◌<◌, ◌≤◌, ◌^◌, IfOk, IfNone, IfSome, true};
-ghost use Rattle.plane_core.specs.Generations.{after, lies_within};
+ghost use Rattle.plane_core.specs.Generations.{lies_within};
+ghost use Rattle.survey_core.specs.Courses.{survey_reach};
 ghost use Rattle.survey_core.specs.FindingLaws.{CountsAddUp, FindingsAreDetermined, FindingsForGood, FindingsMoved};
 ghost use Rattle.survey_core.specs.FindingLaws.{FindingsOfImages, FindingsTurned};
 ghost use Rattle.survey_core.specs.Findings.{IsFinding, SettlesAt, objects_in};
 ghost use Rattle.survey_core.specs.Rest.{IsAtRest};
 ghost use Rattle.survey_core.specs.Soups.{soup};
 
+use crate::course::Course;
 use crate::job::Job;
 use crate::memo::Memo;
 use crate::objects::Objects;
 use crate::profile::Profile;
 use crate::rest::clusters_at_rest;
 use crate::soup::soup;
-use plane_core::generation::StepError;
 use plane_core::pattern::Pattern;
 use plane_core::rule::Rule;
 use std::alloc::{AllocError, Global};
@@ -109,17 +110,21 @@ pub fn survey_pattern_with(
     ensures finding { IfOk result (IsFinding rule.now profile.now pattern) }
     ensures few { IfOk result (λ finding. objects_in finding < 2 ^ 64) }
 {
+    let mut course = Course::start(rule, pattern);
     let last = profile.limit() / profile.stride();
-    let mut latest = pattern;
     for place in 0..last {
         let checkpoint = place * profile.stride();
-        match finding_at(alloc, profile, rule, checkpoint, &latest, memo)? {
-            Some(finding) => return Ok(finding),
-            None => latest = run_on(alloc, rule, profile.stride(), &latest)?,
+        match look_at(alloc, profile, rule, checkpoint, &course, memo)? {
+            Some(finding) => {
+                course.end(memo);
+                return Ok(finding);
+            }
+            None => course = course.go_on(alloc, profile.stride(), memo)?,
         }
     }
     let checkpoint = last * profile.stride();
-    let finding = finding_at(alloc, profile, rule, checkpoint, &latest, memo)?;
+    let finding = look_at(alloc, profile, rule, checkpoint, &course, memo)?;
+    course.end(memo);
     Ok(finding.unwrap_or(Finding::Unsettled))
 }
 
@@ -146,6 +151,28 @@ pub fn findings_for_good()
     ensures { FindingsForGood }
 {}
 
+/// The finding of a pattern that has come so far at the checkpoint, if it is at rest.
+fn look_at(
+    alloc: Global,
+    profile: &Profile,
+    rule: &Rule,
+    checkpoint: u32,
+    course: &Course,
+    memo: &mut Memo,
+) -> Result<Option<Finding>, AllocError>
+    requires rule { course.now.rule ≡ rule.now }
+    requires near { lies_within survey_reach course.now.cells ≡ true }
+    ensures settled { IfOk result (λ found. IfSome found (SettlesAt rule.now profile.now course.now.cells checkpoint)) }
+    ensures moves { IfOk result (λ found. IfNone found (¬ IsAtRest rule.now profile.now course.now.cells)) }
+    ensures few { IfOk result (λ found. IfSome found (λ finding. objects_in finding < 2 ^ 64)) }
+{
+    if course.is_seen_to_move(profile) {
+        return Ok(None);
+    }
+    let latest = course.look(alloc)?;
+    finding_at(alloc, profile, rule, checkpoint, &latest, memo)
+}
+
 /// The finding of a pattern that is this one at the checkpoint, if it is at rest.
 fn finding_at(
     alloc: Global,
@@ -170,22 +197,4 @@ fn finding_at(
         objects,
         for_good,
     }))
-}
-
-/// The pattern after so many generations, in which it doesn't come near the edge of the plane.
-fn run_on(
-    alloc: Global,
-    rule: &Rule,
-    generations: u32,
-    pattern: &Pattern,
-) -> Result<Pattern, AllocError>
-    requires near { lies_within 101000 pattern.now ≡ true }
-    requires few { generations ≤ 10000 }
-    ensures { IfOk result (λ later. later ≡ after rule.now pattern.now generations) }
-{
-    match pattern.run(alloc, rule, generations) {
-        Ok(later) => Ok(later),
-        Err(StepError::Memory) => Err(AllocError),
-        Err(StepError::Edge) => unreachable!(),
-    }
 }

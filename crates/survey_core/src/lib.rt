@@ -19,9 +19,9 @@ pub mod seed;
 pub mod soup;
 /// Where a pattern that comes back lies, turn by turn.
 pub mod sweep;
+/// The way of a pattern from look to look.
+mod course;
 /// Groups of clusters that may meet.
 mod groups;
-/// An early no, from the clusters near a place.
-mod nearby;
 /// In which slot of a memo a pattern belongs.
 mod slot;

@@ -14,7 +14,7 @@
 //! shape, moved. Else the cluster is run and named, and is what stands in the slot from then on.
 //!
 //! Which slot is chosen and what is kept are free choices: a memo that forgets makes a survey slower, and nothing else.
-//! It also keeps where the last cluster was that was seen not to come back, for `nearby`: a free choice as well.
+//! It also keeps a board for the next pattern, so that its words needn't be made anew each time.
 
 ghost use Rattle.std.specs.Prelude.{◌≡◌, ◌≢◌, ◌+ℤ◌, ◌≤◌, [], All, IfNone, IfOk, IfSome, IsTrue, true};
 ghost use Rattle.plane_core.specs.Cells.{InOrder};
@@ -28,8 +28,8 @@ use crate::slot::slot_of;
 use crate::sweep::Sweep;
 use code_core::apgcode::Apgcode;
 use code_core::name::name;
+use plane_core::board::Board;
 use plane_core::bounds::Bounds;
-use plane_core::cell::Cell;
 use plane_core::generation::StepError;
 use plane_core::pattern::Pattern;
 use plane_core::rule::Rule;
@@ -42,13 +42,15 @@ const SLOTS: usize = 4096;
 /// How many cells a shape that is kept has at the most. Larger ones hardly ever come twice, and would take memory.
 const MOST_CELLS: usize = 64;
 
-/// What is remembered of clusters: of those that came back, and where the last was that didn't. It serves any rule and
-/// profile, one after another, and changes no finding: only how long it takes.
+/// What is remembered of clusters that came back, and a board for the next pattern. It serves any rule and profile, one
+/// after another, and changes no finding: only how long it takes.
 #[derive(Drop)]
 pub struct Memo {
     slots: Vec<Option<Known>>,
-    /// The first cell of the last cluster that was seen not to come back.
-    change: Option<Cell>,
+    /// A board for the next pattern, unless there is none yet, or a pattern is on it.
+    pub(crate) board: Option<Board>,
+    /// Whether there was no memory for a board.
+    lacks_board: bool,
 }
 
 /// What is known of a shape.
@@ -79,7 +81,8 @@ impl Memo {
         match empty_slots(alloc) {
             Ok(slots) => Memo {
                 slots,
-                change: None,
+                board: None,
+                lacks_board: false,
             },
             Err(AllocError) => Memo::without_room(alloc),
         }
@@ -89,7 +92,19 @@ impl Memo {
     pub fn without_room(alloc: Global) -> Memo {
         Memo {
             slots: Vec::new(alloc),
-            change: None,
+            board: None,
+            lacks_board: false,
+        }
+    }
+
+    /// Makes a board, if there is none and there is memory for it. One that a pattern is on counts as none.
+    pub(crate) fn make_board(&mut self, alloc: Global, rule: &Rule) {
+        if self.board.is_some() || self.lacks_board {
+            return;
+        }
+        match Board::new(alloc, rule) {
+            Ok(board) => self.board = Some(board),
+            Err(AllocError) => self.lacks_board = true,
         }
     }
 
@@ -125,13 +140,12 @@ impl Memo {
     }
 
     /// Whether it is seen at a glance that one of the patterns doesn't come back within so many generations.
-    fn sees_change(&mut self, rule: &Rule, limit: u32, patterns: &[Pattern]) -> bool
+    fn sees_change(&self, rule: &Rule, limit: u32, patterns: &[Pattern]) -> bool
         ensures { IsTrue result → ¬ All (ComesBack rule.now limit) patterns.now }
     {
         for pattern in patterns {
             let seen = self.sees_that_it_changes(rule, limit, pattern);
             if seen {
-                self.note_change(pattern);
                 return true;
             }
         }
@@ -140,25 +154,13 @@ impl Memo {
 
     /// Whether it is seen at a glance that a pattern doesn't come back within so many generations. One that is
     /// remembered does.
-    pub(crate) fn sees_that_it_changes(&self, rule: &Rule, limit: u32, pattern: &Pattern) -> bool
+    fn sees_that_it_changes(&self, rule: &Rule, limit: u32, pattern: &Pattern) -> bool
         ensures { IsTrue result → ¬ ComesBack rule.now limit pattern.now }
     {
         if self.recalled_sweep(rule, limit, pattern).is_some() {
             return false;
         }
         pattern.is_seen_to_change(rule, limit)
-    }
-
-    /// Where the last cluster was that was seen not to come back. What changes next mostly lies near it.
-    pub(crate) fn last_change(&self) -> Option<Cell> {
-        self.change
-    }
-
-    /// Notes where a pattern lies that was seen not to come back.
-    pub(crate) fn note_change(&mut self, pattern: &Pattern) {
-        if let Some(first) = pattern.cells().first() {
-            self.change = Some(*first);
-        }
     }
 
     /// The sweep of a pattern, or `None` if it doesn't come back within so many generations.

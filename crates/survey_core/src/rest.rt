@@ -14,8 +14,7 @@
 //! ```
 //!
 //! Most patterns that are looked at are not at rest, and nearly always some cluster doesn't come back. So that is asked
-//! first, of the clusters near the last change before the others are even found (`nearby`), and the sweep of each
-//! cluster is kept. Sweeps tell which clusters may come near each other: these are a
+//! first, and the sweep of each cluster is kept. Sweeps tell which clusters may come near each other: these are a
 //! group, and clusters of different groups are never run side by side. In a group the whole and its clusters are
 //! stepped, a generation at a time, until a generation differs, or until each cluster is itself again in its place:
 //! then the whole is what it was as well, and all that follows has been seen. Even before that a cluster that is itself
@@ -32,7 +31,6 @@ ghost use Rattle.survey_core.specs.RestLaws.{AtRestForGood, EmptyIsAtRest, Group
 
 use crate::groups::groups;
 use crate::memo::Memo;
-use crate::nearby::changes_nearby;
 use crate::profile::Profile;
 use plane_core::cell::Cell;
 use plane_core::generation::StepError;
@@ -56,10 +54,6 @@ pub(crate) fn clusters_at_rest(
     // That a pattern's cells stand in order is known of them where they are asked for.
     let _in_order = pattern.cells();
     let limit = profile.period();
-    let changes = changes_nearby(alloc, rule, limit, pattern, memo)?;
-    if changes {
-        return Ok(None);
-    }
     let clusters = pattern.clusters(alloc)?;
     let sweeps = match memo.sweeps(alloc, rule, limit, clusters.as_slice())? {
         Some(sweeps) => sweeps,

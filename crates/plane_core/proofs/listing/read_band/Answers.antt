@@ -1,11 +1,14 @@
 use Rattle.std.proofs.Common.{ℕ, arith, subst}
 use Rattle.plane_core.specs.Listing.{HasReadRows, IsBandEmpty}
-use Rattle.plane_core.proofs.ListingLemmas.{row-empty, rows-more, rows-on}
+use Rattle.plane_core.proofs.ListingLemmas.{band_joined, band_missed, row-empty, rows-more, rows-on}
 use Rattle.plane_core.proofs.listing.read_band.Goals as goal
 
-pub returns-then-first-at : goal.returns-then-first-at
-returns-then-first-at c =
-    let all = subst (λ (n : ℕ). IsBandEmpty c.args.at c.args.words.now c.args.band 0 n) (omega arith) c.first_lane-first.ensures.empty in
+pub returns-then-first-lanes : goal.returns-then-first-lanes
+returns-then-first-lanes c =
+    let last = band_missed c.args.at c.args.words.now c.args.spans.now c.args.lanes c.args.band c.args.lanes.end c.args.at.lanes c.requires.band
+    (omega arith) c.requires.live c.requires.lanes (λ s past near is. let h = is.high in omega (arith, past, h)) in
+    let first = subst (λ (n : ℕ). IsBandEmpty c.args.at c.args.words.now c.args.band 0 n) (omega arith) c.first_lane-first.ensures.empty in
+    let all = band_joined c.args.at c.args.words.now c.args.band 0 c.args.lanes.end c.args.at.lanes first last in
     rows-on c.args.at c.args.words.now c.args.band c.args.cells.now.items all
 
 pub read_row-requires-clause-left : goal.read_row-requires-clause-left

@@ -1,6 +1,7 @@
-use Rattle.std.proofs.Common.{ℕ, arith, ap, subst, slice_index}
+use Rattle.std.proofs.Common.{◌<◌, ℕ, arith, subst}
 use Rattle.plane_core.specs.Listing.{HasReadRow}
 use Rattle.plane_core.proofs.ListingLemmas.{row-none, row-more, row-on}
+use Rattle.plane_core.proofs.SpanLemmas.{live_bit}
 use Rattle.plane_core.proofs.listing.read_row.Goals as goal
 
 pub loop-lane-init : goal.loop-lane-init
@@ -13,7 +14,7 @@ loop-lane-init c =
 pub loop-lane-preserved : goal.loop-lane-preserved
 loop-lane-preserved c =
     row-more c.args.at c.args.words.now c.loop-lane.lane c.args.row _ _ _ _ _ (omega arith) c.requires.row
-    (ap (λ (n : ℕ). slice_index c.args.words.now n) c.index.ensures.index) c.corner.ensures.corner c.loop-lane.invariant
+    c.word_at-word.ensures c.corner.ensures.corner c.loop-lane.invariant
     c.in_ok-read_word.ensures
 
 pub returns : goal.returns
@@ -22,3 +23,9 @@ returns c =
     let new = c.loop-lane.cells.items in
     let read = subst (λ (n : ℕ). HasReadRow c.args.at c.args.words.now c.args.row old n new) (omega arith) c.loop-lane.invariant in
     row-on c.args.at c.args.words.now c.args.row c.args.end c.args.at.lanes old new c.requires.right read
+
+pub word_at-word-requires-clause-live : goal.word_at-word-requires-clause-live
+word_at-word-requires-clause-live c = λ i low bit.
+    let hs : c.loop-lane.lane < c.args.at.lanes = omega arith in
+    c.requires.live c.loop-lane.lane c.args.row i hs c.requires.row low
+    (live_bit c.args.at c.args.words.now c.loop-lane.lane c.args.row i hs c.requires.row low bit)

@@ -1,14 +1,14 @@
 use Rattle.std.proofs.Common.{◌∙◌, refl, subst}
 use Rattle.std.proofs.lemmas.List.{take_all}
 use Rattle.plane_core.specs.Frames.{Shows}
-use Rattle.plane_core.proofs.FillLemmas.{has-at, shown_taken, shown-empty}
+use Rattle.plane_core.proofs.FillLemmas.{has-at, shown_taken}
 use Rattle.plane_core.proofs.loading.fill.Goals as goal
 
 pub put-requires-clause-within : goal.put-requires-clause-within
 put-requires-clause-within c = c.requires.on _ (has-at _ _ _ c.loop-cell-test.true)
 
 pub loop-cell-init : goal.loop-cell-init
-loop-cell-init c = record { shown = shown-empty c.args.at c.args.words.now c.requires.empty; long = refl }
+loop-cell-init c = record { shown = c.requires.empty; long = refl }
 
 pub loop-cell-preserved : goal.loop-cell-preserved
 loop-cell-preserved c = record {

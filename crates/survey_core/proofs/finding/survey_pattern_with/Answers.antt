@@ -7,18 +7,21 @@ use Rattle.survey_core.specs.declared.finding.Finding.{Finding}
 use Rattle.survey_core.specs.Findings.{IsFinding, SettlesAt, objects_in}
 use Rattle.survey_core.specs.Profiles.{IsCheckpoint}
 use Rattle.survey_core.specs.Rest.{IsAtRest}
+use Rattle.survey_core.specs.Courses.{survey_reach}
+use Rattle.survey_core.proofs.CourseLemmas.{stays_near}
 use Rattle.survey_core.proofs.FindingLemmas.{after-then, finding_from, finding_last, few_objects, is_checkpoint, no_rest_more, one_more}
-use Rattle.survey_core.proofs.PlaneLemmas.{within_later}
+use Rattle.survey_core.proofs.PlaneLemmas.{within_later, within_more}
 use Rattle.survey_core.proofs.finding.survey_pattern_with.Goals as goal
 
 pub loop-place-init : goal.loop-place-init
 loop-place-init c = record {
-  latest = sym (after-none c.args.rule.now c.args.pattern) ∙ ap (after c.args.rule.now c.args.pattern) (sym (zero-mul c.args.profile.now.stride));
+  rule = c.start-course.ensures.rule;
+  latest = c.start-course.ensures.cells ∙ sym (after-none c.args.rule.now c.args.pattern) ∙ ap (after c.args.rule.now c.args.pattern) (sym (zero-mul c.args.profile.now.stride));
   before = λ u check low rest. let e : 0 * c.args.profile.now.stride ≡ 0 = zero-mul c.args.profile.now.stride in absurd (omega arith);
 }
 
-pub finding_at-requires : goal.finding_at-requires
-finding_at-requires c =
+pub look_at-requires-clause-near : goal.look_at-requires-clause-near
+look_at-requires-clause-near c =
     let low : c.loop-place.place ≤ c.args.profile.now.limit / c.args.profile.now.stride =
     subst (λ (n : ℕ). c.loop-place.place ≤ n) (λ i. c.limit.ensures.limit i / c.stride.ensures.stride i) (omega arith) in
     let check : IsCheckpoint c.args.profile.now (c.loop-place.place * c.args.profile.now.stride) =
@@ -28,8 +31,8 @@ finding_at-requires c =
     ap (lies_within 101000) c.loop-place.invariant.latest
     ∙ within_later 1000 101000 c.args.rule.now c.args.pattern (c.loop-place.place * c.args.profile.now.stride) (omega arith) c.requires
 
-pub finding_at-requires-2 : goal.finding_at-requires-2
-finding_at-requires-2 c =
+pub look_at-requires-2-clause-near : goal.look_at-requires-2-clause-near
+look_at-requires-2-clause-near c =
     let low : c.loop-place.place ≤ c.args.profile.now.limit / c.args.profile.now.stride =
     subst (λ (n : ℕ). c.loop-place.place ≤ n) (λ i. c.limit.ensures.limit i / c.stride.ensures.stride i) (omega arith) in
     let check : IsCheckpoint c.args.profile.now (c.loop-place.place * c.args.profile.now.stride) =
@@ -39,28 +42,28 @@ finding_at-requires-2 c =
     ap (lies_within 101000) c.loop-place.invariant.latest
     ∙ within_later 1000 101000 c.args.rule.now c.args.pattern (c.loop-place.place * c.args.profile.now.stride) (omega arith) c.requires
 
-pub run_on-requires-clause-near : goal.run_on-requires-clause-near
-run_on-requires-clause-near c =
-    let low : c.loop-place.place ≤ c.args.profile.now.limit / c.args.profile.now.stride =
-    subst (λ (n : ℕ). c.loop-place.place ≤ n) (λ i. c.limit.ensures.limit i / c.stride.ensures.stride i) (omega arith) in
-    let check : IsCheckpoint c.args.profile.now (c.loop-place.place * c.args.profile.now.stride) =
-    is_checkpoint c.args.profile.now c.loop-place.place c.stride.ensures.profile.onward low in
-    let within : c.loop-place.place * c.args.profile.now.stride ≤ c.args.profile.now.limit = check.within in
-    let most : c.args.profile.now.limit ≤ 100000 = c.stride.ensures.profile.limit in
-    ap (lies_within 101000) c.loop-place.invariant.latest
-    ∙ within_later 1000 101000 c.args.rule.now c.args.pattern (c.loop-place.place * c.args.profile.now.stride) (omega arith) c.requires
+pub start-course-requires : goal.start-course-requires
+start-course-requires c = within_more 1000 survey_reach c.args.pattern (omega arith) c.requires
+
+pub go_on-requires-clause-near : goal.go_on-requires-clause-near
+go_on-requires-clause-near c =
+    let low : c.loop-place.place < c.args.profile.now.limit / c.args.profile.now.stride =
+    subst (λ (n : ℕ). c.loop-place.place < n) (λ i. c.limit.ensures.limit i / c.stride.ensures.stride i) (omega arith) in
+    stays_near c.args.rule.now c.loop-place.course.rule c.args.pattern c.loop-place.course.cells c.args.profile.now c.loop-place.place
+    c.stride-in-None.result c.loop-place.invariant.rule c.loop-place.invariant.latest c.stride-in-None.ensures.stride c.requires c.stride.ensures.profile.onward
+    c.stride.ensures.profile.limit low
 
 -- at rest for the first time
 pub returns-in-Some-clause-finding : goal.returns-in-Some-clause-finding
 returns-in-Some-clause-finding c =
     let low : c.loop-place.place ≤ c.args.profile.now.limit / c.args.profile.now.stride =
     subst (λ (n : ℕ). c.loop-place.place ≤ n) (λ i. c.limit.ensures.limit i / c.stride.ensures.stride i) (omega arith) in
-    let told : SettlesAt c.args.rule.now c.args.profile.now c.loop-place.latest
+    let told : SettlesAt c.args.rule.now c.args.profile.now c.loop-place.course.cells
     (c.loop-place.place * c.stride-in-loop-place.result) c.in-Some.finding = rw c.in-Some.is at c.in_ok-finding.ensures.settled in
-    let settled : SettlesAt c.args.rule.now c.args.profile.now c.loop-place.latest (c.loop-place.place * c.args.profile.now.stride) c.in-Some.finding =
-    subst (λ (k : ℕ). SettlesAt c.args.rule.now c.args.profile.now c.loop-place.latest (c.loop-place.place * k) c.in-Some.finding)
+    let settled : SettlesAt c.args.rule.now c.args.profile.now c.loop-place.course.cells (c.loop-place.place * c.args.profile.now.stride) c.in-Some.finding =
+    subst (λ (k : ℕ). SettlesAt c.args.rule.now c.args.profile.now c.loop-place.course.cells (c.loop-place.place * k) c.in-Some.finding)
     c.stride-in-loop-place.ensures.stride told in
-    finding_from c.args.rule.now c.args.profile.now c.args.pattern c.loop-place.latest
+    finding_from c.args.rule.now c.args.profile.now c.args.pattern c.loop-place.course.cells
     (c.loop-place.place * c.args.profile.now.stride) c.in-Some.finding settled c.loop-place.invariant.latest
     (is_checkpoint c.args.profile.now c.loop-place.place c.stride.ensures.profile.onward low) c.loop-place.invariant.before
 
@@ -68,14 +71,16 @@ returns-in-Some-clause-finding c =
 pub loop-place-preserved : goal.loop-place-preserved
 loop-place-preserved c =
     let some : 1 ≤ c.args.profile.now.stride = c.stride.ensures.profile.onward in
-    let moves : ¬ IsAtRest c.args.rule.now c.args.profile.now c.loop-place.latest = rw c.in-None.is at c.in_ok-finding.ensures.moves in
+    let moves : ¬ IsAtRest c.args.rule.now c.args.profile.now c.loop-place.course.cells = rw c.in-None.is at c.in_ok-finding.ensures.moves in
     let next_place : (c.loop-place.place + 1) * c.args.profile.now.stride ≡ c.loop-place.place * c.args.profile.now.stride +
     c.args.profile.now.stride = one_more c.loop-place.place c.args.profile.now.stride in
     record {
-      latest = c.in_ok-latest-in-None.ensures ∙ (λ i. after c.args.rule.now (c.loop-place.invariant.latest i) (c.stride-in-None.ensures.stride i))
+      rule = c.in_ok-course-in-None.ensures.rule ∙ c.loop-place.invariant.rule;
+      latest = c.in_ok-course-in-None.ensures.cells
+          ∙ (λ i. after (c.loop-place.invariant.rule i) (c.loop-place.invariant.latest i) (c.stride-in-None.ensures.stride i))
           ∙ after-then c.args.rule.now c.args.pattern (c.loop-place.place * c.args.profile.now.stride) c.args.profile.now.stride
           ∙ ap (after c.args.rule.now c.args.pattern) (sym next_place);
-      before = no_rest_more c.args.rule.now c.args.profile.now c.args.pattern c.loop-place.latest c.loop-place.place some
+      before = no_rest_more c.args.rule.now c.args.profile.now c.args.pattern c.loop-place.course.cells c.loop-place.place some
           c.loop-place.invariant.latest c.loop-place.invariant.before moves
           ((c.loop-place.place + 1) * c.args.profile.now.stride) next_place;
     }
@@ -88,16 +93,16 @@ returns-clause-finding c =
     let at : c.limit.result / c.stride.result ≡ c.loop-place.place = omega arith in
     let check : c.limit.result / c.stride.result * c.stride-2.result ≡ c.loop-place.place * c.args.profile.now.stride = λ i. at i * same i in
     subst (IsFinding c.args.rule.now c.args.profile.now c.args.pattern) (sym c.unwrap_or.ensures)
-    (finding_last c.args.rule.now c.args.profile.now c.args.pattern c.loop-place.latest c.loop-place.place c.in_ok-finding-2.finding
-    (subst (λ (t : ℕ). IfSome c.in_ok-finding-2.finding (SettlesAt c.args.rule.now c.args.profile.now c.loop-place.latest t)) check
+    (finding_last c.args.rule.now c.args.profile.now c.args.pattern c.loop-place.course.cells c.loop-place.place c.in_ok-finding-2.finding
+    (subst (λ (t : ℕ). IfSome c.in_ok-finding-2.finding (SettlesAt c.args.rule.now c.args.profile.now c.loop-place.course.cells t)) check
     c.in_ok-finding-2.ensures.settled)
     c.in_ok-finding-2.ensures.moves c.loop-place.invariant.latest c.stride.ensures.profile.onward last c.loop-place.invariant.before)
 
 pub nonzero_div-last : goal.nonzero_div-last
 nonzero_div-last c = subst (λ n. 0 < n) (sym c.stride.ensures.stride) c.stride.ensures.profile.onward
 
-pub run_on-requires-clause-few : goal.run_on-requires-clause-few
-run_on-requires-clause-few c =
+pub go_on-requires-clause-few : goal.go_on-requires-clause-few
+go_on-requires-clause-few c =
     subst (λ n. n ≤ 10000) (sym c.stride-in-None.ensures.stride) c.stride-in-None.ensures.profile.stride
 
 pub returns-in-Some-clause-few : goal.returns-in-Some-clause-few
@@ -114,11 +119,11 @@ returns-in_err-finding-clause-finding c = IfOk-from_err _ _ c.from_residual.ensu
 pub returns-in_err-finding-clause-few : goal.returns-in_err-finding-clause-few
 returns-in_err-finding-clause-few c = IfOk-from_err _ _ c.from_residual.ensures.0
 
-pub returns-in_err-latest-in-None-clause-finding : goal.returns-in_err-latest-in-None-clause-finding
-returns-in_err-latest-in-None-clause-finding c = IfOk-from_err _ _ c.from_residual-in_err-latest-in-None.ensures.0
+pub returns-in_err-course-in-None-clause-finding : goal.returns-in_err-course-in-None-clause-finding
+returns-in_err-course-in-None-clause-finding c = IfOk-from_err _ _ c.from_residual-in_err-course-in-None.ensures.0
 
-pub returns-in_err-latest-in-None-clause-few : goal.returns-in_err-latest-in-None-clause-few
-returns-in_err-latest-in-None-clause-few c = IfOk-from_err _ _ c.from_residual-in_err-latest-in-None.ensures.0
+pub returns-in_err-course-in-None-clause-few : goal.returns-in_err-course-in-None-clause-few
+returns-in_err-course-in-None-clause-few c = IfOk-from_err _ _ c.from_residual-in_err-course-in-None.ensures.0
 
 pub returns-in_err-finding-2-clause-finding : goal.returns-in_err-finding-2-clause-finding
 returns-in_err-finding-2-clause-finding c = IfOk-from_err _ _ c.from_residual-in_err-finding-2.ensures.0

@@ -5,6 +5,7 @@ use Rattle.survey_core.proofs.finding.survey_pattern_with.Given as goal
 
 abbrev pub invariant-loop-place : goal.invariant-loop-place
 invariant-loop-place l = record {
-  latest : l.latest ≡ after l.rule l.fn.pattern (l.place * l.profile.stride);
+  rule : l.course.rule ≡ l.rule;
+  latest : l.course.cells ≡ after l.rule l.fn.pattern (l.place * l.profile.stride);
   before : NoRestBefore l.rule l.profile l.fn.pattern (l.place * l.profile.stride);
 }

@@ -10,8 +10,6 @@ use Rattle.survey_core.specs.Groups.{GroupKeeps, ShareNoCell}
 use Rattle.survey_core.specs.Rest.{ComesBack, RestsAs}
 use Rattle.survey_core.specs.Sweeps.{AreSweeps}
 use Rattle.survey_core.proofs.GroupingLemmas.{groups_of_rest, rest_by_groups}
-use Rattle.survey_core.specs.Nearby.{EachComesBack}
-use Rattle.survey_core.proofs.NearbyLemmas.{rest_comes_back}
 use Rattle.survey_core.proofs.RestLemmas.{clusters_near, clusters_off, clusters_some, same_clusters}
 use Rattle.survey_core.proofs.rest.clusters_at_rest.Goals as goal
 
@@ -25,14 +23,7 @@ sweeps-requires-clause-near c =
     subst (All (λ (part : List Cell). lies_within 101000 part ≡ true)) (sym c.as_slice.ensures.value)
     (clusters_near 101000 c.args.pattern.now c.in_ok-clusters.clusters.items c.in_ok-clusters.ensures.clusters c.requires)
 
--- a cluster near the last change doesn't come back
-pub returns-then-changes-clause-moves : goal.returns-then-changes-clause-moves
-returns-then-changes-clause-moves c = λ rest.
-    c.in_ok-changes.ensures c.if-changes.true
-    (subst (λ (p : ℕ). EachComesBack c.args.rule.now p c.args.pattern.now) (sym c.period-limit.ensures.period)
-    (rest_comes_back c.args.rule.now c.args.profile.now c.args.pattern.now rest))
-
--- or some cluster doesn't
+-- some cluster doesn't come back
 pub returns-in-None-clause-moves : goal.returns-in-None-clause-moves
 returns-in-None-clause-moves c = λ rest.
     let same : RestsAs c.args.rule.now c.args.profile.now c.args.pattern.now c.in_ok-clusters.clusters.items =
@@ -121,17 +112,11 @@ groups_keep_apart-requires-clause-count c =
     ∙ found.count
     ∙ ap length (c.as_slice.ensures.value ∙ sym c.as_slice-3.ensures.value)
 
-pub returns-in_err-changes-clause-rest : goal.returns-in_err-changes-clause-rest
-returns-in_err-changes-clause-rest c = IfOk-from_err _ _ c.from_residual.ensures.0
-
-pub returns-in_err-changes-clause-moves : goal.returns-in_err-changes-clause-moves
-returns-in_err-changes-clause-moves c = IfOk-from_err _ _ c.from_residual.ensures.0
-
 pub returns-in_err-clusters-clause-rest : goal.returns-in_err-clusters-clause-rest
-returns-in_err-clusters-clause-rest c = IfOk-from_err _ _ c.from_residual-in_err-clusters.ensures.0
+returns-in_err-clusters-clause-rest c = IfOk-from_err _ _ c.from_residual.ensures.0
 
 pub returns-in_err-clusters-clause-moves : goal.returns-in_err-clusters-clause-moves
-returns-in_err-clusters-clause-moves c = IfOk-from_err _ _ c.from_residual-in_err-clusters.ensures.0
+returns-in_err-clusters-clause-moves c = IfOk-from_err _ _ c.from_residual.ensures.0
 
 pub returns-in_err-sweeps-clause-rest : goal.returns-in_err-sweeps-clause-rest
 returns-in_err-sweeps-clause-rest c = IfOk-from_err _ _ c.from_residual-in_err-sweeps.ensures.0

@@ -1,7 +1,5 @@
-use Rattle.std.proofs.Common.{◌≡◌, ◌∙◌, ℕ, List, ap, refl, sym}
+use Rattle.std.proofs.Common.{◌∙◌}
 use Rattle.plane_core.specs.Generations.{after}
-use Rattle.plane_core.specs.Rules.{Numbers}
-use Rattle.plane_core.specs.declared.cell.Cell.{Cell}
 use Rattle.plane_core.proofs.RunLemmas.{after-plus}
 use Rattle.plane_core.proofs.board.Board.advance.Goals as goal
 

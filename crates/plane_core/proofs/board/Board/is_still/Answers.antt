@@ -16,4 +16,4 @@ returns c none n even =
     let empty = no_boxes c.self.inside.boxes.items (omega (arith, eqb-true _ _ (sym c.is_empty.ensures ∙ none))) in
     subst (λ (b : Running). after b.rule b.cells n ≡ b.cells) c.self.view_is
     (still_forever c.self.inside.answers.rule (cells_on at words) n (cells_in_order at words)
-    (subst (λ (boxes : List Bounds). IsQuiet c.self.inside.answers.rule (cells_on at words) boxes) empty c.self.invariant.quiet) even)
+    (subst (λ (boxes : List Bounds). IsQuiet c.self.inside.answers.rule (cells_on at words) boxes) empty c.self.invariant.board.quiet) even)

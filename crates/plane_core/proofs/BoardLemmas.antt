@@ -1,0 +1,50 @@
+-- An empty board, and the pattern on a board.
+use Rattle.std.proofs.Common.{◌≡◌, ◌==◌, ◌+◌, ◌*◌, ℕ, Bool, true, List, [], arith, ap, ◌∙◌, sym, subst, slice_index}
+use Rattle.std.specs.Int.{bit_at}
+use Rattle.std.proofs.lemmas.Bool.{false≢true}
+use Rattle.std.proofs.lemmas.List.Elements.{All-nil}
+use Rattle.plane_core.specs.declared.bounds.Bounds.{Bounds}
+use Rattle.plane_core.specs.declared.cell.Cell.{Cell}
+use Rattle.plane_core.specs.declared.frame.Frame.{Frame}
+use Rattle.plane_core.specs.Boards.{IsBoard}
+use Rattle.plane_core.specs.Bounds.{AreSidesWithin}
+use Rattle.plane_core.specs.Boxes.{HoldAll, box_bound}
+use Rattle.plane_core.specs.Cells.{IsPattern, has, on_plane, plane_bound}
+use Rattle.plane_core.specs.Frames.{FillsFrame, IsFrame, Shows, bounds_of, board_cell}
+use Rattle.plane_core.specs.OnBoard.{cells_on}
+use Rattle.plane_core.specs.Rules.{Numbers}
+use Rattle.plane_core.specs.Words.{life}
+use Rattle.plane_core.proofs.BoxRoundLemmas.{lies_in}
+use Rattle.plane_core.proofs.OnBoardLemmas.{cells_in_order, cells_lie_on, shows_cells}
+use Rattle.plane_core.proofs.QuietLemmas.{quiet-start}
+
+-- a board without a live cell needs no boxes
+pub blank_board : (at : Frame) (rule : Numbers) (is_life : Bool) (words : List ℕ) (boxes : List Bounds) (holds_all : Bool) → IsFrame at
+    → (is_life ≡ true → rule ≡ life) → FillsFrame at words → boxes ≡ [] → cells_on at words ≡ [] → IsBoard at rule is_life words boxes holds_all
+blank_board at rule is_life words boxes holds_all frame is long none empty = subst (λ (bs : List Bounds). IsBoard at rule is_life words bs holds_all)
+    (sym none) record {
+      frame = frame;
+      life = is;
+      long = long;
+      sides = All-nil (AreSidesWithin box_bound);
+      quiet = quiet-start rule (cells_on at words) [] all;
+      all = λ e. all;
+    }
+  where
+    all : HoldAll [] (cells_on at words)
+    all c e = absurd (false≢true (sym (ap (λ (S : List Cell). has S c) empty) ∙ e))
+
+-- nor does it matter where it lies
+pub moved_empty : (at new : Frame) (words : List ℕ) → new.lanes ≡ at.lanes → new.rows ≡ at.rows → cells_on at words ≡ [] → Shows new words []
+moved_empty at new words lanes rows empty s r i hs hr hi =
+    sym (ap (λ (S : List Cell). has S (board_cell at s r i)) empty)
+    ∙ shows_cells at words s r i (omega (arith, hs, lanes)) (omega (arith, hr, rows)) hi
+    ∙ ap (λ (n : ℕ). bit_at (slice_index words (s * n + r)) i == 1) (sym rows)
+
+-- what a board shows that lies on the plane is a pattern
+pub board_pattern : (at : Frame) (words : List ℕ) → AreSidesWithin plane_bound (bounds_of at) → IsPattern (cells_on at words)
+unfolding on_plane
+board_pattern at words sides = record {
+  in_order = cells_in_order at words;
+  on_plane = lies_in (cells_on at words) (bounds_of at) plane_bound (cells_lie_on at words) sides;
+}

@@ -1,0 +1,40 @@
+use Rattle.std.proofs.Common.{◌≡◌, ◌∙◌, ap, arith, length}
+use Rattle.std.proofs.lemmas.List.{with_items_is}
+use Rattle.plane_core.proofs.BoardLemmas.{blank_board}
+use Rattle.plane_core.proofs.SpanLemmas.{empty_spans}
+use Rattle.plane_core.proofs.board.Board.clear.Goals as goal
+
+pub empty-requires-clause-long : goal.empty-requires-clause-long
+empty-requires-clause-long c = rw c.as_mut_slice.ensures.value c.self.invariant.board.long
+
+pub empty-requires-clause-lanes : goal.empty-requires-clause-lanes
+empty-requires-clause-lanes c = rw c.as_mut_slice-2.ensures.value c.self.invariant.spanned.lanes
+
+pub empty-requires-clause-live : goal.empty-requires-clause-live
+empty-requires-clause-live c = rw (c.as_mut_slice.ensures.value, c.as_mut_slice-2.ensures.value) c.self.invariant.spanned.live
+
+pub invariant_of-self : goal.invariant_of-self
+invariant_of-self c =
+    let inside = c.self.inside in
+    let new = c.empty.new.words in
+    let spans = c.empty.new.spans in
+    let kept : length new ≡ length c.as_mut_slice.result.now = c.empty.ensures.long in
+    let long : length new ≡ inside.words.len = omega (arith, kept, c.as_mut_slice.ensures.len) in
+    let held : length spans ≡ length c.as_mut_slice-2.result.now = c.empty.ensures.lanes in
+    let lanes : length spans ≡ inside.spans.len = omega (arith, held, c.as_mut_slice-2.ensures.len) in
+    rw (with_items_is inside.words new long, with_items_is inside.spans spans lanes) record {
+      board = blank_board inside.at c.new-self-inside.result.rule c.is_life-self-inside.result new c.clear.new.self.items _ c.self.invariant.board.frame
+          (λ life. c.new-self-inside.ensures ∙ c.is_life-self-inside.ensures life) (kept ∙ ap length c.as_mut_slice.ensures.value ∙ c.self.invariant.board.long)
+          c.clear.ensures.items c.empty.ensures.cells;
+      spanned = empty_spans inside.at new spans c.empty.ensures.cells
+          (held ∙ ap length c.as_mut_slice-2.ensures.value ∙ c.self.invariant.spanned.lanes);
+      plane = c.self.invariant.plane;
+    }
+
+pub returns-clause-cells : goal.returns-clause-cells
+returns-clause-cells c =
+    let inside = c.self.inside in
+    let new = c.empty.new.words in
+    let kept : length new ≡ length c.as_mut_slice.result.now = c.empty.ensures.long in
+    let long : length new ≡ inside.words.len = omega (arith, kept, c.as_mut_slice.ensures.len) in
+    rw (with_items_is inside.words new long) c.empty.ensures.cells

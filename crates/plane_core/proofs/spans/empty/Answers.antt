@@ -1,0 +1,44 @@
+use Rattle.std.proofs.Common.{◌≡◌, ◌≢◌, ◌∙◌, ◌<◌, [], arith, get_or-set_other, inl, refl, subst, sym}
+use Rattle.std.proofs.lemmas.Bool.{false≢true}
+use Rattle.std.proofs.lemmas.List.{length-set}
+use Rattle.plane_core.specs.declared.spans.Span.{Span}
+use Rattle.plane_core.specs.Spans.{HasRow}
+use Rattle.plane_core.proofs.OnBoardLemmas.{only_cells}
+use Rattle.plane_core.proofs.SetLemmas.{in_order-nil}
+use Rattle.plane_core.proofs.SpanLemmas.{lane_emptied, shown_dead, zeroed_more}
+use Rattle.plane_core.proofs.spans.empty.Goals as goal
+
+pub loop-lane-init : goal.loop-lane-init
+loop-lane-init c = record {
+  long = refl;
+  lanes = refl;
+  kept = λ s low. refl;
+  dead = λ s r i low. absurd (omega (arith, low));
+  others = λ m. inl refl;
+}
+
+pub loop-lane-preserved : goal.loop-lane-preserved
+loop-lane-preserved c =
+    let before = c.loop-lane.invariant in
+    let lane = c.loop-lane.lane in
+    let near : lane < c.args.at.lanes = omega arith in
+    record {
+      long = c.empty_lane.ensures.long ∙ before.long;
+      lanes = length-set c.loop-lane.spans lane c.empty.result ∙ before.lanes;
+      kept = λ s low.
+          let apart : s ≢ lane = λ (e : s ≡ lane). omega (arith, low, e) in
+          get_or-set_other c.loop-lane.spans lane s c.empty.result (record { from = 0; end = 0 }) apart ∙ before.kept s (omega (arith, low));
+      dead = lane_emptied c.args.at c.args.words.now c.loop-lane.words c.empty_lane.new.words c.args.spans.now lane near c.requires.live before.others
+          before.dead c.empty_lane.ensures.others
+          (λ r hr inside. c.empty_lane.ensures.dead r hr (subst (λ (span : Span). HasRow span r) (sym (before.kept lane (omega arith))) inside));
+      others = zeroed_more c.args.words.now c.loop-lane.words c.empty_lane.new.words before.others c.empty_lane.ensures.others;
+    }
+
+pub returns-clause-empty : goal.returns-clause-empty
+returns-clause-empty c =
+    shown_dead c.args.at c.loop-lane.words (λ s r i low. c.loop-lane.invariant.dead s r i (omega (arith, low)))
+
+pub returns-clause-cells : goal.returns-clause-cells
+returns-clause-cells c =
+    only_cells c.args.at c.loop-lane.words [] in_order-nil (λ d e. absurd (false≢true e))
+    (shown_dead c.args.at c.loop-lane.words (λ s r i low. c.loop-lane.invariant.dead s r i (omega (arith, low))))

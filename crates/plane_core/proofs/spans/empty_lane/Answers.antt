@@ -1,0 +1,5 @@
+use Rattle.std.proofs.Common.{arith, inl, refl}
+use Rattle.plane_core.proofs.spans.empty_lane.Goals as goal
+
+pub loop-row-init : goal.loop-row-init
+loop-row-init c = record { long = refl; dead = λ r past near. absurd (omega (arith, past, near)); others = λ m. inl refl }

@@ -1,0 +1,233 @@
+//! Which rows of each lane of a board may have a live cell. So a large board that is nearly empty is read and emptied
+//! at little cost:
+//!
+//! ```text
+//! lane      0     1     2     3
+//! row 0     .     .     .     .
+//! row 1     .     #     .     .      The rows from the first that was written in a lane to the last. Outside of them
+//! row 2     .     #     #     .      all is dead.
+//! row 3     .     .     #     .
+//! ```
+ghost use Rattle.std.specs.Prelude.{◌≡◌, ◌+◌, ◌*◌, ◌/◌, ◌<◌, ◌≤◌, ◌^◌, ◌∷◌, ◌⊎◌};
+ghost use Rattle.std.specs.Prelude.{[], All, ℕ, IsTrue, length, slice_index};
+ghost use Rattle.plane_core.specs.Bounds.{IsWithin};
+ghost use Rattle.plane_core.specs.Frames.{FillsFrame, IsFrame, LieOn, Shows, bounds_of, board_cell, word_of};
+ghost use Rattle.plane_core.specs.OnBoard.{cells_on};
+ghost use Rattle.plane_core.specs.Places.{IsOnBoard};
+ghost use Rattle.plane_core.specs.Spans.{AreWidened, HoldCovered, HoldInner, HoldsSpans};
+ghost use Rattle.plane_core.specs.Spans.{HasRow, IsInHull, IsInSpan, LieInSpans};
+
+use crate::cell::Cell;
+use crate::frame::Frame;
+use crate::place::Place;
+use crate::placed::{column_of, row_of};
+
+/// The numbers from one on, and before another: mostly rows.
+#[derive(Clone, Copy)]
+pub(crate) struct Span {
+    pub(crate) from: usize,
+    pub(crate) end: usize,
+}
+
+impl Span {
+    /// No numbers.
+    pub(crate) fn empty() -> Span
+        ensures { (n : ℕ) → ¬ HasRow result n }
+    {
+        Span {
+            from: usize::MAX,
+            end: 0,
+        }
+    }
+
+    /// The least span that has both.
+    pub(crate) fn joined(self, other: Span) -> Span
+        ensures first { (n : ℕ) → HasRow self n → HasRow result n }
+        ensures second { (n : ℕ) → HasRow other n → HasRow result n }
+    {
+        Span {
+            from: self.from.min(other.from),
+            end: self.end.max(other.end),
+        }
+    }
+
+    /// Whether none of eight numbers, from this one on, lies in the span.
+    pub(crate) fn misses_eight(self, from: usize) -> bool
+        requires { from < 2 ^ 32 }
+        ensures { IsTrue result → (k : ℕ) → k < 8 → ¬ HasRow self (from + k) }
+    {
+        self.end <= from || from + 8 <= self.from
+    }
+}
+
+/// Widens the span of a lane by rows from one on, and before another.
+pub(crate) fn widen(spans: &mut [Span], lane: usize, from: usize, end: usize)
+    requires { lane < length spans.old }
+    ensures kept { AreWidened spans.old spans.new }
+    ensures held { (r : ℕ) → from ≤ r → r < end → IsInSpan spans.new lane r }
+    ensures long { length spans.new ≡ length spans.old }
+{
+    spans[lane] = spans[lane].joined(Span { from, end });
+}
+
+/// Widens the spans by the inner part of a window, which may lie in two lanes.
+fn widen_by_one(at: Frame, spans: &mut [Span], place: Place)
+    requires frame { IsFrame at }
+    requires on_board { IsOnBoard at place }
+    requires long { length spans.old ≡ at.lanes }
+    ensures kept { AreWidened spans.old spans.new }
+    ensures covered { HoldInner at spans.new place }
+    ensures long { length spans.new ≡ length spans.old }
+{
+    let lane = column_of(at, place) / 64;
+    let row = row_of(at, place);
+    widen(spans, lane, row + 4, row + 36);
+    widen(spans, lane + 1, row + 4, row + 36);
+}
+
+/// Widens the spans by the inner parts of windows.
+pub(crate) fn widen_by(at: Frame, spans: &mut [Span], places: &[Place])
+    requires frame { IsFrame at }
+    requires on_board { All (IsOnBoard at) places.now }
+    requires long { length spans.old ≡ at.lanes }
+    ensures kept { AreWidened spans.old spans.new }
+    ensures covered { HoldCovered at spans.new places.now }
+    ensures long { length spans.new ≡ length spans.old }
+{
+    for place in places {
+        widen_by_one(at, spans, *place);
+    }
+}
+
+/// Widens the spans by a cell.
+fn widen_by_cell(at: Frame, spans: &mut [Span], cell: Cell)
+    requires frame { IsFrame at }
+    requires within { IsWithin (bounds_of at) cell }
+    requires long { length spans.old ≡ at.lanes }
+    ensures kept { AreWidened spans.old spans.new }
+    ensures held { LieInSpans at spans.new (cell ∷ []) }
+    ensures long { length spans.new ≡ length spans.old }
+{
+    let lane = at.across(cell) / 64;
+    let row = at.down(cell);
+    widen(spans, lane, row, row + 1);
+}
+
+/// Widens the spans by cells.
+pub(crate) fn widen_by_cells(at: Frame, spans: &mut [Span], cells: &[Cell])
+    requires frame { IsFrame at }
+    requires on { LieOn at cells.now }
+    requires long { length spans.old ≡ at.lanes }
+    ensures kept { AreWidened spans.old spans.new }
+    ensures held { LieInSpans at spans.new cells.now }
+    ensures long { length spans.new ≡ length spans.old }
+{
+    for cell in cells {
+        widen_by_cell(at, spans, *cell);
+    }
+}
+
+/// The lanes from the first that has rows to the last, and the rows from the least to the greatest.
+#[derive(Clone, Copy)]
+pub(crate) struct Hull {
+    pub(crate) lanes: Span,
+    pub(crate) rows: Span,
+}
+
+impl Hull {
+    /// Nothing.
+    fn empty() -> Hull {
+        Hull {
+            lanes: Span::empty(),
+            rows: Span::empty(),
+        }
+    }
+
+    /// The hull with a lane more, of which these are the rows.
+    fn with(self, lane: usize, span: Span) -> Hull
+        requires { lane < 2 ^ 32 }
+        ensures kept { (s r : ℕ) → IsInHull self s r → IsInHull result s r }
+        ensures held { (r : ℕ) → HasRow span r → IsInHull result lane r }
+    {
+        if span.end <= span.from {
+            return self;
+        }
+        Hull {
+            lanes: self.lanes.joined(Span {
+                from: lane,
+                end: lane + 1,
+            }),
+            rows: self.rows.joined(span),
+        }
+    }
+
+    /// The lanes of the hull, as lanes of the board.
+    pub(crate) fn lanes_on(self, at: Frame) -> Span
+        ensures order { result.from ≤ result.end }
+        ensures most { result.end ≤ at.lanes }
+        ensures held { (s : ℕ) → s < at.lanes → HasRow self.lanes s → HasRow result s }
+    {
+        let from = self.lanes.from.min(at.lanes);
+        Span {
+            from,
+            end: self.lanes.end.min(at.lanes).max(from),
+        }
+    }
+
+    /// The bands of eight rows that have all rows of the hull.
+    pub(crate) fn bands_on(self, at: Frame) -> Span
+        requires { IsFrame at }
+        ensures from { 8 * result.from ≤ at.rows }
+        ensures end { result.end ≤ at.rows / 8 }
+        ensures held { (r : ℕ) → r < at.rows → HasRow self.rows r → HasRow result (r / 8) }
+    {
+        Span {
+            from: self.rows.from.min(at.rows) / 8,
+            end: (self.rows.end.min(at.rows) + 7) / 8,
+        }
+    }
+}
+
+/// The lanes and the rows in which spans lie.
+pub(crate) fn hull_of(at: Frame, spans: &[Span]) -> Hull
+    requires frame { IsFrame at }
+    requires long { length spans.now ≡ at.lanes }
+    ensures { HoldsSpans spans.now at.lanes result }
+{
+    let mut hull = Hull::empty();
+    for lane in 0..at.lanes {
+        hull = hull.with(lane, spans[lane]);
+    }
+    hull
+}
+
+/// Empties a board of which all live cells lie in these spans.
+pub(crate) fn empty(at: Frame, words: &mut [u64], spans: &mut [Span])
+    requires frame { IsFrame at }
+    requires long { FillsFrame at words.old }
+    requires lanes { length spans.old ≡ at.lanes }
+    requires live { LieInSpans at spans.old (cells_on at words.old) }
+    ensures empty { Shows at words.new [] }
+    ensures cells { cells_on at words.new ≡ [] }
+    ensures long { length words.new ≡ length words.old }
+    ensures lanes { length spans.new ≡ length spans.old }
+{
+    for lane in 0..at.lanes {
+        empty_lane(at, words, lane, spans[lane]);
+        spans[lane] = Span::empty();
+    }
+}
+
+/// Empties the rows of a lane that lie in the span.
+fn empty_lane(at: Frame, words: &mut [u64], lane: usize, span: Span)
+    requires frame { IsFrame at }
+    requires lane { lane < at.lanes }
+    requires long { FillsFrame at words.old }
+    ensures dead { (r : ℕ) → r < at.rows → HasRow span r → slice_index words.new (word_of at lane r) ≡ 0 }
+    ensures others { (m : ℕ) → slice_index words.new m ≡ slice_index words.old m ⊎ slice_index words.new m ≡ 0 }
+    ensures long { length words.new ≡ length words.old }
+{
+    for row in span.from..span.end.min(at.rows) {
+        words[at.index(lane, row)] = 0;
+    }
+}

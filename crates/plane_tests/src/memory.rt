@@ -1,0 +1,51 @@
+//! A run ends rightly, or fails for want of memory, whichever allocation is refused. `bin/try-memory` refuses each in turn.
+use plane_core::cell::Cell;
+use plane_core::generation::StepError;
+use plane_core::pattern::Pattern;
+use plane_core::rule::Rule;
+use std::test::Fail;
+
+/// A glider, and far from it an upright blinker.
+const START: [Cell; 8] = [
+    Cell { y: 0, x: 1 },
+    Cell { y: 1, x: 2 },
+    Cell { y: 2, x: 0 },
+    Cell { y: 2, x: 1 },
+    Cell { y: 2, x: 2 },
+    Cell { y: -1, x: 900 },
+    Cell { y: 0, x: 900 },
+    Cell { y: 1, x: 900 },
+];
+
+/// What becomes of them after 201 generations, of the blinker: it lies.
+const BLINKER: [Cell; 3] = [
+    Cell { y: 0, x: 899 },
+    Cell { y: 0, x: 900 },
+    Cell { y: 0, x: 901 },
+];
+
+// The glider is 50 cells further after 200 generations, and then looks as it does one after the start.
+const GLIDER: [Cell; 5] = [
+    Cell { y: 51, x: 50 },
+    Cell { y: 51, x: 52 },
+    Cell { y: 52, x: 51 },
+    Cell { y: 52, x: 52 },
+    Cell { y: 53, x: 51 },
+];
+
+/// Whether a pattern has the cells that both become, and no more.
+fn is_right(pattern: &Pattern) -> bool {
+    pattern.population() == 8
+        && BLINKER.iter().all(|cell| pattern.has(cell.x, cell.y))
+        && GLIDER.iter().all(|cell| pattern.has(cell.x, cell.y))
+}
+
+#[test]
+fn without_memory_a_run_is_right_or_fails(rt: HostRuntime) -> Result<(), Fail> {
+    let start = Pattern::from_cells(rt.alloc(), &START)?;
+    match start.run(rt.alloc(), &Rule::life(), 201) {
+        Ok(later) => assert!(rt; is_right(&later)),
+        Err(e) => assert!(rt; e == StepError::Memory),
+    }
+    Ok(())
+}

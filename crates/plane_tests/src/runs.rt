@@ -1,0 +1,117 @@
+//! Runs of many blinkers and gliders: no clause says that there is enough memory for them, or that a run ends in time.
+use plane_core::cell::Cell;
+use plane_core::generation::StepError;
+use plane_core::pattern::{FromCellsError, Pattern};
+use plane_core::rule::Rule;
+use std::alloc::{AllocError, Global};
+use std::test::Fail;
+
+/// Puts a blinker round a cell.
+fn push_blinker(
+    cells: &mut Vec<Cell>,
+    x: i32,
+    y: i32,
+    is_upright: bool,
+) -> Result<(), AllocError> {
+    for step in [-1, 0, 1] {
+        cells.push(if is_upright {
+            Cell { y: y + step, x }
+        } else {
+            Cell { y, x: x + step }
+        })?;
+    }
+    Ok(())
+}
+
+/// A thousand blinkers on a diagonal, each 250 columns and rows from the next.
+fn diagonal(alloc: Global, are_upright: bool) -> Result<Pattern, FromCellsError> {
+    let mut cells = Vec::new(alloc);
+    for i in -500..500 {
+        push_blinker(&mut cells, 250 * i, 250 * i, are_upright)?;
+    }
+    Pattern::from_cells(alloc, cells.as_slice())
+}
+
+/// Whether a run ends with the cells of a pattern.
+fn ends_with(ran: Result<Pattern, StepError>, wanted: &Pattern) -> bool {
+    match ran {
+        Ok(pattern) => pattern.cells() == wanted.cells(),
+        Err(_) => false,
+    }
+}
+
+// Their box has 250,000 columns and rows, and in 128 generations two neighbours could meet.
+#[test]
+fn a_thousand_blinkers_on_a_diagonal_turn(rt: HostRuntime) -> Result<(), Fail> {
+    let upright = diagonal(rt.alloc(), true)?;
+    let lying = diagonal(rt.alloc(), false)?;
+    assert!(rt; ends_with(upright.run(rt.alloc(), &Rule::life(), 5), &lying));
+    assert!(rt; ends_with(upright.run(rt.alloc(), &Rule::life(), 202), &upright));
+    Ok(())
+}
+
+const GLIDER: [(i32, i32); 5] = [(1, 0), (2, 1), (0, 2), (1, 2), (2, 2)];
+
+fn glider_cells(alloc: Global) -> Result<Vec<Cell>, AllocError> {
+    let mut cells = Vec::new(alloc);
+    for i in 0..100 {
+        for j in 0..60 {
+            for (x, y) in GLIDER {
+                cells.push(Cell {
+                    y: 10 * j + y,
+                    x: 10 * i + x,
+                })?;
+            }
+        }
+    }
+    Ok(cells)
+}
+
+/// Gliders in 100 columns and 60 rows, ten apart, that fly side by side to the lower right.
+fn gliders(alloc: Global) -> Result<Pattern, FromCellsError> {
+    let cells = glider_cells(alloc)?;
+    Pattern::from_cells(alloc, cells.as_slice())
+}
+
+// A glider moves by one cell in both directions in four generations.
+#[test]
+fn six_thousand_gliders_fly(rt: HostRuntime) -> Result<(), Fail> {
+    let start = gliders(rt.alloc())?;
+    let there = start.shift(rt.alloc(), 100, 100)?;
+    assert!(rt; ends_with(start.run(rt.alloc(), &Rule::life(), 400), &there));
+    Ok(())
+}
+
+/// The middle of a blinker that comes to the edge of the plane in the next generation, and whether it is upright.
+const AT_EDGES: [(i32, i32, bool); 4] = [
+    (999_999, 0, true),
+    (-999_999, 0, true),
+    (0, 999_999, false),
+    (0, -999_999, false),
+];
+
+/// A blinker round a cell.
+fn blinker(alloc: Global, x: i32, y: i32, is_upright: bool) -> Result<Pattern, FromCellsError> {
+    let mut cells = Vec::new(alloc);
+    push_blinker(&mut cells, x, y, is_upright)?;
+    Pattern::from_cells(alloc, cells.as_slice())
+}
+
+/// Whether a run ends at the edge.
+fn is_edge(ran: Result<Pattern, StepError>) -> bool {
+    match ran {
+        Ok(_) => false,
+        Err(e) => e == StepError::Edge,
+    }
+}
+
+#[test]
+fn a_blinker_runs_to_the_edge_and_no_further(rt: HostRuntime) -> Result<(), Fail> {
+    for (x, y, is_upright) in AT_EDGES {
+        let start = blinker(rt.alloc(), x, y, is_upright)?;
+        let at_edge = blinker(rt.alloc(), x, y, !is_upright)?;
+        assert!(rt; ends_with(start.run(rt.alloc(), &Rule::life(), 1), &at_edge));
+        assert!(rt; is_edge(start.run(rt.alloc(), &Rule::life(), 2)));
+    }
+    Ok(())
+}

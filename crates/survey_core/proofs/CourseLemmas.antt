@@ -1,0 +1,45 @@
+-- A pattern that goes on from look to look.
+use Rattle.std.proofs.Common.{◌≡◌, ◌∙◌, ◌+◌, ◌-◌, ◌*◌, ◌/◌, ◌<◌, ◌≤◌, ◌⊎◌, ℕ, true, List, ap, arith, inl, inr, sym}
+use Rattle.plane_core.specs.declared.cell.Cell.{Cell}
+use Rattle.plane_core.specs.Generations.{after, lies_within}
+use Rattle.plane_core.specs.Rules.{Numbers}
+use Rattle.plane_core.proofs.CaseLemmas.{less_or_not}
+use Rattle.plane_core.proofs.GenerationLemmas.{after-none}
+use Rattle.survey_core.specs.Courses.{StaysNear, survey_reach}
+use Rattle.survey_core.specs.Profiles.{Settling}
+use Rattle.survey_core.proofs.FindingLemmas.{after-then, is_checkpoint, one_more}
+use Rattle.survey_core.proofs.PlaneLemmas.{within_later}
+
+-- n generations in two parts
+pub in_parts : (rule : Numbers) (cells : List Cell) (a b n : ℕ) → a + b ≡ n → after rule (after rule cells a) b ≡ after rule cells n
+in_parts rule cells a b n is = after-then rule cells a b ∙ ap (after rule cells) is
+
+-- the pattern is near itself
+pub near_now : (rule : Numbers) (cells : List Cell) (n : ℕ) → StaysNear rule cells n → lies_within survey_reach cells ≡ true
+near_now rule cells n near = ap (lies_within survey_reach) (sym (after-none rule cells)) ∙ near 0 (omega arith)
+
+-- what stays near from one generation before does so from now on
+pub near_ahead : (rule : Numbers) (cells : List Cell) (ahead n : ℕ) → ahead ≤ 1 → lies_within survey_reach cells ≡ true
+    → StaysNear rule (after rule cells ahead) n → StaysNear rule cells (ahead + n)
+near_ahead rule cells ahead n few here near g low = go (less_or_not g ahead)
+  where
+    go : (g < ahead) ⊎ (ahead ≤ g) → lies_within survey_reach (after rule cells g) ≡ true
+    go (inl early) =
+        let first : g ≡ 0 = omega arith in
+        ap (λ (m : ℕ). lies_within survey_reach (after rule cells m)) first ∙ ap (lies_within survey_reach) (after-none rule cells) ∙ here
+    go (inr late) =
+        ap (lies_within survey_reach) (sym (in_parts rule cells ahead (g - ahead) g (omega arith))) ∙ near (g - ahead) (omega arith)
+
+-- up to the next checkpoint a pattern stays near
+pub stays_near : (rule run : Numbers) (cells latest : List Cell) (profile : Settling) (place n : ℕ) → run ≡ rule
+    → latest ≡ after rule cells (place * profile.stride) → n ≡ profile.stride → lies_within 1000 cells ≡ true → 1 ≤ profile.stride
+    → profile.limit ≤ 100000 → place < profile.limit / profile.stride → StaysNear run latest n
+stays_near rule run cells latest profile place n same is stride_is near some most low g few =
+    (λ i. lies_within survey_reach (after (same i) (is i) g)) ∙ ap (lies_within survey_reach) (after-then rule cells (place * profile.stride) g)
+    ∙ within_later 1000 survey_reach rule cells (place * profile.stride + g) (omega (arith, last, next, stride_is)) near
+  where
+    last : (place + 1) * profile.stride ≤ profile.limit
+    last = (is_checkpoint profile (place + 1) some (omega arith)).within
+
+    next : (place + 1) * profile.stride ≡ place * profile.stride + profile.stride
+    next = one_more place profile.stride
