@@ -18,15 +18,15 @@ pub record Strays (rule : Numbers) (whole cluster : List Cell) (horizon : ℕ) :
   pub missing : has (after rule whole generation) cell ≡ false
 
 -- some cluster of the pattern strays from it within the horizon, or is itself never again within the period
-pub record IsRefused (rule : Numbers) (cells : List Cell) (horizon period : ℕ) : Type 0 where
+pub record HasRestlessCluster (rule : Numbers) (cells : List Cell) (horizon period : ℕ) : Type 0 where
   pub cluster : List Cell
   pub is : IsCluster cells cluster
   pub why : Strays rule cells cluster horizon ⊎ NeverBack rule cluster period
 
--- each pattern that the window of n vectors shows at this depth is refused
+-- each pattern that the window of n vectors shows at this depth has such a cluster
 abbrev pub RefusesAll : Numbers → ℕ → List (List ℕ) → ℕ → ℕ → ℕ → Type 0
 RefusesAll rule n window depth horizon period =
-    (cells : List Cell) (left top : ℤ) → InOrder cells → IsShownInside n left top depth window cells → IsRefused rule cells horizon period
+    (cells : List Cell) (left top : ℤ) → InOrder cells → IsShownInside n left top depth window cells → HasRestlessCluster rule cells horizon period
 
 -- a cluster of the pattern, which is alone in the window of n vectors
 pub record IsAlone (n : ℕ) (left top : ℤ) (window : List (List ℕ)) (cells cluster : List Cell) : Type 0 where

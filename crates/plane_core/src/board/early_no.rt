@@ -20,7 +20,7 @@ ghost use Rattle.std.specs.Prelude.{◌≡◌, ◌+◌, ◌/◌, ◌<◌, ◌≤
 ghost use Rattle.plane_core.specs.Frames.{FillsFrame, IsFrame};
 ghost use Rattle.plane_core.specs.Generations.{after};
 ghost use Rattle.plane_core.specs.OnBoard.{cells_on};
-ghost use Rattle.plane_core.specs.Refusing.{IsRefused};
+ghost use Rattle.plane_core.specs.Refusing.{HasRestlessCluster};
 
 use crate::answers::{Answering, Life};
 use crate::board::Board;
@@ -52,7 +52,7 @@ impl Board {
     pub fn refuses(&self, ahead: u32, horizon: u32, period: u32) -> bool
         requires { ahead ≤ 1 }
         ensures { IsTrue result
-            → IsRefused self.now.rule (after self.now.rule self.now.cells ahead) horizon period }
+            → HasRestlessCluster self.now.rule (after self.now.rule self.now.cells ahead) horizon period }
     {
         let look = Look {
             ahead,
@@ -68,7 +68,7 @@ impl Board {
     }
 }
 
-/// Whether it is seen that the board's pattern, as it is asked for, is refused. `false` says nothing.
+/// Whether it is seen that the pattern, so many generations ahead, has a restless cluster. `false` says nothing.
 fn refuses_near<A: Answering>(
     words: &[u64],
     at: Frame,
@@ -78,7 +78,7 @@ fn refuses_near<A: Answering>(
 ) -> bool
     requires long { FillsFrame at words.now }
     requires ahead { look.ahead ≤ 1 }
-    ensures { IsTrue result → IsRefused (A.rule rule.now)
+    ensures { IsTrue result → HasRestlessCluster (A.rule rule.now)
         (after (A.rule rule.now) (cells_on at words.now) look.ahead) look.horizon look.period }
 {
     let mut tries = TRIES;
@@ -100,7 +100,7 @@ fn refuses_by<A: Answering>(
 ) -> bool
     requires long { FillsFrame at words.now }
     requires ahead { look.ahead ≤ 1 }
-    ensures { IsTrue result → IsRefused (A.rule rule.now)
+    ensures { IsTrue result → HasRestlessCluster (A.rule rule.now)
         (after (A.rule rule.now) (cells_on at words.now) look.ahead) look.horizon look.period }
 {
     for bounds in boxes {
@@ -126,7 +126,7 @@ fn is_large(bounds: Bounds) -> bool {
 fn refuses_in<A: Answering>(words: &[u64], at: Frame, bounds: Bounds, rule: &A, look: Look) -> bool
     requires long { FillsFrame at words.now }
     requires ahead { look.ahead ≤ 1 }
-    ensures { IsTrue result → IsRefused (A.rule rule.now)
+    ensures { IsTrue result → HasRestlessCluster (A.rule rule.now)
         (after (A.rule rule.now) (cells_on at words.now) look.ahead) look.horizon look.period }
 {
     let Some(x) = first_of(bounds.left, bounds.right, at.left) else {
@@ -154,7 +154,7 @@ fn refuses_at<A: Answering>(
     requires lanes { x / 64 + 1 < at.lanes }
     requires rows { y + 64 ≤ at.rows }
     requires ahead { look.ahead ≤ 1 }
-    ensures { IsTrue result → IsRefused (A.rule rule.now)
+    ensures { IsTrue result → HasRestlessCluster (A.rule rule.now)
         (after (A.rule rule.now) (cells_on at words.now) look.ahead) look.horizon look.period }
 {
     let mut window = [u64x4::splat(0); 16];

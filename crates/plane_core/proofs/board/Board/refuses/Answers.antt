@@ -2,12 +2,12 @@ use Rattle.std.proofs.Common.{ℕ, List, subst}
 use Rattle.plane_core.specs.Boards.{Running}
 use Rattle.plane_core.specs.Generations.{after}
 use Rattle.plane_core.specs.OnBoard.{cells_on}
-use Rattle.plane_core.specs.Refusing.{IsRefused}
+use Rattle.plane_core.specs.Refusing.{HasRestlessCluster}
 use Rattle.plane_core.proofs.board.Board.refuses.Goals as goal
 
 pub returns : goal.returns
 returns c = λ e.
     let inside = c.self.inside in
-    let near = subst (λ (ws : List ℕ). IsRefused inside.answers.rule (after inside.answers.rule (cells_on inside.at ws) c.args.ahead) c.args.horizon
+    let near = subst (λ (ws : List ℕ). HasRestlessCluster inside.answers.rule (after inside.answers.rule (cells_on inside.at ws) c.args.ahead) c.args.horizon
     c.args.period) c.as_slice-words.ensures.value (c.refuses_near-2.ensures e) in
-    subst (λ (b : Running). IsRefused b.rule (after b.rule b.cells c.args.ahead) c.args.horizon c.args.period) c.self.view_is near
+    subst (λ (b : Running). HasRestlessCluster b.rule (after b.rule b.cells c.args.ahead) c.args.horizon c.args.period) c.self.view_is near
