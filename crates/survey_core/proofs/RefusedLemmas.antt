@@ -7,7 +7,7 @@ use Rattle.plane_core.specs.declared.cell.Cell.{Cell}
 use Rattle.plane_core.specs.Cells.{has}
 use Rattle.plane_core.specs.Clusters.{AreClusters, IsCluster, Linked}
 use Rattle.plane_core.specs.Generations.{NeverBack, after}
-use Rattle.plane_core.specs.Refusing.{IsRefused, Strays}
+use Rattle.plane_core.specs.Refusing.{HasRestlessCluster, Strays}
 use Rattle.plane_core.specs.Rules.{Numbers}
 use Rattle.plane_core.proofs.ClusterLemmas.{linked-sym, linked-trans}
 use Rattle.plane_core.proofs.SetLemmas.{same_lists}
@@ -60,7 +60,7 @@ rest_holds rule profile cells cluster (clusters, rest) is strays = go (is_one_of
         false≢true (sym strays.missing ∙ keeps_adds rule cells clusters g (rest.apart g strays.early) strays.cell ∙ some)
 
 -- so what is refused is not at rest
-pub refused_moves : (rule : Numbers) (profile : Settling) (cells : List Cell) → IsRefused rule cells profile.horizon profile.period
+pub refused_moves : (rule : Numbers) (profile : Settling) (cells : List Cell) → HasRestlessCluster rule cells profile.horizon profile.period
     → ¬ IsAtRest rule profile cells
 refused_moves rule profile cells refused rest = go refused.why
   where
@@ -69,8 +69,8 @@ refused_moves rule profile cells refused rest = go refused.why
     go (inr never) = never_back rule profile.period refused.cluster never (rest_comes_back rule profile cells refused.cluster rest refused.is)
 
 -- the same, said of the same
-pub refused_same : (r q : Numbers) (S T : List Cell) (h k p n : ℕ) → r ≡ q → S ≡ T → h ≡ k → p ≡ n → IsRefused r S h p → IsRefused q T k n
+pub refused_same : (r q : Numbers) (S T : List Cell) (h k p n : ℕ) → r ≡ q → S ≡ T → h ≡ k → p ≡ n → HasRestlessCluster r S h p → HasRestlessCluster q T k n
 refused_same r q S T h k p n a b d e refused =
-    subst (λ (v : ℕ). IsRefused q T k v) e
-    (subst (λ (v : ℕ). IsRefused q T v p) d
-    (subst (λ (v : List Cell). IsRefused q v h p) b (subst (λ (v : Numbers). IsRefused v S h p) a refused)))
+    subst (λ (v : ℕ). HasRestlessCluster q T k v) e
+    (subst (λ (v : ℕ). HasRestlessCluster q T v p) d
+    (subst (λ (v : List Cell). HasRestlessCluster q v h p) b (subst (λ (v : Numbers). HasRestlessCluster v S h p) a refused)))
