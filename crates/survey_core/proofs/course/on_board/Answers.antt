@@ -22,11 +22,12 @@ returns-then-made-generations-clause-cells c =
     ∙ in_parts c.args.rule.now c.args.board.cells c.in_ok-made.made (n % 2) n (both_parts n c.in_ok-made.made made)
 
 pub returns-then-made-generations-clause-kept : goal.returns-then-made-generations-clause-kept
-returns-then-made-generations-clause-kept c =
-    (c.advance.ensures.rule ∙ c.requires.rule,
-    omega arith,
-    ap (lies_within survey_reach) (c.in_ok-made.ensures.after ∙ (λ j. after (c.requires.rule j) c.args.board.cells c.in_ok-made.made))
-    ∙ c.requires.near c.in_ok-made.made (omega arith))
+returns-then-made-generations-clause-kept c = (
+  c.advance.ensures.rule ∙ c.requires.rule,
+  omega arith,
+  ap (lies_within survey_reach) (c.in_ok-made.ensures.after ∙ (λ j. after (c.requires.rule j) c.args.board.cells c.in_ok-made.made))
+      ∙ c.requires.near c.in_ok-made.made (omega arith),
+)
 
 pub run_on-requires-clause-near : goal.run_on-requires-clause-near
 run_on-requires-clause-near c =
