@@ -100,8 +100,7 @@ impl Course {
         ensures cells { IfOk result (λ course. course.cells ≡ after self.rule self.cells generations) }
     {
         let Course { rule, place } = self;
-        memo.make_board(alloc, &rule);
-        let place = later(alloc, &rule, place, generations, &mut memo.board)?;
+        let place = later(alloc, &rule, place, generations, memo)?;
         Ok(Course { rule, place })
     }
 
@@ -130,7 +129,7 @@ fn later(
     rule: &Rule,
     place: Kept,
     generations: u32,
-    idle: &mut Option<Board>,
+    memo: &mut Memo,
 ) -> Result<Kept, AllocError>
     requires few { generations ≤ 10000 }
     requires kept { IsKept rule.now place }
@@ -139,33 +138,41 @@ fn later(
     ensures kept { IfOk result (IsKept rule.now) }
 {
     match place {
-        Kept::Listed(pattern) => from_list(alloc, rule, pattern, generations, idle),
-        Kept::Shown(board, ahead) => on_board(alloc, rule, board, ahead + generations, idle),
+        Kept::Listed(pattern) => from_list(alloc, rule, pattern, generations, memo),
+        Kept::Shown(board, ahead) => on_board(
+            alloc,
+            rule,
+            board,
+            ahead + generations,
+            &mut memo.board,
+        ),
     }
 }
 
-/// Goes on from a list by so many generations, on the idle board if it has room.
+/// Goes on from a list by so many generations: on the board of the memo, which is made first if there is none, if it has
+/// room.
 fn from_list(
     alloc: Global,
     rule: &Rule,
     pattern: Pattern,
     generations: u32,
-    idle: &mut Option<Board>,
+    memo: &mut Memo,
 ) -> Result<Kept, AllocError>
     requires few { generations ≤ 10001 }
     requires near { StaysNear rule.now pattern generations }
     ensures cells { IfOk result (λ place. kept place ≡ after rule.now pattern generations) }
     ensures kept { IfOk result (IsKept rule.now) }
 {
-    let Some(mut board) = idle.take() else {
+    memo.make_board(alloc, rule);
+    let Some(mut board) = memo.board.take() else {
         let later = run_on(alloc, rule, generations, &pattern)?;
         return Ok(Kept::Listed(later));
     };
     let has_room = board.show(rule, &pattern)?;
     if has_room {
-        return on_board(alloc, rule, board, generations, idle);
+        return on_board(alloc, rule, board, generations, &mut memo.board);
     }
-    *idle = Some(board);
+    memo.board = Some(board);
     let later = run_on(alloc, rule, generations, &pattern)?;
     Ok(Kept::Listed(later))
 }

@@ -97,7 +97,7 @@ impl Memo {
         }
     }
 
-    /// Makes a board, if there is none and there is memory for it. One that a pattern is on counts as none.
+    /// Makes a board, if there is none and there is memory for it.
     pub(crate) fn make_board(&mut self, alloc: Global, rule: &Rule) {
         if self.board.is_some() || self.lacks_board {
             return;
