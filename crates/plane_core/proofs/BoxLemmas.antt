@@ -3,26 +3,23 @@ use Rattle.std.proofs.Common.{◌≡◌, ◌≢◌, ◌+◌, ◌-◌, ◌<◌, �
 use Rattle.std.proofs.Common.{◌≤ℤ◌, List, [], ◌∷◌, ◌++◌, length, get_or, set, take, get_or-set_other, get_or-set_same}
 use Rattle.std.proofs.Common.{Bool, true, false, leb, unsigned_abs, refl, arith, ap, ◌∙◌, sym, subst, inl, inr, ◌⊎◌, Option, IsSomeAnd}
 use Rattle.std.specs.Int.{int_max, int_min}
-use Rattle.std.specs.List.{All, Any, list_all, swap_remove}
+use Rattle.std.specs.List.{Any, list_all, swap_remove}
 use Rattle.std.proofs.Math.ListN.{length-set}
 use Rattle.std.proofs.Math.Seq.{take-length}
 use Rattle.std.proofs.lemmas.Bool.{and_parts, false≢true, leb-true}
 use Rattle.std.proofs.lemmas.Int.{clamps, ints}
 use Rattle.std.proofs.lemmas.List.{get_or-take, get_or_append_left, get_or_default, length-take-le, length_push}
-use Rattle.std.proofs.lemmas.List.Elements.{All-weaker}
 use Rattle.std.proofs.lemmas.List.Folds.{list_all_at}
 use Rattle.std.proofs.lemmas.List.Quantifiers.{Any-push, any-set}
 use Rattle.plane_core.specs.declared.bounds.Bounds.{Bounds}
 use Rattle.plane_core.specs.declared.cell.Cell.{Cell}
 use Rattle.plane_core.specs.declared.place.Place.{Place}
 use Rattle.plane_core.specs.Bounds.{IsWithin, enlarged, widened}
-use Rattle.plane_core.specs.Boxes.{box_bound, HoldDifferences, HoldsDifference, IsInOne, IsNearOne}
-use Rattle.plane_core.specs.Cells.{IsPattern, distance, has, is_within, king_distance, on_plane, plane_bound}
-use Rattle.plane_core.specs.Generations.{lies_within}
+use Rattle.plane_core.specs.Boxes.{HoldDifferences, HoldsDifference, IsInOne, IsNearOne}
+use Rattle.plane_core.specs.Cells.{distance, has, is_within, king_distance}
 use Rattle.plane_core.specs.Bounds.{AreSidesWithin}
 use Rattle.plane_core.specs.Places.{IsInnerCell}
 use Rattle.plane_core.proofs.CaseLemmas.{less_or_not, same_or_not}
-use Rattle.plane_core.proofs.BoxRoundLemmas.{fewer_sides}
 
 -- a cell near a cell that is near the box is near the box
 within_further : (b : Bounds) (m n : ℕ) (c d : Cell) → king_distance c d ≤ n → IsWithin (enlarged m b) d → IsWithin (enlarged (m + n) b) c
@@ -284,13 +281,3 @@ hold_more n places one other boxes new found d less difference kept added first 
         let at : k ≡ n = omega arith in
         added c (difference c (subst (λ (p : Place). IsInnerCell p c)
         (ap (λ (m : ℕ). get_or places m q) at ∙ get_or_default places n q d less) inner) ne)
-
--- ---- boxes round the cells of a pattern
-
--- what is said of boxes round any cells, of those of a pattern
-pub sides_of_pattern : (cells : List Cell) (boxes : List Bounds) → IsPattern cells
-    → ((n : ℕ) → lies_within n cells ≡ true → All (AreSidesWithin n) boxes) → All (AreSidesWithin box_bound) boxes
-unfolding on_plane
-sides_of_pattern cells boxes p sides =
-    All-weaker (AreSidesWithin plane_bound) (AreSidesWithin box_bound) (λ b h. fewer_sides plane_bound box_bound b (omega arith) h) boxes
-    (sides plane_bound p.on_plane)

@@ -23,22 +23,22 @@ fewer_sides m n b low h = record {
 pub in_box : (S : List Cell) (b : Bounds) (c : Cell) → IsLeastBox S b → has S c ≡ true → IsWithin b c
 in_box S b c least e = has-all (IsWithin b) S c (recursion_from_All (IsWithin b) S least.within) e
 
--- the cells of a box are no further from the origin than its sides
+-- a cell of a box is no further from the origin than its sides
+pub lies_near : (b : Bounds) (n : ℕ) (c : Cell) → AreSidesWithin n b → IsWithin b c → is_within n c ≡ true
+lies_near b n c sides within =
+    let l = within.left in
+    let t = within.top in
+    let r = within.right in
+    let d = within.bottom in
+    let sl = sides.left in
+    let st = sides.top in
+    let sr = sides.right in
+    let sd = sides.bottom in
+    and_from (leb (unsigned_abs c.x) n) (leb (unsigned_abs c.y) n) (le-leb (unsigned_abs c.x) n (omega (arith, ints)))
+    (le-leb (unsigned_abs c.y) n (omega (arith, ints)))
+
 pub lies_in : (S : List Cell) (b : Bounds) (n : ℕ) → ((c : Cell) → has S c ≡ true → IsWithin b c) → AreSidesWithin n b → lies_within n S ≡ true
-lies_in S b n inside sides = has-list_all (is_within n) S (λ c e. near c (inside c e))
-  where
-    near : (c : Cell) → IsWithin b c → is_within n c ≡ true
-    near c within =
-        let l = within.left in
-        let t = within.top in
-        let r = within.right in
-        let d = within.bottom in
-        let sl = sides.left in
-        let st = sides.top in
-        let sr = sides.right in
-        let sd = sides.bottom in
-        and_from (leb (unsigned_abs c.x) n) (leb (unsigned_abs c.y) n) (le-leb (unsigned_abs c.x) n (omega (arith, ints)))
-        (le-leb (unsigned_abs c.y) n (omega (arith, ints)))
+lies_in S b n inside sides = has-list_all (is_within n) S (λ c e. lies_near b n c sides (inside c e))
 
 pub lies_round : (S : List Cell) (b : Bounds) (n : ℕ) → IsLeastBox S b → AreSidesWithin n b → lies_within n S ≡ true
 lies_round S b n least sides = lies_in S b n (λ c e. in_box S b c least e) sides

@@ -78,10 +78,6 @@ has-at (c ∷ cs) (suc i) d low = or_right (same_cell (get_or cs i d) c) (has cs
 pub shown-empty : (at : Frame) (ws : List ℕ) → ((i : ℕ) → slice_index ws i ≡ 0) → Shows at ws []
 shown-empty at ws none s r i hs hr hi = ap (λ (n : ℕ). n == 1) (sym (ap (λ (w : ℕ). bit_at w i) (none (word_of at s r)) ∙ bit_at-zero i))
 
-pub shown-none : (at : Frame) (ws : List ℕ) (cells : List Cell) → length cells ≡ 0 → ((i : ℕ) → slice_index ws i ≡ 0) → Shows at ws cells
-shown-none at ws [] e none = shown-empty at ws none
-shown-none at ws (c ∷ cs) e none = absurd (omega (arith, e))
-
 pub put_shown : (at : Frame) (ws : List ℕ) (S : List Cell) (c : Cell) (a d m : ℕ) → length ws ≡ at.lanes * at.rows → IsWithin (bounds_of at) c
     → pos a ≡ c.x -ℤ at.left → pos d ≡ c.y -ℤ at.top → m ≡ word_of at (a / 64) d → Shows at ws S
     → Shows at (set ws m (bit_or (get_or ws m 0) (1 * 2 ^ (a % 64) % 2 ^ 64))) (S ++ c ∷ [])

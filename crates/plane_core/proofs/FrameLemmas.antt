@@ -137,9 +137,6 @@ round_on_plane b margin at low across down sides is =
 
 -- ---- a frame in whose middle a box lies
 
-pub room_on_plane : (at : Frame) (b : Bounds) → HasRoom at b → AreSidesWithin plane_bound b
-room_on_plane at b room = fewer_sides (plane_bound - (64 * at.lanes + at.rows)) plane_bound b (omega arith) room.sides
-
 -- a frame that is made so
 pub record IsRoundMiddle (at : Frame) (b : Bounds) (new : Frame) : Type 0 where
   pub left : new.left ≡ b.left -ℤ pos ((64 * at.lanes - (distance b.left b.right + 1)) / 2)

@@ -92,9 +92,6 @@ live-one S x y e = go (has S (cell_at x y)) e
     go true e = refl
     go false e = absurd (omega arith)
 
-one-live : (S : List Cell) (x y : ℤ) → has S (cell_at x y) ≡ true → live S x y ≡ 1
-one-live S x y e = ap (λ (b : Bool). cond {A = ℕ} b 1 0) e
-
 none-live : (S : List Cell) (x y : ℤ) → has S (cell_at x y) ≡ false → live S x y ≡ 0
 none-live S x y e = ap (λ (b : Bool). cond {A = ℕ} b 1 0) e
 
@@ -159,9 +156,6 @@ ends-next rule m S o slow ends x y e = go (compare m (x +ℤ y))
 crowded : (n a b c d e f g h i : ℕ) → n + i ≡ (a + (b + c)) + ((d + (i + e)) + (f + (g + h))) → a ≡ 0 → b ≡ 0 → d ≡ 0 → c ≡ 1 → e ≡ 1 → f ≡ 1
     → g ≡ 1 → h ≤ 1 → (n ≡ 4) ⊎ (n ≡ 5)
 crowded n a b c d e f g h i s p q r t u v w low = elim (less_or_not n 5) [ inl four ↦ inl (omega arith) | inr five ↦ inr (omega arith) ]
-
-moved_live : (S : List Cell) (x y a b : ℤ) → x ≡ a → y ≡ b → live S x y ≡ 1 → live S a b ≡ 1
-moved_live S x y a b p q e = (λ i. live S (sym p i) (sym q i)) ∙ e
 
 survived : (rule : Numbers) (S : List Cell) (x y : ℤ) → has S (cell_at x y) ≡ true → has (next rule S) (cell_at x y) ≡ true
     → is_survival rule (around S (cell_at x y)) ≡ true

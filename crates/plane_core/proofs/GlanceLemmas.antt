@@ -18,7 +18,7 @@ use Rattle.plane_core.specs.Cells.{InOrder, cell_at, distance, has, is_within, s
 use Rattle.plane_core.specs.Generations.{touches_edge}
 use Rattle.plane_core.specs.Glances.{IsInland, IsNear, IsSpot, ShowsRows}
 use Rattle.plane_core.specs.LonePatterns.{Holds, IsInWindow}
-use Rattle.plane_core.specs.Windows.{IsShownInside, lane_at, row_at}
+use Rattle.plane_core.specs.Windows.{IsShownInside, row_at}
 use Rattle.plane_core.proofs.CaseLemmas.{same_or_not}
 use Rattle.plane_core.proofs.CellLemmas.{same_cell-itself, same_cell-same}
 use Rattle.plane_core.proofs.SearchLemmas.{has-list_all}
@@ -156,34 +156,6 @@ pub shown_taken : (p : Place) (rows : List ℕ) (cs : List Cell) (i : ℕ) (d : 
 shown_taken p rows cs i d low shown = subst (λ (S : List Cell). ShowsRows p rows S) (sym (take_more cs i d low)) shown
 
 -- ---- rows in vectors
-
--- the vectors before vector k have their rows
-abbrev pub ArePacked : List ℕ → List (List ℕ) → ℕ → Type 0
-ArePacked rows x k = (m j : ℕ) → m < k → j < 4 → lane_at x m j ≡ slice_index rows (16 * j + m)
-
-pub packed_more : (rows : List ℕ) (x : List (List ℕ)) (k : ℕ) → k < length x → ArePacked rows x k
-    → ArePacked rows (set x k (slice_index rows k ∷ slice_index rows (16 + k) ∷ slice_index rows (32 + k) ∷ slice_index rows (48 + k) ∷ [])) (k + 1)
-packed_more rows x k inside before m j low h = go (same_or_not m k)
-  where
-    new : List ℕ
-    new = slice_index rows k ∷ slice_index rows (16 + k) ∷ slice_index rows (32 + k) ∷ slice_index rows (48 + k) ∷ []
-
-    lane : (j : ℕ) → j < 4 → slice_index (slice_index rows k ∷ slice_index rows (16 + k) ∷ slice_index rows (32 + k) ∷ slice_index rows (48 + k) ∷ []) j
-        ≡ slice_index rows (16 * j + k)
-    lane zero h = ap (slice_index rows) (omega arith)
-    lane (suc zero) h = refl
-    lane (suc (suc zero)) h = refl
-    lane (suc (suc (suc zero))) h = refl
-    lane (suc (suc (suc (suc j)))) h = absurd (omega arith)
-
-    go : (m ≡ k) ⊎ (m ≢ k) → lane_at (set x k new) m j ≡ slice_index rows (16 * j + m)
-    go (inl here) =
-        ap (λ (n : ℕ). lane_at (set x k new) n j) here ∙ ap (λ (v : List ℕ). slice_index v j) (get_or-set_same x k new [] inside) ∙ lane j h
-        ∙ ap (λ (n : ℕ). slice_index rows (16 * j + n)) (sym here)
-    go (inr apart) = ap (λ (v : List ℕ). slice_index v j) (get_or-set_other x k m new [] apart) ∙ before m j (omega arith) h
-
-pub all_packed : (rows : List ℕ) (x : List (List ℕ)) (k : ℕ) → ArePacked rows x k → k ≡ 16 → (r : ℕ) → r < 64 → row_at 16 x r ≡ slice_index rows r
-all_packed rows x k packed is r low = packed (r % 16) (r / 16) (omega arith) (omega arith) ∙ ap (slice_index rows) (omega arith)
 
 -- the window of rows
 pub shown_packed : (p : Place) (rows : List ℕ) (x : List (List ℕ)) (S : List Cell) → InOrder S → ((c : Cell) → has S c ≡ true → IsInWindow 16 p.left p.top c)

@@ -14,7 +14,7 @@ use Rattle.plane_core.specs.Cells.{has}
 use Rattle.plane_core.specs.Differences.{DiffersOnlyIn}
 use Rattle.plane_core.specs.Frames.{Shows, board_cell, word_of}
 use Rattle.plane_core.specs.Generations.{after}
-use Rattle.plane_core.specs.Leaps.{ArePutBack, AreRun, HasLeapt, IsRun, IsRunAt, TellsChanges}
+use Rattle.plane_core.specs.Leaps.{ArePutBack, AreRun, HasLeapt, IsRun, IsRunAt}
 use Rattle.plane_core.specs.Placed.{IsInner, IsPutBack, IsReadAt, bit_on, cell_on}
 use Rattle.plane_core.specs.Places.{HoldsChange, IsInnerCell, compared_with}
 use Rattle.plane_core.specs.Rules.{Numbers}
@@ -183,9 +183,6 @@ inner_place at p x y u v left top inner =
       row = record { r = v - y; low = omega (arith, ints); high = omega (arith, ints); is = omega (arith, ints) };
     }
 
-pub none_back : (at : Frame) (places : List Place) (held : List (List ℕ)) (old : List ℕ) → ArePutBack at places held 0 old old
-none_back at places held old cells shown u v hu hv = inr (λ k p low. absurd (omega arith), refl)
-
 pub back_more : (at : Frame) (places : List Place) (held : List (List ℕ)) (old mid new : List ℕ) (k x y : ℕ)
     → ((p : Place) → (slice_index_or places k p).left ≡ at.left +ℤ pos x)
     → ((p : Place) → (slice_index_or places k p).top ≡ at.top +ℤ pos y) → ArePutBack at places held k old mid
@@ -245,7 +242,3 @@ leapt at rule count places held changes old new ran put cells o shows off s r i 
         off c (λ (k, p, low, is, inner). none k p low (subst (λ (q : Place). IsInnerCell q c) (sym is) inner))
         ∙ shows s r i hs hr hi
         ∙ ap (λ (n : ℕ). n == 1) (sym (bit_of_lane at old s r i hi) ∙ sym kept ∙ new_bit)
-
-pub tells_changes : (at : Frame) (rule : Numbers) (count : ℕ) (places : List Place) (held : List (List ℕ)) (changes : List Change) (old : List ℕ)
-    → AreRun at old rule count places held changes → TellsChanges at rule count places old changes
-tells_changes at rule count places held changes old ran cells o shows k p c low = (ran.run k p c low cells o shows).1

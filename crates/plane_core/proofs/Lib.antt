@@ -13,8 +13,10 @@ pub mod ClusterLemmas
 pub mod CommuteLemmas
 pub mod CoverLemmas
 pub mod DifferenceLemmas
+pub mod DirectionLemmas
 pub mod FillLemmas
 pub mod FloodLemmas
+pub mod FloodedLemmas
 pub mod ForestLemmas
 pub mod FrameLemmas
 pub mod FrontierLemmas
@@ -46,6 +48,8 @@ pub mod PlaintextWalks
 pub mod PlaintextWriting
 pub mod QuietLemmas
 pub mod RefusingLemmas
+pub mod RemovalLemmas
+pub mod RowsLemmas
 pub mod RuleLemmas
 pub mod RuleNumbers
 pub mod RuleReading
@@ -53,6 +57,7 @@ pub mod RunLemmas
 pub mod SearchLemmas
 pub mod SetLemmas
 pub mod ShiftLemmas
+pub mod SmallLemmas
 pub mod SpanLemmas
 pub mod SpeedLemmas
 pub mod StrayLemmas

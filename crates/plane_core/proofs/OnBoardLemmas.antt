@@ -76,7 +76,7 @@ pub record IsPlaced (at : Frame) (k : ℕ) : Type 0 where
   pub row : k / 64 % at.rows < at.rows
   pub word : word_of at (k / 64 / at.rows) (k / 64 % at.rows) ≡ k / 64
 
-placed : (at : Frame) (k : ℕ) → k < 64 * (at.lanes * at.rows) → IsPlaced at k
+pub placed : (at : Frame) (k : ℕ) → k < 64 * (at.lanes * at.rows) → IsPlaced at k
 placed at k low = record {
   lane = div_below (k / 64) at.rows at.lanes some few;
   row = mod-lt (k / 64) some;
@@ -126,19 +126,21 @@ pub bit_of_cell : (at : Frame) (ws : List ℕ) (c : Cell) → has (cells_on at w
 unfolding cells_on
 bit_of_cell at ws c e = lit-has at ws _ c (sym (has-set_of _ c) ∙ e)
 
+-- each bit of a board is a cell that lies on it
+pub spot_within : (at : Frame) (s r i : ℕ) → s < at.lanes → r < at.rows → i < 64 → IsWithin (bounds_of at) (board_cell at s r i)
+spot_within at s r i hs hr hi = record {
+  left = omega (arith, ints);
+  top = omega (arith, ints);
+  right = omega (arith, ints);
+  bottom = omega (arith, ints);
+}
+
 pub cells_lie_on : (at : Frame) (ws : List ℕ) → LieOn at (cells_on at ws)
 cells_lie_on at ws c e =
     let (k, low, lit, is) = bit_of_cell at ws c e in
     let spot = placed at k low in
-    subst (λ (x : Cell). IsWithin (bounds_of at) x) (sym is) (within (k / 64 / at.rows) (k / 64 % at.rows) (k % 64) spot.lane spot.row (omega arith))
-  where
-    within : (s r i : ℕ) → s < at.lanes → r < at.rows → i < 64 → IsWithin (bounds_of at) (board_cell at s r i)
-    within s r i hs hr hi = record {
-      left = omega (arith, ints);
-      top = omega (arith, ints);
-      right = omega (arith, ints);
-      bottom = omega (arith, ints);
-    }
+    subst (λ (x : Cell). IsWithin (bounds_of at) x) (sym is)
+    (spot_within at (k / 64 / at.rows) (k / 64 % at.rows) (k % 64) spot.lane spot.row (omega arith))
 
 pub cells_in_order : (at : Frame) (ws : List ℕ) → InOrder (cells_on at ws)
 unfolding cells_on

@@ -8,7 +8,7 @@ use Rattle.plane_core.specs.declared.place.Place.{Place}
 use Rattle.plane_core.specs.Boxes.{AreCovered, HoldAll, HoldDifferences, IsInOne, IsNearOne, IsQuiet, IsStillOutside}
 use Rattle.plane_core.specs.Cells.{InOrder, has, king_distance}
 use Rattle.plane_core.specs.Generations.{after}
-use Rattle.plane_core.specs.Places.{IsCovered, compared_with}
+use Rattle.plane_core.specs.Places.{compared_with}
 use Rattle.plane_core.specs.Rules.{Numbers}
 use Rattle.plane_core.proofs.CaseLemmas.{same_or_not}
 use Rattle.plane_core.proofs.BoxLemmas.{near_further, near_itself, near_wider}
@@ -152,11 +152,6 @@ boxed-next rule S boxes new places n all covered le odd differ c h =
     let compared : HoldDifferences places (after rule S n) [] new =
     subst (λ (T : List Cell). HoldDifferences places (after rule S n) T new) (compared-odd rule S n odd) differ in
     compared c (covered c (near_in boxes 4 c d.0 (omega (arith, d.2)) (all d.0 d.1))) (λ e. false≢true (sym e ∙ h))
-
--- what lies in no inner part is more than 4 from each box
-pub far_from_boxes : (boxes : List Bounds) (places : List Place) (c : Cell) → AreCovered places boxes → ¬ IsCovered places c
-    → ¬ IsNearOne 4 boxes c
-far_from_boxes boxes places c covered out near = out (covered c near)
 
 -- ---- when cells are taken out or put in
 

@@ -1,6 +1,6 @@
 -- The rows of the lanes of a board that may have a live cell.
 use Rattle.std.proofs.Common.{◌≡◌, ◌≢◌, ◌==◌, ◌+◌, ◌/◌, ◌%◌, ◌<◌, ◌≤◌, ℕ, pos, ◌+ℤ◌, ◌-ℤ◌, true, List, [], ◌∷◌}
-use Rattle.std.proofs.Common.{arith, ap, ◌∙◌, sym, subst, inl, inr, ◌⊎◌, length, take, get_or, set, get_or-set_same, get_or-set_other}
+use Rattle.std.proofs.Common.{arith, ap, ◌∙◌, sym, subst, inl, inr, ◌⊎◌, length, take, get_or}
 use Rattle.std.proofs.Common.{slice_index, slice_index_or}
 use Rattle.std.specs.Int.{bit_at}
 use Rattle.std.proofs.lemmas.Bool.{false≢true, or_cases}
@@ -119,13 +119,6 @@ hull_more spans n old new before kept held s r low inside = elim (same_or_not s 
 
 -- ---- emptying
 
--- a word of the list that is made 0 is 0, and each other one is what it was
-pub zeroed : (xs : List ℕ) (i m : ℕ) → i < length xs → (slice_index (set xs i 0) m ≡ slice_index xs m) ⊎ (slice_index (set xs i 0) m ≡ 0)
-zeroed xs i m low = elim (same_or_not m i) [
-  | inl same ↦ inr (ap (λ (n : ℕ). slice_index (set xs i 0) n) same ∙ get_or-set_same xs i 0 0 low)
-  | inr apart ↦ inl (get_or-set_other xs i m 0 0 apart)
-]
-
 -- words of a list that are what they were or 0
 abbrev pub AreZeroed : List ℕ → List ℕ → Type 0
 AreZeroed old new = (m : ℕ) → (slice_index new m ≡ slice_index old m) ⊎ (slice_index new m ≡ 0)
@@ -138,18 +131,6 @@ zeroed_more old mid new first second m = go (first m) (second m)
     go p (inr none) = inr none
     go (inl same) (inl here) = inl (here ∙ same)
     go (inr none) (inl here) = inr (here ∙ none)
-
-pub zero_stays : (old new : List ℕ) (m : ℕ) → AreZeroed old new → slice_index old m ≡ 0 → slice_index new m ≡ 0
-zero_stays old new m zeroed none = elim (zeroed m) [ inl same ↦ same ∙ none | inr is ↦ is ]
-
--- a row more of a lane
-pub row_zeroed : (at : Frame) (old : List ℕ) (lane from row i : ℕ) → i ≡ word_of at lane row → i < length old
-    → ((r : ℕ) → from ≤ r → r < row → slice_index old (word_of at lane r) ≡ 0)
-    → (r : ℕ) → from ≤ r → r < row + 1 → slice_index (set old i 0) (word_of at lane r) ≡ 0
-row_zeroed at old lane from row i is low before r past near = elim (same_or_not r row) [
-  | inl same ↦ ap (λ (n : ℕ). slice_index (set old i 0) n) (ap (λ (n : ℕ). word_of at lane n) same ∙ sym is) ∙ get_or-set_same old i 0 0 low
-  | inr apart ↦ zero_stays old (set old i 0) (word_of at lane r) (λ m. zeroed old i m low) (before r past (omega (arith, near, apart)))
-]
 
 -- a bit of a board that is 1 is a live cell
 pub live_bit : (at : Frame) (words : List ℕ) (s r i : ℕ) → s < at.lanes → r < at.rows → i < 64 → bit_at (slice_index words (word_of at s r)) i ≡ 1

@@ -6,7 +6,6 @@ use Rattle.std.proofs.lemmas.Bool.{eqb-true, eqb-false}
 use Rattle.std.proofs.lemmas.Bool.Decides.{nat_tests}
 use Rattle.std.proofs.lemmas.Nat.Bits.{bit_at_and, bit_at_or, bit_at_xor, bit_at-suc, bit_at_lowest}
 use Rattle.std.proofs.lemmas.Nat.Bits.{bit_at-lt, bit_at_above, bit_at_cat_low, bit_at_cat_high, bit_at-zero}
-use Rattle.plane_core.specs.Rules.{Numbers, is_birth, is_survival}
 use Rattle.plane_core.specs.Tallies.{lives_by}
 use Rattle.plane_core.specs.Words.{west_of, east_of, one_if, life}
 
@@ -99,15 +98,6 @@ pub by_digit : (g : ℕ → ℕ) (n k d : ℕ) → d < 2 → cond (d == 1) (g (n
 by_digit g n k zero low = ap g (omega arith)
 by_digit g n k (suc zero) low = ap g (omega arith)
 by_digit g n k (suc (suc d)) low = absurd (omega arith)
-
--- the answer of a cell that is alive or dead
-pub by_state : (rule : Numbers) (n t y z : ℕ) → y ≡ one_if (is_survival rule (n - 1)) → z ≡ one_if (is_birth rule n)
-    → cond (t == 1) y z ≡ one_if (lives_by rule n (t == 1))
-by_state rule n t y z p q = split (t == 1)
-  where
-    split : (b : Bool) → cond b y z ≡ one_if (lives_by rule n b)
-    split true = p
-    split false = q
 
 -- the sums from 8 to 9 are those with an eight, and no four or two
 pub by_eights : (g : ℕ → ℕ) (a b c d : ℕ) → a < 2 → b < 2 → c < 2 → d < 2 → a + 2 * b + 4 * c + 8 * d ≤ 9

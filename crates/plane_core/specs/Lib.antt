@@ -5,6 +5,7 @@ pub mod Cells
 pub mod Clusters
 pub mod Covers
 pub mod Differences
+pub mod Directions
 pub mod Floods
 pub mod Forest
 pub mod Frames
@@ -32,4 +33,5 @@ pub mod Rules
 pub mod Spans
 pub mod Tallies
 pub mod Windows
+pub mod Without
 pub mod Words

@@ -26,11 +26,15 @@ ghost use Rattle.plane_core.specs.Boards.{AreRightFor, HasGoneOn, StayInSpans};
 ghost use Rattle.plane_core.specs.OnBoard.{cells_on};
 ghost use Rattle.plane_core.specs.Words.{life};
 
+mod candidates;
 mod early_no;
+mod reach;
+mod removal;
+mod view;
 
 use crate::answers::{Answering, AnyRule, Life, is_life};
 use crate::bounds::Bounds;
-use crate::boxes::{boxes_round, next_boxes};
+use crate::boxes::next_boxes;
 use crate::cell::Cell;
 use crate::change::Change;
 use crate::cover::{are_on_board, cover};
@@ -41,6 +45,7 @@ use crate::loading::fill;
 use crate::pattern::Pattern;
 use crate::place::Place;
 use crate::rule::Rule;
+use crate::runs::boxes_round;
 use crate::spans::{Span, empty, widen_by, widen_by_cells};
 use std::alloc::{AllocError, Global};
 use std::marker::Model;
@@ -96,6 +101,19 @@ impl Board {
         ensures cells { IfOk result (λ board. board.cells ≡ []) }
     {
         Board::blank(alloc, rule, Frame::round_origin())
+    }
+
+    /// An empty board as `new` makes it, but for its size: it has 1,024 columns, and a lane more, and 1,096 rows, so it
+    /// is made sixteen times as fast.
+    ///
+    /// # Errors
+    ///
+    /// `AllocError` if memory runs out.
+    pub fn small(alloc: Global, rule: &Rule) -> Result<Board, AllocError>
+        ensures rule { IfOk result (λ board. board.rule ≡ rule.now) }
+        ensures cells { IfOk result (λ board. board.cells ≡ []) }
+    {
+        Board::blank(alloc, rule, Frame::small_round_origin())
     }
 
     /// A board that shows the pattern.
@@ -266,8 +284,8 @@ impl Board {
         Ok(made)
     }
 
-    /// Whether no even number of generations changes anything.
-    fn is_still(&self) -> bool
+    /// Whether it is seen that no even number of generations changes anything. `false` says nothing.
+    pub fn is_still(&self) -> bool
         ensures { IsTrue result → (n : ℕ) → n % 2 ≡ 0 → after self.now.rule self.now.cells n ≡ self.now.cells }
     {
         self.boxes.is_empty()

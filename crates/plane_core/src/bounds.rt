@@ -1,6 +1,7 @@
-ghost use Rattle.std.specs.Prelude.{◌≡◌, ◌↔◌, [], IsNone, IfSome};
-ghost use Rattle.plane_core.specs.Bounds.{box_of, grown, widened, box_at, IsLeastBox};
+ghost use Rattle.std.specs.Prelude.{◌≡◌, ◌↔◌, [], ℕ, IsNone, IfSome};
+ghost use Rattle.plane_core.specs.Bounds.{AreSidesWithin, IsLeastBox, IsWithin, box_at, box_of, grown, widened};
 ghost use Rattle.plane_core.specs.Cells.{IsPattern};
+ghost use Rattle.plane_core.specs.declared.cell.Cell.{Cell};
 
 use crate::cell::Cell;
 use crate::pattern::Pattern;
@@ -47,6 +48,21 @@ impl Bounds {
             top: cell.y.min(self.top),
             right: cell.x.max(self.right),
             bottom: cell.y.max(self.bottom),
+        }
+    }
+
+    /// The least box that has both in it.
+    #[inline(always)]
+    pub(crate) fn joined(self, other: Bounds) -> Bounds
+        ensures one { (c : Cell) → IsWithin self c → IsWithin result c }
+        ensures other { (c : Cell) → IsWithin other c → IsWithin result c }
+        ensures sides { (n : ℕ) → AreSidesWithin n self → AreSidesWithin n other → AreSidesWithin n result }
+    {
+        Bounds {
+            left: self.left.min(other.left),
+            top: self.top.min(other.top),
+            right: self.right.max(other.right),
+            bottom: self.bottom.max(other.bottom),
         }
     }
 }

@@ -65,27 +65,13 @@ fn push_some(found: Option<Bounds>, boxes: &mut Vec<Bounds>) -> Result<(), Alloc
     Ok(())
 }
 
-/// Boxes that have all cells in them, one for each group of cells that lie together, in place of those of the list.
-/// With four columns and rows more on each side, each fits the inner part of a window. So a trail across the plane gets
-/// some boxes along it, and not one of its length and height.
-pub(crate) fn boxes_round(cells: &[Cell], boxes: &mut Vec<Bounds>) -> Result<(), AllocError>
-    ensures held { OnOk result (HoldAll boxes.new.items cells.now) }
-    ensures sides { OnOk result
-        ((n : ℕ) → lies_within n cells.now ≡ true → All (AreSidesWithin n) boxes.new.items) }
-{
-    boxes.clear();
-    put_in_boxes(cells, boxes)?;
-    Ok(())
-}
-
-/// Widens the boxes of the list, and adds others to it, so that they have these cells in them as well.
+/// Widens the boxes of the list, and adds others to it, so that they have these cells in them as well. If memory runs
+/// out, they have at least what they had.
 pub(crate) fn put_in_boxes(cells: &[Cell], boxes: &mut Vec<Bounds>) -> Result<(), AllocError>
-    ensures near { OnOk result
-        ((n : ℕ) (c : Cell) → IsNearOne n boxes.old.items c → IsNearOne n boxes.new.items c) }
+    ensures near { (n : ℕ) (c : Cell) → IsNearOne n boxes.old.items c → IsNearOne n boxes.new.items c }
     ensures held { OnOk result (HoldAll boxes.new.items cells.now) }
-    ensures sides { OnOk result
-        ((n : ℕ) → lies_within n cells.now ≡ true → All (AreSidesWithin n) boxes.old.items
-        → All (AreSidesWithin n) boxes.new.items) }
+    ensures sides { (n : ℕ) → lies_within n cells.now ≡ true → All (AreSidesWithin n) boxes.old.items
+        → All (AreSidesWithin n) boxes.new.items }
 {
     for cell in cells {
         put_in_box(*cell, boxes)?;
@@ -95,15 +81,13 @@ pub(crate) fn put_in_boxes(cells: &[Cell], boxes: &mut Vec<Bounds>) -> Result<()
 
 /// Widens a box that is near the cell so that it has the cell in it. If there is none, the cell gets a new one.
 fn put_in_box(cell: Cell, boxes: &mut Vec<Bounds>) -> Result<(), AllocError>
-    ensures kept { OnOk result ((c : Cell) → IsInOne boxes.old.items c → IsInOne boxes.new.items c) }
-    ensures near { OnOk result
-        ((n : ℕ) (c : Cell) → IsNearOne n boxes.old.items c → IsNearOne n boxes.new.items c) }
+    ensures kept { (c : Cell) → IsInOne boxes.old.items c → IsInOne boxes.new.items c }
+    ensures near { (n : ℕ) (c : Cell) → IsNearOne n boxes.old.items c → IsNearOne n boxes.new.items c }
     ensures held { OnOk result (IsInOne boxes.new.items cell) }
-    ensures sides { OnOk result
-        ((n : ℕ) → is_within n cell ≡ true → All (AreSidesWithin n) boxes.old.items
-        → All (AreSidesWithin n) boxes.new.items) }
+    ensures sides { (n : ℕ) → is_within n cell ≡ true → All (AreSidesWithin n) boxes.old.items
+        → All (AreSidesWithin n) boxes.new.items }
 {
-    let Some(i) = box_near(boxes.as_slice(), cell) else {
+    let Some(i) = box_near(boxes.as_slice(), Bounds::at(cell)) else {
         boxes.push(Bounds::at(cell))?;
         return Ok(());
     };
@@ -112,28 +96,29 @@ fn put_in_box(cell: Cell, boxes: &mut Vec<Bounds>) -> Result<(), AllocError>
     Ok(())
 }
 
-/// The last of the boxes that is near the cell, if one of the last sixteen is. Mostly it is the last one.
-fn box_near(boxes: &[Bounds], cell: Cell) -> Option<usize>
+/// The last of the boxes that is near the part, if one of the last sixteen is. Mostly it is the last one.
+pub(crate) fn box_near(boxes: &[Bounds], part: Bounds) -> Option<usize>
     ensures { IfSome result (λ i. i < length boxes.now) }
 {
     let mut i = boxes.len();
     let earliest = i.saturating_sub(LAST_BOXES);
     while i > earliest {
         i -= 1;
-        if is_near(boxes[i], cell) {
+        if is_near(boxes[i], part) {
             return Some(i);
         }
     }
     None
 }
 
-/// Whether the cell is at most eight columns and rows from the box, and the two fit one window.
+/// Whether the part is at most eight columns and rows from the box, and the two fit one window.
 #[inline(always)]
-fn is_near(bounds: Bounds, cell: Cell) -> bool {
-    let wide = bounds.widened(cell);
-    wide.left.abs_diff(bounds.left) <= 8
-        && wide.right.abs_diff(bounds.right) <= 8
-        && wide.bottom.abs_diff(bounds.bottom) <= 8
+fn is_near(bounds: Bounds, part: Bounds) -> bool {
+    let wide = bounds.joined(part);
+    part.left.saturating_sub(bounds.right) <= 8
+        && bounds.left.saturating_sub(part.right) <= 8
+        && part.top.saturating_sub(bounds.bottom) <= 8
+        && bounds.top.saturating_sub(part.bottom) <= 8
         && wide.left.abs_diff(wide.right) < 48
         && wide.top.abs_diff(wide.bottom) < 24
 }

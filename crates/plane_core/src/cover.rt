@@ -129,13 +129,24 @@ fn absorbed_at(rectangles: &mut Vec<Bounds>, i: usize, rectangle: Bounds) -> Bou
         return rectangle;
     }
     let other = rectangles.swap_remove(i);
-    joined(other, rectangle)
+    other.joined(rectangle)
 }
 
 /// Whether the two take no fewer windows than the least rectangle that has both in it.
 #[inline(always)]
 fn saves_windows(one: Bounds, other: Bounds) -> bool {
-    windows_for(joined(one, other)) <= windows_for(one).saturating_add(windows_for(other))
+    may_share_windows(one, other)
+        && windows_for(one.joined(other)) <= windows_for(one).saturating_add(windows_for(other))
+}
+
+/// Whether no column or row of windows fits between the two. Where one does, nothing is saved. Mostly the two are far
+/// apart, and this is told in no time.
+#[inline(always)]
+fn may_share_windows(one: Bounds, other: Bounds) -> bool {
+    other.left.saturating_sub(one.right) <= 56
+        && one.left.saturating_sub(other.right) <= 56
+        && other.top.saturating_sub(one.bottom) <= 32
+        && one.top.saturating_sub(other.bottom) <= 32
 }
 
 /// How many windows it takes to cover the rectangle.
@@ -144,21 +155,6 @@ fn windows_for(rectangle: Bounds) -> u64 {
     let across = rectangle.left.abs_diff(rectangle.right) / 56 + 1;
     let down = rectangle.top.abs_diff(rectangle.bottom) / 32 + 1;
     u64::from(across) * u64::from(down)
-}
-
-/// The least rectangle that has both in it.
-#[inline(always)]
-fn joined(one: Bounds, other: Bounds) -> Bounds
-    ensures one { (c : Cell) → IsWithin one c → IsWithin result c }
-    ensures other { (c : Cell) → IsWithin other c → IsWithin result c }
-    ensures sides { (n : ℕ) → AreSidesWithin n one → AreSidesWithin n other → AreSidesWithin n result }
-{
-    Bounds {
-        left: one.left.min(other.left),
-        top: one.top.min(other.top),
-        right: one.right.max(other.right),
-        bottom: one.bottom.max(other.bottom),
-    }
 }
 
 /// Lays windows over the rectangles, in place of those of the list.

@@ -17,7 +17,7 @@ ghost use Rattle.plane_core.specs.Floods.{bit_in};
 const COLUMNS: u64 = 0x3fff_ffff_ffff_fffc;
 
 /// The columns that are four or more from the border, 4 to 59.
-const INSIDE: u64 = 0x0fff_ffff_ffff_fff0;
+pub(crate) const INSIDE: u64 = 0x0fff_ffff_ffff_fff0;
 
 /// How many times the rows are gone through at most. A cluster that winds more is not told.
 const ROUNDS: usize = 64;

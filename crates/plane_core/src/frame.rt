@@ -8,7 +8,7 @@
 //! row 1    word 1                 word 1 + rows
 //! row 2    word 2                 word 2 + rows
 //! ```
-ghost use Rattle.std.specs.Prelude.{◌≡◌, ◌+◌, ◌*◌, ◌<◌, ◌≤◌, ◌^◌, ◌-ℤ◌, ◌≤ℤ◌, ◌-◌, true, false, pos};
+ghost use Rattle.std.specs.Prelude.{◌≡◌, ◌+◌, ◌*◌, ◌<◌, ◌≤◌, ◌^◌, ◌-ℤ◌, ◌≤ℤ◌, ◌-◌, ◌↔◌, true, false, pos};
 ghost use Rattle.std.specs.Prelude.{IfSome, IsTrue, OnSome};
 ghost use Rattle.std.specs.Prelude.{unsigned_abs};
 ghost use Rattle.plane_core.specs.Bounds.{IsWithin};
@@ -38,7 +38,7 @@ pub(crate) struct Frame {
 const MARGIN: u32 = 40;
 
 /// How many columns and rows a board has at least on each side of a pattern that is shown in its middle.
-const ROOM: u32 = 500;
+const ROOM: u32 = 200;
 
 impl Frame {
     /// A frame round the pattern that is mostly large enough for so many generations, if a board is worth it: the
@@ -108,6 +108,19 @@ impl Frame {
             top: -2084,
             lanes: 65,
             rows: 4168,
+        }
+    }
+
+    /// A smaller frame round the origin, whose words are cleared in no time: 16 lanes and one more.
+    pub(crate) fn small_round_origin() -> Frame
+        ensures frame { IsFrame result }
+        ensures plane { AreSidesWithin plane_bound (bounds_of result) }
+    {
+        Frame {
+            left: -512,
+            top: -548,
+            lanes: 17,
+            rows: 1096,
         }
     }
 
@@ -211,6 +224,20 @@ impl Frame {
             x: self.left + (64 * lane) as i32,
             y: self.top + row as i32,
         }
+    }
+
+    /// Whether the cell lies on the board.
+    pub(crate) fn has(self, cell: Cell) -> bool
+        requires { IsFrame self }
+        ensures { IsTrue result ↔ IsWithin (bounds_of self) cell }
+    {
+        if cell.x < self.left || cell.x >= self.left + (64 * self.lanes) as i32 {
+            return false;
+        }
+        if cell.y < self.top || cell.y >= self.top + self.rows as i32 {
+            return false;
+        }
+        true
     }
 
     /// How many columns of the board are left of the cell.

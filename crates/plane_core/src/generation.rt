@@ -15,6 +15,7 @@ use crate::frame::Frame;
 use crate::parts::Cut;
 use crate::pattern::Pattern;
 use crate::rule::Rule;
+use crate::small::next_in_window;
 use crate::tally;
 use std::alloc::{AllocError, Global};
 use thiserror::Error;
@@ -48,8 +49,8 @@ impl From<AllocError> for StepError {
 impl Pattern {
     /// The next generation under the rule.
     ///
-    /// It takes time and memory in proportion to the population: on a board if that has no more blocks than there are
-    /// cells, and else cell by cell.
+    /// It takes time and memory in proportion to the population: in a window if the pattern fits one, on a board if that
+    /// has at most eight words a cell, and else cell by cell.
     ///
     /// # Errors
     ///
@@ -69,11 +70,14 @@ impl Pattern {
         Ok(pattern)
     }
 
-    /// The next generation: on a board if one is worth it, and else cell by cell.
+    /// The next generation: in a window if it fits, on a board if one is worth it, and else cell by cell.
     fn next(&self, alloc: Global, rule: &Rule) -> Result<Pattern, AllocError>
         requires { touches_edge self.now ≡ false }
         ensures { IfOk result (λ pattern. pattern ≡ next rule.now self.now) }
     {
+        if let Some(pattern) = next_in_window(alloc, rule, self)? {
+            return Ok(pattern);
+        }
         match self.next_on_board(alloc, rule)? {
             Some(pattern) => Ok(pattern),
             None => self.counted(alloc, rule),

@@ -12,12 +12,11 @@
 //! ```
 //!
 //! Only the 'no' is sure: what may have come back, or has come to the rim, is run elsewhere.
-ghost use Rattle.std.specs.Prelude.{◌≡◌, ◌<◌, ◌≤◌, ℕ, ℤ, IfSome, IsTrue, List, false, true, slice_index};
+ghost use Rattle.std.specs.Prelude.{◌≡◌, ◌<◌, ◌≤◌, ℕ, ℤ, IfSome, IsTrue, List, false, true};
 ghost use Rattle.plane_core.specs.Cells.{InOrder, has};
 ghost use Rattle.plane_core.specs.Generations.{NeverBack, after, touches_edge};
 ghost use Rattle.plane_core.specs.Glances.{IsInland, IsNear, IsSpot, ShowsRows};
 ghost use Rattle.plane_core.specs.LonePatterns.{HasChanged, Holds, IsInWindow};
-ghost use Rattle.plane_core.specs.Windows.{row_at};
 ghost use Rattle.plane_core.specs.declared.cell.Cell.{Cell};
 
 use crate::answers::{AnyRule, Life, is_life};
@@ -27,6 +26,7 @@ use crate::coordinate::{apart, back};
 use crate::never_back::never_back;
 use crate::pattern::Pattern;
 use crate::place::Place;
+use crate::rows::packed;
 use crate::rule::Rule;
 use std::simd::prelude::*;
 
@@ -66,7 +66,7 @@ fn changes_in(window: &[u64x4; 16], rule: &Rule, generations: u32) -> bool
 }
 
 /// Where a window round a small pattern lies, which is far from the edge of the plane.
-fn place_round(pattern: &Pattern) -> Option<Place>
+pub(crate) fn place_round(pattern: &Pattern) -> Option<Place>
     ensures inland { IfSome result IsInland }
     ensures inside { IfSome result
         (λ place. (c : Cell) → has pattern.now c ≡ true → IsInWindow 16 place.left place.top c) }
@@ -97,23 +97,12 @@ fn is_near(bounds: Bounds) -> bool
 }
 
 /// The window at this place with these cells.
-fn window_of(place: Place, cells: &[Cell]) -> [u64x4; 16]
+pub(crate) fn window_of(place: Place, cells: &[Cell]) -> [u64x4; 16]
     requires order { InOrder cells.now }
     requires inside { (c : Cell) → has cells.now c ≡ true → IsInWindow 16 place.left place.top c }
     ensures { Holds 16 place.left place.top result cells.now }
 {
     packed(&rows_of(place, cells))
-}
-
-/// The rows of a window, each as lane r / 16 of vector r % 16.
-pub(crate) fn packed(rows: &[u64; 64]) -> [u64x4; 16]
-    ensures { (r : ℕ) → r < 64 → row_at 16 result r ≡ slice_index rows.now r }
-{
-    let mut window = [u64x4::splat(0); 16];
-    for k in 0..16 {
-        window[k] = u64x4::from_array([rows[k], rows[16 + k], rows[32 + k], rows[48 + k]]);
-    }
-    window
 }
 
 /// The rows of the window at this place with these cells.

@@ -13,12 +13,14 @@ mod boxes;
 /// Cells of the plane, and their order.
 pub mod cell;
 mod change;
+mod changing;
 /// Clusters: the objects that a pattern falls into.
 pub mod clusters;
 /// Sums and differences of coordinates.
 pub mod coordinate;
 mod cover;
 mod difference;
+mod direction;
 mod flood;
 mod forest;
 mod frame;
@@ -49,10 +51,13 @@ pub mod placement;
 /// Plaintext pattern files.
 pub mod plaintext;
 mod refusing;
+mod rows;
 /// Rules by birth and survival numbers.
 pub mod rule;
+mod runs;
 /// The shift from one pattern to another.
 pub mod shift_to;
+mod small;
 mod spans;
 mod stray;
 mod tally;

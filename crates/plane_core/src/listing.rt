@@ -68,7 +68,7 @@ fn read_word(word: u64, first: Cell, cells: &mut Vec<Cell>) -> Result<(), AllocE
 }
 
 /// The cell so many columns to the right.
-fn along(cell: Cell, columns: usize) -> Cell
+pub(crate) fn along(cell: Cell, columns: usize) -> Cell
     requires cell { unsigned_abs cell.x ≤ 2 ^ 24 }
     requires columns { columns < 64 }
     ensures { result ≡ cell_at (cell.x +ℤ pos columns) cell.y }

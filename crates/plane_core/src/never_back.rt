@@ -75,7 +75,7 @@ pub(crate) fn never_back<const N: usize, A: Answering>(
 
 /// Which columns have a live cell.
 #[inline(always)]
-fn columns_of<const N: usize>(window: &[u64x4; N]) -> u64
+pub(crate) fn columns_of<const N: usize>(window: &[u64x4; N]) -> u64
     ensures columns { IsColumns N window.now result }
     ensures whole { AreVectors N window.now }
 {
@@ -136,7 +136,7 @@ fn row_or_none<const N: usize>(window: &[u64x4; N], r: usize) -> u64
 
 /// Whether no cell stands on the rim.
 #[inline(always)]
-fn is_rim_clear<const N: usize>(window: &[u64x4; N], columns: u64) -> bool
+pub(crate) fn is_rim_clear<const N: usize>(window: &[u64x4; N], columns: u64) -> bool
     requires some { 0 < N }
     requires few { N ≤ 16 }
     requires columns { IsColumns N window.now columns }

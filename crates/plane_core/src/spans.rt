@@ -51,6 +51,19 @@ impl Span {
         }
     }
 
+    /// Its numbers below a limit.
+    pub(crate) fn below(self, limit: usize) -> Span
+        ensures order { result.from ≤ result.end }
+        ensures most { result.end ≤ limit }
+        ensures held { (n : ℕ) → n < limit → HasRow self n → HasRow result n }
+    {
+        let from = self.from.min(limit);
+        Span {
+            from,
+            end: self.end.min(limit).max(from),
+        }
+    }
+
     /// Whether none of eight numbers, from this one on, lies in the span.
     pub(crate) fn misses_eight(self, from: usize) -> bool
         requires { from < 2 ^ 32 }
@@ -167,11 +180,7 @@ impl Hull {
         ensures most { result.end ≤ at.lanes }
         ensures held { (s : ℕ) → s < at.lanes → HasRow self.lanes s → HasRow result s }
     {
-        let from = self.lanes.from.min(at.lanes);
-        Span {
-            from,
-            end: self.lanes.end.min(at.lanes).max(from),
-        }
+        self.lanes.below(at.lanes)
     }
 
     /// The bands of eight rows that have all rows of the hull.

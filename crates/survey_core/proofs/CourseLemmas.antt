@@ -5,7 +5,7 @@ use Rattle.plane_core.specs.Generations.{after, lies_within}
 use Rattle.plane_core.specs.Rules.{Numbers}
 use Rattle.plane_core.proofs.CaseLemmas.{less_or_not}
 use Rattle.plane_core.proofs.GenerationLemmas.{after-none}
-use Rattle.survey_core.specs.Courses.{StaysNear, survey_reach}
+use Rattle.survey_core.specs.UnderWay.{StaysNear, survey_reach}
 use Rattle.survey_core.specs.Profiles.{Settling}
 use Rattle.survey_core.proofs.FindingLemmas.{after-then, is_checkpoint, one_more}
 use Rattle.survey_core.proofs.PlaneLemmas.{within_later}
@@ -43,3 +43,10 @@ stays_near rule run cells latest profile place n same is stride_is near some mos
 
     next : (place + 1) * profile.stride ≡ place * profile.stride + profile.stride
     next = one_more place profile.stride
+
+-- what n generations don't change, they don't change later
+pub still_ahead : (rule : Numbers) (cells : List Cell) (ahead n : ℕ) → after rule cells n ≡ cells
+    → after rule (after rule cells ahead) n ≡ after rule cells ahead
+still_ahead rule cells ahead n still =
+    in_parts rule cells ahead n (ahead + n) (omega arith) ∙ sym (in_parts rule cells n ahead (ahead + n) (omega arith))
+    ∙ ap (λ (S : List Cell). after rule S ahead) still

@@ -4,18 +4,22 @@ mod DeterminedLemmas
 mod FindingLemmas
 mod ForGoodLemmas
 mod GroupingLemmas
+mod HarbourLemmas
 mod ImageLemmas
 mod MemoLemmas
 mod ObjectLemmas
+mod OffLemmas
 mod PartitionLemmas
 mod PlacedFindings
 mod RestLemmas
 mod SeedLemmas
+mod ShipLemmas
 mod SortedClusters
 mod SoupLemmas
 mod SweepLemmas
 pub mod CourseLemmas
 pub mod GroupLemmas
 pub mod JobLemmas
+pub mod NoesLemmas
 pub mod PlaneLemmas
 pub mod RefusedLemmas

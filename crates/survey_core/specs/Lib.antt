@@ -3,12 +3,16 @@ pub mod FindingLaws
 pub mod Findings
 pub mod Grouping
 pub mod Groups
+pub mod Harbours
 pub mod Jobs
 pub mod Memos
+pub mod Noes
 pub mod Objects
 pub mod Profiles
 pub mod Rest
 pub mod RestLaws
 pub mod Seeds
+pub mod Ships
 pub mod Soups
 pub mod Sweeps
+pub mod UnderWay

@@ -1,8 +1,8 @@
 //! The way of a pattern through its generations, from one look to the next.
 //!
-//! At first the pattern is a list of cells. When it goes on it is laid on a board, if there is one that has room for it,
-//! and stays there from look to look. A board goes on by even numbers of generations alone, so at an odd look the pattern
-//! is one generation ahead of what the board shows:
+//! At first the pattern is a list of cells. When it goes on it is laid on a board, if there is one that has room for
+//! it, and stays there from look to look. A board goes on by even numbers of generations alone, so at an odd look the
+//! pattern is one generation ahead of what the board shows:
 //!
 //! ```text
 //! generation     0       101            202      303
@@ -10,17 +10,19 @@
 //! board shows            100, 1 ahead   202      302, 1 ahead
 //! ```
 //!
-//! Where the board has no room for the next leap, the pattern goes on from that generation as a list.
+//! Where the board has no room for the next leap, the pattern goes on from that generation as a list. Ships that are
+//! ahead of all the rest leave the board before it goes on, and are put back into the pattern where that is listed.
 
-ghost use Rattle.std.specs.Prelude.{◌≡◌, ◌+◌, ◌<◌, ◌≤◌, ℕ, IfOk, IsTrue, true};
+ghost use Rattle.std.specs.Prelude.{◌≡◌, ◌+◌, ◌%◌, ◌<◌, ◌≤◌, ℕ, IfOk, IsTrue, true};
 ghost use Rattle.plane_core.specs.Generations.{after, lies_within};
-ghost use Rattle.survey_core.specs.Courses.{IsKept, StaysNear, kept, survey_reach};
+ghost use Rattle.survey_core.specs.Courses.{IsKept, kept};
 ghost use Rattle.survey_core.specs.Rest.{IsAtRest};
+ghost use Rattle.survey_core.specs.UnderWay.{StaysNear, survey_reach};
 
+use crate::harbour::Harbour;
+use crate::later::{next, run_on};
 use crate::memo::Memo;
 use crate::profile::Profile;
-use plane_core::board::Board;
-use plane_core::generation::StepError;
 use plane_core::pattern::Pattern;
 use plane_core::rule::Rule;
 use std::alloc::{AllocError, Global};
@@ -38,12 +40,13 @@ pub(crate) struct Course {
 enum Kept {
     /// In a list of cells.
     Listed(Pattern),
-    /// On a board that shows it as it was so many generations before: none or one.
-    Shown(Board, u32),
+    /// On a board, with the ships that have left it, as it was so many generations before: none or one.
+    Shown(Harbour, u32),
 }
 
 impl Model for Course {
-    ghost use Rattle.survey_core.specs.Courses.{IsKept, UnderWay, kept};
+    ghost use Rattle.survey_core.specs.Courses.{IsKept, kept};
+    ghost use Rattle.survey_core.specs.UnderWay.{UnderWay};
 
     ghost Value = { UnderWay };
 
@@ -71,7 +74,7 @@ impl Course {
     {
         match &self.place {
             Kept::Listed(pattern) => pattern.copy(alloc),
-            Kept::Shown(board, ahead) => shown(alloc, &self.rule, board, *ahead),
+            Kept::Shown(harbour, ahead) => shown(alloc, &self.rule, harbour, *ahead),
         }
     }
 
@@ -81,76 +84,85 @@ impl Course {
     {
         match &self.place {
             Kept::Listed(_) => false,
-            Kept::Shown(board, ahead) => {
-                board.refuses(*ahead, profile.horizon(), profile.period())
+            Kept::Shown(harbour, ahead) => {
+                harbour.refuses(*ahead, profile.horizon(), profile.period())
             }
         }
     }
 
-    /// The pattern so many generations on: on the board of the memo, if it isn't on one yet.
+    /// Whether it is seen that no even number of generations changes anything. `false` says nothing.
+    pub(crate) fn is_still(&self) -> bool
+        ensures { IsTrue result → (n : ℕ) → n % 2 ≡ 0 → after self.now.rule self.now.cells n ≡ self.now.cells }
+    {
+        match &self.place {
+            Kept::Listed(_) => false,
+            Kept::Shown(harbour, _) => harbour.is_still(),
+        }
+    }
+
+    /// The pattern at the next look: on the board of the memo, if it isn't on one yet.
     pub(crate) fn go_on(
         self,
         alloc: Global,
-        generations: u32,
+        profile: &Profile,
         memo: &mut Memo,
     ) -> Result<Course, AllocError>
-        requires few { generations ≤ 10000 }
-        requires near { StaysNear self.rule self.cells generations }
+        requires { StaysNear self.rule self.cells profile.now.stride }
         ensures rule { IfOk result (λ course. course.rule ≡ self.rule) }
-        ensures cells { IfOk result (λ course. course.cells ≡ after self.rule self.cells generations) }
+        ensures cells { IfOk result (λ course. course.cells ≡ after self.rule self.cells profile.now.stride) }
     {
         let Course { rule, place } = self;
-        let place = later(alloc, &rule, place, generations, memo)?;
+        let place = later(alloc, &rule, place, profile, memo)?;
         Ok(Course { rule, place })
     }
 
     /// Gives the board back on which the pattern was, for the next one.
     pub(crate) fn end(self, memo: &mut Memo) {
-        if let Kept::Shown(board, _) = self.place {
-            memo.board = Some(board);
+        if let Kept::Shown(harbour, _) = self.place {
+            memo.board = Some(harbour.into_board());
         }
     }
 }
 
-/// The pattern so many generations after what a board shows: none or one.
-fn shown(alloc: Global, rule: &Rule, board: &Board, ahead: u32) -> Result<Pattern, AllocError>
-    requires rule { board.now.rule ≡ rule.now }
+/// The pattern so many generations after what a board and its ships are: none or one.
+fn shown(alloc: Global, rule: &Rule, harbour: &Harbour, ahead: u32) -> Result<Pattern, AllocError>
+    requires rule { harbour.now.rule ≡ rule.now }
     requires few { ahead ≤ 1 }
-    requires near { lies_within survey_reach board.now.cells ≡ true }
-    ensures { IfOk result (λ pattern. pattern ≡ after rule.now board.now.cells ahead) }
+    requires near { lies_within survey_reach harbour.now.cells ≡ true }
+    ensures { IfOk result (λ pattern. pattern ≡ after rule.now harbour.now.cells ahead) }
 {
-    let pattern = board.pattern(alloc)?;
-    run_on(alloc, rule, ahead, &pattern)
+    let pattern = harbour.pattern(alloc, rule)?;
+    if ahead == 0 {
+        return Ok(pattern);
+    }
+    next(alloc, rule, &pattern)
 }
 
-/// Goes on by so many generations from wherever the pattern is kept.
+/// Goes on to the next look from wherever the pattern is kept.
 fn later(
     alloc: Global,
     rule: &Rule,
     place: Kept,
-    generations: u32,
+    profile: &Profile,
     memo: &mut Memo,
 ) -> Result<Kept, AllocError>
-    requires few { generations ≤ 10000 }
     requires kept { IsKept rule.now place }
-    requires near { StaysNear rule.now (kept place) generations }
-    ensures cells { IfOk result (λ later. kept later ≡ after rule.now (kept place) generations) }
+    requires near { StaysNear rule.now (kept place) profile.now.stride }
+    ensures cells { IfOk result (λ later. kept later ≡ after rule.now (kept place) profile.now.stride) }
     ensures kept { IfOk result (IsKept rule.now) }
 {
+    let generations = profile.stride();
     match place {
         Kept::Listed(pattern) => from_list(alloc, rule, pattern, generations, memo),
-        Kept::Shown(board, ahead) => on_board(
-            alloc,
-            rule,
-            board,
-            ahead + generations,
-            &mut memo.board,
-        ),
+        Kept::Shown(harbour, ahead) => {
+            let harbour = harbour.send_off(alloc, rule, profile.period(), memo)?;
+            on_board(alloc, rule, harbour, ahead + generations, memo)
+        }
     }
 }
 
-/// Goes on from a list by so many generations: on the board of the memo, which is made first if there is none, if it has
-/// room.
+/// Goes on from a list by so many generations: on the board of the memo, which is made first if there is none, if it
+/// has room.
 fn from_list(
     alloc: Global,
     rule: &Rule,
@@ -163,6 +175,8 @@ fn from_list(
     ensures cells { IfOk result (λ place. kept place ≡ after rule.now pattern generations) }
     ensures kept { IfOk result (IsKept rule.now) }
 {
+    // That a pattern's cells stand in order is known of them where they are asked for.
+    let _in_order = pattern.cells();
     memo.make_board(alloc, rule);
     let Some(mut board) = memo.board.take() else {
         let later = run_on(alloc, rule, generations, &pattern)?;
@@ -170,52 +184,36 @@ fn from_list(
     };
     let has_room = board.show(rule, &pattern)?;
     if has_room {
-        return on_board(alloc, rule, board, generations, &mut memo.board);
+        let harbour = Harbour::new(alloc, board);
+        return on_board(alloc, rule, harbour, generations, memo);
     }
-    memo.board = Some(board);
+    memo.outgrow(board);
     let later = run_on(alloc, rule, generations, &pattern)?;
     Ok(Kept::Listed(later))
 }
 
-/// Goes on by so many generations from what a board shows. Where it has no room, it is idle from then on.
+/// Goes on by so many generations from what a board and its ships are. Where the board has no room, it goes back to the
+/// memo.
 fn on_board(
     alloc: Global,
     rule: &Rule,
-    mut board: Board,
+    harbour: Harbour,
     generations: u32,
-    idle: &mut Option<Board>,
+    memo: &mut Memo,
 ) -> Result<Kept, AllocError>
-    requires rule { board.rule ≡ rule.now }
+    requires rule { harbour.rule ≡ rule.now }
     requires few { generations ≤ 10001 }
-    requires near { StaysNear rule.now board.cells generations }
-    ensures cells { IfOk result (λ place. kept place ≡ after rule.now board.cells generations) }
+    requires near { StaysNear rule.now harbour.cells generations }
+    ensures cells { IfOk result (λ place. kept place ≡ after rule.now harbour.cells generations) }
     ensures kept { IfOk result (IsKept rule.now) }
 {
     let ahead = generations % 2;
-    let made = board.advance(generations - ahead)?;
-    if made == generations - ahead {
-        return Ok(Kept::Shown(board, ahead));
-    }
-    let pattern = board.pattern(alloc)?;
-    let later = run_on(alloc, rule, generations - made, &pattern)?;
-    *idle = Some(board);
-    Ok(Kept::Listed(later))
-}
-
-/// The pattern after so many generations, in which it doesn't come near the edge of the plane.
-fn run_on(
-    alloc: Global,
-    rule: &Rule,
-    generations: u32,
-    pattern: &Pattern,
-) -> Result<Pattern, AllocError>
-    requires near { lies_within survey_reach pattern.now ≡ true }
-    requires few { generations ≤ 10001 }
-    ensures { IfOk result (λ later. later ≡ after rule.now pattern.now generations) }
-{
-    match pattern.run(alloc, rule, generations) {
-        Ok(later) => Ok(later),
-        Err(StepError::Memory) => Err(AllocError),
-        Err(StepError::Edge) => unreachable!(),
+    match harbour.advance(alloc, rule, generations - ahead)? {
+        Ok(harbour) => Ok(Kept::Shown(harbour, ahead)),
+        Err(stop) => {
+            let later = run_on(alloc, rule, generations - stop.made, &stop.pattern)?;
+            memo.outgrow(stop.board);
+            Ok(Kept::Listed(later))
+        }
     }
 }

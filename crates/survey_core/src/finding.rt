@@ -1,15 +1,17 @@
-ghost use Rattle.std.specs.Prelude.{◌≡◌, ◌<◌, ◌≤◌, ◌^◌, IfOk, IfNone, IfSome, true};
+ghost use Rattle.std.specs.Prelude.{◌≡◌, ◌<◌, ◌≤◌, ◌^◌, IfOk, IfNone, IfSome, OnOk, true};
 ghost use Rattle.plane_core.specs.Generations.{lies_within};
-ghost use Rattle.survey_core.specs.Courses.{survey_reach};
+ghost use Rattle.survey_core.specs.UnderWay.{survey_reach};
 ghost use Rattle.survey_core.specs.FindingLaws.{CountsAddUp, FindingsAreDetermined, FindingsForGood, FindingsMoved};
 ghost use Rattle.survey_core.specs.FindingLaws.{FindingsOfImages, FindingsTurned};
 ghost use Rattle.survey_core.specs.Findings.{IsFinding, SettlesAt, objects_in};
+ghost use Rattle.survey_core.specs.Noes.{AreNoes};
 ghost use Rattle.survey_core.specs.Rest.{IsAtRest};
 ghost use Rattle.survey_core.specs.Soups.{soup};
 
 use crate::course::Course;
 use crate::job::Job;
 use crate::memo::Memo;
+use crate::noes::Noes;
 use crate::objects::Objects;
 use crate::profile::Profile;
 use crate::rest::clusters_at_rest;
@@ -111,19 +113,20 @@ pub fn survey_pattern_with(
     ensures few { IfOk result (λ finding. objects_in finding < 2 ^ 64) }
 {
     let mut course = Course::start(rule, pattern);
+    let mut noes = Noes::none();
     let last = profile.limit() / profile.stride();
     for place in 0..last {
         let checkpoint = place * profile.stride();
-        match look_at(alloc, profile, rule, checkpoint, &course, memo)? {
+        match look_at(alloc, profile, rule, checkpoint, &course, &mut noes, memo)? {
             Some(finding) => {
                 course.end(memo);
                 return Ok(finding);
             }
-            None => course = course.go_on(alloc, profile.stride(), memo)?,
+            None => course = course.go_on(alloc, profile, memo)?,
         }
     }
     let checkpoint = last * profile.stride();
-    let finding = look_at(alloc, profile, rule, checkpoint, &course, memo)?;
+    let finding = look_at(alloc, profile, rule, checkpoint, &course, &mut noes, memo)?;
     course.end(memo);
     Ok(finding.unwrap_or(Finding::Unsettled))
 }
@@ -152,25 +155,36 @@ pub fn findings_for_good()
 {}
 
 /// The finding of a pattern that has come so far at the checkpoint, if it is at rest.
+#[tactic(auto, using(crate::proofs::NoesLemmas::known_more))]
 fn look_at(
     alloc: Global,
     profile: &Profile,
     rule: &Rule,
     checkpoint: u32,
     course: &Course,
+    noes: &mut Noes,
     memo: &mut Memo,
 ) -> Result<Option<Finding>, AllocError>
     requires rule { course.now.rule ≡ rule.now }
     requires near { lies_within survey_reach course.now.cells ≡ true }
+    requires noes { AreNoes rule.now profile.now course.now.cells checkpoint noes.old }
     ensures settled { IfOk result (λ found. IfSome found (SettlesAt rule.now profile.now course.now.cells checkpoint)) }
     ensures moves { IfOk result (λ found. IfNone found (¬ IsAtRest rule.now profile.now course.now.cells)) }
     ensures few { IfOk result (λ found. IfSome found (λ finding. objects_in finding < 2 ^ 64)) }
+    ensures noes { OnOk result (AreNoes rule.now profile.now course.now.cells checkpoint noes.new) }
 {
+    if noes.has(checkpoint) {
+        return Ok(None);
+    }
     if course.is_seen_to_move(profile) {
         return Ok(None);
     }
     let latest = course.look(alloc)?;
-    finding_at(alloc, profile, rule, checkpoint, &latest, memo)
+    let found = finding_at(alloc, profile, rule, checkpoint, &latest, memo)?;
+    if found.is_none() && course.is_still() {
+        *noes = noes.with(checkpoint);
+    }
+    Ok(found)
 }
 
 /// The finding of a pattern that is this one at the checkpoint, if it is at rest.

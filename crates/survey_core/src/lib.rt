@@ -15,6 +15,8 @@ pub mod profile;
 pub mod rest;
 /// Seeds: the texts from which soups are made.
 pub mod seed;
+/// Ships that are ahead of all the rest of a pattern.
+pub mod ships;
 /// Random patterns of 16 by 16 cells.
 pub mod soup;
 /// Where a pattern that comes back lies, turn by turn.
@@ -23,5 +25,11 @@ pub mod sweep;
 mod course;
 /// Groups of clusters that may meet.
 mod groups;
+/// Later generations of patterns that lie far from the edge of the plane.
+mod later;
+/// A board, and the ships that have left it.
+mod harbour;
+/// Looks whose answer is known.
+mod noes;
 /// In which slot of a memo a pattern belongs.
 mod slot;

@@ -49,8 +49,19 @@ pub struct Memo {
     slots: Vec<Option<Known>>,
     /// A board for the next pattern, unless there is none yet, or a pattern is on it.
     pub(crate) board: Option<Board>,
+    /// How large a board is that is made.
+    size: Size,
     /// Whether there was no memory for a board.
     lacks_board: bool,
+}
+
+/// How large a board is.
+#[derive(Clone, Copy)]
+enum Size {
+    /// Enough for most patterns, and made fast.
+    Small,
+    /// What is made once a pattern has had no room on a small one.
+    Large,
 }
 
 /// What is known of a shape.
@@ -82,6 +93,7 @@ impl Memo {
             Ok(slots) => Memo {
                 slots,
                 board: None,
+                size: Size::Small,
                 lacks_board: false,
             },
             Err(AllocError) => Memo::without_room(alloc),
@@ -93,6 +105,7 @@ impl Memo {
         Memo {
             slots: Vec::new(alloc),
             board: None,
+            size: Size::Small,
             lacks_board: false,
         }
     }
@@ -102,9 +115,21 @@ impl Memo {
         if self.board.is_some() || self.lacks_board {
             return;
         }
-        match Board::new(alloc, rule) {
+        let made = match self.size {
+            Size::Small => Board::small(alloc, rule),
+            Size::Large => Board::new(alloc, rule),
+        };
+        match made {
             Ok(board) => self.board = Some(board),
             Err(AllocError) => self.lacks_board = true,
+        }
+    }
+
+    /// Takes a board back on which a pattern had no room. If it was a small one, the next that is made is large.
+    pub(crate) fn outgrow(&mut self, board: Board) {
+        match self.size {
+            Size::Small => self.size = Size::Large,
+            Size::Large => self.board = Some(board),
         }
     }
 
@@ -154,7 +179,7 @@ impl Memo {
 
     /// Whether it is seen at a glance that a pattern doesn't come back within so many generations. One that is
     /// remembered does.
-    fn sees_that_it_changes(&self, rule: &Rule, limit: u32, pattern: &Pattern) -> bool
+    pub(crate) fn sees_that_it_changes(&self, rule: &Rule, limit: u32, pattern: &Pattern) -> bool
         ensures { IsTrue result → ¬ ComesBack rule.now limit pattern.now }
     {
         if self.recalled_sweep(rule, limit, pattern).is_some() {
@@ -164,7 +189,7 @@ impl Memo {
     }
 
     /// The sweep of a pattern, or `None` if it doesn't come back within so many generations.
-    fn sweep(
+    pub(crate) fn sweep(
         &mut self,
         alloc: Global,
         rule: &Rule,

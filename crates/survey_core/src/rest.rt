@@ -30,10 +30,10 @@ ghost use Rattle.survey_core.specs.Rest.{IsAtRest, KeepApart, RestsAs};
 ghost use Rattle.survey_core.specs.RestLaws.{AtRestForGood, EmptyIsAtRest, GroupsRunAlone, PartsRunAlone};
 
 use crate::groups::groups;
+use crate::later::next;
 use crate::memo::Memo;
 use crate::profile::Profile;
 use plane_core::cell::Cell;
-use plane_core::generation::StepError;
 use plane_core::pattern::{FromCellsError, Pattern};
 use plane_core::rule::Rule;
 use std::alloc::{AllocError, Global};
@@ -145,7 +145,7 @@ fn members(
 }
 
 /// The cells of all the patterns.
-fn union(alloc: Global, parts: &[Pattern]) -> Result<Pattern, AllocError>
+pub(crate) fn union(alloc: Global, parts: &[Pattern]) -> Result<Pattern, AllocError>
     requires { All (λ part. lies_within 999999 part ≡ true) parts.now }
     ensures { IfOk result (λ whole. whole ≡ union_of parts.now) }
 {
@@ -273,18 +273,6 @@ fn next_beside(
     next(alloc, rule, pattern)
 }
 
-/// The next generation of a pattern that doesn't touch the edge of the plane.
-pub(crate) fn next(alloc: Global, rule: &Rule, pattern: &Pattern) -> Result<Pattern, AllocError>
-    requires { lies_within 999999 pattern.now ≡ true }
-    ensures { IfOk result (λ later. later ≡ next rule.now pattern.now) }
-{
-    match pattern.step(alloc, rule) {
-        Ok(later) => Ok(later),
-        Err(StepError::Memory) => Err(AllocError),
-        Err(StepError::Edge) => unreachable!(),
-    }
-}
-
 /// Whether the parts share no cell, and are the whole together.
 fn make_up(alloc: Global, parts: &[Pattern], whole: &Pattern) -> Result<bool, AllocError>
     requires in_order { All InOrder parts.now }
@@ -304,7 +292,7 @@ fn make_up(alloc: Global, parts: &[Pattern], whole: &Pattern) -> Result<bool, Al
 }
 
 /// Whether the two lists are the same.
-fn are_same(one: &[Cell], other: &[Cell]) -> bool
+pub(crate) fn are_same(one: &[Cell], other: &[Cell]) -> bool
     ensures { IsTrue result ↔ (one.now ≡ other.now) }
 {
     one == other

@@ -24,7 +24,7 @@ ghost use Rattle.survey_core.specs.Rest.{ComesBack};
 ghost use Rattle.survey_core.specs.Sweeps.{IsSweep, Serves, ShipsMoveByTurns, StayApart, StayClear};
 ghost use Rattle.survey_core.specs.Sweeps.{is_clear, is_parting, is_past};
 
-use crate::rest::next;
+use crate::later::next;
 use code_core::recurrence::Recurrence;
 use plane_core::bounds::Bounds;
 use plane_core::generation::StepError;
@@ -228,7 +228,7 @@ fn step(one: &Sweep, other: &Sweep) -> Offset
 }
 
 /// By how much the other is greater.
-fn difference(one: i32, other: i32) -> i64
+pub(crate) fn difference(one: i32, other: i32) -> i64
     ensures step { result ≡ other -ℤ one }
     ensures small { unsigned_abs result ≤ 2 ^ 33 }
 {

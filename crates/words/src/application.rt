@@ -13,7 +13,7 @@ use clap::{Arg, ArgAction, Command};
 use std::alloc::{AllocError, Global};
 
 /// The program's version, as `clap` prints it.
-const VERSION: &str = "0.1.0";
+const VERSION: &str = "0.2.0";
 
 /// What help says of the program.
 const ABOUT: &str = "Runs patterns of Conway's Game of Life and its kin, names and draws their\n\

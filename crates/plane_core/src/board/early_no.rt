@@ -1,41 +1,30 @@
 //! An early no to a board: what is at rest has no cluster that strays or is never itself again.
 //!
-//! What changes lies in the boxes of the board. A window of 64 rows is read round the middle of a box, and tells of one
-//! cluster in it:
+//! One cluster is looked at in the view of a box:
 //!
 //! ```text
-//! board
-//! +-------------------------------------+
-//! |          window                     |
-//! |        +----------+                 |     Of the boxes, those that are larger than the box of any small oscillator
-//! |        |   +--+   |        +-+      |     are tried first.
-//! |        |   +--+   |        +-+      |
-//! |        |    box   |       box       |
-//! |        +----------+                 |
-//! +-------------------------------------+
+//! boxes      small  LARGE  small  small  LARGE  small
+//! tried by    3rd    1st    4th           2nd           Those that are larger than the box of any small oscillator
+//!                                                       are tried first.
 //! ```
 //!
 //! Four boxes at most are tried, since a board on which nothing is found so has mostly fallen into objects at rest.
-ghost use Rattle.std.specs.Prelude.{◌≡◌, ◌+◌, ◌/◌, ◌<◌, ◌≤◌, IsTrue};
-ghost use Rattle.plane_core.specs.Frames.{FillsFrame, IsFrame};
+ghost use Rattle.std.specs.Prelude.{◌≤◌, IsTrue};
+ghost use Rattle.plane_core.specs.Frames.{FillsFrame};
 ghost use Rattle.plane_core.specs.Generations.{after};
 ghost use Rattle.plane_core.specs.OnBoard.{cells_on};
 ghost use Rattle.plane_core.specs.Refusing.{HasRestlessCluster};
 
 use crate::answers::{Answering, Life};
 use crate::board::Board;
+use crate::board::view::{View, is_large};
 use crate::bounds::Bounds;
 use crate::frame::Frame;
-use crate::placed::read;
 use crate::refusing::refuses;
 use crate::window::generations;
-use std::simd::prelude::*;
 
 /// How many boxes are tried at most.
 const TRIES: u32 = 4;
-
-/// How many columns and rows the box of what changes in a small oscillator has at most.
-const SMALL: u32 = 6;
 
 /// What is asked of the pattern so many generations ahead, at most 1: whether a cluster strays within the horizon, or
 /// is never itself again within the period.
@@ -117,48 +106,17 @@ fn refuses_by<A: Answering>(
     false
 }
 
-/// Whether the box is larger than that of a small oscillator.
-fn is_large(bounds: Bounds) -> bool {
-    bounds.left.abs_diff(bounds.right) >= SMALL || bounds.top.abs_diff(bounds.bottom) >= SMALL
-}
-
-/// Tries one box, if the window round its middle lies on the board.
+/// Tries one box, if the view of it lies on the board.
 fn refuses_in<A: Answering>(words: &[u64], at: Frame, bounds: Bounds, rule: &A, look: Look) -> bool
     requires long { FillsFrame at words.now }
     requires ahead { look.ahead ≤ 1 }
     ensures { IsTrue result → HasRestlessCluster (A.rule rule.now)
         (after (A.rule rule.now) (cells_on at words.now) look.ahead) look.horizon look.period }
 {
-    let Some(x) = first_of(bounds.left, bounds.right, at.left) else {
+    let Some(view) = View::round(at, bounds) else {
         return false;
     };
-    let Some(y) = first_of(bounds.top, bounds.bottom, at.top) else {
-        return false;
-    };
-    if x / 64 + 1 >= at.lanes || at.rows < 64 || y > at.rows - 64 {
-        return false;
-    }
-    refuses_at(words, at, x, y, rule, look)
-}
-
-/// Reads the window that begins in column x and row y of the board, and tries it.
-fn refuses_at<A: Answering>(
-    words: &[u64],
-    at: Frame,
-    x: usize,
-    y: usize,
-    rule: &A,
-    look: Look,
-) -> bool
-    requires long { FillsFrame at words.now }
-    requires lanes { x / 64 + 1 < at.lanes }
-    requires rows { y + 64 ≤ at.rows }
-    requires ahead { look.ahead ≤ 1 }
-    ensures { IsTrue result → HasRestlessCluster (A.rule rule.now)
-        (after (A.rule rule.now) (cells_on at words.now) look.ahead) look.horizon look.period }
-{
-    let mut window = [u64x4::splat(0); 16];
-    read(words, at, x, y, &mut window);
+    let mut window = view.window(words, at);
     generations(&mut window, rule, look.ahead as usize);
     refuses(
         &window,
@@ -167,17 +125,4 @@ fn refuses_at<A: Answering>(
         look.horizon,
         look.period,
     )
-}
-
-/// Where on a board that starts here a window begins that has the middle of these ends in its middle, if all lie on it.
-fn first_of(from: i32, to: i32, start: i32) -> Option<usize> {
-    if from < start || to < start {
-        return None;
-    }
-    let twice = from.abs_diff(start) as usize + to.abs_diff(start) as usize;
-    if twice < 64 {
-        None
-    } else {
-        Some((twice - 64) / 2)
-    }
 }

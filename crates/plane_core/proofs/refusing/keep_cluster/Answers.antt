@@ -1,4 +1,4 @@
-use Rattle.plane_core.proofs.RefusingLemmas.{cluster_held}
+use Rattle.plane_core.proofs.FloodedLemmas.{cluster_held}
 use Rattle.plane_core.proofs.refusing.keep_cluster.Goals as goal
 
 pub returns : goal.returns

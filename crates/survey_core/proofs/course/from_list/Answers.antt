@@ -1,7 +1,3 @@
-use Rattle.std.proofs.Common.{◌≡◌, ◌∙◌, ap, arith, List, ℕ, subst, sym, subst₂}
-use Rattle.plane_core.specs.declared.cell.Cell.{Cell}
-use Rattle.plane_core.specs.Generations.{after, lies_within}
-use Rattle.survey_core.specs.Courses.{StaysNear, survey_reach}
 use Rattle.survey_core.proofs.CourseLemmas.{near_now}
 use Rattle.survey_core.proofs.course.from_list.Goals as goal
 

@@ -1,20 +1,26 @@
-use Rattle.std.proofs.Common.{◌≡◌, ◌∙◌, ◌+◌, ap, List, ℕ, sym, refl, subst, IfOk}
-use Rattle.std.proofs.lemmas.Result.{IfOk-weaker}
+use Rattle.std.proofs.Common.{◌≡◌, ◌∙◌, ◌+◌, ◌≤◌, ap, List, ℕ, refl, sym, subst, IfOk}
 use Rattle.plane_core.specs.declared.cell.Cell.{Cell}
-use Rattle.plane_core.specs.Generations.{after}
-use Rattle.plane_core.specs.Rules.{Numbers}
-use Rattle.survey_core.specs.Courses.{IsKept, StaysNear, kept}
+use Rattle.plane_core.specs.Generations.{after, lies_within}
+use Rattle.survey_core.specs.Courses.{kept}
+use Rattle.survey_core.specs.UnderWay.{survey_reach}
 use Rattle.survey_core.proofs.CourseLemmas.{in_parts, near_ahead}
 use Rattle.survey_core.proofs.course.later.Goals as goal
 
 pub on_board-requires-clause-near : goal.on_board-requires-clause-near
-on_board-requires-clause-near c =
+on_board-requires-clause-near c g low =
     let is = rw c.in-Shown.is at c.requires.kept in
     let near = rw (c.in-Shown.is, is.0) at c.requires.near in
-    near_ahead c.args.rule.now c.in-Shown.board.cells c.in-Shown.ahead c.args.generations is.1 is.2 near
+    let early : g ≤ c.in-Shown.ahead + c.args.profile.now.stride =
+    subst (λ (n : ℕ). g ≤ c.in-Shown.ahead + n) c.stride-generations.ensures.stride low in
+    ap (λ (S : List Cell). lies_within survey_reach (after c.args.rule.now S g)) c.in_ok-harbour-in-Shown.ensures.cells
+    ∙ near_ahead c.args.rule.now c.in-Shown.harbour.cells c.in-Shown.ahead c.args.profile.now.stride is.1 is.2 near g early
 
-pub returns-in-Shown-clause-cells : goal.returns-in-Shown-clause-cells
-returns-in-Shown-clause-cells c =
+pub returns-in_ok-harbour-in-Shown-clause-cells : goal.returns-in_ok-harbour-in-Shown-clause-cells
+returns-in_ok-harbour-in-Shown-clause-cells c =
     let is = rw c.in-Shown.is at c.requires.kept in
-    let same = sym (in_parts c.args.rule.now c.in-Shown.board.cells c.in-Shown.ahead c.args.generations _ refl) in
+    let ahead = c.in-Shown.ahead in
+    let same : after c.args.rule.now c.in_ok-harbour-in-Shown.harbour.cells (ahead + c.stride-generations.result)
+    ≡ after c.args.rule.now (after c.args.rule.now c.in-Shown.harbour.cells ahead) c.args.profile.now.stride =
+    (λ i. after c.args.rule.now (c.in_ok-harbour-in-Shown.ensures.cells i) (ahead + c.stride-generations.ensures.stride i))
+    ∙ sym (in_parts c.args.rule.now c.in-Shown.harbour.cells ahead c.args.profile.now.stride (ahead + c.args.profile.now.stride) refl) in
     rw (c.in-Shown.is, is.0) (subst (λ (T : List Cell). IfOk c.on_board.result (λ later. kept later ≡ T)) same c.on_board.ensures.cells)

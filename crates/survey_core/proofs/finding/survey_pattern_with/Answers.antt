@@ -1,15 +1,18 @@
-use Rattle.std.proofs.Common.{◌≡◌, ◌∙◌, ◌+◌, ◌*◌, ◌/◌, ◌<◌, ◌≤◌, ◌^◌, ap, sym, subst, ℕ, arith, IfSome}
+use Rattle.std.proofs.Common.{◌≡◌, ◌∙◌, ◌+◌, ◌*◌, ◌/◌, ◌<◌, ◌≤◌, ◌^◌, ap, refl, sym, subst, subst₂, ℕ, List, arith, IfSome}
 use Rattle.std.proofs.Math.Nat.{zero-mul}
 use Rattle.std.proofs.lemmas.Result.{IfOk-from_err}
+use Rattle.plane_core.specs.declared.cell.Cell.{Cell}
 use Rattle.plane_core.specs.Generations.{after, lies_within}
 use Rattle.plane_core.proofs.GenerationLemmas.{after-none}
 use Rattle.survey_core.specs.declared.finding.Finding.{Finding}
 use Rattle.survey_core.specs.Findings.{IsFinding, SettlesAt, objects_in}
 use Rattle.survey_core.specs.Profiles.{IsCheckpoint}
+use Rattle.survey_core.specs.Noes.{AreNoes}
 use Rattle.survey_core.specs.Rest.{IsAtRest}
-use Rattle.survey_core.specs.Courses.{survey_reach}
+use Rattle.survey_core.specs.UnderWay.{survey_reach}
 use Rattle.survey_core.proofs.CourseLemmas.{stays_near}
 use Rattle.survey_core.proofs.FindingLemmas.{after-then, finding_from, finding_last, few_objects, is_checkpoint, no_rest_more, one_more}
+use Rattle.survey_core.proofs.NoesLemmas.{known_later, none_known}
 use Rattle.survey_core.proofs.PlaneLemmas.{within_later, within_more}
 use Rattle.survey_core.proofs.finding.survey_pattern_with.Goals as goal
 
@@ -17,6 +20,7 @@ pub loop-place-init : goal.loop-place-init
 loop-place-init c = record {
   rule = c.start-course.ensures.rule;
   latest = c.start-course.ensures.cells ∙ sym (after-none c.args.rule.now c.args.pattern) ∙ ap (after c.args.rule.now c.args.pattern) (sym (zero-mul c.args.profile.now.stride));
+  noes = none_known c.args.rule.now c.args.profile.now c.start-course.result.cells (0 * c.args.profile.now.stride) c.none-noes.result c.none-noes.ensures;
   before = λ u check low rest. let e : 0 * c.args.profile.now.stride ≡ 0 = zero-mul c.args.profile.now.stride in absurd (omega arith);
 }
 
@@ -45,12 +49,12 @@ look_at-requires-2-clause-near c =
 pub start-course-requires : goal.start-course-requires
 start-course-requires c = within_more 1000 survey_reach c.args.pattern (omega arith) c.requires
 
-pub go_on-requires-clause-near : goal.go_on-requires-clause-near
-go_on-requires-clause-near c =
+pub go_on-requires : goal.go_on-requires
+go_on-requires c =
     let low : c.loop-place.place < c.args.profile.now.limit / c.args.profile.now.stride =
     subst (λ (n : ℕ). c.loop-place.place < n) (λ i. c.limit.ensures.limit i / c.stride.ensures.stride i) (omega arith) in
     stays_near c.args.rule.now c.loop-place.course.rule c.args.pattern c.loop-place.course.cells c.args.profile.now c.loop-place.place
-    c.stride-in-None.result c.loop-place.invariant.rule c.loop-place.invariant.latest c.stride-in-None.ensures.stride c.requires c.stride.ensures.profile.onward
+    c.args.profile.now.stride c.loop-place.invariant.rule c.loop-place.invariant.latest refl c.requires c.stride.ensures.profile.onward
     c.stride.ensures.profile.limit low
 
 -- at rest for the first time
@@ -74,12 +78,23 @@ loop-place-preserved c =
     let moves : ¬ IsAtRest c.args.rule.now c.args.profile.now c.loop-place.course.cells = rw c.in-None.is at c.in_ok-finding.ensures.moves in
     let next_place : (c.loop-place.place + 1) * c.args.profile.now.stride ≡ c.loop-place.place * c.args.profile.now.stride +
     c.args.profile.now.stride = one_more c.loop-place.place c.args.profile.now.stride in
+    let here : AreNoes c.args.rule.now c.args.profile.now c.loop-place.course.cells (c.loop-place.place * c.args.profile.now.stride) c.look_at.new.noes =
+    subst (λ (n : ℕ). AreNoes c.args.rule.now c.args.profile.now c.loop-place.course.cells (c.loop-place.place * n) c.look_at.new.noes)
+    c.stride-in-loop-place.ensures.stride c.in_ok-finding.ensures.noes in
+    let cells = c.in_ok-course-in-None.ensures.cells
+    ∙ (λ i. after (c.loop-place.invariant.rule i) c.loop-place.course.cells c.args.profile.now.stride) in
+    let later_noes : AreNoes c.args.rule.now c.args.profile.now c.in_ok-course-in-None.course.cells
+    ((c.loop-place.place + 1) * c.args.profile.now.stride) c.look_at.new.noes =
+    subst₂ (λ (S : List Cell) (t : ℕ). AreNoes c.args.rule.now c.args.profile.now S t c.look_at.new.noes) (sym cells) (sym next_place)
+    (known_later c.args.rule.now c.args.profile.now c.loop-place.course.cells (c.loop-place.place * c.args.profile.now.stride)
+    c.args.profile.now.stride c.look_at.new.noes here) in
     record {
       rule = c.in_ok-course-in-None.ensures.rule ∙ c.loop-place.invariant.rule;
       latest = c.in_ok-course-in-None.ensures.cells
-          ∙ (λ i. after (c.loop-place.invariant.rule i) (c.loop-place.invariant.latest i) (c.stride-in-None.ensures.stride i))
+          ∙ (λ i. after (c.loop-place.invariant.rule i) (c.loop-place.invariant.latest i) c.args.profile.now.stride)
           ∙ after-then c.args.rule.now c.args.pattern (c.loop-place.place * c.args.profile.now.stride) c.args.profile.now.stride
           ∙ ap (after c.args.rule.now c.args.pattern) (sym next_place);
+      noes = later_noes;
       before = no_rest_more c.args.rule.now c.args.profile.now c.args.pattern c.loop-place.course.cells c.loop-place.place some
           c.loop-place.invariant.latest c.loop-place.invariant.before moves
           ((c.loop-place.place + 1) * c.args.profile.now.stride) next_place;
@@ -100,10 +115,6 @@ returns-clause-finding c =
 
 pub nonzero_div-last : goal.nonzero_div-last
 nonzero_div-last c = subst (λ n. 0 < n) (sym c.stride.ensures.stride) c.stride.ensures.profile.onward
-
-pub go_on-requires-clause-few : goal.go_on-requires-clause-few
-go_on-requires-clause-few c =
-    subst (λ n. n ≤ 10000) (sym c.stride-in-None.ensures.stride) c.stride-in-None.ensures.profile.stride
 
 pub returns-in-Some-clause-few : goal.returns-in-Some-clause-few
 returns-in-Some-clause-few c = rw c.in-Some.is at c.in_ok-finding.ensures.few

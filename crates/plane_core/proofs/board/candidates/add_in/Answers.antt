@@ -1,0 +1,19 @@
+use Rattle.std.proofs.Common.{◌+ℤ◌, arith, pos, subst, sym, ℤ}
+use Rattle.plane_core.specs.Floods.{ShowsInRows}
+use Rattle.plane_core.specs.OnBoard.{cells_on}
+use Rattle.plane_core.proofs.FloodedLemmas.{shown_rows}
+use Rattle.plane_core.proofs.OnBoardLemmas.{cells_in_order}
+use Rattle.plane_core.proofs.board.candidates.add_in.Goals as goal
+
+pub returns : goal.returns
+returns g c =
+    let at = c.args.at in
+    let words = c.args.words.now in
+    let S = cells_on at words in
+    let rows = c.unpacked.result in
+    let left = at.left +ℤ pos c.in-Some.view.x in
+    let top = at.top +ℤ pos c.in-Some.view.y in
+    let shows = shown_rows c.window-window.result rows left top 0 S (omega arith) c.unpacked.ensures c.window-window.ensures in
+    c.in_ok-add_grown.ensures S (cells_in_order at words)
+    (subst (λ (z : ℤ). ShowsInRows z c.frame.result.top rows S) (sym c.frame.ensures.left)
+    (subst (λ (z : ℤ). ShowsInRows left z rows S) (sym c.frame.ensures.top) shows))

@@ -1,0 +1,273 @@
+//! Candidates for ships: clusters of a few cells that change.
+//!
+//! In the view of each box the cells that change within two generations are looked for, and the cluster of one after
+//! another is grown:
+//!
+//! ```text
+//! . . . . . . . . . .      . . . . . . . . . .
+//! . . O . . . . O . .      . . x . . . . . . .     Two cells change. The cluster of the first has five cells, and
+//! . . . O . . . O . .      . . . . . . . . . .     the second is one of them, so it is no candidate any more. What
+//! . O O O . . . O . .      . . x . . . . . . .     alternates has no cell that changes in two generations.
+//! . . . . . . . . . .      . . . . . . . . . .
+//! ```
+//!
+//! A lone ship has a small box, so only these are looked at, and of these only those that lie ahead of all others.
+ghost use Rattle.std.specs.Prelude.{◌≡◌, ◌≤◌, ℕ, All, IfOk, IfSome, List, OnOk};
+ghost use Rattle.plane_core.specs.Bounds.{AreSidesWithin};
+ghost use Rattle.plane_core.specs.Cells.{InOrder, plane_bound};
+ghost use Rattle.plane_core.specs.Clusters.{IsCluster};
+ghost use Rattle.plane_core.specs.Floods.{ShowsInRows};
+ghost use Rattle.plane_core.specs.Frames.{FillsFrame, IsFrame, bounds_of};
+ghost use Rattle.plane_core.specs.OnBoard.{cells_on};
+ghost use Rattle.plane_core.specs.declared.cell.Cell.{Cell};
+
+use crate::answers::{Answering, Life};
+use crate::board::Board;
+use crate::board::view::View;
+use crate::bounds::Bounds;
+use crate::changing::{changing_cells, first_cell};
+use crate::flood::flood;
+use crate::frame::Frame;
+use crate::pattern::Pattern;
+use crate::rows::unpacked;
+use crate::small::pattern_of;
+use crate::stray::Spot;
+use std::alloc::{AllocError, Global};
+
+/// How many boxes are looked at, at most.
+const BOXES: u32 = 32;
+
+/// How many columns and rows the box of what changes in a ship has at most: a heavyweight spaceship's has nine. A ship that
+/// has just left a larger group shares its box, and gets one of its own soon.
+const SHIP: u32 = 10;
+
+/// How many clusters are grown for each, at most.
+const FLOODS: u32 = 8;
+
+/// How many cells a candidate has at most. A heavyweight spaceship has up to 18.
+const MOST: u32 = 20;
+
+impl Board {
+    /// Some clusters of the pattern that change, each of a few cells. Which ones isn't said.
+    ///
+    /// # Errors
+    ///
+    /// `AllocError` if memory runs out.
+    pub fn small_clusters(&self, alloc: Global) -> Result<Vec<Pattern>, AllocError>
+        ensures { IfOk result (λ clusters. All (IsCluster self.now.cells) clusters.items) }
+    {
+        let mut clusters = Vec::new(alloc);
+        let words = self.words.as_slice();
+        let boxes = self.boxes.as_slice();
+        if self.is_life {
+            add_all(alloc, words, self.at, boxes, &Life, &mut clusters)?;
+            return Ok(clusters);
+        }
+        add_all(alloc, words, self.at, boxes, &self.answers, &mut clusters)?;
+        Ok(clusters)
+    }
+}
+
+/// Adds candidates of the small boxes that lie ahead of the others, for as long as there are tries left.
+fn add_all<A: Answering>(
+    alloc: Global,
+    words: &[u64],
+    at: Frame,
+    boxes: &[Bounds],
+    rule: &A,
+    clusters: &mut Vec<Pattern>,
+) -> Result<(), AllocError>
+    requires frame { IsFrame at }
+    requires plane { AreSidesWithin plane_bound (bounds_of at) }
+    requires long { FillsFrame at words.now }
+    ensures { OnOk result (All (IsCluster (cells_on at words.now)) clusters.old.items
+        → All (IsCluster (cells_on at words.now)) clusters.new.items) }
+{
+    let mut tries = BOXES;
+    for bounds in boxes {
+        if tries == 0 {
+            return Ok(());
+        }
+        if !is_small_box(*bounds) || !leads_somewhere(boxes, *bounds) {
+            continue;
+        }
+        tries -= 1;
+        add_in(alloc, words, at, *bounds, rule, clusters)?;
+    }
+    Ok(())
+}
+
+/// Whether the box is so small that a ship and little else may change in it.
+fn is_small_box(bounds: Bounds) -> bool {
+    bounds.left.abs_diff(bounds.right) < SHIP && bounds.top.abs_diff(bounds.bottom) < SHIP
+}
+
+/// Whether the box lies ahead of all others in some diagonal direction. What is in another box can't be ahead of all the
+/// rest, unless what is ahead of it goes first.
+fn leads_somewhere(boxes: &[Bounds], bounds: Bounds) -> bool {
+    leads(boxes, bounds, true, true)
+        || leads(boxes, bounds, true, false)
+        || leads(boxes, bounds, false, true)
+        || leads(boxes, bounds, false, false)
+}
+
+/// Whether the box lies ahead of all others to the right or left, and down or up. Those that it meets don't count, since
+/// a ship has boxes from more than one window.
+fn leads(boxes: &[Bounds], bounds: Bounds, right: bool, down: bool) -> bool {
+    let least = least_depth(bounds, right, down);
+    for other in boxes {
+        if most_depth(*other, right, down) >= least && !meets(*other, bounds) {
+            return false;
+        }
+    }
+    true
+}
+
+/// How deep the nearest corner of a box lies in a direction.
+fn least_depth(bounds: Bounds, right: bool, down: bool) -> i64 {
+    let across = counted(right, bounds.left, bounds.right);
+    let along = counted(down, bounds.top, bounds.bottom);
+    across.saturating_add(along)
+}
+
+/// How deep the farthest corner of a box lies in a direction.
+fn most_depth(bounds: Bounds, right: bool, down: bool) -> i64 {
+    let across = counted(right, bounds.right, bounds.left);
+    let along = counted(down, bounds.bottom, bounds.top);
+    across.saturating_add(along)
+}
+
+/// The first coordinate, counted forwards, or the second one, counted backwards.
+fn counted(forwards: bool, first: i32, second: i32) -> i64 {
+    if forwards {
+        i64::from(first)
+    } else {
+        0i64.saturating_sub(i64::from(second))
+    }
+}
+
+/// Whether two boxes have a cell in common, or lie side by side.
+fn meets(one: Bounds, other: Bounds) -> bool {
+    one.left.saturating_sub(other.right) <= 1
+        && other.left.saturating_sub(one.right) <= 1
+        && one.top.saturating_sub(other.bottom) <= 1
+        && other.top.saturating_sub(one.bottom) <= 1
+}
+
+/// Adds the candidates of one box, if the view of it lies on the board.
+fn add_in<A: Answering>(
+    alloc: Global,
+    words: &[u64],
+    at: Frame,
+    bounds: Bounds,
+    rule: &A,
+    clusters: &mut Vec<Pattern>,
+) -> Result<(), AllocError>
+    requires frame { IsFrame at }
+    requires plane { AreSidesWithin plane_bound (bounds_of at) }
+    requires long { FillsFrame at words.now }
+    ensures { OnOk result (All (IsCluster (cells_on at words.now)) clusters.old.items
+        → All (IsCluster (cells_on at words.now)) clusters.new.items) }
+{
+    let Some(view) = View::round(at, bounds) else {
+        return Ok(());
+    };
+    let window = view.window(words, at);
+    let mut candidates = changing_cells(&window, rule);
+    add_grown(
+        alloc,
+        view.frame(at),
+        &unpacked(&window),
+        &mut candidates,
+        clusters,
+    )?;
+    Ok(())
+}
+
+/// Adds the clusters of the candidates in a window that lies here, if they are small.
+fn add_grown(
+    alloc: Global,
+    at: Frame,
+    rows: &[u64; 64],
+    candidates: &mut [u64; 64],
+    clusters: &mut Vec<Pattern>,
+) -> Result<(), AllocError>
+    requires frame { IsFrame at }
+    requires plane { AreSidesWithin plane_bound (bounds_of at) }
+    requires lanes { at.lanes ≡ 1 }
+    requires rows { at.rows ≡ 64 }
+    ensures { OnOk result ((cells : List Cell) → InOrder cells → ShowsInRows at.left at.top rows.now cells
+        → All (IsCluster cells) clusters.old.items → All (IsCluster cells) clusters.new.items) }
+{
+    for _ in 0..FLOODS {
+        let Some(spot) = first_cell(candidates) else {
+            return Ok(());
+        };
+        add_one(alloc, at, rows, candidates, spot, clusters)?;
+    }
+    Ok(())
+}
+
+/// Adds the cluster of this candidate, if it is small. Its cells are no candidates any more.
+fn add_one(
+    alloc: Global,
+    at: Frame,
+    rows: &[u64; 64],
+    candidates: &mut [u64; 64],
+    spot: Spot,
+    clusters: &mut Vec<Pattern>,
+) -> Result<(), AllocError>
+    requires frame { IsFrame at }
+    requires plane { AreSidesWithin plane_bound (bounds_of at) }
+    requires lanes { at.lanes ≡ 1 }
+    requires rows { at.rows ≡ 64 }
+    ensures { OnOk result ((cells : List Cell) → InOrder cells → ShowsInRows at.left at.top rows.now cells
+        → All (IsCluster cells) clusters.old.items → All (IsCluster cells) clusters.new.items) }
+{
+    let mut cluster = [0; 64];
+    let whole = flood(rows, &mut cluster, spot.row, spot.column);
+    strike_out(candidates, &cluster);
+    if whole && is_small(&cluster) {
+        let pattern = pattern_of(alloc, at, &cluster)?;
+        add(clusters, pattern)?;
+    }
+    Ok(())
+}
+
+/// Takes the cells of a cluster off the candidates.
+fn strike_out(candidates: &mut [u64; 64], cluster: &[u64; 64]) {
+    for row in 0..64 {
+        candidates[row] &= !cluster[row];
+    }
+}
+
+/// Whether a cluster has few cells.
+fn is_small(cluster: &[u64; 64]) -> bool {
+    let mut left = MOST;
+    for row in cluster {
+        let cells = row.count_ones();
+        if cells > left {
+            return false;
+        }
+        left -= cells;
+    }
+    true
+}
+
+/// Puts a cluster after the others, unless it is one of them: two boxes may lie near each other.
+fn add(clusters: &mut Vec<Pattern>, cluster: Pattern) -> Result<(), AllocError>
+    ensures { OnOk result ((cells : List Cell) → IsCluster cells cluster → All (IsCluster cells) clusters.old.items
+        → All (IsCluster cells) clusters.new.items) }
+{
+    if !has(clusters.as_slice(), &cluster) {
+        clusters.push(cluster)?;
+    }
+    Ok(())
+}
+
+/// Whether the cluster is one of the others.
+fn has(clusters: &[Pattern], cluster: &Pattern) -> bool {
+    clusters
+        .iter()
+        .any(|other| other.cells() == cluster.cells())
+}

@@ -1,0 +1,69 @@
+//! Cells that are taken off a board.
+//!
+//! What lay near them may change from now on, so the boxes are made to hold them first:
+//!
+//! ```text
+//! +-----+                    +-----+
+//! |.OO. |      O             |.OO. |
+//! |OO.. |     O      ->      |OO.. |   +---+     A box more, or one that is wider, until the next leap has seen what
+//! |.O.. |     OOO            |.O.. |   |   |     changes in it.
+//! +-----+                    +-----+   +---+
+//! ```
+ghost use Rattle.std.specs.Prelude.{◌≡◌, ◌*◌, ◌++◌, ◌∷◌, [], List, OnErr, OnOk, length};
+ghost use Rattle.plane_core.specs.Frames.{FillsFrame, IsFrame, Shows};
+ghost use Rattle.plane_core.specs.OnBoard.{cells_on};
+ghost use Rattle.plane_core.specs.Without.{without};
+ghost use Rattle.plane_core.specs.declared.cell.Cell.{Cell};
+
+use crate::board::Board;
+use crate::boxes::put_in_boxes;
+use crate::cell::Cell;
+use crate::frame::Frame;
+use crate::pattern::Pattern;
+use std::alloc::AllocError;
+
+impl Board {
+    /// Takes these cells off the board. Those that aren't alive on it are passed over.
+    ///
+    /// # Errors
+    ///
+    /// `AllocError` if memory runs out. Then the board shows what it did.
+    pub fn take_out(&mut self, cells: &Pattern) -> Result<(), AllocError>
+        ensures rule { self.new.rule ≡ self.old.rule }
+        ensures cells { OnOk result (self.new.cells ≡ without self.old.cells cells.now) }
+        ensures kept { OnErr result (self.new.cells ≡ self.old.cells) }
+    {
+        let gone = cells.cells();
+        put_in_boxes(gone, &mut self.boxes)?;
+        take_off(self.at, self.words.as_mut_slice(), gone);
+        Ok(())
+    }
+}
+
+/// Takes cells off a board.
+fn take_off(at: Frame, words: &mut [u64], cells: &[Cell])
+    requires frame { IsFrame at }
+    requires long { FillsFrame at words.old }
+    ensures cells { cells_on at words.new ≡ without (cells_on at words.old) cells.now }
+    ensures long { length words.new ≡ length words.old }
+{
+    for cell in cells {
+        take_off_one(at, words, *cell);
+    }
+}
+
+/// Takes one more cell off a board, if it lies on it.
+fn take_off_one(at: Frame, words: &mut [u64], cell: Cell)
+    requires frame { IsFrame at }
+    requires long { FillsFrame at words.old }
+    ensures shown { (cells others : List Cell) → Shows at words.old (without cells others)
+        → Shows at words.new (without cells (others ++ cell ∷ [])) }
+    ensures long { length words.new ≡ length words.old }
+{
+    if !at.has(cell) {
+        return;
+    }
+    let across = at.across(cell);
+    let i = at.index(across / 64, at.down(cell));
+    words[i] &= !(1 << (across % 64));
+}

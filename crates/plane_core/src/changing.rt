@@ -1,0 +1,56 @@
+//! The cells of a window that change within two generations. What is at rest, or alternates, has none:
+//!
+//! ```text
+//! . . . . . . . .      . . . . . . . .
+//! . O O . . . O .      . . . . . . 1 .      Two cells of the glider are dead two generations on. Those of the block
+//! . O O . . . . O      . . . . . . . .      are alive.
+//! . . . . . O O O      . . . . . . 1 .
+//! ```
+use crate::answers::Answering;
+use crate::flood::INSIDE;
+use crate::rows::unpacked;
+use crate::stray::Spot;
+use crate::window::generations;
+use std::simd::prelude::*;
+
+/// The columns in the middle of a window, where a cell that changes is looked for first.
+const MIDDLE: u64 = 0x0000_0fff_fff0_0000;
+
+/// The live cells that are dead two generations on, of those from which a cluster may be grown.
+pub(crate) fn changing_cells<A: Answering>(window: &[u64x4; 16], rule: &A) -> [u64; 64] {
+    let mut later = *window;
+    generations(&mut later, rule, 2);
+    unpacked(&changed(window, &later))
+}
+
+/// One of the cells, if there is one four or more from the border, those in the middle before others.
+pub(crate) fn first_cell(rows: &[u64; 64]) -> Option<Spot> {
+    for d in 0..28 {
+        if rows[31 - d] != 0 {
+            return Some(spot_in(31 - d, rows[31 - d]));
+        }
+        if rows[32 + d] != 0 {
+            return Some(spot_in(32 + d, rows[32 + d]));
+        }
+    }
+    None
+}
+
+/// The cells of the one window that the other hasn't, in columns 4 to 59.
+fn changed(window: &[u64x4; 16], later: &[u64x4; 16]) -> [u64x4; 16] {
+    let mut cells = [u64x4::splat(0); 16];
+    for k in 0..16 {
+        cells[k] = window[k] & (window[k] ^ later[k]) & u64x4::splat(INSIDE);
+    }
+    cells
+}
+
+/// The first of the cells of a row, those in the middle before others.
+fn spot_in(row: usize, cells: u64) -> Spot {
+    let middle = cells & MIDDLE;
+    let found = if middle == 0 { cells } else { middle };
+    Spot {
+        row,
+        column: found.trailing_zeros(),
+    }
+}

@@ -1,0 +1,90 @@
+//! The first boxes of a board: they have all cells of a pattern in them. Cells that stand side by side in a row are a
+//! run, and are put in a box at once, since a dense pattern has many more cells than runs:
+//!
+//! ```text
+//! +-------------+
+//! | OOO.O.OO... |      Three rows, and a run in each. A run goes in the box of those above it, if
+//! | .O.OO.OOOO. |      it is near them and the box stays small enough for one window.
+//! | ..OO..O.O.. |
+//! +-------------+
+//! ```
+ghost use Rattle.std.specs.Prelude.{◌≡◌, ◌⊎◌, ℕ, true, All, IfOk, OnOk};
+ghost use Rattle.plane_core.specs.Bounds.{AreSidesWithin, IsWithin};
+ghost use Rattle.plane_core.specs.Boxes.{HoldAll, IsInOne};
+ghost use Rattle.plane_core.specs.Cells.{is_within};
+ghost use Rattle.plane_core.specs.Generations.{lies_within};
+ghost use Rattle.plane_core.specs.declared.cell.Cell.{Cell};
+
+use crate::bounds::Bounds;
+use crate::boxes::box_near;
+use crate::cell::Cell;
+use std::alloc::AllocError;
+
+/// How far apart the cells of a run are at most.
+const GAP: u32 = 8;
+
+/// How many columns a run has at most. With four more on each side it fits the inner part of a window.
+const LENGTH: u32 = 48;
+
+/// Boxes that have all cells in them, one for each group of cells that lie together, in place of those of the list.
+/// With four columns and rows more on each side, each fits the inner part of a window. So a trail across the plane gets
+/// some boxes along it, and not one of its length and height.
+pub(crate) fn boxes_round(cells: &[Cell], boxes: &mut Vec<Bounds>) -> Result<(), AllocError>
+    ensures held { OnOk result (HoldAll boxes.new.items cells.now) }
+    ensures sides { OnOk result
+        ((n : ℕ) → lies_within n cells.now ≡ true → All (AreSidesWithin n) boxes.new.items) }
+{
+    boxes.clear();
+    let Some(first) = cells.first() else {
+        return Ok(());
+    };
+    let mut run = Bounds::at(*first);
+    for cell in cells {
+        run = next_run(run, *cell, boxes)?;
+    }
+    put_run(run, boxes)?;
+    Ok(())
+}
+
+/// The run with the cell, if this stands at its end. Else the run is put in a box, and the cell begins the next one.
+#[inline(always)]
+fn next_run(run: Bounds, cell: Cell, boxes: &mut Vec<Bounds>) -> Result<Bounds, AllocError>
+    ensures kept { OnOk result ((c : Cell) → IsInOne boxes.old.items c → IsInOne boxes.new.items c) }
+    ensures run { IfOk result
+        (λ next. (c : Cell) → IsWithin run c → IsWithin next c ⊎ IsInOne boxes.new.items c) }
+    ensures cell { IfOk result (λ next. IsWithin next cell) }
+    ensures run_sides { IfOk result
+        (λ next. (n : ℕ) → is_within n cell ≡ true → AreSidesWithin n run → AreSidesWithin n next) }
+    ensures sides { OnOk result
+        ((n : ℕ) → AreSidesWithin n run → All (AreSidesWithin n) boxes.old.items
+        → All (AreSidesWithin n) boxes.new.items) }
+{
+    if is_at_end(run, cell) {
+        return Ok(run.widened(cell));
+    }
+    put_run(run, boxes)?;
+    Ok(Bounds::at(cell))
+}
+
+/// Whether the cell stands in the row of the run, near its end, and the run stays short with it.
+#[inline(always)]
+fn is_at_end(run: Bounds, cell: Cell) -> bool {
+    cell.y == run.top && cell.x.abs_diff(run.right) <= GAP && cell.x.abs_diff(run.left) < LENGTH
+}
+
+/// Widens a box that is near the run so that it has the run in it. If there is none, the run is a box.
+fn put_run(run: Bounds, boxes: &mut Vec<Bounds>) -> Result<(), AllocError>
+    ensures kept { OnOk result ((c : Cell) → IsInOne boxes.old.items c → IsInOne boxes.new.items c) }
+    ensures held { OnOk result ((c : Cell) → IsWithin run c → IsInOne boxes.new.items c) }
+    ensures sides { OnOk result
+        ((n : ℕ) → AreSidesWithin n run → All (AreSidesWithin n) boxes.old.items
+        → All (AreSidesWithin n) boxes.new.items) }
+{
+    let Some(i) = box_near(boxes.as_slice(), run) else {
+        boxes.push(run)?;
+        return Ok(());
+    };
+    let wide = boxes[i].joined(run);
+    boxes[i] = wide;
+    Ok(())
+}

@@ -1,0 +1,96 @@
+//! The next generation of a small pattern, made in a window that has nothing else in it:
+//!
+//! ```text
+//!  cells             window               cells
+//! (3, 1)         . . . . . . .           (1, 2)
+//! (3, 2)    ->   . . . O . . .     ->    (2, 2)
+//! (3, 3)         . . . O . . .           (3, 2)
+//!                . . . O . . .
+//! ```
+ghost use Rattle.std.specs.Prelude.{◌≡◌, ◌<◌, ℕ, IfOk, IfSome, slice_index};
+ghost use Rattle.plane_core.specs.Bounds.{AreSidesWithin};
+ghost use Rattle.plane_core.specs.Cells.{plane_bound};
+ghost use Rattle.plane_core.specs.Frames.{IsFrame, bounds_of};
+ghost use Rattle.plane_core.specs.Generations.{next};
+ghost use Rattle.plane_core.specs.Glances.{IsInland};
+ghost use Rattle.plane_core.specs.OnBoard.{cells_on};
+ghost use Rattle.plane_core.specs.Windows.{IsNextWindow};
+
+use crate::answers::{AnyRule, Life, is_life};
+use crate::frame::Frame;
+use crate::glance::{place_round, window_of};
+use crate::listing::list;
+use crate::never_back::{columns_of, is_rim_clear};
+use crate::pattern::Pattern;
+use crate::place::Place;
+use crate::rows::unpacked;
+use crate::rule::Rule;
+use crate::spans::Span;
+use crate::window::generation;
+use std::alloc::{AllocError, Global};
+use std::simd::prelude::*;
+
+/// For how many cells there is room from the start where a pattern is listed.
+const ROOM: usize = 20;
+
+/// The next generation of a pattern, if it is small enough for a window.
+pub(crate) fn next_in_window(
+    alloc: Global,
+    rule: &Rule,
+    pattern: &Pattern,
+) -> Result<Option<Pattern>, AllocError>
+    ensures { IfOk result (λ made. IfSome made (λ later. later ≡ next rule.now pattern.now)) }
+{
+    let Some(place) = place_round(pattern) else {
+        return Ok(None);
+    };
+    let mut window = window_of(place, pattern.cells());
+    if !is_rim_clear(&window, columns_of(&window)) {
+        return Ok(None);
+    }
+    step(&mut window, rule);
+    let later = pattern_of(alloc, frame_of(place), &unpacked(&window))?;
+    Ok(Some(later))
+}
+
+/// Makes the next generation of a window. Life has a loop of its own.
+fn step(window: &mut [u64x4; 16], rule: &Rule)
+    ensures { IsNextWindow rule.now 16 window.old window.new }
+{
+    if is_life(rule) {
+        generation(window, &Life);
+    } else {
+        generation(window, &AnyRule::new(rule));
+    }
+}
+
+/// The window at this place as a board, of one lane.
+fn frame_of(place: Place) -> Frame
+    requires { IsInland place }
+    ensures frame { IsFrame result }
+    ensures plane { AreSidesWithin plane_bound (bounds_of result) }
+    ensures left { result.left ≡ place.left }
+    ensures top { result.top ≡ place.top }
+    ensures lanes { result.lanes ≡ 1 }
+    ensures rows { result.rows ≡ 64 }
+{
+    Frame {
+        left: place.left,
+        top: place.top,
+        lanes: 1,
+        rows: 64,
+    }
+}
+
+/// The pattern whose cells are these rows of a window that lies here.
+pub(crate) fn pattern_of(alloc: Global, at: Frame, rows: &[u64; 64]) -> Result<Pattern, AllocError>
+    requires frame { IsFrame at }
+    requires plane { AreSidesWithin plane_bound (bounds_of at) }
+    requires lanes { at.lanes ≡ 1 }
+    requires rows { at.rows ≡ 64 }
+    ensures { IfOk result (λ pattern. pattern ≡ cells_on at rows.now) }
+{
+    let spans = [Span { from: 0, end: 64 }];
+    let cells = list(alloc, at, rows, &spans, ROOM)?;
+    Ok(Pattern::from_ordered(cells))
+}

@@ -1,0 +1,30 @@
+use Rattle.std.proofs.Common.{◌∙◌, ◌+◌, ◌≤◌, ap, subst, sym}
+use Rattle.plane_core.specs.Cells.{InOrder}
+use Rattle.plane_core.specs.Generations.{after, lies_within}
+use Rattle.plane_core.proofs.RunLemmas.{in_order-after}
+use Rattle.survey_core.specs.Harbours.{whole_at}
+use Rattle.survey_core.specs.UnderWay.{UnderWay, survey_reach}
+use Rattle.survey_core.proofs.HarbourLemmas.{harbour_later, whole_gone_on}
+use Rattle.survey_core.proofs.harbour.Harbour.advance.Goals as goal
+
+pub invariant_of-result : goal.invariant_of-result
+invariant_of-result c =
+    let h = c.self.inside in
+    harbour_later h.board.rule c.advance.new.self.rule h.time c.in_ok-made.made c.args.most h.board.cells c.advance.new.self.cells h.ships.items
+    c.self.invariant c.requires.even c.if-made-most.true c.in_ok-made.ensures.rule c.in_ok-made.ensures.after c.if-later-le-LATEST_TIME.true
+
+pub whole-requires-clause-order : goal.whole-requires-clause-order
+whole-requires-clause-order c =
+    let h = c.self.inside in
+    subst InOrder (sym c.in_ok-made.ensures.after) (in_order-after h.board.rule h.board.cells c.in_ok-made.made c.self.invariant.off.in_order)
+
+pub whole-requires-clause-near : goal.whole-requires-clause-near
+whole-requires-clause-near c =
+    let h = c.self.inside in
+    let made = c.in_ok-made.made in
+    let rule = ap (λ (u : UnderWay). u.rule) c.self.view_is in
+    let low : made ≤ c.args.most = c.in_ok-made.ensures.most in
+    (λ i. lies_within survey_reach (whole_at (sym (rule ∙ c.requires.rule) i) (h.time + made) c.advance.new.self.cells (c.as_slice.ensures.value i)))
+    ∙ ap (lies_within survey_reach) (whole_gone_on h.board.rule h.time made h.board.cells c.advance.new.self.cells c.args.self.cells h.ships.items
+    c.self.invariant (ap (λ (u : UnderWay). u.cells) c.self.view_is) c.in_ok-made.ensures.after)
+    ∙ (λ i. lies_within survey_reach (after (rule i) c.args.self.cells made)) ∙ c.requires.near made low

@@ -1,0 +1,18 @@
+use Rattle.std.proofs.Common.{◌*ℤ◌, ◌≤ℤ◌, FitsSigned, arith, pos, rules, subst, w64, ℤ}
+use Rattle.std.proofs.lemmas.Int.{fits_signed_from_abs, ints}
+use Rattle.plane_core.specs.Cells.{cell_at}
+use Rattle.plane_core.specs.Frontiers.{depth}
+use Rattle.plane_core.specs.Orientations.{turned_cell}
+use Rattle.survey_core.proofs.ShipLemmas.{half_by_test}
+use Rattle.survey_core.proofs.ships.is_fast.Goals as goal
+
+pub returns : goal.returns
+returns c test =
+    let r = c.args.recurrence in
+    let deep = depth (turned_cell c.args.way (cell_at r.dx r.dy)) in
+    let low = c.least_depth.result in
+    let period_fits : FitsSigned w64 c.from.result = search rules in
+    let low_fits : FitsSigned w64 low = search rules in
+    let twice_fits : FitsSigned w64 (pos 2 *ℤ low) = fits_signed_from_abs w64 (pos 2 *ℤ low) (omega (arith, ints, c.least_depth.ensures.small)) in
+    subst (λ (p : ℤ). p ≤ℤ (pos 2 *ℤ deep)) c.from.ensures
+    (half_by_test c.from.result low deep period_fits low_fits twice_fits test (c.least_depth.ensures.least (cell_at r.dx r.dy) c.step.ensures))

@@ -1,0 +1,283 @@
+//! A board, and the ships that have left it. Together they are the pattern, and each goes on alone:
+//!
+//! ```text
+//! generation     202                    404                       606
+//! board          the rest, a glider     the rest                  the rest
+//! ships                                 the glider, since 404     the glider, since 404
+//! ```
+//!
+//! A board with ships off goes on by even numbers of generations: an odd number, again and again, could bring the rest
+//! nearer to a ship than half of their sum.
+
+ghost use Rattle.std.specs.Prelude.{◌≡◌, ◌+◌, ◌%◌, ◌≤◌, ◌∷◌, ℕ, All, IfErr, IfOk, IsTrue, OnOk, false, map, true};
+ghost use Rattle.plane_core.specs.Cells.{InOrder};
+ghost use Rattle.plane_core.specs.Frontiers.{is_slow};
+ghost use Rattle.plane_core.specs.Generations.{after, lies_within};
+ghost use Rattle.plane_core.specs.Refusing.{HasRestlessCluster};
+ghost use Rattle.survey_core.specs.Harbours.{AreCandidates, IsHarbour, IsNoneOf, IsTraced, latest_time, ship_at};
+ghost use Rattle.survey_core.specs.Harbours.{whole_at};
+ghost use Rattle.survey_core.specs.UnderWay.{StaysNear, survey_reach};
+
+use crate::memo::Memo;
+use crate::rest::{are_same, union};
+use crate::ships::{Ship, at_time, ship_of};
+use plane_core::board::Board;
+use plane_core::frontier::is_slow;
+use plane_core::pattern::Pattern;
+use plane_core::rule::Rule;
+use std::alloc::{AllocError, Global};
+use std::marker::Model;
+
+/// Until when ships are kept off a board. No survey goes on so long, and until then no ship has come near the edge of
+/// the plane.
+const LATEST_TIME: u32 = 800_000;
+
+/// A board, and the ships that have left it.
+#[derive(Drop)]
+pub(crate) struct Harbour {
+    board: Board,
+    ships: Vec<Ship>,
+    /// How many generations were made on the board.
+    time: u32,
+}
+
+/// The pattern after so many generations, as a list, and the board, which has had no room for more.
+#[derive(Drop)]
+pub(crate) struct Stop {
+    pub(crate) pattern: Pattern,
+    pub(crate) made: u32,
+    pub(crate) board: Board,
+}
+
+impl Model for Harbour {
+    ghost use Rattle.survey_core.specs.Harbours.{IsHarbour, whole_at};
+    ghost use Rattle.survey_core.specs.UnderWay.{UnderWay};
+
+    ghost Value = { UnderWay };
+
+    ghost view = { λ h. record {
+      rule = h.board.rule;
+      cells = whole_at h.board.rule h.time h.board.cells h.ships.items;
+    } };
+
+    ghost invariant = { λ h. IsHarbour h.board.rule h.time h.board.cells h.ships.items };
+}
+
+impl Harbour {
+    /// A board that no ship has left.
+    pub(crate) fn new(alloc: Global, board: Board) -> Harbour
+        requires { InOrder board.cells }
+        ensures rule { result.rule ≡ board.rule }
+        ensures cells { result.cells ≡ board.cells }
+    {
+        Harbour {
+            board,
+            ships: Vec::new(alloc),
+            time: 0,
+        }
+    }
+
+    /// The board alone, for another pattern.
+    pub(crate) fn into_board(self) -> Board {
+        let Harbour { board, .. } = self;
+        board
+    }
+
+    /// The whole pattern.
+    pub(crate) fn pattern(&self, alloc: Global, rule: &Rule) -> Result<Pattern, AllocError>
+        requires rule { self.now.rule ≡ rule.now }
+        requires near { lies_within survey_reach self.now.cells ≡ true }
+        ensures { IfOk result (λ pattern. pattern ≡ self.now.cells) }
+    {
+        whole(alloc, rule, self.time, &self.board, self.ships.as_slice())
+    }
+
+    /// Whether it is seen that so many generations ahead, at most 1, the pattern is not at rest: one of its clusters
+    /// strays from it within the horizon, or is never itself again within the period. `false` says nothing.
+    pub(crate) fn refuses(&self, ahead: u32, horizon: u32, period: u32) -> bool
+        requires { ahead ≤ 1 }
+        ensures { IsTrue result
+            → HasRestlessCluster self.now.rule (after self.now.rule self.now.cells ahead) horizon period }
+    {
+        self.board.refuses(ahead, horizon, period)
+    }
+
+    /// Whether it is seen that no even number of generations changes anything. `false` says nothing.
+    pub(crate) fn is_still(&self) -> bool
+        ensures { IsTrue result → (n : ℕ) → n % 2 ≡ 0 → after self.now.rule self.now.cells n ≡ self.now.cells }
+    {
+        self.ships.is_empty() && self.board.is_still()
+    }
+
+    /// Takes ships off the board that are ahead of all the rest. Those whose period is over the limit, 1 to 64, stay.
+    pub(crate) fn send_off(
+        self,
+        alloc: Global,
+        rule: &Rule,
+        limit: u32,
+        memo: &mut Memo,
+    ) -> Result<Harbour, AllocError>
+        requires rule { self.rule ≡ rule.now }
+        requires least { 1 ≤ limit }
+        requires most { limit ≤ 64 }
+        requires near { lies_within survey_reach self.cells ≡ true }
+        ensures rule { IfOk result (λ harbour. harbour.rule ≡ self.rule) }
+        ensures cells { IfOk result (λ harbour. harbour.cells ≡ self.cells) }
+    {
+        let slow = is_slow(rule);
+        if !slow {
+            return Ok(self);
+        }
+        let Harbour {
+            mut board,
+            mut ships,
+            time,
+        } = self;
+        let clusters = board.small_clusters(alloc)?;
+        let clusters = clusters.as_slice();
+        for _ in 0..clusters.len() {
+            let count = ships.len();
+            leave(
+                alloc, rule, limit, clusters, time, &mut board, &mut ships, memo,
+            )?;
+            if ships.len() == count {
+                return Ok(Harbour { board, ships, time });
+            }
+        }
+        Ok(Harbour { board, ships, time })
+    }
+
+    /// Goes on by so many generations, an even number, if the board has room for all of them.
+    pub(crate) fn advance(
+        self,
+        alloc: Global,
+        rule: &Rule,
+        most: u32,
+    ) -> Result<Result<Harbour, Stop>, AllocError>
+        requires rule { self.rule ≡ rule.now }
+        requires even { most % 2 ≡ 0 }
+        requires few { most ≤ 10001 }
+        requires near { StaysNear self.rule self.cells most }
+        ensures rule { IfOk result (λ reached. IfOk reached (λ harbour. harbour.rule ≡ rule.now)) }
+        ensures cells { IfOk result
+            (λ reached. IfOk reached (λ harbour. harbour.cells ≡ after rule.now self.cells most)) }
+        ensures made { IfOk result (λ reached. IfErr reached (λ stop. stop.made ≤ most)) }
+        ensures stopped { IfOk result
+            (λ reached. IfErr reached (λ stop. stop.pattern ≡ after rule.now self.cells stop.made)) }
+    {
+        let Harbour {
+            mut board,
+            ships,
+            time,
+        } = self;
+        let made = board.advance(most)?;
+        let later = time + made;
+        if made == most && later <= LATEST_TIME {
+            return Ok(Ok(Harbour {
+                board,
+                ships,
+                time: later,
+            }));
+        }
+        let pattern = whole(alloc, rule, later, &board, ships.as_slice())?;
+        Ok(Err(Stop {
+            pattern,
+            made,
+            board,
+        }))
+    }
+}
+
+/// Takes those of the clusters off the board that are ahead of all the rest, one after another. Then another one may be
+/// ahead that was behind one of these.
+fn leave(
+    alloc: Global,
+    rule: &Rule,
+    limit: u32,
+    clusters: &[Pattern],
+    time: u32,
+    board: &mut Board,
+    ships: &mut Vec<Ship>,
+    memo: &mut Memo,
+) -> Result<(), AllocError>
+    requires slow { is_slow rule.now ≡ true }
+    requires least { 1 ≤ limit }
+    requires most { limit ≤ 64 }
+    requires harbour { IsHarbour rule.now time board.old.cells ships.old.items }
+    requires near { lies_within survey_reach (whole_at rule.now time board.old.cells ships.old.items) ≡ true }
+    requires clusters { AreCandidates board.old.cells ships.old.items clusters.now }
+    ensures rule { board.new.rule ≡ board.old.rule }
+    ensures harbour { OnOk result (IsHarbour rule.now time board.new.cells ships.new.items) }
+    ensures whole { OnOk result (whole_at rule.now time board.new.cells ships.new.items
+        ≡ whole_at rule.now time board.old.cells ships.old.items) }
+    ensures clusters { OnOk result (AreCandidates board.new.cells ships.new.items clusters.now) }
+{
+    for cluster in clusters {
+        let has_left = has_left(ships.as_slice(), cluster);
+        if has_left {
+            continue;
+        }
+        let Some(ship) = ship_of(alloc, rule, limit, board, cluster, time, memo)? else {
+            continue;
+        };
+        board.take_out(&ship.cells)?;
+        ships.push(ship)?;
+    }
+    Ok(())
+}
+
+/// Whether one of the ships has these cells.
+fn has_left(ships: &[Ship], cells: &Pattern) -> bool
+    ensures { result ≡ false → IsNoneOf ships.now cells.now }
+{
+    for ship in ships {
+        let same = are_same(ship.cells.cells(), cells.cells());
+        if same {
+            return true;
+        }
+    }
+    false
+}
+
+/// The pattern that a board and some ships are together.
+fn whole(
+    alloc: Global,
+    rule: &Rule,
+    time: u32,
+    board: &Board,
+    ships: &[Ship],
+) -> Result<Pattern, AllocError>
+    requires order { InOrder board.now.cells }
+    requires traced { All (IsTraced rule.now time) ships.now }
+    requires early { time ≤ latest_time + 10001 }
+    requires near { lies_within survey_reach (whole_at rule.now time board.now.cells ships.now) ≡ true }
+    ensures { IfOk result (λ pattern. pattern ≡ whole_at rule.now time board.now.cells ships.now) }
+{
+    let pattern = board.pattern(alloc)?;
+    if ships.is_empty() {
+        return Ok(pattern);
+    }
+    let parts = parts(alloc, rule, time, pattern, ships)?;
+    union(alloc, parts.as_slice())
+}
+
+/// A pattern, and where the ships are at a time.
+fn parts(
+    alloc: Global,
+    rule: &Rule,
+    time: u32,
+    pattern: Pattern,
+    ships: &[Ship],
+) -> Result<Vec<Pattern>, AllocError>
+    requires traced { All (IsTraced rule.now time) ships.now }
+    requires early { time ≤ latest_time + 10001 }
+    ensures { IfOk result (λ parts. parts.items ≡ pattern ∷ map (ship_at rule.now time) ships.now) }
+{
+    let mut parts = Vec::new(alloc);
+    parts.push(pattern)?;
+    for ship in ships {
+        let cells = at_time(alloc, rule, ship, time)?;
+        parts.push(cells)?;
+    }
+    Ok(parts)
+}

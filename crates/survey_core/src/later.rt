@@ -1,0 +1,38 @@
+ghost use Rattle.std.specs.Prelude.{◌≡◌, ◌≤◌, IfOk, true};
+ghost use Rattle.plane_core.specs.Generations.{after, lies_within, next};
+ghost use Rattle.survey_core.specs.UnderWay.{survey_reach};
+
+use plane_core::generation::StepError;
+use plane_core::pattern::Pattern;
+use plane_core::rule::Rule;
+use std::alloc::{AllocError, Global};
+
+/// The next generation of a pattern that doesn't touch the edge of the plane.
+pub(crate) fn next(alloc: Global, rule: &Rule, pattern: &Pattern) -> Result<Pattern, AllocError>
+    requires { lies_within 999999 pattern.now ≡ true }
+    ensures { IfOk result (λ later. later ≡ next rule.now pattern.now) }
+{
+    match pattern.step(alloc, rule) {
+        Ok(later) => Ok(later),
+        Err(StepError::Memory) => Err(AllocError),
+        Err(StepError::Edge) => unreachable!(),
+    }
+}
+
+/// The pattern after so many generations, in which it doesn't come near the edge of the plane.
+pub(crate) fn run_on(
+    alloc: Global,
+    rule: &Rule,
+    generations: u32,
+    pattern: &Pattern,
+) -> Result<Pattern, AllocError>
+    requires near { lies_within survey_reach pattern.now ≡ true }
+    requires few { generations ≤ 10001 }
+    ensures { IfOk result (λ later. later ≡ after rule.now pattern.now generations) }
+{
+    match pattern.run(alloc, rule, generations) {
+        Ok(later) => Ok(later),
+        Err(StepError::Memory) => Err(AllocError),
+        Err(StepError::Edge) => unreachable!(),
+    }
+}
