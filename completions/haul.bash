@@ -4,11 +4,19 @@ _haul() {
     local word=${COMP_WORDS[COMP_CWORD]} before=${COMP_WORDS[COMP_CWORD - 1]} options=''
     COMPREPLY=()
     if [[ $COMP_CWORD == 1 ]]; then
-        mapfile -t COMPREPLY < <(compgen -W 'check join compare page --help --version' -- "$word")
+        mapfile -t COMPREPLY < <(compgen -W 'check join compare table page cells rle --help --version' -- "$word")
         return
     fi
     case $before in
-        --workers | --least) return ;;
+        --workers | --least | --rule | --top | --period) return ;;
+        --per)
+            mapfile -t COMPREPLY < <(compgen -W 'million soup' -- "$word")
+            return
+            ;;
+        --kind)
+            mapfile -t COMPREPLY < <(compgen -W 's p q' -- "$word")
+            return
+            ;;
         --census)
             mapfile -t COMPREPLY < <(compgen -f -- "$word")
             return
@@ -17,8 +25,11 @@ _haul() {
     case ${COMP_WORDS[1]} in
         check) options='--workers --samples --census --help' ;;
         join) options='--help' ;;
-        compare) options='--least --help' ;;
+        compare) options='--least --intervals --per --rare --csv --json --help' ;;
+        table) options='--top --rare --kind --period --csv --json --help' ;;
         page) options='--least --census --help' ;;
+        cells) options='--help' ;;
+        rle) options='--rule --help' ;;
     esac
     if [[ $word == -* ]]; then
         mapfile -t COMPREPLY < <(compgen -W "$options" -- "$word")

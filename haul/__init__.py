@@ -4,4 +4,4 @@ What has to be right about Life is asked of `census`, which is proved: soups, wh
 done here is text and sums, and is tested, not proved.
 """
 
-VERSION = "0.1.0"
+VERSION = "0.2.0"

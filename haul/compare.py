@@ -1,21 +1,23 @@
-"""Sets two hauls side by side: each code, with how often it is left in a million soups of the one and of the other."""
+"""Sets hauls side by side: each code, with how often each of them has it."""
 
 from __future__ import annotations
 
 from collections.abc import Iterator
 
+from haul.columns import aligned
 from haul.names import NAMES
 from haul.text import Haul
 from haul.words import noun
 
 HEADS = ["code", "name", "total_a", "total_b", "per_million_a", "per_million_b", "b_to_a"]
-# In the columns after these a number stands, which is set to the right.
-TEXT_COLUMNS = 2
+# The columns of code and name. In those after them a number stands.
+TEXTS = {0, 1}
+MILLION = 1_000_000
 
 
-def rate(total: int, soups: int) -> float:
-    """Objects in a million soups."""
-    return total / soups * 1_000_000 if soups else 0.0
+def rate(total: int, soups: int, per: int = MILLION) -> float:
+    """Objects in so many soups."""
+    return total / soups * per if soups else 0.0
 
 
 def job_line(which: str, haul: Haul) -> str:
@@ -28,38 +30,49 @@ def soups_line(which: str, haul: Haul) -> str:
     return f"{which}: {haul.soups} {soups}, {haul.unsettled} unsettled, {haul.for_good} for good, {haul.objects()} {objects}"
 
 
-def compared(one: Haul, other: Haul, least: int) -> Iterator[str]:
-    """The lines of the comparison. Codes with less than so many objects in both are left out."""
-    yield job_line("A", one)
-    yield soups_line("A", one)
-    yield job_line("B", other)
-    yield soups_line("B", other)
-    codes = [
-        code for code in one.totals.keys() | other.totals.keys() if max(one.totals.get(code, 0), other.totals.get(code, 0)) >= least
-    ]
-    rates = {code: (rate(one.totals.get(code, 0), one.soups), rate(other.totals.get(code, 0), other.soups)) for code in codes}
-    codes.sort(key=lambda code: (-max(rates[code]), code))
-    yield from aligned([HEADS] + [row_of(code, one, other, *rates[code]) for code in codes])
-    yield f"in A alone: {alone(codes, one, other)}; in B alone: {alone(codes, other, one)}"
+def ranked(hauls: list[Haul], least: int) -> list[str]:
+    """The codes by descending rate, but those with less than so many objects in each haul."""
+    codes = [code for code in set().union(*(haul.totals for haul in hauls)) if any(haul.totals.get(code, 0) >= least for haul in hauls)]
+    rates = {code: max(rate(haul.totals.get(code, 0), haul.soups) for haul in hauls) for code in codes}
+    return sorted(codes, key=lambda code: (-rates[code], code))
 
 
-def row_of(code: str, one: Haul, other: Haul, rate_one: float, rate_other: float) -> list[str]:
-    name = NAMES.get(code, "-").replace(" ", "_")
-    ratio = f"{rate_other / rate_one:.2f}" if rate_one else "-"
-    totals = [str(one.totals.get(code, 0)), str(other.totals.get(code, 0))]
-    return [code, name, *totals, f"{rate_one:.2f}", f"{rate_other:.2f}", ratio]
+def compared(one: Haul, other: Haul, least: int, width: int | None = None) -> Iterator[str]:
+    """The lines on two hauls. Codes with less than so many objects in both are left out. On a terminal of this width long codes are
+    cut."""
+    yield from facts_lines([one, other])
+    codes = ranked([one, other], least)
+    yield from aligned([HEADS] + [row_of(code, one, other) for code in codes], TEXTS, 0, width)
+    yield alone_line(codes, [one, other])
 
 
-def alone(codes: list[str], haul: Haul, other: Haul) -> str:
-    """The codes that the one haul has and the other has not."""
-    return " ".join(code for code in codes if code in haul.totals and code not in other.totals) or "none"
+def facts_lines(hauls: list[Haul]) -> Iterator[str]:
+    for letter, haul in lettered(hauls):
+        yield job_line(letter, haul)
+        yield soups_line(letter, haul)
 
 
-def aligned(rows: list[list[str]]) -> Iterator[str]:
-    widths = [max(len(row[column]) for row in rows) for column in range(len(rows[0]))]
-    for row in rows:
-        cells = [
-            cell.ljust(width) if column < TEXT_COLUMNS else cell.rjust(width)
-            for column, (cell, width) in enumerate(zip(row, widths, strict=True))
-        ]
-        yield "  ".join(cells).rstrip()
+def lettered(hauls: list[Haul]) -> Iterator[tuple[str, Haul]]:
+    """A for the first haul, B for the second, and so on."""
+    return zip("ABCDEFGHIJKLMNOP", hauls)
+
+
+def row_of(code: str, one: Haul, other: Haul) -> list[str]:
+    totals = one.totals.get(code, 0), other.totals.get(code, 0)
+    rates = rate(totals[0], one.soups), rate(totals[1], other.soups)
+    ratio = f"{rates[1] / rates[0]:.2f}" if rates[0] else "-"
+    return [code, word(code), str(totals[0]), str(totals[1]), f"{rates[0]:.2f}", f"{rates[1]:.2f}", ratio]
+
+
+def word(code: str) -> str:
+    """The name of a code as one word."""
+    return NAMES.get(code, "-").replace(" ", "_")
+
+
+def alone(codes: list[str], hauls: list[Haul], haul: Haul) -> list[str]:
+    """The codes that one of the hauls has, and no other."""
+    return [code for code in codes if code in haul.totals and not any(code in other.totals for other in hauls if other is not haul)]
+
+
+def alone_line(codes: list[str], hauls: list[Haul]) -> str:
+    return "; ".join(f"in {letter} alone: {' '.join(alone(codes, hauls, haul)) or 'none'}" for letter, haul in lettered(hauls))

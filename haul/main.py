@@ -3,102 +3,34 @@
 from __future__ import annotations
 
 import argparse
+import errno
 import os
 import sys
-from collections.abc import Iterator
+from collections.abc import Iterable, Iterator
 from contextlib import contextmanager, suppress
 from typing import BinaryIO
 
-from haul import VERSION
 from haul.check import differences, taken_again, wrong_samples
 from haul.children import status_of
+from haul.columns import width_of_terminal
 from haul.compare import compared
 from haul.join import CantJoin, Joining
+from haul.many import Comparison
+from haul.options import parser
 from haul.page import page_of
+from haul.plaintext import BadPlaintext, is_plaintext, read_plaintext
 from haul.program import Census, Ended, NoCensus, tell
+from haul.rle import LIFE, BadRle, option_of, read_rle, rle_of
+from haul.table import csv, json, table_of, text
 from haul.text import BadHaul, Haul, lines_of, read_hauls, read_one_haul
 
 # The statuses of `census`, and one more.
 DONE, USAGE, REFUSED, NO_MEMORY, FAILED, NOT_RIGHT = 0, 2, 3, 4, 5, 7
-
-DESCRIPTION = "Checks, joins, compares and shows hauls, the texts that `census take` and `census gather` print."
-
-EXAMPLES = """\
-examples:
-  census take --count 400 | haul check            is this haul right?
-  haul check --samples rare.haul                  do the samples leave what they stand for?
-  haul join parts/*.haul > all.haul               the haul of a census that was taken in parts
-  haul compare life.haul highlife.haul            two hauls side by side
-  haul page < all.haul > all.html                 a page with pictures
-
-status: 0 done, 2 usage, 3 a text is refused, 4 no memory, 5 a read or write failed, 7 not right
-"""
-
+# A pattern has no more bytes, as in `census`.
+PATTERN_LIMIT = 2**24
 
 class Refused(Exception):
     """A text is refused for this reason."""
-
-
-def parser() -> argparse.ArgumentParser:
-    raw = argparse.RawDescriptionHelpFormatter
-    top = argparse.ArgumentParser(prog="haul", description=DESCRIPTION, epilog=EXAMPLES, formatter_class=raw)
-    top.add_argument("--version", action="version", version=f"haul {VERSION}")
-    commands = top.add_subparsers(dest="command", required=True, metavar="COMMAND")
-
-    def command(name: str, help_: str, more: str) -> argparse.ArgumentParser:
-        return commands.add_parser(name, help=help_, description=f"{help_[0].upper()}{help_[1:]}. {more}", formatter_class=raw)
-
-    check = command(
-        "check", "take the census of a haul again, and compare",
-        "Prints `right`, or a line for each line of\nthe haul that should be another; then the status is 7.\n\n"
-        "example:\n  census take --count 400 | haul check --workers 4",
-    )
-    check.add_argument("--workers", type=workers, default=1, metavar="W", help="take it by so many workers, 1 to 16 (default: 1)")
-    check.add_argument("--samples", action="store_true", help="run the soups alone that stand under @SAMPLE_SOUPIDS, and see that each "
-                       "leaves its object; this says nothing of the totals")
-    add_census(check)
-    check.add_argument("file", nargs="?", help="the haul (default: standard input)")
-
-    join = command(
-        "join", "add up hauls of one job over sets that share no number",
-        "If each of them is right, so is what is\nprinted, byte for byte what `census take` prints over all the sets.\n\n"
-        "example:\n  haul join parts/*.haul > all.haul",
-    )
-    join.add_argument("files", nargs="*", help="the hauls (default: standard input, one after another)")
-
-    compare = command(
-        "compare", "set two hauls side by side",
-        "Each code has a line, by descending rate: its name, its totals, how many\nobjects there are of it in a million soups, "
-        "and how many times as many in B as in A.\n\nexample:\n  haul compare --least 10 life.haul highlife.haul",
-    )
-    compare.add_argument("--least", type=count, default=1, metavar="N", help="leave out codes with less than N objects in both (default: 1)")
-    compare.add_argument("a", metavar="A", help="a haul (`-`: standard input)")
-    compare.add_argument("b", metavar="B", help="another haul (`-`: standard input)")
-
-    page = command(
-        "page", "make a page of a haul, with pictures of its objects and soups",
-        "It is one file, which loads nothing.\n\nexample:\n  haul page < all.haul > all.html",
-    )
-    page.add_argument("--least", type=count, default=1, metavar="N", help="leave out codes with less than N objects (default: 1)")
-    add_census(page)
-    page.add_argument("file", nargs="?", help="the haul (default: standard input)")
-    return top
-
-
-def add_census(command: argparse.ArgumentParser) -> None:
-    command.add_argument("--census", metavar="PATH", help="the census program (default: the one beside this, or on the PATH)")
-
-
-def workers(text: str) -> int:
-    if not (text.isascii() and text.isdigit() and 1 <= int(text) <= 16):
-        raise argparse.ArgumentTypeError(f"{text} is not in 1 to 16")
-    return int(text)
-
-
-def count(text: str) -> int:
-    if not (text.isascii() and text.isdigit()):
-        raise argparse.ArgumentTypeError(f"{text} is no number")
-    return int(text)
 
 
 @contextmanager
@@ -124,6 +56,10 @@ def place_of(name: str | None) -> str:
     return "" if name is None or name == "-" else f"{name}: "
 
 
+def write(lines: Iterable[str]) -> None:
+    sys.stdout.writelines(f"{line}\n" for line in lines)
+
+
 def do_check(asked: argparse.Namespace) -> int:
     haul = the_haul(asked.file)
     census = Census(asked.census)
@@ -133,8 +69,7 @@ def do_check(asked: argparse.Namespace) -> int:
         raise Refused("haul with missing soups")
     else:
         wrong = list(differences(haul, taken_again(census, haul, asked.workers)))
-    for line in wrong or ["right"]:
-        print(line)
+    write(wrong or ["right"])
     return NOT_RIGHT if wrong else DONE
 
 
@@ -158,13 +93,24 @@ def do_join(asked: argparse.Namespace) -> int:
         joined = joining.joined()
     except CantJoin as why:
         raise Refused(str(why)) from None
-    sys.stdout.writelines(f"{line}\n" for line in lines_of(joined))
+    write(lines_of(joined))
     return DONE
 
 
 def do_compare(asked: argparse.Namespace) -> int:
-    for line in compared(the_haul(asked.a), the_haul(asked.b), asked.least):
-        print(line)
+    hauls = [the_haul(name) for name in (asked.a, asked.b, *asked.more)]
+    if len(hauls) == 2 and not (asked.intervals or asked.per or asked.rare or asked.csv or asked.json):
+        write(compared(*hauls, asked.least, width_of_terminal()))
+        return DONE
+    comparison = Comparison(hauls, asked.least, asked.per or "million", asked.rare)
+    write(comparison.csv() if asked.csv else comparison.json() if asked.json else comparison.text(width_of_terminal()))
+    return DONE
+
+
+def do_table(asked: argparse.Namespace) -> int:
+    haul = the_haul(asked.file)
+    lines = table_of(haul, asked.kind, asked.period, asked.rare, asked.top)
+    write(csv(lines) if asked.csv else json(haul, lines) if asked.json else text(lines, width_of_terminal()))
     return DONE
 
 
@@ -174,7 +120,42 @@ def do_page(asked: argparse.Namespace) -> int:
     return DONE
 
 
-COMMANDS = {"check": do_check, "join": do_join, "compare": do_compare, "page": do_page}
+def the_pattern(name: str | None) -> bytes:
+    """The text of a pattern, in a file or in standard input."""
+    with opened(name) as stream:
+        text = stream.read(PATTERN_LIMIT + 1)
+    if len(text) > PATTERN_LIMIT:
+        raise OSError(errno.EFBIG, "pattern longer than 16777216 bytes", name if name != "-" else None)
+    return text
+
+
+def do_cells(asked: argparse.Namespace) -> int:
+    text = the_pattern(asked.file)
+    rule: str | None = None
+    try:
+        if is_plaintext(text):
+            rows = read_plaintext(text)
+        else:
+            rows, rule = read_rle(text)
+    except (BadPlaintext, BadRle) as bad:
+        raise Refused(f"{place_of(asked.file)}{bad}") from None
+    if rule is not None and option_of(rule) != LIFE:
+        with suppress(OSError):
+            print(f"haul: rule {rule} is --rule {option_of(rule)}", file=sys.stderr, flush=True)
+    write(rows)
+    return DONE
+
+
+def do_rle(asked: argparse.Namespace) -> int:
+    try:
+        rows = read_plaintext(the_pattern(asked.file))
+    except BadPlaintext as bad:
+        raise Refused(f"{place_of(asked.file)}{bad}") from None
+    write(rle_of(rows, asked.rule))
+    return DONE
+
+
+COMMANDS = {"check": do_check, "join": do_join, "compare": do_compare, "table": do_table, "page": do_page, "cells": do_cells, "rle": do_rle}
 
 
 def complain(line: str, status: int) -> int:

@@ -2,22 +2,22 @@
 
 from __future__ import annotations
 
-import re
 import shlex
 from collections.abc import Iterator
 from html import escape
 from math import log10
 
+from haul.codes import kind_of
 from haul.drawing import picture, soup_path
 from haul.names import NAMES
 from haul.program import Census
+from haul.rle import LIFE, header_rule
 from haul.style import SCRIPT, STYLE
 from haul.text import Haul, Job
 from haul.words import counted
 
 STANDARD_PROFILE = (64, 512, 101, 30300)
 PROFILE_OPTIONS = ("--period", "--horizon", "--stride", "--limit")
-LIFE = "b3s23"
 # So many of the most frequent objects have a bar.
 BARS = 20
 
@@ -36,7 +36,7 @@ def page_of(census: Census, haul: Haul, least: int) -> Iterator[str]:
 
     yield head(haul)
     yield from bars(haul, codes[:BARS])
-    yield table_head(len(codes), len(haul.totals), least)
+    yield table_head(len(codes), len(haul.totals), least, haul.job.rule)
     for code in codes:
         yield row(haul, code, drawings.get(code), paths)
     yield f"</tbody></table>\n</main>\n<script>{SCRIPT}</script>\n</body>\n</html>\n"
@@ -45,7 +45,7 @@ def page_of(census: Census, haul: Haul, least: int) -> Iterator[str]:
 def head(haul: Haul) -> str:
     """What census it is, in words, and how it can be checked."""
     job = haul.job
-    where = "in Conway's Game of Life" if job.rule == LIFE else f"under {rule_name(job.rule)}"
+    where = "in Conway's Game of Life" if job.rule == LIFE else f"under {header_rule(job.rule)}"
     title = f"A census of {counted(haul.soups, 'soup')} {where}"
     soups = f"{haul.soups:,} of {haul.size():,}" if haul.soups < haul.size() else f"{haul.soups:,}"
     rate = f"{haul.objects() / haul.soups:.2f}" if haul.soups else "none"
@@ -65,17 +65,11 @@ def head(haul: Haul) -> str:
 <main>
 <h1>{escape(title)}</h1>
 <p>Random patterns of 16 by 16 cells ({seed_words(job.seed)}, numbers {ranges_words(haul)}) were run under the rule
-<code>{escape(job.rule)}</code> ({escape(rule_name(job.rule))}) until they had settled, and the objects that they left were counted.
+<code>{escape(job.rule)}</code> ({escape(header_rule(job.rule))}) until they had settled, and the objects that they left were counted.
 {escape(profile_words(job))}</p>
 <dl class="facts">{"".join(f"<div><dt>{name}</dt><dd>{value}</dd></div>" for name, value in facts)}</dl>
 <p>{check_words(haul)}</p>
 """
-
-
-def rule_name(rule: str) -> str:
-    """As it is mostly written: B3/S23."""
-    births, survivals = rule[1:].split("s")
-    return f"B{births}/S{survivals}"
 
 
 def seed_words(seed: str) -> str:
@@ -134,7 +128,7 @@ def bars(haul: Haul, codes: list[str]) -> Iterator[str]:
     yield "</svg>\n"
 
 
-def table_head(shown: int, there: int, least: int) -> str:
+def table_head(shown: int, there: int, least: int, rule: str) -> str:
     less = f"less than {least:,} and"
     left_out = f" {counted(there - shown, f'more has {less} is', f'more have {less} are')} left out." if shown < there else ""
     heads = "".join(f"<th scope='col'><button type='button'>{name}</button></th>" if name not in ("Picture", "Sample soups")
@@ -144,7 +138,7 @@ def table_head(shown: int, there: int, least: int) -> str:
 of LifeWiki. A code leads to Catagolue's page of the object. Catagolue takes groups of objects that only lie near each other apart,
 and this census doesn't, so counts of some codes differ by definition.</p>
 <p class="filter"><label>Only codes and names with <input type="search" id="filter" autocomplete="off"></label></p>
-<table id="objects"><thead><tr>{heads}</tr></thead><tbody>
+<table id="objects" data-rule="{header_rule(rule)}"><thead><tr>{heads}</tr></thead><tbody>
 """
 
 
@@ -169,12 +163,12 @@ def row(haul: Haul, code: str, drawing: str | None, paths: dict[int, str]) -> st
 
 
 def kind_words(code: str) -> str:
-    """What a code's prefix says: `xs4`, `xp2`, `xq4`, and the same with `ov_` for what is too large for a text."""
-    found = re.match(r"(?:x|ov_)([spq])([0-9]+)", code)
-    if found is None:
+    """What a code's prefix says."""
+    known = kind_of(code)
+    if known is None:
         return "an object"
-    kind = KINDS[found[1]]
-    return kind if found[1] == "s" else f"{kind} {int(found[2])}"
+    kind, period = known
+    return KINDS[kind] if kind == "s" else f"{KINDS[kind]} {period}"
 
 
 def is_large(code: str) -> bool:

@@ -42,6 +42,8 @@ for word do
     case $status in 0 | 3) ;; *) exit ;; esac
 done
 """
+# A release has a program for each level of processors, and this shell script says which one is for the processor that is there.
+CHOOSES = 'libexec=$1; . "$libexec/processor.sh"; printf %s "$program"'
 # What is printed of a call.
 ANSWER = re.compile(rb"((?:[.O]+\n)*)([0-9]+)\n")
 
@@ -145,19 +147,30 @@ class Census:
 
 
 def beside() -> str | None:
-    """The program that is installed in the same folder, or the one of this checkout, which its launcher builds if need be."""
-    program = Path(sys.argv[0]).resolve().parent / "census"
-    if not os.access(program, os.X_OK):
+    """The program that is installed with this one, or that of this checkout, which its launcher builds if need be."""
+    starter = Path(sys.argv[0]).resolve().parent / "census"
+    if not os.access(starter, os.X_OK):
         return None
-    built = program.parent.parent / "crates" / "census" / "out" / "census"
-    if not (program.parent / "built.bash").is_file():
-        return str(program)
-    # The program itself is asked, since the launcher looks at all sources at each call.
-    with started([str(program), "--version"], subprocess.DEVNULL, None) as launcher:
+    top = starter.parent.parent
+    # The program itself is asked in place of what starts it, since there may be thousands of calls.
+    if (top / "libexec" / "gokzerd" / "processor.sh").is_file():
+        return for_this_processor(starter, top / "libexec" / "gokzerd")
+    if not (starter.parent / "built.bash").is_file():
+        return str(starter)
+    with started([str(starter), "--version"], subprocess.DEVNULL, None) as launcher:
         launcher.wait()
     if launcher.returncode != 0:
-        raise missing(str(program))
-    return str(built)
+        raise missing(str(starter))
+    return str(top / "crates" / "census" / "out" / "census")
+
+
+def for_this_processor(starter: Path, libexec: Path) -> str:
+    """The program of a release that its starter runs."""
+    with started(["/bin/sh", "-c", CHOOSES, "sh", str(libexec)], subprocess.PIPE, None) as shell:
+        chosen = shell.communicate()[0]
+    if shell.returncode != 0:
+        raise missing(str(starter))
+    return os.fsdecode(chosen)
 
 
 def missing(path: str) -> NoCensus:

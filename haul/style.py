@@ -30,6 +30,7 @@ td:nth-child(n+5):nth-child(-n+7) { font-variant-numeric: tabular-nums; }
 td svg { stroke: currentColor; stroke-width: 1; fill: none; shape-rendering: crispEdges; display: block; }
 td > svg { background: var(--soft); max-width: 100%; height: auto; }
 .soup { width: 128px; height: 128px; background: var(--soft); margin: .3rem 0; }
+.rle { font-size: .75rem; margin: .2rem 0; display: block; }
 summary { cursor: pointer; font-variant-numeric: tabular-nums; }
 @media screen and (max-width: 70rem) {
   thead { position: static; } thead tr { display: flex; flex-wrap: wrap; gap: .2rem .9rem; padding-bottom: .4rem; } th { padding: 0; }
@@ -41,7 +42,7 @@ summary { cursor: pointer; font-variant-numeric: tabular-nums; }
 }
 tr[hidden] { display: none; }
 @media print {
-  .filter { display: none; } thead { position: static; } .soup { width: 96px; height: 96px; }
+  .filter, .rle { display: none; } thead { position: static; } .soup { width: 96px; height: 96px; }
   tr { break-inside: avoid; font-size: .75rem; grid-template-columns: 7rem minmax(5.5rem, 1fr) 4.5rem 4.5rem 2.6rem 4rem 4.2rem 7rem; }
 }
 """
@@ -70,10 +71,34 @@ SCRIPT = """
     const wanted = event.target.value.trim().toLowerCase();
     for (const row of body.rows) row.hidden = !(text(row, 1) + ' ' + text(row, 2)).includes(wanted);
   });
+  // A button copies the RLE of a picture, whose path has the runs of live cells, row by row, each from the end of the one before.
+  const counted = (count, tag) => count === 0 ? '' : count === 1 ? tag : count + tag;
+  const rle = svg => {
+    let runs = '', column = 0;
+    for (const [, move, x, y, length] of svg.querySelector('path').getAttribute('d').matchAll(/([Mm])(-?\\d+) (-?[\\d.]+)h(\\d+)/g)) {
+      const down = move === 'M' ? y - 0.5 : Number(y), from = column + Number(x);
+      runs += counted(down, '$') + counted(down ? from : from - column, 'b') + counted(Number(length), 'o');
+      column = from + Number(length);
+    }
+    const [, , width, height] = svg.getAttribute('viewBox').split(' ');
+    const lines = runs.concat('!').match(/(?:[0-9]*[bo$!]){1,20}/g).join('\\n');
+    return `x = ${width}, y = ${height}, rule = ${table.dataset.rule}\\n${lines}\\n`;
+  };
+  const copy = async (text, button) => {
+    try { await navigator.clipboard.writeText(text); button.textContent = 'copied'; }
+    catch { prompt('RLE', text); }
+  };
+  const offer = svg => {
+    const button = document.createElement('button');
+    button.type = 'button'; button.className = 'rle'; button.textContent = 'copy RLE';
+    button.addEventListener('click', () => copy(rle(svg), button));
+    svg.after(button);
+  };
   // Sample soups are a text until their row comes into sight, or all is printed. A browser that can't tell makes all of them.
   const unfold = row => {
     const kept = row.cells[7].querySelector('noscript');
     if (kept) row.cells[7].innerHTML = kept.textContent;
+    if (kept) row.querySelectorAll('svg').forEach(offer);
   };
   addEventListener('beforeprint', () => [...body.rows].forEach(unfold));
   if (typeof IntersectionObserver === 'undefined') [...body.rows].forEach(unfold);

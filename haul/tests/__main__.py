@@ -1,12 +1,14 @@
-"""Runs all tests, and says last how many passed and how many failed."""
+"""Runs all tests, and says last how many passed and how many failed, and how many were skipped if any were."""
 
 import sys
 import unittest
 
-NAMES = ["haul.tests.test_text", "haul.tests.test_faults", "haul.tests.test_join", "haul.tests.test_program", "haul.tests.test_ends"]
+NAMES = ["haul.tests.test_text", "haul.tests.test_faults", "haul.tests.test_join", "haul.tests.test_program", "haul.tests.test_ends", "haul.tests.test_rle",
+         "haul.tests.test_tables", "haul.tests.test_whole"]
 
 suite = unittest.defaultTestLoader.loadTestsFromNames(NAMES)
 result = unittest.TextTestRunner(stream=sys.stdout).run(suite)
 failed = len({test.id() for test, _ in result.failures + result.errors})
-print(f"{result.testsRun - failed} passed, {failed} failed")
+skipped = len(result.skipped)
+print(f"{result.testsRun - failed - skipped} passed, {failed} failed" + (f", {skipped} skipped" if skipped else ""))
 sys.exit(1 if failed or not result.testsRun else 0)

@@ -1,0 +1,78 @@
+"""The table of one haul, with how often each object comes."""
+
+from __future__ import annotations
+
+from collections.abc import Iterator
+from dataclasses import dataclass
+
+from haul.codes import kind_of
+from haul.columns import aligned, as_json, comma_separated, exact, figure
+from haul.compare import rate
+from haul.many import facts_of
+from haul.names import NAMES
+from haul.text import Haul
+
+HEADS = ["rank", "code", "total", "per_million", "one_in_at_most", "samples", "label"]
+CODE = 1
+# The columns of code, samples and label.
+TEXTS = {1, 5, 6}
+
+
+@dataclass
+class Line:
+    """A code in the table."""
+
+    rank: int
+    code: str
+    total: int
+    per_million: float
+    # One soup in so many has the object, at most: how many soups have one isn't known.
+    one_in: int
+    samples: list[int]
+    label: str
+
+    def words(self) -> list[str]:
+        samples = ",".join(map(str, self.samples))
+        return [str(self.rank), self.code, str(self.total), figure(self.per_million), str(self.one_in), samples, self.label or "-"]
+
+    def csv_row(self) -> list[str]:
+        samples = " ".join(map(str, self.samples))
+        return [str(self.rank), self.code, str(self.total), str(self.per_million), str(self.one_in), samples, self.label]
+
+    def json_object(self) -> dict[str, object]:
+        return {
+            "rank": self.rank, "code": self.code, "total": exact(self.total), "per_million": self.per_million,
+            "one_in_at_most": self.one_in, "samples": self.samples, "label": self.label or None,
+        }
+
+
+def table_of(haul: Haul, kind: str | None, period: int | None, rare: bool, top: int | None) -> list[Line]:
+    """The codes by descending total, of a kind and a period if one is given; with `rare`, the rarest come first. A code has the rank
+    that it has among all."""
+    codes = sorted(haul.totals, key=lambda code: (-haul.totals[code], code))
+    ranks = list(enumerate(codes, 1))
+    shown = [(rank, code) for rank, code in (reversed(ranks) if rare else ranks) if is_such(code, kind, period)]
+    return [line_of(haul, rank, code) for rank, code in shown[:top]]
+
+
+def is_such(code: str, kind: str | None, period: int | None) -> bool:
+    known = kind_of(code) or ("", 0)
+    return kind in (None, known[0]) and period in (None, known[1])
+
+
+def line_of(haul: Haul, rank: int, code: str) -> Line:
+    total = haul.totals[code]
+    return Line(rank, code, total, rate(total, haul.soups), max(1, haul.soups // total), haul.samples[code], NAMES.get(code, ""))
+
+
+def text(lines: list[Line], width: int | None) -> Iterator[str]:
+    """The lines for a reader. Each column is a word, but the last one."""
+    return aligned([HEADS] + [line.words() for line in lines], TEXTS, CODE, width)
+
+
+def csv(lines: list[Line]) -> Iterator[str]:
+    return comma_separated([HEADS] + [line.csv_row() for line in lines])
+
+
+def json(haul: Haul, lines: list[Line]) -> Iterator[str]:
+    return as_json(facts_of(haul), (line.json_object() for line in lines))

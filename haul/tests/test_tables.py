@@ -1,0 +1,255 @@
+"""Tables: of one haul, of several side by side, and for other programs."""
+
+from __future__ import annotations
+
+import csv
+import json
+import os
+import pty
+import subprocess
+import sys
+import tempfile
+import time
+import unittest
+from math import exp, fsum, lgamma, log
+from pathlib import Path
+
+from haul.poisson import interval
+from haul.tests.called import HAUL, run
+
+# Garwood (1936): the ends of the interval of 95 %.
+GARWOOD = {0: (0, 3.689), 1: (0.0253, 5.572), 2: (0.242, 7.225), 3: (0.619, 8.767), 4: (1.090, 10.242), 5: (1.623, 11.668), 6: (2.202, 13.059),
+           8: (3.454, 15.763), 10: (4.795, 18.390), 20: (12.217, 30.888)}
+
+
+def haul(rule: str, soups: int, totals: dict[str, int]) -> str:
+    """The text of a haul that is lawful: each code has one sample, its place in the table."""
+    rows = sorted(totals.items())
+    lines = ["@VERSION 2", "@ROOT seed=x", f"@RULE {rule}", "@SYMMETRY C1", "@PROFILE 64 512 101 30300", f"@RANGE 0 {soups}", f"@NUM_SOUPS {soups}",
+             "@NUM_UNSETTLED 1", "@NUM_FOR_GOOD 2", f"@NUM_OBJECTS {sum(totals.values())}", "", "@CENSUS TABLE"]
+    lines += [f"{code} {total}" for code, total in rows] + ["", "@SAMPLE_SOUPIDS"]
+    return "".join(f"{line}\n" for line in lines + [f"{code} {place}" for place, (code, _) in enumerate(rows)])
+
+
+A = haul("b3s23", 1000, {"xs4_33": 500, "xp2_7": 20, "xq4_153": 3, "xs8_rr": 1})
+B = haul("b36s23", 500, {"xs4_33": 1000, "xp2_7": 2, "xp15_4r4z4r4": 4})
+C = haul("b3s12", 1000, {"xs4_33": 510, "xp2_7": 20, "ov_p123": 5})
+JOBS = """\
+A: seed=x rule=b3s23 profile=64,512,101,30300
+A: 1000 soups, 1 unsettled, 2 for good, 524 objects
+B: seed=x rule=b36s23 profile=64,512,101,30300
+B: 500 soups, 1 unsettled, 2 for good, 1006 objects
+"""
+
+
+class Tables(unittest.TestCase):
+    def setUp(self) -> None:
+        self.folder = tempfile.TemporaryDirectory()
+        self.addCleanup(self.folder.cleanup)
+        for name, text in (("a", A), ("b", B), ("c", C)):
+            Path(self.folder.name, name).write_text(text)
+
+    def printed(self, command: str, *words: str) -> str:
+        status, output, errors = run(command, *(os.path.join(self.folder.name, word) if word in "abc" else word for word in words))
+        self.assertEqual((status, errors), (0, ""))
+        return output
+
+
+class Intervals(unittest.TestCase):
+    def test_garwood(self) -> None:
+        for total, (low, high) in GARWOOD.items():
+            for found, known in zip(interval(total), (low, high), strict=True):
+                self.assertLessEqual(abs(found - known), 0.00051 if known > 1 or known == 0 else 0.000051 if known < 0.1 else 0.00051)
+
+    def test_both_tails_are_as_long(self) -> None:
+        """The sum of the terms of Poisson's law up to a count, as it is defined."""
+        def up_to(count: int, mean: float) -> float:
+            return fsum(exp(k * log(mean) - mean - lgamma(k + 1)) for k in range(count + 1))
+
+        for total in (7, 29, 30, 31, 40, 100, 1000, 20000):
+            low, high = interval(total)
+            self.assertAlmostEqual(1 - up_to(total - 1, low), 0.025, places=6)
+            self.assertAlmostEqual(up_to(total, high), 0.025, places=6)
+
+    def test_large_totals(self) -> None:
+        """There Poisson's law is the normal one, of which 1.95996 deviations leave out 2.5 %."""
+        for total in (2**40, 2**53, 2**64 - 1):
+            low, high = interval(total)
+            self.assertAlmostEqual((total - low) / total**0.5, 1.95996, places=3)
+            self.assertAlmostEqual((high - total) / total**0.5, 1.95996, places=3)
+
+    def test_time(self) -> None:
+        for total in (0, 10, 28, 31, 1000, 2**64 - 1):
+            took = []
+            for _ in range(20):
+                began = time.perf_counter()
+                interval(total)
+                took.append(time.perf_counter() - began)
+            self.assertLess(min(took), 0.001)
+
+
+class OfOne(Tables):
+    def test_text(self) -> None:
+        self.assertEqual(self.printed("table", "a"), """\
+rank  code     total  per_million  one_in_at_most  samples  label
+   1  xs4_33     500    500000.00               2  2        block
+   2  xp2_7       20     20000.00              50  0        blinker
+   3  xq4_153      3      3000.00             333  1        glider
+   4  xs8_rr       1      1000.00            1000  3        bi-block
+""")
+        # One in a soup at least, though there are more of them than soups.
+        self.assertEqual(self.printed("table", "--top", "1", "b").splitlines()[1].split(), ["1", "xs4_33", "1000", "2000000.00", "1", "2", "block"])
+
+    def test_which_lines(self) -> None:
+        def codes(*words: str) -> list[list[str]]:
+            return [line.split()[:2] for line in self.printed("table", *words).splitlines()[1:]]
+
+        self.assertEqual(codes("--rare", "a"), [["4", "xs8_rr"], ["3", "xq4_153"], ["2", "xp2_7"], ["1", "xs4_33"]])
+        self.assertEqual(codes("--rare", "--top", "2", "a"), [["4", "xs8_rr"], ["3", "xq4_153"]])
+        self.assertEqual(codes("--top", "3", "a"), [["1", "xs4_33"], ["2", "xp2_7"], ["3", "xq4_153"]])
+        self.assertEqual(codes("--top", "0", "a"), [])
+        self.assertEqual(codes("--kind", "s", "a"), [["1", "xs4_33"], ["4", "xs8_rr"]])
+        self.assertEqual(codes("--kind", "p", "c"), [["2", "xp2_7"], ["3", "ov_p123"]])
+        self.assertEqual(codes("--kind", "q", "a"), [["3", "xq4_153"]])
+        self.assertEqual(codes("--period", "1", "a"), [["1", "xs4_33"], ["4", "xs8_rr"]])
+        self.assertEqual(codes("--period", "15", "b"), [["2", "xp15_4r4z4r4"]])
+        self.assertEqual(codes("--period", "123", "c"), [["3", "ov_p123"]])
+        self.assertEqual(codes("--kind", "q", "--period", "2", "a"), [])
+
+    def test_csv(self) -> None:
+        rows = list(csv.DictReader(self.printed("table", "--csv", "a").splitlines()))
+        self.assertEqual(rows[2], {"rank": "3", "code": "xq4_153", "total": "3", "per_million": "3000.0", "one_in_at_most": "333", "samples": "1",
+                                   "label": "glider"})
+        self.assertEqual(len(rows), 4)
+        self.assertEqual(list(csv.DictReader(self.printed("table", "--csv", "--kind", "p", "c").splitlines()))[1]["label"], "")
+
+    def test_json(self) -> None:
+        told = json.loads(self.printed("table", "--json", "a"))
+        self.assertEqual((told["rule"], told["soups"], told["unsettled"], told["for_good"], told["total"]), ("b3s23", 1000, 1, 2, 524))
+        self.assertEqual(told["objects"][2], {"rank": 3, "code": "xq4_153", "total": 3, "per_million": 3000.0, "one_in_at_most": 333, "samples": [1],
+                                              "label": "glider"})
+        self.assertEqual(json.loads(self.printed("table", "--json", "--top", "0", "a"))["objects"], [])
+
+    def test_large_totals(self) -> None:
+        """What is over 2^53 is a text in JSON."""
+        text = haul("b3s23", 2**40, {"xs4_33": 2**53, "xp2_7": 2**53 + 1, "xs8_rr": 2**63}).encode()
+        told = json.loads(run("table", "--json", text=text)[1])
+        self.assertEqual([one["total"] for one in told["objects"]], ["9223372036854775808", "9007199254740993", 9007199254740992])
+        self.assertEqual(told["total"], "9241386435364257793")
+        self.assertIn("9223372036854775808", run("table", "--csv", text=text)[1])
+
+
+class OfSeveral(Tables):
+    def test_two(self) -> None:
+        """Without a new option: no interval, and no star."""
+        self.assertEqual(self.printed("compare", "a", "b"), JOBS + """\
+code          name            total_a  total_b  per_million_a  per_million_b  b_to_a
+xs4_33        block               500     1000      500000.00     2000000.00    4.00
+xp2_7         blinker              20        2       20000.00        4000.00    0.20
+xp15_4r4z4r4  pentadecathlon        0        4           0.00        8000.00       -
+xq4_153       glider                3        0        3000.00           0.00    0.00
+xs8_rr        bi-block              1        0        1000.00           0.00    0.00
+in A alone: xq4_153 xs8_rr; in B alone: xp15_4r4z4r4
+""")
+        self.assertEqual(self.printed("compare", "--least", "4", "a", "b").splitlines()[5:], [
+            "xs4_33        block               500     1000      500000.00     2000000.00    4.00",
+            "xp2_7         blinker              20        2       20000.00        4000.00    0.20",
+            "xp15_4r4z4r4  pentadecathlon        0        4           0.00        8000.00       -",
+            "in A alone: none; in B alone: xp15_4r4z4r4"])
+        self.assertEqual(self.printed("compare", "b", "a").splitlines()[5], "xs4_33        block              1000      500     2000000.00      500000.00    0.25")
+
+    def test_intervals(self) -> None:
+        """Garwood's of 20, 2 and 3, in a million soups."""
+        rows = {row[0]: row for row in map(str.split, self.printed("compare", "--intervals", "a", "b").splitlines()[4:-2])}
+        self.assertEqual(rows["code"], ["code", "name", "total_a", "per_million_a", "interval_a", "total_b", "per_million_b", "interval_b", "b_to_a"])
+        self.assertEqual(rows["xp2_7"], ["xp2_7", "blinker", "20", "20000.00", "12216.52..30888.38", "2", "4000.00", "484.42..14449.38", "0.20"])
+        self.assertEqual(rows["xq4_153"], ["xq4_153", "glider", "3", "3000.00", "618.67..8767.27", "0", "0.00", "0.00..7377.76", "0.00"])
+        self.assertTrue(rows["xs4_33"][7].endswith("*"))
+        self.assertEqual([code for code, row in rows.items() if row[7].endswith("*")], ["xs4_33"])
+
+    def test_three(self) -> None:
+        lines = self.printed("compare", "a", "b", "c").splitlines()
+        self.assertEqual(lines[5], "C: 1000 soups, 1 unsettled, 2 for good, 535 objects")
+        self.assertEqual(lines[6].split()[-2:], ["b_to_a", "c_to_a"])
+        self.assertEqual([line.split()[0] for line in lines[7:-2]], ["xs4_33", "xp2_7", "xp15_4r4z4r4", "ov_p123", "xq4_153", "xs8_rr"])
+        self.assertEqual(lines[7].split()[-2:], ["4.00", "1.02"])
+        self.assertEqual(lines[-2], "in A alone: xq4_153 xs8_rr; in B alone: xp15_4r4z4r4; in C alone: ov_p123")
+        self.assertIn("as if objects came singly", lines[-1])
+
+    def test_rare(self) -> None:
+        lines = self.printed("compare", "--rare", "a", "b", "c").splitlines()
+        self.assertEqual([line.split()[0] for line in lines[7:-2]], ["xs8_rr", "xq4_153", "ov_p123", "xp15_4r4z4r4"])
+
+    def test_in_a_soup(self) -> None:
+        lines = self.printed("compare", "--per", "soup", "a", "b").splitlines()
+        self.assertIn("per_soup_a", lines[4])
+        self.assertEqual(lines[6].split()[2:8], ["20", "0.02", "0.0122..0.0309", "2", "0.004", "0.000484..0.0144"])
+
+    def test_csv(self) -> None:
+        rows = {row["code"]: row for row in csv.DictReader(self.printed("compare", "--csv", "a", "b", "c").splitlines())}
+        self.assertEqual(len(rows), 6)
+        block = rows["xs4_33"]
+        self.assertEqual([block[head] for head in ("name", "rule_b", "soups_b", "total_b", "per_million_b", "ratio_b", "differs_b", "differs_c", "ratio_a")],
+                         ["block", "b36s23", "500", "1000", "2000000.0", "4.0", "*", "", ""])
+        self.assertAlmostEqual(float(rows["xp2_7"]["low_a"]), 12216.5, places=0)
+        self.assertAlmostEqual(float(rows["xp2_7"]["high_a"]), 30888.4, places=0)
+        self.assertEqual(rows["ov_p123"]["ratio_c"], "")
+
+    def test_json(self) -> None:
+        told = json.loads(self.printed("compare", "--json", "a", "b", "c"))
+        self.assertEqual([one["alone"] for one in told["hauls"]], [["xq4_153", "xs8_rr"], ["xp15_4r4z4r4"], ["ov_p123"]])
+        self.assertEqual([(one["haul"], one["rule"], one["soups"]) for one in told["hauls"]], [("A", "b3s23", 1000), ("B", "b36s23", 500), ("C", "b3s12", 1000)])
+        block = told["objects"][0]
+        self.assertEqual((block["code"], block["totals"], block["ratios"], block["differs"]), ("xs4_33", [500, 1000, 510], [None, 4.0, 1.02], [False, True, False]))
+
+    def test_how_many(self) -> None:
+        self.assertEqual(len(json.loads(self.printed("compare", "--json", *["a"] * 16))["hauls"]), 16)
+        status, output, errors = run("compare", *["-"] * 17)
+        self.assertEqual((status, output), (2, ""))
+        self.assertIn("more than 16 hauls", errors)
+        self.assertEqual(run("compare", "-")[0], 2)
+        self.assertEqual(run("compare", "--csv", "--json", "-", "-")[0], 2)
+
+    def test_no_soup(self) -> None:
+        none = haul("b3s23", 1, {}).replace("@RANGE 0 1", "@RANGE 0 0").replace("SOUPS 1", "SOUPS 0").replace("SETTLED 1", "SETTLED 0").replace("GOOD 2", "GOOD 0")
+        Path(self.folder.name, "c").write_text(none)
+        self.assertEqual(self.printed("compare", "--intervals", "c", "a").splitlines()[5].split()[2:5], ["0", "0.00", "-"])
+
+
+class Terminals(Tables):
+    CODE = "xs40_" + "g" * 120
+
+    def on_terminal(self, columns: int, *words: str) -> list[str]:
+        """The lines that are printed on a terminal of so many columns."""
+        ours, its = pty.openpty()
+        with subprocess.Popen([sys.executable, HAUL, *words], stdout=its, cwd=self.folder.name, env=os.environ | {"COLUMNS": str(columns)}):
+            os.close(its)
+            said = b""
+            while True:
+                try:
+                    piece = os.read(ours, 65536)
+                except OSError:
+                    break
+                if not piece:
+                    break
+                said += piece
+        os.close(ours)
+        return said.decode().replace("\r\n", "\n").splitlines()
+
+    def test_long_codes_are_cut_there(self) -> None:
+        Path(self.folder.name, "a").write_text(haul("b3s23", 10, {"xs4_33": 5, self.CODE: 7}))
+        for words, head in ((["table", "a"], "rank"), (["compare", "a", "a"], "code"), (["compare", "--intervals", "a", "a"], "code")):
+            with self.subTest(words=words):
+                lines = self.on_terminal(140, *words)
+                table = [line for line in lines if line.startswith(head) or "xs4" in line and "alone" not in line]
+                self.assertEqual(len(table), 3)
+                self.assertLessEqual(max(map(len, table)), 140)
+                self.assertEqual(sum("…" in line for line in lines), 1)
+                self.assertIn(self.CODE, self.printed(words[0], *words[1:]))
+
+    def test_short_ones_are_not(self) -> None:
+        self.assertEqual("\n".join(self.on_terminal(200, "table", "a")) + "\n", self.printed("table", "a"))
+
+
+if __name__ == "__main__":
+    unittest.main()

@@ -1,0 +1,246 @@
+"""What is printed of hauls that are made by hand: each number, row and word that a slip could change unseen."""
+
+from __future__ import annotations
+
+import io
+import os
+import random
+import re
+import subprocess
+import sys
+import tempfile
+import unittest
+from html.parser import HTMLParser
+from pathlib import Path
+
+from haul.compare import compared
+from haul.page import page_of
+from haul.program import Census, pieces
+from haul.tests.called import CENSUS, HAUL, census, run
+from haul.tests.drawn import any_haul
+from haul.text import Haul, Job, Range, read_one_haul, text_of
+
+STANDARD = (64, 512, 101, 30300)
+NOTES = '#!/bin/sh\necho "$@" >> asked\nexit 4\n'
+
+
+def made(totals: dict[str, int], ranges: list[Range], profile: tuple[int, int, int, int] = STANDARD, samples: dict[str, list[int]] | None = None) -> Haul:
+    soups = sum(count for _, count in ranges)
+    return Haul(Job("a", "b3s23", profile), ranges, soups, 0, 0, dict(sorted(totals.items())), samples or {code: [ranges[0][0]] for code in sorted(totals)})
+
+
+def page(haul: Haul) -> str:
+    return "".join(page_of(Census(CENSUS), haul, 1))
+
+
+class Rows(HTMLParser):
+    """The cells of a page's table, as text, and the paths of its pictures."""
+
+    def __init__(self) -> None:
+        super().__init__()
+        self.rows: list[list[str]] = []
+        self.paths: list[str] = []
+        self.is_in = False
+
+    def handle_starttag(self, tag: str, attributes: list[tuple[str, str | None]]) -> None:
+        if tag == "tbody":
+            self.is_in = True
+        elif tag == "tr" and self.is_in:
+            self.rows.append([])
+        elif tag == "td":
+            self.rows[-1].append("")
+        elif tag == "path" and self.is_in:
+            self.paths.append(dict(attributes)["d"] or "")
+
+    def handle_endtag(self, tag: str) -> None:
+        if tag == "tbody":
+            self.is_in = False
+
+    def handle_data(self, data: str) -> None:
+        if self.is_in and self.rows and self.rows[-1]:
+            self.rows[-1][-1] += data
+
+
+def rows_of(text: str) -> Rows:
+    rows = Rows()
+    rows.feed(text)
+    return rows
+
+
+def drawn(path: str) -> set[tuple[int, int]]:
+    """The cells that a path draws: a pen that is moved, and draws a line for each run."""
+    cells: set[tuple[int, int]] = set()
+    x = y = 0.0
+    for name, first, second in re.findall(r"([Mmh])(-?[\d.]+)(?: (-?[\d.]+))?", path):
+        if name == "M":
+            x, y = float(first), float(second)
+        elif name == "m":
+            x, y = x + float(first), y + float(second)
+        else:
+            cells |= {(int(x) + k, int(y - 0.5)) for k in range(int(first))}
+            x += int(first)
+    return cells
+
+
+def cells_of(plaintext: str) -> set[tuple[int, int]]:
+    return {(x, y) for y, row in enumerate(plaintext.splitlines()) for x, cell in enumerate(row) if cell == "O"}
+
+
+class Codes(unittest.TestCase):
+    def test_each_length(self) -> None:
+        """Codes have 1 to 400 bytes, and beside one may stand three numbers of thirteen digits."""
+        numbers = [2**40 - 3, 2**40 - 2, 2**40 - 1]
+        for length in (1, 2, 99, 100, 101, 255, 256, 299, 300, 301, 399, 400):
+            with self.subTest(length=length):
+                code = "x" * length
+                text = text_of(made({code: 3}, [(2**40 - 3, 3)], samples={code: numbers}))
+                self.assertEqual(run("join", text=text.encode()), (0, text, ""))
+                # A large total, and another range, so that neither row is what nearly every row is.
+                text = text_of(made({code: 2**63}, [(0, 1), (2**40 - 3, 3)], samples={code: numbers}))
+                self.assertEqual(run("join", text=text.encode()), (0, text, ""))
+        text = text_of(made({"x" * 401: 3}, [(0, 3)]))
+        self.assertEqual(run("join", text=text.encode()), (3, "", "haul: bad haul at line 13 column 1\n"))
+
+    def test_none_is_lost(self) -> None:
+        """As many as one shell asks for, and one less and more. A column has as many cells as its number in binary has ones."""
+        for count in (1, 99, 100, 101, 201):
+            with self.subTest(count=count):
+                codes = [f"xs4_{digit}{other}z1" for digit in "123456789abcdefghijk" for other in "123456789abc"][:count]
+                known = {code: 2 + k for k, code in enumerate(codes)}
+                shown = rows_of(page(made(known, [(0, 300)], samples={code: [k] for k, code in enumerate(sorted(codes))})))
+                self.assertEqual({row[1]: row[5] for row in shown.rows}, {code: str(total) for code, total in known.items()})
+                value = "0123456789abcdefghijklmnopqrstuv"
+                self.assertEqual([row[4] for row in shown.rows],
+                                 [str(sum(bin(value.index(digit)).count("1") for digit in row[1][4:6]) + 1) for row in shown.rows])
+                # A picture of each object, and one of its sample soup.
+                self.assertEqual(len(shown.paths), 2 * count)
+
+    def test_no_soup_is_lost(self) -> None:
+        for count in (99, 100, 101, 201):
+            with self.subTest(count=count):
+                soups = list(Census(CENSUS).soups("a", list(range(count))))
+                self.assertEqual(len(soups), count)
+                self.assertEqual(soups[-1], census("soup", "--seed=a", str(count - 1)).decode())
+
+
+class Pages(unittest.TestCase):
+    def test_the_table(self) -> None:
+        haul = made({"xs4_33": 1200, "xp15_4r4z4r4": 40, "xq4_153": 3, "ov_p123": 1, "ov_s4000": 1}, [(5, 7)])
+        rows = rows_of(page(haul)).rows
+        self.assertEqual([row[1:7] for row in rows], [
+            ["xs4_33", "block", "still life", "4", "1,200", "1 in 1"],
+            ["xp15_4r4z4r4", "pentadecathlon", "oscillator of period 15", "12", "40", "1 in 31"],
+            ["xq4_153", "glider", "spaceship of period 4", "5", "3", "1 in 415"],
+            ["ov_p123", "", "oscillator of period 123", "", "1", "1 in 1,245"],
+            ["ov_s4000", "", "still life", "4000", "1", "1 in 1,245"]])
+
+    def test_pictures(self) -> None:
+        """Objects of more than ten rows, too, and soups, cell for cell."""
+        codes = ["xs28_g88m952g8gz1218kid221", "xp3_co9nas0san9oczgoldlo0oldlogz1047210127401", "xs4_1zzzz1zz1"]
+        for code in codes:
+            shown = rows_of(page(made({code: 1}, [(9, 1)])))
+            self.assertEqual(drawn(shown.paths[0]), cells_of(census("show", "--", code).decode()))
+            self.assertEqual(drawn(shown.paths[1]), cells_of(census("soup", "--seed=a", "9").decode()))
+
+    def test_numbers_of_ranges(self) -> None:
+        self.assertIn("numbers 5 to 11, 20, 2048 to 4095)", page(made({"xs4_33": 1}, [(5, 7), (20, 1), (2048, 2048)])))
+
+    def test_options_of_a_sample(self) -> None:
+        """Those that aren't standard, and no other."""
+        for profile, words in ((STANDARD, ""), ((64, 512, 100, 30300), " --stride=100"), ((64, 512, 102, 30300), " --stride=102"),
+                               ((63, 512, 101, 30300), " --period=63"), ((64, 511, 101, 30300), " --horizon=511"), ((64, 512, 101, 30299), " --limit=30299"),
+                               ((1, 2, 3, 4), " --period=1 --horizon=2 --stride=3 --limit=4")):
+            with self.subTest(profile=profile):
+                self.assertIn(f"<code>census soup --seed=a 5 | census name{words}</code>", page(made({"xs4_33": 1}, [(5, 1)], profile)))
+
+
+class Checks(unittest.TestCase):
+    TEXT = census("take", "--count", "40").decode()
+
+    def test_each_line_of_the_header(self) -> None:
+        for line, is_so, should_be in ((8, "@NUM_UNSETTLED 1", "@NUM_UNSETTLED 0"), (9, "@NUM_FOR_GOOD 13", "@NUM_FOR_GOOD 14")):
+            changed = self.TEXT.replace(should_be, is_so)
+            self.assertEqual(run("check", text=changed.encode()), (7, f"line {line}: is {is_so}, should be {should_be}\n", ""))
+
+    def test_each_sample(self) -> None:
+        """Of the forty soups just one leaves a beacon. It stands first, in the middle or last."""
+        haul = read_one_haul(io.BytesIO(self.TEXT.encode()))
+        code = "xp2_318c"
+        self.assertEqual(haul.samples[code], [37])
+        haul.totals[code] = 3
+        line = haul.first_sample_line() + list(haul.samples).index(code)
+        for numbers in ([2, 3, 37], [2, 37, 38], [37, 38, 39]):
+            haul.samples[code] = numbers
+            wanted = "".join(f"line {line}: soup {number} leaves no {code}\n" for number in numbers if number != 37)
+            self.assertEqual(run("check", "--samples", text=text_of(haul).encode()), (7, wanted, ""))
+
+    def asked(self, haul: Haul, *words: str) -> list[str]:
+        """The calls that a program gets which answers none."""
+        with tempfile.TemporaryDirectory() as folder:
+            Path(folder, "other").write_text(NOTES)
+            Path(folder, "other").chmod(0o755)
+            ended = subprocess.run([sys.executable, HAUL, "check", "--census", "./other", *words], cwd=folder, input=text_of(haul).encode(),
+                                   capture_output=True, check=False)
+            self.assertEqual((ended.returncode, ended.stdout), (4, b""))
+            return Path(folder, "asked").read_text().splitlines()
+
+    def test_workers(self) -> None:
+        for words, workers in (((), 1), (("--workers", "3"), 3), (("--workers=16",), 16)):
+            self.assertEqual(self.asked(made({"xs4_33": 1}, [(5, 7)]), *words), [
+                f"take --seed=a --rule=b3s23 --period=64 --horizon=512 --stride=101 --limit=30300 --first=5 --count=7 --workers={workers}"])
+
+    def test_no_call_is_too_large(self) -> None:
+        """`census take` takes 2^24 numbers at most."""
+        self.assertIn("--first=5 --count=16777216 ", self.asked(made({"xs4_33": 1}, [(5, 2**25)]))[0])
+        self.assertEqual(list(pieces([(5, 2**24 + 1)])), [[(5, 2**24)], [(5 + 2**24, 1)]])
+
+
+class Joins(unittest.TestCase):
+    def test_each_number(self) -> None:
+        one = Haul(Job("a", "b3s23", STANDARD), [(0, 10)], 10, 2, 3, {"xs4_33": 5, "xs5_253": 7}, {"xs4_33": [1, 4, 9], "xs5_253": [2]})
+        other = Haul(Job("a", "b3s23", STANDARD), [(20, 10)], 10, 4, 5, {"xp2_7": 1, "xs5_253": 8}, {"xp2_7": [20], "xs5_253": [21, 22, 29]})
+        both = Haul(Job("a", "b3s23", STANDARD), [(0, 10), (20, 10)], 20, 6, 8, {"xp2_7": 1, "xs4_33": 5, "xs5_253": 15},
+                    {"xp2_7": [20], "xs4_33": [1, 4, 9], "xs5_253": [2, 21, 22]})
+        for parts in ((one, other), (other, one)):
+            self.assertEqual(run("join", text="".join(map(text_of, parts)).encode()), (0, text_of(both), ""))
+
+    def test_the_first_of_several_bad_files(self) -> None:
+        with tempfile.TemporaryDirectory() as folder:
+            good, bad, worse = (os.path.join(folder, name) for name in ("good", "bad", "worse"))
+            Path(good).write_text(text_of(made({"xs4_33": 1}, [(5, 7)])))
+            Path(bad).write_text("@VERSION 2\n@ROOT sed=\n")
+            Path(worse).write_text("@VERSION 1\n")
+            self.assertEqual(run("join", good, bad, worse), (3, "", f"haul: {bad}: bad haul at line 2 column 7\n"))
+            self.assertEqual(run("join", worse, good, bad), (3, "", f"haul: {worse}: bad haul at line 1 column 10\n"))
+
+
+class Compares(unittest.TestCase):
+    def test_exchanged(self) -> None:
+        """Over drawn hauls, B beside A is A beside B with its columns exchanged, ratios apart."""
+        draw = random.Random("pairs")
+        rows = 0
+        for _ in range(200):
+            one, other = any_haul(draw), any_haul(draw)
+            # Some codes are in both.
+            other.totals |= {code: total + 1 for code, total in one.totals.items() if draw.random() < 0.5}
+            there, back = (list(compared(*pair, 1)) for pair in ((one, other), (other, one)))
+            self.assertEqual([line[1:] for line in there[:4]], [line[1:] for line in (*back[2:4], *back[:2])])
+            turned = [[code, name, b, a, rate_b, rate_a] for code, name, a, b, rate_a, rate_b, _ in map(str.split, back[5:-1])]
+            self.assertEqual([line.split()[:6] for line in there[5:-1]], turned)
+            in_a, in_b = back[-1].split("; ")
+            self.assertEqual(there[-1], f"in A{in_b[4:]}; in B{in_a[4:]}")
+            rows += len(turned)
+        self.assertGreater(rows, 1000)
+
+    def test_more_soups_than_a_thousand(self) -> None:
+        with tempfile.TemporaryDirectory() as folder:
+            names = [os.path.join(folder, name) for name in "ab"]
+            Path(names[0]).write_text(text_of(made({"xs4_33": 2, "xp2_7": 50}, [(0, 4000)])))
+            Path(names[1]).write_text(text_of(made({"xs4_33": 3, "xp2_7": 5}, [(0, 1001)])))
+            rows = [line.split() for line in run("compare", *names)[1].splitlines()[5:-1]]
+        # 50 in 4,000 are 12,500 in a million, and 5 in 1,001 are 4,995.004995; 2 are 500, and 3 are 2,997.002997.
+        self.assertEqual(rows, [["xp2_7", "blinker", "50", "5", "12500.00", "4995.00", "0.40"], ["xs4_33", "block", "2", "3", "500.00", "2997.00", "5.99"]])
+
+
+if __name__ == "__main__":
+    unittest.main()
