@@ -5,7 +5,10 @@
 # A recipe sets `here` to the folder that it stands in, loads this file, and then calls `read_folder`, `read_words` and
 # `keep_job`, and for Slurm `read_array` between them.
 
-census=${CENSUS:-$here/../bin/census}
+# The programs of this repository, or of the installation that the recipes belong to.
+programs=$here/../bin
+[[ -d $programs ]] || programs=$here/../../../bin
+census=${CENSUS:-$programs/census}
 # A recipe's further words are tried by this call, which runs no soup. The recipes that take hauls set another one.
 tried=(work --count 0 --worker 1)
 

@@ -5,7 +5,7 @@ use Rattle.pattern_commands.specs.Tasks.{Task, text_task}
 
 -- the program's name and version, as a line
 abbrev pub version_answer : Answer
-version_answer = Ok (codes "census 0.1.0\n")
+version_answer = Ok (codes "census 0.2.0\n")
 
 -- to write the program's name and version
 abbrev pub version_task : Task

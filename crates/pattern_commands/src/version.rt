@@ -36,6 +36,6 @@ fn put_version<W: Write>(output: &mut Out<W>) -> Result<(), Complaint>
     ensures reached { ReachesText false true (only version_answer) result (stream W.contents output.old output.new) }
     ensures failed { IfErr result (λ complaint. complaint ≡ Complaint.WriteFailed) }
 {
-    output.put(b"census 0.1.0\n")?;
+    output.put(b"census 0.2.0\n")?;
     Ok(())
 }

@@ -1,0 +1,80 @@
+"""Makes the files of a release."""
+
+from __future__ import annotations
+
+import hashlib
+import os
+import sys
+import tempfile
+from pathlib import Path
+
+from release import Failed, tools
+from release.checkout import Checkout
+from release.programs import LEVELS, rt_version, said_version, verdicts
+from release.tree import Tree, archive_tree, name_of, package_tree
+
+PROVENANCE, SUMS = "PROVENANCE.txt", "SHA256SUMS"
+
+
+def sha256(data: bytes) -> str:
+    return hashlib.sha256(data).hexdigest()
+
+
+def files_of_release(checkout: Checkout, programs: Path) -> dict[str, bytes]:
+    """The files of the release of a checkout, with the programs in a folder. Where there is no dpkg-deb, it has no package."""
+    said = said_version(programs)
+    if said != checkout.version:
+        raise Failed(f"the program says that it is of version {said}, and haul/__init__.py says {checkout.version}")
+    made = {}
+    with tempfile.TemporaryDirectory() as room:
+        write_tree(archive_tree(checkout, programs), Path(room) / "archive", checkout.date)
+        made[f"{name_of(checkout)}.tar.gz"] = tools.archive(Path(room) / "archive", name_of(checkout), checkout.date)
+        if tools.has("dpkg-deb"):
+            write_tree(package_tree(checkout, programs), Path(room) / "package", checkout.date)
+            made[f"gokzerd_{checkout.version}_amd64.deb"] = tools.package(Path(room) / "package", checkout.date)
+    made[PROVENANCE] = provenance(checkout, programs, list(made)).encode()
+    made[SUMS] = "".join(f"{sha256(data)}  {name}\n" for name, data in sorted(made.items())).encode()
+    return made
+
+
+def write_tree(tree: Tree, folder: Path, date: int) -> None:
+    """Writes the files below a folder, whatever is masked from the modes of new files, and all with one date."""
+    for place, file in tree.items():
+        path = folder / place
+        path.parent.mkdir(parents=True, exist_ok=True)
+        path.write_bytes(file.data)
+        path.chmod(file.mode)
+    for above, _, names in os.walk(folder, topdown=False):
+        for name in names:
+            os.utime(os.path.join(above, name), (date, date))
+        os.chmod(above, 0o755)
+        os.utime(above, (date, date))
+
+
+def provenance(checkout: Checkout, programs: Path, archives: list[str]) -> str:
+    """From what a release was made, by what, and how anyone makes sure."""
+    lines = [f"Gokzerd {checkout.version}", "", f"commit {checkout.commit}"]
+    lines.append(f"files {checkout.sum_of_files()} (the SHA-256 of what `git ls-tree -r` prints of the commit)")
+    lines.append(f"toolchain {rt_version(programs)}")
+    lines += [f"program {sha256((programs / f'census-{level}').read_bytes())} census-{level}" for level in LEVELS]
+    lines += ["", "What the prover said of each crate, and of the program for the processors of each level:", "", *verdicts(programs)]
+    lines += ["", "Packed by:", "", *(tools.version_of(tool) for tool in tools.TOOLS)]
+    lines += ["", "In a clone of the repository, with this file beside the archives, these two commands make all of it anew and compare:", "",
+              f"git checkout {checkout.commit}", f"bin/release --verify {' '.join(f'FOLDER/{name}' for name in archives)}"]
+    return "".join(f"{line}\n" for line in lines)
+
+
+def write_release(made: dict[str, bytes], folder: Path) -> None:
+    """Puts the files into a folder, each under its name only when it is whole."""
+    try:
+        folder.mkdir(parents=True, exist_ok=True)
+        for name, data in made.items():
+            next_one = folder / f".{name}.next"
+            next_one.write_bytes(data)
+            os.replace(next_one, folder / name)
+    except OSError as error:
+        raise Failed(f"{error.filename}: {error.strerror}") from None
+    for name in made:
+        print(folder / name)
+    if not tools.has("dpkg-deb"):
+        print("release: there is no dpkg-deb, so no package was made", file=sys.stderr)

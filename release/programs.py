@@ -1,0 +1,42 @@
+"""The programs of a release, which bin/programs has proved and built."""
+
+from __future__ import annotations
+
+import signal
+import subprocess
+from pathlib import Path
+
+from release import Failed
+
+# The one for each processor from the level v2 on is first: it runs wherever a release does.
+LEVELS = ("v2", "v3")
+
+
+def call(top: Path, words: list[str]) -> None:
+    """Calls bin/programs, which says itself what is wrong."""
+    # Ctrl-C is for that program too, which then ends the prover. Till then this one waits for it.
+    before = signal.signal(signal.SIGINT, lambda _number, _frame: None)
+    try:
+        status = subprocess.run([str(top / "bin" / "programs"), *words], stdin=subprocess.DEVNULL, check=False).returncode
+    finally:
+        signal.signal(signal.SIGINT, before)
+    if status != 0:
+        raise Failed(status=status if status > 0 else 128 - status)
+
+
+def said_version(programs: Path) -> str:
+    """The version that a program says."""
+    try:
+        said = subprocess.run([str(programs / "census-v2"), "--version"], stdin=subprocess.DEVNULL, capture_output=True, check=False).stdout
+    except OSError as error:
+        raise Failed(f"{error.filename}: {error.strerror}") from None
+    return said.decode("utf-8", "replace").removeprefix("census ").removesuffix("\n")
+
+
+def rt_version(programs: Path) -> str:
+    """The version of the toolchain that the programs were proved by."""
+    return (programs / "from").read_text().partition("\n")[0]
+
+
+def verdicts(programs: Path) -> list[str]:
+    return (programs / "verdicts").read_text().splitlines()

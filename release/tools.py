@@ -1,0 +1,60 @@
+"""The programs that pack a release, called so that they make the same bytes of the same files."""
+
+from __future__ import annotations
+
+import os
+import shutil
+import subprocess
+import tempfile
+from pathlib import Path
+
+from release import Failed
+
+TOOLS = ("tar", "gzip", "dpkg-deb")
+
+
+def environment(date: int = 0) -> dict[str, str]:
+    """Nothing else of the caller's environment changes what these programs make."""
+    return {"PATH": os.environ.get("PATH", "/usr/bin:/bin"), "LC_ALL": "C", "TZ": "UTC", "SOURCE_DATE_EPOCH": str(date)}
+
+
+def has(tool: str) -> bool:
+    return shutil.which(tool) is not None
+
+
+def called(words: list[str], given: bytes | None = None, date: int = 0) -> bytes:
+    """What a program prints, which must end well."""
+    try:
+        ended = subprocess.run(words, input=given, stdout=subprocess.PIPE, stderr=subprocess.PIPE, env=environment(date), check=False)
+    except OSError:
+        raise Failed(f"there is no {words[0]}, by which a release is packed") from None
+    if ended.returncode != 0:
+        said = ended.stderr.decode("utf-8", "replace").strip().splitlines()
+        raise Failed(f"{words[0]} failed: {said[-1] if said else ended.returncode}")
+    return ended.stdout
+
+
+def version_of(tool: str) -> str:
+    """The line in which a program says its version."""
+    if not has(tool):
+        return f"no {tool}"
+    return called([tool, "--version"]).decode("utf-8", "replace").splitlines()[0].rstrip(".")
+
+
+def packed(data: bytes) -> bytes:
+    """The data by gzip, without a name or a date."""
+    return called(["gzip", "-9n"], data)
+
+
+def archive(folder: Path, name: str, date: int) -> bytes:
+    """The archive of what has this name in a folder."""
+    words = ["tar", "--create", "--format=ustar", "--sort=name", "--owner=0", "--group=0", "--numeric-owner", f"--mtime=@{date}"]
+    return packed(called([*words, f"--directory={folder}", name], date=date))
+
+
+def package(folder: Path, date: int) -> bytes:
+    """The Debian package of a folder that has its description."""
+    with tempfile.TemporaryDirectory() as room:
+        made = Path(room) / "made.deb"
+        called(["dpkg-deb", "--root-owner-group", "-Zgzip", "-z9", "--uniform-compression", "--build", str(folder), str(made)], date=date)
+        return made.read_bytes()

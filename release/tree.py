@@ -1,0 +1,116 @@
+"""What is in the archive and in the package: for each file its place, its bytes and its mode."""
+
+from __future__ import annotations
+
+import hashlib
+from dataclasses import dataclass
+from email.utils import formatdate
+from pathlib import Path
+
+from release import Failed
+from release.checkout import Checkout
+from release.pages import moved_page
+from release.tools import packed
+
+PROGRAM, TEXT = 0o755, 0o644
+PAGES = ["README.md", "CHANGELOG.md", *(f"docs/{name}.md" for name in ("COMMANDS", "FORMATS", "PROFILE", "BOOK", "SCALE"))]
+DOC = "share/doc/gokzerd"
+LIBEXEC = "libexec/gokzerd"
+
+
+@dataclass(frozen=True)
+class File:
+    data: bytes
+    mode: int
+
+
+# Each file by its place.
+Tree = dict[str, File]
+
+
+def places_of(checkout: Checkout, zsh: str) -> dict[str, str]:
+    """Where the files of the repository are below the folder that they are installed in. The completions for zsh have a folder of
+    their own on each system."""
+    places = {"bin/haul": "bin/haul", "release/census": "bin/census", "release/processor.sh": f"{LIBEXEC}/processor.sh"}
+    places |= {page: f"{DOC}/{page.rpartition('/')[2]}" for page in [*PAGES, "docs/page.png", "examples/100000.html"]}
+    for name in ("census", "haul"):
+        places[f"docs/man/{name}.1"] = f"share/man/man1/{name}.1"
+        places[f"completions/{name}.bash"] = f"share/bash-completion/completions/{name}"
+        places[f"completions/_{name}"] = f"share/zsh/{zsh}/_{name}"
+        places[f"completions/{name}.fish"] = f"share/fish/vendor_completions.d/{name}.fish"
+    for file in checkout.files:
+        folder, _, name = file.rpartition("/")
+        if folder == "cluster" or folder == "haul" and name.endswith(".py"):
+            places[file] = f"share/census/{file}"
+    lacking = sorted(set(places) - checkout.files)
+    if lacking:
+        raise Failed(*(f"the commit has no file {file}" for file in lacking))
+    return places
+
+
+def installed(checkout: Checkout, programs: Path, zsh: str) -> Tree:
+    """What is below the folder that a release is installed in."""
+    places = places_of(checkout, zsh)
+    # Some pages link to folders, and to the page on the examples, of which one is in a release.
+    linked = {**places, "cluster": "share/census/cluster", "haul": "share/census/haul", "docs/man": "share/man/man1",
+              "examples/README.md": f"{DOC}/100000.html"}
+    tree: Tree = {}
+    for path, place in places.items():
+        file = checkout.top / path
+        data = file.read_bytes()
+        if path.endswith(".md"):
+            data = moved_page(data.decode(), path, linked).encode()
+        tree[place] = File(data, PROGRAM if file.stat().st_mode & 0o100 else TEXT)
+    for name in ("census-v2", "census-v3"):
+        tree[f"{LIBEXEC}/{name}"] = File((programs / name).read_bytes(), PROGRAM)
+    return tree
+
+
+def archive_tree(checkout: Checkout, programs: Path) -> Tree:
+    """What the archive has, below one folder with the release's name."""
+    tree = installed(checkout, programs, "site-functions")
+    tree["install"] = File((checkout.top / "bin" / "install").read_bytes(), PROGRAM)
+    tree["uninstall"] = File((checkout.top / "release" / "uninstall").read_bytes(), PROGRAM)
+    return {f"{name_of(checkout)}/{place}": file for place, file in tree.items()}
+
+
+def name_of(checkout: Checkout) -> str:
+    return f"gokzerd-{checkout.version}-x86_64-linux"
+
+
+def package_tree(checkout: Checkout, programs: Path) -> Tree:
+    """What the package has: the same below /usr, in the form that Debian wants, and the package's own description."""
+    own = checkout.top / "release"
+    tree = {}
+    for place, file in installed(checkout, programs, "vendor-completions").items():
+        if place.startswith("share/man/"):
+            place, file = f"{place}.gz", File(packed(file.data), file.mode)
+        tree[f"usr/{place}"] = file
+    tree[f"usr/{DOC}/copyright"] = File((own / "copyright").read_bytes(), TEXT)
+    tree[f"usr/{DOC}/changelog.gz"] = File(packed(debian_changelog(checkout)), TEXT)
+    tree["usr/share/lintian/overrides/gokzerd"] = File((own / "lintian-overrides").read_bytes(), TEXT)
+    return tree | package_description(checkout, tree)
+
+
+def package_description(checkout: Checkout, tree: Tree) -> Tree:
+    folders = {folder for place in tree for folder in Path(place).parents}
+    kilobytes = sum(-(-len(file.data) // 1024) for file in tree.values()) + len(folders)
+    control = (checkout.top / "release" / "control").read_text()
+    control = control.replace("Version: VERSION", f"Version: {checkout.version}").replace("Installed-Size: SIZE", f"Installed-Size: {kilobytes}")
+    sums = "".join(f"{hashlib.md5(tree[place].data).hexdigest()}  {place}\n" for place in sorted(tree))
+    return {"DEBIAN/control": File(control.encode(), TEXT), "DEBIAN/md5sums": File(sums.encode(), TEXT)}
+
+
+def maintainer(checkout: Checkout) -> str:
+    for line in (checkout.top / "release" / "control").read_text().splitlines():
+        if line.startswith("Maintainer: "):
+            return line.removeprefix("Maintainer: ")
+    raise Failed("release/control names no maintainer")
+
+
+def debian_changelog(checkout: Checkout) -> bytes:
+    """What Debian's tools read; what has changed is on the page beside it."""
+    return (
+        f"gokzerd ({checkout.version}) unstable; urgency=medium\n\n  * What has changed is in CHANGELOG.md, beside this file.\n\n"
+        f" -- {maintainer(checkout)}  {formatdate(checkout.date)}\n"
+    ).encode()
