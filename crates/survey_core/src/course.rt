@@ -155,8 +155,9 @@ fn later(
     match place {
         Kept::Listed(pattern) => from_list(alloc, rule, pattern, generations, memo),
         Kept::Shown(harbour, ahead) => {
-            let harbour = harbour.send_off(alloc, rule, profile.period(), memo)?;
-            on_board(alloc, rule, harbour, ahead + generations, memo)
+            let total = ahead + generations;
+            let harbour = harbour.send_off(alloc, rule, profile.period(), total, memo)?;
+            on_board(alloc, rule, harbour, total, memo)
         }
     }
 }

@@ -32,6 +32,13 @@ use std::marker::Model;
 /// the plane.
 const LATEST_TIME: u32 = 800_000;
 
+/// Ships are looked for about once in so many generations: a look for them costs as much as a leap or two, and until
+/// it is found a ship costs a window in each leap.
+const EVERY: u32 = 64;
+
+/// Under a lower limit on periods no ship comes back, since the fastest takes four generations.
+const SHORTEST_PERIOD: u32 = 4;
+
 /// A board, and the ships that have left it.
 #[derive(Drop)]
 pub(crate) struct Harbour {
@@ -109,12 +116,14 @@ impl Harbour {
         self.ships.is_empty() && self.board.is_still()
     }
 
-    /// Takes ships off the board that are ahead of all the rest. Those whose period is over the limit, 1 to 64, stay.
+    /// Takes ships off the board that are ahead of all the rest, before it goes on by so many generations; mostly that is
+    /// put off, where they are few. Ships whose period is over the limit, 1 to 64, stay.
     pub(crate) fn send_off(
         self,
         alloc: Global,
         rule: &Rule,
         limit: u32,
+        generations: u32,
         memo: &mut Memo,
     ) -> Result<Harbour, AllocError>
         requires rule { self.rule ≡ rule.now }
@@ -124,6 +133,9 @@ impl Harbour {
         ensures rule { IfOk result (λ harbour. harbour.rule ≡ self.rule) }
         ensures cells { IfOk result (λ harbour. harbour.cells ≡ self.cells) }
     {
+        if !self.is_time_to_look(limit, generations) {
+            return Ok(self);
+        }
         let slow = is_slow(rule);
         if !slow {
             return Ok(self);
@@ -145,6 +157,12 @@ impl Harbour {
             }
         }
         Ok(Harbour { board, ships, time })
+    }
+
+    /// Whether ships are looked for before the board goes on by so many generations: if there may be any, and before
+    /// it comes past a multiple of `EVERY`.
+    fn is_time_to_look(&self, limit: u32, generations: u32) -> bool {
+        limit >= SHORTEST_PERIOD && self.time % EVERY + generations.min(EVERY) + 1 >= EVERY
     }
 
     /// Goes on by so many generations, an even number, if the board has room for all of them.

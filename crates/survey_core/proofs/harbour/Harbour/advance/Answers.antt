@@ -4,7 +4,7 @@ use Rattle.plane_core.specs.Generations.{after, lies_within}
 use Rattle.plane_core.proofs.RunLemmas.{in_order-after}
 use Rattle.survey_core.specs.Harbours.{whole_at}
 use Rattle.survey_core.specs.UnderWay.{UnderWay, survey_reach}
-use Rattle.survey_core.proofs.HarbourLemmas.{harbour_later, whole_gone_on}
+use Rattle.survey_core.proofs.HarbourLemmas.{harbour_later, traced_later, whole_gone_on}
 use Rattle.survey_core.proofs.harbour.Harbour.advance.Goals as goal
 
 pub invariant_of-result : goal.invariant_of-result
@@ -17,6 +17,11 @@ pub whole-requires-clause-order : goal.whole-requires-clause-order
 whole-requires-clause-order c =
     let h = c.self.inside in
     subst InOrder (sym c.in_ok-made.ensures.after) (in_order-after h.board.rule h.board.cells c.in_ok-made.made c.self.invariant.off.in_order)
+
+pub whole-requires-clause-traced : goal.whole-requires-clause-traced
+whole-requires-clause-traced c =
+    let h = c.self.inside in
+    traced_later h.board.rule h.time c.in_ok-made.made h.board.cells h.ships.items c.self.invariant
 
 pub whole-requires-clause-near : goal.whole-requires-clause-near
 whole-requires-clause-near c =
