@@ -14,6 +14,7 @@ pub mod CommuteLemmas
 pub mod CoverLemmas
 pub mod DifferenceLemmas
 pub mod DirectionLemmas
+pub mod ExcerptLemmas
 pub mod FillLemmas
 pub mod FloodLemmas
 pub mod FloodedLemmas

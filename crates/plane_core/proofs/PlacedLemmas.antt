@@ -1,49 +1,65 @@
 -- Windows read from a board and put back.
-use Rattle.std.proofs.Common.{◌≡◌, ◌≢◌, ◌==◌, ◌+◌, ◌-◌, ◌*◌, ◌/◌, ◌%◌, ◌<◌, ◌≤◌, ℕ, List, [], cond, get_or, slice_index}
+use Rattle.std.proofs.Common.{◌≡◌, ◌≢◌, ◌==◌, ◌+◌, ◌-◌, ◌*◌, ◌/◌, ◌%◌, ◌<◌, ◌≤◌, ℕ, List, [], cond, get_or, length, set, slice_index}
 use Rattle.std.proofs.Common.{arith, refl, ap, ◌∙◌, sym, inl, inr, ◌⊎◌}
 use Rattle.std.specs.Int.{bit_at}
 use Rattle.std.proofs.lemmas.Bool.{cases_eq, cases_lt}
-use Rattle.std.proofs.lemmas.Nat.{div-add-mod', div_below, mod_below}
+use Rattle.std.proofs.lemmas.List.{get_or-set_same, get_or-set_other}
 use Rattle.std.proofs.lemmas.Nat.Bits.{bit_at_mask_above, bit_at_mask_below, bit_at_mask_inside}
 use Rattle.plane_core.specs.declared.frame.Frame.{Frame}
 use Rattle.plane_core.specs.Frames.{word_of}
-use Rattle.plane_core.specs.Placed.{bit_on, inner_mask, IsReadAt, IsInnerColumn, IsInner, IsRowPut, IsPutBack}
+use Rattle.plane_core.specs.Placed.{bit_on, inner_mask, AreRowsRead, IsReadAt, IsInnerColumn, IsInner, IsRowPut, IsPutBack}
 use Rattle.plane_core.specs.Windows.{lane_at, row_at}
 use Rattle.plane_core.proofs.FrameLemmas.{one_word as same_spot}
 
 -- ---- reading
 
--- a word that is joined of two words of the board
-pub read_word : (at : Frame) (words : List ℕ) (x y n k j i word : ℕ) → i < 64
-    → (i + x % 64 < 64 → bit_at word i ≡ bit_at (slice_index words (x / 64 * at.rows + y + k + j * n)) (i + x % 64))
-    → (64 ≤ i + x % 64 → bit_at word i ≡ bit_at (slice_index words (x / 64 * at.rows + y + at.rows + k + j * n)) (i + x % 64 - 64))
-    → bit_at word i ≡ bit_on at words (x + i) (y + (j * n + k))
-read_word at words x y n k j i word low left right = split (cases_lt (i + x % 64) 64)
+-- a row that is joined of two words of the board
+pub read_word : (at : Frame) (words : List ℕ) (x y r i word : ℕ) → i < 64
+    → (i + x % 64 < 64 → bit_at word i ≡ bit_at (slice_index words (x / 64 * at.rows + y + r)) (i + x % 64))
+    → (64 ≤ i + x % 64 → bit_at word i ≡ bit_at (slice_index words (x / 64 * at.rows + y + at.rows + r)) (i + x % 64 - 64))
+    → bit_at word i ≡ bit_on at words (x + i) (y + r)
+read_word at words x y r i word low left right = split (cases_lt (i + x % 64) 64)
   where
-    split : (i + x % 64 < 64) ⊎ (64 ≤ i + x % 64) → bit_at word i ≡ bit_on at words (x + i) (y + (j * n + k))
+    split : (i + x % 64 < 64) ⊎ (64 ≤ i + x % 64) → bit_at word i ≡ bit_on at words (x + i) (y + r)
     split (inl first) =
         let lane : x / 64 ≡ (x + i) / 64 = omega arith in
         let rows : x / 64 * at.rows ≡ (x + i) / 64 * at.rows = ap (λ (m : ℕ). m * at.rows) lane in
-        let place : x / 64 * at.rows + y + k + j * n ≡ (x + i) / 64 * at.rows + (y + (j * n + k)) = omega arith in
+        let place : x / 64 * at.rows + y + r ≡ (x + i) / 64 * at.rows + (y + r) = omega arith in
         let bit : i + x % 64 ≡ (x + i) % 64 = omega arith in
         left first ∙ (λ t. bit_at (slice_index words (place t)) (bit t))
     split (inr second) =
         let lane : x / 64 + 1 ≡ (x + i) / 64 = omega arith in
         let rows : (x / 64 + 1) * at.rows ≡ (x + i) / 64 * at.rows = ap (λ (m : ℕ). m * at.rows) lane in
-        let place : x / 64 * at.rows + y + at.rows + k + j * n ≡ (x + i) / 64 * at.rows + (y + (j * n + k)) = omega arith in
+        let place : x / 64 * at.rows + y + at.rows + r ≡ (x + i) / 64 * at.rows + (y + r) = omega arith in
         let bit : i + x % 64 - 64 ≡ (x + i) % 64 = omega arith in
         right second ∙ (λ t. bit_at (slice_index words (place t)) (bit t))
 
--- the first vectors of a window have the bits of the board
-abbrev pub AreRead : Frame → List ℕ → ℕ → ℕ → ℕ → List (List ℕ) → ℕ → Type 0
-AreRead at words x y n window count = (k : ℕ) → k < count → (j : ℕ) → j < 4 → (i : ℕ) → i < 64
-    → bit_at (lane_at window k j) i ≡ bit_on at words (x + i) (y + (j * n + k))
+-- one row more was read
+pub rows_more : (at : Frame) (words : List ℕ) (x y r word : ℕ) (rows : List ℕ) → r < length rows → AreRowsRead at words x y r rows
+    → ((i : ℕ) → i < 64 → bit_at word i ≡ bit_on at words (x + i) (y + r)) → AreRowsRead at words x y (r + 1) (set rows r word)
+rows_more at words x y r word rows within read new q i low inside = split (cases_eq q r)
+  where
+    split : (q ≡ r) ⊎ (q ≡ r → ⊥) → bit_at (slice_index (set rows r word) q) i ≡ bit_on at words (x + i) (y + q)
+    split (inl e) =
+        ap (λ (p : ℕ). bit_at (slice_index (set rows r word) p) i) e
+        ∙ ap (λ (w : ℕ). bit_at w i) (get_or-set_same rows r word 0 within)
+        ∙ new i inside
+        ∙ ap (λ (p : ℕ). bit_on at words (x + i) (y + p)) (sym e)
+    split (inr apart) = ap (λ (w : ℕ). bit_at w i) (get_or-set_other rows r q word 0 apart) ∙ read q i (omega arith) inside
 
-pub all_read : (at : Frame) (words : List ℕ) (x y n : ℕ) (window : List (List ℕ)) → AreRead at words x y n window n → IsReadAt at words x y n window
-all_read at words x y n window read r i low inside =
-    let some : 0 < n = omega arith in
-    let whole : r / n * n + r % n ≡ r = div-add-mod' r n in
-    read (r % n) (mod_below r n some) (r / n) (div_below r n 4 some low) i inside ∙ ap (λ (m : ℕ). bit_on at words (x + i) (y + m)) whole
+-- the window of rows that were read
+pub read_packed : (at : Frame) (words : List ℕ) (x y n : ℕ) (rows : List ℕ) (window : List (List ℕ)) → AreRowsRead at words x y (4 * n) rows
+    → ((r : ℕ) → r < 4 * n → row_at n window r ≡ slice_index rows r) → IsReadAt at words x y n window
+read_packed at words x y n rows window read packed r i low inside = ap (λ (w : ℕ). bit_at w i) (packed r low) ∙ read r i low inside
+
+-- ---- packing
+
+-- the vectors before vector k have their rows
+abbrev pub ArePacked : List ℕ → List (List ℕ) → ℕ → Type 0
+ArePacked rows x k = (m j : ℕ) → m < k → j < 4 → lane_at x m j ≡ slice_index rows (10 * j + m)
+
+pub all_packed : (rows : List ℕ) (x : List (List ℕ)) (k : ℕ) → ArePacked rows x k → k ≡ 10 → (r : ℕ) → r < 40 → row_at 10 x r ≡ slice_index rows r
+all_packed rows x k packed is r low = packed (r % 10) (r / 10) (omega arith) (omega arith) ∙ ap (slice_index rows) (omega arith)
 
 -- ---- unpacking
 

@@ -1,15 +1,11 @@
 -- The bits of shifted words.
-use Rattle.std.proofs.Common.{◌≡◌, ◌+◌, ◌-◌, ◌*◌, ◌/◌, ◌%◌, ◌^◌, ◌<◌, ◌≤◌, ℕ, List, length, replicate, slice_index}
-use Rattle.std.proofs.Common.{Fits, w64, arith, refl, ap, ◌∙◌, sym, bit_or, inl, inr, ◌⊎◌}
+use Rattle.std.proofs.Common.{◌≡◌, ◌+◌, ◌-◌, ◌*◌, ◌/◌, ◌%◌, ◌^◌, ◌<◌, ◌≤◌, ℕ}
+use Rattle.std.proofs.Common.{Fits, w64, arith, ap, ◌∙◌, sym, bit_or, inl, inr, ◌⊎◌}
 use Rattle.std.specs.Int.{bit_at}
 use Rattle.std.proofs.Math.Nat.{div-div-eq-div-mul}
 use Rattle.std.proofs.lemmas.Bool.{cases_lt}
 use Rattle.std.proofs.lemmas.Nat.{pow-add, pow_pos}
 use Rattle.std.proofs.lemmas.Nat.Bits.{bit_at_or, bit_at-zero, bit_at_above, bit_at_cat_low, bit_at_cat_high}
-use Rattle.std.proofs.lemmas.Simd.{get_or-replicate, Each1-get_or}
-use Rattle.plane_core.specs.Lanes.{bit_of}
-use Rattle.plane_core.proofs.LaneLemmas.{lane_of, four_lanes}
-use lib.Lanes.{zip2, Each1}
 
 -- ---- one word
 
@@ -68,56 +64,14 @@ no_second a b i none = omega (arith, bit_at_or a b i, none)
 no_first : (a b i : ℕ) → bit_at a i ≡ 0 → bit_at (bit_or a b) i ≡ bit_at b i
 no_first a b i none = omega (arith, bit_at_or a b i, none)
 
--- the words from column s of two vectors' words on
-abbrev pub joined_lanes : List ℕ → List ℕ → ℕ → List ℕ
-joined_lanes first second s = zip2 bit_or (zip2 (λ (a b : ℕ). a / 2 ^ b) first (replicate 4 s))
-    (zip2 (λ (a b : ℕ). a * 2 ^ b % 2 ^ 64) (zip2 (λ (a b : ℕ). a * 2 ^ b % 2 ^ 64) second (replicate 4 1)) (replicate 4 (63 - s)))
+-- the word from column s of two words on
+pub joined_left : (first second s i : ℕ) → s < 64 → i + s < 64
+    → bit_at (bit_or (first / 2 ^ s) (second * 2 % 2 ^ 64 * 2 ^ (63 - s) % 2 ^ 64)) i ≡ bit_at first (i + s)
+joined_left first second s i small inside =
+    no_second (first / 2 ^ s) (second * 2 % 2 ^ 64 * 2 ^ (63 - s) % 2 ^ 64) i (bit_end_low second s i small inside) ∙ bit_right first s i
 
-joined_lane : (first second : List ℕ) (s j : ℕ) → length first ≡ 4 → length second ≡ 4 → j < 4
-    → slice_index (joined_lanes first second s) j
-    ≡ bit_or (slice_index first j / 2 ^ s) (slice_index second j * 2 % 2 ^ 64 * 2 ^ (63 - s) % 2 ^ 64)
-joined_lane first second s j lf ls low =
-    lane_of bit_or (zip2 shr first (replicate 4 s)) (zip2 shl doubled (replicate 4 (63 - s))) j (four_lanes shr first (replicate 4 s) lf refl)
-    (four_lanes shl doubled (replicate 4 (63 - s)) four refl) low
-    ∙ (λ t. bit_or (right t) (left t))
-  where
-    shr : ℕ → ℕ → ℕ
-    shr a b = a / 2 ^ b
-
-    shl : ℕ → ℕ → ℕ
-    shl a b = a * 2 ^ b % 2 ^ 64
-
-    doubled : List ℕ
-    doubled = zip2 shl second (replicate 4 1)
-
-    four : length doubled ≡ 4
-    four = four_lanes shl second (replicate 4 1) ls refl
-
-    right : slice_index (zip2 shr first (replicate 4 s)) j ≡ slice_index first j / 2 ^ s
-    right = lane_of shr first (replicate 4 s) j lf refl low ∙ ap (λ (b : ℕ). slice_index first j / 2 ^ b) (get_or-replicate 4 j s 0 low)
-
-    twice : slice_index doubled j ≡ slice_index second j * 2 % 2 ^ 64
-    twice = lane_of shl second (replicate 4 1) j ls refl low ∙ ap (λ (b : ℕ). slice_index second j * 2 ^ b % 2 ^ 64) (get_or-replicate 4 j 1 0 low)
-
-    left : slice_index (zip2 shl doubled (replicate 4 (63 - s))) j ≡ slice_index second j * 2 % 2 ^ 64 * 2 ^ (63 - s) % 2 ^ 64
-    left =
-        lane_of shl doubled (replicate 4 (63 - s)) j four refl low
-        ∙ (λ t. twice t * 2 ^ get_or-replicate 4 j (63 - s) 0 low t % 2 ^ 64)
-
-pub joined_left : (first second : List ℕ) (s j i : ℕ) → length first ≡ 4 → length second ≡ 4 → j < 4 → i + s < 64
-    → bit_of (joined_lanes first second s) j i ≡ bit_of first j (i + s)
-joined_left first second s j i lf ls low inside =
-    ap (λ (w : ℕ). bit_at w i) (joined_lane first second s j lf ls low)
-    ∙ no_second (slice_index first j / 2 ^ s) (slice_index second j * 2 % 2 ^ 64 * 2 ^ (63 - s) % 2 ^ 64) i
-    (bit_end_low (slice_index second j) s i (omega arith) inside)
-    ∙ bit_right (slice_index first j) s i
-
-pub joined_right : (first second : List ℕ) (s j i : ℕ) → length first ≡ 4 → Each1 (Fits w64) first → length second ≡ 4 → s < 64 → j < 4 → i < 64 → 64 ≤ i + s
-    → bit_of (joined_lanes first second s) j i ≡ bit_of second j (i + s - 64)
-joined_right first second s j i lf fits ls small low inside past =
-    let fit : Fits w64 (slice_index first j) = Each1-get_or (Fits w64) first j 0 (omega arith) fits in
-    let none : bit_at (slice_index first j / 2 ^ s) i ≡ 0 = bit_right (slice_index first j) s i
-    ∙ bit_at_above (slice_index first j) 64 (i + s) fit.fits past in
-    ap (λ (w : ℕ). bit_at w i) (joined_lane first second s j lf ls low)
-    ∙ no_first (slice_index first j / 2 ^ s) (slice_index second j * 2 % 2 ^ 64 * 2 ^ (63 - s) % 2 ^ 64) i none
-    ∙ bit_end_high (slice_index second j) s i small inside past
+pub joined_right : (first second s i : ℕ) → Fits w64 first → s < 64 → i < 64 → 64 ≤ i + s
+    → bit_at (bit_or (first / 2 ^ s) (second * 2 % 2 ^ 64 * 2 ^ (63 - s) % 2 ^ 64)) i ≡ bit_at second (i + s - 64)
+joined_right first second s i fit small inside past =
+    let none : bit_at (first / 2 ^ s) i ≡ 0 = bit_right first s i ∙ bit_at_above first 64 (i + s) fit.fits past in
+    no_first (first / 2 ^ s) (second * 2 % 2 ^ 64 * 2 ^ (63 - s) % 2 ^ 64) i none ∙ bit_end_high second s i small inside past

@@ -20,6 +20,10 @@ abbrev pub IsReadAt : Frame → List ℕ → ℕ → ℕ → ℕ → List (List 
 IsReadAt at words x y n window =
     (r i : ℕ) → r < 4 * n → i < 64 → bit_at (row_at n window r) i ≡ bit_on at words (x + i) (y + r)
 
+-- the first n rows of a window that begins in column x and row y have the board's bits
+abbrev pub AreRowsRead : Frame → List ℕ → ℕ → ℕ → ℕ → List ℕ → Type 0
+AreRowsRead at words x y n rows = (r i : ℕ) → r < n → i < 64 → bit_at (slice_index rows r) i ≡ bit_on at words (x + i) (y + r)
+
 -- the mask of a window's inner columns, 4 to 59
 abbrev pub inner_mask : ℕ
 inner_mask = 0x0fff_ffff_ffff_fff0

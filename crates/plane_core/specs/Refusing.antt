@@ -39,6 +39,16 @@ HoldsCluster n whole alone depth =
     (cells : List Cell) (left top : ℤ) → InOrder cells → IsShownInside n left top depth whole cells
     → (cluster : List Cell) × IsAlone n left top alone cells cluster
 
+-- the other window has the 40 rows of the window from this one on
+abbrev pub IsExcerpt : ℕ → List (List ℕ) → List (List ℕ) → Type 0
+IsExcerpt from window part = (r : ℕ) → r < 40 → row_at 10 part r ≡ row_at 16 window (from + r)
+
+-- all live cells of the window lie in these rows
+pub record LiesInExcerpt (from : ℕ) (window : List (List ℕ)) : Type 0 where
+  pub low : from ≤ 24
+  pub above : (r : ℕ) → r < from → row_at 16 window r ≡ 0
+  pub below : (r : ℕ) → from + 40 ≤ r → r < 64 → row_at 16 window r ≡ 0
+
 -- At least so deep inside the windows there is a cell alone that the whole hasn't: in column i of row r.
 pub record HasStray (n : ℕ) (whole alone : List (List ℕ)) (depth : ℕ) : Type 0 where
   pub r : ℕ

@@ -143,10 +143,16 @@ fn saves_windows(one: Bounds, other: Bounds) -> bool {
 /// apart, and this is told in no time.
 #[inline(always)]
 fn may_share_windows(one: Bounds, other: Bounds) -> bool {
-    other.left.saturating_sub(one.right) <= 56
-        && one.left.saturating_sub(other.right) <= 56
-        && other.top.saturating_sub(one.bottom) <= 32
-        && one.top.saturating_sub(other.bottom) <= 32
+    gap(one.right, other.left) <= 56
+        && gap(other.right, one.left) <= 56
+        && gap(one.bottom, other.top) <= 32
+        && gap(other.bottom, one.top) <= 32
+}
+
+/// How far the second number is past the first one.
+#[inline(always)]
+fn gap(one: i32, other: i32) -> i64 {
+    i64::from(other) - i64::from(one)
 }
 
 /// How many windows it takes to cover the rectangle.

@@ -62,7 +62,7 @@ impl Frame {
         Some(at)
     }
 
-    /// A frame round the pattern for one generation, if there are at most eight words a cell.
+    /// A frame round the pattern for one generation, if there are at most 32 words a cell.
     pub(crate) fn for_a_step(pattern: &Pattern) -> Option<Frame>
         ensures frame { IfSome result IsFrame }
         ensures plane { IfSome result (λ at. AreSidesWithin plane_bound (bounds_of at)) }
@@ -70,7 +70,7 @@ impl Frame {
         ensures inside { OnSome result (lies_within (plane_bound - 1) pattern.now ≡ true) }
     {
         let at = Frame::round(pattern, 1)?;
-        if at.count() / 8 > pattern.population() {
+        if at.count() / 32 > pattern.population() {
             return None;
         }
         Some(at)

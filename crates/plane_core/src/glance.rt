@@ -17,6 +17,7 @@ ghost use Rattle.plane_core.specs.Cells.{InOrder, has};
 ghost use Rattle.plane_core.specs.Generations.{NeverBack, after, touches_edge};
 ghost use Rattle.plane_core.specs.Glances.{IsInland, IsNear, IsSpot, ShowsRows};
 ghost use Rattle.plane_core.specs.LonePatterns.{HasChanged, Holds, IsInWindow};
+ghost use Rattle.plane_core.specs.Refusing.{HasRestlessCluster, RefusesAll};
 ghost use Rattle.plane_core.specs.declared.cell.Cell.{Cell};
 
 use crate::answers::{AnyRule, Life, is_life};
@@ -26,6 +27,7 @@ use crate::coordinate::{apart, back};
 use crate::never_back::never_back;
 use crate::pattern::Pattern;
 use crate::place::Place;
+use crate::refusing::refuses;
 use crate::rows::packed;
 use crate::rule::Rule;
 use std::simd::prelude::*;
@@ -51,6 +53,18 @@ impl Pattern {
         let window = window_of(place, self.cells());
         changes_in(&window, rule, generations)
     }
+
+    /// Whether it is seen at a glance that the pattern is not at rest: one of its clusters strays from it within the
+    /// horizon, or is never itself again within the period. `false` says nothing.
+    pub fn refuses(&self, rule: &Rule, horizon: u32, period: u32) -> bool
+        ensures { IsTrue result → HasRestlessCluster rule.now self.now horizon period }
+    {
+        let Some(place) = place_round(self) else {
+            return false;
+        };
+        let window = window_of(place, self.cells());
+        refuses_in(&window, rule, horizon, period)
+    }
 }
 
 /// Whether what the window shows is seen to change for so many generations. Life has a loop of its own.
@@ -62,6 +76,17 @@ fn changes_in(window: &[u64x4; 16], rule: &Rule, generations: u32) -> bool
         never_back(window, &Life, generations)
     } else {
         never_back(window, &AnyRule::new(rule), generations)
+    }
+}
+
+/// Whether it is seen that no pattern which the window shows is at rest. Life has a loop of its own.
+fn refuses_in(window: &[u64x4; 16], rule: &Rule, horizon: u32, period: u32) -> bool
+    ensures { IsTrue result → RefusesAll rule.now 16 window.now 0 horizon period }
+{
+    if is_life(rule) {
+        refuses(window, &Life, 0, horizon, period)
+    } else {
+        refuses(window, &AnyRule::new(rule), 0, horizon, period)
     }
 }
 

@@ -59,14 +59,7 @@ fn run_at<A: Answering>(words: &[u64], at: Frame, place: Place, rule: &A, count:
     requires few { count ≤ 4 }
     ensures { IsRunAt at words.now (A.rule rule.now) count place result.rows result.change }
 {
-    let mut window = [u64x4::splat(0); 10];
-    read(
-        words,
-        at,
-        column_of(at, place),
-        row_of(at, place),
-        &mut window,
-    );
+    let mut window = read(words, at, column_of(at, place), row_of(at, place));
     let change = run(&mut window, rule, count);
     Ran {
         rows: unpacked(&window),

@@ -21,6 +21,7 @@ pub mod coordinate;
 mod cover;
 mod difference;
 mod direction;
+mod excerpt;
 mod flood;
 mod forest;
 mod frame;

@@ -64,8 +64,9 @@ pub(crate) fn never_back<const N: usize, A: Answering>(
         if is_kept(&now, columns, &kept, kept_columns) {
             return true;
         }
-        // One that is kept at each power of two ends a cycle of any length.
-        if (made + 1) & made == 0 {
+        // Most clusters that settle come to alternate, so every fourth generation is kept, and compared with the next
+        // ones.
+        if made % 4 == 1 {
             kept = now;
             kept_columns = columns;
         }
@@ -278,7 +279,7 @@ fn corner_of<const N: usize>(window: &[u64x4; N], columns: u64) -> Option<Corner
 }
 
 /// The first row with a live cell.
-fn first_row<const N: usize>(window: &[u64x4; N]) -> Option<usize>
+pub(crate) fn first_row<const N: usize>(window: &[u64x4; N]) -> Option<usize>
     requires some { 0 < N }
     requires few { N ≤ 16 }
     ensures { IfSome result (IsFirstRow N window.now) }

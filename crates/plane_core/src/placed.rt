@@ -11,8 +11,7 @@ ghost use Rattle.std.specs.Prelude.{◌≡◌, ◌≢◌, ◌==◌, ◌+◌, ◌
 ghost use Rattle.std.specs.Prelude.{if◌then◌else◌, slice_index};
 ghost use Rattle.std.specs.Int.{bit_at};
 ghost use Rattle.plane_core.specs.Frames.{FillsFrame, IsFrame};
-ghost use Rattle.plane_core.specs.Lanes.{bit_of};
-ghost use Rattle.plane_core.specs.Placed.{IsPutBack, IsReadAt, IsRowPut};
+ghost use Rattle.plane_core.specs.Placed.{AreRowsRead, IsPutBack, IsReadAt, IsRowPut};
 ghost use Rattle.plane_core.specs.Places.{IsOnBoard};
 ghost use Rattle.plane_core.specs.Windows.{row_at};
 
@@ -45,53 +44,55 @@ pub(crate) fn row_of(at: Frame, place: Place) -> usize
     (place.top - at.top) as usize
 }
 
-/// Four words of the board, so many rows apart.
+/// The word that begins so many columns further: the end of the first one with the beginning of the second one.
 #[inline(always)]
-fn gathered(words: &[u64], from: usize, step: usize) -> u64x4
-    requires { from + 3 * step < length words.now }
-    ensures { (j : ℕ) → j < 4 → slice_index result j ≡ slice_index words.now (from + j * step) }
+fn joined(first: u64, second: u64, shift: usize) -> u64
+    requires { shift < 64 }
+    ensures left { (i : ℕ) → i + shift < 64 → bit_at result i ≡ bit_at first (i + shift) }
+    ensures right { (i : ℕ) → i < 64 → 64 ≤ i + shift → bit_at result i ≡ bit_at second (i + shift - 64) }
 {
-    u64x4::from_array([
-        words[from],
-        words[from + step],
-        words[from + 2 * step],
-        words[from + 3 * step],
-    ])
+    (first >> shift) | (second << 1 << (63 - shift))
 }
 
-/// The words that begin so many columns further: the ends of the first ones with the beginnings of the second ones.
+/// Reads the rows of a window that begins in column x and row y of the board. They are read in order, so that four of
+/// them are read at once.
 #[inline(always)]
-fn joined(first: u64x4, second: u64x4, shift: usize) -> u64x4
-    requires { shift < 64 }
-    ensures left { (j i : ℕ) → j < 4 → i + shift < 64 → bit_of result j i ≡ bit_of first j (i + shift) }
-    ensures right { (j i : ℕ) → j < 4 → i < 64 → 64 ≤ i + shift
-        → bit_of result j i ≡ bit_of second j (i + shift - 64) }
+pub(crate) fn read_rows<const R: usize>(words: &[u64], at: Frame, x: usize, y: usize) -> [u64; R]
+    requires long { FillsFrame at words.now }
+    requires lanes { x / 64 + 1 < at.lanes }
+    requires rows { y + R ≤ at.rows }
+    ensures { AreRowsRead at words.now x y R result }
 {
-    let shift = shift as u64;
-    (first >> u64x4::splat(shift)) | (second << 1 << u64x4::splat(63 - shift))
+    let first = x / 64 * at.rows + y;
+    let second = first + at.rows;
+    let mut rows = [0; R];
+    for r in 0..R {
+        rows[r] = joined(words[first + r], words[second + r], x % 64);
+    }
+    rows
 }
 
 /// Reads the window that begins in column x and row y of the board.
 #[inline(always)]
-pub(crate) fn read<const N: usize>(
-    words: &[u64],
-    at: Frame,
-    x: usize,
-    y: usize,
-    window: &mut [u64x4; N],
-)
+pub(crate) fn read(words: &[u64], at: Frame, x: usize, y: usize) -> [u64x4; 10]
     requires long { FillsFrame at words.now }
     requires lanes { x / 64 + 1 < at.lanes }
-    requires rows { y + 4 * N ≤ at.rows }
-    ensures { IsReadAt at words.now x y N window.new }
+    requires rows { y + 40 ≤ at.rows }
+    ensures { IsReadAt at words.now x y 10 result }
 {
-    let first = x / 64 * at.rows + y;
-    let second = first + at.rows;
-    for k in 0..N {
-        let left = gathered(words, first + k, N);
-        let right = gathered(words, second + k, N);
-        window[k] = joined(left, right, x % 64);
+    packed(&read_rows(words, at, x, y))
+}
+
+/// The window of 40 rows.
+#[inline(always)]
+pub(crate) fn packed(rows: &[u64; 40]) -> [u64x4; 10]
+    ensures { (r : ℕ) → r < 40 → row_at 10 result r ≡ slice_index rows.now r }
+{
+    let mut window = [u64x4::splat(0); 10];
+    for k in 0..10 {
+        window[k] = u64x4::from_array([rows[k], rows[10 + k], rows[20 + k], rows[30 + k]]);
     }
+    window
 }
 
 /// The word's columns that lie in the first lane, where it begins in this column of it.

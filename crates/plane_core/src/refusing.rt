@@ -9,10 +9,11 @@
 //!
 //! Only the 'no' to a rest is sure, and most patterns that aren't at rest are told so by a single cluster.
 ghost use Rattle.std.specs.Prelude.{◌≤◌, ℕ, IsTrue};
-ghost use Rattle.plane_core.specs.Refusing.{HoldsCluster, RefusesAll};
+ghost use Rattle.plane_core.specs.Refusing.{HoldsCluster, LiesInExcerpt, RefusesAll};
 
 use crate::answers::Answering;
 use crate::changing::{changing_cells, first_cell};
+use crate::excerpt::{excerpt, excerpt_round};
 use crate::flood::flood;
 use crate::never_back::never_back;
 use crate::rows::{packed, unpacked};
@@ -38,7 +39,35 @@ pub(crate) fn refuses<A: Answering>(
     if !keep_cluster(&mut alone, spot) {
         return false;
     }
-    if shows_stray(window, &alone, rule, depth, horizon) {
+    match excerpt_round(&alone) {
+        Some(from) => {
+            refuses_in_excerpt(window, &alone, from, rule, depth, horizon, period)
+                || never_back(&alone, rule, period)
+        }
+        None => {
+            shows_stray(window, &alone, rule, depth, horizon) || never_back(&alone, rule, period)
+        }
+    }
+}
+
+/// Whether the same is seen in the 40 rows from this one on, in which the cluster lies.
+fn refuses_in_excerpt<A: Answering>(
+    window: &[u64x4; 16],
+    alone: &[u64x4; 16],
+    from: usize,
+    rule: &A,
+    depth: usize,
+    horizon: u32,
+    period: u32,
+) -> bool
+    requires depth { depth ≤ 2 }
+    requires lies { LiesInExcerpt from alone.now }
+    requires holds { HoldsCluster 16 window.now alone.now depth }
+    ensures { IsTrue result → RefusesAll (A.rule rule.now) 16 window.now depth horizon period }
+{
+    let whole = excerpt(window, from);
+    let alone = excerpt(alone, from);
+    if shows_stray(&whole, &alone, rule, depth, horizon) {
         return true;
     }
     never_back(&alone, rule, period)

@@ -13,6 +13,7 @@ ghost use Rattle.plane_core.specs.Windows.{row_at};
 use std::simd::prelude::*;
 
 /// The window of these rows.
+#[inline(always)]
 pub(crate) fn packed(rows: &[u64; 64]) -> [u64x4; 16]
     ensures { (r : ℕ) → r < 64 → row_at 16 result r ≡ slice_index rows.now r }
 {

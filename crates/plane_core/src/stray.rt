@@ -26,15 +26,17 @@ pub(crate) struct Spot {
 
 /// Whether it is seen within so many generations, and within 15, that what one window shows alone strays from the whole
 /// that the other one shows, both right at this depth. `false` says nothing.
-pub(crate) fn shows_stray<A: Answering>(
-    whole: &[u64x4; 16],
-    alone: &[u64x4; 16],
+pub(crate) fn shows_stray<const N: usize, A: Answering>(
+    whole: &[u64x4; N],
+    alone: &[u64x4; N],
     rule: &A,
     depth: usize,
     most: u32,
 ) -> bool
-    requires { depth ≤ 2 }
-    ensures { IsTrue result → ShowsStray (A.rule rule.now) 16 whole.now alone.now depth most }
+    requires some { 10 ≤ N }
+    requires few { N ≤ 16 }
+    requires depth { depth ≤ 2 }
+    ensures { IsTrue result → ShowsStray (A.rule rule.now) N whole.now alone.now depth most }
 {
     let mut whole = *whole;
     let mut alone = *alone;
@@ -51,9 +53,11 @@ pub(crate) fn shows_stray<A: Answering>(
 }
 
 /// Whether so deep inside there is a cell alone that the whole hasn't.
-fn has_stray(whole: &[u64x4; 16], alone: &[u64x4; 16], depth: usize) -> bool
-    requires { depth < 32 }
-    ensures { IsTrue result → HasStray 16 whole.now alone.now depth }
+fn has_stray<const N: usize>(whole: &[u64x4; N], alone: &[u64x4; N], depth: usize) -> bool
+    requires some { 10 ≤ N }
+    requires few { N ≤ 16 }
+    requires depth { depth < 20 }
+    ensures { IsTrue result → HasStray N whole.now alone.now depth }
 {
     if columns_astray(whole, alone) & columns_inside(depth) == 0 {
         return false;
@@ -65,9 +69,9 @@ fn has_stray(whole: &[u64x4; 16], alone: &[u64x4; 16], depth: usize) -> bool
 }
 
 /// The columns that have a cell alone which the whole hasn't.
-fn columns_astray(whole: &[u64x4; 16], alone: &[u64x4; 16]) -> u64 {
+fn columns_astray<const N: usize>(whole: &[u64x4; N], alone: &[u64x4; N]) -> u64 {
     let mut all = u64x4::splat(0);
-    for k in 0..16 {
+    for k in 0..N {
         all = all | (alone[k] & (alone[k] ^ whole[k]));
     }
     in_any_lane(all)
@@ -81,10 +85,12 @@ fn columns_inside(depth: usize) -> u64
 }
 
 /// Where a stray may be.
-fn find_stray(whole: &[u64x4; 16], alone: &[u64x4; 16], depth: usize) -> Option<Spot>
-    requires { depth < 32 }
+fn find_stray<const N: usize>(whole: &[u64x4; N], alone: &[u64x4; N], depth: usize) -> Option<Spot>
+    requires some { 10 ≤ N }
+    requires few { N ≤ 16 }
+    requires depth { depth < 20 }
 {
-    for r in depth..64 - depth {
+    for r in depth..4 * N - depth {
         let here = row(alone, r);
         let cells = here & (here ^ row(whole, r)) & columns_inside(depth);
         if cells != 0 {
@@ -98,11 +104,18 @@ fn find_stray(whole: &[u64x4; 16], alone: &[u64x4; 16], depth: usize) -> Option<
 }
 
 /// Whether there is a stray so deep inside.
-fn is_stray(whole: &[u64x4; 16], alone: &[u64x4; 16], depth: usize, spot: Spot) -> bool
-    requires { depth < 32 }
-    ensures { IsTrue result → HasStray 16 whole.now alone.now depth }
+fn is_stray<const N: usize>(
+    whole: &[u64x4; N],
+    alone: &[u64x4; N],
+    depth: usize,
+    spot: Spot,
+) -> bool
+    requires some { 10 ≤ N }
+    requires few { N ≤ 16 }
+    requires depth { depth < 20 }
+    ensures { IsTrue result → HasStray N whole.now alone.now depth }
 {
-    if spot.row < depth || spot.row >= 64 - depth {
+    if spot.row < depth || spot.row >= 4 * N - depth {
         return false;
     }
     if (spot.column as usize) < depth || (spot.column as usize) >= 64 - depth {

@@ -83,7 +83,9 @@ impl Course {
         ensures { IsTrue result → ¬ IsAtRest self.now.rule profile.now self.now.cells }
     {
         match &self.place {
-            Kept::Listed(_) => false,
+            Kept::Listed(pattern) => {
+                pattern.refuses(&self.rule, profile.horizon(), profile.period())
+            }
             Kept::Shown(harbour, ahead) => {
                 harbour.refuses(*ahead, profile.horizon(), profile.period())
             }

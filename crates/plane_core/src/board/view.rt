@@ -20,7 +20,8 @@ ghost use Rattle.plane_core.specs.Windows.{IsShownInside};
 
 use crate::bounds::Bounds;
 use crate::frame::Frame;
-use crate::placed::read;
+use crate::placed::read_rows;
+use crate::rows::packed;
 use std::simd::prelude::*;
 
 /// How many columns and rows the box of what changes in a small oscillator has at most.
@@ -54,9 +55,7 @@ impl View {
         requires rows { self.y + 64 ≤ at.rows }
         ensures { IsShownInside 16 (at.left +ℤ pos self.x) (at.top +ℤ pos self.y) 0 result (cells_on at words.now) }
     {
-        let mut window = [u64x4::splat(0); 16];
-        read(words, at, self.x, self.y, &mut window);
-        window
+        packed(&read_rows(words, at, self.x, self.y))
     }
 
     /// The view as a board of its own, of one lane.

@@ -1,6 +1,6 @@
 use Rattle.std.proofs.Common.{◌+◌, ℕ, List, arith, subst, sym}
 use Rattle.plane_core.proofs.AgainLemmas.{IsChanging, changed-fewer, changing_ends, changing_keeps, changing_more, changing_start}
-use Rattle.plane_core.proofs.never_back.never_back.Goals.{then-made-eq0, else-made-eq0}
+use Rattle.plane_core.proofs.never_back.never_back.Goals.{then-made-eq1, else-made-eq1}
 use Rattle.plane_core.proofs.never_back.never_back.Goals as goal
 
 pub loop-made-init : goal.loop-made-init
@@ -28,11 +28,11 @@ loop-made-preserved g c =
     (c.is_rim_clear.ensures c.if-not-is_rim_clear.false) c.generation.ensures c.columns_of-columns.ensures.whole c.columns_of-columns.ensures.columns
     c.may_be_again.ensures c.if-may_be_again.false in
     let n = c.loop-made.made + 1 in
-    elim c.if-made-eq0.branch [
-      | then-made-eq0 w ↦
+    elim c.if-made-eq1.branch [
+      | then-made-eq1 w ↦
           subst (λ (kept : List (List ℕ)). IsChanging rule g.row.N c.args.start.now c.generation.new.window kept c.columns_of-columns.result n) (sym w.kept-is)
           (changing_keeps rule g.row.N c.args.start.now c.generation.new.window c.loop-made.kept c.columns_of-columns.result n now)
-      | else-made-eq0 w ↦
+      | else-made-eq1 w ↦
           subst (λ (kept : List (List ℕ)). IsChanging rule g.row.N c.args.start.now c.generation.new.window kept
           c.columns_of-columns.result n) (sym w.kept-is) now
     ]

@@ -2,4 +2,4 @@ use Rattle.plane_core.proofs.StrayLemmas.{AreMade}
 use Rattle.plane_core.proofs.stray.shows_stray.Given as goal
 
 abbrev pub invariant-loop-made : goal.invariant-loop-made
-invariant-loop-made g l = AreMade (g.A.Answering.rule l.rule) 16 l.initial.whole l.initial.alone l.whole l.alone l.made
+invariant-loop-made g l = AreMade (g.A.Answering.rule l.rule) g.row.N l.initial.whole l.initial.alone l.whole l.alone l.made

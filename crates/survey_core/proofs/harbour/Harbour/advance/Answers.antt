@@ -1,8 +1,10 @@
-use Rattle.std.proofs.Common.{◌∙◌, ◌+◌, ◌≤◌, ap, subst, sym}
+use Rattle.std.proofs.Common.{◌≡◌, ◌∙◌, ◌+◌, ◌≤◌, All, List, ap, subst, sym}
 use Rattle.plane_core.specs.Cells.{InOrder}
 use Rattle.plane_core.specs.Generations.{after, lies_within}
 use Rattle.plane_core.proofs.RunLemmas.{in_order-after}
-use Rattle.survey_core.specs.Harbours.{whole_at}
+use Rattle.plane_core.specs.Rules.{Numbers}
+use Rattle.survey_core.specs.declared.ships.Ship.{Ship}
+use Rattle.survey_core.specs.Harbours.{IsTraced, whole_at}
 use Rattle.survey_core.specs.UnderWay.{UnderWay, survey_reach}
 use Rattle.survey_core.proofs.HarbourLemmas.{harbour_later, traced_later, whole_gone_on}
 use Rattle.survey_core.proofs.harbour.Harbour.advance.Goals as goal
@@ -21,7 +23,11 @@ whole-requires-clause-order c =
 pub whole-requires-clause-traced : goal.whole-requires-clause-traced
 whole-requires-clause-traced c =
     let h = c.self.inside in
-    traced_later h.board.rule h.time c.in_ok-made.made h.board.cells h.ships.items c.self.invariant
+    let t = h.time + c.in_ok-made.made in
+    let rule : h.board.rule ≡ c.args.rule.now = ap (λ (u : UnderWay). u.rule) c.self.view_is ∙ c.requires.rule in
+    subst (λ (ships : List Ship). All (IsTraced c.args.rule.now t) ships) (sym c.as_slice.ensures.value)
+    (subst (λ (r : Numbers). All (IsTraced r t) h.ships.items) rule
+    (traced_later h.board.rule h.time c.in_ok-made.made h.board.cells h.ships.items c.self.invariant))
 
 pub whole-requires-clause-near : goal.whole-requires-clause-near
 whole-requires-clause-near c =

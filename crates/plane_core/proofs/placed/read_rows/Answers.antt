@@ -1,0 +1,25 @@
+use Rattle.std.proofs.Common.{◌≡◌, ◌+◌, ◌%◌, ℕ, arith, length, length-set, ◌∙◌, subst}
+use Rattle.std.proofs.lemmas.List.{length-replicate}
+use Rattle.plane_core.specs.Placed.{AreRowsRead}
+use Rattle.plane_core.proofs.PlacedLemmas.{read_word, rows_more}
+use Rattle.plane_core.proofs.placed.read_rows.Goals as goal
+
+pub loop-r-init : goal.loop-r-init
+loop-r-init g c = record { long = length-replicate g.row.R 0; read = λ r i low. absurd (omega arith) }
+
+pub loop-r-preserved : goal.loop-r-preserved
+loop-r-preserved g c =
+    let rows = c.loop-r.rows in
+    let r = c.loop-r.r in
+    let long : length rows ≡ g.row.R = c.loop-r.invariant.long in
+    record {
+      long = length-set rows r c.joined.result ∙ long;
+      read = rows_more c.args.at c.args.words.now c.args.x c.args.y r c.joined.result rows (omega arith) c.loop-r.invariant.read
+          (λ i inside. read_word c.args.at c.args.words.now c.args.x c.args.y r i c.joined.result inside
+          (c.joined.ensures.left i) (c.joined.ensures.right i inside));
+    }
+
+pub returns : goal.returns
+returns g c =
+    let all : c.loop-r.r ≡ g.row.R = omega arith in
+    subst (λ (n : ℕ). AreRowsRead c.args.at c.args.words.now c.args.x c.args.y n c.loop-r.rows) all c.loop-r.invariant.read

@@ -1,0 +1,91 @@
+//! The rows of a window in which a cluster lies, as a window of their own: 40 rows of 64. What is asked of the cluster
+//! takes less time there.
+//!
+//! ```text
+//!  0  . . . . . . . .
+//!  1  . . . . . . . .     . . . . . . . .   0
+//!  2  . . O O . . . .     . . O O . . . .   1     The excerpt begins with row 1. No cell of the cluster lies in a row
+//!  3  . . . O O . . .     . . . O O . . .   2     outside of it.
+//!  4  . . . . . . . .     . . . . . . . .   3
+//!  5  . . . . . . . .
+//! ```
+ghost use Rattle.std.specs.Prelude.{◌≡◌, ◌+◌, ◌<◌, ◌≤◌, IfSome, IsTrue};
+ghost use Rattle.plane_core.specs.Refusing.{IsExcerpt, LiesInExcerpt};
+
+use crate::never_back::{first_row, row};
+use crate::placed::packed;
+use std::simd::prelude::*;
+
+/// How many rows a cluster has at most for which there is an excerpt. Larger ones mostly grow out of it.
+const MOST: usize = 32;
+
+/// The first row of an excerpt that has all of the cluster, with about as many rows above it as below. `None` if it is too
+/// large.
+pub(crate) fn excerpt_round(alone: &[u64x4; 16]) -> Option<usize>
+    ensures { IfSome result (λ from. LiesInExcerpt from alone.now) }
+{
+    let from = middle_of(alone)?;
+    if lies_in_excerpt(alone, from) {
+        return Some(from);
+    }
+    None
+}
+
+/// Where 40 rows begin in whose middle the cluster lies, if it isn't too large.
+fn middle_of(alone: &[u64x4; 16]) -> Option<usize> {
+    let first = first_row(alone)?;
+    let last = last_row(alone)?;
+    if last.saturating_sub(first) >= MOST {
+        return None;
+    }
+    Some(((first + last).saturating_sub(39) / 2).min(24))
+}
+
+/// The last row with a live cell.
+fn last_row(window: &[u64x4; 16]) -> Option<usize>
+    ensures { IfSome result (λ r. r < 64) }
+{
+    for r in (0..64).rev() {
+        if row(window, r) != 0 {
+            return Some(r);
+        }
+    }
+    None
+}
+
+/// Whether all live cells lie in the 40 rows from this one on.
+fn lies_in_excerpt(alone: &[u64x4; 16], from: usize) -> bool
+    ensures { IsTrue result → LiesInExcerpt from alone.now }
+{
+    if from > 24 {
+        return false;
+    }
+    for k in 0..24 {
+        if row(alone, row_outside(from, k)) != 0 {
+            return false;
+        }
+    }
+    true
+}
+
+/// One of the 24 rows that aren't among the 40 from this one on.
+#[inline(always)]
+fn row_outside(from: usize, k: usize) -> usize
+    requires { k < 24 }
+    ensures above { k < from → result ≡ k }
+    ensures below { from ≤ k → result ≡ k + 40 }
+{
+    if k < from { k } else { k + 40 }
+}
+
+/// The 40 rows from this one on, as a window of their own.
+pub(crate) fn excerpt(window: &[u64x4; 16], from: usize) -> [u64x4; 10]
+    requires { from ≤ 24 }
+    ensures { IsExcerpt from window.now result }
+{
+    let mut rows = [0; 40];
+    for r in 0..40 {
+        rows[r] = row(window, from + r);
+    }
+    packed(&rows)
+}
