@@ -12,7 +12,7 @@
 ghost use Rattle.std.specs.Prelude.{◌≡◌, ◌+◌, ◌<◌, ◌≤◌, IfSome, IsTrue};
 ghost use Rattle.plane_core.specs.Refusing.{IsExcerpt, LiesInExcerpt};
 
-use crate::never_back::{first_row, row};
+use crate::never_back::{first_row, last_row, row};
 use crate::placed::packed;
 use std::simd::prelude::*;
 
@@ -39,18 +39,6 @@ fn middle_of(alone: &[u64x4; 16]) -> Option<usize> {
         return None;
     }
     Some(((first + last).saturating_sub(39) / 2).min(24))
-}
-
-/// The last row with a live cell.
-fn last_row(window: &[u64x4; 16]) -> Option<usize>
-    ensures { IfSome result (λ r. r < 64) }
-{
-    for r in (0..64).rev() {
-        if row(window, r) != 0 {
-            return Some(r);
-        }
-    }
-    None
 }
 
 /// Whether all live cells lie in the 40 rows from this one on.

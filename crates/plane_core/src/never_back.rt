@@ -291,3 +291,17 @@ pub(crate) fn first_row<const N: usize>(window: &[u64x4; N]) -> Option<usize>
     }
     None
 }
+
+/// The last row with a live cell.
+pub(crate) fn last_row<const N: usize>(window: &[u64x4; N]) -> Option<usize>
+    requires some { 0 < N }
+    requires few { N ≤ 16 }
+    ensures { IfSome result (λ r. r < 4 * N) }
+{
+    for r in (0..4 * N).rev() {
+        if row(window, r) != 0 {
+            return Some(r);
+        }
+    }
+    None
+}

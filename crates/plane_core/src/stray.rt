@@ -13,9 +13,13 @@ ghost use Rattle.std.specs.Prelude.{◌≤◌, ◌<◌, IsTrue};
 ghost use Rattle.plane_core.specs.Refusing.{HasStray, ShowsStray};
 
 use crate::answers::Answering;
-use crate::never_back::{in_any_lane, row};
+use crate::never_back::{columns_of, first_row, in_any_lane, last_row, row};
 use crate::window::generation;
 use std::simd::prelude::*;
+
+/// How many columns or rows off another cell is looked for. What lies further off rarely meets a cluster in 15
+/// generations.
+const NEAR: usize = 5;
 
 /// A row and a column of a window.
 #[derive(Clone, Copy)]
@@ -38,6 +42,9 @@ pub(crate) fn shows_stray<const N: usize, A: Answering>(
     requires depth { depth ≤ 2 }
     ensures { IsTrue result → ShowsStray (A.rule rule.now) N whole.now alone.now depth most }
 {
+    if !has_neighbours(whole, alone) {
+        return false;
+    }
     let mut whole = *whole;
     let mut alone = *alone;
     for made in 0..most.min(15) {
@@ -50,6 +57,31 @@ pub(crate) fn shows_stray<const N: usize, A: Answering>(
         }
     }
     false
+}
+
+/// Whether the whole has other cells so near the cluster that the two may meet in time.
+fn has_neighbours<const N: usize>(whole: &[u64x4; N], alone: &[u64x4; N]) -> bool
+    requires some { 10 ≤ N }
+    requires few { N ≤ 16 }
+{
+    let (Some(first), Some(last)) = (first_row(alone), last_row(alone)) else {
+        return false;
+    };
+    let columns = widened(columns_of(alone));
+    let mut others = 0;
+    for r in first.saturating_sub(NEAR)..(last + NEAR + 1).min(4 * N) {
+        others |= (row(alone, r) ^ row(whole, r)) & columns;
+    }
+    others != 0
+}
+
+/// The columns, and those that are near them.
+fn widened(columns: u64) -> u64 {
+    let mut wide = columns;
+    for _ in 0..NEAR {
+        wide |= wide << 1 | wide >> 1;
+    }
+    wide
 }
 
 /// Whether so deep inside there is a cell alone that the whole hasn't.

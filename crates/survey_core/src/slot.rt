@@ -7,7 +7,8 @@ pub(crate) fn slot_of(pattern: &Pattern, slots: usize) -> usize {
     if let Some(first) = pattern.cells().first() {
         hash = hash_from(*first, pattern.cells());
     }
-    (hash >> 32) as usize % slots.max(1)
+    // So many 2^32ths of the slots: a division would take longer than all the rest.
+    ((hash >> 32).wrapping_mul(slots as u64) >> 32) as usize
 }
 
 /// A number that is made of the cells as they lie from this one. The multiplier is the odd number next to 2^64 divided

@@ -135,7 +135,23 @@ pub(crate) fn stay_apart(horizon: u32, one: &Sweep, other: &Sweep) -> bool
     let Some(period) = common_turns(one, other) else {
         return false;
     };
-    are_clear_for(one, other, horizon / period + 1)
+    are_clear_for(one, other, turns_in(horizon, period))
+}
+
+/// How many turns begin up to the horizon. Most objects come back after 1, 2 or 4 generations, and then nothing need be
+/// divided.
+#[inline(always)]
+fn turns_in(horizon: u32, period: u32) -> u32
+    requires horizon { horizon ≤ 4096 }
+    requires period { 1 ≤ period }
+    ensures { result ≡ horizon / period + 1 }
+{
+    match period {
+        1 => horizon + 1,
+        2 => horizon / 2 + 1,
+        4 => horizon / 4 + 1,
+        _ => horizon / period + 1,
+    }
 }
 
 /// How many generations a turn has for both, if there is such a number.
