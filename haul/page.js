@@ -57,6 +57,7 @@ islands.addEventListener('change', () => {
     delete row.dataset.apart;
     counts.forEach((column, place) => { row.cells[column].textContent = said[place]; });
   }
+  body.append(...asTaken.keys());
   if (islands.checked) addUp();
   document.getElementById('separated').hidden = !islands.checked;
   sort(TOTAL, true);
@@ -98,9 +99,11 @@ const offer = (svg, kind, name, act) => {
   svg.after(button);
 };
 const offerPlayer = details => {
-  const svg = details.querySelector('svg'), { settled, population } = details.dataset;
-  const soup = runsOf(firstPath(svg)).flatMap(([x, y, length]) => Array.from({ length }, (_, k) => [x + k, y]));
-  offer(svg, 'run', 'run it here', button => button.replaceWith(player(soup, table.dataset.rule, Number(settled), Number(population))));
+  const svg = details.querySelector('svg');
+  offer(svg, 'run', 'run it here', button => {
+    const soup = runsOf(firstPath(svg)).flatMap(([x, y, length]) => Array.from({ length }, (_, k) => [x + k, y]));
+    button.replaceWith(player(soup, table.dataset.rule, Number(details.dataset.settled), Number(details.dataset.population)));
+  });
 };
 
 // ---- Phases, of the pictures that are in sight. Whoever wants no motion has them stand still, and a switch is there for all.
