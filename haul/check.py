@@ -69,8 +69,6 @@ def wrong_samples(census: Census, haul: Haul) -> Iterator[str]:
 def codes_left(census: Census, haul: Haul) -> dict[int, set[str]]:
     """What each sample soup leaves, by a report line of the program for each."""
     numbers = sorted({number for row in haul.samples.values() for number in row})
-    left: dict[int, set[str]] = {}
-    for reports in census.each(lambda part: census.reports(haul.job, part), numbers, SAMPLES_IN_A_CALL, "soups run"):
-        # A field with a star is a code and how many there are.
-        left |= {number: {field.partition("*")[0] for field in fields if "*" in field} for number, fields in reports.items()}
-    return left
+    reports = census.each(lambda part: census.reports(haul.job, part), numbers, SAMPLES_IN_A_CALL, "soups run")
+    # A field with a star is a code and how many there are.
+    return {number: {field.partition("*")[0] for field in fields if "*" in field} for some in reports for number, fields in some.items()}

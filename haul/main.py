@@ -30,6 +30,7 @@ DONE, USAGE, REFUSED, NO_MEMORY, FAILED, NOT_RIGHT = 0, 2, 3, 4, 5, 7
 # A pattern has no more bytes, as in `census`.
 PATTERN_LIMIT = 2**24
 
+
 class Refused(Exception):
     """A text is refused for this reason."""
 

@@ -3,6 +3,7 @@
 from __future__ import annotations
 
 import shlex
+from collections import ChainMap
 from collections.abc import Iterator
 from dataclasses import dataclass
 from html import escape
@@ -72,10 +73,8 @@ def asked_of(census: Census, haul: Haul, codes: list[str], play: int, labelled: 
     numbers = sorted({number for code in codes for number in haul.samples[code]})
     soups = dict(zip(numbers, census.soups(haul.job.seed, numbers), strict=True))
     played = sorted({number for code in codes[:play] for number in haul.samples[code]})
-    ends: dict[int, tuple[int, int]] = {}
-    for some in census.each(lambda part: ends_of(census, haul.job, soups, part), played, SOUPS_IN_A_CALL, "soups run"):
-        ends |= some
-    return Asked(drawings, {code: phases[code] for code in codes[:play] if code in phases}, parts, soups, ends)
+    ends = list(census.each(lambda part: ends_of(census, haul.job, soups, part), played, SOUPS_IN_A_CALL, "soups run"))
+    return Asked(drawings, {code: phases[code] for code in codes[:play] if code in phases}, parts, soups, dict(ChainMap(*ends)))
 
 
 def ends_of(census: Census, job: Job, soups: dict[int, str], numbers: list[int]) -> dict[int, tuple[int, int]]:

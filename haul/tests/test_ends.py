@@ -14,8 +14,9 @@ from contextlib import suppress
 from pathlib import Path
 
 from haul.tests.called import CENSUS, HAUL, census, run
+from haul.tests.drawn import text_of
 from haul.tests.test_text import SMALL
-from haul.text import Haul, Job, read_one_haul, text_of
+from haul.text import Haul, Job, read_one_haul
 
 # A haul over so many soups that its census takes hours. It isn't right.
 LONG = SMALL.replace("@RANGE 0 4", f"@RANGE 0 {2**24}").replace("SOUPS 2", f"SOUPS {2**24}").replace("@PROFILE 1 1 1 0", "@PROFILE 64 512 101 30300")

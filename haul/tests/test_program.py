@@ -18,7 +18,8 @@ from haul.compare import compared
 from haul.page import page_of
 from haul.program import Census, pieces, set_words
 from haul.tests.called import CENSUS, census, run
-from haul.text import BadHaul, Haul, Job, read_one_haul, text_of
+from haul.tests.drawn import text_of
+from haul.text import BadHaul, Haul, Job, read_one_haul
 
 
 class Kept(Census):

@@ -18,8 +18,8 @@ from haul.names import NAMES
 from haul.page import page_of
 from haul.program import Census, pieces
 from haul.tests.called import CENSUS, HAUL, census, run
-from haul.tests.drawn import any_haul
-from haul.text import Haul, Job, Range, read_one_haul, text_of
+from haul.tests.drawn import any_haul, text_of
+from haul.text import Haul, Job, Range, read_one_haul
 
 STANDARD = (64, 512, 101, 30300)
 NOTES = '#!/bin/sh\necho "$@" >> asked\nexit 4\n'
