@@ -8,9 +8,13 @@ _haul() {
         return
     fi
     case $before in
-        --workers | --least | --rule | --top | --period) return ;;
+        --workers | --least | --rule | --top | --period | --play) return ;;
         --per)
             mapfile -t COMPREPLY < <(compgen -W 'million soup' -- "$word")
+            return
+            ;;
+        --labels)
+            mapfile -t COMPREPLY < <(compgen -W 'first all' -- "$word")
             return
             ;;
         --kind)
@@ -25,9 +29,9 @@ _haul() {
     case ${COMP_WORDS[1]} in
         check) options='--workers --samples --census --help' ;;
         join) options='--help' ;;
-        compare) options='--least --intervals --per --rare --csv --json --help' ;;
-        table) options='--top --rare --kind --period --csv --json --help' ;;
-        page) options='--least --census --help' ;;
+        compare) options='--least --intervals --per --rare --csv --json --labels --census --help' ;;
+        table) options='--top --rare --kind --period --csv --json --labels --census --help' ;;
+        page) options='--least --play --labels --census --help' ;;
         cells) options='--help' ;;
         rle) options='--rule --help' ;;
     esac

@@ -2,7 +2,6 @@
 
 from __future__ import annotations
 
-import re
 import tempfile
 from collections.abc import Iterator
 
@@ -12,8 +11,6 @@ from haul.text import BadHaul, Haul, Job, Range, header_of, read_one_haul, sampl
 
 # A soup is run by one call with some of its like, so that several calls can run at a time.
 SAMPLES_IN_A_CALL = 500
-# What stands in a report line after the job: a number, and what was found.
-REPORT = re.compile(rb"([0-9]{1,13}) ([a-z0-9_=* ]+)")
 
 
 def taken_again(census: Census, haul: Haul, workers: int) -> Haul:
@@ -72,23 +69,6 @@ def wrong_samples(census: Census, haul: Haul) -> Iterator[str]:
 def codes_left(census: Census, haul: Haul) -> dict[int, set[str]]:
     """What each sample soup leaves, by a report line of the program for each."""
     numbers = sorted({number for row in haul.samples.values() for number in row})
-    left: dict[int, set[str]] = {}
-    for found in census.each(lambda part: codes_left_by(census, haul.job, part), numbers, SAMPLES_IN_A_CALL, "soups run"):
-        left |= found
-    return left
-
-
-def codes_left_by(census: Census, job: Job, numbers: list[int]) -> dict[int, set[str]]:
-    """What these soups leave, by one call."""
-    printed = census.ask(["work", "--worker=1", *job_words(job), *set_words([(number, 1) for number in numbers])])
-    before = f"report 2 rule={job.rule} profile={','.join(map(str, job.profile))} seed={job.seed} worker=1 soup=".encode("ascii")
-    left: dict[int, set[str]] = {}
-    for line in printed.splitlines():
-        found = REPORT.fullmatch(line.removeprefix(before))
-        if found is None or not line.startswith(before):
-            raise missing(census.path)
-        # A field with a star is a code and how many there are.
-        left[int(found[1])] = {field.partition(b"*")[0].decode("ascii") for field in found[2].split(b" ") if b"*" in field}
-    if list(left) != numbers:
-        raise missing(census.path)
-    return left
+    reports = census.each(lambda part: census.reports(haul.job, part), numbers, SAMPLES_IN_A_CALL, "soups run")
+    # A field with a star is a code and how many there are.
+    return {number: {field.partition("*")[0] for field in fields if "*" in field} for some in reports for number, fields in some.items()}

@@ -24,10 +24,10 @@ class Children:
         # Held while one is started, so that each that runs is known.
         self.starts = threading.Lock()
 
-    def start(self, words: list[str], stdout: int, stderr: int | None, leads: bool) -> subprocess.Popen[bytes]:
+    def start(self, words: list[str], stdin: int, stdout: int, stderr: int | None, leads: bool) -> subprocess.Popen[bytes]:
         """Starts a program. Raises `OSError` if that fails."""
         with self.starts:
-            program = subprocess.Popen(words, stdin=subprocess.DEVNULL, stdout=stdout, stderr=stderr, start_new_session=leads)
+            program = subprocess.Popen(words, stdin=stdin, stdout=stdout, stderr=stderr, start_new_session=leads)
             self.running[program] = leads
         return program
 

@@ -14,3 +14,8 @@ def kind_of(code: str) -> tuple[str, int] | None:
     if found is None:
         return None
     return found[1], 1 if found[1] == "s" else int(found[2])
+
+
+def is_large(code: str) -> bool:
+    """Whether an object has no text that could be drawn."""
+    return code.startswith("ov_")

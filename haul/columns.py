@@ -3,6 +3,7 @@
 from __future__ import annotations
 
 import csv
+import io
 import json
 import shutil
 import sys
@@ -49,22 +50,12 @@ def exact(number: int) -> int | str:
     return number if number <= EXACT else str(number)
 
 
-class Told:
-    """What `csv` writes to: it keeps the line."""
-
-    def __init__(self) -> None:
-        self.line = ""
-
-    def write(self, text: str) -> None:
-        self.line += text
-
-
 def comma_separated(rows: Iterable[list[str]]) -> Iterator[str]:
     """The lines of these rows, each without its line feed."""
     for row in rows:
-        told = Told()
+        told = io.StringIO()
         csv.writer(told, lineterminator="").writerow(row)
-        yield told.line
+        yield told.getvalue()
 
 
 def as_json(facts: dict[str, object], objects: Iterable[dict[str, object]]) -> Iterator[str]:

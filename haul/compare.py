@@ -5,7 +5,6 @@ from __future__ import annotations
 from collections.abc import Iterator
 
 from haul.columns import aligned
-from haul.names import NAMES
 from haul.text import Haul
 from haul.words import noun
 
@@ -20,6 +19,11 @@ def rate(total: int, soups: int, per: int = MILLION) -> float:
     return total / soups * per if soups else 0.0
 
 
+def one_in(soups: int, total: int) -> int:
+    """One soup in so many has such an object, at most: how many soups have one isn't known."""
+    return max(1, soups // total)
+
+
 def job_line(which: str, haul: Haul) -> str:
     period, horizon, stride, limit = haul.job.profile
     return f"{which}: seed={haul.job.seed} rule={haul.job.rule} profile={period},{horizon},{stride},{limit}"
@@ -30,20 +34,25 @@ def soups_line(which: str, haul: Haul) -> str:
     return f"{which}: {haul.soups} {soups}, {haul.unsettled} unsettled, {haul.for_good} for good, {haul.objects()} {objects}"
 
 
-def ranked(hauls: list[Haul], least: int) -> list[str]:
-    """The codes by descending rate, but those with less than so many objects in each haul."""
+def ranked(hauls: list[Haul], least: int, rare: bool = False) -> list[str]:
+    """The codes by descending rate, but those with less than so many objects in each haul. With `rare` the rarest come first, and
+    those that all hauls have are left out."""
     codes = [code for code in set().union(*(haul.totals for haul in hauls)) if any(haul.totals.get(code, 0) >= least for haul in hauls)]
     rates = {code: max(rate(haul.totals.get(code, 0), haul.soups) for haul in hauls) for code in codes}
-    return sorted(codes, key=lambda code: (-rates[code], code))
+    codes.sort(key=lambda code: (-rates[code], code))
+    return [code for code in reversed(codes) if not all(code in haul.totals for haul in hauls)] if rare else codes
 
 
-def compared(one: Haul, other: Haul, least: int, width: int | None = None) -> Iterator[str]:
-    """The lines on two hauls. Codes with less than so many objects in both are left out. On a terminal of this width long codes are
-    cut."""
-    yield from facts_lines([one, other])
-    codes = ranked([one, other], least)
-    yield from aligned([HEADS] + [row_of(code, one, other) for code in codes], TEXTS, 0, width)
-    yield alone_line(codes, [one, other])
+def rules_of(codes: list[str], hauls: list[Haul]) -> dict[str, str]:
+    """Of each code the rule of the first haul that has it."""
+    return {code: next(haul.job.rule for haul in hauls if code in haul.totals) for code in codes}
+
+
+def compared(hauls: list[Haul], codes: list[str], labels: dict[str, str], width: int | None = None) -> Iterator[str]:
+    """The lines on two hauls and these codes. On a terminal of this width long codes are cut."""
+    yield from facts_lines(hauls)
+    yield from aligned([HEADS] + [row_of(code, labels, *hauls) for code in codes], TEXTS, 0, width)
+    yield alone_line(codes, hauls)
 
 
 def facts_lines(hauls: list[Haul]) -> Iterator[str]:
@@ -57,16 +66,16 @@ def lettered(hauls: list[Haul]) -> Iterator[tuple[str, Haul]]:
     return zip("ABCDEFGHIJKLMNOP", hauls)
 
 
-def row_of(code: str, one: Haul, other: Haul) -> list[str]:
+def row_of(code: str, labels: dict[str, str], one: Haul, other: Haul) -> list[str]:
     totals = one.totals.get(code, 0), other.totals.get(code, 0)
     rates = rate(totals[0], one.soups), rate(totals[1], other.soups)
     ratio = f"{rates[1] / rates[0]:.2f}" if rates[0] else "-"
-    return [code, word(code), str(totals[0]), str(totals[1]), f"{rates[0]:.2f}", f"{rates[1]:.2f}", ratio]
+    return [code, word(code, labels), str(totals[0]), str(totals[1]), f"{rates[0]:.2f}", f"{rates[1]:.2f}", ratio]
 
 
-def word(code: str) -> str:
-    """The name of a code as one word."""
-    return NAMES.get(code, "-").replace(" ", "_")
+def word(code: str, labels: dict[str, str]) -> str:
+    """The label of a code as one word."""
+    return labels.get(code, "-").replace(" ", "_")
 
 
 def alone(codes: list[str], hauls: list[Haul], haul: Haul) -> list[str]:

@@ -5,8 +5,13 @@ from __future__ import annotations
 import re
 from html import escape
 
-# Points a cell, for objects.
-SCALE = 4
+from haul.phases import Cells, rows_of
+from haul.words import counted
+
+# Points a cell, for objects, and for those of few cells.
+SCALE, LARGER_SCALE = 4, 12
+# Those have less cells than this.
+FEW_CELLS = 10
 SOUP_SIDE = 16
 
 
@@ -25,14 +30,19 @@ def path_of(rows: list[str]) -> str:
     return "".join(moves)
 
 
-def picture(drawing: str, name: str) -> str:
-    """An object, of which `census show` drew the rows."""
+def picture(drawing: str, phases: list[Cells], name: str) -> str:
+    """An object, of which `census show` drew the rows, in the box of all phases that are known."""
     rows = drawing.splitlines()
-    width, height = max(map(len, rows)), len(rows)
-    title = f"{name}: {width} by {height}, {drawing.count('O')} cells"
+    cells = drawing.count("O")
+    title = f"{name}: {max(map(len, rows))} by {len(rows)}, {counted(cells, 'cell')}"
+    box = phases[0].union(*phases)
+    paths = [path_of(rows_of(phase, box)) for phase in phases]
+    width, height = (max(side) - min(side) + 1 for side in zip(*box, strict=True))
+    scale = LARGER_SCALE if cells < FEW_CELLS else SCALE
+    moves = f" data-phases='{'|'.join(paths)}'" if len(paths) > 1 else ""
     return (
-        f"<svg width='{width * SCALE}' height='{height * SCALE}' viewBox='0 0 {width} {height}' role='img'>"
-        f"<title>{escape(title)}</title><path d='{path_of(rows)}'/></svg>"
+        f"<svg width='{width * scale}' height='{height * scale}' viewBox='0 0 {width} {height}' role='img'{moves}>"
+        f"<title>{escape(title)}</title><path d='{paths[0]}'/></svg>"
     )
 
 

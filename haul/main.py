@@ -13,21 +13,23 @@ from typing import BinaryIO
 from haul.check import differences, taken_again, wrong_samples
 from haul.children import status_of
 from haul.columns import width_of_terminal
-from haul.compare import compared
+from haul.compare import compared, ranked, rules_of
 from haul.join import CantJoin, Joining
+from haul.labels import labels_of
 from haul.many import Comparison
 from haul.options import parser
 from haul.page import page_of
 from haul.plaintext import BadPlaintext, is_plaintext, read_plaintext
 from haul.program import Census, Ended, NoCensus, tell
 from haul.rle import LIFE, BadRle, option_of, read_rle, rle_of
-from haul.table import csv, json, table_of, text
+from haul.table import csv, json, shown, table_of, text
 from haul.text import BadHaul, Haul, lines_of, read_hauls, read_one_haul
 
 # The statuses of `census`, and one more.
 DONE, USAGE, REFUSED, NO_MEMORY, FAILED, NOT_RIGHT = 0, 2, 3, 4, 5, 7
 # A pattern has no more bytes, as in `census`.
 PATTERN_LIMIT = 2**24
+
 
 class Refused(Exception):
     """A text is refused for this reason."""
@@ -97,26 +99,39 @@ def do_join(asked: argparse.Namespace) -> int:
     return DONE
 
 
+def the_labels(asked: argparse.Namespace, rules: dict[str, str]) -> dict[str, str]:
+    """The labels of codes with their rules. They are names alone where there is no program, and none is built for them."""
+    try:
+        return labels_of(Census(asked.census, builds=False), rules, asked.labels == "all")
+    except NoCensus:
+        if asked.census is not None:
+            raise
+        return labels_of(None, rules, False)
+
+
 def do_compare(asked: argparse.Namespace) -> int:
     hauls = [the_haul(name) for name in (asked.a, asked.b, *asked.more)]
+    codes = ranked(hauls, asked.least, asked.rare)
+    labels = the_labels(asked, rules_of(codes, hauls))
     if len(hauls) == 2 and not (asked.intervals or asked.per or asked.rare or asked.csv or asked.json):
-        write(compared(*hauls, asked.least, width_of_terminal()))
+        write(compared(hauls, codes, labels, width_of_terminal()))
         return DONE
-    comparison = Comparison(hauls, asked.least, asked.per or "million", asked.rare)
+    comparison = Comparison(hauls, codes, labels, asked.per or "million")
     write(comparison.csv() if asked.csv else comparison.json() if asked.json else comparison.text(width_of_terminal()))
     return DONE
 
 
 def do_table(asked: argparse.Namespace) -> int:
     haul = the_haul(asked.file)
-    lines = table_of(haul, asked.kind, asked.period, asked.rare, asked.top)
+    ranks = shown(haul, asked.kind, asked.period, asked.rare, asked.top)
+    lines = table_of(haul, ranks, the_labels(asked, dict.fromkeys(ranks, haul.job.rule)))
     write(csv(lines) if asked.csv else json(haul, lines) if asked.json else text(lines, width_of_terminal()))
     return DONE
 
 
 def do_page(asked: argparse.Namespace) -> int:
     haul = the_haul(asked.file)
-    sys.stdout.writelines(page_of(Census(asked.census), haul, asked.least))
+    sys.stdout.writelines(page_of(Census(asked.census), haul, asked.least, asked.play, asked.labels == "all"))
     return DONE
 
 

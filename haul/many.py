@@ -6,13 +6,14 @@ from collections.abc import Iterator
 from dataclasses import dataclass
 
 from haul.columns import aligned, as_json, comma_separated, exact, figure
-from haul.compare import MILLION, TEXTS, alone, alone_line, facts_lines, lettered, ranked, rate, word
-from haul.names import NAMES
+from haul.compare import MILLION, TEXTS, alone, alone_line, facts_lines, lettered, rate, word
 from haul.poisson import interval
 from haul.text import Haul
 
 # The most hauls that stand side by side.
 MOST_HAULS = 16
+# What stands in each row of comma-separated values, too: what the text says of a haul before its table.
+FACTS = ("seed", "rule", "profile", "soups", "unsettled", "for_good", "objects")
 EXPLAINED = "intervals: 95 %, as if objects came singly; *: doesn't meet that of A, which is no test at 5 %"
 
 
@@ -32,17 +33,14 @@ class Cell:
 
 
 class Comparison:
-    """Hauls side by side. Codes with less than so many objects in each are left out; with `rare`, those that all have are too, and
-    the rarest come first."""
+    """Hauls side by side, by these codes with these labels."""
 
-    def __init__(self, hauls: list[Haul], least: int, per: str, rare: bool) -> None:
+    def __init__(self, hauls: list[Haul], codes: list[str], labels: dict[str, str], per: str) -> None:
         self.hauls = hauls
+        self.codes = codes
+        self.labels = labels
         self.per = per
         self.unit = MILLION if per == "million" else 1
-        codes = ranked(hauls, least)
-        if rare:
-            codes = [code for code in reversed(codes) if not all(code in haul.totals for haul in hauls)]
-        self.codes = codes
         self.letters = [letter.lower() for letter, _ in lettered(hauls)]
 
     def cells(self, code: str) -> list[Cell]:
@@ -74,25 +72,28 @@ class Comparison:
 
     def row(self, code: str) -> list[str]:
         cells = self.cells(code)
-        row = [code, word(code)]
+        row = [code, word(code, self.labels)]
         for cell in cells:
             ends = f"{figure(cell.ends[0])}..{figure(cell.ends[1])}" if cell.ends else "-"
             row += [str(cell.total), figure(cell.rate), ends + ("*" if cell.differs else "")]
         return row + [f"{cell.ratio:.2f}" if cell.ratio is not None else "-" for cell in cells[1:]]
 
     def csv(self) -> Iterator[str]:
-        """The lines of a table for a spreadsheet. What there is none of is empty."""
-        heads = ["code", "name"]
+        """The lines of a table for a spreadsheet, with all that the text has. What there is none of is empty."""
+        heads = ["code", "name", "alone"]
         for letter in self.letters:
-            heads += [f"{name}_{letter}" for name in ("rule", "soups", "total", f"per_{self.per}", "low", "high", "ratio", "differs")]
+            heads += [f"{name}_{letter}" for name in (*FACTS, "total", f"per_{self.per}", "low", "high", "ratio", "differs")]
         return comma_separated([heads] + [self.csv_row(code) for code in self.codes])
 
     def csv_row(self, code: str) -> list[str]:
-        row = [code, NAMES.get(code, "")]
+        having = [letter for letter, haul in lettered(self.hauls) if code in haul.totals]
+        row = [code, self.labels.get(code, ""), having[0] if len(having) == 1 else ""]
         for haul, cell in zip(self.hauls, self.cells(code), strict=True):
             low, high = map(str, cell.ends) if cell.ends else ("", "")
             ratio = "" if cell.ratio is None else str(cell.ratio)
-            row += [haul.job.rule, str(haul.soups), str(cell.total), str(cell.rate), low, high, ratio, "*" if cell.differs else ""]
+            facts = [haul.job.seed, haul.job.rule, ",".join(map(str, haul.job.profile))]
+            facts += map(str, [haul.soups, haul.unsettled, haul.for_good, haul.objects()])
+            row += [*facts, str(cell.total), str(cell.rate), low, high, ratio, "*" if cell.differs else ""]
         return row
 
     def json(self) -> Iterator[str]:
@@ -105,7 +106,7 @@ class Comparison:
     def json_object(self, code: str) -> dict[str, object]:
         cells = self.cells(code)
         return {
-            "code": code, "name": NAMES.get(code), "totals": [exact(cell.total) for cell in cells], "rates": [cell.rate for cell in cells],
+            "code": code, "name": self.labels.get(code), "totals": [exact(cell.total) for cell in cells], "rates": [cell.rate for cell in cells],
             "intervals": [list(cell.ends) if cell.ends else None for cell in cells], "ratios": [cell.ratio for cell in cells],
             "differs": [cell.differs for cell in cells],
         }

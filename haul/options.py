@@ -83,6 +83,7 @@ def add_compare(commands: Commands) -> None:
                          help="rates in a `million` soups or in a `soup` (default: million)")
     compare.add_argument("--rare", action="store_true", help="begin with the rarest, and leave out what all hauls have")
     add_forms(compare)
+    add_labels(compare)
     compare.add_argument("a", metavar="A", help="a haul (`-`: standard input)")
     compare.add_argument("b", metavar="B", help="another haul (`-`: standard input)")
     compare.add_argument("more", metavar="C", nargs="*", action=Few, help=f"more hauls, up to {MOST_HAULS} in all")
@@ -92,7 +93,7 @@ def add_table(commands: Commands) -> None:
     table = commands.add(
         "table", "print the table of a haul, with how often each object comes",
         "Each code has a\nline, by descending total: its rank, its total, how many objects there are of it in a\nmillion soups, in how many "
-        "soups one has it at most, its samples, and its name.\n\n"
+        "soups one has it at most, its samples, and its name, or what it consists of.\n\n"
         "examples:\n  haul table --top 20 all.haul\n  haul table --kind p --rare all.haul",
     )
     table.add_argument("--top", type=count, metavar="N", help="print the first N lines alone")
@@ -100,6 +101,7 @@ def add_table(commands: Commands) -> None:
     table.add_argument("--kind", choices=("s", "p", "q"), metavar="KIND", help="still lifes `s`, oscillators `p` or spaceships `q` alone")
     table.add_argument("--period", type=count, metavar="N", help="objects of this period alone; still lifes have 1")
     add_forms(table)
+    add_labels(table)
     table.add_argument("file", nargs="?", help="the haul (default: standard input)")
 
 
@@ -125,7 +127,8 @@ def add_page(commands: Commands) -> None:
         "It is one file, which loads nothing.\n\nexample:\n  haul page < all.haul > all.html",
     )
     page.add_argument("--least", type=count, default=1, metavar="N", help="leave out codes with less than N objects (default: 1)")
-    add_census(page)
+    page.add_argument("--play", type=count, default=500, metavar="N", help="show phases in the first N rows, and run their soups (default: 500)")
+    add_labels(page)
     page.add_argument("file", nargs="?", help="the haul (default: standard input)")
 
 
@@ -145,6 +148,12 @@ def add_rle(commands: Commands) -> None:
     )
     rle.add_argument("--rule", type=rule, default="b3s23", metavar="RULE", help="the rule of its header, as b36s23 (default: b3s23, Life)")
     rle.add_argument("file", nargs="?", help="the pattern (default: standard input)")
+
+
+def add_labels(command: argparse.ArgumentParser) -> None:
+    command.add_argument("--labels", choices=("first", "all"), default="first", metavar="WHICH", help="what has no name is called by its islands: in the "
+                         "`first` 2,000 rows, or in `all` (default: first)")
+    add_census(command)
 
 
 def add_census(command: argparse.ArgumentParser) -> None:

@@ -4,8 +4,6 @@ from __future__ import annotations
 
 from haul.rle import SIDE, Rows
 
-BAD_BYTES = bytes(set(range(256)) - set(b".O*"))
-
 
 class BadPlaintext(Exception):
     """A text is no plaintext pattern that `census` reads."""

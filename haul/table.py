@@ -7,9 +7,8 @@ from dataclasses import dataclass
 
 from haul.codes import kind_of
 from haul.columns import aligned, as_json, comma_separated, exact, figure
-from haul.compare import rate
+from haul.compare import one_in, rate
 from haul.many import facts_of
-from haul.names import NAMES
 from haul.text import Haul
 
 HEADS = ["rank", "code", "total", "per_million", "one_in_at_most", "samples", "label"]
@@ -26,7 +25,6 @@ class Line:
     code: str
     total: int
     per_million: float
-    # One soup in so many has the object, at most: how many soups have one isn't known.
     one_in: int
     samples: list[int]
     label: str
@@ -46,13 +44,12 @@ class Line:
         }
 
 
-def table_of(haul: Haul, kind: str | None, period: int | None, rare: bool, top: int | None) -> list[Line]:
-    """The codes by descending total, of a kind and a period if one is given; with `rare`, the rarest come first. A code has the rank
-    that it has among all."""
+def shown(haul: Haul, kind: str | None, period: int | None, rare: bool, top: int | None) -> dict[str, int]:
+    """The codes by descending total, of a kind and a period if one is given, each with its rank among all; with `rare`, the rarest
+    come first."""
     codes = sorted(haul.totals, key=lambda code: (-haul.totals[code], code))
-    ranks = list(enumerate(codes, 1))
-    shown = [(rank, code) for rank, code in (reversed(ranks) if rare else ranks) if is_such(code, kind, period)]
-    return [line_of(haul, rank, code) for rank, code in shown[:top]]
+    ranks = [(code, rank) for rank, code in enumerate(codes, 1) if is_such(code, kind, period)]
+    return dict((ranks[::-1] if rare else ranks)[:top])
 
 
 def is_such(code: str, kind: str | None, period: int | None) -> bool:
@@ -60,9 +57,11 @@ def is_such(code: str, kind: str | None, period: int | None) -> bool:
     return kind in (None, known[0]) and period in (None, known[1])
 
 
-def line_of(haul: Haul, rank: int, code: str) -> Line:
-    total = haul.totals[code]
-    return Line(rank, code, total, rate(total, haul.soups), max(1, haul.soups // total), haul.samples[code], NAMES.get(code, ""))
+def table_of(haul: Haul, ranks: dict[str, int], labels: dict[str, str]) -> list[Line]:
+    return [
+        Line(rank, code, total, rate(total, haul.soups), one_in(haul.soups, total), haul.samples[code], labels.get(code, ""))
+        for code, rank in ranks.items() for total in (haul.totals[code],)
+    ]
 
 
 def text(lines: list[Line], width: int | None) -> Iterator[str]:

@@ -121,10 +121,6 @@ def sample_row(code: str, numbers: list[int]) -> str:
     return " ".join([code, *map(str, numbers)])
 
 
-def text_of(haul: Haul) -> str:
-    return "".join(f"{line}\n" for line in lines_of(haul))
-
-
 class Lines:
     """The lines of an input, and where reading is: the latest line, its fields, and how many of these have been read."""
 

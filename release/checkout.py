@@ -57,7 +57,7 @@ def version_of(top: Path) -> str:
 
 def git(top: Path, *words: str) -> bytes:
     """What git prints of a checkout, which it leaves as it is."""
-    # Whoever calls this from a hook of git has another checkout in the environment.
+    # A hook of git that calls this has another checkout in the environment.
     environment = {name: value for name, value in os.environ.items() if not name.startswith("GIT_")}
     environment |= {"GIT_OPTIONAL_LOCKS": "0", "LC_ALL": "C"}
     try:

@@ -3,8 +3,7 @@
 import sys
 import unittest
 
-NAMES = ["haul.tests.test_text", "haul.tests.test_faults", "haul.tests.test_join", "haul.tests.test_program", "haul.tests.test_ends", "haul.tests.test_rle",
-         "haul.tests.test_tables", "haul.tests.test_whole"]
+from haul.tests import NAMES
 
 suite = unittest.defaultTestLoader.loadTestsFromNames(NAMES)
 result = unittest.TextTestRunner(stream=sys.stdout).run(suite)

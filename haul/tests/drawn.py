@@ -4,7 +4,7 @@ from __future__ import annotations
 
 import random
 
-from haul.text import MOST_SAMPLES, Haul, Job, Range
+from haul.text import MOST_SAMPLES, Haul, Job, Range, lines_of
 
 ALPHABET = "0123456789abcdefghijklmnopqrstuvwxyz_"
 
@@ -39,3 +39,7 @@ def drawn_haul(draw: random.Random, job: Job, ranges: list[Range], is_complete: 
 
 def any_haul(draw: random.Random) -> Haul:
     return drawn_haul(draw, drawn_job(draw), drawn_ranges(draw))
+
+
+def text_of(haul: Haul) -> str:
+    return "".join(f"{line}\n" for line in lines_of(haul))

@@ -7,9 +7,9 @@ import random
 import unittest
 
 from haul.join import CantJoin, Joining
-from haul.tests.drawn import drawn_haul, drawn_job, drawn_ranges
+from haul.tests.drawn import drawn_haul, drawn_job, drawn_ranges, text_of
 from haul.tests.test_text import LARGER, SMALL
-from haul.text import Haul, read_hauls, read_one_haul, text_of
+from haul.text import Haul, read_hauls, read_one_haul
 
 
 def joined(hauls: list[Haul]) -> str:

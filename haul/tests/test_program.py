@@ -18,7 +18,8 @@ from haul.compare import compared
 from haul.page import page_of
 from haul.program import Census, pieces, set_words
 from haul.tests.called import CENSUS, census, run
-from haul.text import BadHaul, Haul, Job, read_one_haul, text_of
+from haul.tests.drawn import text_of
+from haul.text import BadHaul, Haul, Job, read_one_haul
 
 
 class Kept(Census):
@@ -193,7 +194,7 @@ class Comparing(unittest.TestCase):
         status, output, errors = run("compare", "-", "/dev/null", text=census("take", "--count", "1"))
         self.assertEqual((status, output, errors), (3, "", "haul: /dev/null: bad haul at line 1 column 1\n"))
         haul = Haul(Job("", "b3s23", (1, 1, 1, 0)), [(0, 1)], 1, 0, 0, {"xs4_33": 1}, {"xs4_33": [0]})
-        self.assertEqual(list(compared(haul, haul, 1))[1], "A: 1 soup, 0 unsettled, 0 for good, 1 object")
+        self.assertEqual(list(compared([haul, haul], ["xs4_33"], {}))[1], "A: 1 soup, 0 unsettled, 0 for good, 1 object")
 
 
 class Pages(unittest.TestCase):
@@ -223,11 +224,11 @@ class Pages(unittest.TestCase):
     def test_all_is_there(self) -> None:
         text = census("take", "--count", "40")
         page = self.page(read_one_haul(io.BytesIO(text)))
-        self.assertEqual(page.count("<tr><td>"), 30)
+        self.assertEqual(page.count("</td></tr>"), 30)
         self.assertEqual(page.count("role='img'"), 31)
         self.assertIn("href='https://catagolue.hatsya.com/object/xs4_33/b3s23'", page)
         self.assertIn("<td>traffic light</td>", page)
-        self.assertIn("<td>1 in 3</td>", page)
+        self.assertIn("<td>3</td><td>1 in 1 soup at most</td>", page)
         self.assertNotIn("src=", page)
 
     def test_an_object_that_is_too_large_to_draw(self) -> None:

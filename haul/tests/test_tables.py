@@ -194,6 +194,12 @@ in A alone: xq4_153 xs8_rr; in B alone: xp15_4r4z4r4
         self.assertAlmostEqual(float(rows["xp2_7"]["low_a"]), 12216.5, places=0)
         self.assertAlmostEqual(float(rows["xp2_7"]["high_a"]), 30888.4, places=0)
         self.assertEqual(rows["ov_p123"]["ratio_c"], "")
+        # All that the text has, too.
+        for letter, facts in (("a", ["x", "b3s23", "64,512,101,30300", "1000", "1", "2", "524"]), ("b", ["x", "b36s23", "64,512,101,30300", "500", "1", "2", "1006"])):
+            for row in rows.values():
+                self.assertEqual([row[f"{name}_{letter}"] for name in ("seed", "rule", "profile", "soups", "unsettled", "for_good", "objects")], facts)
+        self.assertEqual({code: row["alone"] for code, row in rows.items()},
+                         {"xs4_33": "", "xp2_7": "", "xq4_153": "A", "xs8_rr": "A", "xp15_4r4z4r4": "B", "ov_p123": "C"})
 
     def test_json(self) -> None:
         told = json.loads(self.printed("compare", "--json", "a", "b", "c"))

@@ -7,8 +7,8 @@ import random
 import re
 import unittest
 
-from haul.tests.drawn import any_haul
-from haul.text import BadHaul, Haul, read_hauls, read_one_haul, text_of
+from haul.tests.drawn import any_haul, text_of
+from haul.text import BadHaul, Haul, read_hauls, read_one_haul
 
 # Two of four soups of the empty seed, each unsettled, as docs/FORMATS.md has it.
 SMALL = """\

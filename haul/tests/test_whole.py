@@ -13,12 +13,13 @@ import unittest
 from html.parser import HTMLParser
 from pathlib import Path
 
-from haul.compare import compared
+from haul.compare import compared, ranked
+from haul.names import NAMES
 from haul.page import page_of
 from haul.program import Census, pieces
 from haul.tests.called import CENSUS, HAUL, census, run
-from haul.tests.drawn import any_haul
-from haul.text import Haul, Job, Range, read_one_haul, text_of
+from haul.tests.drawn import any_haul, text_of
+from haul.text import Haul, Job, Range, read_one_haul
 
 STANDARD = (64, 512, 101, 30300)
 NOTES = '#!/bin/sh\necho "$@" >> asked\nexit 4\n'
@@ -127,19 +128,21 @@ class Pages(unittest.TestCase):
     def test_the_table(self) -> None:
         haul = made({"xs4_33": 1200, "xp15_4r4z4r4": 40, "xq4_153": 3, "ov_p123": 1, "ov_s4000": 1}, [(5, 7)])
         rows = rows_of(page(haul)).rows
-        self.assertEqual([row[1:7] for row in rows], [
-            ["xs4_33", "block", "still life", "4", "1,200", "1 in 1"],
-            ["xp15_4r4z4r4", "pentadecathlon", "oscillator of period 15", "12", "40", "1 in 31"],
-            ["xq4_153", "glider", "spaceship of period 4", "5", "3", "1 in 415"],
-            ["ov_p123", "", "oscillator of period 123", "", "1", "1 in 1,245"],
-            ["ov_s4000", "", "still life", "4000", "1", "1 in 1,245"]])
+        self.assertEqual([row[1:8] for row in rows], [
+            ["xs4_33", "block", "still life", "4", "1,200", "1", "1 in 1 soup at most"],
+            ["xp15_4r4z4r4", "pentadecathlon", "oscillator of period 15", "12", "40", "31", "1 in 1 soup at most"],
+            ["xq4_153", "glider", "spaceship of period 4", "5", "3", "415", "1 in 2 soups at most"],
+            ["ov_p123", "", "oscillator of period 123", "", "1", "1,245", "1 in 7 soups at most"],
+            ["ov_s4000", "", "still life", "4000", "1", "1,245", "1 in 7 soups at most"]])
 
     def test_pictures(self) -> None:
         """Objects of more than ten rows, too, and soups, cell for cell."""
         codes = ["xs28_g88m952g8gz1218kid221", "xp3_co9nas0san9oczgoldlo0oldlogz1047210127401", "xs4_1zzzz1zz1"]
         for code in codes:
             shown = rows_of(page(made({code: 1}, [(9, 1)])))
-            self.assertEqual(drawn(shown.paths[0]), cells_of(census("show", "--", code).decode()))
+            # A picture has room for all phases, so the first one need not begin at its corner.
+            left, top = (min(side) for side in zip(*drawn(shown.paths[0])))
+            self.assertEqual({(x - left, y - top) for x, y in drawn(shown.paths[0])}, cells_of(census("show", "--", code).decode()))
             self.assertEqual(drawn(shown.paths[1]), cells_of(census("soup", "--seed=a", "9").decode()))
 
     def test_numbers_of_ranges(self) -> None:
@@ -223,7 +226,7 @@ class Compares(unittest.TestCase):
             one, other = any_haul(draw), any_haul(draw)
             # Some codes are in both.
             other.totals |= {code: total + 1 for code, total in one.totals.items() if draw.random() < 0.5}
-            there, back = (list(compared(*pair, 1)) for pair in ((one, other), (other, one)))
+            there, back = (list(compared(pair, ranked(pair, 1), NAMES)) for pair in ([one, other], [other, one]))
             self.assertEqual([line[1:] for line in there[:4]], [line[1:] for line in (*back[2:4], *back[:2])])
             turned = [[code, name, b, a, rate_b, rate_a] for code, name, a, b, rate_a, rate_b, _ in map(str.split, back[5:-1])]
             self.assertEqual([line.split()[:6] for line in there[5:-1]], turned)

@@ -1,4 +1,4 @@
-//! Each of these tests passes, or fails for want of memory alone, whichever allocation is refused. `bin/try-memory`
+//! Each of these tests passes, or fails for want of memory alone, whichever allocation is refused. `checks/memory`
 //! refuses each in turn.
 
 use crate::setup::{quick_job, range, still_job, text_of};

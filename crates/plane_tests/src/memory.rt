@@ -1,4 +1,4 @@
-//! A run ends rightly, or fails for want of memory, whichever allocation is refused. `bin/try-memory` refuses each in turn.
+//! A run ends rightly, or fails for want of memory, whichever allocation is refused. `checks/memory` refuses each in turn.
 use plane_core::cell::Cell;
 use plane_core::generation::StepError;
 use plane_core::pattern::Pattern;

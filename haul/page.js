@@ -1,0 +1,144 @@
+// Sorts and filters the table, adds it up by islands, shows phases, and offers RLE and players.
+const table = document.getElementById('objects'), body = table.tBodies[0], heads = [...table.tHead.rows[0].cells];
+const [CODE, NAME, CELLS, TOTAL, ONE_IN, SOUPS, SAMPLES] = [1, 2, 4, 5, 6, 7, 8];
+const text = (row, column) => row.cells[column].textContent;
+
+// ---- Order and filter. Rare objects have the largest numbers after 'one in'.
+const isNumber = column => column >= CELLS && column <= SOUPS;
+const number = said => Number(said.replace(/^1 in /, '').replace(/[^0-9]/g, ''));
+const sort = (column, down) => {
+  const keyed = [...body.rows].map(row => [isNumber(column) ? number(text(row, column)) : text(row, column), row]);
+  const order = isNumber(column) ? (a, b) => a[0] - b[0] : (a, b) => (a[0] === '') - (b[0] === '') || (a[0] < b[0] ? -1 : a[0] > b[0] ? 1 : 0);
+  keyed.sort(down ? (a, b) => order(b, a) : order);
+  body.append(...keyed.map(pair => pair[1]));
+  heads.forEach((head, place) => place === column ? head.setAttribute('aria-sort', down ? 'descending' : 'ascending') : head.removeAttribute('aria-sort'));
+};
+heads.forEach((head, column) => head.querySelector('button')?.addEventListener('click', () => {
+  const now = head.getAttribute('aria-sort');
+  sort(column, now ? now === 'ascending' : false);
+}));
+heads[TOTAL].setAttribute('aria-sort', 'descending');
+const filter = document.getElementById('filter');
+const show = () => {
+  const wanted = filter.value.trim().toLowerCase();
+  for (const row of body.rows) row.hidden = 'apart' in row.dataset || !(text(row, CODE) + ' ' + text(row, NAME)).toLowerCase().includes(wanted);
+};
+filter.addEventListener('input', show);
+
+// ---- Islands: an object whose islands are objects by themselves counts as these. A total may be larger than a double has digits for.
+const counts = [TOTAL, ONE_IN, SOUPS], asTaken = new Map([...body.rows].map(row => [row, counts.map(column => text(row, column))]));
+const made = code => {
+  const row = body.insertRow();
+  heads.forEach(() => row.insertCell());
+  row.cells[CODE].textContent = code;
+  row.dataset.made = '';
+  return row;
+};
+const addUp = () => {
+  const totals = new Map(), rows = new Map();
+  for (const [row, [total]] of asTaken) {
+    rows.set(text(row, CODE), row);
+    if (row.dataset.parts) row.dataset.apart = '';
+    for (const code of (row.dataset.parts ?? text(row, CODE)).split(' '))
+      totals.set(code, (totals.get(code) ?? 0n) + BigInt(total.replace(/,/g, '')));
+  }
+  const all = [...totals.values()].reduce((sum, total) => sum + total, 0n), soups = BigInt(table.dataset.soups);
+  for (const [code, total] of totals) {
+    const row = rows.get(code) ?? made(code), oneIn = Math.round(Number(all) / Number(total)), inSoups = soups > total ? soups / total : 1n;
+    const said = [total.toLocaleString('en'), oneIn.toLocaleString('en'), `1 in ${inSoups.toLocaleString('en')} soup${inSoups === 1n ? '' : 's'} at most`];
+    counts.forEach((column, place) => { row.cells[column].textContent = said[place]; });
+  }
+};
+const islands = document.getElementById('islands');
+islands.checked = false;
+islands.addEventListener('change', () => {
+  for (const row of [...body.rows]) if ('made' in row.dataset) row.remove();
+  for (const [row, said] of asTaken) {
+    delete row.dataset.apart;
+    counts.forEach((column, place) => { row.cells[column].textContent = said[place]; });
+  }
+  body.append(...asTaken.keys());
+  if (islands.checked) addUp();
+  document.getElementById('separated').hidden = !islands.checked;
+  sort(TOTAL, true);
+  show();
+});
+
+// ---- Pictures: a path has the runs of live cells, row by row, each from the end of the one before.
+const runsOf = path => {
+  const runs = [];
+  let column = 0, row = 0;
+  for (const [, move, x, y, length] of path.matchAll(/([Mm])(-?\d+) (-?[\d.]+)h(\d+)/g)) {
+    row = move === 'M' ? y - 0.5 : row + Number(y);
+    runs.push([column + Number(x), row, Number(length)]);
+    column += Number(x) + Number(length);
+  }
+  return runs;
+};
+const firstPath = svg => (svg.dataset.phases ?? svg.querySelector('path').getAttribute('d')).split('|')[0];
+const counted = (count, tag) => count === 0 ? '' : count === 1 ? tag : count + tag;
+const rle = svg => {
+  let runs = '', column = 0, row = 0;
+  for (const [x, y, length] of runsOf(firstPath(svg))) {
+    if (y > row) column = 0;
+    runs += counted(y - row, '$') + counted(x - column, 'b') + counted(length, 'o');
+    [column, row] = [x + length, y];
+  }
+  const [, , width, height] = svg.getAttribute('viewBox').split(' ');
+  const lines = runs.concat('!').match(/(?:[0-9]*[bo$!]){1,20}/g).join('\n');
+  return `x = ${width}, y = ${height}, rule = ${table.dataset.rule}\n${lines}\n`;
+};
+const copy = async (text, button) => {
+  try { await navigator.clipboard.writeText(text); button.textContent = 'copied'; }
+  catch { prompt('RLE', text); }
+};
+const offer = (svg, kind, name, act) => {
+  const button = document.createElement('button');
+  button.type = 'button'; button.className = kind; button.textContent = name;
+  button.addEventListener('click', () => act(button));
+  svg.after(button);
+};
+const offerPlayer = details => {
+  const svg = details.querySelector('svg');
+  offer(svg, 'run', 'run it here', button => {
+    const soup = runsOf(firstPath(svg)).flatMap(([x, y, length]) => Array.from({ length }, (_, k) => [x + k, y]));
+    button.replaceWith(player(soup, table.dataset.rule, Number(details.dataset.settled), Number(details.dataset.population)));
+  });
+};
+
+// ---- Phases, of the pictures that are in sight. Whoever wants no motion has them stand still, and a switch is there for all.
+const moving = document.getElementById('phases'), still = matchMedia('(prefers-reduced-motion: reduce)'), inSight = new Set();
+moving.checked = !still.matches;
+still.addEventListener('change', () => { moving.checked = !still.matches; });
+let phase = 0;
+setInterval(() => {
+  if (moving.checked) phase += 1;
+  for (const svg of inSight) {
+    const paths = svg.dataset.phases.split('|');
+    svg.querySelector('path').setAttribute('d', paths[moving.checked ? phase % paths.length : 0]);
+  }
+}, 300);
+
+// ---- Sample soups are a text until their row comes into sight, or all is printed. A browser that can't tell makes all of them.
+const unfold = row => {
+  const kept = row.cells[SAMPLES].querySelector('noscript');
+  if (!kept) return;
+  row.cells[SAMPLES].innerHTML = kept.textContent;
+  row.querySelectorAll('svg').forEach(svg => offer(svg, 'rle', 'copy RLE', button => copy(rle(svg), button)));
+  row.querySelectorAll('details[data-settled]').forEach(offerPlayer);
+};
+addEventListener('beforeprint', () => [...body.rows].forEach(unfold));
+const pictures = body.querySelectorAll('svg[data-phases]');
+if (typeof IntersectionObserver === 'undefined') {
+  [...body.rows].forEach(unfold);
+  pictures.forEach(svg => inSight.add(svg));
+} else {
+  const rows = new IntersectionObserver(entries => {
+    for (const entry of entries) if (entry.isIntersecting) { unfold(entry.target); rows.unobserve(entry.target); }
+  }, { rootMargin: '800px' });
+  for (const row of body.rows) rows.observe(row);
+  const sight = new IntersectionObserver(entries => {
+    for (const entry of entries) entry.isIntersecting ? inSight.add(entry.target) : inSight.delete(entry.target);
+  });
+  pictures.forEach(svg => sight.observe(svg));
+}

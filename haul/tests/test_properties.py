@@ -1,0 +1,178 @@
+"""What holds of every haul: one wrong thing at a time is told where it is, and what a page shows is what the haul has."""
+
+from __future__ import annotations
+
+import io
+import random
+import re
+import unittest
+from collections.abc import Iterator
+
+from haul.check import differences, wrong_samples
+from haul.page import page_of
+from haul.program import Census
+from haul.tests.called import CENSUS, census
+from haul.tests.drawn import any_haul
+from haul.tests.test_whole import rows_of
+from haul.text import Haul, Job, read_one_haul
+
+
+def read(lines: list[str]) -> Haul:
+    return read_one_haul(io.BytesIO("".join(f"{line}\n" for line in lines).encode()))
+
+
+class OneWrongThing(unittest.TestCase):
+    """A right haul with one row changed, at each place. What is said is put together from its lines."""
+
+    def setUp(self) -> None:
+        self.lines = census("take", "--count", "40").decode().splitlines()
+        self.right = read(self.lines)
+        self.objects = int(self.lines[9].split()[1])
+        self.totals = range(12, self.lines.index("", 12))
+        self.samples = range(self.lines.index("@SAMPLE_SOUPIDS") + 1, len(self.lines))
+
+    def said(self, lines: list[str]) -> list[str]:
+        return list(differences(read(lines), self.right))
+
+    def with_objects(self, more: int) -> tuple[list[str], str]:
+        """The lines with another number of objects, and what is said of that."""
+        lines = list(self.lines)
+        lines[9] = f"@NUM_OBJECTS {self.objects + more}"
+        return lines, f"line 10: is {lines[9]}, should be {self.lines[9]}"
+
+    def test_totals(self) -> None:
+        for place in self.totals:
+            code, total = self.lines[place].split()
+            for other in {int(total) + 1, int(total) + 7, 2**63}:
+                lines, told = self.with_objects(other - int(total))
+                lines[place] = f"{code} {other}"
+                self.assertEqual(self.said(lines), [told, f"line {place + 1}: is {code} {other}, should be {code} {total}"])
+
+    def test_codes(self) -> None:
+        """One that is missing, and one that is too much, before each."""
+        for place, row in zip(self.totals, self.samples, strict=True):
+            code, total = self.lines[place].split()
+            lines, told = self.with_objects(-int(total))
+            del lines[row], lines[place]
+            self.assertEqual(self.said(lines), [told, f"missing: {code} {total}"])
+            lines, told = self.with_objects(5)
+            lines.insert(row, f"{code[:-1]} 39")
+            lines.insert(place, f"{code[:-1]} 5")
+            if code[:-1] > self.lines[place - 1].split(" ")[0]:
+                self.assertEqual(self.said(lines), [told, f"line {place + 1}: {code[:-1]}, should not be there"])
+
+    def test_samples(self) -> None:
+        """Another number at each place, one less, and one more."""
+        tried = 0
+        for row in self.samples:
+            code, *numbers = self.lines[row].split()
+            others = [[*numbers[:k], str(number), *numbers[k + 1 :]] for k in range(len(numbers)) for number in range(40)]
+            others += [numbers[:-1], [*numbers, "39"]]
+            for other in others:
+                is_lawful = other and list(map(int, other)) == sorted(set(map(int, other))) and len(other) <= min(3, self.right.totals[code])
+                if is_lawful and other != numbers:
+                    lines = list(self.lines)
+                    lines[row] = " ".join([code, *other])
+                    self.assertEqual(self.said(lines), [f"line {row + 1}: is {lines[row]}, should be {self.lines[row]}"])
+                    tried += 1
+        self.assertGreater(tried, 200)
+
+    def test_lines_before_the_table(self) -> None:
+        for line, name in ((7, "@NUM_UNSETTLED"), (8, "@NUM_FOR_GOOD")):
+            self.assertTrue(self.lines[line].startswith(name))
+            number = int(self.lines[line].split()[1])
+            for other in {0, 1, number + 1} - {number}:
+                lines = list(self.lines)
+                lines[line] = f"{name} {other}"
+                self.assertEqual(self.said(lines), [f"line {line + 1}: is {name} {other}, should be {self.lines[line]}"])
+
+    def test_sample_soups(self) -> None:
+        """A soup that doesn't leave the object, at each place, and by itself."""
+        left = {number: {field.partition("*")[0] for field in line.split()[9:]} for number, line in enumerate(
+            census("work", "--count", "40", "--worker", "1").decode().splitlines())}
+        asked = Once(left)
+        tried = 0
+        for row in self.samples:
+            code, *numbers = self.lines[row].split()
+            for k in range(len(numbers)):
+                for wrong in range(40):
+                    other = sorted({*numbers[:k], *numbers[k + 1 :], str(wrong)}, key=int)
+                    if code in left[wrong] or len(other) < len(numbers):
+                        continue
+                    lines = list(self.lines)
+                    lines[row] = " ".join([code, *other])
+                    self.assertEqual(list(wrong_samples(asked, read(lines))), [f"line {row + 1}: soup {wrong} leaves no {code}"])
+                    tried += 1
+        self.assertGreater(tried, 500)
+
+
+class Once(Census):
+    """The program, of which each soup's objects are known already."""
+
+    def __init__(self, left: dict[int, set[str]]) -> None:
+        super().__init__(CENSUS)
+        self.left = left
+
+    def reports(self, job: Job, numbers: list[int]) -> dict[int, list[str]]:
+        return {number: ["at=0", "good=no", *(f"{code}*1" for code in self.left[number])] for number in numbers}
+
+
+class Draws(Census):
+    """Draws no object, and the same soup for each number."""
+
+    def __init__(self) -> None:
+        super().__init__(CENSUS)
+
+    def objects(self, codes: list[str]) -> Iterator[str | None]:
+        return iter([None] * len(codes))
+
+    def soups(self, seed: str, numbers: list[int]) -> Iterator[str]:
+        return iter(["O\n"] * len(numbers))
+
+
+class Shown(unittest.TestCase):
+    def test_number_for_number(self) -> None:
+        """Each code with its numbers, the most frequent first, and all facts before the table."""
+        draw = random.Random("pages")
+        rows = 0
+        for _ in range(200):
+            haul = any_haul(draw)
+            text = "".join(page_of(Draws(), haul, 1, 0))
+            shown = rows_of(text).rows
+            codes = sorted(haul.totals, key=lambda code: (-haul.totals[code], code))
+            self.assertEqual([row[1] for row in shown], codes)
+            written = text.partition("<tbody>")[2].split("<tr")[1:]
+            for code, row, html in zip(codes, shown, written, strict=True):
+                total = haul.totals[code]
+                times = max(haul.soups // total, 1)
+                self.assertEqual(row[5:8], [f"{total:,}", f"{round(haul.objects() / total):,}", f"1 in {times:,} soup{'s' if times > 1 else ''} at most"])
+                self.assertEqual(re.findall("<summary>([0-9]+)</summary>", html), [str(number) for number in haul.samples[code]])
+            facts = dict(zip(["soups", "unsettled", "good", "objects", "rate", "kinds"], text.split("<dd>")[1:]))
+            found = {name: said.partition("<")[0] for name, said in facts.items()}
+            soups = f"{haul.soups:,}" + (f" of {haul.size():,}" if haul.size() > haul.soups else "")
+            self.assertEqual(found, {"soups": soups, "unsettled": f"{haul.unsettled:,}", "good": f"{haul.for_good:,}", "objects": f"{haul.objects():,}",
+                                     "rate": f"{haul.objects() / haul.soups:.2f}" if haul.soups else "none", "kinds": f"{len(codes):,}"})
+            rows += len(shown)
+        self.assertGreater(rows, 300)
+
+    def test_least(self) -> None:
+        """Codes with as many are there, and what is left out is counted."""
+        draw = random.Random("least")
+        for _ in range(100):
+            haul = any_haul(draw)
+            for least in {0, 1, *list(haul.totals.values())[:3]}:
+                text = "".join(page_of(Draws(), haul, least, 0))
+                shown = [row[1] for row in rows_of(text).rows]
+                self.assertEqual(sorted(shown), [code for code, total in haul.totals.items() if total >= least])
+                out = len(haul.totals) - len(shown)
+                said = f" {out} more {'has' if out == 1 else 'have'} less than {least:,} and {'is' if out == 1 else 'are'} left out." if out else ""
+                self.assertIn(f"turns the order.{said} Names", text)
+
+    def test_four_thousand(self) -> None:
+        codes = [f"xs4_{number:04}" for number in range(4000)]
+        haul = Haul(Job("", "b3s23", (1, 1, 1, 0)), [(0, 1)], 1, 0, 0, {code: 1 + k for k, code in enumerate(codes)}, {code: [0] for code in codes})
+        self.assertEqual([row[1] for row in rows_of("".join(page_of(Draws(), haul, 1, 0))).rows], codes[::-1])
+
+
+if __name__ == "__main__":
+    unittest.main()
