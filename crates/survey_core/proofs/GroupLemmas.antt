@@ -1,6 +1,6 @@
 -- Groups of parts that stay apart: the whole runs as the groups do, each alone, and a group as its parts do in the whole.
 use Rattle.std.proofs.Common.{◌≡◌, ◌≢◌, ◌==◌, ◌∙◌, ◌+◌, ◌<◌, ◌≤◌, ◌||◌, ap, sym, refl, subst, ℕ, zero, suc, Bool, true, false, cond, List, [], ◌∷◌}
-use Rattle.std.proofs.Common.{All, AllPairs, arith, flat_map, get_or, inl, inr, ◌⊎◌, length, map, nat_lt, take, ◌++◌}
+use Rattle.std.proofs.Common.{All, AllPairs, arith, filter, flat_map, get_or, inl, inr, ◌⊎◌, length, map, nat_lt, take, ◌++◌}
 use Rattle.std.specs.List.{list_any}
 use Rattle.std.proofs.lemmas.Bool.{eqb-true, false≢true, ltb-false, ltb-true}
 use Rattle.std.proofs.lemmas.Bool.Decides.{Decides-eqb}
@@ -50,6 +50,20 @@ members_all P k (g ∷ gs) (part ∷ parts) all =
     go : (b : Bool) → All P (members k gs parts) → All P (cond b (part ∷ members k gs parts) (members k gs parts))
     go false more = more
     go true more = All-cons P part (members k gs parts) (all 0 part (omega arith)) more
+
+-- no more than the group has numbers
+pub members_few : (k : ℕ) (gs : List ℕ) (parts : List (List Cell)) → length (members k gs parts) ≤ length (filter (λ (g : ℕ). g == k) gs)
+members_few k [] parts = let none = ap length (members-none k parts) in omega (arith, none)
+members_few k (g ∷ gs) [] = let none = ap length (members-nil k (g ∷ gs)) in omega (arith, none)
+members_few k (g ∷ gs) (part ∷ parts) =
+    subst (λ (all : List (List Cell)). length all ≤ length (filter (λ (q : ℕ). q == k) (g ∷ gs))) (sym (members-cons k g gs part parts))
+    (go (g == k) (members_few k gs parts))
+  where
+    go : (b : Bool) → length (members k gs parts) ≤ length (filter (λ (q : ℕ). q == k) gs)
+        → length (cond b (part ∷ members k gs parts) (members k gs parts))
+        ≤ length (cond b (g ∷ filter (λ (q : ℕ). q == k) gs) (filter (λ (q : ℕ). q == k) gs))
+    go false few = few
+    go true few = omega (arith, few)
 
 -- and the other way round
 pub member_has : (P : List Cell → Type 0) (k : ℕ) (gs : List ℕ) (parts : List (List Cell)) (i : ℕ) (d : List Cell) → All P (members k gs parts)

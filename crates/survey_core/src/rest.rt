@@ -21,7 +21,7 @@
 //! again isn't stepped, since its next generation is known.
 
 ghost use Rattle.std.specs.Prelude.{◌≡◌, ◌<◌, ◌≤◌, ◌↔◌, ℕ, All, IfNone, IfOk, IfSome, IsTrue, flat_map, length, map};
-ghost use Rattle.std.specs.Prelude.{true};
+ghost use Rattle.std.specs.Prelude.{◌==◌, filter, true};
 ghost use Rattle.plane_core.specs.Cells.{InOrder};
 ghost use Rattle.plane_core.specs.Clusters.{Partition};
 ghost use Rattle.plane_core.specs.Generations.{lies_within, next};
@@ -115,13 +115,20 @@ fn group_keeps_apart(
     requires count { length groups.now ≡ length clusters.now }
     ensures { IfOk result (λ apart. IsTrue apart ↔ GroupKeeps rule.now groups.now clusters.now horizon number) }
 {
-    let members = members(alloc, number, groups, clusters)?;
-    if members.len() < 2 {
+    if count_of(groups, number) < 2 {
         return Ok(true);
     }
+    let members = members(alloc, number, groups, clusters)?;
     let whole = union(alloc, members.as_slice())?;
     let apart = keep_apart(alloc, rule, horizon, &whole, members.as_slice())?;
     Ok(apart)
+}
+
+/// How many clusters the group with this number has.
+fn count_of(groups: &[usize], number: usize) -> usize
+    ensures { result ≡ length (filter (λ group. group == number) groups.now) }
+{
+    groups.iter().filter(|group| **group == number).count()
 }
 
 /// The clusters of the group with this number.

@@ -5,16 +5,17 @@ use Rattle.plane_core.specs.Clusters.{Partition}
 use Rattle.plane_core.specs.Generations.{lies_within}
 use Rattle.survey_core.specs.Groups.{members, union_of}
 use Rattle.survey_core.specs.Rest.{KeepApart}
-use Rattle.survey_core.proofs.GroupLemmas.{alone_keeps, members_all, members_partition}
+use Rattle.survey_core.proofs.GroupLemmas.{alone_keeps, members_all, members_few, members_partition}
 use Rattle.survey_core.proofs.PlaneLemmas.{within_more}
 use Rattle.survey_core.proofs.RestLemmas.{union_near}
 use Rattle.survey_core.proofs.rest.group_keeps_apart.Goals as goal
 
 -- a cluster alone has nothing to meet
-pub returns-then-len-lt2 : goal.returns-then-len-lt2
-returns-then-len-lt2 c =
-    let long : length c.in_ok-members.members.items ≡ length (members c.args.number c.args.groups.now c.args.clusters.now) = ap length c.in_ok-members.ensures in
-    let low : length (members c.args.number c.args.groups.now c.args.clusters.now) < 2 = omega arith in (
+pub returns-then-count_of-lt2 : goal.returns-then-count_of-lt2
+returns-then-count_of-lt2 c =
+    let few = members_few c.args.number c.args.groups.now c.args.clusters.now in
+    let all = c.count_of.ensures in
+    let low : length (members c.args.number c.args.groups.now c.args.clusters.now) < 2 = omega (arith, few, all) in (
       λ e g there. alone_keeps c.args.rule.now (members c.args.number c.args.groups.now c.args.clusters.now) g low
           (members_all InOrder c.args.number c.args.groups.now c.args.clusters.now c.requires.order),
       λ keeps. refl,
