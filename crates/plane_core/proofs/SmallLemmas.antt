@@ -1,13 +1,12 @@
 -- A pattern that is alone in a window, as the pattern of a board of one lane.
-use Rattle.std.proofs.Common.{◌≡◌, ◌∙◌, ◌==◌, ◌+◌, ◌*◌, ◌<◌, ℕ, pos, ◌+ℤ◌, ◌-ℤ◌, List, arith, ap, sym, slice_index}
+use Rattle.std.proofs.Common.{◌≡◌, ◌∙◌, ◌==◌, ◌+◌, ◌*◌, ◌<◌, ℕ, pos, ◌+ℤ◌, List, arith, ap, sym, slice_index}
 use Rattle.std.specs.Int.{bit_at}
 use Rattle.std.proofs.lemmas.Int.{ints}
 use Rattle.plane_core.specs.declared.cell.Cell.{Cell}
 use Rattle.plane_core.specs.declared.frame.Frame.{Frame}
 use Rattle.plane_core.specs.declared.place.Place.{Place}
-use Rattle.plane_core.specs.Bounds.{IsWithin}
 use Rattle.plane_core.specs.Cells.{cell_at, has}
-use Rattle.plane_core.specs.Frames.{LieOn, Shows, board_cell, bounds_of, word_of}
+use Rattle.plane_core.specs.Frames.{LieOn, Shows, word_of}
 use Rattle.plane_core.specs.LonePatterns.{Holds}
 use Rattle.plane_core.specs.OnBoard.{cells_on}
 use Rattle.plane_core.specs.Windows.{row_at}

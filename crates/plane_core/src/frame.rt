@@ -23,6 +23,19 @@ use crate::cell::{BOUND, Cell};
 use crate::coordinate::{apart, back};
 use crate::pattern::Pattern;
 
+/// How many lanes a large board has: 64, and one more, since a window wants a lane to its right.
+const LARGE_LANES: usize = 65;
+
+/// How many rows it has: as many as columns, and 72 more. A multiple of 512 would bring the same row of several lanes to
+/// one place of the processor's cache.
+const LARGE_ROWS: usize = 4168;
+
+/// How many lanes a small board has: 16, and one more.
+const SMALL_LANES: usize = 17;
+
+/// And how many rows: as many as columns, and 72 more.
+const SMALL_ROWS: usize = 1096;
+
 /// Where a board lies: its first column and row, how many lanes of 64 columns it has, and how many rows. The rows are a
 /// multiple of eight.
 #[derive(Clone, Copy)]
@@ -96,9 +109,7 @@ impl Frame {
         }
     }
 
-    /// A frame round the origin for patterns that are shown one after another: 64 lanes and one more, since a window
-    /// wants a lane to its right. The number of rows is no multiple of 512, so that the same row of several lanes
-    /// doesn't fall into one place of the processor's cache.
+    /// A frame round the origin for patterns that are shown one after another.
     pub(crate) fn round_origin() -> Frame
         ensures frame { IsFrame result }
         ensures plane { AreSidesWithin plane_bound (bounds_of result) }
@@ -106,12 +117,12 @@ impl Frame {
         Frame {
             left: -2048,
             top: -2084,
-            lanes: 65,
-            rows: 4168,
+            lanes: LARGE_LANES,
+            rows: LARGE_ROWS,
         }
     }
 
-    /// A smaller frame round the origin, whose words are cleared in no time: 16 lanes and one more.
+    /// A smaller frame round the origin, whose words are cleared in no time.
     pub(crate) fn small_round_origin() -> Frame
         ensures frame { IsFrame result }
         ensures plane { AreSidesWithin plane_bound (bounds_of result) }
@@ -119,8 +130,8 @@ impl Frame {
         Frame {
             left: -512,
             top: -548,
-            lanes: 17,
-            rows: 1096,
+            lanes: SMALL_LANES,
+            rows: SMALL_ROWS,
         }
     }
 

@@ -14,6 +14,7 @@ use Rattle.plane_core.proofs.GenerationLemmas.{after-none, after-more}
 use Rattle.plane_core.proofs.SearchLemmas.{has-list_all, list_all-has}
 use Rattle.code_core.proofs.MovedCodes.{in_order-after}
 use Rattle.plane_core.proofs.SetLemmas.{has-set_of}
+use Rattle.survey_core.specs.UnderWay.{survey_reach}
 use Rattle.survey_core.proofs.PlaneLemmas.{within_all, within_later}
 use Rattle.survey_core.specs.Groups.{ShareNoCell, union_of}
 use Rattle.survey_core.specs.Profiles.{Settling}
@@ -53,11 +54,11 @@ alone_in_order rule clusters g order =
     All-map InOrder (λ part. after rule part g) clusters (λ k d low. in_order-after rule (get_or clusters k d) g (order k d low))
 
 -- and near the origin
-pub alone_near : (rule : Numbers) (clusters : List (List Cell)) (g : ℕ) → All (λ part. lies_within 101000 part ≡ true) clusters → g ≤ 4096
+pub alone_near : (rule : Numbers) (clusters : List (List Cell)) (g : ℕ) → All (λ part. lies_within survey_reach part ≡ true) clusters → g ≤ 4096
     → All (λ part. lies_within 999999 part ≡ true) (map (λ part. after rule part g) clusters)
 alone_near rule clusters g near low =
     All-map (λ part. lies_within 999999 part ≡ true) (λ part. after rule part g) clusters
-    (λ k d there. within_later 101000 999999 rule (get_or clusters k d) g (omega arith) (near k d there))
+    (λ k d there. within_later survey_reach 999999 rule (get_or clusters k d) g (omega arith) (near k d there))
 
 -- one generation more in which they keep apart
 pub apart_more : (rule : Numbers) (cells : List Cell) (clusters : List (List Cell)) (g : ℕ) (whole : List Cell) (alone : List (List Cell))

@@ -196,7 +196,7 @@ fn finding_at(
     latest: &Pattern,
     memo: &mut Memo,
 ) -> Result<Option<Finding>, AllocError>
-    requires { lies_within 101000 latest.now ≡ true }
+    requires { lies_within survey_reach latest.now ≡ true }
     ensures settled { IfOk result (λ found. IfSome found (SettlesAt rule.now profile.now latest.now checkpoint)) }
     ensures moves { IfOk result (λ found. IfNone found (¬ IsAtRest rule.now profile.now latest.now)) }
     ensures few { IfOk result (λ found. IfSome found (λ finding. objects_in finding < 2 ^ 64)) }

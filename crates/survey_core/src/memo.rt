@@ -23,6 +23,7 @@ ghost use Rattle.code_core.specs.Names.{IsCode};
 ghost use Rattle.survey_core.specs.Memos.{IsAbout, IsKnown, moved_bounds, moved_sweep};
 ghost use Rattle.survey_core.specs.Rest.{ComesBack};
 ghost use Rattle.survey_core.specs.Sweeps.{AreSweeps, IsSweep};
+ghost use Rattle.survey_core.specs.UnderWay.{survey_reach};
 
 use crate::slot::slot_of;
 use crate::sweep::Sweep;
@@ -145,7 +146,7 @@ impl Memo {
         requires most { limit ≤ 64 }
         requires order { All InOrder patterns.now }
         requires some { All (λ pattern. pattern ≢ []) patterns.now }
-        requires near { All (λ pattern. lies_within 101000 pattern ≡ true) patterns.now }
+        requires near { All (λ pattern. lies_within survey_reach pattern ≡ true) patterns.now }
         ensures sweeps { IfOk result
             (λ found. IfSome found (λ sweeps. AreSweeps rule.now limit patterns.now sweeps.items)) }
         ensures never { IfOk result (λ found. IfNone found (¬ All (ComesBack rule.now limit) patterns.now)) }
@@ -200,7 +201,7 @@ impl Memo {
         requires most { limit ≤ 64 }
         requires order { InOrder pattern.now }
         requires some { pattern.now ≢ [] }
-        requires near { lies_within 101000 pattern.now ≡ true }
+        requires near { lies_within survey_reach pattern.now ≡ true }
         ensures sweep { IfOk result (λ found. IfSome found (IsSweep rule.now limit pattern.now)) }
         ensures never { IfOk result (λ found. IfNone found (¬ ComesBack rule.now limit pattern.now)) }
     {
@@ -227,7 +228,7 @@ impl Memo {
         requires least { 1 ≤ limit }
         requires most { limit ≤ 64 }
         requires some { pattern.now ≢ [] }
-        requires near { lies_within 101000 pattern.now ≡ true }
+        requires near { lies_within survey_reach pattern.now ≡ true }
         requires back { ComesBack rule.now limit pattern.now }
         ensures { IfOk result (IsCode rule.now pattern.now limit) }
     {
@@ -278,7 +279,7 @@ impl Memo {
         requires least { 1 ≤ limit }
         requires most { limit ≤ 64 }
         requires some { pattern.now ≢ [] }
-        requires near { lies_within 101000 pattern.now ≡ true }
+        requires near { lies_within survey_reach pattern.now ≡ true }
         requires sweep { IsSweep rule.now limit pattern.now sweep }
     {
         let slot = slot_of(pattern, self.slots.len());
@@ -302,7 +303,7 @@ impl Known {
         requires least { 1 ≤ limit }
         requires most { limit ≤ 64 }
         requires some { pattern.now ≢ [] }
-        requires near { lies_within 101000 pattern.now ≡ true }
+        requires near { lies_within survey_reach pattern.now ≡ true }
         requires sweep { IsSweep rule.now limit pattern.now sweep }
     {
         let code = code_of(alloc, rule, limit, pattern)?;
@@ -404,7 +405,7 @@ fn code_of(alloc: Global, rule: &Rule, limit: u32, pattern: &Pattern) -> Result<
     requires least { 1 ≤ limit }
     requires most { limit ≤ 64 }
     requires some { pattern.now ≢ [] }
-    requires near { lies_within 101000 pattern.now ≡ true }
+    requires near { lies_within survey_reach pattern.now ≡ true }
     requires back { ComesBack rule.now limit pattern.now }
     ensures { IfOk result (IsCode rule.now pattern.now limit) }
 {

@@ -12,6 +12,7 @@ ghost use Rattle.code_core.specs.declared.apgcode.Kind.TheVariants.{Ship};
 ghost use Rattle.survey_core.specs.Objects.{AreObjects, AreObjectsOf, CountsAreSome, IsCommonMultiple, IsMultiple};
 ghost use Rattle.survey_core.specs.Objects.{StayForGood, count_of, is_code, period_in};
 ghost use Rattle.survey_core.specs.Rest.{ComesBack};
+ghost use Rattle.survey_core.specs.UnderWay.{survey_reach};
 
 use crate::memo::Memo;
 use code_core::apgcode::{Apgcode, Kind};
@@ -59,7 +60,7 @@ impl Objects {
         requires least { 1 ≤ limit }
         requires most { limit ≤ 64 }
         requires some { All (λ cluster. cluster ≢ []) clusters.now }
-        requires near { All (λ cluster. lies_within 101000 cluster ≡ true) clusters.now }
+        requires near { All (λ cluster. lies_within survey_reach cluster ≡ true) clusters.now }
         requires back { All (ComesBack rule.now limit) clusters.now }
         ensures objects { IfOk result (AreObjectsOf rule.now limit clusters.now) }
         ensures number { IfOk result (λ objects. sum (values_of objects) ≡ length clusters.now) }

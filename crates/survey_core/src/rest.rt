@@ -28,6 +28,7 @@ ghost use Rattle.plane_core.specs.Generations.{lies_within, next};
 ghost use Rattle.survey_core.specs.Groups.{GroupKeeps, ShareNoCell, members, union_of};
 ghost use Rattle.survey_core.specs.Rest.{IsAtRest, KeepApart, RestsAs};
 ghost use Rattle.survey_core.specs.RestLaws.{AtRestForGood, EmptyIsAtRest, GroupsRunAlone, PartsRunAlone};
+ghost use Rattle.survey_core.specs.UnderWay.{survey_reach};
 
 use crate::groups::groups;
 use crate::later::next;
@@ -46,7 +47,7 @@ pub(crate) fn clusters_at_rest(
     pattern: &Pattern,
     memo: &mut Memo,
 ) -> Result<Option<Vec<Pattern>>, AllocError>
-    requires { lies_within 101000 pattern.now ≡ true }
+    requires { lies_within survey_reach pattern.now ≡ true }
     ensures rest { IfOk result
         (λ found. IfSome found (λ clusters. RestsAs rule.now profile.now pattern.now clusters.items)) }
     ensures moves { IfOk result (λ found. IfNone found (¬ IsAtRest rule.now profile.now pattern.now)) }
@@ -82,7 +83,7 @@ fn groups_keep_apart(
     groups: &[usize],
 ) -> Result<bool, AllocError>
     requires horizon { horizon ≤ 4096 }
-    requires near { All (λ cluster. lies_within 101000 cluster ≡ true) clusters.now }
+    requires near { All (λ cluster. lies_within survey_reach cluster ≡ true) clusters.now }
     requires order { All InOrder clusters.now }
     requires off { ShareNoCell clusters.now }
     requires count { length groups.now ≡ length clusters.now }
@@ -109,7 +110,7 @@ fn group_keeps_apart(
     number: usize,
 ) -> Result<bool, AllocError>
     requires horizon { horizon ≤ 4096 }
-    requires near { All (λ cluster. lies_within 101000 cluster ≡ true) clusters.now }
+    requires near { All (λ cluster. lies_within survey_reach cluster ≡ true) clusters.now }
     requires order { All InOrder clusters.now }
     requires off { ShareNoCell clusters.now }
     requires count { length groups.now ≡ length clusters.now }
@@ -173,8 +174,8 @@ fn keep_apart(
     clusters: &[Pattern],
 ) -> Result<bool, AllocError>
     requires horizon { horizon ≤ 4096 }
-    requires near { lies_within 101000 pattern.now ≡ true }
-    requires each_near { All (λ cluster. lies_within 101000 cluster ≡ true) clusters.now }
+    requires near { lies_within survey_reach pattern.now ≡ true }
+    requires each_near { All (λ cluster. lies_within survey_reach cluster ≡ true) clusters.now }
     requires order { All InOrder clusters.now }
     requires parts { Partition pattern.now clusters.now }
     ensures { IfOk result

@@ -23,6 +23,7 @@ ghost use Rattle.plane_core.specs.Generations.{after, lies_within};
 ghost use Rattle.survey_core.specs.Rest.{ComesBack};
 ghost use Rattle.survey_core.specs.Sweeps.{IsSweep, Serves, ShipsMoveByTurns, StayApart, StayClear};
 ghost use Rattle.survey_core.specs.Sweeps.{is_clear, is_parting, is_past};
+ghost use Rattle.survey_core.specs.UnderWay.{survey_reach};
 
 use crate::later::next;
 use code_core::recurrence::Recurrence;
@@ -51,7 +52,7 @@ impl Sweep {
         requires most { limit ≤ 64 }
         requires order { InOrder pattern.now }
         requires some { pattern.now ≢ [] }
-        requires near { lies_within 101000 pattern.now ≡ true }
+        requires near { lies_within survey_reach pattern.now ≡ true }
         ensures sweep { IfOk result (λ found. IfSome found (IsSweep rule.now limit pattern.now)) }
         ensures never { IfOk result (λ found. IfNone found (¬ ComesBack rule.now limit pattern.now)) }
     {
@@ -71,7 +72,7 @@ impl Sweep {
 fn swept(alloc: Global, rule: &Rule, period: u32, pattern: &Pattern) -> Result<Bounds, AllocError>
     requires some { 1 ≤ period }
     requires few { period ≤ 64 }
-    requires near { lies_within 101000 pattern.now ≡ true }
+    requires near { lies_within survey_reach pattern.now ≡ true }
     ensures { IfOk result (λ bounds. (g : ℕ) → g < period → All (IsWithin bounds) (after rule.now pattern.now g)) }
 {
     let mut phase = pattern.copy(alloc)?;

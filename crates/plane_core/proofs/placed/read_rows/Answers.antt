@@ -1,4 +1,4 @@
-use Rattle.std.proofs.Common.{◌≡◌, ◌+◌, ◌%◌, ℕ, arith, length, length-set, ◌∙◌, subst}
+use Rattle.std.proofs.Common.{◌≡◌, ℕ, arith, length, length-set, ◌∙◌, subst}
 use Rattle.std.proofs.lemmas.List.{length-replicate}
 use Rattle.plane_core.specs.Placed.{AreRowsRead}
 use Rattle.plane_core.proofs.PlacedLemmas.{read_word, rows_more}

@@ -4,6 +4,7 @@ use Rattle.plane_core.specs.declared.cell.Cell.{Cell}
 use Rattle.plane_core.specs.Generations.{lies_within}
 use Rattle.survey_core.specs.Objects.{AreObjectsOf, StayForGood}
 use Rattle.survey_core.specs.Rest.{ComesBack, RestsAs}
+use Rattle.survey_core.specs.UnderWay.{survey_reach}
 use Rattle.survey_core.proofs.RestLemmas.{cluster_some, cluster_within}
 use Rattle.survey_core.proofs.finding.finding_at.Goals as goal
 
@@ -15,8 +16,8 @@ of_clusters-requires-clause-some c =
 pub of_clusters-requires-clause-near : goal.of_clusters-requires-clause-near
 of_clusters-requires-clause-near c =
     let rest : RestsAs c.args.rule.now c.args.profile.now c.args.latest.now c.in-Some.clusters.items = rw c.in-Some.is at c.in_ok-clusters.ensures.rest in
-    subst (All (λ (part : List Cell). lies_within 101000 part ≡ true)) (sym c.as_slice.ensures.value)
-    (λ k d low. cluster_within 101000 c.args.latest.now _ c.requires (rest.parts.each k d low))
+    subst (All (λ (part : List Cell). lies_within survey_reach part ≡ true)) (sym c.as_slice.ensures.value)
+    (λ k d low. cluster_within survey_reach c.args.latest.now _ c.requires (rest.parts.each k d low))
 
 pub of_clusters-requires-clause-back : goal.of_clusters-requires-clause-back
 of_clusters-requires-clause-back c =

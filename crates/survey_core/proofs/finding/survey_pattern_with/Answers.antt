@@ -32,8 +32,8 @@ look_at-requires-clause-near c =
     is_checkpoint c.args.profile.now c.loop-place.place c.stride.ensures.profile.onward low in
     let within : c.loop-place.place * c.args.profile.now.stride ≤ c.args.profile.now.limit = check.within in
     let most : c.args.profile.now.limit ≤ 100000 = c.stride.ensures.profile.limit in
-    ap (lies_within 101000) c.loop-place.invariant.latest
-    ∙ within_later 1000 101000 c.args.rule.now c.args.pattern (c.loop-place.place * c.args.profile.now.stride) (omega arith) c.requires
+    ap (lies_within survey_reach) c.loop-place.invariant.latest
+    ∙ within_later 1000 survey_reach c.args.rule.now c.args.pattern (c.loop-place.place * c.args.profile.now.stride) (omega arith) c.requires
 
 pub look_at-requires-2-clause-near : goal.look_at-requires-2-clause-near
 look_at-requires-2-clause-near c =
@@ -43,8 +43,8 @@ look_at-requires-2-clause-near c =
     is_checkpoint c.args.profile.now c.loop-place.place c.stride.ensures.profile.onward low in
     let within : c.loop-place.place * c.args.profile.now.stride ≤ c.args.profile.now.limit = check.within in
     let most : c.args.profile.now.limit ≤ 100000 = c.stride.ensures.profile.limit in
-    ap (lies_within 101000) c.loop-place.invariant.latest
-    ∙ within_later 1000 101000 c.args.rule.now c.args.pattern (c.loop-place.place * c.args.profile.now.stride) (omega arith) c.requires
+    ap (lies_within survey_reach) c.loop-place.invariant.latest
+    ∙ within_later 1000 survey_reach c.args.rule.now c.args.pattern (c.loop-place.place * c.args.profile.now.stride) (omega arith) c.requires
 
 pub start-course-requires : goal.start-course-requires
 start-course-requires c = within_more 1000 survey_reach c.args.pattern (omega arith) c.requires

@@ -9,6 +9,7 @@ use Rattle.survey_core.specs.Grouping.{AreGroups}
 use Rattle.survey_core.specs.Groups.{GroupKeeps, ShareNoCell}
 use Rattle.survey_core.specs.Rest.{ComesBack, RestsAs}
 use Rattle.survey_core.specs.Sweeps.{AreSweeps}
+use Rattle.survey_core.specs.UnderWay.{survey_reach}
 use Rattle.survey_core.proofs.GroupingLemmas.{groups_of_rest, rest_by_groups}
 use Rattle.survey_core.proofs.RestLemmas.{clusters_near, clusters_off, clusters_some, same_clusters}
 use Rattle.survey_core.proofs.rest.clusters_at_rest.Goals as goal
@@ -20,8 +21,8 @@ sweeps-requires-clause-some c =
 
 pub sweeps-requires-clause-near : goal.sweeps-requires-clause-near
 sweeps-requires-clause-near c =
-    subst (All (λ (part : List Cell). lies_within 101000 part ≡ true)) (sym c.as_slice.ensures.value)
-    (clusters_near 101000 c.args.pattern.now c.in_ok-clusters.clusters.items c.in_ok-clusters.ensures.clusters c.requires)
+    subst (All (λ (part : List Cell). lies_within survey_reach part ≡ true)) (sym c.as_slice.ensures.value)
+    (clusters_near survey_reach c.args.pattern.now c.in_ok-clusters.clusters.items c.in_ok-clusters.ensures.clusters c.requires)
 
 -- some cluster doesn't come back
 pub returns-in-None-clause-moves : goal.returns-in-None-clause-moves
@@ -34,8 +35,8 @@ returns-in-None-clause-moves c = λ rest.
 
 pub groups_keep_apart-requires-clause-near : goal.groups_keep_apart-requires-clause-near
 groups_keep_apart-requires-clause-near c =
-    subst (All (λ (part : List Cell). lies_within 101000 part ≡ true)) (sym c.as_slice-3.ensures.value)
-    (clusters_near 101000 c.args.pattern.now c.in_ok-clusters.clusters.items c.in_ok-clusters.ensures.clusters c.requires)
+    subst (All (λ (part : List Cell). lies_within survey_reach part ≡ true)) (sym c.as_slice-3.ensures.value)
+    (clusters_near survey_reach c.args.pattern.now c.in_ok-clusters.clusters.items c.in_ok-clusters.ensures.clusters c.requires)
 
 pub groups_keep_apart-requires-clause-off : goal.groups_keep_apart-requires-clause-off
 groups_keep_apart-requires-clause-off c =

@@ -5,6 +5,7 @@ use Rattle.plane_core.specs.Clusters.{Partition}
 use Rattle.plane_core.specs.Generations.{lies_within}
 use Rattle.survey_core.specs.Groups.{members, union_of}
 use Rattle.survey_core.specs.Rest.{KeepApart}
+use Rattle.survey_core.specs.UnderWay.{survey_reach}
 use Rattle.survey_core.proofs.GroupLemmas.{alone_keeps, members_all, members_few, members_partition}
 use Rattle.survey_core.proofs.PlaneLemmas.{within_more}
 use Rattle.survey_core.proofs.RestLemmas.{union_near}
@@ -25,18 +26,18 @@ pub union-requires : goal.union-requires
 union-requires c =
     subst (All (λ part. lies_within 999999 part ≡ true)) (sym (c.as_slice.ensures.value ∙ c.in_ok-members.ensures))
     (members_all (λ part. lies_within 999999 part ≡ true) c.args.number c.args.groups.now c.args.clusters.now
-    (λ k d low. within_more 101000 999999 (get_or c.args.clusters.now k d) (omega arith) (c.requires.near k d low)))
+    (λ k d low. within_more survey_reach 999999 (get_or c.args.clusters.now k d) (omega arith) (c.requires.near k d low)))
 
 pub keep_apart-requires-clause-near : goal.keep_apart-requires-clause-near
 keep_apart-requires-clause-near c =
-    ap (lies_within 101000) (c.in_ok-whole.ensures ∙ ap union_of (c.as_slice.ensures.value ∙ c.in_ok-members.ensures))
-    ∙ union_near 101000 (members c.args.number c.args.groups.now c.args.clusters.now)
-    (members_all (λ part. lies_within 101000 part ≡ true) c.args.number c.args.groups.now c.args.clusters.now c.requires.near)
+    ap (lies_within survey_reach) (c.in_ok-whole.ensures ∙ ap union_of (c.as_slice.ensures.value ∙ c.in_ok-members.ensures))
+    ∙ union_near survey_reach (members c.args.number c.args.groups.now c.args.clusters.now)
+    (members_all (λ part. lies_within survey_reach part ≡ true) c.args.number c.args.groups.now c.args.clusters.now c.requires.near)
 
 pub keep_apart-requires-clause-each_near : goal.keep_apart-requires-clause-each_near
 keep_apart-requires-clause-each_near c =
-    subst (All (λ part. lies_within 101000 part ≡ true)) (sym (c.as_slice-2.ensures.value ∙ c.in_ok-members.ensures))
-    (members_all (λ part. lies_within 101000 part ≡ true) c.args.number c.args.groups.now c.args.clusters.now c.requires.near)
+    subst (All (λ part. lies_within survey_reach part ≡ true)) (sym (c.as_slice-2.ensures.value ∙ c.in_ok-members.ensures))
+    (members_all (λ part. lies_within survey_reach part ≡ true) c.args.number c.args.groups.now c.args.clusters.now c.requires.near)
 
 pub keep_apart-requires-clause-order : goal.keep_apart-requires-clause-order
 keep_apart-requires-clause-order c =

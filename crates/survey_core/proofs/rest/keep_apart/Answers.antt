@@ -6,6 +6,7 @@ use Rattle.plane_core.specs.Cells.{InOrder}
 use Rattle.plane_core.specs.Generations.{after, lies_within, next}
 use Rattle.plane_core.proofs.GenerationLemmas.{after-none, after-more}
 use Rattle.survey_core.specs.Rest.{KeepApart}
+use Rattle.survey_core.specs.UnderWay.{survey_reach}
 use Rattle.survey_core.proofs.ForGoodLemmas.{apart_once_back}
 use Rattle.survey_core.proofs.PlaneLemmas.{within_later}
 use Rattle.survey_core.proofs.RestLemmas.{alone_at_once, alone_in_order, alone_later, alone_near, apart_at_once, apart_more, apart_now}
@@ -28,7 +29,7 @@ pub next-requires : goal.next-requires
 next-requires c =
     let low : c.loop.counter < c.args.horizon = c.loop-test.true in
     let most : c.args.horizon ≤ 4096 = c.requires.horizon in
-    ap (lies_within 999999) c.loop.invariant.whole ∙ within_later 101000 999999 c.args.rule.now c.args.pattern.now c.loop.counter (omega arith) c.requires.near
+    ap (lies_within 999999) c.loop.invariant.whole ∙ within_later survey_reach 999999 c.args.rule.now c.args.pattern.now c.loop.counter (omega arith) c.requires.near
 
 pub are_back-back-requires : goal.are_back-back-requires
 are_back-back-requires c =

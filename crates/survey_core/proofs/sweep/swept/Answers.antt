@@ -2,6 +2,7 @@ use Rattle.std.proofs.Common.{◌∙◌, ◌<◌, ◌≤◌, ◌-◌, ap, sym, s
 use Rattle.plane_core.specs.Bounds.{IsWithin}
 use Rattle.plane_core.specs.Generations.{after, lies_within, next}
 use Rattle.plane_core.proofs.GenerationLemmas.{after-none, after-more}
+use Rattle.survey_core.specs.UnderWay.{survey_reach}
 use Rattle.survey_core.proofs.PlaneLemmas.{within_later}
 use Rattle.survey_core.proofs.SweepLemmas.{swept_more}
 use Rattle.survey_core.proofs.sweep.swept.Goals as goal
@@ -18,7 +19,7 @@ next-requires c =
     let low : c.loop-age.age < c.args.period - 1 = c.loop-age-test.true in
     let few : c.args.period ≤ 64 = c.requires.few in
     ap (lies_within 999999) c.loop-age.invariant.phase
-    ∙ within_later 101000 999999 c.args.rule.now c.args.pattern.now c.loop-age.age (omega arith) c.requires.near
+    ∙ within_later survey_reach 999999 c.args.rule.now c.args.pattern.now c.loop-age.age (omega arith) c.requires.near
 
 pub loop-age-preserved : goal.loop-age-preserved
 loop-age-preserved c =

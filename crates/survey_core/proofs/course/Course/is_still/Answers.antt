@@ -1,4 +1,4 @@
-use Rattle.std.proofs.Common.{◌≡◌, ◌∙◌, ap, sym}
+use Rattle.std.proofs.Common.{◌∙◌, ap, sym}
 use Rattle.plane_core.specs.Generations.{after}
 use Rattle.survey_core.specs.Courses.{kept}
 use Rattle.survey_core.specs.UnderWay.{UnderWay}

@@ -6,6 +6,7 @@ use Rattle.plane_core.specs.Cells.{InOrder}
 use Rattle.plane_core.specs.Generations.{lies_within}
 use Rattle.survey_core.specs.Rest.{ComesBack}
 use Rattle.survey_core.specs.Sweeps.{AreSweeps, IsSweep}
+use Rattle.survey_core.specs.UnderWay.{survey_reach}
 use Rattle.survey_core.proofs.SweepLemmas.{sweeps_more}
 use Rattle.survey_core.proofs.memo.Memo.sweeps.Goals as goal
 
@@ -44,7 +45,7 @@ sweep-requires-clause-some c =
 
 pub sweep-requires-clause-near : goal.sweep-requires-clause-near
 sweep-requires-clause-near c =
-    subst (λ (pattern : List Cell). lies_within 101000 pattern ≡ true) (sym c.pattern-item.is)
+    subst (λ (pattern : List Cell). lies_within survey_reach pattern ≡ true) (sym c.pattern-item.is)
     (c.requires.near c.loop-pattern.pattern-index c.pattern-item.result c.loop-pattern-test.true)
 
 pub returns-clause-sweeps : goal.returns-clause-sweeps

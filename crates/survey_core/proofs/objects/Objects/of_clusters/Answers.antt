@@ -9,6 +9,7 @@ use Rattle.plane_core.specs.declared.cell.Cell.{Cell}
 use Rattle.plane_core.specs.Generations.{lies_within}
 use Rattle.survey_core.specs.Objects.{is_code}
 use Rattle.survey_core.specs.Rest.{ComesBack}
+use Rattle.survey_core.specs.UnderWay.{survey_reach}
 use Rattle.survey_core.proofs.ObjectLemmas.{are_objects_of, codes_more, count_by_more, length_more}
 use Rattle.survey_core.proofs.objects.Objects.of_clusters.Goals as goal
 
@@ -39,7 +40,7 @@ code-requires-clause-some c =
 
 pub code-requires-clause-near : goal.code-requires-clause-near
 code-requires-clause-near c =
-    subst (λ (cluster : List Cell). lies_within 101000 cluster ≡ true) (sym c.cluster-item.is)
+    subst (λ (cluster : List Cell). lies_within survey_reach cluster ≡ true) (sym c.cluster-item.is)
     (c.requires.near c.loop-cluster.cluster-index c.cluster-item.result c.loop-cluster-test.true)
 
 pub count-requires-clause-some : goal.count-requires-clause-some
