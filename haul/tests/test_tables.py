@@ -11,6 +11,7 @@ import sys
 import tempfile
 import time
 import unittest
+from itertools import permutations
 from math import exp, fsum, lgamma, log
 from pathlib import Path
 
@@ -53,6 +54,19 @@ class Tables(unittest.TestCase):
         status, output, errors = run(command, *(os.path.join(self.folder.name, word) if word in "abc" else word for word in words))
         self.assertEqual((status, errors), (0, ""))
         return output
+
+
+def exact_ends(total: int) -> tuple[float, float]:
+    """The ends of the interval of 95 %, by halving, of sums of the terms of Poisson's law as it is defined."""
+    def mean_at(count: int, chance: float) -> float:
+        low, high = 0.0, 2.0 * count + 20
+        for _ in range(60):
+            middle = (low + high) / 2
+            terms = fsum(exp(k * log(middle) - middle - lgamma(k + 1)) for k in range(count))
+            low, high = (middle, high) if terms > chance else (low, middle)
+        return low
+
+    return mean_at(total, 0.975) if total else 0.0, mean_at(total + 1, 0.025)
 
 
 class Intervals(unittest.TestCase):
@@ -175,6 +189,48 @@ in A alone: xq4_153 xs8_rr; in B alone: xp15_4r4z4r4
         self.assertEqual(lines[7].split()[-2:], ["4.00", "1.02"])
         self.assertEqual(lines[-2], "in A alone: xq4_153 xs8_rr; in B alone: xp15_4r4z4r4; in C alone: ov_p123")
         self.assertIn("as if objects came singly", lines[-1])
+
+    def test_all_that_is_printed(self) -> None:
+        """Three hauls in each order, with each option: facts, rates, intervals, ratios and stars, and who has what alone."""
+        names = {"xs4_33": "block", "xp2_7": "blinker", "xq4_153": "glider", "xs8_rr": "bi-block", "xp15_4r4z4r4": "pentadecathlon"}
+        facts = {"a": (1000, {"xs4_33": 500, "xp2_7": 20, "xq4_153": 3, "xs8_rr": 1}), "b": (500, {"xs4_33": 1000, "xp2_7": 2, "xp15_4r4z4r4": 4}),
+                 "c": (1000, {"xs4_33": 510, "xp2_7": 20, "ov_p123": 5})}
+        rules = {"a": "b3s23", "b": "b36s23", "c": "b3s12"}
+        ends = {total: exact_ends(total) for total in (0, 1, 2, 3, 4, 5, 20, 500, 510, 1000)}
+
+        def shown(number: float) -> str:
+            return f"{number:.2f}" if number >= 1 or number == 0 else f"{number:.3g}"
+
+        for order in permutations("abc"):
+            for words, least, unit in (([], 1, 10**6), (["--per", "soup"], 1, 1), (["--least", "4"], 4, 10**6), (["--rare"], 1, 10**6)):
+                hauls = [facts[name] for name in order]
+                best = {code: max(totals.get(code, 0) / soups for soups, totals in hauls) for _, totals in hauls for code in totals
+                        if any(other.get(code, 0) >= least for _, other in hauls)}
+                codes = sorted(best, key=lambda code: (-best[code], code))
+                if words == ["--rare"]:
+                    codes = [code for code in codes[::-1] if code not in ("xs4_33", "xp2_7")]
+                wanted = []
+                for letter, name in zip("ABC", order):
+                    soups, totals = facts[name]
+                    wanted += [f"{letter}: seed=x rule={rules[name]} profile=64,512,101,30300",
+                               f"{letter}: {soups} soups, 1 unsettled, 2 for good, {sum(totals.values())} objects"]
+                per = "soup" if unit == 1 else "million"
+                wanted.append(" ".join(["code name", *(f"total_{x} per_{per}_{x} interval_{x}" for x in "abc"), "b_to_a c_to_a"]))
+                for code in codes:
+                    row, rates, first = [code, names.get(code, "-")], [], (0.0, 0.0)
+                    for k, (soups, totals) in enumerate(hauls):
+                        total = totals.get(code, 0)
+                        low, high = (end / soups * unit for end in ends[total])
+                        first = (low, high) if k == 0 else first
+                        rates.append(total / soups)
+                        row += [str(total), shown(total / soups * unit), f"{shown(low)}..{shown(high)}" + "*" * (low > first[1] or high < first[0])]
+                    row += [f"{rate / rates[0]:.2f}" if rates[0] else "-" for rate in rates[1:]]
+                    wanted.append(" ".join(row))
+                has = {x: [code for code in codes if code in totals and sum(code in other for _, other in hauls) == 1] for x, (_, totals) in zip("ABC", hauls)}
+                wanted.append("; ".join(f"in {x} alone: {' '.join(has[x]) or 'none'}" for x in "ABC"))
+                wanted.append("intervals: 95 %, as if objects came singly; *: doesn't meet that of A, which is no test at 5 %")
+                with self.subTest(order=order, words=words):
+                    self.assertEqual([" ".join(line.split()) for line in self.printed("compare", *words, *order).splitlines()], wanted)
 
     def test_rare(self) -> None:
         lines = self.printed("compare", "--rare", "a", "b", "c").splitlines()
