@@ -4,6 +4,7 @@ from __future__ import annotations
 
 import io
 import os
+import pty
 import signal
 import subprocess
 import sys
@@ -89,6 +90,49 @@ class Streams(unittest.TestCase):
         status, page, errors = in_shell("PYTHONIOENCODING=latin-1 LC_ALL=C haul page small")
         self.assertEqual((status, errors), (0, ""))
         self.assertIn('<meta charset="utf-8">', page)
+
+
+class Progress(unittest.TestCase):
+    """On a terminal one line says how far it is, and is wiped at the end."""
+
+    def told(self, *words: str, text: bytes) -> list[str]:
+        """What is written to a terminal as standard error, by its lines."""
+        ours, its = pty.openpty()
+        with tempfile.TemporaryFile() as given:
+            given.write(text)
+            given.seek(0)
+            with subprocess.Popen([sys.executable, HAUL, *words], stdin=given, stdout=subprocess.DEVNULL, stderr=its):
+                os.close(its)
+                said = b""
+                with suppress(OSError):
+                    while piece := os.read(ours, 65536):
+                        said += piece
+        os.close(ours)
+        self.assertTrue(said.endswith(b"\r\x1b[K"))
+        return [line for line in said.decode().split("\r\x1b[K") if line]
+
+    def test_a_page(self) -> None:
+        """A shell makes a hundred calls, and there are fifty drawings more than twice as many."""
+        codes = [f"xs4_{number}" for number in range(1000, 1250)]
+        text = text_of(Haul(Job("", "b3s23", (1, 1, 1, 0)), [(0, 150)], 150, 0, 0, {code: 1 for code in codes}, {code: [k % 150] for k, code in enumerate(codes)}))
+        told = self.told("page", "--play", "0", text=text.encode())
+        self.assertEqual(told[:3] + told[-2:], ["100 of 250 objects drawn", "200 of 250 objects drawn", "250 of 250 objects drawn",
+                                                "100 of 150 soups drawn", "150 of 150 soups drawn"])
+        self.assertEqual(sum(line.endswith("soups drawn") for line in told), 2)
+
+    def test_samples(self) -> None:
+        text = text_of(Haul(Job("", "b3s23", (1, 1, 1, 0)), [(0, 900)], 900, 900, 0, {}, {}))
+        self.assertEqual(self.told("check", "--samples", text=text.encode()), [])
+        codes = [f"xs4_{number}" for number in range(1000, 1600)]
+        text = text_of(Haul(Job("", "b3s23", (1, 1, 1, 0)), [(0, 900)], 900, 0, 0, {code: 1 for code in codes}, {code: [k] for k, code in enumerate(codes)}))
+        self.assertEqual(self.told("check", "--samples", text=text.encode()), ["500 of 600 soups run", "600 of 600 soups run"])
+
+    def test_files(self) -> None:
+        with tempfile.TemporaryDirectory() as folder:
+            for name in "abc":
+                Path(folder, name).write_bytes(census("take", "--count", "1", "--first", str(ord(name))))
+            self.assertEqual(self.told("join", *(f"{folder}/{name}" for name in "abc"), text=b""), ["1 of 3 files", "2 of 3 files", "3 of 3 files"])
+        self.assertEqual(self.told("join", text=census("take", "--count", "1")), ["1 of 1 files"])
 
 
 class Usage(unittest.TestCase):

@@ -147,6 +147,17 @@ class Labels(unittest.TestCase):
         row = "w".join("1" * 13)
         self.assertEqual(labels(f"xs99_{row}"), {f"xs99_{row}": "13 pieces of 1 cell"})
 
+    def test_how_many_are_looked_at_together(self) -> None:
+        """Two blocks and single cells, where all cells stay: of twelve islands two are a bi-block, and of thirteen none."""
+        for cells, label in ((10, "bi-block and 10 xs1_1"), (11, "11 xs1_1 and 2 blocks")):
+            code = "xs99_rr" + "01" * cells
+            self.assertEqual(labels(code, rule="bs012345678"), {code: label})
+
+    def test_the_largest_first(self) -> None:
+        """Two blocks are a bi-block, and each of these may be one of it; a traffic light takes four blinkers before any is called."""
+        self.assertEqual(labels("xs12_rr0rr", rule="bs012345678")["xs12_rr0rr"], "2 bi-blocks")
+        self.assertEqual(labels("xs99_rr0rr01", rule="bs012345678")["xs99_rr0rr01"], "2 bi-blocks and xs1_1")
+
     def test_another_rule(self) -> None:
         """Where all cells stay and none is born, each is an object by itself."""
         self.assertEqual(labels("xs2_1w1", rule="bs012345678"), {"xs2_1w1": "2 xs1_1"})

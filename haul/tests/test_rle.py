@@ -113,6 +113,7 @@ class Refused(unittest.TestCase):
         ("x = 3, y = 3, rule = B2-a/S12\no!", 1, 22, "a rule that is neither B/S nor S/B"), ("x = 3\no!", 1, 1, "not a header"),
         ("x = 3, y = 3, rule = B3/S9\no!", 1, 22, "a rule that is neither B/S nor S/B"), ("x = 3, y = 3, z = 3\no!", 1, 1, "not a header"),
         ("hello", 1, 1, "not b, o, $ or !"), (HEAD + HEAD + "o!", 2, 1, "not b, o, $ or !"), (HEAD + "\xff!", 2, 1, "not b, o, $ or !"),
+        ("\n?", 2, 1, "not b, o, $ or !"), ("\n\nx = 3\no!", 3, 1, "not a header"),
     ]
 
     def test_each_fault(self) -> None:

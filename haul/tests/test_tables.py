@@ -309,6 +309,19 @@ class Terminals(Tables):
                 self.assertEqual(sum("…" in line for line in lines), 1)
                 self.assertIn(self.CODE, self.printed(words[0], *words[1:]))
 
+    def test_where_they_are_cut(self) -> None:
+        """Nothing is cut where all fits; a column less costs a character, and eight are always left."""
+        code = "xs40_" + "g" * 20
+        Path(self.folder.name, "a").write_text(haul("b3s23", 10, {"xs4_33": 5, code: 7}))
+        for words in (["table", "a"], ["compare", "a", "a"]):
+            printed = self.printed(words[0], *words[1:]).splitlines()
+            width = max(len(line) for line in printed if "alone" not in line)
+            self.assertEqual(self.on_terminal(width, *words), printed)
+            for columns, shown in ((width - 1, code[:23] + "…"), (width - 2, code[:22] + "…"), (20, "xs40_gg…")):
+                lines = self.on_terminal(columns, *words)
+                self.assertEqual([line for line in lines if "…" in line], [line for line in lines if f"{shown} " in line])
+                self.assertEqual(sum(shown in line for line in lines), 1)
+
     def test_short_ones_are_not(self) -> None:
         self.assertEqual("\n".join(self.on_terminal(200, "table", "a")) + "\n", self.printed("table", "a"))
 

@@ -235,6 +235,16 @@ class Compares(unittest.TestCase):
             rows += len(turned)
         self.assertGreater(rows, 1000)
 
+    def test_order(self) -> None:
+        """By the greater of the two rates, to which a haul that lacks the code adds nothing, and then by code."""
+        one = made({"xs4_33": 5, "xs5_253": 1, "xq4_153": 1}, [(0, 10)])
+        other = made({"xs4_33": 30, "xp2_7": 4, "xs6_696": 3, "xs8_rr": 99}, [(0, 1000)])
+        for pair in ([one, other], [other, one]):
+            # 5 in 10, then 1 in 10 twice, 99 in 1,000, 4 in 1,000, 3 in 1,000.
+            self.assertEqual(ranked(pair, 1), ["xs4_33", "xq4_153", "xs5_253", "xs8_rr", "xp2_7", "xs6_696"])
+            self.assertEqual(ranked(pair, 4), ["xs4_33", "xs8_rr", "xp2_7"])
+            self.assertEqual(ranked(pair, 1, True), ["xs6_696", "xp2_7", "xs8_rr", "xs5_253", "xq4_153"])
+
     def test_more_soups_than_a_thousand(self) -> None:
         with tempfile.TemporaryDirectory() as folder:
             names = [os.path.join(folder, name) for name in "ab"]
