@@ -96,7 +96,13 @@ class Progress(unittest.TestCase):
     """On a terminal one line says how far it is, and is wiped at the end."""
 
     def told(self, *words: str, text: bytes) -> list[str]:
-        """What is written to a terminal as standard error, by its lines."""
+        """The lines of what is written to a terminal."""
+        said = self.written(*words, text=text)
+        self.assertTrue(said.endswith(b"\r\x1b[K"))
+        return [line for line in said.decode().split("\r\x1b[K") if line]
+
+    def written(self, *words: str, text: bytes) -> bytes:
+        """What is written to a terminal as standard error."""
         ours, its = pty.openpty()
         with tempfile.TemporaryFile() as given:
             given.write(text)
@@ -108,8 +114,7 @@ class Progress(unittest.TestCase):
                     while piece := os.read(ours, 65536):
                         said += piece
         os.close(ours)
-        self.assertTrue(said.endswith(b"\r\x1b[K"))
-        return [line for line in said.decode().split("\r\x1b[K") if line]
+        return said
 
     def test_a_page(self) -> None:
         """A shell makes a hundred calls, and there are fifty drawings more than twice as many."""
@@ -126,6 +131,11 @@ class Progress(unittest.TestCase):
         codes = [f"xs4_{number}" for number in range(1000, 1600)]
         text = text_of(Haul(Job("", "b3s23", (1, 1, 1, 0)), [(0, 900)], 900, 0, 0, {code: 1 for code in codes}, {code: [k] for k, code in enumerate(codes)}))
         self.assertEqual(self.told("check", "--samples", text=text.encode()), ["500 of 600 soups run", "600 of 600 soups run"])
+
+    def test_a_census(self) -> None:
+        """That of the program is passed on, as docs/COMMANDS.md has it, and wiped."""
+        said = self.written("check", text=census("take", "--count", "40"))
+        self.assertTrue(said.startswith(b"\r0 of 40 soups") and said.endswith(b" \r"))
 
     def test_files(self) -> None:
         with tempfile.TemporaryDirectory() as folder:
@@ -196,6 +206,9 @@ class OtherPrograms(unittest.TestCase):
                     self.assertEqual(self.answer(f"echo census: because >&2; exit {status}", command), (status, "", "haul: because\n"))
             self.assertEqual(self.answer("kill -9 $$", command), (5, "", "haul: census was ended by signal 9\n"))
         self.assertEqual(self.answer("exit 3", "check")[0], 3)
+
+    def test_a_line_of_progress_that_was_not_asked_for(self) -> None:
+        self.assertEqual(self.answer(r"printf '1 of 2 soups\r  \rcensus: because\n' >&2; exit 4", "check"), (4, "", "haul: because\n"))
 
 
 class ManyCalls(unittest.TestCase):

@@ -187,6 +187,9 @@ class Checks(unittest.TestCase):
             self.assertEqual((ended.returncode, ended.stdout), (4, b""))
             return Path(folder, "asked").read_text().splitlines()
 
+    def test_no_soup(self) -> None:
+        self.assertEqual(run("check", text=census("take", "--count", "0")), (0, "right\n", ""))
+
     def test_workers(self) -> None:
         for words, workers in (((), 1), (("--workers", "3"), 3), (("--workers=16",), 16)):
             self.assertEqual(self.asked(made({"xs4_33": 1}, [(5, 7)]), *words), [
@@ -206,6 +209,17 @@ class Joins(unittest.TestCase):
                     {"xp2_7": [20], "xs4_33": [1, 4, 9], "xs5_253": [2, 21, 22]})
         for parts in ((one, other), (other, one)):
             self.assertEqual(run("join", text="".join(map(text_of, parts)).encode()), (0, text_of(both), ""))
+
+    def test_samples_between_others(self) -> None:
+        """The least three, wherever those of the second haul lie."""
+        def part(ranges: list[Range], numbers: list[int]) -> Haul:
+            return Haul(Job("a", "b3s23", STANDARD), ranges, sum(count for _, count in ranges), 0, 0, {"xs4_33": 9}, {"xs4_33": numbers})
+
+        for number, least in ((6, [1, 4, 6]), (7, [1, 4, 7]), (15, [1, 4, 12])):
+            parts = [part([(0, 5), (10, 5)], [1, 4, 12]), part([(6, 2), (15, 1)], [number])]
+            for both in (parts, parts[::-1]):
+                ended = run("join", text="".join(map(text_of, both)).encode())
+                self.assertEqual(ended[1].splitlines()[-1].split(), ["xs4_33", *map(str, least)])
 
     def test_the_first_of_several_bad_files(self) -> None:
         with tempfile.TemporaryDirectory() as folder:
