@@ -152,6 +152,20 @@ class Usage(unittest.TestCase):
         self.assertEqual(run("--version"), (0, census("--version").decode().replace("census", "haul"), ""))
         self.assertEqual(run("--help")[0], 0)
 
+    def test_help(self) -> None:
+        """Each command says what it does, in the list of all and by itself."""
+        listed = " ".join(run("--help")[1].split())
+        for command, does in (("check", "take the census of a haul again, and compare"), ("join", "add up hauls of one job over sets that share no number"),
+                              ("compare", "set hauls side by side"), ("table", "print the table of a haul, with how often each object comes"),
+                              ("page", "make a page of a haul, with pictures of its objects and soups"),
+                              ("cells", "print a pattern in RLE as plaintext, which `census run` and `census name` read"),
+                              ("rle", "print a plaintext pattern as RLE, which Golly and LifeWiki read")):
+            self.assertIn(f" {command} {does} ", listed)
+            status, said, errors = run(command, "--help")
+            self.assertEqual((status, errors), (0, ""))
+            self.assertIn(f"\n\n{does[0].upper()}{does[1:]}. ", said)
+            self.assertTrue(said.startswith(f"usage: haul {command} [-h] "))
+
     def test_an_older_python(self) -> None:
         older = f"import runpy, sys; sys.version_info = (3, 9, 2); runpy.run_path({HAUL!r}, run_name='__main__')"
         ended = subprocess.run([sys.executable, "-c", older], capture_output=True, check=False)

@@ -112,6 +112,7 @@ class Phases(unittest.TestCase):
         """A code need not say what is so: a cell dies, and no object has so long a period."""
         phases = phases_of(Census(CENSUS), "b3s23", drawings("xp3_1", "xp65_7", "xp64_33"))
         self.assertEqual(phases["xp3_1"], [frozenset([(0, 0)]), frozenset(), frozenset()])
+        self.assertEqual(len(phases_of(Census(CENSUS), "b3s23", drawings("7"))["7"]), 1)
         self.assertEqual((len(phases["xp65_7"]), len(set(phases["xp64_33"])), len(phases["xp64_33"])), (1, 1, 64))
 
     def test_what_grows_as_fast_as_it_can(self) -> None:

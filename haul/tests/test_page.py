@@ -7,7 +7,10 @@ import re
 import subprocess
 import unittest
 from html.parser import HTMLParser
+from unittest.mock import patch
 
+from haul.main import do_page
+from haul.options import parser
 from haul.page import page_of
 from haul.program import Census
 from haul.tests.called import CENSUS, TOP, census, run
@@ -204,6 +207,20 @@ class Ends(unittest.TestCase):
 
         self.assertEqual((known(), known(1), known(0)), (["0", "1", "1", "2"], ["0", "1", "1"], []))
         self.assertEqual([one for one, _ in elements(page(made({"xs4_33": 8}, [(0, 9)], (1, 1, 1, 0))), "details")], [{}])
+
+    def test_which_options_are_passed_on(self) -> None:
+        for words, wanted in (([], (1, 500, False)), (["--least=7", "--play=3", "--labels=all"], (7, 3, True)), (["--labels=first"], (1, 500, False))):
+            with patch("haul.main.page_of", return_value=[]) as made_of, patch("haul.main.the_haul"):
+                self.assertEqual(do_page(parser().parse_args(["page", "--census", CENSUS, *words])), 0)
+            self.assertEqual(made_of.call_args.args[2:], wanted)
+
+    def test_all_labels(self) -> None:
+        """Only the first rows have some, unless all are asked for."""
+        haul = made({"xp2_1110s": 9, "xs8_330oo": 8, "xs10_25520oo": 7}, [(0, 1)])
+        with patch("haul.page.LABELLED_ROWS", 2):
+            self.assertEqual([text for _, text in elements(page(haul, 0), "td")[2::9]], ["2 blinkers", "2 blocks", ""])
+            self.assertEqual([text for _, text in elements(page(haul, 5), "td")[2::9]], ["2 blinkers", "2 blocks", ""])
+            self.assertEqual([text for _, text in elements(page(haul, 0, True), "td")[2::9]], ["2 blinkers", "2 blocks", "block and beehive"])
 
     def test_options(self) -> None:
         text = census("take", "--count", "12")

@@ -135,6 +135,12 @@ class Refused(unittest.TestCase):
             read_rle((HEAD + "99999999999$" * 1000 + "99999999999o!").encode())
         self.assertLess(time.monotonic() - began, 1)
 
+    def test_how_long_a_pattern_may_be(self) -> None:
+        comment = b"!" + b"x" * (2**24 - 1)
+        for command in ("cells", "rle"):
+            self.assertEqual(run(command, text=comment)[0], 0)
+            self.assertEqual(run(command, text=comment + b"x"), (5, "", "haul: pattern longer than 16777216 bytes\n"))
+
     def test_an_input_without_end(self) -> None:
         with open("/dev/zero", "rb") as zeros:
             for command in ("cells", "rle"):

@@ -15,6 +15,7 @@ from itertools import permutations
 from math import exp, fsum, lgamma, log
 from pathlib import Path
 
+from haul.many import meet
 from haul.poisson import interval
 from haul.tests.called import HAUL, run
 
@@ -92,6 +93,11 @@ class Intervals(unittest.TestCase):
             self.assertAlmostEqual((total - low) / total**0.5, 1.95996, places=3)
             self.assertAlmostEqual((high - total) / total**0.5, 1.95996, places=3)
 
+    def test_whether_two_meet(self) -> None:
+        """They do if they have one number in common, and one that isn't there meets any."""
+        for one, other, wanted in (((1, 2), (2, 3), True), ((1, 2), (2.5, 3), False), ((1, 9), (2, 3), True), ((1, 2), None, True), (None, None, True)):
+            self.assertEqual((meet(one, other), meet(other, one)), (wanted, wanted))
+
     def test_time(self) -> None:
         for total in (0, 10, 28, 31, 1000, 2**64 - 1):
             took = []
@@ -129,6 +135,12 @@ rank  code     total  per_million  one_in_at_most  samples  label
         self.assertEqual(codes("--period", "15", "b"), [["2", "xp15_4r4z4r4"]])
         self.assertEqual(codes("--period", "123", "c"), [["3", "ov_p123"]])
         self.assertEqual(codes("--kind", "q", "--period", "2", "a"), [])
+
+    def test_codes_that_say_nothing(self) -> None:
+        """One that names no kind has none, and no period."""
+        text = haul("b3s23", 10, {"xs4_33": 3, "zz_1": 2, "y": 1}).encode()
+        for words, codes in (([], ["xs4_33", "zz_1", "y"]), (["--period=1"], ["xs4_33"]), (["--kind=s"], ["xs4_33"])):
+            self.assertEqual([line.split()[1] for line in run("table", *words, text=text)[1].splitlines()[1:]], codes)
 
     def test_csv(self) -> None:
         rows = list(csv.DictReader(self.printed("table", "--csv", "a").splitlines()))
