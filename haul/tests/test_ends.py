@@ -14,7 +14,7 @@ import unittest
 from contextlib import suppress
 from pathlib import Path
 
-from haul.tests.called import CENSUS, HAUL, census, run
+from haul.tests.called import CENSUS, HAUL, TOP, census, run
 from haul.tests.drawn import text_of
 from haul.tests.test_text import SMALL
 from haul.text import Haul, Job, read_one_haul
@@ -152,6 +152,16 @@ class Usage(unittest.TestCase):
         self.assertEqual(run("--version"), (0, census("--version").decode().replace("census", "haul"), ""))
         self.assertEqual(run("--help")[0], 0)
 
+    def test_values(self) -> None:
+        """What isn't one is told, whatever else it is."""
+        for words, told in ((["check", "--workers=0"], "0 is not in 1 to 16"), (["check", "--workers=17"], "17 is not in 1 to 16"),
+                            (["check", "--workers=x"], "x is not in 1 to 16"), (["check", "--workers=\u0663"], "\u0663 is not in 1 to 16"),
+                            (["page", "--least=x"], "x is no number"), (["table", "--top=-1"], "-1 is no number"), (["table", "--top=\u0663"], "\u0663 is no number"),
+                            (["rle", "--rule=b3/s23"], "b3/s23 is no rule, as b3s23 is one")):
+            status, output, errors = run(*words)
+            self.assertEqual((status, output), (2, ""))
+            self.assertIn(told, errors)
+
     def test_help(self) -> None:
         """Each command says what it does, in the list of all and by itself."""
         listed = " ".join(run("--help")[1].split())
@@ -182,6 +192,14 @@ class NoThreads(unittest.TestCase):
                        "def start_few(thread):\n    if not left: raise RuntimeError('no thread')\n    left.pop(); start(thread)\n"
                        f"threading.Thread.start = start_few; sys.argv[0] = {HAUL!r}; runpy.run_path({HAUL!r}, run_name='__main__')")
                 self.assertEqual(in_shell(f'"{sys.executable}" -c "$few" {words}', few=few), (4, "", "haul: no thread\n"))
+
+
+class Unforeseen(unittest.TestCase):
+    def test_a_fault_of_this_program(self) -> None:
+        """It has a status of its own."""
+        script = f"import os, sys; sys.path.insert(0, {str(TOP)!r}); from haul.children import status_of; os._exit(status_of(lambda: 1 // 0))"
+        ended = subprocess.run([sys.executable, "-c", script], capture_output=True, check=False)
+        self.assertEqual(ended.returncode, 1)
 
 
 class OtherPrograms(unittest.TestCase):

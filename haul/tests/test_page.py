@@ -69,6 +69,19 @@ class Words(unittest.TestCase):
         self.assertEqual(lengths, [332, 222, 2])
         self.assertEqual(re.findall("class='mark' d='M([0-9.]+) ", text), ["200.0", "310.0", "420.0", "530.0"])
 
+    def test_how_many_bars(self) -> None:
+        """Twenty, with names of at most 26 characters."""
+        for count, words in ((1, "The most frequent one"), (2, "The 2 most frequent"), (20, "The 20 most frequent"), (21, "The 20 most frequent")):
+            text = page(made({f"xs4_{'1' * k}": 2 for k in range(1, count + 1)}, [(0, 9)]), 0)
+            self.assertEqual((text.count("class='bar'"), f"<h2>{words}, each mark" in text), (min(count, 20), True))
+        names = [text for _, text in elements(page(made({"xs4_" + "1" * 22: 2, "xs4_" + "1" * 23: 1}, [(0, 9)])).partition("</svg>")[0], "text")]
+        self.assertEqual([names[2], names[4]], ["xs4_" + "1" * 22, "xs4_" + "1" * 21 + "…"])
+
+    def test_many_ranges(self) -> None:
+        """Of more than twelve only so many are told."""
+        for count, said in ((12, ", 33)"), (13, ", 33, 1 more range)"), (14, ", 33, 2 more ranges)")):
+            self.assertIn(f"numbers 0, 3, 6, 9, 12, 15, 18, 21, 24, 27, 30{said} were", page(made({"xs4_33": 1}, [(3 * k, 1) for k in range(count)])))
+
     def test_labels(self) -> None:
         rows = elements(page(made({"xp2_1110s": 7, "xs10_25520oo": 3, "xs8_rr": 2, "xp3_695qc8zx33": 1}, [(0, 9)])), "tr")[1:]
         self.assertEqual([one.get("data-parts") for one, _ in rows], ["xp2_7 xp2_7", "xs4_33 xs6_696", "xs4_33 xs4_33", None])

@@ -12,7 +12,7 @@ import tempfile
 import time
 import unittest
 from itertools import permutations
-from math import exp, fsum, lgamma, log
+from math import exp, fsum, lgamma, log, ulp
 from pathlib import Path
 
 from haul.many import meet
@@ -92,6 +92,19 @@ class Intervals(unittest.TestCase):
             low, high = interval(total)
             self.assertAlmostEqual((total - low) / total**0.5, 1.95996, places=3)
             self.assertAlmostEqual((high - total) / total**0.5, 1.95996, places=3)
+
+    def test_by_an_expansion(self) -> None:
+        """The quantile of the gamma law, of which these ends are some, by its expansion after Cornish and Fisher: to the last digits."""
+        deviations = 1.959963984540054
+
+        def quantile(shape: int, z: float) -> float:
+            return shape + z * shape**0.5 + (z * z - 1) / 3 + (z**3 - 7 * z) / (36 * shape**0.5) - (3 * z**4 + 7 * z * z - 16) / (810 * shape)
+
+        for total in (31, 50, 1000, 20000, 10**6, 10**8, 10**9, 2**33, 2**36, 2**40, 2**46, 2**53):
+            low, high = interval(total)
+            near = 0.05 / total**1.5 + 2 * ulp(total)
+            self.assertAlmostEqual(low, quantile(total, -deviations), delta=near)
+            self.assertAlmostEqual(high, quantile(total + 1, deviations), delta=near)
 
     def test_whether_two_meet(self) -> None:
         """They do if they have one number in common, and one that isn't there meets any."""

@@ -191,7 +191,7 @@ class Checks(unittest.TestCase):
         self.assertEqual(run("check", text=census("take", "--count", "0")), (0, "right\n", ""))
 
     def test_workers(self) -> None:
-        for words, workers in (((), 1), (("--workers", "3"), 3), (("--workers=16",), 16)):
+        for words, workers in (((), 1), (("--workers=1",), 1), (("--workers", "2"), 2), (("--workers=16",), 16)):
             self.assertEqual(self.asked(made({"xs4_33": 1}, [(5, 7)]), *words), [
                 f"take --seed=a --rule=b3s23 --period=64 --horizon=512 --stride=101 --limit=30300 --first=5 --count=7 --workers={workers}"])
 
