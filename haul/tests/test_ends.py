@@ -4,6 +4,7 @@ from __future__ import annotations
 
 import io
 import os
+import pty
 import signal
 import subprocess
 import sys
@@ -13,7 +14,7 @@ import unittest
 from contextlib import suppress
 from pathlib import Path
 
-from haul.tests.called import CENSUS, HAUL, census, run
+from haul.tests.called import CENSUS, HAUL, TOP, census, run
 from haul.tests.drawn import text_of
 from haul.tests.test_text import SMALL
 from haul.text import Haul, Job, read_one_haul
@@ -91,12 +92,89 @@ class Streams(unittest.TestCase):
         self.assertIn('<meta charset="utf-8">', page)
 
 
+class Progress(unittest.TestCase):
+    """On a terminal one line says how far it is, and is wiped at the end."""
+
+    def told(self, *words: str, text: bytes) -> list[str]:
+        """The lines of what is written to a terminal."""
+        said = self.written(*words, text=text)
+        self.assertTrue(said.endswith(b"\r\x1b[K"))
+        return [line for line in said.decode().split("\r\x1b[K") if line]
+
+    def written(self, *words: str, text: bytes) -> bytes:
+        """What is written to a terminal as standard error."""
+        ours, its = pty.openpty()
+        with tempfile.TemporaryFile() as given:
+            given.write(text)
+            given.seek(0)
+            with subprocess.Popen([sys.executable, HAUL, *words], stdin=given, stdout=subprocess.DEVNULL, stderr=its):
+                os.close(its)
+                said = b""
+                with suppress(OSError):
+                    while piece := os.read(ours, 65536):
+                        said += piece
+        os.close(ours)
+        return said
+
+    def test_a_page(self) -> None:
+        """A shell makes a hundred calls, and there are fifty drawings more than twice as many."""
+        codes = [f"xs4_{number}" for number in range(1000, 1250)]
+        text = text_of(Haul(Job("", "b3s23", (1, 1, 1, 0)), [(0, 150)], 150, 0, 0, {code: 1 for code in codes}, {code: [k % 150] for k, code in enumerate(codes)}))
+        told = self.told("page", "--play", "0", text=text.encode())
+        self.assertEqual(told[:3] + told[-2:], ["100 of 250 objects drawn", "200 of 250 objects drawn", "250 of 250 objects drawn",
+                                                "100 of 150 soups drawn", "150 of 150 soups drawn"])
+        self.assertEqual(sum(line.endswith("soups drawn") for line in told), 2)
+
+    def test_samples(self) -> None:
+        text = text_of(Haul(Job("", "b3s23", (1, 1, 1, 0)), [(0, 900)], 900, 900, 0, {}, {}))
+        self.assertEqual(self.told("check", "--samples", text=text.encode()), [])
+        codes = [f"xs4_{number}" for number in range(1000, 1600)]
+        text = text_of(Haul(Job("", "b3s23", (1, 1, 1, 0)), [(0, 900)], 900, 0, 0, {code: 1 for code in codes}, {code: [k] for k, code in enumerate(codes)}))
+        self.assertEqual(self.told("check", "--samples", text=text.encode()), ["500 of 600 soups run", "600 of 600 soups run"])
+
+    def test_a_census(self) -> None:
+        """That of the program is passed on, as docs/COMMANDS.md has it, and wiped."""
+        said = self.written("check", text=census("take", "--count", "40"))
+        self.assertTrue(said.startswith(b"\r0 of 40 soups") and said.endswith(b" \r"))
+
+    def test_files(self) -> None:
+        with tempfile.TemporaryDirectory() as folder:
+            for name in "abc":
+                Path(folder, name).write_bytes(census("take", "--count", "1", "--first", str(ord(name))))
+            self.assertEqual(self.told("join", *(f"{folder}/{name}" for name in "abc"), text=b""), ["1 of 3 files", "2 of 3 files", "3 of 3 files"])
+        self.assertEqual(self.told("join", text=census("take", "--count", "1")), ["1 of 1 files"])
+
+
 class Usage(unittest.TestCase):
     def test_usage(self) -> None:
         self.assertEqual(run("check", "--workers", "17")[0], 2)
         self.assertEqual(run()[0], 2)
         self.assertEqual(run("--version"), (0, census("--version").decode().replace("census", "haul"), ""))
         self.assertEqual(run("--help")[0], 0)
+
+    def test_values(self) -> None:
+        """What isn't one is told, whatever else it is."""
+        for words, told in ((["check", "--workers=0"], "0 is not in 1 to 16"), (["check", "--workers=17"], "17 is not in 1 to 16"),
+                            (["check", "--workers=x"], "x is not in 1 to 16"), (["check", "--workers=\u0663"], "\u0663 is not in 1 to 16"),
+                            (["page", "--least=x"], "x is no number"), (["table", "--top=-1"], "-1 is no number"), (["table", "--top=\u0663"], "\u0663 is no number"),
+                            (["rle", "--rule=b3/s23"], "b3/s23 is no rule, as b3s23 is one")):
+            status, output, errors = run(*words)
+            self.assertEqual((status, output), (2, ""))
+            self.assertIn(told, errors)
+
+    def test_help(self) -> None:
+        """Each command says what it does, in the list of all and by itself."""
+        listed = " ".join(run("--help")[1].split())
+        for command, does in (("check", "take the census of a haul again, and compare"), ("join", "add up hauls of one job over sets that share no number"),
+                              ("compare", "set hauls side by side"), ("table", "print the table of a haul, with how often each object comes"),
+                              ("page", "make a page of a haul, with pictures of its objects and soups"),
+                              ("cells", "print a pattern in RLE as plaintext, which `census run` and `census name` read"),
+                              ("rle", "print a plaintext pattern as RLE, which Golly and LifeWiki read")):
+            self.assertIn(f" {command} {does} ", listed)
+            status, said, errors = run(command, "--help")
+            self.assertEqual((status, errors), (0, ""))
+            self.assertIn(f"\n\n{does[0].upper()}{does[1:]}. ", said)
+            self.assertTrue(said.startswith(f"usage: haul {command} [-h] "))
 
     def test_an_older_python(self) -> None:
         older = f"import runpy, sys; sys.version_info = (3, 9, 2); runpy.run_path({HAUL!r}, run_name='__main__')"
@@ -114,6 +192,14 @@ class NoThreads(unittest.TestCase):
                        "def start_few(thread):\n    if not left: raise RuntimeError('no thread')\n    left.pop(); start(thread)\n"
                        f"threading.Thread.start = start_few; sys.argv[0] = {HAUL!r}; runpy.run_path({HAUL!r}, run_name='__main__')")
                 self.assertEqual(in_shell(f'"{sys.executable}" -c "$few" {words}', few=few), (4, "", "haul: no thread\n"))
+
+
+class Unforeseen(unittest.TestCase):
+    def test_a_fault_of_this_program(self) -> None:
+        """It has a status of its own."""
+        script = f"import os, sys; sys.path.insert(0, {str(TOP)!r}); from haul.children import status_of; os._exit(status_of(lambda: 1 // 0))"
+        ended = subprocess.run([sys.executable, "-c", script], capture_output=True, check=False)
+        self.assertEqual(ended.returncode, 1)
 
 
 class OtherPrograms(unittest.TestCase):
@@ -152,6 +238,9 @@ class OtherPrograms(unittest.TestCase):
                     self.assertEqual(self.answer(f"echo census: because >&2; exit {status}", command), (status, "", "haul: because\n"))
             self.assertEqual(self.answer("kill -9 $$", command), (5, "", "haul: census was ended by signal 9\n"))
         self.assertEqual(self.answer("exit 3", "check")[0], 3)
+
+    def test_a_line_of_progress_that_was_not_asked_for(self) -> None:
+        self.assertEqual(self.answer(r"printf '1 of 2 soups\r  \rcensus: because\n' >&2; exit 4", "check"), (4, "", "haul: because\n"))
 
 
 class ManyCalls(unittest.TestCase):

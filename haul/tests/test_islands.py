@@ -112,6 +112,7 @@ class Phases(unittest.TestCase):
         """A code need not say what is so: a cell dies, and no object has so long a period."""
         phases = phases_of(Census(CENSUS), "b3s23", drawings("xp3_1", "xp65_7", "xp64_33"))
         self.assertEqual(phases["xp3_1"], [frozenset([(0, 0)]), frozenset(), frozenset()])
+        self.assertEqual(len(phases_of(Census(CENSUS), "b3s23", drawings("7"))["7"]), 1)
         self.assertEqual((len(phases["xp65_7"]), len(set(phases["xp64_33"])), len(phases["xp64_33"])), (1, 1, 64))
 
     def test_what_grows_as_fast_as_it_can(self) -> None:
@@ -146,6 +147,17 @@ class Labels(unittest.TestCase):
         self.assertEqual(labels("xs99_1w1"), {"xs99_1w1": "2 pieces of 1 cell"})
         row = "w".join("1" * 13)
         self.assertEqual(labels(f"xs99_{row}"), {f"xs99_{row}": "13 pieces of 1 cell"})
+
+    def test_how_many_are_looked_at_together(self) -> None:
+        """Two blocks and single cells, where all cells stay: of twelve islands two are a bi-block, and of thirteen none."""
+        for cells, label in ((10, "bi-block and 10 xs1_1"), (11, "11 xs1_1 and 2 blocks")):
+            code = "xs99_rr" + "01" * cells
+            self.assertEqual(labels(code, rule="bs012345678"), {code: label})
+
+    def test_the_largest_first(self) -> None:
+        """Two blocks are a bi-block, and each of these may be one of it; a traffic light takes four blinkers before any is called."""
+        self.assertEqual(labels("xs12_rr0rr", rule="bs012345678")["xs12_rr0rr"], "2 bi-blocks")
+        self.assertEqual(labels("xs99_rr0rr01", rule="bs012345678")["xs99_rr0rr01"], "2 bi-blocks and xs1_1")
 
     def test_another_rule(self) -> None:
         """Where all cells stay and none is born, each is an object by itself."""

@@ -7,12 +7,15 @@ import re
 import subprocess
 import unittest
 from html.parser import HTMLParser
+from unittest.mock import patch
 
+from haul.main import do_page
+from haul.options import parser
 from haul.page import page_of
 from haul.program import Census
-from haul.tests.called import CENSUS, census, run
+from haul.tests.called import CENSUS, TOP, census, run
 from haul.tests.test_whole import cells_of, drawn, made
-from haul.text import Haul, read_one_haul
+from haul.text import Haul, Job, read_one_haul
 
 
 class Elements(HTMLParser):
@@ -66,11 +69,94 @@ class Words(unittest.TestCase):
         self.assertEqual(lengths, [332, 222, 2])
         self.assertEqual(re.findall("class='mark' d='M([0-9.]+) ", text), ["200.0", "310.0", "420.0", "530.0"])
 
+    def test_how_many_bars(self) -> None:
+        """Twenty, with names of at most 26 characters."""
+        for count, words in ((1, "The most frequent one"), (2, "The 2 most frequent"), (20, "The 20 most frequent"), (21, "The 20 most frequent")):
+            text = page(made({f"xs4_{'1' * k}": 2 for k in range(1, count + 1)}, [(0, 9)]), 0)
+            self.assertEqual((text.count("class='bar'"), f"<h2>{words}, each mark" in text), (min(count, 20), True))
+        names = [text for _, text in elements(page(made({"xs4_" + "1" * 22: 2, "xs4_" + "1" * 23: 1}, [(0, 9)])).partition("</svg>")[0], "text")]
+        self.assertEqual([names[2], names[4]], ["xs4_" + "1" * 22, "xs4_" + "1" * 21 + "…"])
+
+    def test_many_ranges(self) -> None:
+        """Of more than twelve only so many are told."""
+        for count, said in ((12, ", 33)"), (13, ", 33, 1 more range)"), (14, ", 33, 2 more ranges)")):
+            self.assertIn(f"numbers 0, 3, 6, 9, 12, 15, 18, 21, 24, 27, 30{said} were", page(made({"xs4_33": 1}, [(3 * k, 1) for k in range(count)])))
+
     def test_labels(self) -> None:
         rows = elements(page(made({"xp2_1110s": 7, "xs10_25520oo": 3, "xs8_rr": 2, "xp3_695qc8zx33": 1}, [(0, 9)])), "tr")[1:]
         self.assertEqual([one.get("data-parts") for one, _ in rows], ["xp2_7 xp2_7", "xs4_33 xs6_696", "xs4_33 xs4_33", None])
         names = elements(page(made({"xp2_1110s": 7, "xs10_25520oo": 3, "xs12_256o8a6": 2}, [(0, 9)])), "td")[2::9]
         self.assertEqual([text for _, text in names], ["2 blinkers", "block and beehive", ""])
+
+
+class Whole(unittest.TestCase):
+    """Everything of a small page, but the style and the script."""
+
+    HAUL = Haul(Job("a", "b36s23", (64, 512, 101, 30300)), [(5, 7), (2048, 1)], 8, 1, 2, {"xp2_7": 10, "xs4_33": 100, "xs4_y": 1},
+                {"xp2_7": [6], "xs4_33": [5, 2048], "xs4_y": [11]})
+    HEAD = """\
+<h1>A census of 8 soups under B36/S23</h1>
+<p>Random patterns of 16 by 16 cells (seed <code>a</code>, numbers 5 to 11, 2048) were run under the rule
+<code>b36s23</code> (B36/S23) until they had settled, and the objects that they left were counted.
+A pattern has settled at the first look (one each 101 generations, up to generation 30,300) at which each of its objects comes back \
+within 64 generations, and for 512 generations none comes into another&#x27;s way. It is settled for good if it has no spaceship and all \
+its objects come back together within that time.</p>
+<dl class="facts"><div><dt>Soups</dt><dd>8</dd></div><div><dt>Unsettled</dt><dd>1</dd></div><div><dt>Settled for good</dt><dd>2</dd></div>\
+<div><dt>Objects</dt><dd>111</dd></div><div><dt>Objects a soup</dt><dd>13.88</dd></div><div><dt>Kinds of object</dt><dd>3</dd></div></dl>
+<p>Whoever doubts it takes the census again. With the text of this haul in the file <code>all.haul</code>, \
+<code>haul check all.haul</code> does that and compares; <code>haul check --samples all.haul</code> runs the sample soups alone.</p>
+"""
+    # From 1 at 200 to 100 at 530: each mark is 165 points after the one before, and a bar has two more.
+    BARS = """\
+<h2>The 3 most frequent, each mark ten times the one before</h2>
+<svg class='bars' viewBox='0 0 640 92' role='img'><title>Totals of the most frequent objects</title>
+<path class='mark' d='M200.0 0V58'/><text x='200.0' y='72' text-anchor='middle'>1</text>\
+<path class='mark' d='M365.0 0V58'/><text x='365.0' y='72' text-anchor='middle'>10</text>\
+<path class='mark' d='M530.0 0V58'/><text x='530.0' y='72' text-anchor='middle'>100</text>\
+<text x='200' y='88'>how many objects there are, on a logarithmic scale</text>
+<text x='194' y='15' text-anchor='end'>block</text><path class='bar' d='M200 4h332.0v13h-332.0z'/><text x='538.0' y='15'>100</text>
+<text x='194' y='33' text-anchor='end'>blinker</text><path class='bar' d='M200 22h167.0v13h-167.0z'/><text x='373.0' y='33'>10</text>
+<text x='194' y='51' text-anchor='end'>xs4_y</text><path class='bar' d='M200 40h2.0v13h-2.0z'/><text x='208.0' y='51'>1</text>
+</svg>
+"""
+    # The blinker's column is drawn first, and then its row.
+    ROWS = """\
+<tr><td><svg width='24' height='24' viewBox='0 0 2 2' role='img'><title>block: 2 by 2, 4 cells</title><path d='M0 0.5h2m-2 1h2'/></svg></td>\
+<td><a href='https://catagolue.hatsya.com/object/xs4_33/b36s23'>xs4_33</a></td><td>block</td><td>still life</td><td>4</td><td>100</td><td>1</td>\
+<td>1 in 1 soup at most</td><td><noscript>SAMPLE 5SAMPLE 2048</noscript></td></tr>
+<tr><td><svg width='36' height='36' viewBox='0 0 3 3' role='img' data-phases='M1 0.5h1m-1 1h1m-1 1h1|M0 1.5h3'>\
+<title>blinker: 1 by 3, 3 cells</title><path d='M1 0.5h1m-1 1h1m-1 1h1'/></svg></td>\
+<td><a href='https://catagolue.hatsya.com/object/xp2_7/b36s23'>xp2_7</a></td><td>blinker</td><td>oscillator of period 2</td><td>3</td><td>10</td><td>11</td>\
+<td>1 in 1 soup at most</td><td><noscript>SAMPLE 6</noscript></td></tr>
+<tr><td>can't be drawn</td>\
+<td><a href='https://catagolue.hatsya.com/object/xs4_y/b36s23'>xs4_y</a></td><td></td><td>still life</td><td></td><td>1</td><td>111</td>\
+<td>1 in 8 soups at most</td><td><noscript>SAMPLE 11</noscript></td></tr>
+"""
+
+    def test_each_byte(self) -> None:
+        text = page(self.HAUL, 2)
+        for number in (5, 2048, 6, 11):
+            soup = census("soup", "--seed=a", str(number))
+            known = ""
+            if number != 11:
+                named = subprocess.run([CENSUS, "name", "--rule=b36s23"], input=soup, stdout=subprocess.PIPE, check=True).stdout.decode().split()[1]
+                live = subprocess.run([CENSUS, "run", "--rule=b36s23", named], input=soup, stdout=subprocess.PIPE, check=True).stdout.count(b"O")
+                known = f" data-settled='{named}' data-population='{live}'"
+            before, path, after = re.split(f"(?<=<summary>{number}</summary><svg class='soup' viewBox='0 0 16 16'><path d=')([^']*)", text)
+            self.assertEqual(drawn(path), cells_of(soup.decode()))
+            start = before.rindex("<details")
+            self.assertEqual(before[start:], f"<details{known}><summary>{number}</summary><svg class='soup' viewBox='0 0 16 16'><path d='")
+            end = f"'/></svg><code>census soup --seed=a {number} | census name --rule=b36s23</code></details>"
+            self.assertTrue(after.startswith(end))
+            text = before[:start] + f"SAMPLE {number}" + after[len(end) :]
+        title, style, script = "<title>A census of 8 soups under B36/S23</title>\n<style>\n", "</style>\n</head>\n<body>\n<main>\n", "<script>\n'use strict';\n{\n"
+        self.assertTrue(text.startswith('<!DOCTYPE html>\n<html lang="en">\n<head>\n<meta charset="utf-8">\n'))
+        self.assertEqual(text.partition(title)[2].partition(style)[0], (TOP / "haul" / "page.css").read_text())
+        self.assertTrue(text.partition(style)[2].startswith(self.HEAD + self.BARS + "<h2>All objects</h2>\n<p>3 kinds, the most frequent first;"))
+        self.assertIn('<table id="objects" data-rule="B36/S23" data-soups="8"><thead><tr><th scope=\'col\'>Picture</th>', text)
+        self.assertEqual(text.partition("<tbody>\n")[2].partition("</tbody>")[0], self.ROWS)
+        both = "".join((TOP / "haul" / name).read_text() for name in ("player.js", "page.js"))
+        self.assertEqual(text.partition(script)[2], both + "}\n</script>\n</body>\n</html>\n")
 
 
 class Pictures(unittest.TestCase):
@@ -134,6 +220,20 @@ class Ends(unittest.TestCase):
 
         self.assertEqual((known(), known(1), known(0)), (["0", "1", "1", "2"], ["0", "1", "1"], []))
         self.assertEqual([one for one, _ in elements(page(made({"xs4_33": 8}, [(0, 9)], (1, 1, 1, 0))), "details")], [{}])
+
+    def test_which_options_are_passed_on(self) -> None:
+        for words, wanted in (([], (1, 500, False)), (["--least=7", "--play=3", "--labels=all"], (7, 3, True)), (["--labels=first"], (1, 500, False))):
+            with patch("haul.main.page_of", return_value=[]) as made_of, patch("haul.main.the_haul"):
+                self.assertEqual(do_page(parser().parse_args(["page", "--census", CENSUS, *words])), 0)
+            self.assertEqual(made_of.call_args.args[2:], wanted)
+
+    def test_all_labels(self) -> None:
+        """Only the first rows have some, unless all are asked for."""
+        haul = made({"xp2_1110s": 9, "xs8_330oo": 8, "xs10_25520oo": 7}, [(0, 1)])
+        with patch("haul.page.LABELLED_ROWS", 2):
+            self.assertEqual([text for _, text in elements(page(haul, 0), "td")[2::9]], ["2 blinkers", "2 blocks", ""])
+            self.assertEqual([text for _, text in elements(page(haul, 5), "td")[2::9]], ["2 blinkers", "2 blocks", ""])
+            self.assertEqual([text for _, text in elements(page(haul, 0, True), "td")[2::9]], ["2 blinkers", "2 blocks", "block and beehive"])
 
     def test_options(self) -> None:
         text = census("take", "--count", "12")

@@ -7,6 +7,7 @@ import os
 import random
 import re
 import subprocess
+import sys
 import tempfile
 import unittest
 from html import unescape
@@ -16,7 +17,7 @@ from typing import IO
 from haul.check import differences, taken_again
 from haul.compare import compared
 from haul.page import page_of
-from haul.program import Census, pieces, set_words
+from haul.program import Census, NoCensus, beside, pieces, printed_by, set_words
 from haul.tests.called import CENSUS, census, run
 from haul.tests.drawn import text_of
 from haul.text import BadHaul, Haul, Job, read_one_haul
@@ -195,6 +196,62 @@ class Comparing(unittest.TestCase):
         self.assertEqual((status, output, errors), (3, "", "haul: /dev/null: bad haul at line 1 column 1\n"))
         haul = Haul(Job("", "b3s23", (1, 1, 1, 0)), [(0, 1)], 1, 0, 0, {"xs4_33": 1}, {"xs4_33": [0]})
         self.assertEqual(list(compared([haul, haul], ["xs4_33"], {}))[1], "A: 1 soup, 0 unsettled, 0 for good, 1 object")
+
+
+class Finding(unittest.TestCase):
+    """Which program is asked where none is named."""
+
+    def setUp(self) -> None:
+        self.folder = tempfile.TemporaryDirectory()
+        self.addCleanup(self.folder.cleanup)
+        self.top = Path(self.folder.name).resolve()
+        (self.top / "bin").mkdir()
+        self.addCleanup(setattr, sys, "argv", sys.argv)
+        sys.argv = [str(self.top / "bin" / "haul")]
+
+    def put(self, name: str, text: str, mode: int = 0o755) -> str:
+        place = self.top / name
+        place.parent.mkdir(parents=True, exist_ok=True)
+        place.write_text(text)
+        place.chmod(mode)
+        return str(place)
+
+    def test_none(self) -> None:
+        self.assertIsNone(beside(True))
+        self.put("bin/census", "#!/bin/sh\n", 0o644)
+        self.assertIsNone(beside(True))
+
+    def test_one_that_is_installed(self) -> None:
+        starter = self.put("bin/census", "#!/bin/sh\nexit 70\n")
+        self.assertEqual((beside(True), beside(False)), (starter, starter))
+
+    def test_one_for_this_processor(self) -> None:
+        starter = self.put("bin/census", "#!/bin/sh\nexit 70\n")
+        self.put("libexec/gokzerd/processor.sh", "program=$libexec/census-v3\n")
+        for builds in (True, False):
+            self.assertEqual(beside(builds), str(self.top / "libexec" / "gokzerd" / "census-v3"))
+        self.put("libexec/gokzerd/processor.sh", "exit 1\n")
+        with self.assertRaisesRegex(NoCensus, f"^no census at {starter}$"):
+            beside(True)
+
+    def test_one_of_a_checkout(self) -> None:
+        """The launcher builds it, but not for labels."""
+        starter = self.put("bin/census", f'#!/bin/sh\necho "$@" >> "{self.top}/asked"\n')
+        self.put("bin/built.bash", "")
+        built = str(self.top / "crates" / "census" / "out" / "census")
+        self.assertIsNone(beside(False))
+        self.assertEqual(beside(True), built)
+        self.assertEqual((self.top / "asked").read_text(), "--version\n")
+        self.put("crates/census/out/census", "#!/bin/sh\n")
+        self.assertEqual(beside(False), built)
+        self.assertEqual((self.top / "asked").read_text(), "--version\n")
+        self.put("bin/census", "#!/bin/sh\nexit 70\n")
+        with self.assertRaisesRegex(NoCensus, f"^no census at {starter}$"):
+            beside(True)
+
+    def test_no_shell(self) -> None:
+        self.assertEqual(printed_by([str(self.top / "sh"), "-c", "echo x"]), b"")
+        self.assertEqual(printed_by(["/bin/sh", "-c", "echo x"]), b"x\n")
 
 
 class Pages(unittest.TestCase):

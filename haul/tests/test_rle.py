@@ -113,6 +113,7 @@ class Refused(unittest.TestCase):
         ("x = 3, y = 3, rule = B2-a/S12\no!", 1, 22, "a rule that is neither B/S nor S/B"), ("x = 3\no!", 1, 1, "not a header"),
         ("x = 3, y = 3, rule = B3/S9\no!", 1, 22, "a rule that is neither B/S nor S/B"), ("x = 3, y = 3, z = 3\no!", 1, 1, "not a header"),
         ("hello", 1, 1, "not b, o, $ or !"), (HEAD + HEAD + "o!", 2, 1, "not b, o, $ or !"), (HEAD + "\xff!", 2, 1, "not b, o, $ or !"),
+        ("\n?", 2, 1, "not b, o, $ or !"), ("\n\nx = 3\no!", 3, 1, "not a header"),
     ]
 
     def test_each_fault(self) -> None:
@@ -133,6 +134,12 @@ class Refused(unittest.TestCase):
         with self.assertRaises(BadRle):
             read_rle((HEAD + "99999999999$" * 1000 + "99999999999o!").encode())
         self.assertLess(time.monotonic() - began, 1)
+
+    def test_how_long_a_pattern_may_be(self) -> None:
+        comment = b"!" + b"x" * (2**24 - 1)
+        for command in ("cells", "rle"):
+            self.assertEqual(run(command, text=comment)[0], 0)
+            self.assertEqual(run(command, text=comment + b"x"), (5, "", "haul: pattern longer than 16777216 bytes\n"))
 
     def test_an_input_without_end(self) -> None:
         with open("/dev/zero", "rb") as zeros:

@@ -11,9 +11,11 @@ import sys
 import tempfile
 import time
 import unittest
-from math import exp, fsum, lgamma, log
+from itertools import permutations
+from math import exp, fsum, lgamma, log, ulp
 from pathlib import Path
 
+from haul.many import meet
 from haul.poisson import interval
 from haul.tests.called import HAUL, run
 
@@ -55,6 +57,19 @@ class Tables(unittest.TestCase):
         return output
 
 
+def exact_ends(total: int) -> tuple[float, float]:
+    """The ends of the interval of 95 %, by halving, of sums of the terms of Poisson's law as it is defined."""
+    def mean_at(count: int, chance: float) -> float:
+        low, high = 0.0, 2.0 * count + 20
+        for _ in range(60):
+            middle = (low + high) / 2
+            terms = fsum(exp(k * log(middle) - middle - lgamma(k + 1)) for k in range(count))
+            low, high = (middle, high) if terms > chance else (low, middle)
+        return low
+
+    return mean_at(total, 0.975) if total else 0.0, mean_at(total + 1, 0.025)
+
+
 class Intervals(unittest.TestCase):
     def test_garwood(self) -> None:
         for total, (low, high) in GARWOOD.items():
@@ -77,6 +92,24 @@ class Intervals(unittest.TestCase):
             low, high = interval(total)
             self.assertAlmostEqual((total - low) / total**0.5, 1.95996, places=3)
             self.assertAlmostEqual((high - total) / total**0.5, 1.95996, places=3)
+
+    def test_by_an_expansion(self) -> None:
+        """The quantile of the gamma law, of which these ends are some, by its expansion after Cornish and Fisher: to the last digits."""
+        deviations = 1.959963984540054
+
+        def quantile(shape: int, z: float) -> float:
+            return shape + z * shape**0.5 + (z * z - 1) / 3 + (z**3 - 7 * z) / (36 * shape**0.5) - (3 * z**4 + 7 * z * z - 16) / (810 * shape)
+
+        for total in (31, 50, 1000, 20000, 10**6, 10**8, 10**9, 2**33, 2**36, 2**40, 2**46, 2**53):
+            low, high = interval(total)
+            near = 0.05 / total**1.5 + 2 * ulp(total)
+            self.assertAlmostEqual(low, quantile(total, -deviations), delta=near)
+            self.assertAlmostEqual(high, quantile(total + 1, deviations), delta=near)
+
+    def test_whether_two_meet(self) -> None:
+        """They do if they have one number in common, and one that isn't there meets any."""
+        for one, other, wanted in (((1, 2), (2, 3), True), ((1, 2), (2.5, 3), False), ((1, 9), (2, 3), True), ((1, 2), None, True), (None, None, True)):
+            self.assertEqual((meet(one, other), meet(other, one)), (wanted, wanted))
 
     def test_time(self) -> None:
         for total in (0, 10, 28, 31, 1000, 2**64 - 1):
@@ -115,6 +148,12 @@ rank  code     total  per_million  one_in_at_most  samples  label
         self.assertEqual(codes("--period", "15", "b"), [["2", "xp15_4r4z4r4"]])
         self.assertEqual(codes("--period", "123", "c"), [["3", "ov_p123"]])
         self.assertEqual(codes("--kind", "q", "--period", "2", "a"), [])
+
+    def test_codes_that_say_nothing(self) -> None:
+        """One that names no kind has none, and no period."""
+        text = haul("b3s23", 10, {"xs4_33": 3, "zz_1": 2, "y": 1}).encode()
+        for words, codes in (([], ["xs4_33", "zz_1", "y"]), (["--period=1"], ["xs4_33"]), (["--kind=s"], ["xs4_33"])):
+            self.assertEqual([line.split()[1] for line in run("table", *words, text=text)[1].splitlines()[1:]], codes)
 
     def test_csv(self) -> None:
         rows = list(csv.DictReader(self.printed("table", "--csv", "a").splitlines()))
@@ -175,6 +214,48 @@ in A alone: xq4_153 xs8_rr; in B alone: xp15_4r4z4r4
         self.assertEqual(lines[7].split()[-2:], ["4.00", "1.02"])
         self.assertEqual(lines[-2], "in A alone: xq4_153 xs8_rr; in B alone: xp15_4r4z4r4; in C alone: ov_p123")
         self.assertIn("as if objects came singly", lines[-1])
+
+    def test_all_that_is_printed(self) -> None:
+        """Three hauls in each order, with each option: facts, rates, intervals, ratios and stars, and who has what alone."""
+        names = {"xs4_33": "block", "xp2_7": "blinker", "xq4_153": "glider", "xs8_rr": "bi-block", "xp15_4r4z4r4": "pentadecathlon"}
+        facts = {"a": (1000, {"xs4_33": 500, "xp2_7": 20, "xq4_153": 3, "xs8_rr": 1}), "b": (500, {"xs4_33": 1000, "xp2_7": 2, "xp15_4r4z4r4": 4}),
+                 "c": (1000, {"xs4_33": 510, "xp2_7": 20, "ov_p123": 5})}
+        rules = {"a": "b3s23", "b": "b36s23", "c": "b3s12"}
+        ends = {total: exact_ends(total) for total in (0, 1, 2, 3, 4, 5, 20, 500, 510, 1000)}
+
+        def shown(number: float) -> str:
+            return f"{number:.2f}" if number >= 1 or number == 0 else f"{number:.3g}"
+
+        for order in permutations("abc"):
+            for words, least, unit in (([], 1, 10**6), (["--per", "soup"], 1, 1), (["--least", "4"], 4, 10**6), (["--rare"], 1, 10**6)):
+                hauls = [facts[name] for name in order]
+                best = {code: max(totals.get(code, 0) / soups for soups, totals in hauls) for _, totals in hauls for code in totals
+                        if any(other.get(code, 0) >= least for _, other in hauls)}
+                codes = sorted(best, key=lambda code: (-best[code], code))
+                if words == ["--rare"]:
+                    codes = [code for code in codes[::-1] if code not in ("xs4_33", "xp2_7")]
+                wanted = []
+                for letter, name in zip("ABC", order):
+                    soups, totals = facts[name]
+                    wanted += [f"{letter}: seed=x rule={rules[name]} profile=64,512,101,30300",
+                               f"{letter}: {soups} soups, 1 unsettled, 2 for good, {sum(totals.values())} objects"]
+                per = "soup" if unit == 1 else "million"
+                wanted.append(" ".join(["code name", *(f"total_{x} per_{per}_{x} interval_{x}" for x in "abc"), "b_to_a c_to_a"]))
+                for code in codes:
+                    row, rates, first = [code, names.get(code, "-")], [], (0.0, 0.0)
+                    for k, (soups, totals) in enumerate(hauls):
+                        total = totals.get(code, 0)
+                        low, high = (end / soups * unit for end in ends[total])
+                        first = (low, high) if k == 0 else first
+                        rates.append(total / soups)
+                        row += [str(total), shown(total / soups * unit), f"{shown(low)}..{shown(high)}" + "*" * (low > first[1] or high < first[0])]
+                    row += [f"{rate / rates[0]:.2f}" if rates[0] else "-" for rate in rates[1:]]
+                    wanted.append(" ".join(row))
+                has = {x: [code for code in codes if code in totals and sum(code in other for _, other in hauls) == 1] for x, (_, totals) in zip("ABC", hauls)}
+                wanted.append("; ".join(f"in {x} alone: {' '.join(has[x]) or 'none'}" for x in "ABC"))
+                wanted.append("intervals: 95 %, as if objects came singly; *: doesn't meet that of A, which is no test at 5 %")
+                with self.subTest(order=order, words=words):
+                    self.assertEqual([" ".join(line.split()) for line in self.printed("compare", *words, *order).splitlines()], wanted)
 
     def test_rare(self) -> None:
         lines = self.printed("compare", "--rare", "a", "b", "c").splitlines()
@@ -252,6 +333,19 @@ class Terminals(Tables):
                 self.assertLessEqual(max(map(len, table)), 140)
                 self.assertEqual(sum("…" in line for line in lines), 1)
                 self.assertIn(self.CODE, self.printed(words[0], *words[1:]))
+
+    def test_where_they_are_cut(self) -> None:
+        """Nothing is cut where all fits; a column less costs a character, and eight are always left."""
+        code = "xs40_" + "g" * 20
+        Path(self.folder.name, "a").write_text(haul("b3s23", 10, {"xs4_33": 5, code: 7}))
+        for words in (["table", "a"], ["compare", "a", "a"]):
+            printed = self.printed(words[0], *words[1:]).splitlines()
+            width = max(len(line) for line in printed if "alone" not in line)
+            self.assertEqual(self.on_terminal(width, *words), printed)
+            for columns, shown in ((width - 1, code[:23] + "…"), (width - 2, code[:22] + "…"), (20, "xs40_gg…")):
+                lines = self.on_terminal(columns, *words)
+                self.assertEqual([line for line in lines if "…" in line], [line for line in lines if f"{shown} " in line])
+                self.assertEqual(sum(shown in line for line in lines), 1)
 
     def test_short_ones_are_not(self) -> None:
         self.assertEqual("\n".join(self.on_terminal(200, "table", "a")) + "\n", self.printed("table", "a"))

@@ -79,6 +79,12 @@ class Reading(unittest.TestCase):
         self.assertEqual((haul.first_total_line(), haul.first_sample_line()), (14, 18))
         self.assertEqual(text_of(haul), LARGER)
 
+    def test_the_largest_total(self) -> None:
+        most = 2**64 - 1
+        text = LARGER.replace("OBJECTS 6", f"OBJECTS {most}").replace("xs4_33 4\n", "").replace("xp2_7 2", f"xp2_7 {most}").replace("xs4_33 3 4 10\n", "")
+        self.assertEqual(text_of(read(text)), text)
+        self.assertEqual(fault(text.replace(str(most), str(most + 1))), "line 11 column 14")
+
     def test_no_number(self) -> None:
         none = SMALL.replace("@RANGE 0 4", "@RANGE 0 0").replace("SOUPS 2", "SOUPS 0").replace("UNSETTLED 2", "UNSETTLED 0")
         self.assertEqual(text_of(read(none)), none)

@@ -187,8 +187,11 @@ class Checks(unittest.TestCase):
             self.assertEqual((ended.returncode, ended.stdout), (4, b""))
             return Path(folder, "asked").read_text().splitlines()
 
+    def test_no_soup(self) -> None:
+        self.assertEqual(run("check", text=census("take", "--count", "0")), (0, "right\n", ""))
+
     def test_workers(self) -> None:
-        for words, workers in (((), 1), (("--workers", "3"), 3), (("--workers=16",), 16)):
+        for words, workers in (((), 1), (("--workers=1",), 1), (("--workers", "2"), 2), (("--workers=16",), 16)):
             self.assertEqual(self.asked(made({"xs4_33": 1}, [(5, 7)]), *words), [
                 f"take --seed=a --rule=b3s23 --period=64 --horizon=512 --stride=101 --limit=30300 --first=5 --count=7 --workers={workers}"])
 
@@ -206,6 +209,17 @@ class Joins(unittest.TestCase):
                     {"xp2_7": [20], "xs4_33": [1, 4, 9], "xs5_253": [2, 21, 22]})
         for parts in ((one, other), (other, one)):
             self.assertEqual(run("join", text="".join(map(text_of, parts)).encode()), (0, text_of(both), ""))
+
+    def test_samples_between_others(self) -> None:
+        """The least three, wherever those of the second haul lie."""
+        def part(ranges: list[Range], numbers: list[int]) -> Haul:
+            return Haul(Job("a", "b3s23", STANDARD), ranges, sum(count for _, count in ranges), 0, 0, {"xs4_33": 9}, {"xs4_33": numbers})
+
+        for number, least in ((6, [1, 4, 6]), (7, [1, 4, 7]), (15, [1, 4, 12])):
+            parts = [part([(0, 5), (10, 5)], [1, 4, 12]), part([(6, 2), (15, 1)], [number])]
+            for both in (parts, parts[::-1]):
+                ended = run("join", text="".join(map(text_of, both)).encode())
+                self.assertEqual(ended[1].splitlines()[-1].split(), ["xs4_33", *map(str, least)])
 
     def test_the_first_of_several_bad_files(self) -> None:
         with tempfile.TemporaryDirectory() as folder:
@@ -234,6 +248,16 @@ class Compares(unittest.TestCase):
             self.assertEqual(there[-1], f"in A{in_b[4:]}; in B{in_a[4:]}")
             rows += len(turned)
         self.assertGreater(rows, 1000)
+
+    def test_order(self) -> None:
+        """By the greater of the two rates, to which a haul that lacks the code adds nothing, and then by code."""
+        one = made({"xs4_33": 5, "xs5_253": 1, "xq4_153": 1}, [(0, 10)])
+        other = made({"xs4_33": 30, "xp2_7": 4, "xs6_696": 3, "xs8_rr": 99}, [(0, 1000)])
+        for pair in ([one, other], [other, one]):
+            # 5 in 10, then 1 in 10 twice, 99 in 1,000, 4 in 1,000, 3 in 1,000.
+            self.assertEqual(ranked(pair, 1), ["xs4_33", "xq4_153", "xs5_253", "xs8_rr", "xp2_7", "xs6_696"])
+            self.assertEqual(ranked(pair, 4), ["xs4_33", "xs8_rr", "xp2_7"])
+            self.assertEqual(ranked(pair, 1, True), ["xs6_696", "xp2_7", "xs8_rr", "xs5_253", "xq4_153"])
 
     def test_more_soups_than_a_thousand(self) -> None:
         with tempfile.TemporaryDirectory() as folder:

@@ -24,7 +24,7 @@ const EXAMPLES: &str = "To begin with:\n  \
          census take --seed abc --count 100     a census of 100 soups\n  \
          census soup --seed abc 12              one of its soups\n  \
          census show xs7_178c                   draws an object\n\n\
-         `census help take` tells all of `take`, and so for each command.";
+         Run `census help take` for details of a command.";
 
 /// The program as `clap` reads its words.
 ///

@@ -27,9 +27,9 @@ pub const RUN: CommandRow = CommandRow {
     long_about: "Reads a pattern from standard input, runs it for N generations and prints it on\n\
          standard output.\n\n\
          Both are plaintext (`.cells`): a line for each row, with `.` for a dead cell\n\
-         and `O` or `*` for a live one. Lines that begin with `!` are comments. Other\n\
-         formats, as RLE, are not read. What is printed is cut to its box: empty rows\n\
-         and columns at the edges are left out.",
+         and `O` or `*` for a live one. Lines that begin with `!` are comments. The\n\
+         output is cut to its box: empty rows and columns at the edges are left out.\n\n\
+         To run a pattern in RLE: `haul cells gun.rle | census run 30`.",
     after_help: "Example: census run 4 < glider.cells",
     arguments: &[GENERATIONS, RULE],
 };
@@ -44,7 +44,8 @@ pub const NAME: CommandRow = CommandRow {
          `unsettled` if it hasn't by the last look.\n\n\
          The looks are at the generations 0, STRIDE, twice STRIDE and so on, up to\n\
          LIMIT. A pattern has settled if each of its objects comes back within PERIOD\n\
-         generations, and if none comes into another's way for HORIZON generations.",
+         generations, and if they keep apart for HORIZON generations.\n\n\
+         To name a pattern in RLE: `haul cells gun.rle | census name`.",
     after_help: "Example: census name < acorn.cells",
     arguments: &[PERIOD, HORIZON, STRIDE, LIMIT, RULE],
 };
@@ -66,8 +67,8 @@ pub const SOUP: CommandRow = CommandRow {
     long_about: "Prints a soup, a random start pattern of 16 by 16 cells, on standard output, in\n\
          plaintext.\n\n\
          Its cells are the 256 bits of the SHA-256 digest of SEED and then N in decimal,\n\
-         so anybody can check it. What is printed is cut to its box: empty rows and\n\
-         columns at the edges are left out.",
+         so anybody can check it. The output is cut to its box: empty rows and columns at\n\
+         the edges are left out.",
     after_help: "Example: census soup --seed abc 12",
     arguments: &[NUMBER, SEED],
 };
@@ -80,8 +81,8 @@ pub const TAKE: CommandRow = CommandRow {
          for each apgcode how many objects have it, and the least three numbers of soups\n\
          that left one.\n\n\
          The soups are those of SEED with the numbers from NUMBER on, COUNT of them, and\n\
-         those of the ranges in LIST. No two ranges may share a number. When a soup has\n\
-         settled is said as for `name`.\n\n\
+         those of the ranges in LIST. No two ranges may share a number.\n\
+         `census name --help` explains when a soup counts as settled.\n\n\
          Nothing is kept of a census that is stopped; `work` keeps each soup that it has\n\
          printed.",
     after_help: "Example: census take --seed abc --count 100",
@@ -97,7 +98,8 @@ pub const WORK: CommandRow = CommandRow {
     long_about: "Runs soups until they have settled, and prints what worker WORKER reports of\n\
          each: a line for each soup, ascending by the soups' numbers. Each line is\n\
          written as soon as it is made.\n\n\
-         The soups are said as for `take`, and when a soup has settled as for `name`.",
+         Soups are chosen as for `take`; `census name --help` explains when one counts as\n\
+         settled.",
     after_help: "Example: census work --worker 1 --seed abc --count 100 > one.lines",
     arguments: &[
         SEED, FIRST, COUNT, ALSO, PERIOD, HORIZON, STRIDE, LIMIT, RULE, WORKER,
@@ -111,9 +113,9 @@ pub const GATHER: CommandRow = CommandRow {
     long_about: "Reads report lines from standard input, as `census work` prints them, checks\n\
          each by running its soup, and prints the haul, as `census take` does, over the\n\
          soups that were reported.\n\n\
-         A line that is refused is told on standard error by its number, and the next\n\
-         one is read. If soups are missing, a last line says how many, and the status is\n\
-         6. The soups are said as for `take`, and when a soup has settled as for `name`.",
+         Refused lines are reported on standard error by number; reading continues. If\n\
+         soups are missing, a last line says how many, and the status is 6. Soups are\n\
+         chosen as for `take`; `census name --help` explains when one counts as settled.",
     after_help: "Example:\n  cat one.lines two.lines | census gather --workers 2 --seed abc --count 200",
     arguments: &[
         SEED, FIRST, COUNT, ALSO, PERIOD, HORIZON, STRIDE, LIMIT, RULE, REPORTERS,

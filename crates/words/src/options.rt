@@ -91,7 +91,7 @@ pub const RULE: Argument = Argument {
     heading: None,
     help: "The rule: `b`, the numbers of live neighbours that give birth, `s`,\n\
          the numbers on which a live cell survives. Life is b3s23, which\n\
-         others write B3/S23",
+         others write B3/S23. `haul cells` says which rule an RLE has",
 };
 
 /// The seed.
@@ -145,15 +145,14 @@ pub const PERIOD: Argument = Argument {
     help: "The longest period that counts, from 1 to 64",
 };
 
-/// For how many generations objects may not meet.
+/// For how many generations objects must keep apart.
 pub const HORIZON: Argument = Argument {
     name: "horizon",
     place: Place::Named("HORIZON"),
     kind: ValueKind::Number(0, 4096),
     default: Some("512"),
     heading: SETTLING,
-    help: "For how many generations objects may not come into each other's way,\n\
-         from PERIOD to 4096",
+    help: "For how many generations objects must keep apart, from PERIOD to 4096",
 };
 
 /// How far one look is from the next.
@@ -163,7 +162,7 @@ pub const STRIDE: Argument = Argument {
     kind: ValueKind::Number(1, 10_000),
     default: Some("101"),
     heading: SETTLING,
-    help: "How many generations lie between two looks, from 1 to 10000",
+    help: "Look every STRIDE generations, from 1 to 10000",
 };
 
 /// The last generation at which there may be a look.
@@ -174,8 +173,8 @@ pub const LIMIT: Argument = Argument {
     default: Some("30300"),
     heading: SETTLING,
     help: "The last generation at which there may be a look, from 0 to 100000.\n\
-         A pattern that explodes under its rule takes ever more memory and\n\
-         time up to there",
+         A pattern that explodes under its rule uses more and more memory and\n\
+         time until then",
 };
 
 /// How many workers run soups.
@@ -186,8 +185,8 @@ pub const WORKERS: Argument = Argument {
     default: Some("1"),
     heading: None,
     help: "How many workers run soups at a time, at most 16, each in a thread\n\
-         of its own. More than there are processors gain nothing. The haul is\n\
-         the same. Fewer work where the system starts no more threads",
+         of its own. More workers than processors won't help. The haul is the\n\
+         same. Fewer work where the system starts no more threads",
 };
 
 /// How many workers have reported.
@@ -218,6 +217,6 @@ pub const PROGRESS: Argument = Argument {
     kind: ValueKind::Flag,
     default: None,
     heading: None,
-    help: "Says on standard error how many soups are run, also if that is no\n\
-         terminal. The line is wiped at the end",
+    help: "Prints on standard error how many soups are run, even when it is not\n\
+         a terminal. The line is wiped at the end",
 };

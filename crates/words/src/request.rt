@@ -73,7 +73,7 @@ pub struct SoupSet<'a> {
 pub struct ProfileNumbers {
     /// The longest period that counts.
     pub period: u32,
-    /// For how many generations clusters may not come into each other's way.
+    /// For how many generations clusters must keep apart.
     pub horizon: u32,
     /// How many generations there are from one look to the next.
     pub stride: u32,
