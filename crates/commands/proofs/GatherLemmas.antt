@@ -19,10 +19,11 @@ use Rattle.survey_core.specs.declared.job.Job.{Job}
 use Rattle.std.proofs.KnownBytes.{Consumes-nil, Consumes-trans}
 use Rattle.std.proofs.lemmas.List.Elements.{All-nil}
 use Rattle.std.specs.Io.KnownBytes.{Consumes}
+use Rattle.memory.specs.Evidence.{out_of_memory}
 use Rattle.plane_core.proofs.OutLemmas.{Appends-append}
 use Rattle.plane_core.specs.Out.{Output}
 use Rattle.pattern_commands.specs.declared.complaint.Complaint.{Complaint}
-use Rattle.pattern_commands.specs.declared.complaint.Complaint.TheVariants.{Refused, Memory, ReadFailed, WriteFailed}
+use Rattle.pattern_commands.specs.declared.complaint.Complaint.TheVariants.{Refused, Memory, ReadFailed, TooLong, WriteFailed}
 use Rattle.commands.specs.declared.lines.LineEnd.{LineEnd}
 use Rattle.commands.specs.declared.lines.LineEnd.TheVariants.{Feed, Input}
 use Rattle.commands.specs.declared.lines.LineRead.{LineRead}
@@ -51,7 +52,7 @@ taken arrivals report is (inr reply) stands = absurd (cc (reply.0))
 
 -- a report that is refused
 pub refused : {terms : Terms} {line : List ℕ} {held : Held} (arrivals : List Arrival) (report : Reported) (reason : OfferError) (fault : Option LineFault)
-    → IsLookedAt terms.job line (Ok report) → IsReply (Some reason) (refusal_of terms arrivals report) → reason ≢ offer_error.Memory
+    → IsLookedAt terms.job line (Ok report) → IsReply (Some reason) (refusal_of terms arrivals report) → reason ≢ offer_error.Memory out_of_memory
     → fault ≡ offer_fault report (Some reason) → StandsFor (arrivals ++ Offer report ∷ []) held
     → (arrived : List Arrival) × ComesOf terms arrivals line arrived fault × StandsFor (arrivals ++ arrived) held
 refused {terms} {line} arrivals report reason fault is (inl reply) memory told stands =
@@ -62,8 +63,8 @@ refused arrivals report reason fault is (inr reply) memory told stands = absurd 
 -- the same for all that the call for the fault gives
 pub refused_told : {E : Type 0} (terms : Terms) (line : List ℕ) (held : Held) (arrivals : List Arrival) (report : Reported) (reason : OfferError)
     (result : Result (Option LineFault) E) → IsLookedAt terms.job line (Ok report) → IsReply (Some reason) (refusal_of terms arrivals report)
-    → IfOk result (λ _. reason ≢ offer_error.Memory) → IfOk result (λ fault. fault ≡ offer_fault report (Some reason))
-    → (reason ≢ offer_error.Memory → StandsFor (arrivals ++ Offer report ∷ []) held)
+    → IfOk result (λ _. reason ≢ offer_error.Memory out_of_memory) → IfOk result (λ fault. fault ≡ offer_fault report (Some reason))
+    → (reason ≢ offer_error.Memory out_of_memory → StandsFor (arrivals ++ Offer report ∷ []) held)
     → IfOk result (λ fault. (arrived : List Arrival) × ComesOf terms arrivals line arrived fault × StandsFor (arrivals ++ arrived) held)
 refused_told terms line held arrivals report reason (Ok fault) is reply memory told stands = refused arrivals report reason fault is reply memory told (stands memory)
 refused_told terms line held arrivals report reason (Err e) is reply memory told stands = tt
@@ -234,17 +235,61 @@ pub goes_no_further : (way : Passage) (held : Held) (end : LineEnd) → end ≡ 
 goes_no_further way held Feed is gathered = let bad : Feed ≡ Input = is in cc
 goes_no_further way held Input is all = all
 
+-- what is left of an input is no longer than it is
+longer : (known left : Option (List ℕ)) (read : List ℕ) → Consumes known left read → IfSome left (λ bytes. 2 ^ 32 < length bytes)
+    → IfSome known (λ bytes. 2 ^ 32 < length bytes)
+longer None left read consumed long = tt
+longer (Some xs) None read consumed long = absurd consumed
+longer (Some xs) (Some ys) read consumed long = let all = ap length consumed ∙ length-append read ys in omega (arith, all, long)
+
+-- of an input from which many bytes were read, there are many
+pub long_read : (known left : Option (List ℕ)) (read : List ℕ) → Consumes known left read → 2 ^ 32 < length read
+    → IfSome known (λ bytes. 2 ^ 32 < length bytes)
+long_read None left read consumed long = tt
+long_read (Some xs) None read consumed long = absurd consumed
+long_read (Some xs) (Some ys) read consumed long = let all = ap length consumed ∙ length-append read ys in omega (arith, all, long)
+
+-- the same where there may be more lines, or none
+pub goes_long : (way : Passage) (held : Held) (end : LineEnd) → GoesOn way held end → 2 ^ 32 < way.size
+    → IfSome way.known (λ bytes. 2 ^ 32 < length bytes)
+goes_long way held Feed gathered many =
+    long_read way.known way.left gathered.read gathered.consumed (let long = gathered.size_is in omega (arith, long, many))
+goes_long way held Input all many = go way.known all.input
+  where
+    go : (known : Option (List ℕ)) → IsInput known all.bytes → IfSome known (λ bytes. 2 ^ 32 < length bytes)
+    go None is = tt
+    go (Some left) is = let long = all.size_is in let same = ap length is in omega (arith, long, same, many)
+
+-- a line that could not be read, with nothing told
+pub next_unread : {V : Type 0} (left : Option (List ℕ)) (old : Output V) (fault : InputError)
+    → (fault ≡ input_error.TooLong → IfSome left (λ bytes. 2 ^ 32 < length bytes)) → EndsNext left old old (input_complaint fault)
+next_unread left old (input_error.Unreadable failed) long = refl
+next_unread left old input_error.TooLong long = (refl, long refl)
+next_unread left old (input_error.Memory refused) long = refl
+
+-- a complaint over a line that was read
+pub next_read : {V : Type 0} (left : Option (List ℕ)) (old new : Output V) (complaint : Complaint) → EndsLine old new complaint
+    → EndsNext left old new complaint
+next_read left old new (Refused refusal) ends = ends
+next_read left old new (Memory error) ends = ends
+next_read left old new (ReadFailed error) ends = ends
+next_read left old new TooLong ends = absurd ends
+next_read left old new (WriteFailed error) ends = ends
+
 -- a complaint over a line, after all lines before it
 pub lines_ended_by : {V : Type 0} (contents : V → Option (List ℕ)) (known left : Option (List ℕ)) (first : Output V)
     (count size : ℕ) (held : Held) (terms : Terms) (old new : Output V) (complaint : Complaint)
     → HasGathered (passage known left (stream contents first old) count size) held
-    → held.terms ≡ terms → old.failed ≡ false → EndsLine old new complaint
+    → held.terms ≡ terms → old.failed ≡ false → EndsNext left old new complaint
     → EndsLines terms known (stream contents first new) complaint
-lines_ended_by contents known left first count size held terms old new Memory gathered same fine kept =
+lines_ended_by contents known left first count size held terms old new (Memory error) gathered same fine kept =
     rw kept (begun (passage known left (stream contents first old) count size) held terms gathered same, fine)
-lines_ended_by contents known left first count size held terms old new ReadFailed gathered same fine kept =
+lines_ended_by contents known left first count size held terms old new (ReadFailed error) gathered same fine kept =
     rw kept (begun (passage known left (stream contents first old) count size) held terms gathered same, fine)
-lines_ended_by contents known left first count size held terms old new WriteFailed gathered same fine failed = failed
+lines_ended_by contents known left first count size held terms old new TooLong gathered same fine (kept, long) =
+    rw kept (begun (passage known left (stream contents first old) count size) held terms gathered same, fine,
+    longer known left gathered.read gathered.consumed long)
+lines_ended_by contents known left first count size held terms old new (WriteFailed error) gathered same fine failed = failed
 lines_ended_by contents known left first count size held terms old new (Refused refusal) gathered same fine none =
     absurd none
 

@@ -6,6 +6,7 @@ use Rattle.std.proofs.lemmas.Bool.{cases_Bool, leb-false, leb-true}
 use Rattle.std.proofs.lemmas.List.Elements.{All-contains, All-filter, All-map}
 use Rattle.std.specs.List.{IsDistinct}
 use Rattle.std.specs.Result.{result_map_both}
+use Rattle.memory.specs.Evidence.{out_of_memory}
 use Rattle.plane_core.specs.declared.rule.RuleFault.{RuleFault}
 use Rattle.plane_core.specs.declared.rule.RuleFault.TheVariants as rule_error
 use Rattle.plane_core.specs.Rules.{Numbers, rule_read}
@@ -29,7 +30,7 @@ use Rattle.ranges.specs.Ranges.{AreSmall, IsNormalForm, is_in}
 use Rattle.crew.specs.Shifts.{StopsAt}
 use Rattle.crew.specs.Takes.{HasTaken, was_missing}
 use Rattle.pattern_commands.specs.declared.complaint.Complaint.{Complaint}
-use Rattle.pattern_commands.specs.declared.complaint.Complaint.TheVariants.{Refused, Memory, ReadFailed, WriteFailed}
+use Rattle.pattern_commands.specs.declared.complaint.Complaint.TheVariants.{Refused, Memory, ReadFailed, TooLong, WriteFailed}
 use Rattle.commands.specs.declared.plan.Plan.{Plan}
 use Rattle.pattern_commands.specs.declared.refusal.Refusal.{Refusal}
 use Rattle.pattern_commands.specs.declared.refusal.Refusal.TheVariants.{BadRule, BirthZero, HorizonBelowPeriod}
@@ -63,36 +64,39 @@ refused_needs_memory set refusal list (Overlapping ranges named small overlap to
 needs_memory : (set : SoupSet) (tells : List Range → List ℕ → Type 0) (complaint : Complaint) → IsListText set.also
     → right_for_set set tells (Err complaint) → NeedsMemory complaint
 needs_memory set tells (Refused refusal) list right = refused_needs_memory set refusal list right
-needs_memory set tells Memory list right = absurd right
-needs_memory set tells ReadFailed list right = absurd right
-needs_memory set tells WriteFailed list right = absurd right
+needs_memory set tells (Memory error) list right = absurd right
+needs_memory set tells (ReadFailed error) list right = absurd right
+needs_memory set tells TooLong list right = absurd right
+needs_memory set tells (WriteFailed error) list right = absurd right
 
 -- what stops a command over its set stops it
 Stops_set : (set : SoupSet) (tells : List Range → List ℕ → Type 0) (complaint : Complaint) → StopsSet set complaint
     → Stops (right_for_set set tells) complaint
 Stops_set set tells (Refused refusal) stops = stops
-Stops_set set tells Memory stops = λ complaint right. needs_memory set tells complaint stops right
-Stops_set set tells ReadFailed stops = absurd stops
-Stops_set set tells WriteFailed stops = absurd stops
+Stops_set set tells (Memory error) stops = λ complaint right. needs_memory set tells complaint stops right
+Stops_set set tells (ReadFailed error) stops = absurd stops
+Stops_set set tells TooLong stops = absurd stops
+Stops_set set tells (WriteFailed error) stops = absurd stops
 
 -- a range list that is not read stops the command
 pub Stops_list : (set : SoupSet) (text : List ℕ) (error : ListError) → text ≡ set.also
-    → ((ranges : List Range) → FitU64 ranges → list_text ranges ≡ text → error ≡ list_error.Memory)
-    → ((place : ℕ) → error ≡ list_error.BadList place → IsFirstListFault text place) → (error ≡ list_error.Memory → IsListText text)
+    → ((ranges : List Range) → FitU64 ranges → list_text ranges ≡ text → error ≡ list_error.Memory out_of_memory)
+    → ((place : ℕ) → error ≡ list_error.BadList place → IsFirstListFault text place) → (error ≡ list_error.Memory out_of_memory → IsListText text)
     → StopsSet set (list_complaint error)
 Stops_list set text (list_error.BadList place) is complete fault memory =
     let not_list : IsListText set.also → ⊥ =
-    λ list. let bad : list_error.BadList place ≡ list_error.Memory = complete list.ranges list.fit (list.spelled ∙ sym is) in cc in
+    λ list. let bad : list_error.BadList place ≡ list_error.Memory out_of_memory = complete list.ranges list.fit (list.spelled ∙ sym is) in cc in
     Bad_list not_list place (subst (λ (t : List ℕ). IsFirstListFault t place) is (fault place refl)) refl
-Stops_list set text list_error.Memory is complete fault memory = subst IsListText is (memory refl)
+Stops_list set text (list_error.Memory refused) is complete fault memory = subst IsListText is (memory refl)
 
 -- a complaint that stops the command is what it ends with, with nothing on the output
 pub Reaches_stopped : (right : Right) (complaint : Complaint) (output : Stream) → Stops right complaint → Has output []
     → ReachesText false false right (Err complaint) output
 Reaches_stopped right (Refused refusal) output stops nothing = (stops, nothing)
-Reaches_stopped right Memory output stops nothing = (λ unread. stops, λ answer is. ([], output_text answer, refl, nothing))
-Reaches_stopped right ReadFailed output stops nothing = absurd stops
-Reaches_stopped right WriteFailed output stops nothing = absurd stops
+Reaches_stopped right (Memory error) output stops nothing = (λ unread. stops, λ answer is. ([], output_text answer, refl, nothing))
+Reaches_stopped right (ReadFailed error) output stops nothing = absurd stops
+Reaches_stopped right TooLong output stops nothing = absurd stops
+Reaches_stopped right (WriteFailed error) output stops nothing = absurd stops
 
 -- the same for a part of what is right
 pub Stops_given : (plan : Plan) (tells : Job → List Range → List ℕ → Type 0) (job : Job)
@@ -104,15 +108,17 @@ Stops_given plan tells job complaint named stops = go complaint (Stops_set plan.
     go : (c : Complaint) → Stops (right_for_set plan.set (tells job)) c
         → Stops (given_right (job_named plan) (λ j. right_for_set plan.set (tells j))) c
     go (Refused refusal) is = rw named is
-    go Memory is = λ c right. is c (rw named at right)
-    go ReadFailed is = absurd is
-    go WriteFailed is = absurd is
+    go (Memory error) is = λ c right. is c (rw named at right)
+    go (ReadFailed error) is = absurd is
+    go TooLong is = absurd is
+    go (WriteFailed error) is = absurd is
 
 abbrev IsRefusal : Complaint → Type 0
 IsRefusal (Refused refusal) = Unit {0}
-IsRefusal Memory = ⊥
-IsRefusal ReadFailed = ⊥
-IsRefusal WriteFailed = ⊥
+IsRefusal (Memory error) = ⊥
+IsRefusal (ReadFailed error) = ⊥
+IsRefusal TooLong = ⊥
+IsRefusal (WriteFailed error) = ⊥
 
 -- a seed, a profile or a rule is refused, and nothing else happens to them
 seed_refused : (answer : Result (List ℕ) SeedFault) (complaint : Complaint) → result_map_both (λ seed. seed) seed_complaint answer ≡ Err complaint
@@ -156,9 +162,10 @@ job_refused plan complaint =
 pub Stops_job : (plan : Plan) (next : Job → Right) (complaint : Complaint)
     → job_named plan ≡ Err complaint → Stops (given_right (job_named plan) next) complaint
 Stops_job plan next (Refused refusal) refused = rw refused refl
-Stops_job plan next Memory refused = absurd (job_refused plan Memory refused)
-Stops_job plan next ReadFailed refused = absurd (job_refused plan ReadFailed refused)
-Stops_job plan next WriteFailed refused = absurd (job_refused plan WriteFailed refused)
+Stops_job plan next (Memory error) refused = absurd (job_refused plan (Memory error) refused)
+Stops_job plan next (ReadFailed error) refused = absurd (job_refused plan (ReadFailed error) refused)
+Stops_job plan next TooLong refused = absurd (job_refused plan TooLong refused)
+Stops_job plan next (WriteFailed error) refused = absurd (job_refused plan (WriteFailed error) refused)
 
 -- what ends a command before its haul is open stops it
 pub Stops_opening : (plan : Plan) (tells : Job → List Range → List ℕ → Type 0) (complaint : Complaint)
@@ -190,9 +197,9 @@ listed set ranges of = record { ranges = of.listed; fit = of.fit; spelled = of.s
 
 -- memory that runs out over a haul that was opened stops the command
 Stops_memory : {workers : ℕ} (plan : Plan) (held : Held)
-    → IsOpenedFor plan workers held → Stops (take_right plan) Memory
+    → IsOpenedFor plan workers held → Stops (take_right plan) (Memory out_of_memory)
 Stops_memory plan held is =
-    Stops_given plan TellsAll is.job Memory is.named (listed plan.set is.opened.ranges is.opened.named)
+    Stops_given plan TellsAll is.job (Memory out_of_memory) is.named (listed plan.set is.opened.ranges is.opened.named)
 
 -- ---- a haul that was opened
 
@@ -318,10 +325,11 @@ pub take_stops : (may_stop : ℕ → ℕ → Type 0) (plan : Plan) (known : Opti
     → Reaches (gated_task may_stop plan) known bytes (Err complaint) output errors
 take_stops may_stop plan known bytes (Refused refusal) output errors stops nothing still =
     (stops, record { nothing = nothing; silent = still.0; fine = still.1 })
-take_stops may_stop plan known bytes Memory output errors stops nothing still =
+take_stops may_stop plan known bytes (Memory error) output errors stops nothing still =
     record { hides = λ unread complaint is. stops complaint is; left = nothing; told = inl still.0; fine = still.1 }
-take_stops may_stop plan known bytes ReadFailed output errors stops nothing still = absurd stops
-take_stops may_stop plan known bytes WriteFailed output errors stops nothing still = absurd stops
+take_stops may_stop plan known bytes (ReadFailed error) output errors stops nothing still = absurd stops
+take_stops may_stop plan known bytes TooLong output errors stops nothing still = absurd stops
+take_stops may_stop plan known bytes (WriteFailed error) output errors stops nothing still = absurd stops
 
 -- the haul that was taken, finished
 take_finishes : {workers : ℕ} (may_stop : ℕ → ℕ → Type 0) (plan : Plan) (known : Option (List ℕ))
@@ -340,10 +348,10 @@ take_finishes may_stop plan known bytes held (Ok missing) output errors h none f
       told = still.0;
       fine = still.1;
     }
-take_finishes may_stop plan known bytes held (Err Memory) output errors h none nothing still =
-    take_stops may_stop plan known bytes Memory output errors (Stops_memory plan h.opened h.is)
+take_finishes may_stop plan known bytes held (Err (Memory error)) output errors h none nothing still =
+    take_stops may_stop plan known bytes (Memory error) output errors (Stops_memory plan h.opened h.is)
     nothing still
-take_finishes may_stop plan known bytes held (Err WriteFailed) output errors h none half still =
+take_finishes may_stop plan known bytes held (Err (WriteFailed error)) output errors h none half still =
     let many : ℕ = length (missing_of held.terms.ranges held.taken) in
     inl (record {
       left = (
@@ -355,7 +363,8 @@ take_finishes may_stop plan known bytes held (Err WriteFailed) output errors h n
       cut = half.cut;
       fine = still.1;
     })
-take_finishes may_stop plan known bytes held (Err ReadFailed) output errors h none not still = absurd not
+take_finishes may_stop plan known bytes held (Err (ReadFailed error)) output errors h none not still = absurd not
+take_finishes may_stop plan known bytes held (Err TooLong) output errors h none not still = absurd not
 take_finishes may_stop plan known bytes held (Err (Refused refusal)) output errors h none not still = absurd not
 
 -- the same, or memory ran out before the haul was complete
@@ -364,14 +373,14 @@ pub take_ends : {workers : ℕ} {E : Type 0} (may_stop : ℕ → ℕ → Type 0)
     → IsOpenedFor plan workers opened → HasTaken workers opened held → IfOk taken (λ _. EndsCrew may_stop opened held)
     → IfOk taken (λ _. Finishes held outcome output)
     → IfOk taken (λ _. (length (missing_of held.terms.ranges held.taken) ≡ 0) ↔ IsComplete held.terms.ranges held.taken)
-    → IfErr taken (λ _. (outcome ≡ Err Memory) × Has output []) → IsUntouched errors
+    → IfErr taken (λ _. (outcome ≡ Err (Memory out_of_memory)) × Has output []) → IsUntouched errors
     → Reaches (gated_task may_stop plan) known bytes outcome output errors
 take_ends may_stop plan known bytes opened held (Ok u) outcome output errors is taken ends finishes none gives_up still =
     take_finishes may_stop plan known bytes held outcome output errors
     (record { opened = opened; is = is; taken = taken; ends = ends }) none finishes still
 take_ends may_stop plan known bytes opened held (Err e) outcome output errors is taken ends finishes none gives_up still =
     subst (λ (o : Outcome). Reaches (gated_task may_stop plan) known bytes o output errors) (sym gives_up.0)
-    (take_stops may_stop plan known bytes Memory output errors (Stops_memory plan opened is) gives_up.1 still)
+    (take_stops may_stop plan known bytes (Memory out_of_memory) output errors (Stops_memory plan opened is) gives_up.1 still)
 
 -- a gate that stops nobody stops no haul
 never_right : (may_stop : ℕ → ℕ → Type 0) (plan : Plan) (missing : ℕ) (text : List ℕ)
@@ -425,9 +434,10 @@ never_stopped may_stop plan known bytes status output errors never ends = record
       fine = is.fine;
     }
     go (Err (Refused refusal)) is = is
-    go (Err Memory) is = record { hides = is.hides; left = is.left; told = is.told; fine = is.fine }
-    go (Err ReadFailed) is = record { reads = is.reads; begun = is.begun; nothing = is.nothing; fine = is.fine }
-    go (Err WriteFailed) (inl is) =
+    go (Err (Memory error)) is = record { hides = is.hides; left = is.left; told = is.told; fine = is.fine }
+    go (Err (ReadFailed error)) is = record { reads = is.reads; begun = is.begun; nothing = is.nothing; fine = is.fine }
+    go (Err TooLong) (right, is) = (right, record { reads = is.reads; begun = is.begun; nothing = is.nothing; fine = is.fine })
+    go (Err (WriteFailed error)) (inl is) =
         let (made, right, front, told) = is.left in
         inl (record { left = (made, never_less may_stop plan made never right, front, told); cut = is.cut; fine = is.fine })
-    go (Err WriteFailed) (inr is) = absurd is.tells
+    go (Err (WriteFailed error)) (inr is) = absurd is.tells

@@ -10,7 +10,7 @@ use Rattle.ranges.specs.Ranges.{AreSmall, IsNormalForm, Overlap}
 use Rattle.crew.specs.Shifts.{StopsAt}
 use Rattle.crew.specs.Takes.{HasTaken, was_missing}
 use Rattle.pattern_commands.specs.declared.complaint.Complaint.{Complaint}
-use Rattle.pattern_commands.specs.declared.complaint.Complaint.TheVariants.{Refused, Memory, ReadFailed, WriteFailed}
+use Rattle.pattern_commands.specs.declared.complaint.Complaint.TheVariants.{Refused, Memory, ReadFailed, TooLong, WriteFailed}
 use Rattle.commands.specs.declared.plan.Plan.{Plan}
 use Rattle.commands.specs.declared.soup_set.SoupSet.{SoupSet}
 use Rattle.pattern_commands.specs.Answers.{NeedsMemory, Right}
@@ -19,17 +19,19 @@ use Rattle.commands.specs.SoupSets.{AreRangesOf, IsRefused, job_named}
 -- a complaint that ends a command before it writes: a refusal if that is right, or memory that ran out
 abbrev pub Stops : Right → Complaint → Type 0
 Stops right (Refused refusal) = right (Err (Refused refusal))
-Stops right Memory = (complaint : Complaint) → right (Err complaint) → NeedsMemory complaint
-Stops right ReadFailed = ⊥
-Stops right WriteFailed = ⊥
+Stops right (Memory error) = (complaint : Complaint) → right (Err complaint) → NeedsMemory complaint
+Stops right (ReadFailed error) = ⊥
+Stops right TooLong = ⊥
+Stops right (WriteFailed error) = ⊥
 
 -- a complaint over a set that ends a command before it writes: a refusal if that is right, or memory that ran out over what is
 -- a range list
 abbrev pub StopsSet : SoupSet → Complaint → Type 0
 StopsSet set (Refused refusal) = IsRefused set refusal
-StopsSet set Memory = IsListText set.also
-StopsSet set ReadFailed = ⊥
-StopsSet set WriteFailed = ⊥
+StopsSet set (Memory error) = IsListText set.also
+StopsSet set (ReadFailed error) = ⊥
+StopsSet set TooLong = ⊥
+StopsSet set (WriteFailed error) = ⊥
 
 -- a haul of a job over the ranges of a set, for so many workers, to which nothing has come
 pub record IsOpened (job : Job) (set : SoupSet) (workers : ℕ) (held : Held) : Type 0 where

@@ -1,6 +1,7 @@
 use crew::watch::Watch;
+use memory::OutOfMemory;
 use plane_core::output::Out;
-use std::alloc::{AllocError, Global};
+use std::alloc::Global;
 use std::io::Write;
 use std::time::{Clock, Instant};
 
@@ -71,7 +72,7 @@ impl<W: Write, C: Clock> Progress<W, C> {
     }
 
     /// What the line says.
-    fn line(&self, count: u64, now: Instant) -> Result<String, AllocError> {
+    fn line(&self, count: u64, now: Instant) -> Result<String, OutOfMemory> {
         let whole = self.whole;
         let crew = self.crew()?;
         match self.rate(count, now) {
@@ -81,7 +82,7 @@ impl<W: Write, C: Clock> Progress<W, C> {
     }
 
     /// What the line says of the workers: nothing if all were started.
-    fn crew(&self) -> Result<String, AllocError> {
+    fn crew(&self) -> Result<String, OutOfMemory> {
         if self.at_work == self.workers {
             return Ok(String::new(self.alloc));
         }

@@ -43,7 +43,7 @@ pub(crate) fn haul_for(
         Err(OpenError::BadWorkers) => unreachable!(),
         Err(OpenError::BadRange) => Err(Complaint::Refused(Refusal::RangeTooLarge)),
         Err(OpenError::Overlap) => Err(Complaint::Refused(Refusal::RangesOverlap)),
-        Err(OpenError::Memory) => Err(Complaint::Memory),
+        Err(OpenError::Memory(error)) => Err(Complaint::Memory(error)),
     }
 }
 

@@ -27,11 +27,11 @@ use crew::gate::{Gate, OpenGate};
 use crew::watch::Watch;
 use crew::workers::{self, CrewError};
 use haul_core::book::haul::Haul;
+use memory::OutOfMemory;
 use pattern_commands::complaint::Complaint;
 use pattern_commands::ending::tell_end;
 use pattern_commands::status::Status;
 use plane_core::output::Out;
-use std::alloc::AllocError;
 use std::io::Write;
 use std::sync::Wait;
 use std::thread::Threads;
@@ -111,7 +111,7 @@ fn take<W: Write, E: Write, G: Gate + Sync, T: Threads + Wait + Sync, H: Watch>(
         → Reaches (gated_task (G.may_stop gate.now) plan.now) known bytes result
         (stream W.contents output.old output.new) errors }
     ensures untouched { IfErr result (λ complaint. status_of complaint ≡ Status.Refused → output.new ≡ output.old) }
-    ensures no_memory { IfErr result (λ complaint. complaint ≡ Complaint.Memory → output.new ≡ output.old) }
+    ensures no_memory { IfErr result (λ complaint. complaint ≡ Complaint.Memory out_of_memory → output.new ≡ output.old) }
     ensures silent { machine.new.errors ≡ machine.old.errors }
 {
     let haul = open_haul(machine.alloc, plan, workers)?;
@@ -126,7 +126,7 @@ fn take_by_crew<E: Write, G: Gate + Sync, T: Threads + Wait + Sync, H: Watch>(
     haul: Haul,
     workers: u8,
     gate: &G,
-) -> (Haul, Result<(), AllocError>)
+) -> (Haul, Result<(), OutOfMemory>)
     requires some { 1 ≤ workers }
     requires few { workers ≤ haul.terms.workers }
     requires open { haul.closed ≡ false }
@@ -144,24 +144,25 @@ fn take_by_crew<E: Write, G: Gate + Sync, T: Threads + Wait + Sync, H: Watch>(
     ) {
         Ok(haul) => (haul, Ok(())),
         Err((haul, CrewError::Stopped { .. })) => (haul, Ok(())),
-        Err((haul, CrewError::Closed | CrewError::Memory)) => (haul, Err(AllocError)),
+        Err((haul, CrewError::Memory(error))) => (haul, Err(error)),
+        Err((_, CrewError::Closed)) => unreachable!(),
     }
 }
 
 /// Finishes a haul of which a crew has taken what it could, unless memory ran out.
 fn finish_taken<W: Write>(
     haul: &mut Haul,
-    taken: Result<(), AllocError>,
+    taken: Result<(), OutOfMemory>,
     output: &mut Out<W>,
 ) -> Result<u64, Complaint>
     requires { output.old.failed ≡ false }
     ensures finishes { IfOk taken (λ _. Finishes haul.old result (stream W.contents output.old output.new)) }
     ensures none { IfOk taken (λ _. (length (missing_of haul.old.terms.ranges haul.old.taken) ≡ 0)
         ↔ IsComplete haul.old.terms.ranges haul.old.taken) }
-    ensures gives_up { IfErr taken (λ _. (result ≡ Err Complaint.Memory)
+    ensures gives_up { IfErr taken (λ _. (result ≡ Err (Complaint.Memory out_of_memory))
         × Has (stream W.contents output.old output.new) []) }
     ensures accepted { IfErr result (λ complaint. status_of complaint ≢ Status.Refused) }
-    ensures no_memory { IfErr result (λ complaint. complaint ≡ Complaint.Memory → output.new ≡ output.old) }
+    ensures no_memory { IfErr result (λ complaint. complaint ≡ Complaint.Memory out_of_memory → output.new ≡ output.old) }
 {
     taken?;
     finish(haul, output)

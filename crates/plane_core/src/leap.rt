@@ -21,7 +21,7 @@ use crate::frame::Frame;
 use crate::place::Place;
 use crate::placed::{column_of, read, row_of, unpacked, write};
 use crate::window::generations;
-use std::alloc::AllocError;
+use memory::OutOfMemory;
 use std::simd::prelude::*;
 
 /// The rows of a window that was run, and where it has changed.
@@ -83,7 +83,7 @@ fn run_all<A: Answering>(
     count: usize,
     held: &mut Vec<[u64; 40]>,
     changes: &mut Vec<Change>,
-) -> Result<(), AllocError>
+) -> Result<(), OutOfMemory>
     requires frame { IsFrame at }
     requires long { FillsFrame at words.now }
     requires on_board { All (IsOnBoard at) places.now }
@@ -130,7 +130,7 @@ pub(crate) fn leap<A: Answering>(
     count: usize,
     held: &mut Vec<[u64; 40]>,
     changes: &mut Vec<Change>,
-) -> Result<(), AllocError>
+) -> Result<(), OutOfMemory>
     requires frame { IsFrame at }
     requires long { FillsFrame at words.old }
     requires on_board { All (IsOnBoard at) places.now }

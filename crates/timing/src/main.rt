@@ -14,13 +14,14 @@ use code_core::apgcode::Apgcode;
 use code_core::name::name;
 use haul_core::book::haul::{Haul, OpenError};
 use haul_core::report::Report;
+use memory::OutOfMemory;
 use plane_core::cell::Cell;
 use plane_core::clusters::clusters_are_determined;
 use plane_core::generation::StepError;
 use plane_core::pattern::Pattern;
 use plane_core::rule::Rule;
 use ranges::range::Range;
-use std::alloc::{AllocError, Global};
+use std::alloc::Global;
 use std::env;
 use std::io::{self, Read};
 use std::time::Instant;
@@ -31,7 +32,7 @@ use survey_core::profile::Profile;
 use survey_core::seed::Seed;
 
 /// How many clusters the pattern has.
-fn cluster_count(alloc: Global, pattern: &Pattern) -> Result<usize, AllocError>
+fn cluster_count(alloc: Global, pattern: &Pattern) -> Result<usize, OutOfMemory>
     ensures { IfOk result
         (λ count. (clusters : List (List Place)) → AreClusters pattern.now clusters → count ≡ length clusters) }
 {
@@ -71,7 +72,7 @@ fn find_names(rt: &HostRuntime, pattern: &Pattern, times: u32) -> io::Result<()>
 }
 
 /// The cells of two gliders that lie 100,000 columns apart and fly the same way.
-fn two_gliders(alloc: Global) -> Result<Vec<Cell>, AllocError> {
+fn two_gliders(alloc: Global) -> Result<Vec<Cell>, OutOfMemory> {
     let mut cells = Vec::new(alloc);
     for left in [0, 100_000] {
         for (x, y) in [(1, 0), (2, 1), (0, 2), (1, 2), (2, 2)] {
@@ -94,7 +95,7 @@ fn fly_gliders(rt: &HostRuntime, generations: u32) -> io::Result<()> {
 }
 
 /// How many of the first soups of the empty seed settle, in Life and by the standard profile.
-fn settled_count(alloc: Global, job: &Job, soups: u32) -> Result<usize, AllocError> {
+fn settled_count(alloc: Global, job: &Job, soups: u32) -> Result<usize, OutOfMemory> {
     let mut settled = Vec::new(alloc);
     let mut memo = Memo::new(alloc);
     for number in 0..soups {
@@ -131,12 +132,12 @@ fn cheap_job(seed: Seed) -> Option<Job> {
 }
 
 /// Reports of the soups from a number on, up to another.
-fn reports(alloc: Global, job: &Job, from: u32, to: u32) -> Result<Vec<Report>, AllocError> {
+fn reports(alloc: Global, job: &Job, from: u32, to: u32) -> Result<Vec<Report>, OutOfMemory> {
     let mut reports = Vec::new(alloc);
     for number in from..to {
         // Worker 1 may report, so only memory can be missing.
         let Ok(report) = Report::make(alloc, job, 1, u64::from(number)) else {
-            return Err(AllocError);
+            return Err(OutOfMemory);
         };
         reports.push(report)?;
     }

@@ -1,4 +1,5 @@
 ghost use Rattle.std.specs.Prelude.{◌≡◌, ◌≢◌, None, Some, IfOk, IfErr, IfSome, map, option_and_then};
+ghost use Rattle.memory.specs.Evidence.{out_of_memory};
 ghost use Rattle.clap.specs.Words.{found_of, kind_of, rows_of, subcommand_rows_of};
 ghost use Rattle.words.specs.Calls.{AskForTheirValues, AsksForVersion, NoCommandAsksForNothing, OthersAskForNothing};
 ghost use Rattle.words.specs.Requests.{AreInTheirRanges, asked_by, asks_version, request_in};
@@ -8,7 +9,8 @@ use crate::reading::{gather_in, name_in, run_in, show_in, soup_in, take_in, work
 use crate::request::Request;
 use clap::ArgMatches;
 use clap::error::ErrorKind;
-use std::alloc::{AllocError, Global};
+use memory::OutOfMemory;
+use std::alloc::Global;
 use std::convert::AsStr;
 
 /// Why words give no request.
@@ -20,13 +22,13 @@ pub enum Unasked {
     Memory,
 }
 
-impl From<AllocError> for Unasked {
+impl<E: Into<OutOfMemory>> From<E> for Unasked {
     ghost use Rattle.words.specs.declared.calls.Unasked.TheVariants.{Memory};
 
-    ghost from_gives = { λ _ unasked. unasked ≡ Memory };
+    ghost from_gives = { λ _ unasked. unasked ≡ Memory out_of_memory };
 
-    fn from(_error: AllocError) -> Unasked {
-        Unasked::Memory
+    fn from(refused: E) -> Unasked {
+        Unasked::Memory(refused.into())
     }
 }
 
