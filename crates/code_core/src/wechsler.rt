@@ -154,9 +154,9 @@ fn push_gap(text: &mut String, gap: u8) -> Result<(), OutOfMemory>
 {
     match gap {
         0 => Ok(()),
-        1 => text.push('0'),
-        2 => text.push('w'),
-        3 => text.push('x'),
+        1 => Ok(text.push('0')?),
+        2 => Ok(text.push('w')?),
+        3 => Ok(text.push('x')?),
         _ => {
             text.push('y')?;
             push_character(text, gap - 4)
@@ -169,7 +169,7 @@ fn push_character(text: &mut String, value: u8) -> Result<(), OutOfMemory>
     requires { value ≤ 35 }
     ensures { OnOk result (string_bytes text.new ≡ string_bytes text.old ++ character value ∷ []) }
 {
-    text.push(char::from(character(value)))
+    Ok(text.push(char::from(character(value)))?)
 }
 
 /// `0` to `9` for 0 to 9, and `a` to `z` for 10 to 35.

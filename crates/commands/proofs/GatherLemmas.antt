@@ -1,5 +1,5 @@
 -- From the steps of `gather` to what became of each line.
-use Rattle.std.proofs.Common.{◌≡◌, ◌≢◌, ◌+◌, ◌∙◌, ◌++◌, ◌<◌, ◌≤◌, ◌^◌, ℕ, suc, inl, inr, false, length-append, length-take, List, [], ◌∷◌, Option, None, Some, Result, Ok, Err, IfOk, ap, ap₂, append-nil, arith, length, refl, subst, sym, take, take-take, take_all}
+use Rattle.std.proofs.Common.{◌≡◌, ◌≢◌, ◌+◌, ◌∙◌, ◌++◌, ◌<◌, ◌≤◌, ◌^◌, ℕ, suc, inl, inr, false, length-append, length-take, List, [], ◌∷◌, Option, None, Some, Result, Ok, Err, IfOk, IfSome, ap, ap₂, append-nil, arith, flat_map, length, refl, subst, sym, take, take-take, take_all}
 use Rattle.survey_core.specs.FindingLaws.{FindingsAreDetermined}
 use Rattle.survey_core.specs.Soups.{soup}
 use Rattle.survey_core.specs.declared.finding.Finding.{Finding}
@@ -27,11 +27,15 @@ use Rattle.pattern_commands.specs.declared.complaint.Complaint.TheVariants.{Refu
 use Rattle.commands.specs.declared.lines.LineEnd.{LineEnd}
 use Rattle.commands.specs.declared.lines.LineEnd.TheVariants.{Feed, Input}
 use Rattle.commands.specs.declared.lines.LineRead.{LineRead}
+use Rattle.pattern_commands.specs.Answers.{IsInput}
+use Rattle.pattern_commands.specs.Inputs.{input_complaint}
 use Rattle.pattern_commands.specs.Streams.{Stream, Has, stream}
-use Rattle.commands.specs.GatherSteps.{EndsLine, EndsLines, GoesOn, HasGathered, HasGatheredAll, Passage}
+use Rattle.pattern_commands.specs.declared.input.InputError.{InputError}
+use Rattle.pattern_commands.specs.declared.input.InputError.TheVariants as input_error
+use Rattle.commands.specs.GatherSteps.{EndsLine, EndsLines, EndsNext, GoesOn, HasGathered, HasGatheredAll, Passage}
 use Rattle.commands.specs.LinesSoFar.{HasBegun, HasCome, HasComeBy}
 use Rattle.commands.specs.Lines.{HasReadLine, IsOneLine, input_lines, with_end}
-use Rattle.commands.proofs.LineLemmas.{all_read, ended_more, lines_bare, lines_ended, all_lines, first_lines}
+use Rattle.commands.proofs.LineLemmas.{all_read, ended_more, lines_bare, lines_ended, all_lines, first_lines, long_read}
 use Rattle.commands.specs.GatheredLines.{Faulty, Front, Gathered, IsChecked, IsFrontFault, IsLookedAt, IsWrong, ComesOf, Next, Offered, Start, Whole, offer_fault, told_fault}
 
 -- nothing arrives by a line with a fault
@@ -242,14 +246,7 @@ longer None left read consumed long = tt
 longer (Some xs) None read consumed long = absurd consumed
 longer (Some xs) (Some ys) read consumed long = let all = ap length consumed ∙ length-append read ys in omega (arith, all, long)
 
--- of an input from which many bytes were read, there are many
-pub long_read : (known left : Option (List ℕ)) (read : List ℕ) → Consumes known left read → 2 ^ 32 < length read
-    → IfSome known (λ bytes. 2 ^ 32 < length bytes)
-long_read None left read consumed long = tt
-long_read (Some xs) None read consumed long = absurd consumed
-long_read (Some xs) (Some ys) read consumed long = let all = ap length consumed ∙ length-append read ys in omega (arith, all, long)
-
--- the same where there may be more lines, or none
+-- what was read of an input that is too long, where there may be more lines, or none
 pub goes_long : (way : Passage) (held : Held) (end : LineEnd) → GoesOn way held end → 2 ^ 32 < way.size
     → IfSome way.known (λ bytes. 2 ^ 32 < length bytes)
 goes_long way held Feed gathered many =
@@ -259,6 +256,23 @@ goes_long way held Input all many = go way.known all.input
     go : (known : Option (List ℕ)) → IsInput known all.bytes → IfSome known (λ bytes. 2 ^ 32 < length bytes)
     go None is = tt
     go (Some left) is = let long = all.size_is in let same = ap length is in omega (arith, long, same, many)
+
+-- as many lines as there are bytes at most, and a line feed after each, are too many
+bytes_of_lines : (lines : List (List ℕ)) → length lines ≤ length (flat_map (with_end Feed) lines)
+bytes_of_lines [] = omega arith
+bytes_of_lines (line ∷ lines) =
+    let more = bytes_of_lines lines in
+    let one = length-append line (10 ∷ []) in
+    let all = length-append (line ++ 10 ∷ []) (flat_map (with_end Feed) lines) in
+    omega (arith, more, one, all)
+
+pub many_lines : (way : Passage) (held : Held) → HasGathered way held → 2 ^ 32 < way.count
+    → IfSome way.known (λ bytes. 2 ^ 32 < length bytes)
+many_lines way held gathered many =
+    let spelled = ap length gathered.ended.spelled in
+    let count = gathered.count_is in
+    long_read way.known way.left gathered.read gathered.consumed
+    (omega (arith, spelled, count, many, bytes_of_lines gathered.lines))
 
 -- a line that could not be read, with nothing told
 pub next_unread : {V : Type 0} (left : Option (List ℕ)) (old : Output V) (fault : InputError)

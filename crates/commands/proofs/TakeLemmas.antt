@@ -3,7 +3,7 @@ use Rattle.std.proofs.Common.{◌≡◌, ◌∙◌, ◌≤◌, ◌⊎◌, ◌↔
 use Rattle.std.proofs.Common.{List, [], ◌++◌, map, Option, Result, Ok, Err, All, ap, sym, subst, refl, arith}
 use Rattle.std.specs.Prelude.{Contains, IfErr, IfOk}
 use Rattle.std.proofs.lemmas.Bool.{cases_Bool, leb-false, leb-true}
-use Rattle.std.proofs.lemmas.List.Elements.{All-contains, All-filter, All-map}
+use Rattle.std.proofs.lemmas.List.Elements.{All-contains, All-filter, All-weaker}
 use Rattle.std.specs.List.{IsDistinct}
 use Rattle.std.specs.Result.{result_map_both}
 use Rattle.memory.specs.Evidence.{out_of_memory}
@@ -28,7 +28,7 @@ use Rattle.ranges.specs.RangeLists.{FitU64, IsListText, list_text}
 use Rattle.ranges.specs.RangeListFaults.{IsFirstListFault}
 use Rattle.ranges.specs.Ranges.{AreSmall, IsNormalForm, is_in}
 use Rattle.crew.specs.Shifts.{StopsAt}
-use Rattle.crew.specs.Takes.{HasTaken, was_missing}
+use Rattle.crew.specs.Takes.{was_missing}
 use Rattle.pattern_commands.specs.declared.complaint.Complaint.{Complaint}
 use Rattle.pattern_commands.specs.declared.complaint.Complaint.TheVariants.{Refused, Memory, ReadFailed, TooLong, WriteFailed}
 use Rattle.commands.specs.declared.plan.Plan.{Plan}
@@ -48,7 +48,7 @@ use Rattle.commands.specs.SoupSets.{AreRangesOf, IsRefused, job_named, right_for
 use Rattle.commands.specs.Stopped.{MayStop, TellsTaken, gated_task, right_if, stopped_right, taken_right}
 use Rattle.pattern_commands.specs.Streams.{Stream, Has, IsUntouched}
 use Rattle.commands.specs.Take.{TellsAll, take_right, take_task}
-use Rattle.commands.specs.TakeSteps.{EndsCrew, IsOpened, IsOpenedFor, IsTaken, Stops, StopsOpening, StopsSet}
+use Rattle.commands.specs.TakeSteps.{EndsCrew, HasGrown, IsOpened, IsOpenedFor, IsTaken, Stops, StopsOpening, StopsSet}
 use Rattle.pattern_commands.specs.Tasks.{Made, Task, alone}
 use Rattle.pattern_commands.specs.TextSteps.{ReachesText}
 use Rattle.commands.proofs.NumberLemmas.{numbers_within}
@@ -219,10 +219,6 @@ small_from ranges never = record {
 
 -- ---- a haul of which something was taken
 
--- nothing was taken of a haul that was opened
-none_taken : (held : Held) → StandsFor [] held → held.taken ≡ []
-none_taken held stands = stands.taken
-
 -- a missing number is one of the set
 in_set : (ranges normal : List Range) (taken : List (ℕ × ℕ)) (n : ℕ) → IsNormalForm ranges normal → Contains (missing_of normal taken) n
     → is_in ranges n ≡ true
@@ -233,15 +229,15 @@ in_set ranges normal taken n form missing =
 
 -- its census is that of the job and the set
 counted_by : {workers : ℕ} (job : Job) (set : SoupSet) (opened held : Held) (census : Census) → IsOpened job set workers opened
-    → HasTaken workers opened held → IsCensus held.terms.job held.terms.ranges (numbers_in held.taken) census
+    → HasGrown opened held → IsCensus held.terms.job held.terms.ranges (numbers_in held.taken) census
     → IsCensus job opened.terms.ranges (numbers_in held.taken) census
 counted_by job set opened held census open_ h is =
     subst (λ (j : Job). IsCensus j opened.terms.ranges (numbers_in held.taken) census) open_.job_is
-    (subst (λ (t : Terms). IsCensus t.job t.ranges (numbers_in held.taken) census) h.added.terms is)
+    (subst (λ (t : Terms). IsCensus t.job t.ranges (numbers_in held.taken) census) h.terms is)
 
 -- all of it was taken
 pub complete_right : {workers : ℕ} (job : Job) (set : SoupSet) (opened held : Held) (census : Census) → IsOpened job set workers opened
-    → HasTaken workers opened held → AreAll held.terms.ranges (numbers_in held.taken)
+    → HasGrown opened held → AreAll held.terms.ranges (numbers_in held.taken)
     → IsCensus held.terms.job held.terms.ranges (numbers_in held.taken) census → right_for_set set (TellsAll job) (Ok (haul_text census))
 complete_right job set opened held census open_ h all is = record {
   ranges = open_.ranges;
@@ -251,7 +247,7 @@ complete_right job set opened held census open_ h all is = record {
   is_text = record {
     numbers = numbers_in held.taken;
     all = λ n. all n ∙ ap (λ (b : Bool). cond {A = ℕ} b 1 0)
-        (ap (λ (t : Terms). is_in t.ranges n) h.added.terms ∙ open_.form.same n);
+        (ap (λ (t : Terms). is_in t.ranges n) h.terms ∙ open_.form.same n);
     normal = opened.terms.ranges;
     form = open_.form;
     census = census;
@@ -266,11 +262,12 @@ stopped_text may_stop missing job ranges text = MayStop may_stop ranges × Tells
 
 -- some numbers are missing
 pub stopped_told : {workers : ℕ} (may_stop : ℕ → ℕ → Type 0) (job : Job) (set : SoupSet) (opened held : Held) (census : Census) (missing : ℕ)
-    → IsOpened job set workers opened → HasTaken workers opened held → missing ≡ length (missing_of held.terms.ranges held.taken)
+    → IsOpened job set workers opened → HasGrown opened held → All (λ t. is_in held.terms.ranges t.1 ≡ true) held.taken
+    → IsDistinct nat_eq (numbers_in held.taken) → missing ≡ length (missing_of held.terms.ranges held.taken)
     → ¬ IsComplete held.terms.ranges held.taken → ((worker : ℕ) × StopsAt may_stop (was_missing opened) worker)
     → IsCensus held.terms.job held.terms.ranges (numbers_in held.taken) census
     → right_for_set set (stopped_text may_stop missing job) (Ok (haul_text census))
-stopped_told may_stop job set opened held census missing open_ h many incomplete stops is = record {
+stopped_told may_stop job set opened held census missing open_ h within once many incomplete stops is = record {
   ranges = open_.ranges;
   named = open_.named;
   small = open_.small;
@@ -281,22 +278,17 @@ stopped_told may_stop job set opened held census missing open_ h many incomplete
       normal = opened.terms.ranges;
       form = open_.form;
       taken = held.taken;
-      within = subst (All (λ (t : ℕ × ℕ). is_in open_.ranges t.1 ≡ true)) (sym entries)
-          (All-map (λ (t : ℕ × ℕ). is_in open_.ranges t.1 ≡ true) entry h.offers
-          (λ k d low. in_set open_.ranges opened.terms.ranges opened.taken (get_or h.offers k d).number open_.form
-          (h.missing k d low)));
-      once = subst (λ (ts : List (ℕ × ℕ)). IsDistinct nat_eq (numbers_in ts)) (sym entries) h.once;
-      incomplete = subst (λ (t : Terms). ¬ IsComplete t.ranges held.taken) h.added.terms incomplete;
-      missing_is = many ∙ ap (λ (t : Terms). length (missing_of t.ranges held.taken)) h.added.terms;
+      within = All-weaker (λ (t : ℕ × ℕ). is_in held.terms.ranges t.1 ≡ true) (λ (t : ℕ × ℕ). is_in open_.ranges t.1 ≡ true)
+          (λ t at. sym (ap (λ (ts : Terms). is_in ts.ranges t.1) h.terms ∙ open_.form.same t.1) ∙ at) held.taken within;
+      once = once;
+      incomplete = subst (λ (t : Terms). ¬ IsComplete t.ranges held.taken) h.terms incomplete;
+      missing_is = many ∙ ap (λ (t : Terms). length (missing_of t.ranges held.taken)) h.terms;
       census = census;
       counted = counted_by job set opened held census open_ h is;
       text_is = refl;
     },
   );
 }
-  where
-    entries : held.taken ≡ map entry h.offers
-    entries = h.added.taken ∙ ap (λ (ts : List (ℕ × ℕ)). ts ++ map entry h.offers) (none_taken opened open_.stands)
 
 -- what was taken of a haul that was opened, with how many are missing
 taken_told : {workers : ℕ} (may_stop : ℕ → ℕ → Type 0) (plan : Plan) (held : Held) (census : Census)
@@ -310,12 +302,12 @@ taken_told may_stop plan held census missing h many none is = go missing many no
         → right_if (take_right plan) (stopped_right may_stop plan) n (Ok (haul_text census))
     go zero many none (inl whole) =
         right_given plan (λ j. right_for_set plan.set (TellsAll j)) h.is.job (haul_text census) h.is.named
-        (complete_right h.is.job plan.set h.opened held census h.is.opened h.taken whole.1 is)
+        (complete_right h.is.job plan.set h.opened held census h.is.opened h.grown whole.1 is)
     go zero many none (inr less) = absurd (less.0 (none.0 refl))
     go (suc n) many none (inl whole) = let bad = none.1 whole.0 in cc
     go (suc n) many none (inr less) =
         right_given plan (λ j. right_for_set plan.set (stopped_text may_stop (suc n) j)) h.is.job (haul_text census) h.is.named
-        (stopped_told may_stop h.is.job plan.set h.opened held census (suc n) h.is.opened h.taken many less.0 (less.1, less.2) is)
+        (stopped_told may_stop h.is.job plan.set h.opened held census (suc n) h.is.opened h.grown h.within h.once many less.0 (less.1, less.2) is)
 
 -- ---- how `take` ends
 
@@ -370,15 +362,16 @@ take_finishes may_stop plan known bytes held (Err (Refused refusal)) output erro
 -- the same, or memory ran out before the haul was complete
 pub take_ends : {workers : ℕ} {E : Type 0} (may_stop : ℕ → ℕ → Type 0) (plan : Plan)
     (known : Option (List ℕ)) (bytes : List ℕ) (opened held : Held) (taken : Result (Unit {0}) E) (outcome : Outcome) (output errors : Stream)
-    → IsOpenedFor plan workers opened → HasTaken workers opened held → IfOk taken (λ _. EndsCrew may_stop opened held)
+    → IsOpenedFor plan workers opened → HasGrown opened held → All (λ t. is_in held.terms.ranges t.1 ≡ true) held.taken
+    → IsDistinct nat_eq (numbers_in held.taken) → IfOk taken (λ _. EndsCrew may_stop opened held)
     → IfOk taken (λ _. Finishes held outcome output)
     → IfOk taken (λ _. (length (missing_of held.terms.ranges held.taken) ≡ 0) ↔ IsComplete held.terms.ranges held.taken)
     → IfErr taken (λ _. (outcome ≡ Err (Memory out_of_memory)) × Has output []) → IsUntouched errors
     → Reaches (gated_task may_stop plan) known bytes outcome output errors
-take_ends may_stop plan known bytes opened held (Ok u) outcome output errors is taken ends finishes none gives_up still =
+take_ends may_stop plan known bytes opened held (Ok u) outcome output errors is grown within once ends finishes none gives_up still =
     take_finishes may_stop plan known bytes held outcome output errors
-    (record { opened = opened; is = is; taken = taken; ends = ends }) none finishes still
-take_ends may_stop plan known bytes opened held (Err e) outcome output errors is taken ends finishes none gives_up still =
+    (record { opened = opened; is = is; grown = grown; within = within; once = once; ends = ends }) none finishes still
+take_ends may_stop plan known bytes opened held (Err e) outcome output errors is grown within once ends finishes none gives_up still =
     subst (λ (o : Outcome). Reaches (gated_task may_stop plan) known bytes o output errors) (sym gives_up.0)
     (take_stops may_stop plan known bytes (Memory out_of_memory) output errors (Stops_memory plan opened is) gives_up.1 still)
 

@@ -5,6 +5,8 @@ use Rattle.std.proofs.lemmas.List.{take-append-drop, take_more}
 use Rattle.std.proofs.lemmas.List.Concat.{flat_map-append}
 use Rattle.std.specs.List.{range_with_len}
 use Rattle.std.specs.Io.KnownBytes.{Appends}
+use Rattle.memory.specs.declared.OutOfMemory.{OutOfMemory}
+use Rattle.plane_core.specs.declared.output.WriteError.{WriteError}
 use Rattle.plane_core.proofs.OutLemmas.{Appends-append, Appends-nil, AppendsFront-append, AppendsFront-longer}
 use Rattle.survey_core.specs.declared.job.Job.{Job}
 use Rattle.survey_core.specs.FindingLaws.{FindingsAreDetermined}

@@ -1,14 +1,15 @@
 -- How a haul over a set is opened, and its numbers.
-use Rattle.std.specs.Prelude.{◌≡◌, ◌⊎◌, ℕ, List, [], Ok, Err}
+use Rattle.std.specs.Prelude.{◌≡◌, ◌⊎◌, ◌++◌, ℕ, All, List, [], Ok, Err, nat_eq, true}
+use Rattle.std.specs.List.{IsDistinct}
 use Rattle.survey_core.specs.declared.job.Job.{Job}
 use Rattle.ranges.specs.declared.range.Range.{Range}
 use Rattle.haul_core.specs.Books.{Held, StandsFor}
 use Rattle.haul_core.specs.Keeping.{numbers_in}
 use Rattle.haul_core.specs.Missing.{AreAll, IsComplete}
 use Rattle.ranges.specs.RangeLists.{IsListText}
-use Rattle.ranges.specs.Ranges.{AreSmall, IsNormalForm, Overlap}
+use Rattle.ranges.specs.Ranges.{AreSmall, IsNormalForm, Overlap, is_in}
 use Rattle.crew.specs.Shifts.{StopsAt}
-use Rattle.crew.specs.Takes.{HasTaken, was_missing}
+use Rattle.crew.specs.Takes.{was_missing}
 use Rattle.pattern_commands.specs.declared.complaint.Complaint.{Complaint}
 use Rattle.pattern_commands.specs.declared.complaint.Complaint.TheVariants.{Refused, Memory, ReadFailed, TooLong, WriteFailed}
 use Rattle.commands.specs.declared.plan.Plan.{Plan}
@@ -56,14 +57,23 @@ abbrev pub StopsOpening : Plan → Complaint → Type 0
 StopsOpening plan complaint = (job_named plan ≡ Err complaint)
     ⊎ ((job : Job) × (job_named plan ≡ Ok job) × StopsSet plan.set complaint)
 
--- what a crew answered of a haul: all was taken, or else the gate stopped a worker
+-- what became of a haul by crews: all was taken, or else the gate stopped a worker
 abbrev pub EndsCrew : (ℕ → ℕ → Type 0) → Held → Held → Type 0
 EndsCrew may_stop old new = (IsComplete new.terms.ranges new.taken × AreAll new.terms.ranges (numbers_in new.taken))
     ⊎ ((¬ IsComplete new.terms.ranges new.taken) × (worker : ℕ) × StopsAt may_stop (was_missing old) worker)
 
--- a crew has taken what it could of a haul that was opened over a set
+-- a haul has taken more than it had
+pub record HasGrown (old new : Held) : Type 0 where
+  pub terms : new.terms ≡ old.terms
+  pub closed : new.closed ≡ old.closed
+  pub more : List (ℕ × ℕ)
+  pub taken : new.taken ≡ old.taken ++ more
+
+-- crews have taken what they could of a haul that was opened over a set: numbers of the set, and none twice
 pub record IsTaken (may_stop : ℕ → ℕ → Type 0) (plan : Plan) (workers : ℕ) (held : Held) : Type 0 where
   pub opened : Held
   pub is : IsOpenedFor plan workers opened
-  pub taken : HasTaken workers opened held
+  pub grown : HasGrown opened held
+  pub within : All (λ t. is_in held.terms.ranges t.1 ≡ true) held.taken
+  pub once : IsDistinct nat_eq (numbers_in held.taken)
   pub ends : EndsCrew may_stop opened held

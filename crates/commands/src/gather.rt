@@ -8,6 +8,7 @@
 
 ghost use Rattle.std.specs.Prelude.{◌≡◌, ◌≢◌, ◌<◌, ◌≤◌, Ok, Result, ◌+◌, ◌^◌, ◌++◌, ◌∷◌, [], ℕ, List, Option, Some};
 ghost use Rattle.std.specs.Prelude.{IfErr, IfOk, OnOk, false, length, take};
+ghost use Rattle.memory.specs.Evidence.{out_of_memory};
 ghost use Rattle.haul_core.specs.Reports.{IsWorker, Reported};
 ghost use Rattle.plane_core.specs.Out.{Output};
 ghost use Rattle.pattern_commands.specs.Answers.{IsInput};
@@ -19,7 +20,7 @@ ghost use Rattle.pattern_commands.specs.Profiles.{AreInRange};
 ghost use Rattle.pattern_commands.specs.Streams.{stream};
 ghost use Rattle.haul_core.specs.Books.{StandsFor};
 ghost use Rattle.haul_core.specs.declared.book.arrival.Arrival.{Arrival};
-ghost use Rattle.commands.specs.GatherSteps.{EndsLine, EndsLines, GoesOn, HasGathered, HasGatheredShort};
+ghost use Rattle.commands.specs.GatherSteps.{EndsLine, EndsLines, EndsNext, GoesOn, HasGathered, HasGatheredShort};
 ghost use Rattle.commands.specs.LinesSoFar.{HasCome, HasComeBy};
 ghost use Rattle.commands.specs.GatheredLines.{IsChecked, IsFrontFault, IsLookedAt, ComesOf, offer_fault};
 ghost use Rattle.haul_core.specs.declared.book.refused.OfferError.TheVariants as offer_error;
@@ -176,7 +177,7 @@ fn gather_lines<R: BufRead, E: Write>(
     let mut line = Vec::new(alloc);
     let mut memo = Memo::new(alloc);
     let mut size = 0u64;
-    for before in 0..=GATHER_LIMIT {
+    for before in 0..GATHER_LIMIT + 1 {
         let read = next_line(alloc, input, &mut line, before, &mut memo, haul, errors)?;
         size += read.size;
         if size > GATHER_LIMIT {

@@ -2,7 +2,7 @@
 use Rattle.std.specs.Prelude.{◌≡◌, ℕ, List, [], Option, Result, Ok, Err, IfSome}
 use Rattle.std.specs.Result.{result_unwrap_or}
 use Rattle.pattern_commands.specs.declared.complaint.Complaint.{Complaint}
-use Rattle.pattern_commands.specs.declared.complaint.Complaint.TheVariants.{Refused}
+use Rattle.pattern_commands.specs.declared.complaint.Complaint.TheVariants.{Refused, TooLong}
 use Rattle.pattern_commands.specs.declared.refusal.Refusal.TheVariants.{RangeTooLarge, RangesOverlap}
 
 -- what a command that gives a text alone writes to standard output if memory lasts and no stream fails, or what it complains of

@@ -401,7 +401,12 @@ fn moved(at: i32, by: i32) -> Option<i32>
 }
 
 /// The code of a pattern that comes back within so many generations.
-fn code_of(alloc: Global, rule: &Rule, limit: u32, pattern: &Pattern) -> Result<Apgcode, OutOfMemory>
+fn code_of(
+    alloc: Global,
+    rule: &Rule,
+    limit: u32,
+    pattern: &Pattern,
+) -> Result<Apgcode, OutOfMemory>
     requires least { 1 ≤ limit }
     requires most { limit ≤ 64 }
     requires some { pattern.now ≢ [] }

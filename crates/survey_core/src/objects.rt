@@ -117,7 +117,10 @@ fn listed(alloc: Global, counts: BTreeMap<Apgcode, u64>) -> Result<Objects, OutO
 }
 
 /// The entries of the counts.
-fn entries(alloc: Global, counts: BTreeMap<Apgcode, u64>) -> Result<Vec<(Apgcode, u64)>, OutOfMemory>
+fn entries(
+    alloc: Global,
+    counts: BTreeMap<Apgcode, u64>,
+) -> Result<Vec<(Apgcode, u64)>, OutOfMemory>
     ensures entries { IfOk result (λ entries. entries.items ≡ counts.entries) }
     ensures ordered { OnOk result (IsOrdered (slice_cmp nat_cmp) counts) }
 {

@@ -1,6 +1,6 @@
 use Rattle.std.proofs.Common.{◌≡◌, ◌∙◌, inl, inr, sym}
 use Rattle.crew.specs.declared.workers.CrewError.TheVariants as crew_error
-use Rattle.commands.proofs.take.take_by_crew.Goals as goal
+use Rattle.commands.proofs.take.take_by_crews.Goals as goal
 
 pub returns-in-Err-default-Stopped-clause-ends : goal.returns-in-Err-default-Stopped-clause-ends
 returns-in-Err-default-Stopped-clause-ends g c =
