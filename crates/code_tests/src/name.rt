@@ -16,7 +16,7 @@ fn placed(alloc: Global, cells: &[Cell]) -> Result<Pattern, FromCellsError>
 {
     let pattern = Pattern::from_cells(alloc, cells)?;
     if pattern.cells().is_empty() {
-        return Err(FromCellsError::Memory);
+        return Err(FromCellsError::OutOfPlane { index: 0 });
     }
     Ok(pattern)
 }

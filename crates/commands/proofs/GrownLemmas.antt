@@ -12,14 +12,14 @@ use Rattle.haul_core.specs.Keeping.{numbers_in}
 use Rattle.haul_core.specs.Missing.{is_taken, missing_of, numbers_of}
 use Rattle.crew.specs.Shifts.{StopsAt}
 use Rattle.crew.specs.Takes.{HasTaken, was_missing}
-use Rattle.commands.specs.TakeSteps.{HasGrown}
+use Rattle.commands.specs.TakeSteps.{HasTakenMore}
 
 -- nothing was taken
-pub grown_none : (held : Held) → HasGrown held held
+pub grown_none : (held : Held) → HasTakenMore held held
 grown_none held = record { terms = refl; closed = refl; more = []; taken = sym (append-nil held.taken) }
 
 -- and then a crew took something
-pub grown_more : {workers : ℕ} (first old new : Held) → HasGrown first old → HasTaken workers old new → HasGrown first new
+pub grown_more : {workers : ℕ} (first old new : Held) → HasTakenMore first old → HasTaken workers old new → HasTakenMore first new
 grown_more first old new grown h = record {
   terms = h.added.terms ∙ grown.terms;
   closed = h.added.closed ∙ grown.closed;
@@ -64,7 +64,7 @@ missing_before ranges taken more n at =
     either m = ap (list_any (nat_eq m)) (map-append (λ (t : ℕ × ℕ). t.1) taken more) ∙ list_any-append (nat_eq m) (numbers_in taken) (numbers_in more)
 
 -- so a gate that may stop a worker at what is missing later may stop it at what was missing first
-pub stops_first : (may_stop : ℕ → ℕ → Type 0) (first old : Held) (worker : ℕ) → HasGrown first old
+pub stops_first : (may_stop : ℕ → ℕ → Type 0) (first old : Held) (worker : ℕ) → HasTakenMore first old
     → StopsAt may_stop (was_missing old) worker → StopsAt may_stop (was_missing first) worker
 stops_first may_stop first old worker grown (n, missing, stops) = (
   n,

@@ -48,7 +48,7 @@ use Rattle.commands.specs.SoupSets.{AreRangesOf, IsRefused, job_named, right_for
 use Rattle.commands.specs.Stopped.{MayStop, TellsTaken, gated_task, right_if, stopped_right, taken_right}
 use Rattle.pattern_commands.specs.Streams.{Stream, Has, IsUntouched}
 use Rattle.commands.specs.Take.{TellsAll, take_right, take_task}
-use Rattle.commands.specs.TakeSteps.{EndsCrew, HasGrown, IsOpened, IsOpenedFor, IsTaken, Stops, StopsOpening, StopsSet}
+use Rattle.commands.specs.TakeSteps.{EndsCrew, HasTakenMore, IsOpened, IsOpenedFor, IsTaken, Stops, StopsOpening, StopsSet}
 use Rattle.pattern_commands.specs.Tasks.{Made, Task, alone}
 use Rattle.pattern_commands.specs.TextSteps.{ReachesText}
 use Rattle.commands.proofs.NumberLemmas.{numbers_within}
@@ -229,7 +229,7 @@ in_set ranges normal taken n form missing =
 
 -- its census is that of the job and the set
 counted_by : {workers : ℕ} (job : Job) (set : SoupSet) (opened held : Held) (census : Census) → IsOpened job set workers opened
-    → HasGrown opened held → IsCensus held.terms.job held.terms.ranges (numbers_in held.taken) census
+    → HasTakenMore opened held → IsCensus held.terms.job held.terms.ranges (numbers_in held.taken) census
     → IsCensus job opened.terms.ranges (numbers_in held.taken) census
 counted_by job set opened held census open_ h is =
     subst (λ (j : Job). IsCensus j opened.terms.ranges (numbers_in held.taken) census) open_.job_is
@@ -237,7 +237,7 @@ counted_by job set opened held census open_ h is =
 
 -- all of it was taken
 pub complete_right : {workers : ℕ} (job : Job) (set : SoupSet) (opened held : Held) (census : Census) → IsOpened job set workers opened
-    → HasGrown opened held → AreAll held.terms.ranges (numbers_in held.taken)
+    → HasTakenMore opened held → AreAll held.terms.ranges (numbers_in held.taken)
     → IsCensus held.terms.job held.terms.ranges (numbers_in held.taken) census → right_for_set set (TellsAll job) (Ok (haul_text census))
 complete_right job set opened held census open_ h all is = record {
   ranges = open_.ranges;
@@ -262,7 +262,7 @@ stopped_text may_stop missing job ranges text = MayStop may_stop ranges × Tells
 
 -- some numbers are missing
 pub stopped_told : {workers : ℕ} (may_stop : ℕ → ℕ → Type 0) (job : Job) (set : SoupSet) (opened held : Held) (census : Census) (missing : ℕ)
-    → IsOpened job set workers opened → HasGrown opened held → All (λ t. is_in held.terms.ranges t.1 ≡ true) held.taken
+    → IsOpened job set workers opened → HasTakenMore opened held → All (λ t. is_in held.terms.ranges t.1 ≡ true) held.taken
     → IsDistinct nat_eq (numbers_in held.taken) → missing ≡ length (missing_of held.terms.ranges held.taken)
     → ¬ IsComplete held.terms.ranges held.taken → ((worker : ℕ) × StopsAt may_stop (was_missing opened) worker)
     → IsCensus held.terms.job held.terms.ranges (numbers_in held.taken) census
@@ -362,7 +362,7 @@ take_finishes may_stop plan known bytes held (Err (Refused refusal)) output erro
 -- the same, or memory ran out before the haul was complete
 pub take_ends : {workers : ℕ} {E : Type 0} (may_stop : ℕ → ℕ → Type 0) (plan : Plan)
     (known : Option (List ℕ)) (bytes : List ℕ) (opened held : Held) (taken : Result (Unit {0}) E) (outcome : Outcome) (output errors : Stream)
-    → IsOpenedFor plan workers opened → HasGrown opened held → All (λ t. is_in held.terms.ranges t.1 ≡ true) held.taken
+    → IsOpenedFor plan workers opened → HasTakenMore opened held → All (λ t. is_in held.terms.ranges t.1 ≡ true) held.taken
     → IsDistinct nat_eq (numbers_in held.taken) → IfOk taken (λ _. EndsCrew may_stop opened held)
     → IfOk taken (λ _. Finishes held outcome output)
     → IfOk taken (λ _. (length (missing_of held.terms.ranges held.taken) ≡ 0) ↔ IsComplete held.terms.ranges held.taken)

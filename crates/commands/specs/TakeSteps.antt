@@ -63,7 +63,7 @@ EndsCrew may_stop old new = (IsComplete new.terms.ranges new.taken × AreAll new
     ⊎ ((¬ IsComplete new.terms.ranges new.taken) × (worker : ℕ) × StopsAt may_stop (was_missing old) worker)
 
 -- a haul has taken more than it had
-pub record HasGrown (old new : Held) : Type 0 where
+pub record HasTakenMore (old new : Held) : Type 0 where
   pub terms : new.terms ≡ old.terms
   pub closed : new.closed ≡ old.closed
   pub more : List (ℕ × ℕ)
@@ -73,7 +73,7 @@ pub record HasGrown (old new : Held) : Type 0 where
 pub record IsTaken (may_stop : ℕ → ℕ → Type 0) (plan : Plan) (workers : ℕ) (held : Held) : Type 0 where
   pub opened : Held
   pub is : IsOpenedFor plan workers opened
-  pub grown : HasGrown opened held
+  pub grown : HasTakenMore opened held
   pub within : All (λ t. is_in held.terms.ranges t.1 ≡ true) held.taken
   pub once : IsDistinct nat_eq (numbers_in held.taken)
   pub ends : EndsCrew may_stop opened held

@@ -75,10 +75,11 @@ impl<W: Write, C: Clock> Progress<W, C> {
     fn line(&self, count: u64, now: Instant) -> Result<String, OutOfMemory> {
         let whole = self.whole;
         let crew = self.crew()?;
-        match self.rate(count, now) {
-            Some(rate) => format!(in self.alloc; "{count} of {whole} soups, {rate} a second{crew}"),
-            None => format!(in self.alloc; "{count} of {whole} soups{crew}"),
-        }
+        let line = match self.rate(count, now) {
+            Some(rate) => format!(in self.alloc; "{count} of {whole} soups, {rate} a second{crew}")?,
+            None => format!(in self.alloc; "{count} of {whole} soups{crew}")?,
+        };
+        Ok(line)
     }
 
     /// What the line says of the workers: nothing if all were started.
@@ -86,7 +87,8 @@ impl<W: Write, C: Clock> Progress<W, C> {
         if self.at_work == self.workers {
             return Ok(String::new(self.alloc));
         }
-        format!(in self.alloc; ", {} of {} workers", self.at_work, self.workers)
+        let crew = format!(in self.alloc; ", {} of {} workers", self.at_work, self.workers)?;
+        Ok(crew)
     }
 
     /// How many of so many soups were taken a second. None at the very beginning.

@@ -5,6 +5,7 @@ ghost use Rattle.commands.specs.TakeSteps.{IsOpened, StopsSet};
 
 use crate::text::Text;
 use haul_core::book::haul::{Haul, OpenError};
+use memory::OutOfMemory;
 use pattern_commands::complaint::Complaint;
 use pattern_commands::refusal::Refusal;
 use ranges::range::Range;
@@ -58,6 +59,8 @@ fn ranges_of(alloc: Global, set: &SoupSet<'_>) -> Result<Vec<Range>, Complaint>
         first: set.first,
         count: set.count,
     };
-    ranges.extend_from_slice(&[own])?;
+    ranges
+        .extend_from_slice(&[own])
+        .map_err(OutOfMemory::from)?;
     Ok(ranges)
 }

@@ -18,7 +18,7 @@ ghost use Rattle.pattern_commands.specs.Profiles.{AreInRange};
 ghost use Rattle.commands.specs.Stopped.{gated_task};
 ghost use Rattle.pattern_commands.specs.Streams.{Stream, Has, stream, IsUntouched};
 ghost use Rattle.commands.specs.Take.{take_task};
-ghost use Rattle.commands.specs.TakeSteps.{EndsCrew, HasGrown};
+ghost use Rattle.commands.specs.TakeSteps.{EndsCrew, HasTakenMore};
 
 use crate::finish::finish;
 use crate::machine::Machine;
@@ -135,7 +135,7 @@ fn take_by_crews<E: Write, G: Gate + Sync, T: Threads + Wait + Sync, H: Watch>(
     requires some { 1 ≤ workers }
     requires few { workers ≤ haul.terms.workers }
     requires open { haul.closed ≡ false }
-    ensures grown { HasGrown haul result.0 }
+    ensures grown { HasTakenMore haul result.0 }
     ensures ends { IfOk result.1 (λ _. EndsCrew (G.may_stop gate.now) haul result.0) }
     ensures silent { machine.new.errors ≡ machine.old.errors }
 {

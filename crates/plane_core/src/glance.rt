@@ -28,7 +28,7 @@ use crate::pattern::Pattern;
 use crate::place::Place;
 use crate::rows::packed;
 use crate::rule::Rule;
-use std::simd::prelude::*;
+use std::simd::u64x4;
 
 /// A place in the window: columns and rows from its first cell.
 #[derive(Clone, Copy)]

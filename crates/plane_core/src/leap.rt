@@ -22,7 +22,7 @@ use crate::place::Place;
 use crate::placed::{column_of, read, row_of, unpacked, write};
 use crate::window::generations;
 use memory::OutOfMemory;
-use std::simd::prelude::*;
+use std::simd::u64x4;
 
 /// The rows of a window that was run, and where it has changed.
 #[derive(Clone, Copy)]

@@ -29,7 +29,7 @@ use crate::spans::Span;
 use crate::window::generation;
 use memory::OutOfMemory;
 use std::alloc::Global;
-use std::simd::prelude::*;
+use std::simd::u64x4;
 
 /// For how many cells there is room from the start where a pattern is listed.
 const ROOM: usize = 20;

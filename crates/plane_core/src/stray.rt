@@ -15,7 +15,7 @@ ghost use Rattle.plane_core.specs.Refusing.{HasStray, ShowsStray};
 use crate::answers::Answering;
 use crate::never_back::{in_any_lane, row};
 use crate::window::generation;
-use std::simd::prelude::*;
+use std::simd::u64x4;
 
 /// A row and a column of a window.
 #[derive(Clone, Copy)]

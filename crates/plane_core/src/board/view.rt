@@ -21,7 +21,7 @@ ghost use Rattle.plane_core.specs.Windows.{IsShownInside};
 use crate::bounds::Bounds;
 use crate::frame::Frame;
 use crate::placed::read;
-use std::simd::prelude::*;
+use std::simd::u64x4;
 
 /// How many columns and rows the box of what changes in a small oscillator has at most.
 const SMALL: u32 = 6;

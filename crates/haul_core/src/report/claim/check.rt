@@ -9,9 +9,9 @@ ghost use Rattle.haul_core.specs.LawfulClaims.{IsClaim};
 ghost use Rattle.haul_core.specs.Reports.{Reported};
 ghost use Rattle.haul_core.specs.declared.report.claim.check.CheckError.TheVariants.{Memory};
 
-use crate::report::{Report, ReportError};
 use crate::report::claim::claimed_code::ClaimedCode;
 use crate::report::claim::{Claim, SettledClaim};
+use crate::report::{Report, ReportError};
 use code_core::apgcode::Apgcode;
 use memory::OutOfMemory;
 use std::alloc::Global;
