@@ -48,6 +48,9 @@ pub enum CrewError {
     /// Memory ran out, or there was none for a thread.
     #[error("out of memory")]
     Memory(OutOfMemory),
+    /// No worker was stopped and no memory was refused.
+    #[error("soups are missing")]
+    Unfinished,
 }
 
 /// Lets so many workers survey what is missing in a haul, each in a thread of its own, and offers what they report.

@@ -1,4 +1,4 @@
-ghost use Rattle.std.specs.Prelude.{◌≡◌, ◌<◌, ◌≤◌, ◌^◌, ℕ, Err, List, IfOk, IfSome, length, vec_len};
+ghost use Rattle.std.specs.Prelude.{◌≡◌, ◌≢◌, ◌<◌, ◌≤◌, ◌^◌, ℕ, Err, List, IfOk, IfSome, length, vec_len};
 ghost use Rattle.memory.specs.Evidence.{out_of_memory};
 ghost use Rattle.pattern_commands.specs.Answers.{IsInput};
 ghost use Rattle.pattern_commands.specs.Inputs.{LiesWithin999, Reads, pattern_of};
@@ -27,7 +27,9 @@ pub enum InputError {
 
 impl InputError {
     /// What a failed read says.
-    pub fn of_stream(error: &io::Error) -> InputError {
+    pub fn of_stream(error: &io::Error) -> InputError
+        ensures { result ≢ TooLong }
+    {
         match error.kind() {
             ErrorKind::OutOfMemory => InputError::Memory(OutOfMemory::of_stream(error)),
             _ => InputError::Unreadable(ReadError::of_stream(error)),

@@ -91,7 +91,8 @@ fn with_command<'a>(
     ensures { IfOk result (λ new. app_of new ≡ with_subcommand (app_of program.entry) (shape_in (command_of row.now))) }
 {
     let command = command(alloc, row)?;
-    program.subcommand(command)
+    let program = program.subcommand(command)?;
+    Ok(program)
 }
 
 /// The command of a row.
@@ -134,7 +135,8 @@ fn with_argument<'a>(
     ensures local { (fields_of command.entry).has_globals ≡ false →
         IfOk result (λ new. (fields_of new).has_globals ≡ false) }
 {
-    command.arg(argument(alloc, row))
+    let command = command.arg(argument(alloc, row))?;
+    Ok(command)
 }
 
 /// The argument of a row.
