@@ -153,12 +153,18 @@ pub gathers_lines : (terms : Terms) (known : Option (List ℕ)) (complaint : Com
     → EndsLines terms known errors complaint → Has output []
     → (bytes : List ℕ) × IsInput known bytes × Reaches (haul_task terms) known bytes (Err complaint) output errors
 gathers_lines terms None complaint output errors ends nothing =
-    let bytes = range_with_len 0 (2 ^ 32 + 1) in
-    (bytes, tt, gathers_on terms bytes None complaint output errors
-    (λ _. subst (λ n. 2 ^ 32 < n) (sym (length-range_with_len 0 (2 ^ 32 + 1))) (omega arith)) ends nothing)
-gathers_lines terms (Some left) complaint output errors ends nothing =
-    (left, refl, gathers_on terms left (Some left) complaint output errors
-    (λ is. let long = subst (EndsLines terms (Some left) errors) is ends in long.1.1) ends nothing)
+    let bytes = range_with_len 0 (2 ^ 32 + 1) in (
+      bytes,
+      tt,
+      gathers_on terms bytes None complaint output errors
+          (λ _. subst (λ n. 2 ^ 32 < n) (sym (length-range_with_len 0 (2 ^ 32 + 1))) (omega arith)) ends nothing,
+    )
+gathers_lines terms (Some left) complaint output errors ends nothing = (
+  left,
+  refl,
+  gathers_on terms left (Some left) complaint output errors
+      (λ is. let long = subst (EndsLines terms (Some left) errors) is ends in long.1.1) ends nothing,
+)
 
 -- what became of a haul to which all lines have come, when it was finished
 pub gathers_haul : (terms : Terms) (held closed : Held) (known : Option (List ℕ)) (outcome : Outcome) (output errors : Stream)

@@ -301,8 +301,11 @@ lines_ended_by contents known left first count size held terms old new (Memory e
 lines_ended_by contents known left first count size held terms old new (ReadFailed error) gathered same fine kept =
     rw kept (begun (passage known left (stream contents first old) count size) held terms gathered same, fine)
 lines_ended_by contents known left first count size held terms old new TooLong gathered same fine (kept, long) =
-    rw kept (begun (passage known left (stream contents first old) count size) held terms gathered same, fine,
-    longer known left gathered.read gathered.consumed long)
+    rw kept (
+      begun (passage known left (stream contents first old) count size) held terms gathered same,
+      fine,
+      longer known left gathered.read gathered.consumed long,
+    )
 lines_ended_by contents known left first count size held terms old new (WriteFailed error) gathered same fine failed = failed
 lines_ended_by contents known left first count size held terms old new (Refused refusal) gathered same fine none =
     absurd none

@@ -76,7 +76,9 @@ impl<W: Write, C: Clock> Progress<W, C> {
         let whole = self.whole;
         let crew = self.crew()?;
         let line = match self.rate(count, now) {
-            Some(rate) => format!(in self.alloc; "{count} of {whole} soups, {rate} a second{crew}")?,
+            Some(rate) => format!(in self.alloc;
+                "{count} of {whole} soups, {rate} a second{crew}"
+            )?,
             None => format!(in self.alloc; "{count} of {whole} soups{crew}")?,
         };
         Ok(line)

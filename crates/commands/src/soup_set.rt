@@ -59,8 +59,6 @@ fn ranges_of(alloc: Global, set: &SoupSet<'_>) -> Result<Vec<Range>, Complaint>
         first: set.first,
         count: set.count,
     };
-    ranges
-        .extend_from_slice(&[own])
-        .map_err(OutOfMemory::from)?;
+    ranges.extend_from_slice(&[own]).map_err(OutOfMemory::from)?;
     Ok(ranges)
 }

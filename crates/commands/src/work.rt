@@ -14,8 +14,8 @@ ghost use Rattle.commands.specs.WorkSteps.{Puts, reports_on};
 
 use crate::plan::{Plan, open_haul};
 use haul_core::book::haul::Haul;
-use haul_core::report::{Report, ReportError};
 use haul_core::report::write::write_report_line;
+use haul_core::report::{Report, ReportError};
 use pattern_commands::complaint::Complaint;
 use pattern_commands::ending::tell_end_of_text;
 use pattern_commands::status::Status;

@@ -111,6 +111,7 @@ fn cause(stopped: Option<u8>, lacking: Option<OutOfMemory>) -> CrewError
     ensures stopped { IfSome stopped (λ worker. result ≡ CrewError.Stopped worker) }
     ensures memory { stopped ≡ None → IfSome lacking (λ error. result ≡ CrewError.Memory error) }
     ensures named { (worker : ℕ) → result ≡ CrewError.Stopped worker → stopped ≡ Some worker }
+    ensures open { result ≢ CrewError.Closed }
 {
     match stopped {
         Some(worker) => CrewError::Stopped { worker },
