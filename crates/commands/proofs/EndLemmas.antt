@@ -144,7 +144,7 @@ gathers_on terms bytes known (ReadFailed error) output errors long ends nothing 
     record { reads = refl; begun = record { terms = terms; opened = refl; begun = ends.0 }; nothing = nothing; fine = ends.1 }
 gathers_on terms bytes known TooLong output errors long ends nothing = (
   long refl,
-  record { reads = refl; begun = record { terms = terms; opened = refl; begun = ends.0 }; nothing = nothing; fine = ends.1.0 },
+  record { reads = refl; begun = record { terms = terms; opened = refl; begun = ends.0 }; nothing = nothing; fine = ends.1 },
 )
 gathers_on terms bytes known (WriteFailed error) output errors long ends nothing = inr (record { tells = tt; nothing = nothing; cut = ends })
 
@@ -163,7 +163,7 @@ gathers_lines terms (Some left) complaint output errors ends nothing = (
   left,
   refl,
   gathers_on terms left (Some left) complaint output errors
-      (λ is. let long = subst (EndsLines terms (Some left) errors) is ends in long.1.1) ends nothing,
+      (λ is. let long = subst (EndsLines terms (Some left) errors) is ends in long.2) ends nothing,
 )
 
 -- what became of a haul to which all lines have come, when it was finished

@@ -31,22 +31,21 @@ grown_more first old new grown h = record {
 -- what passes a test passes a weaker one
 kept_less : (p q : ℕ → Bool) → ((m : ℕ) → q m ≡ true → p m ≡ true) → (ns : List ℕ) → All (Contains (filter p ns)) (filter q ns)
 kept_less p q says [] = All-nil (Contains (filter p []))
-kept_less p q says (n ∷ ns) = go (q n) (p n) refl refl
+kept_less p q says (n ∷ ns) = go (q n) (p n) refl refl (kept_less p q says ns)
   where
     kept : List ℕ
     kept = filter p ns
 
-    more : All (Contains kept) (filter q ns)
-    more = kept_less p q says ns
+    after : All (Contains kept) (filter q ns) → All (Contains (n ∷ kept)) (filter q ns)
+    after more = All-weaker (Contains kept) (Contains (n ∷ kept)) (λ m at. Contains-append_right (n ∷ []) kept m at) (filter q ns) more
 
-    after : All (Contains (n ∷ kept)) (filter q ns)
-    after = All-weaker (Contains kept) (Contains (n ∷ kept)) (λ m at. Contains-append_right (n ∷ []) kept m at) (filter q ns) more
-
-    go : (a b : Bool) → q n ≡ a → p n ≡ b → All (Contains (cond b (n ∷ kept) kept)) (cond a (n ∷ filter q ns) (filter q ns))
-    go true true yes also = All-cons (Contains (n ∷ kept)) n (filter q ns) (Contains-get_or (n ∷ kept) 0 0 (omega arith)) after
-    go true false yes no_ = absurd (true≢false (sym (says n yes) ∙ no_))
-    go false true no_ also = after
-    go false false no_ also = more
+    go : (a b : Bool) → q n ≡ a → p n ≡ b → All (Contains kept) (filter q ns)
+        → All (Contains (cond b (n ∷ kept) kept)) (cond a (n ∷ filter q ns) (filter q ns))
+    go true true passes also more =
+        All-cons (Contains (n ∷ kept)) n (filter q ns) (Contains-get_or (n ∷ kept) 0 0 (omega arith)) (after more)
+    go true false passes fails more = absurd (true≢false (sym (says n passes) ∙ fails))
+    go false true fails also more = after more
+    go false false fails also more = more
 
 not_either : (a b : Bool) → not (a || b) ≡ true → not a ≡ true
 not_either true b none = none

@@ -1,4 +1,4 @@
-ghost use Rattle.std.specs.Prelude.{◌≡◌, List, IfErr, IfOk};
+ghost use Rattle.std.specs.Prelude.{◌≡◌, ◌++◌, ◌∷◌, [], List, IfErr, IfOk, OnOk};
 ghost use Rattle.haul_core.specs.Reports.{IsWorker};
 ghost use Rattle.commands.specs.SoupSets.{AreRangesOf};
 ghost use Rattle.commands.specs.TakeSteps.{IsOpened, StopsSet};
@@ -59,6 +59,14 @@ fn ranges_of(alloc: Global, set: &SoupSet<'_>) -> Result<Vec<Range>, Complaint>
         first: set.first,
         count: set.count,
     };
-    ranges.extend_from_slice(&[own]).map_err(OutOfMemory::from)?;
+    add_range(&mut ranges, own)?;
     Ok(ranges)
+}
+
+/// Puts a range after the others.
+fn add_range(ranges: &mut Vec<Range>, range: Range) -> Result<(), OutOfMemory>
+    ensures { OnOk result (ranges.new.items ≡ ranges.old.items ++ range ∷ []) }
+{
+    ranges.push(range)?;
+    Ok(())
 }

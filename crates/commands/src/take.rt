@@ -151,10 +151,12 @@ fn take_by_crews<E: Write, G: Gate + Sync, T: Threads + Wait + Sync, H: Watch>(
         );
         match taken {
             Ok(haul) => return (haul, Ok(())),
-            Err((haul, CrewError::Stopped { .. })) => return (haul, Ok(())),
-            Err((haul, CrewError::Memory(error))) => return (haul, Err(error)),
-            Err((haul, CrewError::Unfinished)) => left = haul,
-            Err((_, CrewError::Closed)) => unreachable!(),
+            Err((haul, why)) => match why {
+                CrewError::Stopped { .. } => return (haul, Ok(())),
+                CrewError::Memory(error) => return (haul, Err(error)),
+                CrewError::Unfinished => left = haul,
+                CrewError::Closed => unreachable!(),
+            },
         }
     }
     unreachable!()
