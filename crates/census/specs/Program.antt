@@ -1,11 +1,10 @@
 -- How the program ends, from its words to the bytes that it leaves.
 use Rattle.std.specs.Prelude.{◌≡◌, ◌++◌, ◌⊎◌, ℕ, true, false, List, Option, None, Some, Ok, ⊤, codes}
 use Rattle.std.specs.Io.KnownBytes.{Appends}
-use Rattle.pattern_commands.specs.declared.complaint.Complaint.TheVariants.{WriteFailed}
 use Rattle.pattern_commands.specs.declared.status.Status.{Status}
 use Rattle.pattern_commands.specs.declared.status.Status.TheVariants.{Failed}
 use Rattle.pattern_commands.specs.Answers.{IsInput}
-use Rattle.pattern_commands.specs.Complaints.{complaint_line}
+use Rattle.pattern_commands.specs.Complaints.{write_failed_line}
 use Rattle.pattern_commands.specs.Ends.{last_line}
 use Rattle.pattern_commands.specs.Status.{exit_code, has_printed}
 use Rattle.pattern_commands.specs.Streams.{Stream, HasLine}
@@ -54,7 +53,7 @@ IsFrontOf (Some xs) (Some ys) = (remainder : List ℕ) × (ys ++ remainder ≡ x
 
 -- After what a command told, standard error has the line of a failed write, unless it had failed before.
 pub record TellsOfWrite (told errors : Stream) : Type 0 where
-  pub line : told.failed ≡ false → HasLine (since told errors) (complaint_line WriteFailed)
+  pub line : told.failed ≡ false → HasLine (since told errors) write_failed_line
   pub stays : told.failed ≡ true → errors.failed ≡ true
 
 -- a command complained, and the program ends with its number; or the command printed its text, and not all of it could be sent on

@@ -1,5 +1,6 @@
 -- What a request is to do, and how doing it may end.
 use Rattle.std.specs.Prelude.{◌≡◌, ◌⊎◌, ℕ, Bool, true, false, List, [], Option, IsSomeAnd}
+use Rattle.memory.specs.Evidence.{out_of_memory}
 use Rattle.pattern_commands.specs.declared.complaint.Complaint.TheVariants as complaint
 use Rattle.commands.specs.declared.plan.Plan.{Plan}
 use Rattle.pattern_commands.specs.declared.profile.ProfileNumbers.{ProfileNumbers}
@@ -94,7 +95,7 @@ pub record DoesRequest (known : Option (List ℕ)) (status : Status) (output err
 pub record LacksMemory (status : Status) (output errors : Stream) : Type 0 where
   pub status_is : status ≡ Memory
   pub nothing : Has output []
-  pub line : HasLine errors (complaint_line complaint.Memory)
+  pub line : HasLine errors (complaint_line (complaint.Memory out_of_memory))
 
 -- what the words ask for was done, or there was no memory to read them
 abbrev pub DoesWords : List Text → Option (List ℕ) → Status → Stream → Stream → Type 0

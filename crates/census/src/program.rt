@@ -2,6 +2,7 @@ ghost use Rattle.std.specs.Prelude.{◌≡◌, ◌≢◌, ℕ, suc, [], IsErr, N
 ghost use Rattle.std.specs.Prelude.{IsSomeAnd, true, false, map, string_bytes};
 ghost use Rattle.std.specs.Io.Buffered.{writer_buffer, writer_contents, writer_inner};
 ghost use Rattle.std.specs.IoError.{error_kind};
+ghost use Rattle.memory.specs.Evidence.{out_of_memory};
 ghost use Rattle.pattern_commands.specs.Complaints.{complaint_line};
 ghost use Rattle.pattern_commands.specs.Status.{exit_code};
 ghost use Rattle.pattern_commands.specs.Streams.{Has, HasLine, stream};
@@ -12,6 +13,7 @@ ghost use Rattle.words.specs.Requests.{asked_by};
 use crate::request::do_words;
 use commands::machine::Machine;
 use commands::progress::Progress;
+use memory::OutOfMemory;
 use pattern_commands::complaint::Complaint;
 use pattern_commands::output::send_buffered;
 use pattern_commands::status::Status;
@@ -89,7 +91,7 @@ pub fn run_program<
     ensures not_text { IfErr words (λ error. error_kind error ≢ ErrorKind.OutOfMemory → (result.code ≡ 2)
         × HasLine (stream E.contents machine.old.errors machine.new.errors) not_text_line) }
     ensures no_memory { IfErr words (λ error. error_kind error ≡ ErrorKind.OutOfMemory → (result.code ≡ 4)
-        × HasLine (stream E.contents machine.old.errors machine.new.errors) (complaint_line Complaint.Memory)) }
+        × HasLine (stream E.contents machine.old.errors machine.new.errors) (complaint_line (Complaint.Memory out_of_memory))) }
     ensures unread_words { IsErr words → (input.new ≡ input.old) × (result.output ≡ Some output) }
 {
     match words {
@@ -141,8 +143,12 @@ fn do_buffered<T: Threads + Wait + Sync, R: Read, W: Write + Drop, E: Write, P: 
     ensures unread { IfSome (asked_by (map string_bytes words.now)) (λ request.
         reads_input request ≡ false → input.new ≡ input.old) }
 {
-    let Ok(buffered) = BufWriter::new(machine.alloc, output) else {
-        return (Complaint::Memory.tell(&mut machine.errors), None);
+    let buffered = match BufWriter::new(machine.alloc, output) {
+        Ok(buffered) => buffered,
+        Err(error) => {
+            let refused = OutOfMemory::of_stream(&error);
+            return (Complaint::Memory(refused).tell(&mut machine.errors), None);
+        }
     };
     let mut output = Out::new(buffered);
     let status = do_words(machine, words, input, &mut output);
@@ -158,11 +164,13 @@ fn tell_unread_words<E: Write>(error: &io::Error, errors: &mut Out<E>) -> Status
     ensures not_text { error_kind error.now ≢ ErrorKind.OutOfMemory → (result ≡ Status.Usage)
         × HasLine (stream E.contents errors.old errors.new) not_text_line }
     ensures no_memory { error_kind error.now ≡ ErrorKind.OutOfMemory → (result ≡ Status.Memory)
-        × HasLine (stream E.contents errors.old errors.new) (complaint_line Complaint.Memory) }
+        × HasLine (stream E.contents errors.old errors.new) (complaint_line (Complaint.Memory out_of_memory)) }
 {
-    if error.kind() == ErrorKind::OutOfMemory {
-        return Complaint::Memory.tell(errors);
+    match error.kind() {
+        ErrorKind::OutOfMemory => Complaint::Memory(OutOfMemory::of_stream(error)).tell(errors),
+        _ => {
+            let _ = errors.put(b"census: the words are not UTF-8\n");
+            Status::Usage
+        }
     }
-    let _ = errors.put(b"census: the words are not UTF-8\n");
-    Status::Usage
 }

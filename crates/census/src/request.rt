@@ -1,9 +1,13 @@
 ghost use Rattle.std.specs.Prelude.{◌≡◌, ◌≢◌, ℕ, IfSome, List, Option, false, true, is_some, map};
+ghost use Rattle.clap.specs.Words.{kind_of};
+ghost use Rattle.clap.specs.declared.error.kind.ErrorKind.TheVariants.{OutOfMemory};
+ghost use Rattle.memory.specs.Evidence.{out_of_memory};
+ghost use Rattle.pattern_commands.specs.Complaints.{complaint_line};
 ghost use Rattle.words.specs.Requests.{AreInTheirRanges, AreProfileNumbers, asked_by};
 ghost use Rattle.words.specs.declared.request.Request.TheVariants as request;
 ghost use Rattle.pattern_commands.specs.Ends.{Ends};
 ghost use Rattle.pattern_commands.specs.Profiles.{AreInRange};
-ghost use Rattle.pattern_commands.specs.Streams.{stream};
+ghost use Rattle.pattern_commands.specs.Streams.{HasLine, stream};
 ghost use Rattle.census.specs.Requests.{DoesRequest, DoesWords, Spares, is_over_sets, is_whole, numbers_for, plan_for, reads_input};
 ghost use Rattle.census.specs.Requests.{refuses_input, soups_for, task_of};
 
@@ -75,8 +79,21 @@ pub fn do_words<
             let _ = machine.errors.put(text.as_bytes());
             Status::Usage
         }
-        Err(Unasked::Memory) => Complaint::Memory.tell(&mut machine.errors),
+        Err(Unasked::Unread(error)) => tell_unread(&error, &mut machine.errors),
+        Err(Unasked::Memory(error)) => Complaint::Memory(error).tell(&mut machine.errors),
     }
+}
+
+/// Tells that memory ran out while the words were read, which `clap`'s error says.
+fn tell_unread<E: Write>(error: &clap::Error, errors: &mut Out<E>) -> Status
+    requires unread { kind_of error.now ≡ OutOfMemory }
+    requires errors { errors.old.failed ≡ false }
+    ensures status { result ≡ Status.Memory }
+    ensures line { HasLine (stream E.contents errors.old errors.new) (complaint_line (Complaint.Memory out_of_memory)) }
+{
+    let _why = error;
+    let _ = errors.put(b"census: out of memory\n");
+    Status::Memory
 }
 
 /// Does what a request asks for, and returns how that ended.

@@ -6,6 +6,7 @@ use Rattle.std.specs.Prelude.{IfOk, IsErrOf, MatchResult, slice_index}
 use Rattle.std.proofs.Math.Seq.{take-append_seam, get_or-append_seam}
 use Rattle.std.proofs.lemmas.Bool.Decides.{nat_tests}
 use Rattle.std.proofs.lemmas.List.{take-append-drop, drop_more, drop_all, get_or-append-add}
+use Rattle.memory.specs.Evidence.{out_of_memory}
 use Rattle.plane_core.specs.declared.cell.Cell.{Cell}
 use Rattle.code_core.specs.declared.token.Token.{Token}
 use Rattle.code_core.specs.declared.reader.WechslerError.{WechslerError}
@@ -182,7 +183,7 @@ told P text r fault f law = (λ e. law.0 (f.0 e), λ p. f.1 (law.1 p))
 -- a result that says what is read has the pattern that is read, unless there is no memory
 pub read_as : (text : List ℕ) (r : Result (List Cell) WechslerError) (cells : List Cell) → IfOk r (λ read. wechsler_read text ≡ Ok read)
     → ((fault : WechslerFault) → IsErrOf r (Fault fault) ↔ (wechsler_read text ≡ Err fault))
-    → wechsler_read text ≡ Ok cells → MatchResult r (λ read. read ≡ cells) (λ error. error ≡ Memory)
+    → wechsler_read text ≡ Ok cells → MatchResult r (λ read. read ≡ cells) (λ error. error ≡ Memory out_of_memory)
 read_as text (Ok read) cells ok faults e = let k : wechsler_read text ≡ Ok read = ok in cc
 read_as text (Err (Fault fault)) cells ok faults e = let k : wechsler_read text ≡ Err fault = (faults fault).0 refl in absurd (cc)
-read_as text (Err Memory) cells ok faults e = refl
+read_as text (Err (Memory error)) cells ok faults e = refl

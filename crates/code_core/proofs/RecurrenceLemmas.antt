@@ -4,6 +4,7 @@ use Rattle.std.proofs.Common.{eq-or-lt_of_le, inl, inr, ◌⊎◌, true, Result,
 use Rattle.std.proofs.lemmas.Bool.{false≢true}
 use Rattle.std.proofs.lemmas.Bool.Decides.{leb_tells}
 use Rattle.std.proofs.lemmas.List.FromFn.{map-range_with_len_more}
+use Rattle.memory.specs.Evidence.{out_of_memory}
 use Rattle.plane_core.specs.declared.cell.Cell.{Cell}
 use Rattle.plane_core.specs.declared.generation.StepError.{StepError}
 use Rattle.plane_core.specs.declared.generation.StepError.TheVariants.{Edge, Memory}
@@ -104,7 +105,7 @@ pub never_meets : (rule : Numbers) (cells : List Cell) (limit reach : ℕ) → l
 never_meets rule cells limit reach inside far (g, low, new, on) = false≢true (sym (run_inside rule cells reach g limit inside far low) ∙ on)
 
 -- where memory was refused, the edge wasn't met
-pub memory_isnt_edge : {X : Type 0} (r : Result X StepError) → IsErrAnd r (λ e. e ≡ Memory) → r ≢ Err Edge
+pub memory_isnt_edge : {X : Type 0} (r : Result X StepError) → IsErrAnd r (λ e. e ≡ Memory out_of_memory) → r ≢ Err Edge
 memory_isnt_edge (Ok x) told e = absurd told
 memory_isnt_edge (Err y) told e = cc
 

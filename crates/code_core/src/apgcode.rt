@@ -12,7 +12,8 @@ ghost use Rattle.code_core.specs.Texts.{HasTextShape};
 ghost use Rattle.code_core.specs.declared.apgcode.Kind.{Kind};
 
 use itoa::Buffer;
-use std::alloc::{AllocError, Global};
+use memory::OutOfMemory;
+use std::alloc::Global;
 use std::cmp::Ordering;
 use std::fmt;
 use std::hash::{Hash, Hasher};
@@ -76,7 +77,7 @@ impl Apgcode {
         kind: Kind,
         number: u64,
         text: Option<&str>,
-    ) -> Result<Apgcode, AllocError>
+    ) -> Result<Apgcode, OutOfMemory>
         requires { IfSome (option_map (λ t. t.now) text) HasTextShape }
         ensures { IfOk result (λ code. code ≡ code_text kind number (option_map (λ t. t.now) text.entry)) }
     {
@@ -110,8 +111,8 @@ impl Apgcode {
     ///
     /// # Errors
     ///
-    /// [`AllocError`] if memory runs out.
-    pub fn copy(&self, alloc: Global) -> Result<Apgcode, AllocError>
+    /// [`OutOfMemory`] if memory runs out.
+    pub fn copy(&self, alloc: Global) -> Result<Apgcode, OutOfMemory>
         ensures { IfOk result (λ code. code ≡ self.now) }
     {
         let Apgcode { text, kind, number } = self;
@@ -135,7 +136,12 @@ pub fn readings()
 
 /// The text of a name.
 #[tactic(auto, unfolding(crate::specs::Apgcodes::code_text))]
-fn spelled(alloc: Global, kind: Kind, number: u64, text: Option<&str>) -> Result<String, AllocError>
+fn spelled(
+    alloc: Global,
+    kind: Kind,
+    number: u64,
+    text: Option<&str>,
+) -> Result<String, OutOfMemory>
     ensures { IfOk result (λ code. string_bytes code ≡ code_text kind number (option_map (λ t. t.now) text.entry)) }
 {
     let mut code = String::new(alloc);
@@ -157,7 +163,7 @@ fn opening(text: Option<&str>) -> &'static str
 }
 
 /// Adds the end of a name.
-fn push_ending(code: &mut String, text: Option<&str>) -> Result<(), AllocError>
+fn push_ending(code: &mut String, text: Option<&str>) -> Result<(), OutOfMemory>
     ensures { OnOk result
         (string_bytes code.new ≡ string_bytes code.old ++ ending (option_map (λ t. t.now) text.entry)) }
 {

@@ -5,10 +5,11 @@ ghost use Rattle.plane_core.specs.Generations.{NeverBack, lies_within, touches_e
 ghost use Rattle.code_core.specs.Recurrences.{MeetsEdge, Recurs, StaysInside, phases};
 
 use crate::recurrence::Recurrence;
+use memory::OutOfMemory;
 use plane_core::generation::StepError;
 use plane_core::pattern::Pattern;
 use plane_core::rule::Rule;
-use std::alloc::{AllocError, Global};
+use std::alloc::Global;
 
 impl Recurrence {
     /// How the pattern comes back under the rule, or `None` if none of the generations 1 to `limit` is the pattern
@@ -103,7 +104,7 @@ fn touches_edge(pattern: &Pattern) -> bool
 }
 
 /// Adds a phase after the others.
-fn keep(phases: &mut Vec<Pattern>, phase: Pattern) -> Result<(), AllocError>
+fn keep(phases: &mut Vec<Pattern>, phase: Pattern) -> Result<(), OutOfMemory>
     ensures { OnOk result (phases.new.items ≡ phases.old.items ++ phase ∷ []) }
 {
     phases.push(phase)?;

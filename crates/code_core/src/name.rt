@@ -29,12 +29,13 @@ use crate::apgcode::{Apgcode, Kind};
 use crate::cycle::{Cycle, follow};
 use crate::recurrence::Recurrence;
 use crate::wechsler::wechsler;
+use memory::OutOfMemory;
 use plane_core::generation::StepError;
 use plane_core::orientation::{Orientation, orientations};
 use plane_core::pattern::Pattern;
 use plane_core::placement::PlaceError;
 use plane_core::rule::Rule;
-use std::alloc::{AllocError, Global};
+use std::alloc::Global;
 use std::cmp::Ordering;
 
 /// The name of the pattern under the rule (LifeWiki, "Apgcode"), or `None` if none of the generations 1 to `limit` is
@@ -102,7 +103,7 @@ pub fn codes_are_of_objects()
 {}
 
 /// The name of a pattern whose phases are known.
-fn name_of(alloc: Global, pattern: &Pattern, cycle: &Cycle) -> Result<Apgcode, AllocError>
+fn name_of(alloc: Global, pattern: &Pattern, cycle: &Cycle) -> Result<Apgcode, OutOfMemory>
     ensures { IfOk result (IsNameBy pattern.now cycle.now.phases.items cycle.now.recurrence) }
 {
     let least = least_text(alloc, cycle.phases.as_slice())?;
@@ -133,7 +134,7 @@ fn kind_of(recurrence: Recurrence) -> Kind
 }
 
 /// The least text of the phases in all orientations.
-fn least_text(alloc: Global, phases: &[Pattern]) -> Result<Option<String>, AllocError>
+fn least_text(alloc: Global, phases: &[Pattern]) -> Result<Option<String>, OutOfMemory>
     ensures { IfOk result
         (λ found. IsLeastOf (Among (IsImageOf phases.now) (length phases.now)) (option_map string_bytes found)) }
 {
@@ -150,7 +151,7 @@ fn least_image(
     alloc: Global,
     pattern: &Pattern,
     orientations: &[Orientation],
-) -> Result<Option<String>, AllocError>
+) -> Result<Option<String>, OutOfMemory>
     ensures { IfOk result
         (λ found. IsLeastOf (Among (IsImageAt orientations.now pattern.now) (length orientations.now))
         (option_map string_bytes found)) }
@@ -169,13 +170,13 @@ fn image_text(
     alloc: Global,
     pattern: &Pattern,
     orientation: Orientation,
-) -> Result<Option<String>, AllocError>
+) -> Result<Option<String>, OutOfMemory>
     ensures { IfOk result (λ found. option_map string_bytes found ≡ text (turned orientation pattern.now)) }
 {
     match pattern.turn(alloc, orientation) {
         Ok(image) => wechsler(alloc, &image),
         Err(PlaceError::OutOfPlane) => Ok(None),
-        Err(PlaceError::Memory) => Err(AllocError),
+        Err(PlaceError::Memory(error)) => Err(error),
     }
 }
 

@@ -1,6 +1,7 @@
 ghost use Rattle.std.specs.Prelude.{◌≡◌, ◌≢◌, ◌↔◌, ◌<◌, ◌≤◌, ◌+◌, ◌*◌, ◌++◌, ◌∷◌, [], ℕ, List, Some, None, Ok, Err};
 ghost use Rattle.std.specs.Prelude.{true, length, pos, IfOk, IfErr, OnOk, IsErrOf, MatchResult, IfSome, IfNone};
 ghost use Rattle.std.specs.Result.{result_err};
+ghost use Rattle.memory.specs.Evidence.{out_of_memory};
 ghost use Rattle.plane_core.specs.declared.cell.Cell.{Cell};
 ghost use Rattle.plane_core.specs.Cells.{cell_at};
 ghost use Rattle.code_core.specs.Columns.{is_lit, lit_cells, cells_from};
@@ -15,9 +16,10 @@ ghost use Rattle.code_core.specs.declared.reader.WechslerError.{WechslerError};
 ghost use Rattle.code_core.specs.declared.reader.WechslerError.TheVariants.{Memory};
 
 use crate::token::Token;
+use memory::OutOfMemory;
 use plane_core::cell::Cell;
 use plane_core::pattern::{FromCellsError, Pattern};
-use std::alloc::{AllocError, Global};
+use std::alloc::Global;
 use thiserror::Error;
 
 /// The most bytes that a text may have to be read. The cells of such a text lie on the plane, since a byte goes at most
@@ -49,14 +51,14 @@ pub enum WechslerError {
     Fault(WechslerFault),
     /// Memory ran out.
     #[error("out of memory")]
-    Memory,
+    Memory(OutOfMemory),
 }
 
-impl From<AllocError> for WechslerError {
-    ghost from_gives = { λ _ e. e ≡ Memory };
+impl<E: Into<OutOfMemory>> From<E> for WechslerError {
+    ghost from_gives = { λ _ e. e ≡ Memory out_of_memory };
 
-    fn from(_e: AllocError) -> WechslerError {
-        WechslerError::Memory
+    fn from(refused: E) -> WechslerError {
+        WechslerError::Memory(refused.into())
     }
 }
 
@@ -83,7 +85,7 @@ pub fn read_wechsler(alloc: Global, text: &str) -> Result<Pattern, WechslerError
     // What is read is what the text says, and each pattern that a text says is read.
     ensures says { IfOk result (Says text.now) }
     ensures complete { (cells : List Cell) → Says text.now cells → cells ≢ [] → length text.now ≤ 10000
-        → MatchResult result (λ read. read ≡ cells) (λ error. error ≡ Memory) }
+        → MatchResult result (λ read. read ≡ cells) (λ error. error ≡ Memory out_of_memory) }
 
     // Which fault it is.
     ensures too_long { IsErrOf result (WechslerError.Fault TooLong) ↔ (10000 < length text.now) }
@@ -160,19 +162,19 @@ fn pattern_in(alloc: Global, text: &[u8]) -> Result<Pattern, WechslerError>
     requires short { length text.now ≤ TEXT_LIMIT }
     requires sound { result_err (wechsler_pattern text.now) ≡ None }
     ensures pattern { IfOk result (λ read. wechsler_pattern text.now ≡ Ok read) }
-    ensures memory { IfErr result (λ error. error ≡ Memory) }
+    ensures memory { IfErr result (λ error. error ≡ Memory out_of_memory) }
 {
     let cells = cells_in(alloc, text)?;
     match Pattern::from_cells(alloc, &cells) {
         Ok(pattern) => Ok(pattern),
-        Err(FromCellsError::Memory) => Err(WechslerError::Memory),
+        Err(FromCellsError::Memory(error)) => Err(WechslerError::Memory(error)),
         Err(FromCellsError::OutOfPlane { .. }) => unreachable!(),
     }
 }
 
 /// The cells of a text, column by column.
 #[tactic(auto, using(crate::proofs::TokenReading::shorter))]
-fn cells_in(alloc: Global, text: &[u8]) -> Result<Vec<Cell>, AllocError>
+fn cells_in(alloc: Global, text: &[u8]) -> Result<Vec<Cell>, OutOfMemory>
     requires { length text.now ≤ TEXT_LIMIT }
     ensures { (tokens : List Token) → Spells tokens text.now
         → IfOk result (λ cells. cells.items ≡ cells_from 0 0 tokens) }
@@ -195,7 +197,7 @@ struct Head {
 }
 
 /// Adds the cells of a token. The answer is where the next column stands.
-fn push_token(cells: &mut Vec<Cell>, head: Head, token: Token) -> Result<Head, AllocError>
+fn push_token(cells: &mut Vec<Cell>, head: Head, token: Token) -> Result<Head, OutOfMemory>
     requires strip { head.strip ≤ TEXT_LIMIT }
     requires column { head.x ≤ 39 * TEXT_LIMIT }
     requires token { IsToken token }
@@ -225,7 +227,7 @@ fn push_token(cells: &mut Vec<Cell>, head: Head, token: Token) -> Result<Head, A
 }
 
 /// Adds the cells of a column.
-fn push_column(cells: &mut Vec<Cell>, head: Head, value: u8) -> Result<(), AllocError>
+fn push_column(cells: &mut Vec<Cell>, head: Head, value: u8) -> Result<(), OutOfMemory>
     requires strip { head.strip ≤ TEXT_LIMIT }
     requires column { head.x ≤ 39 * TEXT_LIMIT }
     ensures { OnOk result (cells.new.items ≡ cells.old.items ++ lit_cells head.strip head.x value) }

@@ -25,10 +25,11 @@ ghost use Rattle.code_core.specs.Texts.{TextsHaveTheirShape, TextsSpellPatterns,
 ghost use Rattle.code_core.specs.Texts.{strip_tokens, text, tokens_of};
 ghost use Rattle.code_core.specs.Tokens.{character, gap_text, spelling};
 
+use memory::OutOfMemory;
 use plane_core::bounds::Bounds;
 use plane_core::coordinate::along;
 use plane_core::pattern::Pattern;
-use std::alloc::{AllocError, Global};
+use std::alloc::Global;
 
 /// The most columns, and the most rows, that the box of a pattern with a text may have.
 pub const CODE_SIDE_LIMIT: u32 = 40;
@@ -47,9 +48,9 @@ const STRIP: u32 = 5;
 ///
 /// # Errors
 ///
-/// [`AllocError`] if memory runs out.
+/// [`OutOfMemory`] if memory runs out.
 #[tactic(auto, unfolding(crate::specs::Texts::text))]
-pub fn wechsler(alloc: Global, pattern: &Pattern) -> Result<Option<String>, AllocError>
+pub fn wechsler(alloc: Global, pattern: &Pattern) -> Result<Option<String>, OutOfMemory>
     ensures { IfOk result (λ found. option_map string_bytes found ≡ text pattern.now) }
 {
     let Some(bounds) = pattern.bounds() else {
@@ -91,7 +92,7 @@ fn fits_forty_square(bounds: Bounds) -> bool
 }
 
 /// The text of a pattern with this box.
-fn text_in(alloc: Global, pattern: &Pattern, bounds: Bounds) -> Result<String, AllocError>
+fn text_in(alloc: Global, pattern: &Pattern, bounds: Bounds) -> Result<String, OutOfMemory>
     requires bounds { box_of pattern.now ≡ Some bounds }
     requires width { distance bounds.left bounds.right < CODE_SIDE_LIMIT }
     requires height { distance bounds.top bounds.bottom < CODE_SIDE_LIMIT }
@@ -113,7 +114,7 @@ fn push_strip(
     pattern: &Pattern,
     bounds: Bounds,
     k: u32,
-) -> Result<(), AllocError>
+) -> Result<(), OutOfMemory>
     requires bounds { box_of pattern.now ≡ Some bounds }
     requires width { distance bounds.left bounds.right < CODE_SIDE_LIMIT }
     requires strip { k < 8 }
@@ -134,7 +135,7 @@ fn push_strip(
 }
 
 /// Adds a run of so many empty columns and then a column with a live cell.
-fn push_column(text: &mut String, gap: u8, value: u8) -> Result<(), AllocError>
+fn push_column(text: &mut String, gap: u8, value: u8) -> Result<(), OutOfMemory>
     requires gap { gap ≤ 39 }
     requires least { 1 ≤ value }
     requires most { value ≤ 31 }
@@ -147,15 +148,15 @@ fn push_column(text: &mut String, gap: u8, value: u8) -> Result<(), AllocError>
 
 /// Adds a run of empty columns, if there is one.
 #[tactic(auto, unfolding(crate::specs::Tokens::gap_text))]
-fn push_gap(text: &mut String, gap: u8) -> Result<(), AllocError>
+fn push_gap(text: &mut String, gap: u8) -> Result<(), OutOfMemory>
     requires { gap ≤ 39 }
     ensures { OnOk result (string_bytes text.new ≡ string_bytes text.old ++ (if gap == 0 then [] else gap_text gap)) }
 {
     match gap {
         0 => Ok(()),
-        1 => text.push('0'),
-        2 => text.push('w'),
-        3 => text.push('x'),
+        1 => Ok(text.push('0')?),
+        2 => Ok(text.push('w')?),
+        3 => Ok(text.push('x')?),
         _ => {
             text.push('y')?;
             push_character(text, gap - 4)
@@ -164,11 +165,11 @@ fn push_gap(text: &mut String, gap: u8) -> Result<(), AllocError>
 }
 
 /// Adds the character of a value.
-fn push_character(text: &mut String, value: u8) -> Result<(), AllocError>
+fn push_character(text: &mut String, value: u8) -> Result<(), OutOfMemory>
     requires { value ≤ 35 }
     ensures { OnOk result (string_bytes text.new ≡ string_bytes text.old ++ character value ∷ []) }
 {
-    text.push(char::from(character(value)))
+    Ok(text.push(char::from(character(value)))?)
 }
 
 /// `0` to `9` for 0 to 9, and `a` to `z` for 10 to 35.

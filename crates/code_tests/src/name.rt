@@ -2,11 +2,12 @@ ghost use Rattle.std.specs.Prelude.{◌≢◌, ◌≤◌, [], IfOk};
 
 use code_core::name::name;
 use code_core::recurrence::Recurrence;
+use memory::OutOfMemory;
 use plane_core::cell::Cell;
 use plane_core::generation::StepError;
 use plane_core::pattern::{FromCellsError, Pattern};
 use plane_core::rule::Rule;
-use std::alloc::{AllocError, Global};
+use std::alloc::Global;
 use std::test::Fail;
 
 /// The pattern of some cells, one at least.
@@ -15,7 +16,7 @@ fn placed(alloc: Global, cells: &[Cell]) -> Result<Pattern, FromCellsError>
 {
     let pattern = Pattern::from_cells(alloc, cells)?;
     if pattern.cells().is_empty() {
-        return Err(FromCellsError::Memory);
+        return Err(FromCellsError::OutOfPlane { index: 0 });
     }
     Ok(pattern)
 }
@@ -57,7 +58,7 @@ fn finds_when_a_glider_comes_back(rt: HostRuntime) -> Result<(), Fail> {
 }
 
 /// Adds the cells of a block.
-fn push_block(cells: &mut Vec<Cell>, top: u8, left: u8) -> Result<(), AllocError> {
+fn push_block(cells: &mut Vec<Cell>, top: u8, left: u8) -> Result<(), OutOfMemory> {
     let (top, left) = (i32::from(top), i32::from(left));
     cells.extend_from_slice(&[
         Cell { y: top, x: left },
@@ -80,7 +81,7 @@ const STARTS: [u8; 13] = [0, 4, 7, 10, 13, 16, 19, 22, 25, 28, 31, 34, 38];
 
 /// Blocks in 13 rows and 13 columns, which fill 40 by 40 cells: one empty row or column lies between two blocks, and
 /// two lie after the first and before the last.
-fn grid_of_blocks(alloc: Global) -> Result<Vec<Cell>, AllocError> {
+fn grid_of_blocks(alloc: Global) -> Result<Vec<Cell>, OutOfMemory> {
     let mut cells = Vec::new(alloc);
     for top in STARTS {
         for left in STARTS {

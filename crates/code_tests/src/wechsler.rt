@@ -1,7 +1,8 @@
 use code_core::wechsler::wechsler;
+use memory::OutOfMemory;
 use plane_core::cell::Cell;
 use plane_core::pattern::Pattern;
-use std::alloc::{AllocError, Global};
+use std::alloc::Global;
 use std::test::Fail;
 
 /// Whether a plaintext picture has the text.
@@ -171,7 +172,7 @@ O...
 OO..";
 
 /// All cells of 40 rows and columns.
-fn full_square(alloc: Global) -> Result<Vec<Cell>, AllocError> {
+fn full_square(alloc: Global) -> Result<Vec<Cell>, OutOfMemory> {
     let mut cells = Vec::new(alloc);
     for y in 0..40 {
         for x in 0..40 {

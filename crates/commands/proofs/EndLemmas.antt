@@ -1,6 +1,9 @@
 -- How gathering ends.
-use Rattle.std.proofs.Common.{◌≡◌, ◌∙◌, ◌++◌, ◌≤◌, ◌^◌, ◌⊎◌, ℕ, zero, suc, false, inl, inr, List, [], ◌∷◌, Option, Ok, Err, IfErr, ap, length, refl, subst, sym, true}
+use Rattle.std.proofs.Common.{◌≡◌, ◌∙◌, ◌+◌, ◌++◌, ◌<◌, ◌≤◌, ◌^◌, ◌⊎◌, ℕ, zero, suc, false, inl, inr, List, [], ◌∷◌, Option, None, Some, Ok, Err, IfErr, ap, arith, length, refl, subst, sym, true}
 use Rattle.std.specs.Prelude.{is_ok}
+use Rattle.std.specs.List.{range_with_len}
+use Rattle.std.proofs.lemmas.List.FromFn.{length-range_with_len}
+use Rattle.memory.specs.Evidence.{out_of_memory}
 use Rattle.survey_core.specs.declared.job.Job.{Job}
 use Rattle.haul_core.specs.declared.book.arrival.Arrival.{Arrival}
 use Rattle.haul_core.specs.declared.book.arrival.Arrival.TheVariants.{Closing}
@@ -12,19 +15,19 @@ use Rattle.haul_core.specs.Keeping.{numbers_in}
 use Rattle.haul_core.specs.Missing.{missing_of}
 use Rattle.ranges.specs.RangeLists.{IsListText}
 use Rattle.pattern_commands.specs.declared.complaint.Complaint.{Complaint}
-use Rattle.pattern_commands.specs.declared.complaint.Complaint.TheVariants.{Refused, Memory, ReadFailed, WriteFailed}
+use Rattle.pattern_commands.specs.declared.complaint.Complaint.TheVariants.{Refused, Memory, ReadFailed, TooLong, WriteFailed}
 use Rattle.commands.specs.declared.plan.Plan.{Plan}
 use Rattle.pattern_commands.specs.declared.refusal.Refusal.{Refusal}
 use Rattle.commands.specs.declared.soup_set.SoupSet.{SoupSet}
 use Rattle.pattern_commands.specs.declared.status.Status.TheVariants as statuses
-use Rattle.pattern_commands.specs.Answers.{NeedsMemory}
+use Rattle.pattern_commands.specs.Answers.{IsInput, NeedsMemory}
 use Rattle.pattern_commands.specs.Complaints.{status_of}
 use Rattle.pattern_commands.specs.Ends.{status_after}
 use Rattle.pattern_commands.specs.Reached.{IsSilent, Outcome, Reaches}
 use Rattle.commands.specs.Finish.{Finishes, IsCensusOf}
 use Rattle.commands.specs.Gather.{BeginsHaul, IsSame, gather_reads, gather_task, haul_task}
 use Rattle.commands.specs.GatherSteps.{EndsLines, HasGatheredShort}
-use Rattle.commands.specs.Gathering.{IsGathered, IsHaulOver, gather_opens, gather_right}
+use Rattle.commands.specs.Gathering.{IsGathered, IsHaulOver, gather_opens, gather_right, gathered_right}
 use Rattle.commands.specs.LinesSoFar.{HasBegun}
 use Rattle.commands.specs.GatheredLines.{Gathered}
 use Rattle.commands.specs.Lines.{input_lines}
@@ -44,32 +47,35 @@ list_needs set refusal listed (Overlapping ranges named small overlap is) = subs
 list_hides : (plan : Plan) (workers : ℕ) (bytes : List ℕ) (job : Job) → job_named plan ≡ Ok job
     → IsListText plan.set.also → NeedsMemoryAlone (gather_right plan workers bytes)
 list_hides plan workers bytes job named listed (Refused refusal) is = list_needs plan.set refusal listed (rw named at is)
-list_hides plan workers bytes job named listed Memory is = absurd is
-list_hides plan workers bytes job named listed ReadFailed is = absurd is
-list_hides plan workers bytes job named listed WriteFailed is = absurd is
+list_hides plan workers bytes job named listed (Memory error) is = absurd is
+list_hides plan workers bytes job named listed (ReadFailed error) is = absurd is
+list_hides plan workers bytes job named listed TooLong is = tt
+list_hides plan workers bytes job named listed (WriteFailed error) is = absurd is
 
 -- a job that is refused
 gathers_job : (plan : Plan) (workers : ℕ) (bytes : List ℕ) (known : Option (List ℕ)) (complaint : Complaint)
     (output errors : Stream) → job_named plan ≡ Err complaint → IsSilent output errors
     → Reaches (gather_task plan workers) known bytes (Err complaint) output errors
 gathers_job plan workers bytes known (Refused refusal) output errors named silent = (rw named refl, silent)
-gathers_job plan workers bytes known Memory output errors named silent = absurd (job_refused plan Memory named)
-gathers_job plan workers bytes known ReadFailed output errors named silent = absurd (job_refused plan ReadFailed named)
-gathers_job plan workers bytes known WriteFailed output errors named silent = absurd (job_refused plan WriteFailed named)
+gathers_job plan workers bytes known (Memory error) output errors named silent = absurd (job_refused plan (Memory error) named)
+gathers_job plan workers bytes known (ReadFailed error) output errors named silent = absurd (job_refused plan (ReadFailed error) named)
+gathers_job plan workers bytes known TooLong output errors named silent = absurd (job_refused plan TooLong named)
+gathers_job plan workers bytes known (WriteFailed error) output errors named silent = absurd (job_refused plan (WriteFailed error) named)
 
 -- a set that is refused, or memory that runs out over it
 gathers_set : (plan : Plan) (workers : ℕ) (bytes : List ℕ) (known : Option (List ℕ)) (job : Job)
     (complaint : Complaint) (output errors : Stream) → job_named plan ≡ Ok job → StopsSet plan.set complaint → IsSilent output errors
     → Reaches (gather_task plan workers) known bytes (Err complaint) output errors
 gathers_set plan workers bytes known job (Refused refusal) output errors named stops silent = (rw named stops, silent)
-gathers_set plan workers bytes known job Memory output errors named stops silent = record {
+gathers_set plan workers bytes known job (Memory error) output errors named stops silent = record {
   hides = λ _. list_hides plan workers bytes job named stops;
   left = silent.nothing;
   told = inl silent.silent;
   fine = silent.fine;
 }
-gathers_set plan workers bytes known job ReadFailed output errors named stops silent = absurd stops
-gathers_set plan workers bytes known job WriteFailed output errors named stops silent = absurd stops
+gathers_set plan workers bytes known job (ReadFailed error) output errors named stops silent = absurd stops
+gathers_set plan workers bytes known job TooLong output errors named stops silent = absurd stops
+gathers_set plan workers bytes known job (WriteFailed error) output errors named stops silent = absurd stops
 
 -- a haul that was not opened
 pub gathers_opening : (plan : Plan) (workers : ℕ) (bytes : List ℕ) (known : Option (List ℕ)) (complaint : Complaint)
@@ -109,25 +115,56 @@ is_gathered terms held closed census n known errors all same kept took closes co
       missing_is = many ∙ ap (λ (t : Terms). length (missing_of t.ranges held.taken)) same;
     }
 
+-- no complaint is right for a haul that is open, but that its input is too long
+long_hides : (terms : Terms) (bytes : List ℕ) → NeedsMemoryAlone (gathered_right terms bytes)
+long_hides terms bytes (Refused refusal) is = absurd is
+long_hides terms bytes (Memory error) is = absurd is
+long_hides terms bytes (ReadFailed error) is = absurd is
+long_hides terms bytes TooLong is = tt
+long_hides terms bytes (WriteFailed error) is = absurd is
+
 -- memory ran out after some lines
 gathers_memory : (terms : Terms) (bytes : List ℕ) (known : Option (List ℕ)) (output errors : Stream) → HasBegun terms known errors.before errors.after
-    → Has output [] → errors.failed ≡ false → Reaches (haul_task terms) known bytes (Err Memory) output errors
+    → Has output [] → errors.failed ≡ false → Reaches (haul_task terms) known bytes (Err (Memory out_of_memory)) output errors
 gathers_memory terms bytes known output errors begun nothing fine = record {
-  hides = λ _ _ is. absurd is;
+  hides = λ _. long_hides terms bytes;
   left = nothing;
   told = inr (record { terms = terms; opened = refl; begun = begun });
   fine = fine;
 }
 
--- a complaint over the lines
-pub gathers_lines : (terms : Terms) (bytes : List ℕ) (known : Option (List ℕ)) (complaint : Complaint) (output errors : Stream)
+-- a complaint over the lines, on bytes that may be the input
+gathers_on : (terms : Terms) (bytes : List ℕ) (known : Option (List ℕ)) (complaint : Complaint) (output errors : Stream)
+    → (complaint ≡ TooLong → 2 ^ 32 < length bytes)
     → EndsLines terms known errors complaint → Has output []
     → Reaches (haul_task terms) known bytes (Err complaint) output errors
-gathers_lines terms bytes known (Refused refusal) output errors ends nothing = absurd ends
-gathers_lines terms bytes known Memory output errors ends nothing = gathers_memory terms bytes known output errors ends.0 nothing ends.1
-gathers_lines terms bytes known ReadFailed output errors ends nothing =
+gathers_on terms bytes known (Refused refusal) output errors long ends nothing = absurd ends
+gathers_on terms bytes known (Memory error) output errors long ends nothing = gathers_memory terms bytes known output errors ends.0 nothing ends.1
+gathers_on terms bytes known (ReadFailed error) output errors long ends nothing =
     record { reads = refl; begun = record { terms = terms; opened = refl; begun = ends.0 }; nothing = nothing; fine = ends.1 }
-gathers_lines terms bytes known WriteFailed output errors ends nothing = inr (record { tells = tt; nothing = nothing; cut = ends })
+gathers_on terms bytes known TooLong output errors long ends nothing = (
+  long refl,
+  record { reads = refl; begun = record { terms = terms; opened = refl; begun = ends.0 }; nothing = nothing; fine = ends.1 },
+)
+gathers_on terms bytes known (WriteFailed error) output errors long ends nothing = inr (record { tells = tt; nothing = nothing; cut = ends })
+
+-- and there are some: where the input is too long, longer ones than may be read
+pub gathers_lines : (terms : Terms) (known : Option (List ℕ)) (complaint : Complaint) (output errors : Stream)
+    → EndsLines terms known errors complaint → Has output []
+    → (bytes : List ℕ) × IsInput known bytes × Reaches (haul_task terms) known bytes (Err complaint) output errors
+gathers_lines terms None complaint output errors ends nothing =
+    let bytes = range_with_len 0 (2 ^ 32 + 1) in (
+      bytes,
+      tt,
+      gathers_on terms bytes None complaint output errors
+          (λ _. subst (λ n. 2 ^ 32 < n) (sym (length-range_with_len 0 (2 ^ 32 + 1))) (omega arith)) ends nothing,
+    )
+gathers_lines terms (Some left) complaint output errors ends nothing = (
+  left,
+  refl,
+  gathers_on terms left (Some left) complaint output errors
+      (λ is. let long = subst (EndsLines terms (Some left) errors) is ends in long.2) ends nothing,
+)
 
 -- what became of a haul to which all lines have come, when it was finished
 pub gathers_haul : (terms : Terms) (held closed : Held) (known : Option (List ℕ)) (outcome : Outcome) (output errors : Stream)
@@ -152,10 +189,10 @@ gathers_haul terms held closed known outcome output errors all same kept took cl
       told = all.2.written;
       fine = fine;
     }
-    go (Err Memory) nothing =
+    go (Err (Memory error)) nothing =
         gathers_memory terms all.2.bytes known output errors (all_begun known errors all.0 held terms all.2 same)
         nothing fine
-    go (Err WriteFailed) is = inl (record {
+    go (Err (WriteFailed error)) is = inl (record {
       left = (
         record { text = haul_text is.census; told = all.2.told; missing = length (missing_of held.terms.ranges held.taken) },
         gathered is.census (length (missing_of held.terms.ranges held.taken)) is.counted refl,
@@ -165,7 +202,8 @@ gathers_haul terms held closed known outcome output errors all same kept took cl
       cut = is.cut;
       fine = fine;
     })
-    go (Err ReadFailed) is = absurd is
+    go (Err (ReadFailed error)) is = absurd is
+    go (Err TooLong) is = absurd is
     go (Err (Refused refusal)) is = absurd is
 
 -- a haul that was opened is one over the set
@@ -219,17 +257,21 @@ gathers_over plan workers bytes known job terms outcome output errors named over
       fine = is.fine;
     }
     go (Err (Refused refusal)) is = absurd (is.0)
-    go (Err Memory) is = record {
+    go (Err (Memory error)) is = record {
       hides = λ _. list_hides plan workers bytes job named listed;
       left = is.left;
       told = told is.told;
       fine = is.fine;
     }
-    go (Err ReadFailed) is = record { reads = rw named refl; begun = begins is.begun; nothing = is.nothing; fine = is.fine }
-    go (Err WriteFailed) (inl is) =
+    go (Err (ReadFailed error)) is = record { reads = rw named refl; begun = begins is.begun; nothing = is.nothing; fine = is.fine }
+    go (Err TooLong) (long, is) = (
+      (terms, opens terms refl, long),
+      record { reads = rw named refl; begun = begins is.begun; nothing = is.nothing; fine = is.fine },
+    )
+    go (Err (WriteFailed error)) (inl is) =
         let (made, gathered, front, told) = is.left in
         inl (record { left = (made, right made gathered, front, told); cut = is.cut; fine = is.fine })
-    go (Err WriteFailed) (inr is) = inr (record { tells = (terms, opens terms refl); nothing = is.nothing; cut = is.cut })
+    go (Err (WriteFailed error)) (inr is) = inr (record { tells = (terms, opens terms refl); nothing = is.nothing; cut = is.cut })
 
 -- ---- what holds only of some complaints
 
@@ -242,10 +284,11 @@ if_refused (Err complaint) is = λ so. so is
 
 -- only memory that ran out has its status
 pub if_memory : {P : Type 0} (outcome : Outcome) → status_after outcome ≡ statuses.Memory
-    → IfErr outcome (λ complaint. complaint ≡ Memory → P) → P
+    → IfErr outcome (λ complaint. complaint ≡ Memory out_of_memory → P) → P
 if_memory (Ok zero) is = cc
 if_memory (Ok (suc n)) is = cc
 if_memory (Err (Refused refusal)) is = cc
-if_memory (Err Memory) is = λ so. so refl
-if_memory (Err ReadFailed) is = cc
-if_memory (Err WriteFailed) is = cc
+if_memory (Err (Memory error)) is = λ so. so refl
+if_memory (Err (ReadFailed error)) is = cc
+if_memory (Err TooLong) is = cc
+if_memory (Err (WriteFailed error)) is = cc

@@ -1,5 +1,5 @@
 -- From the steps of `gather` to what became of each line.
-use Rattle.std.proofs.Common.{◌≡◌, ◌≢◌, ◌+◌, ◌∙◌, ◌++◌, ◌<◌, ◌≤◌, ◌^◌, ℕ, suc, inl, inr, false, length-append, length-take, List, [], ◌∷◌, Option, None, Some, Result, Ok, Err, IfOk, ap, ap₂, append-nil, arith, length, refl, subst, sym, take, take-take, take_all}
+use Rattle.std.proofs.Common.{◌≡◌, ◌≢◌, ◌+◌, ◌∙◌, ◌++◌, ◌<◌, ◌≤◌, ◌^◌, ℕ, suc, inl, inr, false, length-append, length-take, List, [], ◌∷◌, Option, None, Some, Result, Ok, Err, IfOk, IfSome, ap, ap₂, append-nil, arith, flat_map, length, refl, subst, sym, take, take-take, take_all}
 use Rattle.survey_core.specs.FindingLaws.{FindingsAreDetermined}
 use Rattle.survey_core.specs.Soups.{soup}
 use Rattle.survey_core.specs.declared.finding.Finding.{Finding}
@@ -19,18 +19,23 @@ use Rattle.survey_core.specs.declared.job.Job.{Job}
 use Rattle.std.proofs.KnownBytes.{Consumes-nil, Consumes-trans}
 use Rattle.std.proofs.lemmas.List.Elements.{All-nil}
 use Rattle.std.specs.Io.KnownBytes.{Consumes}
+use Rattle.memory.specs.Evidence.{out_of_memory}
 use Rattle.plane_core.proofs.OutLemmas.{Appends-append}
 use Rattle.plane_core.specs.Out.{Output}
 use Rattle.pattern_commands.specs.declared.complaint.Complaint.{Complaint}
-use Rattle.pattern_commands.specs.declared.complaint.Complaint.TheVariants.{Refused, Memory, ReadFailed, WriteFailed}
+use Rattle.pattern_commands.specs.declared.complaint.Complaint.TheVariants.{Refused, Memory, ReadFailed, TooLong, WriteFailed}
 use Rattle.commands.specs.declared.lines.LineEnd.{LineEnd}
 use Rattle.commands.specs.declared.lines.LineEnd.TheVariants.{Feed, Input}
 use Rattle.commands.specs.declared.lines.LineRead.{LineRead}
+use Rattle.pattern_commands.specs.Answers.{IsInput}
+use Rattle.pattern_commands.specs.Inputs.{input_complaint}
 use Rattle.pattern_commands.specs.Streams.{Stream, Has, stream}
-use Rattle.commands.specs.GatherSteps.{EndsLine, EndsLines, GoesOn, HasGathered, HasGatheredAll, Passage}
+use Rattle.pattern_commands.specs.declared.input.InputError.{InputError}
+use Rattle.pattern_commands.specs.declared.input.InputError.TheVariants as input_error
+use Rattle.commands.specs.GatherSteps.{EndsLine, EndsLines, EndsNext, GoesOn, HasGathered, HasGatheredAll, Passage}
 use Rattle.commands.specs.LinesSoFar.{HasBegun, HasCome, HasComeBy}
 use Rattle.commands.specs.Lines.{HasReadLine, IsOneLine, input_lines, with_end}
-use Rattle.commands.proofs.LineLemmas.{all_read, ended_more, lines_bare, lines_ended, all_lines, first_lines}
+use Rattle.commands.proofs.LineLemmas.{all_read, ended_more, lines_bare, lines_ended, all_lines, first_lines, long_read}
 use Rattle.commands.specs.GatheredLines.{Faulty, Front, Gathered, IsChecked, IsFrontFault, IsLookedAt, IsWrong, ComesOf, Next, Offered, Start, Whole, offer_fault, told_fault}
 
 -- nothing arrives by a line with a fault
@@ -51,7 +56,7 @@ taken arrivals report is (inr reply) stands = absurd (cc (reply.0))
 
 -- a report that is refused
 pub refused : {terms : Terms} {line : List ℕ} {held : Held} (arrivals : List Arrival) (report : Reported) (reason : OfferError) (fault : Option LineFault)
-    → IsLookedAt terms.job line (Ok report) → IsReply (Some reason) (refusal_of terms arrivals report) → reason ≢ offer_error.Memory
+    → IsLookedAt terms.job line (Ok report) → IsReply (Some reason) (refusal_of terms arrivals report) → reason ≢ offer_error.Memory out_of_memory
     → fault ≡ offer_fault report (Some reason) → StandsFor (arrivals ++ Offer report ∷ []) held
     → (arrived : List Arrival) × ComesOf terms arrivals line arrived fault × StandsFor (arrivals ++ arrived) held
 refused {terms} {line} arrivals report reason fault is (inl reply) memory told stands =
@@ -62,8 +67,8 @@ refused arrivals report reason fault is (inr reply) memory told stands = absurd 
 -- the same for all that the call for the fault gives
 pub refused_told : {E : Type 0} (terms : Terms) (line : List ℕ) (held : Held) (arrivals : List Arrival) (report : Reported) (reason : OfferError)
     (result : Result (Option LineFault) E) → IsLookedAt terms.job line (Ok report) → IsReply (Some reason) (refusal_of terms arrivals report)
-    → IfOk result (λ _. reason ≢ offer_error.Memory) → IfOk result (λ fault. fault ≡ offer_fault report (Some reason))
-    → (reason ≢ offer_error.Memory → StandsFor (arrivals ++ Offer report ∷ []) held)
+    → IfOk result (λ _. reason ≢ offer_error.Memory out_of_memory) → IfOk result (λ fault. fault ≡ offer_fault report (Some reason))
+    → (reason ≢ offer_error.Memory out_of_memory → StandsFor (arrivals ++ Offer report ∷ []) held)
     → IfOk result (λ fault. (arrived : List Arrival) × ComesOf terms arrivals line arrived fault × StandsFor (arrivals ++ arrived) held)
 refused_told terms line held arrivals report reason (Ok fault) is reply memory told stands = refused arrivals report reason fault is reply memory told (stands memory)
 refused_told terms line held arrivals report reason (Err e) is reply memory told stands = tt
@@ -234,17 +239,74 @@ pub goes_no_further : (way : Passage) (held : Held) (end : LineEnd) → end ≡ 
 goes_no_further way held Feed is gathered = let bad : Feed ≡ Input = is in cc
 goes_no_further way held Input is all = all
 
+-- what is left of an input is no longer than it is
+longer : (known left : Option (List ℕ)) (read : List ℕ) → Consumes known left read → IfSome left (λ bytes. 2 ^ 32 < length bytes)
+    → IfSome known (λ bytes. 2 ^ 32 < length bytes)
+longer None left read consumed long = tt
+longer (Some xs) None read consumed long = absurd consumed
+longer (Some xs) (Some ys) read consumed long = let all = ap length consumed ∙ length-append read ys in omega (arith, all, long)
+
+-- what was read of an input that is too long, where there may be more lines, or none
+pub goes_long : (way : Passage) (held : Held) (end : LineEnd) → GoesOn way held end → 2 ^ 32 < way.size
+    → IfSome way.known (λ bytes. 2 ^ 32 < length bytes)
+goes_long way held Feed gathered many =
+    long_read way.known way.left gathered.read gathered.consumed (let long = gathered.size_is in omega (arith, long, many))
+goes_long way held Input all many = go way.known all.input
+  where
+    go : (known : Option (List ℕ)) → IsInput known all.bytes → IfSome known (λ bytes. 2 ^ 32 < length bytes)
+    go None is = tt
+    go (Some left) is = let long = all.size_is in let same = ap length is in omega (arith, long, same, many)
+
+-- as many lines as there are bytes at most, and a line feed after each, are too many
+bytes_of_lines : (lines : List (List ℕ)) → length lines ≤ length (flat_map (with_end Feed) lines)
+bytes_of_lines [] = omega arith
+bytes_of_lines (line ∷ lines) =
+    let more = bytes_of_lines lines in
+    let one = length-append line (10 ∷ []) in
+    let all = length-append (line ++ 10 ∷ []) (flat_map (with_end Feed) lines) in
+    omega (arith, more, one, all)
+
+pub many_lines : (way : Passage) (held : Held) → HasGathered way held → 2 ^ 32 < way.count
+    → IfSome way.known (λ bytes. 2 ^ 32 < length bytes)
+many_lines way held gathered many =
+    let spelled = ap length gathered.ended.spelled in
+    let count = gathered.count_is in
+    long_read way.known way.left gathered.read gathered.consumed
+    (omega (arith, spelled, count, many, bytes_of_lines gathered.lines))
+
+-- a line that could not be read, with nothing told
+pub next_unread : {V : Type 0} (left : Option (List ℕ)) (old : Output V) (fault : InputError)
+    → (fault ≡ input_error.TooLong → IfSome left (λ bytes. 2 ^ 32 < length bytes)) → EndsNext left old old (input_complaint fault)
+next_unread left old (input_error.Unreadable failed) long = refl
+next_unread left old input_error.TooLong long = (refl, long refl)
+next_unread left old (input_error.Memory refused) long = refl
+
+-- a complaint over a line that was read
+pub next_read : {V : Type 0} (left : Option (List ℕ)) (old new : Output V) (complaint : Complaint) → EndsLine old new complaint
+    → EndsNext left old new complaint
+next_read left old new (Refused refusal) ends = ends
+next_read left old new (Memory error) ends = ends
+next_read left old new (ReadFailed error) ends = ends
+next_read left old new TooLong ends = absurd ends
+next_read left old new (WriteFailed error) ends = ends
+
 -- a complaint over a line, after all lines before it
 pub lines_ended_by : {V : Type 0} (contents : V → Option (List ℕ)) (known left : Option (List ℕ)) (first : Output V)
     (count size : ℕ) (held : Held) (terms : Terms) (old new : Output V) (complaint : Complaint)
     → HasGathered (passage known left (stream contents first old) count size) held
-    → held.terms ≡ terms → old.failed ≡ false → EndsLine old new complaint
+    → held.terms ≡ terms → old.failed ≡ false → EndsNext left old new complaint
     → EndsLines terms known (stream contents first new) complaint
-lines_ended_by contents known left first count size held terms old new Memory gathered same fine kept =
+lines_ended_by contents known left first count size held terms old new (Memory error) gathered same fine kept =
     rw kept (begun (passage known left (stream contents first old) count size) held terms gathered same, fine)
-lines_ended_by contents known left first count size held terms old new ReadFailed gathered same fine kept =
+lines_ended_by contents known left first count size held terms old new (ReadFailed error) gathered same fine kept =
     rw kept (begun (passage known left (stream contents first old) count size) held terms gathered same, fine)
-lines_ended_by contents known left first count size held terms old new WriteFailed gathered same fine failed = failed
+lines_ended_by contents known left first count size held terms old new TooLong gathered same fine (kept, long) =
+    rw kept (
+      begun (passage known left (stream contents first old) count size) held terms gathered same,
+      fine,
+      longer known left gathered.read gathered.consumed long,
+    )
+lines_ended_by contents known left first count size held terms old new (WriteFailed error) gathered same fine failed = failed
 lines_ended_by contents known left first count size held terms old new (Refused refusal) gathered same fine none =
     absurd none
 

@@ -1,5 +1,6 @@
 pub mod EndLemmas
 pub mod GatherLemmas
+mod GrownLemmas
 pub mod LineLemmas
 pub mod NumberLemmas
 pub mod PieceLemmas

@@ -43,6 +43,13 @@ read_more start old new kept after front more size piece kept_is one consumed si
       ap₂ (λ a b. a + b) size_is read.size_is ∙ sym (length-append front bytes) ∙ ap length flat,
     )
 
+-- of an input from which many bytes were read, there are many
+pub long_read : (known left : Option (List ℕ)) (read : List ℕ) → Consumes known left read → 2 ^ 32 < length read
+    → IfSome known (λ bytes. 2 ^ 32 < length bytes)
+long_read None left read consumed long = tt
+long_read (Some xs) None read consumed long = absurd consumed
+long_read (Some xs) (Some ys) read consumed long = let all = ap length consumed ∙ length-append read ys in omega (arith, all, long)
+
 -- an input that ends after a front of it was read
 pub spent_from : (start old new : Option (List ℕ)) (front : List ℕ) → Consumes start old front → IsSpent old new → IsSpent start new
 spent_from None old new front consumed spent = tt

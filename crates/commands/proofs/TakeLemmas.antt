@@ -3,9 +3,10 @@ use Rattle.std.proofs.Common.{◌≡◌, ◌∙◌, ◌≤◌, ◌⊎◌, ◌↔
 use Rattle.std.proofs.Common.{List, [], ◌++◌, map, Option, Result, Ok, Err, All, ap, sym, subst, refl, arith}
 use Rattle.std.specs.Prelude.{Contains, IfErr, IfOk}
 use Rattle.std.proofs.lemmas.Bool.{cases_Bool, leb-false, leb-true}
-use Rattle.std.proofs.lemmas.List.Elements.{All-contains, All-filter, All-map}
+use Rattle.std.proofs.lemmas.List.Elements.{All-contains, All-filter, All-weaker}
 use Rattle.std.specs.List.{IsDistinct}
 use Rattle.std.specs.Result.{result_map_both}
+use Rattle.memory.specs.Evidence.{out_of_memory}
 use Rattle.plane_core.specs.declared.rule.RuleFault.{RuleFault}
 use Rattle.plane_core.specs.declared.rule.RuleFault.TheVariants as rule_error
 use Rattle.plane_core.specs.Rules.{Numbers, rule_read}
@@ -27,9 +28,9 @@ use Rattle.ranges.specs.RangeLists.{FitU64, IsListText, list_text}
 use Rattle.ranges.specs.RangeListFaults.{IsFirstListFault}
 use Rattle.ranges.specs.Ranges.{AreSmall, IsNormalForm, is_in}
 use Rattle.crew.specs.Shifts.{StopsAt}
-use Rattle.crew.specs.Takes.{HasTaken, was_missing}
+use Rattle.crew.specs.Takes.{was_missing}
 use Rattle.pattern_commands.specs.declared.complaint.Complaint.{Complaint}
-use Rattle.pattern_commands.specs.declared.complaint.Complaint.TheVariants.{Refused, Memory, ReadFailed, WriteFailed}
+use Rattle.pattern_commands.specs.declared.complaint.Complaint.TheVariants.{Refused, Memory, ReadFailed, TooLong, WriteFailed}
 use Rattle.commands.specs.declared.plan.Plan.{Plan}
 use Rattle.pattern_commands.specs.declared.refusal.Refusal.{Refusal}
 use Rattle.pattern_commands.specs.declared.refusal.Refusal.TheVariants.{BadRule, BirthZero, HorizonBelowPeriod}
@@ -47,7 +48,7 @@ use Rattle.commands.specs.SoupSets.{AreRangesOf, IsRefused, job_named, right_for
 use Rattle.commands.specs.Stopped.{MayStop, TellsTaken, gated_task, right_if, stopped_right, taken_right}
 use Rattle.pattern_commands.specs.Streams.{Stream, Has, IsUntouched}
 use Rattle.commands.specs.Take.{TellsAll, take_right, take_task}
-use Rattle.commands.specs.TakeSteps.{EndsCrew, IsOpened, IsOpenedFor, IsTaken, Stops, StopsOpening, StopsSet}
+use Rattle.commands.specs.TakeSteps.{EndsCrew, HasTakenMore, IsOpened, IsOpenedFor, IsTaken, Stops, StopsOpening, StopsSet}
 use Rattle.pattern_commands.specs.Tasks.{Made, Task, alone}
 use Rattle.pattern_commands.specs.TextSteps.{ReachesText}
 use Rattle.commands.proofs.NumberLemmas.{numbers_within}
@@ -63,36 +64,39 @@ refused_needs_memory set refusal list (Overlapping ranges named small overlap to
 needs_memory : (set : SoupSet) (tells : List Range → List ℕ → Type 0) (complaint : Complaint) → IsListText set.also
     → right_for_set set tells (Err complaint) → NeedsMemory complaint
 needs_memory set tells (Refused refusal) list right = refused_needs_memory set refusal list right
-needs_memory set tells Memory list right = absurd right
-needs_memory set tells ReadFailed list right = absurd right
-needs_memory set tells WriteFailed list right = absurd right
+needs_memory set tells (Memory error) list right = absurd right
+needs_memory set tells (ReadFailed error) list right = absurd right
+needs_memory set tells TooLong list right = absurd right
+needs_memory set tells (WriteFailed error) list right = absurd right
 
 -- what stops a command over its set stops it
 Stops_set : (set : SoupSet) (tells : List Range → List ℕ → Type 0) (complaint : Complaint) → StopsSet set complaint
     → Stops (right_for_set set tells) complaint
 Stops_set set tells (Refused refusal) stops = stops
-Stops_set set tells Memory stops = λ complaint right. needs_memory set tells complaint stops right
-Stops_set set tells ReadFailed stops = absurd stops
-Stops_set set tells WriteFailed stops = absurd stops
+Stops_set set tells (Memory error) stops = λ complaint right. needs_memory set tells complaint stops right
+Stops_set set tells (ReadFailed error) stops = absurd stops
+Stops_set set tells TooLong stops = absurd stops
+Stops_set set tells (WriteFailed error) stops = absurd stops
 
 -- a range list that is not read stops the command
 pub Stops_list : (set : SoupSet) (text : List ℕ) (error : ListError) → text ≡ set.also
-    → ((ranges : List Range) → FitU64 ranges → list_text ranges ≡ text → error ≡ list_error.Memory)
-    → ((place : ℕ) → error ≡ list_error.BadList place → IsFirstListFault text place) → (error ≡ list_error.Memory → IsListText text)
+    → ((ranges : List Range) → FitU64 ranges → list_text ranges ≡ text → error ≡ list_error.Memory out_of_memory)
+    → ((place : ℕ) → error ≡ list_error.BadList place → IsFirstListFault text place) → (error ≡ list_error.Memory out_of_memory → IsListText text)
     → StopsSet set (list_complaint error)
 Stops_list set text (list_error.BadList place) is complete fault memory =
     let not_list : IsListText set.also → ⊥ =
-    λ list. let bad : list_error.BadList place ≡ list_error.Memory = complete list.ranges list.fit (list.spelled ∙ sym is) in cc in
+    λ list. let bad : list_error.BadList place ≡ list_error.Memory out_of_memory = complete list.ranges list.fit (list.spelled ∙ sym is) in cc in
     Bad_list not_list place (subst (λ (t : List ℕ). IsFirstListFault t place) is (fault place refl)) refl
-Stops_list set text list_error.Memory is complete fault memory = subst IsListText is (memory refl)
+Stops_list set text (list_error.Memory refused) is complete fault memory = subst IsListText is (memory refl)
 
 -- a complaint that stops the command is what it ends with, with nothing on the output
 pub Reaches_stopped : (right : Right) (complaint : Complaint) (output : Stream) → Stops right complaint → Has output []
     → ReachesText false false right (Err complaint) output
 Reaches_stopped right (Refused refusal) output stops nothing = (stops, nothing)
-Reaches_stopped right Memory output stops nothing = (λ unread. stops, λ answer is. ([], output_text answer, refl, nothing))
-Reaches_stopped right ReadFailed output stops nothing = absurd stops
-Reaches_stopped right WriteFailed output stops nothing = absurd stops
+Reaches_stopped right (Memory error) output stops nothing = (λ unread. stops, λ answer is. ([], output_text answer, refl, nothing))
+Reaches_stopped right (ReadFailed error) output stops nothing = absurd stops
+Reaches_stopped right TooLong output stops nothing = absurd stops
+Reaches_stopped right (WriteFailed error) output stops nothing = absurd stops
 
 -- the same for a part of what is right
 pub Stops_given : (plan : Plan) (tells : Job → List Range → List ℕ → Type 0) (job : Job)
@@ -104,15 +108,17 @@ Stops_given plan tells job complaint named stops = go complaint (Stops_set plan.
     go : (c : Complaint) → Stops (right_for_set plan.set (tells job)) c
         → Stops (given_right (job_named plan) (λ j. right_for_set plan.set (tells j))) c
     go (Refused refusal) is = rw named is
-    go Memory is = λ c right. is c (rw named at right)
-    go ReadFailed is = absurd is
-    go WriteFailed is = absurd is
+    go (Memory error) is = λ c right. is c (rw named at right)
+    go (ReadFailed error) is = absurd is
+    go TooLong is = absurd is
+    go (WriteFailed error) is = absurd is
 
 abbrev IsRefusal : Complaint → Type 0
 IsRefusal (Refused refusal) = Unit {0}
-IsRefusal Memory = ⊥
-IsRefusal ReadFailed = ⊥
-IsRefusal WriteFailed = ⊥
+IsRefusal (Memory error) = ⊥
+IsRefusal (ReadFailed error) = ⊥
+IsRefusal TooLong = ⊥
+IsRefusal (WriteFailed error) = ⊥
 
 -- a seed, a profile or a rule is refused, and nothing else happens to them
 seed_refused : (answer : Result (List ℕ) SeedFault) (complaint : Complaint) → result_map_both (λ seed. seed) seed_complaint answer ≡ Err complaint
@@ -156,9 +162,10 @@ job_refused plan complaint =
 pub Stops_job : (plan : Plan) (next : Job → Right) (complaint : Complaint)
     → job_named plan ≡ Err complaint → Stops (given_right (job_named plan) next) complaint
 Stops_job plan next (Refused refusal) refused = rw refused refl
-Stops_job plan next Memory refused = absurd (job_refused plan Memory refused)
-Stops_job plan next ReadFailed refused = absurd (job_refused plan ReadFailed refused)
-Stops_job plan next WriteFailed refused = absurd (job_refused plan WriteFailed refused)
+Stops_job plan next (Memory error) refused = absurd (job_refused plan (Memory error) refused)
+Stops_job plan next (ReadFailed error) refused = absurd (job_refused plan (ReadFailed error) refused)
+Stops_job plan next TooLong refused = absurd (job_refused plan TooLong refused)
+Stops_job plan next (WriteFailed error) refused = absurd (job_refused plan (WriteFailed error) refused)
 
 -- what ends a command before its haul is open stops it
 pub Stops_opening : (plan : Plan) (tells : Job → List Range → List ℕ → Type 0) (complaint : Complaint)
@@ -190,9 +197,9 @@ listed set ranges of = record { ranges = of.listed; fit = of.fit; spelled = of.s
 
 -- memory that runs out over a haul that was opened stops the command
 Stops_memory : {workers : ℕ} (plan : Plan) (held : Held)
-    → IsOpenedFor plan workers held → Stops (take_right plan) Memory
+    → IsOpenedFor plan workers held → Stops (take_right plan) (Memory out_of_memory)
 Stops_memory plan held is =
-    Stops_given plan TellsAll is.job Memory is.named (listed plan.set is.opened.ranges is.opened.named)
+    Stops_given plan TellsAll is.job (Memory out_of_memory) is.named (listed plan.set is.opened.ranges is.opened.named)
 
 -- ---- a haul that was opened
 
@@ -212,10 +219,6 @@ small_from ranges never = record {
 
 -- ---- a haul of which something was taken
 
--- nothing was taken of a haul that was opened
-none_taken : (held : Held) → StandsFor [] held → held.taken ≡ []
-none_taken held stands = stands.taken
-
 -- a missing number is one of the set
 in_set : (ranges normal : List Range) (taken : List (ℕ × ℕ)) (n : ℕ) → IsNormalForm ranges normal → Contains (missing_of normal taken) n
     → is_in ranges n ≡ true
@@ -226,15 +229,15 @@ in_set ranges normal taken n form missing =
 
 -- its census is that of the job and the set
 counted_by : {workers : ℕ} (job : Job) (set : SoupSet) (opened held : Held) (census : Census) → IsOpened job set workers opened
-    → HasTaken workers opened held → IsCensus held.terms.job held.terms.ranges (numbers_in held.taken) census
+    → HasTakenMore opened held → IsCensus held.terms.job held.terms.ranges (numbers_in held.taken) census
     → IsCensus job opened.terms.ranges (numbers_in held.taken) census
 counted_by job set opened held census open_ h is =
     subst (λ (j : Job). IsCensus j opened.terms.ranges (numbers_in held.taken) census) open_.job_is
-    (subst (λ (t : Terms). IsCensus t.job t.ranges (numbers_in held.taken) census) h.added.terms is)
+    (subst (λ (t : Terms). IsCensus t.job t.ranges (numbers_in held.taken) census) h.terms is)
 
 -- all of it was taken
 pub complete_right : {workers : ℕ} (job : Job) (set : SoupSet) (opened held : Held) (census : Census) → IsOpened job set workers opened
-    → HasTaken workers opened held → AreAll held.terms.ranges (numbers_in held.taken)
+    → HasTakenMore opened held → AreAll held.terms.ranges (numbers_in held.taken)
     → IsCensus held.terms.job held.terms.ranges (numbers_in held.taken) census → right_for_set set (TellsAll job) (Ok (haul_text census))
 complete_right job set opened held census open_ h all is = record {
   ranges = open_.ranges;
@@ -244,7 +247,7 @@ complete_right job set opened held census open_ h all is = record {
   is_text = record {
     numbers = numbers_in held.taken;
     all = λ n. all n ∙ ap (λ (b : Bool). cond {A = ℕ} b 1 0)
-        (ap (λ (t : Terms). is_in t.ranges n) h.added.terms ∙ open_.form.same n);
+        (ap (λ (t : Terms). is_in t.ranges n) h.terms ∙ open_.form.same n);
     normal = opened.terms.ranges;
     form = open_.form;
     census = census;
@@ -259,11 +262,12 @@ stopped_text may_stop missing job ranges text = MayStop may_stop ranges × Tells
 
 -- some numbers are missing
 pub stopped_told : {workers : ℕ} (may_stop : ℕ → ℕ → Type 0) (job : Job) (set : SoupSet) (opened held : Held) (census : Census) (missing : ℕ)
-    → IsOpened job set workers opened → HasTaken workers opened held → missing ≡ length (missing_of held.terms.ranges held.taken)
+    → IsOpened job set workers opened → HasTakenMore opened held → All (λ t. is_in held.terms.ranges t.1 ≡ true) held.taken
+    → IsDistinct nat_eq (numbers_in held.taken) → missing ≡ length (missing_of held.terms.ranges held.taken)
     → ¬ IsComplete held.terms.ranges held.taken → ((worker : ℕ) × StopsAt may_stop (was_missing opened) worker)
     → IsCensus held.terms.job held.terms.ranges (numbers_in held.taken) census
     → right_for_set set (stopped_text may_stop missing job) (Ok (haul_text census))
-stopped_told may_stop job set opened held census missing open_ h many incomplete stops is = record {
+stopped_told may_stop job set opened held census missing open_ h within once many incomplete stops is = record {
   ranges = open_.ranges;
   named = open_.named;
   small = open_.small;
@@ -274,22 +278,17 @@ stopped_told may_stop job set opened held census missing open_ h many incomplete
       normal = opened.terms.ranges;
       form = open_.form;
       taken = held.taken;
-      within = subst (All (λ (t : ℕ × ℕ). is_in open_.ranges t.1 ≡ true)) (sym entries)
-          (All-map (λ (t : ℕ × ℕ). is_in open_.ranges t.1 ≡ true) entry h.offers
-          (λ k d low. in_set open_.ranges opened.terms.ranges opened.taken (get_or h.offers k d).number open_.form
-          (h.missing k d low)));
-      once = subst (λ (ts : List (ℕ × ℕ)). IsDistinct nat_eq (numbers_in ts)) (sym entries) h.once;
-      incomplete = subst (λ (t : Terms). ¬ IsComplete t.ranges held.taken) h.added.terms incomplete;
-      missing_is = many ∙ ap (λ (t : Terms). length (missing_of t.ranges held.taken)) h.added.terms;
+      within = All-weaker (λ (t : ℕ × ℕ). is_in held.terms.ranges t.1 ≡ true) (λ (t : ℕ × ℕ). is_in open_.ranges t.1 ≡ true)
+          (λ t at. sym (ap (λ (ts : Terms). is_in ts.ranges t.1) h.terms ∙ open_.form.same t.1) ∙ at) held.taken within;
+      once = once;
+      incomplete = subst (λ (t : Terms). ¬ IsComplete t.ranges held.taken) h.terms incomplete;
+      missing_is = many ∙ ap (λ (t : Terms). length (missing_of t.ranges held.taken)) h.terms;
       census = census;
       counted = counted_by job set opened held census open_ h is;
       text_is = refl;
     },
   );
 }
-  where
-    entries : held.taken ≡ map entry h.offers
-    entries = h.added.taken ∙ ap (λ (ts : List (ℕ × ℕ)). ts ++ map entry h.offers) (none_taken opened open_.stands)
 
 -- what was taken of a haul that was opened, with how many are missing
 taken_told : {workers : ℕ} (may_stop : ℕ → ℕ → Type 0) (plan : Plan) (held : Held) (census : Census)
@@ -303,12 +302,12 @@ taken_told may_stop plan held census missing h many none is = go missing many no
         → right_if (take_right plan) (stopped_right may_stop plan) n (Ok (haul_text census))
     go zero many none (inl whole) =
         right_given plan (λ j. right_for_set plan.set (TellsAll j)) h.is.job (haul_text census) h.is.named
-        (complete_right h.is.job plan.set h.opened held census h.is.opened h.taken whole.1 is)
+        (complete_right h.is.job plan.set h.opened held census h.is.opened h.grown whole.1 is)
     go zero many none (inr less) = absurd (less.0 (none.0 refl))
     go (suc n) many none (inl whole) = let bad = none.1 whole.0 in cc
     go (suc n) many none (inr less) =
         right_given plan (λ j. right_for_set plan.set (stopped_text may_stop (suc n) j)) h.is.job (haul_text census) h.is.named
-        (stopped_told may_stop h.is.job plan.set h.opened held census (suc n) h.is.opened h.taken many less.0 (less.1, less.2) is)
+        (stopped_told may_stop h.is.job plan.set h.opened held census (suc n) h.is.opened h.grown h.within h.once many less.0 (less.1, less.2) is)
 
 -- ---- how `take` ends
 
@@ -318,10 +317,11 @@ pub take_stops : (may_stop : ℕ → ℕ → Type 0) (plan : Plan) (known : Opti
     → Reaches (gated_task may_stop plan) known bytes (Err complaint) output errors
 take_stops may_stop plan known bytes (Refused refusal) output errors stops nothing still =
     (stops, record { nothing = nothing; silent = still.0; fine = still.1 })
-take_stops may_stop plan known bytes Memory output errors stops nothing still =
+take_stops may_stop plan known bytes (Memory error) output errors stops nothing still =
     record { hides = λ unread complaint is. stops complaint is; left = nothing; told = inl still.0; fine = still.1 }
-take_stops may_stop plan known bytes ReadFailed output errors stops nothing still = absurd stops
-take_stops may_stop plan known bytes WriteFailed output errors stops nothing still = absurd stops
+take_stops may_stop plan known bytes (ReadFailed error) output errors stops nothing still = absurd stops
+take_stops may_stop plan known bytes TooLong output errors stops nothing still = absurd stops
+take_stops may_stop plan known bytes (WriteFailed error) output errors stops nothing still = absurd stops
 
 -- the haul that was taken, finished
 take_finishes : {workers : ℕ} (may_stop : ℕ → ℕ → Type 0) (plan : Plan) (known : Option (List ℕ))
@@ -340,10 +340,10 @@ take_finishes may_stop plan known bytes held (Ok missing) output errors h none f
       told = still.0;
       fine = still.1;
     }
-take_finishes may_stop plan known bytes held (Err Memory) output errors h none nothing still =
-    take_stops may_stop plan known bytes Memory output errors (Stops_memory plan h.opened h.is)
+take_finishes may_stop plan known bytes held (Err (Memory error)) output errors h none nothing still =
+    take_stops may_stop plan known bytes (Memory error) output errors (Stops_memory plan h.opened h.is)
     nothing still
-take_finishes may_stop plan known bytes held (Err WriteFailed) output errors h none half still =
+take_finishes may_stop plan known bytes held (Err (WriteFailed error)) output errors h none half still =
     let many : ℕ = length (missing_of held.terms.ranges held.taken) in
     inl (record {
       left = (
@@ -355,23 +355,25 @@ take_finishes may_stop plan known bytes held (Err WriteFailed) output errors h n
       cut = half.cut;
       fine = still.1;
     })
-take_finishes may_stop plan known bytes held (Err ReadFailed) output errors h none not still = absurd not
+take_finishes may_stop plan known bytes held (Err (ReadFailed error)) output errors h none not still = absurd not
+take_finishes may_stop plan known bytes held (Err TooLong) output errors h none not still = absurd not
 take_finishes may_stop plan known bytes held (Err (Refused refusal)) output errors h none not still = absurd not
 
 -- the same, or memory ran out before the haul was complete
 pub take_ends : {workers : ℕ} {E : Type 0} (may_stop : ℕ → ℕ → Type 0) (plan : Plan)
     (known : Option (List ℕ)) (bytes : List ℕ) (opened held : Held) (taken : Result (Unit {0}) E) (outcome : Outcome) (output errors : Stream)
-    → IsOpenedFor plan workers opened → HasTaken workers opened held → IfOk taken (λ _. EndsCrew may_stop opened held)
+    → IsOpenedFor plan workers opened → HasTakenMore opened held → All (λ t. is_in held.terms.ranges t.1 ≡ true) held.taken
+    → IsDistinct nat_eq (numbers_in held.taken) → IfOk taken (λ _. EndsCrew may_stop opened held)
     → IfOk taken (λ _. Finishes held outcome output)
     → IfOk taken (λ _. (length (missing_of held.terms.ranges held.taken) ≡ 0) ↔ IsComplete held.terms.ranges held.taken)
-    → IfErr taken (λ _. (outcome ≡ Err Memory) × Has output []) → IsUntouched errors
+    → IfErr taken (λ _. (outcome ≡ Err (Memory out_of_memory)) × Has output []) → IsUntouched errors
     → Reaches (gated_task may_stop plan) known bytes outcome output errors
-take_ends may_stop plan known bytes opened held (Ok u) outcome output errors is taken ends finishes none gives_up still =
+take_ends may_stop plan known bytes opened held (Ok u) outcome output errors is grown within once ends finishes none gives_up still =
     take_finishes may_stop plan known bytes held outcome output errors
-    (record { opened = opened; is = is; taken = taken; ends = ends }) none finishes still
-take_ends may_stop plan known bytes opened held (Err e) outcome output errors is taken ends finishes none gives_up still =
+    (record { opened = opened; is = is; grown = grown; within = within; once = once; ends = ends }) none finishes still
+take_ends may_stop plan known bytes opened held (Err e) outcome output errors is grown within once ends finishes none gives_up still =
     subst (λ (o : Outcome). Reaches (gated_task may_stop plan) known bytes o output errors) (sym gives_up.0)
-    (take_stops may_stop plan known bytes Memory output errors (Stops_memory plan opened is) gives_up.1 still)
+    (take_stops may_stop plan known bytes (Memory out_of_memory) output errors (Stops_memory plan opened is) gives_up.1 still)
 
 -- a gate that stops nobody stops no haul
 never_right : (may_stop : ℕ → ℕ → Type 0) (plan : Plan) (missing : ℕ) (text : List ℕ)
@@ -425,9 +427,10 @@ never_stopped may_stop plan known bytes status output errors never ends = record
       fine = is.fine;
     }
     go (Err (Refused refusal)) is = is
-    go (Err Memory) is = record { hides = is.hides; left = is.left; told = is.told; fine = is.fine }
-    go (Err ReadFailed) is = record { reads = is.reads; begun = is.begun; nothing = is.nothing; fine = is.fine }
-    go (Err WriteFailed) (inl is) =
+    go (Err (Memory error)) is = record { hides = is.hides; left = is.left; told = is.told; fine = is.fine }
+    go (Err (ReadFailed error)) is = record { reads = is.reads; begun = is.begun; nothing = is.nothing; fine = is.fine }
+    go (Err TooLong) (right, is) = (right, record { reads = is.reads; begun = is.begun; nothing = is.nothing; fine = is.fine })
+    go (Err (WriteFailed error)) (inl is) =
         let (made, right, front, told) = is.left in
         inl (record { left = (made, never_less may_stop plan made never right, front, told); cut = is.cut; fine = is.fine })
-    go (Err WriteFailed) (inr is) = absurd is.tells
+    go (Err (WriteFailed error)) (inr is) = absurd is.tells

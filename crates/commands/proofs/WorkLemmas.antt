@@ -5,6 +5,8 @@ use Rattle.std.proofs.lemmas.List.{take-append-drop, take_more}
 use Rattle.std.proofs.lemmas.List.Concat.{flat_map-append}
 use Rattle.std.specs.List.{range_with_len}
 use Rattle.std.specs.Io.KnownBytes.{Appends}
+use Rattle.memory.specs.declared.OutOfMemory.{OutOfMemory}
+use Rattle.plane_core.specs.declared.output.WriteError.{WriteError}
 use Rattle.plane_core.proofs.OutLemmas.{Appends-append, Appends-nil, AppendsFront-append, AppendsFront-longer}
 use Rattle.survey_core.specs.declared.job.Job.{Job}
 use Rattle.survey_core.specs.FindingLaws.{FindingsAreDetermined}
@@ -16,7 +18,7 @@ use Rattle.ranges.specs.Ranges.{AreSmall, OneNormalForm, Overlap, is_in}
 use Rattle.haul_core.specs.ReportLines.{report_text}
 use Rattle.haul_core.specs.Reports.{Reported}
 use Rattle.pattern_commands.specs.declared.complaint.Complaint.{Complaint}
-use Rattle.pattern_commands.specs.declared.complaint.Complaint.TheVariants.{Refused, Memory, ReadFailed, WriteFailed}
+use Rattle.pattern_commands.specs.declared.complaint.Complaint.TheVariants.{Refused, Memory, ReadFailed, TooLong, WriteFailed}
 use Rattle.commands.specs.declared.plan.Plan.{Plan}
 use Rattle.commands.specs.declared.soup_set.SoupSet.{SoupSet}
 use Rattle.pattern_commands.specs.Answers.{Answer, Right, output_text}
@@ -50,9 +52,9 @@ pub puts_nothing : (job : Job) (worker : ℕ) (known : Option (List ℕ)) (faile
 puts_nothing job worker known failed fine = record { reports = []; each = tt; is_written = Appends-nil known; fine = fine }
 
 -- memory that runs out over the first of them
-pub puts_no_memory : (job : Job) (worker : ℕ) (numbers : List ℕ) (known : Option (List ℕ)) (failed : Bool)
-    → Puts (reports_on job worker numbers) (Err Memory) (over known known failed)
-puts_no_memory job worker numbers known failed =
+pub puts_no_memory : (job : Job) (worker : ℕ) (numbers : List ℕ) (known : Option (List ℕ)) (failed : Bool) (error : OutOfMemory)
+    → Puts (reports_on job worker numbers) (Err (Memory error)) (over known known failed)
+puts_no_memory job worker numbers known failed error =
     record { done = []; more = numbers; parts = refl; reports = []; each = tt; is_written = Appends-nil known }
 
 -- a report on one number
@@ -66,9 +68,9 @@ puts_one job worker n report output is wrote fine = record {
 }
 
 -- and one that could not be written whole
-pub puts_failed : (job : Job) (worker n : ℕ) (report : Reported) (output : Stream) → IsReportOn job worker n report → HasFront output (report_text report)
-    → output.failed ≡ true → Puts (reports_on job worker (n ∷ [])) (Err WriteFailed) output
-puts_failed job worker n report output is wrote told = (
+pub puts_failed : (job : Job) (worker n : ℕ) (report : Reported) (output : Stream) (error : WriteError) → IsReportOn job worker n report → HasFront output (report_text report)
+    → output.failed ≡ true → Puts (reports_on job worker (n ∷ [])) (Err (WriteFailed error)) output
+puts_failed job worker n report output error is wrote told = (
   record {
     done = n ∷ [];
     more = [];
@@ -91,7 +93,7 @@ puts_then job worker ns ms (Ok u) x y z was failed one two = record {
       (Appends-append x y z (flat_map report_text one.reports) (flat_map report_text two.reports) one.is_written two.is_written);
   fine = two.fine;
 }
-puts_then job worker ns ms (Err Memory) x y z was failed one two = record {
+puts_then job worker ns ms (Err (Memory error)) x y z was failed one two = record {
   done = ns ++ two.done;
   more = two.more;
   parts = ap (λ (ks : List ℕ). ns ++ ks) two.parts ∙ sym (append_assoc ns two.done two.more);
@@ -100,7 +102,7 @@ puts_then job worker ns ms (Err Memory) x y z was failed one two = record {
   is_written = subst (Appends x z) (sym (lines-append one.reports two.reports))
       (Appends-append x y z (flat_map report_text one.reports) (flat_map report_text two.reports) one.is_written two.is_written);
 }
-puts_then job worker ns ms (Err WriteFailed) x y z was failed one (two, told) = (
+puts_then job worker ns ms (Err (WriteFailed error)) x y z was failed one (two, told) = (
   record {
     done = ns ++ two.done;
     more = two.more;
@@ -112,14 +114,15 @@ puts_then job worker ns ms (Err WriteFailed) x y z was failed one (two, told) = 
   },
   told,
 )
-puts_then job worker ns ms (Err ReadFailed) x y z was failed one two = absurd two
+puts_then job worker ns ms (Err (ReadFailed error)) x y z was failed one two = absurd two
+puts_then job worker ns ms (Err TooLong) x y z was failed one two = absurd two
 puts_then job worker ns ms (Err (Refused refusal)) x y z was failed one two = absurd two
 
 -- what stops the first of some numbers stops them all
 pub puts_stops : (job : Job) (worker : ℕ) (ns ms : List ℕ) (complaint : Complaint) (output : Stream)
     → Puts (reports_on job worker ns) (Err complaint) output
     → Puts (reports_on job worker (ns ++ ms)) (Err complaint) output
-puts_stops job worker ns ms Memory output h = record {
+puts_stops job worker ns ms (Memory error) output h = record {
   done = h.done;
   more = h.more ++ ms;
   parts = ap (λ (ks : List ℕ). ks ++ ms) h.parts ∙ append_assoc h.done h.more ms;
@@ -127,7 +130,7 @@ puts_stops job worker ns ms Memory output h = record {
   each = h.each;
   is_written = h.is_written;
 }
-puts_stops job worker ns ms WriteFailed output (h, told) = (
+puts_stops job worker ns ms (WriteFailed error) output (h, told) = (
   record {
     done = h.done;
     more = h.more ++ ms;
@@ -138,7 +141,8 @@ puts_stops job worker ns ms WriteFailed output (h, told) = (
   },
   told,
 )
-puts_stops job worker ns ms ReadFailed output h = absurd h
+puts_stops job worker ns ms (ReadFailed error) output h = absurd h
+puts_stops job worker ns ms TooLong output h = absurd h
 puts_stops job worker ns ms (Refused refusal) output h = absurd h
 
 -- ---- the numbers of a range
@@ -246,9 +250,10 @@ only_text one_form job worker set held opened (Err (Refused refusal)) (Too_large
     absurd (large (subst AreSmall (sym (opened.only ranges named)) opened.small))
 only_text one_form job worker set held opened (Err (Refused refusal)) (Overlapping ranges named small overlap told) =
     absurd (opened.apart (subst Overlap (opened.only ranges named) overlap))
-only_text one_form job worker set held opened (Err Memory) is = absurd is
-only_text one_form job worker set held opened (Err ReadFailed) is = absurd is
-only_text one_form job worker set held opened (Err WriteFailed) is = absurd is
+only_text one_form job worker set held opened (Err (Memory error)) is = absurd is
+only_text one_form job worker set held opened (Err (ReadFailed error)) is = absurd is
+only_text one_form job worker set held opened (Err TooLong) is = absurd is
+only_text one_form job worker set held opened (Err (WriteFailed error)) is = absurd is
 
 -- the lines of the first reports are a front of each right text
 front_of : FindingsAreDetermined → (job : Job) (worker : ℕ) (numbers : List ℕ) (answer : Answer) (output : Stream) → Tells job worker numbers answer
@@ -310,14 +315,15 @@ reaches_work determined one_form plan worker held outcome output is puts =
           is_text = record { normal = held.terms.ranges; form = is.opened.form; reports = put.reports; each = put.each; text_is = refl };
         } in
         ((text, rw is.named told, put.is_written), put.fine)
-    go (Err Memory) begun = (
+    go (Err (Memory error)) begun = (
       λ unread complaint is. absurd (never complaint is),
       λ answer is. front_of determined job worker (numbers_of held.terms.ranges) answer output (tells answer is)
           (begun_whole job worker (numbers_of held.terms.ranges) output begun),
     )
-    go (Err WriteFailed) (begun, told) = (
+    go (Err (WriteFailed error)) (begun, told) = (
       (never, λ text is. front_of determined job worker (numbers_of held.terms.ranges) (Ok text) output (tells (Ok text) is) begun),
       told,
     )
-    go (Err ReadFailed) put = absurd put
+    go (Err (ReadFailed error)) put = absurd put
+    go (Err TooLong) put = absurd put
     go (Err (Refused refusal)) put = absurd put

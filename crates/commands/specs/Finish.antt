@@ -6,7 +6,7 @@ use Rattle.haul_core.specs.Censuses.{IsCensus}
 use Rattle.haul_core.specs.HaulTexts.{haul_text}
 use Rattle.haul_core.specs.Keeping.{numbers_in}
 use Rattle.haul_core.specs.Missing.{missing_of}
-use Rattle.pattern_commands.specs.declared.complaint.Complaint.TheVariants.{Refused, Memory, ReadFailed, WriteFailed}
+use Rattle.pattern_commands.specs.declared.complaint.Complaint.TheVariants.{Refused, Memory, ReadFailed, TooLong, WriteFailed}
 use Rattle.pattern_commands.specs.Reached.{Outcome}
 use Rattle.pattern_commands.specs.Streams.{Stream, Has, HasFront}
 
@@ -32,7 +32,8 @@ pub record IsHalfFinished (held : Held) (output : Stream) : Type 0 where
 -- what became of the haul text; nothing of it was written if memory ran out
 abbrev pub Finishes : Held → Outcome → Stream → Type 0
 Finishes held (Ok missing) output = IsFinished held missing output
-Finishes held (Err Memory) output = Has output []
-Finishes held (Err WriteFailed) output = IsHalfFinished held output
-Finishes held (Err ReadFailed) output = ⊥
+Finishes held (Err (Memory error)) output = Has output []
+Finishes held (Err (WriteFailed error)) output = IsHalfFinished held output
+Finishes held (Err (ReadFailed error)) output = ⊥
+Finishes held (Err TooLong) output = ⊥
 Finishes held (Err (Refused refusal)) output = ⊥

@@ -1,10 +1,10 @@
 -- How report lines are gathered, a line at a time.
-use Rattle.std.specs.Prelude.{◌≡◌, ◌≤◌, ◌^◌, ℕ, true, false, List, Option, length}
+use Rattle.std.specs.Prelude.{◌≡◌, ◌<◌, ◌≤◌, ◌^◌, ℕ, true, false, IfSome, List, Option, length}
 use Rattle.std.specs.Io.KnownBytes.{Consumes}
 use Rattle.plane_core.specs.Out.{Output}
 use Rattle.haul_core.specs.Books.{Held, Terms}
 use Rattle.pattern_commands.specs.declared.complaint.Complaint.{Complaint}
-use Rattle.pattern_commands.specs.declared.complaint.Complaint.TheVariants.{Refused, Memory, ReadFailed, WriteFailed}
+use Rattle.pattern_commands.specs.declared.complaint.Complaint.TheVariants.{Refused, Memory, ReadFailed, TooLong, WriteFailed}
 use Rattle.pattern_commands.specs.Answers.{IsInput}
 use Rattle.pattern_commands.specs.Streams.{Stream, Has}
 use Rattle.commands.specs.declared.lines.LineEnd.{LineEnd}
@@ -51,16 +51,28 @@ GoesOn passage held Input = HasGatheredAll passage.known passage.errors passage.
 abbrev pub HasGatheredShort : Option (List ℕ) → Stream → Held → Type 0
 HasGatheredShort known errors held = (size : ℕ) × (size ≤ 2 ^ 32) × HasGatheredAll known errors size held
 
+-- the input has over 2^32 bytes, if they are known
+abbrev pub IsTooLong : Option (List ℕ) → Type 0
+IsTooLong known = IfSome known (λ bytes. 2 ^ 32 < length bytes)
+
 -- what stands on standard error where a complaint ends the lines of an input
 abbrev pub EndsLines : Terms → Option (List ℕ) → Stream → Complaint → Type 0
-EndsLines terms known errors Memory = HasBegun terms known errors.before errors.after × (errors.failed ≡ false)
-EndsLines terms known errors ReadFailed = HasBegun terms known errors.before errors.after × (errors.failed ≡ false)
-EndsLines terms known errors WriteFailed = errors.failed ≡ true
+EndsLines terms known errors (Memory error) = HasBegun terms known errors.before errors.after × (errors.failed ≡ false)
+EndsLines terms known errors (ReadFailed error) = HasBegun terms known errors.before errors.after × (errors.failed ≡ false)
+EndsLines terms known errors TooLong =
+    HasBegun terms known errors.before errors.after × (errors.failed ≡ false) × IsTooLong known
+EndsLines terms known errors (WriteFailed error) = errors.failed ≡ true
 EndsLines terms known errors (Refused refusal) = ⊥
 
--- a complaint over one line: nothing was written, or a write failed
+-- a complaint over one line that was read: nothing was written, or a write failed
 abbrev pub EndsLine : {V : Type 0} → Output V → Output V → Complaint → Type 0
-EndsLine old new Memory = new ≡ old
-EndsLine old new ReadFailed = new ≡ old
-EndsLine old new WriteFailed = new.failed ≡ true
+EndsLine old new (Memory error) = new ≡ old
+EndsLine old new (ReadFailed error) = new ≡ old
+EndsLine old new TooLong = ⊥
+EndsLine old new (WriteFailed error) = new.failed ≡ true
 EndsLine old new (Refused refusal) = ⊥
+
+-- a complaint over the next line: the same, or what was left of the input is too long
+abbrev pub EndsNext : {V : Type 0} → Option (List ℕ) → Output V → Output V → Complaint → Type 0
+EndsNext left old new TooLong = (new ≡ old) × IsTooLong left
+EndsNext left old new complaint = EndsLine old new complaint

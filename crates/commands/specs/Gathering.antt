@@ -1,5 +1,5 @@
 -- What is right to gather from the report lines of an input.
-use Rattle.std.specs.Prelude.{◌≡◌, ◌≤◌, ◌^◌, ◌++◌, ◌∷◌, ℕ, List, [], Ok, Err, IsOkAnd, MatchResult, length}
+use Rattle.std.specs.Prelude.{◌≡◌, ◌<◌, ◌≤◌, ◌^◌, ◌++◌, ◌∷◌, ℕ, List, [], Ok, Err, IsOkAnd, MatchResult, length}
 use Rattle.haul_core.specs.declared.book.arrival.Arrival.{Arrival}
 use Rattle.haul_core.specs.declared.book.arrival.Arrival.TheVariants.{Closing}
 use Rattle.haul_core.specs.declared.book.census.Census.{Census}
@@ -11,7 +11,7 @@ use Rattle.haul_core.specs.Keeping.{numbers_in}
 use Rattle.haul_core.specs.Missing.{missing_of}
 use Rattle.ranges.specs.Ranges.{AreSmall, IsNormalForm, Overlap}
 use Rattle.survey_core.specs.declared.job.Job.{Job}
-use Rattle.pattern_commands.specs.declared.complaint.Complaint.TheVariants.{Refused}
+use Rattle.pattern_commands.specs.declared.complaint.Complaint.TheVariants.{Refused, TooLong}
 use Rattle.pattern_commands.specs.Tasks.{Made, Makes}
 use Rattle.commands.specs.declared.plan.Plan.{Plan}
 use Rattle.commands.specs.declared.soup_set.SoupSet.{SoupSet}
@@ -61,9 +61,11 @@ abbrev pub gather_right : Plan → ℕ → List ℕ → Makes
 gather_right plan workers bytes (Ok gathering) = IsGathering (gather_opens plan workers) bytes gathering
 gather_right plan workers bytes (Err (Refused refusal)) =
     MatchResult (job_named plan) (λ job. IsRefused plan.set refusal) (λ complaint. complaint ≡ Refused refusal)
+gather_right plan workers bytes (Err TooLong) = (terms : Terms) × gather_opens plan workers terms × (2 ^ 32 < length bytes)
 gather_right plan workers bytes (Err _) = ⊥
 
--- what is right for a haul that is open: what is gathered in it, and no refusal
+-- what is right for a haul that is open: what is gathered in it, or that its input is too long
 abbrev pub gathered_right : Terms → List ℕ → Makes
 gathered_right terms bytes (Ok gathering) = IsGathered terms bytes gathering
-gathered_right terms bytes (Err complaint) = ⊥
+gathered_right terms bytes (Err TooLong) = 2 ^ 32 < length bytes
+gathered_right terms bytes (Err _) = ⊥

@@ -6,7 +6,7 @@ use Rattle.ranges.specs.RangeLists.{FitU64, IsListText, list_text}
 use Rattle.ranges.specs.RangeListFaults.{IsFirstListFault}
 use Rattle.ranges.specs.Ranges.{AreSmall, Overlap}
 use Rattle.pattern_commands.specs.declared.complaint.Complaint.{Complaint}
-use Rattle.pattern_commands.specs.declared.complaint.Complaint.TheVariants.{Refused, Memory, ReadFailed, WriteFailed}
+use Rattle.pattern_commands.specs.declared.complaint.Complaint.TheVariants.{Refused, Memory, ReadFailed, TooLong, WriteFailed}
 use Rattle.commands.specs.declared.plan.Plan.{Plan}
 use Rattle.pattern_commands.specs.declared.refusal.Refusal.{Refusal}
 use Rattle.pattern_commands.specs.declared.refusal.Refusal.TheVariants.{BadList, RangeTooLarge, RangesOverlap}
@@ -51,6 +51,7 @@ pub record IsTextOf (set : SoupSet) (tells : List Range → List ℕ → Type 0)
 abbrev pub right_for_set : SoupSet → (List Range → List ℕ → Type 0) → Right
 right_for_set set tells (Ok text) = IsTextOf set tells text
 right_for_set set tells (Err (Refused refusal)) = IsRefused set refusal
-right_for_set set tells (Err Memory) = ⊥
-right_for_set set tells (Err ReadFailed) = ⊥
-right_for_set set tells (Err WriteFailed) = ⊥
+right_for_set set tells (Err (Memory error)) = ⊥
+right_for_set set tells (Err (ReadFailed error)) = ⊥
+right_for_set set tells (Err TooLong) = ⊥
+right_for_set set tells (Err (WriteFailed error)) = ⊥

@@ -1,16 +1,17 @@
 -- How a haul over a set is opened, and its numbers.
-use Rattle.std.specs.Prelude.{◌≡◌, ◌⊎◌, ℕ, List, [], Ok, Err}
+use Rattle.std.specs.Prelude.{◌≡◌, ◌⊎◌, ◌++◌, ℕ, All, List, [], Ok, Err, nat_eq, true}
+use Rattle.std.specs.List.{IsDistinct}
 use Rattle.survey_core.specs.declared.job.Job.{Job}
 use Rattle.ranges.specs.declared.range.Range.{Range}
 use Rattle.haul_core.specs.Books.{Held, StandsFor}
 use Rattle.haul_core.specs.Keeping.{numbers_in}
 use Rattle.haul_core.specs.Missing.{AreAll, IsComplete}
 use Rattle.ranges.specs.RangeLists.{IsListText}
-use Rattle.ranges.specs.Ranges.{AreSmall, IsNormalForm, Overlap}
+use Rattle.ranges.specs.Ranges.{AreSmall, IsNormalForm, Overlap, is_in}
 use Rattle.crew.specs.Shifts.{StopsAt}
-use Rattle.crew.specs.Takes.{HasTaken, was_missing}
+use Rattle.crew.specs.Takes.{was_missing}
 use Rattle.pattern_commands.specs.declared.complaint.Complaint.{Complaint}
-use Rattle.pattern_commands.specs.declared.complaint.Complaint.TheVariants.{Refused, Memory, ReadFailed, WriteFailed}
+use Rattle.pattern_commands.specs.declared.complaint.Complaint.TheVariants.{Refused, Memory, ReadFailed, TooLong, WriteFailed}
 use Rattle.commands.specs.declared.plan.Plan.{Plan}
 use Rattle.commands.specs.declared.soup_set.SoupSet.{SoupSet}
 use Rattle.pattern_commands.specs.Answers.{NeedsMemory, Right}
@@ -19,17 +20,19 @@ use Rattle.commands.specs.SoupSets.{AreRangesOf, IsRefused, job_named}
 -- a complaint that ends a command before it writes: a refusal if that is right, or memory that ran out
 abbrev pub Stops : Right → Complaint → Type 0
 Stops right (Refused refusal) = right (Err (Refused refusal))
-Stops right Memory = (complaint : Complaint) → right (Err complaint) → NeedsMemory complaint
-Stops right ReadFailed = ⊥
-Stops right WriteFailed = ⊥
+Stops right (Memory error) = (complaint : Complaint) → right (Err complaint) → NeedsMemory complaint
+Stops right (ReadFailed error) = ⊥
+Stops right TooLong = ⊥
+Stops right (WriteFailed error) = ⊥
 
 -- a complaint over a set that ends a command before it writes: a refusal if that is right, or memory that ran out over what is
 -- a range list
 abbrev pub StopsSet : SoupSet → Complaint → Type 0
 StopsSet set (Refused refusal) = IsRefused set refusal
-StopsSet set Memory = IsListText set.also
-StopsSet set ReadFailed = ⊥
-StopsSet set WriteFailed = ⊥
+StopsSet set (Memory error) = IsListText set.also
+StopsSet set (ReadFailed error) = ⊥
+StopsSet set TooLong = ⊥
+StopsSet set (WriteFailed error) = ⊥
 
 -- a haul of a job over the ranges of a set, for so many workers, to which nothing has come
 pub record IsOpened (job : Job) (set : SoupSet) (workers : ℕ) (held : Held) : Type 0 where
@@ -54,14 +57,23 @@ abbrev pub StopsOpening : Plan → Complaint → Type 0
 StopsOpening plan complaint = (job_named plan ≡ Err complaint)
     ⊎ ((job : Job) × (job_named plan ≡ Ok job) × StopsSet plan.set complaint)
 
--- what a crew answered of a haul: all was taken, or else the gate stopped a worker
+-- what became of a haul by crews: all was taken, or else the gate stopped a worker
 abbrev pub EndsCrew : (ℕ → ℕ → Type 0) → Held → Held → Type 0
 EndsCrew may_stop old new = (IsComplete new.terms.ranges new.taken × AreAll new.terms.ranges (numbers_in new.taken))
     ⊎ ((¬ IsComplete new.terms.ranges new.taken) × (worker : ℕ) × StopsAt may_stop (was_missing old) worker)
 
--- a crew has taken what it could of a haul that was opened over a set
+-- a haul has taken more than it had
+pub record HasTakenMore (old new : Held) : Type 0 where
+  pub terms : new.terms ≡ old.terms
+  pub closed : new.closed ≡ old.closed
+  pub more : List (ℕ × ℕ)
+  pub taken : new.taken ≡ old.taken ++ more
+
+-- crews have taken what they could of a haul that was opened over a set: numbers of the set, and none twice
 pub record IsTaken (may_stop : ℕ → ℕ → Type 0) (plan : Plan) (workers : ℕ) (held : Held) : Type 0 where
   pub opened : Held
   pub is : IsOpenedFor plan workers opened
-  pub taken : HasTaken workers opened held
+  pub grown : HasTakenMore opened held
+  pub within : All (λ t. is_in held.terms.ranges t.1 ≡ true) held.taken
+  pub once : IsDistinct nat_eq (numbers_in held.taken)
   pub ends : EndsCrew may_stop opened held

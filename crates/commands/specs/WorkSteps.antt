@@ -3,7 +3,7 @@ use Rattle.std.specs.Prelude.{◌≡◌, ◌++◌, ℕ, List, Ok, Err, true, fal
 use Rattle.survey_core.specs.declared.job.Job.{Job}
 use Rattle.haul_core.specs.ReportLines.{report_text}
 use Rattle.haul_core.specs.Reports.{Reported}
-use Rattle.pattern_commands.specs.declared.complaint.Complaint.TheVariants.{Refused, Memory, ReadFailed, WriteFailed}
+use Rattle.pattern_commands.specs.declared.complaint.Complaint.TheVariants.{Refused, Memory, ReadFailed, TooLong, WriteFailed}
 use Rattle.pattern_commands.specs.Streams.{Stream, Has, HasFront}
 use Rattle.pattern_commands.specs.TextSteps.{TextOutcome}
 use Rattle.commands.specs.Work.{AreReportsOn}
@@ -37,7 +37,8 @@ pub record IsPut (wanted : WantedReports) (output : Stream) : Type 0 where
 -- those before it were; or a write failed, and a front of the lines so far was.
 abbrev pub Puts : WantedReports → TextOutcome → Stream → Type 0
 Puts wanted (Ok _) output = IsPut wanted output
-Puts wanted (Err Memory) output = IsBegun wanted (Has output)
-Puts wanted (Err WriteFailed) output = IsBegun wanted (HasFront output) × (output.failed ≡ true)
-Puts wanted (Err ReadFailed) output = ⊥
+Puts wanted (Err (Memory error)) output = IsBegun wanted (Has output)
+Puts wanted (Err (WriteFailed error)) output = IsBegun wanted (HasFront output) × (output.failed ≡ true)
+Puts wanted (Err (ReadFailed error)) output = ⊥
+Puts wanted (Err TooLong) output = ⊥
 Puts wanted (Err (Refused refusal)) output = ⊥

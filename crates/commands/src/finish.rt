@@ -1,4 +1,5 @@
 ghost use Rattle.std.specs.Prelude.{◌≡◌, ◌≢◌, ◌↔◌, ◌++◌, ◌∷◌, [], IfErr, List, false, length};
+ghost use Rattle.memory.specs.Evidence.{out_of_memory};
 ghost use Rattle.haul_core.specs.Books.{StandsFor};
 ghost use Rattle.haul_core.specs.Missing.{IsComplete, missing_of};
 ghost use Rattle.haul_core.specs.declared.book.arrival.Arrival.{Arrival};
@@ -25,7 +26,7 @@ pub(crate) fn finish<W: Write>(haul: &mut Haul, output: &mut Out<W>) -> Result<u
     ensures taken { haul.new.taken ≡ haul.old.taken }
     ensures terms { haul.new.terms ≡ haul.old.terms }
     ensures accepted { IfErr result (λ complaint. status_of complaint ≢ Status.Refused) }
-    ensures no_memory { IfErr result (λ complaint. complaint ≡ Complaint.Memory → output.new ≡ output.old) }
+    ensures no_memory { IfErr result (λ complaint. complaint ≡ Complaint.Memory out_of_memory → output.new ≡ output.old) }
 {
     let missing = haul.missing_count();
     let _ = haul.close();

@@ -8,6 +8,7 @@
 
 ghost use Rattle.std.specs.Prelude.{◌≡◌, ◌≢◌, ◌<◌, ◌≤◌, Ok, Result, ◌+◌, ◌^◌, ◌++◌, ◌∷◌, [], ℕ, List, Option, Some};
 ghost use Rattle.std.specs.Prelude.{IfErr, IfOk, OnOk, false, length, take};
+ghost use Rattle.memory.specs.Evidence.{out_of_memory};
 ghost use Rattle.haul_core.specs.Reports.{IsWorker, Reported};
 ghost use Rattle.plane_core.specs.Out.{Output};
 ghost use Rattle.pattern_commands.specs.Answers.{IsInput};
@@ -19,7 +20,7 @@ ghost use Rattle.pattern_commands.specs.Profiles.{AreInRange};
 ghost use Rattle.pattern_commands.specs.Streams.{stream};
 ghost use Rattle.haul_core.specs.Books.{StandsFor};
 ghost use Rattle.haul_core.specs.declared.book.arrival.Arrival.{Arrival};
-ghost use Rattle.commands.specs.GatherSteps.{EndsLine, EndsLines, GoesOn, HasGathered, HasGatheredShort};
+ghost use Rattle.commands.specs.GatherSteps.{EndsLine, EndsLines, EndsNext, GoesOn, HasGathered, HasGatheredShort};
 ghost use Rattle.commands.specs.LinesSoFar.{HasCome, HasComeBy};
 ghost use Rattle.commands.specs.GatheredLines.{IsChecked, IsFrontFault, IsLookedAt, ComesOf, offer_fault};
 ghost use Rattle.haul_core.specs.declared.book.refused.OfferError.TheVariants as offer_error;
@@ -34,11 +35,12 @@ use haul_core::report::Report;
 use haul_core::report::claim::Claim;
 use haul_core::report::claim::check::CheckError;
 use haul_core::report::claim::read::LineError;
+use memory::OutOfMemory;
 use pattern_commands::complaint::Complaint;
 use pattern_commands::ending::tell_end;
 use pattern_commands::status::Status;
 use plane_core::output::Out;
-use std::alloc::{AllocError, Global};
+use std::alloc::Global;
 use std::io::{BufRead, BufReader, Read, Write};
 use survey_core::finding::findings_are_determined;
 use survey_core::job::Job;
@@ -103,7 +105,7 @@ fn gather<R: Read, W: Write, E: Write>(
     ensures unread { gather_reads plan.now ≡ false → input.new ≡ input.old }
     ensures untouched { IfErr result (λ complaint. status_of complaint ≡ Status.Refused
         → (input.new ≡ input.old) × (output.new ≡ output.old)) }
-    ensures no_memory { IfErr result (λ complaint. complaint ≡ Complaint.Memory → output.new ≡ output.old) }
+    ensures no_memory { IfErr result (λ complaint. complaint ≡ Complaint.Memory out_of_memory → output.new ≡ output.old) }
 {
     let mut haul = open_haul(alloc, plan, workers)?;
     gather_into(alloc, &mut haul, input, output, errors)
@@ -125,7 +127,7 @@ fn gather_into<R: Read, W: Write, E: Write>(
         (stream W.contents output.old output.new) (stream E.contents errors.old errors.new) }
     ensures fine { OnOk result (errors.new.failed ≡ false) }
     ensures accepted { IfErr result (λ complaint. status_of complaint ≢ Status.Refused) }
-    ensures no_memory { IfErr result (λ complaint. complaint ≡ Complaint.Memory → output.new ≡ output.old) }
+    ensures no_memory { IfErr result (λ complaint. complaint ≡ Complaint.Memory out_of_memory → output.new ≡ output.old) }
 {
     gather_input(alloc, input, haul, errors)?;
     finish(haul, output)
@@ -147,10 +149,10 @@ fn gather_input<R: Read, E: Write>(
         (stream E.contents errors.old errors.new)) }
     ensures fine { OnOk result (errors.new.failed ≡ false) }
 {
-    let Ok(mut buffered) = BufReader::with_capacity(alloc, READ_LENGTH, input) else {
-        return Err(Complaint::Memory);
-    };
-    gather_lines(alloc, &mut buffered, haul, errors)
+    match BufReader::with_capacity(alloc, READ_LENGTH, input) {
+        Ok(mut buffered) => gather_lines(alloc, &mut buffered, haul, errors),
+        Err(error) => Err(Complaint::Memory(OutOfMemory::of_stream(&error))),
+    }
 }
 
 /// How many bytes a read asks for.
@@ -175,17 +177,17 @@ fn gather_lines<R: BufRead, E: Write>(
     let mut line = Vec::new(alloc);
     let mut memo = Memo::new(alloc);
     let mut size = 0u64;
-    for before in 0..GATHER_LIMIT {
+    for before in 0..GATHER_LIMIT + 1 {
         let read = next_line(alloc, input, &mut line, before, &mut memo, haul, errors)?;
         size += read.size;
         if size > GATHER_LIMIT {
-            return Err(Complaint::ReadFailed);
+            return Err(Complaint::TooLong);
         }
         if let LineEnd::Input = read.end {
             return Ok(());
         }
     }
-    Err(Complaint::ReadFailed)
+    Err(Complaint::TooLong)
 }
 
 /// Reads the line after so many others, checks it, offers its report and tells what is wrong with it. Says what was
@@ -199,7 +201,7 @@ fn next_line<R: BufRead, E: Write>(
     haul: &mut Haul,
     errors: &mut Out<E>,
 ) -> Result<LineRead, Complaint>
-    requires before { before < 2 ^ 32 }
+    requires before { before ≤ 2 ^ 32 }
     requires errors { errors.old.failed ≡ false }
     ensures terms { haul.new.terms ≡ haul.old.terms }
     ensures short { IfOk result (λ read. read.size ≤ 2 ^ 32) }
@@ -219,7 +221,7 @@ fn next_line<R: BufRead, E: Write>(
           size = size + read.size;
         }) haul.new read.end) }
     ensures fine { OnOk result (errors.new.failed ≡ false) }
-    ensures ended { IfErr result (EndsLine errors.old errors.new) }
+    ensures ended { IfErr result (EndsNext (R.remaining input.old) errors.old errors.new) }
 {
     let read = read_line(input, line)?;
     if read.size > 0 {
@@ -238,7 +240,7 @@ fn take_line<E: Write>(
     haul: &mut Haul,
     errors: &mut Out<E>,
 ) -> Result<(), Complaint>
-    requires before { before < 2 ^ 32 }
+    requires before { before ≤ 2 ^ 32 }
     requires errors { errors.old.failed ≡ false }
     ensures terms { haul.new.terms ≡ haul.old.terms }
     ensures come { (line : List ℕ) (lines : List (List ℕ)) (told : List ℕ) → kept.now ≡ take (2 ^ 24 + 1) line
@@ -260,7 +262,7 @@ fn offer_line(
     kept: &[u8],
     memo: &mut Memo,
     haul: &mut Haul,
-) -> Result<Option<LineFault>, AllocError>
+) -> Result<Option<LineFault>, OutOfMemory>
     ensures terms { haul.new.terms ≡ haul.old.terms }
     ensures come { (line : List ℕ) (arrivals : List Arrival) → kept.now ≡ take (2 ^ 24 + 1) line
         → StandsFor arrivals haul.old
@@ -285,7 +287,7 @@ fn report_of(
     kept: &[u8],
     job: &Job,
     memo: &mut Memo,
-) -> Result<Result<Report, LineFault>, AllocError>
+) -> Result<Result<Report, LineFault>, OutOfMemory>
     ensures { (line : List ℕ) → kept.now ≡ take (2 ^ 24 + 1) line → IfOk result (IsLookedAt job.now line) }
 {
     if kept.len() > LINE_LIMIT {
@@ -296,13 +298,13 @@ fn report_of(
 }
 
 /// Where a line is bad that begins with these 2^24 bytes, and is longer.
-fn front_fault(alloc: Global, front: &[u8]) -> Result<usize, AllocError>
+fn front_fault(alloc: Global, front: &[u8]) -> Result<usize, OutOfMemory>
     ensures { IfOk result (IsFrontFault front.now) }
 {
     match Claim::read_line(alloc, front) {
         Ok(_) => Ok(LINE_LIMIT),
         Err(LineError::BadLine { place }) => Ok(place),
-        Err(LineError::Memory) => Err(AllocError),
+        Err(LineError::Memory(error)) => Err(error),
     }
 }
 
@@ -312,13 +314,13 @@ fn checked_report(
     line: &[u8],
     job: &Job,
     memo: &mut Memo,
-) -> Result<Result<Report, LineFault>, AllocError>
+) -> Result<Result<Report, LineFault>, OutOfMemory>
     ensures { IfOk result (IsChecked job.now line.now) }
 {
     let claim = match Claim::read_line(alloc, line) {
         Ok(claim) => claim,
         Err(LineError::BadLine { place }) => return Ok(Err(LineFault::BadLine { place })),
-        Err(LineError::Memory) => return Err(AllocError),
+        Err(LineError::Memory(error)) => return Err(error),
     };
     match claim.check_with(alloc, job, memo) {
         Ok(report) => Ok(Ok(report)),
@@ -327,15 +329,15 @@ fn checked_report(
             findings_are_determined();
             Ok(Err(LineFault::Disagrees))
         }
-        Err((_, CheckError::Memory)) => Err(AllocError),
+        Err((_, CheckError::Memory(error))) => Err(error),
     }
 }
 
 /// What is told of a report that a haul refused.
-fn fault_of(reason: OfferError, worker: u8, number: u64) -> Result<Option<LineFault>, AllocError>
+fn fault_of(reason: OfferError, worker: u8, number: u64) -> Result<Option<LineFault>, OutOfMemory>
     ensures told { (report : Reported) → report.worker ≡ worker → report.number ≡ number
         → IfOk result (λ fault. fault ≡ offer_fault report (Some reason)) }
-    ensures answered { IfOk result (λ _. reason ≢ offer_error.Memory) }
+    ensures answered { IfOk result (λ _. reason ≢ offer_error.Memory out_of_memory) }
 {
     match reason {
         OfferError::UnknownWorker => Ok(Some(LineFault::UnknownWorker { worker })),
@@ -343,6 +345,6 @@ fn fault_of(reason: OfferError, worker: u8, number: u64) -> Result<Option<LineFa
         OfferError::Double { worker } => Ok(Some(LineFault::Double { number, worker })),
         // The haul is open, and the report is of its job.
         OfferError::Closed | OfferError::OtherJob => Ok(None),
-        OfferError::Memory => Err(AllocError),
+        OfferError::Memory(error) => Err(error),
     }
 }

@@ -9,11 +9,15 @@
 //! No more of a line is kept than its first 2^24 bytes and the byte after them, so an input without a line feed takes
 //! no more memory than that.
 
-ghost use Rattle.std.specs.Prelude.{◌≡◌, ◌≤◌, ◌+◌, ◌^◌, ◌++◌, ℕ, List, IfOk, None, length, take};
+ghost use Rattle.std.specs.Prelude.{◌≡◌, ◌≢◌, ◌≤◌, ◌+◌, ◌^◌, ◌++◌, ℕ, Err, List, IfOk, None, length, take};
+ghost use Rattle.pattern_commands.specs.declared.input.InputError.TheVariants.{TooLong};
+ghost use Rattle.commands.specs.GatherSteps.{IsTooLong};
 ghost use Rattle.commands.specs.Lines.{HasPiece, HasReadLine, IsPieceOf};
 
 use memchr::memchr;
+use memory::OutOfMemory;
 use pattern_commands::input::InputError;
+use pattern_commands::read_error::ReadError;
 use std::io::{BufRead, Error, ErrorKind};
 
 /// How many bytes of a line are looked at: 2^24, far more than a report line of a census has.
@@ -57,32 +61,36 @@ struct Piece {
 ///
 /// # Errors
 ///
-/// `Unreadable` if a read fails or the line has over 2^32 bytes, and `Memory`.
+/// `Unreadable` if a read fails, `TooLong` if the line has over 2^32 bytes, and `Memory`.
 pub(crate) fn read_line<R: BufRead>(
     input: &mut R,
     line: &mut Vec<u8>,
 ) -> Result<LineRead, InputError>
-    ensures { IfOk result (HasReadLine (R.remaining input.old) (R.remaining input.new) line.new.items) }
+    ensures read { IfOk result (HasReadLine (R.remaining input.old) (R.remaining input.new) line.new.items) }
+    ensures long { result ≡ Err TooLong → IsTooLong (R.remaining input.old) }
 {
     line.clear();
     let mut size = 0u64;
-    for _ in 0..u64::MAX {
+    let mut reads = 0u64;
+    for before in 0..u64::MAX {
         let piece = read_piece(input, line)?;
         size = size.saturating_add(piece.size as u64);
         if size > GATHER_LIMIT {
-            return Err(InputError::Unreadable);
+            return Err(InputError::TooLong);
         }
         if let Some(end) = piece.end {
             return Ok(LineRead { size, end });
         }
+        reads = before + 1;
     }
-    Err(InputError::Unreadable)
+    Err(InputError::Unreadable(ReadError::after(reads)))
 }
 
 /// Puts what the reader has at hand of a line at the end of `line`, of which no more than 2^24 + 1 bytes are kept.
 fn read_piece<R: BufRead>(input: &mut R, line: &mut Vec<u8>) -> Result<Piece, InputError>
     requires { length line.old.items ≤ 2 ^ 24 + 1 }
-    ensures { IfOk result (λ read. (piece : List ℕ) × (line.new.items ≡ take (2 ^ 24 + 1) (line.old.items ++ piece))
+    ensures short { result ≢ Err TooLong }
+    ensures read { IfOk result (λ read. (piece : List ℕ) × (line.new.items ≡ take (2 ^ 24 + 1) (line.old.items ++ piece))
         × HasPiece (R.remaining input.old) (R.remaining input.new) piece read) }
 {
     let available = match input.fill_buf() {
@@ -98,7 +106,8 @@ fn read_piece<R: BufRead>(input: &mut R, line: &mut Vec<u8>) -> Result<Piece, In
 
 /// Nothing, after a read that a signal interrupted: it is tried again.
 fn after_error(error: &Error) -> Result<Piece, InputError>
-    ensures { IfOk result (λ piece. piece ≡ record { length = 0; size = 0; end = None }) }
+    ensures short { result ≢ Err TooLong }
+    ensures again { IfOk result (λ piece. piece ≡ record { length = 0; size = 0; end = None }) }
 {
     match error.kind() {
         ErrorKind::Interrupted => Ok(Piece {
@@ -106,8 +115,8 @@ fn after_error(error: &Error) -> Result<Piece, InputError>
             size: 0,
             end: None,
         }),
-        ErrorKind::OutOfMemory => Err(InputError::Memory),
-        _ => Err(InputError::Unreadable),
+        ErrorKind::OutOfMemory => Err(InputError::Memory(OutOfMemory::of_stream(error))),
+        _ => Err(InputError::Unreadable(ReadError::of_stream(error))),
     }
 }
 

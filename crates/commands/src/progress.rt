@@ -1,6 +1,7 @@
 use crew::watch::Watch;
+use memory::OutOfMemory;
 use plane_core::output::Out;
-use std::alloc::{AllocError, Global};
+use std::alloc::Global;
 use std::io::Write;
 use std::time::{Clock, Instant};
 
@@ -71,21 +72,25 @@ impl<W: Write, C: Clock> Progress<W, C> {
     }
 
     /// What the line says.
-    fn line(&self, count: u64, now: Instant) -> Result<String, AllocError> {
+    fn line(&self, count: u64, now: Instant) -> Result<String, OutOfMemory> {
         let whole = self.whole;
         let crew = self.crew()?;
-        match self.rate(count, now) {
-            Some(rate) => format!(in self.alloc; "{count} of {whole} soups, {rate} a second{crew}"),
-            None => format!(in self.alloc; "{count} of {whole} soups{crew}"),
-        }
+        let line = match self.rate(count, now) {
+            Some(rate) => format!(in self.alloc;
+                "{count} of {whole} soups, {rate} a second{crew}"
+            )?,
+            None => format!(in self.alloc; "{count} of {whole} soups{crew}")?,
+        };
+        Ok(line)
     }
 
     /// What the line says of the workers: nothing if all were started.
-    fn crew(&self) -> Result<String, AllocError> {
+    fn crew(&self) -> Result<String, OutOfMemory> {
         if self.at_work == self.workers {
             return Ok(String::new(self.alloc));
         }
-        format!(in self.alloc; ", {} of {} workers", self.at_work, self.workers)
+        let crew = format!(in self.alloc; ", {} of {} workers", self.at_work, self.workers)?;
+        Ok(crew)
     }
 
     /// How many of so many soups were taken a second. None at the very beginning.

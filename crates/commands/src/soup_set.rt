@@ -1,10 +1,11 @@
-ghost use Rattle.std.specs.Prelude.{◌≡◌, List, IfErr, IfOk};
+ghost use Rattle.std.specs.Prelude.{◌≡◌, ◌++◌, ◌∷◌, [], List, IfErr, IfOk, OnOk};
 ghost use Rattle.haul_core.specs.Reports.{IsWorker};
 ghost use Rattle.commands.specs.SoupSets.{AreRangesOf};
 ghost use Rattle.commands.specs.TakeSteps.{IsOpened, StopsSet};
 
 use crate::text::Text;
 use haul_core::book::haul::{Haul, OpenError};
+use memory::OutOfMemory;
 use pattern_commands::complaint::Complaint;
 use pattern_commands::refusal::Refusal;
 use ranges::range::Range;
@@ -43,7 +44,7 @@ pub(crate) fn haul_for(
         Err(OpenError::BadWorkers) => unreachable!(),
         Err(OpenError::BadRange) => Err(Complaint::Refused(Refusal::RangeTooLarge)),
         Err(OpenError::Overlap) => Err(Complaint::Refused(Refusal::RangesOverlap)),
-        Err(OpenError::Memory) => Err(Complaint::Memory),
+        Err(OpenError::Memory(error)) => Err(Complaint::Memory(error)),
     }
 }
 
@@ -58,6 +59,14 @@ fn ranges_of(alloc: Global, set: &SoupSet<'_>) -> Result<Vec<Range>, Complaint>
         first: set.first,
         count: set.count,
     };
-    ranges.extend_from_slice(&[own])?;
+    add_range(&mut ranges, own)?;
     Ok(ranges)
+}
+
+/// Puts a range after the others.
+fn add_range(ranges: &mut Vec<Range>, range: Range) -> Result<(), OutOfMemory>
+    ensures { OnOk result (ranges.new.items ≡ ranges.old.items ++ range ∷ []) }
+{
+    ranges.push(range)?;
+    Ok(())
 }

@@ -1,13 +1,13 @@
 //! The complete haul of a set of soups.
 //!
 //! ```text
-//! plan ── open_haul ── haul ── take_by_crew ── haul ── finish ── haul text
+//! plan ── open_haul ── haul ── take_by_crews ─ haul ── finish ── haul text
 //!             │                     │                    │
 //!          refused           out of memory      so many are missing, if a gate stopped a worker
 //! ```
 
 ghost use Rattle.std.specs.Prelude.{◌≡◌, ◌≢◌, ◌≤◌, ◌↔◌, [], ℕ, Err, List, Option, IfErr, IfOk, false, length};
-ghost use Rattle.crew.specs.Takes.{HasTaken};
+ghost use Rattle.memory.specs.Evidence.{out_of_memory};
 ghost use Rattle.haul_core.specs.Missing.{IsComplete, missing_of};
 ghost use Rattle.haul_core.specs.Reports.{IsWorker};
 ghost use Rattle.pattern_commands.specs.Complaints.{status_of};
@@ -18,7 +18,7 @@ ghost use Rattle.pattern_commands.specs.Profiles.{AreInRange};
 ghost use Rattle.commands.specs.Stopped.{gated_task};
 ghost use Rattle.pattern_commands.specs.Streams.{Stream, Has, stream, IsUntouched};
 ghost use Rattle.commands.specs.Take.{take_task};
-ghost use Rattle.commands.specs.TakeSteps.{EndsCrew};
+ghost use Rattle.commands.specs.TakeSteps.{EndsCrew, HasTakenMore};
 
 use crate::finish::finish;
 use crate::machine::Machine;
@@ -27,11 +27,11 @@ use crew::gate::{Gate, OpenGate};
 use crew::watch::Watch;
 use crew::workers::{self, CrewError};
 use haul_core::book::haul::Haul;
+use memory::OutOfMemory;
 use pattern_commands::complaint::Complaint;
 use pattern_commands::ending::tell_end;
 use pattern_commands::status::Status;
 use plane_core::output::Out;
-use std::alloc::AllocError;
 use std::io::Write;
 use std::sync::Wait;
 use std::thread::Threads;
@@ -111,57 +111,71 @@ fn take<W: Write, E: Write, G: Gate + Sync, T: Threads + Wait + Sync, H: Watch>(
         → Reaches (gated_task (G.may_stop gate.now) plan.now) known bytes result
         (stream W.contents output.old output.new) errors }
     ensures untouched { IfErr result (λ complaint. status_of complaint ≡ Status.Refused → output.new ≡ output.old) }
-    ensures no_memory { IfErr result (λ complaint. complaint ≡ Complaint.Memory → output.new ≡ output.old) }
+    ensures no_memory { IfErr result (λ complaint. complaint ≡ Complaint.Memory out_of_memory → output.new ≡ output.old) }
     ensures silent { machine.new.errors ≡ machine.old.errors }
 {
     let haul = open_haul(machine.alloc, plan, workers)?;
-    let (mut haul, taken) = take_by_crew(machine, haul, workers, gate);
+    let (mut haul, taken) = take_by_crews(machine, haul, workers, gate);
+    // For the prover: what it has taken is of its set, and no number twice.
+    let _ = haul.taken();
     finish_taken(&mut haul, taken, output)
 }
 
 /// Lets workers take what is missing in an open haul, and gives it back. Unless memory ran out it is complete then, or
 /// the gate stopped one of them.
-fn take_by_crew<E: Write, G: Gate + Sync, T: Threads + Wait + Sync, H: Watch>(
+///
+/// One crew is enough. But that it leaves nothing missing, where nobody was stopped and no memory refused, is not
+/// proved; so where it does, another goes on.
+fn take_by_crews<E: Write, G: Gate + Sync, T: Threads + Wait + Sync, H: Watch>(
     machine: &mut Machine<'_, T, E, H>,
     haul: Haul,
     workers: u8,
     gate: &G,
-) -> (Haul, Result<(), AllocError>)
+) -> (Haul, Result<(), OutOfMemory>)
     requires some { 1 ≤ workers }
     requires few { workers ≤ haul.terms.workers }
     requires open { haul.closed ≡ false }
-    ensures taken { HasTaken workers haul result.0 }
+    ensures grown { HasTakenMore haul result.0 }
     ensures ends { IfOk result.1 (λ _. EndsCrew (G.may_stop gate.now) haul result.0) }
     ensures silent { machine.new.errors ≡ machine.old.errors }
 {
-    match workers::take(
-        machine.alloc,
-        machine.threads,
-        haul,
-        workers,
-        gate,
-        &mut machine.watch,
-    ) {
-        Ok(haul) => (haul, Ok(())),
-        Err((haul, CrewError::Stopped { .. })) => (haul, Ok(())),
-        Err((haul, CrewError::Closed | CrewError::Memory)) => (haul, Err(AllocError)),
+    let mut left = haul;
+    for _ in machine.threads.forever() {
+        let taken = workers::take(
+            machine.alloc,
+            machine.threads,
+            left,
+            workers,
+            gate,
+            &mut machine.watch,
+        );
+        match taken {
+            Ok(haul) => return (haul, Ok(())),
+            Err((haul, why)) => match why {
+                CrewError::Stopped { .. } => return (haul, Ok(())),
+                CrewError::Memory(error) => return (haul, Err(error)),
+                CrewError::Unfinished => left = haul,
+                CrewError::Closed => unreachable!(),
+            },
+        }
     }
+    unreachable!()
 }
 
 /// Finishes a haul of which a crew has taken what it could, unless memory ran out.
 fn finish_taken<W: Write>(
     haul: &mut Haul,
-    taken: Result<(), AllocError>,
+    taken: Result<(), OutOfMemory>,
     output: &mut Out<W>,
 ) -> Result<u64, Complaint>
     requires { output.old.failed ≡ false }
     ensures finishes { IfOk taken (λ _. Finishes haul.old result (stream W.contents output.old output.new)) }
     ensures none { IfOk taken (λ _. (length (missing_of haul.old.terms.ranges haul.old.taken) ≡ 0)
         ↔ IsComplete haul.old.terms.ranges haul.old.taken) }
-    ensures gives_up { IfErr taken (λ _. (result ≡ Err Complaint.Memory)
+    ensures gives_up { IfErr taken (λ _. (result ≡ Err (Complaint.Memory out_of_memory))
         × Has (stream W.contents output.old output.new) []) }
     ensures accepted { IfErr result (λ complaint. status_of complaint ≢ Status.Refused) }
-    ensures no_memory { IfErr result (λ complaint. complaint ≡ Complaint.Memory → output.new ≡ output.old) }
+    ensures no_memory { IfErr result (λ complaint. complaint ≡ Complaint.Memory out_of_memory → output.new ≡ output.old) }
 {
     taken?;
     finish(haul, output)

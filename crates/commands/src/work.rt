@@ -14,8 +14,8 @@ ghost use Rattle.commands.specs.WorkSteps.{Puts, reports_on};
 
 use crate::plan::{Plan, open_haul};
 use haul_core::book::haul::Haul;
-use haul_core::report::Report;
 use haul_core::report::write::write_report_line;
+use haul_core::report::{Report, ReportError};
 use pattern_commands::complaint::Complaint;
 use pattern_commands::ending::tell_end_of_text;
 use pattern_commands::status::Status;
@@ -150,8 +150,10 @@ fn put_report<W: Write>(
     requires output { output.old.failed ≡ false }
     ensures { Puts (reports_on job.now worker (number ∷ [])) result (stream W.contents output.old output.new) }
 {
-    let Ok(report) = Report::make_with(alloc, job, worker, number, memo) else {
-        return Err(Complaint::Memory);
+    let report = match Report::make_with(alloc, job, worker, number, memo) {
+        Ok(report) => report,
+        Err(ReportError::Memory(error)) => return Err(Complaint::Memory(error)),
+        Err(ReportError::BadWorker) => unreachable!(),
     };
     put_line(&report, output)?;
     Ok(())

@@ -8,6 +8,7 @@ use Rattle.std.proofs.lemmas.List.{length-append, length-map, map-append}
 use Rattle.std.proofs.lemmas.List.Elements.{All-head, All-nil}
 use mir.Val.{bool_byte}
 use Rattle.haul_core.specs.Books.{Held}
+use Rattle.haul_core.specs.Reports.{IsWorker}
 use Rattle.handover.specs.Belts.{Presented, Received, silent}
 use Rattle.handover.specs.Tickets.{Drawn, fresh}
 use Rattle.crew.specs.CrewSteps.{HasRunAll, IsTakenOut, MayRun, collector_of}
@@ -19,7 +20,7 @@ use Rattle.crew.specs.declared.site.Site.{Site}
 use Rattle.crew.specs.declared.workers.Crew.{Crew}
 use Rattle.crew.specs.declared.posts.Posts.{Posts}
 use Rattle.crew.proofs.ShiftLemmas.{WasStopped, back_more}
-use Rattle.crew.proofs.TakeLemmas.{all_left, all_right, all_silent, silent_length}
+use Rattle.crew.proofs.TakeLemmas.{all_left, all_right, all_silent, all_workers, silent_length}
 
 -- how a crew stands once only these posts are left, while so many of its workers more are away
 abbrev left_with : Crew → Posts → ℕ → Crew
@@ -30,12 +31,13 @@ left_with crew posts started = record {
   senders = crew.senders;
   away = crew.away + started;
   stopped = crew.stopped;
+  lacking = crew.lacking;
 }
 
 -- at first all posts are there, and nobody is back
 pub ready_first : {may_stop : ℕ → ℕ → Type 0} (site : Site) (crew : Crew) (workers : ℕ)
     → All (λ p. p ≡ fresh site.tickets) crew.posts.passes.items → length crew.posts.passes.items ≡ workers
-    → crew.posts.senders.items ≡ map (silent site.belt.name) (range_with_len 1 workers) → workers ≤ 255 → crew.away ≡ 0
+    → crew.posts.senders.items ≡ map (silent site.belt.name) (range_with_len 1 workers) → workers ≤ 16 → crew.away ≡ 0
     → crew.receiver.belt ≡ site.belt → crew.senders.items ≡ [] → workers ≤ vec_capacity crew.senders → crew.stopped ≡ None
     → MayRun may_stop site crew
 ready_first {may_stop} site crew workers passes many senders few away receiver none room stopped =
@@ -45,6 +47,8 @@ ready_first {may_stop} site crew workers passes many senders few away receiver n
       passes = passes;
       senders = subst (All (λ (s : Presented Note). s ≡ silent site.belt.name s.number)) (sym senders)
           (all_silent site.belt.name (range_with_len 1 workers));
+      workers = subst (All (λ (s : Presented Note). IsWorker s.number)) (sym senders)
+          (all_workers site.belt.name 1 workers (omega arith) (omega (arith, few)));
       many = many ∙ sym count;
       few = omega (arith, count, few, away);
       receiver = receiver;
@@ -80,6 +84,14 @@ module _ {may_stop : ℕ → ℕ → Type 0} {site : Site} where
       let P : Presented Note → Type 0 = λ s. s ≡ silent site.belt.name s.number in
       All-head P post.1 [] (all_right P next.senders.items (post.1 ∷ []) (subst (All P) is.senders may.senders))
 
+  -- and it is a worker's
+  pub worker_out : (next : Posts) (crew : Crew) (post : Drawn × Presented Note) → MayRun may_stop site crew
+      → IsTakenOut post crew.posts next
+      → IsWorker post.1.number
+  worker_out next crew post may is =
+      let P : Presented Note → Type 0 = λ s. IsWorker s.number in
+      All-head P post.1 [] (all_right P next.senders.items (post.1 ∷ []) (subst (All P) is.senders may.workers))
+
   -- with the posts that are left the crew may be run
   pub others_may_run : (next : Posts) (crew : Crew) (post : Drawn × Presented Note) (started : ℕ) → started ≤ 1
       → MayRun may_stop site crew
@@ -97,6 +109,8 @@ module _ {may_stop : ℕ → ℕ → Type 0} {site : Site} where
       record {
         passes = all_left P next.passes.items (post.0 ∷ []) (subst (All P) is.passes may.passes);
         senders = all_left S next.senders.items (post.1 ∷ []) (subst (All S) is.senders may.senders);
+        workers = let W : Presented Note → Type 0 = λ s. IsWorker s.number in
+            all_left W next.senders.items (post.1 ∷ []) (subst (All W) is.senders may.workers);
         many = omega (arith, passes, senders, many);
         few = omega (arith, senders, one, few);
         receiver = may.receiver;

@@ -18,7 +18,7 @@ use Rattle.survey_core.specs.declared.job.Job.{Job}
 use Rattle.haul_core.specs.BookLaws.{IsSubsequence}
 use Rattle.haul_core.specs.Books.{Held, entry}
 use Rattle.haul_core.specs.Keeping.{numbers_in}
-use Rattle.haul_core.specs.Reports.{Reported}
+use Rattle.haul_core.specs.Reports.{IsWorker, Reported}
 use Rattle.handover.specs.Belts.{IsWhole, Presented, Received, deaf, notes_of, silent}
 use Rattle.crew.specs.Crews.{Collected, Collector, report_in, reports_in}
 use Rattle.crew.specs.Shifts.{HasWorked, StopsAt, reported, sender_numbers}
@@ -311,6 +311,13 @@ all_silent name [] = All-nil (λ s. s ≡ silent {N = Note} name s.number)
 all_silent name (n ∷ ns) =
     All-cons (λ (s : Presented Note). s ≡ silent {N = Note} name s.number) (silent {N = Note} name n) (map (silent {N =
     Note} name) ns) refl (all_silent name ns)
+
+pub all_workers : (name : TableId) (first n : ℕ) → 1 ≤ first → first + n ≤ 17
+    → All (λ s. IsWorker s.number) (map (silent {N = Note} name) (range_with_len first n))
+all_workers name first zero some few = All-nil (λ (s : Presented Note). IsWorker s.number)
+all_workers name first (suc n) some few =
+    All-cons (λ (s : Presented Note). IsWorker s.number) (silent {N = Note} name first) (map (silent {N = Note} name) (range_with_len (first + 1) n))
+    (record { least = some; most = omega arith }) (all_workers name (first + 1) n (omega arith) (omega arith))
 
 pub silent_numbers : (name : TableId) (numbers : List ℕ) → sender_numbers (map (silent {N = Note} name) numbers) ≡ numbers
 silent_numbers name [] = refl

@@ -1,5 +1,6 @@
 -- How a crew is run: one worker more is started at a time, and at the end all are back.
 use Rattle.std.specs.Prelude.{◌≡◌, ◌≤◌, ◌+◌, ◌++◌, ◌∷◌, [], ℕ, All, Bool, length, vec_capacity}
+use Rattle.haul_core.specs.Reports.{IsWorker}
 use Rattle.handover.specs.Belts.{Presented, silent}
 use Rattle.handover.specs.Tickets.{Drawn, fresh}
 use Rattle.crew.specs.Crews.{Collected, Collector, collector_with}
@@ -18,10 +19,11 @@ pub record IsTakenOut (post : Drawn × Presented Note) (old new : Posts) : Type 
   pub passes : old.passes.items ≡ new.passes.items ++ post.0 ∷ []
   pub senders : old.senders.items ≡ new.senders.items ++ post.1 ∷ []
 
--- a worker can be started with each post: none was used yet, there is room for all who will come back, and a byte counts them
+-- a worker can be started with each post: none was used yet, each is a worker's, there is room for all who will come back, and a byte counts them
 pub record MayRun (may_stop : ℕ → ℕ → Type 0) (site : Site) (crew : Crew) : Type 0 where
   pub passes : All (λ p. p ≡ fresh site.tickets) crew.posts.passes.items
   pub senders : All (λ s. s ≡ silent site.belt.name s.number) crew.posts.senders.items
+  pub workers : All (λ s. IsWorker s.number) crew.posts.senders.items
   pub many : length crew.posts.passes.items ≡ length crew.posts.senders.items
   pub few : crew.away + length crew.posts.senders.items ≤ 255
   pub receiver : crew.receiver.belt ≡ site.belt

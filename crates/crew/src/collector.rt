@@ -1,5 +1,5 @@
 //! The collector: it receives the workers' notes and offers their reports to the haul.
-ghost use Rattle.std.specs.Prelude.{◌≡◌, ◌∷◌, ◌⊎◌, [], List, None, false, is_ok, true};
+ghost use Rattle.std.specs.Prelude.{◌≡◌, ◌∷◌, ◌⊎◌, [], List, None, OnErr, OnOk, is_ok};
 ghost use Rattle.haul_core.specs.Books.{StandsFor};
 ghost use Rattle.haul_core.specs.Refusals.{refusal_of};
 ghost use Rattle.haul_core.specs.declared.book.arrival.Arrival.{Arrival};
@@ -11,7 +11,7 @@ use handover::belt::{Belt, ReceiverPass};
 use haul_core::book::haul::Haul;
 use haul_core::book::refused::OfferError;
 use haul_core::report::Report;
-use std::alloc::AllocError;
+use memory::OutOfMemory;
 use std::sync::Wait;
 
 /// Receives notes until so many workers have said that they are done, and offers each report to the haul. A report that
@@ -20,7 +20,7 @@ use std::sync::Wait;
 ///
 /// # Errors
 ///
-/// [`AllocError`] if memory ran out for a report that the haul would have taken. All other reports have been offered
+/// [`OutOfMemory`] if memory ran out for a report that the haul would have taken. All other reports have been offered
 /// then too.
 pub fn collect<R: Wait, H: Watch>(
     rt: &R,
@@ -29,43 +29,42 @@ pub fn collect<R: Wait, H: Watch>(
     haul: &mut Haul,
     started: u8,
     watch: &mut H,
-) -> Result<(), AllocError>
+) -> Result<(), OutOfMemory>
     requires { pass.old.belt ≡ belt.now }
     ensures { Collected (collector_with started pass.old haul.old) (collector_with 0 pass.new haul.new)
         (is_ok result) }
 {
     let mut left = started;
-    let mut answered = true;
+    let mut answered = Ok(());
     for _ in rt.forever() {
         watch.taken(haul.taken().len() as u64);
         if left == 0 {
             break;
         }
         match belt.receive(rt, pass) {
-            Note::Report(report) => {
-                if !offer(haul, report) {
-                    answered = false;
-                }
-            }
+            Note::Report(report) => match offer(haul, report) {
+                Ok(()) => {}
+                Err(error) => answered = Err(error),
+            },
             Note::Done { .. } => left -= 1,
         }
     }
-    if answered { Ok(()) } else { Err(AllocError) }
+    answered
 }
 
-/// Offers a report. Whether there was memory to answer it.
-fn offer(haul: &mut Haul, report: Report) -> bool
+/// Offers a report. An error if there was no memory to answer it.
+fn offer(haul: &mut Haul, report: Report) -> Result<(), OutOfMemory>
     ensures added { (haul.new ≡ haul.old) ⊎ HasAdded (report ∷ []) haul.old haul.new }
-    ensures stands { result ≡ true → HasComeAll (report ∷ []) haul.old haul.new }
-    ensures kept { result ≡ false → haul.new ≡ haul.old }
-    ensures lost { result ≡ false → (arrivals : List Arrival) → StandsFor arrivals haul.old
-        → refusal_of haul.old.terms arrivals report ≡ None }
+    ensures stands { OnOk result (HasComeAll (report ∷ []) haul.old haul.new) }
+    ensures kept { OnErr result (haul.new ≡ haul.old) }
+    ensures lost { OnErr result ((arrivals : List Arrival) → StandsFor arrivals haul.old
+        → refusal_of haul.old.terms arrivals report ≡ None) }
 {
     match haul.offer(report) {
-        Ok(()) => true,
+        Ok(()) => Ok(()),
         Err(refused) => match refused.reason {
-            OfferError::Memory => false,
-            _ => true,
+            OfferError::Memory(error) => Err(error),
+            _ => Ok(()),
         },
     }
 }

@@ -1,5 +1,6 @@
 //! A worker's shift: it draws, asks the gate, surveys and reports, until none is left or it has to stop.
 ghost use Rattle.std.specs.Prelude.{◌≡◌, ◌⊎◌};
+ghost use Rattle.haul_core.specs.Reports.{IsWorker};
 ghost use Rattle.handover.specs.Belts.{silent};
 ghost use Rattle.crew.specs.Shifts.{EndsByDone, HasWorked, StopsAt};
 ghost use Rattle.handover.specs.Tickets.{fresh};
@@ -10,7 +11,8 @@ use crate::note::Note;
 use crate::site::Site;
 use handover::belt::SenderPass;
 use handover::tickets::Pass;
-use haul_core::report::Report;
+use haul_core::report::{Report, ReportError};
+use memory::OutOfMemory;
 use std::alloc::Global;
 use std::sync::Wait;
 use std::sync::atomic::Ordering;
@@ -24,7 +26,7 @@ pub(crate) enum End {
     /// Its gate stopped it.
     Stopped,
     /// Memory ran out.
-    Memory,
+    Memory(OutOfMemory),
     /// The worker was not started.
     CalledOff,
 }
@@ -46,6 +48,7 @@ fn survey_all<G: Gate, R: Wait>(
     sender: &mut SenderPass<Note>,
 ) -> End
     requires pass { pass.old ≡ fresh site.now.tickets }
+    requires worker { IsWorker sender.old.number }
     requires sender { sender.old ≡ silent site.now.belt.name sender.old.number }
     ensures number { sender.new.number ≡ sender.old.number }
     ensures worked { HasWorked site.now sender.new }
@@ -67,6 +70,7 @@ fn survey_left<G: Gate, R: Wait>(
     memo: &mut Memo,
 ) -> End
     requires pass { pass.old ≡ fresh site.now.tickets }
+    requires worker { IsWorker sender.old.number }
     requires sender { sender.old ≡ silent site.now.belt.name sender.old.number }
     ensures number { sender.new.number ≡ sender.old.number }
     ensures worked { HasWorked site.now sender.new }
@@ -81,8 +85,10 @@ fn survey_left<G: Gate, R: Wait>(
         if gate.before(worker, number).is_err() {
             return End::Stopped;
         }
-        let Ok(report) = Report::make_with(alloc, &site.job, worker, number, memo) else {
-            return End::Memory;
+        let report = match Report::make_with(alloc, &site.job, worker, number, memo) {
+            Ok(report) => report,
+            Err(ReportError::Memory(error)) => return End::Memory(error),
+            Err(ReportError::BadWorker) => unreachable!(),
         };
         site.belt.present(rt, sender, Note::Report(report));
     }
@@ -100,6 +106,7 @@ pub(crate) fn work<G: Gate, R: Wait>(
     sender: SenderPass<Note>,
 ) -> Shift
     requires pass { pass ≡ fresh site.now.tickets }
+    requires worker { IsWorker sender.number }
     requires sender { sender ≡ silent site.now.belt.name sender.number }
     ensures number { result.sender.number ≡ sender.number }
     ensures worked { HasWorked site.now result.sender }

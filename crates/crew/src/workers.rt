@@ -5,6 +5,7 @@ ghost use Rattle.std.specs.List.{IsDistinct, range_with_len};
 ghost use Rattle.std.specs.List.Sorted.{IsStrictlyIncreasing};
 ghost use Rattle.haul_core.specs.Keeping.{numbers_in};
 ghost use Rattle.haul_core.specs.Missing.{AreAll, IsComplete};
+ghost use Rattle.haul_core.specs.Reports.{IsWorker};
 ghost use Rattle.handover.specs.Belts.{IsWhole, deaf, silent};
 ghost use Rattle.crew.specs.CrewSteps.{HasRunAll, MayRun, collector_of};
 ghost use Rattle.crew.specs.Crews.{Collected};
@@ -22,9 +23,10 @@ use crate::shift::{End, Shift, work};
 use crate::site::Site;
 use crate::watch::Watch;
 use handover::belt::{Belt, ReceiverPass, SenderPass};
-use handover::tickets::{Pass, Tickets};
+use handover::tickets::{Pass, Tickets, TicketsError};
 use haul_core::book::haul::Haul;
-use std::alloc::{AllocError, Global};
+use memory::OutOfMemory;
+use std::alloc::Global;
 use std::sync::Wait;
 use std::sync::atomic::{AtomicU64, Ordering};
 use std::thread;
@@ -43,9 +45,12 @@ pub enum CrewError {
     /// The gate stopped a worker: of those that it stopped, the one with the least number.
     #[error("worker {worker} was stopped")]
     Stopped { worker: u8 },
-    /// Memory ran out, or a thread could not be started.
+    /// Memory ran out, or there was none for a thread.
     #[error("out of memory")]
-    Memory,
+    Memory(OutOfMemory),
+    /// No worker was stopped and no memory was refused.
+    #[error("soups are missing")]
+    Unfinished,
 }
 
 /// Lets so many workers survey what is missing in a haul, each in a thread of its own, and offers what they report.
@@ -61,6 +66,8 @@ pub enum CrewError {
 /// - [`CrewError::Closed`] if the haul is closed. It comes back as it was.
 /// - [`CrewError::Stopped`] if the gate stopped a worker and the haul is not complete.
 /// - [`CrewError::Memory`] if memory ran out, or a thread could not be started, and the haul is not complete.
+/// - [`CrewError::Unfinished`] if the haul is not complete, and neither is why. Nothing is known that leads to it, but
+///   that there is nothing isn't proved.
 ///
 /// To call it again goes on with what is missing.
 pub fn take<G: Gate + Sync, R: Threads + Wait + Sync, H: Watch>(
@@ -91,27 +98,32 @@ pub fn take<G: Gate + Sync, R: Threads + Wait + Sync, H: Watch>(
         return Err((haul, CrewError::Closed));
     }
     watch.begin(haul.count(), workers);
-    let (haul, stopped) = take_missing(alloc, rt, haul, workers, gate, watch);
+    let (haul, stopped, lacking) = take_missing(alloc, rt, haul, workers, gate, watch);
     watch.end();
     if haul.is_complete() {
         return Ok(haul);
     }
-    Err((haul, cause(stopped)))
+    Err((haul, cause(stopped, lacking)))
 }
 
 /// Why a haul is not complete: a worker was stopped, or else there was no memory.
-fn cause(stopped: Option<u8>) -> CrewError
+fn cause(stopped: Option<u8>, lacking: Option<OutOfMemory>) -> CrewError
     ensures stopped { IfSome stopped (λ worker. result ≡ CrewError.Stopped worker) }
-    ensures memory { stopped ≡ None → result ≡ CrewError.Memory }
+    ensures memory { stopped ≡ None → IfSome lacking (λ error. result ≡ CrewError.Memory error) }
     ensures named { (worker : ℕ) → result ≡ CrewError.Stopped worker → stopped ≡ Some worker }
+    ensures open { result ≢ CrewError.Closed }
 {
     match stopped {
         Some(worker) => CrewError::Stopped { worker },
-        None => CrewError::Memory,
+        None => match lacking {
+            Some(error) => CrewError::Memory(error),
+            None => CrewError::Unfinished,
+        },
     }
 }
 
-/// Lets workers survey what is missing. Which of them was stopped, if one was: the one with the least number.
+/// Lets workers survey what is missing. Which of them was stopped, if one was: the one with the least number. And the
+/// want of memory, if there was one.
 #[tactic(auto, using(crate::proofs::TakeLemmas::taken_none))]
 fn take_missing<G: Gate + Sync, R: Threads + Wait + Sync, H: Watch>(
     alloc: Global,
@@ -120,16 +132,20 @@ fn take_missing<G: Gate + Sync, R: Threads + Wait + Sync, H: Watch>(
     workers: u8,
     gate: &G,
     watch: &mut H,
-) -> (Haul, Option<u8>)
+) -> (Haul, Option<u8>, Option<OutOfMemory>)
+    requires some { 1 ≤ workers }
+    requires few { workers ≤ haul.terms.workers }
+    requires open { haul.closed ≡ false }
     ensures taken { HasTaken workers haul result.0 }
     ensures stopped { IfSome result.1 (StopsAt (G.may_stop gate.now) (was_missing haul)) }
     ensures within { IfSome result.1 (λ worker. (1 ≤ worker) × (worker ≤ workers)) }
 {
     if haul.is_complete() {
-        return (haul, None);
+        return (haul, None, None);
     }
-    let Ok(start) = Start::new(alloc, &haul, workers) else {
-        return (haul, None);
+    let start = match Start::new(alloc, &haul, workers) {
+        Ok(start) => start,
+        Err(error) => return (haul, None, Some(error)),
     };
     let Start {
         site,
@@ -144,6 +160,7 @@ fn take_missing<G: Gate + Sync, R: Threads + Wait + Sync, H: Watch>(
         senders: back,
         away: 0,
         stopped: None,
+        lacking: None,
     };
     let crew = run_in_scope(alloc, rt, &site, gate, crew, watch);
     end_crew(site, crew)
@@ -173,6 +190,8 @@ struct Crew {
     away: u8,
     /// The least worker that came back stopped.
     stopped: Option<u8>,
+    /// What was refused: room for a thread, for a survey or for a report.
+    lacking: Option<OutOfMemory>,
 }
 
 /// Starts a worker for each post, from the last on, collects what they report, and waits for them. The first worker
@@ -213,8 +232,7 @@ fn receive_all<R: Wait, H: Watch>(rt: &R, site: &Site, crew: &mut Crew, watch: &
 {
     let away = crew.away;
     watch.started(away);
-    // Where memory ran out the haul isn't complete, and `take` sees that.
-    let _ = collect(
+    let collected = collect(
         rt,
         &site.belt,
         &mut crew.receiver,
@@ -222,6 +240,7 @@ fn receive_all<R: Wait, H: Watch>(rt: &R, site: &Site, crew: &mut Crew, watch: &
         away,
         watch,
     );
+    crew.lacking = collected.err();
 }
 
 /// Begins a worker's shift in a thread of its own. Where none can be started the worker is called off, and its shift
@@ -237,6 +256,7 @@ fn begin_shift<'s, E, G: Gate + Sync, R: Threads + Wait + Sync>(
 ) -> Result<PromisedHandle<Shift, Duty<'s, G>>, Shift>
     requires pass { pass ≡ fresh site.now.tickets }
     requires sender { sender ≡ silent site.now.belt.name sender.number }
+    requires worker { IsWorker sender.number }
     ensures worker { IfOk result (λ handle. handle.promise.worker ≡ sender.number) }
     ensures site { IfOk result (λ handle. handle.promise.site ≡ site.entry) }
     ensures gate { IfOk result (λ handle. handle.promise.gate ≡ gate.entry) }
@@ -245,14 +265,18 @@ fn begin_shift<'s, E, G: Gate + Sync, R: Threads + Wait + Sync>(
     let worker = sender.number();
     let duty = Duty { worker, site, gate };
     let shift = move || -> Shift
-        requires { (pass ≡ fresh site.now.tickets) × (sender ≡ silent site.now.belt.name sender.number) }
+        requires { (pass ≡ fresh site.now.tickets) × (sender ≡ silent site.now.belt.name sender.number)
+            × IsWorker sender.number }
         ensures { Leaves (G.may_stop gate.entry.now) site.entry.now sender.number result }
     { work(alloc, rt, site, gate, pass, sender) };
     match scope.spawn_with(duty, shift) {
         Ok(handle) => Ok(handle),
-        Err(here) => {
+        Err(refused) => {
+            let (here, error) = OutOfMemory::of_start(refused);
             site.called_off.store(u64::from(worker), Ordering::SeqCst);
-            Err((here.value)())
+            let Shift { sender, .. } = here();
+            let end = End::Memory(error);
+            Err(Shift { sender, end })
         }
     }
 }
@@ -290,6 +314,9 @@ fn note_shift(crew: &mut Crew, shift: Shift)
     if crew.stopped.is_none() && end == End::Stopped {
         crew.stopped = Some(sender.number());
     }
+    if let End::Memory(error) = end {
+        crew.lacking = Some(error);
+    }
     crew.senders.push_reserved(sender);
 }
 
@@ -305,12 +332,16 @@ struct Start {
 
 impl Start {
     /// All that is needed to survey what is missing in a haul.
-    fn new(alloc: Global, haul: &Haul, workers: u8) -> Result<Start, AllocError>
+    fn new(alloc: Global, haul: &Haul, workers: u8) -> Result<Start, OutOfMemory>
+        requires some { 1 ≤ workers }
+        requires few { workers ≤ haul.now.terms.workers }
+        requires open { haul.now.closed ≡ false }
         ensures job { IfOk result (λ start. start.site.job ≡ haul.now.terms.job) }
         ensures missing { IfOk result (λ start. start.site.missing.items ≡ was_missing haul.now) }
         ensures ascending { IfOk result (λ start. IsStrictlyIncreasing start.site.missing.items) }
         ensures workers { IfOk result (λ start. start.site.belt.workers ≡ workers) }
         ensures passes { IfOk result (λ start. All (λ p. p ≡ fresh start.site.tickets) start.posts.passes.items) }
+        ensures few { IfOk result (λ _. workers ≤ 16) }
         ensures many { IfOk result (λ start. length start.posts.passes.items ≡ workers) }
         ensures senders { IfOk result
             (λ start. start.posts.senders.items ≡ map (silent start.site.belt.name) (range_with_len 1 workers)) }
@@ -318,9 +349,13 @@ impl Start {
         ensures back { IfOk result (λ start. start.back.items ≡ []) }
         ensures room { IfOk result (λ start. workers ≤ vec_capacity start.back) }
     {
+        // What the haul says of it: it has at most 16 workers.
+        let _ = haul.workers();
         let missing = haul.missing()?;
-        let Ok((tickets, passes)) = Tickets::open(alloc, missing.len() as u64, workers) else {
-            return Err(AllocError);
+        let (tickets, passes) = match Tickets::open(alloc, missing.len() as u64, workers) {
+            Ok(opened) => opened,
+            Err(TicketsError::Memory(error)) => return Err(error),
+            Err(TicketsError::BadCount | TicketsError::BadPasses) => unreachable!(),
         };
         let (belt, senders, receiver) = Belt::open(alloc, ROOM, workers)?;
         let back = Vec::with_capacity(alloc, usize::from(workers))?;
@@ -367,7 +402,7 @@ fn run_in_scope<G: Gate + Sync, R: Threads + Wait + Sync, H: Watch>(
 }
 
 /// What a crew leaves, once all workers are back.
-fn end_crew(site: Site, crew: Crew) -> (Haul, Option<u8>)
+fn end_crew(site: Site, crew: Crew) -> (Haul, Option<u8>, Option<OutOfMemory>)
     requires senders { All (λ s. s.belt ≡ site.belt.name) crew.senders.items }
     requires receiver { crew.receiver.belt ≡ site.belt }
     ensures whole { All (IsWhole crew.receiver.got) crew.senders.items }
@@ -380,11 +415,12 @@ fn end_crew(site: Site, crew: Crew) -> (Haul, Option<u8>)
         receiver,
         senders,
         stopped,
+        lacking,
         ..
     } = crew;
     let Site { belt, .. } = site;
     drop(belt.gather(senders, receiver));
     // What the haul says of it: it has taken no number twice.
     let _ = haul.taken();
-    (haul, stopped)
+    (haul, stopped, lacking)
 }

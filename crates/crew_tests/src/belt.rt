@@ -7,7 +7,8 @@ use crew::watch::Unwatched;
 use handover::belt::{Belt, SenderPass};
 use haul_core::book::haul::Haul;
 use haul_core::report::Report;
-use std::alloc::{AllocError, Global};
+use memory::OutOfMemory;
+use std::alloc::Global;
 use std::process::Abort;
 use std::sync::Wait;
 use std::test::Fail;
@@ -43,7 +44,7 @@ fn collected<R: Abort + AllocGlobal + Threads + Wait + Sync>(
     rt: &R,
     job: &Job,
     haul: &mut Haul,
-) -> Result<bool, AllocError> {
+) -> Result<bool, OutOfMemory> {
     let alloc = rt.alloc();
     let (belt, mut senders, mut receiver) = Belt::open(alloc, 1, 2)?;
     let Some(second) = senders.pop() else {

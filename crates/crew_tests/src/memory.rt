@@ -24,7 +24,7 @@ fn assert_taken<R: Abort + AllocGlobal + Threads + Wait + Sync>(
     requires { 1 ≤ workers }
 {
     let left = left_by(rt, job, count, workers, &OpenGate)?;
-    assert!(rt; left.fault.is_none() || left.fault == Some(CrewError::Memory));
+    assert!(rt; matches!(left.fault, None | Some(CrewError::Memory(_))));
     assert!(rt; left.completed);
     Ok(())
 }
@@ -76,12 +76,14 @@ fn without_memory_a_stop_is_told(rt: HostRuntime) -> Result<(), Fail> {
         stops: AtomicU64::new(0),
     };
     let left = left_by(&rt, small_job()?, 8, 2, &gate)?;
-    let told = if gate.stops.load(Ordering::SeqCst) == 0 {
-        CrewError::Memory
-    } else {
-        CrewError::Stopped { worker: 2 }
+    let stopped = gate.stops.load(Ordering::SeqCst) != 0;
+    let right = match left.fault {
+        None => true,
+        Some(CrewError::Stopped { worker }) => stopped && worker == 2,
+        Some(CrewError::Memory(_)) => !stopped,
+        Some(_) => false,
     };
-    assert!(rt; left.fault.is_none() || left.fault == Some(told));
+    assert!(rt; right);
     assert!(rt; left.fault.is_none() == (left.missing == 0));
     Ok(())
 }

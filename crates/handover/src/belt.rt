@@ -15,7 +15,8 @@ ghost use Rattle.handover.specs.BeltRule.{first_share, share, with_senders};
 use crate::bell::Bell;
 use crossbeam_queue::protocol::{Join, Lesson, Outcome, Protocol, Split};
 use crossbeam_queue::{Pass, RuledArrayQueue};
-use std::alloc::{AllocError, Global};
+use memory::OutOfMemory;
+use std::alloc::Global;
 use std::collections::LinkedList;
 use std::marker::Model;
 use std::sync::Wait;
@@ -180,12 +181,12 @@ impl<N: Drop> Belt<N> {
     ///
     /// # Errors
     ///
-    /// [`AllocError`] if memory runs out.
+    /// [`OutOfMemory`] if memory runs out.
     pub fn open(
         alloc: Global,
         room: usize,
         workers: u8,
-    ) -> Result<(Belt<N>, Vec<SenderPass<N>>, ReceiverPass<N>), AllocError>
+    ) -> Result<(Belt<N>, Vec<SenderPass<N>>, ReceiverPass<N>), OutOfMemory>
         requires { 0 < room }
         ensures workers { IfOk result (λ made. made.0.workers ≡ workers) }
         ensures senders { IfOk result (λ made. made.1.items ≡ map (silent made.0.name) (range_with_len 1 workers)) }

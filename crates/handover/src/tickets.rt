@@ -14,6 +14,7 @@
 //! No thread waits for another.
 ghost use Rattle.std.specs.Prelude.{◌≡◌, ◌<◌, ◌≤◌, ◌^◌, ◌++◌, ◌∷◌, ◌↔◌, All, IfNone, IfOk, IfSome, IsErrOf, None, OnOk};
 ghost use Rattle.std.specs.Prelude.{[], length, true, vec_capacity, vec_len};
+ghost use Rattle.memory.specs.Evidence.{out_of_memory};
 ghost use Rattle.atomic_table.specs.Seated.{TableId};
 ghost use Rattle.handover.specs.Tickets.{AreAllBelow, AreSomeBelow, AreFew, fresh, how_many_heard, drawn_by_all};
 ghost use Rattle.handover.specs.Tickets.{with_none, with_drawn};
@@ -21,7 +22,8 @@ ghost use Rattle.handover.specs.TicketRule.{Gathers, Joining, holding, series_of
 ghost use Rattle.handover.specs.declared.tickets.TicketsError.TheVariants.{BadCount, BadPasses, Memory};
 
 use atomic_table::{Join, Play, Seat, Shared, Split, Table, TableRule};
-use std::alloc::{AllocError, Global};
+use memory::OutOfMemory;
+use std::alloc::Global;
 use std::collections::LinkedList;
 use std::marker::Model;
 use thiserror::Error;
@@ -43,14 +45,14 @@ pub enum TicketsError {
     BadPasses,
     /// Memory ran out.
     #[error("out of memory")]
-    Memory,
+    Memory(OutOfMemory),
 }
 
-impl From<AllocError> for TicketsError {
-    ghost from_gives = { λ _ e. e ≡ Memory };
+impl<E: Into<OutOfMemory>> From<E> for TicketsError {
+    ghost from_gives = { λ _ e. e ≡ Memory out_of_memory };
 
-    fn from(_e: AllocError) -> TicketsError {
-        TicketsError::Memory
+    fn from(refused: E) -> TicketsError {
+        TicketsError::Memory(refused.into())
     }
 }
 

@@ -10,6 +10,7 @@ use Rattle.std.proofs.lemmas.Bool.{cases_Bool, false≢true, eq-eqb, eqb-true, n
 use Rattle.std.proofs.lemmas.List.{append-nil, append_assoc, map_push}
 use Rattle.std.proofs.lemmas.List.Elements.{filter-append}
 use Rattle.std.proofs.lemmas.List.Folds.{list_any-append}
+use Rattle.memory.specs.Evidence.{out_of_memory}
 use Rattle.haul_core.specs.declared.book.arrival.Arrival.{Arrival}
 use Rattle.haul_core.specs.declared.book.arrival.Arrival.TheVariants.{Closing, Offer}
 use Rattle.haul_core.specs.declared.book.refused.OfferError.{OfferError}
@@ -287,7 +288,7 @@ replies_push terms before (x ∷ xs) a =
     ∙ ap (λ (b : List Arrival). replies_to terms (before ++ x ∷ []) xs ++ reply_to terms b a ∷ []) (append_assoc before (x ∷ []) xs))
 
 -- no reason of the book is memory
-no_memory : (closed job over inside : Bool) (worker : Option ℕ) → refuses closed job over inside worker ≢ Some Memory
+no_memory : (closed job over inside : Bool) (worker : Option ℕ) → refuses closed job over inside worker ≢ Some (Memory out_of_memory)
 no_memory true job over inside worker e = absurd (cc)
 no_memory false false over inside worker e = absurd (cc)
 no_memory false true true inside worker e = absurd (cc)
@@ -297,13 +298,13 @@ no_memory false true false true (Some w) e = absurd (cc)
 
 -- where memory runs out, the book takes the offer
 pub is_taken : (terms : Terms) (before : List Arrival) (r : Reported) (given : Option OfferError) → IsReply given (refusal_of terms before r)
-    → given ≡ Some Memory → refusal_of terms before r ≡ None
+    → given ≡ Some (Memory out_of_memory) → refusal_of terms before r ≡ None
 is_taken terms before r given (inl same) e = absurd (no_memory (has_closing before) (same_job terms.job r.job) (nat_lt terms.workers r.worker)
     (is_in terms.ranges r.number) (first_worker r.number (eligible terms before)) (sym same ∙ e))
 is_taken terms before r given (inr none) e = none.1
 
 -- where it doesn't, the reply is the book's
-pub answered : (given wanted : Option OfferError) → IsReply given wanted → given ≢ Some Memory → given ≡ wanted
+pub answered : (given wanted : Option OfferError) → IsReply given wanted → given ≢ Some (Memory out_of_memory) → given ≡ wanted
 answered given wanted (inl same) not_memory = same
 answered given wanted (inr none) not_memory = absurd (not_memory none.0)
 

@@ -1,6 +1,6 @@
 -- Two hauls as one.
 use Rattle.std.proofs.Common.{◌≡◌, ◌∙◌, ◌+◌, ◌^◌, ◌<◌, ◌≤◌, ◌||◌, ◌++◌, ℕ, zero, suc, Bool, true, false, cond, List, [], ◌∷◌}
-use Rattle.std.proofs.Common.{None, Some}
+use Rattle.std.proofs.Common.{None, Some, true≢false}
 use Rattle.std.proofs.Common.{ap, sym, refl, subst, arith, rules, map, filter, take, get_or, length, length-append, max, nat_eq, zero-add}
 use Rattle.std.specs.Cmp.{nat_eq_equiv}
 use Rattle.std.specs.List.{All, AllByRecursion, IsDistinct}
@@ -185,6 +185,7 @@ module _ (a b : Held) (ca cb : ℕ) (wa wb : List (ℕ × ℕ)) (sa sb : Sums) (
         normal = form.normal_form;
         below = below;
         size = (λ i. ka.size i + kb.size i) ∙ sym size;
+        few = λ never. absurd (true≢false never);
         worker = record {
           least = let l = ka.worker.least in omega (arith, w);
           most = let l = ka.worker.most in let m = kb.worker.most in omega (arith, w);

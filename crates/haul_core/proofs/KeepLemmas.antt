@@ -115,6 +115,7 @@ keeps_extended held count workers old new x u g k = record {
   normal = k.normal;
   below = k.below;
   size = k.size;
+  few = k.few;
   worker = k.worker;
   by_number = k.by_number;
   within = k.within;
@@ -155,6 +156,7 @@ keeps_more terms closed taken count workers old new r is lawful e scores u g k =
       normal = k.normal;
       below = k.below;
       size = k.size;
+      few = k.few;
       worker = k.worker;
       by_number = ap (λ (ws : List (ℕ × ℕ)). ws ++ (r.number, r.worker) ∷ []) k.by_number ∙ sym (map_push (λ (t : ℕ × ℕ). (t.1, t.0)) taken (entry r));
       within = All-push (λ t. is_in terms.ranges t.1 ≡ true) taken (entry r) k.within h.in_set;
@@ -223,9 +225,9 @@ lawful_of rule profile cells Unsettled h = tt
 -- a haul that was just opened
 pub keeps_none : (job : Job) (ranges : List Range) (workers count : ℕ) (taken numbers : List (ℕ × ℕ)) (sums : Sums) → AreNormal ranges
     → AreBelow number_bound ranges
-    → count ≡ size_of ranges → IsWorker workers → taken ≡ [] → numbers ≡ [] → sums.scores ≡ [] → sums.unsettled ≡ 0 → sums.for_good ≡ 0
+    → count ≡ size_of ranges → count ≤ 2 ^ 24 → IsWorker workers → taken ≡ [] → numbers ≡ [] → sums.scores ≡ [] → sums.unsettled ≡ 0 → sums.for_good ≡ 0
     → KeepsBook (record { terms = record { job = job; ranges = ranges; workers = workers }; closed = false; taken = taken }) count numbers sums
-keeps_none job ranges workers count taken numbers sums normal below size worker t n scores u g =
+keeps_none job ranges workers count taken numbers sums normal below size small worker t n scores u g =
     subst (λ (ts : List (ℕ × ℕ)). KeepsBook (record {
       terms = record { job = job; ranges = ranges; workers = workers };
       closed = false;
@@ -236,6 +238,7 @@ keeps_none job ranges workers count taken numbers sums normal below size worker 
       normal = normal;
       below = below;
       size = size;
+      few = λ open_. small;
       worker = worker;
       by_number = n;
       within = All-nil (λ t. is_in ranges t.1 ≡ true);

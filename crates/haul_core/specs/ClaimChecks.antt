@@ -32,7 +32,7 @@ pub record IsConfirmed (claim : Claimed) (job : Job) (report : Reported) : Type 
 abbrev pub Fails : Claimed → Job → CheckError → Type 0
 Fails claim job OtherJob = same_job claim.job job ≡ false
 Fails claim job (Disagrees found) = (same_job claim.job job ≡ true) × (IsFoundFor claim found × ¬ Agrees claim found)
-Fails claim job Memory = same_job claim.job job ≡ true
+Fails claim job (Memory error) = same_job claim.job job ≡ true
 
 -- each code of a finding has the shape of one
 abbrev pub HaveShape : Finding → Type 0

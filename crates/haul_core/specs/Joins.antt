@@ -24,7 +24,7 @@ abbrev pub Hinders : Held → Held → JoinError → Type 0
 Hinders a b Open = ¬ AreClosed a b
 Hinders a b OtherJob = AreClosed a b × (same_job a.terms.job b.terms.job ≡ false)
 Hinders a b Overlap = AreClosed a b × (same_job a.terms.job b.terms.job ≡ true) × ShareNumber a.terms.ranges b.terms.ranges
-Hinders a b Memory = CanJoin a b
+Hinders a b (Memory error) = CanJoin a b
 
 -- the two as one: of the same job and of both sets, closed, with what the first has taken and then what the second has
 pub record IsJoined (a b joined : Held) : Type 0 where

@@ -1,5 +1,5 @@
 -- What a haul keeps, beside what it shows: the totals over the soups that it has taken.
-use Rattle.std.specs.Prelude.{◌≡◌, ◌<◌, ◌^◌, ℕ, All, List, map, nat_eq, true}
+use Rattle.std.specs.Prelude.{◌≡◌, ◌<◌, ◌≤◌, ◌^◌, ℕ, All, List, false, map, nat_eq, true}
 use Rattle.std.specs.List.{IsDistinct}
 use Rattle.survey_core.specs.Findings.{objects_in}
 use Rattle.haul_core.specs.declared.book.scores.Score.{Score}
@@ -35,11 +35,13 @@ pub record AreSums (surveys : List Survey) (sums : Sums) : Type 0 where
   pub for_good_sum : sums.for_good ≡ for_good surveys
   pub few : All (λ s. objects_in s.finding < 2 ^ 64) surveys
 
--- what holds of a haul: what it shows, how many numbers its set has, the worker of each number, and its sums
+-- what holds of a haul: what it shows, how many numbers its set has, the worker of each number, and its sums; a joined one is closed,
+-- and may have more numbers
 pub record KeepsBook (held : Held) (count : ℕ) (workers : List (ℕ × ℕ)) (sums : Sums) : Type 0 where
   pub normal : AreNormal held.terms.ranges
   pub below : AreBelow number_bound held.terms.ranges
   pub size : count ≡ size_of held.terms.ranges
+  pub few : held.closed ≡ false → count ≤ 2 ^ 24
   pub worker : IsWorker held.terms.workers
   pub by_number : workers ≡ map (λ t. (t.1, t.0)) held.taken
   pub within : All (λ t. is_in held.terms.ranges t.1 ≡ true) held.taken

@@ -1,6 +1,7 @@
 -- Why the book refuses an offer, and what it replies to arrivals.
 use Rattle.std.specs.Prelude.{◌≡◌, ◌++◌, ◌⊎◌, ℕ, not, List, [], ◌∷◌, Option, None, Some, nat_lt, option_map, if◌then◌else◌}
 use Rattle.std.specs.List.{find}
+use Rattle.memory.specs.Evidence.{out_of_memory}
 use Rattle.haul_core.specs.declared.book.arrival.Arrival.{Arrival}
 use Rattle.haul_core.specs.declared.book.arrival.Arrival.TheVariants.{Closing, Offer}
 use Rattle.haul_core.specs.declared.book.refused.OfferError.{OfferError}
@@ -45,4 +46,4 @@ replies_to terms before (a ∷ more) = reply_to terms before a ∷ replies_to te
 
 -- a reply is the book's; or there was no memory for an offer that the book takes
 abbrev pub IsReply : Option OfferError → Option OfferError → Type 0
-IsReply given wanted = (given ≡ wanted) ⊎ ((given ≡ Some Memory) × (wanted ≡ None))
+IsReply given wanted = (given ≡ wanted) ⊎ ((given ≡ Some (Memory out_of_memory)) × (wanted ≡ None))

@@ -1,6 +1,7 @@
 -- What a haul answers to an offer, and where a list of arrivals stops for want of memory.
 use Rattle.std.specs.Prelude.{◌≡◌, ◌≢◌, ◌++◌, ◌⊎◌, ℕ, List, [], ◌∷◌, Option, None, Some, Result, Ok, Err, map, not, nat_eq, nat_lt, if◌then◌else◌}
 use Rattle.std.specs.Map.{lookup}
+use Rattle.memory.specs.Evidence.{out_of_memory}
 use Rattle.haul_core.specs.declared.book.refused.OfferError.{OfferError}
 use Rattle.haul_core.specs.declared.book.refused.OfferError.TheVariants.{Closed, Memory, OtherJob, OutOfRange, UnknownWorker}
 use Rattle.haul_core.specs.declared.book.refused.Refused.{Refused}
@@ -19,7 +20,7 @@ reply_of (Err refused) = Some refused.reason
 
 -- there was memory
 abbrev pub IsAnswered : Option OfferError → Type 0
-IsAnswered reply = reply ≢ Some Memory
+IsAnswered reply = reply ≢ Some (Memory out_of_memory)
 
 -- the worker of whom the number was taken
 abbrev pub worker_in : ℕ → List (ℕ × ℕ) → Option ℕ

@@ -9,6 +9,7 @@
 //! ```
 
 ghost use Rattle.std.specs.Prelude.{◌≡◌, ◌<◌, ◌↔◌, IfOk, IsErrOf, IsTrue};
+ghost use Rattle.memory.specs.Evidence.{out_of_memory};
 ghost use Rattle.ranges.specs.Ranges.{number_bound};
 ghost use Rattle.haul_core.specs.Reports.{IsReport, IsWorker};
 ghost use Rattle.haul_core.specs.declared.report.ReportError.TheVariants.{BadWorker, Memory};
@@ -18,7 +19,8 @@ pub mod claim;
 /// Reports as lines of text.
 pub mod write;
 
-use std::alloc::{AllocError, Global};
+use memory::OutOfMemory;
+use std::alloc::Global;
 use std::marker::Model;
 use survey_core::finding::{Finding, survey_with};
 use survey_core::job::Job;
@@ -33,14 +35,14 @@ pub enum ReportError {
     BadWorker,
     /// Memory ran out.
     #[error("out of memory")]
-    Memory,
+    Memory(OutOfMemory),
 }
 
-impl From<AllocError> for ReportError {
-    ghost from_gives = { λ _ e. e ≡ Memory };
+impl<E: Into<OutOfMemory>> From<E> for ReportError {
+    ghost from_gives = { λ _ e. e ≡ Memory out_of_memory };
 
-    fn from(_e: AllocError) -> ReportError {
-        ReportError::Memory
+    fn from(refused: E) -> ReportError {
+        ReportError::Memory(refused.into())
     }
 }
 

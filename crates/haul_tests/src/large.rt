@@ -8,22 +8,23 @@ use haul_core::book::haul::Haul;
 use haul_core::report::Report;
 use haul_core::report::claim::Claim;
 use haul_core::report::write::write_report_line;
+use memory::OutOfMemory;
 use plane_core::output::Out;
 use ranges::range::Range;
-use std::alloc::{AllocError, Global};
+use std::alloc::Global;
 use std::test::Fail;
 
 const HEAD: &str = "report 1 rule=b3s23 profile=1,1,1,0 seed= worker=1 soup=0 at=0";
 
 /// Adds a count of 7 of the code that is these two letters and then 398 times an `a`.
-fn push_count(line: &mut Vec<u8>, first: u8, second: u8) -> Result<(), AllocError> {
+fn push_count(line: &mut Vec<u8>, first: u8, second: u8) -> Result<(), OutOfMemory> {
     line.extend_from_slice(&[b' ', first, second])?;
     line.extend_from_slice(&[b'a'; 398])?;
     line.extend_from_slice(b"*7")
 }
 
 /// A line of 260 codes, in their order.
-fn line_of_codes(alloc: Global) -> Result<Vec<u8>, AllocError> {
+fn line_of_codes(alloc: Global) -> Result<Vec<u8>, OutOfMemory> {
     let mut line = Vec::from_slice(alloc, HEAD.as_bytes())?;
     for first in b'a'..=b'j' {
         for second in b'a'..=b'z' {
@@ -53,7 +54,7 @@ fn reads_a_line_of_100_000_bytes(rt: HostRuntime) -> Result<(), Fail> {
 }
 
 /// Ten thousand ranges of two numbers each, with a number between each two that is in none.
-fn ten_thousand(alloc: Global) -> Result<Vec<Range>, AllocError> {
+fn ten_thousand(alloc: Global) -> Result<Vec<Range>, OutOfMemory> {
     let mut ranges = Vec::new(alloc);
     for place in 0..10_000u32 {
         ranges.push(range(u64::from(place).saturating_mul(3), 2))?;
@@ -68,7 +69,7 @@ fn haul_of_ranges(alloc: Global) -> Result<Haul, Fail> {
 }
 
 /// Whether it takes a soup, and the others are missing then.
-fn takes_one(alloc: Global, haul: &mut Haul) -> Result<bool, AllocError> {
+fn takes_one(alloc: Global, haul: &mut Haul) -> Result<bool, OutOfMemory> {
     let taken = offer(alloc, haul, 29_998);
     let missing = haul.missing()?;
     Ok(taken && missing.len() == 19_999)

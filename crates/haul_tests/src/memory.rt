@@ -37,7 +37,7 @@ fn is_as_before(alloc: Global, haul: &Haul, before: &[u8]) -> Result<bool, Fail>
 
 /// Whether it is soup 0, for want of memory.
 fn lacks_memory(refused: &Refused) -> bool {
-    refused.reason == OfferError::Memory && refused.report.number() == 0
+    matches!(refused.reason, OfferError::Memory(_)) && refused.report.number() == 0
 }
 
 /// Whether a haul takes soup 0, or is as before.
@@ -90,7 +90,7 @@ fn is_checked_or_kept(alloc: Global) -> Result<bool, Fail> {
     let job = quick_job("")?;
     match claim.check(alloc, &job) {
         Ok(report) => Ok(report.number() == 3),
-        Err((claim, fault)) => Ok(matches!(fault, CheckError::Memory) && is_claim(&claim)),
+        Err((claim, fault)) => Ok(matches!(fault, CheckError::Memory(_)) && is_claim(&claim)),
     }
 }
 

@@ -1,6 +1,7 @@
 use crate::setup::range;
+use memory::OutOfMemory;
 use ranges::range::Range;
-use std::alloc::{AllocError, Global};
+use std::alloc::Global;
 use std::test::Fail;
 
 #[test]
@@ -18,7 +19,7 @@ fn reads_an_empty_list(rt: HostRuntime) -> Result<(), Fail> {
 }
 
 /// A list of 2^18 + 1 ranges, each of one number: 2^20 + 3 bytes.
-fn long_list(alloc: Global) -> Result<String, AllocError> {
+fn long_list(alloc: Global) -> Result<String, OutOfMemory> {
     let mut text = String::from_str(alloc, "0+1")?;
     for _ in 0..262_144u32 {
         text.push_str(",0+1")?;

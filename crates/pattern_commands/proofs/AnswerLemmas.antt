@@ -1,8 +1,11 @@
 -- Lemmas on what commands read and answer.
-use Rattle.std.proofs.Common.{◌≡◌, ◌≤◌, ◌^◌, ◌↔◌, ℕ, List, [], length, Bool, true, false, Option, None, Some, Result, Ok, Err, nat_le, refl}
+use Rattle.std.proofs.Common.{◌≡◌, ◌<◌, ◌≤◌, ◌^◌, ◌↔◌, ℕ, List, [], length, Bool, true, false, Option, None, Some, Result, Ok, Err, nat_le, refl}
 use Rattle.std.proofs.Common.{IfSome, ◌+◌, ◌++◌, arith, length-take, subst, sym, ap, take, take_all, ◌∙◌, rules}
+use Rattle.std.specs.List.{range_with_len}
 use Rattle.std.specs.Option.{option_map}
+use Rattle.std.proofs.lemmas.List.FromFn.{length-range_with_len}
 use Rattle.std.specs.Result.{IsErrAnd, IsErrOf, result_map_both}
+use Rattle.memory.specs.Evidence.{out_of_memory}
 use Rattle.plane_core.specs.declared.cell.Cell.{Cell}
 use Rattle.plane_core.specs.declared.rule.RuleFault.{RuleFault}
 use Rattle.plane_core.specs.declared.rule.RuleFault.TheVariants as rule_error
@@ -13,8 +16,7 @@ use Rattle.plane_core.specs.declared.plaintext.PlaintextFault.TheVariants as pla
 use Rattle.plane_core.specs.Rules.{rule_read}
 use Rattle.plane_core.specs.Plaintext.{pattern}
 use Rattle.pattern_commands.specs.declared.complaint.Complaint.{Complaint}
-use Rattle.pattern_commands.specs.declared.complaint.Complaint.TheVariants.{Refused, Memory, ReadFailed, WriteFailed}
-use Rattle.pattern_commands.specs.declared.refusal.Refusal.{Refusal}
+use Rattle.pattern_commands.specs.declared.complaint.Complaint.TheVariants.{Refused, Memory, ReadFailed, TooLong, WriteFailed}
 use Rattle.pattern_commands.specs.declared.input.InputError.{InputError}
 use Rattle.pattern_commands.specs.declared.input.InputError.TheVariants as input_error
 use Rattle.pattern_commands.specs.Answers.{IsInput, Right}
@@ -45,10 +47,35 @@ whole_input limit count known old before bytes is same none read short =
         let long = ap length more ∙ length-take (limit + 1) left in
         more ∙ take_all (limit + 1) left (omega (arith, long, short))
 
--- an input that was not read to its end says nothing of the answer
-pub Reads_unread : {A : Type 0} (answer : Result A Complaint) (fault : InputError) → Reads answer (Err (input_complaint fault))
-Reads_unread answer input_error.Unreadable = tt
-Reads_unread answer input_error.Memory = tt
+-- of an input that is longer than a limit, more bytes than that are read
+pub long_input : (limit count : ℕ) (known old : Option (List ℕ)) (before bytes : List ℕ) → count ≡ limit + 1 → old ≡ known → before ≡ []
+    → IfSome (option_map (take count) old) (λ read. bytes ≡ before ++ read) → limit < length bytes → IfSome known (λ left. limit < length left)
+long_input limit count known old before bytes is same none read long =
+    let P : List ℕ → Type 0 = λ front. IfSome (option_map (take (limit + 1)) known) (λ more. bytes ≡ front ++ more) in
+    go known (subst P none (rw same at (rw is at read)))
+  where
+    go : (known : Option (List ℕ)) → IfSome (option_map (take (limit + 1)) known) (λ more. bytes ≡ [] ++ more) → IfSome known (λ left. limit < length left)
+    go None more = tt
+    go (Some left) more =
+        let all = ap length more ∙ length-take (limit + 1) left in
+        omega (arith, all, long)
+
+-- an input over the limit is not looked at
+pub pattern_of-long : (bytes : List ℕ) → 2 ^ 24 < length bytes → pattern_of bytes ≡ Err TooLong
+pattern_of-long bytes long =
+    let unlooked : nat_le (length bytes) (2 ^ 24) ≡ false = search rules in
+    rw unlooked refl
+
+-- an input that was not read to its end says nothing of the answer, unless it is too long
+pub Reads_unread : (known : Option (List ℕ)) (fault : InputError)
+    → (fault ≡ input_error.TooLong → IfSome known (λ left. 2 ^ 24 < length left))
+    → (bytes : List ℕ) × IsInput known bytes × Reads (pattern_of bytes) (Err (input_complaint fault))
+Reads_unread known (input_error.Unreadable failed) long = let some = some_input known in (some.0, some.1, tt)
+Reads_unread known (input_error.Memory refused) long = let some = some_input known in (some.0, some.1, tt)
+Reads_unread None input_error.TooLong long =
+    let bytes = range_with_len 0 (2 ^ 24 + 1) in
+    (bytes, tt, pattern_of-long bytes (subst (λ n. 2 ^ 24 < n) (sym (length-range_with_len 0 (2 ^ 24 + 1))) (omega arith)))
+Reads_unread (Some left) input_error.TooLong long = (left, refl, pattern_of-long left (long refl))
 
 -- an input up to the limit is looked at
 pub pattern_of-short : (bytes : List ℕ) (answer : Result (List Cell) PlaintextFault) → length bytes ≤ 2 ^ 24 → pattern bytes ≡ answer
@@ -67,21 +94,23 @@ pub Reads_error : (bytes : List ℕ) (error : PlaintextError) → length bytes �
     → ((fault : PlaintextFault) → IsErrOf {T = List Cell} (Err error) (plaintext_error.Fault fault) ↔ (pattern bytes ≡ Err fault))
     → Reads (pattern_of bytes) (Err (plaintext_complaint error))
 Reads_error bytes (plaintext_error.Fault fault) short faults = Reads_refused bytes fault short ((faults fault).0 refl)
-Reads_error bytes plaintext_error.Memory short faults = tt
+Reads_error bytes (plaintext_error.Memory refused) short faults = tt
 
 -- memory that runs out after the input is begun leaves nothing on the output
-pub Reaches_no_memory : (reads : Bool) (right : Right) (output : Stream) → reads ≡ true → Has output [] → ReachesText reads true right (Err Memory) output
+pub Reaches_no_memory : (reads : Bool) (right : Right) (output : Stream) → reads ≡ true → Has output []
+    → ReachesText reads true right (Err (Memory out_of_memory)) output
 Reaches_no_memory reads right output read nothing =
     (λ unread complaint is. let bad : false ≡ true = sym unread ∙ read in cc, nothing)
 
 -- an input that was refused or not read is what a command ends with, with nothing on the output
 pub Reaches_unread : {A : Type 0} (reads : Bool) (right : Right) (answer : Result A Complaint) (complaint : Complaint) (output : Stream) → reads ≡ true
-    → ((refusal : Refusal) → answer ≡ Err (Refused refusal) → right (Err (Refused refusal))) → Reads answer (Err complaint) → Has output []
+    → ((other : Complaint) → answer ≡ Err other → right (Err other)) → Reads answer (Err complaint) → Has output []
     → ReachesText reads true right (Err complaint) output
-Reaches_unread reads right answer (Refused refusal) output read is refused nothing = (is refusal refused, nothing)
-Reaches_unread reads right answer Memory output read is refused nothing = Reaches_no_memory reads right output read nothing
-Reaches_unread reads right answer ReadFailed output read is refused nothing = (read, nothing)
-Reaches_unread reads right answer WriteFailed output read is refused nothing = absurd refused
+Reaches_unread reads right answer (Refused refusal) output read is refused nothing = (is (Refused refusal) refused, nothing)
+Reaches_unread reads right answer (Memory error) output read is refused nothing = Reaches_no_memory reads right output read nothing
+Reaches_unread reads right answer (ReadFailed error) output read is refused nothing = (read, nothing)
+Reaches_unread reads right answer TooLong output read is long nothing = (read, is TooLong long, nothing)
+Reaches_unread reads right answer (WriteFailed error) output read is refused nothing = absurd refused
 
 -- a refused rule is a right answer, with nothing on the output
 pub Reaches_rule : (reads : Bool) (right : Right) (text : List ℕ) (error : RuleFault) (output : Stream) → rule_read text ≡ Err error

@@ -1,6 +1,7 @@
 -- What `show` answers.
 use Rattle.std.proofs.Common.{◌≡◌, ◌↔◌, ℕ, false, List, [], Result, Ok, Err, IsOk, refl, true}
 use Rattle.std.specs.Result.{IsErrOf}
+use Rattle.memory.specs.Evidence.{out_of_memory}
 use Rattle.plane_core.specs.declared.cell.Cell.{Cell}
 use Rattle.plane_core.specs.Plaintext.{plain}
 use Rattle.code_core.specs.declared.reader.WechslerError.{WechslerError}
@@ -25,7 +26,7 @@ show_answer-fault code text fault is read = rw (is, read) refl
 
 -- memory ran out over a text without a fault
 show_answer-faultless : (code text : List ℕ) → text_in code ≡ Ok text
-    → ((fault : WechslerFault) → IsErrOf {T = List Cell} (Err Memory) (Fault fault) ↔ (wechsler_read text ≡ Err fault)) → IsOk (show_answer code)
+    → ((fault : WechslerFault) → IsErrOf {T = List Cell} (Err (Memory out_of_memory)) (Fault fault) ↔ (wechsler_read text ≡ Err fault)) → IsOk (show_answer code)
 show_answer-faultless code text is faults = go (wechsler_read text) refl
   where
     go : (read : Result (List Cell) WechslerFault) → wechsler_read text ≡ read → IsOk (show_answer code)
@@ -45,7 +46,7 @@ Reaches_text code text (Fault (BadByte place)) output is faults nothing =
 Reaches_text code text (Fault (ShortRun place)) output is faults nothing =
     (show_answer-fault code text (ShortRun place) is ((faults (ShortRun place)).0 refl), nothing)
 Reaches_text code text (Fault Empty) output is faults nothing = (show_answer-fault code text Empty is ((faults Empty).0 refl), nothing)
-Reaches_text code text Memory output is faults nothing = (
+Reaches_text code text (Memory error) output is faults nothing = (
   λ unread complaint refused. absurd (faultless_refused code complaint (show_answer-faultless code text is faults) refused),
   nothing,
 )

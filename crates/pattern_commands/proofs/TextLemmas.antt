@@ -1,8 +1,9 @@
 -- How commands that give a text alone end.
 use Rattle.std.proofs.Common.{◌≡◌, ℕ, Bool, true, false, inl, List, [], Option, Result, Ok, Err, IfErr, refl}
 use Rattle.std.proofs.KnownBytes.{Appends-nil}
+use Rattle.memory.specs.Evidence.{out_of_memory}
 use Rattle.pattern_commands.specs.declared.complaint.Complaint.{Complaint}
-use Rattle.pattern_commands.specs.declared.complaint.Complaint.TheVariants.{Refused, Memory, ReadFailed, WriteFailed}
+use Rattle.pattern_commands.specs.declared.complaint.Complaint.TheVariants.{Refused, Memory, ReadFailed, TooLong, WriteFailed}
 use Rattle.pattern_commands.specs.declared.status.Status.{Status}
 use Rattle.pattern_commands.specs.declared.status.Status.TheVariants as statuses
 use Rattle.pattern_commands.specs.Answers.{Right}
@@ -42,11 +43,13 @@ reaches_text reads whole right known bytes (Ok _) output errors ((text, is, has)
 }
 reaches_text reads whole right known bytes (Err (Refused refusal)) output errors (is, nothing) still =
     (is, record { nothing = nothing; silent = still.0; fine = still.1 })
-reaches_text reads whole right known bytes (Err Memory) output errors (hides, left) still =
+reaches_text reads whole right known bytes (Err (Memory error)) output errors (hides, left) still =
     record { hides = hides; left = part_of whole (right bytes) output left; told = inl still.0; fine = still.1 }
-reaches_text reads whole right known bytes (Err ReadFailed) output errors (read, nothing) still =
+reaches_text reads whole right known bytes (Err (ReadFailed error)) output errors (read, nothing) still =
     record { reads = read; begun = still.0; nothing = nothing; fine = still.1 }
-reaches_text reads whole right known bytes (Err WriteFailed) output errors (left, cut) still =
+reaches_text reads whole right known bytes (Err TooLong) output errors (read, long, nothing) still =
+    (long, record { reads = read; begun = still.0; nothing = nothing; fine = still.1 })
+reaches_text reads whole right known bytes (Err (WriteFailed error)) output errors (left, cut) still =
     inl (record { left = front_of whole (right bytes) output errors left still; cut = cut; fine = still.1 })
 
 -- how a command ends that gives a text alone
@@ -74,9 +77,10 @@ text_refused (Err complaint) is = λ so. so is
 
 -- only memory that ran out has its status
 pub text_memory : {P : Type 0} (outcome : TextOutcome) → status_after (none_missing outcome) ≡ statuses.Memory
-    → IfErr outcome (λ complaint. complaint ≡ Memory → P) → P
+    → IfErr outcome (λ complaint. complaint ≡ Memory out_of_memory → P) → P
 text_memory (Ok _) is = cc
 text_memory (Err (Refused refusal)) is = cc
-text_memory (Err Memory) is = λ so. so refl
-text_memory (Err ReadFailed) is = cc
-text_memory (Err WriteFailed) is = cc
+text_memory (Err (Memory error)) is = λ so. so refl
+text_memory (Err (ReadFailed error)) is = cc
+text_memory (Err TooLong) is = cc
+text_memory (Err (WriteFailed error)) is = cc

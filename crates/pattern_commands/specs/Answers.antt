@@ -2,7 +2,7 @@
 use Rattle.std.specs.Prelude.{◌≡◌, ℕ, List, [], Option, Result, Ok, Err, IfSome}
 use Rattle.std.specs.Result.{result_unwrap_or}
 use Rattle.pattern_commands.specs.declared.complaint.Complaint.{Complaint}
-use Rattle.pattern_commands.specs.declared.complaint.Complaint.TheVariants.{Refused}
+use Rattle.pattern_commands.specs.declared.complaint.Complaint.TheVariants.{Refused, TooLong}
 use Rattle.pattern_commands.specs.declared.refusal.Refusal.TheVariants.{RangeTooLarge, RangesOverlap}
 
 -- what a command that gives a text alone writes to standard output if memory lasts and no stream fails, or what it complains of
@@ -35,8 +35,9 @@ abbrev pub given_right : {A : Type 0} → Result A Complaint → (A → Right) �
 given_right (Ok x) next = next x
 given_right (Err complaint) next = only (Err complaint)
 
--- the refusals for which memory is needed: ranges have to be kept to be looked at together
+-- the complaints for which memory is needed: ranges have to be kept to be looked at together, and an input to be read to its end
 abbrev pub NeedsMemory : Complaint → Type 0
 NeedsMemory (Refused RangeTooLarge) = Unit {0}
 NeedsMemory (Refused RangesOverlap) = Unit {0}
+NeedsMemory TooLong = Unit {0}
 NeedsMemory _ = ⊥

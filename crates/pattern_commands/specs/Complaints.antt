@@ -1,7 +1,7 @@
 -- The lines on standard error, and the status that goes with each.
 use Rattle.std.specs.Prelude.{ℕ, ◌++◌, List, codes, decimal}
 use Rattle.pattern_commands.specs.declared.complaint.Complaint.{Complaint}
-use Rattle.pattern_commands.specs.declared.complaint.Complaint.TheVariants.{Refused, Memory, ReadFailed, WriteFailed}
+use Rattle.pattern_commands.specs.declared.complaint.Complaint.TheVariants.{Refused, Memory, ReadFailed, TooLong, WriteFailed}
 use Rattle.pattern_commands.specs.declared.refusal.Refusal.{Refusal}
 use Rattle.pattern_commands.specs.declared.refusal.Refusal.TheVariants.{BadByte, PatternTooLarge, BadRule, BirthZero, NotACode, CodeTooLong, CodeBadByte}
 use Rattle.pattern_commands.specs.declared.refusal.Refusal.TheVariants.{CodeShortRun, CodeEmpty, SeedTooLong, SeedBadByte, HorizonBelowPeriod}
@@ -27,12 +27,17 @@ refusal_line (BadList place) = codes "census: bad range list at " ++ decimal pla
 refusal_line RangeTooLarge = codes "census: range too large\n"
 refusal_line RangesOverlap = codes "census: ranges overlap\n"
 
--- the line of a complaint
+-- the line of a write that failed
+abbrev pub write_failed_line : List ℕ
+write_failed_line = codes "census: write failed\n"
+
+-- the line of a complaint: an input that is too long is told as a read that failed
 abbrev pub complaint_line : Complaint → List ℕ
 complaint_line (Refused refusal) = refusal_line refusal
-complaint_line Memory = codes "census: out of memory\n"
-complaint_line ReadFailed = codes "census: read failed\n"
-complaint_line WriteFailed = codes "census: write failed\n"
+complaint_line (Memory error) = codes "census: out of memory\n"
+complaint_line (ReadFailed error) = codes "census: read failed\n"
+complaint_line TooLong = codes "census: read failed\n"
+complaint_line (WriteFailed error) = write_failed_line
 
 -- the line of how many soups are missing
 abbrev pub missing_line : ℕ → List ℕ
@@ -41,6 +46,7 @@ missing_line missing = codes "census: incomplete, " ++ decimal missing ++ codes 
 -- the status of a command that ends with a complaint
 abbrev pub status_of : Complaint → Status
 status_of (Refused refusal) = status.Refused
-status_of Memory = status.Memory
-status_of ReadFailed = status.Failed
-status_of WriteFailed = status.Failed
+status_of (Memory error) = status.Memory
+status_of (ReadFailed error) = status.Failed
+status_of TooLong = status.Failed
+status_of (WriteFailed error) = status.Failed

@@ -15,7 +15,7 @@ use Rattle.plane_core.specs.Plaintext.{pattern}
 use Rattle.ranges.specs.declared.range_list.ListError.{ListError}
 use Rattle.ranges.specs.declared.range_list.ListError.TheVariants as list_error
 use Rattle.pattern_commands.specs.declared.complaint.Complaint.{Complaint}
-use Rattle.pattern_commands.specs.declared.complaint.Complaint.TheVariants.{Refused, Memory, ReadFailed, WriteFailed}
+use Rattle.pattern_commands.specs.declared.complaint.Complaint.TheVariants.{Refused, Memory, ReadFailed, TooLong, WriteFailed}
 use Rattle.pattern_commands.specs.declared.refusal.Refusal.TheVariants.{BadByte, PatternTooLarge, BadRule, BirthZero, BadList}
 use Rattle.pattern_commands.specs.declared.input.InputError.{InputError}
 use Rattle.pattern_commands.specs.declared.input.InputError.TheVariants as input_error
@@ -33,17 +33,18 @@ pattern_complaint fault.TooLarge = Refused PatternTooLarge
 -- the complaint about a call that reads a plaintext pattern
 abbrev pub plaintext_complaint : PlaintextError → Complaint
 plaintext_complaint (error.Fault why) = pattern_complaint why
-plaintext_complaint error.Memory = Memory
+plaintext_complaint (error.Memory refused) = Memory refused
 
 -- the complaint about a call that reads a range list
 abbrev pub list_complaint : ListError → Complaint
 list_complaint (list_error.BadList place) = Refused (BadList place)
-list_complaint list_error.Memory = Memory
+list_complaint (list_error.Memory refused) = Memory refused
 
 -- the complaint about a call that reads an input
 abbrev pub input_complaint : InputError → Complaint
-input_complaint input_error.Unreadable = ReadFailed
-input_complaint input_error.Memory = Memory
+input_complaint (input_error.Unreadable failed) = ReadFailed failed
+input_complaint input_error.TooLong = TooLong
+input_complaint (input_error.Memory refused) = Memory refused
 
 -- the rule that a text names
 abbrev pub rule_named : List ℕ → Result Numbers Complaint
@@ -53,16 +54,17 @@ rule_named text = result_map_both (λ rule. rule) rule_complaint (rule_read text
 abbrev pub pattern_of : List ℕ → Result (List Cell) Complaint
 pattern_of bytes = if nat_le (length bytes) (2 ^ 24)
     then result_map_both (λ cells. cells) pattern_complaint (pattern bytes)
-    else Err ReadFailed
+    else Err TooLong
 
 -- the cells lie in the 999 columns and rows on each side of the origin, as do all that are read
 abbrev pub LiesWithin999 : List Cell → Type 0
 LiesWithin999 cells = lies_within 999 cells ≡ true
 
--- a call that reads a value gives it or refuses its text, or ends because memory runs out or a read fails
+-- a call that reads a value gives it, refuses its text or says that it is too long, or ends because memory runs out or a read fails
 abbrev pub Reads : {A : Type 0} → Result A Complaint → Result A Complaint → Type 0
 Reads answer (Ok x) = answer ≡ Ok x
 Reads answer (Err (Refused refusal)) = answer ≡ Err (Refused refusal)
-Reads answer (Err Memory) = Unit {0}
-Reads answer (Err ReadFailed) = Unit {0}
-Reads answer (Err WriteFailed) = ⊥
+Reads answer (Err TooLong) = answer ≡ Err TooLong
+Reads answer (Err (Memory error)) = Unit {0}
+Reads answer (Err (ReadFailed error)) = Unit {0}
+Reads answer (Err (WriteFailed error)) = ⊥

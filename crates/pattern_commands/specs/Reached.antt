@@ -1,7 +1,7 @@
 -- What a command leaves on its streams before the last line of standard error.
 use Rattle.std.specs.Prelude.{◌≡◌, ◌⊎◌, ℕ, Bool, true, false, List, [], Option, Result, Ok, Err}
 use Rattle.pattern_commands.specs.declared.complaint.Complaint.{Complaint}
-use Rattle.pattern_commands.specs.declared.complaint.Complaint.TheVariants.{Refused, Memory, ReadFailed, WriteFailed}
+use Rattle.pattern_commands.specs.declared.complaint.Complaint.TheVariants.{Refused, Memory, ReadFailed, TooLong, WriteFailed}
 use Rattle.pattern_commands.specs.Streams.{Stream, Has, HasFront}
 use Rattle.pattern_commands.specs.Tasks.{Made, Makes, NeedsMemoryAlone, Task, text_made}
 
@@ -64,10 +64,12 @@ pub record IsUntold (task : Task) (output errors : Stream) : Type 0 where
   pub nothing : Has output []
   pub cut : errors.failed ≡ true
 
--- What stands on the streams before the last line of standard error. A refusal is a right answer.
+-- What stands on the streams before the last line of standard error. A refusal is a right answer, and so is an input that is
+-- too long.
 abbrev pub Reaches : Task → Option (List ℕ) → List ℕ → Outcome → Stream → Stream → Type 0
 Reaches task known bytes (Ok missing) output errors = IsPrinted (task.right bytes) missing output errors
 Reaches task known bytes (Err (Refused refusal)) output errors = task.right bytes (Err (Refused refusal)) × IsSilent output errors
-Reaches task known bytes (Err Memory) output errors = HasRunOut task known bytes output errors
-Reaches task known bytes (Err ReadFailed) output errors = IsCutOff task known output errors
-Reaches task known bytes (Err WriteFailed) output errors = IsCutShort task bytes output errors ⊎ IsUntold task output errors
+Reaches task known bytes (Err (Memory error)) output errors = HasRunOut task known bytes output errors
+Reaches task known bytes (Err (ReadFailed error)) output errors = IsCutOff task known output errors
+Reaches task known bytes (Err TooLong) output errors = task.right bytes (Err TooLong) × IsCutOff task known output errors
+Reaches task known bytes (Err (WriteFailed error)) output errors = IsCutShort task bytes output errors ⊎ IsUntold task output errors

@@ -63,7 +63,7 @@ wechsler_complaint fault.Empty = Refused CodeEmpty
 -- the complaint about a call that reads such a text
 abbrev pub reader_complaint : WechslerError → Complaint
 reader_complaint (error.Fault why) = wechsler_complaint why
-reader_complaint error.Memory = Memory
+reader_complaint (error.Memory refused) = Memory refused
 
 -- the pattern of a text
 abbrev pub shown : List ℕ → Result (List Cell) Complaint

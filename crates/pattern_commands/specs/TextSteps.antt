@@ -1,7 +1,7 @@
 -- How commands that give a text alone get there.
 use Rattle.std.specs.Prelude.{◌≡◌, Bool, true, false, ℕ, List, [], Result, Ok, Err}
 use Rattle.pattern_commands.specs.declared.complaint.Complaint.{Complaint}
-use Rattle.pattern_commands.specs.declared.complaint.Complaint.TheVariants.{Refused, Memory, ReadFailed, WriteFailed}
+use Rattle.pattern_commands.specs.declared.complaint.Complaint.TheVariants.{Refused, Memory, ReadFailed, TooLong, WriteFailed}
 use Rattle.pattern_commands.specs.Answers.{Answer, NeedsMemory, Right, output_text}
 use Rattle.pattern_commands.specs.Reached.{Outcome}
 use Rattle.pattern_commands.specs.Streams.{Stream, Has, HasFront}
@@ -37,8 +37,9 @@ LeavesTextPart false right output = (answer : Answer) → right answer → HasFr
 -- what stands on standard output after the text of a right answer was to be written to it
 abbrev pub ReachesText : Bool → Bool → Right → TextOutcome → Stream → Type 0
 ReachesText reads whole right (Ok _) output = HasRight right output × (output.failed ≡ false)
-ReachesText reads whole right (Err Memory) output =
+ReachesText reads whole right (Err (Memory error)) output =
     (reads ≡ false → (complaint : Complaint) → right (Err complaint) → NeedsMemory complaint) × LeavesTextPart whole right output
-ReachesText reads whole right (Err ReadFailed) output = (reads ≡ true) × Has output []
-ReachesText reads whole right (Err WriteFailed) output = LeavesTextFront whole right output × (output.failed ≡ true)
+ReachesText reads whole right (Err (ReadFailed error)) output = (reads ≡ true) × Has output []
+ReachesText reads whole right (Err TooLong) output = (reads ≡ true) × right (Err TooLong) × Has output []
+ReachesText reads whole right (Err (WriteFailed error)) output = LeavesTextFront whole right output × (output.failed ≡ true)
 ReachesText reads whole right (Err (Refused refusal)) output = right (Err (Refused refusal)) × Has output []

@@ -5,15 +5,16 @@ ghost use Rattle.pattern_commands.specs.Streams.{stream, HasLine};
 
 use crate::input::InputError;
 use crate::output::LineBuffer;
+use crate::read_error::ReadError;
 use crate::refusal::Refusal;
 use crate::status::Status;
 use code_core::decimal::put_number;
 use code_core::reader::{WechslerError, WechslerFault};
+use memory::OutOfMemory;
 use plane_core::output::{Out, WriteError};
 use plane_core::plaintext::{PlaintextError, PlaintextFault};
 use plane_core::rule::RuleFault;
 use ranges::range_list::ListError;
-use std::alloc::AllocError;
 use std::io::Write;
 use survey_core::seed::SeedFault;
 
@@ -23,11 +24,13 @@ pub enum Complaint {
     /// A text was refused.
     Refused(Refusal),
     /// Memory ran out.
-    Memory,
-    /// A read failed, or the input is longer than a command reads.
-    ReadFailed,
+    Memory(OutOfMemory),
+    /// A read failed.
+    ReadFailed(ReadError),
+    /// The input is longer than a command reads. It is told as a read that failed.
+    TooLong,
     /// A write to standard output failed.
-    WriteFailed,
+    WriteFailed(WriteError),
 }
 
 impl Complaint {
@@ -37,8 +40,10 @@ impl Complaint {
     {
         match self {
             Complaint::Refused(_) => Status::Refused,
-            Complaint::Memory => Status::Memory,
-            Complaint::ReadFailed | Complaint::WriteFailed => Status::Failed,
+            Complaint::Memory(_) => Status::Memory,
+            Complaint::ReadFailed(_) | Complaint::TooLong | Complaint::WriteFailed(_) => {
+                Status::Failed
+            }
         }
     }
 
@@ -65,9 +70,9 @@ impl Complaint {
     {
         match self {
             Complaint::Refused(refusal) => refusal.put_line(errors),
-            Complaint::Memory => errors.put(b"census: out of memory\n"),
-            Complaint::ReadFailed => errors.put(b"census: read failed\n"),
-            Complaint::WriteFailed => errors.put(b"census: write failed\n"),
+            Complaint::Memory(_) => errors.put(b"census: out of memory\n"),
+            Complaint::ReadFailed(_) | Complaint::TooLong => errors.put(b"census: read failed\n"),
+            Complaint::WriteFailed(_) => errors.put(b"census: write failed\n"),
         }
     }
 
@@ -132,7 +137,7 @@ impl From<PlaintextError> for Complaint {
             PlaintextError::Fault(PlaintextFault::TooLarge) => {
                 Complaint::Refused(Refusal::PatternTooLarge)
             }
-            PlaintextError::Memory => Complaint::Memory,
+            PlaintextError::Memory(error) => Complaint::Memory(error),
         }
     }
 }
@@ -154,7 +159,7 @@ impl From<WechslerError> for Complaint {
                 Complaint::Refused(Refusal::CodeShortRun { place })
             }
             WechslerError::Fault(WechslerFault::Empty) => Complaint::Refused(Refusal::CodeEmpty),
-            WechslerError::Memory => Complaint::Memory,
+            WechslerError::Memory(error) => Complaint::Memory(error),
         }
     }
 }
@@ -180,18 +185,18 @@ impl From<ListError> for Complaint {
     fn from(error: ListError) -> Complaint {
         match error {
             ListError::BadList { place } => Complaint::Refused(Refusal::BadList { place }),
-            ListError::Memory => Complaint::Memory,
+            ListError::Memory(error) => Complaint::Memory(error),
         }
     }
 }
 
-impl From<AllocError> for Complaint {
+impl From<OutOfMemory> for Complaint {
     ghost use Rattle.pattern_commands.specs.declared.complaint.Complaint.TheVariants.{Memory};
 
-    ghost from_gives = { λ _ complaint. complaint ≡ Memory };
+    ghost from_gives = { λ error complaint. complaint ≡ Memory error };
 
-    fn from(_error: AllocError) -> Complaint {
-        Complaint::Memory
+    fn from(error: OutOfMemory) -> Complaint {
+        Complaint::Memory(error)
     }
 }
 
@@ -202,8 +207,9 @@ impl From<InputError> for Complaint {
 
     fn from(fault: InputError) -> Complaint {
         match fault {
-            InputError::Unreadable => Complaint::ReadFailed,
-            InputError::Memory => Complaint::Memory,
+            InputError::Unreadable(error) => Complaint::ReadFailed(error),
+            InputError::TooLong => Complaint::TooLong,
+            InputError::Memory(error) => Complaint::Memory(error),
         }
     }
 }
@@ -211,9 +217,9 @@ impl From<InputError> for Complaint {
 impl From<WriteError> for Complaint {
     ghost use Rattle.pattern_commands.specs.declared.complaint.Complaint.TheVariants.{WriteFailed};
 
-    ghost from_gives = { λ _ complaint. complaint ≡ WriteFailed };
+    ghost from_gives = { λ error complaint. complaint ≡ WriteFailed error };
 
-    fn from(_error: WriteError) -> Complaint {
-        Complaint::WriteFailed
+    fn from(error: WriteError) -> Complaint {
+        Complaint::WriteFailed(error)
     }
 }

@@ -1,11 +1,15 @@
-ghost use Rattle.std.specs.Prelude.{◌≡◌, ◌≤◌, ◌^◌, ℕ, List, IfOk, IfSome, vec_len};
+ghost use Rattle.std.specs.Prelude.{◌≡◌, ◌≢◌, ◌<◌, ◌≤◌, ◌^◌, ℕ, Err, List, IfOk, IfSome, length, vec_len};
+ghost use Rattle.memory.specs.Evidence.{out_of_memory};
 ghost use Rattle.pattern_commands.specs.Answers.{IsInput};
 ghost use Rattle.pattern_commands.specs.Inputs.{LiesWithin999, Reads, pattern_of};
+ghost use Rattle.pattern_commands.specs.declared.input.InputError.TheVariants.{TooLong};
 
 use crate::complaint::Complaint;
+use crate::read_error::ReadError;
+use memory::OutOfMemory;
 use plane_core::pattern::Pattern;
-use std::alloc::{AllocError, Global};
-use std::io::{ErrorKind, Read};
+use std::alloc::Global;
+use std::io::{self, ErrorKind, Read};
 
 /// How many bytes a command reads of a pattern at most: 2^24.
 pub const INPUT_LIMIT: usize = 16_777_216;
@@ -13,19 +17,33 @@ pub const INPUT_LIMIT: usize = 16_777_216;
 /// Why an input was not read to its end.
 #[derive(Clone, Copy)]
 pub enum InputError {
-    /// A read failed, or there is more than the limit.
-    Unreadable,
+    /// A read failed.
+    Unreadable(ReadError),
+    /// There is more than the limit.
+    TooLong,
     /// There is no memory for what was read.
-    Memory,
+    Memory(OutOfMemory),
 }
 
-impl From<AllocError> for InputError {
+impl InputError {
+    /// What a failed read says.
+    pub fn of_stream(error: &io::Error) -> InputError
+        ensures { result ≢ TooLong }
+    {
+        match error.kind() {
+            ErrorKind::OutOfMemory => InputError::Memory(OutOfMemory::of_stream(error)),
+            _ => InputError::Unreadable(ReadError::of_stream(error)),
+        }
+    }
+}
+
+impl<E: Into<OutOfMemory>> From<E> for InputError {
     ghost use Rattle.pattern_commands.specs.declared.input.InputError.TheVariants.{Memory};
 
-    ghost from_gives = { λ _ e. e ≡ Memory };
+    ghost from_gives = { λ _ e. e ≡ Memory out_of_memory };
 
-    fn from(_error: AllocError) -> InputError {
-        InputError::Memory
+    fn from(refused: E) -> InputError {
+        InputError::Memory(refused.into())
     }
 }
 
@@ -33,18 +51,19 @@ impl From<AllocError> for InputError {
 ///
 /// # Errors
 ///
-/// `Unreadable` if a read fails or there are more than [`INPUT_LIMIT`] bytes, and `Memory`. How much of the input was
-/// read by then is left open.
+/// `Unreadable` if a read fails, `TooLong` if there are more than [`INPUT_LIMIT`] bytes, and `Memory`. How much of the
+/// input was read by then is left open.
 pub fn read_input<R: Read>(alloc: Global, input: &mut R) -> Result<Vec<u8>, InputError>
     ensures whole { IfOk result (λ bytes. IfSome (R.remaining input.old) (λ known. bytes.items ≡ known)) }
     ensures short { IfOk result (λ bytes. vec_len bytes ≤ 2 ^ 24) }
+    ensures long { result ≡ Err TooLong → IfSome (R.remaining input.old) (λ known. 2 ^ 24 < length known) }
 {
     let mut bytes = Vec::new(alloc);
     let mut limited = Read::take(input, INPUT_LIMIT as u64 + 1);
     match limited.read_to_end(&mut bytes) {
         Ok(_) if bytes.len() <= INPUT_LIMIT => Ok(bytes),
-        Err(error) if error.kind() == ErrorKind::OutOfMemory => Err(InputError::Memory),
-        _ => Err(InputError::Unreadable),
+        Ok(_) => Err(InputError::TooLong),
+        Err(error) => Err(InputError::of_stream(&error)),
     }
 }
 
@@ -52,8 +71,8 @@ pub fn read_input<R: Read>(alloc: Global, input: &mut R) -> Result<Vec<u8>, Inpu
 ///
 /// # Errors
 ///
-/// `ReadFailed` if a read fails or there are more than [`INPUT_LIMIT`] bytes, else `BadByte` or `PatternTooLarge` if
-/// the bytes are not a pattern, and `Memory`.
+/// `ReadFailed` if a read fails, `TooLong` if there are more than [`INPUT_LIMIT`] bytes, else `BadByte` or
+/// `PatternTooLarge` if the bytes are not a pattern, and `Memory`.
 pub fn read_pattern<R: Read>(alloc: Global, input: &mut R) -> Result<Pattern, Complaint>
     ensures read { (bytes : List ℕ) × IsInput (R.remaining input.old) bytes × Reads (pattern_of bytes) result }
     ensures small { IfOk result LiesWithin999 }

@@ -17,6 +17,8 @@ pub mod name;
 pub mod output;
 /// Profiles, as words ask for them.
 pub mod profile;
+/// A read that failed.
+pub mod read_error;
 /// Why a text was refused, and its line.
 pub mod refusal;
 /// `run`: a pattern some generations later.

@@ -1,5 +1,6 @@
 ghost use Rattle.std.specs.Prelude.{◌≡◌, ◌&&◌, ◌++◌, ℕ, List, codes, decimal, false, flat_map, is_ok, IsErr, IfErr};
 ghost use Rattle.std.specs.Prelude.{IfOk, true};
+ghost use Rattle.memory.specs.Evidence.{out_of_memory};
 ghost use Rattle.plane_core.specs.Out.{Writes};
 ghost use Rattle.pattern_commands.specs.Answers.{IsInput};
 ghost use Rattle.pattern_commands.specs.Complaints.{status_of};
@@ -76,7 +77,7 @@ fn name<R: Read, W: Write>(
     ensures rule_first { IsErr (rule_named rule_text.now)
         → IfErr result (λ complaint. status_of complaint ≡ Status.Refused) × (input.new ≡ input.old) }
     ensures untouched { IfErr result (λ complaint. status_of complaint ≡ Status.Refused → output.new ≡ output.old) }
-    ensures no_memory { IfErr result (λ complaint. complaint ≡ Complaint.Memory → output.new ≡ output.old) }
+    ensures no_memory { IfErr result (λ complaint. complaint ≡ Complaint.Memory out_of_memory → output.new ≡ output.old) }
 {
     let profile = profile.profile()?;
     let rule = Rule::read(rule_text)?;

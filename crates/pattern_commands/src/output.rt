@@ -1,14 +1,14 @@
 ghost use Rattle.std.specs.Prelude.{◌≡◌, ◌≢◌, true, false, []};
 ghost use Rattle.std.specs.Io.Buffered.{writer_buffer, writer_contents};
 ghost use Rattle.std.specs.Io.KnownBytes.{Keeps};
-ghost use Rattle.pattern_commands.specs.Complaints.{complaint_line};
+ghost use Rattle.pattern_commands.specs.Complaints.{write_failed_line};
 ghost use Rattle.pattern_commands.specs.Status.{has_printed};
 ghost use Rattle.pattern_commands.specs.Streams.{stream, HasLine};
 
 use crate::complaint::Complaint;
 use crate::status::Status;
 use arrayvec::ArrayVec;
-use plane_core::output::Out;
+use plane_core::output::{Out, WriteError};
 use std::alloc::Global;
 use std::io::{BufWriter, Write};
 
@@ -36,15 +36,19 @@ pub fn send_buffered<W: Write + Drop, E: Write>(
     ensures failed { result ≢ status → result ≡ Status.Failed }
     ensures stays { errors.old.failed ≡ true → errors.new.failed ≡ true }
     ensures line { result ≢ status → errors.old.failed ≡ false
-        → HasLine (stream E.contents errors.old errors.new) (complaint_line Complaint.WriteFailed) }
+        → HasLine (stream E.contents errors.old errors.new) write_failed_line }
 {
-    if !has_printed(status) || buffered.flush().is_ok() {
+    if !has_printed(status) {
         return status;
     }
+    let error = match buffered.flush() {
+        Ok(()) => return status,
+        Err(error) => WriteError::of_stream(&error),
+    };
     if errors.failed() {
         return Status::Failed;
     }
-    Complaint::WriteFailed.tell(errors)
+    Complaint::WriteFailed(error).tell(errors)
 }
 
 /// Whether a command with this status printed its whole text.

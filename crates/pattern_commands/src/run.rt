@@ -1,4 +1,5 @@
 ghost use Rattle.std.specs.Prelude.{◌≡◌, ◌≤◌, ℕ, List, false, is_ok, IsErr, IfOk, IfErr, true};
+ghost use Rattle.memory.specs.Evidence.{out_of_memory};
 ghost use Rattle.plane_core.specs.Generations.{after};
 ghost use Rattle.pattern_commands.specs.Answers.{IsInput, only};
 ghost use Rattle.pattern_commands.specs.Complaints.{status_of};
@@ -68,7 +69,7 @@ fn run<R: Read, W: Write>(
     ensures rule_first { IfErr (rule_named rule_text.now) (λ complaint.
         (result ≡ Err complaint) × (input.new ≡ input.old)) }
     ensures untouched { IfErr result (λ complaint. status_of complaint ≡ Status.Refused → output.new ≡ output.old) }
-    ensures no_memory { IfErr result (λ complaint. complaint ≡ Complaint.Memory → output.new ≡ output.old) }
+    ensures no_memory { IfErr result (λ complaint. complaint ≡ Complaint.Memory out_of_memory → output.new ≡ output.old) }
 {
     let rule = Rule::read(rule_text)?;
     let pattern = read_pattern(alloc, input)?;
@@ -88,11 +89,11 @@ fn generation_after(
     requires generations { generations ≤ 100000 }
     requires small { LiesWithin999 pattern.now }
     ensures ok { IfOk result (λ later. later ≡ after rule.now pattern.now generations) }
-    ensures err { IfErr result (λ complaint. complaint ≡ Complaint.Memory) }
+    ensures err { IfErr result (λ complaint. complaint ≡ Complaint.Memory out_of_memory) }
 {
     match pattern.run(alloc, rule, generations) {
         Ok(later) => Ok(later),
         Err(StepError::Edge) => unreachable!(),
-        Err(StepError::Memory) => Err(Complaint::Memory),
+        Err(StepError::Memory(error)) => Err(Complaint::Memory(error)),
     }
 }

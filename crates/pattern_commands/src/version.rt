@@ -1,4 +1,5 @@
 ghost use Rattle.std.specs.Prelude.{◌≡◌, ◌≢◌, ℕ, List, Option, false, true, IfErr};
+ghost use Rattle.plane_core.specs.declared.output.WriteError.{WriteError};
 ghost use Rattle.pattern_commands.specs.Answers.{only};
 ghost use Rattle.pattern_commands.specs.Ends.{Ends};
 ghost use Rattle.pattern_commands.specs.Streams.{stream};
@@ -34,7 +35,7 @@ pub fn do_version<W: Write, E: Write>(output: &mut Out<W>, errors: &mut Out<E>) 
 fn put_version<W: Write>(output: &mut Out<W>) -> Result<(), Complaint>
     requires { output.old.failed ≡ false }
     ensures reached { ReachesText false true (only version_answer) result (stream W.contents output.old output.new) }
-    ensures failed { IfErr result (λ complaint. complaint ≡ Complaint.WriteFailed) }
+    ensures failed { IfErr result (λ complaint. (error : WriteError) × (complaint ≡ Complaint.WriteFailed error)) }
 {
     output.put(b"census 0.2.0\n")?;
     Ok(())

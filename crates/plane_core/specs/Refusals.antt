@@ -14,14 +14,14 @@ use Rattle.plane_core.specs.Generations.{touches_edge}
 -- the first cell past the bound is named; `Memory` comes only if every cell is on the plane
 abbrev pub RefusesCells : List Cell → FromCellsError → Type 0
 RefusesCells cells (OutOfPlane index) = position off_plane cells ≡ Some index
-RefusesCells cells Memory = position off_plane cells ≡ None
+RefusesCells cells (Memory error) = position off_plane cells ≡ None
 
 -- `Edge` comes if a cell is on the edge; `Memory` only if none is
 abbrev pub RefusesStep : List Cell → StepError → Type 0
 RefusesStep cells step.Edge = touches_edge cells ≡ true
-RefusesStep cells step.Memory = touches_edge cells ≡ false
+RefusesStep cells (step.Memory error) = touches_edge cells ≡ false
 
 -- `OutOfPlane` comes if a cell lies past the bound; `Memory` only if every cell is on the plane
 abbrev pub RefusesPlace : List Cell → PlaceError → Type 0
 RefusesPlace cells place.OutOfPlane = list_all on_plane cells ≡ false
-RefusesPlace cells place.Memory = list_all on_plane cells ≡ true
+RefusesPlace cells (place.Memory error) = list_all on_plane cells ≡ true

@@ -22,7 +22,7 @@ ghost use Rattle.plane_core.specs.Words.{life, one_if};
 
 use crate::lanes::{Sum, Total, choice, summed};
 use crate::rule::Rule;
-use std::simd::prelude::*;
+use std::simd::u64x4;
 
 /// What answers which cells live next.
 pub(crate) trait Answering {

@@ -47,7 +47,8 @@ use crate::place::Place;
 use crate::rule::Rule;
 use crate::runs::boxes_round;
 use crate::spans::{Span, empty, widen_by, widen_by_cells};
-use std::alloc::{AllocError, Global};
+use memory::OutOfMemory;
+use std::alloc::Global;
 use std::marker::Model;
 
 /// For how many cells there is room from the start where a pattern is read: it takes a kilobyte.
@@ -95,8 +96,8 @@ impl Board {
     ///
     /// # Errors
     ///
-    /// `AllocError` if memory runs out.
-    pub fn new(alloc: Global, rule: &Rule) -> Result<Board, AllocError>
+    /// `OutOfMemory` if memory runs out.
+    pub fn new(alloc: Global, rule: &Rule) -> Result<Board, OutOfMemory>
         ensures rule { IfOk result (λ board. board.rule ≡ rule.now) }
         ensures cells { IfOk result (λ board. board.cells ≡ []) }
     {
@@ -108,8 +109,8 @@ impl Board {
     ///
     /// # Errors
     ///
-    /// `AllocError` if memory runs out.
-    pub fn small(alloc: Global, rule: &Rule) -> Result<Board, AllocError>
+    /// `OutOfMemory` if memory runs out.
+    pub fn small(alloc: Global, rule: &Rule) -> Result<Board, OutOfMemory>
         ensures rule { IfOk result (λ board. board.rule ≡ rule.now) }
         ensures cells { IfOk result (λ board. board.cells ≡ []) }
     {
@@ -122,7 +123,7 @@ impl Board {
         rule: &Rule,
         at: Frame,
         pattern: &Pattern,
-    ) -> Result<Board, AllocError>
+    ) -> Result<Board, OutOfMemory>
         requires frame { IsFrame at }
         requires plane { AreSidesWithin plane_bound (bounds_of at) }
         requires on { LieOn at pattern.now }
@@ -135,7 +136,7 @@ impl Board {
     }
 
     /// An empty board.
-    fn blank(alloc: Global, rule: &Rule, at: Frame) -> Result<Board, AllocError>
+    fn blank(alloc: Global, rule: &Rule, at: Frame) -> Result<Board, OutOfMemory>
         requires frame { IsFrame at }
         requires plane { AreSidesWithin plane_bound (bounds_of at) }
         ensures at { IfOk result (λ board. board.at ≡ at) }
@@ -162,8 +163,8 @@ impl Board {
     ///
     /// # Errors
     ///
-    /// `AllocError` if memory runs out. Then the board shows nothing that is known.
-    pub fn show(&mut self, rule: &Rule, pattern: &Pattern) -> Result<bool, AllocError>
+    /// `OutOfMemory` if memory runs out. Then the board shows nothing that is known.
+    pub fn show(&mut self, rule: &Rule, pattern: &Pattern) -> Result<bool, OutOfMemory>
         ensures rule { self.new.rule ≡ rule.now }
         ensures shown { IfOk result (λ shown. shown ≡ true → self.new.cells ≡ pattern.now) }
         ensures none { IfOk result (λ shown. shown ≡ false → self.new.cells ≡ []) }
@@ -207,7 +208,7 @@ impl Board {
     }
 
     /// Puts a pattern on an empty board, which is to lie here.
-    fn place(&mut self, at: Frame, pattern: &Pattern) -> Result<(), AllocError>
+    fn place(&mut self, at: Frame, pattern: &Pattern) -> Result<(), OutOfMemory>
         requires frame { IsFrame at }
         requires plane { AreSidesWithin plane_bound (bounds_of at) }
         requires on { LieOn at pattern.now }
@@ -237,8 +238,8 @@ impl Board {
     ///
     /// # Errors
     ///
-    /// `AllocError` if memory runs out. Then the board shows nothing that is known.
-    pub fn advance(&mut self, most: u32) -> Result<u32, AllocError>
+    /// `OutOfMemory` if memory runs out. Then the board shows nothing that is known.
+    pub fn advance(&mut self, most: u32) -> Result<u32, OutOfMemory>
         ensures rule { self.new.rule ≡ self.old.rule }
         ensures most { IfOk result (λ made. made ≤ most) }
         ensures after { IfOk result (λ made. self.new.cells ≡ after self.old.rule self.old.cells made) }
@@ -249,7 +250,7 @@ impl Board {
     }
 
     /// Makes one or three generations, if most is odd, so that an even number of them is left.
-    fn advance_odd(&mut self, most: u32) -> Result<u32, AllocError>
+    fn advance_odd(&mut self, most: u32) -> Result<u32, OutOfMemory>
         ensures rule { self.new.rule ≡ self.old.rule }
         ensures most { IfOk result (λ made. made ≤ most) }
         ensures after { IfOk result (λ made. self.new.cells ≡ after self.old.rule self.old.cells made) }
@@ -263,7 +264,7 @@ impl Board {
     }
 
     /// Goes on by leaps of four generations, and two at the end.
-    fn advance_even(&mut self, most: u32) -> Result<u32, AllocError>
+    fn advance_even(&mut self, most: u32) -> Result<u32, OutOfMemory>
         ensures rule { self.new.rule ≡ self.old.rule }
         ensures most { IfOk result (λ made. made ≤ most) }
         ensures after { IfOk result (λ made. self.new.cells ≡ after self.old.rule self.old.cells made) }
@@ -293,7 +294,7 @@ impl Board {
 
     /// Makes one leap of so many generations, unless it would come too near to the border of the board, or it is an odd
     /// number, and the boxes may not hold all live cells. Returns whether it was made.
-    fn leap(&mut self, count: u32) -> Result<bool, AllocError>
+    fn leap(&mut self, count: u32) -> Result<bool, OutOfMemory>
         requires some { 1 ≤ count }
         requires few { count ≤ 4 }
         ensures rule { self.new.rule ≡ self.old.rule }
@@ -331,7 +332,7 @@ impl Board {
     }
 
     /// The cells, in order, with room for so many from the start.
-    pub(crate) fn cells(&self, alloc: Global, room: usize) -> Result<Vec<Cell>, AllocError>
+    pub(crate) fn cells(&self, alloc: Global, room: usize) -> Result<Vec<Cell>, OutOfMemory>
         ensures cells { IfOk result (λ cells. cells.items ≡ self.now.cells) }
         ensures pattern { IsPattern self.now.cells }
     {
@@ -348,8 +349,8 @@ impl Board {
     ///
     /// # Errors
     ///
-    /// `AllocError` if memory runs out.
-    pub fn pattern(&self, alloc: Global) -> Result<Pattern, AllocError>
+    /// `OutOfMemory` if memory runs out.
+    pub fn pattern(&self, alloc: Global) -> Result<Pattern, OutOfMemory>
         ensures { IfOk result (λ pattern. pattern ≡ self.now.cells) }
     {
         let cells = self.cells(alloc, ROOM)?;
@@ -397,7 +398,7 @@ fn leap_by(
     boxes: &mut Vec<Bounds>,
     lists: &mut Lists,
     count: u32,
-) -> Result<bool, AllocError>
+) -> Result<bool, OutOfMemory>
     requires life { is_life ≡ true → answers.now.rule ≡ life }
     requires frame { IsFrame at }
     requires long { FillsFrame at words.old }
@@ -434,7 +435,7 @@ fn leap_on<A: Answering>(
     boxes: &mut Vec<Bounds>,
     lists: &mut Lists,
     count: u32,
-) -> Result<bool, AllocError>
+) -> Result<bool, OutOfMemory>
     requires frame { IsFrame at }
     requires long { FillsFrame at words.old }
     requires lanes { length spans.old ≡ at.lanes }

@@ -23,7 +23,7 @@ use crate::bounds::Bounds;
 use crate::cell::Cell;
 use crate::change::Change;
 use crate::place::Place;
-use std::alloc::AllocError;
+use memory::OutOfMemory;
 
 /// With how many of the last boxes a cell is compared.
 const LAST_BOXES: usize = 16;
@@ -33,7 +33,7 @@ pub(crate) fn next_boxes(
     places: &[Place],
     changes: &[Change],
     boxes: &mut Vec<Bounds>,
-) -> Result<(), AllocError>
+) -> Result<(), OutOfMemory>
     requires one_each { length places.now ≡ length changes.now }
     requires reach { All IsInReach places.now }
     ensures differences { OnOk result
@@ -51,7 +51,7 @@ pub(crate) fn next_boxes(
 
 /// Puts a box, if there is one, after the others.
 #[inline(always)]
-fn push_some(found: Option<Bounds>, boxes: &mut Vec<Bounds>) -> Result<(), AllocError>
+fn push_some(found: Option<Bounds>, boxes: &mut Vec<Bounds>) -> Result<(), OutOfMemory>
     ensures kept { OnOk result ((c : Cell) → IsInOne boxes.old.items c → IsInOne boxes.new.items c) }
     ensures added { OnOk result
         ((c : Cell) → IsSomeAnd found (λ b. IsWithin b c) → IsInOne boxes.new.items c) }
@@ -67,7 +67,7 @@ fn push_some(found: Option<Bounds>, boxes: &mut Vec<Bounds>) -> Result<(), Alloc
 
 /// Widens the boxes of the list, and adds others to it, so that they have these cells in them as well. If memory runs
 /// out, they have at least what they had.
-pub(crate) fn put_in_boxes(cells: &[Cell], boxes: &mut Vec<Bounds>) -> Result<(), AllocError>
+pub(crate) fn put_in_boxes(cells: &[Cell], boxes: &mut Vec<Bounds>) -> Result<(), OutOfMemory>
     ensures near { (n : ℕ) (c : Cell) → IsNearOne n boxes.old.items c → IsNearOne n boxes.new.items c }
     ensures held { OnOk result (HoldAll boxes.new.items cells.now) }
     ensures sides { (n : ℕ) → lies_within n cells.now ≡ true → All (AreSidesWithin n) boxes.old.items
@@ -80,7 +80,7 @@ pub(crate) fn put_in_boxes(cells: &[Cell], boxes: &mut Vec<Bounds>) -> Result<()
 }
 
 /// Widens a box that is near the cell so that it has the cell in it. If there is none, the cell gets a new one.
-fn put_in_box(cell: Cell, boxes: &mut Vec<Bounds>) -> Result<(), AllocError>
+fn put_in_box(cell: Cell, boxes: &mut Vec<Bounds>) -> Result<(), OutOfMemory>
     ensures kept { (c : Cell) → IsInOne boxes.old.items c → IsInOne boxes.new.items c }
     ensures near { (n : ℕ) (c : Cell) → IsNearOne n boxes.old.items c → IsNearOne n boxes.new.items c }
     ensures held { OnOk result (IsInOne boxes.new.items cell) }

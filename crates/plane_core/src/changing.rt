@@ -11,7 +11,7 @@ use crate::flood::INSIDE;
 use crate::rows::unpacked;
 use crate::stray::Spot;
 use crate::window::generations;
-use std::simd::prelude::*;
+use std::simd::u64x4;
 
 /// The columns in the middle of a window, where a cell that changes is looked for first.
 const MIDDLE: u64 = 0x0000_0fff_fff0_0000;

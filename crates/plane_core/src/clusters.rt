@@ -17,7 +17,8 @@ ghost use Rattle.plane_core.specs.Forest.{IsForest, JoinsAll};
 use crate::cell::Cell;
 use crate::forest::forest;
 use crate::pattern::Pattern;
-use std::alloc::{AllocError, Global};
+use memory::OutOfMemory;
+use std::alloc::Global;
 
 impl Pattern {
     /// The clusters, ordered by their first cells.
@@ -26,8 +27,8 @@ impl Pattern {
     ///
     /// # Errors
     ///
-    /// `AllocError` if memory runs out.
-    pub fn clusters(&self, alloc: Global) -> Result<Vec<Pattern>, AllocError>
+    /// `OutOfMemory` if memory runs out.
+    pub fn clusters(&self, alloc: Global) -> Result<Vec<Pattern>, OutOfMemory>
         ensures clusters { IfOk result (λ clusters. AreClusters self.now clusters.items) }
         ensures patterns { IfOk result (λ clusters. All IsPattern clusters.items) }
     {
@@ -63,7 +64,7 @@ pub fn clusters_move_along()
 {}
 
 /// The trees of a forest, each as the pattern of its cells.
-fn gathered(alloc: Global, cells: &[Cell], parents: &[usize]) -> Result<Vec<Pattern>, AllocError>
+fn gathered(alloc: Global, cells: &[Cell], parents: &[usize]) -> Result<Vec<Pattern>, OutOfMemory>
     requires pattern { IsPattern cells.now }
     requires forest { IsForest cells.now parents.now }
     requires joined { JoinsAll cells.now parents.now (length cells.now) }
@@ -90,7 +91,7 @@ fn gathered(alloc: Global, cells: &[Cell], parents: &[usize]) -> Result<Vec<Patt
 const COMMON_SIZE: usize = 8;
 
 /// Begins a cluster with this cell, after the others. The result is its number.
-fn begin(alloc: Global, clusters: &mut Vec<Pattern>, cell: Cell) -> Result<usize, AllocError>
+fn begin(alloc: Global, clusters: &mut Vec<Pattern>, cell: Cell) -> Result<usize, OutOfMemory>
     requires { IsPattern (cell ∷ []) }
     ensures number { IfOk result (λ number. number ≡ length clusters.old.items) }
     ensures cluster { OnOk result (clusters.new.items ≡ clusters.old.items ++ (cell ∷ []) ∷ []) }
@@ -103,7 +104,7 @@ fn begin(alloc: Global, clusters: &mut Vec<Pattern>, cell: Cell) -> Result<usize
 }
 
 /// Puts a cell at the end of a cluster.
-fn extend(clusters: &mut [Pattern], number: usize, cell: Cell) -> Result<(), AllocError>
+fn extend(clusters: &mut [Pattern], number: usize, cell: Cell) -> Result<(), OutOfMemory>
     requires number { number < length clusters.old }
     requires pattern { IsPattern (get_or clusters.old number [] ++ cell ∷ []) }
     ensures { OnOk result (clusters.new ≡ set clusters.old number (get_or clusters.old number [] ++ cell ∷ [])) }

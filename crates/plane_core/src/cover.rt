@@ -25,7 +25,7 @@ ghost use Rattle.plane_core.specs.declared.cell.Cell.{Cell};
 use crate::bounds::Bounds;
 use crate::frame::Frame;
 use crate::place::Place;
-use std::alloc::AllocError;
+use memory::OutOfMemory;
 
 /// With how many of the last rectangles a box may be united.
 const UNITED_AT_ONCE: usize = 16;
@@ -43,7 +43,7 @@ pub(crate) fn cover(
     boxes: &[Bounds],
     rectangles: &mut Vec<Bounds>,
     places: &mut Vec<Place>,
-) -> Result<(), AllocError>
+) -> Result<(), OutOfMemory>
     requires { All (AreSidesWithin box_bound) boxes.now }
     ensures { OnOk result (AreCovered places.new.items boxes.now) }
 {
@@ -67,7 +67,7 @@ pub(crate) fn are_on_board(at: Frame, places: &[Place]) -> bool
 }
 
 /// Rectangles round the boxes, with four columns and rows more on each side, in place of those of the list.
-fn unite(boxes: &[Bounds], rectangles: &mut Vec<Bounds>) -> Result<(), AllocError>
+fn unite(boxes: &[Bounds], rectangles: &mut Vec<Bounds>) -> Result<(), OutOfMemory>
     requires { All (AreSidesWithin box_bound) boxes.now }
     ensures near { OnOk result ((c : Cell) → IsNearOne 4 boxes.now c → IsInOne rectangles.new.items c) }
     ensures sides { OnOk result (All (AreSidesWithin rectangle_bound) rectangles.new.items) }
@@ -164,7 +164,7 @@ fn windows_for(rectangle: Bounds) -> u64 {
 }
 
 /// Lays windows over the rectangles, in place of those of the list.
-fn tile(rectangles: &[Bounds], places: &mut Vec<Place>) -> Result<(), AllocError>
+fn tile(rectangles: &[Bounds], places: &mut Vec<Place>) -> Result<(), OutOfMemory>
     requires { All (AreSidesWithin rectangle_bound) rectangles.now }
     ensures { OnOk result ((c : Cell) → IsInOne rectangles.now c → IsCovered places.new.items c) }
 {
@@ -176,7 +176,7 @@ fn tile(rectangles: &[Bounds], places: &mut Vec<Place>) -> Result<(), AllocError
 }
 
 /// Lays windows over a rectangle, row by row.
-fn lay(rectangle: Bounds, places: &mut Vec<Place>) -> Result<(), AllocError>
+fn lay(rectangle: Bounds, places: &mut Vec<Place>) -> Result<(), OutOfMemory>
     requires { AreSidesWithin rectangle_bound rectangle }
     ensures kept { OnOk result ((c : Cell) → IsCovered places.old.items c → IsCovered places.new.items c) }
     ensures laid { OnOk result ((c : Cell) → IsWithin rectangle c → IsCovered places.new.items c) }
@@ -200,7 +200,7 @@ fn row_of(down: Spans, i: u32) -> i32
 }
 
 /// Lays windows side by side, whose inner parts begin in this row.
-fn lay_row(across: Spans, top: i32, places: &mut Vec<Place>) -> Result<(), AllocError>
+fn lay_row(across: Spans, top: i32, places: &mut Vec<Place>) -> Result<(), OutOfMemory>
     requires top { unsigned_abs top ≤ 2 ^ 26 }
     requires first { unsigned_abs across.first ≤ 2 ^ 26 }
     requires count { across.count ≤ 2 ^ 20 }

@@ -17,7 +17,8 @@ ghost use Rattle.plane_core.specs.Differences.{DiffersOnlyIn};
 
 use crate::change::Change;
 use crate::placed::INNER;
-use std::simd::prelude::*;
+use std::simd::cmp::SimdPartialEq;
+use std::simd::u64x4;
 
 /// The inner columns of a row, or none.
 #[inline(always)]

@@ -24,7 +24,8 @@ ghost use Rattle.plane_core.specs.declared.cell.Cell.{Cell};
 
 use crate::cell::Cell;
 use crate::coordinate::{along, apart, stepped};
-use std::alloc::{AllocError, Global};
+use memory::OutOfMemory;
+use std::alloc::Global;
 
 /// The first places that may be near, in the two rows above a cell.
 #[derive(Clone, Copy)]
@@ -34,7 +35,7 @@ struct Cursors {
 }
 
 /// The forest of a pattern: for each place the one to which it leads.
-pub(crate) fn forest(alloc: Global, cells: &[Cell]) -> Result<Vec<usize>, AllocError>
+pub(crate) fn forest(alloc: Global, cells: &[Cell]) -> Result<Vec<usize>, OutOfMemory>
     requires { IsPattern cells.now }
     ensures forest { IfOk result (λ parents. IsForest cells.now parents.items) }
     ensures joined { IfOk result (λ parents. JoinsAll cells.now parents.items (length cells.now)) }
@@ -45,7 +46,7 @@ pub(crate) fn forest(alloc: Global, cells: &[Cell]) -> Result<Vec<usize>, AllocE
 }
 
 /// So many places, each a root.
-fn roots(alloc: Global, count: usize) -> Result<Vec<usize>, AllocError>
+fn roots(alloc: Global, count: usize) -> Result<Vec<usize>, OutOfMemory>
     ensures count { IfOk result (λ parents. length parents.items ≡ count) }
     ensures roots { IfOk result (λ parents. (k : ℕ) → k < count → parent_of parents.items k ≡ k) }
 {

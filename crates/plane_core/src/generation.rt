@@ -1,4 +1,5 @@
 ghost use Rattle.std.specs.Prelude.{◌≡◌, ◌≢◌, ℕ, ◌+◌, ◌-◌, ◌<◌, ◌≤◌, true, false, IfOk, IfErr, IfSome, OnOk, IsErrOf};
+ghost use Rattle.memory.specs.Evidence.{out_of_memory};
 ghost use Rattle.plane_core.specs.Cells.{has, plane_bound};
 ghost use Rattle.plane_core.specs.Generations.{next, after, lives, touches_edge, lies_within, NextMoved, NextTurned};
 ghost use Rattle.plane_core.specs.Generations.{SpeedFromOrigin, SpeedOfCells, SpeedOfLight};
@@ -17,7 +18,8 @@ use crate::pattern::Pattern;
 use crate::rule::Rule;
 use crate::small::next_in_window;
 use crate::tally;
-use std::alloc::{AllocError, Global};
+use memory::OutOfMemory;
+use std::alloc::Global;
 use thiserror::Error;
 
 /// Why a pattern has no next generation.
@@ -28,7 +30,7 @@ pub enum StepError {
     Edge,
     /// Memory ran out.
     #[error("out of memory")]
-    Memory,
+    Memory(OutOfMemory),
 }
 
 /// The most generations on one board. Then the pattern is read back and a board is laid out anew, so that it is no
@@ -38,11 +40,11 @@ const STRETCH: u32 = 256;
 /// The most cuts that lead to a part of a pattern. Each is near the middle, so there may be very many parts.
 const CUTS: u32 = 40;
 
-impl From<AllocError> for StepError {
-    ghost from_gives = { λ _ e. e ≡ Memory };
+impl<E: Into<OutOfMemory>> From<E> for StepError {
+    ghost from_gives = { λ _ e. e ≡ Memory out_of_memory };
 
-    fn from(_e: AllocError) -> StepError {
-        StepError::Memory
+    fn from(refused: E) -> StepError {
+        StepError::Memory(refused.into())
     }
 }
 
@@ -71,7 +73,7 @@ impl Pattern {
     }
 
     /// The next generation: in a window if it fits, on a board if one is worth it, and else cell by cell.
-    fn next(&self, alloc: Global, rule: &Rule) -> Result<Pattern, AllocError>
+    fn next(&self, alloc: Global, rule: &Rule) -> Result<Pattern, OutOfMemory>
         requires { touches_edge self.now ≡ false }
         ensures { IfOk result (λ pattern. pattern ≡ next rule.now self.now) }
     {
@@ -85,7 +87,7 @@ impl Pattern {
     }
 
     /// The next generation, on a board if one is worth it.
-    fn next_on_board(&self, alloc: Global, rule: &Rule) -> Result<Option<Pattern>, AllocError>
+    fn next_on_board(&self, alloc: Global, rule: &Rule) -> Result<Option<Pattern>, OutOfMemory>
         ensures { IfOk result (λ ran. IfSome ran (λ pattern. pattern ≡ next rule.now self.now)) }
     {
         match Frame::for_a_step(self) {
@@ -95,7 +97,7 @@ impl Pattern {
     }
 
     /// The next generation, counted cell by cell.
-    fn counted(&self, alloc: Global, rule: &Rule) -> Result<Pattern, AllocError>
+    fn counted(&self, alloc: Global, rule: &Rule) -> Result<Pattern, OutOfMemory>
         requires { touches_edge self.now ≡ false }
         ensures { IfOk result (λ pattern. pattern ≡ next rule.now self.now) }
     {
@@ -165,7 +167,7 @@ impl Pattern {
         rule: &Rule,
         generations: u32,
         cuts: u32,
-    ) -> Result<Option<Pattern>, AllocError>
+    ) -> Result<Option<Pattern>, OutOfMemory>
         requires { generations ≤ 1000 }
         ensures { IfOk result (λ ran. IfSome ran (HasRun rule.now self.now generations)) }
     {
@@ -193,7 +195,7 @@ impl Pattern {
         alloc: Global,
         rule: &Rule,
         generations: u32,
-    ) -> Result<Option<Pattern>, AllocError>
+    ) -> Result<Option<Pattern>, OutOfMemory>
         requires { generations ≤ 1000 }
         ensures { IfOk result (λ ran. IfSome ran (HasRun rule.now self.now generations)) }
     {
@@ -210,7 +212,7 @@ impl Pattern {
         rule: &Rule,
         at: Frame,
         generations: u32,
-    ) -> Result<Option<Pattern>, AllocError>
+    ) -> Result<Option<Pattern>, OutOfMemory>
         requires frame { IsFrame at }
         requires plane { AreSidesWithin plane_bound (bounds_of at) }
         requires on { LieOn at self.now }

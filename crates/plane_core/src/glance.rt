@@ -30,7 +30,7 @@ use crate::place::Place;
 use crate::refusing::refuses;
 use crate::rows::packed;
 use crate::rule::Rule;
-use std::simd::prelude::*;
+use std::simd::u64x4;
 
 /// A place in the window: columns and rows from its first cell.
 #[derive(Clone, Copy)]

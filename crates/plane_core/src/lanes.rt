@@ -10,7 +10,7 @@
 ghost use Rattle.std.specs.Prelude.{◌≡◌, ◌==◌, ◌+◌, ◌*◌, ◌<◌, ℕ, if◌then◌else◌, slice_index};
 ghost use Rattle.plane_core.specs.Lanes.{bit_of, row_sum, sum_of, total_of};
 
-use std::simd::prelude::*;
+use std::simd::u64x4;
 
 /// A sum of up to three cells in two binary digits, for each bit of four words.
 #[derive(Clone, Copy)]

@@ -21,8 +21,8 @@ use crate::frame::Frame;
 use crate::place::Place;
 use crate::placed::{column_of, read, row_of, unpacked, write};
 use crate::window::generations;
-use std::alloc::AllocError;
-use std::simd::prelude::*;
+use memory::OutOfMemory;
+use std::simd::u64x4;
 
 /// The rows of a window that was run, and where it has changed.
 #[derive(Clone, Copy)]
@@ -76,7 +76,7 @@ fn run_all<A: Answering>(
     count: usize,
     held: &mut Vec<[u64; 40]>,
     changes: &mut Vec<Change>,
-) -> Result<(), AllocError>
+) -> Result<(), OutOfMemory>
     requires frame { IsFrame at }
     requires long { FillsFrame at words.now }
     requires on_board { All (IsOnBoard at) places.now }
@@ -123,7 +123,7 @@ pub(crate) fn leap<A: Answering>(
     count: usize,
     held: &mut Vec<[u64; 40]>,
     changes: &mut Vec<Change>,
-) -> Result<(), AllocError>
+) -> Result<(), OutOfMemory>
     requires frame { IsFrame at }
     requires long { FillsFrame at words.old }
     requires on_board { All (IsOnBoard at) places.now }

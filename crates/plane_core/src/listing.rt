@@ -25,7 +25,8 @@ use crate::cell::Cell;
 use crate::frame::Frame;
 use crate::pattern::in_order;
 use crate::spans::{Span, hull_of};
-use std::alloc::{AllocError, Global};
+use memory::OutOfMemory;
+use std::alloc::Global;
 
 /// All cells of a board, which lie in these spans. For so many there is room from the start. They come in their order,
 /// so it costs little to see to that.
@@ -35,7 +36,7 @@ pub(crate) fn list(
     words: &[u64],
     spans: &[Span],
     room: usize,
-) -> Result<Vec<Cell>, AllocError>
+) -> Result<Vec<Cell>, OutOfMemory>
     requires frame { IsFrame at }
     requires long { FillsFrame at words.now }
     requires spans { length spans.now ≡ at.lanes }
@@ -55,7 +56,7 @@ pub(crate) fn list(
 }
 
 /// Reads the cells of a word, whose first cell this is, and adds them to a list.
-fn read_word(word: u64, first: Cell, cells: &mut Vec<Cell>) -> Result<(), AllocError>
+fn read_word(word: u64, first: Cell, cells: &mut Vec<Cell>) -> Result<(), OutOfMemory>
     requires { unsigned_abs first.x ≤ 2 ^ 24 }
     ensures { OnOk result (HasRead word first cells.old.items 64 cells.new.items) }
 {
@@ -104,7 +105,7 @@ fn read_row(
     first: usize,
     end: usize,
     cells: &mut Vec<Cell>,
-) -> Result<(), AllocError>
+) -> Result<(), OutOfMemory>
     requires frame { IsFrame at }
     requires row { row < at.rows }
     requires long { FillsFrame at words.now }
@@ -131,7 +132,7 @@ fn read_band(
     lanes: Span,
     band: usize,
     cells: &mut Vec<Cell>,
-) -> Result<(), AllocError>
+) -> Result<(), OutOfMemory>
     requires frame { IsFrame at }
     requires band { band < at.rows / 8 }
     requires long { FillsFrame at words.now }

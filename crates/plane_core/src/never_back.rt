@@ -23,7 +23,7 @@ ghost use Rattle.plane_core.specs.declared.cell.Cell.{Cell};
 
 use crate::answers::Answering;
 use crate::window::generation;
-use std::simd::prelude::*;
+use std::simd::u64x4;
 
 /// The first row and the first column of a window that have a live cell.
 #[derive(Clone, Copy)]

@@ -2,14 +2,26 @@ ghost use Rattle.std.specs.Prelude.{◌≡◌, ◌<◌, ◌≤◌, [], IfOk, OnE
 ghost use Rattle.std.specs.Io.KnownBytes.{Appends};
 ghost use Rattle.plane_core.specs.Out.{Writes};
 
-use std::io::{ErrorKind, Write};
+use std::io::{self, ErrorKind, Write};
 use std::marker::Model;
 use thiserror::Error;
 
-/// A write failed or took no byte.
+/// A write failed or took no byte. Who holds one got it from a writer.
 #[derive(Clone, Copy, Debug, PartialEq, Eq, Error)]
 #[error("write failed")]
-pub struct WriteError;
+pub struct WriteError {
+    /// What the writer failed with. `None` if it took no byte, or was interrupted 2^64 times.
+    kind: Option<ErrorKind>,
+}
+
+impl WriteError {
+    /// What a writer's error says.
+    pub fn of_stream(error: &io::Error) -> WriteError {
+        WriteError {
+            kind: Some(error.kind()),
+        }
+    }
+}
 
 /// A writer that remembers that it failed.
 ///
@@ -83,15 +95,20 @@ impl<V: Write> Out<V> {
             (λ taken. Appends (V.contents self.old.writer) (V.contents self.new.writer) (take taken piece.now)) }
         ensures nothing { OnErr result (Appends (V.contents self.old.writer) (V.contents self.new.writer) []) }
     {
+        let mut kind = None;
         for _ in 0..u64::MAX {
             match self.writer.write(piece) {
-                Ok(taken) if taken > 0 => return Ok(taken),
-                Err(error) if error.kind() == ErrorKind::Interrupted => {}
-                _ => break,
+                Ok(0) => break,
+                Ok(taken) => return Ok(taken),
+                Err(error) if matches!(error.kind(), ErrorKind::Interrupted) => {}
+                Err(error) => {
+                    kind = Some(error.kind());
+                    break;
+                }
             }
         }
         self.failed = true;
-        Err(WriteError)
+        Err(WriteError { kind })
     }
 
     /// Flushes the writer: what it holds back is sent on. The `Out` must not have failed.
@@ -103,10 +120,12 @@ impl<V: Write> Out<V> {
         requires { self.old.failed ≡ false }
         ensures { Writes V.contents self.old self.new result [] }
     {
-        if self.writer.flush().is_err() {
-            self.failed = true;
-            return Err(WriteError);
+        match self.writer.flush() {
+            Ok(()) => Ok(()),
+            Err(error) => {
+                self.failed = true;
+                Err(WriteError::of_stream(&error))
+            }
         }
-        Ok(())
     }
 }

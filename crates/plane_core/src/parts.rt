@@ -11,7 +11,8 @@ ghost use Rattle.plane_core.specs.Parts.{IsCut, is_before, is_on_side, leaves_ba
 use crate::bounds::Bounds;
 use crate::cell::{BOUND, Cell};
 use crate::pattern::{Pattern, in_order};
-use std::alloc::{AllocError, Global};
+use memory::OutOfMemory;
+use std::alloc::Global;
 
 /// Which way a pattern is cut: between two columns, or between two rows.
 #[derive(Clone, Copy)]
@@ -53,7 +54,7 @@ impl Cut {
         alloc: Global,
         pattern: &Pattern,
         band: u32,
-    ) -> Result<Option<Cut>, AllocError>
+    ) -> Result<Option<Cut>, OutOfMemory>
         ensures { IfOk result (λ found. IfSome found (IsCut band pattern.now)) }
     {
         match Cut::along(alloc, Axis::Rows, pattern, band)? {
@@ -68,7 +69,7 @@ impl Cut {
         axis: Axis,
         pattern: &Pattern,
         band: u32,
-    ) -> Result<Option<Cut>, AllocError>
+    ) -> Result<Option<Cut>, OutOfMemory>
         ensures { IfOk result (λ found. IfSome found (IsCut band pattern.now)) }
     {
         let Some(bounds) = pattern.bounds() else {
@@ -133,7 +134,7 @@ impl Cut {
         alloc: Global,
         pattern: &Pattern,
         before: bool,
-    ) -> Result<Pattern, AllocError>
+    ) -> Result<Pattern, OutOfMemory>
         ensures { IfOk result (λ part. part ≡ side self before pattern.now) }
     {
         let cells = self.cells_of_side(alloc, pattern.cells(), before)?;
@@ -146,7 +147,7 @@ impl Cut {
         alloc: Global,
         cells: &[Cell],
         before: bool,
-    ) -> Result<Vec<Cell>, AllocError>
+    ) -> Result<Vec<Cell>, OutOfMemory>
         ensures { IfOk result (λ part. part.items ≡ side self before cells.now) }
     {
         let mut part = Vec::new(alloc);
@@ -173,7 +174,7 @@ fn occupied_lanes(
     low: i32,
     high: i32,
     cells: &[Cell],
-) -> Result<Vec<bool>, AllocError> {
+) -> Result<Vec<bool>, OutOfMemory> {
     let mut lanes = vec![in alloc; false; lane_of(low, high) + 1]?;
     for cell in cells {
         let lane = lane_of(low, axis.place(*cell));
@@ -219,7 +220,7 @@ fn nearer(best: Option<usize>, i: usize, middle: usize) -> usize {
 
 impl Pattern {
     /// The cells of both patterns.
-    pub(crate) fn united(&self, alloc: Global, other: &Pattern) -> Result<Pattern, AllocError>
+    pub(crate) fn united(&self, alloc: Global, other: &Pattern) -> Result<Pattern, OutOfMemory>
         ensures { IfOk result (λ whole. whole ≡ set_of (self.now ++ other.now)) }
     {
         let cells = joined(alloc, self.cells(), other.cells())?;
@@ -228,7 +229,7 @@ impl Pattern {
 }
 
 /// The cells of both lists.
-fn joined(alloc: Global, one: &[Cell], other: &[Cell]) -> Result<Vec<Cell>, AllocError>
+fn joined(alloc: Global, one: &[Cell], other: &[Cell]) -> Result<Vec<Cell>, OutOfMemory>
     ensures { IfOk result (λ cells. cells.items ≡ one.now ++ other.now) }
 {
     let mut cells = Vec::from_slice(alloc, one)?;

@@ -1,11 +1,13 @@
 ghost use Rattle.std.specs.Prelude.{◌≡◌, ◌++◌, List, [], ◌∷◌, length, IfOk, IfErr, IsTrue, OnOk, position, None};
+ghost use Rattle.memory.specs.Evidence.{out_of_memory};
 ghost use Rattle.plane_core.specs.Cells.{InOrder, IsPattern, SetsHaveOneList, cell_at, has, set_of, off_plane};
 ghost use Rattle.plane_core.specs.Refusals.{RefusesCells};
 ghost use Rattle.plane_core.specs.declared.cell.Cell.{Cell};
 ghost use Rattle.plane_core.specs.declared.pattern.FromCellsError.TheVariants.{Memory};
 
 use crate::cell::Cell;
-use std::alloc::{AllocError, Global};
+use memory::OutOfMemory;
+use std::alloc::Global;
 use std::marker::Model;
 use thiserror::Error;
 
@@ -17,14 +19,14 @@ pub enum FromCellsError {
     OutOfPlane { index: usize },
     /// Memory ran out.
     #[error("out of memory")]
-    Memory,
+    Memory(OutOfMemory),
 }
 
-impl From<AllocError> for FromCellsError {
-    ghost from_gives = { λ _ e. e ≡ Memory };
+impl<E: Into<OutOfMemory>> From<E> for FromCellsError {
+    ghost from_gives = { λ _ e. e ≡ Memory out_of_memory };
 
-    fn from(_e: AllocError) -> FromCellsError {
-        FromCellsError::Memory
+    fn from(refused: E) -> FromCellsError {
+        FromCellsError::Memory(refused.into())
     }
 }
 
@@ -73,7 +75,7 @@ impl Pattern {
     }
 
     /// Puts a cell after the others, which come before it.
-    pub(crate) fn push(&mut self, cell: Cell) -> Result<(), AllocError>
+    pub(crate) fn push(&mut self, cell: Cell) -> Result<(), OutOfMemory>
         requires { IsPattern (self.old ++ cell ∷ []) }
         ensures { OnOk result (self.new ≡ self.old ++ cell ∷ []) }
     {
@@ -85,8 +87,8 @@ impl Pattern {
     ///
     /// # Errors
     ///
-    /// `AllocError` if memory runs out.
-    pub fn copy(&self, alloc: Global) -> Result<Pattern, AllocError>
+    /// `OutOfMemory` if memory runs out.
+    pub fn copy(&self, alloc: Global) -> Result<Pattern, OutOfMemory>
         ensures { IfOk result (λ pattern. pattern ≡ self.now) }
     {
         let cells = Vec::from_slice(alloc, self.cells())?;

@@ -17,7 +17,7 @@ ghost use Rattle.plane_core.specs.Windows.{row_at};
 
 use crate::frame::Frame;
 use crate::place::Place;
-use std::simd::prelude::*;
+use std::simd::u64x4;
 
 /// The inner columns of a window, 4 to 59.
 pub(crate) const INNER: u64 = 0x0fff_ffff_ffff_fff0;

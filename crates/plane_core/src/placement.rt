@@ -2,6 +2,7 @@ ghost use Rattle.std.specs.Prelude.{◌≡◌, map, ◌≢◌, nat_le, unsigned_
 ghost use Rattle.std.specs.Prelude.{IsTrue, ◌↔◌, Some, None, IfOk, IfErr, IfSome, IfNone, OnOk, if◌then◌else◌};
 ghost use Rattle.std.specs.List.{list_all};
 ghost use Rattle.std.specs.Option.{option_map};
+ghost use Rattle.memory.specs.Evidence.{out_of_memory};
 ghost use Rattle.plane_core.specs.Bounds.{box_of, shifted};
 ghost use Rattle.plane_core.specs.Orientations.{corner_placement, landed, turned, turned_cell};
 ghost use Rattle.plane_core.specs.Cells.{moved_by, on_plane, IsPattern};
@@ -13,7 +14,8 @@ use crate::cell::Cell;
 use crate::coordinate::{negated, sum_on_plane};
 use crate::orientation::Orientation;
 use crate::pattern::{Pattern, in_order};
-use std::alloc::{AllocError, Global};
+use memory::OutOfMemory;
+use std::alloc::Global;
 use thiserror::Error;
 
 /// Why a pattern can't be put somewhere.
@@ -24,14 +26,14 @@ pub enum PlaceError {
     OutOfPlane,
     /// Memory ran out.
     #[error("out of memory")]
-    Memory,
+    Memory(OutOfMemory),
 }
 
-impl From<AllocError> for PlaceError {
-    ghost from_gives = { λ _ e. e ≡ Memory };
+impl<E: Into<OutOfMemory>> From<E> for PlaceError {
+    ghost from_gives = { λ _ e. e ≡ Memory out_of_memory };
 
-    fn from(_e: AllocError) -> PlaceError {
-        PlaceError::Memory
+    fn from(refused: E) -> PlaceError {
+        PlaceError::Memory(refused.into())
     }
 }
 
@@ -141,7 +143,7 @@ impl Placement {
     }
 
     /// Where the cells land.
-    fn place_all(self, alloc: Global, cells: &[Cell]) -> Result<Vec<Cell>, AllocError>
+    fn place_all(self, alloc: Global, cells: &[Cell]) -> Result<Vec<Cell>, OutOfMemory>
         requires cells { list_all on_plane cells.now ≡ true }
         requires landed { list_all on_plane (map (landed self) cells.now) ≡ true }
         ensures { IfOk result (λ placed. placed.items ≡ map (landed self) cells.now) }

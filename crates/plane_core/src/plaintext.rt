@@ -19,7 +19,8 @@ use crate::bounds::Bounds;
 use crate::cell::Cell;
 use crate::output::{Out, WriteError};
 use crate::pattern::Pattern;
-use std::alloc::{AllocError, Global};
+use memory::OutOfMemory;
+use std::alloc::Global;
 use std::io::Write;
 use thiserror::Error;
 
@@ -60,7 +61,7 @@ pub enum PlaintextError {
     Fault(PlaintextFault),
     /// Memory ran out.
     #[error("out of memory")]
-    Memory,
+    Memory(OutOfMemory),
 }
 
 impl Pattern {
@@ -86,7 +87,7 @@ impl Pattern {
         if let Some(fault) = fault_in(input) {
             return Err(PlaintextError::Fault(fault));
         }
-        pattern_in(alloc, input).map_err(|_| PlaintextError::Memory)
+        pattern_in(alloc, input).map_err(PlaintextError::Memory)
     }
 
     /// Writes the pattern as plaintext (LifeWiki, "Plaintext"): the rows of its least box from the top, each from the
@@ -204,7 +205,7 @@ fn small_cell(x: usize, y: usize) -> Cell
 
 /// Adds the cells of row y, each byte of which is in the first 1,000 columns and rows.
 #[tactic(auto, using(crate::proofs::PlaintextRows::live_here, crate::proofs::PlaintextRows::dead_here, crate::proofs::PlaintextRows::no_cell_past))]
-fn push_row(cells: &mut Vec<Cell>, y: usize, row: &[u8]) -> Result<(), AllocError>
+fn push_row(cells: &mut Vec<Cell>, y: usize, row: &[u8]) -> Result<(), OutOfMemory>
     requires { (x : ℕ) → x < length row.now → (x < side_limit) × (y < side_limit) }
     ensures { OnOk result
         (cells.new.items ≡ cells.old.items ++ live_cells (places_of_row (y, (0, row.now)))) }
@@ -218,7 +219,7 @@ fn push_row(cells: &mut Vec<Cell>, y: usize, row: &[u8]) -> Result<(), AllocErro
 }
 
 /// The pattern of a text that has no fault.
-fn pattern_in(alloc: Global, text: &[u8]) -> Result<Pattern, AllocError>
+fn pattern_in(alloc: Global, text: &[u8]) -> Result<Pattern, OutOfMemory>
     requires { first_fault (places text.now) ≡ None }
     ensures pattern { IfOk result (λ read. read ≡ live_cells (places text.now)) }
     ensures cells { IfOk result (λ read. (x y : ℕ) →

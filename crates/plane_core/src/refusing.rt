@@ -18,7 +18,7 @@ use crate::flood::flood;
 use crate::never_back::never_back;
 use crate::rows::{packed, unpacked};
 use crate::stray::{Spot, shows_stray};
-use std::simd::prelude::*;
+use std::simd::u64x4;
 
 /// Whether it is seen that no pattern which the window shows at this depth is at rest: one of its clusters strays from
 /// it within the horizon, or is never itself again within the period. `false` says nothing.

@@ -10,7 +10,7 @@
 ghost use Rattle.std.specs.Prelude.{◌≡◌, ◌≢◌, ◌+◌, ◌*◌, ◌<◌, ℕ, slice_index};
 ghost use Rattle.plane_core.specs.Windows.{row_at};
 
-use std::simd::prelude::*;
+use std::simd::u64x4;
 
 /// The window of these rows.
 #[inline(always)]

@@ -18,7 +18,7 @@ ghost use Rattle.plane_core.specs.declared.cell.Cell.{Cell};
 use crate::bounds::Bounds;
 use crate::boxes::box_near;
 use crate::cell::Cell;
-use std::alloc::AllocError;
+use memory::OutOfMemory;
 
 /// How far apart the cells of a run are at most.
 const GAP: u32 = 8;
@@ -29,7 +29,7 @@ const LENGTH: u32 = 48;
 /// Boxes that have all cells in them, one for each group of cells that lie together, in place of those of the list.
 /// With four columns and rows more on each side, each fits the inner part of a window. So a trail across the plane gets
 /// some boxes along it, and not one of its length and height.
-pub(crate) fn boxes_round(cells: &[Cell], boxes: &mut Vec<Bounds>) -> Result<(), AllocError>
+pub(crate) fn boxes_round(cells: &[Cell], boxes: &mut Vec<Bounds>) -> Result<(), OutOfMemory>
     ensures held { OnOk result (HoldAll boxes.new.items cells.now) }
     ensures sides { OnOk result
         ((n : ℕ) → lies_within n cells.now ≡ true → All (AreSidesWithin n) boxes.new.items) }
@@ -48,7 +48,7 @@ pub(crate) fn boxes_round(cells: &[Cell], boxes: &mut Vec<Bounds>) -> Result<(),
 
 /// The run with the cell, if this stands at its end. Else the run is put in a box, and the cell begins the next one.
 #[inline(always)]
-fn next_run(run: Bounds, cell: Cell, boxes: &mut Vec<Bounds>) -> Result<Bounds, AllocError>
+fn next_run(run: Bounds, cell: Cell, boxes: &mut Vec<Bounds>) -> Result<Bounds, OutOfMemory>
     ensures kept { OnOk result ((c : Cell) → IsInOne boxes.old.items c → IsInOne boxes.new.items c) }
     ensures run { IfOk result
         (λ next. (c : Cell) → IsWithin run c → IsWithin next c ⊎ IsInOne boxes.new.items c) }
@@ -73,7 +73,7 @@ fn is_at_end(run: Bounds, cell: Cell) -> bool {
 }
 
 /// Widens a box that is near the run so that it has the run in it. If there is none, the run is a box.
-fn put_run(run: Bounds, boxes: &mut Vec<Bounds>) -> Result<(), AllocError>
+fn put_run(run: Bounds, boxes: &mut Vec<Bounds>) -> Result<(), OutOfMemory>
     ensures kept { OnOk result ((c : Cell) → IsInOne boxes.old.items c → IsInOne boxes.new.items c) }
     ensures held { OnOk result ((c : Cell) → IsWithin run c → IsInOne boxes.new.items c) }
     ensures sides { OnOk result

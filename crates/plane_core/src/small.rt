@@ -27,8 +27,9 @@ use crate::rows::unpacked;
 use crate::rule::Rule;
 use crate::spans::Span;
 use crate::window::generation;
-use std::alloc::{AllocError, Global};
-use std::simd::prelude::*;
+use memory::OutOfMemory;
+use std::alloc::Global;
+use std::simd::u64x4;
 
 /// For how many cells there is room from the start where a pattern is listed.
 const ROOM: usize = 20;
@@ -38,7 +39,7 @@ pub(crate) fn next_in_window(
     alloc: Global,
     rule: &Rule,
     pattern: &Pattern,
-) -> Result<Option<Pattern>, AllocError>
+) -> Result<Option<Pattern>, OutOfMemory>
     ensures { IfOk result (λ made. IfSome made (λ later. later ≡ next rule.now pattern.now)) }
 {
     let Some(place) = place_round(pattern) else {
@@ -83,7 +84,7 @@ fn frame_of(place: Place) -> Frame
 }
 
 /// The pattern whose cells are these rows of a window that lies here.
-pub(crate) fn pattern_of(alloc: Global, at: Frame, rows: &[u64; 64]) -> Result<Pattern, AllocError>
+pub(crate) fn pattern_of(alloc: Global, at: Frame, rows: &[u64; 64]) -> Result<Pattern, OutOfMemory>
     requires frame { IsFrame at }
     requires plane { AreSidesWithin plane_bound (bounds_of at) }
     requires lanes { at.lanes ≡ 1 }

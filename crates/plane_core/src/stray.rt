@@ -15,7 +15,7 @@ ghost use Rattle.plane_core.specs.Refusing.{HasStray, ShowsStray};
 use crate::answers::Answering;
 use crate::never_back::{columns_of, first_row, in_any_lane, last_row, row};
 use crate::window::generation;
-use std::simd::prelude::*;
+use std::simd::u64x4;
 
 /// How many columns or rows off another cell is looked for. What lies further off rarely meets a cluster in 15
 /// generations.

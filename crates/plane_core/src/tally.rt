@@ -25,7 +25,8 @@ ghost use Rattle.plane_core.specs.declared.tally.Tally.{Tally};
 use crate::cell::Cell;
 use crate::coordinate::negated;
 use crate::rule::Rule;
-use std::alloc::{AllocError, Global};
+use memory::OutOfMemory;
+use std::alloc::Global;
 use std::cmp::Ordering;
 
 /// A cell with how many live cells were counted there, and whether it is alive itself.
@@ -62,7 +63,7 @@ impl Tally {
 
 /// For each cell in the pattern or beside it, how many live cells its neighbourhood has: the cell itself and the eight
 /// round it. Rows of three are added up first, and then three such rows.
-pub(crate) fn neighbourhoods(alloc: Global, cells: &[Cell]) -> Result<Vec<Tally>, AllocError>
+pub(crate) fn neighbourhoods(alloc: Global, cells: &[Cell]) -> Result<Vec<Tally>, OutOfMemory>
     requires { IsPattern cells.now }
     ensures { IfOk result (λ tallies. CountsNeighbourhoods cells.now tallies.items) }
 {
@@ -76,7 +77,7 @@ pub(crate) fn selected(
     alloc: Global,
     rule: &Rule,
     tallies: &[Tally],
-) -> Result<Vec<Cell>, AllocError>
+) -> Result<Vec<Cell>, OutOfMemory>
     ensures { IfOk result (λ cells. cells.items ≡ cells_of (filter (tally_lives rule.now) tallies.now)) }
 {
     let mut cells = Vec::new(alloc);
@@ -94,7 +95,7 @@ fn with_neighbours(
     tallies: &[Tally],
     dx: i32,
     dy: i32,
-) -> Result<Vec<Tally>, AllocError>
+) -> Result<Vec<Tally>, OutOfMemory>
     requires near { list_all near_plane (cells_of tallies.now) ≡ true }
     requires in_order { InOrder (cells_of tallies.now) }
     requires right { unsigned_abs dx ≤ 1 }
@@ -110,21 +111,22 @@ fn with_neighbours(
 }
 
 /// Each cell of the pattern, counted once at itself.
-fn counted(alloc: Global, cells: &[Cell]) -> Result<Vec<Tally>, AllocError>
+fn counted(alloc: Global, cells: &[Cell]) -> Result<Vec<Tally>, OutOfMemory>
     ensures { IfOk result (λ tallies. tallies.items ≡ map one_of cells.now) }
 {
-    cells
+    let tallies = cells
         .iter()
         .map(|cell| Tally {
             cell: *cell,
             count: 1,
             alive: true,
         })
-        .collect(alloc)
+        .collect(alloc)?;
+    Ok(tallies)
 }
 
 /// The tallies, each counted at the cell (dx, dy) further.
-fn moved(alloc: Global, tallies: &[Tally], dx: i32, dy: i32) -> Result<Vec<Tally>, AllocError>
+fn moved(alloc: Global, tallies: &[Tally], dx: i32, dy: i32) -> Result<Vec<Tally>, OutOfMemory>
     requires near { list_all near_plane (cells_of tallies.now) ≡ true }
     requires right { unsigned_abs dx ≤ 1 }
     requires down { unsigned_abs dy ≤ 1 }
@@ -144,7 +146,7 @@ fn merged(
     left: &[Tally],
     middle: &[Tally],
     right: &[Tally],
-) -> Result<Vec<Tally>, AllocError>
+) -> Result<Vec<Tally>, OutOfMemory>
     requires orders { InOrder (cells_of left.now) × InOrder (cells_of middle.now) × InOrder (cells_of right.now) }
     requires small { (c : Cell) → counted_at left.now c + (counted_at middle.now c + counted_at right.now c) < 256 }
     ensures { IfOk result (λ sums. IsMerged left.now middle.now right.now sums.items) }

@@ -20,7 +20,7 @@ ghost use Rattle.plane_core.specs.declared.cell.Cell.{Cell};
 
 use crate::answers::Answering;
 use crate::lanes::{across, earlier_sum, later_sum};
-use std::simd::prelude::*;
+use std::simd::u64x4;
 
 /// Makes the next generation. A vector's sums are made once, and serve the three rows that they lie in.
 #[inline(always)]

@@ -1,11 +1,12 @@
 //! What no clause says of a board: that ships are among its small clusters, and that the frontier is no further than it
 //! has to be.
+use memory::OutOfMemory;
 use plane_core::board::Board;
 use plane_core::cell::Cell;
 use plane_core::orientation::Orientation;
 use plane_core::pattern::Pattern;
 use plane_core::rule::Rule;
-use std::alloc::{AllocError, Global};
+use std::alloc::Global;
 use std::test::Fail;
 
 /// A glider, a block and a lightweight spaceship, far from each other.
@@ -31,7 +32,7 @@ const WAYS: [(Orientation, i32, i32); 8] = [
 ];
 
 /// A board of Life that shows the pattern, if it has room there.
-fn board_of(alloc: Global, pattern: &Pattern) -> Result<Board, AllocError> {
+fn board_of(alloc: Global, pattern: &Pattern) -> Result<Board, OutOfMemory> {
     let life = Rule::life();
     let mut board = Board::new(alloc, &life)?;
     let _shown = board.show(&life, pattern)?;
@@ -54,7 +55,7 @@ fn greatest(pattern: &Pattern, gone: &Pattern, across: i32, down: i32) -> Option
 }
 
 /// Gliders in 500 columns and rows, ten cells from one to the next.
-fn gliders(alloc: Global) -> Result<Vec<Cell>, AllocError> {
+fn gliders(alloc: Global) -> Result<Vec<Cell>, OutOfMemory> {
     let mut cells = Vec::new(alloc);
     for i in 0..2_500_i32 {
         let x = i % 50 * 10;

@@ -45,7 +45,7 @@ fn without_memory_a_run_is_right_or_fails(rt: HostRuntime) -> Result<(), Fail> {
     let start = Pattern::from_cells(rt.alloc(), &START)?;
     match start.run(rt.alloc(), &Rule::life(), 201) {
         Ok(later) => assert!(rt; is_right(&later)),
-        Err(e) => assert!(rt; e == StepError::Memory),
+        Err(e) => assert!(rt; matches!(e, StepError::Memory(_))),
     }
     Ok(())
 }

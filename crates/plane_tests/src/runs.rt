@@ -1,13 +1,14 @@
 //! Runs of many blinkers and gliders: no clause says that there is enough memory for them, or that a run ends in time.
+use memory::OutOfMemory;
 use plane_core::cell::Cell;
 use plane_core::generation::StepError;
 use plane_core::pattern::{FromCellsError, Pattern};
 use plane_core::rule::Rule;
-use std::alloc::{AllocError, Global};
+use std::alloc::Global;
 use std::test::Fail;
 
 /// Puts a blinker round a cell.
-fn push_blinker(cells: &mut Vec<Cell>, x: i32, y: i32, is_upright: bool) -> Result<(), AllocError> {
+fn push_blinker(cells: &mut Vec<Cell>, x: i32, y: i32, is_upright: bool) -> Result<(), OutOfMemory> {
     for step in [-1, 0, 1] {
         cells.push(if is_upright {
             Cell {
@@ -63,7 +64,7 @@ fn is_in_glider(x: i32, y: i32) -> bool {
     }
 }
 
-fn glider_cells(alloc: Global) -> Result<Vec<Cell>, AllocError> {
+fn glider_cells(alloc: Global) -> Result<Vec<Cell>, OutOfMemory> {
     let mut cells = Vec::new(alloc);
     for x in 0..1_000 {
         for y in 0..600 {

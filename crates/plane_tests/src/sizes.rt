@@ -1,11 +1,12 @@
 //! Each call that takes memory, once on nothing and once on 100,000 cells: no clause says that there is enough.
+use memory::OutOfMemory;
 use plane_core::bounds::Bounds;
 use plane_core::cell::Cell;
 use plane_core::orientation::{Orientation, orientations};
 use plane_core::output::Out;
 use plane_core::pattern::{FromCellsError, Pattern};
 use plane_core::rule::Rule;
-use std::alloc::{AllocError, Global};
+use std::alloc::Global;
 use std::test::Fail;
 
 const WIDTH: i32 = 998;
@@ -17,7 +18,7 @@ fn is_in_block(x: i32, y: i32) -> bool {
     x % 4 < 2 && y % 4 < 2
 }
 
-fn field_cells(alloc: Global) -> Result<Vec<Cell>, AllocError> {
+fn field_cells(alloc: Global) -> Result<Vec<Cell>, OutOfMemory> {
     let mut cells = Vec::new(alloc);
     for x in 0..WIDTH {
         for y in 0..HEIGHT {
@@ -35,7 +36,7 @@ fn field(alloc: Global) -> Result<Pattern, FromCellsError> {
 }
 
 /// The field in plaintext.
-fn field_text(alloc: Global) -> Result<Vec<u8>, AllocError> {
+fn field_text(alloc: Global) -> Result<Vec<u8>, OutOfMemory> {
     let mut text = Vec::new(alloc);
     for y in 0..HEIGHT {
         for x in 0..WIDTH {

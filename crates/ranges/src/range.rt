@@ -5,7 +5,8 @@ ghost use Rattle.ranges.specs.RangeSteps.{Ascending, has_numbers, shares};
 ghost use Rattle.ranges.specs.Ranges.{AreBelow, AreNormal, AreSmall, IsNormalForm, OneNormalForm, Overlap, ShareNumber};
 ghost use Rattle.ranges.specs.Ranges.{end_of, is_in, is_in_range, number_bound, size_of};
 
-use std::alloc::{AllocError, Global};
+use memory::OutOfMemory;
+use std::alloc::Global;
 use std::marker::Model;
 
 /// Soup numbers lie below this, so that there are enough of them for anybody, and sums over them stay small.
@@ -89,7 +90,7 @@ impl Ranges {
     }
 
     /// The normal form of ranges of which no two share a number.
-    pub fn normal_form(alloc: Global, ranges: &[Range]) -> Result<Ranges, AllocError>
+    pub fn normal_form(alloc: Global, ranges: &[Range]) -> Result<Ranges, OutOfMemory>
         requires below { AreBelow number_bound ranges.now }
         requires apart { ¬ Overlap ranges.now }
         ensures form { IfOk result (IsNormalForm ranges.now) }
@@ -102,7 +103,7 @@ impl Ranges {
     }
 
     /// The normal form of the numbers of both, which share none.
-    pub fn union(&self, alloc: Global, other: &Ranges) -> Result<Ranges, AllocError>
+    pub fn union(&self, alloc: Global, other: &Ranges) -> Result<Ranges, OutOfMemory>
         requires apart { ¬ ShareNumber self.now other.now }
         ensures form { IfOk result (IsNormalForm (self.now ++ other.now)) }
         ensures size { IfOk result (λ union. size_of union ≡ size_of self.now + size_of other.now) }
@@ -127,7 +128,7 @@ impl Ranges {
     }
 
     /// Equal ranges.
-    pub fn copy(&self, alloc: Global) -> Result<Ranges, AllocError>
+    pub fn copy(&self, alloc: Global) -> Result<Ranges, OutOfMemory>
         ensures { IfOk result (λ ranges. ranges ≡ self.now) }
     {
         let Ranges { ranges } = self;
@@ -162,7 +163,7 @@ pub fn small_size(ranges: &[Range]) -> Option<u64>
 }
 
 /// The ranges that aren't empty, in ascending order.
-fn ascending(alloc: Global, ranges: &[Range]) -> Result<Vec<Range>, AllocError>
+fn ascending(alloc: Global, ranges: &[Range]) -> Result<Vec<Range>, OutOfMemory>
     ensures ordered { IfOk result (λ ordered. IsNonDecreasingBy (λ r. r.first) ordered.items) }
     ensures same { IfOk result (λ ordered. IsPermutation (filter has_numbers ranges.now) ordered.items) }
 {
@@ -172,7 +173,7 @@ fn ascending(alloc: Global, ranges: &[Range]) -> Result<Vec<Range>, AllocError>
 }
 
 /// The ranges that aren't empty.
-fn with_numbers(alloc: Global, ranges: &[Range]) -> Result<Vec<Range>, AllocError>
+fn with_numbers(alloc: Global, ranges: &[Range]) -> Result<Vec<Range>, OutOfMemory>
     ensures { IfOk result (λ some. some.items ≡ filter has_numbers ranges.now) }
 {
     let mut some = Vec::new(alloc);
@@ -185,7 +186,7 @@ fn with_numbers(alloc: Global, ranges: &[Range]) -> Result<Vec<Range>, AllocErro
 }
 
 /// Ascending ranges, of which touching ones are made one.
-fn joined(alloc: Global, ascending: &[Range]) -> Result<Vec<Range>, AllocError>
+fn joined(alloc: Global, ascending: &[Range]) -> Result<Vec<Range>, OutOfMemory>
     requires ascending { Ascending ascending.now }
     requires below { AreBelow number_bound ascending.now }
     ensures form { IfOk result (λ joined. IsNormalForm ascending.now joined.items) }

@@ -8,6 +8,7 @@
 
 ghost use Rattle.std.specs.Prelude.{◌≡◌, ◌≢◌, ◌⊎◌, ◌≤◌, ◌+◌, ◌*◌, ◌^◌, ◌∷◌, [], ℕ, List, false, option_map, IfErr};
 ghost use Rattle.std.specs.Prelude.{IfNone, IfOk, IfSome, IsErrOf, MatchResult};
+ghost use Rattle.memory.specs.Evidence.{out_of_memory};
 ghost use Rattle.ranges.specs.RangeListSteps.{BeginsDecimal, BeginsNoDecimal, BeginsRange, IsNoRange, LacksComma};
 ghost use Rattle.ranges.specs.RangeListSteps.{Passes, Starts, has_digit};
 ghost use Rattle.ranges.specs.RangeLists.{FitU64, IsListText, TextsHaveOneList, list_text};
@@ -16,7 +17,8 @@ ghost use Rattle.ranges.specs.declared.range.Range.{Range as Numbers};
 ghost use Rattle.ranges.specs.declared.range_list.ListError.TheVariants.{BadList, Memory};
 
 use crate::range::Range;
-use std::alloc::{AllocError, Global};
+use memory::OutOfMemory;
+use std::alloc::Global;
 use thiserror::Error;
 
 /// Why a text is not read as a list of ranges.
@@ -28,14 +30,14 @@ pub enum ListError {
     BadList { place: usize },
     /// Memory ran out.
     #[error("out of memory")]
-    Memory,
+    Memory(OutOfMemory),
 }
 
-impl From<AllocError> for ListError {
-    ghost from_gives = { λ _ e. e ≡ Memory };
+impl<E: Into<OutOfMemory>> From<E> for ListError {
+    ghost from_gives = { λ _ e. e ≡ Memory out_of_memory };
 
-    fn from(_e: AllocError) -> ListError {
-        ListError::Memory
+    fn from(refused: E) -> ListError {
+        ListError::Memory(refused.into())
     }
 }
 
@@ -53,11 +55,11 @@ impl Range {
         ensures fit { IfOk result (λ read. FitU64 read.items) }
         ensures ranges { IfOk result (λ read. list_text read.items ≡ text.now) }
         ensures complete { (ranges : List Numbers) → FitU64 ranges → list_text ranges ≡ text.now
-            → MatchResult result (λ read. read.items ≡ ranges) (λ error. error ≡ Memory) }
+            → MatchResult result (λ read. read.items ≡ ranges) (λ error. error ≡ Memory out_of_memory) }
 
         // Which error it is.
         ensures bad_list { (place : ℕ) → IsErrOf result (BadList place) → IsFirstListFault text.now place }
-        ensures memory { IsErrOf result Memory → IsListText text.now }
+        ensures memory { IsErrOf result (Memory out_of_memory) → IsListText text.now }
     {
         let text = text.as_bytes();
         if let Some(place) = fault_in(text) {
@@ -93,7 +95,7 @@ fn fault_in(text: &[u8]) -> Option<usize>
 
 /// The ranges of a text that has no fault.
 #[tactic(auto, using(crate::proofs::ListLemmas::passed_first))]
-fn ranges_in(alloc: Global, text: &[u8]) -> Result<Vec<Range>, AllocError>
+fn ranges_in(alloc: Global, text: &[u8]) -> Result<Vec<Range>, OutOfMemory>
     requires { IsListText text.now }
     ensures fit { IfOk result (λ read. FitU64 read.items) }
     ensures text { IfOk result (λ read. list_text read.items ≡ text.now) }

@@ -23,9 +23,10 @@ use crate::harbour::Harbour;
 use crate::later::{next, run_on};
 use crate::memo::Memo;
 use crate::profile::Profile;
+use memory::OutOfMemory;
 use plane_core::pattern::Pattern;
 use plane_core::rule::Rule;
-use std::alloc::{AllocError, Global};
+use std::alloc::Global;
 use std::marker::Model;
 
 /// A pattern on its way under a rule.
@@ -69,7 +70,7 @@ impl Course {
     }
 
     /// The pattern as it is now.
-    pub(crate) fn look(&self, alloc: Global) -> Result<Pattern, AllocError>
+    pub(crate) fn look(&self, alloc: Global) -> Result<Pattern, OutOfMemory>
         ensures { IfOk result (λ pattern. pattern ≡ self.now.cells) }
     {
         match &self.place {
@@ -108,7 +109,7 @@ impl Course {
         alloc: Global,
         profile: &Profile,
         memo: &mut Memo,
-    ) -> Result<Course, AllocError>
+    ) -> Result<Course, OutOfMemory>
         requires { StaysNear self.rule self.cells profile.now.stride }
         ensures rule { IfOk result (λ course. course.rule ≡ self.rule) }
         ensures cells { IfOk result (λ course. course.cells ≡ after self.rule self.cells profile.now.stride) }
@@ -127,7 +128,7 @@ impl Course {
 }
 
 /// The pattern so many generations after what a board and its ships are: none or one.
-fn shown(alloc: Global, rule: &Rule, harbour: &Harbour, ahead: u32) -> Result<Pattern, AllocError>
+fn shown(alloc: Global, rule: &Rule, harbour: &Harbour, ahead: u32) -> Result<Pattern, OutOfMemory>
     requires rule { harbour.now.rule ≡ rule.now }
     requires few { ahead ≤ 1 }
     requires near { lies_within survey_reach harbour.now.cells ≡ true }
@@ -147,7 +148,7 @@ fn later(
     place: Kept,
     profile: &Profile,
     memo: &mut Memo,
-) -> Result<Kept, AllocError>
+) -> Result<Kept, OutOfMemory>
     requires kept { IsKept rule.now place }
     requires near { StaysNear rule.now (kept place) profile.now.stride }
     ensures cells { IfOk result (λ later. kept later ≡ after rule.now (kept place) profile.now.stride) }
@@ -172,7 +173,7 @@ fn from_list(
     pattern: Pattern,
     generations: u32,
     memo: &mut Memo,
-) -> Result<Kept, AllocError>
+) -> Result<Kept, OutOfMemory>
     requires few { generations ≤ 10001 }
     requires near { StaysNear rule.now pattern generations }
     ensures cells { IfOk result (λ place. kept place ≡ after rule.now pattern generations) }
@@ -203,7 +204,7 @@ fn on_board(
     harbour: Harbour,
     generations: u32,
     memo: &mut Memo,
-) -> Result<Kept, AllocError>
+) -> Result<Kept, OutOfMemory>
     requires rule { harbour.rule ≡ rule.now }
     requires few { generations ≤ 10001 }
     requires near { StaysNear rule.now harbour.cells generations }

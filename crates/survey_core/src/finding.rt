@@ -16,9 +16,10 @@ use crate::objects::Objects;
 use crate::profile::Profile;
 use crate::rest::clusters_at_rest;
 use crate::soup::soup;
+use memory::OutOfMemory;
 use plane_core::pattern::Pattern;
 use plane_core::rule::Rule;
-use std::alloc::{AllocError, Global};
+use std::alloc::Global;
 
 /// What becomes of a pattern.
 #[derive(Debug, Drop)]
@@ -40,8 +41,8 @@ pub enum Finding {
 ///
 /// # Errors
 ///
-/// [`AllocError`] if there is no memory.
-pub fn survey(alloc: Global, job: &Job, number: u64) -> Result<Finding, AllocError>
+/// [`OutOfMemory`] if there is no memory.
+pub fn survey(alloc: Global, job: &Job, number: u64) -> Result<Finding, OutOfMemory>
     ensures finding { IfOk result (IsFinding job.now.rule job.now.profile (soup job.now.seed number)) }
     ensures few { IfOk result (λ finding. objects_in finding < 2 ^ 64) }
 {
@@ -53,13 +54,13 @@ pub fn survey(alloc: Global, job: &Job, number: u64) -> Result<Finding, AllocErr
 ///
 /// # Errors
 ///
-/// [`AllocError`] if there is no memory.
+/// [`OutOfMemory`] if there is no memory.
 pub fn survey_with(
     alloc: Global,
     job: &Job,
     number: u64,
     memo: &mut Memo,
-) -> Result<Finding, AllocError>
+) -> Result<Finding, OutOfMemory>
     ensures finding { IfOk result (IsFinding job.now.rule job.now.profile (soup job.now.seed number)) }
     ensures few { IfOk result (λ finding. objects_in finding < 2 ^ 64) }
 {
@@ -73,13 +74,13 @@ pub fn survey_with(
 ///
 /// # Errors
 ///
-/// [`AllocError`] if there is no memory. The pattern is given up.
+/// [`OutOfMemory`] if there is no memory. The pattern is given up.
 pub fn survey_pattern(
     alloc: Global,
     profile: &Profile,
     rule: &Rule,
     pattern: Pattern,
-) -> Result<Finding, AllocError>
+) -> Result<Finding, OutOfMemory>
     requires { lies_within 1000 pattern ≡ true }
     ensures finding { IfOk result (IsFinding rule.now profile.now pattern) }
     ensures few { IfOk result (λ finding. objects_in finding < 2 ^ 64) }
@@ -100,14 +101,14 @@ pub fn survey_pattern(
 ///
 /// # Errors
 ///
-/// [`AllocError`] if there is no memory. The pattern is given up.
+/// [`OutOfMemory`] if there is no memory. The pattern is given up.
 pub fn survey_pattern_with(
     alloc: Global,
     profile: &Profile,
     rule: &Rule,
     pattern: Pattern,
     memo: &mut Memo,
-) -> Result<Finding, AllocError>
+) -> Result<Finding, OutOfMemory>
     requires { lies_within 1000 pattern ≡ true }
     ensures finding { IfOk result (IsFinding rule.now profile.now pattern) }
     ensures few { IfOk result (λ finding. objects_in finding < 2 ^ 64) }
@@ -164,7 +165,7 @@ fn look_at(
     course: &Course,
     noes: &mut Noes,
     memo: &mut Memo,
-) -> Result<Option<Finding>, AllocError>
+) -> Result<Option<Finding>, OutOfMemory>
     requires rule { course.now.rule ≡ rule.now }
     requires near { lies_within survey_reach course.now.cells ≡ true }
     requires noes { AreNoes rule.now profile.now course.now.cells checkpoint noes.old }
@@ -195,7 +196,7 @@ fn finding_at(
     checkpoint: u32,
     latest: &Pattern,
     memo: &mut Memo,
-) -> Result<Option<Finding>, AllocError>
+) -> Result<Option<Finding>, OutOfMemory>
     requires { lies_within survey_reach latest.now ≡ true }
     ensures settled { IfOk result (λ found. IfSome found (SettlesAt rule.now profile.now latest.now checkpoint)) }
     ensures moves { IfOk result (λ found. IfNone found (¬ IsAtRest rule.now profile.now latest.now)) }

@@ -18,7 +18,8 @@ ghost use Rattle.survey_core.specs.Grouping.{AreGroups, AreNumbers, Coarser, Pai
 ghost use Rattle.survey_core.specs.Groups.{renamed};
 
 use crate::sweep::{Sweep, stay_apart};
-use std::alloc::{AllocError, Global};
+use memory::OutOfMemory;
+use std::alloc::Global;
 
 /// How many clusters are grouped at the most. More are one group: each pair is looked at, and with so many that takes
 /// longer than running them side by side. A soup leaves some hundred.
@@ -30,7 +31,7 @@ pub(crate) fn groups(
     alloc: Global,
     horizon: u32,
     sweeps: &[Sweep],
-) -> Result<Vec<usize>, AllocError>
+) -> Result<Vec<usize>, OutOfMemory>
     requires { horizon ≤ 4096 }
     ensures { IfOk result (λ groups. AreGroups horizon sweeps.now groups.items) }
 {
@@ -45,7 +46,7 @@ pub(crate) fn groups(
 }
 
 /// All clusters in one group.
-fn one_group(alloc: Global, count: usize) -> Result<Vec<usize>, AllocError>
+fn one_group(alloc: Global, count: usize) -> Result<Vec<usize>, OutOfMemory>
     ensures count { IfOk result (λ groups. length groups.items ≡ count) }
     ensures one { IfOk result (λ groups. All (λ k. k ≡ 0) groups.items) }
 {
@@ -57,7 +58,7 @@ fn one_group(alloc: Global, count: usize) -> Result<Vec<usize>, AllocError>
 }
 
 /// The first numbers.
-fn numbers(alloc: Global, count: usize) -> Result<Vec<usize>, AllocError>
+fn numbers(alloc: Global, count: usize) -> Result<Vec<usize>, OutOfMemory>
     ensures count { IfOk result (λ numbers. length numbers.items ≡ count) }
     ensures below { IfOk result (λ numbers. All (λ k. k < count) numbers.items) }
 {
@@ -75,7 +76,7 @@ fn joined(
     sweeps: &[Sweep],
     place: usize,
     groups: Vec<usize>,
-) -> Result<Vec<usize>, AllocError>
+) -> Result<Vec<usize>, OutOfMemory>
     requires horizon { horizon ≤ 4096 }
     requires place { place < length sweeps.now }
     requires numbers { AreNumbers sweeps.now groups.items }
@@ -98,7 +99,7 @@ fn joined_pair(
     one: usize,
     other: usize,
     groups: Vec<usize>,
-) -> Result<Vec<usize>, AllocError>
+) -> Result<Vec<usize>, OutOfMemory>
     requires horizon { horizon ≤ 4096 }
     requires one { one < length sweeps.now }
     requires other { other < length sweeps.now }
@@ -122,7 +123,7 @@ fn renamed_all(
     groups: &[usize],
     from: usize,
     to: usize,
-) -> Result<Vec<usize>, AllocError>
+) -> Result<Vec<usize>, OutOfMemory>
     ensures { IfOk result (λ later. later.items ≡ map (renamed from to) groups.now) }
 {
     let mut later = Vec::with_capacity(alloc, groups.len())?;

@@ -21,11 +21,12 @@ ghost use Rattle.survey_core.specs.UnderWay.{StaysNear, survey_reach};
 use crate::memo::Memo;
 use crate::rest::{are_same, union};
 use crate::ships::{Ship, at_time, ship_of};
+use memory::OutOfMemory;
 use plane_core::board::Board;
 use plane_core::frontier::is_slow;
 use plane_core::pattern::Pattern;
 use plane_core::rule::Rule;
-use std::alloc::{AllocError, Global};
+use std::alloc::Global;
 use std::marker::Model;
 
 /// Until when ships are kept off a board. No survey goes on so long, and until then no ship has come near the edge of
@@ -91,7 +92,7 @@ impl Harbour {
     }
 
     /// The whole pattern.
-    pub(crate) fn pattern(&self, alloc: Global, rule: &Rule) -> Result<Pattern, AllocError>
+    pub(crate) fn pattern(&self, alloc: Global, rule: &Rule) -> Result<Pattern, OutOfMemory>
         requires rule { self.now.rule ≡ rule.now }
         requires near { lies_within survey_reach self.now.cells ≡ true }
         ensures { IfOk result (λ pattern. pattern ≡ self.now.cells) }
@@ -125,7 +126,7 @@ impl Harbour {
         limit: u32,
         generations: u32,
         memo: &mut Memo,
-    ) -> Result<Harbour, AllocError>
+    ) -> Result<Harbour, OutOfMemory>
         requires rule { self.rule ≡ rule.now }
         requires least { 1 ≤ limit }
         requires most { limit ≤ 64 }
@@ -171,7 +172,7 @@ impl Harbour {
         alloc: Global,
         rule: &Rule,
         most: u32,
-    ) -> Result<Result<Harbour, Stop>, AllocError>
+    ) -> Result<Result<Harbour, Stop>, OutOfMemory>
         requires rule { self.rule ≡ rule.now }
         requires even { most % 2 ≡ 0 }
         requires few { most ≤ 10001 }
@@ -217,7 +218,7 @@ fn leave(
     board: &mut Board,
     ships: &mut Vec<Ship>,
     memo: &mut Memo,
-) -> Result<(), AllocError>
+) -> Result<(), OutOfMemory>
     requires slow { is_slow rule.now ≡ true }
     requires least { 1 ≤ limit }
     requires most { limit ≤ 64 }
@@ -264,7 +265,7 @@ fn whole(
     time: u32,
     board: &Board,
     ships: &[Ship],
-) -> Result<Pattern, AllocError>
+) -> Result<Pattern, OutOfMemory>
     requires order { InOrder board.now.cells }
     requires traced { All (IsTraced rule.now time) ships.now }
     requires early { time ≤ latest_time + 10001 }
@@ -286,7 +287,7 @@ fn parts(
     time: u32,
     pattern: Pattern,
     ships: &[Ship],
-) -> Result<Vec<Pattern>, AllocError>
+) -> Result<Vec<Pattern>, OutOfMemory>
     requires traced { All (IsTraced rule.now time) ships.now }
     requires early { time ≤ latest_time + 10001 }
     ensures { IfOk result (λ parts. parts.items ≡ pattern ∷ map (ship_at rule.now time) ships.now) }

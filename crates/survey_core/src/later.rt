@@ -2,19 +2,20 @@ ghost use Rattle.std.specs.Prelude.{◌≡◌, ◌≤◌, IfOk, true};
 ghost use Rattle.plane_core.specs.Generations.{after, lies_within, next};
 ghost use Rattle.survey_core.specs.UnderWay.{survey_reach};
 
+use memory::OutOfMemory;
 use plane_core::generation::StepError;
 use plane_core::pattern::Pattern;
 use plane_core::rule::Rule;
-use std::alloc::{AllocError, Global};
+use std::alloc::Global;
 
 /// The next generation of a pattern that doesn't touch the edge of the plane.
-pub(crate) fn next(alloc: Global, rule: &Rule, pattern: &Pattern) -> Result<Pattern, AllocError>
+pub(crate) fn next(alloc: Global, rule: &Rule, pattern: &Pattern) -> Result<Pattern, OutOfMemory>
     requires { lies_within 999999 pattern.now ≡ true }
     ensures { IfOk result (λ later. later ≡ next rule.now pattern.now) }
 {
     match pattern.step(alloc, rule) {
         Ok(later) => Ok(later),
-        Err(StepError::Memory) => Err(AllocError),
+        Err(StepError::Memory(error)) => Err(error),
         Err(StepError::Edge) => unreachable!(),
     }
 }
@@ -25,14 +26,14 @@ pub(crate) fn run_on(
     rule: &Rule,
     generations: u32,
     pattern: &Pattern,
-) -> Result<Pattern, AllocError>
+) -> Result<Pattern, OutOfMemory>
     requires near { lies_within survey_reach pattern.now ≡ true }
     requires few { generations ≤ 10001 }
     ensures { IfOk result (λ later. later ≡ after rule.now pattern.now generations) }
 {
     match pattern.run(alloc, rule, generations) {
         Ok(later) => Ok(later),
-        Err(StepError::Memory) => Err(AllocError),
+        Err(StepError::Memory(error)) => Err(error),
         Err(StepError::Edge) => unreachable!(),
     }
 }

@@ -29,12 +29,13 @@ use crate::slot::slot_of;
 use crate::sweep::Sweep;
 use code_core::apgcode::Apgcode;
 use code_core::name::name;
+use memory::OutOfMemory;
 use plane_core::board::Board;
 use plane_core::bounds::Bounds;
 use plane_core::generation::StepError;
 use plane_core::pattern::Pattern;
 use plane_core::rule::Rule;
-use std::alloc::{AllocError, Global};
+use std::alloc::Global;
 use std::marker::Model;
 
 /// How many slots a memo has. Soups leave some hundred shapes again and again, and some thousand once.
@@ -97,7 +98,7 @@ impl Memo {
                 size: Size::Small,
                 lacks_board: false,
             },
-            Err(AllocError) => Memo::without_room(alloc),
+            Err(_) => Memo::without_room(alloc),
         }
     }
 
@@ -122,7 +123,7 @@ impl Memo {
         };
         match made {
             Ok(board) => self.board = Some(board),
-            Err(AllocError) => self.lacks_board = true,
+            Err(_) => self.lacks_board = true,
         }
     }
 
@@ -141,7 +142,7 @@ impl Memo {
         rule: &Rule,
         limit: u32,
         patterns: &[Pattern],
-    ) -> Result<Option<Vec<Sweep>>, AllocError>
+    ) -> Result<Option<Vec<Sweep>>, OutOfMemory>
         requires least { 1 ≤ limit }
         requires most { limit ≤ 64 }
         requires order { All InOrder patterns.now }
@@ -196,7 +197,7 @@ impl Memo {
         rule: &Rule,
         limit: u32,
         pattern: &Pattern,
-    ) -> Result<Option<Sweep>, AllocError>
+    ) -> Result<Option<Sweep>, OutOfMemory>
         requires least { 1 ≤ limit }
         requires most { limit ≤ 64 }
         requires order { InOrder pattern.now }
@@ -224,7 +225,7 @@ impl Memo {
         rule: &Rule,
         limit: u32,
         pattern: &Pattern,
-    ) -> Result<Apgcode, AllocError>
+    ) -> Result<Apgcode, OutOfMemory>
         requires least { 1 ≤ limit }
         requires most { limit ≤ 64 }
         requires some { pattern.now ≢ [] }
@@ -252,7 +253,7 @@ impl Memo {
         rule: &Rule,
         limit: u32,
         pattern: &Pattern,
-    ) -> Result<Option<Apgcode>, AllocError>
+    ) -> Result<Option<Apgcode>, OutOfMemory>
         ensures { IfOk result (λ found. IfSome found (IsCode rule.now pattern.now limit)) }
     {
         match self.at(pattern) {
@@ -275,7 +276,7 @@ impl Memo {
         limit: u32,
         pattern: &Pattern,
         sweep: Sweep,
-    ) -> Result<(), AllocError>
+    ) -> Result<(), OutOfMemory>
         requires least { 1 ≤ limit }
         requires most { limit ≤ 64 }
         requires some { pattern.now ≢ [] }
@@ -299,7 +300,7 @@ impl Known {
         limit: u32,
         pattern: &Pattern,
         sweep: Sweep,
-    ) -> Result<Known, AllocError>
+    ) -> Result<Known, OutOfMemory>
         requires least { 1 ≤ limit }
         requires most { limit ≤ 64 }
         requires some { pattern.now ≢ [] }
@@ -332,7 +333,7 @@ impl Known {
         rule: &Rule,
         limit: u32,
         pattern: &Pattern,
-    ) -> Result<Option<Apgcode>, AllocError>
+    ) -> Result<Option<Apgcode>, OutOfMemory>
         ensures { IfOk result (λ found. IfSome found (IsCode rule.now pattern.now limit)) }
     {
         let Some(_shift) = self.shift_to(rule, limit, pattern) else {
@@ -362,7 +363,7 @@ fn is_same(one: &Rule, other: &Rule) -> bool
 }
 
 /// As many slots as a memo has, with nothing in them.
-fn empty_slots(alloc: Global) -> Result<Vec<Option<Known>>, AllocError> {
+fn empty_slots(alloc: Global) -> Result<Vec<Option<Known>>, OutOfMemory> {
     let mut slots = Vec::with_capacity(alloc, SLOTS)?;
     for _ in 0..SLOTS {
         slots.push(None)?;
@@ -401,7 +402,12 @@ fn moved(at: i32, by: i32) -> Option<i32>
 }
 
 /// The code of a pattern that comes back within so many generations.
-fn code_of(alloc: Global, rule: &Rule, limit: u32, pattern: &Pattern) -> Result<Apgcode, AllocError>
+fn code_of(
+    alloc: Global,
+    rule: &Rule,
+    limit: u32,
+    pattern: &Pattern,
+) -> Result<Apgcode, OutOfMemory>
     requires least { 1 ≤ limit }
     requires most { limit ≤ 64 }
     requires some { pattern.now ≢ [] }
@@ -412,7 +418,7 @@ fn code_of(alloc: Global, rule: &Rule, limit: u32, pattern: &Pattern) -> Result<
     match name(alloc, pattern, rule, limit) {
         Ok(Some(code)) => Ok(code),
         Ok(None) => unreachable!(),
-        Err(StepError::Memory) => Err(AllocError),
+        Err(StepError::Memory(error)) => Err(error),
         Err(StepError::Edge) => unreachable!(),
     }
 }

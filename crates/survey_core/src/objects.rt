@@ -16,9 +16,10 @@ ghost use Rattle.survey_core.specs.UnderWay.{survey_reach};
 
 use crate::memo::Memo;
 use code_core::apgcode::{Apgcode, Kind};
+use memory::OutOfMemory;
 use plane_core::pattern::Pattern;
 use plane_core::rule::Rule;
-use std::alloc::{AllocError, Global};
+use std::alloc::Global;
 use std::collections::BTreeMap;
 use std::marker::Model;
 
@@ -56,7 +57,7 @@ impl Objects {
         limit: u32,
         clusters: &[Pattern],
         memo: &Memo,
-    ) -> Result<Objects, AllocError>
+    ) -> Result<Objects, OutOfMemory>
         requires least { 1 ≤ limit }
         requires most { limit ≤ 64 }
         requires some { All (λ cluster. cluster ≢ []) clusters.now }
@@ -92,7 +93,7 @@ impl Objects {
 }
 
 /// Counts one object more with this code.
-fn count(counts: &mut BTreeMap<Apgcode, u64>, code: Apgcode) -> Result<(), AllocError>
+fn count(counts: &mut BTreeMap<Apgcode, u64>, code: Apgcode) -> Result<(), OutOfMemory>
     requires room { (c : List ℕ) → count_of counts.old.entries c + 1 < 2 ^ 64 }
     requires some { CountsAreSome counts.old.entries }
     ensures counts { OnOk result
@@ -107,7 +108,7 @@ fn count(counts: &mut BTreeMap<Apgcode, u64>, code: Apgcode) -> Result<(), Alloc
 }
 
 /// The counts as a list.
-fn listed(alloc: Global, counts: BTreeMap<Apgcode, u64>) -> Result<Objects, AllocError>
+fn listed(alloc: Global, counts: BTreeMap<Apgcode, u64>) -> Result<Objects, OutOfMemory>
     requires { CountsAreSome counts.entries }
     ensures entries { IfOk result (λ objects. objects ≡ counts.entries) }
     ensures lawful { IfOk result AreObjects }
@@ -117,7 +118,10 @@ fn listed(alloc: Global, counts: BTreeMap<Apgcode, u64>) -> Result<Objects, Allo
 }
 
 /// The entries of the counts.
-fn entries(alloc: Global, counts: BTreeMap<Apgcode, u64>) -> Result<Vec<(Apgcode, u64)>, AllocError>
+fn entries(
+    alloc: Global,
+    counts: BTreeMap<Apgcode, u64>,
+) -> Result<Vec<(Apgcode, u64)>, OutOfMemory>
     ensures entries { IfOk result (λ entries. entries.items ≡ counts.entries) }
     ensures ordered { OnOk result (IsOrdered (slice_cmp nat_cmp) counts) }
 {

@@ -34,10 +34,11 @@ use crate::groups::groups;
 use crate::later::next;
 use crate::memo::Memo;
 use crate::profile::Profile;
+use memory::OutOfMemory;
 use plane_core::cell::Cell;
 use plane_core::pattern::{FromCellsError, Pattern};
 use plane_core::rule::Rule;
-use std::alloc::{AllocError, Global};
+use std::alloc::Global;
 
 /// The clusters of the pattern, if it is at rest.
 pub(crate) fn clusters_at_rest(
@@ -46,7 +47,7 @@ pub(crate) fn clusters_at_rest(
     rule: &Rule,
     pattern: &Pattern,
     memo: &mut Memo,
-) -> Result<Option<Vec<Pattern>>, AllocError>
+) -> Result<Option<Vec<Pattern>>, OutOfMemory>
     requires { lies_within survey_reach pattern.now ≡ true }
     ensures rest { IfOk result
         (λ found. IfSome found (λ clusters. RestsAs rule.now profile.now pattern.now clusters.items)) }
@@ -81,7 +82,7 @@ fn groups_keep_apart(
     horizon: u32,
     clusters: &[Pattern],
     groups: &[usize],
-) -> Result<bool, AllocError>
+) -> Result<bool, OutOfMemory>
     requires horizon { horizon ≤ 4096 }
     requires near { All (λ cluster. lies_within survey_reach cluster ≡ true) clusters.now }
     requires order { All InOrder clusters.now }
@@ -108,7 +109,7 @@ fn group_keeps_apart(
     clusters: &[Pattern],
     groups: &[usize],
     number: usize,
-) -> Result<bool, AllocError>
+) -> Result<bool, OutOfMemory>
     requires horizon { horizon ≤ 4096 }
     requires near { All (λ cluster. lies_within survey_reach cluster ≡ true) clusters.now }
     requires order { All InOrder clusters.now }
@@ -138,7 +139,7 @@ fn members(
     number: usize,
     groups: &[usize],
     clusters: &[Pattern],
-) -> Result<Vec<Pattern>, AllocError>
+) -> Result<Vec<Pattern>, OutOfMemory>
     requires { length groups.now ≡ length clusters.now }
     ensures { IfOk result (λ found. found.items ≡ members number groups.now clusters.now) }
 {
@@ -153,14 +154,14 @@ fn members(
 }
 
 /// The cells of all the patterns.
-pub(crate) fn union(alloc: Global, parts: &[Pattern]) -> Result<Pattern, AllocError>
+pub(crate) fn union(alloc: Global, parts: &[Pattern]) -> Result<Pattern, OutOfMemory>
     requires { All (λ part. lies_within 999999 part ≡ true) parts.now }
     ensures { IfOk result (λ whole. whole ≡ union_of parts.now) }
 {
     let cells = all_cells(alloc, parts)?;
     match Pattern::from_cells(alloc, cells.as_slice()) {
         Ok(whole) => Ok(whole),
-        Err(FromCellsError::Memory) => Err(AllocError),
+        Err(FromCellsError::Memory(error)) => Err(error),
         Err(FromCellsError::OutOfPlane { .. }) => unreachable!(),
     }
 }
@@ -172,7 +173,7 @@ fn keep_apart(
     horizon: u32,
     pattern: &Pattern,
     clusters: &[Pattern],
-) -> Result<bool, AllocError>
+) -> Result<bool, OutOfMemory>
     requires horizon { horizon ≤ 4096 }
     requires near { lies_within survey_reach pattern.now ≡ true }
     requires each_near { All (λ cluster. lies_within survey_reach cluster ≡ true) clusters.now }
@@ -215,7 +216,7 @@ fn are_back(later: &[Pattern], patterns: &[Pattern]) -> bool
 }
 
 /// The patterns once more.
-fn copies(alloc: Global, patterns: &[Pattern]) -> Result<Vec<Pattern>, AllocError>
+fn copies(alloc: Global, patterns: &[Pattern]) -> Result<Vec<Pattern>, OutOfMemory>
     ensures { IfOk result (λ copies. copies.items ≡ patterns.now) }
 {
     let mut copies = Vec::with_capacity(alloc, patterns.len())?;
@@ -230,7 +231,7 @@ fn next_of_each(
     alloc: Global,
     rule: &Rule,
     patterns: &[Pattern],
-) -> Result<Vec<Pattern>, AllocError>
+) -> Result<Vec<Pattern>, OutOfMemory>
     requires { All (λ pattern. lies_within 999999 pattern ≡ true) patterns.now }
     ensures { IfOk result (λ later. later.items ≡ map (next rule.now) patterns.now) }
 {
@@ -248,7 +249,7 @@ fn next_of_all(
     clusters: &[Pattern],
     first: &[Pattern],
     patterns: &[Pattern],
-) -> Result<Vec<Pattern>, AllocError>
+) -> Result<Vec<Pattern>, OutOfMemory>
     requires first { first.now ≡ map (next rule.now) clusters.now }
     requires long { length patterns.now ≡ length clusters.now }
     requires near { All (λ pattern. lies_within 999999 pattern ≡ true) patterns.now }
@@ -269,7 +270,7 @@ fn next_beside(
     cluster: &Pattern,
     first: &Pattern,
     pattern: &Pattern,
-) -> Result<Pattern, AllocError>
+) -> Result<Pattern, OutOfMemory>
     requires first { first.now ≡ next rule.now cluster.now }
     requires near { lies_within 999999 pattern.now ≡ true }
     ensures { IfOk result (λ later. later ≡ next rule.now pattern.now) }
@@ -282,7 +283,7 @@ fn next_beside(
 }
 
 /// Whether the parts share no cell, and are the whole together.
-fn make_up(alloc: Global, parts: &[Pattern], whole: &Pattern) -> Result<bool, AllocError>
+fn make_up(alloc: Global, parts: &[Pattern], whole: &Pattern) -> Result<bool, OutOfMemory>
     requires in_order { All InOrder parts.now }
     requires near { All (λ part. lies_within 999999 part ≡ true) parts.now }
     ensures { IfOk result (λ same. IsTrue same ↔ Partition whole.now parts.now) }
@@ -294,7 +295,7 @@ fn make_up(alloc: Global, parts: &[Pattern], whole: &Pattern) -> Result<bool, Al
     }
     match Pattern::from_cells(alloc, cells.as_slice()) {
         Ok(union) => Ok(are_same(union.cells(), all)),
-        Err(FromCellsError::Memory) => Err(AllocError),
+        Err(FromCellsError::Memory(error)) => Err(error),
         Err(FromCellsError::OutOfPlane { .. }) => unreachable!(),
     }
 }
@@ -307,7 +308,7 @@ pub(crate) fn are_same(one: &[Cell], other: &[Cell]) -> bool
 }
 
 /// The cells of the patterns, those of the first pattern first.
-fn all_cells(alloc: Global, patterns: &[Pattern]) -> Result<Vec<Cell>, AllocError>
+fn all_cells(alloc: Global, patterns: &[Pattern]) -> Result<Vec<Cell>, OutOfMemory>
     ensures { IfOk result (λ cells. cells.items ≡ flat_map (λ pattern. pattern) patterns.now) }
 {
     let mut cells = Vec::new(alloc);

@@ -31,13 +31,14 @@ use crate::later::run_on;
 use crate::memo::Memo;
 use crate::sweep::{Sweep, difference};
 use code_core::recurrence::Recurrence;
+use memory::OutOfMemory;
 use plane_core::board::Board;
 use plane_core::bounds::Bounds;
 use plane_core::orientation::Orientation;
 use plane_core::pattern::Pattern;
 use plane_core::placement::PlaceError;
 use plane_core::rule::Rule;
-use std::alloc::{AllocError, Global};
+use std::alloc::Global;
 
 /// Within how many generations a ship has to come back, so that it is taken off the board. All that soups of Life leave
 /// come back within four; what comes back later stays, and is run with the rest.
@@ -70,7 +71,7 @@ pub(crate) fn ship_of(
     part: &Pattern,
     time: u32,
     memo: &mut Memo,
-) -> Result<Option<Ship>, AllocError>
+) -> Result<Option<Ship>, OutOfMemory>
     requires least { 1 ≤ limit }
     requires most { limit ≤ 64 }
     requires some { part.now ≢ [] }
@@ -204,7 +205,7 @@ pub(crate) fn at_time(
     rule: &Rule,
     ship: &Ship,
     time: u32,
-) -> Result<Pattern, AllocError>
+) -> Result<Pattern, OutOfMemory>
     requires traced { IsTraced rule.now time ship.now }
     requires early { time ≤ latest_time + 10001 }
     ensures { IfOk result (λ cells. cells ≡ ship_at rule.now time ship.now) }
@@ -215,7 +216,7 @@ pub(crate) fn at_time(
     let phase = run_on(alloc, rule, age % period, &ship.cells)?;
     match phase.shift(alloc, steps(turns, dx), steps(turns, dy)) {
         Ok(cells) => Ok(cells),
-        Err(PlaceError::Memory) => Err(AllocError),
+        Err(PlaceError::Memory(error)) => Err(error),
         Err(PlaceError::OutOfPlane) => unreachable!(),
     }
 }

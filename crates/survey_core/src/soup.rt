@@ -18,18 +18,19 @@ ghost use Rattle.survey_core.specs.Soups.{square_cell};
 use crate::job::Job;
 use crate::seed::Seed;
 use itoa::Buffer;
+use memory::OutOfMemory;
 use plane_core::cell::Cell;
 use plane_core::pattern::{FromCellsError, Pattern};
 use sha2::{Digest, Sha256};
-use std::alloc::{AllocError, Global};
+use std::alloc::Global;
 
 /// The soup with this number: the 256 bits of the SHA-256 digest of the job's seed and then the number in decimal, as a
 /// square of 16 by 16 cells. The job's profile and rule don't matter.
 ///
 /// # Errors
 ///
-/// [`AllocError`] if there is no memory.
-pub fn soup(alloc: Global, job: &Job, number: u64) -> Result<Pattern, AllocError>
+/// [`OutOfMemory`] if there is no memory.
+pub fn soup(alloc: Global, job: &Job, number: u64) -> Result<Pattern, OutOfMemory>
     ensures soup { IfOk result (λ pattern. pattern ≡ soup job.now.seed number) }
     ensures small { IfOk result (All (IsWithin square)) }
 {
@@ -41,15 +42,15 @@ pub fn soup(alloc: Global, job: &Job, number: u64) -> Result<Pattern, AllocError
 ///
 /// # Errors
 ///
-/// [`AllocError`] if there is no memory.
-pub fn soup_of_digest(alloc: Global, digest: &[u8; 32]) -> Result<Pattern, AllocError>
+/// [`OutOfMemory`] if there is no memory.
+pub fn soup_of_digest(alloc: Global, digest: &[u8; 32]) -> Result<Pattern, OutOfMemory>
     ensures soup { IfOk result (λ pattern. pattern ≡ soup_of digest.now) }
     ensures small { IfOk result (All (IsWithin square)) }
 {
     let cells = live_cells(alloc, digest)?;
     match Pattern::from_cells(alloc, cells.as_slice()) {
         Ok(pattern) => Ok(pattern),
-        Err(FromCellsError::Memory) => Err(AllocError),
+        Err(FromCellsError::Memory(error)) => Err(error),
         Err(FromCellsError::OutOfPlane { .. }) => unreachable!(),
     }
 }
@@ -61,7 +62,7 @@ pub fn soups_by_cells()
 {}
 
 /// The live cells of the square.
-fn live_cells(alloc: Global, digest: &[u8; 32]) -> Result<Vec<Cell>, AllocError>
+fn live_cells(alloc: Global, digest: &[u8; 32]) -> Result<Vec<Cell>, OutOfMemory>
     ensures { IfOk result (λ cells. cells.items ≡ live_in_square digest.now 256) }
 {
     let mut cells = Vec::new(alloc);

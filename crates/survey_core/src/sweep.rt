@@ -27,11 +27,12 @@ ghost use Rattle.survey_core.specs.UnderWay.{survey_reach};
 
 use crate::later::next;
 use code_core::recurrence::Recurrence;
+use memory::OutOfMemory;
 use plane_core::bounds::Bounds;
 use plane_core::generation::StepError;
 use plane_core::pattern::Pattern;
 use plane_core::rule::Rule;
-use std::alloc::{AllocError, Global};
+use std::alloc::Global;
 
 /// How a cluster comes back, and a box in which all its phases lie.
 #[derive(Clone, Copy)]
@@ -47,7 +48,7 @@ impl Sweep {
         rule: &Rule,
         limit: u32,
         pattern: &Pattern,
-    ) -> Result<Option<Sweep>, AllocError>
+    ) -> Result<Option<Sweep>, OutOfMemory>
         requires least { 1 ≤ limit }
         requires most { limit ≤ 64 }
         requires order { InOrder pattern.now }
@@ -62,14 +63,14 @@ impl Sweep {
                 Ok(Some(Sweep { recurrence, bounds }))
             }
             Ok(None) => Ok(None),
-            Err(StepError::Memory) => Err(AllocError),
+            Err(StepError::Memory(error)) => Err(error),
             Err(StepError::Edge) => unreachable!(),
         }
     }
 }
 
 /// A box in which the pattern lies in each of the first generations, so many of them.
-fn swept(alloc: Global, rule: &Rule, period: u32, pattern: &Pattern) -> Result<Bounds, AllocError>
+fn swept(alloc: Global, rule: &Rule, period: u32, pattern: &Pattern) -> Result<Bounds, OutOfMemory>
     requires some { 1 ≤ period }
     requires few { period ≤ 64 }
     requires near { lies_within survey_reach pattern.now ≡ true }

@@ -1,10 +1,11 @@
 ghost use Rattle.std.specs.Prelude.{◌≡◌, IfOk, true};
 ghost use Rattle.plane_core.specs.Generations.{lies_within};
 
+use memory::OutOfMemory;
 use plane_core::pattern::Pattern;
 use plane_core::plaintext::PlaintextError;
 use plane_core::rule::Rule;
-use std::alloc::{AllocError, Global};
+use std::alloc::Global;
 use std::test::Fail;
 use survey_core::finding::{Finding, survey, survey_pattern, survey_pattern_with};
 use survey_core::job::Job;
@@ -70,7 +71,7 @@ fn knows_what_stays_once_all_has_come_back(rt: HostRuntime) -> Result<(), Fail> 
 }
 
 /// So many upright lines, two empty columns apart: the first has one cell, and each one more than that before.
-fn lines(alloc: Global, count: usize) -> Result<String, AllocError> {
+fn lines(alloc: Global, count: usize) -> Result<String, OutOfMemory> {
     let mut picture = String::new(alloc);
     for row in 0..count {
         for line in 0..count {

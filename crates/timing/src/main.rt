@@ -13,14 +13,15 @@ ghost use Rattle.plane_core.specs.declared.cell.Cell.{Cell as Place};
 use code_core::apgcode::Apgcode;
 use code_core::name::name;
 use haul_core::book::haul::{Haul, OpenError};
-use haul_core::report::Report;
+use haul_core::report::{Report, ReportError};
+use memory::OutOfMemory;
 use plane_core::cell::Cell;
 use plane_core::clusters::clusters_are_determined;
 use plane_core::generation::StepError;
-use plane_core::pattern::Pattern;
+use plane_core::pattern::{FromCellsError, Pattern};
 use plane_core::rule::Rule;
 use ranges::range::Range;
-use std::alloc::{AllocError, Global};
+use std::alloc::Global;
 use std::env;
 use std::io::{self, Read};
 use std::time::Instant;
@@ -31,7 +32,7 @@ use survey_core::profile::Profile;
 use survey_core::seed::Seed;
 
 /// How many clusters the pattern has.
-fn cluster_count(alloc: Global, pattern: &Pattern) -> Result<usize, AllocError>
+fn cluster_count(alloc: Global, pattern: &Pattern) -> Result<usize, OutOfMemory>
     ensures { IfOk result
         (λ count. (clusters : List (List Place)) → AreClusters pattern.now clusters → count ≡ length clusters) }
 {
@@ -50,11 +51,14 @@ fn name_in_life(alloc: Global, pattern: &Pattern) -> Result<Option<Apgcode>, Ste
 
 /// Finds the clusters so many times, and prints their number.
 fn find_clusters(rt: &HostRuntime, pattern: &Pattern, times: u32) -> io::Result<()> {
-    let mut count = 0;
+    let mut found = Ok(0);
     for _ in 0..times {
-        count = cluster_count(rt.alloc(), pattern)?;
+        found = cluster_count(rt.alloc(), pattern);
     }
-    println!(rt; "{count}")
+    match found {
+        Ok(count) => println!(rt; "{count}"),
+        Err(error) => println!(rt; "{error}"),
+    }
 }
 
 /// Names the pattern so many times, and prints the name.
@@ -70,21 +74,20 @@ fn find_names(rt: &HostRuntime, pattern: &Pattern, times: u32) -> io::Result<()>
     }
 }
 
-/// The cells of two gliders that lie 100,000 columns apart and fly the same way.
-fn two_gliders(alloc: Global) -> Result<Vec<Cell>, AllocError> {
+/// Two gliders that lie 100,000 columns apart and fly the same way.
+fn two_gliders(alloc: Global) -> Result<Pattern, FromCellsError> {
     let mut cells = Vec::new(alloc);
     for left in [0, 100_000] {
         for (x, y) in [(1, 0), (2, 1), (0, 2), (1, 2), (2, 2)] {
             cells.push(Cell { y, x: left + x })?;
         }
     }
-    Ok(cells)
+    Pattern::from_cells(alloc, cells.as_slice())
 }
 
 /// Runs two far gliders for so many generations of Life, and prints their population.
 fn fly_gliders(rt: &HostRuntime, generations: u32) -> io::Result<()> {
-    let cells = two_gliders(rt.alloc())?;
-    let Ok(gliders) = Pattern::from_cells(rt.alloc(), cells.as_slice()) else {
+    let Ok(gliders) = two_gliders(rt.alloc()) else {
         return println!(rt; "no gliders");
     };
     match gliders.run(rt.alloc(), &Rule::life(), generations) {
@@ -94,7 +97,7 @@ fn fly_gliders(rt: &HostRuntime, generations: u32) -> io::Result<()> {
 }
 
 /// How many of the first soups of the empty seed settle, in Life and by the standard profile.
-fn settled_count(alloc: Global, job: &Job, soups: u32) -> Result<usize, AllocError> {
+fn settled_count(alloc: Global, job: &Job, soups: u32) -> Result<usize, OutOfMemory> {
     let mut settled = Vec::new(alloc);
     let mut memo = Memo::new(alloc);
     for number in 0..soups {
@@ -113,8 +116,10 @@ fn survey_soups(rt: &HostRuntime, seed: Seed, soups: u32) -> io::Result<()> {
         profile: Profile::standard(),
         rule: Rule::life(),
     };
-    let settled = settled_count(rt.alloc(), &job, soups)?;
-    println!(rt; "{settled}")
+    match settled_count(rt.alloc(), &job, soups) {
+        Ok(settled) => println!(rt; "{settled}"),
+        Err(error) => println!(rt; "{error}"),
+    }
 }
 
 /// How many offers are timed.
@@ -131,12 +136,14 @@ fn cheap_job(seed: Seed) -> Option<Job> {
 }
 
 /// Reports of the soups from a number on, up to another.
-fn reports(alloc: Global, job: &Job, from: u32, to: u32) -> Result<Vec<Report>, AllocError> {
+fn reports(alloc: Global, job: &Job, from: u32, to: u32) -> Result<Vec<Report>, OutOfMemory> {
     let mut reports = Vec::new(alloc);
     for number in from..to {
-        // Worker 1 may report, so only memory can be missing.
-        let Ok(report) = Report::make(alloc, job, 1, u64::from(number)) else {
-            return Err(AllocError);
+        let report = match Report::make(alloc, job, 1, u64::from(number)) {
+            Ok(report) => report,
+            Err(ReportError::Memory(error)) => return Err(error),
+            // Worker 1 may report.
+            Err(ReportError::BadWorker) => unreachable!(),
         };
         reports.push(report)?;
     }

@@ -10,7 +10,8 @@ use crate::commands::{COMMANDS, CommandRow};
 use crate::options::{Argument, Place, ValueKind};
 use clap::builder::ValueParser;
 use clap::{Arg, ArgAction, Command};
-use std::alloc::{AllocError, Global};
+use memory::OutOfMemory;
+use std::alloc::Global;
 
 /// The program's version, as `clap` prints it.
 const VERSION: &str = "0.2.0";
@@ -30,8 +31,8 @@ const EXAMPLES: &str = "To begin with:\n  \
 ///
 /// # Errors
 ///
-/// `AllocError` if memory runs out.
-pub fn census_command<'a>(alloc: Global) -> Result<Command<'a>, AllocError>
+/// `OutOfMemory` if memory runs out.
+pub fn census_command<'a>(alloc: Global) -> Result<Command<'a>, OutOfMemory>
     ensures { IfOk result (λ command. app_of command ≡ census_app) }
 {
     with_commands(alloc, program(alloc), &rows())
@@ -70,7 +71,7 @@ fn with_commands<'a>(
     alloc: Global,
     program: Command<'a>,
     rows: &[CommandRow],
-) -> Result<Command<'a>, AllocError>
+) -> Result<Command<'a>, OutOfMemory>
     ensures { IfOk result (λ new.
         app_of new ≡ with_commands (app_of program.entry) (map shape_in (map command_of rows.now))) }
 {
@@ -86,15 +87,16 @@ fn with_command<'a>(
     alloc: Global,
     program: Command<'a>,
     row: &CommandRow,
-) -> Result<Command<'a>, AllocError>
+) -> Result<Command<'a>, OutOfMemory>
     ensures { IfOk result (λ new. app_of new ≡ with_subcommand (app_of program.entry) (shape_in (command_of row.now))) }
 {
     let command = command(alloc, row)?;
-    program.subcommand(command)
+    let program = program.subcommand(command)?;
+    Ok(program)
 }
 
 /// The command of a row.
-fn command<'a>(alloc: Global, row: &CommandRow) -> Result<Command<'a>, AllocError>
+fn command<'a>(alloc: Global, row: &CommandRow) -> Result<Command<'a>, OutOfMemory>
     ensures shape { IfOk result (λ command. shape_of command ≡ shape_in (command_of row.now)) }
     ensures local { IfOk result (λ command. (fields_of command).has_globals ≡ false) }
 {
@@ -110,7 +112,7 @@ fn with_arguments<'a>(
     alloc: Global,
     command: Command<'a>,
     rows: &[Argument],
-) -> Result<Command<'a>, AllocError>
+) -> Result<Command<'a>, OutOfMemory>
     ensures app { IfOk result (λ new.
         app_of new ≡ with_rules (app_of command.entry) (map rule_in (map entry_of rows.now))) }
     ensures local { (fields_of command.entry).has_globals ≡ false →
@@ -128,12 +130,13 @@ fn with_argument<'a>(
     alloc: Global,
     command: Command<'a>,
     row: &Argument,
-) -> Result<Command<'a>, AllocError>
+) -> Result<Command<'a>, OutOfMemory>
     ensures app { IfOk result (λ new. app_of new ≡ with_rule (app_of command.entry) (rule_in (entry_of row.now))) }
     ensures local { (fields_of command.entry).has_globals ≡ false →
         IfOk result (λ new. (fields_of new).has_globals ≡ false) }
 {
-    command.arg(argument(alloc, row))
+    let command = command.arg(argument(alloc, row))?;
+    Ok(command)
 }
 
 /// The argument of a row.

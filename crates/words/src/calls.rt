@@ -1,6 +1,8 @@
 ghost use Rattle.std.specs.Prelude.{◌≡◌, ◌≢◌, None, Some, IfOk, IfErr, IfSome, map, option_and_then};
+ghost use Rattle.memory.specs.Evidence.{out_of_memory};
 ghost use Rattle.clap.specs.Words.{found_of, kind_of, rows_of, subcommand_rows_of};
-ghost use Rattle.words.specs.Calls.{AskForTheirValues, AsksForVersion, NoCommandAsksForNothing, OthersAskForNothing};
+ghost use Rattle.words.specs.Calls.{AskForTheirValues, AsksForVersion, IsUnread, IsUsage, NoCommandAsksForNothing};
+ghost use Rattle.words.specs.Calls.{OthersAskForNothing};
 ghost use Rattle.words.specs.Requests.{AreInTheirRanges, asked_by, asks_version, request_in};
 
 use crate::application::census_command;
@@ -8,7 +10,8 @@ use crate::reading::{gather_in, name_in, run_in, show_in, soup_in, take_in, work
 use crate::request::Request;
 use clap::ArgMatches;
 use clap::error::ErrorKind;
-use std::alloc::{AllocError, Global};
+use memory::OutOfMemory;
+use std::alloc::Global;
 use std::convert::AsStr;
 
 /// Why words give no request.
@@ -16,17 +19,19 @@ use std::convert::AsStr;
 pub enum Unasked {
     /// They are not understood, or ask for help: the text that says so.
     Usage(String),
-    /// Memory ran out.
-    Memory,
+    /// Memory ran out while they were read: `clap`'s own error says so.
+    Unread(clap::Error),
+    /// Memory ran out for the commands, or for a text.
+    Memory(OutOfMemory),
 }
 
-impl From<AllocError> for Unasked {
+impl<E: Into<OutOfMemory>> From<E> for Unasked {
     ghost use Rattle.words.specs.declared.calls.Unasked.TheVariants.{Memory};
 
-    ghost from_gives = { λ _ unasked. unasked ≡ Memory };
+    ghost from_gives = { λ _ unasked. unasked ≡ Memory out_of_memory };
 
-    fn from(_error: AllocError) -> Unasked {
-        Unasked::Memory
+    fn from(refused: E) -> Unasked {
+        Unasked::Memory(refused.into())
     }
 }
 
@@ -35,12 +40,12 @@ impl From<AllocError> for Unasked {
 /// # Errors
 ///
 /// - [`Unasked::Usage`] if `clap` finds a fault in the words, or they ask for help.
-/// - [`Unasked::Memory`] if memory runs out.
+/// - [`Unasked::Unread`] and [`Unasked::Memory`] if memory runs out.
 pub fn request_of<'a, S: AsStr>(alloc: Global, words: &'a [S]) -> Result<Request<'a>, Unasked>
     ensures asked { IfOk result (λ request. asked_by (map S.text words.entry.now) ≡ Some request) }
     ensures ranges { IfOk result AreInTheirRanges }
-    ensures usage { IfErr result (λ unasked.
-        unasked ≢ Unasked.Memory → asked_by (map S.text words.entry.now) ≡ None) }
+    ensures usage { IfErr result (λ unasked. IsUsage unasked → asked_by (map S.text words.entry.now) ≡ None) }
+    ensures unread { IfErr result IsUnread }
 {
     if asks_version(words) {
         return Ok(Request::Version);
@@ -51,7 +56,7 @@ pub fn request_of<'a, S: AsStr>(alloc: Global, words: &'a [S]) -> Result<Request
             Some(request) => Ok(request),
             None => Err(usage(alloc, "error: a value is missing\n")),
         },
-        Err(error) => Err(unasked_by(alloc, &error)),
+        Err(error) => Err(unasked_by(alloc, error)),
     }
 }
 
@@ -117,22 +122,25 @@ fn request_named<'a>(name: &str, found: &ArgMatches<'a>) -> Option<Request<'a>>
 }
 
 /// What `clap`'s error says of words that name no command, or ask for help.
-fn unasked_by(alloc: Global, error: &clap::Error) -> Unasked
-    ensures { kind_of error.now ≡ ErrorKind.OutOfMemory → result ≡ Unasked.Memory }
+fn unasked_by(alloc: Global, error: clap::Error) -> Unasked
+    ensures usage { IsUsage result → kind_of error ≢ ErrorKind.OutOfMemory }
+    ensures unread { IsUnread result }
 {
-    if error.kind() == ErrorKind::OutOfMemory {
-        return Unasked::Memory;
+    if matches!(error.kind(), ErrorKind::OutOfMemory) {
+        return Unasked::Unread(error);
     }
     match error.to_string(alloc) {
         Ok(text) => Unasked::Usage(text),
-        Err(_) => Unasked::Memory,
+        Err(refused) => Unasked::from(refused),
     }
 }
 
 /// The usage fault with this text.
-fn usage(alloc: Global, text: &str) -> Unasked {
+fn usage(alloc: Global, text: &str) -> Unasked
+    ensures { IsUnread result }
+{
     match String::from_str(alloc, text) {
         Ok(text) => Unasked::Usage(text),
-        Err(_) => Unasked::Memory,
+        Err(refused) => Unasked::from(refused),
     }
 }

@@ -12,7 +12,8 @@ use crate::book::samples::Samples;
 use crate::book::scores::Score;
 use code_core::apgcode::Apgcode;
 use indexmap::IndexMap;
-use std::alloc::{AllocError, Global};
+use memory::OutOfMemory;
+use std::alloc::Global;
 use std::collections::BTreeMap;
 use std::marker::Model;
 
@@ -57,7 +58,7 @@ impl Rows {
     pub(crate) fn of_scores(
         alloc: Global,
         scores: &IndexMap<Apgcode, Score>,
-    ) -> Result<Rows, AllocError>
+    ) -> Result<Rows, OutOfMemory>
         ensures { IfOk result (λ rows. AreRowsFrom scores.now.entries rows) }
     {
         let kept = with_objects(alloc, scores)?;
@@ -70,7 +71,7 @@ impl Rows {
 fn with_objects(
     alloc: Global,
     scores: &IndexMap<Apgcode, Score>,
-) -> Result<BTreeMap<Apgcode, Score>, AllocError>
+) -> Result<BTreeMap<Apgcode, Score>, OutOfMemory>
     ensures { IfOk result (λ kept. (code : List ℕ)
         → lookup (is_code code) kept.entries ≡ with_objects (found_score scores.now.entries code)) }
 {
@@ -87,7 +88,7 @@ fn with_objects(
 }
 
 /// The scores as rows.
-fn listed(alloc: Global, scores: BTreeMap<Apgcode, Score>) -> Result<Vec<Row>, AllocError>
+fn listed(alloc: Global, scores: BTreeMap<Apgcode, Score>) -> Result<Vec<Row>, OutOfMemory>
     ensures rows { IfOk result (λ rows. rows.items
         ≡ map (λ entry. row_from entry.0 entry.1) scores.entries) }
     ensures ordered { OnOk result (IsOrdered (slice_cmp nat_cmp) scores) }

@@ -11,6 +11,7 @@ ghost use Rattle.std.specs.Prelude.{IfErr, IfOk, IsErrOf, IsTrue, OnErr, OnOk, f
 ghost use Rattle.std.specs.Prelude.{vec_capacity, vec_len};
 ghost use Rattle.std.specs.List.{IsDistinct};
 ghost use Rattle.std.specs.List.Sorted.{IsStrictlyIncreasing};
+ghost use Rattle.memory.specs.Evidence.{out_of_memory};
 ghost use Rattle.indexmap.specs.IndexMap.{get, spare};
 ghost use Rattle.haul_core.specs.Books.{StandsFor, has_closing};
 ghost use Rattle.haul_core.specs.Refusals.{IsReply, refusal_of};
@@ -37,8 +38,9 @@ use crate::book::refused::{OfferError, Refused};
 use crate::book::scores::Totals;
 use crate::report::{Report, is_worker};
 use indexmap::IndexMap;
+use memory::OutOfMemory;
 use ranges::range::{Range, Ranges, overlap, small_size};
-use std::alloc::{AllocError, Global};
+use std::alloc::Global;
 use std::marker::Model;
 use survey_core::finding::Finding;
 use survey_core::job::{Job, is_same_job};
@@ -63,14 +65,14 @@ pub enum OpenError {
     Overlap,
     /// Memory ran out.
     #[error("out of memory")]
-    Memory,
+    Memory(OutOfMemory),
 }
 
-impl From<AllocError> for OpenError {
-    ghost from_gives = { λ _ e. e ≡ Memory };
+impl<E: Into<OutOfMemory>> From<E> for OpenError {
+    ghost from_gives = { λ _ e. e ≡ Memory out_of_memory };
 
-    fn from(_e: AllocError) -> OpenError {
-        OpenError::Memory
+    fn from(refused: E) -> OpenError {
+        OpenError::Memory(refused.into())
     }
 }
 
@@ -235,11 +237,12 @@ impl Haul {
     ///
     /// # Errors
     ///
-    /// [`AllocError`] if memory runs out.
-    pub fn missing(&self) -> Result<Vec<u64>, AllocError>
+    /// [`OutOfMemory`] if memory runs out.
+    pub fn missing(&self) -> Result<Vec<u64>, OutOfMemory>
         ensures missing { IfOk result (λ missing. missing.items ≡ missing_of self.now.terms.ranges self.now.taken) }
         ensures ascending { IfOk result (λ missing. IsStrictlyIncreasing missing.items) }
         ensures below { IfOk result (λ missing. All (λ n. n < number_bound) missing.items) }
+        ensures few { self.now.closed ≡ false → IfOk result (λ missing. length missing.items ≤ 2 ^ 24) }
     {
         let Haul {
             alloc,
@@ -272,8 +275,8 @@ impl Haul {
     ///
     /// # Errors
     ///
-    /// [`AllocError`] if memory runs out.
-    pub fn census(&self) -> Result<Census, AllocError>
+    /// [`OutOfMemory`] if memory runs out.
+    pub fn census(&self) -> Result<Census, OutOfMemory>
         ensures { IfOk result (IsCensus self.now.terms.job self.now.terms.ranges (numbers_in self.now.taken)) }
     {
         let Haul {
@@ -321,16 +324,19 @@ impl Haul {
             return Err(Refused { report, reason });
         }
         let finding = report.finding();
-        let Ok(()) = make_room(
+        match make_room(
             self.alloc,
             &mut self.taken,
             &mut self.worker_of,
             &mut self.totals,
             finding,
-        ) else {
-            let reason = OfferError::Memory;
-            return Err(Refused { report, reason });
-        };
+        ) {
+            Ok(()) => {}
+            Err(error) => {
+                let reason = OfferError::Memory(error);
+                return Err(Refused { report, reason });
+            }
+        }
         note(
             &mut self.taken,
             &mut self.worker_of,
@@ -371,7 +377,7 @@ fn make_room(
     worker_of: &mut IndexMap<u64, u8>,
     totals: &mut Totals,
     finding: &Finding,
-) -> Result<(), AllocError>
+) -> Result<(), OutOfMemory>
     ensures taken { taken.new.items ≡ taken.old.items }
     ensures workers { worker_of.new.entries ≡ worker_of.old.entries }
     ensures extends { Extends totals.old.scores.entries totals.new.scores.entries }

@@ -8,7 +8,8 @@ ghost use Rattle.haul_core.specs.declared.book.arrival.Arrival.{Arrival as Arriv
 use crate::book::arrival::{Arrival, Reply};
 use crate::book::haul::Haul;
 use crate::book::refused::OfferError;
-use std::alloc::{AllocError, Global};
+use memory::OutOfMemory;
+use std::alloc::Global;
 
 /// Lets some arrivals come to a haul, one after another, and returns the replies in order.
 ///
@@ -18,13 +19,13 @@ use std::alloc::{AllocError, Global};
 ///
 /// # Errors
 ///
-/// [`AllocError`] if memory runs out: for the replies, and then nothing has come to the haul; or for an offer that the
+/// [`OutOfMemory`] if memory runs out: for the replies, and then nothing has come to the haul; or for an offer that the
 /// book takes, and then the arrivals before it have come, and no other.
 pub fn keep_book(
     alloc: Global,
     haul: &mut Haul,
     arrivals: Vec<Arrival>,
-) -> Result<Vec<Reply>, AllocError>
+) -> Result<Vec<Reply>, OutOfMemory>
     ensures replies { (before : List Arrived) → StandsFor before haul.old
         → IfOk result (λ replies. replies.items ≡ replies_to haul.old.terms before arrivals.items) }
     ensures stands { (before : List Arrived) → StandsFor before haul.old
@@ -48,7 +49,7 @@ pub fn workers_are_taken_in_order()
 {}
 
 /// Lets one arrival come to a haul. Memory runs out only for an offer that the book takes, and then nothing has come.
-fn answer(haul: &mut Haul, arrival: Arrival) -> Result<Reply, AllocError>
+fn answer(haul: &mut Haul, arrival: Arrival) -> Result<Reply, OutOfMemory>
     ensures reply { (before : List Arrived) → StandsFor before haul.old
         → IfOk result (λ reply. reply ≡ reply_to haul.old.terms before arrival) }
     ensures stands { (before : List Arrived) → StandsFor before haul.old
@@ -66,7 +67,7 @@ fn answer(haul: &mut Haul, arrival: Arrival) -> Result<Reply, AllocError>
                 // By a call: dropped after each case, what was refused costs the prover four times as much.
                 drop(refused);
                 match reason {
-                    OfferError::Memory => Err(AllocError),
+                    OfferError::Memory(error) => Err(error),
                     reason => Ok(Reply::Refused(reason)),
                 }
             }

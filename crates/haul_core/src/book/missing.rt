@@ -4,15 +4,16 @@ ghost use Rattle.haul_core.specs.MissingSteps.{has_no_worker};
 ghost use Rattle.ranges.specs.Ranges.{AreBelow, end_of, number_bound};
 
 use indexmap::IndexMap;
+use memory::OutOfMemory;
 use ranges::range::Range;
-use std::alloc::{AllocError, Global};
+use std::alloc::Global;
 
 /// The numbers of the ranges that have no worker, in the order of the ranges.
 pub(crate) fn missing(
     alloc: Global,
     ranges: &[Range],
     worker_of: &IndexMap<u64, u8>,
-) -> Result<Vec<u64>, AllocError>
+) -> Result<Vec<u64>, OutOfMemory>
     requires { AreBelow number_bound ranges.now }
     ensures { IfOk result
         (λ missing. missing.items ≡ filter (has_no_worker worker_of.now.entries) (numbers_of ranges.now)) }
@@ -29,7 +30,7 @@ fn add_missing(
     missing: &mut Vec<u64>,
     range: &Range,
     worker_of: &IndexMap<u64, u8>,
-) -> Result<(), AllocError>
+) -> Result<(), OutOfMemory>
     requires { end_of range.now ≤ number_bound }
     ensures { OnOk result (missing.new.items
         ≡ missing.old.items ++ filter (has_no_worker worker_of.now.entries) (numbers_of_range range.now)) }

@@ -1,4 +1,5 @@
 use crate::report::Report;
+use memory::OutOfMemory;
 use thiserror::Error;
 
 /// Why a report is refused.
@@ -21,7 +22,7 @@ pub enum OfferError {
     Double { worker: u8 },
     /// Memory ran out.
     #[error("out of memory")]
-    Memory,
+    Memory(OutOfMemory),
 }
 
 /// A report that was not taken, and why.

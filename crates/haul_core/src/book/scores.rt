@@ -19,7 +19,8 @@ ghost use Rattle.haul_core.specs.Totals.{is_for_good, is_unsettled};
 use crate::book::samples::Samples;
 use code_core::apgcode::Apgcode;
 use indexmap::IndexMap;
-use std::alloc::{AllocError, Global};
+use memory::OutOfMemory;
+use std::alloc::Global;
 use survey_core::finding::Finding;
 
 /// What is kept of a code.
@@ -57,7 +58,7 @@ impl Totals {
     }
 
     /// Makes a score for each code of a finding that has none. If there is no memory the scores are as they were.
-    pub(crate) fn make_room(&mut self, alloc: Global, finding: &Finding) -> Result<(), AllocError>
+    pub(crate) fn make_room(&mut self, alloc: Global, finding: &Finding) -> Result<(), OutOfMemory>
         ensures extends { Extends self.old.scores.entries self.new.scores.entries }
         ensures scores { OnOk result (HasScores finding.now self.new.scores.entries) }
         ensures unsettled { self.new.unsettled ≡ self.old.unsettled }
@@ -72,7 +73,7 @@ impl Totals {
     }
 
     /// The totals over the soups of both.
-    pub(crate) fn joined(&self, alloc: Global, other: &Totals) -> Result<Totals, AllocError>
+    pub(crate) fn joined(&self, alloc: Global, other: &Totals) -> Result<Totals, OutOfMemory>
         requires room { (code : List ℕ)
             → (score_in self.now.scores.entries code).total + (score_in other.now.scores.entries code).total < 2 ^ 128 }
         requires unsettled { self.now.unsettled + other.now.unsettled < 2 ^ 64 }
@@ -161,7 +162,7 @@ fn add_scores(
     alloc: Global,
     scores: &mut IndexMap<Apgcode, Score>,
     others: &IndexMap<Apgcode, Score>,
-) -> Result<(), AllocError>
+) -> Result<(), OutOfMemory>
     requires { (code : List ℕ)
         → (score_in scores.old.entries code).total + (score_in others.now.entries code).total < 2 ^ 128 }
     ensures { OnOk result ((code : List ℕ) → score_in scores.new.entries code
@@ -181,7 +182,7 @@ fn add_score(
     scores: &mut IndexMap<Apgcode, Score>,
     code: &Apgcode,
     score: &Score,
-) -> Result<(), AllocError>
+) -> Result<(), OutOfMemory>
     requires { (score_in scores.old.entries code.now).total + score.now.total < 2 ^ 128 }
     ensures score { OnOk result
         (score_in scores.new.entries code.now ≡ together (score_in scores.old.entries code.now) score.now) }
@@ -213,7 +214,7 @@ pub(crate) fn make_scores(
     alloc: Global,
     scores: &mut IndexMap<Apgcode, Score>,
     objects: &[(Apgcode, u64)],
-) -> Result<(), AllocError>
+) -> Result<(), OutOfMemory>
     ensures ok { OnOk result (Extends scores.old.entries scores.new.entries) }
     ensures scores { OnOk result (All (λ object. HasScore scores.new.entries object.0) objects.now) }
     ensures err { OnErr result (scores.new.entries ≡ scores.old.entries) }
@@ -231,7 +232,7 @@ fn make_each_score(
     alloc: Global,
     scores: &mut IndexMap<Apgcode, Score>,
     objects: &[(Apgcode, u64)],
-) -> Result<(), AllocError>
+) -> Result<(), OutOfMemory>
     ensures extends { Extends scores.old.entries scores.new.entries }
     ensures scores { OnOk result (All (λ object. HasScore scores.new.entries object.0) objects.now) }
 {
@@ -246,7 +247,7 @@ fn make_score(
     alloc: Global,
     scores: &mut IndexMap<Apgcode, Score>,
     code: &Apgcode,
-) -> Result<(), AllocError>
+) -> Result<(), OutOfMemory>
     ensures extends { Extends scores.old.entries scores.new.entries }
     ensures score { OnOk result (HasScore scores.new.entries code.now) }
 {

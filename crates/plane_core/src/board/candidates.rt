@@ -32,7 +32,8 @@ use crate::pattern::Pattern;
 use crate::rows::unpacked;
 use crate::small::pattern_of;
 use crate::stray::Spot;
-use std::alloc::{AllocError, Global};
+use memory::OutOfMemory;
+use std::alloc::Global;
 
 /// How many boxes are looked at, at most.
 const BOXES: u32 = 32;
@@ -52,8 +53,8 @@ impl Board {
     ///
     /// # Errors
     ///
-    /// `AllocError` if memory runs out.
-    pub fn small_clusters(&self, alloc: Global) -> Result<Vec<Pattern>, AllocError>
+    /// `OutOfMemory` if memory runs out.
+    pub fn small_clusters(&self, alloc: Global) -> Result<Vec<Pattern>, OutOfMemory>
         ensures { IfOk result (λ clusters. All (IsCluster self.now.cells) clusters.items) }
     {
         let mut clusters = Vec::new(alloc);
@@ -76,7 +77,7 @@ fn add_all<A: Answering>(
     boxes: &[Bounds],
     rule: &A,
     clusters: &mut Vec<Pattern>,
-) -> Result<(), AllocError>
+) -> Result<(), OutOfMemory>
     requires frame { IsFrame at }
     requires plane { AreSidesWithin plane_bound (bounds_of at) }
     requires long { FillsFrame at words.now }
@@ -162,7 +163,7 @@ fn add_in<A: Answering>(
     bounds: Bounds,
     rule: &A,
     clusters: &mut Vec<Pattern>,
-) -> Result<(), AllocError>
+) -> Result<(), OutOfMemory>
     requires frame { IsFrame at }
     requires plane { AreSidesWithin plane_bound (bounds_of at) }
     requires long { FillsFrame at words.now }
@@ -191,7 +192,7 @@ fn add_grown(
     rows: &[u64; 64],
     candidates: &mut [u64; 64],
     clusters: &mut Vec<Pattern>,
-) -> Result<(), AllocError>
+) -> Result<(), OutOfMemory>
     requires frame { IsFrame at }
     requires plane { AreSidesWithin plane_bound (bounds_of at) }
     requires lanes { at.lanes ≡ 1 }
@@ -216,7 +217,7 @@ fn add_one(
     candidates: &mut [u64; 64],
     spot: Spot,
     clusters: &mut Vec<Pattern>,
-) -> Result<(), AllocError>
+) -> Result<(), OutOfMemory>
     requires frame { IsFrame at }
     requires plane { AreSidesWithin plane_bound (bounds_of at) }
     requires lanes { at.lanes ≡ 1 }
@@ -255,7 +256,7 @@ fn is_small(cluster: &[u64; 64]) -> bool {
 }
 
 /// Puts a cluster after the others, unless it is one of them: two boxes may lie near each other.
-fn add(clusters: &mut Vec<Pattern>, cluster: Pattern) -> Result<(), AllocError>
+fn add(clusters: &mut Vec<Pattern>, cluster: Pattern) -> Result<(), OutOfMemory>
     ensures { OnOk result ((cells : List Cell) → IsCluster cells cluster → All (IsCluster cells) clusters.old.items
         → All (IsCluster cells) clusters.new.items) }
 {

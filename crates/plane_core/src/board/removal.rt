@@ -20,15 +20,15 @@ use crate::boxes::put_in_boxes;
 use crate::cell::Cell;
 use crate::frame::Frame;
 use crate::pattern::Pattern;
-use std::alloc::AllocError;
+use memory::OutOfMemory;
 
 impl Board {
     /// Takes these cells off the board. Those that aren't alive on it are passed over.
     ///
     /// # Errors
     ///
-    /// `AllocError` if memory runs out. Then the board shows what it did.
-    pub fn take_out(&mut self, cells: &Pattern) -> Result<(), AllocError>
+    /// `OutOfMemory` if memory runs out. Then the board shows what it did.
+    pub fn take_out(&mut self, cells: &Pattern) -> Result<(), OutOfMemory>
         ensures rule { self.new.rule ≡ self.old.rule }
         ensures cells { OnOk result (self.new.cells ≡ without self.old.cells cells.now) }
         ensures kept { OnErr result (self.new.cells ≡ self.old.cells) }

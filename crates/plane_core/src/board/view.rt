@@ -22,7 +22,7 @@ use crate::bounds::Bounds;
 use crate::frame::Frame;
 use crate::placed::read_rows;
 use crate::rows::packed;
-use std::simd::prelude::*;
+use std::simd::u64x4;
 
 /// How many columns and rows the box of what changes in a small oscillator has at most.
 const SMALL: u32 = 6;

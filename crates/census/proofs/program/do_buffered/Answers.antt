@@ -9,8 +9,8 @@ use Rattle.census.specs.Program.{IsDone}
 use Rattle.census.proofs.ProgramLemmas.{Prints, append_nothing, at_done, at_incomplete, front_sent, nothing_written, prints, unlike}
 use Rattle.census.proofs.program.do_buffered.Goals as goal
 
-pub returns-in_default-clause-complains : goal.returns-in_default-clause-complains
-returns-in_default-clause-complains g c =
+pub returns-in-Err-clause-complains : goal.returns-in-Err-clause-complains
+returns-in-Err-clause-complains g c =
     λ _ _ _. let before = g.W.Write.contents c.args.output in
     let nothing = nothing_written before in
     record {

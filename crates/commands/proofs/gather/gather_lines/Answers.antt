@@ -2,7 +2,7 @@ use Rattle.std.proofs.Common.{◌∙◌, arith, refl}
 use Rattle.std.proofs.KnownBytes.{Appends-nil}
 use Rattle.pattern_commands.specs.Streams.{stream}
 use Rattle.pattern_commands.proofs.AnswerLemmas.{err_of}
-use Rattle.commands.proofs.GatherLemmas.{begun, goes_begun, goes_further, goes_no_further, lines_ended_by, none_gathered}
+use Rattle.commands.proofs.GatherLemmas.{begun, goes_begun, goes_further, goes_long, goes_no_further, lines_ended_by, many_lines, none_gathered}
 use Rattle.commands.proofs.gather.gather_lines.Goals as goal
 
 pub loop-before-init : goal.loop-before-init
@@ -28,6 +28,9 @@ returns-then-size-gt-GATHER_LIMIT-clause-ended g c = (
       (c.in_ok-read.ensures.going _ c.args.errors.now _ c.loop-before.invariant.gathered)
       (c.next_line.ensures.terms ∙ c.loop-before.invariant.terms),
   c.in_ok-read.ensures.fine,
+  goes_long _ _ c.in_ok-read.read.end
+      (c.in_ok-read.ensures.going _ c.args.errors.now _ c.loop-before.invariant.gathered)
+      (omega (arith, c.if-size-gt-GATHER_LIMIT.true)),
 )
 
 pub returns-in-Input-clause-gathered : goal.returns-in-Input-clause-gathered
@@ -48,4 +51,8 @@ loop-before-preserved g c = record {
 }
 
 pub returns-clause-ended : goal.returns-clause-ended
-returns-clause-ended g c = (begun _ _ _ c.loop-before.invariant.gathered c.loop-before.invariant.terms, c.loop-before.invariant.fine)
+returns-clause-ended g c = (
+  begun _ _ _ c.loop-before.invariant.gathered c.loop-before.invariant.terms,
+  c.loop-before.invariant.fine,
+  many_lines _ _ c.loop-before.invariant.gathered (omega arith),
+)

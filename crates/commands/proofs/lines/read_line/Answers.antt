@@ -1,18 +1,18 @@
-use Rattle.std.proofs.Common.{◌≡◌, ◌∙◌, ◌+◌, ◌++◌, ◌^◌, Some, ap, append-nil, arith, length}
-use Rattle.commands.proofs.LineLemmas.{kept_short, read_more, spent_from}
+use Rattle.std.proofs.Common.{◌≡◌, ◌∙◌, ◌+◌, ◌++◌, ◌^◌, Some, ap, append-nil, arith, length, refl}
+use Rattle.commands.proofs.LineLemmas.{kept_short, long_read, read_more, spent_from}
 use Rattle.commands.specs.Lines.{piece_end}
 use Rattle.commands.proofs.lines.read_line.Goals as goal
 
 pub read_piece-requires : goal.read_piece-requires
-read_piece-requires g c = kept_short (2 ^ 24 + 1) _ c.loop.invariant.1.0 c.loop.invariant.1.1
+read_piece-requires g c = kept_short (2 ^ 24 + 1) _ c.loop-before.invariant.2.0 c.loop-before.invariant.2.1
 
-pub returns-in-Some : goal.returns-in-Some
-returns-in-Some g c =
-    let was = c.loop.invariant.1 in
-    let read = c.in_ok-piece.ensures in
+pub returns-in-Some-clause-read : goal.returns-in-Some-clause-read
+returns-in-Some-clause-read g c =
+    let was = c.loop-before.invariant.2 in
+    let read = c.in_ok-piece.ensures.read in
     let piece = c.in_ok-piece.piece in
-    let more = read_more _ _ _ _ _ was.0 read.0 c.loop.size piece was.1 was.2 was.3 was.4 read.1 read.2 in
-    let sum : c.saturating_add-size.result ≡ c.loop.size + piece.size = omega (arith, c.saturating_add-size.ensures, c.if-size-gt-GATHER_LIMIT.false) in
+    let more = read_more _ _ _ _ _ was.0 read.0 c.loop-before.size piece was.1 was.2 was.3 was.4 read.1 read.2 in
+    let sum : c.saturating_add-size.result ≡ c.loop-before.size + piece.size = omega (arith, c.saturating_add-size.ensures, c.if-size-gt-GATHER_LIMIT.false) in
     let whole : c.saturating_add-size.result ≡ length ((was.0 ++ read.0) ++ piece_end piece.end) = sum
     ∙ more.3 in record {
       line = was.0 ++ read.0;
@@ -24,15 +24,25 @@ returns-in-Some g c =
       last = λ end. spent_from _ _ _ was.0 was.3 (read.2.last (c.in-Some.is ∙ ap Some end));
     }
 
-pub loop-preserved : goal.loop-preserved
-loop-preserved g c =
-    let was = c.loop.invariant.1 in
-    let read = c.in_ok-piece.ensures in
+pub returns-then-size-gt-GATHER_LIMIT-clause-long : goal.returns-then-size-gt-GATHER_LIMIT-clause-long
+returns-then-size-gt-GATHER_LIMIT-clause-long g c = λ is.
+    let was = c.loop-before.invariant.2 in
+    let read = c.in_ok-piece.ensures.read in
     let piece = c.in_ok-piece.piece in
-    let more = read_more _ _ _ _ _ was.0 read.0 c.loop.size piece was.1 was.2 was.3 was.4 read.1 read.2 in
-    let sum : c.saturating_add-size.result ≡ c.loop.size + piece.size = omega (arith, c.saturating_add-size.ensures, c.if-size-gt-GATHER_LIMIT.false) in
+    let more = read_more _ _ _ _ _ was.0 read.0 c.loop-before.size piece was.1 was.2 was.3 was.4 read.1 read.2 in
+    long_read _ _ ((was.0 ++ read.0) ++ piece_end piece.end) more.2
+    (omega (arith, c.saturating_add-size.ensures, c.if-size-gt-GATHER_LIMIT.true, more.3))
+
+pub loop-before-preserved : goal.loop-before-preserved
+loop-before-preserved g c =
+    let was = c.loop-before.invariant.2 in
+    let read = c.in_ok-piece.ensures.read in
+    let piece = c.in_ok-piece.piece in
+    let more = read_more _ _ _ _ _ was.0 read.0 c.loop-before.size piece was.1 was.2 was.3 was.4 read.1 read.2 in
+    let sum : c.saturating_add-size.result ≡ c.loop-before.size + piece.size = omega (arith, c.saturating_add-size.ensures, c.if-size-gt-GATHER_LIMIT.false) in
     let whole : c.saturating_add-size.result ≡ length ((was.0 ++ read.0) ++ piece_end piece.end) = sum ∙ more.3 in
     let bare = append-nil (was.0 ++ read.0) in (
+      refl,
       c.if-size-gt-GATHER_LIMIT.false,
       (
         was.0 ++ read.0,

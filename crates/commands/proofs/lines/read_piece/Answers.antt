@@ -5,11 +5,11 @@ use Rattle.std.specs.Io.KnownBytes.{Consumes}
 use Rattle.commands.proofs.LineLemmas.{nothing_read}
 use Rattle.commands.proofs.lines.read_piece.Goals as goal
 
-pub returns-in-Err : goal.returns-in-Err
-returns-in-Err g c = nothing_read _ _ c.args.line.now.items c.after_error.result c.requires c.fill_buf.follows.holds-at-none.0 c.after_error.ensures
+pub returns-in-Err-clause-read : goal.returns-in-Err-clause-read
+returns-in-Err-clause-read g c = nothing_read _ _ c.args.line.now.items c.after_error.result c.requires c.fill_buf.follows.holds-at-none.0 c.after_error.ensures.again
 
-pub returns : goal.returns
-returns g c =
+pub returns-clause-read : goal.returns-clause-read
+returns-clause-read g c =
     let shown = c.in-Ok.available.now in
     let piece = c.first_piece-piece.ensures in
     let size = c.first_piece-piece.result.size in

@@ -12,9 +12,9 @@ returns-in_err-ranges-clause-stops c =
     (Stops_list c.args.set.now c.as_str.result.now c.in_err-ranges.field-0.0 c.as_str.ensures told.complete
     (λ place is. told.bad_list place (ap Err is)) (λ is. told.memory (ap Err is)))
 
-pub returns-in_err-extend_from_slice-clause-stops : goal.returns-in_err-extend_from_slice-clause-stops
-returns-in_err-extend_from_slice-clause-stops c =
-    rw (err_of _ _ c.from_residual-in_err-extend_from_slice.ensures.1)
+pub returns-in_err-add_range-clause-stops : goal.returns-in_err-add_range-clause-stops
+returns-in_err-add_range-clause-stops c =
+    rw (err_of _ _ c.from_residual-in_err-add_range.ensures.1)
     (record {
       ranges = c.in_ok-ranges.ranges.items;
       fit = c.in_ok-ranges.ensures.fit;
@@ -26,10 +26,10 @@ returns-clause-named c = record {
   listed = c.in_ok-ranges.ranges.items;
   fit = c.in_ok-ranges.ensures.fit;
   spelled = c.in_ok-ranges.ensures.ranges ∙ c.as_str.ensures;
-  all = c.in_ok-extend_from_slice.ensures.items;
+  all = c.in_ok-add_range.ensures;
 }
 
 pub returns-clause-only : goal.returns-clause-only
 returns-clause-only c = λ others of.
     let listed : of.listed ≡ c.in_ok-ranges.ranges.items = sym (c.in_ok-ranges.ensures.complete of.listed of.fit (of.spelled ∙ sym c.as_str.ensures)) in
-    of.all ∙ ap (λ (rs : List Range). rs ++ own_range c.args.set.now ∷ []) listed ∙ sym c.in_ok-extend_from_slice.ensures.items
+    of.all ∙ ap (λ (rs : List Range). rs ++ own_range c.args.set.now ∷ []) listed ∙ sym c.in_ok-add_range.ensures

@@ -6,15 +6,15 @@ use Rattle.crew.proofs.collector.collect.Goals as goal
 pub loop-init : goal.loop-init
 loop-init g c = collected_none (collector_with c.args.started c.args.pass.now c.args.haul.now)
 
-pub loop-preserved-then-not-offer : goal.loop-preserved-then-not-offer
-loop-preserved-then-not-offer g c =
+pub loop-preserved-in-Err : goal.loop-preserved-in-Err
+loop-preserved-in-Err g c =
     collected_unheard c.loop.invariant c.in-Report.report c.offer.new.haul (c.in-Report.ensures) (omega (arith, c.if-left-eq0.false))
-    (c.offer.ensures.kept c.if-not-offer.true) (c.offer.ensures.lost c.if-not-offer.true)
+    c.in-Err.ensures.kept c.in-Err.ensures.lost
 
-pub loop-preserved-else-not-offer : goal.loop-preserved-else-not-offer
-loop-preserved-else-not-offer g c =
+pub loop-preserved-in-Ok : goal.loop-preserved-in-Ok
+loop-preserved-in-Ok g c =
     collected_heard c.loop.invariant c.in-Report.report c.offer.new.haul (c.in-Report.ensures) (omega (arith, c.if-left-eq0.false))
-    c.offer.ensures.added (c.offer.ensures.stands c.if-not-offer.false)
+    c.in-Ok.ensures.added c.in-Ok.ensures.stands
 
 pub loop-preserved : goal.loop-preserved
 loop-preserved g c = collected_done c.loop.invariant c.in-Done.worker (c.in-Done.ensures) (omega (arith, c.if-left-eq0.false))

@@ -1,4 +1,5 @@
-use Rattle.std.proofs.Common.{◌≡◌, ◌≢◌, ◌∙◌, ℕ, Bool, true, false, List, None, Option, Some, ap, if◌then◌else◌, inl, inr, nat_lt, not, sym, true≢false}
+use Rattle.std.proofs.Common.{◌≡◌, ◌≢◌, ◌∙◌, ℕ, Bool, true, false, List, None, Option, Some, ap, if◌then◌else◌, inl, inr, nat_lt, not, sym}
+use Rattle.memory.specs.Evidence.{out_of_memory}
 use Rattle.haul_core.specs.Books.{Terms, eligible, has_closing}
 use Rattle.haul_core.specs.Refusals.{IsReply, double, first_worker, refusal_of}
 use Rattle.survey_core.specs.Jobs.{same_job}
@@ -17,7 +18,7 @@ taken_is_answer reason e = absurd (cc)
 no_memory : (closed job over inside : Bool) (worker : Option ℕ)
     → (if closed then Some Closed else if not job then Some OtherJob else if over then Some UnknownWorker else if not inside then Some OutOfRange
     else double worker)
-    ≢ Some Memory
+    ≢ Some (Memory out_of_memory)
 no_memory true job over inside worker e = absurd (cc)
 no_memory false false over inside worker e = absurd (cc)
 no_memory false true true inside worker e = absurd (cc)
@@ -27,7 +28,7 @@ no_memory false true false true (Some w) e = absurd (cc)
 
 -- where memory runs out, the book takes the offer
 is_taken : (terms : Terms) (before : List Arrival) (r : Reported) (given : Option OfferError) → IsReply given (refusal_of terms before r)
-    → given ≡ Some Memory → refusal_of terms before r ≡ None
+    → given ≡ Some (Memory out_of_memory) → refusal_of terms before r ≡ None
 is_taken terms before r given (inl same) e = absurd (no_memory (has_closing before) (same_job terms.job r.job) (nat_lt terms.workers r.worker)
     (is_in terms.ranges r.number) (first_worker r.number (eligible terms before)) (sym same ∙ e))
 is_taken terms before r given (inr none) e = none.1
@@ -44,27 +45,27 @@ returns-in-Ok c =
         terms = all.terms;
         closed = all.closed;
         taken = all.taken;
-        stands = λ arrivals here. all.stands arrivals here (taken_is_answer Memory);
+        stands = λ arrivals here. all.stands arrivals here (taken_is_answer (Memory out_of_memory));
       });
-      stands = λ same arrivals here. all.stands arrivals here (taken_is_answer Memory);
-      kept = λ never. absurd (true≢false never);
-      lost = λ never. absurd (true≢false never);
+      stands = λ arrivals here. all.stands arrivals here (taken_is_answer (Memory out_of_memory));
+      kept = tt;
+      lost = tt;
     }
 
 pub returns-in-Memory : goal.returns-in-Memory
 returns-in-Memory c = record {
   added = inl c.in-Err.ensures.kept;
-  stands = λ never. absurd (true≢false (sym never));
-  kept = λ same. c.in-Err.ensures.kept;
-  lost = λ same arrivals here.
+  stands = tt;
+  kept = c.in-Err.ensures.kept;
+  lost = λ arrivals here.
       is_taken c.args.haul.now.terms arrivals c.args.report (Some c.in-Err.refused.reason) (c.in-Err.ensures.reply arrivals here) (ap Some c.in-Memory.is);
 }
 
 -- src/collector.rt:55:1
 pub returns : goal.returns
-returns c = let other = c.in_default.not-Memory in record {
+returns c = let other = c.in_default.not-Memory out_of_memory in record {
   added = inl c.in-Err.ensures.kept;
-  stands = λ same arrivals here. c.in-Err.ensures.stands arrivals here (λ memory. other (same_reason c.in-Err.refused.reason Memory memory));
-  kept = λ never. c.in-Err.ensures.kept;
-  lost = λ never. absurd (true≢false never);
+  stands = λ arrivals here. c.in-Err.ensures.stands arrivals here (λ memory. other (same_reason c.in-Err.refused.reason (Memory out_of_memory) memory));
+  kept = tt;
+  lost = tt;
 }

@@ -1,6 +1,6 @@
 use Rattle.std.proofs.Common.{subst}
 use Rattle.crew.specs.Shifts.{Leaves}
-use Rattle.crew.proofs.StepLemmas.{not_more, one_at_most, others_may_run, pass_out, room_for_one, run_more, run_none, sender_out}
+use Rattle.crew.proofs.StepLemmas.{not_more, one_at_most, others_may_run, pass_out, room_for_one, run_more, run_none, sender_out, worker_out}
 use Rattle.crew.proofs.workers.+run_crew.Goals as goal
 
 pub receive_all-requires : goal.receive_all-requires
@@ -20,6 +20,11 @@ begin_shift-begun-requires-clause-pass g t c κs within =
 pub begin_shift-begun-requires-clause-sender : goal.begin_shift-begun-requires-clause-sender
 begin_shift-begun-requires-clause-sender g t c κs within =
     sender_out c.take_last.new.self c.args.crew.now (c.in-Some.pass, c.in-Some.sender) c.requires
+    c.in-Some.ensures.taken_out
+
+pub begin_shift-begun-requires-clause-worker : goal.begin_shift-begun-requires-clause-worker
+begin_shift-begun-requires-clause-worker g t c κs within =
+    worker_out c.take_last.new.self c.args.crew.now (c.in-Some.pass, c.in-Some.sender) c.requires
     c.in-Some.ensures.taken_out
 
 pub run_crew-requires-after_bounds : goal.run_crew-requires-after_bounds

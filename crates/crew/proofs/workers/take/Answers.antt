@@ -11,3 +11,6 @@ returns-clause-stopped g c worker is =
 pub returns-clause-within : goal.returns-clause-within
 returns-clause-within g c worker is =
     subst (λ o. IfSome o (λ w. (1 ≤ w) × (w ≤ c.args.workers))) (c.cause.ensures.named worker is) c.take_missing-haul.ensures.within
+
+pub returns-clause-open : goal.returns-clause-open
+returns-clause-open g c = λ closed. absurd (c.cause.ensures.«open» closed)

@@ -9,7 +9,7 @@ pub run_in_scope-crew-requires-after_bounds : goal.run_in_scope-crew-requires-af
 run_in_scope-crew-requires-after_bounds g c κs within =
     let start = c.in-Ok.ensures in
     ready_first c.in-Ok.start.site _ c.args.workers start.passes start.many start.senders
-    (omega (arith, c.ranges.workers.fits)) refl
+    start.few refl
     (ap (λ (r : Received Note). r.belt) start.receiver) start.back start.room refl
 
 pub end_crew-requires-clause-senders : goal.end_crew-requires-clause-senders

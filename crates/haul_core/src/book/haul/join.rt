@@ -10,7 +10,8 @@ ghost use Rattle.haul_core.specs.declared.book.arrival.Arrival.{Arrival};
 
 use crate::book::haul::Haul;
 use indexmap::IndexMap;
-use std::alloc::{AllocError, Global};
+use memory::OutOfMemory;
+use std::alloc::Global;
 use survey_core::finding::findings_are_determined;
 use survey_core::job::is_same_job;
 use thiserror::Error;
@@ -29,7 +30,7 @@ pub enum JoinError {
     Overlap,
     /// Memory ran out.
     #[error("out of memory")]
-    Memory,
+    Memory(OutOfMemory),
 }
 
 impl Haul {
@@ -86,7 +87,7 @@ fn one_of(first: &Haul, second: &Haul) -> Result<Haul, JoinError>
     }
     match joined(first, second) {
         Ok(joined) => Ok(joined),
-        Err(_) => Err(JoinError::Memory),
+        Err(error) => Err(JoinError::Memory(error)),
     }
 }
 
@@ -108,7 +109,7 @@ fn hindrance(first: &Haul, second: &Haul) -> Option<JoinError>
 }
 
 /// The two hauls as one.
-fn joined(first: &Haul, second: &Haul) -> Result<Haul, AllocError>
+fn joined(first: &Haul, second: &Haul) -> Result<Haul, OutOfMemory>
     requires { CanJoin first.now second.now }
     ensures { IfOk result (IsJoined first.now second.now) }
 {
@@ -135,7 +136,7 @@ fn all_taken(
     alloc: Global,
     first: &[(u8, u64)],
     second: &[(u8, u64)],
-) -> Result<Vec<(u8, u64)>, AllocError>
+) -> Result<Vec<(u8, u64)>, OutOfMemory>
     ensures { IfOk result (λ taken. taken.items ≡ first.now ++ second.now) }
 {
     let mut taken = Vec::from_slice(alloc, first)?;
@@ -144,7 +145,7 @@ fn all_taken(
 }
 
 /// The worker of each number.
-fn by_number(alloc: Global, taken: &[(u8, u64)]) -> Result<IndexMap<u64, u8>, AllocError>
+fn by_number(alloc: Global, taken: &[(u8, u64)]) -> Result<IndexMap<u64, u8>, OutOfMemory>
     requires { IsDistinct nat_eq (numbers_in taken.now) }
     ensures { IfOk result (λ worker_of. worker_of.entries ≡ map (λ t. (t.1, t.0)) taken.now) }
 {

@@ -1,6 +1,7 @@
 //! How a claim is checked: the soup is surveyed, and what was found is compared with what the claim says.
 
 ghost use Rattle.std.specs.Prelude.{◌≡◌, ◌==◌, ◌↔◌, All, IfErr, IfOk, IsTrue, MatchResult, None, Some, if◌then◌else◌};
+ghost use Rattle.memory.specs.Evidence.{out_of_memory};
 ghost use Rattle.code_core.specs.Apgcodes.{HasCodeShape};
 ghost use Rattle.haul_core.specs.ClaimChecks.{Agrees, Fails, HaveShape, IsConfirmed};
 ghost use Rattle.haul_core.specs.ReportLines.{claim_of};
@@ -8,10 +9,11 @@ ghost use Rattle.haul_core.specs.LawfulClaims.{IsClaim};
 ghost use Rattle.haul_core.specs.Reports.{Reported};
 ghost use Rattle.haul_core.specs.declared.report.claim.check.CheckError.TheVariants.{Memory};
 
-use crate::report::Report;
 use crate::report::claim::claimed_code::ClaimedCode;
 use crate::report::claim::{Claim, SettledClaim};
+use crate::report::{Report, ReportError};
 use code_core::apgcode::Apgcode;
+use memory::OutOfMemory;
 use std::alloc::Global;
 use survey_core::finding::{Finding, findings_are_determined};
 use survey_core::job::{Job, is_same_job};
@@ -26,7 +28,7 @@ pub enum CheckError {
     /// This was found, and the claim says something else.
     Disagrees { found: Finding },
     /// Memory ran out.
-    Memory,
+    Memory(OutOfMemory),
 }
 
 impl Claim {
@@ -44,7 +46,7 @@ impl Claim {
         // The report has the claim's job, worker and number, and each claim that is right becomes its report.
         ensures report { IfOk result (IsConfirmed self job.now) }
         ensures complete { (report : Reported) → IsConfirmed self job.now report
-            → MatchResult result (λ made. made ≡ report) (λ refused. refused.1 ≡ Memory) }
+            → MatchResult result (λ made. made ≡ report) (λ refused. refused.1 ≡ Memory out_of_memory) }
 
         // Which error it is, and what comes back.
         ensures fails { IfErr result (λ refused. Fails self job.now refused.1) }
@@ -68,7 +70,7 @@ impl Claim {
         // The report has the claim's job, worker and number, and each claim that is right becomes its report.
         ensures report { IfOk result (IsConfirmed self job.now) }
         ensures complete { (report : Reported) → IsConfirmed self job.now report
-            → MatchResult result (λ made. made ≡ report) (λ refused. refused.1 ≡ Memory) }
+            → MatchResult result (λ made. made ≡ report) (λ refused. refused.1 ≡ Memory out_of_memory) }
 
         // Which error it is, and what comes back.
         ensures fails { IfErr result (λ refused. Fails self job.now refused.1) }
@@ -78,8 +80,10 @@ impl Claim {
             return Err((self, CheckError::OtherJob));
         }
         findings_are_determined();
-        let Ok(report) = Report::make_with(alloc, job, self.worker, self.number, memo) else {
-            return Err((self, CheckError::Memory));
+        let report = match Report::make_with(alloc, job, self.worker, self.number, memo) {
+            Ok(report) => report,
+            Err(ReportError::Memory(error)) => return Err((self, CheckError::Memory(error))),
+            Err(ReportError::BadWorker) => unreachable!(),
         };
         let agrees = agrees(&self, report.finding());
         if agrees {

@@ -1,7 +1,8 @@
 ghost use Rattle.std.specs.Prelude.{◌≡◌, IfOk};
 ghost use Rattle.code_core.specs.Apgcodes.{HasCodeShape};
 
-use std::alloc::{AllocError, Global};
+use memory::OutOfMemory;
+use std::alloc::Global;
 use std::marker::Model;
 
 /// A text that may be the name of an object: 1 to 400 bytes, each one of `a` to `z`, `0` to `9` and `_`.
@@ -33,7 +34,7 @@ impl ClaimedCode {
     }
 
     /// The code with these bytes.
-    pub(crate) fn make(alloc: Global, bytes: &[u8]) -> Result<ClaimedCode, AllocError>
+    pub(crate) fn make(alloc: Global, bytes: &[u8]) -> Result<ClaimedCode, OutOfMemory>
         requires { HasCodeShape bytes.now }
         ensures { IfOk result (λ code. code ≡ bytes.now) }
     {

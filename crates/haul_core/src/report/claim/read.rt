@@ -3,6 +3,7 @@
 
 ghost use Rattle.std.specs.Prelude.{◌≡◌, ◌↔◌, ◌-◌, ℕ, IfNone, IfOk, IfSome, IsErrOf, IsTrue, MatchResult, length};
 ghost use Rattle.std.specs.Prelude.{option_map};
+ghost use Rattle.memory.specs.Evidence.{out_of_memory};
 ghost use Rattle.haul_core.specs.ClaimSteps.{HasReadStart, IsAfter, MayFollow, claimed};
 ghost use Rattle.haul_core.specs.Claims.{FaultyLinesHaveNoClaim, IsClaimLine, IsFirstFaultOf, LinesHaveOneClaim};
 ghost use Rattle.haul_core.specs.Claims.{LinesHaveOneFault};
@@ -16,7 +17,8 @@ use crate::report::claim::claimed_code::ClaimedCode;
 use crate::report::claim::read_field::{count_in, cut_at};
 use crate::report::claim::read_start::{LineStart, start_in};
 use crate::report::claim::{Claim, SettledClaim};
-use std::alloc::{AllocError, Global};
+use memory::OutOfMemory;
+use std::alloc::Global;
 use thiserror::Error;
 
 /// Why a line is not read as that of a claim.
@@ -28,14 +30,14 @@ pub enum LineError {
     BadLine { place: usize },
     /// Memory ran out.
     #[error("out of memory")]
-    Memory,
+    Memory(OutOfMemory),
 }
 
-impl From<AllocError> for LineError {
-    ghost from_gives = { λ _ e. e ≡ Memory };
+impl<E: Into<OutOfMemory>> From<E> for LineError {
+    ghost from_gives = { λ _ e. e ≡ Memory out_of_memory };
 
-    fn from(_e: AllocError) -> LineError {
-        LineError::Memory
+    fn from(refused: E) -> LineError {
+        LineError::Memory(refused.into())
     }
 }
 
@@ -52,11 +54,11 @@ impl Claim {
         ensures lawful { IfOk result IsClaim }
         ensures line { IfOk result (λ read. claim_line read ≡ line.now) }
         ensures complete { (claim : Claimed) → IsClaim claim → claim_line claim ≡ line.now
-            → MatchResult result (λ read. read ≡ claim) (λ error. error ≡ Memory) }
+            → MatchResult result (λ read. read ≡ claim) (λ error. error ≡ Memory out_of_memory) }
 
         // Which error it is.
         ensures bad_line { (place : ℕ) → IsErrOf result (BadLine place) → IsFirstFaultOf line.now place }
-        ensures memory { IsErrOf result Memory → IsClaimLine line.now }
+        ensures memory { IsErrOf result (Memory out_of_memory) → IsClaimLine line.now }
     {
         if let Some(place) = fault_in(line) {
             return Err(LineError::BadLine { place });
@@ -106,7 +108,7 @@ fn place_of(line: &[u8], there: &[u8]) -> usize
 }
 
 /// The claim of a line that has no fault.
-fn claim_in(alloc: Global, line: &[u8]) -> Result<Claim, AllocError>
+fn claim_in(alloc: Global, line: &[u8]) -> Result<Claim, OutOfMemory>
     requires { IsClaimLine line.now }
     ensures lawful { IfOk result IsClaim }
     ensures line { IfOk result (λ claim. claim_line claim ≡ line.now) }
@@ -123,7 +125,7 @@ fn with_counts(
     line: &[u8],
     start: LineStart,
     counts: Option<&[u8]>,
-) -> Result<Claim, AllocError>
+) -> Result<Claim, OutOfMemory>
     requires line { IsClaimLine line.now }
     requires start { HasReadStart line.now start (option_map (λ remainder. remainder.now) counts) }
     ensures lawful { IfOk result IsClaim }

@@ -1,12 +1,11 @@
-use Rattle.std.proofs.Common.{◌≤◌, ◌^◌, length}
-use Rattle.pattern_commands.specs.Inputs.{pattern_of}
-use Rattle.pattern_commands.proofs.AnswerLemmas.{err_of, some_input, Reads_unread, Reads_error}
+use Rattle.std.proofs.Common.{◌≤◌, ◌^◌, Err, ap, length}
+use Rattle.pattern_commands.proofs.AnswerLemmas.{err_of, Reads_unread, Reads_error}
 use Rattle.pattern_commands.proofs.input.read_pattern.Goals as goal
 
 pub returns-in_err-bytes-clause-read : goal.returns-in_err-bytes-clause-read
 returns-in_err-bytes-clause-read g c =
-    let some = some_input (g.R.Read.remaining c.args.input.now) in
-    (some.0, some.1, rw (err_of _ _ c.from_residual.ensures.1) (Reads_unread (pattern_of some.0) c.in_err-bytes.field-0.0))
+    let unread = Reads_unread (g.R.Read.remaining c.args.input.now) c.in_err-bytes.field-0.0 (λ long. c.in_err-bytes.ensures.long (ap Err long)) in
+    (unread.0, unread.1, rw (err_of _ _ c.from_residual.ensures.1) unread.2)
 
 pub returns-in_err-read_plaintext-clause-read : goal.returns-in_err-read_plaintext-clause-read
 returns-in_err-read_plaintext-clause-read g c =

@@ -16,4 +16,4 @@ returns-in-Ok-clause-usage g c =
 pub returns-clause-usage : goal.returns-clause-usage
 returns-clause-usage g c =
     λ usage. asked_by-none (app_of c.in_ok-command.command) (map g.S.AsStr.text c.args.words.now) c.in_ok-command.ensures c.if-asks_version.ensures
-    (kind_of c.in-Err.error) c.in-Err.ensures.kinds (λ memory. usage (c.unasked_by.ensures memory))
+    (kind_of c.in-Err.error) c.in-Err.ensures.kinds (c.unasked_by.ensures.usage usage)

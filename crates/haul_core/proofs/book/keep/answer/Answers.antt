@@ -1,4 +1,5 @@
 use Rattle.std.proofs.Common.{◌∙◌, ◌++◌, ◌∷◌, [], ap, sym, subst, Some}
+use Rattle.memory.specs.Evidence.{out_of_memory}
 use Rattle.haul_core.specs.Books.{StandsFor}
 use Rattle.haul_core.specs.Refusals.{reply_for, reply_to}
 use Rattle.haul_core.specs.Replies.{IsTakenNext}
@@ -15,10 +16,10 @@ returns-in-Memory-clause-memory c = λ before s.
 pub returns-in_default : goal.returns-in_default
 returns-in_default c = record {
   reply = λ before s.
-      ap reply_for (answered (Some c.in-Err.refused.reason) _ (c.in-Err.ensures.reply before s) (λ e. c.in_default.not-Memory (reason_is e)))
+      ap reply_for (answered (Some c.in-Err.refused.reason) _ (c.in-Err.ensures.reply before s) (λ e. c.in_default.not-Memory out_of_memory (reason_is e)))
       ∙ ap (reply_to c.args.haul.now.terms before) (sym c.in-Offer.is);
   stands = λ before s. subst (λ (a : Arrival). StandsFor (before ++ a ∷ []) c.offer.new.self) (sym c.in-Offer.is)
-      (c.in-Err.ensures.stands before s (λ e. c.in_default.not-Memory (reason_is e)));
+      (c.in-Err.ensures.stands before s (λ e. c.in_default.not-Memory out_of_memory (reason_is e)));
   terms = c.offer.ensures.terms;
   kept = tt;
   memory = λ before s. tt;

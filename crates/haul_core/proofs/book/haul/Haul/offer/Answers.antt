@@ -28,8 +28,8 @@ invariant_of-self c =
     c.make_room.ensures.taken c.make_room.ensures.workers c.make_room.ensures.extends
     c.make_room.ensures.unsettled c.make_room.ensures.for_good c.self.invariant
 
-pub returns-in_default-make_room-clause-reply : goal.returns-in_default-make_room-clause-reply
-returns-in_default-make_room-clause-reply c = λ arrivals s. inr (
+pub returns-in-Err-clause-reply : goal.returns-in-Err-clause-reply
+returns-in-Err-clause-reply c = λ arrivals s. inr (
   refl,
   same_refusal arrivals c.args.self.now c.args.report s ∙ sym c.refusal.ensures
       ∙ c.in_default.is,
@@ -124,20 +124,20 @@ returns-clause-stands c = λ arrivals s answered.
 pub returns-in-Some-clause-state : goal.returns-in-Some-clause-state
 returns-in-Some-clause-state c = inl (sym c.in-Some.is ∙ c.refusal.ensures)
 
-pub returns-in_default-make_room-clause-state : goal.returns-in_default-make_room-clause-state
-returns-in_default-make_room-clause-state c = inr (refl, sym c.refusal.ensures ∙ c.in_default.is)
+pub returns-in-Err-clause-state : goal.returns-in-Err-clause-state
+returns-in-Err-clause-state c = inr (refl, sym c.refusal.ensures ∙ c.in_default.is)
 
-pub returns-in_default-make_room-clause-stands : goal.returns-in_default-make_room-clause-stands
-returns-in_default-make_room-clause-stands c = λ arrivals s answered. absurd (answered refl)
+pub returns-in-Err-clause-stands : goal.returns-in-Err-clause-stands
+returns-in-Err-clause-stands c = λ arrivals s answered. absurd (answered refl)
 
-pub returns-in_default-make_room-clause-terms : goal.returns-in_default-make_room-clause-terms
-returns-in_default-make_room-clause-terms c = ap (λ (h : Held). h.terms) c.self.view_is
+pub returns-in-Err-clause-terms : goal.returns-in-Err-clause-terms
+returns-in-Err-clause-terms c = ap (λ (h : Held). h.terms) c.self.view_is
 
-pub returns-in_default-make_room-clause-closed : goal.returns-in_default-make_room-clause-closed
-returns-in_default-make_room-clause-closed c = ap (λ (h : Held). h.closed) c.self.view_is
+pub returns-in-Err-clause-closed : goal.returns-in-Err-clause-closed
+returns-in-Err-clause-closed c = ap (λ (h : Held). h.closed) c.self.view_is
 
-pub returns-in_default-make_room-clause-kept : goal.returns-in_default-make_room-clause-kept
-returns-in_default-make_room-clause-kept c =
+pub returns-in-Err-clause-kept : goal.returns-in-Err-clause-kept
+returns-in-Err-clause-kept c =
     let h = c.self.inside in
     let terms : Terms = record { job = h.job; ranges = h.ranges; workers = h.workers } in
     ap (λ (ts : List (ℕ × ℕ)). record { terms = terms; closed = h.closed; taken = ts }) c.make_room.ensures.taken ∙ c.self.view_is

@@ -1,4 +1,4 @@
-use Rattle.std.proofs.Common.{◌∙◌, refl, sym}
+use Rattle.std.proofs.Common.{◌≤◌, ◌^◌, ◌∙◌, refl, subst, sym}
 use Rattle.std.proofs.lemmas.Bool.{false≢true}
 use Rattle.std.proofs.lemmas.Result.{err_from_is_err_and}
 use Rattle.haul_core.proofs.KeepLemmas.{keeps_none}
@@ -23,6 +23,7 @@ invariant_of-result c =
     keeps_none c.args.job c.in_ok-ranges.ranges c.args.workers c.in-Some.count c.new.result.items c.new-2.result.entries
     (record { scores = c.none.result.scores.entries; unsettled = c.none.result.unsettled; for_good = c.none.result.for_good })
     c.in_ok-ranges.ensures.form.normal_form c.in_ok-ranges.ensures.below (c.in-Some.ensures.small.0 ∙ sym c.in_ok-ranges.ensures.size)
+    (subst (λ n. n ≤ 2 ^ 24) (sym c.in-Some.ensures.small.0) c.in-Some.ensures.small.1.few)
     (c.is_worker-known.ensures.0 c.if-not-known.false) c.new.ensures.items c.new-2.ensures.empty c.none.ensures.scores c.none.ensures.unsettled c.none.ensures.for_good
 
 pub returns-clause-stands : goal.returns-clause-stands
