@@ -69,6 +69,12 @@ class Words(unittest.TestCase):
         self.assertEqual(lengths, [332, 222, 2])
         self.assertEqual(re.findall("class='mark' d='M([0-9.]+) ", text), ["200.0", "310.0", "420.0", "530.0"])
 
+    def test_what_it_is(self) -> None:
+        """As the code says, whatever the object is."""
+        for code, said in (("xs4_33", "still life"), ("xp2_7", "oscillator of period 2"), ("xq123_33", "spaceship of period 123"), ("zz_1", "an object"),
+                           ("ov_q7", "spaceship of period 7")):
+            self.assertEqual(elements(page(made({code: 1}, [(0, 9)]), 0), "td")[3][1], said)
+
     def test_few_of_each(self) -> None:
         """The largest total goes to the last mark or past it, but one under ten has the first mark of ten before it."""
         for total, length in ((50, "332.0"), (10, "332.0"), (5, "232.7"), (1, "2.0")):
