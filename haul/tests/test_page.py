@@ -69,6 +69,17 @@ class Words(unittest.TestCase):
         self.assertEqual(lengths, [332, 222, 2])
         self.assertEqual(re.findall("class='mark' d='M([0-9.]+) ", text), ["200.0", "310.0", "420.0", "530.0"])
 
+    def test_what_it_is(self) -> None:
+        """As the code says, whatever the object is."""
+        for code, said in (("xs4_33", "still life"), ("xp2_7", "oscillator of period 2"), ("xq123_33", "spaceship of period 123"), ("zz_1", "an object"),
+                           ("ov_q7", "spaceship of period 7")):
+            self.assertEqual(elements(page(made({code: 1}, [(0, 9)]), 0), "td")[3][1], said)
+
+    def test_few_of_each(self) -> None:
+        """The largest total goes to the last mark or past it, but one under ten has the first mark of ten before it."""
+        for total, length in ((50, "332.0"), (10, "332.0"), (5, "232.7"), (1, "2.0")):
+            self.assertIn(f"class='bar' d='M200 4h{length}v13h-{length}z'", page(made({"xs4_33": total}, [(0, 9)]), 0))
+
     def test_how_many_bars(self) -> None:
         """Twenty, with names of at most 26 characters."""
         for count, words in ((1, "The most frequent one"), (2, "The 2 most frequent"), (20, "The 20 most frequent"), (21, "The 20 most frequent")):
@@ -76,6 +87,23 @@ class Words(unittest.TestCase):
             self.assertEqual((text.count("class='bar'"), f"<h2>{words}, each mark" in text), (min(count, 20), True))
         names = [text for _, text in elements(page(made({"xs4_" + "1" * 22: 2, "xs4_" + "1" * 23: 1}, [(0, 9)])).partition("</svg>")[0], "text")]
         self.assertEqual([names[2], names[4]], ["xs4_" + "1" * 22, "xs4_" + "1" * 21 + "…"])
+
+    def test_looks(self) -> None:
+        for profile, said in (((1, 2, 1, 0), "the only one, at generation 0"), ((1, 2, 1, 1), "one each generation, up to generation 1"),
+                              ((1, 2, 2, 2), "one each 2 generations, up to generation 2"), ((1, 2, 3, 2), "the only one, at generation 0"),
+                              ((1, 2, 3, 1234), "one each 3 generations, up to generation 1,234")):
+            self.assertIn(f"first look ({said}) at", page(made({"xs4_33": 1}, [(5, 1)], profile), 0))
+
+    def test_no_soup_and_some_missing(self) -> None:
+        """Without a soup there is no rate, and where soups are missing the whole can't be taken again."""
+        none = Haul(Job("", "b3s23", (1, 1, 1, 0)), [], 0, 0, 0, {}, {})
+        self.assertIn("<dt>Soups</dt><dd>0</dd>", page(none))
+        self.assertIn("<dt>Objects a soup</dt><dd>none</dd>", page(none))
+        self.assertIn("(the empty seed, numbers none)", page(none))
+        some = Haul(Job("", "b3s23", (1, 1, 1, 0)), [(0, 2000)], 1999, 0, 0, {}, {})
+        self.assertIn("<dt>Soups</dt><dd>1,999 of 2,000</dd>", page(some))
+        self.assertIn("Soups are missing from this haul", page(some))
+        self.assertNotIn("Soups are missing", page(none))
 
     def test_many_ranges(self) -> None:
         """Of more than twelve only so many are told."""

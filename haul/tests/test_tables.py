@@ -106,6 +106,12 @@ class Intervals(unittest.TestCase):
             self.assertAlmostEqual(low, quantile(total, -deviations), delta=near)
             self.assertAlmostEqual(high, quantile(total + 1, deviations), delta=near)
 
+    def test_by_sums(self) -> None:
+        """By its terms up to 30, and from there on by an expansion that has four digits after the point."""
+        for total in (*range(0, 12), 29, 30, 31, 32, 40, 60):
+            for found, known in zip(interval(total), exact_ends(total), strict=True):
+                self.assertAlmostEqual(found, known, delta=1e-9 if total < 30 else 2e-5)
+
     def test_whether_two_meet(self) -> None:
         """They do if they have one number in common, and one that isn't there meets any."""
         for one, other, wanted in (((1, 2), (2, 3), True), ((1, 2), (2.5, 3), False), ((1, 9), (2, 3), True), ((1, 2), None, True), (None, None, True)):
