@@ -47,7 +47,9 @@ impl OutOfMemory {
         ensures { result ≡ out_of_memory }
     {
         let _told = error;
-        OutOfMemory { refused: AllocError }
+        OutOfMemory {
+            refused: AllocError,
+        }
     }
 
     /// The closure for which no thread could be started, and the want of room for one.
