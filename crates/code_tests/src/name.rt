@@ -74,7 +74,8 @@ fn push_block(cells: &mut Vec<Cell>, top: u8, left: u8) -> Result<(), OutOfMemor
             y: top + 1,
             x: left + 1,
         },
-    ])
+    ])?;
+    Ok(())
 }
 
 const STARTS: [u8; 13] = [0, 4, 7, 10, 13, 16, 19, 22, 25, 28, 31, 34, 38];

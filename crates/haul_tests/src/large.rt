@@ -20,7 +20,8 @@ const HEAD: &str = "report 1 rule=b3s23 profile=1,1,1,0 seed= worker=1 soup=0 at
 fn push_count(line: &mut Vec<u8>, first: u8, second: u8) -> Result<(), OutOfMemory> {
     line.extend_from_slice(&[b' ', first, second])?;
     line.extend_from_slice(&[b'a'; 398])?;
-    line.extend_from_slice(b"*7")
+    line.extend_from_slice(b"*7")?;
+    Ok(())
 }
 
 /// A line of 260 codes, in their order.

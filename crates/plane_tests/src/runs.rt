@@ -8,7 +8,12 @@ use std::alloc::Global;
 use std::test::Fail;
 
 /// Puts a blinker round a cell.
-fn push_blinker(cells: &mut Vec<Cell>, x: i32, y: i32, is_upright: bool) -> Result<(), OutOfMemory> {
+fn push_blinker(
+    cells: &mut Vec<Cell>,
+    x: i32,
+    y: i32,
+    is_upright: bool,
+) -> Result<(), OutOfMemory> {
     for step in [-1, 0, 1] {
         cells.push(if is_upright {
             Cell {

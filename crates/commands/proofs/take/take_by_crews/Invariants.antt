@@ -1,4 +1,4 @@
-use Rattle.std.proofs.Common.{◌≡◌, ◌≤◌, false}
+use Rattle.std.proofs.Common.{◌≡◌}
 use Rattle.commands.specs.TakeSteps.{HasTakenMore}
 use Rattle.commands.proofs.take.take_by_crews.Given as goal
 
