@@ -140,6 +140,11 @@ class Refused(unittest.TestCase):
         for command in ("cells", "rle"):
             self.assertEqual(run(command, text=comment)[0], 0)
             self.assertEqual(run(command, text=comment + b"x"), (5, "", "haul: pattern longer than 16777216 bytes\n"))
+        with tempfile.TemporaryDirectory() as folder:
+            name = os.path.join(folder, "long")
+            Path(name).write_bytes(comment + b"x")
+            self.assertEqual(run("cells", name), (5, "", f"haul: {name}: pattern longer than 16777216 bytes\n"))
+        self.assertEqual(run("cells", "-", text=comment + b"x"), (5, "", "haul: pattern longer than 16777216 bytes\n"))
 
     def test_an_input_without_end(self) -> None:
         with open("/dev/zero", "rb") as zeros:
