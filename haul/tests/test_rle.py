@@ -95,6 +95,7 @@ class Reading(unittest.TestCase):
         self.assertEqual(cells(text), (0, ".O\n..O\nOOO\n", ""))
         self.assertEqual(life(["run", "4"], cells(text)[1]), GLIDER)
         self.assertEqual(cells("!a\n.O.\n.Q.\n"), (3, "", "haul: bad byte at line 3 column 2\n"))
+        self.assertEqual(cells("!\n" + "O" * 1000), (0, "O" * 1000 + "\n", ""))
         self.assertEqual(cells("." * 1001), (3, "", "haul: pattern larger than 1000 by 1000\n"))
         self.assertEqual(cells(".\n" * 1000 + "\n\n"), (0, ".\n" * 1000 + "\n\n", ""))
         self.assertEqual(cells(".\n" * 1001), (3, "", "haul: pattern larger than 1000 by 1000\n"))
