@@ -129,6 +129,12 @@ class Progress(unittest.TestCase):
                                                 "100 of 150 soups drawn", "150 of 150 soups drawn"])
         self.assertEqual(sum(line.endswith("soups drawn") for line in told), 2)
 
+    def test_soups_that_are_run(self) -> None:
+        """A hundred by one call."""
+        codes = [f"xs4_{number}" for number in range(1000, 1150)]
+        text = text_of(Haul(Job("", "b3s23", (1, 1, 1, 0)), [(0, 150)], 150, 0, 0, {code: 1 for code in codes}, {code: [k] for k, code in enumerate(codes)}))
+        self.assertEqual(self.told("page", text=text.encode())[-2:], ["100 of 150 soups run", "150 of 150 soups run"])
+
     def test_samples(self) -> None:
         text = text_of(Haul(Job("", "b3s23", (1, 1, 1, 0)), [(0, 900)], 900, 900, 0, {}, {}))
         self.assertEqual(self.told("check", "--samples", text=text.encode()), [])
