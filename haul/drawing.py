@@ -12,7 +12,6 @@ from haul.words import counted
 SCALE, LARGER_SCALE = 4, 12
 # Those have less cells than this.
 FEW_CELLS = 10
-SOUP_SIDE = 16
 
 
 def path_of(rows: list[str]) -> str:
@@ -48,4 +47,4 @@ def picture(drawing: str, phases: list[Cells], name: str) -> str:
 
 def soup_path(drawing: str) -> str:
     """A soup, of which `census soup` drew the rows. These are cut to the box of its cells, which nearly always is the square."""
-    return path_of(drawing.splitlines()[:SOUP_SIDE])
+    return path_of(drawing.splitlines())

@@ -51,11 +51,7 @@ class Joining:
         for code, total in haul.totals.items():
             self.totals[code] = self.totals.get(code, 0) + total
         for code, numbers in haul.samples.items():
-            known = self.samples.get(code)
-            if known is None:
-                self.samples[code] = numbers
-            elif len(known) < MOST_SAMPLES or numbers[0] < known[-1]:
-                self.samples[code] = sorted(known + numbers)[:MOST_SAMPLES]
+            self.samples[code] = sorted(self.samples.get(code, []) + numbers)[:MOST_SAMPLES]
 
     def put(self, range_: Range) -> bool:
         """Puts a range into the set, unless they share a number."""

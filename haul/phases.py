@@ -50,7 +50,7 @@ def beside_its_turn(rows: list[str]) -> str:
 
 def placed(rows: list[str], box: list[str]) -> Cells:
     """The upper half of a box, which has the same middle as these rows and their turn."""
-    left = (len(rows[0]) - len(box[0])) // 2 if box else 0
+    left = (len(rows[0]) - max(map(len, box), default=0)) // 2
     top = (2 * len(rows) + APART - len(box)) // 2
     return cells_of(box[: len(box) // 2], left, top)
 

@@ -58,16 +58,18 @@ class Reading:
             begins = self.place == 0 or self.text[self.place - 1 : self.place] == b"\n"
             if not begins or self.text[self.place : self.place + 1] != b"#":
                 return
-            end = self.text.find(b"\n", self.place)
-            self.place = end + 1 if end >= 0 else len(self.text)
+            self.place = min(self.end_of_line() + 1, len(self.text))
+
+    def end_of_line(self) -> int:
+        end = self.text.find(b"\n", self.place)
+        return end if end >= 0 else len(self.text)
 
     def header(self) -> str | None:
         """The rule of the header as it stands there, if there is one."""
         self.skip()
         if self.text[self.place : self.place + 1] != b"x":
             return None
-        end = self.text.find(b"\n", self.place)
-        end = end if end >= 0 else len(self.text)
+        end = self.end_of_line()
         found = HEADER.fullmatch(self.text[self.place : end].removesuffix(b"\r"))
         if found is None:
             raise self.bad(self.place, "not a header")

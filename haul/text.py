@@ -29,8 +29,9 @@ CODE = re.compile(rb"[a-z0-9_]{1,400}")
 TOTAL_ROW = re.compile(rb"([a-z0-9_]{1,400}) ([1-9][0-9]{0,17})\n")
 SAMPLE_ROW = re.compile(rb"([a-z0-9_]{1,400})((?: [1-9][0-9]{0,12}){1,3})\n")
 
-# Least and most of period, horizon, stride and limit. A horizon isn't below its period, either.
-PROFILE = ((1, 64), (0, 4096), (1, 10000), (0, 100000))
+# Least and most of period, stride and limit. A horizon isn't below its period.
+PERIOD, STRIDE, LIMIT = (1, 64), (1, 10000), (0, 100000)
+MOST_HORIZON = 4096
 
 Range = tuple[int, int]
 
@@ -182,8 +183,7 @@ class Lines:
 
     def number_in(self, least: int, most: int) -> int:
         found = self.field()
-        # A number with more digits than these is too large.
-        if len(found) > 20 or not DECIMAL.fullmatch(found) or not least <= int(found) <= most:
+        if not DECIMAL.fullmatch(found) or not least <= int(found) <= most:
             raise self.bad_field(1)
         return int(found)
 
@@ -256,10 +256,10 @@ def read_job(lines: Lines) -> Job:
     lines.only_words(b"@SYMMETRY", b"C1")
     lines.next_line()
     lines.word(b"@PROFILE")
-    period = lines.number_in(*PROFILE[0])
-    horizon = lines.number_in(period, PROFILE[1][1])
-    stride = lines.number_in(*PROFILE[2])
-    limit = lines.number_in(*PROFILE[3])
+    period = lines.number_in(*PERIOD)
+    horizon = lines.number_in(period, MOST_HORIZON)
+    stride = lines.number_in(*STRIDE)
+    limit = lines.number_in(*LIMIT)
     lines.end_line()
     return Job(seed, rule, (period, horizon, stride, limit))
 
@@ -326,7 +326,7 @@ def plain_numbers(lines: Lines, code: str, most: int, ranges: list[Range]) -> li
     first, count = ranges[0]
     if len(numbers) > most or numbers[0] < first or numbers[-1] >= first + count:
         return None
-    if len(numbers) > 1 and not (numbers[0] < numbers[1] and numbers[-2] < numbers[-1]):
+    if numbers != sorted(set(numbers)):
         return None
     lines.skip()
     return numbers

@@ -11,9 +11,11 @@ import sys
 import tempfile
 import time
 import unittest
-from contextlib import suppress
+from contextlib import redirect_stderr, suppress
 from pathlib import Path
+from unittest.mock import patch
 
+from haul import main
 from haul.tests.called import CENSUS, HAUL, TOP, census, run
 from haul.tests.drawn import text_of
 from haul.tests.test_text import SMALL
@@ -63,6 +65,8 @@ class Streams(unittest.TestCase):
             with self.subTest(words=words):
                 self.assertEqual(in_shell(f"haul {words} <&-"), (5, "", bad))
         self.assertEqual(in_shell("haul check small <&-"), (0, "right\n", ""))
+        # No other stream is read in its place, though it may be.
+        self.assertEqual(in_shell("haul join <&- 1<> other"), (5, "", bad))
 
     def test_closed_output(self) -> None:
         bad = "haul: Bad file descriptor\n"
@@ -124,6 +128,12 @@ class Progress(unittest.TestCase):
         self.assertEqual(told[:3] + told[-2:], ["100 of 250 objects drawn", "200 of 250 objects drawn", "250 of 250 objects drawn",
                                                 "100 of 150 soups drawn", "150 of 150 soups drawn"])
         self.assertEqual(sum(line.endswith("soups drawn") for line in told), 2)
+
+    def test_soups_that_are_run(self) -> None:
+        """A hundred by one call."""
+        codes = [f"xs4_{number}" for number in range(1000, 1150)]
+        text = text_of(Haul(Job("", "b3s23", (1, 1, 1, 0)), [(0, 150)], 150, 0, 0, {code: 1 for code in codes}, {code: [k] for k, code in enumerate(codes)}))
+        self.assertEqual(self.told("page", text=text.encode())[-2:], ["100 of 150 soups run", "150 of 150 soups run"])
 
     def test_samples(self) -> None:
         text = text_of(Haul(Job("", "b3s23", (1, 1, 1, 0)), [(0, 900)], 900, 900, 0, {}, {}))
@@ -200,6 +210,12 @@ class Unforeseen(unittest.TestCase):
         script = f"import os, sys; sys.path.insert(0, {str(TOP)!r}); from haul.children import status_of; os._exit(status_of(lambda: 1 // 0))"
         ended = subprocess.run([sys.executable, "-c", script], capture_output=True, check=False)
         self.assertEqual(ended.returncode, 1)
+
+
+    def test_no_memory(self) -> None:
+        for error, line in ((MemoryError(), "out of memory"), (RuntimeError("can't start new thread"), "can't start new thread")):
+            with patch("haul.main.do_command", side_effect=error), redirect_stderr(io.StringIO()) as said:
+                self.assertEqual((main.run(), said.getvalue()), (4, f"haul: {line}\n"))
 
 
 class OtherPrograms(unittest.TestCase):

@@ -106,7 +106,8 @@ class Words(unittest.TestCase):
         self.assertNotIn("Soups are missing", page(none))
 
     def test_many_ranges(self) -> None:
-        """Of more than twelve only so many are told."""
+        """Of more than twelve only so many are told, and one of two numbers has both."""
+        self.assertIn("numbers 5 to 6, 9, 11 to 13)", page(made({"xs4_33": 1}, [(5, 2), (9, 1), (11, 3)])))
         for count, said in ((12, ", 33)"), (13, ", 33, 1 more range)"), (14, ", 33, 2 more ranges)")):
             self.assertIn(f"numbers 0, 3, 6, 9, 12, 15, 18, 21, 24, 27, 30{said} were", page(made({"xs4_33": 1}, [(3 * k, 1) for k in range(count)])))
 

@@ -37,13 +37,17 @@ class Kept(Census):
         out.write(self.known[asked])
 
 
-def says_right(kept: Kept, text: bytes) -> bool:
-    """Whether `haul check` prints `right` of a text."""
+def said_of(kept: Kept, text: bytes) -> list[str] | None:
+    """What `haul check` says of a text, if it isn't refused."""
     try:
         haul = read_one_haul(io.BytesIO(text))
     except BadHaul:
-        return False
-    return haul.soups == haul.size() and not list(differences(haul, taken_again(kept, haul, 1)))
+        return None
+    return list(differences(haul, taken_again(kept, haul, 1))) if haul.soups == haul.size() else None
+
+
+def says_right(kept: Kept, text: bytes) -> bool:
+    return said_of(kept, text) == []
 
 
 def is_printed(kept: Kept, text: bytes) -> bool:
@@ -75,6 +79,19 @@ class Checking(unittest.TestCase):
                 changed = text[:at] + bytes([other]) + text[at + 1 :]
                 if says_right(kept, changed):
                     self.assertTrue(is_printed(kept, changed), changed)
+
+    def test_each_byte_changed_after_the_ranges(self) -> None:
+        """It is refused, or the line with the change is told, and no other."""
+        kept, text = Kept(), census("take", "--count", "40")
+        draw = random.Random("bytes after the ranges")
+        told = 0
+        for at in range(text.index(b"@NUM_SOUPS"), len(text)):
+            for other in {draw.choice(b"0123456789"), draw.choice(b" \n@axz_\xff"), draw.randrange(256)} - {text[at]}:
+                said = said_of(kept, text[:at] + bytes([other]) + text[at + 1 :])
+                if said is not None:
+                    self.assertEqual([line.partition(": is ")[0] for line in said], [f"line {text[:at].count(10) + 1}"])
+                    told += 1
+        self.assertGreater(told, 30)
 
     def test_two_bytes_changed(self) -> None:
         kept, text = Kept(), census("take", *self.WORDS)

@@ -95,6 +95,7 @@ class Reading(unittest.TestCase):
         self.assertEqual(cells(text), (0, ".O\n..O\nOOO\n", ""))
         self.assertEqual(life(["run", "4"], cells(text)[1]), GLIDER)
         self.assertEqual(cells("!a\n.O.\n.Q.\n"), (3, "", "haul: bad byte at line 3 column 2\n"))
+        self.assertEqual(cells("!\n" + "O" * 1000), (0, "O" * 1000 + "\n", ""))
         self.assertEqual(cells("." * 1001), (3, "", "haul: pattern larger than 1000 by 1000\n"))
         self.assertEqual(cells(".\n" * 1000 + "\n\n"), (0, ".\n" * 1000 + "\n\n", ""))
         self.assertEqual(cells(".\n" * 1001), (3, "", "haul: pattern larger than 1000 by 1000\n"))
@@ -140,6 +141,11 @@ class Refused(unittest.TestCase):
         for command in ("cells", "rle"):
             self.assertEqual(run(command, text=comment)[0], 0)
             self.assertEqual(run(command, text=comment + b"x"), (5, "", "haul: pattern longer than 16777216 bytes\n"))
+        with tempfile.TemporaryDirectory() as folder:
+            name = os.path.join(folder, "long")
+            Path(name).write_bytes(comment + b"x")
+            self.assertEqual(run("cells", name), (5, "", f"haul: {name}: pattern longer than 16777216 bytes\n"))
+        self.assertEqual(run("cells", "-", text=comment + b"x"), (5, "", "haul: pattern longer than 16777216 bytes\n"))
 
     def test_an_input_without_end(self) -> None:
         with open("/dev/zero", "rb") as zeros:

@@ -15,6 +15,7 @@ from itertools import permutations
 from math import exp, fsum, lgamma, log, ulp
 from pathlib import Path
 
+from haul.columns import figure
 from haul.many import meet
 from haul.poisson import interval
 from haul.tests.called import HAUL, run
@@ -111,6 +112,10 @@ class Intervals(unittest.TestCase):
         for total in (*range(0, 12), 29, 30, 31, 32, 40, 60):
             for found, known in zip(interval(total), exact_ends(total), strict=True):
                 self.assertAlmostEqual(found, known, delta=1e-9 if total < 30 else 2e-5)
+
+    def test_figures(self) -> None:
+        for number, shown in ((0, "0.00"), (0.001234, "0.00123"), (0.5, "0.5"), (0.999, "0.999"), (1, "1.00"), (1.5, "1.50"), (2, "2.00"), (1234.5, "1234.50")):
+            self.assertEqual(figure(number), shown)
 
     def test_whether_two_meet(self) -> None:
         """They do if they have one number in common, and one that isn't there meets any."""

@@ -198,6 +198,7 @@ class Checks(unittest.TestCase):
     def test_no_call_is_too_large(self) -> None:
         """`census take` takes 2^24 numbers at most."""
         self.assertIn("--first=5 --count=16777216 ", self.asked(made({"xs4_33": 1}, [(5, 2**25)]))[0])
+        self.assertEqual([len(piece) for piece in pieces([(3 * k, 1) for k in range(4001)])], [2000, 2000, 1])
         self.assertEqual(list(pieces([(5, 2**24 + 1)])), [[(5, 2**24)], [(5 + 2**24, 1)]])
 
 
