@@ -153,7 +153,7 @@ def rle_of(rows: Rows, option: str) -> list[str]:
     width = max((len(row.rstrip(".")) for row in rows), default=0)
     height = max((y for y, row in enumerate(rows, 1) if "O" in row), default=0)
     lines = [f"x = {width}, y = {height}, rule = {header_rule(option)}", ""]
-    for token in [*tokens_of(rows[:height]), "!"]:
+    for token in [*tokens_of(rows), "!"]:
         if len(lines[-1]) + len(token) > LINE_LENGTH:
             lines.append("")
         lines[-1] += token

@@ -224,7 +224,7 @@ class OtherPrograms(unittest.TestCase):
     # A program that ends well, and answers nothing, its words, bytes that are no text, a haul that wasn't asked for, a line of
     # another job, and something like a pattern.
     ANSWERS = ["true", 'echo "$@"', r"printf '\377\376\n'", "cat small", "echo report 2 rule=b3s23 profile=1,1,1,0 seed= worker=1 soup=0 unsettled",
-               "echo OxO", "echo"]
+               "echo OxO", "echo", r"printf '0 unsettled\n1 unsettled\n2 unsettled\n'"]
     COMMANDS = ["check", "check --samples", "page"]
 
     def answer(self, script: str, command: str) -> tuple[int, str, str]:

@@ -214,6 +214,14 @@ class Pictures(unittest.TestCase):
                     self.assertEqual({(x - left, y - top) for x, y in drawn(path)}, cells_of(printed.decode()))
         self.assertNotIn("data-phases", self.svg("xs4_33"))
 
+    def test_no_phase_is_asked_for_in_vain(self) -> None:
+        """Those of the rows that show them, and of those that have labels."""
+        haul = made({"xp2_7": 9, "xp2_7e": 8, "xp2_318c": 7}, [(0, 1)])
+        for labelled, play, count in ((0, 0, 0), (1, 0, 1), (0, 2, 2), (2, 1, 2), (1, 9, 3)):
+            with patch("haul.page.LABELLED_ROWS", labelled), patch.object(Census, "runs", autospec=True, side_effect=Census.runs) as runs:
+                page(haul, play)
+            self.assertEqual(sum(len(call.args[2]) for call in runs.call_args_list), count)
+
     def test_how_many_rows(self) -> None:
         haul = made({"xp2_7": 9, "xs4_33": 8, "xp2_7e": 7, "xp2_318c": 6}, [(0, 1)])
         for play, count in ((0, 0), (1, 1), (2, 1), (3, 2), (4, 3), (500, 3)):
