@@ -135,7 +135,7 @@ def check_words(haul: Haul) -> str:
     if haul.soups < haul.size():
         return "Soups are missing from this haul, so it can't be taken again as a whole; <code>haul check --samples</code> runs the samples."
     return (
-        "Whoever doubts it takes the census again. With the text of this haul in the file <code>all.haul</code>, "
+        "To verify this census, run it again. With the text of this haul in the file <code>all.haul</code>, "
         "<code>haul check all.haul</code> does that and compares; <code>haul check --samples all.haul</code> runs the sample soups alone."
     )
 
@@ -145,7 +145,7 @@ def bars(haul: Haul, codes: list[str], parts: dict[str, Parts]) -> Iterator[str]
     if not codes:
         return
     frequent = "The most frequent one" if len(codes) == 1 else f"The {len(codes)} most frequent"
-    yield f"<h2>{frequent}, each mark ten times the one before</h2>\n"
+    yield f"<h2>{frequent}</h2>\n"
     most, height = log10(haul.totals[codes[0]]), 18 * len(codes) + 4
     scale = 330 / max(most, 1)
     yield f"<svg class='bars' viewBox='0 0 640 {height + 34}' role='img'><title>Totals of the most frequent objects</title>\n"

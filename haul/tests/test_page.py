@@ -84,7 +84,7 @@ class Words(unittest.TestCase):
         """Twenty, with names of at most 26 characters."""
         for count, words in ((1, "The most frequent one"), (2, "The 2 most frequent"), (20, "The 20 most frequent"), (21, "The 20 most frequent")):
             text = page(made({f"xs4_{'1' * k}": 2 for k in range(1, count + 1)}, [(0, 9)]), 0)
-            self.assertEqual((text.count("class='bar'"), f"<h2>{words}, each mark" in text), (min(count, 20), True))
+            self.assertEqual((text.count("class='bar'"), f"<h2>{words}</h2>" in text), (min(count, 20), True))
         names = [text for _, text in elements(page(made({"xs4_" + "1" * 22: 2, "xs4_" + "1" * 23: 1}, [(0, 9)])).partition("</svg>")[0], "text")]
         self.assertEqual([names[2], names[4]], ["xs4_" + "1" * 22, "xs4_" + "1" * 21 + "…"])
 
@@ -132,12 +132,12 @@ within 64 generations, and for 512 generations none comes into another&#x27;s wa
 its objects come back together within that time.</p>
 <dl class="facts"><div><dt>Soups</dt><dd>8</dd></div><div><dt>Unsettled</dt><dd>1</dd></div><div><dt>Settled for good</dt><dd>2</dd></div>\
 <div><dt>Objects</dt><dd>111</dd></div><div><dt>Objects a soup</dt><dd>13.88</dd></div><div><dt>Kinds of object</dt><dd>3</dd></div></dl>
-<p>Whoever doubts it takes the census again. With the text of this haul in the file <code>all.haul</code>, \
+<p>To verify this census, run it again. With the text of this haul in the file <code>all.haul</code>, \
 <code>haul check all.haul</code> does that and compares; <code>haul check --samples all.haul</code> runs the sample soups alone.</p>
 """
     # From 1 at 200 to 100 at 530: each mark is 165 points after the one before, and a bar has two more.
     BARS = """\
-<h2>The 3 most frequent, each mark ten times the one before</h2>
+<h2>The 3 most frequent</h2>
 <svg class='bars' viewBox='0 0 640 92' role='img'><title>Totals of the most frequent objects</title>
 <path class='mark' d='M200.0 0V58'/><text x='200.0' y='72' text-anchor='middle'>1</text>\
 <path class='mark' d='M365.0 0V58'/><text x='365.0' y='72' text-anchor='middle'>10</text>\
