@@ -9,7 +9,7 @@ mod gates;
 #[cfg(test)]
 mod left;
 #[cfg(test)]
-mod memory;
+mod shortage;
 #[cfg(test)]
 mod small;
 #[cfg(test)]

@@ -11,12 +11,12 @@ mod join;
 #[cfg(test)]
 mod large;
 #[cfg(test)]
-mod memory;
-#[cfg(test)]
 mod nothing;
 #[cfg(test)]
 mod range_list;
 #[cfg(test)]
 mod setup;
+#[cfg(test)]
+mod shortage;
 #[cfg(test)]
 mod writer;

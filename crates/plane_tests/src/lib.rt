@@ -4,12 +4,12 @@
 #[cfg(test)]
 mod boards;
 #[cfg(test)]
-mod memory;
-#[cfg(test)]
 mod output;
 #[cfg(test)]
 mod pictures;
 #[cfg(test)]
 mod runs;
+#[cfg(test)]
+mod shortage;
 #[cfg(test)]
 mod sizes;
