@@ -321,7 +321,7 @@ class Pages(unittest.TestCase):
     def test_one_and_more(self) -> None:
         haul = Haul(Job("", "b3s23", (1, 1, 1, 0)), [(0, 1)], 1, 0, 0, {"xs4_33": 1}, {"xs4_33": [0]})
         page = self.page(haul)
-        for said in ("A census of 1 soup in", "<h2>The most frequent one,", "<p>1 kind, the", "within 1 generation, and for 1 generation none"):
+        for said in ("A census of 1 soup in", "<h2>The most frequent one</h2>", "<p>1 kind, the", "within 1 generation, and for 1 generation none"):
             self.assertIn(said, page)
         haul = Haul(Job("", "b3s23", (2, 3, 1, 1)), [(0, 2)], 1, 0, 0, {"xs4_33": 1, "xs5_253": 2}, {"xs4_33": [0], "xs5_253": [1]})
         page = "".join(page_of(Census(CENSUS), haul, 2))
