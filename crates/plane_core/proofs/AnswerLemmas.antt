@@ -1,17 +1,18 @@
 -- The answers of a rule in each lane.
 use Rattle.std.proofs.Common.{◌≡◌, ◌==◌, ◌+◌, ◌-◌, ◌*◌, ◌%◌, ◌<◌, ◌≤◌, ℕ, zero, suc, Bool, true, false, cond, List, length, replicate, slice_index}
-use Rattle.std.proofs.Common.{arith, refl, ap, ◌∙◌, bit_and, bit_or, bit_xor, max, min}
+use Rattle.std.proofs.Common.{arith, refl, ap, ◌∙◌, sym, bit_and, bit_or, bit_xor, max, min}
 use Rattle.std.specs.Int.{bit_at}
-use Rattle.std.proofs.lemmas.Nat.Bits.{bit_at_and, bit_at_or, bit_at_xor, bit_at-lt, bit_at-zero}
+use Rattle.std.proofs.lemmas.Nat.Bits.{bit_at_and, bit_at_or, bit_at_xor, bit_at-lt}
 use Rattle.std.proofs.lemmas.Simd.{get_or-replicate}
-use Rattle.plane_core.specs.Lanes.{bit_of, sum_of, total_of, AnswersTotal, AnswersRows}
+use Rattle.plane_core.specs.Lanes.{bit_of, sum_of, total_of, AnswersTotal, AnswersRows, AnswersNeighbours, AreBeside}
 use Rattle.plane_core.specs.Rules.{Numbers, is_birth, is_survival}
 use Rattle.plane_core.specs.Tallies.{lives_by}
 use Rattle.plane_core.specs.Words.{one_if, life}
+use Rattle.plane_core.specs.declared.lanes.RowSums.{RowSums}
 use Rattle.plane_core.specs.declared.lanes.Sum.{Sum}
 use Rattle.plane_core.specs.declared.lanes.Total.{Total}
 use Rattle.plane_core.proofs.LaneLemmas.{lane_of, four_lanes}
-use Rattle.plane_core.proofs.WordLemmas.{life_digits}
+use Rattle.plane_core.proofs.WordLemmas.{life_digits, one_of_four}
 use lib.Lanes.{zip2}
 
 -- three sums of two digits are at most nine
@@ -55,29 +56,91 @@ lane_answer rule n dead change now j i long low d e =
         ∙ (λ t. bit_xor (get_or-replicate 4 j dead 0 low t)
         ((lane_of bit_and (replicate 4 change) now j refl long low ∙ ap (λ (w : ℕ). bit_and w (slice_index now j)) (get_or-replicate 4 j change 0 low)) t))
 
--- the answers of Life in each lane
-pub lane_life : (ones twos fours eights now four next : List ℕ) (j i : ℕ) → length ones ≡ 4 → length twos ≡ 4 → j < 4
-    → bit_of four j i ≡ cond (bit_of (zip2 bit_or ones twos) j i == 1) (bit_of (replicate 4 0) j i) (bit_of now j i)
-    → bit_of next j i ≡ cond (bit_of fours j i == 1) (bit_of four j i) (bit_of (zip2 bit_and ones twos) j i)
-    → bit_of ones j i + 2 * bit_of twos j i + 4 * bit_of fours j i + 8 * bit_of eights j i ≤ 9
-    → bit_of next j i ≡ one_if (lives_by life (bit_of ones j i + 2 * bit_of twos j i + 4 * bit_of fours j i + 8 * bit_of eights j i) (bit_of now j i == 1))
-lane_life ones twos fours eights now four next j i lo lt low p q small =
-    q
-    ∙ (λ t. cond (bit_of fours j i == 1) (is_four t) (both t))
-    ∙ life_digits (bit_of ones j i) (bit_of twos j i) (bit_of fours j i) (bit_of eights j i) (bit_of now j i) (bit_at-lt (slice_index ones j) i)
-    (bit_at-lt (slice_index twos j) i) (bit_at-lt (slice_index fours j) i) (bit_at-lt (slice_index eights j) i) (bit_at-lt (slice_index now j) i) small
+-- exactly one of four bits, in each lane
+pub lane_only_one : (a b c d : List ℕ) (j i : ℕ) → length a ≡ 4 → length b ≡ 4 → length c ≡ 4 → length d ≡ 4 → j < 4
+    → bit_of (zip2 bit_xor (zip2 bit_xor (zip2 bit_xor a b) (zip2 bit_xor c d))
+    (zip2 bit_and (zip2 bit_xor (zip2 bit_xor a b) (zip2 bit_xor c d)) (zip2 bit_or (zip2 bit_and a b) (zip2 bit_and c d)))) j i
+    ≡ one_if (bit_of a j i + bit_of b j i + bit_of c j i + bit_of d j i == 1)
+lane_only_one a b c d j i la lb lc ld low =
+    ap (λ (w : ℕ). bit_at w i) (lane_of bit_xor odds (zip2 bit_and odds twos) j odds_long (four_lanes bit_and odds twos odds_long twos_long) low)
+    ∙ bit_at_xor (slice_index odds j) (slice_index (zip2 bit_and odds twos) j) i
+    ∙ (λ t. (odd t + both t) % 2)
+    ∙ one_of_four (bit_of a j i) (bit_of b j i) (bit_of c j i) (bit_of d j i) (bit_at-lt (slice_index a j) i) (bit_at-lt (slice_index b j) i)
+    (bit_at-lt (slice_index c j) i) (bit_at-lt (slice_index d j) i)
   where
-    either : bit_of (zip2 bit_or ones twos) j i ≡ max (bit_of ones j i) (bit_of twos j i)
-    either = ap (λ (w : ℕ). bit_at w i) (lane_of bit_or ones twos j lo lt low) ∙ bit_at_or (slice_index ones j) (slice_index twos j) i
+    odds : List ℕ
+    odds = zip2 bit_xor (zip2 bit_xor a b) (zip2 bit_xor c d)
 
-    both : bit_of (zip2 bit_and ones twos) j i ≡ min (bit_of ones j i) (bit_of twos j i)
-    both = ap (λ (w : ℕ). bit_at w i) (lane_of bit_and ones twos j lo lt low) ∙ bit_at_and (slice_index ones j) (slice_index twos j) i
+    twos : List ℕ
+    twos = zip2 bit_or (zip2 bit_and a b) (zip2 bit_and c d)
 
-    none : bit_of (replicate 4 0) j i ≡ 0
-    none = ap (λ (w : ℕ). bit_at w i) (get_or-replicate 4 j 0 0 low) ∙ bit_at-zero i
+    odds_long : length odds ≡ 4
+    odds_long = four_lanes bit_xor (zip2 bit_xor a b) (zip2 bit_xor c d) (four_lanes bit_xor a b la lb) (four_lanes bit_xor c d lc ld)
 
-    is_four : bit_of four j i ≡ cond (max (bit_of ones j i) (bit_of twos j i) == 1) 0 (bit_of now j i)
-    is_four = p ∙ (λ t. cond (either t == 1) (none t) (bit_of now j i))
+    twos_long : length twos ≡ 4
+    twos_long = four_lanes bit_or (zip2 bit_and a b) (zip2 bit_and c d) (four_lanes bit_and a b la lb) (four_lanes bit_and c d lc ld)
+
+    apart : (x y : List ℕ) → length x ≡ 4 → length y ≡ 4 → bit_of (zip2 bit_xor x y) j i ≡ (bit_of x j i + bit_of y j i) % 2
+    apart x y lx ly = ap (λ (w : ℕ). bit_at w i) (lane_of bit_xor x y j lx ly low) ∙ bit_at_xor (slice_index x j) (slice_index y j) i
+
+    together : (x y : List ℕ) → length x ≡ 4 → length y ≡ 4 → bit_of (zip2 bit_and x y) j i ≡ min (bit_of x j i) (bit_of y j i)
+    together x y lx ly = ap (λ (w : ℕ). bit_at w i) (lane_of bit_and x y j lx ly low) ∙ bit_at_and (slice_index x j) (slice_index y j) i
+
+    odd : bit_of odds j i ≡ ((bit_of a j i + bit_of b j i) % 2 + (bit_of c j i + bit_of d j i) % 2) % 2
+    odd =
+        apart (zip2 bit_xor a b) (zip2 bit_xor c d) (four_lanes bit_xor a b la lb) (four_lanes bit_xor c d lc ld)
+        ∙ (λ t. (apart a b la lb t + apart c d lc ld t) % 2)
+
+    two : bit_of twos j i ≡ max (min (bit_of a j i) (bit_of b j i)) (min (bit_of c j i) (bit_of d j i))
+    two =
+        ap (λ (w : ℕ). bit_at w i)
+        (lane_of bit_or (zip2 bit_and a b) (zip2 bit_and c d) j (four_lanes bit_and a b la lb) (four_lanes bit_and c d lc ld) low)
+        ∙ bit_at_or (slice_index (zip2 bit_and a b) j) (slice_index (zip2 bit_and c d) j) i
+        ∙ (λ t. max (together a b la lb t) (together c d lc ld t))
+
+    both : bit_of (zip2 bit_and odds twos) j i
+        ≡ min (((bit_of a j i + bit_of b j i) % 2 + (bit_of c j i + bit_of d j i) % 2) % 2)
+        (max (min (bit_of a j i) (bit_of b j i)) (min (bit_of c j i) (bit_of d j i)))
+    both = together odds twos odds_long twos_long ∙ (λ t. min (odd t) (two t))
+
+-- the answers of Life in each lane
+pub lane_life : (up beside down low : Sum) (one now : List ℕ) (j i : ℕ) → length one ≡ 4 → length low.ones ≡ 4 → length now ≡ 4 → j < 4
+    → sum_of low j i ≡ bit_of up.ones j i + bit_of down.ones j i + bit_of beside.ones j i
+    → bit_of one j i ≡ one_if (bit_of up.twos j i + bit_of down.twos j i + bit_of beside.twos j i + bit_of low.twos j i == 1)
+    → bit_of (zip2 bit_and one (zip2 bit_or low.ones now)) j i
+    ≡ one_if (lives_by life (sum_of up j i + (sum_of beside j i + bit_of now j i) + sum_of down j i) (bit_of now j i == 1))
+lane_life up beside down low one now j i lo ll ln lane sum is =
+    ap (λ (w : ℕ). bit_at w i) (lane_of bit_and one (zip2 bit_or low.ones now) j lo (four_lanes bit_or low.ones now ll ln) lane)
+    ∙ bit_at_and (slice_index one j) (slice_index (zip2 bit_or low.ones now) j) i
+    ∙ (λ t. min (is t) (either t))
+    ∙ life_digits (bit_of low.ones j i) twice (bit_of now j i) (bit_at-lt (slice_index low.ones j) i) few (bit_at-lt (slice_index now j) i)
+    ∙ ap (λ (n : ℕ). one_if (lives_by life n (bit_of now j i == 1))) total
+  where
+    twice : ℕ
+    twice = bit_of up.twos j i + bit_of down.twos j i + bit_of beside.twos j i + bit_of low.twos j i
+
+    few : twice < 5
+    few =
+        omega (
+          arith,
+          bit_at-lt (slice_index up.twos j) i,
+          bit_at-lt (slice_index down.twos j) i,
+          bit_at-lt (slice_index beside.twos j) i,
+          bit_at-lt (slice_index low.twos j) i,
+        )
+
+    either : bit_of (zip2 bit_or low.ones now) j i ≡ max (bit_of low.ones j i) (bit_of now j i)
+    either = ap (λ (w : ℕ). bit_at w i) (lane_of bit_or low.ones now j ll ln lane) ∙ bit_at_or (slice_index low.ones j) (slice_index now j) i
+
+    total : bit_of low.ones j i + 2 * twice + bit_of now j i ≡ sum_of up j i + (sum_of beside j i + bit_of now j i) + sum_of down j i
+    total = omega (arith, sum)
+
+-- what answers the neighbours answers the rows
+pub answers_neighbours : (up : Sum) (here : RowSums) (down : Sum) (now next : List ℕ) → AreBeside here now
+    → AnswersNeighbours life up here.beside down now next → AnswersRows life up here.all down now next
+answers_neighbours up here down now next beside is j i low inside =
+    is j i low inside
+    ∙ ap (λ (n : ℕ). one_if (lives_by life (sum_of up j i + n + sum_of down j i) (bit_of now j i == 1))) (sym (beside j i low))
 
 -- what answers the total of three rows answers the rows
 pub answers_rows : (rule : Numbers) (total : Total) (up here down : Sum) (now next : List ℕ)

@@ -6,7 +6,7 @@ use Rattle.std.proofs.lemmas.Nat.Bits.{bit_at_or, bit_at-zero, bit_at-lt}
 use Rattle.std.proofs.lemmas.Simd.{get_or-zip2, length-zip2, get_or-replicate, Each1-get_or}
 use Rattle.plane_core.specs.Lanes.{bit_of, row_sum}
 use Rattle.plane_core.specs.Words.{west_of, east_of}
-use Rattle.plane_core.proofs.WordLemmas.{full_adder, joined_digits, choice_bit, bit_from_west, bit_from_east}
+use Rattle.plane_core.proofs.WordLemmas.{half_adder, full_adder, joined_digits, choice_bit, bit_from_west, bit_from_east}
 use lib.Lanes.{zip2, Each1}
 
 -- ---- one operation
@@ -20,6 +20,12 @@ pub four_lanes : (f : ℕ → ℕ → ℕ) (a b : List ℕ) → length a ≡ 4 �
 four_lanes f a b la lb = length-zip2 f a b (la ∙ sym lb) ∙ la
 
 -- ---- sums
+
+pub lane_pair : (a b : List ℕ) (j i : ℕ) → length a ≡ 4 → length b ≡ 4 → j < 4
+    → bit_of (zip2 bit_xor a b) j i + 2 * bit_of (zip2 bit_and a b) j i ≡ bit_of a j i + bit_of b j i
+lane_pair a b j i la lb low =
+    (λ t. bit_at (lane_of bit_xor a b j la lb low t) i + 2 * bit_at (lane_of bit_and a b j la lb low t) i)
+    ∙ half_adder (slice_index a j) (slice_index b j) i
 
 pub lane_adder : (a b c : List ℕ) (j i : ℕ) → length a ≡ 4 → length b ≡ 4 → length c ≡ 4 → j < 4
     → bit_of (zip2 bit_xor (zip2 bit_xor a b) c) j i + 2 * bit_of (zip2 bit_or (zip2 bit_and a b) (zip2 bit_and (zip2 bit_xor a b) c)) j i

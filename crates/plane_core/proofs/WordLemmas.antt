@@ -51,6 +51,9 @@ bit_from_east here after i h low = split (i == 63) refl
 
 -- ---- sums
 
+pub half_adder : (a b i : ℕ) → bit_at (bit_xor a b) i + 2 * bit_at (bit_and a b) i ≡ bit_at a i + bit_at b i
+half_adder a b i = omega (arith, bit_at_xor a b i, bit_at_and a b i, bit_at-lt a i, bit_at-lt b i)
+
 pub full_adder : (a b c i : ℕ)
     → bit_at (bit_xor (bit_xor a b) c) i + 2 * bit_at (bit_or (bit_and a b) (bit_and (bit_xor a b) c)) i ≡ bit_at a i + bit_at b i + bit_at c i
 full_adder a b c i = omega (
@@ -130,33 +133,52 @@ by_nine g a b c d high x y low r ha hb hc hd small p q s e f =
 
 -- ---- Life
 
--- the answers of Life by the digits of a sum: three, or four around a live cell
-pub life_digits : (a b c d t : ℕ) → a < 2 → b < 2 → c < 2 → d < 2 → t < 2 → a + 2 * b + 4 * c + 8 * d ≤ 9
-    → cond (c == 1) (cond (max a b == 1) 0 t) (min a b) ≡ one_if (lives_by life (a + 2 * b + 4 * c + 8 * d) (t == 1))
-life_digits (suc (suc a)) b c d t p q r s u small = absurd (omega arith)
-life_digits a (suc (suc b)) c d t p q r s u small = absurd (omega arith)
-life_digits a b (suc (suc c)) d t p q r s u small = absurd (omega arith)
-life_digits a b c (suc (suc d)) t p q r s u small = absurd (omega arith)
-life_digits a b c d (suc (suc t)) p q r s u small = absurd (omega arith)
-life_digits zero zero zero zero zero p q r s u small = refl
-life_digits zero zero zero zero (suc zero) p q r s u small = refl
-life_digits (suc zero) zero zero zero zero p q r s u small = refl
-life_digits (suc zero) zero zero zero (suc zero) p q r s u small = refl
-life_digits zero (suc zero) zero zero zero p q r s u small = refl
-life_digits zero (suc zero) zero zero (suc zero) p q r s u small = refl
-life_digits (suc zero) (suc zero) zero zero zero p q r s u small = refl
-life_digits (suc zero) (suc zero) zero zero (suc zero) p q r s u small = refl
-life_digits zero zero (suc zero) zero zero p q r s u small = refl
-life_digits zero zero (suc zero) zero (suc zero) p q r s u small = refl
-life_digits (suc zero) zero (suc zero) zero zero p q r s u small = refl
-life_digits (suc zero) zero (suc zero) zero (suc zero) p q r s u small = refl
-life_digits zero (suc zero) (suc zero) zero zero p q r s u small = refl
-life_digits zero (suc zero) (suc zero) zero (suc zero) p q r s u small = refl
-life_digits (suc zero) (suc zero) (suc zero) zero zero p q r s u small = refl
-life_digits (suc zero) (suc zero) (suc zero) zero (suc zero) p q r s u small = refl
-life_digits zero zero zero (suc zero) zero p q r s u small = refl
-life_digits zero zero zero (suc zero) (suc zero) p q r s u small = refl
-life_digits (suc zero) zero zero (suc zero) zero p q r s u small = refl
-life_digits (suc zero) zero zero (suc zero) (suc zero) p q r s u small = refl
-life_digits a (suc zero) c (suc zero) t p q r s u small = absurd (omega arith)
-life_digits a zero (suc zero) (suc zero) t p q r s u small = absurd (omega arith)
+-- exactly one of four bits
+pub one_of_four : (a b c d : ℕ) → a < 2 → b < 2 → c < 2 → d < 2
+    → (((a + b) % 2 + (c + d) % 2) % 2 + min (((a + b) % 2 + (c + d) % 2) % 2) (max (min a b) (min c d))) % 2 ≡ one_if (a + b + c + d == 1)
+one_of_four (suc (suc a)) b c d p q r s = absurd (omega arith)
+one_of_four a (suc (suc b)) c d p q r s = absurd (omega arith)
+one_of_four a b (suc (suc c)) d p q r s = absurd (omega arith)
+one_of_four a b c (suc (suc d)) p q r s = absurd (omega arith)
+one_of_four zero zero zero zero p q r s = refl
+one_of_four zero zero zero (suc zero) p q r s = refl
+one_of_four zero zero (suc zero) zero p q r s = refl
+one_of_four zero zero (suc zero) (suc zero) p q r s = refl
+one_of_four zero (suc zero) zero zero p q r s = refl
+one_of_four zero (suc zero) zero (suc zero) p q r s = refl
+one_of_four zero (suc zero) (suc zero) zero p q r s = refl
+one_of_four zero (suc zero) (suc zero) (suc zero) p q r s = refl
+one_of_four (suc zero) zero zero zero p q r s = refl
+one_of_four (suc zero) zero zero (suc zero) p q r s = refl
+one_of_four (suc zero) zero (suc zero) zero p q r s = refl
+one_of_four (suc zero) zero (suc zero) (suc zero) p q r s = refl
+one_of_four (suc zero) (suc zero) zero zero p q r s = refl
+one_of_four (suc zero) (suc zero) zero (suc zero) p q r s = refl
+one_of_four (suc zero) (suc zero) (suc zero) zero p q r s = refl
+one_of_four (suc zero) (suc zero) (suc zero) (suc zero) p q r s = refl
+
+-- the answers of Life by the sum of the eight neighbours: three, or two round a live cell
+pub life_digits : (a s t : ℕ) → a < 2 → s < 5 → t < 2 → min (one_if (s == 1)) (max a t) ≡ one_if (lives_by life (a + 2 * s + t) (t == 1))
+life_digits (suc (suc a)) s t p q r = absurd (omega arith)
+life_digits a (suc (suc (suc (suc (suc s))))) t p q r = absurd (omega arith)
+life_digits a s (suc (suc t)) p q r = absurd (omega arith)
+life_digits zero zero zero p q r = refl
+life_digits zero zero (suc zero) p q r = refl
+life_digits (suc zero) zero zero p q r = refl
+life_digits (suc zero) zero (suc zero) p q r = refl
+life_digits zero (suc zero) zero p q r = refl
+life_digits zero (suc zero) (suc zero) p q r = refl
+life_digits (suc zero) (suc zero) zero p q r = refl
+life_digits (suc zero) (suc zero) (suc zero) p q r = refl
+life_digits zero (suc (suc zero)) zero p q r = refl
+life_digits zero (suc (suc zero)) (suc zero) p q r = refl
+life_digits (suc zero) (suc (suc zero)) zero p q r = refl
+life_digits (suc zero) (suc (suc zero)) (suc zero) p q r = refl
+life_digits zero (suc (suc (suc zero))) zero p q r = refl
+life_digits zero (suc (suc (suc zero))) (suc zero) p q r = refl
+life_digits (suc zero) (suc (suc (suc zero))) zero p q r = refl
+life_digits (suc zero) (suc (suc (suc zero))) (suc zero) p q r = refl
+life_digits zero (suc (suc (suc (suc zero)))) zero p q r = refl
+life_digits zero (suc (suc (suc (suc zero)))) (suc zero) p q r = refl
+life_digits (suc zero) (suc (suc (suc (suc zero)))) zero p q r = refl
+life_digits (suc zero) (suc (suc (suc (suc zero)))) (suc zero) p q r = refl

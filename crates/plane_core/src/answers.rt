@@ -11,16 +11,16 @@
 //!                         :  ones ? 1 : 0
 //! ```
 //!
-//! Life, the rule that is run most, is answered by fewer operations. It is a type of its own, so that each loop over
-//! windows is built once for Life and once for any rule.
+//! Life, the rule that is run most, is answered by fewer operations, which count the eight neighbours alone. It is a type
+//! of its own, so that each loop over windows is built once for Life and once for any rule.
 ghost use Rattle.std.specs.Prelude.{◌≡◌, ◌==◌, ◌+◌, ◌-◌, ◌*◌, ◌<◌, ◌≤◌, ◌%◌, IsTrue, true, ℕ, slice_index};
 ghost use Rattle.std.specs.Int.{bit_at};
-ghost use Rattle.plane_core.specs.Lanes.{AnswersRows, AnswersTotal, bit_of};
+ghost use Rattle.plane_core.specs.Lanes.{AnswersNeighbours, AnswersRows, AnswersTotal, AreBeside, bit_of};
 ghost use Rattle.plane_core.specs.Rules.{Numbers, is_birth, is_survival};
 ghost use Rattle.plane_core.specs.Tallies.{lives_by};
 ghost use Rattle.plane_core.specs.Words.{life, one_if};
 
-use crate::lanes::{Sum, Total, choice, summed};
+use crate::lanes::{RowSums, Sum, Total, added, choice, only_one, summed};
 use crate::rule::Rule;
 use std::simd::u64x4;
 
@@ -29,8 +29,9 @@ pub(crate) trait Answering {
     ghost rule: { Self → Numbers };
 
     /// The words one generation after `now`, by the sums of the rows above, here and below.
-    fn answer(&self, up: Sum, here: Sum, down: Sum, now: u64x4) -> u64x4
-        ensures { AnswersRows (rule self.now) up here down now result };
+    fn answer(&self, up: Sum, here: RowSums, down: Sum, now: u64x4) -> u64x4
+        requires { AreBeside here now }
+        ensures { AnswersRows (rule self.now) up here.all down now result };
 }
 
 /// Conway's Life.
@@ -41,18 +42,19 @@ impl Answering for Life {
     ghost rule = { λ _. life };
 
     #[inline(always)]
-    fn answer(&self, up: Sum, here: Sum, down: Sum, now: u64x4) -> u64x4 {
-        life_answer(summed(up, here, down), now)
+    fn answer(&self, up: Sum, here: RowSums, down: Sum, now: u64x4) -> u64x4 {
+        life_answer(up, here.beside, down, now)
     }
 }
 
-/// The answer of Life: alive for three, and for four if the cell was alive.
+/// The answer of Life, by the eight neighbours: alive for three, and for two if the cell was alive. Their sum is two or
+/// three where exactly one of the digits that count twice is 1.
 #[inline(always)]
-fn life_answer(total: Total, now: u64x4) -> u64x4
-    ensures { AnswersTotal life total now result }
+fn life_answer(up: Sum, beside: Sum, down: Sum, now: u64x4) -> u64x4
+    ensures { AnswersNeighbours life up beside down now result }
 {
-    let four = choice(total.ones | total.twos, u64x4::splat(0), now);
-    choice(total.fours, four, total.ones & total.twos)
+    let low = added(up.ones, down.ones, beside.ones);
+    only_one(up.twos, down.twos, beside.twos, low.twos) & (low.ones | now)
 }
 
 /// The answers of any rule: for each total the answer of a dead cell, and where a live cell's answer differs.
@@ -138,8 +140,8 @@ impl Answering for AnyRule {
     ghost rule = { λ answers. answers.rule };
 
     #[inline(always)]
-    fn answer(&self, up: Sum, here: Sum, down: Sum, now: u64x4) -> u64x4 {
-        self.at_nine(summed(up, here, down), now)
+    fn answer(&self, up: Sum, here: RowSums, down: Sum, now: u64x4) -> u64x4 {
+        self.at_nine(summed(up, here.all, down), now)
     }
 }
 

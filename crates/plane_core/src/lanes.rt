@@ -8,7 +8,8 @@
 //! twos      00100100    00000000    01000001    11000000
 //! ```
 ghost use Rattle.std.specs.Prelude.{◌≡◌, ◌==◌, ◌+◌, ◌*◌, ◌<◌, ℕ, if◌then◌else◌, slice_index};
-ghost use Rattle.plane_core.specs.Lanes.{bit_of, row_sum, sum_of, total_of};
+ghost use Rattle.plane_core.specs.Words.{one_if};
+ghost use Rattle.plane_core.specs.Lanes.{AreBeside, bit_of, row_sum, sum_of, total_of};
 
 use std::simd::u64x4;
 
@@ -17,6 +18,13 @@ use std::simd::u64x4;
 pub(crate) struct Sum {
     pub(crate) ones: u64x4,
     pub(crate) twos: u64x4,
+}
+
+/// What lies across a cell in its row: the sum of its two neighbours there, and that of the three.
+#[derive(Clone, Copy)]
+pub(crate) struct RowSums {
+    pub(crate) beside: Sum,
+    pub(crate) all: Sum,
 }
 
 /// A sum of up to nine cells in four binary digits, for each bit of four words.
@@ -30,7 +38,7 @@ pub(crate) struct Total {
 
 /// The sum of three bits, at each place.
 #[inline(always)]
-fn added(a: u64x4, b: u64x4, c: u64x4) -> Sum
+pub(crate) fn added(a: u64x4, b: u64x4, c: u64x4) -> Sum
     ensures { (j i : ℕ) → j < 4 → sum_of result j i ≡ bit_of a j i + bit_of b j i + bit_of c j i }
 {
     Sum {
@@ -39,12 +47,29 @@ fn added(a: u64x4, b: u64x4, c: u64x4) -> Sum
     }
 }
 
-/// The sum of each bit and the bits to its left and right.
+/// The sum of two bits, at each place.
 #[inline(always)]
-pub(crate) fn across(words: u64x4) -> Sum
-    ensures { (j i : ℕ) → j < 4 → i < 64 → sum_of result j i ≡ row_sum (slice_index words j) i }
+fn pair(a: u64x4, b: u64x4) -> Sum
+    ensures { (j i : ℕ) → j < 4 → sum_of result j i ≡ bit_of a j i + bit_of b j i }
 {
-    added(words << 1, words, words >> 1)
+    Sum {
+        ones: a ^ b,
+        twos: a & b,
+    }
+}
+
+/// The sums of the rows in a vector: at each bit those beside it, and these with the bit itself.
+#[inline(always)]
+pub(crate) fn across(words: u64x4) -> RowSums
+    ensures all { (j i : ℕ) → j < 4 → i < 64 → sum_of result.all j i ≡ row_sum (slice_index words j) i }
+    ensures beside { AreBeside result words }
+{
+    let left = words << 1;
+    let right = words >> 1;
+    RowSums {
+        beside: pair(left, right),
+        all: added(left, right, words),
+    }
 }
 
 /// The sum of three rows' sums.
@@ -78,6 +103,17 @@ pub(crate) fn choice(test: u64x4, yes: u64x4, no: u64x4) -> u64x4
         → bit_of result j i ≡ (if bit_of test j i == 1 then bit_of yes j i else bit_of no j i) }
 {
     no ^ ((no ^ yes) & test)
+}
+
+/// Whether exactly one of four bits is 1, at each place.
+#[inline(always)]
+pub(crate) fn only_one(a: u64x4, b: u64x4, c: u64x4, d: u64x4) -> u64x4
+    ensures { (j i : ℕ) → j < 4
+        → bit_of result j i ≡ one_if (bit_of a j i + bit_of b j i + bit_of c j i + bit_of d j i == 1) }
+{
+    let odd = (a ^ b) ^ (c ^ d);
+    let two = (a & b) | (c & d);
+    odd ^ (odd & two)
 }
 
 /// The words a lane on: the first lane is empty.

@@ -29,15 +29,15 @@ pub(crate) fn generation<const N: usize, A: Answering>(window: &mut [u64x4; N], 
     ensures { IsNextWindow (A.rule rule.now) N window.old window.new }
 {
     let first = across(window[0]);
-    let mut up = later_sum(across(window[N - 1]));
+    let mut up = later_sum(across(window[N - 1]).all);
     let mut here = first;
     for k in 0..N - 1 {
         let down = across(window[k + 1]);
-        window[k] = rule.answer(up, here, down, window[k]);
-        up = here;
+        window[k] = rule.answer(up, here, down.all, window[k]);
+        up = here.all;
         here = down;
     }
-    window[N - 1] = rule.answer(up, here, earlier_sum(first), window[N - 1]);
+    window[N - 1] = rule.answer(up, here, earlier_sum(first.all), window[N - 1]);
 }
 
 /// Makes so many generations.

@@ -3,7 +3,6 @@ use Rattle.plane_core.proofs.AnswerLemmas.{lane_life}
 use Rattle.plane_core.proofs.answers.life_answer.Goals as goal
 
 pub returns : goal.returns
-returns c j i low inside small =
-    let t = c.args.total in
-    lane_life t.ones t.twos t.fours t.eights c.args.now c.choice-four.result c.choice.result j i (omega arith) (omega arith) low
-    (c.choice-four.ensures j i low) (c.choice.ensures j i low) small
+returns c j i low inside =
+    lane_life c.args.up c.args.beside c.args.down c.added-low.result c.only_one.result c.args.now j i (omega arith) (omega arith) (omega arith) low
+    (c.added-low.ensures j i low) (c.only_one.ensures j i low)

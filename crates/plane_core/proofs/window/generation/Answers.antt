@@ -1,6 +1,6 @@
 use Rattle.std.proofs.Common.{◌≡◌, ◌+◌, ◌-◌, ◌<◌, ℕ, List, [], length-set, slice_index, set, rules, arith, refl, ap, ◌∙◌, subst}
 use Rattle.std.proofs.lemmas.List.{get_or-set_other}
-use Rattle.plane_core.specs.Lanes.{row_sum}
+use Rattle.plane_core.specs.Lanes.{row_sum, AreBeside}
 use Rattle.plane_core.proofs.WindowLemmas.{AreAbove, AreHere, AreMade, AreOfVector, above_start, above_step, here_at, below_step, below_stop}
 use Rattle.plane_core.proofs.WindowLemmas.{made_next, made_more, all_made}
 use Rattle.plane_core.proofs.window.generation.Goals as goal
@@ -10,8 +10,11 @@ loop-k-init g c =
     let x = c.args.window.now in
     record {
       long = search rules;
-      up = above_start g.row.N x c.across.result c.later_sum-up.result c.requires c.later_sum-up.ensures.first c.later_sum-up.ensures.others c.across.ensures;
-      here = here_at g.row.N x c.across-first.result 0 c.requires c.across-first.ensures;
+      up =
+          above_start g.row.N x c.across.result.all c.later_sum-up.result c.requires c.later_sum-up.ensures.first c.later_sum-up.ensures.others
+          c.across.ensures.all;
+      here = here_at g.row.N x c.across-first.result.all 0 c.requires c.across-first.ensures.all;
+      beside = c.across-first.ensures.beside;
       made = λ k low. absurd (omega arith);
       rest = λ k low. refl;
     }
@@ -24,15 +27,16 @@ loop-k-preserved g c =
     let y = c.loop-k.window in
     let inv = c.loop-k.invariant in
     let more : k + 1 < n = omega arith in
-    let down : AreOfVector x c.across-down.result (k + 1) =
-    λ j i low inside. c.across-down.ensures j i low inside ∙ ap (λ (v : List ℕ). row_sum (slice_index v j) i) (inv.rest (k + 1) (omega arith)) in
+    let down : AreOfVector x c.across-down.result.all (k + 1) =
+    λ j i low inside. c.across-down.ensures.all j i low inside ∙ ap (λ (v : List ℕ). row_sum (slice_index v j) i) (inv.rest (k + 1) (omega arith)) in
     let made =
-    made_next (g.A.Answering.rule c.args.rule.now) n x c.loop-k.up c.loop-k.here c.across-down.result _ c.answer.result k (omega arith) inv.up inv.here
-    (below_step n x c.across-down.result k more down) (inv.rest k (omega arith)) c.answer.ensures in
+    made_next (g.A.Answering.rule c.args.rule.now) n x c.loop-k.up c.loop-k.here.all c.across-down.result.all _ c.answer.result k (omega arith) inv.up inv.here
+    (below_step n x c.across-down.result.all k more down) (inv.rest k (omega arith)) c.answer.ensures in
     record {
       long = length-set y k c.answer.result ∙ inv.long;
-      up = above_step n x c.loop-k.here k inv.here;
-      here = here_at n x c.across-down.result (k + 1) more down;
+      up = above_step n x c.loop-k.here.all k inv.here;
+      here = here_at n x c.across-down.result.all (k + 1) more down;
+      beside = subst (AreBeside c.across-down.result) (inv.rest (k + 1) (omega arith)) c.across-down.ensures.beside;
       made = made_more (g.A.Answering.rule c.args.rule.now) n x y c.answer.result k (omega arith) inv.made made;
       rest = λ m low. get_or-set_other y k m c.answer.result [] (λ e. absurd (omega arith)) ∙ inv.rest m (omega arith);
     }
@@ -47,10 +51,11 @@ returns g c =
     let some : 0 < n = c.requires in
     let last : c.loop-k.k ≡ n - 1 = omega arith in
     let up = subst (λ (k : ℕ). AreAbove n x c.loop-k.up k) last inv.up in
-    let here = subst (λ (k : ℕ). AreHere n x c.loop-k.here k) last inv.here in
+    let here = subst (λ (k : ℕ). AreHere n x c.loop-k.here.all k) last inv.here in
     let made = subst (λ (k : ℕ). AreMade rule n x y k) last inv.made in
-    let down = below_stop n x c.across-first.result c.earlier_sum.result some c.earlier_sum.ensures.others c.earlier_sum.ensures.last c.across-first.ensures in
-    let next = made_next rule n x c.loop-k.up c.loop-k.here c.earlier_sum.result _ c.answer-2.result (n - 1) (omega arith) up here down
+    let down = below_stop n x c.across-first.result.all c.earlier_sum.result some c.earlier_sum.ensures.others c.earlier_sum.ensures.last
+    c.across-first.ensures.all in
+    let next = made_next rule n x c.loop-k.up c.loop-k.here.all c.earlier_sum.result _ c.answer-2.result (n - 1) (omega arith) up here down
     (inv.rest (n - 1) (omega arith)) c.answer-2.ensures in
     let whole : n - 1 + 1 ≡ n = omega arith in
     all_made rule n x (set y (n - 1) c.answer-2.result) some

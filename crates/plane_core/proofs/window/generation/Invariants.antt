@@ -1,4 +1,5 @@
 use Rattle.std.proofs.Common.{◌≡◌, ◌≤◌, ℕ, [], length, slice_index_or}
+use Rattle.plane_core.specs.Lanes.{AreBeside}
 use Rattle.plane_core.proofs.WindowLemmas.{AreAbove, AreHere, AreMade}
 use Rattle.plane_core.proofs.window.generation.Given as goal
 
@@ -9,7 +10,8 @@ invariant-loop-k g l =
     record {
       long : length l.window ≡ n;
       up : AreAbove n x l.up l.k;
-      here : AreHere n x l.here l.k;
+      here : AreHere n x l.here.all l.k;
+      beside : AreBeside l.here (slice_index_or x l.k []);
       made : AreMade (g.A.Answering.rule l.rule) n x l.window l.k;
       rest : (k : ℕ) → l.k ≤ k → slice_index_or l.window k [] ≡ slice_index_or x k [];
     }
