@@ -32,6 +32,10 @@ pub record IsFrame (at : Frame) : Type 0 where
 abbrev pub FillsFrame : Frame → List ℕ → Type 0
 FillsFrame at words = length words ≡ at.lanes * at.rows
 
+-- There are not many more words than cells: at most 256 a cell, and two megabytes of them and some more.
+abbrev pub HasFewWords : Frame → List Cell → Type 0
+HasFewWords at cells = at.lanes * at.rows ≤ 256 * length cells + 271000
+
 -- the board's rectangle
 abbrev pub bounds_of : Frame → Bounds
 bounds_of at = record {

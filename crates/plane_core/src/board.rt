@@ -18,7 +18,7 @@
 ghost use Rattle.std.specs.Prelude.{◌≡◌, ◌%◌, ◌*◌, ◌<◌, ◌≤◌, ℕ, List, [], length, slice_index};
 ghost use Rattle.std.specs.Prelude.{All, IfOk, IfSome, IsTrue, OnOk, true, false};
 ghost use Rattle.plane_core.specs.Boxes.{box_bound};
-ghost use Rattle.plane_core.specs.Frames.{FillsFrame, IsFrame, LieOn, bounds_of};
+ghost use Rattle.plane_core.specs.Frames.{FillsFrame, HasFewWords, IsFrame, LieOn, bounds_of};
 ghost use Rattle.plane_core.specs.Cells.{IsPattern, plane_bound};
 ghost use Rattle.plane_core.specs.Generations.{after};
 ghost use Rattle.plane_core.specs.Bounds.{AreSidesWithin};
@@ -127,6 +127,7 @@ impl Board {
         requires frame { IsFrame at }
         requires plane { AreSidesWithin plane_bound (bounds_of at) }
         requires on { LieOn at pattern.now }
+        requires words { HasFewWords at pattern.now }
         ensures rule { IfOk result (λ board. board.rule ≡ rule.now) }
         ensures cells { IfOk result (λ board. board.cells ≡ pattern.now) }
     {

@@ -9,11 +9,11 @@
 //! row 2    word 2                 word 2 + rows
 //! ```
 ghost use Rattle.std.specs.Prelude.{◌≡◌, ◌+◌, ◌*◌, ◌<◌, ◌≤◌, ◌^◌, ◌-ℤ◌, ◌≤ℤ◌, ◌-◌, ◌↔◌, true, false, pos};
-ghost use Rattle.std.specs.Prelude.{IfSome, IsTrue, OnSome};
+ghost use Rattle.std.specs.Prelude.{IfSome, IsTrue, OnSome, []};
 ghost use Rattle.std.specs.Prelude.{unsigned_abs};
 ghost use Rattle.plane_core.specs.Bounds.{IsWithin};
 ghost use Rattle.plane_core.specs.Cells.{plane_bound};
-ghost use Rattle.plane_core.specs.Frames.{HasRoom, IsFrame, LieOn, bounds_of, board_cell, word_of};
+ghost use Rattle.plane_core.specs.Frames.{HasFewWords, HasRoom, IsFrame, LieOn, bounds_of, board_cell, word_of};
 ghost use Rattle.plane_core.specs.Generations.{lies_within};
 ghost use Rattle.plane_core.specs.Bounds.{AreSidesWithin};
 ghost use Rattle.plane_core.specs.declared.cell.Cell.{Cell};
@@ -62,6 +62,7 @@ impl Frame {
         ensures plane { IfSome result (λ at. AreSidesWithin plane_bound (bounds_of at)) }
         ensures on { IfSome result (λ at. LieOn at pattern.now) }
         ensures inside { OnSome result (lies_within (plane_bound - generations) pattern.now ≡ true) }
+        ensures words { IfSome result (λ at. HasFewWords at pattern.now) }
     {
         let bounds = pattern.bounds()?;
         let margin = generations + MARGIN;
@@ -81,6 +82,7 @@ impl Frame {
         ensures plane { IfSome result (λ at. AreSidesWithin plane_bound (bounds_of at)) }
         ensures on { IfSome result (λ at. LieOn at pattern.now) }
         ensures inside { OnSome result (lies_within (plane_bound - 1) pattern.now ≡ true) }
+        ensures words { IfSome result (λ at. HasFewWords at pattern.now) }
     {
         let at = Frame::round(pattern, 1)?;
         if at.count() / 32 > pattern.population() {
@@ -112,6 +114,7 @@ impl Frame {
     /// A frame round the origin for patterns that are shown one after another.
     pub(crate) fn round_origin() -> Frame
         ensures frame { IsFrame result }
+        ensures words { HasFewWords result [] }
         ensures plane { AreSidesWithin plane_bound (bounds_of result) }
     {
         Frame {
@@ -125,6 +128,7 @@ impl Frame {
     /// A smaller frame round the origin, whose words are cleared in no time.
     pub(crate) fn small_round_origin() -> Frame
         ensures frame { IsFrame result }
+        ensures words { HasFewWords result [] }
         ensures plane { AreSidesWithin plane_bound (bounds_of result) }
     {
         Frame {

@@ -4,7 +4,7 @@ ghost use Rattle.plane_core.specs.Cells.{has, plane_bound};
 ghost use Rattle.plane_core.specs.Generations.{next, after, lives, touches_edge, lies_within, NextMoved, NextTurned};
 ghost use Rattle.plane_core.specs.Generations.{SpeedFromOrigin, SpeedOfCells, SpeedOfLight};
 ghost use Rattle.plane_core.specs.Bounds.{AreSidesWithin};
-ghost use Rattle.plane_core.specs.Frames.{IsFrame, LieOn, bounds_of};
+ghost use Rattle.plane_core.specs.Frames.{HasFewWords, IsFrame, LieOn, bounds_of};
 ghost use Rattle.plane_core.specs.Parts.{FarPatternsRunAlone, HasRun};
 ghost use Rattle.plane_core.specs.Refusals.{RefusesStep};
 ghost use Rattle.plane_core.specs.declared.cell.Cell.{Cell};
@@ -168,7 +168,8 @@ impl Pattern {
         generations: u32,
         cuts: u32,
     ) -> Result<Option<Pattern>, OutOfMemory>
-        requires { generations ≤ 1000 }
+        requires generations { generations ≤ 1000 }
+        requires cuts { cuts ≤ 40 }
         ensures { IfOk result (λ ran. IfSome ran (HasRun rule.now self.now generations)) }
     {
         if cuts == 0 {
@@ -218,6 +219,7 @@ impl Pattern {
         requires on { LieOn at self.now }
         requires few { generations ≤ plane_bound }
         requires inside { lies_within (plane_bound - generations) self.now ≡ true }
+        requires words { HasFewWords at self.now }
         ensures { IfOk result (λ ran. IfSome ran (λ pattern. pattern ≡ after rule.now self.now generations)) }
     {
         let mut board = Board::lay(alloc, rule, at, self)?;

@@ -4,7 +4,7 @@
 //! enough. Each part is cut again as long as there is such a band. So a spaceship that has left costs no more than a
 //! board of its own.
 ghost use Rattle.std.specs.Prelude.{◌≡◌, ◌<◌, ◌^◌, ◌++◌, ◌+ℤ◌, IfOk, IfSome, pos};
-ghost use Rattle.std.specs.List.{list_all};
+ghost use Rattle.std.specs.List.{list_all, list_any};
 ghost use Rattle.plane_core.specs.Cells.{set_of};
 ghost use Rattle.plane_core.specs.Parts.{IsCut, is_before, is_on_side, leaves_band, place_on, side};
 
@@ -85,15 +85,26 @@ impl Cut {
         Ok(cut.if_it_leaves_a_band(band, pattern))
     }
 
-    /// The cut, if no cell lies in the band of so many columns or rows before it.
+    /// The cut, if each side has a cell, and none lies in the band of so many columns or rows before it.
     fn if_it_leaves_a_band(self, band: u32, pattern: &Pattern) -> Option<Cut>
         ensures { IfSome result (IsCut band pattern.now) }
     {
-        if self.leaves_band(band, pattern.cells()) {
+        let cells = pattern.cells();
+        if self.leaves_band(band, cells)
+            && self.has_side(true, cells)
+            && self.has_side(false, cells)
+        {
             Some(self)
         } else {
             None
         }
+    }
+
+    /// Whether a cell lies before the cut, or past it.
+    fn has_side(self, before: bool, cells: &[Cell]) -> bool
+        ensures { result ≡ list_any (is_on_side self before) cells.now }
+    {
+        cells.iter().any(|cell| self.is_on_side(before, *cell))
     }
 
     /// Whether the cell lies before the cut.
