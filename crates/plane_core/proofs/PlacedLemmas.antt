@@ -1,5 +1,5 @@
 -- Windows read from a board and put back.
-use Rattle.std.proofs.Common.{◌≡◌, ◌≢◌, ◌==◌, ◌+◌, ◌-◌, ◌*◌, ◌/◌, ◌%◌, ◌<◌, ◌≤◌, ℕ, List, [], cond, get_or, length, set, slice_index}
+use Rattle.std.proofs.Common.{◌≡◌, ◌≢◌, ◌==◌, ◌+◌, ◌-◌, ◌*◌, ◌/◌, ◌%◌, ◌<◌, ◌≤◌, ℕ, List, cond, length, set, slice_index}
 use Rattle.std.proofs.Common.{arith, refl, ap, ◌∙◌, sym, inl, inr, ◌⊎◌}
 use Rattle.std.specs.Int.{bit_at}
 use Rattle.std.proofs.lemmas.Bool.{cases_eq, cases_lt}
@@ -8,7 +8,7 @@ use Rattle.std.proofs.lemmas.Nat.Bits.{bit_at_mask_above, bit_at_mask_below, bit
 use Rattle.plane_core.specs.declared.frame.Frame.{Frame}
 use Rattle.plane_core.specs.Frames.{word_of}
 use Rattle.plane_core.specs.Placed.{bit_on, inner_mask, AreRowsRead, IsReadAt, IsInnerColumn, IsInner, IsRowPut, IsPutBack}
-use Rattle.plane_core.specs.Windows.{lane_at, row_at}
+use Rattle.plane_core.specs.Windows.{row_at}
 use Rattle.plane_core.proofs.FrameLemmas.{one_word as same_spot}
 
 -- ---- reading
@@ -51,36 +51,6 @@ rows_more at words x y r word rows within read new q i low inside = split (cases
 pub read_packed : (at : Frame) (words : List ℕ) (x y n : ℕ) (rows : List ℕ) (window : List (List ℕ)) → AreRowsRead at words x y (4 * n) rows
     → ((r : ℕ) → r < 4 * n → row_at n window r ≡ slice_index rows r) → IsReadAt at words x y n window
 read_packed at words x y n rows window read packed r i low inside = ap (λ (w : ℕ). bit_at w i) (packed r low) ∙ read r i low inside
-
--- ---- packing
-
--- the vectors before vector k have their rows
-abbrev pub ArePacked : List ℕ → List (List ℕ) → ℕ → Type 0
-ArePacked rows x k = (m j : ℕ) → m < k → j < 4 → lane_at x m j ≡ slice_index rows (10 * j + m)
-
-pub all_packed : (rows : List ℕ) (x : List (List ℕ)) (k : ℕ) → ArePacked rows x k → k ≡ 10 → (r : ℕ) → r < 40 → row_at 10 x r ≡ slice_index rows r
-all_packed rows x k packed is r low = packed (r % 10) (r / 10) (omega arith) (omega arith) ∙ ap (slice_index rows) (omega arith)
-
--- ---- unpacking
-
--- the rows of the first vectors stand in their places
-abbrev pub AreUnpacked : List (List ℕ) → List ℕ → ℕ → Type 0
-AreUnpacked window rows count = (j m : ℕ) → j < 4 → m < count → slice_index rows (j * 10 + m) ≡ lane_at window m j
-
-pub unpacked_more : (window : List (List ℕ)) (rows more vector : List ℕ) (k : ℕ) → k < 10 → AreUnpacked window rows k → vector ≡ get_or window k []
-    → ((j : ℕ) → j < 4 → slice_index more (j * 10 + k) ≡ slice_index vector j)
-    → ((j m : ℕ) → j < 4 → m < 10 → m ≢ k → slice_index more (j * 10 + m) ≡ slice_index rows (j * 10 + m)) → AreUnpacked window more (k + 1)
-unpacked_more window rows more vector k small is same at others j m low less = split (cases_eq m k)
-  where
-    split : (m ≡ k) ⊎ (m ≡ k → ⊥) → slice_index more (j * 10 + m) ≡ lane_at window m j
-    split (inl e) =
-        ap (λ (q : ℕ). slice_index more (j * 10 + q)) e ∙ at j low ∙ ap (λ (v : List ℕ). slice_index v j) same ∙ ap (λ (q : ℕ). lane_at window q j) (sym e)
-    split (inr apart) = others j m low (omega arith) apart ∙ is j m low (omega arith)
-
-pub all_unpacked : (window : List (List ℕ)) (rows : List ℕ) → AreUnpacked window rows 10 → (r : ℕ) → r < 40 → slice_index rows r ≡ row_at 10 window r
-all_unpacked window rows is r low =
-    let whole : r / 10 * 10 + r % 10 ≡ r = omega arith in
-    ap (slice_index rows) (sym whole) ∙ is (r / 10) (r % 10) (omega arith) (omega arith)
 
 -- ---- putting back
 

@@ -1,34 +1,54 @@
--- The rows of a window of 64 rows, one after another and in vectors.
-use Rattle.std.proofs.Common.{◌≡◌, ◌≢◌, ◌+◌, ◌*◌, ◌/◌, ◌%◌, ◌<◌, ◌⊎◌, ℕ, List, [], arith, ap, ◌∙◌, sym, inl, inr, get_or, slice_index}
+-- The rows of a window, one after another and in vectors.
+use Rattle.std.proofs.Common.{◌≡◌, ◌≢◌, ◌+◌, ◌*◌, ◌/◌, ◌%◌, ◌<◌, ◌⊎◌, ℕ, List, [], arith, ap, ◌∙◌, sym, inl, inr, get_or, set, slice_index}
+use Rattle.std.proofs.lemmas.List.{get_or-set_other}
+use Rattle.std.proofs.lemmas.Nat.{div-add-mod', div_below, mod-mul-add, mod_below}
 use Rattle.plane_core.specs.Windows.{lane_at, row_at}
 use Rattle.plane_core.proofs.CaseLemmas.{same_or_not}
+
+-- row r is lane r / n of vector r % n
+by_lanes : (n : ℕ) (x : List (List ℕ)) (rows : List ℕ) → 0 < n
+    → ((m j : ℕ) → m < n → j < 4 → lane_at x m j ≡ slice_index rows (j * n + m)) → (r : ℕ) → r < 4 * n → row_at n x r ≡ slice_index rows r
+by_lanes n x rows some each r low =
+    each (r % n) (r / n) (mod_below r n some) (div_below r n 4 some low) ∙ ap (slice_index rows) (div-add-mod' r n)
 
 -- ---- packing
 
 -- the vectors before vector k have their rows
-abbrev pub ArePacked : List ℕ → List (List ℕ) → ℕ → Type 0
-ArePacked rows x k = (m j : ℕ) → m < k → j < 4 → lane_at x m j ≡ slice_index rows (16 * j + m)
+abbrev pub ArePacked : ℕ → List ℕ → List (List ℕ) → ℕ → Type 0
+ArePacked n rows x k = (m j : ℕ) → m < k → j < 4 → lane_at x m j ≡ slice_index rows (j * n + m)
 
-pub all_packed : (rows : List ℕ) (x : List (List ℕ)) (k : ℕ) → ArePacked rows x k → k ≡ 16 → (r : ℕ) → r < 64 → row_at 16 x r ≡ slice_index rows r
-all_packed rows x k packed is r low = packed (r % 16) (r / 16) (omega arith) (omega arith) ∙ ap (slice_index rows) (omega arith)
+pub all_packed : (n : ℕ) (rows : List ℕ) (x : List (List ℕ)) (k : ℕ) → 0 < n → ArePacked n rows x k → k ≡ n → (r : ℕ) → r < 4 * n
+    → row_at n x r ≡ slice_index rows r
+all_packed n rows x k some packed is r low = by_lanes n x rows some (λ m j less lane. packed m j (omega arith) lane) r low
 
 -- ---- unpacking
 
 -- the rows of the first vectors stand in their places
-abbrev pub AreUnpacked : List (List ℕ) → List ℕ → ℕ → Type 0
-AreUnpacked window rows count = (j m : ℕ) → j < 4 → m < count → slice_index rows (j * 16 + m) ≡ lane_at window m j
+abbrev pub AreUnpacked : ℕ → List (List ℕ) → List ℕ → ℕ → Type 0
+AreUnpacked n window rows count = (j m : ℕ) → j < 4 → m < count → slice_index rows (j * n + m) ≡ lane_at window m j
 
-pub unpacked_more : (window : List (List ℕ)) (rows more vector : List ℕ) (k : ℕ) → k < 16 → AreUnpacked window rows k → vector ≡ get_or window k []
-    → ((j : ℕ) → j < 4 → slice_index more (j * 16 + k) ≡ slice_index vector j)
-    → ((j m : ℕ) → j < 4 → m < 16 → m ≢ k → slice_index more (j * 16 + m) ≡ slice_index rows (j * 16 + m)) → AreUnpacked window more (k + 1)
-unpacked_more window rows more vector k small is same at others j m low less = split (same_or_not m k)
+pub unpacked_more : (n : ℕ) (window : List (List ℕ)) (rows more vector : List ℕ) (k : ℕ) → k < n → AreUnpacked n window rows k
+    → vector ≡ get_or window k [] → ((j : ℕ) → j < 4 → slice_index more (j * n + k) ≡ slice_index vector j)
+    → ((j m : ℕ) → j < 4 → m < n → m ≢ k → slice_index more (j * n + m) ≡ slice_index rows (j * n + m)) → AreUnpacked n window more (k + 1)
+unpacked_more n window rows more vector k small is same at others j m low less = split (same_or_not m k)
   where
-    split : (m ≡ k) ⊎ (m ≢ k) → slice_index more (j * 16 + m) ≡ lane_at window m j
+    split : (m ≡ k) ⊎ (m ≢ k) → slice_index more (j * n + m) ≡ lane_at window m j
     split (inl e) =
-        ap (λ (q : ℕ). slice_index more (j * 16 + q)) e ∙ at j low ∙ ap (λ (v : List ℕ). slice_index v j) same ∙ ap (λ (q : ℕ). lane_at window q j) (sym e)
+        ap (λ (q : ℕ). slice_index more (j * n + q)) e ∙ at j low ∙ ap (λ (v : List ℕ). slice_index v j) same ∙ ap (λ (q : ℕ). lane_at window q j) (sym e)
     split (inr apart) = others j m low (omega arith) apart ∙ is j m low (omega arith)
 
-pub all_unpacked : (window : List (List ℕ)) (rows : List ℕ) → AreUnpacked window rows 16 → (r : ℕ) → r < 64 → slice_index rows r ≡ row_at 16 window r
-all_unpacked window rows is r low =
-    let whole : r / 16 * 16 + r % 16 ≡ r = omega arith in
-    ap (slice_index rows) (sym whole) ∙ is (r / 16) (r % 16) (omega arith) (omega arith)
+pub all_unpacked : (n : ℕ) (window : List (List ℕ)) (rows : List ℕ) (k : ℕ) → 0 < n → AreUnpacked n window rows k → k ≡ n → (r : ℕ) → r < 4 * n
+    → slice_index rows r ≡ row_at n window r
+all_unpacked n window rows k some is all r low = sym (by_lanes n window rows some (λ m j less lane. sym (is j m lane (omega arith))) r low)
+
+-- the rows of other vectors are what they were
+pub other_rows : (n k j m : ℕ) (rows : List ℕ) (a b c d : ℕ) → k < n → m < n → m ≢ k
+    → slice_index (set (set (set (set rows k a) (n + k) b) (2 * n + k) c) (3 * n + k) d) (j * n + m) ≡ slice_index rows (j * n + m)
+other_rows n k j m rows a b c d small low apart =
+    get_or-set_other (set (set (set rows k a) (n + k) b) (2 * n + k) c) (3 * n + k) (j * n + m) d 0 (λ e. off 3 (omega arith))
+    ∙ get_or-set_other (set (set rows k a) (n + k) b) (2 * n + k) (j * n + m) c 0 (λ e. off 2 (omega arith))
+    ∙ get_or-set_other (set rows k a) (n + k) (j * n + m) b 0 (λ e. off 1 (omega arith))
+    ∙ get_or-set_other rows k (j * n + m) a 0 (λ e. off 0 (omega arith))
+  where
+    off : (q : ℕ) → j * n + m ≢ q * n + k
+    off q e = apart (sym (mod-mul-add j n m low) ∙ ap (λ (r : ℕ). r % n) e ∙ mod-mul-add q n k small)

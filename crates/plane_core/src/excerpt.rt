@@ -13,7 +13,7 @@ ghost use Rattle.std.specs.Prelude.{◌≡◌, ◌+◌, ◌<◌, ◌≤◌, IfSo
 ghost use Rattle.plane_core.specs.Refusing.{IsExcerpt, LiesInExcerpt};
 
 use crate::never_back::{first_row, last_row, row};
-use crate::placed::packed;
+use crate::rows::packed;
 use std::simd::u64x4;
 
 /// How many rows a cluster has at most for which there is an excerpt. Larger ones mostly grow out of it.

@@ -17,6 +17,7 @@ ghost use Rattle.plane_core.specs.Windows.{row_at};
 
 use crate::frame::Frame;
 use crate::place::Place;
+use crate::rows::packed;
 use std::simd::u64x4;
 
 /// The inner columns of a window, 4 to 59.
@@ -80,19 +81,7 @@ pub(crate) fn read(words: &[u64], at: Frame, x: usize, y: usize) -> [u64x4; 10]
     requires rows { y + 40 ≤ at.rows }
     ensures { IsReadAt at words.now x y 10 result }
 {
-    packed(&read_rows(words, at, x, y))
-}
-
-/// The window of 40 rows.
-#[inline(always)]
-pub(crate) fn packed(rows: &[u64; 40]) -> [u64x4; 10]
-    ensures { (r : ℕ) → r < 40 → row_at 10 result r ≡ slice_index rows.now r }
-{
-    let mut window = [u64x4::splat(0); 10];
-    for k in 0..10 {
-        window[k] = u64x4::from_array([rows[k], rows[10 + k], rows[20 + k], rows[30 + k]]);
-    }
-    window
+    packed(&read_rows::<40>(words, at, x, y))
 }
 
 /// The word's columns that lie in the first lane, where it begins in this column of it.
@@ -159,31 +148,4 @@ pub(crate) fn write(words: &mut [u64], at: Frame, x: usize, y: usize, rows: &[u6
     for r in 4..36 {
         write_row(words, at, x, y + r, rows[r]);
     }
-}
-
-/// Puts the four rows of a vector in their places.
-#[inline(always)]
-fn unpack_vector(vector: u64x4, k: usize, rows: &mut [u64; 40])
-    requires { k < 10 }
-    ensures at { (j : ℕ) → j < 4 → slice_index rows.new (j * 10 + k) ≡ slice_index vector j }
-    ensures others { (j m : ℕ) → j < 4 → m < 10 → m ≢ k
-        → slice_index rows.new (j * 10 + m) ≡ slice_index rows.old (j * 10 + m) }
-{
-    let lanes = vector.to_array();
-    rows[k] = lanes[0];
-    rows[10 + k] = lanes[1];
-    rows[20 + k] = lanes[2];
-    rows[30 + k] = lanes[3];
-}
-
-/// The rows of a window one after another.
-#[inline(always)]
-pub(crate) fn unpacked(window: &[u64x4; 10]) -> [u64; 40]
-    ensures { (r : ℕ) → r < 40 → slice_index result r ≡ row_at 10 window.now r }
-{
-    let mut rows = [0; 40];
-    for k in 0..10 {
-        unpack_vector(window[k], k, &mut rows);
-    }
-    rows
 }

@@ -1,11 +1,11 @@
-//! The 64 rows of a window one after another, and in vectors:
+//! The rows of a window one after another, and in vectors: here of a window of 40 rows, which are ten vectors.
 //!
 //! ```text
 //!             lane 0    lane 1    lane 2    lane 3
-//! vector 0    row 0     row 16    row 32    row 48
-//! vector 1    row 1     row 17    row 33    row 49
+//! vector 0    row 0     row 10    row 20    row 30
+//! vector 1    row 1     row 11    row 21    row 31
 //!   ..
-//! vector 15   row 15    row 31    row 47    row 63
+//! vector 9    row 9     row 19    row 29    row 39
 //! ```
 ghost use Rattle.std.specs.Prelude.{◌≡◌, ◌≢◌, ◌+◌, ◌*◌, ◌<◌, ℕ, slice_index};
 ghost use Rattle.plane_core.specs.Windows.{row_at};
@@ -14,38 +14,44 @@ use std::simd::u64x4;
 
 /// The window of these rows.
 #[inline(always)]
-pub(crate) fn packed(rows: &[u64; 64]) -> [u64x4; 16]
-    ensures { (r : ℕ) → r < 64 → row_at 16 result r ≡ slice_index rows.now r }
+pub(crate) fn packed<const R: usize, const N: usize>(rows: &[u64; R]) -> [u64x4; N]
+    requires some { 0 < N }
+    requires rows { R ≡ 4 * N }
+    ensures { (r : ℕ) → r < R → row_at N result r ≡ slice_index rows.now r }
 {
-    let mut window = [u64x4::splat(0); 16];
-    for k in 0..16 {
-        window[k] = u64x4::from_array([rows[k], rows[16 + k], rows[32 + k], rows[48 + k]]);
+    let mut window = [u64x4::splat(0); N];
+    for k in 0..N {
+        window[k] = u64x4::from_array([rows[k], rows[N + k], rows[2 * N + k], rows[3 * N + k]]);
     }
     window
 }
 
 /// The rows of a window one after another.
-pub(crate) fn unpacked(window: &[u64x4; 16]) -> [u64; 64]
-    ensures { (r : ℕ) → r < 64 → slice_index result r ≡ row_at 16 window.now r }
+#[inline(always)]
+pub(crate) fn unpacked<const N: usize, const R: usize>(window: &[u64x4; N]) -> [u64; R]
+    requires some { 0 < N }
+    requires rows { R ≡ 4 * N }
+    ensures { (r : ℕ) → r < R → slice_index result r ≡ row_at N window.now r }
 {
-    let mut rows = [0; 64];
-    for k in 0..16 {
-        unpack_vector(window[k], k, &mut rows);
+    let mut rows = [0; R];
+    for k in 0..N {
+        unpack_vector(window[k], N, k, &mut rows);
     }
     rows
 }
 
-/// Puts the four rows of a vector in their places.
+/// Puts the four rows of vector k, one of n, in their places.
 #[inline(always)]
-fn unpack_vector(vector: u64x4, k: usize, rows: &mut [u64; 64])
-    requires { k < 16 }
-    ensures at { (j : ℕ) → j < 4 → slice_index rows.new (j * 16 + k) ≡ slice_index vector j }
-    ensures others { (j m : ℕ) → j < 4 → m < 16 → m ≢ k
-        → slice_index rows.new (j * 16 + m) ≡ slice_index rows.old (j * 16 + m) }
+fn unpack_vector<const R: usize>(vector: u64x4, n: usize, k: usize, rows: &mut [u64; R])
+    requires low { k < n }
+    requires rows { R ≡ 4 * n }
+    ensures at { (j : ℕ) → j < 4 → slice_index rows.new (j * n + k) ≡ slice_index vector j }
+    ensures others { (j m : ℕ) → j < 4 → m < n → m ≢ k
+        → slice_index rows.new (j * n + m) ≡ slice_index rows.old (j * n + m) }
 {
     let lanes = vector.to_array();
     rows[k] = lanes[0];
-    rows[16 + k] = lanes[1];
-    rows[32 + k] = lanes[2];
-    rows[48 + k] = lanes[3];
+    rows[n + k] = lanes[1];
+    rows[2 * n + k] = lanes[2];
+    rows[3 * n + k] = lanes[3];
 }

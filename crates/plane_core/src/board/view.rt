@@ -55,7 +55,7 @@ impl View {
         requires rows { self.y + 64 ≤ at.rows }
         ensures { IsShownInside 16 (at.left +ℤ pos self.x) (at.top +ℤ pos self.y) 0 result (cells_on at words.now) }
     {
-        packed(&read_rows(words, at, self.x, self.y))
+        packed(&read_rows::<64>(words, at, self.x, self.y))
     }
 
     /// The view as a board of its own, of one lane.
