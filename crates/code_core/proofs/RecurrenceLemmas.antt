@@ -1,20 +1,20 @@
 -- Following a pattern until it comes back.
 use Rattle.std.proofs.Common.{◌≡◌, ◌≢◌, ◌∙◌, sym, ap, refl, subst, ℕ, suc, ℤ, ◌+◌, ◌<◌, ◌≤◌, List, [], ◌∷◌, ◌++◌, false, arith, below_more}
-use Rattle.std.proofs.Common.{eq-or-lt_of_le, inl, inr, ◌⊎◌, true, Result, Ok, Err, IsErrAnd}
+use Rattle.std.proofs.Common.{eq-or-lt_of_le, inl, inr, ◌⊎◌, true, Bool, Option, Some, None, Result, Ok, Err, IsErrAnd, is_ok}
 use Rattle.std.proofs.lemmas.Bool.{false≢true}
 use Rattle.std.proofs.lemmas.Bool.Decides.{leb_tells}
 use Rattle.std.proofs.lemmas.List.FromFn.{map-range_with_len_more}
-use Rattle.memory.specs.Evidence.{out_of_memory}
 use Rattle.plane_core.specs.declared.cell.Cell.{Cell}
 use Rattle.plane_core.specs.declared.generation.StepError.{StepError}
 use Rattle.plane_core.specs.declared.generation.StepError.TheVariants.{Edge, Memory}
 use Rattle.plane_core.specs.Bounds.{shifted}
 use Rattle.plane_core.specs.Cells.{plane_bound}
 use Rattle.plane_core.specs.Generations.{NeverBack, after, lies_within, next, touches_edge}
+use Rattle.plane_core.specs.Refusals.{RefusesStep}
 use Rattle.plane_core.specs.Rules.{Numbers}
 use Rattle.plane_core.proofs.GenerationLemmas.{after-none, after-more}
 use Rattle.plane_core.proofs.SpeedLemmas.{run_inside}
-use Rattle.code_core.specs.Recurrences.{Follows, MeetsEdge, Recurs, phases}
+use Rattle.code_core.specs.Recurrences.{Follows, MeetsEdge, Recurs, SearchEnds, StaysInside, phases}
 
 -- one phase more
 pub phases-more : (rule : Numbers) (cells : List Cell) (n : ℕ) → phases rule cells (n + 1) ≡ phases rule cells n ++ after rule cells n ∷ []
@@ -104,18 +104,72 @@ pub never_meets : (rule : Numbers) (cells : List Cell) (limit reach : ℕ) → l
     → MeetsEdge rule cells limit → ⊥
 never_meets rule cells limit reach inside far (g, low, new, on) = false≢true (sym (run_inside rule cells reach g limit inside far low) ∙ on)
 
--- where memory was refused, the edge wasn't met
-pub memory_isnt_edge : {X : Type 0} (r : Result X StepError) → IsErrAnd r (λ e. e ≡ Memory out_of_memory) → r ≢ Err Edge
-memory_isnt_edge (Ok x) told e = absurd told
-memory_isnt_edge (Err y) told e = cc
+-- a step that was refused for the edge
+pub step_refused : (cells : List Cell) (y : StepError) → RefusesStep cells y → y ≡ Edge → touches_edge cells ≡ true
+step_refused cells Edge refused e = refused
+step_refused cells (Memory error) refused e = cc
 
--- an error that is passed on is the edge exactly if it was
-pub edge_was : {X Y : Type 0} (r : Result X StepError) (y : StepError) → IsErrAnd r (λ e. e ≡ y) → r ≡ Err Edge
-    → ◌≡◌ {A = Result Y StepError} (Err y) (Err Edge)
-edge_was (Ok x) y told e = absurd told
-edge_was (Err x) y told e = cc
+-- ---- how a search ends
 
-pub edge_is : {X Y : Type 0} (r : Result X StepError) (y : StepError) → IsErrAnd r (λ e. e ≡ y)
-    → ◌≡◌ {A = Result Y StepError} (Err y) (Err Edge) → r ≡ Err Edge
-edge_is (Ok x) y told e = absurd told
-edge_is (Err x) y told e = cc
+module _ {X : Type 0} (F : X → Type 0) (rule : Numbers) (cells : List Cell) (limit : ℕ) where
+  -- it finds something
+  pub ends_found : (x : X) → F x → StaysInside rule cells limit → touches_edge cells ≡ false → SearchEnds F rule cells limit (Ok (Some x))
+  ends_found x is inside off = record {
+    found = is;
+    never = tt;
+    inside = inside;
+    edge = λ e. absurd (false≢true (sym (ap is_ok e)));
+    edge_first = λ on. absurd (false≢true (sym off ∙ on));
+    never_edge = λ reach within far e. false≢true (sym (ap is_ok e));
+  }
+
+  -- or it sees that no generation is the pattern again
+  pub ends_without : NeverBack rule cells limit → StaysInside rule cells limit → touches_edge cells ≡ false → SearchEnds F rule cells limit (Ok None)
+  ends_without new inside off = record {
+    found = tt;
+    never = new;
+    inside = inside;
+    edge = λ e. absurd (false≢true (sym (ap is_ok e)));
+    edge_first = λ on. absurd (false≢true (sym off ∙ on));
+    never_edge = λ reach within far e. false≢true (sym (ap is_ok e));
+  }
+
+  -- or the pattern lies on the edge from the start
+  pub ends_at_once : 1 ≤ limit → touches_edge cells ≡ true → SearchEnds F rule cells limit (Err Edge)
+  ends_at_once some on = record {
+    found = tt;
+    never = tt;
+    inside = tt;
+    edge = λ e. meets_at_once rule cells limit some on;
+    edge_first = λ _. refl;
+    never_edge = λ reach within far e. never_meets rule cells limit reach within far (meets_at_once rule cells limit some on);
+  }
+
+  -- or a generation was refused
+  pub ends_refused : (r : Result (Option X) StepError) (y : StepError) → IsErrAnd r (λ e. e ≡ y) → (y ≡ Edge → MeetsEdge rule cells limit)
+      → touches_edge cells ≡ false → SearchEnds F rule cells limit r
+  ends_refused (Ok x) y told meets off = absurd told
+  ends_refused (Err z) y told meets off = record {
+    found = tt;
+    never = tt;
+    inside = tt;
+    edge = λ e. meets (is_edge e);
+    edge_first = λ on. absurd (false≢true (sym off ∙ on));
+    never_edge = λ reach within far e. never_meets rule cells limit reach within far (meets (is_edge e));
+  }
+    where
+      is_edge : ◌≡◌ {A = Result (Option X) StepError} (Err z) (Err Edge) → y ≡ Edge
+      is_edge e = cc
+
+module _ {X Y : Type 0} (F : X → Type 0) (G : Y → Type 0) (rule : Numbers) (cells : List Cell) (limit : ℕ) where
+  -- a search that ended well didn't begin on the edge
+  pub off_edge : (o : Option X) → SearchEnds F rule cells limit (Ok o) → touches_edge cells ≡ false
+  off_edge o ends = split (touches_edge cells) refl
+    where
+      split : (b : Bool) → touches_edge cells ≡ b → touches_edge cells ≡ false
+      split false e = e
+      split true e = absurd (false≢true (sym (ap is_ok (ends.edge_first e))))
+
+  -- what was found is told in other words
+  pub found_as : (x : X) (y : Y) → SearchEnds F rule cells limit (Ok (Some x)) → G y → SearchEnds G rule cells limit (Ok (Some y))
+  found_as x y ends is = ends_found G rule cells limit y is ends.inside (off_edge (Some x) ends)

@@ -1,9 +1,12 @@
 -- When a pattern comes back, where it was or elsewhere (LifeWiki, "Oscillator" and "Spaceship").
-use Rattle.std.specs.Prelude.{◌≡◌, ◌≢◌, ◌<◌, ◌≤◌, ℕ, ℤ, true, false, List, map}
+use Rattle.std.specs.Prelude.{◌≡◌, ◌≢◌, ◌+◌, ◌<◌, ◌≤◌, ℕ, ℤ, true, false, List, Option, Result, Err, IfNone, IfOk, IfSome, IsErrOf, OnOk, map}
 use Rattle.std.specs.List.{range_with_len}
 use Rattle.plane_core.specs.declared.cell.Cell.{Cell}
+use Rattle.plane_core.specs.declared.generation.StepError.{StepError}
+use Rattle.plane_core.specs.declared.generation.StepError.TheVariants.{Edge}
 use Rattle.plane_core.specs.Bounds.{shifted}
-use Rattle.plane_core.specs.Generations.{NeverBack, after, touches_edge}
+use Rattle.plane_core.specs.Cells.{plane_bound}
+use Rattle.plane_core.specs.Generations.{NeverBack, after, lies_within, touches_edge}
 use Rattle.plane_core.specs.Rules.{Numbers}
 use Rattle.code_core.specs.declared.recurrence.Recurrence.{Recurrence}
 
@@ -22,6 +25,17 @@ MeetsEdge rule cells limit = (g : ℕ) × (g < limit) × NeverBack rule cells g 
 abbrev pub StaysInside : Numbers → List Cell → ℕ → Type 0
 StaysInside rule cells limit = (g : ℕ) → g < limit → NeverBack rule cells g → touches_edge (after rule cells g) ≡ false
 
+-- How a search for the first generation that is the pattern again ends. The edge comes before memory where the pattern lies on
+-- it, and never where the pattern lies too far in, since none gets there faster than a cell a generation.
+pub record SearchEnds {X : Type 0} (IsFound : X → Type 0) (rule : Numbers) (cells : List Cell) (limit : ℕ)
+    (result : Result (Option X) StepError) : Type 0 where
+  pub found : IfOk result (λ o. IfSome o IsFound)
+  pub never : IfOk result (λ o. IfNone o (NeverBack rule cells limit))
+  pub inside : OnOk result (StaysInside rule cells limit)
+  pub edge : IsErrOf result Edge → MeetsEdge rule cells limit
+  pub edge_first : touches_edge cells ≡ true → result ≡ Err Edge
+  pub never_edge : (reach : ℕ) → lies_within reach cells ≡ true → reach + limit ≤ plane_bound → result ≢ Err Edge
+
 -- the first n generations, from the pattern itself on
 unfoldable pub phases : Numbers → List Cell → ℕ → List (List Cell)
 phases rule cells n = map (after rule cells) (range_with_len 0 n)
@@ -32,3 +46,8 @@ pub record Follows (rule : Numbers) (cells : List Cell) (n : ℕ) (before : List
   pub latest : last ≡ after rule cells n
   pub new : NeverBack rule cells n
   pub inside : (g : ℕ) → g < n → touches_edge (after rule cells g) ≡ false
+
+-- the phases of a pattern that recurs, and how it does
+pub record IsCycle (rule : Numbers) (cells : List Cell) (limit : ℕ) (found : List (List Cell)) (r : Recurrence) : Type 0 where
+  pub recurs : Recurs rule cells limit r
+  pub phases : found ≡ phases rule cells r.period

@@ -1,3 +1,11 @@
+//! Names of patterns that recur, as Catagolue's: apgcodes.
+//!
+//! ```text
+//! xs 4 _ 33       a still life of 4 cells, whose text is 33
+//! xp 2 _ 7        an oscillator of period 2
+//! xq 4 _ 153      a spaceship of period 4
+//! ov_s 56         a still life of 56 cells that is too large for a text
+//! ```
 ghost use Rattle.std.specs.Prelude.{◌≡◌, ◌<◌, ◌^◌, ℕ, Some, ◌++◌, IfOk, OnOk, IfSome, List, Option, nat_eq, option_map};
 ghost use Rattle.std.specs.Prelude.{refl, string_bytes};
 ghost use Rattle.std.specs.Ordering.{nat_cmp};

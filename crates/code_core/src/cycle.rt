@@ -1,8 +1,12 @@
-ghost use Rattle.std.specs.Prelude.{◌≡◌, ◌≢◌, ◌++◌, ◌<◌, ◌≤◌, ◌+◌, ℕ, suc, [], ◌∷◌, Err, true, IfOk, IfSome, IfNone};
-ghost use Rattle.std.specs.Prelude.{OnOk, IsErrOf};
-ghost use Rattle.plane_core.specs.Cells.{plane_bound};
-ghost use Rattle.plane_core.specs.Generations.{NeverBack, lies_within, touches_edge};
-ghost use Rattle.code_core.specs.Recurrences.{MeetsEdge, Recurs, StaysInside, phases};
+//! A pattern that recurs is followed until it comes back, and its phases are kept:
+//!
+//! ```text
+//! phase 0  ->  phase 1  ->  ..  ->  phase p - 1  ->  phase 0 again, moved by (dx, dy)
+//! ```
+ghost use Rattle.std.specs.Prelude.{◌≡◌, ◌≢◌, ◌++◌, ◌<◌, ◌≤◌, ◌+◌, suc, [], ◌∷◌, Err};
+ghost use Rattle.std.specs.Prelude.{OnOk};
+ghost use Rattle.plane_core.specs.Generations.{touches_edge};
+ghost use Rattle.code_core.specs.Recurrences.{IsCycle, Recurs, SearchEnds};
 
 use crate::recurrence::Recurrence;
 use memory::OutOfMemory;
@@ -34,18 +38,12 @@ impl Recurrence {
         requires pattern { pattern.now ≢ [] }
         requires least { 1 ≤ limit }
         requires most { limit ≤ 64 }
-        ensures recurs { IfOk result (λ found. IfSome found (Recurs rule.now pattern.now limit)) }
-        ensures never { IfOk result (λ found. IfNone found (NeverBack rule.now pattern.now limit)) }
-        ensures inside { OnOk result (StaysInside rule.now pattern.now limit) }
-        ensures edge { IsErrOf result StepError.Edge → MeetsEdge rule.now pattern.now limit }
-        // The edge comes before memory where the pattern lies on it.
-        ensures edge_first { touches_edge pattern.now ≡ true → result ≡ Err StepError.Edge }
-        // No pattern gets to the edge faster than a cell a generation.
-        ensures never_edge { (reach : ℕ) → lies_within reach pattern.now ≡ true → reach + limit ≤ plane_bound
-            → result ≢ Err StepError.Edge }
+        ensures { SearchEnds (Recurs rule.now pattern.now limit) rule.now pattern.now limit result }
     {
-        let found = follow(alloc, pattern, rule, limit)?;
-        Ok(found.map(|cycle| cycle.recurrence))
+        match follow(alloc, pattern, rule, limit)? {
+            Some(cycle) => Ok(Some(cycle.recurrence)),
+            None => Ok(None),
+        }
     }
 }
 
@@ -65,15 +63,8 @@ pub(crate) fn follow(
 ) -> Result<Option<Cycle>, StepError>
     requires pattern { pattern.now ≢ [] }
     requires least { 1 ≤ limit }
-    ensures recurs { IfOk result (λ found. IfSome found (λ cycle. Recurs rule.now pattern.now limit cycle.recurrence)) }
-    ensures phases { IfOk result
-        (λ found. IfSome found (λ cycle. cycle.phases.items ≡ phases rule.now pattern.now cycle.recurrence.period)) }
-    ensures never { IfOk result (λ found. IfNone found (NeverBack rule.now pattern.now limit)) }
-    ensures inside { OnOk result (StaysInside rule.now pattern.now limit) }
-    ensures edge { IsErrOf result StepError.Edge → MeetsEdge rule.now pattern.now limit }
-    ensures edge_first { touches_edge pattern.now ≡ true → result ≡ Err StepError.Edge }
-    ensures never_edge { (reach : ℕ) → lies_within reach pattern.now ≡ true → reach + limit ≤ plane_bound
-        → result ≢ Err StepError.Edge }
+    ensures { SearchEnds (λ cycle. IsCycle rule.now pattern.now limit cycle.phases.items cycle.recurrence)
+        rule.now pattern.now limit result }
 {
     if touches_edge(pattern) {
         return Err(StepError::Edge);

@@ -1,3 +1,4 @@
+//! A number written in decimal after a text.
 ghost use Rattle.std.specs.Prelude.{◌≡◌, ◌++◌, false};
 ghost use Rattle.plane_core.specs.Out.{Writes};
 

@@ -13,16 +13,14 @@
 //!
 //! Each phase is made once and kept, and no text is made of a pattern that doesn't come back.
 
-ghost use Rattle.std.specs.Prelude.{Option, ℕ, ◌≡◌, ◌≢◌, ◌<◌, ◌≤◌, ◌+◌, [], Some, Err, true, length, option_map};
-ghost use Rattle.std.specs.Prelude.{string_bytes, IfOk, IfSome, IfNone, OnOk, IsErrOf};
+ghost use Rattle.std.specs.Prelude.{Option, ◌≡◌, ◌≢◌, ◌<◌, ◌≤◌, [], Some, Err, length, option_map};
+ghost use Rattle.std.specs.Prelude.{string_bytes, IfOk};
 ghost use Rattle.std.specs.Cmp.{IsTotalOrder};
-ghost use Rattle.plane_core.specs.Cells.{plane_bound};
-ghost use Rattle.plane_core.specs.Generations.{NeverBack, lies_within, touches_edge};
 ghost use Rattle.plane_core.specs.Orientations.{turned};
 ghost use Rattle.code_core.specs.Names.{CodesAreDetermined, CodesHaveTheirShape, CodesLater, CodesMoved, CodesTurned};
 ghost use Rattle.code_core.specs.Names.{IsCode, OnlyEqualTextsTie, IsLeastOf, kind_of, number_of, text_cmp};
 ghost use Rattle.code_core.specs.Least.{Among, IsImageAt, IsImageOf, IsNameBy, earlier_text};
-ghost use Rattle.code_core.specs.Recurrences.{MeetsEdge, StaysInside};
+ghost use Rattle.code_core.specs.Recurrences.{SearchEnds};
 ghost use Rattle.code_core.specs.Texts.{text};
 
 use crate::apgcode::{Apgcode, Kind};
@@ -61,15 +59,7 @@ pub fn name(
     requires pattern { pattern.now ≢ [] }
     requires least { 1 ≤ limit }
     requires most { limit ≤ 64 }
-    ensures code { IfOk result (λ found. IfSome found (IsCode rule.now pattern.now limit)) }
-    ensures never { IfOk result (λ found. IfNone found (NeverBack rule.now pattern.now limit)) }
-    ensures inside { OnOk result (StaysInside rule.now pattern.now limit) }
-    ensures edge { IsErrOf result StepError.Edge → MeetsEdge rule.now pattern.now limit }
-    // The edge comes before memory where the pattern lies on it.
-    ensures edge_first { touches_edge pattern.now ≡ true → result ≡ Err StepError.Edge }
-    // No pattern gets to the edge faster than a cell a generation.
-    ensures never_edge { (reach : ℕ) → lies_within reach pattern.now ≡ true → reach + limit ≤ plane_bound
-        → result ≢ Err StepError.Edge }
+    ensures { SearchEnds (IsCode rule.now pattern.now limit) rule.now pattern.now limit result }
 {
     match follow(alloc, pattern, rule, limit)? {
         Some(cycle) => Ok(Some(name_of(alloc, pattern, &cycle)?)),

@@ -1,3 +1,9 @@
+//! Texts in extended Wechsler format (LifeWiki, "Apgcode") read back to patterns.
+//!
+//! ```text
+//! 0ccz11   ->   strip 0: columns 0, c, c      Each column of a strip has five cells, the top one counting 1.
+//!               strip 1: columns 1, 1
+//! ```
 ghost use Rattle.std.specs.Prelude.{◌≡◌, ◌≢◌, ◌↔◌, ◌<◌, ◌≤◌, ◌+◌, ◌*◌, ◌++◌, ◌∷◌, [], ℕ, List, Some, None, Ok, Err};
 ghost use Rattle.std.specs.Prelude.{true, length, pos, IfOk, IfErr, OnOk, IsErrOf, MatchResult, IfSome, IfNone};
 ghost use Rattle.std.specs.Result.{result_err};

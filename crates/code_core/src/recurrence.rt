@@ -1,3 +1,4 @@
+//! How a pattern comes back: its period, and how far it has moved then.
 /// How a pattern comes back: after `period` generations, and not earlier, it is itself, moved by (dx, dy).
 /// [`Recurrence::find`] follows a pattern until it does.
 #[derive(Clone, Copy, Debug, PartialEq, Eq)]

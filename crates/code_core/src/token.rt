@@ -1,3 +1,4 @@
+//! The pieces of a text in extended Wechsler format: columns, runs of empty columns, and ends of strips.
 /// A piece of a text in extended Wechsler format.
 #[derive(Clone, Copy)]
 pub(crate) enum Token {

@@ -1,3 +1,12 @@
+//! Boxes of cells, and the least one round a pattern:
+//!
+//! ```text
+//! +-----+
+//! |..O..|
+//! |O...O|      Each side of the least box touches a live cell.
+//! |.OO..|
+//! +-----+
+//! ```
 ghost use Rattle.std.specs.Prelude.{◌≡◌, ◌↔◌, [], ℕ, IsNone, IfSome};
 ghost use Rattle.plane_core.specs.Bounds.{AreSidesWithin, IsLeastBox, IsWithin, box_at, box_of, grown, widened};
 ghost use Rattle.plane_core.specs.Cells.{IsPattern};

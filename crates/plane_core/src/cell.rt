@@ -1,3 +1,10 @@
+//! Cells of the plane. Patterns have cells with coordinates up to 1,000,000 in size.
+//!
+//! ```text
+//!          x = 0     1     2
+//! y = 0   (0, 0) (1, 0) (2, 0)      In order: row by row, and in a row from the left.
+//! y = 1   (0, 1) (1, 1) (2, 1)
+//! ```
 ghost use Rattle.std.specs.Prelude.{◌≡◌, ◌≤◌, true, unsigned_abs};
 ghost use Rattle.plane_core.specs.Cells.{moved_by, near_plane, on_plane, on_edge};
 

@@ -1,3 +1,13 @@
+//! The next generation of a pattern, and the one many generations later.
+//!
+//! ```text
+//! run:  stretch (at most 256 generations)  ->  stretch  ->  ..
+//!
+//! stretch:  cut into parts that lie far apart  ->  a board for each part  ->  the parts together
+//!           or, where boards would be too large, one step
+//!
+//! step:  in a window, or on a board, or counted cell by cell
+//! ```
 ghost use Rattle.std.specs.Prelude.{◌≡◌, ◌≢◌, ℕ, ◌+◌, ◌-◌, ◌<◌, ◌≤◌, true, false, IfOk, IfErr, IfSome, OnOk, IsErrOf};
 ghost use Rattle.memory.specs.Evidence.{out_of_memory};
 ghost use Rattle.plane_core.specs.Cells.{has, plane_bound};

@@ -1,3 +1,10 @@
+//! The eight ways in which a pattern can lie on the square grid:
+//!
+//! ```text
+//! O . .    . O O    . . O    . . O    O O .      and so on: four turns of the pattern, and four of its mirror image
+//! O O .    O O .    . O O    O O .    . O O
+//! . . .    . . .    . . .    . . .    . . .
+//! ```
 ghost use Rattle.std.specs.Prelude.{◌≡◌, true};
 ghost use Rattle.plane_core.specs.Cells.{cell_at, on_plane};
 ghost use Rattle.plane_core.specs.Orientations.{orientations, turned_cell};

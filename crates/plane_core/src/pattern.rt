@@ -1,3 +1,4 @@
+//! Patterns: finite sets of live cells. A pattern is kept as the list of its cells in order, each once.
 ghost use Rattle.std.specs.Prelude.{◌≡◌, ◌++◌, List, [], ◌∷◌, length, IfOk, IfErr, IsTrue, OnOk, position, None};
 ghost use Rattle.memory.specs.Evidence.{out_of_memory};
 ghost use Rattle.plane_core.specs.Cells.{InOrder, IsPattern, SetsHaveOneList, cell_at, has, set_of, off_plane};

@@ -1,3 +1,10 @@
+//! Patterns moved and turned:
+//!
+//! ```text
+//! O . .        . . O
+//! O O .   ->   . O O      Turned, an image is moved so that its least column and its least row are 0.
+//! . O O        O O .
+//! ```
 ghost use Rattle.std.specs.Prelude.{◌≡◌, map, ◌≢◌, nat_le, unsigned_abs, ◌+ℤ◌, ◌-ℤ◌, ◌≤◌, ℤ, true, false, length};
 ghost use Rattle.std.specs.Prelude.{IsTrue, ◌↔◌, Some, None, IfOk, IfErr, IfSome, IfNone, OnOk, if◌then◌else◌};
 ghost use Rattle.std.specs.List.{list_all};

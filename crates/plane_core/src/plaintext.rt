@@ -1,3 +1,11 @@
+//! Patterns as plaintext (LifeWiki, "Plaintext"): a line for each row, `O` for a live cell and `.` for a dead one.
+//!
+//! ```text
+//! !Name: Glider
+//! .O.
+//! ..O
+//! OOO
+//! ```
 ghost use Rattle.std.specs.Prelude.{◌≡◌, ◌↔◌, ◌<◌, ◌≤◌, ◌++◌, Option, None, List, [], ◌∷◌, IfOk, IsErrOf, OnOk, length};
 ghost use Rattle.std.specs.Prelude.{ℕ, pos, Ok, Err};
 ghost use Rattle.std.specs.Prelude.{Some, IfSome, replicate, true, false, drop};

@@ -1,3 +1,4 @@
+//! Life-like rules and their texts, such as `b3s23` for Conway's Life.
 ghost use Rattle.std.specs.Prelude.{◌≡◌, ◌↔◌, ◌+◌, ◌<◌, ◌≤◌, ℕ, true, false, IsTrue, ◌∷◌, [], length, codes, IfOk};
 ghost use Rattle.plane_core.specs.Out.{Writes};
 ghost use Rattle.plane_core.specs.Rules.{Numbers, IsRule, IsFirstFault, is_birth, is_survival, digits, rule_text};

@@ -1,3 +1,10 @@
+//! By how much one pattern has to be moved to become another:
+//!
+//! ```text
+//! O O . . .      . . . . .
+//! . O . . .      . . . O O      The second is the first, moved by (3, 1).
+//! . . . . .      . . . . O
+//! ```
 ghost use Rattle.std.specs.Prelude.{◌≡◌, ◌-ℤ◌, ◌↔◌, true, length, IsTrue};
 ghost use Rattle.std.specs.List.{list_all};
 ghost use Rattle.plane_core.specs.Bounds.{shifted, TellsShift};

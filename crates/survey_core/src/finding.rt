@@ -1,3 +1,9 @@
+//! What becomes of a soup or a pattern: whether it settles, when, and which objects are left.
+//!
+//! ```text
+//! soup  ->  its pattern  ->  look, go on, look, ..  ->  at rest: the code of each cluster, counted
+//!                                                   ->  or unsettled, at the limit
+//! ```
 ghost use Rattle.std.specs.Prelude.{◌≡◌, ◌<◌, ◌≤◌, ◌^◌, IfOk, IfNone, IfSome, OnOk, true};
 ghost use Rattle.plane_core.specs.Generations.{lies_within};
 ghost use Rattle.survey_core.specs.UnderWay.{survey_reach};

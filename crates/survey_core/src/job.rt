@@ -1,3 +1,4 @@
+//! What a census counts: seed, profile and rule together.
 ghost use Rattle.std.specs.Prelude.{◌≡◌};
 ghost use Rattle.survey_core.specs.Jobs.{SameJobsAreEqual, same_job};
 

@@ -1,3 +1,4 @@
+//! Later generations of patterns that lie so far from the edge of the plane that no step can fail there.
 ghost use Rattle.std.specs.Prelude.{◌≡◌, ◌≤◌, IfOk, true};
 ghost use Rattle.plane_core.specs.Generations.{after, lies_within, next};
 ghost use Rattle.survey_core.specs.UnderWay.{survey_reach};

@@ -1,3 +1,4 @@
+//! The objects of a finding, counted: each code once, in ASCII order, with how many there are.
 ghost use Rattle.std.specs.Prelude.{◌≡◌, ◌+◌, ◌<◌, ◌≤◌, ◌^◌, ◌↔◌, ◌≢◌, [], ℕ, All, IfOk, IsTrue, List, OnOk, length};
 ghost use Rattle.std.specs.Prelude.{sum, true, if◌then◌else◌};
 ghost use Rattle.std.specs.BTreeMap.{IsOrdered};

@@ -1,3 +1,4 @@
+//! When a pattern counts as settled: four numbers of generations.
 ghost use Rattle.std.specs.Prelude.{◌≡◌};
 ghost use Rattle.survey_core.specs.Profiles.{IsProfile, is_from_to, profile_of, standard};
 

@@ -1,3 +1,4 @@
+//! Seeds: the texts from which soups are made.
 ghost use Rattle.std.specs.Prelude.{◌≡◌, ◌≤◌, ◌-◌, ◌++◌, length, position, replicate};
 ghost use Rattle.survey_core.specs.Seeds.{IsSeed, is_invisible, is_visible, most_bytes, seed_read};
 

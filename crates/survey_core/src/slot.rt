@@ -1,3 +1,4 @@
+//! In which slot of a memo a pattern belongs. The same pattern elsewhere belongs in the same one.
 use plane_core::cell::Cell;
 use plane_core::pattern::Pattern;
 

@@ -6,7 +6,7 @@ use Rattle.survey_core.proofs.sweep.Sweep.find.Goals as goal
 pub returns-in_ok-bounds-in-Ok-Some-clause-sweep : goal.returns-in_ok-bounds-in-Ok-Some-clause-sweep
 returns-in_ok-bounds-in-Ok-Some-clause-sweep c =
     let recurs : Recurs c.args.rule.now c.args.pattern.now c.args.limit c.in-Ok-Some.recurrence =
-    rw c.in-Ok-Some.field-0-is at c.in-Ok-Some.ensures.recurs in
+    rw c.in-Ok-Some.field-0-is at c.in-Ok-Some.ensures.found in
     record { in_order = c.requires.order; recurs = recurs; within = c.in_ok-bounds-in-Ok-Some.ensures }
 
 pub returns-in-Ok-None-clause-never : goal.returns-in-Ok-None-clause-never
@@ -17,13 +17,13 @@ returns-in-Ok-None-clause-never c = λ back.
 pub swept-requires-clause-some : goal.swept-requires-clause-some
 swept-requires-clause-some c =
     let recurs : Recurs c.args.rule.now c.args.pattern.now c.args.limit c.in-Ok-Some.recurrence =
-    rw c.in-Ok-Some.field-0-is at c.in-Ok-Some.ensures.recurs in
+    rw c.in-Ok-Some.field-0-is at c.in-Ok-Some.ensures.found in
     recurs.some
 
 pub swept-requires-clause-few : goal.swept-requires-clause-few
 swept-requires-clause-few c =
     let recurs : Recurs c.args.rule.now c.args.pattern.now c.args.limit c.in-Ok-Some.recurrence =
-    rw c.in-Ok-Some.field-0-is at c.in-Ok-Some.ensures.recurs in
+    rw c.in-Ok-Some.field-0-is at c.in-Ok-Some.ensures.found in
     let within : c.in-Ok-Some.recurrence.period ≤ c.args.limit = recurs.within in
     let most : c.args.limit ≤ 64 = c.requires.most in
     omega arith
