@@ -9,7 +9,7 @@ use Rattle.plane_core.specs.declared.bounds.Bounds.{Bounds}
 use Rattle.plane_core.specs.declared.cell.Cell.{Cell}
 use Rattle.plane_core.specs.declared.cover.Spans.{Spans}
 use Rattle.plane_core.specs.declared.place.Place.{Place}
-use Rattle.plane_core.specs.Bounds.{IsWithin}
+use Rattle.plane_core.specs.Bounds.{IsJoined, IsWithin}
 use Rattle.plane_core.specs.Boxes.{IsInOne}
 use Rattle.plane_core.specs.Cells.{distance}
 use Rattle.plane_core.specs.Covers.{AreSideBySide, BeginsAt, IsInRow}
@@ -18,12 +18,6 @@ use Rattle.plane_core.specs.Places.{IsCovered, IsInnerCell}
 use Rattle.plane_core.proofs.BoxLemmas.{any_swap_remove}
 
 -- ---- the union of two boxes
-
-pub record IsJoined (one other b : Bounds) : Type 0 where
-  pub left : b.left ≡ int_min one.left other.left
-  pub top : b.top ≡ int_min one.top other.top
-  pub right : b.right ≡ int_max one.right other.right
-  pub bottom : b.bottom ≡ int_max one.bottom other.bottom
 
 pub joined_one : (one other b : Bounds) (c : Cell) → IsJoined one other b → IsWithin one c → IsWithin b c
 joined_one one other b c is h = record {

@@ -11,8 +11,8 @@
 //!                         :  ones ? 1 : 0
 //! ```
 //!
-//! Life, the rule that is run most, is answered by fewer operations, which count the eight neighbours alone. It is a type
-//! of its own, so that each loop over windows is built once for Life and once for any rule.
+//! Life, the rule that is run most, is answered by fewer operations, which count the eight neighbours alone. It is a
+//! type of its own, so that each loop over windows is built once for Life and once for any rule.
 ghost use Rattle.std.specs.Prelude.{◌≡◌, ◌==◌, ◌+◌, ◌-◌, ◌*◌, ◌<◌, ◌≤◌, ◌%◌, IsTrue, true, ℕ, slice_index};
 ghost use Rattle.std.specs.Int.{bit_at};
 ghost use Rattle.plane_core.specs.Lanes.{AnswersNeighbours, AnswersRows, AnswersTotal, AreBeside, bit_of};

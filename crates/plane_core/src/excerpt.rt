@@ -19,8 +19,8 @@ use std::simd::u64x4;
 /// How many rows a cluster has at most for which there is an excerpt. Larger ones mostly grow out of it.
 const MOST: usize = 32;
 
-/// The first row of an excerpt that has all of the cluster, with about as many rows above it as below. `None` if it is too
-/// large.
+/// The first row of an excerpt that has all of the cluster, with about as many rows above it as below. `None` if it is
+/// too large.
 pub(crate) fn excerpt_round(alone: &[u64x4; 16]) -> Option<usize>
     ensures { IfSome result (λ from. LiesInExcerpt from alone.now) }
 {

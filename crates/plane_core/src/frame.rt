@@ -26,8 +26,8 @@ use crate::pattern::Pattern;
 /// How many lanes a large board has: 64, and one more, since a window wants a lane to its right.
 const LARGE_LANES: usize = 65;
 
-/// How many rows it has: as many as columns, and 72 more. A multiple of 512 would bring the same row of several lanes to
-/// one place of the processor's cache.
+/// How many rows it has: as many as columns, and 72 more. A multiple of 512 would bring the same row of several lanes
+/// to one place of the processor's cache.
 const LARGE_ROWS: usize = 4168;
 
 /// How many lanes a small board has: 16, and one more.

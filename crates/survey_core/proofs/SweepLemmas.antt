@@ -1,7 +1,7 @@
 -- Sweeps: where a pattern that comes back lies in each turn, and boxes that stay clear of each other.
 use Rattle.std.proofs.Common.{◌≡◌, ◌∙◌, ◌+◌, ◌*◌, ◌/◌, ◌%◌, ◌<◌, ◌≤◌, ◌+ℤ◌, ◌-ℤ◌, ◌≤ℤ◌, ◌<ℤ◌, ap, sym, refl, subst, ℕ, ℤ, pos, zero, suc, List, [], ◌∷◌}
 use Rattle.std.proofs.Common.{All, Bool, arith, get_or, inl, inr, ◌⊎◌, ◌&&◌, ◌||◌, true, zero-add, eq-or-lt_of_le, int_le, int_lt, length, mul_comm, take, unsigned_abs, ◌++◌, FitsSigned, to_z, of_z, w32, w64}
-use Rattle.std.proofs.lemmas.Int.{clamps, ints, to_z-of_z}
+use Rattle.std.proofs.lemmas.Int.{ints, to_z-of_z}
 use Rattle.std.proofs.lemmas.List.Elements.{All-map, recursion_from_All}
 use Rattle.std.proofs.lemmas.Bool.{and_parts, cases_lt, or_cases, or_left, or_right}
 use Rattle.std.proofs.lemmas.List.{get_or_append_left, get_or_push, length-append, take_more}
@@ -15,7 +15,7 @@ use Rattle.plane_core.specs.Rules.{Numbers}
 use Rattle.plane_core.proofs.SetLemmas.{has-all}
 use Rattle.code_core.proofs.MovedCodes.{after-shifted}
 use Rattle.survey_core.specs.declared.sweep.Sweep.{Sweep}
-use Rattle.survey_core.specs.Sweeps.{AreSweeps, IsSweep, Serves, ShipsMoveByTurns, StayApart, StayClear, both_boxes, carried, is_clear, is_parting, is_past, times}
+use Rattle.survey_core.specs.Sweeps.{AreSweeps, IsSweep, Serves, ShipsMoveByTurns, StayApart, StayClear, carried, is_clear, is_parting, is_past, times}
 use Rattle.survey_core.proofs.FindingLemmas.{after-then}
 use Rattle.survey_core.proofs.ForGoodLemmas.{after_remainder, shifted-none}
 
@@ -252,32 +252,16 @@ clear_from_here one other n turns x y s t is_s is_t is_x is_y before part m low 
 
 -- ---- the box of all phases
 
-pub swept_more : (rule : Numbers) (cells : List Cell) (age : ℕ) (phase : List Cell) (bounds box both : Bounds) → both ≡ both_boxes bounds box
+pub swept_more : (rule : Numbers) (cells : List Cell) (age : ℕ) (phase : List Cell) (bounds box both : Bounds)
+    → ((c : Cell) → IsWithin bounds c → IsWithin both c) → ((c : Cell) → IsWithin box c → IsWithin both c)
     → phase ≡ after rule cells (age + 1) → All (IsWithin box) phase → ((g : ℕ) → g ≤ age → All (IsWithin bounds) (after rule cells g))
     → (g : ℕ) → g ≤ age + 1 → All (IsWithin both) (after rule cells g)
-swept_more rule cells age phase bounds box both is at now before g low = elim (eq-or-lt_of_le low) [
+swept_more rule cells age phase bounds box both first second at now before g low = elim (eq-or-lt_of_le low) [
   | inl same ↦
       subst (λ (h : ℕ). All (IsWithin both) (after rule cells h)) (sym same)
-      (subst (All (IsWithin both)) at (λ k d there. subst (λ (b : Bounds). IsWithin b (get_or phase k d)) (sym is) (second (get_or phase k d) (now k d there))))
-  | inr less ↦ λ k d there. subst (λ (b : Bounds). IsWithin b (get_or (after rule cells g) k d)) (sym is)
-      (first (get_or (after rule cells g) k d) (before g (omega arith) k d there))
+      (subst (All (IsWithin both)) at (λ k d there. second (get_or phase k d) (now k d there)))
+  | inr less ↦ λ k d there. first (get_or (after rule cells g) k d) (before g (omega arith) k d there)
 ]
-  where
-    first : (c : Cell) → IsWithin bounds c → IsWithin (both_boxes bounds box) c
-    first c w = record {
-      left = omega (arith, ints, clamps, w.left);
-      top = omega (arith, ints, clamps, w.top);
-      right = omega (arith, ints, clamps, w.right);
-      bottom = omega (arith, ints, clamps, w.bottom);
-    }
-
-    second : (c : Cell) → IsWithin box c → IsWithin (both_boxes bounds box) c
-    second c w = record {
-      left = omega (arith, ints, clamps, w.left);
-      top = omega (arith, ints, clamps, w.top);
-      right = omega (arith, ints, clamps, w.right);
-      bottom = omega (arith, ints, clamps, w.bottom);
-    }
 
 -- ---- the sweeps of some patterns, one after another
 

@@ -1,9 +1,9 @@
 -- The sweep of a pattern that comes back: a box in which all its phases lie, and which moves along with it.
 use Rattle.std.specs.Prelude.{◌≡◌, ◌+◌, ◌*◌, ◌+ℤ◌, ◌<◌, ◌≤◌, ◌⊎◌, ◌||◌, ◌&&◌, Bool, true, int_le, int_lt, ℕ, ℤ, zero, suc, pos, List, All, get_or, length}
-use Rattle.std.specs.Int.{int_max, int_min}
 use lib.IntN.{◌-ℤ◌}
 use Rattle.plane_core.specs.declared.cell.Cell.{Cell}
 use Rattle.plane_core.specs.declared.bounds.Bounds.{Bounds}
+use Rattle.survey_core.specs.declared.sweep.Gaps.{Gaps}
 use Rattle.plane_core.specs.Bounds.{IsWithin, shifted}
 use Rattle.plane_core.specs.Cells.{InOrder}
 use Rattle.plane_core.specs.Clusters.{LieApart}
@@ -45,24 +45,30 @@ carried n sweep = record {
 abbrev pub is_past : ℤ → ℤ → ℤ → ℤ → Bool
 is_past end t begin s = int_lt ((end +ℤ t) +ℤ pos 2) (begin +ℤ s)
 
--- the box and the other, moved by (x, y), have at least two empty columns or rows between them
-abbrev pub is_clear : Bounds → Bounds → ℤ → ℤ → Bool
-is_clear one other x y = is_past one.right (pos 0) other.left x || is_past other.right x one.left (pos 0)
-    || is_past one.bottom (pos 0) other.top y || is_past other.bottom y one.top (pos 0)
-
--- and that on a side over which no step by (dx, dy) leads back
-abbrev pub is_parting : Bounds → Bounds → ℤ → ℤ → ℤ → ℤ → Bool
-is_parting one other x y dx dy = is_past one.right (pos 0) other.left x && int_le (pos 0) dx || is_past other.right x one.left (pos 0) && int_le dx (pos 0)
-    || is_past one.bottom (pos 0) other.top y && int_le (pos 0) dy || is_past other.bottom y one.top (pos 0) && int_le dy (pos 0)
-
--- the least box that has both in it
-abbrev pub both_boxes : Bounds → Bounds → Bounds
-both_boxes a b = record {
-  left = int_min a.left b.left;
-  top = int_min a.top b.top;
-  right = int_max a.right b.right;
-  bottom = int_max a.bottom b.bottom;
+-- the sides of the box on which the other, moved by (x, y), lies with at least two empty columns or rows between them
+abbrev pub gaps_of : Bounds → Bounds → ℤ → ℤ → Gaps
+gaps_of one other x y = record {
+  right = is_past one.right (pos 0) other.left x;
+  left = is_past other.right x one.left (pos 0);
+  below = is_past one.bottom (pos 0) other.top y;
+  above = is_past other.bottom y one.top (pos 0);
 }
+
+-- there is a gap
+abbrev pub is_gap : Gaps → Bool
+is_gap gaps = gaps.right || gaps.left || gaps.below || gaps.above
+
+-- and one over which no step by (dx, dy) leads back
+abbrev pub gap_stays : Gaps → ℤ → ℤ → Bool
+gap_stays gaps dx dy = gaps.right && int_le (pos 0) dx || gaps.left && int_le dx (pos 0) || gaps.below && int_le (pos 0) dy || gaps.above && int_le dy (pos 0)
+
+-- the box and the other, moved by (x, y), are clear of each other
+abbrev pub is_clear : Bounds → Bounds → ℤ → ℤ → Bool
+is_clear one other x y = is_gap (gaps_of one other x y)
+
+-- and stay clear, if the other goes on by (dx, dy) in each turn
+abbrev pub is_parting : Bounds → Bounds → ℤ → ℤ → ℤ → ℤ → Bool
+is_parting one other x y dx dy = gap_stays (gaps_of one other x y) dx dy
 
 -- so many turns the boxes are clear of each other
 abbrev pub StayClear : ℕ → Sweep → Sweep → Type 0

@@ -14,7 +14,8 @@
 //! that side, they never meet again, and no later turn is looked at. What doesn't move has turns of any length; two
 //! that move with different periods are taken to come near each other, and are run.
 
-ghost use Rattle.std.specs.Prelude.{◌≡◌, ◌≢◌, ◌↔◌, ◌+◌, ◌*◌, ◌/◌, ◌-ℤ◌, ◌+ℤ◌, ◌<◌, ◌≤◌, ◌<ℤ◌, ◌≤ℤ◌, ◌⊎◌, ◌^◌, [], ℕ, pos};
+ghost use Rattle.std.specs.Prelude.{◌≡◌, ◌≢◌, ◌↔◌, ◌+◌, ◌*◌, ◌/◌, ◌-ℤ◌, ◌+ℤ◌, ◌<◌, ◌≤◌, ◌<ℤ◌, ◌≤ℤ◌, ◌⊎◌, ◌^◌};
+ghost use Rattle.std.specs.Prelude.{[], ℕ, pos};
 ghost use Rattle.std.specs.Prelude.{All, IfNone, IfOk, IfSome, IsTrue, true, unsigned_abs};
 ghost use Rattle.std.specs.Int.{int_max, int_min};
 ghost use Rattle.plane_core.specs.Bounds.{IsWithin};
@@ -22,7 +23,7 @@ ghost use Rattle.plane_core.specs.Cells.{InOrder};
 ghost use Rattle.plane_core.specs.Generations.{after, lies_within};
 ghost use Rattle.survey_core.specs.Rest.{ComesBack};
 ghost use Rattle.survey_core.specs.Sweeps.{IsSweep, Serves, ShipsMoveByTurns, StayApart, StayClear};
-ghost use Rattle.survey_core.specs.Sweeps.{is_clear, is_parting, is_past};
+ghost use Rattle.survey_core.specs.Sweeps.{gap_stays, gaps_of, is_gap, is_past};
 ghost use Rattle.survey_core.specs.UnderWay.{survey_reach};
 
 use crate::later::next;
@@ -80,7 +81,7 @@ fn swept(alloc: Global, rule: &Rule, period: u32, pattern: &Pattern) -> Result<B
     let mut bounds = box_round(pattern);
     for age in 0..period - 1 {
         phase = next(alloc, rule, &phase)?;
-        bounds = joined(bounds, box_round(&phase));
+        bounds = bounds.joined(box_round(&phase));
     }
     Ok(bounds)
 }
@@ -98,35 +99,6 @@ fn box_round(pattern: &Pattern) -> Bounds
             bottom: 0,
         },
     }
-}
-
-/// The least box that has both in it.
-fn joined(one: Bounds, other: Bounds) -> Bounds
-    ensures left { result.left ≡ int_min one.left other.left }
-    ensures top { result.top ≡ int_min one.top other.top }
-    ensures right { result.right ≡ int_max one.right other.right }
-    ensures bottom { result.bottom ≡ int_max one.bottom other.bottom }
-{
-    Bounds {
-        left: lesser(one.left, other.left),
-        top: lesser(one.top, other.top),
-        right: greater(one.right, other.right),
-        bottom: greater(one.bottom, other.bottom),
-    }
-}
-
-/// The lesser of the two.
-fn lesser(one: i32, other: i32) -> i32
-    ensures { result ≡ int_min one other }
-{
-    one.min(other)
-}
-
-/// The greater of the two.
-fn greater(one: i32, other: i32) -> i32
-    ensures { result ≡ int_max one other }
-{
-    one.max(other)
 }
 
 /// Whether patterns with these sweeps are seen to stay apart up to the horizon.
@@ -197,12 +169,11 @@ fn are_clear_for(one: &Sweep, other: &Sweep, turns: u32) -> bool
     let step = step(one, other);
     let mut offset = Offset { x: 0, y: 0 };
     for _ in 0..turns {
-        let parting = are_parting(one.bounds, other.bounds, offset, step);
-        if parting {
+        let gaps = Gaps::between(one.bounds, other.bounds, offset);
+        if gaps.stay(step) {
             return true;
         }
-        let clear = are_clear(one.bounds, other.bounds, offset);
-        if !clear {
+        if !gaps.is_some() {
             return false;
         }
         offset = offset.moved(step);
@@ -253,28 +224,46 @@ pub(crate) fn difference(one: i32, other: i32) -> i64
     i64::from(other) - i64::from(one)
 }
 
-/// Whether the box and the other, moved, are clear of each other on a side over which no step leads back.
-fn are_parting(one: Bounds, other: Bounds, offset: Offset, step: Offset) -> bool
-    requires across { unsigned_abs offset.x ≤ 2 ^ 46 }
-    requires down { unsigned_abs offset.y ≤ 2 ^ 46 }
-    ensures { result ≡ is_parting one other offset.x offset.y step.x step.y }
-{
-    (is_past(one.right, 0, other.left, offset.x) & (step.x >= 0))
-        | (is_past(other.right, offset.x, one.left, 0) & (step.x <= 0))
-        | (is_past(one.bottom, 0, other.top, offset.y) & (step.y >= 0))
-        | (is_past(other.bottom, offset.y, one.top, 0) & (step.y <= 0))
+/// On which sides of a box another one lies, moved, with at least two empty columns or rows between them.
+#[derive(Clone, Copy)]
+struct Gaps {
+    right: bool,
+    left: bool,
+    below: bool,
+    above: bool,
 }
 
-/// Whether the box and the other, moved, have at least two empty columns or rows between them.
-fn are_clear(one: Bounds, other: Bounds, offset: Offset) -> bool
-    requires across { unsigned_abs offset.x ≤ 2 ^ 46 }
-    requires down { unsigned_abs offset.y ≤ 2 ^ 46 }
-    ensures { result ≡ is_clear one other offset.x offset.y }
-{
-    is_past(one.right, 0, other.left, offset.x)
-        | is_past(other.right, offset.x, one.left, 0)
-        | is_past(one.bottom, 0, other.top, offset.y)
-        | is_past(other.bottom, offset.y, one.top, 0)
+impl Gaps {
+    /// The gaps between the one box and the other, moved.
+    fn between(one: Bounds, other: Bounds, offset: Offset) -> Gaps
+        requires across { unsigned_abs offset.x ≤ 2 ^ 46 }
+        requires down { unsigned_abs offset.y ≤ 2 ^ 46 }
+        ensures { result ≡ gaps_of one other offset.x offset.y }
+    {
+        Gaps {
+            right: is_past(one.right, 0, other.left, offset.x),
+            left: is_past(other.right, offset.x, one.left, 0),
+            below: is_past(one.bottom, 0, other.top, offset.y),
+            above: is_past(other.bottom, offset.y, one.top, 0),
+        }
+    }
+
+    /// Whether the boxes are clear of each other.
+    fn is_some(self) -> bool
+        ensures { result ≡ is_gap self }
+    {
+        self.right | self.left | self.below | self.above
+    }
+
+    /// Whether there is a gap over which no step leads back.
+    fn stay(self, step: Offset) -> bool
+        ensures { result ≡ gap_stays self step.x step.y }
+    {
+        (self.right & (step.x >= 0))
+            | (self.left & (step.x <= 0))
+            | (self.below & (step.y >= 0))
+            | (self.above & (step.y <= 0))
+    }
 }
 
 /// Whether what begins here, moved by `s`, begins more than two past the end, moved by `t`.

@@ -38,8 +38,8 @@ use std::alloc::Global;
 /// How many boxes are looked at, at most.
 const BOXES: u32 = 32;
 
-/// How many columns and rows the box of what changes in a ship has at most: a heavyweight spaceship's has nine. A ship that
-/// has just left a larger group shares its box, and gets one of its own soon.
+/// How many columns and rows the box of what changes in a ship has at most: a heavyweight spaceship's has nine. A ship
+/// that has just left a larger group shares its box, and gets one of its own soon.
 const SHIP: u32 = 10;
 
 /// How many clusters are grown for each, at most.
@@ -103,8 +103,8 @@ fn is_small_box(bounds: Bounds) -> bool {
     bounds.left.abs_diff(bounds.right) < SHIP && bounds.top.abs_diff(bounds.bottom) < SHIP
 }
 
-/// Whether the box lies ahead of all others in some diagonal direction. What is in another box can't be ahead of all the
-/// rest, unless what is ahead of it goes first.
+/// Whether the box lies ahead of all others in some diagonal direction. What is in another box can't be ahead of all
+/// the rest, unless what is ahead of it goes first.
 fn leads_somewhere(boxes: &[Bounds], bounds: Bounds) -> bool {
     leads(boxes, bounds, true, true)
         || leads(boxes, bounds, true, false)
@@ -112,8 +112,8 @@ fn leads_somewhere(boxes: &[Bounds], bounds: Bounds) -> bool {
         || leads(boxes, bounds, false, false)
 }
 
-/// Whether the box lies ahead of all others to the right or left, and down or up. Those that it meets don't count, since
-/// a ship has boxes from more than one window.
+/// Whether the box lies ahead of all others to the right or left, and down or up. Those that it meets don't count,
+/// since a ship has boxes from more than one window.
 fn leads(boxes: &[Bounds], bounds: Bounds, right: bool, down: bool) -> bool {
     let least = least_depth(bounds, right, down);
     for other in boxes {

@@ -28,11 +28,6 @@ loop-age-preserved c =
     record {
       phase = phase;
       within = swept_more c.args.rule.now c.args.pattern.now c.loop-age.age c.in_ok-phase-2.phase c.loop-age.bounds c.box_round.result c.joined-bounds.result
-          (λ i. record {
-            left = c.joined-bounds.ensures.left i;
-            top = c.joined-bounds.ensures.top i;
-            right = c.joined-bounds.ensures.right i;
-            bottom = c.joined-bounds.ensures.bottom i;
-          })
+          c.joined-bounds.ensures.one c.joined-bounds.ensures.other
           phase c.box_round.ensures c.loop-age.invariant.within;
     }

@@ -1,6 +1,7 @@
 use Rattle.std.proofs.Common.{rules, w32, FitsSigned}
 use Rattle.std.proofs.lemmas.Int.{to_z-of_z}
-use Rattle.plane_core.proofs.CoverLemmas.{IsJoined, joined_one, joined_other, joined_sides}
+use Rattle.plane_core.specs.Bounds.{IsJoined}
+use Rattle.plane_core.proofs.CoverLemmas.{joined_one, joined_other, joined_sides}
 use Rattle.plane_core.proofs.bounds.Bounds.joined.Goals as goal
 
 is_joined : (c : goal.After-max-2) → IsJoined c.args.self c.args.other (record {
@@ -24,6 +25,14 @@ is_joined c =
       right = simp to_z-of_z at c.max.ensures.value;
       bottom = simp to_z-of_z at c.max-2.ensures.value;
     }
+
+pub returns-clause-least : goal.returns-clause-least
+returns-clause-least c =
+    let left : FitsSigned w32 c.min.result = search rules in
+    let top : FitsSigned w32 c.min-2.result = search rules in
+    let right : FitsSigned w32 c.max.result = search rules in
+    let bottom : FitsSigned w32 c.max-2.result = search rules in
+    simp to_z-of_z (is_joined c)
 
 pub returns-clause-one : goal.returns-clause-one
 returns-clause-one c =

@@ -1,8 +1,8 @@
-use Rattle.std.proofs.Common.{◌≡◌, ◌||◌, FitsSigned, pos, rules, w64}
+use Rattle.std.proofs.Common.{◌≡◌, FitsSigned, pos, rules, w64}
 use Rattle.std.proofs.lemmas.Int.{to_z-of_z}
 use Rattle.survey_core.specs.Sweeps.{is_past}
 use Rattle.survey_core.proofs.SweepLemmas.{past_by, past_from}
-use Rattle.survey_core.proofs.sweep.are_clear.Goals as goal
+use Rattle.survey_core.proofs.sweep.Gaps.between.Goals as goal
 
 pub is_past-requires-clause-begin : goal.is_past-requires-clause-begin
 is_past-requires-clause-begin c =
@@ -33,8 +33,8 @@ returns c =
     past_by _ one.right other.left by.x (search rules) (search rules) (search rules) c.is_past.ensures in
     let left : c.is_past-2.result ≡ is_past other.right by.x one.left (pos 0) =
     past_from _ other.right by.x one.left (search rules) (search rules) (search rules) c.is_past-2.ensures in
-    let bottom : c.is_past-3.result ≡ is_past one.bottom (pos 0) other.top by.y =
+    let below : c.is_past-3.result ≡ is_past one.bottom (pos 0) other.top by.y =
     past_by _ one.bottom other.top by.y (search rules) (search rules) (search rules) c.is_past-3.ensures in
-    let top : c.is_past-4.result ≡ is_past other.bottom by.y one.top (pos 0) =
+    let above : c.is_past-4.result ≡ is_past other.bottom by.y one.top (pos 0) =
     past_from _ other.bottom by.y one.top (search rules) (search rules) (search rules) c.is_past-4.ensures in
-    λ i. right i || left i || bottom i || top i
+    λ i. record { right = right i; left = left i; below = below i; above = above i }
