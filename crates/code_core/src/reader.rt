@@ -127,7 +127,7 @@ fn read(alloc: Global, text: &[u8]) -> Result<Pattern, WechslerError>
 }
 
 /// What is wrong with a text that isn't too long, if anything is.
-#[tactic(auto, using(crate::proofs::TokenReading::shorter, crate::proofs::ReaderLoops::Passed_none, crate::proofs::ReaderLoops::Passed_more,))]
+#[tactic(auto, using(crate::proofs::TokenReading::shorter, crate::proofs::ReaderLoops::Passed_none, crate::proofs::ReaderLoops::Passed_more))]
 fn fault_in(text: &[u8]) -> Option<WechslerFault>
     ensures { result ≡ result_err (wechsler_pattern text.now) }
 {

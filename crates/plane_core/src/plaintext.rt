@@ -168,7 +168,7 @@ fn fault_at(line: usize, y: usize, x: usize, byte: u8) -> Option<PlaintextFault>
 }
 
 /// The first fault of a row.
-#[tactic(auto, using(crate::proofs::PlaintextRows::fault_here, crate::proofs::PlaintextRows::no_fault_here, crate::proofs::PlaintextRows::no_fault_past,))]
+#[tactic(auto, using(crate::proofs::PlaintextRows::fault_here, crate::proofs::PlaintextRows::no_fault_here, crate::proofs::PlaintextRows::no_fault_past))]
 fn fault_in_row(line: usize, y: usize, row: &[u8]) -> Option<PlaintextFault>
     ensures { result ≡ first_fault (places_of_row (y, (line, row.now))) }
 {
@@ -212,7 +212,7 @@ fn small_cell(x: usize, y: usize) -> Cell
 }
 
 /// Adds the cells of row y, each byte of which is in the first 1,000 columns and rows.
-#[tactic(auto, using(crate::proofs::PlaintextRows::live_here, crate::proofs::PlaintextRows::dead_here, crate::proofs::PlaintextRows::no_cell_past,))]
+#[tactic(auto, using(crate::proofs::PlaintextRows::live_here, crate::proofs::PlaintextRows::dead_here, crate::proofs::PlaintextRows::no_cell_past))]
 fn push_row(cells: &mut Vec<Cell>, y: usize, row: &[u8]) -> Result<(), OutOfMemory>
     requires { (x : ℕ) → x < length row.now → (x < side_limit) × (y < side_limit) }
     ensures { OnOk result
