@@ -9,7 +9,7 @@ use Rattle.plane_core.specs.declared.bounds.Bounds.{Bounds}
 use Rattle.plane_core.specs.declared.cell.Cell.{Cell}
 use Rattle.plane_core.specs.declared.cover.Spans.{Spans}
 use Rattle.plane_core.specs.declared.place.Place.{Place}
-use Rattle.plane_core.specs.Bounds.{IsJoined, IsWithin}
+use Rattle.plane_core.specs.Bounds.{IsRoundBoth, IsWithin}
 use Rattle.plane_core.specs.Boxes.{IsInOne}
 use Rattle.plane_core.specs.Cells.{distance}
 use Rattle.plane_core.specs.Covers.{AreSideBySide, BeginsAt, IsInRow}
@@ -19,7 +19,7 @@ use Rattle.plane_core.proofs.BoxLemmas.{any_swap_remove}
 
 -- ---- the union of two boxes
 
-pub joined_one : (one other b : Bounds) (c : Cell) → IsJoined one other b → IsWithin one c → IsWithin b c
+pub joined_one : (one other b : Bounds) (c : Cell) → IsRoundBoth one other b → IsWithin one c → IsWithin b c
 joined_one one other b c is h = record {
   left = low b.left one.left other.left c.x is.left h.left;
   top = low b.top one.top other.top c.y is.top h.top;
@@ -33,7 +33,7 @@ joined_one one other b c is h = record {
     high : (l a d x : ℤ) → l ≡ int_max a d → x ≤ℤ a → x ≤ℤ l
     high l a d x e h = omega (arith, ints, clamps)
 
-pub joined_other : (one other b : Bounds) (c : Cell) → IsJoined one other b → IsWithin other c → IsWithin b c
+pub joined_other : (one other b : Bounds) (c : Cell) → IsRoundBoth one other b → IsWithin other c → IsWithin b c
 joined_other one other b c is h = record {
   left = low b.left one.left other.left c.x is.left h.left;
   top = low b.top one.top other.top c.y is.top h.top;
@@ -47,7 +47,7 @@ joined_other one other b c is h = record {
     high : (l a d x : ℤ) → l ≡ int_max a d → x ≤ℤ d → x ≤ℤ l
     high l a d x e h = omega (arith, ints, clamps)
 
-pub joined_sides : (n : ℕ) (one other b : Bounds) → IsJoined one other b → AreSidesWithin n one → AreSidesWithin n other → AreSidesWithin n b
+pub joined_sides : (n : ℕ) (one other b : Bounds) → IsRoundBoth one other b → AreSidesWithin n one → AreSidesWithin n other → AreSidesWithin n b
 joined_sides n one other b is h k = record {
   left = least b.left one.left other.left is.left h.left k.left;
   top = least b.top one.top other.top is.top h.top k.top;

@@ -36,7 +36,7 @@ abbrev pub enlarged : ℕ → Bounds → Bounds
 enlarged n b = record { left = b.left -ℤ pos n; top = b.top -ℤ pos n; right = b.right +ℤ pos n; bottom = b.bottom +ℤ pos n }
 
 -- the least box that has both in it: of each side, the one that lies further out
-pub record IsJoined (one other b : Bounds) : Type 0 where
+pub record IsRoundBoth (one other b : Bounds) : Type 0 where
   pub left : b.left ≡ int_min one.left other.left
   pub top : b.top ≡ int_min one.top other.top
   pub right : b.right ≡ int_max one.right other.right

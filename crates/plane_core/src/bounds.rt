@@ -8,7 +8,7 @@
 //! +-----+
 //! ```
 ghost use Rattle.std.specs.Prelude.{◌≡◌, ◌↔◌, [], ℕ, IsNone, IfSome};
-ghost use Rattle.plane_core.specs.Bounds.{IsJoined, AreSidesWithin, IsLeastBox, IsWithin, box_at, box_of, grown, widened};
+ghost use Rattle.plane_core.specs.Bounds.{IsRoundBoth, AreSidesWithin, IsLeastBox, IsWithin, box_at, box_of, grown, widened};
 ghost use Rattle.plane_core.specs.Cells.{IsPattern};
 ghost use Rattle.plane_core.specs.declared.cell.Cell.{Cell};
 
@@ -63,7 +63,7 @@ impl Bounds {
     /// The least box that has both in it.
     #[inline(always)]
     pub fn joined(self, other: Bounds) -> Bounds
-        ensures least { IsJoined self other result }
+        ensures least { IsRoundBoth self other result }
         ensures one { (c : Cell) → IsWithin self c → IsWithin result c }
         ensures other { (c : Cell) → IsWithin other c → IsWithin result c }
         ensures sides { (n : ℕ) → AreSidesWithin n self → AreSidesWithin n other → AreSidesWithin n result }

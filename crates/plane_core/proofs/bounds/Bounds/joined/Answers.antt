@@ -1,10 +1,10 @@
 use Rattle.std.proofs.Common.{rules, w32, FitsSigned}
 use Rattle.std.proofs.lemmas.Int.{to_z-of_z}
-use Rattle.plane_core.specs.Bounds.{IsJoined}
+use Rattle.plane_core.specs.Bounds.{IsRoundBoth}
 use Rattle.plane_core.proofs.CoverLemmas.{joined_one, joined_other, joined_sides}
 use Rattle.plane_core.proofs.bounds.Bounds.joined.Goals as goal
 
-is_joined : (c : goal.After-max-2) → IsJoined c.args.self c.args.other (record {
+is_joined : (c : goal.After-max-2) → IsRoundBoth c.args.self c.args.other (record {
   left = c.min.result;
   top = c.min-2.result;
   right = c.max.result;
