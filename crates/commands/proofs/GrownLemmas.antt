@@ -19,7 +19,8 @@ pub grown_none : (held : Held) → HasTakenMore held held
 grown_none held = record { terms = refl; closed = refl; more = []; taken = sym (append-nil held.taken) }
 
 -- and then a crew took something
-pub grown_more : {workers : ℕ} (first old new : Held) → HasTakenMore first old → HasTaken workers old new → HasTakenMore first new
+pub grown_more : {lets : ℕ → ℕ → Type 0} {workers : ℕ} (first old new : Held) → HasTakenMore first old → HasTaken lets workers old new
+    → HasTakenMore first new
 grown_more first old new grown h = record {
   terms = h.added.terms ∙ grown.terms;
   closed = h.added.closed ∙ grown.closed;

@@ -1,4 +1,5 @@
 mod CrewLemmas
+mod ListLemmas
 mod ShiftLemmas
 mod StepLemmas
 mod TakeLemmas

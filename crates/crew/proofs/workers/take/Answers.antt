@@ -6,11 +6,11 @@ use Rattle.crew.proofs.workers.take.Goals as goal
 pub returns-clause-stopped : goal.returns-clause-stopped
 returns-clause-stopped g c worker is =
     subst (λ o. IfSome o (StopsAt (g.G.Gate.may_stop c.args.gate.now) (was_missing c.args.haul))) (c.cause.ensures.named worker is)
-    c.take_missing-haul.ensures.stopped
+    c.complete_haul-haul.ensures.stopped
 
 pub returns-clause-within : goal.returns-clause-within
 returns-clause-within g c worker is =
-    subst (λ o. IfSome o (λ w. (1 ≤ w) × (w ≤ c.args.workers))) (c.cause.ensures.named worker is) c.take_missing-haul.ensures.within
+    subst (λ o. IfSome o (λ w. (1 ≤ w) × (w ≤ c.args.workers))) (c.cause.ensures.named worker is) c.complete_haul-haul.ensures.within
 
 pub returns-clause-open : goal.returns-clause-open
 returns-clause-open g c = λ closed. absurd (c.cause.ensures.«open» closed)
