@@ -1,3 +1,4 @@
+mod CompleteLemmas
 mod CrewLemmas
 mod ListLemmas
 mod ShiftLemmas

@@ -1,5 +1,5 @@
 -- A worker's notes, one after another, and what its shift leaves.
-use Rattle.std.proofs.Common.{◌≡◌, ◌<◌, ◌++◌, ◌∙◌, ℕ, All, Bool, true, false, true≢false, List, [], ◌∷◌, ap, append-nil, arith, cond, inl, inr}
+use Rattle.std.proofs.Common.{◌≡◌, ◌<◌, ◌++◌, ◌∙◌, ℕ, All, Bool, true, false, List, [], ◌∷◌, ap, append-nil, arith, cond, inl, inr}
 use Rattle.std.proofs.Common.{length, map, refl, subst, subst₂, sym}
 use Rattle.std.specs.Prelude.{IfSome, Option, None, Some, option_map, slice_index}
 use Rattle.std.specs.List.{find}

@@ -113,8 +113,9 @@ pub fn take<G: Gate + Sync, R: Threads + Wait + Sync, H: Watch>(
     Err((haul, cause(stopped, lacking)))
 }
 
-/// Why a haul is not complete: a worker was stopped, or else there was no memory.
+/// Why a haul is not complete: a worker was stopped, or else there was no memory. There is no third case.
 fn cause(stopped: Option<u8>, lacking: Option<OutOfMemory>) -> CrewError
+    requires some { stopped ≡ None → lacking ≢ None }
     ensures stopped { IfSome stopped (λ worker. result ≡ CrewError.Stopped worker) }
     ensures memory { stopped ≡ None → IfSome lacking (λ error. result ≡ CrewError.Memory error) }
     ensures named { (worker : ℕ) → result ≡ CrewError.Stopped worker → stopped ≡ Some worker }
@@ -124,7 +125,7 @@ fn cause(stopped: Option<u8>, lacking: Option<OutOfMemory>) -> CrewError
         Some(worker) => CrewError::Stopped { worker },
         None => match lacking {
             Some(error) => CrewError::Memory(error),
-            None => CrewError::Unfinished,
+            None => unreachable!(),
         },
     }
 }
@@ -146,6 +147,7 @@ fn complete_haul<G: Gate + Sync, R: Threads + Wait + Sync, H: Watch>(
     ensures taken { HasTaken (G.lets gate.now) workers haul result.0 }
     ensures stopped { IfSome result.1 (StopsAt (G.may_stop gate.now) (was_missing haul)) }
     ensures within { IfSome result.1 (λ worker. (1 ≤ worker) × (worker ≤ workers)) }
+    ensures complete { result.1 ≡ None → result.2 ≡ None → IsComplete result.0.terms.ranges result.0.taken }
 {
     if haul.is_complete() {
         return (haul, None, None);

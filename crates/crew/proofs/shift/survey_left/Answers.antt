@@ -3,7 +3,7 @@ use Rattle.std.proofs.lemmas.List.{get_or_read}
 use Rattle.handover.specs.Belts.{Presented}
 use Rattle.handover.specs.Tickets.{Drawn}
 use Rattle.crew.specs.declared.note.Note.{Note}
-use Rattle.crew.proofs.ShiftLemmas.{not_done_more, own_report, reported_next, worked_drained, worked_lacking, worked_stopped}
+use Rattle.crew.proofs.ShiftLemmas.{not_done_more, own_report, reported_next}
 use Rattle.crew.proofs.shift.survey_left.Goals as goal
 
 pub loop-preserved : goal.loop-preserved

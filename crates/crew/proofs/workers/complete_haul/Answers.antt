@@ -1,4 +1,7 @@
-use Rattle.std.proofs.Common.{◌∙◌, ap, refl}
+use Rattle.std.proofs.Common.{◌∙◌, ap, length, refl, subst, sym}
+use Rattle.haul_core.specs.Books.{Held}
+use Rattle.haul_core.specs.Missing.{IsComplete}
+use Rattle.crew.proofs.CompleteLemmas.{nothing_missing}
 use Rattle.handover.specs.Belts.{Received}
 use Rattle.crew.specs.declared.note.Note.{Note}
 use Rattle.crew.proofs.StepLemmas.{ready_first}
@@ -27,6 +30,15 @@ returns-clause-taken g c =
     let ended = c.end_crew.ensures in
     crew_has_taken c.in-Ok.start.site c.args.workers _ c.run_in_scope-crew.result c.run_in_scope-crew.ensures start.receiver
     start.workers start.missing start.ascending start.senders ended.whole c.end_crew.result.0 ended.haul ended.distinct start.job
+
+pub returns-clause-complete : goal.returns-clause-complete
+returns-clause-complete g c not_stopped not_lacking =
+    let start = c.in-Ok.ensures in
+    let ended = c.end_crew.ensures in
+    let nothing = nothing_missing c.in-Ok.start.site c.args.workers _ c.run_in_scope-crew.result c.run_in_scope-crew.ensures start.receiver
+    start.workers start.missing start.ascending start.senders ended.whole c.requires.some c.requires.few c.requires.«open» start.job
+    refl start.tickets ended.drawn (sym ended.stopped ∙ not_stopped) (sym ended.lacking ∙ not_lacking) in
+    subst (λ (h : Held). IsComplete h.terms.ranges h.taken) (sym ended.haul) (ended.none.0 (ap length nothing))
 
 pub returns-clause-stopped : goal.returns-clause-stopped
 returns-clause-stopped g c =

@@ -1,7 +1,13 @@
-use Rattle.std.proofs.Common.{◌≤◌, IfSome, subst}
+use Rattle.std.proofs.Common.{◌∙◌, sym, true≢false, ◌≤◌, IfSome, subst}
 use Rattle.crew.specs.Shifts.{StopsAt}
 use Rattle.crew.specs.Takes.{was_missing}
 use Rattle.crew.proofs.workers.take.Goals as goal
+
+pub cause-requires : goal.cause-requires
+cause-requires g c = record {
+  some = λ not_stopped not_lacking.
+      true≢false (sym (c.is_complete.ensures.complete.1 (c.complete_haul-haul.ensures.complete not_stopped not_lacking)) ∙ c.if-is_complete.false);
+}
 
 pub returns-clause-stopped : goal.returns-clause-stopped
 returns-clause-stopped g c worker is =
