@@ -1,17 +1,18 @@
 -- A crew is run a worker at a time.
-use Rattle.std.proofs.Common.{◌≡◌, ◌≤◌, ◌+◌, ◌-◌, ◌++◌, ◌∙◌, ◌<◌, ℕ, All, Bool, true, false, List, [], ◌∷◌, ap}
+use Rattle.std.proofs.Common.{◌≡◌, ◌≢◌, ◌≤◌, ◌+◌, ◌-◌, ◌++◌, ◌∙◌, ◌<◌, ℕ, All, Bool, true, false, List, [], ◌∷◌, ap}
 use Rattle.std.proofs.Common.{arith, cond, length}
 use Rattle.std.proofs.Common.{map, refl, subst, subst₂, sym}
-use Rattle.std.specs.Prelude.{None, Option, is_some, not, vec_capacity}
+use Rattle.std.specs.Prelude.{None, Option, Some, is_some, not, vec_capacity}
 use Rattle.std.specs.List.{range_with_len}
 use Rattle.std.proofs.lemmas.List.{length-append, length-map, map-append}
 use Rattle.std.proofs.lemmas.List.Elements.{All-head, All-nil, All-push}
 use mir.Val.{bool_byte}
+use Rattle.memory.specs.declared.OutOfMemory.{OutOfMemory}
 use Rattle.haul_core.specs.Books.{Held}
 use Rattle.haul_core.specs.Reports.{IsWorker}
 use Rattle.handover.specs.Belts.{Presented, Received, silent}
 use Rattle.handover.specs.Tickets.{Drawn, fresh}
-use Rattle.crew.specs.CrewSteps.{HasRunAll, HaveRoom, IsPutBack, IsTakenOut, MayRun, collector_of, stopped_with}
+use Rattle.crew.specs.CrewSteps.{HasRunAll, HaveRoom, HasAddedPost, IsTakenOut, MayRun, cause_of, collector_of, stopped_with}
 use Rattle.crew.specs.Crews.{Collected, Collector, collector_with}
 use Rattle.crew.specs.Shifts.{Leaves, how_many_started, lacks_memory, sender_numbers, was_started}
 use Rattle.crew.specs.declared.note.Note.{Note}
@@ -19,6 +20,7 @@ use Rattle.crew.specs.declared.posts.Posts.{Posts}
 use Rattle.crew.specs.declared.shift.Shift.{Shift}
 use Rattle.crew.specs.declared.site.Site.{Site}
 use Rattle.crew.specs.declared.workers.Crew.{Crew}
+use Rattle.crew.specs.declared.workers.CrewError.TheVariants as crew_error
 use Rattle.crew.proofs.ListLemmas.{all_left, all_right, count_append, count_cons}
 use Rattle.crew.proofs.ShiftLemmas.{stopped_more}
 use Rattle.crew.proofs.TakeLemmas.{all_silent, all_workers, silent_length}
@@ -58,6 +60,23 @@ ready_first site crew workers passes many senders few away receiver room stopped
 -- if there was no want of memory, all that was received was answered
 pub heard_if : {E : Type 0} (lacking : Option E) → lacking ≡ None → not (is_some lacking) ≡ true
 heard_if lacking none = ap (λ o. not (is_some o)) none
+
+-- what is told of a crew, and why
+pub cause_stopped : (stopped : Option ℕ) (lacking : Option OutOfMemory) (worker : ℕ)
+    → cause_of stopped lacking ≡ Some (crew_error.Stopped worker) → stopped ≡ Some worker
+cause_stopped (Some first) lacking worker is = cc
+cause_stopped None (Some error) worker is = absurd (cc)
+cause_stopped None None worker is = absurd (cc)
+
+pub cause_none : (stopped : Option ℕ) (lacking : Option OutOfMemory) → cause_of stopped lacking ≡ None → (stopped ≡ None) × (lacking ≡ None)
+cause_none (Some first) lacking is = absurd (cc)
+cause_none None (Some error) is = absurd (cc)
+cause_none None None is = (refl, refl)
+
+pub cause_open : (stopped : Option ℕ) (lacking : Option OutOfMemory) → cause_of stopped lacking ≢ Some crew_error.Closed
+cause_open (Some first) lacking is = absurd (cc)
+cause_open None (Some error) is = absurd (cc)
+cause_open None None is = absurd (cc)
 
 -- a test counts at most one
 pub one_at_most : (b : Bool) (n : ℕ) → n ≡ bool_byte b → n ≤ 1
@@ -200,7 +219,7 @@ module _ {may_stop lets : ℕ → ℕ → Type 0} {site : Site} where
   pub run_more : (next : Posts) (crew mid new : Crew) (post : Drawn × Presented Note) (shift : Shift) (b : Bool) (started : ℕ)
       → IsTakenOut post crew.posts next → HasRunAll may_stop lets site (left_with crew next started) mid
       → Leaves may_stop lets site post.1.number shift → was_started shift.end ≡ b → started ≡ bool_byte b
-      → IsPutBack shift.pass shift.sender mid.back new.back
+      → HasAddedPost shift.pass shift.sender mid.back new.back
       → new.stopped ≡ stopped_with mid.stopped shift.sender.number shift.end
       → (new.lacking ≡ None → mid.lacking ≡ None) → (new.lacking ≡ None → lacks_memory shift.end ≡ false)
       → new.haul ≡ mid.haul → new.receiver ≡ mid.receiver → new.away ≡ mid.away - started → HasRunAll may_stop lets site crew new

@@ -1,7 +1,7 @@
 -- From what each worker presented to what the haul has taken.
 use Rattle.std.proofs.Common.{◌≡◌, ◌≢◌, ◌≤◌, ◌+◌, ◌++◌, ◌∙◌, ℕ, zero, suc, Bool, cond, nat_eq, All, List, [], ◌∷◌, ap, arith, drop, filter, get_or, inl, inr}
 use Rattle.std.proofs.Common.{length, map, refl, subst, sym, ⊎_elim}
-use Rattle.std.specs.Prelude.{Contains, IfSome, Option, slice_index}
+use Rattle.std.specs.Prelude.{Contains, IfSome, Option, Some, slice_index}
 use Rattle.std.specs.List.Sorted.{IsStrictlyIncreasing}
 use Rattle.std.specs.List.{IsDistinct, range_with_len}
 use Rattle.std.proofs.lemmas.Bool.{eq-eqb, ne_eqb}
@@ -314,18 +314,18 @@ module _ {may_stop lets : ℕ → ℕ → Type 0} (site : Site) (workers : ℕ) 
       })
 
   -- the worker that was stopped is one of the crew
-  pub crew_within : (now : Option ℕ) → now ≡ new.stopped → IfSome now (λ w. (1 ≤ w) × (w ≤ workers))
-  crew_within now same =
+  pub crew_within : (worker : ℕ) → new.stopped ≡ Some worker → (1 ≤ worker) × (worker ≤ workers)
+  crew_within worker is =
       let P : ℕ → Type 0 = λ w. (1 ≤ w) × (w ≤ workers) in
       let all : All (λ (s : Shift). P s.sender.number) ran.shifts =
       all_unmap P (λ (s : Shift). s.sender.number) ran.shifts
       (subst (All P) (sym all_numbers) (range_within 1 workers workers (omega arith))) in
-      subst (λ (o : Option ℕ). IfSome o P) (sym (same ∙ ran.stopped)) (of_first_stopped P ran.shifts (λ k d lt stopped. all k d lt))
+      subst (λ (o : Option ℕ). IfSome o P) (sym ran.stopped ∙ is) (of_first_stopped P ran.shifts (λ k d lt stopped. all k d lt))
 
   -- and its gate may stop it at what was missing
-  pub crew_stops : (now : Option ℕ) → now ≡ new.stopped → IfSome now (StopsAt may_stop (was_missing old.haul))
-  crew_stops now same =
+  pub crew_stops : (worker : ℕ) → new.stopped ≡ Some worker → StopsAt may_stop (was_missing old.haul) worker
+  crew_stops worker is =
       let P : ℕ → Type 0 = StopsAt may_stop (was_missing old.haul) in
-      subst (λ (o : Option ℕ). IfSome o P) (sym (same ∙ ran.stopped))
+      subst (λ (o : Option ℕ). IfSome o P) (sym ran.stopped ∙ is)
       (of_first_stopped P ran.shifts (λ k d lt stopped.
       subst (λ (l : List ℕ). StopsAt may_stop l (get_or ran.shifts k d).sender.number) listed ((ran.left k d lt).worked.stops stopped)))

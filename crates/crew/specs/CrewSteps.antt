@@ -1,5 +1,6 @@
 -- How a crew is run: one worker more is started at a time, and at the end all are back.
 use Rattle.std.specs.Prelude.{◌≡◌, ◌≤◌, ◌+◌, ◌++◌, ◌∷◌, [], ℕ, All, Bool, List, None, Option, Some, false, if◌then◌else◌, length, map, true, vec_capacity}
+use Rattle.memory.specs.declared.OutOfMemory.{OutOfMemory}
 use Rattle.haul_core.specs.Reports.{IsWorker}
 use Rattle.handover.specs.Belts.{Presented, silent}
 use Rattle.handover.specs.Tickets.{Drawn, fresh}
@@ -11,6 +12,8 @@ use Rattle.crew.specs.declared.shift.End.{End}
 use Rattle.crew.specs.declared.shift.Shift.{Shift}
 use Rattle.crew.specs.declared.site.Site.{Site}
 use Rattle.crew.specs.declared.workers.Crew.{Crew}
+use Rattle.crew.specs.declared.workers.CrewError.{CrewError}
+use Rattle.crew.specs.declared.workers.CrewError.TheVariants.{Memory, Stopped}
 
 -- the collector of a crew that waits for so many workers
 abbrev pub collector_of : ℕ → Crew → Collector
@@ -29,7 +32,7 @@ pub record HaveRoom (workers : ℕ) (posts : Posts) : Type 0 where
   pub for_senders : workers ≤ vec_capacity posts.senders
 
 -- a pass and a sender were put behind the others, in room that there was
-pub record IsPutBack (pass : Drawn) (sender : Presented Note) (old new : Posts) : Type 0 where
+pub record HasAddedPost (pass : Drawn) (sender : Presented Note) (old new : Posts) : Type 0 where
   pub passes : new.passes.items ≡ old.passes.items ++ pass ∷ []
   pub senders : new.senders.items ≡ old.senders.items ++ sender ∷ []
   pub for_passes : vec_capacity new.passes ≡ vec_capacity old.passes
@@ -39,6 +42,12 @@ pub record IsPutBack (pass : Drawn) (sender : Presented Note) (old new : Posts) 
 abbrev pub stopped_with : Option ℕ → ℕ → End → Option ℕ
 stopped_with (Some first) worker ended = Some first
 stopped_with None worker ended = if was_stopped ended then Some worker else None
+
+-- what kept workers from some soups, if anything did: a gate stopped one, or else memory was refused
+abbrev pub cause_of : Option ℕ → Option OutOfMemory → Option CrewError
+cause_of (Some worker) lacking = Some (Stopped worker)
+cause_of None (Some error) = Some (Memory error)
+cause_of None None = None
 
 -- a worker can be started with each post: none was used yet, each is a worker's, nobody is back, there is room for all, and a byte counts them
 pub record MayRun (site : Site) (crew : Crew) : Type 0 where

@@ -5,7 +5,7 @@
 //! back            -       -       -       1, 1 2, 1 2 3
 //! ```
 ghost use Rattle.std.specs.Prelude.{◌≡◌, ◌<◌, [], IfNone, IfOk, IfSome, length, vec_capacity};
-ghost use Rattle.crew.specs.CrewSteps.{HaveRoom, IsPutBack, IsTakenOut};
+ghost use Rattle.crew.specs.CrewSteps.{HaveRoom, HasAddedPost, IsTakenOut};
 
 use crate::note::Note;
 use handover::belt::SenderPass;
@@ -34,7 +34,7 @@ impl Posts {
     pub(crate) fn add(&mut self, pass: Pass, sender: SenderPass<Note>)
         requires passes { length self.old.passes.items < vec_capacity self.old.passes }
         requires senders { length self.old.senders.items < vec_capacity self.old.senders }
-        ensures { IsPutBack pass sender self.old self.new }
+        ensures { HasAddedPost pass sender self.old self.new }
     {
         self.passes.push_reserved(pass);
         self.senders.push_reserved(sender);

@@ -16,7 +16,7 @@ ghost use Rattle.haul_core.specs.Keeping.{numbers_in};
 ghost use Rattle.haul_core.specs.Missing.{AreAll, IsComplete, missing_of};
 ghost use Rattle.haul_core.specs.Reports.{IsWorker};
 ghost use Rattle.handover.specs.Belts.{IsWhole, silent};
-ghost use Rattle.crew.specs.CrewSteps.{HasRunAll, IsPutBack, MayRun, collector_of, stopped_with};
+ghost use Rattle.crew.specs.CrewSteps.{HasAddedPost, HasRunAll, MayRun, cause_of, collector_of, stopped_with};
 ghost use Rattle.crew.specs.Crews.{Collected};
 ghost use Rattle.crew.specs.Shifts.{Leaves, Returns, StopsAt, lacks_memory, was_started};
 ghost use Rattle.crew.specs.Takes.{HasTaken, was_missing};
@@ -105,33 +105,16 @@ pub fn take<G: Gate + Sync, R: Threads + Wait + Sync, H: Watch>(
         return Err((haul, CrewError::Closed));
     }
     watch.begin(haul.count(), workers);
-    let (haul, stopped, lacking) = complete_haul(alloc, rt, haul, workers, gate, watch);
+    let (haul, cause) = complete_haul(alloc, rt, haul, workers, gate, watch);
     watch.end();
     if haul.is_complete() {
         return Ok(haul);
     }
-    Err((haul, cause(stopped, lacking)))
+    let Some(cause) = cause else { unreachable!() };
+    Err((haul, cause))
 }
 
-/// Why a haul is not complete: a worker was stopped, or else there was no memory. There is no third case.
-fn cause(stopped: Option<u8>, lacking: Option<OutOfMemory>) -> CrewError
-    requires some { stopped ≡ None → lacking ≢ None }
-    ensures stopped { IfSome stopped (λ worker. result ≡ CrewError.Stopped worker) }
-    ensures memory { stopped ≡ None → IfSome lacking (λ error. result ≡ CrewError.Memory error) }
-    ensures named { (worker : ℕ) → result ≡ CrewError.Stopped worker → stopped ≡ Some worker }
-    ensures open { result ≢ CrewError.Closed }
-{
-    match stopped {
-        Some(worker) => CrewError::Stopped { worker },
-        None => match lacking {
-            Some(error) => CrewError::Memory(error),
-            None => unreachable!(),
-        },
-    }
-}
-
-/// Lets workers survey what is missing in a haul. With it comes which of them was stopped, if one was: the one with the
-/// least number; and the want of memory, if there was one.
+/// Lets workers survey what is missing in a haul. With it comes what kept them from some soups, if anything did.
 #[tactic(auto, using(crate::proofs::TakeLemmas::taken_none))]
 fn complete_haul<G: Gate + Sync, R: Threads + Wait + Sync, H: Watch>(
     alloc: Global,
@@ -140,21 +123,24 @@ fn complete_haul<G: Gate + Sync, R: Threads + Wait + Sync, H: Watch>(
     workers: u8,
     gate: &G,
     watch: &mut H,
-) -> (Haul, Option<u8>, Option<OutOfMemory>)
+) -> (Haul, Option<CrewError>)
     requires some { 1 ≤ workers }
     requires few { workers ≤ haul.terms.workers }
     requires open { haul.closed ≡ false }
     ensures taken { HasTaken (G.lets gate.now) workers haul result.0 }
-    ensures stopped { IfSome result.1 (StopsAt (G.may_stop gate.now) (was_missing haul)) }
-    ensures within { IfSome result.1 (λ worker. (1 ≤ worker) × (worker ≤ workers)) }
-    ensures complete { result.1 ≡ None → result.2 ≡ None → IsComplete result.0.terms.ranges result.0.taken }
+    ensures complete { result.1 ≡ None → IsComplete result.0.terms.ranges result.0.taken }
+    ensures stopped { (worker : ℕ)
+        → result.1 ≡ Some (CrewError.Stopped worker) → StopsAt (G.may_stop gate.now) (was_missing haul) worker }
+    ensures within { (worker : ℕ)
+        → result.1 ≡ Some (CrewError.Stopped worker) → (1 ≤ worker) × (worker ≤ workers) }
+    ensures open { result.1 ≢ Some CrewError.Closed }
 {
     if haul.is_complete() {
-        return (haul, None, None);
+        return (haul, None);
     }
     let start = match Start::new(alloc, &haul, workers) {
         Ok(start) => start,
-        Err(error) => return (haul, None, Some(error)),
+        Err(error) => return (haul, Some(CrewError::Memory(error))),
     };
     let Start {
         site,
@@ -201,8 +187,8 @@ fn run_in_scope<G: Gate + Sync, R: Threads + Wait + Sync, H: Watch>(
     )
 }
 
-/// What a crew leaves, once all workers are back.
-fn end_crew(site: Site, crew: Crew) -> (Haul, Option<u8>, Option<OutOfMemory>)
+/// What a crew leaves, once all workers are back: its haul, and what kept workers from some soups.
+fn end_crew(site: Site, crew: Crew) -> (Haul, Option<CrewError>)
     requires passes { All (λ p. p.series ≡ site.tickets) crew.back.passes.items }
     requires senders { All (λ s. s.belt ≡ site.belt.name) crew.back.senders.items }
     requires receiver { crew.receiver.belt ≡ site.belt }
@@ -213,8 +199,7 @@ fn end_crew(site: Site, crew: Crew) -> (Haul, Option<u8>, Option<OutOfMemory>)
     ensures distinct { IsDistinct nat_eq (numbers_in crew.haul.taken) }
     ensures none { (length (missing_of crew.haul.terms.ranges crew.haul.taken) ≡ 0)
         ↔ IsComplete crew.haul.terms.ranges crew.haul.taken }
-    ensures stopped { result.1 ≡ crew.stopped }
-    ensures lacking { result.2 ≡ crew.lacking }
+    ensures cause { result.1 ≡ cause_of crew.stopped crew.lacking }
 {
     let Crew {
         haul,
@@ -233,7 +218,18 @@ fn end_crew(site: Site, crew: Crew) -> (Haul, Option<u8>, Option<OutOfMemory>)
     let _ = haul.taken();
     // For the prover: a haul of which nothing is missing is complete.
     let _ = haul.missing_count();
-    (haul, stopped, lacking)
+    (haul, cause(stopped, lacking))
+}
+
+/// What kept workers from some soups: a gate stopped one, or else memory was refused.
+fn cause(stopped: Option<u8>, lacking: Option<OutOfMemory>) -> Option<CrewError>
+    ensures { result ≡ cause_of stopped lacking }
+{
+    match (stopped, lacking) {
+        (Some(worker), _) => Some(CrewError::Stopped { worker }),
+        (None, Some(error)) => Some(CrewError::Memory(error)),
+        (None, None) => None,
+    }
 }
 
 /// What a worker's thread promises: to return what the worker leaves.
@@ -377,7 +373,7 @@ fn end_shift<'s, G: Gate, R: Threads>(
 fn note_shift(crew: &mut Crew, shift: Shift)
     requires passes { length crew.old.back.passes.items < vec_capacity crew.old.back.passes }
     requires senders { length crew.old.back.senders.items < vec_capacity crew.old.back.senders }
-    ensures back { IsPutBack shift.pass shift.sender crew.old.back crew.new.back }
+    ensures back { HasAddedPost shift.pass shift.sender crew.old.back crew.new.back }
     ensures stopped { crew.new.stopped ≡ stopped_with crew.old.stopped shift.sender.number shift.end }
     ensures answered { crew.new.lacking ≡ None → crew.old.lacking ≡ None }
     ensures memory { crew.new.lacking ≡ None → lacks_memory shift.end ≡ false }

@@ -4,7 +4,7 @@ use Rattle.haul_core.specs.Missing.{IsComplete}
 use Rattle.crew.proofs.CompleteLemmas.{nothing_missing}
 use Rattle.handover.specs.Belts.{Received}
 use Rattle.crew.specs.declared.note.Note.{Note}
-use Rattle.crew.proofs.StepLemmas.{ready_first}
+use Rattle.crew.proofs.StepLemmas.{cause_none, cause_open, cause_stopped, ready_first}
 use Rattle.crew.proofs.TakeLemmas.{belts_of, crew_has_taken, crew_stops, crew_within, series_of_all}
 use Rattle.crew.proofs.workers.complete_haul.Goals as goal
 
@@ -32,24 +32,35 @@ returns-clause-taken g c =
     start.workers start.missing start.ascending start.senders ended.whole c.end_crew.result.0 ended.haul ended.distinct start.job
 
 pub returns-clause-complete : goal.returns-clause-complete
-returns-clause-complete g c not_stopped not_lacking =
+returns-clause-complete g c none =
     let start = c.in-Ok.ensures in
     let ended = c.end_crew.ensures in
-    let nothing = nothing_missing c.in-Ok.start.site c.args.workers _ c.run_in_scope-crew.result c.run_in_scope-crew.ensures start.receiver
+    let crew = c.run_in_scope-crew.result in
+    let both = cause_none crew.stopped crew.lacking (sym ended.cause ∙ none) in
+    let nothing = nothing_missing c.in-Ok.start.site c.args.workers _ crew c.run_in_scope-crew.ensures start.receiver
     start.workers start.missing start.ascending start.senders ended.whole c.requires.some c.requires.few c.requires.«open» start.job
-    refl start.tickets ended.drawn (sym ended.stopped ∙ not_stopped) (sym ended.lacking ∙ not_lacking) in
+    refl start.tickets ended.drawn both.0 both.1 in
     subst (λ (h : Held). IsComplete h.terms.ranges h.taken) (sym ended.haul) (ended.none.0 (ap length nothing))
 
 pub returns-clause-stopped : goal.returns-clause-stopped
-returns-clause-stopped g c =
+returns-clause-stopped g c worker is =
     let start = c.in-Ok.ensures in
     let ended = c.end_crew.ensures in
-    crew_stops c.in-Ok.start.site c.args.workers _ c.run_in_scope-crew.result c.run_in_scope-crew.ensures start.receiver
-    start.workers start.missing start.ascending start.senders ended.whole c.end_crew.result.1 ended.stopped
+    let crew = c.run_in_scope-crew.result in
+    crew_stops c.in-Ok.start.site c.args.workers _ crew c.run_in_scope-crew.ensures start.receiver
+    start.workers start.missing start.ascending start.senders ended.whole worker
+    (cause_stopped crew.stopped crew.lacking worker (sym ended.cause ∙ is))
 
 pub returns-clause-within : goal.returns-clause-within
-returns-clause-within g c =
+returns-clause-within g c worker is =
     let start = c.in-Ok.ensures in
     let ended = c.end_crew.ensures in
-    crew_within c.in-Ok.start.site c.args.workers _ c.run_in_scope-crew.result c.run_in_scope-crew.ensures start.receiver
-    start.workers start.missing start.ascending start.senders ended.whole c.end_crew.result.1 ended.stopped
+    let crew = c.run_in_scope-crew.result in
+    crew_within c.in-Ok.start.site c.args.workers _ crew c.run_in_scope-crew.ensures start.receiver
+    start.workers start.missing start.ascending start.senders ended.whole worker
+    (cause_stopped crew.stopped crew.lacking worker (sym ended.cause ∙ is))
+
+pub returns-clause-open : goal.returns-clause-open
+returns-clause-open g c is =
+    let crew = c.run_in_scope-crew.result in
+    cause_open crew.stopped crew.lacking (sym c.end_crew.ensures.cause ∙ is)
