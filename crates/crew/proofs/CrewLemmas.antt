@@ -1,5 +1,6 @@
 -- Notes received one after another, and the reports in them offered to a haul.
-use Rattle.std.proofs.Common.{◌≡◌, ◌<◌, ◌≤◌, ◌+◌, ◌-◌, ◌++◌, ◌⊎◌, ◌∙◌, ℕ, Bool, cond, true, false, true≢false, All, List, [], ◌∷◌, ap, append-nil, append_assoc, arith}
+use Rattle.std.proofs.Common.{◌≡◌, ◌<◌, ◌≤◌, ◌+◌, ◌-◌, ◌++◌, ◌⊎◌, ◌∙◌, ℕ, Bool, cond, true, false, true≢false, All, List, [], ◌∷◌, ap}
+use Rattle.std.proofs.Common.{append-nil, append_assoc, arith}
 use Rattle.std.proofs.Common.{◌&&◌, ◌||◌, ◌≢◌, inl, inr, if◌then◌else◌, map, nat_eq, nat_le, nat_lt, not, refl, subst, sym, ⊎_elim}
 use Rattle.std.specs.Prelude.{None, Option, Some}
 use Rattle.std.specs.List.{list_any}

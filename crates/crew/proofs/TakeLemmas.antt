@@ -147,7 +147,8 @@ taken_part w part (r ∷ rs) p =
     subst (λ (l : List ℕ). IsSubsequence l (taken_by w (map entry rs)))
     (sym (ap (λ (l : List Reported). taken_by w (map entry l)) q.1 ∙ by_no w (entry r) (map entry q.0) apart)) (taken_part w q.0 rs q.2)) p))
 
-taken_all : (lets : ℕ → ℕ → Type 0) (job : Job) (missing : List ℕ) (w : ℕ) (got : List (ℕ × Note)) → All (λ m. All (IsOwn lets job missing m.0) (report_in m.1)) got
+taken_all : (lets : ℕ → ℕ → Type 0) (job : Job) (missing : List ℕ) (w : ℕ) (got : List (ℕ × Note))
+    → All (λ m. All (IsOwn lets job missing m.0) (report_in m.1)) got
     → taken_by w (map entry (reports_in got)) ≡ map (λ r. r.number) (reported (notes_of w got))
 taken_all lets job missing w [] own = refl
 taken_all lets job missing w ((p, Done worker) ∷ ms) own =

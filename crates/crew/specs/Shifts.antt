@@ -1,5 +1,6 @@
 -- What a worker of the crew reports, and what it leaves.
-use Rattle.std.specs.Prelude.{◌≡◌, ◌<◌, ◌++◌, ◌∷◌, ◌⊎◌, [], ℕ, All, AllPairs, Bool, Contains, List, Option, count_by, false, flat_map, length, map, option_map, slice_index, true}
+use Rattle.std.specs.Prelude.{◌≡◌, ◌<◌, ◌++◌, ◌∷◌, ◌⊎◌, [], ℕ, All, AllPairs, Bool, Contains, List, Option, count_by}
+use Rattle.std.specs.Prelude.{false, flat_map, length, map, option_map, slice_index, true}
 use Rattle.std.specs.List.{find}
 use Rattle.survey_core.specs.declared.job.Job.{Job}
 use Rattle.haul_core.specs.Reports.{Reported}

@@ -1,4 +1,9 @@
 //! The collector: it receives the workers' notes and offers their reports to the haul.
+//!
+//! ```text
+//! belt ── report ──> haul
+//!      ── done ────> one worker less is awaited
+//! ```
 ghost use Rattle.std.specs.Prelude.{◌≡◌, ◌∷◌, ◌⊎◌, [], List, None, OnErr, OnOk, is_ok};
 ghost use Rattle.haul_core.specs.Books.{StandsFor};
 ghost use Rattle.haul_core.specs.Refusals.{refusal_of};

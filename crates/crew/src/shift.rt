@@ -84,7 +84,8 @@ fn survey_all<G: Gate, R: Wait>(
     requires pass { pass.old ≡ fresh site.now.tickets }
     requires worker { IsWorker sender.old.number }
     requires sender { sender.old ≡ silent site.now.belt.name sender.old.number }
-    ensures worked { HasWorked (G.may_stop gate.now) (G.lets gate.now) site.now sender.old.number result pass.new sender.new }
+    ensures worked { HasWorked (G.may_stop gate.now) (G.lets gate.now) site.now sender.old.number result pass.new
+        sender.new }
     ensures begun { has_begun result ≡ true }
     ensures not_done { AreNotDone sender.new.notes }
 {
@@ -106,7 +107,8 @@ fn survey_left<G: Gate, R: Wait>(
     requires pass { pass.old ≡ fresh site.now.tickets }
     requires worker { IsWorker sender.old.number }
     requires sender { sender.old ≡ silent site.now.belt.name sender.old.number }
-    ensures worked { HasWorked (G.may_stop gate.now) (G.lets gate.now) site.now sender.old.number result pass.new sender.new }
+    ensures worked { HasWorked (G.may_stop gate.now) (G.lets gate.now) site.now sender.old.number result pass.new
+        sender.new }
     ensures begun { has_begun result ≡ true }
     ensures not_done { AreNotDone sender.new.notes }
 {

@@ -9,8 +9,8 @@
 //!                                            worker 2 is back
 //!                                          worker 3 is back
 //! ```
-ghost use Rattle.std.specs.Prelude.{◌≡◌, ◌≢◌, ◌<◌, ◌≤◌, ◌↔◌, ℕ, All, Err, IfErr, IfOk, IfSome};
-ghost use Rattle.std.specs.Prelude.{MatchResult, None, Some, false, is_ok, is_some, length, nat_eq, not, true, vec_capacity};
+ghost use Rattle.std.specs.Prelude.{◌≡◌, ◌≢◌, ◌<◌, ◌≤◌, ◌↔◌, ℕ, All, Err, IfErr, IfOk, MatchResult, None, Some};
+ghost use Rattle.std.specs.Prelude.{false, is_ok, is_some, length, nat_eq, not, true, vec_capacity};
 ghost use Rattle.std.specs.List.{IsDistinct};
 ghost use Rattle.haul_core.specs.Keeping.{numbers_in};
 ghost use Rattle.haul_core.specs.Missing.{AreAll, IsComplete, missing_of};
@@ -48,15 +48,12 @@ pub enum CrewError {
     /// The haul is closed.
     #[error("closed")]
     Closed,
-    /// The gate stopped a worker: of those that it stopped, the one with the least number.
+    /// The gate stopped a worker: of those that it stopped, this is the one with the least number.
     #[error("worker {worker} was stopped")]
     Stopped { worker: u8 },
     /// Memory ran out, or there was none for a thread.
     #[error("out of memory")]
     Memory(OutOfMemory),
-    /// No worker was stopped and no memory was refused.
-    #[error("soups are missing")]
-    Unfinished,
 }
 
 /// Lets so many workers survey what is missing in a haul, each in a thread of its own, and offers what they report.
@@ -67,13 +64,11 @@ pub enum CrewError {
 ///
 /// # Errors
 ///
-/// The haul, with what was taken, and the first of these that holds:
+/// The haul, with what was taken, and the first of these that holds. There is no other case:
 ///
 /// - [`CrewError::Closed`] if the haul is closed. It comes back as it was.
 /// - [`CrewError::Stopped`] if the gate stopped a worker and the haul is not complete.
 /// - [`CrewError::Memory`] if memory ran out, or a thread could not be started, and the haul is not complete.
-/// - [`CrewError::Unfinished`] if the haul is not complete, and neither is why. Nothing is known that leads to it, but
-///   that there is nothing isn't proved.
 ///
 /// To call it again goes on with what is missing.
 pub fn take<G: Gate + Sync, R: Threads + Wait + Sync, H: Watch>(

@@ -17,7 +17,8 @@ loop-preserved g c =
       ap (λ (s : Presented Note). s.number) c.present.ensures ∙ so_far.1,
       reported_next site c.loop.pass.numbers c.draw.new.pass.numbers c.loop.sender c.present.new.pass place
           c.in-Ok-make_with.report so_far.2 c.in-Some-draw.ensures.greater below
-          (own_report (g.G.Gate.lets c.args.gate.now) c.in-Ok-make_with.report (sym (c.number-worker.ensures ∙ sym so_far.1)) c.in-Ok-make_with.ensures.worker c.in-Ok-make_with.ensures.job
+          (own_report (g.G.Gate.lets c.args.gate.now) c.in-Ok-make_with.report (sym (c.number-worker.ensures ∙ sym so_far.1))
+          c.in-Ok-make_with.ensures.worker c.in-Ok-make_with.ensures.job
           c.in-Ok-make_with.ensures.number c.in-Ok.ensures.lets)
           (c.in-Ok-make_with.ensures.number ∙ get_or_read missing _ _ below c.index-number.ensures 0)
           (ap (λ (d : Drawn). d.numbers) c.in-Some-draw.ensures.drawn) c.present.ensures,
