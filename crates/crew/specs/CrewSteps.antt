@@ -31,7 +31,7 @@ pub record HaveRoom (workers : ℕ) (posts : Posts) : Type 0 where
   pub for_passes : workers ≤ vec_capacity posts.passes
   pub for_senders : workers ≤ vec_capacity posts.senders
 
--- a pass and a sender were put behind the others, in room that there was
+-- a pass and a sender were put after the others, and there is as much room as before
 pub record HasAddedPost (pass : Drawn) (sender : Presented Note) (old new : Posts) : Type 0 where
   pub passes : new.passes.items ≡ old.passes.items ++ pass ∷ []
   pub senders : new.senders.items ≡ old.senders.items ++ sender ∷ []

@@ -50,8 +50,8 @@ StopsAt may_stop missing worker = (n : ℕ) × Contains missing n × may_stop wo
 abbrev pub AreAllButLast : List ℕ → List ℕ → Type 0
 AreAllButLast places drawn = (drawn ≡ places) ⊎ ((n : ℕ) × (drawn ≡ places ++ n ∷ []))
 
--- What the worker with this number has done when its surveys end so. It has reported at each place that it drew, if none was left;
--- else at each but the last.
+-- What the worker with this number has done when its surveys end so. It has reported at each place that it drew, but for the last one
+-- at most; at each, if none was left.
 pub record HasWorked (may_stop lets : ℕ → ℕ → Type 0) (site : Site) (worker : ℕ) (ended : End) (pass : Drawn) (sender : Presented Note)
     : Type 0 where
   pub number : sender.number ≡ worker

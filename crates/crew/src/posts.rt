@@ -30,7 +30,7 @@ impl Posts {
         Ok(Posts { passes, senders })
     }
 
-    /// Puts a post behind the others. There is room for it.
+    /// Puts a post after the others. There is room for it.
     pub(crate) fn add(&mut self, pass: Pass, sender: SenderPass<Note>)
         requires passes { length self.old.passes.items < vec_capacity self.old.passes }
         requires senders { length self.old.senders.items < vec_capacity self.old.senders }
