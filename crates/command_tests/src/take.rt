@@ -89,6 +89,8 @@ struct OneEach {
 impl Gate for OneEach {
     ghost may_stop = { λ _ worker number. Unit {0} };
 
+    ghost lets = { λ _ worker number. Unit {0} };
+
     fn before(&self, worker: u8, _number: u64) -> Result<(), Stop> {
         let Some(calls) = self.calls.get(usize::from(worker)) else {
             return Err(Stop);

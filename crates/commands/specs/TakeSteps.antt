@@ -57,7 +57,7 @@ abbrev pub StopsOpening : Plan → Complaint → Type 0
 StopsOpening plan complaint = (job_named plan ≡ Err complaint)
     ⊎ ((job : Job) × (job_named plan ≡ Ok job) × StopsSet plan.set complaint)
 
--- what became of a haul by crews: all was taken, or else the gate stopped a worker
+-- what became of a haul by a crew: all was taken, or else the gate stopped a worker
 abbrev pub EndsCrew : (ℕ → ℕ → Type 0) → Held → Held → Type 0
 EndsCrew may_stop old new = (IsComplete new.terms.ranges new.taken × AreAll new.terms.ranges (numbers_in new.taken))
     ⊎ ((¬ IsComplete new.terms.ranges new.taken) × (worker : ℕ) × StopsAt may_stop (was_missing old) worker)
@@ -69,7 +69,7 @@ pub record HasTakenMore (old new : Held) : Type 0 where
   pub more : List (ℕ × ℕ)
   pub taken : new.taken ≡ old.taken ++ more
 
--- crews have taken what they could of a haul that was opened over a set: numbers of the set, and none twice
+-- a crew has taken what it could of a haul that was opened over a set: numbers of the set, and none twice
 pub record IsTaken (may_stop : ℕ → ℕ → Type 0) (plan : Plan) (workers : ℕ) (held : Held) : Type 0 where
   pub opened : Held
   pub is : IsOpenedFor plan workers opened

@@ -1,9 +1,9 @@
 //! The complete haul of a set of soups.
 //!
 //! ```text
-//! plan ── open_haul ── haul ── take_by_crews ─ haul ── finish ── haul text
-//!             │                     │                    │
-//!          refused           out of memory      so many are missing, if a gate stopped a worker
+//! plan ── open_haul ── haul ── complete_by_crew ── haul ── finish ── haul text
+//!             │                     │                        │
+//!          refused           out of memory          so many are missing, if a gate stopped a worker
 //! ```
 
 ghost use Rattle.std.specs.Prelude.{◌≡◌, ◌≢◌, ◌≤◌, ◌↔◌, [], ℕ, Err, List, Option, IfErr, IfOk, false, length};
@@ -115,18 +115,15 @@ fn take<W: Write, E: Write, G: Gate + Sync, T: Threads + Wait + Sync, H: Watch>(
     ensures silent { machine.new.errors ≡ machine.old.errors }
 {
     let haul = open_haul(machine.alloc, plan, workers)?;
-    let (mut haul, taken) = take_by_crews(machine, haul, workers, gate);
+    let (mut haul, taken) = complete_by_crew(machine, haul, workers, gate);
     // For the prover: what it has taken is of its set, and no number twice.
     let _ = haul.taken();
     finish_taken(&mut haul, taken, output)
 }
 
-/// Lets workers take what is missing in an open haul, and gives it back. Unless memory ran out it is complete then, or
-/// the gate stopped one of them.
-///
-/// One crew is enough. But that it leaves nothing missing, where nobody was stopped and no memory refused, is not
-/// proved; so where it does, another goes on.
-fn take_by_crews<E: Write, G: Gate + Sync, T: Threads + Wait + Sync, H: Watch>(
+/// Lets a crew of workers take what is missing in an open haul, and gives it back. Unless memory ran out it is complete
+/// then, or the gate stopped one of them.
+fn complete_by_crew<E: Write, G: Gate + Sync, T: Threads + Wait + Sync, H: Watch>(
     machine: &mut Machine<'_, T, E, H>,
     haul: Haul,
     workers: u8,
@@ -139,27 +136,22 @@ fn take_by_crews<E: Write, G: Gate + Sync, T: Threads + Wait + Sync, H: Watch>(
     ensures ends { IfOk result.1 (λ _. EndsCrew (G.may_stop gate.now) haul result.0) }
     ensures silent { machine.new.errors ≡ machine.old.errors }
 {
-    let mut left = haul;
-    for _ in machine.threads.forever() {
-        let taken = workers::take(
-            machine.alloc,
-            machine.threads,
-            left,
-            workers,
-            gate,
-            &mut machine.watch,
-        );
-        match taken {
-            Ok(haul) => return (haul, Ok(())),
-            Err((haul, why)) => match why {
-                CrewError::Stopped { .. } => return (haul, Ok(())),
-                CrewError::Memory(error) => return (haul, Err(error)),
-                CrewError::Unfinished => left = haul,
-                CrewError::Closed => unreachable!(),
-            },
-        }
+    let taken = workers::take(
+        machine.alloc,
+        machine.threads,
+        haul,
+        workers,
+        gate,
+        &mut machine.watch,
+    );
+    match taken {
+        Ok(haul) => (haul, Ok(())),
+        Err((haul, why)) => match why {
+            CrewError::Stopped { .. } => (haul, Ok(())),
+            CrewError::Memory(error) => (haul, Err(error)),
+            CrewError::Closed => unreachable!(),
+        },
     }
-    unreachable!()
 }
 
 /// Finishes a haul of which a crew has taken what it could, unless memory ran out.

@@ -1,42 +1,36 @@
 -- Notes received one after another, and the reports in them offered to a haul.
-use Rattle.std.proofs.Common.{◌≡◌, ◌<◌, ◌≤◌, ◌+◌, ◌-◌, ◌++◌, ◌⊎◌, ◌∙◌, ℕ, Bool, cond, true, false, true≢false, All, List, [], ◌∷◌, ap, append-nil, append_assoc, arith}
-use Rattle.std.proofs.Common.{inl, inr, map, refl, subst, sym, ⊎_elim}
-use Rattle.std.specs.Prelude.{None}
+use Rattle.std.proofs.Common.{◌≡◌, ◌<◌, ◌≤◌, ◌+◌, ◌-◌, ◌++◌, ◌⊎◌, ◌∙◌, ℕ, Bool, cond, true, false, true≢false, All, List, [], ◌∷◌, ap}
+use Rattle.std.proofs.Common.{append-nil, append_assoc, arith}
+use Rattle.std.proofs.Common.{◌&&◌, ◌||◌, ◌≢◌, inl, inr, if◌then◌else◌, map, nat_eq, nat_le, nat_lt, not, refl, subst, sym, ⊎_elim}
+use Rattle.std.specs.Prelude.{None, Option, Some}
+use Rattle.std.specs.List.{list_any}
 use Rattle.std.proofs.lemmas.Grind.{flat_map-append}
 use Rattle.std.proofs.lemmas.List.{map-append}
-use Rattle.std.proofs.lemmas.List.Elements.{All-append, All-cons, All-nil}
+use Rattle.std.proofs.lemmas.List.Elements.{All-append, All-cons, All-nil, All-push, All-weaker}
+use Rattle.std.proofs.lemmas.Bool.{and_parts, eq-eqb, le-ltb, leb-true, or_left, or_right}
+use Rattle.std.proofs.lemmas.List.Folds.{list_any-append}
 use Rattle.std.proofs.lemmas.List.Sums.{sum_by_push}
 use native.Mathlib.Decide.{dec_le}
-use Rattle.haul_core.specs.Books.{Held, StandsFor, Terms, entry, eligible}
-use Rattle.haul_core.specs.Refusals.{refusal_of}
+use Rattle.haul_core.specs.Books.{Held, StandsFor, Terms, entry, eligible, is_lawful}
+use Rattle.haul_core.specs.Keeping.{numbers_in}
+use Rattle.haul_core.specs.Missing.{is_taken}
+use Rattle.haul_core.specs.Refusals.{IsReply, double, refusal_of}
+use Rattle.haul_core.specs.Replies.{refusal_at, worker_in}
+use Rattle.haul_core.specs.declared.book.refused.OfferError.{OfferError}
+use Rattle.haul_core.specs.declared.book.refused.OfferError.TheVariants.{Closed, Memory, OtherJob, OutOfRange, UnknownWorker}
+use Rattle.memory.specs.Evidence.{out_of_memory}
+use Rattle.ranges.specs.Ranges.{is_in}
+use Rattle.survey_core.specs.Jobs.{same_job}
 use Rattle.haul_core.specs.BookLaws.{IsSubsequence}
 use Rattle.haul_core.specs.Reports.{Reported}
 use Rattle.haul_core.specs.declared.book.arrival.Arrival.{Arrival}
 use Rattle.haul_core.specs.declared.book.arrival.Arrival.TheVariants.{Offer}
 use Rattle.handover.specs.Belts.{GotOne, BeltId, Received}
 use Rattle.crew.specs.Crews.{Collected, Collector, HasAdded, HasComeAll, HasLost, collector_with, dones, is_done}
-use Rattle.crew.specs.Crews.{report_in, reports_in}
+use Rattle.crew.specs.Crews.{HasSoupOf, report_in, reports_in}
 use Rattle.crew.specs.declared.note.Note.{Note}
 use Rattle.crew.specs.declared.note.Note.TheVariants.{Done, Report}
-
--- ---- parts of a list
-
-module _ {X : Type 0} where
-  pub part_none : (xs : List X) → IsSubsequence [] xs
-  part_none [] = refl
-  part_none (x ∷ xs) = inl (part_none xs)
-
-  pub part_all : (xs : List X) → IsSubsequence xs xs
-  part_all [] = refl
-  part_all (x ∷ xs) = inr (xs, refl, part_all xs)
-
-  pub part_append : (part xs more ys : List X) → IsSubsequence part xs → IsSubsequence more ys
-      → IsSubsequence (part ++ more) (xs ++ ys)
-  part_append part [] more ys p q = subst (λ (l : List X). IsSubsequence (l ++ more) ys) (sym p) q
-  part_append part (x ∷ xs) more ys p q =
-      ⊎_elim (λ (h : IsSubsequence part xs). inl (part_append part xs more ys h q))
-      (λ (h : (remainder : List X) × (part ≡ x ∷ remainder) × IsSubsequence remainder xs).
-      inr (h.0 ++ more, ap (λ (l : List X). l ++ more) h.1, part_append h.0 xs more ys h.2 q)) p
+use Rattle.crew.proofs.ListLemmas.{part_all, part_append, part_none}
 
 -- ---- notes
 
@@ -72,6 +66,73 @@ added_more xs ys old mid new first more = record {
   stands = come_more xs ys old mid new first.stands more.stands;
 }
 
+-- ---- soups that were taken
+
+-- what was taken stays taken
+pub taken_stays : (old more : List (ℕ × ℕ)) (n : ℕ) → is_taken old n ≡ true → is_taken (old ++ more) n ≡ true
+taken_stays old more n is =
+    ap (list_any (nat_eq n)) (map-append (λ (t : ℕ × ℕ). t.1) old more)
+    ∙ list_any-append (nat_eq n) (numbers_in old) (numbers_in more)
+    ∙ or_left (is_taken old n) (is_taken more n) is
+
+pub taken_last : (old : List (ℕ × ℕ)) (worker n : ℕ) → is_taken (old ++ (worker, n) ∷ []) n ≡ true
+taken_last old worker n =
+    ap (list_any (nat_eq n)) (map-append (λ (t : ℕ × ℕ). t.1) old ((worker, n) ∷ []))
+    ∙ list_any-append (nat_eq n) (numbers_in old) (n ∷ [])
+    ∙ or_right (is_taken old n) (list_any (nat_eq n) (n ∷ [])) (or_left (nat_eq n n) false (eq-eqb n n refl))
+
+soups_stay : (reports : List Reported) (old new : Held) (rs : List Reported) → HasAdded reports old new → All (HasSoupOf old) rs
+    → All (HasSoupOf new) rs
+soups_stay reports old new rs added h =
+    All-weaker (HasSoupOf old) (HasSoupOf new) (λ r has is_open lawful.
+    subst (λ (l : List (ℕ × ℕ)). is_taken l r.number ≡ true) (sym added.taken)
+    (taken_stays old.taken (map entry reports) r.number
+    (has (sym added.closed ∙ is_open) (subst (λ (t : Terms). is_lawful t r ≡ true) added.terms lawful)))) rs h
+
+soups_after : (r : Reported) (old new : Held) (rs : List Reported) → (new ≡ old) ⊎ HasAdded (r ∷ []) old new → All (HasSoupOf old) rs
+    → All (HasSoupOf new) rs
+soups_after r old new rs added h =
+    ⊎_elim (λ (same : new ≡ old). subst (λ (held : Held). All (HasSoupOf held) rs) (sym same) h)
+    (λ (more : HasAdded (r ∷ []) old new). soups_stay (r ∷ []) old new rs more h) added
+
+-- the tests of a refusal in their order: where only the last is left, there is a worker of whom the soup was taken
+double_of : (closed job over inside : Bool) (worker : Option ℕ) (reason : OfferError) → closed ≡ false → job ≡ true → over ≡ false
+    → inside ≡ true
+    → Some reason
+    ≡ (if closed then Some Closed else if not job then Some OtherJob else if over then Some UnknownWorker
+    else if not inside then Some OutOfRange else double worker)
+    → (w : ℕ) × (worker ≡ Some w)
+double_of closed job over inside None reason c j o i is =
+    let bad : Some reason ≡ None =
+    is
+    ∙ (λ k. if c k then Some Closed else if not (j k) then Some OtherJob else if o k then Some UnknownWorker
+    else if not (i k) then Some OutOfRange else None) in
+    absurd (cc)
+double_of closed job over inside (Some w) reason c j o i is = (w, refl)
+
+-- a soup that was taken of a worker was taken
+of_worker_taken : (taken : List (ℕ × ℕ)) (n w : ℕ) → worker_in n taken ≡ Some w → is_taken taken n ≡ true
+of_worker_taken [] n w is = absurd (let bad : None ≡ Some w = is in cc)
+of_worker_taken (t ∷ ts) n w is = go (nat_eq n t.1) is (λ h. of_worker_taken ts n w h)
+  where
+    go : (b : Bool) → cond b (Some t.0) (worker_in n ts) ≡ Some w → (worker_in n ts ≡ Some w → is_taken ts n ≡ true)
+        → (b || is_taken ts n) ≡ true
+    go true found more = refl
+    go false found more = more found
+
+-- a lawful report that an open haul refuses, though there is memory, is of a soup that was taken
+pub refused_was_taken : (held : Held) (r : Reported) (reason : OfferError) → IsReply (Some reason) (refusal_at held r)
+    → (Some reason ≢ Some (Memory out_of_memory)) → HasSoupOf held r
+refused_was_taken held r reason (inr none) answered is_open lawful = absurd (answered none.0)
+refused_was_taken held r reason (inl same) answered is_open lawful =
+    let job = and_parts (same_job held.terms.job r.job) (nat_le r.worker held.terms.workers && is_in held.terms.ranges r.number) lawful in
+    let others = and_parts (nat_le r.worker held.terms.workers) (is_in held.terms.ranges r.number) job.1 in
+    let over : nat_lt held.terms.workers r.worker ≡ false =
+    le-ltb held.terms.workers r.worker (leb-true r.worker held.terms.workers others.0) in
+    let w = double_of held.closed (same_job held.terms.job r.job) (nat_lt held.terms.workers r.worker) (is_in held.terms.ranges r.number)
+    (worker_in r.number held.taken) reason is_open job.0 over others.1 same in
+    of_worker_taken held.taken r.number w.0 w.1
+
 -- ---- the collector's loop
 
 pub collected_none : (begun : Collector) → Collected begun begun true
@@ -86,6 +147,7 @@ collected_none begun = record {
   some = refl;
   added = added_none begun.haul;
   all = λ _. (added_none begun.haul).stands;
+  soups = λ _. All-nil (HasSoupOf begun.haul);
   lost = λ no. absurd (true≢false no);
 }
 
@@ -158,8 +220,8 @@ module _ {before after : Collector} {next : Received Note} {answered : Bool} (c 
   -- a report that was answered
   pub collected_heard : (r : Reported) (new : Held) → GotOne after.receiver next (Report r) → 0 < after.awaited
       → (new ≡ after.haul) ⊎ HasAdded (r ∷ []) after.haul new
-      → HasComeAll (r ∷ []) after.haul new → Collected before (collector_with after.awaited next new) answered
-  collected_heard r new g some added met =
+      → HasComeAll (r ∷ []) after.haul new → HasSoupOf new r → Collected before (collector_with after.awaited next new) answered
+  collected_heard r new g some added met soup =
       let whole = reports_push c.notes (g.sender, Report r) in
       let t = takes c r g.sender new added in
       record {
@@ -174,6 +236,8 @@ module _ {before after : Collector} {next : Received Note} {answered : Bool} (c 
         added = t.added;
         all = λ yes. subst (λ (l : List Reported). HasComeAll l before.haul new) (sym whole)
             (come_more (reports_in c.notes) (r ∷ []) before.haul after.haul new (c.all yes) met);
+        soups = λ yes. subst (All (HasSoupOf new)) (sym whole)
+            (All-push (HasSoupOf new) (reports_in c.notes) r (soups_after r after.haul new (reports_in c.notes) added (c.soups yes)) soup);
         lost = λ no. t.lost (c.lost no);
       }
 
@@ -195,6 +259,7 @@ module _ {before after : Collector} {next : Received Note} {answered : Bool} (c 
             (append-nil c.part) (some_more c r g.sender c.part [] c.some (part_none (r ∷ [])));
         added = subst (HasAdded c.part before.haul) (sym same) c.added;
         all = λ yes. absurd (true≢false (sym yes));
+        soups = λ yes. absurd (true≢false (sym yes));
         lost = λ no. record {
           before = c.part;
           report = r;
@@ -223,5 +288,6 @@ module _ {before after : Collector} {next : Received Note} {answered : Bool} (c 
         some = subst (λ (l : List Reported). IsSubsequence c.part l) (sym whole) c.some;
         added = c.added;
         all = λ yes. subst (λ (l : List Reported). HasComeAll l before.haul after.haul) (sym whole) (c.all yes);
+        soups = λ yes. subst (All (HasSoupOf after.haul)) (sym whole) (c.soups yes);
         lost = λ no. subst (λ (l : List Reported). HasLost l c.part before.haul) (sym whole) (c.lost no);
       }

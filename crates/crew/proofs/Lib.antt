@@ -1,4 +1,6 @@
+mod CompleteLemmas
 mod CrewLemmas
+mod ListLemmas
 mod ShiftLemmas
 mod StepLemmas
 mod TakeLemmas

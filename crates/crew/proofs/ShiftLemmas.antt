@@ -1,121 +1,266 @@
--- A worker's notes, one after another.
-use Rattle.std.proofs.Common.{◌≡◌, ◌<◌, ◌++◌, ◌∙◌, ℕ, All, List, [], ◌∷◌, ap, append-nil, arith, length, map, refl, subst, sym, ⊎_elim}
-use Rattle.std.specs.Prelude.{◌⊎◌, Contains, IfSome, Option, None, Some, slice_index}
+-- A worker's notes, one after another, and what its shift leaves.
+use Rattle.std.proofs.Common.{◌≡◌, ◌<◌, ◌++◌, ◌∙◌, ℕ, All, Bool, true, false, List, [], ◌∷◌, ap, append-nil, arith, cond, inl, inr}
+use Rattle.std.proofs.Common.{length, map, refl, subst, subst₂, sym}
+use Rattle.std.specs.Prelude.{IfSome, Option, None, Some, option_map, slice_index}
+use Rattle.std.specs.List.{find}
+use Rattle.memory.specs.declared.OutOfMemory.{OutOfMemory}
 use Rattle.std.proofs.lemmas.Grind.{flat_map-append}
 use Rattle.std.proofs.lemmas.List.{map-append}
-use Rattle.std.proofs.lemmas.List.Elements.{All-nil, All-push, Contains-append_left, Contains-push}
+use Rattle.std.proofs.lemmas.List.Elements.{All-cons, All-head, All-nil, All-push, All-tail}
 use Rattle.std.proofs.lemmas.List.Quantifiers.{all_pairs_push}
+use Rattle.survey_core.specs.declared.job.Job.{Job}
 use Rattle.haul_core.specs.Reports.{Reported}
 use Rattle.handover.specs.Belts.{Presented, silent, with_note}
-use Rattle.crew.specs.Crews.{report_in}
-use Rattle.crew.specs.Shifts.{AreBack, HasReported, HasWorked, Leaves, StopsAt, reported, sender_numbers}
+use Rattle.handover.specs.Tickets.{Drawn, fresh, with_drawn, with_none}
+use Rattle.crew.specs.Crews.{is_done, report_in}
+use Rattle.crew.specs.CrewSteps.{stopped_with}
+use Rattle.crew.specs.Shifts.{AreNotDone, HasReported, HasWorked, IsOwnReport, Leaves, Returns, StopsAt, first_stopped, has_begun}
+use Rattle.crew.specs.Shifts.{lacks_memory, reported, was_started, was_stopped}
 use Rattle.crew.specs.declared.note.Note.{Note}
 use Rattle.crew.specs.declared.note.Note.TheVariants.{Done, Report}
-use Rattle.crew.specs.declared.shift.End.TheVariants.{Stopped}
+use Rattle.crew.specs.declared.shift.End.{End}
+use Rattle.crew.specs.declared.shift.End.TheVariants.{CalledOff, Drained, Memory, Stopped, Unstarted}
 use Rattle.crew.specs.declared.shift.Shift.{Shift}
 use Rattle.crew.specs.declared.site.Site.{Site}
+
+-- what a worker leaves, of its parts
+abbrev pub shift_of : Drawn → Presented Note → End → Shift
+shift_of pass sender ended = record { pass = pass; sender = sender; end = ended }
 
 reported_push : (notes : List Note) (note : Note) → reported (notes ++ note ∷ []) ≡ reported notes ++ report_in note
 reported_push notes note =
     flat_map-append report_in notes (note ∷ []) ∙ ap (λ (l : List Reported). reported notes ++ l) (append-nil (report_in note))
 
-pub reported_none : (site : Site) (worker : ℕ) → HasReported site [] (silent site.belt.name worker)
-reported_none site worker = record {
-  belt = refl;
-  ascending = λ i j d lt below. absurd (omega arith);
-  below = All-nil (λ t. t < length site.missing.items);
-  numbers = refl;
-  own = All-nil (λ (r : Reported). r.worker ≡ worker);
-  of_job = All-nil (λ (r : Reported). r.job ≡ site.job);
-}
+module _ {lets : ℕ → ℕ → Type 0} (site : Site) where
+  pub reported_none : (worker : ℕ) → HasReported lets site [] (silent site.belt.name worker)
+  reported_none worker = record {
+    belt = refl;
+    ascending = λ i j d lt below. absurd (omega arith);
+    below = All-nil (λ t. t < length site.missing.items);
+    numbers = refl;
+    own = All-nil (IsOwnReport lets site.job worker);
+  }
 
-pub reported_more : (site : Site) (places : List ℕ) (pass : Presented Note) (n : ℕ) (r : Reported)
-    → HasReported site places pass
-    → All (λ m. m < n) places → n < length site.missing.items → r.worker ≡ pass.number → r.job ≡ site.job
-    → r.number ≡ slice_index site.missing.items n → HasReported site (places ++ n ∷ []) (with_note (Report r) pass)
-reported_more site places pass n r h less below mine of number =
-    let missing = site.missing.items in
-    let whole = reported_push pass.notes (Report r) in
-    record {
-      belt = h.belt;
-      ascending = all_pairs_push (λ x y. x < y) places n h.ascending less;
-      below = All-push (λ t. t < length missing) places n h.below below;
-      numbers =
-          ap (λ (l : List Reported). map (λ (s : Reported). s.number) l) whole
-          ∙ map-append (λ (s : Reported). s.number) (reported pass.notes) (r ∷ [])
-          ∙ (λ i. h.numbers i ++ number i ∷ [])
-          ∙ sym (map-append (slice_index missing) places (n ∷ []));
-      own = subst (λ (l : List Reported). All (λ (s : Reported). s.worker ≡ pass.number) l) (sym whole)
-          (All-push (λ (s : Reported). s.worker ≡ pass.number) (reported pass.notes) r h.own mine);
-      of_job = subst (λ (l : List Reported). All (λ (s : Reported). s.job ≡ site.job) l) (sym whole)
-          (All-push (λ (s : Reported). s.job ≡ site.job) (reported pass.notes) r h.of_job of);
-    }
-
--- the same of a pass and a sender that drew and presented
-pub reported_next : (site : Site) (places now : List ℕ) (pass next : Presented Note) (n : ℕ) (r : Reported)
-    → HasReported site places pass
-    → All (λ m. m < n) places → n < length site.missing.items → r.worker ≡ pass.number → r.job ≡ site.job
-    → r.number ≡ slice_index site.missing.items n → now ≡ places ++ n ∷ [] → next ≡ with_note (Report r) pass
-    → HasReported site now next
-reported_next site places now pass next n r h less below mine of number drawn presented =
-    subst (λ (s : Presented Note). HasReported site now s) (sym presented)
-    (subst (λ (l : List ℕ). HasReported site l (with_note (Report r) pass)) (sym drawn)
-    (reported_more site places pass n r h less below mine of number))
-
--- a worker that was not started, and one that says that it is done
-pub worked_none : (site : Site) (pass : Presented Note) → pass ≡ silent site.belt.name pass.number → HasWorked site pass
-worked_none site pass is = subst (HasWorked site) (sym is) ([], reported_none site pass.number)
-
-pub worked_done : (site : Site) (pass : Presented Note) (worker : ℕ) → HasWorked site pass
-    → HasWorked site (with_note (Done worker) pass)
-worked_done site pass worker h =
-    let whole : reported (pass.notes ++ Done worker ∷ []) ≡ reported pass.notes =
-    reported_push pass.notes (Done worker) ∙ append-nil (reported pass.notes) in (
-      h.0,
+  reported_more : (places : List ℕ) (sender : Presented Note) (n : ℕ) (r : Reported) → HasReported lets site places sender
+      → All (λ m. m < n) places → n < length site.missing.items → IsOwnReport lets site.job sender.number r
+      → r.number ≡ slice_index site.missing.items n → HasReported lets site (places ++ n ∷ []) (with_note (Report r) sender)
+  reported_more places sender n r h less below own number =
+      let missing = site.missing.items in
+      let whole = reported_push sender.notes (Report r) in
       record {
-        belt = h.1.belt;
-        ascending = h.1.ascending;
-        below = h.1.below;
-        numbers = ap (λ (l : List Reported). map (λ (s : Reported). s.number) l) whole ∙ h.1.numbers;
-        own = subst (λ (l : List Reported). All (λ (s : Reported). s.worker ≡ pass.number) l) (sym whole) h.1.own;
-        of_job = subst (λ (l : List Reported). All (λ (s : Reported). s.job ≡ site.job) l) (sym whole) h.1.of_job;
-      },
-    )
+        belt = h.belt;
+        ascending = all_pairs_push (λ x y. x < y) places n h.ascending less;
+        below = All-push (λ t. t < length missing) places n h.below below;
+        numbers =
+            ap (λ (l : List Reported). map (λ (s : Reported). s.number) l) whole
+            ∙ map-append (λ (s : Reported). s.number) (reported sender.notes) (r ∷ [])
+            ∙ (λ i. h.numbers i ++ number i ∷ [])
+            ∙ sym (map-append (slice_index missing) places (n ∷ []));
+        own = subst (All (IsOwnReport lets site.job sender.number)) (sym whole)
+            (All-push (IsOwnReport lets site.job sender.number) (reported sender.notes) r h.own own);
+      }
 
--- a worker was stopped before, or it is the one that came back now
-abbrev pub WasStopped : Option ℕ → Shift → ℕ → Type 0
-WasStopped stopped shift w = (stopped ≡ Some w) ⊎ ((shift.end ≡ Stopped) × (w ≡ shift.sender.number))
+  -- the same of a pass and a sender that drew and presented
+  pub reported_next : (places now : List ℕ) (sender next : Presented Note) (n : ℕ) (r : Reported)
+      → HasReported lets site places sender
+      → All (λ m. m < n) places → n < length site.missing.items → IsOwnReport lets site.job sender.number r
+      → r.number ≡ slice_index site.missing.items n → now ≡ places ++ n ∷ [] → next ≡ with_note (Report r) sender
+      → HasReported lets site now next
+  reported_next places now sender next n r h less below own number drawn presented =
+      subst (λ (s : Presented Note). HasReported lets site now s) (sym presented)
+      (subst (λ (l : List ℕ). HasReported lets site l (with_note (Report r) sender)) (sym drawn)
+      (reported_more places sender n r h less below own number))
 
--- a worker more that is back
-pub back_more : {may_stop : ℕ → ℕ → Type 0} {site : Site} (passes all : List (Presented Note)) (shift : Shift)
-    (stopped now : Option ℕ) (worker : ℕ) → AreBack may_stop site passes stopped → Leaves may_stop site worker shift
-    → all ≡ passes ++ shift.sender ∷ []
-    → IfSome now (WasStopped stopped shift) → AreBack may_stop site all now
-back_more {may_stop} {site} passes all shift stopped now worker back leaves is told = record {
-  worked = subst (All (HasWorked site)) (sym is)
-      (All-push (HasWorked site) passes shift.sender back.worked leaves.worked);
-  stops = go now told;
-  one = member now told;
-}
+  -- a worker that says that it is done
+  reported_done : (places : List ℕ) (sender : Presented Note) (worker : ℕ) → HasReported lets site places sender
+      → HasReported lets site places (with_note (Done worker) sender)
+  reported_done places sender worker h =
+      let whole : reported (sender.notes ++ Done worker ∷ []) ≡ reported sender.notes =
+      reported_push sender.notes (Done worker) ∙ append-nil (reported sender.notes) in
+      record {
+        belt = h.belt;
+        ascending = h.ascending;
+        below = h.below;
+        numbers = ap (λ (l : List Reported). map (λ (s : Reported). s.number) l) whole ∙ h.numbers;
+        own = subst (All (IsOwnReport lets site.job sender.number)) (sym whole) h.own;
+      }
+
+-- a report of what the gate let the worker survey
+pub own_report : (lets : ℕ → ℕ → Type 0) {job : Job} {worker number sender : ℕ} (r : Reported) → sender ≡ worker → r.worker ≡ worker
+    → r.job ≡ job → r.number ≡ number → lets worker number → IsOwnReport lets job sender r
+own_report lets r same mine of is let_in = (mine ∙ sym same, of, subst₂ lets (sym same) (sym is) let_in)
+
+-- a report doesn't say that the worker is done
+pub not_done_more : (notes now : List Note) (r : Reported) → AreNotDone notes → now ≡ notes ++ Report r ∷ [] → AreNotDone now
+not_done_more notes now r none is = subst AreNotDone (sym is) (All-push (λ note. is_done note ≡ false) notes (Report r) none refl)
+
+-- ---- how surveys end
+
+module _ {may_stop lets : ℕ → ℕ → Type 0} (site : Site) (worker : ℕ) (old new : Drawn) (sender : Presented Note)
+    (series : old.series ≡ site.tickets) (number : sender.number ≡ worker) (h : HasReported lets site old.numbers sender) where
+  -- none is left
+  pub worked_drained : new ≡ with_none old → HasWorked may_stop lets site worker Drained new sender
+  worked_drained is = record {
+    number = number;
+    series = ap (λ (p : Drawn). p.series) is ∙ series;
+    places = old.numbers;
+    reports = h;
+    drawn = inl (ap (λ (p : Drawn). p.numbers) is);
+    all = λ drained. ap (λ (p : Drawn). p.numbers) is;
+    heard = λ drained. ap (λ (p : Drawn). p.heard_none) is;
+    stops = λ stopped. absurd (let bad : false ≡ true = ap was_stopped stopped in cc);
+  }
+
+  -- it has drawn a number that it doesn't report: its gate stopped it, or there was no memory
+  pub worked_stopped : (n : ℕ) → new ≡ with_drawn n old → StopsAt may_stop site.missing.items worker
+      → HasWorked may_stop lets site worker Stopped new sender
+  worked_stopped n is stops = record {
+    number = number;
+    series = ap (λ (p : Drawn). p.series) is ∙ series;
+    places = old.numbers;
+    reports = h;
+    drawn = inr (n, ap (λ (p : Drawn). p.numbers) is);
+    all = λ drained. absurd (let bad : true ≡ false = ap was_stopped drained in cc);
+    heard = λ drained. absurd (let bad : true ≡ false = ap was_stopped drained in cc);
+    stops = λ stopped. stops;
+  }
+
+  pub worked_lacking : (n : ℕ) (error : OutOfMemory) → new ≡ with_drawn n old → HasWorked may_stop lets site worker (Memory error) new sender
+  worked_lacking n error is = record {
+    number = number;
+    series = ap (λ (p : Drawn). p.series) is ∙ series;
+    places = old.numbers;
+    reports = h;
+    drawn = inr (n, ap (λ (p : Drawn). p.numbers) is);
+    all = λ drained. absurd (let bad : true ≡ false = ap lacks_memory drained in cc);
+    heard = λ drained. absurd (let bad : true ≡ false = ap lacks_memory drained in cc);
+    stops = λ stopped. absurd (let bad : false ≡ true = ap was_stopped stopped in cc);
+  }
+
+-- ---- what a shift leaves
+
+begun_started : (ended : End) → has_begun ended ≡ true → was_started ended ≡ true
+begun_started Drained h = refl
+begun_started Stopped h = refl
+begun_started (Memory error) h = refl
+begun_started CalledOff h = refl
+begun_started (Unstarted error) h = absurd (cc)
+
+module _ {may_stop lets : ℕ → ℕ → Type 0} (site : Site) where
+  -- a worker that was called off
+  pub returned_off : (pass : Drawn) (sender : Presented Note) → pass ≡ fresh site.tickets → sender ≡ silent site.belt.name sender.number
+      → Returns may_stop lets site sender.number (shift_of pass sender CalledOff)
+  returned_off pass sender unused still = record {
+    left = record {
+      worked = record {
+        number = refl;
+        series = ap (λ (p : Drawn). p.series) unused;
+        places = [];
+        reports = subst (HasReported lets site []) (sym still) (reported_none site sender.number);
+        drawn = inl (ap (λ (p : Drawn). p.numbers) unused);
+        all = λ drained. ap (λ (p : Drawn). p.numbers) unused;
+        heard = λ drained. absurd (let bad : false ≡ true = ap has_begun drained in cc);
+        stops = λ stopped. absurd (let bad : false ≡ true = ap has_begun stopped in cc);
+      };
+      done = λ begun. absurd (let bad : false ≡ true = begun in cc);
+      silent_if = λ off. ap (λ (s : Presented Note). s.notes) still;
+    };
+    started = refl;
+  }
+
+  -- and one that has worked, and then said that it is done
+  pub returned : (worker : ℕ) (ended : End) (pass : Drawn) (sender now : Presented Note)
+      → HasWorked may_stop lets site worker ended pass sender
+      → has_begun ended ≡ true → AreNotDone sender.notes → now ≡ with_note (Done worker) sender
+      → Returns may_stop lets site worker (shift_of pass now ended)
+  returned worker ended pass sender now h begun none is =
+      subst (λ (s : Presented Note). Returns may_stop lets site worker (shift_of pass s ended)) (sym is)
+      (record {
+        left = record {
+          worked = record {
+            number = h.number;
+            series = h.series;
+            places = h.places;
+            reports = reported_done site h.places sender worker h.reports;
+            drawn = h.drawn;
+            all = h.all;
+            heard = h.heard;
+            stops = h.stops;
+          };
+          done = λ _. (sender.notes, none, refl);
+          silent_if = λ off. absurd (let bad : true ≡ false = sym begun ∙ ap has_begun off in cc);
+        };
+        started = begun_started ended begun;
+      })
+
+  -- the closure of a worker for which no thread could be started was called in its place
+  pub unstarted : (worker : ℕ) (shift : Shift) (error : OutOfMemory) → Returns may_stop lets site worker shift
+      → Leaves may_stop lets site worker (shift_of shift.pass shift.sender (Unstarted error))
+  unstarted worker shift error h =
+      let worked = h.left.worked in
+      record {
+        worked = record {
+          number = worked.number;
+          series = worked.series;
+          places = worked.places;
+          reports = worked.reports;
+          drawn = worked.drawn;
+          all = λ drained. absurd (let bad : false ≡ true = ap has_begun drained in cc);
+          heard = λ drained. absurd (let bad : false ≡ true = ap has_begun drained in cc);
+          stops = λ stopped. absurd (let bad : false ≡ true = ap has_begun stopped in cc);
+        };
+        done = λ begun. absurd (let bad : false ≡ true = begun in cc);
+        silent_if = λ off. absurd (let bad : false ≡ true = ap was_started off in cc);
+      }
+
+-- ---- the first that was stopped
+
+-- one more that is back
+pub stopped_more : (shifts : List Shift) (shift : Shift)
+    → first_stopped (shifts ++ shift ∷ []) ≡ stopped_with (first_stopped shifts) shift.sender.number shift.end
+stopped_more [] shift = go (was_stopped shift.end)
   where
-    numbers : sender_numbers all ≡ sender_numbers passes ++ shift.sender.number ∷ []
-    numbers = ap sender_numbers is ∙ map-append (λ (s : Presented Note). s.number) passes (shift.sender ∷ [])
+    go : (b : Bool) → option_map (λ (s : Shift). s.sender.number) (cond b (Some shift) None) ≡ cond b (Some shift.sender.number) None
+    go true = refl
+    go false = refl
+stopped_more (s ∷ ss) shift = go (was_stopped s.end) (stopped_more ss shift)
+  where
+    number : Option Shift → Option ℕ
+    number o = option_map (λ (t : Shift). t.sender.number) o
 
-    member : (o : Option ℕ) → IfSome o (WasStopped stopped shift) → IfSome o (Contains (sender_numbers all))
-    member None h = tt
-    member (Some w) h =
-        subst (λ (l : List ℕ). Contains l w) (sym numbers)
-        (⊎_elim (λ (same : stopped ≡ Some w).
-        Contains-append_left (sender_numbers passes) (shift.sender.number ∷ []) w
-        (subst (λ (p : Option ℕ). IfSome p (Contains (sender_numbers passes))) same back.one))
-        (λ (x : (shift.end ≡ Stopped) × (w ≡ shift.sender.number)).
-        subst (Contains (sender_numbers passes ++ shift.sender.number ∷ [])) (sym x.1)
-        (Contains-push (sender_numbers passes) shift.sender.number)) h)
+    go : (b : Bool) → first_stopped (ss ++ shift ∷ []) ≡ stopped_with (first_stopped ss) shift.sender.number shift.end
+        → number (cond b (Some s) (find (λ t. was_stopped t.end) (ss ++ shift ∷ [])))
+        ≡ stopped_with (number (cond b (Some s) (find (λ t. was_stopped t.end) ss))) shift.sender.number shift.end
+    go true more = refl
+    go false more = more
 
-    go : (o : Option ℕ) → IfSome o (WasStopped stopped shift) → IfSome o (StopsAt may_stop site.missing.items)
-    go None h = tt
-    go (Some w) h =
-        ⊎_elim (λ (same : stopped ≡ Some w).
-        subst (λ (p : Option ℕ). IfSome p (StopsAt may_stop site.missing.items)) same back.stops)
-        (λ (x : (shift.end ≡ Stopped) × (w ≡ shift.sender.number)).
-        subst (StopsAt may_stop site.missing.items) (sym (x.1 ∙ leaves.number)) (leaves.stops x.0)) h
+stopped_is : (ended : End) → was_stopped ended ≡ true → ended ≡ Stopped
+stopped_is Drained h = absurd (cc)
+stopped_is Stopped h = refl
+stopped_is (Memory error) h = absurd (cc)
+stopped_is CalledOff h = absurd (cc)
+stopped_is (Unstarted error) h = absurd (cc)
+
+-- what holds of all that were stopped holds of the first
+pub of_first_stopped : (P : ℕ → Type 0) (shifts : List Shift) → All (λ s. s.end ≡ Stopped → P s.sender.number) shifts
+    → IfSome (first_stopped shifts) P
+of_first_stopped P [] h = tt
+of_first_stopped P (s ∷ ss) h =
+    go (was_stopped s.end) refl (of_first_stopped P ss (All-tail (λ t. t.end ≡ Stopped → P t.sender.number) s ss h))
+  where
+    go : (b : Bool) → was_stopped s.end ≡ b → IfSome (first_stopped ss) P
+        → IfSome (option_map (λ (t : Shift). t.sender.number) (cond b (Some s) (find (λ t. was_stopped t.end) ss))) P
+    go true is more = All-head (λ t. t.end ≡ Stopped → P t.sender.number) s ss h (stopped_is s.end is)
+    go false is more = more
+
+-- if none is the first, none was stopped
+pub none_stopped : (shifts : List Shift) → first_stopped shifts ≡ None → All (λ s. was_stopped s.end ≡ false) shifts
+none_stopped [] none = All-nil (λ s. was_stopped s.end ≡ false)
+none_stopped (s ∷ ss) none = go (was_stopped s.end) refl none
+    (λ h. none_stopped ss h)
+  where
+    go : (b : Bool) → was_stopped s.end ≡ b
+        → option_map (λ (t : Shift). t.sender.number) (cond b (Some s) (find (λ t. was_stopped t.end) ss)) ≡ None
+        → (first_stopped ss ≡ None → All (λ t. was_stopped t.end ≡ false) ss) → All (λ t. was_stopped t.end ≡ false) (s ∷ ss)
+    go true is gone more = absurd (let bad : Some s.sender.number ≡ None = gone in cc)
+    go false is gone more = All-cons (λ t. was_stopped t.end ≡ false) s ss is (more gone)

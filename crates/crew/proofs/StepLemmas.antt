@@ -1,48 +1,49 @@
 -- A crew is run a worker at a time.
-use Rattle.std.proofs.Common.{◌≡◌, ◌≤◌, ◌+◌, ◌-◌, ◌++◌, ◌∙◌, ◌<◌, ℕ, All, Bool, true, false, List, [], ◌∷◌, ap}
-use Rattle.std.proofs.Common.{append-nil, append_assoc, arith, length}
-use Rattle.std.proofs.Common.{map, subst, subst₂, sym}
-use Rattle.std.specs.Prelude.{IfSome, None, Option, vec_capacity}
+use Rattle.std.proofs.Common.{◌≡◌, ◌≢◌, ◌≤◌, ◌+◌, ◌-◌, ◌++◌, ◌∙◌, ◌<◌, ℕ, All, Bool, true, false, List, [], ◌∷◌, ap}
+use Rattle.std.proofs.Common.{arith, cond, length}
+use Rattle.std.proofs.Common.{map, refl, subst, subst₂, sym}
+use Rattle.std.specs.Prelude.{None, Option, Some, is_some, not, vec_capacity}
 use Rattle.std.specs.List.{range_with_len}
 use Rattle.std.proofs.lemmas.List.{length-append, length-map, map-append}
-use Rattle.std.proofs.lemmas.List.Elements.{All-head, All-nil}
+use Rattle.std.proofs.lemmas.List.Elements.{All-head, All-nil, All-push}
 use mir.Val.{bool_byte}
+use Rattle.memory.specs.declared.OutOfMemory.{OutOfMemory}
 use Rattle.haul_core.specs.Books.{Held}
 use Rattle.haul_core.specs.Reports.{IsWorker}
 use Rattle.handover.specs.Belts.{Presented, Received, silent}
 use Rattle.handover.specs.Tickets.{Drawn, fresh}
-use Rattle.crew.specs.CrewSteps.{HasRunAll, IsTakenOut, MayRun, collector_of}
-use Rattle.crew.specs.Crews.{Collected, collector_with}
-use Rattle.crew.specs.Shifts.{AreBack, HasWorked, Leaves, sender_numbers}
+use Rattle.crew.specs.CrewSteps.{HasRunAll, HaveRoom, HasAddedPost, IsTakenOut, MayRun, cause_of, collector_of, stopped_with}
+use Rattle.crew.specs.Crews.{Collected, Collector, collector_with}
+use Rattle.crew.specs.Shifts.{Leaves, how_many_started, lacks_memory, sender_numbers, was_started}
 use Rattle.crew.specs.declared.note.Note.{Note}
+use Rattle.crew.specs.declared.posts.Posts.{Posts}
 use Rattle.crew.specs.declared.shift.Shift.{Shift}
 use Rattle.crew.specs.declared.site.Site.{Site}
 use Rattle.crew.specs.declared.workers.Crew.{Crew}
-use Rattle.crew.specs.declared.posts.Posts.{Posts}
-use Rattle.crew.proofs.ShiftLemmas.{WasStopped, back_more}
-use Rattle.crew.proofs.TakeLemmas.{all_left, all_right, all_silent, all_workers, silent_length}
+use Rattle.crew.specs.declared.workers.CrewError.TheVariants as crew_error
+use Rattle.crew.proofs.ListLemmas.{all_left, all_right, count_append, count_cons}
+use Rattle.crew.proofs.ShiftLemmas.{stopped_more}
+use Rattle.crew.proofs.TakeLemmas.{all_silent, all_workers, silent_length}
 
 -- how a crew stands once only these posts are left, while so many of its workers more are away
-abbrev left_with : Crew → Posts → ℕ → Crew
+abbrev pub left_with : Crew → Posts → ℕ → Crew
 left_with crew posts started = record {
   posts = posts;
   haul = crew.haul;
   receiver = crew.receiver;
-  senders = crew.senders;
+  back = crew.back;
   away = crew.away + started;
   stopped = crew.stopped;
   lacking = crew.lacking;
 }
 
 -- at first all posts are there, and nobody is back
-pub ready_first : {may_stop : ℕ → ℕ → Type 0} (site : Site) (crew : Crew) (workers : ℕ)
+pub ready_first : (site : Site) (crew : Crew) (workers : ℕ)
     → All (λ p. p ≡ fresh site.tickets) crew.posts.passes.items → length crew.posts.passes.items ≡ workers
     → crew.posts.senders.items ≡ map (silent site.belt.name) (range_with_len 1 workers) → workers ≤ 16 → crew.away ≡ 0
-    → crew.receiver.belt ≡ site.belt → crew.senders.items ≡ [] → workers ≤ vec_capacity crew.senders → crew.stopped ≡ None
-    → MayRun may_stop site crew
-ready_first {may_stop} site crew workers passes many senders few away receiver none room stopped =
+    → crew.receiver.belt ≡ site.belt → HaveRoom workers crew.back → crew.stopped ≡ None → MayRun site crew
+ready_first site crew workers passes many senders few away receiver room stopped =
     let count : length crew.posts.senders.items ≡ workers = ap length senders ∙ silent_length site.belt.name workers in
-    let back : length crew.senders.items ≡ 0 = ap length none in
     record {
       passes = passes;
       senders = subst (All (λ (s : Presented Note). s ≡ silent site.belt.name s.number)) (sym senders)
@@ -52,11 +53,30 @@ ready_first {may_stop} site crew workers passes many senders few away receiver n
       many = many ∙ sym count;
       few = omega (arith, count, few, away);
       receiver = receiver;
-      room = omega (arith, count, back, room);
-      back = subst (λ (o : Option ℕ). AreBack may_stop site crew.senders.items o) (sym stopped)
-          (subst (λ (ps : List (Presented Note)). AreBack may_stop site ps None) (sym none)
-          (record { worked = All-nil (HasWorked site); stops = tt; one = tt }));
+      back = subst (λ (n : ℕ). HaveRoom n crew.back) (sym count) room;
+      stopped = stopped;
     }
+
+-- if there was no want of memory, all that was received was answered
+pub heard_if : {E : Type 0} (lacking : Option E) → lacking ≡ None → not (is_some lacking) ≡ true
+heard_if lacking none = ap (λ o. not (is_some o)) none
+
+-- what is told of a crew, and why
+pub cause_stopped : (stopped : Option ℕ) (lacking : Option OutOfMemory) (worker : ℕ)
+    → cause_of stopped lacking ≡ Some (crew_error.Stopped worker) → stopped ≡ Some worker
+cause_stopped (Some first) lacking worker is = cc
+cause_stopped None (Some error) worker is = absurd (cc)
+cause_stopped None None worker is = absurd (cc)
+
+pub cause_none : (stopped : Option ℕ) (lacking : Option OutOfMemory) → cause_of stopped lacking ≡ None → (stopped ≡ None) × (lacking ≡ None)
+cause_none (Some first) lacking is = absurd (cc)
+cause_none None (Some error) is = absurd (cc)
+cause_none None None is = (refl, refl)
+
+pub cause_open : (stopped : Option ℕ) (lacking : Option OutOfMemory) → cause_of stopped lacking ≢ Some crew_error.Closed
+cause_open (Some first) lacking is = absurd (cc)
+cause_open None (Some error) is = absurd (cc)
+cause_open None None is = absurd (cc)
 
 -- a test counts at most one
 pub one_at_most : (b : Bool) (n : ℕ) → n ≡ bool_byte b → n ≤ 1
@@ -67,9 +87,24 @@ one_at_most false n is = omega (arith, is)
 pub not_more : (a b n : ℕ) → n ≡ a + b → b ≤ n
 not_more a b n is = omega arith
 
-module _ {may_stop : ℕ → ℕ → Type 0} {site : Site} where
+-- one worker more, for whom a thread was started or not
+started_more : (shifts : List Shift) (shift : Shift) (b : Bool) (n : ℕ) → was_started shift.end ≡ b → n ≡ bool_byte b
+    → how_many_started (shifts ++ shift ∷ []) ≡ how_many_started shifts + n
+started_more shifts shift b n is byte =
+    let all = count_append (λ (s : Shift). was_started s.end) shifts (shift ∷ []) in
+    let one = count_cons (λ (s : Shift). was_started s.end) shift [] in
+    let here : cond {A = ℕ} (was_started shift.end) 1 0 ≡ cond {A = ℕ} b 1 0 = ap (λ (t : Bool). cond {A = ℕ} t 1 0) is in
+    let one_if : n ≡ cond {A = ℕ} b 1 0 = byte_is b byte in
+    let none : how_many_started [] ≡ 0 = refl in
+    omega arith
+  where
+    byte_is : (t : Bool) → n ≡ bool_byte t → n ≡ cond {A = ℕ} t 1 0
+    byte_is true e = e
+    byte_is false e = e
+
+module _ {site : Site} where
   -- the pass of the post that was taken out is fresh
-  pub pass_out : (next : Posts) (crew : Crew) (post : Drawn × Presented Note) → MayRun may_stop site crew
+  pub pass_out : (next : Posts) (crew : Crew) (post : Drawn × Presented Note) → MayRun site crew
       → IsTakenOut post crew.posts next
       → post.0 ≡ fresh site.tickets
   pass_out next crew post may is =
@@ -77,7 +112,7 @@ module _ {may_stop : ℕ → ℕ → Type 0} {site : Site} where
       All-head P post.0 [] (all_right P next.passes.items (post.0 ∷ []) (subst (All P) is.passes may.passes))
 
   -- and its sender has sent nothing
-  pub sender_out : (next : Posts) (crew : Crew) (post : Drawn × Presented Note) → MayRun may_stop site crew
+  pub sender_out : (next : Posts) (crew : Crew) (post : Drawn × Presented Note) → MayRun site crew
       → IsTakenOut post crew.posts next
       → post.1 ≡ silent site.belt.name post.1.number
   sender_out next crew post may is =
@@ -85,7 +120,7 @@ module _ {may_stop : ℕ → ℕ → Type 0} {site : Site} where
       All-head P post.1 [] (all_right P next.senders.items (post.1 ∷ []) (subst (All P) is.senders may.senders))
 
   -- and it is a worker's
-  pub worker_out : (next : Posts) (crew : Crew) (post : Drawn × Presented Note) → MayRun may_stop site crew
+  pub worker_out : (next : Posts) (crew : Crew) (post : Drawn × Presented Note) → MayRun site crew
       → IsTakenOut post crew.posts next
       → IsWorker post.1.number
   worker_out next crew post may is =
@@ -94,8 +129,8 @@ module _ {may_stop : ℕ → ℕ → Type 0} {site : Site} where
 
   -- with the posts that are left the crew may be run
   pub others_may_run : (next : Posts) (crew : Crew) (post : Drawn × Presented Note) (started : ℕ) → started ≤ 1
-      → MayRun may_stop site crew
-      → IsTakenOut post crew.posts next → MayRun may_stop site (left_with crew next started)
+      → MayRun site crew
+      → IsTakenOut post crew.posts next → MayRun site (left_with crew next started)
   others_may_run next crew post started one may is =
       let P : Drawn → Type 0 = λ p. p ≡ fresh site.tickets in
       let S : Presented Note → Type 0 = λ s. s ≡ silent site.belt.name s.number in
@@ -105,7 +140,8 @@ module _ {may_stop : ℕ → ℕ → Type 0} {site : Site} where
       ap length is.senders ∙ length-append next.senders.items (post.1 ∷ []) in
       let many = may.many in
       let few = may.few in
-      let room = may.room in
+      let for_passes = may.back.for_passes in
+      let for_senders = may.back.for_senders in
       record {
         passes = all_left P next.passes.items (post.0 ∷ []) (subst (All P) is.passes may.passes);
         senders = all_left S next.senders.items (post.1 ∷ []) (subst (All S) is.senders may.senders);
@@ -114,70 +150,112 @@ module _ {may_stop : ℕ → ℕ → Type 0} {site : Site} where
         many = omega (arith, passes, senders, many);
         few = omega (arith, senders, one, few);
         receiver = may.receiver;
-        room = omega (arith, senders, room);
-        back = may.back;
+        back = record {
+          no_passes = may.back.no_passes;
+          no_senders = may.back.no_senders;
+          for_passes = omega (arith, senders, for_passes);
+          for_senders = omega (arith, senders, for_senders);
+        };
+        stopped = may.stopped;
       }
 
-  -- the others are back, and there is room for one more
-  pub room_for_one : (next : Posts) (crew mid : Crew) (post : Drawn × Presented Note) (started : ℕ)
-      → MayRun may_stop site crew
-      → IsTakenOut post crew.posts next → HasRunAll may_stop site (left_with crew next started) mid
-      → length mid.senders.items < vec_capacity mid.senders
-  room_for_one next crew mid post started may is ran =
-      let number : Presented Note → ℕ = λ s. s.number in
+module _ {may_stop lets : ℕ → ℕ → Type 0} {site : Site} where
+  -- so many are back as there were posts
+  as_many : (old new : Crew) (ran : HasRunAll may_stop lets site old new) → length ran.shifts ≡ length old.posts.senders.items
+  as_many old new ran =
+      sym (length-map ran.shifts (λ (s : Shift). s.sender.number)) ∙ ap length ran.numbers
+      ∙ length-map old.posts.senders.items (λ (s : Presented Note). s.number)
+
+  -- the others are back, and there is room for one pass more
+  pub pass_room : (next : Posts) (crew mid : Crew) (post : Drawn × Presented Note) (started : ℕ) → MayRun site crew
+      → IsTakenOut post crew.posts next → HasRunAll may_stop lets site (left_with crew next started) mid
+      → length mid.back.passes.items < vec_capacity mid.back.passes
+  pass_room next crew mid post started may is ran =
       let senders : length crew.posts.senders.items ≡ length next.senders.items + 1 =
       ap length is.senders ∙ length-append next.senders.items (post.1 ∷ []) in
-      let all : length (sender_numbers mid.senders.items) ≡ length (sender_numbers crew.senders.items) + length (sender_numbers next.senders.items) =
-      ap length ran.numbers ∙ length-append (sender_numbers crew.senders.items) (sender_numbers next.senders.items) in
-      let a : length (sender_numbers mid.senders.items) ≡ length mid.senders.items = length-map mid.senders.items number in
-      let b : length (sender_numbers crew.senders.items) ≡ length crew.senders.items = length-map crew.senders.items number in
-      let d : length (sender_numbers next.senders.items) ≡ length next.senders.items = length-map next.senders.items number in
-      let same : vec_capacity mid.senders ≡ vec_capacity crew.senders = ran.room in
-      let room = may.room in
-      omega (arith, senders, all, a, b, d, same, room)
+      let back : length mid.back.passes.items ≡ length ran.shifts = ap length ran.passes ∙ length-map ran.shifts (λ (s : Shift). s.pass) in
+      let all = as_many (left_with crew next started) mid ran in
+      let same = ran.for_passes in
+      let room = may.back.for_passes in
+      omega (arith, senders, back, all, same, room)
+
+  -- and for one sender more
+  pub sender_room : (next : Posts) (crew mid : Crew) (post : Drawn × Presented Note) (started : ℕ) → MayRun site crew
+      → IsTakenOut post crew.posts next → HasRunAll may_stop lets site (left_with crew next started) mid
+      → length mid.back.senders.items < vec_capacity mid.back.senders
+  sender_room next crew mid post started may is ran =
+      let senders : length crew.posts.senders.items ≡ length next.senders.items + 1 =
+      ap length is.senders ∙ length-append next.senders.items (post.1 ∷ []) in
+      let back : length mid.back.senders.items ≡ length ran.shifts =
+      ap length ran.senders ∙ length-map ran.shifts (λ (s : Shift). s.sender) in
+      let all = as_many (left_with crew next started) mid ran in
+      let same = ran.for_senders in
+      let room = may.back.for_senders in
+      omega (arith, senders, back, all, same, room)
 
   -- no post is left, and the notes of all that were started are collected
-  pub run_none : (crew new : Crew) → MayRun may_stop site crew → crew.posts.senders.items ≡ []
-      → (answered : Bool) × Collected (collector_of crew.away crew) (collector_of 0 new) answered
-      → new.senders ≡ crew.senders
-      → new.stopped ≡ crew.stopped → new.away ≡ crew.away → HasRunAll may_stop site crew new
-  run_none crew new may none collected senders stopped away = record {
-    back = subst₂ (λ (ps : List (Presented Note)) (o : Option ℕ). AreBack may_stop site ps o)
-        (sym (ap (λ v. v.items) senders)) (sym stopped) may.back;
-    numbers =
-        ap (λ v. sender_numbers v.items) senders
-        ∙ sym (ap (λ (ps : List (Presented Note)). sender_numbers crew.senders.items ++ sender_numbers ps) none
-        ∙ append-nil (sender_numbers crew.senders.items));
-    room = ap (λ v. vec_capacity v) senders;
-    away = away;
-    collected = (crew.away, collected.0, collected.1);
-  }
+  pub run_none : (crew new : Crew) (answered : Bool) → MayRun site crew → crew.posts.senders.items ≡ []
+      → Collected (collector_of crew.away crew) (collector_of 0 new) answered → (new.lacking ≡ None → answered ≡ true)
+      → new.back ≡ crew.back → new.stopped ≡ crew.stopped → new.away ≡ crew.away → HasRunAll may_stop lets site crew new
+  run_none crew new answered may none collected heard back stopped away =
+      record {
+        shifts = [];
+        left = All-nil (λ (s : Shift). Leaves may_stop lets site s.sender.number s);
+        numbers = sym (ap sender_numbers none);
+        passes = ap (λ (b : Posts). b.passes.items) back ∙ may.back.no_passes;
+        senders = ap (λ (b : Posts). b.senders.items) back ∙ may.back.no_senders;
+        for_passes = ap (λ (b : Posts). vec_capacity b.passes) back;
+        for_senders = ap (λ (b : Posts). vec_capacity b.senders) back;
+        away = away;
+        stopped = stopped ∙ may.stopped;
+        answered = answered;
+        heard = heard;
+        lacking = λ _. All-nil (λ (s : Shift). lacks_memory s.end ≡ false);
+        collected = let same : crew.away ≡ crew.away + how_many_started [] = (let zero_is : how_many_started [] ≡ 0 = refl in omega arith) in
+            subst (λ (n : ℕ). Collected (collector_of n crew) (collector_of 0 new) answered) same collected;
+      }
 
   -- the others are back, and then the worker that was started first of these
-  pub run_more : (next : Posts) (crew mid new : Crew) (post : Drawn × Presented Note) (shift : Shift) (started : ℕ)
-      → IsTakenOut post crew.posts next → HasRunAll may_stop site (left_with crew next started) mid
-      → Leaves may_stop site post.1.number shift
-      → new.senders.items ≡ mid.senders.items ++ shift.sender ∷ [] → vec_capacity new.senders ≡ vec_capacity mid.senders
-      → IfSome new.stopped (WasStopped mid.stopped shift) → new.haul ≡ mid.haul → new.receiver ≡ mid.receiver
-      → new.away ≡ mid.away - started → HasRunAll may_stop site crew new
-  run_more next crew mid new post shift started is ran leaves senders room stopped haul receiver away = record {
-    back = back_more mid.senders.items new.senders.items shift mid.stopped new.stopped post.1.number ran.back leaves
-        senders stopped;
-    numbers =
-        ap sender_numbers senders ∙ map-append number mid.senders.items (shift.sender ∷ [])
-        ∙ (λ i. ran.numbers i ++ leaves.number i ∷ [])
-        ∙ append_assoc (sender_numbers crew.senders.items) (sender_numbers next.senders.items) (post.1.number ∷ [])
-        ∙ ap (λ (ns : List ℕ). sender_numbers crew.senders.items ++ ns)
-        (sym (ap sender_numbers is.senders ∙ map-append number next.senders.items (post.1 ∷ [])));
-    room = room ∙ ran.room;
-    away = away ∙ ap (λ (n : ℕ). n - started) ran.away ∙ omega arith;
-    collected = (
-      ran.collected.0,
-      ran.collected.1,
-      subst₂ (λ (r : Received Note) (h : Held).
-          Collected (collector_of ran.collected.0 crew) (collector_with 0 r h) ran.collected.1) (sym receiver) (sym haul) ran.collected.2,
-    );
-  }
+  pub run_more : (next : Posts) (crew mid new : Crew) (post : Drawn × Presented Note) (shift : Shift) (b : Bool) (started : ℕ)
+      → IsTakenOut post crew.posts next → HasRunAll may_stop lets site (left_with crew next started) mid
+      → Leaves may_stop lets site post.1.number shift → was_started shift.end ≡ b → started ≡ bool_byte b
+      → HasAddedPost shift.pass shift.sender mid.back new.back
+      → new.stopped ≡ stopped_with mid.stopped shift.sender.number shift.end
+      → (new.lacking ≡ None → mid.lacking ≡ None) → (new.lacking ≡ None → lacks_memory shift.end ≡ false)
+      → new.haul ≡ mid.haul → new.receiver ≡ mid.receiver → new.away ≡ mid.away - started → HasRunAll may_stop lets site crew new
+  run_more next crew mid new post shift b started is ran leaves with_thread byte back stopped before memory haul receiver away =
+      record {
+        shifts = ran.shifts ++ shift ∷ [];
+        left = All-push L ran.shifts shift ran.left
+            (subst (λ (w : ℕ). Leaves may_stop lets site w shift) (sym leaves.worked.number) leaves);
+        numbers =
+            map-append number ran.shifts (shift ∷ []) ∙ (λ i. ran.numbers i ++ leaves.worked.number i ∷ [])
+            ∙ sym (ap sender_numbers is.senders ∙ map-append (λ (s : Presented Note). s.number) next.senders.items (post.1 ∷ []));
+        passes = back.passes ∙ (λ i. ran.passes i ++ shift.pass ∷ []) ∙ sym (map-append (λ (s : Shift). s.pass) ran.shifts (shift ∷ []));
+        senders = back.senders ∙ (λ i. ran.senders i ++ shift.sender ∷ [])
+            ∙ sym (map-append (λ (s : Shift). s.sender) ran.shifts (shift ∷ []));
+        for_passes = back.for_passes ∙ ran.for_passes;
+        for_senders = back.for_senders ∙ ran.for_senders;
+        away = away ∙ ap (λ (n : ℕ). n - started) ran.away ∙ omega arith;
+        stopped =
+            stopped ∙ ap (λ (o : Option ℕ). stopped_with o shift.sender.number shift.end) ran.stopped
+            ∙ sym (stopped_more ran.shifts shift);
+        answered = ran.answered;
+        heard = λ none. ran.heard (before none);
+        lacking = λ none. All-push (λ (s : Shift). lacks_memory s.end ≡ false) ran.shifts shift (ran.lacking (before none)) (memory none);
+        collected = subst (λ (n : ℕ). Collected (collector_of n crew) (collector_of 0 new) ran.answered) all
+            (subst₂ (λ (r : Received Note) (h : Held). Collected awaited (collector_with 0 r h) ran.answered)
+            (sym receiver) (sym haul) ran.collected);
+      }
     where
-      number : Presented Note → ℕ
-      number s = s.number
+      number : Shift → ℕ
+      number s = s.sender.number
+
+      L : Shift → Type 0
+      L s = Leaves may_stop lets site s.sender.number s
+
+      awaited : Collector
+      awaited = collector_of (crew.away + started + how_many_started ran.shifts) crew
+
+      all : crew.away + started + how_many_started ran.shifts ≡ crew.away + how_many_started (ran.shifts ++ shift ∷ [])
+      all = let more = started_more ran.shifts shift b started with_thread byte in omega arith

@@ -1,16 +1,15 @@
 -- From what each worker presented to what the haul has taken.
-use Rattle.std.proofs.Common.{◌≡◌, ◌≢◌, ◌<◌, ◌≤◌, ◌+◌, ◌++◌, ◌∙◌, ℕ, zero, suc, Bool, cond, nat_eq, All, List, [], ◌∷◌, ap, arith, drop, filter, get_or, inl, inr}
+use Rattle.std.proofs.Common.{◌≡◌, ◌≢◌, ◌≤◌, ◌+◌, ◌++◌, ◌∙◌, ℕ, zero, suc, Bool, cond, nat_eq, All, List, [], ◌∷◌, ap, arith, drop, filter, get_or, inl, inr}
 use Rattle.std.proofs.Common.{length, map, refl, subst, sym, ⊎_elim}
-use Rattle.std.specs.Prelude.{AllPairs, Contains, IfSome, None, Option, Some, slice_index}
+use Rattle.std.specs.Prelude.{Contains, IfSome, Option, Some, slice_index}
 use Rattle.std.specs.List.Sorted.{IsStrictlyIncreasing}
 use Rattle.std.specs.List.{IsDistinct, range_with_len}
 use Rattle.std.proofs.lemmas.Bool.{eq-eqb, ne_eqb}
 use Rattle.std.proofs.lemmas.Grind.{flat_map-append}
 use Rattle.std.proofs.lemmas.List.{length-map, map-append}
 use Rattle.std.proofs.lemmas.List.FromFn.{length-range_with_len}
-use Rattle.std.proofs.lemmas.List.Elements.{All-append, All-cons, All-contains, All-head, All-nil, All-tail, Contains-get_or}
-use Rattle.std.proofs.lemmas.List.Kept.{AllPairs-cons, AllPairs-from_increasing}
-use Rattle.std.proofs.lemmas.Map.Keys.{IsDistinct-tail}
+use Rattle.std.proofs.lemmas.List.Elements.{All-append, All-cons, All-head, All-map, All-nil, All-tail}
+use Rattle.std.proofs.lemmas.List.Kept.{AllPairs-from_increasing}
 use mathlib.Core.Logic.{dite}
 use native.Mathlib.Decide.{ℕ_discrete}
 use Rattle.atomic_table.specs.Seated.{TableId}
@@ -20,148 +19,75 @@ use Rattle.haul_core.specs.Books.{Held, entry}
 use Rattle.haul_core.specs.Keeping.{numbers_in}
 use Rattle.haul_core.specs.Reports.{IsWorker, Reported}
 use Rattle.handover.specs.Belts.{IsWhole, Presented, Received, deaf, notes_of, silent}
-use Rattle.crew.specs.Crews.{Collected, Collector, report_in, reports_in}
-use Rattle.crew.specs.Shifts.{HasWorked, StopsAt, reported, sender_numbers}
+use Rattle.handover.specs.Tickets.{Drawn}
+use Rattle.crew.specs.CrewSteps.{HasRunAll}
+use Rattle.crew.specs.Crews.{report_in, reports_in}
+use Rattle.crew.specs.Shifts.{HasReported, IsOwnReport, Leaves, StopsAt, reported, sender_numbers}
 use Rattle.crew.specs.Takes.{HasTaken, taken_by, was_missing}
 use Rattle.crew.specs.declared.note.Note.{Note}
 use Rattle.crew.specs.declared.note.Note.TheVariants.{Done, Report}
+use Rattle.crew.specs.declared.shift.Shift.{Shift}
 use Rattle.crew.specs.declared.site.Site.{Site}
+use Rattle.crew.specs.declared.workers.Crew.{Crew}
 use Rattle.handover.proofs.BeltLemmas.{notes_first, notes_other}
 use Rattle.crew.proofs.CrewLemmas.{added_none}
-
-abbrev Rises : List ℕ → Type 0
-Rises xs = AllPairs (λ x y. x < y) xs
-
--- ---- facts of parts of a list
-
-module _ {X : Type 0} (P : X → Type 0) where
-  pub all_left : (xs ys : List X) → All P (xs ++ ys) → All P xs
-  all_left [] ys h = All-nil P
-  all_left (x ∷ xs) ys h = All-cons P x xs (All-head P x (xs ++ ys) h) (all_left xs ys (All-tail P x (xs ++ ys) h))
-
-  pub all_right : (xs ys : List X) → All P (xs ++ ys) → All P ys
-  all_right [] ys h = h
-  all_right (x ∷ xs) ys h = all_right xs ys (All-tail P x (xs ++ ys) h)
-
-  pub all_part : (part xs : List X) → IsSubsequence part xs → All P xs → All P part
-  all_part part [] p h = subst (All P) (sym p) (All-nil P)
-  all_part part (x ∷ xs) p h =
-      ⊎_elim (λ (q : IsSubsequence part xs). all_part part xs q (All-tail P x xs h))
-      (λ (q : (remainder : List X) × (part ≡ x ∷ remainder) × IsSubsequence remainder xs).
-      subst (All P) (sym q.1) (All-cons P x q.0 (All-head P x xs h) (all_part q.0 xs q.2 (All-tail P x xs h)))) p
-
-rises_head : (x : ℕ) (xs : List ℕ) → Rises (x ∷ xs) → All (λ y. x < y) xs
-rises_head x xs h k d lt = h 0 (suc k) d (omega arith) (omega arith)
-
-rises_tail : (x : ℕ) (xs : List ℕ) → Rises (x ∷ xs) → Rises xs
-rises_tail x xs h i j d lt below = h (suc i) (suc j) d (omega arith) (omega arith)
-
-rises_left : (xs ys : List ℕ) → Rises (xs ++ ys) → Rises xs
-rises_left [] ys h = λ i j d lt below. absurd (omega arith)
-rises_left (x ∷ xs) ys h =
-    AllPairs-cons (λ a b. a < b) x xs (all_left (λ y. x < y) xs ys (rises_head x (xs ++ ys) h)) (rises_left xs ys (rises_tail x (xs ++ ys) h))
-
-rises_part : (part xs : List ℕ) → IsSubsequence part xs → Rises xs → Rises part
-rises_part part [] p h = subst Rises (sym p) h
-rises_part part (x ∷ xs) p h =
-    ⊎_elim (λ (q : IsSubsequence part xs). rises_part part xs q (rises_tail x xs h))
-    (λ (q : (remainder : List ℕ) × (part ≡ x ∷ remainder) × IsSubsequence remainder xs).
-    subst Rises (sym q.1) (AllPairs-cons (λ a b. a < b) x q.0 (all_part (λ y. x < y) q.0 xs q.2 (rises_head x xs h))
-    (rises_part q.0 xs q.2 (rises_tail x xs h)))) p
-
-pub distinct_right : (xs ys : List ℕ) → IsDistinct nat_eq (xs ++ ys) → IsDistinct nat_eq ys
-distinct_right [] ys h = h
-distinct_right (x ∷ xs) ys h = distinct_right xs ys (IsDistinct-tail nat_eq x (xs ++ ys) h)
-
--- ---- numbers at places of the missing list
-
-at_places : (missing places : List ℕ) → All (λ t. t < length missing) places → All (Contains missing) (map (slice_index missing) places)
-at_places missing [] below = All-nil (Contains missing)
-at_places missing (t ∷ ts) below =
-    All-cons (Contains missing) (slice_index missing t) (map (slice_index missing) ts)
-    (Contains-get_or missing t 0 (All-head (λ s. s < length missing) t ts below))
-    (at_places missing ts (All-tail (λ s. s < length missing) t ts below))
-
-above : (missing : List ℕ) → Rises missing → (t : ℕ) (ts : List ℕ) → All (λ s. t < s) ts → All (λ s. s < length missing) ts
-    → All (λ n. slice_index missing t < n) (map (slice_index missing) ts)
-above missing up t [] more below = All-nil (λ n. slice_index missing t < n)
-above missing up t (s ∷ ss) more below =
-    All-cons (λ n. slice_index missing t < n) (slice_index missing s) (map (slice_index missing) ss)
-    (up t s 0 (All-head (λ u. t < u) s ss more) (All-head (λ u. u < length missing) s ss below))
-    (above missing up t ss (All-tail (λ u. t < u) s ss more) (All-tail (λ u. u < length missing) s ss below))
-
-rises_at : (missing places : List ℕ) → Rises missing → Rises places → All (λ t. t < length missing) places → Rises (map (slice_index missing) places)
-rises_at missing [] up rise below = λ i j d lt small. absurd (omega arith)
-rises_at missing (t ∷ ts) up rise below =
-    AllPairs-cons (λ a b. a < b) (slice_index missing t) (map (slice_index missing) ts)
-    (above missing up t ts (rises_head t ts rise) (All-tail (λ s. s < length missing) t ts below))
-    (rises_at missing ts up (rises_tail t ts rise) (All-tail (λ s. s < length missing) t ts below))
+use Rattle.crew.proofs.ListLemmas.{Rises, all_left, all_part, all_right, all_unmap, at_places, distinct_right, in_range, range_within}
+use Rattle.crew.proofs.ListLemmas.{rises_at, rises_left, rises_part}
+use Rattle.crew.proofs.ShiftLemmas.{of_first_stopped}
 
 -- ---- what was received of one worker
 
--- a report of the worker for the job, of a missing number
-abbrev IsOwn : Job → List ℕ → ℕ → Reported → Type 0
-IsOwn job missing worker r = (r.worker ≡ worker) × Contains missing r.number × (r.job ≡ job)
+-- a report of the worker for the job, of a missing number that its gate let it survey
+abbrev IsOwn : (ℕ → ℕ → Type 0) → Job → List ℕ → ℕ → Reported → Type 0
+IsOwn lets job missing worker r = IsOwnReport lets job worker r × Contains missing r.number
 
-pub record ReceivedOf (job : Job) (missing : List ℕ) (worker : ℕ) (got : List (ℕ × Note)) : Type 0 where
-  pub own : All (IsOwn job missing worker) (reported (notes_of worker got))
+pub record ReceivedOf (lets : ℕ → ℕ → Type 0) (job : Job) (missing : List ℕ) (worker : ℕ) (got : List (ℕ × Note)) : Type 0 where
+  pub own : All (IsOwn lets job missing worker) (reported (notes_of worker got))
   pub rises : Rises (map (λ r. r.number) (reported (notes_of worker got)))
 
-both : (job : Job) (missing : List ℕ) (worker : ℕ) (rs : List Reported) → All (λ r. r.worker ≡ worker) rs
-    → All (Contains missing) (map (λ (r : Reported). r.number) rs) → All (λ (r : Reported). r.job ≡ job) rs → All (IsOwn job missing worker) rs
-both job missing worker [] own listed of = All-nil (IsOwn job missing worker)
-both job missing worker (r ∷ rs) own listed of =
-    All-cons (IsOwn job missing worker) r rs (
-      All-head (λ (s : Reported). s.worker ≡ worker) r rs own,
-      All-head (Contains missing) r.number (map (λ (s : Reported). s.number) rs) listed,
-      All-head (λ (s : Reported). s.job ≡ job) r rs of,
-    )
-    (both job missing worker rs (All-tail (λ (s : Reported). s.worker ≡ worker) r rs own)
-    (All-tail (Contains missing) r.number (map (λ (s : Reported). s.number) rs) listed) (All-tail (λ (s : Reported). s.job ≡ job) r rs of))
+both : (lets : ℕ → ℕ → Type 0) (job : Job) (missing : List ℕ) (worker : ℕ) (rs : List Reported) → All (IsOwnReport lets job worker) rs
+    → All (Contains missing) (map (λ (r : Reported). r.number) rs) → All (IsOwn lets job missing worker) rs
+both lets job missing worker rs own listed =
+    let at = all_unmap (Contains missing) (λ (r : Reported). r.number) rs listed in
+    λ k d lt. (own k d lt, at k d lt)
 
-received_of : (site : Site) (got : List (ℕ × Note)) (pass : Presented Note) → Rises site.missing.items
-    → HasWorked site pass
-    → IsWhole got pass → ReceivedOf site.job site.missing.items pass.number got
-received_of site got pass up worked whole =
+received_of : {lets : ℕ → ℕ → Type 0} (site : Site) (places : List ℕ) (got : List (ℕ × Note)) (sender : Presented Note)
+    → Rises site.missing.items → HasReported lets site places sender
+    → IsWhole got sender → ReceivedOf lets site.job site.missing.items sender.number got
+received_of {lets} site places got sender up h whole =
     let job = site.job in
     let missing = site.missing.items in
-    let h = worked.1 in
-    let front = notes_of pass.number got in
-    let remainder = drop (length front) pass.notes in
-    let parts : reported pass.notes ≡ reported front ++ reported remainder = ap reported (sym whole) ∙ flat_map-append report_in front remainder in
+    let front = notes_of sender.number got in
+    let remainder = drop (length front) sender.notes in
+    let parts : reported sender.notes ≡ reported front ++ reported remainder =
+    ap reported (sym whole) ∙ flat_map-append report_in front remainder in
     let number : Reported → ℕ = λ r. r.number in
-    let numbers : map number (reported front) ++ map number (reported remainder) ≡ map (slice_index missing) worked.0 =
+    let numbers : map number (reported front) ++ map number (reported remainder) ≡ map (slice_index missing) places =
     sym (map-append number (reported front) (reported remainder)) ∙ ap (λ (l : List Reported). map number l) (sym parts) ∙ h.numbers in
     record {
-      own = both job missing pass.number (reported front)
-          (all_left (λ (r : Reported). r.worker ≡ pass.number) (reported front) (reported remainder)
-          (subst (λ (l : List Reported). All (λ (r : Reported). r.worker ≡ pass.number) l) parts h.own))
+      own = both lets job missing sender.number (reported front)
+          (all_left (IsOwnReport lets job sender.number) (reported front) (reported remainder)
+          (subst (All (IsOwnReport lets job sender.number)) parts h.own))
           (all_left (Contains missing) (map number (reported front)) (map number (reported remainder))
-          (subst (All (Contains missing)) (sym numbers) (at_places missing worked.0 h.below)))
-          (all_left (λ (r : Reported). r.job ≡ job) (reported front) (reported remainder)
-          (subst (λ (l : List Reported). All (λ (r : Reported). r.job ≡ job) l) parts h.of_job));
+          (subst (All (Contains missing)) (sym numbers) (at_places missing places h.below)));
       rises = rises_left (map number (reported front)) (map number (reported remainder))
-          (subst Rises (sym numbers) (rises_at missing worked.0 up h.ascending h.below));
+          (subst Rises (sym numbers) (rises_at missing places up h.ascending h.below));
     }
 
--- each worker's number is that of a sender
-sender_of : (P : ℕ → Type 0) (first n : ℕ) (passes : List (Presented Note)) → sender_numbers passes ≡ range_with_len first n
-    → All (λ (s : Presented Note). P s.number) passes → (worker : ℕ) → first ≤ worker → worker < first + n → P worker
-sender_of P first zero passes is all worker le lt = absurd (omega arith)
-sender_of P first (suc n) [] is all worker le lt = absurd (let e : 0 ≡ suc (length (range_with_len (first + 1) n)) = ap length is in omega arith)
-sender_of P first (suc n) (s ∷ ss) is all worker le lt =
-    dite (ℕ_discrete first worker)
-    (λ same. subst P (ap (λ (l : List ℕ). get_or l 0 0) is ∙ same) (All-head (λ (t : Presented Note). P t.number) s ss all))
-    (λ apart. sender_of P (first + 1) n ss (ap (λ (l : List ℕ). drop 1 l) is) (All-tail (λ (t : Presented Note). P t.number) s ss all) worker
-    (omega (arith, apart)) (omega arith))
+-- what holds of the number of each shift holds of each worker's
+pub each_worker : (P : ℕ → Type 0) (workers : ℕ) (shifts : List Shift) → map (λ s. s.sender.number) shifts ≡ range_with_len 1 workers
+    → All (λ s. P s.sender.number) shifts → (worker : ℕ) → 1 ≤ worker → worker ≤ workers → P worker
+each_worker P workers shifts numbers all worker le ge =
+    in_range P 1 workers worker (subst (All P) numbers (All-map P (λ (s : Shift). s.sender.number) shifts all)) le (omega (arith, ge))
 
-pub received_each : (site : Site) (got : List (ℕ × Note)) (passes : List (Presented Note)) (workers : ℕ)
-    → Rises site.missing.items
-    → sender_numbers passes ≡ range_with_len 1 workers → All (HasWorked site) passes → All (IsWhole got) passes
-    → (worker : ℕ) → 1 ≤ worker → worker ≤ workers → ReceivedOf site.job site.missing.items worker got
-received_each site got passes workers up numbers worked whole worker le ge =
-    sender_of (λ w. ReceivedOf site.job site.missing.items w got) 1 workers passes numbers
-    (λ k d lt. received_of site got (get_or passes k d) up (worked k d lt) (whole k d lt)) worker le (omega arith)
+received_each : {may_stop lets : ℕ → ℕ → Type 0} (site : Site) (got : List (ℕ × Note)) (shifts : List Shift) (workers : ℕ)
+    → Rises site.missing.items → map (λ s. s.sender.number) shifts ≡ range_with_len 1 workers
+    → All (λ s. Leaves may_stop lets site s.sender.number s) shifts → All (λ s. IsWhole got s.sender) shifts
+    → (worker : ℕ) → 1 ≤ worker → worker ≤ workers → ReceivedOf lets site.job site.missing.items worker got
+received_each {lets = lets} site got shifts workers up numbers left whole =
+    each_worker (λ w. ReceivedOf lets site.job site.missing.items w got) workers shifts numbers
+    (λ k d lt. let worked = (left k d lt).worked in
+    received_of site worked.places got (get_or shifts k d).sender up worked.reports (whole k d lt))
 
 -- ---- what was received of all workers
 
@@ -221,18 +147,19 @@ taken_part w part (r ∷ rs) p =
     subst (λ (l : List ℕ). IsSubsequence l (taken_by w (map entry rs)))
     (sym (ap (λ (l : List Reported). taken_by w (map entry l)) q.1 ∙ by_no w (entry r) (map entry q.0) apart)) (taken_part w q.0 rs q.2)) p))
 
-taken_all : (job : Job) (missing : List ℕ) (w : ℕ) (got : List (ℕ × Note)) → All (λ m. All (IsOwn job missing m.0) (report_in m.1)) got
+taken_all : (lets : ℕ → ℕ → Type 0) (job : Job) (missing : List ℕ) (w : ℕ) (got : List (ℕ × Note))
+    → All (λ m. All (IsOwn lets job missing m.0) (report_in m.1)) got
     → taken_by w (map entry (reports_in got)) ≡ map (λ r. r.number) (reported (notes_of w got))
-taken_all job missing w [] own = refl
-taken_all job missing w ((p, Done worker) ∷ ms) own =
-    let more = taken_all job missing w ms (All-tail (λ (m : ℕ × Note). All (IsOwn job missing m.0) (report_in m.1)) (p, Done worker) ms own) in
+taken_all lets job missing w [] own = refl
+taken_all lets job missing w ((p, Done worker) ∷ ms) own =
+    let more = taken_all lets job missing w ms (All-tail (λ (m : ℕ × Note). All (IsOwn lets job missing m.0) (report_in m.1)) (p, Done worker) ms own) in
     dite (ℕ_discrete w p)
     (λ same. more ∙ sym (ap (λ (l : List Note). map (λ (r : Reported). r.number) (reported l)) (notes_first p w (Done worker) ms same)))
     (λ apart. more ∙ sym (ap (λ (l : List Note). map (λ (r : Reported). r.number) (reported l)) (notes_other p w (Done worker) ms apart)))
-taken_all job missing w ((p, Report r) ∷ ms) own =
-    let more = taken_all job missing w ms (All-tail (λ (m : ℕ × Note). All (IsOwn job missing m.0) (report_in m.1)) (p, Report r) ms own) in
+taken_all lets job missing w ((p, Report r) ∷ ms) own =
+    let more = taken_all lets job missing w ms (All-tail (λ (m : ℕ × Note). All (IsOwn lets job missing m.0) (report_in m.1)) (p, Report r) ms own) in
     let mine : r.worker ≡ p =
-    (All-head (IsOwn job missing p) r [] (All-head (λ (m : ℕ × Note). All (IsOwn job missing m.0) (report_in m.1)) (p, Report r) ms own)).0 in
+    (All-head (IsOwn lets job missing p) r [] (All-head (λ (m : ℕ × Note). All (IsOwn lets job missing m.0) (report_in m.1)) (p, Report r) ms own)).0.0 in
     dite (ℕ_discrete w p)
     (λ same. by_yes w (entry r) (map entry (reports_in ms)) (same ∙ sym mine) ∙ ap (λ (l : List ℕ). r.number ∷ l) more
     ∙ sym (ap (λ (l : List Note). map (λ (s : Reported). s.number) (reported l)) (notes_first p w (Report r) ms same)))
@@ -241,65 +168,65 @@ taken_all job missing w ((p, Report r) ∷ ms) own =
 
 -- ---- the whole crew
 
-range_within : (first n last : ℕ) → first + n ≤ last + 1 → All (λ v. (first ≤ v) × (v ≤ last)) (range_with_len first n)
-range_within first zero last le = All-nil (λ v. (first ≤ v) × (v ≤ last))
-range_within first (suc n) last le =
-    let more = range_within (first + 1) n last (omega arith) in
-    All-cons (λ v. (first ≤ v) × (v ≤ last)) first (range_with_len (first + 1) n) (omega arith, omega arith)
-    (λ k d lt. let m = more k d lt in (omega (arith, m.0), m.1))
-
 -- some of the reports that were received of the workers
-record OfCrew (workers : ℕ) (job : Job) (missing : List ℕ) (part : List Reported) : Type 0 where
-  of_job : All (λ r. r.job ≡ job) part
-  by_workers : All (λ r. (1 ≤ r.worker) × (r.worker ≤ workers)) part
-  listed : All (λ r. Contains missing r.number) part
-  rises : (worker : ℕ) → 1 ≤ worker → worker ≤ workers → Rises (taken_by worker (map entry part))
+pub record OfCrew (lets : ℕ → ℕ → Type 0) (workers : ℕ) (job : Job) (missing : List ℕ) (part : List Reported) : Type 0 where
+  pub of_job : All (λ r. r.job ≡ job) part
+  pub by_workers : All (λ r. (1 ≤ r.worker) × (r.worker ≤ workers)) part
+  pub listed : All (λ r. Contains missing r.number) part
+  pub let_in : All (λ r. lets r.worker r.number) part
+  pub rises : (worker : ℕ) → 1 ≤ worker → worker ≤ workers → Rises (taken_by worker (map entry part))
 
-of_crew : (site : Site) (workers : ℕ) (got : List (ℕ × Note)) (passes : List (Presented Note)) (part : List Reported)
-    → Rises site.missing.items → sender_numbers passes ≡ range_with_len 1 workers → All (HasWorked site) passes
-    → All (IsWhole got) passes → All (λ m. (1 ≤ m.0) × (m.0 ≤ workers)) got → IsSubsequence part (reports_in got)
-    → OfCrew workers site.job site.missing.items part
-of_crew site workers got passes part up numbers worked whole few is =
+of_crew : {may_stop lets : ℕ → ℕ → Type 0} (site : Site) (workers : ℕ) (got : List (ℕ × Note)) (shifts : List Shift)
+    (part : List Reported)
+    → Rises site.missing.items → map (λ s. s.sender.number) shifts ≡ range_with_len 1 workers
+    → All (λ s. Leaves may_stop lets site s.sender.number s) shifts → All (λ s. IsWhole got s.sender) shifts
+    → All (λ m. (1 ≤ m.0) × (m.0 ≤ workers)) got → IsSubsequence part (reports_in got)
+    → OfCrew lets workers site.job site.missing.items part
+of_crew {lets = lets} site workers got shifts part up numbers left whole few is =
     let job = site.job in
     let missing = site.missing.items in
-    let each = received_each site got passes workers up numbers worked whole in
-    let own : All (λ (m : ℕ × Note). All (IsOwn job missing m.0) (report_in m.1)) got =
-    all_own (IsOwn job missing) got workers few (λ w le ge. (each w le ge).own) in
+    let each = received_each site got shifts workers up numbers left whole in
+    let own : All (λ (m : ℕ × Note). All (IsOwn lets job missing m.0) (report_in m.1)) got =
+    all_own (IsOwn lets job missing) got workers few (λ w le ge. (each w le ge).own) in
     record {
       by_workers = all_part (λ (r : Reported). (1 ≤ r.worker) × (r.worker ≤ workers)) part (reports_in got) is (workers_in got few own);
       listed = all_part (λ (r : Reported). Contains missing r.number) part (reports_in got) is
-          (all_reports (IsOwn job missing) (λ (r : Reported). Contains missing r.number) got (λ m h k d lt. (h k d lt).1) own);
+          (all_reports (IsOwn lets job missing) (λ (r : Reported). Contains missing r.number) got (λ m all k d lt. (all k d lt).1) own);
+      let_in = all_part (λ (r : Reported). lets r.worker r.number) part (reports_in got) is
+          (all_reports (IsOwn lets job missing) (λ (r : Reported). lets r.worker r.number) got (λ m all k d lt.
+          subst (λ (w : ℕ). lets w (get_or (report_in m.1) k d).number) (sym (all k d lt).0.0) (all k d lt).0.2) own);
       of_job = all_part (λ (r : Reported). r.job ≡ job) part (reports_in got) is
-          (all_reports (IsOwn job missing) (λ (r : Reported). r.job ≡ job) got (λ m h k d lt. (h k d lt).2) own);
+          (all_reports (IsOwn lets job missing) (λ (r : Reported). r.job ≡ job) got (λ m all k d lt. (all k d lt).0.1) own);
       rises = λ w le ge.
           rises_part (taken_by w (map entry part)) (taken_by w (map entry (reports_in got))) (taken_part w part (reports_in got) is)
-          (subst Rises (sym (taken_all job missing w got own)) (each w le ge).rises);
+          (subst Rises (sym (taken_all lets job missing w got own)) (each w le ge).rises);
     }
   where
     workers_in : (got : List (ℕ × Note)) → All (λ m. (1 ≤ m.0) × (m.0 ≤ workers)) got
-        → All (λ (m : ℕ × Note). All (IsOwn site.job site.missing.items m.0) (report_in m.1)) got
+        → All (λ (m : ℕ × Note). All (IsOwn lets site.job site.missing.items m.0) (report_in m.1)) got
         → All (λ (r : Reported). (1 ≤ r.worker) × (r.worker ≤ workers)) (reports_in got)
     workers_in [] few own = All-nil (λ (r : Reported). (1 ≤ r.worker) × (r.worker ≤ workers))
     workers_in (m ∷ ms) few own =
         let P : Reported → Type 0 = λ r. (1 ≤ r.worker) × (r.worker ≤ workers) in
         let here = All-head (λ (n : ℕ × Note). (1 ≤ n.0) × (n.0 ≤ workers)) m ms few in
-        let mine = All-head (λ (n : ℕ × Note). All (IsOwn site.job site.missing.items n.0) (report_in n.1)) m ms own in
+        let mine = All-head (λ (n : ℕ × Note). All (IsOwn lets site.job site.missing.items n.0) (report_in n.1)) m ms own in
         All-append P (report_in m.1) (reports_in ms)
-        (λ k d lt. let e = (mine k d lt).0 in (omega (arith, here.0, e), omega (arith, here.1, e)))
+        (λ k d lt. let e = (mine k d lt).0.0 in (omega (arith, here.0, e), omega (arith, here.1, e)))
         (workers_in ms (All-tail (λ (n : ℕ × Note). (1 ≤ n.0) × (n.0 ≤ workers)) m ms few)
-        (All-tail (λ (n : ℕ × Note). All (IsOwn site.job site.missing.items n.0) (report_in n.1)) m ms own))
+        (All-tail (λ (n : ℕ × Note). All (IsOwn lets site.job site.missing.items n.0) (report_in n.1)) m ms own))
 
 distinct_none : IsDistinct nat_eq []
 unfolding IsDistinct
 distinct_none = tt
 
-pub taken_none : (workers : ℕ) (held : Held) → HasTaken workers held held
-taken_none workers held = record {
+pub taken_none : (lets : ℕ → ℕ → Type 0) (workers : ℕ) (held : Held) → HasTaken lets workers held held
+taken_none lets workers held = record {
   offers = [];
   added = added_none held;
   job = All-nil (λ (r : Reported). r.job ≡ held.terms.job);
   by_workers = All-nil (λ (r : Reported). (1 ≤ r.worker) × (r.worker ≤ workers));
   missing = All-nil (λ (r : Reported). Contains (was_missing held) r.number);
+  let_in = All-nil (λ (r : Reported). lets r.worker r.number);
   once = distinct_none;
   in_order = λ w le ge i j d lt small. absurd (omega arith);
 }
@@ -328,66 +255,78 @@ silent_length name workers = length-map (range_with_len 1 workers) (silent {N = 
 
 -- ---- what it leaves
 
-pub belts_of : (site : Site) (passes : List (Presented Note)) → All (HasWorked site) passes
-    → All (λ (s : Presented Note). s.belt ≡ site.belt.name) passes
-belts_of site passes worked k d lt = (worked k d lt).1.belt
+module _ {may_stop lets : ℕ → ℕ → Type 0} {site : Site} {old new : Crew} (ran : HasRunAll may_stop lets site old new) where
+  pub belts_of : All (λ (s : Presented Note). s.belt ≡ site.belt.name) new.back.senders.items
+  belts_of =
+      subst (All (λ (s : Presented Note). s.belt ≡ site.belt.name)) (sym ran.senders)
+      (All-map (λ (s : Presented Note). s.belt ≡ site.belt.name) (λ (s : Shift). s.sender) ran.shifts
+      (λ k d lt. (ran.left k d lt).worked.reports.belt))
+
+  pub series_of_all : All (λ (p : Drawn). p.series ≡ site.tickets) new.back.passes.items
+  series_of_all =
+      subst (All (λ (p : Drawn). p.series ≡ site.tickets)) (sym ran.passes)
+      (All-map (λ (p : Drawn). p.series ≡ site.tickets) (λ (s : Shift). s.pass) ran.shifts
+      (λ k d lt. (ran.left k d lt).worked.series))
 
 -- what is known when a crew ends
-module _ {before after : Collector} {answered : Bool} (site : Site) (workers : ℕ)
-    (passes first back : List (Presented Note)) (c : Collected before after answered)
-    (begun : before.receiver ≡ deaf site.belt) (as_many : site.belt.workers ≡ workers)
-    (listed : site.missing.items ≡ was_missing before.haul) (up : IsStrictlyIncreasing site.missing.items)
-    (silents : first ≡ map (silent site.belt.name) (range_with_len 1 workers)) (none : back ≡ [])
-    (numbers : sender_numbers passes ≡ sender_numbers back ++ sender_numbers first)
-    (worked : All (HasWorked site) passes) (whole : All (IsWhole after.receiver.got) passes) where
-  crew_part : (part : List Reported) → IsSubsequence part (reports_in c.notes)
-      → OfCrew workers site.job site.missing.items part
+module _ {may_stop lets : ℕ → ℕ → Type 0} (site : Site) (workers : ℕ) (old new : Crew) (ran : HasRunAll may_stop lets site old new)
+    (begun : old.receiver ≡ deaf site.belt) (as_many : site.belt.workers ≡ workers)
+    (listed : site.missing.items ≡ was_missing old.haul) (up : IsStrictlyIncreasing site.missing.items)
+    (silents : old.posts.senders.items ≡ map (silent site.belt.name) (range_with_len 1 workers))
+    (whole : All (IsWhole new.receiver.got) new.back.senders.items) where
+  pub all_numbers : map (λ (s : Shift). s.sender.number) ran.shifts ≡ range_with_len 1 workers
+  all_numbers = ran.numbers ∙ ap sender_numbers silents ∙ silent_numbers site.belt.name (range_with_len 1 workers)
+
+  pub all_whole : All (λ (s : Shift). IsWhole new.receiver.got s.sender) ran.shifts
+  all_whole = all_unmap (IsWhole new.receiver.got) (λ (s : Shift). s.sender) ran.shifts (subst (All (IsWhole new.receiver.got)) ran.senders whole)
+
+  pub notes_are : new.receiver.got ≡ ran.collected.notes
+  notes_are = ran.collected.got ∙ ap (λ (r : Received Note). r.got ++ ran.collected.notes) begun
+
+  pub all_senders : All (λ (m : ℕ × Note). (1 ≤ m.0) × (m.0 ≤ workers)) new.receiver.got
+  all_senders =
+      let bound : old.receiver.belt.workers ≡ workers = ap (λ (r : Received Note). r.belt.workers) begun ∙ as_many in
+      subst (All (λ (m : ℕ × Note). (1 ≤ m.0) × (m.0 ≤ workers))) (sym notes_are)
+      (λ k d lt. let s = ran.collected.senders k d lt in (s.0, omega (arith, s.1, bound)))
+
+  pub crew_part : (part : List Reported) → IsSubsequence part (reports_in ran.collected.notes)
+      → OfCrew lets workers site.job site.missing.items part
   crew_part part is =
-      let notes_are : after.receiver.got ≡ c.notes = c.got ∙ ap (λ (r : Received Note). r.got ++ c.notes) begun in
-      let bound : before.receiver.belt.workers ≡ workers = ap (λ (r : Received Note). r.belt.workers) begun ∙ as_many in
-      of_crew site workers after.receiver.got passes part (AllPairs-from_increasing site.missing.items up)
-      (numbers ∙ ap (λ (l : List (Presented Note)). sender_numbers l ++ sender_numbers first) none ∙ ap sender_numbers silents
-      ∙ silent_numbers site.belt.name (range_with_len 1 workers))
-      worked whole
-      (subst (All (λ (m : ℕ × Note). (1 ≤ m.0) × (m.0 ≤ workers))) (sym notes_are)
-      (λ k d lt. let s = c.senders k d lt in (s.0, omega (arith, s.1, bound))))
+      of_crew site workers new.receiver.got ran.shifts part (AllPairs-from_increasing site.missing.items up)
+      all_numbers ran.left all_whole all_senders
       (subst (λ (l : List (ℕ × Note)). IsSubsequence part (reports_in l)) (sym notes_are) is)
 
-  pub crew_has_taken : (new : Held) → new ≡ after.haul → IsDistinct nat_eq (numbers_in after.haul.taken)
-      → site.job ≡ before.haul.terms.job
-      → HasTaken workers before.haul new
-  crew_has_taken new same distinct of_haul =
+  pub crew_has_taken : (held : Held) → held ≡ new.haul → IsDistinct nat_eq (numbers_in new.haul.taken) → site.job ≡ old.haul.terms.job
+      → HasTaken lets workers old.haul held
+  crew_has_taken held same distinct of_haul =
+      let c = ran.collected in
       let of = crew_part c.part c.some in
-      subst (HasTaken workers before.haul) (sym same) (record {
+      subst (HasTaken lets workers old.haul) (sym same) (record {
         offers = c.part;
         added = c.added;
         job = subst (λ (j : Job). All (λ (r : Reported). r.job ≡ j) c.part) of_haul of.of_job;
         by_workers = of.by_workers;
         missing = subst (λ (l : List ℕ). All (λ (r : Reported). Contains l r.number) c.part) listed of.listed;
-        once = distinct_right (numbers_in before.haul.taken) (numbers_in (map entry c.part))
+        let_in = of.let_in;
+        once = distinct_right (numbers_in old.haul.taken) (numbers_in (map entry c.part))
             (subst (IsDistinct nat_eq)
-            (ap numbers_in c.added.taken ∙ map-append (λ (t : ℕ × ℕ). t.1) before.haul.taken (map entry c.part)) distinct);
+            (ap numbers_in c.added.taken ∙ map-append (λ (t : ℕ × ℕ). t.1) old.haul.taken (map entry c.part)) distinct);
         in_order = of.rises;
       })
 
--- the worker that was stopped is one of the crew
-pub crew_within : (name : TableId) (workers : ℕ) (first back passes : List (Presented Note)) (stopped now : Option ℕ)
-    → IfSome stopped (Contains (sender_numbers passes)) → first ≡ map (silent name) (range_with_len 1 workers) → back ≡ []
-    → sender_numbers passes ≡ sender_numbers back ++ sender_numbers first → now ≡ stopped → IfSome now (λ w. (1 ≤ w) × (w ≤ workers))
-crew_within name workers first back passes stopped now one silents none numbers same =
-    subst (λ (o : Option ℕ). IfSome o (λ w. (1 ≤ w) × (w ≤ workers))) (sym same) (go stopped one)
-  where
-    are : sender_numbers passes ≡ range_with_len 1 workers
-    are = numbers ∙ ap (λ (l : List (Presented Note)). sender_numbers l ++ sender_numbers first) none ∙ ap sender_numbers silents
-        ∙ silent_numbers name (range_with_len 1 workers)
+  -- the worker that was stopped is one of the crew
+  pub crew_within : (worker : ℕ) → new.stopped ≡ Some worker → (1 ≤ worker) × (worker ≤ workers)
+  crew_within worker is =
+      let P : ℕ → Type 0 = λ w. (1 ≤ w) × (w ≤ workers) in
+      let all : All (λ (s : Shift). P s.sender.number) ran.shifts =
+      all_unmap P (λ (s : Shift). s.sender.number) ran.shifts
+      (subst (All P) (sym all_numbers) (range_within 1 workers workers (omega arith))) in
+      subst (λ (o : Option ℕ). IfSome o P) (sym ran.stopped ∙ is) (of_first_stopped P ran.shifts (λ k d lt stopped. all k d lt))
 
-    go : (o : Option ℕ) → IfSome o (Contains (sender_numbers passes)) → IfSome o (λ w. (1 ≤ w) × (w ≤ workers))
-    go None h = tt
-    go (Some w) h =
-        let within = subst (λ (l : List ℕ). Contains l w) are h in
-        All-contains (λ v. (1 ≤ v) × (v ≤ workers)) (range_with_len 1 workers) w (range_within 1 workers workers (omega arith)) within
-
-pub crew_stops : (may_stop : ℕ → ℕ → Type 0) (missing wanted : List ℕ) (stopped now : Option ℕ) → IfSome stopped (StopsAt may_stop missing) → missing ≡ wanted
-    → now ≡ stopped → IfSome now (StopsAt may_stop wanted)
-crew_stops may_stop missing wanted stopped now stops listed same =
-    subst (λ (o : Option ℕ). IfSome o (StopsAt may_stop wanted)) (sym same) (subst (λ (l : List ℕ). IfSome stopped (StopsAt may_stop l)) listed stops)
+  -- and its gate may stop it at what was missing
+  pub crew_stops : (worker : ℕ) → new.stopped ≡ Some worker → StopsAt may_stop (was_missing old.haul) worker
+  crew_stops worker is =
+      let P : ℕ → Type 0 = StopsAt may_stop (was_missing old.haul) in
+      subst (λ (o : Option ℕ). IfSome o P) (sym ran.stopped ∙ is)
+      (of_first_stopped P ran.shifts (λ k d lt stopped.
+      subst (λ (l : List ℕ). StopsAt may_stop l (get_or ran.shifts k d).sender.number) listed ((ran.left k d lt).worked.stops stopped)))

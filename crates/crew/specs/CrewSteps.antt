@@ -1,40 +1,78 @@
 -- How a crew is run: one worker more is started at a time, and at the end all are back.
-use Rattle.std.specs.Prelude.{◌≡◌, ◌≤◌, ◌+◌, ◌++◌, ◌∷◌, [], ℕ, All, Bool, length, vec_capacity}
+use Rattle.std.specs.Prelude.{◌≡◌, ◌≤◌, ◌+◌, ◌++◌, ◌∷◌, [], ℕ, All, Bool, List, None, Option, Some, false, if◌then◌else◌, length, map, true, vec_capacity}
+use Rattle.memory.specs.declared.OutOfMemory.{OutOfMemory}
 use Rattle.haul_core.specs.Reports.{IsWorker}
 use Rattle.handover.specs.Belts.{Presented, silent}
 use Rattle.handover.specs.Tickets.{Drawn, fresh}
 use Rattle.crew.specs.Crews.{Collected, Collector, collector_with}
-use Rattle.crew.specs.Shifts.{AreBack, sender_numbers}
+use Rattle.crew.specs.Shifts.{Leaves, first_stopped, how_many_started, lacks_memory, sender_numbers, was_stopped}
 use Rattle.crew.specs.declared.note.Note.{Note}
+use Rattle.crew.specs.declared.posts.Posts.{Posts}
+use Rattle.crew.specs.declared.shift.End.{End}
+use Rattle.crew.specs.declared.shift.Shift.{Shift}
 use Rattle.crew.specs.declared.site.Site.{Site}
 use Rattle.crew.specs.declared.workers.Crew.{Crew}
-use Rattle.crew.specs.declared.posts.Posts.{Posts}
+use Rattle.crew.specs.declared.workers.CrewError.{CrewError}
+use Rattle.crew.specs.declared.workers.CrewError.TheVariants.{Memory, Stopped}
 
 -- the collector of a crew that waits for so many workers
 abbrev pub collector_of : ℕ → Crew → Collector
 collector_of awaited crew = collector_with awaited crew.receiver crew.haul
 
--- the last post was taken out
+-- the last post was removed
 pub record IsTakenOut (post : Drawn × Presented Note) (old new : Posts) : Type 0 where
   pub passes : old.passes.items ≡ new.passes.items ++ post.0 ∷ []
   pub senders : old.senders.items ≡ new.senders.items ++ post.1 ∷ []
 
--- a worker can be started with each post: none was used yet, each is a worker's, there is room for all who will come back, and a byte counts them
-pub record MayRun (may_stop : ℕ → ℕ → Type 0) (site : Site) (crew : Crew) : Type 0 where
+-- no post, and room for those of so many workers
+pub record HaveRoom (workers : ℕ) (posts : Posts) : Type 0 where
+  pub no_passes : posts.passes.items ≡ []
+  pub no_senders : posts.senders.items ≡ []
+  pub for_passes : workers ≤ vec_capacity posts.passes
+  pub for_senders : workers ≤ vec_capacity posts.senders
+
+-- a pass and a sender were put after the others, and there is as much room as before
+pub record HasAddedPost (pass : Drawn) (sender : Presented Note) (old new : Posts) : Type 0 where
+  pub passes : new.passes.items ≡ old.passes.items ++ pass ∷ []
+  pub senders : new.senders.items ≡ old.senders.items ++ sender ∷ []
+  pub for_passes : vec_capacity new.passes ≡ vec_capacity old.passes
+  pub for_senders : vec_capacity new.senders ≡ vec_capacity old.senders
+
+-- the first worker that was stopped, once this one is back too
+abbrev pub stopped_with : Option ℕ → ℕ → End → Option ℕ
+stopped_with (Some first) worker ended = Some first
+stopped_with None worker ended = if was_stopped ended then Some worker else None
+
+-- what kept workers from some soups, if anything did: a gate stopped one, or else memory was refused
+abbrev pub cause_of : Option ℕ → Option OutOfMemory → Option CrewError
+cause_of (Some worker) lacking = Some (Stopped worker)
+cause_of None (Some error) = Some (Memory error)
+cause_of None None = None
+
+-- a worker can be started with each post: none was used yet, each is a worker's, nobody is back, there is room for all, and a byte counts them
+pub record MayRun (site : Site) (crew : Crew) : Type 0 where
   pub passes : All (λ p. p ≡ fresh site.tickets) crew.posts.passes.items
   pub senders : All (λ s. s ≡ silent site.belt.name s.number) crew.posts.senders.items
   pub workers : All (λ s. IsWorker s.number) crew.posts.senders.items
   pub many : length crew.posts.passes.items ≡ length crew.posts.senders.items
   pub few : crew.away + length crew.posts.senders.items ≤ 255
   pub receiver : crew.receiver.belt ≡ site.belt
-  pub room : length crew.senders.items + length crew.posts.senders.items ≤ vec_capacity crew.senders
-  pub back : AreBack may_stop site crew.senders.items crew.stopped
+  pub back : HaveRoom (length crew.posts.senders.items) crew.back
+  pub stopped : crew.stopped ≡ None
 
--- All workers of the posts are back, as many are away as before, and the notes of those that were started were collected.
-pub record HasRunAll (may_stop : ℕ → ℕ → Type 0) (site : Site) (old new : Crew) : Type 0 where
-  pub back : AreBack may_stop site new.senders.items new.stopped
-  pub numbers : sender_numbers new.senders.items
-      ≡ sender_numbers old.senders.items ++ sender_numbers old.posts.senders.items
-  pub room : vec_capacity new.senders ≡ vec_capacity old.senders
+-- All workers of the posts are back, in their order, with what they leave. The collector has waited for those that were started, and
+-- for those that were away before.
+pub record HasRunAll (may_stop lets : ℕ → ℕ → Type 0) (site : Site) (old new : Crew) : Type 0 where
+  pub shifts : List Shift
+  pub left : All (λ s. Leaves may_stop lets site s.sender.number s) shifts
+  pub numbers : map (λ s. s.sender.number) shifts ≡ sender_numbers old.posts.senders.items
+  pub passes : new.back.passes.items ≡ map (λ s. s.pass) shifts
+  pub senders : new.back.senders.items ≡ map (λ s. s.sender) shifts
+  pub for_passes : vec_capacity new.back.passes ≡ vec_capacity old.back.passes
+  pub for_senders : vec_capacity new.back.senders ≡ vec_capacity old.back.senders
   pub away : new.away ≡ old.away
-  pub collected : (started : ℕ) × (answered : Bool) × Collected (collector_of started old) (collector_of 0 new) answered
+  pub stopped : new.stopped ≡ first_stopped shifts
+  pub answered : Bool
+  pub heard : new.lacking ≡ None → answered ≡ true
+  pub lacking : new.lacking ≡ None → All (λ s. lacks_memory s.end ≡ false) shifts
+  pub collected : Collected (collector_of (old.away + how_many_started shifts) old) (collector_of 0 new) answered

@@ -1,6 +1,7 @@
 -- A crew: what its workers say, and what becomes of it.
 use Rattle.std.specs.Prelude.{◌≡◌, ◌<◌, ◌≤◌, ◌+◌, ◌++◌, ◌⊎◌, ℕ, Bool, true, false, All, List, [], ◌∷◌, None, count_by, flat_map, map}
-use Rattle.haul_core.specs.Books.{Held, StandsFor, entry}
+use Rattle.haul_core.specs.Books.{Held, StandsFor, entry, is_lawful}
+use Rattle.haul_core.specs.Missing.{is_taken}
 use Rattle.haul_core.specs.Refusals.{refusal_of}
 use Rattle.haul_core.specs.BookLaws.{IsSubsequence}
 use Rattle.haul_core.specs.Reports.{Reported}
@@ -50,6 +51,10 @@ pub record HasLost (reports part : List Reported) (old : Held) : Type 0 where
   pub some : IsSubsequence (before ++ report ∷ later) reports
   pub eligible : (arrivals : List Arrival) → StandsFor arrivals old → refusal_of old.terms (arrivals ++ map Offer before) report ≡ None
 
+-- if the haul is open and the report is lawful, its soup was taken: from this report or from another
+abbrev pub HasSoupOf : Held → Reported → Type 0
+HasSoupOf held report = held.closed ≡ false → is_lawful held.terms report ≡ true → is_taken held.taken report.number ≡ true
+
 -- where a collector stands: how many workers it waits for that are not done, what it has received, and its haul
 pub record Collector : Type 0 where
   pub awaited : ℕ
@@ -60,8 +65,8 @@ abbrev pub collector_with : ℕ → Received Note → Held → Collector
 collector_with awaited receiver haul = record { awaited = awaited; receiver = receiver; haul = haul }
 
 -- Notes were received from the workers, and so many fewer are awaited as say that they are done; if none is awaited any more, the
--- last note says so. Of the reports among the notes the haul has taken some: all that the book takes if `answered`, and else one
--- was lost.
+-- last note says so. Of the reports among the notes the haul has taken some: all that the book takes if `answered`, so that it has
+-- their soups, and else one was lost.
 pub record Collected (before after : Collector) (answered : Bool) : Type 0 where
   pub notes : List (ℕ × Note)
   pub belt : after.receiver.belt ≡ before.receiver.belt
@@ -73,4 +78,5 @@ pub record Collected (before after : Collector) (answered : Bool) : Type 0 where
   pub some : IsSubsequence part (reports_in notes)
   pub added : HasAdded part before.haul after.haul
   pub all : answered ≡ true → HasComeAll (reports_in notes) before.haul after.haul
+  pub soups : answered ≡ true → All (HasSoupOf after.haul) (reports_in notes)
   pub lost : answered ≡ false → HasLost (reports_in notes) part before.haul

@@ -1,11 +1,16 @@
--- What a worker of the crew reports.
-use Rattle.std.specs.Prelude.{◌≡◌, ◌<◌, ◌++◌, ◌∷◌, [], ℕ, All, AllPairs, Contains, IfSome, List, Option, flat_map, length, map, slice_index}
+-- What a worker of the crew reports, and what it leaves.
+use Rattle.std.specs.Prelude.{◌≡◌, ◌<◌, ◌++◌, ◌∷◌, ◌⊎◌, [], ℕ, All, AllPairs, Bool, Contains, List, Option, count_by}
+use Rattle.std.specs.Prelude.{false, flat_map, length, map, option_map, slice_index, true}
+use Rattle.std.specs.List.{find}
+use Rattle.survey_core.specs.declared.job.Job.{Job}
 use Rattle.haul_core.specs.Reports.{Reported}
 use Rattle.handover.specs.Belts.{Presented}
-use Rattle.crew.specs.Crews.{report_in}
+use Rattle.handover.specs.Tickets.{Drawn}
+use Rattle.crew.specs.Crews.{is_done, report_in}
 use Rattle.crew.specs.declared.note.Note.{Note}
 use Rattle.crew.specs.declared.note.Note.TheVariants.{Done}
-use Rattle.crew.specs.declared.shift.End.TheVariants.{Stopped}
+use Rattle.crew.specs.declared.shift.End.{End}
+use Rattle.crew.specs.declared.shift.End.TheVariants.{CalledOff, Drained, Memory, Stopped, Unstarted}
 use Rattle.crew.specs.declared.shift.Shift.{Shift}
 use Rattle.crew.specs.declared.site.Site.{Site}
 
@@ -13,40 +18,98 @@ use Rattle.crew.specs.declared.site.Site.{Site}
 abbrev pub reported : List Note → List Reported
 reported notes = flat_map report_in notes
 
--- The worker has reported its own surveys, for the job, of the missing numbers at these places, in this order, which ascend
-pub record HasReported (site : Site) (places : List ℕ) (pass : Presented Note) : Type 0 where
-  pub belt : pass.belt ≡ site.belt.name
+-- the worker's own report for the job, of a soup that its gate let it survey
+abbrev pub IsOwnReport : (ℕ → ℕ → Type 0) → Job → ℕ → Reported → Type 0
+IsOwnReport lets job worker r = (r.worker ≡ worker) × (r.job ≡ job) × lets worker r.number
+
+-- The worker has reported its own surveys of the missing numbers at these places, in this order, which ascend
+pub record HasReported (lets : ℕ → ℕ → Type 0) (site : Site) (places : List ℕ) (sender : Presented Note) : Type 0 where
+  pub belt : sender.belt ≡ site.belt.name
   pub ascending : AllPairs (λ x y. x < y) places
   pub below : All (λ t. t < length site.missing.items) places
-  pub numbers : map (λ r. r.number) (reported pass.notes) ≡ map (slice_index site.missing.items) places
-  pub own : All (λ r. r.worker ≡ pass.number) (reported pass.notes)
-  pub of_job : All (λ r. r.job ≡ site.job) (reported pass.notes)
-
--- at some places
-abbrev pub HasWorked : Site → Presented Note → Type 0
-HasWorked site pass = (places : List ℕ) × HasReported site places pass
+  pub numbers : map (λ r. r.number) (reported sender.notes) ≡ map (slice_index site.missing.items) places
+  pub own : All (IsOwnReport lets site.job sender.number) (reported sender.notes)
 
 -- the numbers of senders
 abbrev pub sender_numbers : List (Presented Note) → List ℕ
 sender_numbers passes = map (λ s. s.number) passes
 
--- the worker's last note says that it is done
+-- no note says that the worker is done
+abbrev pub AreNotDone : List Note → Type 0
+AreNotDone notes = All (λ note. is_done note ≡ false) notes
+
+-- the worker's last note says that it is done, and no other
 abbrev pub EndsByDone : ℕ → List Note → Type 0
-EndsByDone worker notes = (front : List Note) × (notes ≡ front ++ Done worker ∷ [])
+EndsByDone worker notes = (front : List Note) × AreNotDone front × (notes ≡ front ++ Done worker ∷ [])
 
 -- the gate may stop the worker at a number that is missing
 abbrev pub StopsAt : (ℕ → ℕ → Type 0) → List ℕ → ℕ → Type 0
 StopsAt may_stop missing worker = (n : ℕ) × Contains missing n × may_stop worker n
 
--- what the worker with this number leaves at the end of its shift; if its gate stopped it, that is where the gate may
-pub record Leaves (may_stop : ℕ → ℕ → Type 0) (site : Site) (worker : ℕ) (shift : Shift) : Type 0 where
-  pub number : shift.sender.number ≡ worker
-  pub worked : HasWorked site shift.sender
-  pub stops : shift.end ≡ Stopped → StopsAt may_stop site.missing.items worker
+-- these places are all that were drawn, or all but the last
+abbrev pub AreAllButLast : List ℕ → List ℕ → Type 0
+AreAllButLast places drawn = (drawn ≡ places) ⊎ ((n : ℕ) × (drawn ≡ places ++ n ∷ []))
 
--- what workers left that are back, and one of them whose gate stopped it
-pub record AreBack (may_stop : ℕ → ℕ → Type 0) (site : Site) (passes : List (Presented Note)) (stopped : Option ℕ)
+-- What the worker with this number has done when its surveys end so. It has reported at each place that it drew, but for the last one
+-- at most; at each, if none was left.
+pub record HasWorked (may_stop lets : ℕ → ℕ → Type 0) (site : Site) (worker : ℕ) (ended : End) (pass : Drawn) (sender : Presented Note)
     : Type 0 where
-  pub worked : All (HasWorked site) passes
-  pub stops : IfSome stopped (StopsAt may_stop site.missing.items)
-  pub one : IfSome stopped (Contains (sender_numbers passes))
+  pub number : sender.number ≡ worker
+  pub series : pass.series ≡ site.tickets
+  pub places : List ℕ
+  pub reports : HasReported lets site places sender
+  pub drawn : AreAllButLast places pass.numbers
+  pub all : ended ≡ Drained → pass.numbers ≡ places
+  pub heard : ended ≡ Drained → pass.heard_none ≡ true
+  pub stops : ended ≡ Stopped → StopsAt may_stop site.missing.items worker
+
+-- the worker has begun to work
+abbrev pub has_begun : End → Bool
+has_begun Drained = true
+has_begun Stopped = true
+has_begun (Memory error) = true
+has_begun CalledOff = false
+has_begun (Unstarted error) = false
+
+-- a thread was started for the worker
+abbrev pub was_started : End → Bool
+was_started Drained = true
+was_started Stopped = true
+was_started (Memory error) = true
+was_started CalledOff = true
+was_started (Unstarted error) = false
+
+abbrev pub was_stopped : End → Bool
+was_stopped Drained = false
+was_stopped Stopped = true
+was_stopped (Memory error) = false
+was_stopped CalledOff = false
+was_stopped (Unstarted error) = false
+
+-- there was no memory for a survey, or for a thread
+abbrev pub lacks_memory : End → Bool
+lacks_memory Drained = false
+lacks_memory Stopped = false
+lacks_memory (Memory error) = true
+lacks_memory CalledOff = false
+lacks_memory (Unstarted error) = true
+
+-- What the worker with this number leaves. Once it has begun to work it ends by saying that it is done; if it was called off it has
+-- said nothing.
+pub record Leaves (may_stop lets : ℕ → ℕ → Type 0) (site : Site) (worker : ℕ) (shift : Shift) : Type 0 where
+  pub worked : HasWorked may_stop lets site worker shift.end shift.pass shift.sender
+  pub done : has_begun shift.end ≡ true → EndsByDone worker shift.sender.notes
+  pub silent_if : shift.end ≡ CalledOff → shift.sender.notes ≡ []
+
+-- what the thread of a worker returns
+pub record Returns (may_stop lets : ℕ → ℕ → Type 0) (site : Site) (worker : ℕ) (shift : Shift) : Type 0 where
+  pub left : Leaves may_stop lets site worker shift
+  pub started : was_started shift.end ≡ true
+
+-- for how many workers a thread was started
+abbrev pub how_many_started : List Shift → ℕ
+how_many_started shifts = count_by (λ s. was_started s.end) shifts
+
+-- the first worker that its gate stopped
+abbrev pub first_stopped : List Shift → Option ℕ
+first_stopped shifts = option_map (λ s. s.sender.number) (find (λ s. was_stopped s.end) shifts)

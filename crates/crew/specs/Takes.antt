@@ -15,14 +15,15 @@ was_missing held = missing_of held.terms.ranges held.taken
 abbrev pub taken_by : ℕ → List (ℕ × ℕ) → List ℕ
 taken_by worker taken = map (λ t. t.1) (filter (λ t. nat_eq worker t.0) taken)
 
--- The haul has taken reports of the crew's workers for its job, on missing numbers, each once, and of each worker in the order in which it
--- drew them, which ascends. What is taken of them is their workers and numbers, and whatever arrivals stood for the haul, they and then
--- offers of these reports stand for it.
-pub record HasTaken (workers : ℕ) (old new : Held) : Type 0 where
+-- The haul has taken reports of the crew's workers for its job, on missing numbers that the gate let them survey, each once, and of each
+-- worker in the order in which it drew them, which ascends. What is taken of them is their workers and numbers, and whatever arrivals
+-- stood for the haul, they and then offers of these reports stand for it.
+pub record HasTaken (lets : ℕ → ℕ → Type 0) (workers : ℕ) (old new : Held) : Type 0 where
   pub offers : List Reported
   pub added : HasAdded offers old new
   pub job : All (λ r. r.job ≡ old.terms.job) offers
   pub by_workers : All (λ r. (1 ≤ r.worker) × (r.worker ≤ workers)) offers
   pub missing : All (λ r. Contains (was_missing old) r.number) offers
+  pub let_in : All (λ r. lets r.worker r.number) offers
   pub once : IsDistinct nat_eq (numbers_in (map entry offers))
   pub in_order : (worker : ℕ) → 1 ≤ worker → worker ≤ workers → AllPairs (λ x y. x < y) (taken_by worker (map entry offers))

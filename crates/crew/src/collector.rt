@@ -1,9 +1,14 @@
 //! The collector: it receives the workers' notes and offers their reports to the haul.
+//!
+//! ```text
+//! belt ── report ──> haul
+//!      ── done ────> one worker less is awaited
+//! ```
 ghost use Rattle.std.specs.Prelude.{◌≡◌, ◌∷◌, ◌⊎◌, [], List, None, OnErr, OnOk, is_ok};
 ghost use Rattle.haul_core.specs.Books.{StandsFor};
 ghost use Rattle.haul_core.specs.Refusals.{refusal_of};
 ghost use Rattle.haul_core.specs.declared.book.arrival.Arrival.{Arrival};
-ghost use Rattle.crew.specs.Crews.{Collected, HasAdded, HasComeAll, collector_with};
+ghost use Rattle.crew.specs.Crews.{Collected, HasAdded, HasComeAll, HasSoupOf, collector_with};
 
 use crate::note::Note;
 use crate::watch::Watch;
@@ -56,6 +61,7 @@ pub fn collect<R: Wait, H: Watch>(
 fn offer(haul: &mut Haul, report: Report) -> Result<(), OutOfMemory>
     ensures added { (haul.new ≡ haul.old) ⊎ HasAdded (report ∷ []) haul.old haul.new }
     ensures stands { OnOk result (HasComeAll (report ∷ []) haul.old haul.new) }
+    ensures soup { OnOk result (HasSoupOf haul.new report) }
     ensures kept { OnErr result (haul.new ≡ haul.old) }
     ensures lost { OnErr result ((arrivals : List Arrival) → StandsFor arrivals haul.old
         → refusal_of haul.old.terms arrivals report ≡ None) }

@@ -1,5 +1,10 @@
 //! Gates, which may stop a worker before it surveys a soup.
-ghost use Rattle.std.specs.Prelude.{ℕ, OnErr};
+//!
+//! ```text
+//! worker ── draws a number ──> gate ── Ok ────> surveys its soup
+//!                               └───── Stop ──> its shift ends
+//! ```
+ghost use Rattle.std.specs.Prelude.{ℕ, OnErr, OnOk};
 
 /// The gate stops the worker.
 #[derive(Clone, Copy, Debug, PartialEq, Eq, Drop)]
@@ -10,9 +15,13 @@ pub trait Gate {
     /// Where the gate may stop which worker: of a worker and the number of a soup.
     ghost may_stop: { Self → ℕ → ℕ → Type 0 };
 
+    /// Which worker it may let survey which soup: of a worker and the number of a soup.
+    ghost lets: { Self → ℕ → ℕ → Type 0 };
+
     /// Whether the worker may survey the soup with this number. If not, it surveys nothing more.
     fn before(&self, worker: u8, number: u64) -> Result<(), Stop>
-        ensures { OnErr result (may_stop self.now worker number) };
+        ensures lets { OnOk result (lets self.now worker number) }
+        ensures stops { OnErr result (may_stop self.now worker number) };
 }
 
 /// A gate that stops nobody.
@@ -21,6 +30,8 @@ pub struct OpenGate;
 
 impl Gate for OpenGate {
     ghost may_stop = { λ _ worker number. ⊥ };
+
+    ghost lets = { λ _ worker number. Unit {0} };
 
     fn before(&self, _worker: u8, _number: u64) -> Result<(), Stop> {
         Ok(())

@@ -7,12 +7,14 @@ pub mod collector;
 pub mod gate;
 /// What a worker says to the collector.
 pub mod note;
-/// What the workers that are still to be started get.
+/// What each worker works with.
 mod posts;
 /// A worker's shift.
 mod shift;
 /// What all workers share.
 mod site;
+/// What a crew begins with.
+mod start;
 /// Who hears how far a haul has come.
 pub mod watch;
 /// The workers, and the call that runs them.

@@ -1,3 +1,4 @@
+//! What the workers put on the belt.
 use haul_core::report::Report;
 
 /// What a worker says to the collector.

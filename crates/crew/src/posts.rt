@@ -1,12 +1,19 @@
-//! The workers of a crew that are still to be started.
-ghost use Rattle.std.specs.Prelude.{◌≡◌, [], IfNone, IfSome, length};
-ghost use Rattle.crew.specs.CrewSteps.{IsTakenOut};
+//! The posts of a crew's workers: what each of them works with.
+//!
+//! ```text
+//! to be started   1 2 3   1 2     1       -
+//! back            -       -       -       1, 1 2, 1 2 3
+//! ```
+ghost use Rattle.std.specs.Prelude.{◌≡◌, ◌<◌, [], IfNone, IfOk, IfSome, length, vec_capacity};
+ghost use Rattle.crew.specs.CrewSteps.{HaveRoom, HasAddedPost, IsTakenOut};
 
 use crate::note::Note;
 use handover::belt::SenderPass;
 use handover::tickets::Pass;
+use memory::OutOfMemory;
+use std::alloc::Global;
 
-/// What the workers that are still to be started get: a pass and a sender for each.
+/// A pass and a sender for each of some workers.
 #[derive(Drop)]
 pub(crate) struct Posts {
     pub(crate) passes: Vec<Pass>,
@@ -14,8 +21,27 @@ pub(crate) struct Posts {
 }
 
 impl Posts {
-    /// Takes out what the last of them gets.
-    pub(crate) fn take_last(&mut self) -> Option<(Pass, SenderPass<Note>)>
+    /// No posts, and room for those of so many workers.
+    pub(crate) fn with_room(alloc: Global, workers: u8) -> Result<Posts, OutOfMemory>
+        ensures { IfOk result (HaveRoom workers) }
+    {
+        let passes = Vec::with_capacity(alloc, usize::from(workers))?;
+        let senders = Vec::with_capacity(alloc, usize::from(workers))?;
+        Ok(Posts { passes, senders })
+    }
+
+    /// Puts a post after the others. There is room for it.
+    pub(crate) fn add(&mut self, pass: Pass, sender: SenderPass<Note>)
+        requires passes { length self.old.passes.items < vec_capacity self.old.passes }
+        requires senders { length self.old.senders.items < vec_capacity self.old.senders }
+        ensures { HasAddedPost pass sender self.old self.new }
+    {
+        self.passes.push_reserved(pass);
+        self.senders.push_reserved(sender);
+    }
+
+    /// Removes the last post.
+    pub(crate) fn remove_last(&mut self) -> Option<(Pass, SenderPass<Note>)>
         requires { length self.old.passes.items ≡ length self.old.senders.items }
         ensures none { IfNone result (self.old.senders.items ≡ []) }
         ensures taken_out { IfSome result (λ post. IsTakenOut post self.old self.new) }

@@ -1,12 +1,17 @@
 //! A worker's shift: it draws, asks the gate, surveys and reports, until none is left or it has to stop.
-ghost use Rattle.std.specs.Prelude.{◌≡◌, ◌⊎◌};
+//!
+//! ```text
+//! tickets ── place ──> number ── gate ──> survey ── report ──> belt
+//!    │                             │         │                  │
+//! none left                     stopped   no memory     and at the end: done
+//! ```
+ghost use Rattle.std.specs.Prelude.{◌≡◌, true};
 ghost use Rattle.haul_core.specs.Reports.{IsWorker};
 ghost use Rattle.handover.specs.Belts.{silent};
-ghost use Rattle.crew.specs.Shifts.{EndsByDone, HasWorked, StopsAt};
+ghost use Rattle.crew.specs.Shifts.{AreNotDone, HasWorked, Returns, has_begun};
 ghost use Rattle.handover.specs.Tickets.{fresh};
-ghost use Rattle.crew.specs.declared.shift.End.TheVariants as End;
 
-use crate::gate::Gate;
+use crate::gate::{Gate, Stop};
 use crate::note::Note;
 use crate::site::Site;
 use handover::belt::SenderPass;
@@ -19,7 +24,7 @@ use std::sync::atomic::Ordering;
 use survey_core::memo::Memo;
 
 /// How a worker ended.
-#[derive(Clone, Copy, PartialEq, Eq)]
+#[derive(Clone, Copy)]
 pub(crate) enum End {
     /// No number was left.
     Drained,
@@ -27,15 +32,44 @@ pub(crate) enum End {
     Stopped,
     /// Memory ran out.
     Memory(OutOfMemory),
-    /// The worker was not started.
+    /// It was called off before it began.
     CalledOff,
+    /// No thread could be started for it.
+    Unstarted(OutOfMemory),
 }
 
 /// What a worker leaves.
 #[derive(Drop)]
 pub(crate) struct Shift {
+    pub(crate) pass: Pass,
     pub(crate) sender: SenderPass<Note>,
     pub(crate) end: End,
+}
+
+/// A worker's whole shift. It ends with a note that says so, unless the worker was called off.
+pub(crate) fn work<G: Gate, R: Wait>(
+    alloc: Global,
+    rt: &R,
+    site: &Site,
+    gate: &G,
+    pass: Pass,
+    sender: SenderPass<Note>,
+) -> Shift
+    requires pass { pass ≡ fresh site.now.tickets }
+    requires worker { IsWorker sender.number }
+    requires sender { sender ≡ silent site.now.belt.name sender.number }
+    ensures { Returns (G.may_stop gate.now) (G.lets gate.now) site.now sender.number result }
+{
+    let mut pass = pass;
+    let mut sender = sender;
+    let worker = sender.number();
+    if site.called_off.load(Ordering::SeqCst) == u64::from(worker) {
+        let end = End::CalledOff;
+        return Shift { pass, sender, end };
+    }
+    let end = survey_all(alloc, rt, site, gate, &mut pass, &mut sender);
+    site.belt.present(rt, &mut sender, Note::Done { worker });
+    Shift { pass, sender, end }
 }
 
 /// Surveys what is left, with a memo of the worker's own. Each report is presented.
@@ -50,16 +84,17 @@ fn survey_all<G: Gate, R: Wait>(
     requires pass { pass.old ≡ fresh site.now.tickets }
     requires worker { IsWorker sender.old.number }
     requires sender { sender.old ≡ silent site.now.belt.name sender.old.number }
-    ensures number { sender.new.number ≡ sender.old.number }
-    ensures worked { HasWorked site.now sender.new }
-    ensures stopped { result ≡ End.Stopped → StopsAt (G.may_stop gate.now) site.now.missing.items sender.old.number }
+    ensures worked { HasWorked (G.may_stop gate.now) (G.lets gate.now) site.now sender.old.number result pass.new
+        sender.new }
+    ensures begun { has_begun result ≡ true }
+    ensures not_done { AreNotDone sender.new.notes }
 {
     let mut memo = Memo::new(alloc);
     survey_left(alloc, rt, site, gate, pass, sender, &mut memo)
 }
 
 /// Surveys one number after another, until none is left, the gate stops the worker, or memory runs out.
-#[tactic(auto, using(crate::proofs::ShiftLemmas::reported_none, crate::proofs::ShiftLemmas::reported_more))]
+#[tactic(auto, using(crate::proofs::ShiftLemmas::reported_none))]
 fn survey_left<G: Gate, R: Wait>(
     alloc: Global,
     rt: &R,
@@ -72,9 +107,10 @@ fn survey_left<G: Gate, R: Wait>(
     requires pass { pass.old ≡ fresh site.now.tickets }
     requires worker { IsWorker sender.old.number }
     requires sender { sender.old ≡ silent site.now.belt.name sender.old.number }
-    ensures number { sender.new.number ≡ sender.old.number }
-    ensures worked { HasWorked site.now sender.new }
-    ensures stopped { result ≡ End.Stopped → StopsAt (G.may_stop gate.now) site.now.missing.items sender.old.number }
+    ensures worked { HasWorked (G.may_stop gate.now) (G.lets gate.now) site.now sender.old.number result pass.new
+        sender.new }
+    ensures begun { has_begun result ≡ true }
+    ensures not_done { AreNotDone sender.new.notes }
 {
     let worker = sender.number();
     for _ in rt.forever() {
@@ -82,8 +118,9 @@ fn survey_left<G: Gate, R: Wait>(
             return End::Drained;
         };
         let number = site.missing[place as usize];
-        if gate.before(worker, number).is_err() {
-            return End::Stopped;
+        match gate.before(worker, number) {
+            Ok(()) => {}
+            Err(Stop) => return End::Stopped,
         }
         let report = match Report::make_with(alloc, &site.job, worker, number, memo) {
             Ok(report) => report,
@@ -93,34 +130,4 @@ fn survey_left<G: Gate, R: Wait>(
         site.belt.present(rt, sender, Note::Report(report));
     }
     unreachable!()
-}
-
-/// A worker's whole shift. It ends with a note that says so, unless the worker was not started.
-#[tactic(auto, using(crate::proofs::ShiftLemmas::worked_none, crate::proofs::ShiftLemmas::worked_done))]
-pub(crate) fn work<G: Gate, R: Wait>(
-    alloc: Global,
-    rt: &R,
-    site: &Site,
-    gate: &G,
-    pass: Pass,
-    sender: SenderPass<Note>,
-) -> Shift
-    requires pass { pass ≡ fresh site.now.tickets }
-    requires worker { IsWorker sender.number }
-    requires sender { sender ≡ silent site.now.belt.name sender.number }
-    ensures number { result.sender.number ≡ sender.number }
-    ensures worked { HasWorked site.now result.sender }
-    ensures stopped { result.end ≡ End.Stopped → StopsAt (G.may_stop gate.now) site.now.missing.items sender.number }
-    ensures done { (result.end ≡ End.CalledOff) ⊎ EndsByDone sender.number result.sender.notes }
-{
-    let mut pass = pass;
-    let mut sender = sender;
-    let worker = sender.number();
-    if site.called_off.load(Ordering::SeqCst) == u64::from(worker) {
-        let end = End::CalledOff;
-        return Shift { sender, end };
-    }
-    let end = survey_all(alloc, rt, site, gate, &mut pass, &mut sender);
-    site.belt.present(rt, &mut sender, Note::Done { worker });
-    Shift { sender, end }
 }

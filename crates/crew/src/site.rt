@@ -1,4 +1,4 @@
-//! The site of a crew.
+//! The site of a crew: what all its workers share.
 ghost use Rattle.std.specs.Prelude.{◌≡◌, ◌<◌, All, vec_len};
 ghost use Rattle.ranges.specs.Ranges.{number_bound};
 

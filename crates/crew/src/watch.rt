@@ -1,3 +1,5 @@
+//! Who hears how far a haul has come.
+
 /// Hears how far a haul has come.
 ///
 /// No contract speaks of it, so nothing that a call returns or writes to its output depends on what is heard here.

@@ -1,19 +1,27 @@
 //! The workers of a crew, and the call that runs them.
-ghost use Rattle.std.specs.Prelude.{◌≡◌, ◌<◌, ◌≤◌, ◌+◌, ◌++◌, ◌∷◌, ◌⊎◌, [], ◌≢◌, ℕ, All, Bool, Err, IfErr, IfOk};
-ghost use Rattle.std.specs.Prelude.{IfSome, MatchResult, None, Some, false, length, map, nat_eq, true, vec_capacity};
-ghost use Rattle.std.specs.List.{IsDistinct, range_with_len};
-ghost use Rattle.std.specs.List.Sorted.{IsStrictlyIncreasing};
+//!
+//! ```text
+//! take ── complete_haul ── run_in_scope ── run_crew ── starts worker 3
+//!                                            run_crew ── starts worker 2
+//!                                              run_crew ── starts worker 1
+//!                                                receive_all: until all that were started are done
+//!                                              worker 1 is back
+//!                                            worker 2 is back
+//!                                          worker 3 is back
+//! ```
+ghost use Rattle.std.specs.Prelude.{◌≡◌, ◌≢◌, ◌<◌, ◌≤◌, ◌↔◌, ℕ, All, Err, IfErr, IfOk, MatchResult, None, Some};
+ghost use Rattle.std.specs.Prelude.{false, is_ok, is_some, length, nat_eq, not, true, vec_capacity};
+ghost use Rattle.std.specs.List.{IsDistinct};
 ghost use Rattle.haul_core.specs.Keeping.{numbers_in};
-ghost use Rattle.haul_core.specs.Missing.{AreAll, IsComplete};
+ghost use Rattle.haul_core.specs.Missing.{AreAll, IsComplete, missing_of};
 ghost use Rattle.haul_core.specs.Reports.{IsWorker};
-ghost use Rattle.handover.specs.Belts.{IsWhole, deaf, silent};
-ghost use Rattle.crew.specs.CrewSteps.{HasRunAll, MayRun, collector_of};
+ghost use Rattle.handover.specs.Belts.{IsWhole, silent};
+ghost use Rattle.crew.specs.CrewSteps.{HasAddedPost, HasRunAll, MayRun, cause_of, collector_of, stopped_with};
 ghost use Rattle.crew.specs.Crews.{Collected};
-ghost use Rattle.crew.specs.Shifts.{Leaves, StopsAt};
+ghost use Rattle.crew.specs.Shifts.{Leaves, Returns, StopsAt, lacks_memory, was_started};
 ghost use Rattle.crew.specs.Takes.{HasTaken, was_missing};
-ghost use Rattle.handover.specs.Tickets.{fresh};
+ghost use Rattle.handover.specs.Tickets.{AreAllBelow, drawn_by_all, fresh, how_many_heard};
 ghost use Rattle.crew.specs.declared.workers.CrewError.TheVariants as CrewError;
-ghost use Rattle.crew.specs.declared.shift.End.TheVariants as End;
 
 use crate::collector::collect;
 use crate::gate::Gate;
@@ -21,20 +29,18 @@ use crate::note::Note;
 use crate::posts::Posts;
 use crate::shift::{End, Shift, work};
 use crate::site::Site;
+use crate::start::Start;
 use crate::watch::Watch;
-use handover::belt::{Belt, ReceiverPass, SenderPass};
-use handover::tickets::{Pass, Tickets, TicketsError};
+use handover::belt::{ReceiverPass, SenderPass};
+use handover::tickets::Pass;
 use haul_core::book::haul::Haul;
 use memory::OutOfMemory;
 use std::alloc::Global;
 use std::sync::Wait;
-use std::sync::atomic::{AtomicU64, Ordering};
+use std::sync::atomic::Ordering;
 use std::thread;
 use std::thread::{Promise, PromisedHandle, Scope, Threads};
 use thiserror::Error;
-
-/// How many notes there is room for on the belt.
-const ROOM: usize = 64;
 
 /// Why a crew did not complete a haul.
 #[derive(Clone, Copy, Debug, PartialEq, Eq, Error)]
@@ -42,15 +48,12 @@ pub enum CrewError {
     /// The haul is closed.
     #[error("closed")]
     Closed,
-    /// The gate stopped a worker: of those that it stopped, the one with the least number.
+    /// The gate stopped a worker: of those that it stopped, this is the one with the least number.
     #[error("worker {worker} was stopped")]
     Stopped { worker: u8 },
     /// Memory ran out, or there was none for a thread.
     #[error("out of memory")]
     Memory(OutOfMemory),
-    /// No worker was stopped and no memory was refused.
-    #[error("soups are missing")]
-    Unfinished,
 }
 
 /// Lets so many workers survey what is missing in a haul, each in a thread of its own, and offers what they report.
@@ -61,13 +64,11 @@ pub enum CrewError {
 ///
 /// # Errors
 ///
-/// The haul, with what was taken, and the first of these that holds:
+/// The haul, with what was taken, and the first of these that holds. There is no other case:
 ///
 /// - [`CrewError::Closed`] if the haul is closed. It comes back as it was.
 /// - [`CrewError::Stopped`] if the gate stopped a worker and the haul is not complete.
 /// - [`CrewError::Memory`] if memory ran out, or a thread could not be started, and the haul is not complete.
-/// - [`CrewError::Unfinished`] if the haul is not complete, and neither is why. Nothing is known that leads to it, but
-///   that there is nothing isn't proved.
 ///
 /// To call it again goes on with what is missing.
 pub fn take<G: Gate + Sync, R: Threads + Wait + Sync, H: Watch>(
@@ -83,7 +84,8 @@ pub fn take<G: Gate + Sync, R: Threads + Wait + Sync, H: Watch>(
     ensures closed { haul.closed ≡ true → result ≡ Err (haul, CrewError.Closed) }
     ensures open { IfErr result (λ back. back.1 ≡ CrewError.Closed → haul.closed ≡ true) }
     ensures taken { haul.closed ≡ false
-        → MatchResult result (HasTaken workers haul) (λ back. HasTaken workers haul back.0) }
+        → MatchResult result (HasTaken (G.lets gate.now) workers haul)
+        (λ back. HasTaken (G.lets gate.now) workers haul back.0) }
     ensures complete { IfOk result (λ done. IsComplete done.terms.ranges done.taken) }
     ensures all { IfOk result (λ done. AreAll done.terms.ranges (numbers_in done.taken)) }
     ensures stopped { (worker : ℕ)
@@ -98,54 +100,42 @@ pub fn take<G: Gate + Sync, R: Threads + Wait + Sync, H: Watch>(
         return Err((haul, CrewError::Closed));
     }
     watch.begin(haul.count(), workers);
-    let (haul, stopped, lacking) = take_missing(alloc, rt, haul, workers, gate, watch);
+    let (haul, cause) = complete_haul(alloc, rt, haul, workers, gate, watch);
     watch.end();
     if haul.is_complete() {
         return Ok(haul);
     }
-    Err((haul, cause(stopped, lacking)))
+    let Some(cause) = cause else { unreachable!() };
+    Err((haul, cause))
 }
 
-/// Why a haul is not complete: a worker was stopped, or else there was no memory.
-fn cause(stopped: Option<u8>, lacking: Option<OutOfMemory>) -> CrewError
-    ensures stopped { IfSome stopped (λ worker. result ≡ CrewError.Stopped worker) }
-    ensures memory { stopped ≡ None → IfSome lacking (λ error. result ≡ CrewError.Memory error) }
-    ensures named { (worker : ℕ) → result ≡ CrewError.Stopped worker → stopped ≡ Some worker }
-    ensures open { result ≢ CrewError.Closed }
-{
-    match stopped {
-        Some(worker) => CrewError::Stopped { worker },
-        None => match lacking {
-            Some(error) => CrewError::Memory(error),
-            None => CrewError::Unfinished,
-        },
-    }
-}
-
-/// Lets workers survey what is missing. Which of them was stopped, if one was: the one with the least number. And the
-/// want of memory, if there was one.
+/// Lets workers survey what is missing in a haul. With it comes what kept them from some soups, if anything did.
 #[tactic(auto, using(crate::proofs::TakeLemmas::taken_none))]
-fn take_missing<G: Gate + Sync, R: Threads + Wait + Sync, H: Watch>(
+fn complete_haul<G: Gate + Sync, R: Threads + Wait + Sync, H: Watch>(
     alloc: Global,
     rt: &R,
     haul: Haul,
     workers: u8,
     gate: &G,
     watch: &mut H,
-) -> (Haul, Option<u8>, Option<OutOfMemory>)
+) -> (Haul, Option<CrewError>)
     requires some { 1 ≤ workers }
     requires few { workers ≤ haul.terms.workers }
     requires open { haul.closed ≡ false }
-    ensures taken { HasTaken workers haul result.0 }
-    ensures stopped { IfSome result.1 (StopsAt (G.may_stop gate.now) (was_missing haul)) }
-    ensures within { IfSome result.1 (λ worker. (1 ≤ worker) × (worker ≤ workers)) }
+    ensures taken { HasTaken (G.lets gate.now) workers haul result.0 }
+    ensures complete { result.1 ≡ None → IsComplete result.0.terms.ranges result.0.taken }
+    ensures stopped { (worker : ℕ)
+        → result.1 ≡ Some (CrewError.Stopped worker) → StopsAt (G.may_stop gate.now) (was_missing haul) worker }
+    ensures within { (worker : ℕ)
+        → result.1 ≡ Some (CrewError.Stopped worker) → (1 ≤ worker) × (worker ≤ workers) }
+    ensures open { result.1 ≢ Some CrewError.Closed }
 {
     if haul.is_complete() {
-        return (haul, None, None);
+        return (haul, None);
     }
     let start = match Start::new(alloc, &haul, workers) {
         Ok(start) => start,
-        Err(error) => return (haul, None, Some(error)),
+        Err(error) => return (haul, Some(CrewError::Memory(error))),
     };
     let Start {
         site,
@@ -157,7 +147,7 @@ fn take_missing<G: Gate + Sync, R: Threads + Wait + Sync, H: Watch>(
         posts,
         haul,
         receiver,
-        senders: back,
+        back,
         away: 0,
         stopped: None,
         lacking: None,
@@ -166,7 +156,78 @@ fn take_missing<G: Gate + Sync, R: Threads + Wait + Sync, H: Watch>(
     end_crew(site, crew)
 }
 
-/// What a worker's thread promises.
+/// Runs a crew in a scope of threads.
+fn run_in_scope<G: Gate + Sync, R: Threads + Wait + Sync, H: Watch>(
+    alloc: Global,
+    rt: &R,
+    site: &Site,
+    gate: &G,
+    crew: Crew,
+    watch: &mut H,
+) -> Crew
+    requires { MayRun site.now crew }
+    ensures { HasRunAll (G.may_stop gate.now) (G.lets gate.now) site.now crew result }
+{
+    thread::scope(
+        thread::scope_env(),
+        rt,
+        move |scope| -> Crew
+            requires { MayRun site.now crew }
+            ensures { HasRunAll (G.may_stop gate.entry.now) (G.lets gate.entry.now) site.entry.now crew result }
+        {
+            let mut crew = crew;
+            run_crew(alloc, rt, scope, site, gate, &mut crew, watch);
+            crew
+        },
+    )
+}
+
+/// What a crew leaves, once all workers are back: its haul, and what kept workers from some soups.
+fn end_crew(site: Site, crew: Crew) -> (Haul, Option<CrewError>)
+    requires passes { All (λ p. p.series ≡ site.tickets) crew.back.passes.items }
+    requires senders { All (λ s. s.belt ≡ site.belt.name) crew.back.senders.items }
+    requires receiver { crew.receiver.belt ≡ site.belt }
+    ensures drawn { length crew.back.passes.items ≡ site.tickets.passes → 0 < how_many_heard crew.back.passes.items
+        → AreAllBelow site.tickets.count (drawn_by_all crew.back.passes.items) }
+    ensures whole { All (IsWhole crew.receiver.got) crew.back.senders.items }
+    ensures haul { result.0 ≡ crew.haul }
+    ensures distinct { IsDistinct nat_eq (numbers_in crew.haul.taken) }
+    ensures none { (length (missing_of crew.haul.terms.ranges crew.haul.taken) ≡ 0)
+        ↔ IsComplete crew.haul.terms.ranges crew.haul.taken }
+    ensures cause { result.1 ≡ cause_of crew.stopped crew.lacking }
+{
+    let Crew {
+        haul,
+        receiver,
+        back: Posts { passes, senders },
+        stopped,
+        lacking,
+        ..
+    } = crew;
+    let Site { tickets, belt, .. } = site;
+    // For the prover: all numbers were drawn, if all passes are back and one of them has heard that none is left.
+    let _ = tickets.gather(passes);
+    // For the prover: what was received of a worker is a front of what it presented.
+    drop(belt.gather(senders, receiver));
+    // For the prover: the haul has taken no number twice.
+    let _ = haul.taken();
+    // For the prover: a haul of which nothing is missing is complete.
+    let _ = haul.missing_count();
+    (haul, cause(stopped, lacking))
+}
+
+/// What kept workers from some soups: a gate stopped one, or else memory was refused.
+fn cause(stopped: Option<u8>, lacking: Option<OutOfMemory>) -> Option<CrewError>
+    ensures { result ≡ cause_of stopped lacking }
+{
+    match (stopped, lacking) {
+        (Some(worker), _) => Some(CrewError::Stopped { worker }),
+        (None, Some(error)) => Some(CrewError::Memory(error)),
+        (None, None) => None,
+    }
+}
+
+/// What a worker's thread promises: to return what the worker leaves.
 #[derive(Clone, Copy)]
 struct Duty<'s, G> {
     worker: u8,
@@ -175,17 +236,19 @@ struct Duty<'s, G> {
 }
 
 impl<'s, G: Gate> Promise<Shift> for Duty<'s, G> {
-    ghost kept_by = { λ d shift. Leaves (G.may_stop d.gate.now) d.site.now d.worker shift };
+    ghost kept_by = { λ d shift. Returns (G.may_stop d.gate.now) (G.lets d.gate.now) d.site.now d.worker shift };
 }
 
-/// The workers that are still to be started, the haul, what its collector has received, and what the workers have left
-/// that are back.
+/// A crew while it is run.
 #[derive(Drop)]
 struct Crew {
+    /// Of the workers that are still to be started.
     posts: Posts,
     haul: Haul,
+    /// What its collector receives with.
     receiver: ReceiverPass<Note>,
-    senders: Vec<SenderPass<Note>>,
+    /// Of the workers that are back.
+    back: Posts,
     /// How many workers have been started and are not back.
     away: u8,
     /// The least worker that came back stopped.
@@ -205,10 +268,10 @@ fn run_crew<'s, E, G: Gate + Sync, R: Threads + Wait + Sync, H: Watch>(
     crew: &mut Crew,
     watch: &mut H,
 )
-    requires { MayRun (G.may_stop gate.now) site.now crew.old }
-    ensures { HasRunAll (G.may_stop gate.now) site.now crew.old crew.new }
+    requires { MayRun site.now crew.old }
+    ensures { HasRunAll (G.may_stop gate.now) (G.lets gate.now) site.now crew.old crew.new }
 {
-    let Some((pass, sender)) = crew.posts.take_last() else {
+    let Some((pass, sender)) = crew.posts.remove_last() else {
         receive_all(rt, site, crew, watch);
         return;
     };
@@ -224,9 +287,9 @@ fn run_crew<'s, E, G: Gate + Sync, R: Threads + Wait + Sync, H: Watch>(
 /// Collects what the workers report that have been started, until the last of them is done.
 fn receive_all<R: Wait, H: Watch>(rt: &R, site: &Site, crew: &mut Crew, watch: &mut H)
     requires { crew.old.receiver.belt ≡ site.now.belt }
-    ensures collected { (answered : Bool)
-        × Collected (collector_of crew.old.away crew.old) (collector_of 0 crew.new) answered }
-    ensures senders { crew.new.senders ≡ crew.old.senders }
+    ensures collected { Collected (collector_of crew.old.away crew.old) (collector_of 0 crew.new)
+        (not (is_some crew.new.lacking)) }
+    ensures back { crew.new.back ≡ crew.old.back }
     ensures stopped { crew.new.stopped ≡ crew.old.stopped }
     ensures away { crew.new.away ≡ crew.old.away }
 {
@@ -260,23 +323,24 @@ fn begin_shift<'s, E, G: Gate + Sync, R: Threads + Wait + Sync>(
     ensures worker { IfOk result (λ handle. handle.promise.worker ≡ sender.number) }
     ensures site { IfOk result (λ handle. handle.promise.site ≡ site.entry) }
     ensures gate { IfOk result (λ handle. handle.promise.gate ≡ gate.entry) }
-    ensures here { IfErr result (Leaves (G.may_stop gate.now) site.now sender.number) }
+    ensures here { IfErr result (Leaves (G.may_stop gate.now) (G.lets gate.now) site.now sender.number) }
+    ensures unstarted { IfErr result (λ shift. was_started shift.end ≡ false) }
 {
     let worker = sender.number();
     let duty = Duty { worker, site, gate };
     let shift = move || -> Shift
         requires { (pass ≡ fresh site.now.tickets) × (sender ≡ silent site.now.belt.name sender.number)
             × IsWorker sender.number }
-        ensures { Leaves (G.may_stop gate.entry.now) site.entry.now sender.number result }
+        ensures { Returns (G.may_stop gate.entry.now) (G.lets gate.entry.now) site.entry.now sender.number result }
     { work(alloc, rt, site, gate, pass, sender) };
     match scope.spawn_with(duty, shift) {
         Ok(handle) => Ok(handle),
         Err(refused) => {
             let (here, error) = OutOfMemory::of_start(refused);
             site.called_off.store(u64::from(worker), Ordering::SeqCst);
-            let Shift { sender, .. } = here();
-            let end = End::Memory(error);
-            Err(Shift { sender, end })
+            let Shift { pass, sender, .. } = here();
+            let end = End::Unstarted(error);
+            Err(Shift { pass, sender, end })
         }
     }
 }
@@ -288,8 +352,11 @@ fn end_shift<'s, G: Gate, R: Threads>(
     begun: Result<PromisedHandle<Shift, Duty<'s, G>>, Shift>,
 ) -> Shift
     requires thread { IfOk begun (λ handle. handle.promise ≡ duty) }
-    requires here { IfErr begun (Leaves (G.may_stop duty.gate.now) duty.site.now duty.worker) }
-    ensures { Leaves (G.may_stop duty.entry.gate.now) duty.entry.site.now duty.entry.worker result }
+    requires here { IfErr begun (Leaves (G.may_stop duty.gate.now) (G.lets duty.gate.now) duty.site.now duty.worker) }
+    requires unstarted { IfErr begun (λ shift. was_started shift.end ≡ false) }
+    ensures left { Leaves (G.may_stop duty.entry.gate.now) (G.lets duty.entry.gate.now) duty.entry.site.now
+        duty.entry.worker result }
+    ensures started { was_started result.end ≡ is_ok begun.entry }
 {
     match begun {
         Ok(handle) => handle.join(rt),
@@ -299,128 +366,39 @@ fn end_shift<'s, G: Gate, R: Threads>(
 
 /// Notes that one worker more is back.
 fn note_shift(crew: &mut Crew, shift: Shift)
-    requires room { length crew.old.senders.items < vec_capacity crew.old.senders }
-    ensures senders { crew.new.senders.items ≡ crew.old.senders.items ++ shift.sender ∷ [] }
-    ensures room { vec_capacity crew.new.senders ≡ vec_capacity crew.old.senders }
-    ensures stopped { IfSome crew.new.stopped
-        (λ w. (crew.old.stopped ≡ Some w) ⊎ ((shift.end ≡ End.Stopped) × (w ≡ shift.sender.number))) }
-    ensures first { IfSome crew.old.stopped (λ w. crew.new.stopped ≡ Some w) }
-    ensures noted { crew.old.stopped ≡ None → shift.end ≡ End.Stopped → crew.new.stopped ≡ Some shift.sender.number }
+    requires passes { length crew.old.back.passes.items < vec_capacity crew.old.back.passes }
+    requires senders { length crew.old.back.senders.items < vec_capacity crew.old.back.senders }
+    ensures back { HasAddedPost shift.pass shift.sender crew.old.back crew.new.back }
+    ensures stopped { crew.new.stopped ≡ stopped_with crew.old.stopped shift.sender.number shift.end }
+    ensures answered { crew.new.lacking ≡ None → crew.old.lacking ≡ None }
+    ensures memory { crew.new.lacking ≡ None → lacks_memory shift.end ≡ false }
     ensures haul { crew.new.haul ≡ crew.old.haul }
     ensures receiver { crew.new.receiver ≡ crew.old.receiver }
     ensures away { crew.new.away ≡ crew.old.away }
 {
-    let Shift { sender, end } = shift;
-    if crew.stopped.is_none() && end == End::Stopped {
-        crew.stopped = Some(sender.number());
-    }
-    if let End::Memory(error) = end {
-        crew.lacking = Some(error);
-    }
-    crew.senders.push_reserved(sender);
+    let Shift { pass, sender, end } = shift;
+    crew.stopped = first_stopped(crew.stopped, sender.number(), end);
+    crew.lacking = any_lack(crew.lacking, end);
+    crew.back.add(pass, sender);
 }
 
-/// What a crew begins with.
-#[derive(Drop)]
-struct Start {
-    site: Site,
-    posts: Posts,
-    receiver: ReceiverPass<Note>,
-    /// Room for the senders that come back.
-    back: Vec<SenderPass<Note>>,
-}
-
-impl Start {
-    /// All that is needed to survey what is missing in a haul.
-    fn new(alloc: Global, haul: &Haul, workers: u8) -> Result<Start, OutOfMemory>
-        requires some { 1 ≤ workers }
-        requires few { workers ≤ haul.now.terms.workers }
-        requires open { haul.now.closed ≡ false }
-        ensures job { IfOk result (λ start. start.site.job ≡ haul.now.terms.job) }
-        ensures missing { IfOk result (λ start. start.site.missing.items ≡ was_missing haul.now) }
-        ensures ascending { IfOk result (λ start. IsStrictlyIncreasing start.site.missing.items) }
-        ensures workers { IfOk result (λ start. start.site.belt.workers ≡ workers) }
-        ensures passes { IfOk result (λ start. All (λ p. p ≡ fresh start.site.tickets) start.posts.passes.items) }
-        ensures few { IfOk result (λ _. workers ≤ 16) }
-        ensures many { IfOk result (λ start. length start.posts.passes.items ≡ workers) }
-        ensures senders { IfOk result
-            (λ start. start.posts.senders.items ≡ map (silent start.site.belt.name) (range_with_len 1 workers)) }
-        ensures receiver { IfOk result (λ start. start.receiver ≡ deaf start.site.belt) }
-        ensures back { IfOk result (λ start. start.back.items ≡ []) }
-        ensures room { IfOk result (λ start. workers ≤ vec_capacity start.back) }
-    {
-        // What the haul says of it: it has at most 16 workers.
-        let _ = haul.workers();
-        let missing = haul.missing()?;
-        let (tickets, passes) = match Tickets::open(alloc, missing.len() as u64, workers) {
-            Ok(opened) => opened,
-            Err(TicketsError::Memory(error)) => return Err(error),
-            Err(TicketsError::BadCount | TicketsError::BadPasses) => unreachable!(),
-        };
-        let (belt, senders, receiver) = Belt::open(alloc, ROOM, workers)?;
-        let back = Vec::with_capacity(alloc, usize::from(workers))?;
-        let site = Site {
-            job: haul.job(),
-            tickets,
-            belt,
-            missing,
-            called_off: AtomicU64::new(0),
-        };
-        Ok(Start {
-            site,
-            posts: Posts { passes, senders },
-            receiver,
-            back,
-        })
-    }
-}
-
-/// Runs a crew in a scope of threads.
-fn run_in_scope<G: Gate + Sync, R: Threads + Wait + Sync, H: Watch>(
-    alloc: Global,
-    rt: &R,
-    site: &Site,
-    gate: &G,
-    crew: Crew,
-    watch: &mut H,
-) -> Crew
-    requires { MayRun (G.may_stop gate.now) site.now crew }
-    ensures { HasRunAll (G.may_stop gate.now) site.now crew result }
+/// The first worker that was stopped, once this one is back too.
+fn first_stopped(stopped: Option<u8>, worker: u8, end: End) -> Option<u8>
+    ensures { result ≡ stopped_with stopped worker end }
 {
-    thread::scope(
-        thread::scope_env(),
-        rt,
-        move |scope| -> Crew
-            requires { MayRun (G.may_stop gate.now) site.now crew }
-            ensures { HasRunAll (G.may_stop gate.entry.now) site.entry.now crew result }
-        {
-            let mut crew = crew;
-            run_crew(alloc, rt, scope, site, gate, &mut crew, watch);
-            crew
-        },
-    )
+    match (stopped, end) {
+        (None, End::Stopped) => Some(worker),
+        _ => stopped,
+    }
 }
 
-/// What a crew leaves, once all workers are back.
-fn end_crew(site: Site, crew: Crew) -> (Haul, Option<u8>, Option<OutOfMemory>)
-    requires senders { All (λ s. s.belt ≡ site.belt.name) crew.senders.items }
-    requires receiver { crew.receiver.belt ≡ site.belt }
-    ensures whole { All (IsWhole crew.receiver.got) crew.senders.items }
-    ensures haul { result.0 ≡ crew.haul }
-    ensures distinct { IsDistinct nat_eq (numbers_in crew.haul.taken) }
-    ensures stopped { result.1 ≡ crew.stopped }
+/// The want of memory, if there was one, once this shift has ended too.
+fn any_lack(lacking: Option<OutOfMemory>, end: End) -> Option<OutOfMemory>
+    ensures before { result ≡ None → lacking ≡ None }
+    ensures here { result ≡ None → lacks_memory end ≡ false }
 {
-    let Crew {
-        haul,
-        receiver,
-        senders,
-        stopped,
-        lacking,
-        ..
-    } = crew;
-    let Site { belt, .. } = site;
-    drop(belt.gather(senders, receiver));
-    // What the haul says of it: it has taken no number twice.
-    let _ = haul.taken();
-    (haul, stopped, lacking)
+    match end {
+        End::Memory(error) | End::Unstarted(error) => Some(error),
+        End::Drained | End::Stopped | End::CalledOff => lacking,
+    }
 }

@@ -1,3 +1,4 @@
+//! A haul that two threads fill over a belt.
 ghost use Rattle.std.specs.Prelude.{◌≡◌, ◌<◌};
 
 use crate::small::{haul_of, small_job};

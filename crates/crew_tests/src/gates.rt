@@ -1,4 +1,6 @@
 //! Crews under gates that stop workers, or hold them until others have come.
+ghost use Rattle.std.specs.Prelude.{◌<◌, ◌⊎◌};
+
 use crate::left::{Left, left_by};
 use crate::small::small_job;
 use crew::gate::{Gate, OpenGate, Stop};
@@ -66,6 +68,8 @@ struct Lockstep {
 impl Gate for Lockstep {
     ghost may_stop = { λ _ worker number. Unit {0} };
 
+    ghost lets = { λ _ worker number. Unit {0} };
+
     // Nobody draws a number of the next sixteen before all have come with these.
     fn before(&self, _worker: u8, number: u64) -> Result<(), Stop> {
         self.patience.come();
@@ -98,6 +102,8 @@ struct StopsSome {
 
 impl Gate for StopsSome {
     ghost may_stop = { λ _ worker number. Unit {0} };
+
+    ghost lets = { λ gate worker number. (worker < gate.first) ⊎ (gate.last < worker) };
 
     fn before(&self, worker: u8, _number: u64) -> Result<(), Stop> {
         if self.first <= worker && worker <= self.last {
@@ -164,6 +170,8 @@ struct Shutter {
 
 impl Gate for Shutter {
     ghost may_stop = { λ _ worker number. Unit {0} };
+
+    ghost lets = { λ _ worker number. Unit {0} };
 
     fn before(&self, _worker: u8, _number: u64) -> Result<(), Stop> {
         if self.called.fetch_add(1, Ordering::SeqCst) < self.calls {

@@ -1,6 +1,6 @@
 //! Each of these tests passes, or fails for want of memory alone, whichever allocation is refused. `checks/memory`
 //! refuses each in turn.
-ghost use Rattle.std.specs.Prelude.{◌≤◌};
+ghost use Rattle.std.specs.Prelude.{◌≡◌, ◌≢◌, ◌≤◌};
 
 use crate::left::left_by;
 use crate::small::small_job;
@@ -58,7 +58,9 @@ struct StopsSecond {
 }
 
 impl Gate for StopsSecond {
-    ghost may_stop = { λ _ worker number. Unit {0} };
+    ghost may_stop = { λ _ worker number. worker ≡ 2 };
+
+    ghost lets = { λ _ worker number. worker ≢ 2 };
 
     fn before(&self, worker: u8, _number: u64) -> Result<(), Stop> {
         if worker != 2 {

@@ -1,3 +1,4 @@
+//! A small job, and a haul of it.
 ghost use Rattle.std.specs.Prelude.{◌≡◌, IfOk};
 
 use haul_core::book::haul::Haul;

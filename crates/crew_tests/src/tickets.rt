@@ -1,3 +1,4 @@
+//! Tickets that threads draw.
 ghost use Rattle.std.specs.Prelude.{◌≡◌, All};
 ghost use Rattle.std.specs.Thread.{IsSync};
 

@@ -1,3 +1,4 @@
+//! What a watch hears.
 ghost use Rattle.std.specs.Prelude.{◌≤◌};
 
 use crate::left::go_on;

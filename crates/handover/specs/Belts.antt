@@ -7,6 +7,10 @@ pub record BeltId : Type 0 where
   pub name : TableId
   pub workers : ℕ
 
+-- for how many notes a belt has room: there is a slot for each
+abbrev pub room_of : BeltId → ℕ
+room_of belt = belt.name.slots
+
 -- what a sender's pass is seen as: its belt, its number, and the notes that it presented, in order
 pub record Presented (N : Type 0) : Type 0 where
   pub belt : TableId

@@ -9,7 +9,8 @@ ghost use Rattle.std.specs.Prelude.{◌≡◌, ◌<◌, ◌≤◌, ◌+◌, ◌�
 ghost use Rattle.std.specs.Prelude.{length, map, vec_capacity, true};
 ghost use Rattle.std.specs.List.{range_with_len};
 ghost use Rattle.crossbeam_queue.specs.Passes.{IsPassOf, IsSamePass, view};
-ghost use Rattle.handover.specs.Belts.{GotOne, IsWhole, NothingLeft, TookFirst, deaf, left_of, silent, with_note};
+ghost use Rattle.handover.specs.Belts.{GotOne, IsWhole, NothingLeft, TookFirst, deaf, left_of, room_of, silent};
+ghost use Rattle.handover.specs.Belts.{with_note};
 ghost use Rattle.handover.specs.BeltRule.{first_share, share, with_senders};
 
 use crate::bell::Bell;
@@ -188,6 +189,7 @@ impl<N: Drop> Belt<N> {
         workers: u8,
     ) -> Result<(Belt<N>, Vec<SenderPass<N>>, ReceiverPass<N>), OutOfMemory>
         requires { 0 < room }
+        ensures room { IfOk result (λ made. room_of made.0 ≡ room) }
         ensures workers { IfOk result (λ made. made.0.workers ≡ workers) }
         ensures senders { IfOk result (λ made. made.1.items ≡ map (silent made.0.name) (range_with_len 1 workers)) }
         ensures receiver { IfOk result (λ made. made.2 ≡ deaf made.0) }
@@ -250,7 +252,8 @@ impl<N: Drop> Belt<N> {
     {
         let Belt { queue, .. } = self;
         let ReceiverPass { mut pass } = receiver;
-        take_in(&queue, &mut pass, senders);
+        absorb_all(&queue, &mut pass, senders);
+        // For the prover: what is left in the queue is what was presented and not received.
         queue.learn_as::<Get>(&mut pass);
         Remainder { queue, pass }
     }
@@ -336,8 +339,8 @@ fn make_sender<N: Drop>(
     }
 }
 
-/// Takes in the passes of senders.
-fn take_in<N: Drop>(
+/// Joins the passes of senders to the receiver's.
+fn absorb_all<N: Drop>(
     queue: &Queue<N>,
     pass: &mut Pass<(u8, N), Share<N>>,
     mut senders: Vec<SenderPass<N>>,
@@ -348,12 +351,12 @@ fn take_in<N: Drop>(
     ensures taken { view pass.new ≡ with_senders senders.items (view pass.old) }
 {
     while let Some(sender) = senders.pop() {
-        take_in_one(queue, pass, sender);
+        absorb_one(queue, pass, sender);
     }
 }
 
-/// Takes in the pass of one sender.
-fn take_in_one<N: Drop>(queue: &Queue<N>, pass: &mut Pass<(u8, N), Share<N>>, sender: SenderPass<N>)
+/// Joins the pass of one sender to the receiver's.
+fn absorb_one<N: Drop>(queue: &Queue<N>, pass: &mut Pass<(u8, N), Share<N>>, sender: SenderPass<N>)
     requires queue { IsPassOf queue.now pass.old }
     requires sender { sender.belt ≡ queue.now.table.shared.table_id }
     ensures queue { IsSamePass pass.old pass.new }

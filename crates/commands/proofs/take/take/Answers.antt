@@ -14,10 +14,10 @@ returns-in_err-haul-clause-reached g c known bytes errors still =
 
 pub returns-clause-reached : goal.returns-clause-reached
 returns-clause-reached g c known bytes errors still =
-    let crew = c.take_by_crews-haul.ensures in
+    let crew = c.complete_by_crew-haul.ensures in
     let end = c.finish_taken.ensures in
-    take_ends (g.G.Gate.may_stop c.args.gate.now) c.args.plan.now known bytes c.in_ok-haul.haul c.take_by_crews-haul.result.0
-    c.take_by_crews-haul.result.1 c.finish_taken.result _ errors c.in_ok-haul.ensures.opened crew.grown c.taken.ensures.within c.taken.ensures.distinct crew.ends end.finishes end.none end.gives_up still
+    take_ends (g.G.Gate.may_stop c.args.gate.now) c.args.plan.now known bytes c.in_ok-haul.haul c.complete_by_crew-haul.result.0
+    c.complete_by_crew-haul.result.1 c.finish_taken.result _ errors c.in_ok-haul.ensures.opened crew.grown c.taken.ensures.within c.taken.ensures.distinct crew.ends end.finishes end.none end.gives_up still
 
 pub returns-in_err-haul-clause-untouched : goal.returns-in_err-haul-clause-untouched
 returns-in_err-haul-clause-untouched g c = rw (err_of _ _ c.from_residual.ensures.1) (λ is. refl)
@@ -25,14 +25,14 @@ returns-in_err-haul-clause-untouched g c = rw (err_of _ _ c.from_residual.ensure
 pub returns-in_err-haul-clause-no_memory : goal.returns-in_err-haul-clause-no_memory
 returns-in_err-haul-clause-no_memory g c = rw (err_of _ _ c.from_residual.ensures.1) (λ is. refl)
 
-pub take_by_crews-haul-requires-clause-some : goal.take_by_crews-haul-requires-clause-some
-take_by_crews-haul-requires-clause-some g c κs lives = c.requires.workers.least
+pub complete_by_crew-haul-requires-clause-some : goal.complete_by_crew-haul-requires-clause-some
+complete_by_crew-haul-requires-clause-some g c κs lives = c.requires.workers.least
 
-pub take_by_crews-haul-requires-clause-few : goal.take_by_crews-haul-requires-clause-few
-take_by_crews-haul-requires-clause-few g c κs lives = omega (arith, c.in_ok-haul.ensures.opened.opened.workers_are)
+pub complete_by_crew-haul-requires-clause-few : goal.complete_by_crew-haul-requires-clause-few
+complete_by_crew-haul-requires-clause-few g c κs lives = omega (arith, c.in_ok-haul.ensures.opened.opened.workers_are)
 
-pub take_by_crews-haul-requires-clause-open : goal.take_by_crews-haul-requires-clause-open
-take_by_crews-haul-requires-clause-open g c κs lives = c.in_ok-haul.ensures.opened.opened.stands.closed
+pub complete_by_crew-haul-requires-clause-open : goal.complete_by_crew-haul-requires-clause-open
+complete_by_crew-haul-requires-clause-open g c κs lives = c.in_ok-haul.ensures.opened.opened.stands.closed
 
 pub finish_taken-requires : goal.finish_taken-requires
 finish_taken-requires g c = c.requires.output

@@ -14,7 +14,7 @@ loop-preserved-in-Err g c =
 pub loop-preserved-in-Ok : goal.loop-preserved-in-Ok
 loop-preserved-in-Ok g c =
     collected_heard c.loop.invariant c.in-Report.report c.offer.new.haul (c.in-Report.ensures) (omega (arith, c.if-left-eq0.false))
-    c.in-Ok.ensures.added c.in-Ok.ensures.stands
+    c.in-Ok.ensures.added c.in-Ok.ensures.stands c.in-Ok.ensures.soup
 
 pub loop-preserved : goal.loop-preserved
 loop-preserved g c = collected_done c.loop.invariant c.in-Done.worker (c.in-Done.ensures) (omega (arith, c.if-left-eq0.false))

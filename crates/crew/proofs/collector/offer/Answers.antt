@@ -1,6 +1,7 @@
-use Rattle.std.proofs.Common.{◌≡◌, ◌≢◌, ◌∙◌, ℕ, Bool, true, false, List, None, Option, Some, ap, if◌then◌else◌, inl, inr, nat_lt, not, sym}
+use Rattle.std.proofs.Common.{◌≡◌, ◌≢◌, ◌∙◌, ℕ, Bool, true, false, List, None, Option, Some, ap, if◌then◌else◌, inl, inr, nat_lt, not, subst, sym}
 use Rattle.memory.specs.Evidence.{out_of_memory}
-use Rattle.haul_core.specs.Books.{Terms, eligible, has_closing}
+use Rattle.haul_core.specs.Missing.{is_taken}
+use Rattle.haul_core.specs.Books.{Held, Terms, eligible, has_closing}
 use Rattle.haul_core.specs.Refusals.{IsReply, double, first_worker, refusal_of}
 use Rattle.survey_core.specs.Jobs.{same_job}
 use Rattle.haul_core.specs.Reports.{Reported}
@@ -8,6 +9,8 @@ use Rattle.haul_core.specs.declared.book.arrival.Arrival.{Arrival}
 use Rattle.haul_core.specs.declared.book.refused.OfferError.{OfferError}
 use Rattle.haul_core.specs.declared.book.refused.OfferError.TheVariants.{Closed, Memory, OtherJob, OutOfRange, UnknownWorker}
 use Rattle.ranges.specs.Ranges.{is_in}
+use Rattle.crew.specs.Crews.{HasSoupOf}
+use Rattle.crew.proofs.CrewLemmas.{refused_was_taken, taken_last}
 use Rattle.crew.proofs.collector.offer.Goals as goal
 
 -- an answer with no refusal is none of the refusals
@@ -27,11 +30,11 @@ no_memory false true false true None e = absurd (cc)
 no_memory false true false true (Some w) e = absurd (cc)
 
 -- where memory runs out, the book takes the offer
-is_taken : (terms : Terms) (before : List Arrival) (r : Reported) (given : Option OfferError) → IsReply given (refusal_of terms before r)
+book_takes : (terms : Terms) (before : List Arrival) (r : Reported) (given : Option OfferError) → IsReply given (refusal_of terms before r)
     → given ≡ Some (Memory out_of_memory) → refusal_of terms before r ≡ None
-is_taken terms before r given (inl same) e = absurd (no_memory (has_closing before) (same_job terms.job r.job) (nat_lt terms.workers r.worker)
+book_takes terms before r given (inl same) e = absurd (no_memory (has_closing before) (same_job terms.job r.job) (nat_lt terms.workers r.worker)
     (is_in terms.ranges r.number) (first_worker r.number (eligible terms before)) (sym same ∙ e))
-is_taken terms before r given (inr none) e = none.1
+book_takes terms before r given (inr none) e = none.1
 
 -- equal replies give equal reasons
 same_reason : (a b : OfferError) → Some a ≡ Some b → a ≡ b
@@ -48,6 +51,8 @@ returns-in-Ok c =
         stands = λ arrivals here. all.stands arrivals here (taken_is_answer (Memory out_of_memory));
       });
       stands = λ arrivals here. all.stands arrivals here (taken_is_answer (Memory out_of_memory));
+      soup = λ is_open lawful. subst (λ (l : List (ℕ × ℕ)). is_taken l c.args.report.number ≡ true) (sym all.taken)
+          (taken_last c.args.haul.now.taken c.args.report.worker c.args.report.number);
       kept = tt;
       lost = tt;
     }
@@ -56,9 +61,10 @@ pub returns-in-Memory : goal.returns-in-Memory
 returns-in-Memory c = record {
   added = inl c.in-Err.ensures.kept;
   stands = tt;
+  soup = tt;
   kept = c.in-Err.ensures.kept;
   lost = λ arrivals here.
-      is_taken c.args.haul.now.terms arrivals c.args.report (Some c.in-Err.refused.reason) (c.in-Err.ensures.reply arrivals here) (ap Some c.in-Memory.is);
+      book_takes c.args.haul.now.terms arrivals c.args.report (Some c.in-Err.refused.reason) (c.in-Err.ensures.reply arrivals here) (ap Some c.in-Memory.is);
 }
 
 -- src/collector.rt:55:1
@@ -66,6 +72,9 @@ pub returns : goal.returns
 returns c = let other = c.in_default.not-Memory out_of_memory in record {
   added = inl c.in-Err.ensures.kept;
   stands = λ arrivals here. c.in-Err.ensures.stands arrivals here (λ memory. other (same_reason c.in-Err.refused.reason (Memory out_of_memory) memory));
+  soup = subst (λ (h : Held). HasSoupOf h c.args.report) (sym c.in-Err.ensures.kept)
+      (refused_was_taken c.args.haul.now c.args.report c.in-Err.refused.reason c.in-Err.ensures.state
+      (λ memory. other (same_reason c.in-Err.refused.reason (Memory out_of_memory) memory)));
   kept = tt;
   lost = tt;
 }

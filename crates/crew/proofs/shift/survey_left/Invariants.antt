@@ -1,9 +1,10 @@
 use Rattle.std.proofs.Common.{◌≡◌}
-use Rattle.crew.specs.Shifts.{HasReported}
+use Rattle.crew.specs.Shifts.{AreNotDone, HasReported}
 use Rattle.crew.proofs.shift.survey_left.Given as goal
 
 abbrev pub invariant-loop : goal.invariant-loop
 invariant-loop g l =
     (l.pass.series ≡ l.fn.site.tickets)
     × (l.sender.number ≡ l.fn.sender.number)
-    × HasReported l.fn.site l.pass.numbers l.sender
+    × HasReported (g.G.Gate.lets l.fn.gate) l.fn.site l.pass.numbers l.sender
+    × AreNotDone l.sender.notes

@@ -1,16 +1,8 @@
-use Rattle.std.proofs.Common.{◌≤◌, IfSome, subst}
-use Rattle.crew.specs.Shifts.{StopsAt}
-use Rattle.crew.specs.Takes.{was_missing}
+use Rattle.std.proofs.Common.{◌∙◌, Some, ap}
 use Rattle.crew.proofs.workers.take.Goals as goal
 
 pub returns-clause-stopped : goal.returns-clause-stopped
-returns-clause-stopped g c worker is =
-    subst (λ o. IfSome o (StopsAt (g.G.Gate.may_stop c.args.gate.now) (was_missing c.args.haul))) (c.cause.ensures.named worker is)
-    c.take_missing-haul.ensures.stopped
+returns-clause-stopped g c worker is = c.complete_haul-haul.ensures.stopped worker (c.in-Some.is ∙ ap Some is)
 
 pub returns-clause-within : goal.returns-clause-within
-returns-clause-within g c worker is =
-    subst (λ o. IfSome o (λ w. (1 ≤ w) × (w ≤ c.args.workers))) (c.cause.ensures.named worker is) c.take_missing-haul.ensures.within
-
-pub returns-clause-open : goal.returns-clause-open
-returns-clause-open g c = λ closed. absurd (c.cause.ensures.«open» closed)
+returns-clause-within g c worker is = c.complete_haul-haul.ensures.within worker (c.in-Some.is ∙ ap Some is)

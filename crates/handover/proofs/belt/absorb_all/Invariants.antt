@@ -1,7 +1,7 @@
 use Rattle.std.proofs.Common.{◌≡◌, All, length}
 use Rattle.crossbeam_queue.specs.Passes.{view}
 use Rattle.handover.specs.BeltRule.{with_senders}
-use Rattle.handover.proofs.belt.take_in.Given as goal
+use Rattle.handover.proofs.belt.absorb_all.Given as goal
 
 abbrev pub invariant-loop-sender : goal.invariant-loop-sender
 invariant-loop-sender g l =
