@@ -44,8 +44,8 @@ read_more start old new kept after front more size piece kept_is one consumed si
     )
 
 -- of an input from which many bytes were read, there are many
-pub long_read : (known left : Option (List ℕ)) (read : List ℕ) → Consumes known left read → 2 ^ 32 < length read
-    → IfSome known (λ bytes. 2 ^ 32 < length bytes)
+pub long_read : (reader left : Option (List ℕ)) (read : List ℕ) → Consumes reader left read → 2 ^ 32 < length read
+    → IfSome reader (λ bytes. 2 ^ 32 < length bytes)
 long_read None left read consumed long = tt
 long_read (Some xs) None read consumed long = absurd consumed
 long_read (Some xs) (Some ys) read consumed long = let all = ap length consumed ∙ length-append read ys in omega (arith, all, long)
@@ -129,15 +129,15 @@ lines_bare read lines (x ∷ xs) ended one some =
     ap (λ l. input_lines (l ++ x ∷ xs)) ended.spelled ∙ ended_lines lines (x ∷ xs) ended.whole ∙ ap (λ l. lines ++ l) (bare_line x xs one)
 
 -- the lines that were read are the first of the input
-pub first_lines : (known left : Option (List ℕ)) (read : List ℕ) (lines : List (List ℕ)) → Consumes known left read → AreEnded read lines
-    → IfSome known (λ bytes. (more : List (List ℕ)) × (input_lines bytes ≡ lines ++ more))
+pub first_lines : (reader left : Option (List ℕ)) (read : List ℕ) (lines : List (List ℕ)) → Consumes reader left read → AreEnded read lines
+    → IfSome reader (λ bytes. (more : List (List ℕ)) × (input_lines bytes ≡ lines ++ more))
 first_lines None left read lines consumed ended = tt
 first_lines (Some bytes) None read lines consumed ended = absurd consumed
 first_lines (Some bytes) (Some more) read lines consumed ended =
     (input_lines more, ap input_lines (consumed ∙ ap (λ l. l ++ more) ended.spelled) ∙ ended_lines lines more ended.whole)
 
 -- and if all was read, they are all
-pub all_lines : (known : Option (List ℕ)) (read : List ℕ) → IsInput known read
-    → IfSome known (λ bytes. (more : List (List ℕ)) × (input_lines bytes ≡ input_lines read ++ more))
+pub all_lines : (reader : Option (List ℕ)) (read : List ℕ) → IsInput reader read
+    → IfSome reader (λ bytes. (more : List (List ℕ)) × (input_lines bytes ≡ input_lines read ++ more))
 all_lines None read input = tt
 all_lines (Some bytes) read input = ([], ap input_lines (sym input) ∙ sym (append-nil (input_lines read)))

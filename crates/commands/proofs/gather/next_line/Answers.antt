@@ -8,15 +8,15 @@ pub returns-in_ok-take_line-clause-short : goal.returns-in_ok-take_line-clause-s
 returns-in_ok-take_line-clause-short g c = c.in_ok-read.ensures.read.short
 
 pub returns-in_ok-take_line-clause-going : goal.returns-in_ok-take_line-clause-going
-returns-in_ok-take_line-clause-going g c known first size gathered =
+returns-in_ok-take_line-clause-going g c reader first size gathered =
     let read = c.in_ok-read.ensures.read in
-    let by = c.in_ok-take_line.ensures.come read.line gathered.lines gathered.told (c.as_slice.ensures.value ∙ read.kept_is) gathered.count_is gathered.come in
-    goes_on g.E.Write.contents known _ _ first c.args.errors.now c.take_line.new.errors _ size _ _ _ c.in_ok-read.read
+    let by = c.in_ok-take_line.ensures.come read.line gathered.lines gathered.remarks (c.as_slice.ensures.value ∙ read.kept_is) gathered.count_is gathered.come in
+    goes_on g.E.Write.contents reader _ _ first c.args.errors.now c.take_line.new.errors _ size _ _ _ c.in_ok-read.read
     gathered read c.if-read-gt0.true by
 
 pub returns-else-read-gt0-clause-going : goal.returns-else-read-gt0-clause-going
-returns-else-read-gt0-clause-going g c known first size gathered =
-    no_more known _ _ (stream g.E.Write.contents first c.args.errors.now) _ size _ _ c.in_ok-read.read gathered
+returns-else-read-gt0-clause-going g c reader first size gathered =
+    no_more reader _ _ (stream g.E.Write.contents first c.args.errors.now) _ size _ _ c.in_ok-read.read gathered
     c.in_ok-read.ensures.read
     (omega (arith, c.if-read-gt0.false))
 

@@ -1,7 +1,7 @@
 use Rattle.std.proofs.Common.{◌≡◌, ◌∙◌, inr, refl, sym}
 use Rattle.crew.specs.declared.workers.CrewError.TheVariants as crew_error
 use Rattle.commands.proofs.GrownLemmas.{grown_more, grown_none, stops_first}
-use Rattle.commands.proofs.take.take_by_crews.Goals as goal
+use Rattle.commands.proofs.take.complete_haul.Goals as goal
 
 pub loop-init : goal.loop-init
 loop-init g c = (grown_none c.args.haul, refl)

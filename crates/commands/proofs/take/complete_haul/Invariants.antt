@@ -1,6 +1,6 @@
 use Rattle.std.proofs.Common.{◌≡◌}
 use Rattle.commands.specs.TakeSteps.{HasTakenMore}
-use Rattle.commands.proofs.take.take_by_crews.Given as goal
+use Rattle.commands.proofs.take.complete_haul.Given as goal
 
 -- what crews have taken so far
 abbrev pub invariant-loop : goal.invariant-loop
