@@ -5,7 +5,8 @@
 //!             └─ status ────────────┴─ code
 //! ```
 
-ghost use Rattle.std.specs.Prelude.{◌≡◌, ◌≢◌, ℕ, suc, List, Option, [], IsErr, None, Some, IfOk, IfErr, IfNone, IfSome, IsOkAnd};
+ghost use Rattle.std.specs.Prelude.{◌≡◌, ◌≢◌, ℕ, suc, List, Option, [], IsErr, None, Some};
+ghost use Rattle.std.specs.Prelude.{IfOk, IfErr, IfNone, IfSome, IsOkAnd};
 ghost use Rattle.std.specs.Prelude.{IsSomeAnd, true, false, map, string_bytes};
 ghost use Rattle.std.specs.Io.Buffered.{writer_buffer, writer_contents, writer_inner};
 ghost use Rattle.std.specs.IoError.{error_kind};

@@ -16,7 +16,8 @@ ghost use Rattle.words.specs.declared.request.Request.TheVariants as request;
 ghost use Rattle.pattern_commands.specs.Ends.{Ends};
 ghost use Rattle.pattern_commands.specs.Profiles.{AreInRange};
 ghost use Rattle.pattern_commands.specs.Streams.{HasLine, stream};
-ghost use Rattle.census.specs.Requests.{DoesRequest, DoesWords, Spares, TellsUsage, is_over_sets, is_whole, numbers_for, plan_for, reads_input};
+ghost use Rattle.census.specs.Requests.{DoesRequest, DoesWords, Spares, TellsUsage, is_over_sets, is_whole};
+ghost use Rattle.census.specs.Requests.{numbers_for, plan_for, reads_input};
 ghost use Rattle.census.specs.Requests.{refuses_input, soups_for, task_of};
 
 use commands::gather::do_gather;

@@ -1,6 +1,9 @@
 -- How gathering ends.
-use Rattle.std.proofs.Common.{◌≡◌, ◌∙◌, ◌+◌, ◌++◌, ◌<◌, ◌≤◌, ◌^◌, ◌⊎◌, ℕ, zero, suc, false, inl, inr, List, [], ◌∷◌, Option, None, Some, Ok, Err, IfErr, ap, arith, length, refl, subst, sym, true}
-use Rattle.std.specs.Prelude.{is_ok}
+use Rattle.std.proofs.Common.{◌≡◌, ◌==◌, cond, ◌∙◌, ◌+◌, ◌++◌, ◌<◌, ◌≤◌, ◌^◌, ◌⊎◌, ℕ, zero, suc, false, inl, inr, List, [], ◌∷◌, Option, None, Some, Ok, Err, IfErr, ap, arith, length, refl, subst, sym, true}
+use Rattle.std.specs.Prelude.{Result, is_ok}
+use Rattle.std.specs.Io.Buffered.{reader_buffer, reader_capacity, reader_inner, reader_remaining}
+use Rattle.std.specs.Io.KnownBytes.{prepend_known}
+use Rattle.std.specs.declared.io.buffered.BufReader.{BufReader}
 use Rattle.std.specs.List.{range_with_len}
 use Rattle.std.proofs.lemmas.List.FromFn.{length-range_with_len}
 use Rattle.memory.specs.Evidence.{out_of_memory}
@@ -26,7 +29,7 @@ use Rattle.pattern_commands.specs.Ends.{status_after}
 use Rattle.pattern_commands.specs.Reached.{IsSilent, Outcome, Reaches}
 use Rattle.commands.specs.Finish.{Finishes, IsCensusOf}
 use Rattle.commands.specs.Gather.{BeginsHaul, IsSame, gather_reads, gather_task, haul_task}
-use Rattle.commands.specs.GatherSteps.{EndsLines, HasGatheredShort}
+use Rattle.commands.specs.GatherSteps.{EndsLines, EndsLinesSomewhere, HasGatheredShort}
 use Rattle.commands.specs.Gathering.{IsGathered, IsHaulOver, gather_opens, gather_right, gathered_right}
 use Rattle.commands.specs.LinesSoFar.{HasBegun}
 use Rattle.commands.specs.GatheredLines.{Gathered}
@@ -97,9 +100,9 @@ is_gathered : (terms : Terms) (held closed : Held) (census : Census) (n : ℕ) (
     → closed.taken ≡ held.taken
     → ((arrivals : List Arrival) → StandsFor arrivals held → StandsFor (arrivals ++ Closing ∷ []) closed)
     → IsCensusOf held census → n ≡ length (missing_of held.terms.ranges held.taken)
-    → IsGathered terms all.2.bytes (record { text = haul_text census; remarks = all.2.remarks; missing = n })
+    → IsGathered terms all.3.bytes (record { text = haul_text census; remarks = all.3.remarks; missing = n })
 is_gathered terms held closed census n reader errors all same kept took closes counted many =
-    let read = all.2 in
+    let read = all.3 in
     let P : Terms → Type 0 = λ t. Gathered t (input_lines read.bytes) read.come.arrivals read.remarks in
     let Q : Terms → Type 0 = λ t. IsCensus t.job t.ranges (numbers_in held.taken) census in
     let stands = closes read.come.arrivals read.come.stands in
@@ -134,70 +137,91 @@ gathers_memory terms bytes reader output errors begun nothing fine = record {
 }
 
 -- a complaint over the lines, on bytes that may be the input
-gathers_on : (terms : Terms) (bytes : List ℕ) (reader : Option (List ℕ)) (complaint : Complaint) (output errors : Stream)
+gathers_on : (terms : Terms) (bytes : List ℕ) (reader left : Option (List ℕ)) (complaint : Complaint) (output errors : Stream)
     → (complaint ≡ TooLong → 2 ^ 32 < length bytes)
-    → EndsLines terms reader errors complaint → Has output []
+    → EndsLines terms reader left errors complaint → Has output []
     → Reaches (haul_task terms) reader bytes (Err complaint) output errors
-gathers_on terms bytes reader (Refused refusal) output errors long ends nothing = absurd ends
-gathers_on terms bytes reader (Memory error) output errors long ends nothing = gathers_memory terms bytes reader output errors ends.0 nothing ends.1
-gathers_on terms bytes reader (ReadFailed error) output errors long ends nothing =
-    record { reads = refl; begun = record { terms = terms; opened = refl; begun = ends.0 }; nothing = nothing; fine = ends.1 }
-gathers_on terms bytes reader TooLong output errors long ends nothing = (
+gathers_on terms bytes reader left (Refused refusal) output errors long ends nothing = absurd ends
+gathers_on terms bytes reader left (Memory error) output errors long ends nothing =
+    gathers_memory terms bytes reader output errors (left, ends.0) nothing ends.1
+gathers_on terms bytes reader left (ReadFailed error) output errors long ends nothing =
+    record { reads = refl; begun = record { terms = terms; opened = refl; begun = (left, ends.0) }; nothing = nothing; fine = ends.1 }
+gathers_on terms bytes reader left TooLong output errors long ends nothing = (
   long refl,
-  record { reads = refl; begun = record { terms = terms; opened = refl; begun = ends.0 }; nothing = nothing; fine = ends.1 },
+  record { reads = refl; begun = record { terms = terms; opened = refl; begun = (left, ends.0) }; nothing = nothing; fine = ends.1 },
 )
-gathers_on terms bytes reader (WriteFailed error) output errors long ends nothing = inr (record { tells = tt; nothing = nothing; cut = ends })
+gathers_on terms bytes reader left (WriteFailed error) output errors long ends nothing =
+    inr (record { tells = tt; nothing = nothing; cut = ends })
 
 -- and there are some: where the input is too long, longer ones than may be read
 pub gathers_lines : (terms : Terms) (reader : Option (List ℕ)) (complaint : Complaint) (output errors : Stream)
-    → EndsLines terms reader errors complaint → Has output []
+    → EndsLinesSomewhere terms reader errors complaint → Has output []
     → (bytes : List ℕ) × IsInput reader bytes × Reaches (haul_task terms) reader bytes (Err complaint) output errors
-gathers_lines terms None complaint output errors ends nothing =
+gathers_lines terms None complaint output errors (left, ends) nothing =
     let bytes = range_with_len 0 (2 ^ 32 + 1) in (
       bytes,
       tt,
-      gathers_on terms bytes None complaint output errors
+      gathers_on terms bytes None left complaint output errors
           (λ _. subst (λ n. 2 ^ 32 < n) (sym (length-range_with_len 0 (2 ^ 32 + 1))) (omega arith)) ends nothing,
     )
-gathers_lines terms (Some left) complaint output errors ends nothing = (
-  left,
+gathers_lines terms (Some all) complaint output errors (left, ends) nothing = (
+  all,
   refl,
-  gathers_on terms left (Some left) complaint output errors
-      (λ is. let long = subst (EndsLines terms (Some left) errors) is ends in long.2) ends nothing,
+  gathers_on terms all (Some all) left complaint output errors
+      (λ is. let long = subst (EndsLines terms (Some all) left errors) is ends in long.2) ends nothing,
 )
+
+-- a reader through a buffer that is empty has what the reader below has
+pub fresh_reader : {R A : Type 0} (remaining : R → Option (List ℕ)) (buffered : BufReader R A) → reader_capacity buffered ≡ 65536
+    → reader_buffer buffered ≡ [] → reader_remaining remaining buffered ≡ remaining (reader_inner buffered)
+fresh_reader remaining buffered capacity empty =
+    ap (λ (n : ℕ). cond {A = Option (List ℕ)} (n == 0) None (prepend_known (reader_buffer buffered) (remaining buffered.inner))) capacity
+    ∙ ap (λ (bytes : List ℕ). prepend_known bytes (remaining buffered.inner)) empty
+    ∙ nothing (remaining buffered.inner)
+  where
+    nothing : (left : Option (List ℕ)) → prepend_known [] left ≡ left
+    nothing None = refl
+    nothing (Some xs) = refl
+
+-- how the lines ended, through a buffer
+pub ends_somewhere : {A : Type 0} (r : Result A Complaint) (terms : Terms) (reader other left : Option (List ℕ)) (errors : Stream)
+    → other ≡ reader → IfErr r (EndsLines terms other left errors) → IfErr r (EndsLinesSomewhere terms reader errors)
+ends_somewhere (Ok x) terms reader other left errors same ends = tt
+ends_somewhere (Err complaint) terms reader other left errors same ends =
+    (left, subst (λ (bytes : Option (List ℕ)). EndsLines terms bytes left errors complaint) same ends)
 
 -- what became of a haul to which all lines have come, when it was finished
 pub gathers_haul : (terms : Terms) (held closed : Held) (reader : Option (List ℕ)) (outcome : Outcome) (output errors : Stream)
     → (all : HasGatheredShort reader errors held) → held.terms ≡ terms → closed.terms ≡ held.terms
     → closed.taken ≡ held.taken
     → ((arrivals : List Arrival) → StandsFor arrivals held → StandsFor (arrivals ++ Closing ∷ []) closed)
-    → Finishes held outcome output → errors.failed ≡ false → Reaches (haul_task terms) reader all.2.bytes outcome output errors
+    → Finishes held outcome output → errors.failed ≡ false → Reaches (haul_task terms) reader all.3.bytes outcome output errors
 gathers_haul terms held closed reader outcome output errors all same kept took closes finishes fine = go outcome finishes
   where
     gathered : (census : Census) (n : ℕ) → IsCensusOf held census → n ≡ length (missing_of held.terms.ranges held.taken)
-        → IsGathered terms all.2.bytes (record { text = haul_text census; remarks = all.2.remarks; missing = n })
+        → IsGathered terms all.3.bytes (record { text = haul_text census; remarks = all.3.remarks; missing = n })
     gathered census n counted many = is_gathered terms held closed census n reader errors all same kept took closes
         counted many
 
-    go : (outcome : Outcome) → Finishes held outcome output → Reaches (haul_task terms) reader all.2.bytes outcome output errors
+    go : (outcome : Outcome) → Finishes held outcome output → Reaches (haul_task terms) reader all.3.bytes outcome output errors
     go (Ok missing) is = record {
-      made = record { text = haul_text is.census; remarks = all.2.remarks; missing = missing };
+      made = record { text = haul_text is.census; remarks = all.3.remarks; missing = missing };
       is = gathered is.census missing is.counted is.missing_is;
       missing_is = refl;
       text = is.text;
       written = is.fine;
-      remarks = all.2.written;
+      remarks = all.3.written;
       fine = fine;
     }
     go (Err (Memory error)) nothing =
-        gathers_memory terms all.2.bytes reader output errors (all_begun reader errors all.0 held terms all.2 same)
+        gathers_memory terms all.3.bytes reader output errors (all.2, all_begun reader all.2 errors all.0 held terms all.3 same)
         nothing fine
     go (Err (WriteFailed error)) is = inl (record {
       left = (
-        record { text = haul_text is.census; remarks = all.2.remarks; missing = length (missing_of held.terms.ranges held.taken) },
+        record { text = haul_text is.census; remarks = all.3.remarks; missing = length (missing_of held.terms.ranges held.taken) },
         gathered is.census (length (missing_of held.terms.ranges held.taken)) is.counted refl,
         is.front,
-        all.2.written,
+        all.3.written,
       );
       cut = is.cut;
       fine = fine;

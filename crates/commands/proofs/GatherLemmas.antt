@@ -33,9 +33,9 @@ use Rattle.pattern_commands.specs.Streams.{Stream, Has, stream}
 use Rattle.pattern_commands.specs.declared.input.InputError.{InputError}
 use Rattle.pattern_commands.specs.declared.input.InputError.TheVariants as input_error
 use Rattle.commands.specs.GatherSteps.{EndsLine, EndsLines, EndsNext, HasGatheredTo, HasGatheredLines, HasGatheredAll, Passage}
-use Rattle.commands.specs.LinesSoFar.{HasBegun, HasCome, HasComeBy}
-use Rattle.commands.specs.Lines.{HasReadLine, IsOneLine, input_lines, with_end}
-use Rattle.commands.proofs.LineLemmas.{all_read, ended_more, lines_bare, lines_ended, all_lines, first_lines, long_read}
+use Rattle.commands.specs.LinesSoFar.{HasBegunUpTo, HasCome, HasComeBy}
+use Rattle.commands.specs.Lines.{HasReadLine, HasReadPart, IsOneLine, input_lines, with_end}
+use Rattle.commands.proofs.LineLemmas.{all_lines, all_read, ended_more, first_lines, lines_bare, lines_ended, long_read, part_after}
 use Rattle.commands.specs.GatheredLines.{Faulty, Front, Gathered, IsChecked, IsFrontFault, IsLookedAt, IsWrong, ComesOf, Next, Offered, Start, Whole, offer_fault, told_fault}
 
 -- nothing arrives by a line with a fault
@@ -137,6 +137,7 @@ no_more reader left new errors count size held kept line gathered read none = go
         let Q : List (List ℕ) → Type 0 = λ lines. HasCome lines held gathered.remarks in record {
           bytes = gathered.read ++ [];
           input = all_read reader left new gathered.read [] gathered.consumed (subst P (bare (with_end line.end read.line) short) read.consumed) (read.last is);
+          consumed = Consumes-trans reader left new gathered.read [] gathered.consumed (subst P (bare (with_end line.end read.line) short) read.consumed);
           size_is = ap (λ n. size + n) none ∙ omega (arith, gathered.size_is, ap length (append-nil gathered.read));
           remarks = gathered.remarks;
           come = subst Q (sym (lines_ended gathered.read gathered.lines gathered.ended)) gathered.come;
@@ -181,6 +182,7 @@ goes_on contents reader left new first old later count size held next kept line 
         let there : 0 < length read.line = omega (arith, some, read.size_is, ap length bare) in record {
           bytes = gathered.read ++ read.line;
           input = all_read reader left new gathered.read read.line gathered.consumed (subst (Consumes left new) bare read.consumed) (read.last is);
+          consumed = Consumes-trans reader left new gathered.read read.line gathered.consumed (subst (Consumes left new) bare read.consumed);
           size_is = total ∙ ap (λ l. length (gathered.read ++ l)) bare;
           remarks = gathered.remarks ++ by.more;
           come = subst Q (sym (lines_bare gathered.read gathered.lines read.line gathered.ended read.one there))
@@ -195,9 +197,14 @@ no_fault (Some x) not = absurd (not x refl)
 
 -- what has come so far is a beginning
 pub begun : (way : Passage) (held : Held) (terms : Terms) → HasGatheredLines way held → held.terms ≡ terms
-    → HasBegun terms way.reader way.errors.before way.errors.after
+    → HasBegunUpTo terms way.reader way.left way.errors.before way.errors.after
 begun way held terms gathered same = record {
+  read = gathered.read;
+  consumed = gathered.consumed;
   lines = gathered.lines;
+  last = [];
+  all = ap input_lines (sym (append-nil gathered.read)) ∙ lines_ended gathered.read gathered.lines gathered.ended ∙ sym (append-nil gathered.lines);
+  one = omega arith;
   first = first_lines way.reader way.left gathered.read gathered.lines gathered.consumed gathered.ended;
   arrivals = gathered.come.arrivals;
   remarks = gathered.remarks;
@@ -207,12 +214,37 @@ begun way held terms gathered same = record {
   written = gathered.written;
 }
 
+-- the same where a part of one more line was read
+begun_part : (way : Passage) (held : Held) (terms : Terms) (new : Option (List ℕ)) → HasGatheredLines way held → held.terms ≡ terms
+    → HasReadPart way.left new → HasBegunUpTo terms way.reader new way.errors.before way.errors.after
+begun_part way held terms new gathered same part =
+    let after = part_after way.reader way.left new gathered.read gathered.lines gathered.consumed gathered.ended part in record {
+      read = after.0;
+      consumed = after.2;
+      lines = gathered.lines;
+      last = after.1;
+      all = after.3;
+      one = after.4;
+      first = first_lines way.reader way.left gathered.read gathered.lines gathered.consumed gathered.ended;
+      arrivals = gathered.come.arrivals;
+      remarks = gathered.remarks;
+      gathered =
+          let P : Terms → Type 0 = λ t. Gathered t gathered.lines gathered.come.arrivals gathered.remarks in
+          subst P same gathered.come.gathered;
+      written = gathered.written;
+    }
+
 -- and so is all that has come
-pub all_begun : (reader : Option (List ℕ)) (errors : Stream) (size : ℕ) (held : Held) (terms : Terms)
-    → HasGatheredAll reader errors size held
-    → held.terms ≡ terms → HasBegun terms reader errors.before errors.after
-all_begun reader errors size held terms all same = record {
+pub all_begun : (reader left : Option (List ℕ)) (errors : Stream) (size : ℕ) (held : Held) (terms : Terms)
+    → HasGatheredAll reader left errors size held
+    → held.terms ≡ terms → HasBegunUpTo terms reader left errors.before errors.after
+all_begun reader left errors size held terms all same = record {
+  read = all.bytes;
+  consumed = all.consumed;
   lines = input_lines all.bytes;
+  last = [];
+  all = sym (append-nil (input_lines all.bytes));
+  one = omega arith;
   first = all_lines reader all.bytes all.input;
   arrivals = all.come.arrivals;
   remarks = all.remarks;
@@ -224,9 +256,9 @@ all_begun reader errors size held terms all same = record {
 
 -- the same where there may be more lines, or none
 pub goes_begun : (way : Passage) (held : Held) (terms : Terms) (end : LineEnd) → HasGatheredTo way held end → held.terms ≡ terms
-    → HasBegun terms way.reader way.errors.before way.errors.after
+    → HasBegunUpTo terms way.reader way.left way.errors.before way.errors.after
 goes_begun way held terms Feed gathered same = begun way held terms gathered same
-goes_begun way held terms Input all same = all_begun way.reader way.errors way.size held terms all same
+goes_begun way held terms Input all same = all_begun way.reader way.left way.errors way.size held terms all same
 
 -- a line after which others may follow
 pub goes_further : (way : Passage) (held : Held) (end : LineEnd) → (end ≡ Input → ⊥) → HasGatheredTo way held end → HasGatheredLines way held
@@ -235,7 +267,7 @@ goes_further way held Input more all = absurd (more refl)
 
 -- the last line
 pub goes_no_further : (way : Passage) (held : Held) (end : LineEnd) → end ≡ Input → HasGatheredTo way held end
-    → HasGatheredAll way.reader way.errors way.size held
+    → HasGatheredAll way.reader way.left way.errors way.size held
 goes_no_further way held Feed is gathered = let bad : Feed ≡ Input = is in cc
 goes_no_further way held Input is all = all
 
@@ -291,23 +323,23 @@ next_read left old new TooLong ends = absurd ends
 next_read left old new (WriteFailed error) ends = ends
 
 -- a complaint over a line, after all lines before it
-pub lines_ended_by : {V : Type 0} (contents : V → Option (List ℕ)) (reader left : Option (List ℕ)) (first : Output V)
+pub lines_ended_by : {V : Type 0} (contents : V → Option (List ℕ)) (reader left now : Option (List ℕ)) (first : Output V)
     (count size : ℕ) (held : Held) (terms : Terms) (old new : Output V) (complaint : Complaint)
     → HasGatheredLines (passage reader left (stream contents first old) count size) held
-    → held.terms ≡ terms → old.failed ≡ false → EndsNext left old new complaint
-    → EndsLines terms reader (stream contents first new) complaint
-lines_ended_by contents reader left first count size held terms old new (Memory error) gathered same fine kept =
-    rw kept (begun (passage reader left (stream contents first old) count size) held terms gathered same, fine)
-lines_ended_by contents reader left first count size held terms old new (ReadFailed error) gathered same fine kept =
-    rw kept (begun (passage reader left (stream contents first old) count size) held terms gathered same, fine)
-lines_ended_by contents reader left first count size held terms old new TooLong gathered same fine (kept, long) =
+    → held.terms ≡ terms → old.failed ≡ false → EndsNext left old new complaint → HasReadPart left now
+    → EndsLines terms reader now (stream contents first new) complaint
+lines_ended_by contents reader left now first count size held terms old new (Memory error) gathered same fine kept part =
+    rw kept (begun_part (passage reader left (stream contents first old) count size) held terms now gathered same part, fine)
+lines_ended_by contents reader left now first count size held terms old new (ReadFailed error) gathered same fine kept part =
+    rw kept (begun_part (passage reader left (stream contents first old) count size) held terms now gathered same part, fine)
+lines_ended_by contents reader left now first count size held terms old new TooLong gathered same fine (kept, long) part =
     rw kept (
-      begun (passage reader left (stream contents first old) count size) held terms gathered same,
+      begun_part (passage reader left (stream contents first old) count size) held terms now gathered same part,
       fine,
       longer reader left gathered.read gathered.consumed long,
     )
-lines_ended_by contents reader left first count size held terms old new (WriteFailed error) gathered same fine failed = failed
-lines_ended_by contents reader left first count size held terms old new (Refused refusal) gathered same fine none =
+lines_ended_by contents reader left now first count size held terms old new (WriteFailed error) gathered same fine failed part = failed
+lines_ended_by contents reader left now first count size held terms old new (Refused refusal) gathered same fine none part =
     absurd none
 
 -- ---- what is looked at of a line

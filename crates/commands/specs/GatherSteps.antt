@@ -10,7 +10,7 @@ use Rattle.pattern_commands.specs.Streams.{Stream, Has}
 use Rattle.commands.specs.declared.lines.LineEnd.{LineEnd}
 use Rattle.commands.specs.declared.lines.LineEnd.TheVariants.{Feed, Input}
 use Rattle.commands.specs.Lines.{input_lines}
-use Rattle.commands.specs.LinesSoFar.{AreEnded, HasBegun, HasCome}
+use Rattle.commands.specs.LinesSoFar.{AreEnded, HasBegunUpTo, HasCome}
 
 -- How far gathering is: the input at its start and what is left of it, standard error from the start on, and how many
 -- lines and bytes were read.
@@ -34,9 +34,10 @@ pub record HasGatheredLines (passage : Passage) (held : Held) : Type 0 where
   pub written : Has passage.errors remarks
 
 -- All lines of an input of so many bytes have come to the haul, and standard error has the remarks on them.
-pub record HasGatheredAll (reader : Option (List ℕ)) (errors : Stream) (size : ℕ) (held : Held) : Type 0 where
+pub record HasGatheredAll (reader left : Option (List ℕ)) (errors : Stream) (size : ℕ) (held : Held) : Type 0 where
   pub bytes : List ℕ
   pub input : IsInput reader bytes
+  pub consumed : Consumes reader left bytes
   pub size_is : size ≡ length bytes
   pub remarks : List ℕ
   pub come : HasCome (input_lines bytes) held remarks
@@ -45,24 +46,31 @@ pub record HasGatheredAll (reader : Option (List ℕ)) (errors : Stream) (size :
 -- the lines up to here have come: after a line feed there may be more, and at the end of the input all have
 abbrev pub HasGatheredTo : Passage → Held → LineEnd → Type 0
 HasGatheredTo passage held Feed = HasGatheredLines passage held
-HasGatheredTo passage held Input = HasGatheredAll passage.reader passage.errors passage.size held
+HasGatheredTo passage held Input = HasGatheredAll passage.reader passage.left passage.errors passage.size held
 
 -- all lines of an input that isn't too long have come
 abbrev pub HasGatheredShort : Option (List ℕ) → Stream → Held → Type 0
-HasGatheredShort reader errors held = (size : ℕ) × (size ≤ 2 ^ 32) × HasGatheredAll reader errors size held
+HasGatheredShort reader errors held =
+    (size : ℕ) × (size ≤ 2 ^ 32) × (left : Option (List ℕ)) × HasGatheredAll reader left errors size held
 
 -- the input has over 2^32 bytes, if they are known
 abbrev pub IsTooLong : Option (List ℕ) → Type 0
 IsTooLong reader = IfSome reader (λ bytes. 2 ^ 32 < length bytes)
 
--- what stands on standard error where a complaint ends the lines of an input
-abbrev pub EndsLines : Terms → Option (List ℕ) → Stream → Complaint → Type 0
-EndsLines terms reader errors (Memory error) = HasBegun terms reader errors.before errors.after × (errors.failed ≡ false)
-EndsLines terms reader errors (ReadFailed error) = HasBegun terms reader errors.before errors.after × (errors.failed ≡ false)
-EndsLines terms reader errors TooLong =
-    HasBegun terms reader errors.before errors.after × (errors.failed ≡ false) × IsTooLong reader
-EndsLines terms reader errors (WriteFailed error) = errors.failed ≡ true
-EndsLines terms reader errors (Refused refusal) = ⊥
+-- What standard error has where a complaint ends the lines of an input of which this is left: the remarks on all lines before.
+abbrev pub EndsLines : Terms → (reader left : Option (List ℕ)) → Stream → Complaint → Type 0
+EndsLines terms reader left errors (Memory error) =
+    HasBegunUpTo terms reader left errors.before errors.after × (errors.failed ≡ false)
+EndsLines terms reader left errors (ReadFailed error) =
+    HasBegunUpTo terms reader left errors.before errors.after × (errors.failed ≡ false)
+EndsLines terms reader left errors TooLong =
+    HasBegunUpTo terms reader left errors.before errors.after × (errors.failed ≡ false) × IsTooLong reader
+EndsLines terms reader left errors (WriteFailed error) = errors.failed ≡ true
+EndsLines terms reader left errors (Refused refusal) = ⊥
+
+-- the same, whatever is left
+abbrev pub EndsLinesSomewhere : Terms → Option (List ℕ) → Stream → Complaint → Type 0
+EndsLinesSomewhere terms reader errors complaint = (left : Option (List ℕ)) × EndsLines terms reader left errors complaint
 
 -- a complaint over one line that was read: nothing was written, or a write failed
 abbrev pub EndsLine : {V : Type 0} → Output V → Output V → Complaint → Type 0

@@ -7,7 +7,7 @@
 //! ```
 
 ghost use Rattle.std.specs.Prelude.{◌≡◌, ◌≢◌, ◌<◌, ◌≤◌, Ok, Result, ◌+◌, ◌^◌, ◌++◌, ◌∷◌, [], ℕ, List, Option, Some};
-ghost use Rattle.std.specs.Prelude.{IfErr, IfOk, OnOk, false, length, take};
+ghost use Rattle.std.specs.Prelude.{IfErr, IfOk, OnErr, OnOk, false, length, take};
 ghost use Rattle.memory.specs.Evidence.{out_of_memory};
 ghost use Rattle.haul_core.specs.Reports.{IsWorker, Reported};
 ghost use Rattle.plane_core.specs.Out.{Output};
@@ -20,7 +20,9 @@ ghost use Rattle.pattern_commands.specs.Profiles.{AreInRange};
 ghost use Rattle.pattern_commands.specs.Streams.{stream};
 ghost use Rattle.haul_core.specs.Books.{StandsFor};
 ghost use Rattle.haul_core.specs.declared.book.arrival.Arrival.{Arrival};
-ghost use Rattle.commands.specs.GatherSteps.{EndsLine, EndsLines, EndsNext, HasGatheredTo, HasGatheredLines, HasGatheredShort};
+ghost use Rattle.commands.specs.GatherSteps.{EndsLine, EndsLines, EndsLinesSomewhere, EndsNext};
+ghost use Rattle.commands.specs.GatherSteps.{HasGatheredLines, HasGatheredShort, HasGatheredTo};
+ghost use Rattle.commands.specs.Lines.{HasReadPart};
 ghost use Rattle.commands.specs.LinesSoFar.{HasCome, HasComeBy};
 ghost use Rattle.commands.specs.GatheredLines.{IsChecked, IsFrontFault, IsLookedAt, ComesOf, offer_fault};
 ghost use Rattle.haul_core.specs.declared.book.refused.OfferError.TheVariants as offer_error;
@@ -50,7 +52,7 @@ use survey_core::memo::Memo;
 /// was taken.
 ///
 /// A line is ended by a line feed, which the last may lack. A line that is not taken is reported on `errors`, by its
-/// number from 1 on, and reading continues. Of a line no more than the first 2^24 bytes are looked at: a longer one is bad
+/// number from 1 on, and reading continues. Of a line only the first 2^24 bytes are looked at: a longer one is bad
 /// at the first fault of these, or at 2^24. Each of the profile's numbers is in its range, there are 1 to 16 workers,
 /// and neither writer may have failed. What is refused is looked for in the order of [`do_take`](crate::take::do_take),
 /// before anything is read. One line is kept at a time, and the haul. A read that a signal interrupts is tried again.
@@ -145,7 +147,7 @@ fn gather_input<R: Read, E: Write>(
     ensures terms { haul.new.terms ≡ haul.old.terms }
     ensures gathered { OnOk result (HasGatheredShort (R.remaining input.old)
         (stream E.contents errors.old errors.new) haul.new) }
-    ensures ended { IfErr result (EndsLines haul.old.terms (R.remaining input.old)
+    ensures ended { IfErr result (EndsLinesSomewhere haul.old.terms (R.remaining input.old)
         (stream E.contents errors.old errors.new)) }
     ensures fine { OnOk result (errors.new.failed ≡ false) }
 {
@@ -170,7 +172,7 @@ fn gather_lines<R: BufRead, E: Write>(
     ensures terms { haul.new.terms ≡ haul.old.terms }
     ensures gathered { OnOk result (HasGatheredShort (R.remaining input.old)
         (stream E.contents errors.old errors.new) haul.new) }
-    ensures ended { IfErr result (EndsLines haul.old.terms (R.remaining input.old)
+    ensures ended { IfErr result (EndsLines haul.old.terms (R.remaining input.old) (R.remaining input.new)
         (stream E.contents errors.old errors.new)) }
     ensures fine { OnOk result (errors.new.failed ≡ false) }
 {
@@ -222,6 +224,7 @@ fn next_line<R: BufRead, E: Write>(
         }) haul.new read.end) }
     ensures fine { OnOk result (errors.new.failed ≡ false) }
     ensures ended { IfErr result (EndsNext (R.remaining input.old) errors.old errors.new) }
+    ensures part { OnErr result (HasReadPart (R.remaining input.old) (R.remaining input.new)) }
 {
     let read = read_line(input, line)?;
     if read.size > 0 {

@@ -10,7 +10,8 @@ ghost use Rattle.std.specs.Prelude.{◌≡◌, IfSome};
 ghost use Rattle.clap.specs.Words.{found_of, rows_of};
 ghost use Rattle.words.specs.NumbersInRange.{AreInTheirRanges, ArePlanNumbers, AreProfileNumbers};
 ghost use Rattle.words.specs.Plans.{plan_in, profile_in, set_in};
-ghost use Rattle.words.specs.Reading.{gather_request, name_request, run_request, show_request, soup_request, take_request, work_request};
+ghost use Rattle.words.specs.Reading.{gather_request, name_request, run_request, show_request, soup_request};
+ghost use Rattle.words.specs.Reading.{take_request, work_request};
 ghost use Rattle.words.specs.Table.{count, first};
 ghost use Rattle.words.specs.Values.{IsInRange};
 

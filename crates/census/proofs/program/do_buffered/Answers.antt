@@ -6,7 +6,8 @@ use Rattle.pattern_commands.specs.declared.status.Status.TheVariants as statuses
 use Rattle.pattern_commands.specs.Streams.{stream}
 use Rattle.pattern_commands.specs.Status.{exit_code, has_printed}
 use Rattle.census.specs.Program.{IsDone}
-use Rattle.census.proofs.ProgramLemmas.{EndsVersion, Prints, append_nothing, asks_for_version, at_done, at_incomplete, ends_version, front_sent, nothing_written, prints, still_usage, unlike}
+use Rattle.census.proofs.ProgramLemmas.{Prints, append_nothing, at_done, at_incomplete, ends_version, front_sent}
+use Rattle.census.proofs.ProgramLemmas.{nothing_written, prints, still_usage, unlike}
 use Rattle.census.proofs.program.do_buffered.Goals as goal
 
 -- the version, without a buffer

@@ -18,4 +18,8 @@ returns-in-Ok-clause-no_memory g c memory = rw c.in-Ok.ensures.asked (c.do_reque
 
 pub returns-in-Err-Usage-clause-tells_usage : goal.returns-in-Err-Usage-clause-tells_usage
 returns-in-Err-Usage-clause-tells_usage g c usage =
-    record { text = c.as_bytes.result.now; says = rw c.as_bytes.ensures.value (rw c.in-Err-Usage.field-0-is at c.in-Err-Usage.ensures.why); line = c.tell_usage.ensures.line }
+    record {
+      text = c.as_bytes.result.now;
+      says = rw c.as_bytes.ensures.value (rw c.in-Err-Usage.field-0-is at c.in-Err-Usage.ensures.why);
+      line = c.tell_usage.ensures.line;
+    }

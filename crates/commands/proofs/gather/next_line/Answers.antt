@@ -2,6 +2,7 @@ use Rattle.std.proofs.Common.{◌∙◌, Err, ap, arith}
 use Rattle.pattern_commands.proofs.AnswerLemmas.{err_of}
 use Rattle.pattern_commands.specs.Streams.{stream}
 use Rattle.commands.proofs.GatherLemmas.{goes_on, next_read, next_unread, no_more}
+use Rattle.commands.proofs.LineLemmas.{part_of_line}
 use Rattle.commands.proofs.gather.next_line.Goals as goal
 
 pub returns-in_ok-take_line-clause-short : goal.returns-in_ok-take_line-clause-short
@@ -29,3 +30,10 @@ pub returns-in_err-take_line-clause-ended : goal.returns-in_err-take_line-clause
 returns-in_err-take_line-clause-ended g c =
     rw (err_of _ _ c.from_residual-in_err-take_line.ensures.1)
     (next_read _ _ _ c.in_err-take_line.field-0.0 c.in_err-take_line.ensures.ended)
+
+pub returns-in_err-read-clause-part : goal.returns-in_err-read-clause-part
+returns-in_err-read-clause-part g c = rw (err_of _ _ c.from_residual.ensures.1) c.in_err-read.ensures.part
+
+pub returns-in_err-take_line-clause-part : goal.returns-in_err-take_line-clause-part
+returns-in_err-take_line-clause-part g c =
+    rw (err_of _ _ c.from_residual-in_err-take_line.ensures.1) (part_of_line _ _ _ c.in_ok-read.read c.in_ok-read.ensures.read)
