@@ -9,9 +9,9 @@ use Rattle.words.specs.declared.request.Request.{Request}
 use Rattle.census.specs.Requests.{DoesRequest, task_of}
 
 -- a command that was to do what the request asks for did it, whatever the input
-pub does : {known : Option (List ℕ)} {status : Status} {output errors : Stream} (request : Request) (task : Task)
-    → task ≡ task_of request → ((known : Option (List ℕ)) (bytes : List ℕ) → Ends task known bytes status output errors)
-    → DoesRequest known status output errors request
-does {known} {status} {output} {errors} request task is ends =
-    let some = some_input known in
-    record { bytes = some.0; input = some.1; ends = subst (λ (t : Task). Ends t known some.0 status output errors) is (ends known some.0) }
+pub does : {reader : Option (List ℕ)} {status : Status} {output errors : Stream} (request : Request) (task : Task)
+    → task ≡ task_of request → ((reader : Option (List ℕ)) (bytes : List ℕ) → Ends task reader bytes status output errors)
+    → DoesRequest reader status output errors request
+does {reader} {status} {output} {errors} request task is ends =
+    let some = some_input reader in
+    record { bytes = some.0; input = some.1; ends = subst (λ (t : Task). Ends t reader some.0 status output errors) is (ends reader some.0) }

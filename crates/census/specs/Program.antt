@@ -28,22 +28,22 @@ since earlier later = record { before = earlier.after; after = later.after; fail
 
 -- a text was added, and then a line, or a front of the line where a write failed
 pub record HasTextAndLine (errors : Stream) (text line : List ℕ) : Type 0 where
-  pub between : Option (List ℕ)
-  pub whole : Appends errors.before between text
-  pub last : HasLine (record { before = between; after = errors.after; failed = errors.failed }) line
+  pub so_far : Option (List ℕ)
+  pub whole : Appends errors.before so_far text
+  pub last : HasLine (record { before = so_far; after = errors.after; failed = errors.failed }) line
 
 -- The words ask for something; on this input a text is right for it, and the whole text was added to what the writer held. So many
 -- soups are missing, which is none but for `gather`. Standard error has what `gather` tells of lines, and of what is missing.
-pub record IsDone (words : List Text) (known before after : Option (List ℕ)) (errors : Stream) (missing : ℕ) : Type 0 where
+pub record IsDone (words : List Text) (reader before after : Option (List ℕ)) (errors : Stream) (missing : ℕ) : Type 0 where
   pub request : Request
   pub asked : asked_by words ≡ Some request
   pub bytes : List ℕ
-  pub input : IsInput known bytes
+  pub input : IsInput reader bytes
   pub made : Made
   pub right : right_for request bytes (Ok made)
   pub missing_is : missing ≡ made.missing
   pub written : Appends before after made.text
-  pub told : HasTextAndLine errors made.told (last_line (Ok missing))
+  pub remarks : HasTextAndLine errors made.remarks (last_line (Ok missing))
 
 -- the bytes with a writer are a front of those that were written to its buffer
 abbrev pub IsFrontOf : (written sent : Option (List ℕ)) → Type 0
@@ -51,24 +51,24 @@ IsFrontOf None sent = ⊤
 IsFrontOf (Some xs) None = ⊥
 IsFrontOf (Some xs) (Some ys) = (remainder : List ℕ) × (ys ++ remainder ≡ xs)
 
--- After what a command told, standard error has the line of a failed write, unless it had failed before.
-pub record TellsOfWrite (told errors : Stream) : Type 0 where
-  pub line : told.failed ≡ false → HasLine (since told errors) write_failed_line
-  pub stays : told.failed ≡ true → errors.failed ≡ true
+-- After the remarks of a command, standard error has the line of a failed write, unless it had failed before.
+pub record TellsOfWrite (remarks errors : Stream) : Type 0 where
+  pub line : remarks.failed ≡ false → HasLine (since remarks errors) write_failed_line
+  pub stays : remarks.failed ≡ true → errors.failed ≡ true
 
 -- a command complained, and the program ends with its number; or the command printed its text, and not all of it could be sent on
 abbrev pub EndsBadly : Status → ℕ → Stream → Stream → Type 0
-EndsBadly status number told errors =
-    ((has_printed status ≡ false) × (number ≡ exit_code status) × (errors ≡ told))
-    ⊎ ((has_printed status ≡ true) × (number ≡ exit_code Failed) × (errors.before ≡ told.before) × TellsOfWrite told errors)
+EndsBadly status number remarks errors =
+    ((has_printed status ≡ false) × (number ≡ exit_code status) × (errors ≡ remarks))
+    ⊎ ((has_printed status ≡ true) × (number ≡ exit_code Failed) × (errors.before ≡ remarks.before) × TellsOfWrite remarks errors)
 
 -- The program complains. What the words ask for was done, or there was no memory to read them, by the rule of all commands: so `written`
--- was left in a buffer and `told` on standard error. The writer below the buffer has got a front of it.
-pub record Complains (words : List Text) (known : Option (List ℕ)) (number : ℕ) (before after : Option (List ℕ)) (errors : Stream) : Type 0 where
+-- was left in a buffer and `remarks` on standard error. The writer below the buffer has got a front of it.
+pub record Complains (words : List Text) (reader : Option (List ℕ)) (number : ℕ) (before after : Option (List ℕ)) (errors : Stream) : Type 0 where
   pub status : Status
   pub written : Stream
-  pub told : Stream
-  pub does : DoesWords words known status written told
+  pub remarks : Stream
+  pub does : DoesWords words reader status written remarks
   pub from : written.before ≡ before
   pub sent : IsFrontOf written.after after
-  pub ends : EndsBadly status number told errors
+  pub ends : EndsBadly status number remarks errors

@@ -25,7 +25,8 @@ use Rattle.words.specs.declared.request.Request.{Request}
 use Rattle.words.specs.declared.request.Request.TheVariants.{Run, Name, Show, Soup, Take, Work, Gather, Version}
 use Rattle.words.specs.declared.request.SoupSet.{SoupSet as Soups}
 use Rattle.words.specs.declared.request.Plan.{Plan as Asked}
-use Rattle.words.specs.Requests.{Text, asked_by}
+use Rattle.words.specs.Requests.{Text, asked_by, asks_version}
+use Rattle.words.specs.Unasked.{IsUsageText}
 
 -- the values of a request, as the commands take them
 abbrev pub numbers_for : Numbers → ProfileNumbers
@@ -60,7 +61,7 @@ refuses_input request = (task_of request).refuses
 abbrev pub is_whole : Request → Bool
 is_whole request = (task_of request).whole
 
--- the request is for a haul of report lines, of which those that are refused are told
+-- the request is for a haul of report lines, with a remark on each that is refused
 abbrev pub tells_lines : Request → Bool
 tells_lines (Gather plan workers) = true
 tells_lines request = false
@@ -86,18 +87,25 @@ pub record Spares (request : Request) (status : Status) (input output : Type 0) 
   pub no_memory : status ≡ Memory → is_whole request ≡ true → output
 
 -- a request was done on an input, and ended well
-pub record DoesRequest (known : Option (List ℕ)) (status : Status) (output errors : Stream) (request : Request) : Type 0 where
+pub record DoesRequest (reader : Option (List ℕ)) (status : Status) (output errors : Stream) (request : Request) : Type 0 where
   pub bytes : List ℕ
-  pub input : IsInput known bytes
-  pub ends : Ends (task_of request) known bytes status output errors
+  pub input : IsInput reader bytes
+  pub ends : Ends (task_of request) reader bytes status output errors
 
--- there was no memory to read the words, and nothing was done
-pub record LacksMemory (status : Status) (output errors : Stream) : Type 0 where
+-- there was no memory to read the words, or for a buffer, and nothing was done; the version needs none
+pub record LacksMemory (words : List Text) (status : Status) (output errors : Stream) : Type 0 where
+  pub no_version : asks_version words ≡ false
   pub status_is : status ≡ Memory
   pub nothing : Has output []
   pub line : HasLine errors (complaint_line (complaint.Memory out_of_memory))
 
 -- what the words ask for was done, or there was no memory to read them
 abbrev pub DoesWords : List Text → Option (List ℕ) → Status → Stream → Stream → Type 0
-DoesWords words known status output errors =
-    IsSomeAnd (asked_by words) (DoesRequest known status output errors) ⊎ LacksMemory status output errors
+DoesWords words reader status output errors =
+    IsSomeAnd (asked_by words) (DoesRequest reader status output errors) ⊎ LacksMemory words status output errors
+
+-- standard error got a text that says why the words ask for nothing, or a front of it where a write failed
+pub record TellsUsage (errors : Stream) : Type 0 where
+  pub text : List ℕ
+  pub says : IsUsageText text
+  pub line : HasLine errors text

@@ -1,13 +1,23 @@
-ghost use Rattle.std.specs.Prelude.{◌≡◌, ◌≢◌, ℕ, suc, [], IsErr, None, Some, IfOk, IfErr, IfNone, IfSome, IsOkAnd};
+//! From the words of the process to what it leaves: its output, and the number that it ends with.
+//!
+//! ```text
+//! words ── do_words ── buffer ── send_buffered ── standard output
+//!             └─ status ────────────┴─ code
+//! ```
+
+ghost use Rattle.std.specs.Prelude.{◌≡◌, ◌≢◌, ℕ, suc, List, Option, [], IsErr, None, Some};
+ghost use Rattle.std.specs.Prelude.{IfOk, IfErr, IfNone, IfSome, IsOkAnd};
 ghost use Rattle.std.specs.Prelude.{IsSomeAnd, true, false, map, string_bytes};
 ghost use Rattle.std.specs.Io.Buffered.{writer_buffer, writer_contents, writer_inner};
 ghost use Rattle.std.specs.IoError.{error_kind};
 ghost use Rattle.memory.specs.Evidence.{out_of_memory};
 ghost use Rattle.pattern_commands.specs.Complaints.{complaint_line};
 ghost use Rattle.pattern_commands.specs.Status.{exit_code};
-ghost use Rattle.pattern_commands.specs.Streams.{Has, HasLine, stream};
+ghost use Rattle.pattern_commands.specs.Ends.{Ends};
+ghost use Rattle.pattern_commands.specs.Streams.{Has, HasLine, Stream, stream};
+ghost use Rattle.pattern_commands.specs.Version.{version_task};
 ghost use Rattle.census.specs.Program.{Complains, IsDone, left_by, not_text_line};
-ghost use Rattle.census.specs.Requests.{is_whole, reads_input, refuses_input, tells_lines};
+ghost use Rattle.census.specs.Requests.{TellsUsage, is_whole, reads_input, refuses_input, tells_lines};
 ghost use Rattle.words.specs.Requests.{asked_by};
 
 use crate::request::do_words;
@@ -17,11 +27,13 @@ use memory::OutOfMemory;
 use pattern_commands::complaint::Complaint;
 use pattern_commands::output::send_buffered;
 use pattern_commands::status::Status;
+use pattern_commands::version::do_version;
 use plane_core::output::Out;
 use std::io::{self, BufWriter, ErrorKind, Read, Write};
 use std::sync::Wait;
 use std::thread::Threads;
 use std::time::Clock;
+use words::calls::asks_version;
 
 /// What the program leaves when it ends.
 #[derive(Drop)]
@@ -67,8 +79,9 @@ pub fn run_program<
         (W.contents writer)
         (stream E.contents machine.old.errors machine.new.errors) (suc less))) }
 
-    // Code 2: the words ask for nothing, and nothing was read or written.
+    // Code 2: the words ask for nothing, a text on standard error says why, and nothing was read or printed.
     ensures usage { result.code ≡ 2 → IfOk words (λ list. asked_by (map string_bytes list.items) ≡ None) }
+    ensures tells_usage { result.code ≡ 2 → TellsUsage (stream E.contents machine.old.errors machine.new.errors) }
     ensures untouched { result.code ≡ 2 → (input.new ≡ input.old) × (result.output ≡ Some output) }
 
     // Any other code: the complaint that ended it, with its line.
@@ -112,8 +125,8 @@ pub fn run_program<
     }
 }
 
-/// Does what the words ask for, with its output through a buffer over this writer. Gives the writer back, or nothing if
-/// there is no memory for the buffer.
+/// Does what the words ask for, with its output through a buffer over this writer; the version, which takes no memory,
+/// goes past the buffer. Gives the writer back, or nothing if there is no memory for the buffer.
 fn do_buffered<T: Threads + Wait + Sync, R: Read, W: Write + Drop, E: Write, P: Write, C: Clock>(
     machine: &mut Machine<'_, T, E, Progress<P, C>>,
     words: &[String],
@@ -128,6 +141,8 @@ fn do_buffered<T: Threads + Wait + Sync, R: Read, W: Write + Drop, E: Write, P: 
         × IsDone (map string_bytes words.now) (R.remaining input.old) (W.contents output) (W.contents writer)
         (stream E.contents machine.old.errors machine.new.errors) (suc less)) }
     ensures usage { result.0 ≡ Status.Usage → asked_by (map string_bytes words.now) ≡ None }
+    ensures tells_usage { result.0 ≡ Status.Usage
+        → TellsUsage (stream E.contents machine.old.errors machine.new.errors) }
     ensures unused { result.0 ≡ Status.Usage → (input.new ≡ input.old) × (result.1 ≡ Some output) }
     ensures silent { result.0 ≡ Status.Done → IfSome (asked_by (map string_bytes words.now)) (λ request.
         tells_lines request ≡ false → Has (stream E.contents machine.old.errors machine.new.errors) []) }
@@ -143,6 +158,10 @@ fn do_buffered<T: Threads + Wait + Sync, R: Read, W: Write + Drop, E: Write, P: 
     ensures unread { IfSome (asked_by (map string_bytes words.now)) (λ request.
         reads_input request ≡ false → input.new ≡ input.old) }
 {
+    if asks_version(words) {
+        let (status, writer) = print_version(output, &mut machine.errors);
+        return (status, Some(writer));
+    }
     let buffered = match BufWriter::new(machine.alloc, output) {
         Ok(buffered) => buffered,
         Err(error) => {
@@ -158,19 +177,40 @@ fn do_buffered<T: Threads + Wait + Sync, R: Read, W: Write + Drop, E: Write, P: 
     (status, Some(writer))
 }
 
-/// Tells that the words are not text, or that memory ran out over them.
+/// Prints the version, and gives the writer back.
+fn print_version<W: Write + Drop, E: Write>(output: W, errors: &mut Out<E>) -> (Status, W)
+    requires { errors.old.failed ≡ false }
+    ensures ends { (written : Stream) × (written.before ≡ W.contents output) × (written.after ≡ W.contents result.1)
+        × ((reader : Option (List ℕ)) (bytes : List ℕ)
+        → Ends version_task reader bytes result.0 written (stream E.contents errors.old errors.new)) }
+    ensures failed { result.0 ≢ Status.Done → result.0 ≡ Status.Failed }
+{
+    let mut output = Out::new(output);
+    let status = do_version(&mut output, errors);
+    (status, output.into_inner())
+}
+
+/// Reports that the words are not text, or that memory ran out over them.
 fn tell_unread_words<E: Write>(error: &io::Error, errors: &mut Out<E>) -> Status
     requires { errors.old.failed ≡ false }
     ensures not_text { error_kind error.now ≢ ErrorKind.OutOfMemory → (result ≡ Status.Usage)
         × HasLine (stream E.contents errors.old errors.new) not_text_line }
     ensures no_memory { error_kind error.now ≡ ErrorKind.OutOfMemory → (result ≡ Status.Memory)
         × HasLine (stream E.contents errors.old errors.new) (complaint_line (Complaint.Memory out_of_memory)) }
+    ensures tells_usage { result ≡ Status.Usage → TellsUsage (stream E.contents errors.old errors.new) }
 {
     match error.kind() {
         ErrorKind::OutOfMemory => Complaint::Memory(OutOfMemory::of_stream(error)).tell(errors),
-        _ => {
-            let _ = errors.put(b"census: the words are not UTF-8\n");
-            Status::Usage
-        }
+        _ => tell_not_text(errors),
     }
+}
+
+/// Reports that the words are not text. A failure to write the line is not reported.
+fn tell_not_text<E: Write>(errors: &mut Out<E>) -> Status
+    requires { errors.old.failed ≡ false }
+    ensures status { result ≡ Status.Usage }
+    ensures line { HasLine (stream E.contents errors.old errors.new) not_text_line }
+{
+    let _ = errors.put(b"census: the words are not UTF-8\n");
+    Status::Usage
 }

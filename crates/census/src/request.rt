@@ -1,3 +1,11 @@
+//! From the words of a call to the command that they ask for.
+//!
+//! ```text
+//! words ── request_of ──┬─ request ── do_request ──┬─ take, work, gather
+//!                       │                          └─ do_pattern_request ── run, name, show, soup, --version
+//!                       └─ a usage text, or want of memory
+//! ```
+
 ghost use Rattle.std.specs.Prelude.{◌≡◌, ◌≢◌, ℕ, IfSome, List, Option, false, true, is_some, map};
 ghost use Rattle.clap.specs.Words.{kind_of};
 ghost use Rattle.clap.specs.declared.error.kind.ErrorKind.TheVariants.{OutOfMemory};
@@ -8,7 +16,8 @@ ghost use Rattle.words.specs.declared.request.Request.TheVariants as request;
 ghost use Rattle.pattern_commands.specs.Ends.{Ends};
 ghost use Rattle.pattern_commands.specs.Profiles.{AreInRange};
 ghost use Rattle.pattern_commands.specs.Streams.{HasLine, stream};
-ghost use Rattle.census.specs.Requests.{DoesRequest, DoesWords, Spares, is_over_sets, is_whole, numbers_for, plan_for, reads_input};
+ghost use Rattle.census.specs.Requests.{DoesRequest, DoesWords, Spares, TellsUsage, is_over_sets, is_whole};
+ghost use Rattle.census.specs.Requests.{numbers_for, plan_for, reads_input};
 ghost use Rattle.census.specs.Requests.{refuses_input, soups_for, task_of};
 
 use commands::gather::do_gather;
@@ -62,6 +71,7 @@ pub fn do_words<
     requires output { output.old.failed ≡ false }
     requires errors { machine.old.errors.failed ≡ false }
     ensures usage { result ≡ Status.Usage → (output.new ≡ output.old) × (input.new ≡ input.old) }
+    ensures tells_usage { result ≡ Status.Usage → TellsUsage (stream E.contents machine.old.errors machine.new.errors) }
     ensures understood { is_some (asked_by (map S.text words.now)) ≡ true → result ≢ Status.Usage }
     ensures command { result ≢ Status.Usage → DoesWords (map S.text words.now) (R.remaining input.old) result
         (stream W.contents output.old output.new) (stream E.contents machine.old.errors machine.new.errors) }
@@ -75,22 +85,30 @@ pub fn do_words<
 {
     match request_of(machine.alloc, words) {
         Ok(request) => do_request(machine, &request, input, output),
-        Err(Unasked::Usage(text)) => {
-            let _ = machine.errors.put(text.as_bytes());
-            Status::Usage
-        }
+        Err(Unasked::Usage(text)) => tell_usage(text.as_bytes(), &mut machine.errors),
         Err(Unasked::Unread(error)) => tell_unread(&error, &mut machine.errors),
         Err(Unasked::Memory(error)) => Complaint::Memory(error).tell(&mut machine.errors),
     }
 }
 
-/// Tells that memory ran out while the words were read, which `clap`'s error says.
+/// Writes a usage text. A failure to write it is not reported.
+fn tell_usage<E: Write>(text: &[u8], errors: &mut Out<E>) -> Status
+    requires { errors.old.failed ≡ false }
+    ensures status { result ≡ Status.Usage }
+    ensures line { HasLine (stream E.contents errors.old errors.new) text.now }
+{
+    let _ = errors.put(text);
+    Status::Usage
+}
+
+/// Reports that memory ran out while the words were read, which `clap`'s error says.
 fn tell_unread<E: Write>(error: &clap::Error, errors: &mut Out<E>) -> Status
     requires unread { kind_of error.now ≡ OutOfMemory }
     requires errors { errors.old.failed ≡ false }
     ensures status { result ≡ Status.Memory }
     ensures line { HasLine (stream E.contents errors.old errors.new) (complaint_line (Complaint.Memory out_of_memory)) }
 {
+    // The error is needed in the condition alone.
     let _why = error;
     let _ = errors.put(b"census: out of memory\n");
     Status::Memory
@@ -125,11 +143,11 @@ fn do_request<T: Threads + Wait + Sync, R: Read, W: Write, E: Write, P: Write, C
             plan,
             workers,
             progress,
-        } => take_soups(machine, plan, *workers, *progress, output),
+        } => run_take(machine, plan, *workers, *progress, output),
         Request::Work { plan, worker } => {
-            work_on_soups(machine.alloc, plan, *worker, output, &mut machine.errors)
+            run_work(machine.alloc, plan, *worker, output, &mut machine.errors)
         }
-        Request::Gather { plan, workers } => gather_lines(
+        Request::Gather { plan, workers } => run_gather(
             machine.alloc,
             plan,
             *workers,
@@ -172,8 +190,8 @@ fn do_pattern_request<R: Read, W: Write, E: Write>(
     }
 }
 
-/// Takes the soups that a request names, by so many workers, with a line of progress if it is asked for.
-fn take_soups<T: Threads + Wait + Sync, W: Write, E: Write, P: Write, C: Clock>(
+/// Runs `take` over the soups that a request names, by so many workers, with a line of progress if it is asked for.
+fn run_take<T: Threads + Wait + Sync, W: Write, E: Write, P: Write, C: Clock>(
     machine: &mut Machine<'_, T, E, Progress<P, C>>,
     asked: &words::request::Plan<'_>,
     workers: u8,
@@ -183,8 +201,8 @@ fn take_soups<T: Threads + Wait + Sync, W: Write, E: Write, P: Write, C: Clock>(
     requires request { AreInTheirRanges (request.Take asked.now workers progress) }
     requires output { output.old.failed ≡ false }
     requires errors { machine.old.errors.failed ≡ false }
-    ensures ends { (known : Option (List ℕ)) (bytes : List ℕ)
-        → Ends (task_of (request.Take asked.now workers progress)) known bytes result
+    ensures ends { (reader : Option (List ℕ)) (bytes : List ℕ)
+        → Ends (task_of (request.Take asked.now workers progress)) reader bytes result
         (stream W.contents output.old output.new) (stream E.contents machine.old.errors machine.new.errors) }
     ensures untouched { result ≡ Status.Refused → output.new ≡ output.old }
     ensures no_memory { result ≡ Status.Memory → output.new ≡ output.old }
@@ -194,8 +212,8 @@ fn take_soups<T: Threads + Wait + Sync, W: Write, E: Write, P: Write, C: Clock>(
     do_take(machine, &plan, workers, output)
 }
 
-/// Writes this worker's report lines of the soups that a request names.
-fn work_on_soups<W: Write, E: Write>(
+/// Runs `work` over the soups that a request names, for this worker.
+fn run_work<W: Write, E: Write>(
     alloc: Global,
     asked: &words::request::Plan<'_>,
     worker: u8,
@@ -205,8 +223,8 @@ fn work_on_soups<W: Write, E: Write>(
     requires request { AreInTheirRanges (request.Work asked.now worker) }
     requires output { output.old.failed ≡ false }
     requires errors { errors.old.failed ≡ false }
-    ensures ends { (known : Option (List ℕ)) (bytes : List ℕ)
-        → Ends (task_of (request.Work asked.now worker)) known bytes result
+    ensures ends { (reader : Option (List ℕ)) (bytes : List ℕ)
+        → Ends (task_of (request.Work asked.now worker)) reader bytes result
         (stream W.contents output.old output.new) (stream E.contents errors.old errors.new) }
     ensures untouched { result ≡ Status.Refused → output.new ≡ output.old }
 {
@@ -214,8 +232,8 @@ fn work_on_soups<W: Write, E: Write>(
     do_work(alloc, &plan, worker, output, errors)
 }
 
-/// Gathers the input's report lines of the soups that a request names, of so many workers.
-fn gather_lines<R: Read, W: Write, E: Write>(
+/// Runs `gather` on the input's report lines of the soups that a request names, of so many workers.
+fn run_gather<R: Read, W: Write, E: Write>(
     alloc: Global,
     asked: &words::request::Plan<'_>,
     workers: u8,

@@ -1,3 +1,5 @@
+//! Tests of `gather`.
+
 ghost use Rattle.pattern_commands.specs.Profiles.{AreInRange};
 
 use crate::streams::{FaultyReader, FaultyWriter, Left, interrupted_writer, reader, slow_writer};

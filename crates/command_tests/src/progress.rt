@@ -1,3 +1,5 @@
+//! Tests of the line of progress.
+
 use crate::streams::slow_writer;
 use commands::progress::Progress;
 use crew::watch::Watch;

@@ -1,3 +1,5 @@
+//! Tests of `run`.
+
 use crate::streams::{FaultyReader, FaultyWriter, Left, interrupted_writer, reader, slow_writer};
 use pattern_commands::output::send_buffered;
 use pattern_commands::run::do_run;

@@ -1,3 +1,5 @@
+//! Tests of `take`.
+
 ghost use Rattle.haul_core.specs.Reports.{IsWorker};
 
 use crate::gather::plan_of;

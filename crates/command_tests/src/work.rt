@@ -1,3 +1,5 @@
+//! Tests of `work`.
+
 use crate::gather::plan_of;
 use commands::work::do_work;
 use pattern_commands::status::Status;

@@ -1,6 +1,9 @@
 -- How gathering ends.
-use Rattle.std.proofs.Common.{◌≡◌, ◌∙◌, ◌+◌, ◌++◌, ◌<◌, ◌≤◌, ◌^◌, ◌⊎◌, ℕ, zero, suc, false, inl, inr, List, [], ◌∷◌, Option, None, Some, Ok, Err, IfErr, ap, arith, length, refl, subst, sym, true}
-use Rattle.std.specs.Prelude.{is_ok}
+use Rattle.std.proofs.Common.{◌≡◌, ◌==◌, cond, ◌∙◌, ◌+◌, ◌++◌, ◌<◌, ◌≤◌, ◌^◌, ◌⊎◌, ℕ, zero, suc, false, inl, inr, List, [], ◌∷◌, Option, None, Some, Ok, Err, IfErr, ap, arith, length, refl, subst, sym, true}
+use Rattle.std.specs.Prelude.{Result, is_ok}
+use Rattle.std.specs.Io.Buffered.{reader_buffer, reader_capacity, reader_inner, reader_remaining}
+use Rattle.std.specs.Io.KnownBytes.{prepend_known}
+use Rattle.std.specs.declared.io.buffered.BufReader.{BufReader}
 use Rattle.std.specs.List.{range_with_len}
 use Rattle.std.proofs.lemmas.List.FromFn.{length-range_with_len}
 use Rattle.memory.specs.Evidence.{out_of_memory}
@@ -26,7 +29,7 @@ use Rattle.pattern_commands.specs.Ends.{status_after}
 use Rattle.pattern_commands.specs.Reached.{IsSilent, Outcome, Reaches}
 use Rattle.commands.specs.Finish.{Finishes, IsCensusOf}
 use Rattle.commands.specs.Gather.{BeginsHaul, IsSame, gather_reads, gather_task, haul_task}
-use Rattle.commands.specs.GatherSteps.{EndsLines, HasGatheredShort}
+use Rattle.commands.specs.GatherSteps.{EndsLines, EndsLinesSomewhere, HasGatheredShort}
 use Rattle.commands.specs.Gathering.{IsGathered, IsHaulOver, gather_opens, gather_right, gathered_right}
 use Rattle.commands.specs.LinesSoFar.{HasBegun}
 use Rattle.commands.specs.GatheredLines.{Gathered}
@@ -53,38 +56,38 @@ list_hides plan workers bytes job named listed TooLong is = tt
 list_hides plan workers bytes job named listed (WriteFailed error) is = absurd is
 
 -- a job that is refused
-gathers_job : (plan : Plan) (workers : ℕ) (bytes : List ℕ) (known : Option (List ℕ)) (complaint : Complaint)
+gathers_job : (plan : Plan) (workers : ℕ) (bytes : List ℕ) (reader : Option (List ℕ)) (complaint : Complaint)
     (output errors : Stream) → job_named plan ≡ Err complaint → IsSilent output errors
-    → Reaches (gather_task plan workers) known bytes (Err complaint) output errors
-gathers_job plan workers bytes known (Refused refusal) output errors named silent = (rw named refl, silent)
-gathers_job plan workers bytes known (Memory error) output errors named silent = absurd (job_refused plan (Memory error) named)
-gathers_job plan workers bytes known (ReadFailed error) output errors named silent = absurd (job_refused plan (ReadFailed error) named)
-gathers_job plan workers bytes known TooLong output errors named silent = absurd (job_refused plan TooLong named)
-gathers_job plan workers bytes known (WriteFailed error) output errors named silent = absurd (job_refused plan (WriteFailed error) named)
+    → Reaches (gather_task plan workers) reader bytes (Err complaint) output errors
+gathers_job plan workers bytes reader (Refused refusal) output errors named silent = (rw named refl, silent)
+gathers_job plan workers bytes reader (Memory error) output errors named silent = absurd (job_refused plan (Memory error) named)
+gathers_job plan workers bytes reader (ReadFailed error) output errors named silent = absurd (job_refused plan (ReadFailed error) named)
+gathers_job plan workers bytes reader TooLong output errors named silent = absurd (job_refused plan TooLong named)
+gathers_job plan workers bytes reader (WriteFailed error) output errors named silent = absurd (job_refused plan (WriteFailed error) named)
 
 -- a set that is refused, or memory that runs out over it
-gathers_set : (plan : Plan) (workers : ℕ) (bytes : List ℕ) (known : Option (List ℕ)) (job : Job)
+gathers_set : (plan : Plan) (workers : ℕ) (bytes : List ℕ) (reader : Option (List ℕ)) (job : Job)
     (complaint : Complaint) (output errors : Stream) → job_named plan ≡ Ok job → StopsSet plan.set complaint → IsSilent output errors
-    → Reaches (gather_task plan workers) known bytes (Err complaint) output errors
-gathers_set plan workers bytes known job (Refused refusal) output errors named stops silent = (rw named stops, silent)
-gathers_set plan workers bytes known job (Memory error) output errors named stops silent = record {
+    → Reaches (gather_task plan workers) reader bytes (Err complaint) output errors
+gathers_set plan workers bytes reader job (Refused refusal) output errors named stops silent = (rw named stops, silent)
+gathers_set plan workers bytes reader job (Memory error) output errors named stops silent = record {
   hides = λ _. list_hides plan workers bytes job named stops;
   left = silent.nothing;
-  told = inl silent.silent;
+  remarks = inl silent.silent;
   fine = silent.fine;
 }
-gathers_set plan workers bytes known job (ReadFailed error) output errors named stops silent = absurd stops
-gathers_set plan workers bytes known job TooLong output errors named stops silent = absurd stops
-gathers_set plan workers bytes known job (WriteFailed error) output errors named stops silent = absurd stops
+gathers_set plan workers bytes reader job (ReadFailed error) output errors named stops silent = absurd stops
+gathers_set plan workers bytes reader job TooLong output errors named stops silent = absurd stops
+gathers_set plan workers bytes reader job (WriteFailed error) output errors named stops silent = absurd stops
 
 -- a haul that was not opened
-pub gathers_opening : (plan : Plan) (workers : ℕ) (bytes : List ℕ) (known : Option (List ℕ)) (complaint : Complaint)
+pub gathers_opening : (plan : Plan) (workers : ℕ) (bytes : List ℕ) (reader : Option (List ℕ)) (complaint : Complaint)
     (output errors : Stream) → StopsOpening plan complaint → IsSilent output errors
-    → Reaches (gather_task plan workers) known bytes (Err complaint) output errors
-gathers_opening plan workers bytes known complaint output errors (inl refused) silent =
-    gathers_job plan workers bytes known complaint output errors refused silent
-gathers_opening plan workers bytes known complaint output errors (inr (job, named, stops)) silent =
-    gathers_set plan workers bytes known job complaint output errors named stops silent
+    → Reaches (gather_task plan workers) reader bytes (Err complaint) output errors
+gathers_opening plan workers bytes reader complaint output errors (inl refused) silent =
+    gathers_job plan workers bytes reader complaint output errors refused silent
+gathers_opening plan workers bytes reader complaint output errors (inr (job, named, stops)) silent =
+    gathers_set plan workers bytes reader job complaint output errors named stops silent
 
 -- a job that is named is read for
 pub reads_named : (plan : Plan) (job : Job) → job_named plan ≡ Ok job
@@ -92,15 +95,15 @@ pub reads_named : (plan : Plan) (job : Job) → job_named plan ≡ Ok job
 reads_named plan job named unread = let bad : true ≡ false = sym (ap is_ok named) ∙ unread in cc
 
 -- what was gathered
-is_gathered : (terms : Terms) (held closed : Held) (census : Census) (n : ℕ) (known : Option (List ℕ)) (errors : Stream)
-    → (all : HasGatheredShort known errors held) → held.terms ≡ terms → closed.terms ≡ held.terms
+is_gathered : (terms : Terms) (held closed : Held) (census : Census) (n : ℕ) (reader : Option (List ℕ)) (errors : Stream)
+    → (all : HasGatheredShort reader errors held) → held.terms ≡ terms → closed.terms ≡ held.terms
     → closed.taken ≡ held.taken
     → ((arrivals : List Arrival) → StandsFor arrivals held → StandsFor (arrivals ++ Closing ∷ []) closed)
     → IsCensusOf held census → n ≡ length (missing_of held.terms.ranges held.taken)
-    → IsGathered terms all.2.bytes (record { text = haul_text census; told = all.2.told; missing = n })
-is_gathered terms held closed census n known errors all same kept took closes counted many =
-    let read = all.2 in
-    let P : Terms → Type 0 = λ t. Gathered t (input_lines read.bytes) read.come.arrivals read.told in
+    → IsGathered terms all.3.bytes (record { text = haul_text census; remarks = all.3.remarks; missing = n })
+is_gathered terms held closed census n reader errors all same kept took closes counted many =
+    let read = all.3 in
+    let P : Terms → Type 0 = λ t. Gathered t (input_lines read.bytes) read.come.arrivals read.remarks in
     let Q : Terms → Type 0 = λ t. IsCensus t.job t.ranges (numbers_in held.taken) census in
     let stands = closes read.come.arrivals read.come.stands in
     record {
@@ -124,80 +127,101 @@ long_hides terms bytes TooLong is = tt
 long_hides terms bytes (WriteFailed error) is = absurd is
 
 -- memory ran out after some lines
-gathers_memory : (terms : Terms) (bytes : List ℕ) (known : Option (List ℕ)) (output errors : Stream) → HasBegun terms known errors.before errors.after
-    → Has output [] → errors.failed ≡ false → Reaches (haul_task terms) known bytes (Err (Memory out_of_memory)) output errors
-gathers_memory terms bytes known output errors begun nothing fine = record {
+gathers_memory : (terms : Terms) (bytes : List ℕ) (reader : Option (List ℕ)) (output errors : Stream) → HasBegun terms reader errors.before errors.after
+    → Has output [] → errors.failed ≡ false → Reaches (haul_task terms) reader bytes (Err (Memory out_of_memory)) output errors
+gathers_memory terms bytes reader output errors begun nothing fine = record {
   hides = λ _. long_hides terms bytes;
   left = nothing;
-  told = inr (record { terms = terms; opened = refl; begun = begun });
+  remarks = inr (record { terms = terms; opened = refl; begun = begun });
   fine = fine;
 }
 
 -- a complaint over the lines, on bytes that may be the input
-gathers_on : (terms : Terms) (bytes : List ℕ) (known : Option (List ℕ)) (complaint : Complaint) (output errors : Stream)
+gathers_on : (terms : Terms) (bytes : List ℕ) (reader left : Option (List ℕ)) (complaint : Complaint) (output errors : Stream)
     → (complaint ≡ TooLong → 2 ^ 32 < length bytes)
-    → EndsLines terms known errors complaint → Has output []
-    → Reaches (haul_task terms) known bytes (Err complaint) output errors
-gathers_on terms bytes known (Refused refusal) output errors long ends nothing = absurd ends
-gathers_on terms bytes known (Memory error) output errors long ends nothing = gathers_memory terms bytes known output errors ends.0 nothing ends.1
-gathers_on terms bytes known (ReadFailed error) output errors long ends nothing =
-    record { reads = refl; begun = record { terms = terms; opened = refl; begun = ends.0 }; nothing = nothing; fine = ends.1 }
-gathers_on terms bytes known TooLong output errors long ends nothing = (
+    → EndsLines terms reader left errors complaint → Has output []
+    → Reaches (haul_task terms) reader bytes (Err complaint) output errors
+gathers_on terms bytes reader left (Refused refusal) output errors long ends nothing = absurd ends
+gathers_on terms bytes reader left (Memory error) output errors long ends nothing =
+    gathers_memory terms bytes reader output errors (left, ends.0) nothing ends.1
+gathers_on terms bytes reader left (ReadFailed error) output errors long ends nothing =
+    record { reads = refl; begun = record { terms = terms; opened = refl; begun = (left, ends.0) }; nothing = nothing; fine = ends.1 }
+gathers_on terms bytes reader left TooLong output errors long ends nothing = (
   long refl,
-  record { reads = refl; begun = record { terms = terms; opened = refl; begun = ends.0 }; nothing = nothing; fine = ends.1 },
+  record { reads = refl; begun = record { terms = terms; opened = refl; begun = (left, ends.0) }; nothing = nothing; fine = ends.1 },
 )
-gathers_on terms bytes known (WriteFailed error) output errors long ends nothing = inr (record { tells = tt; nothing = nothing; cut = ends })
+gathers_on terms bytes reader left (WriteFailed error) output errors long ends nothing =
+    inr (record { tells = tt; nothing = nothing; cut = ends })
 
 -- and there are some: where the input is too long, longer ones than may be read
-pub gathers_lines : (terms : Terms) (known : Option (List ℕ)) (complaint : Complaint) (output errors : Stream)
-    → EndsLines terms known errors complaint → Has output []
-    → (bytes : List ℕ) × IsInput known bytes × Reaches (haul_task terms) known bytes (Err complaint) output errors
-gathers_lines terms None complaint output errors ends nothing =
+pub gathers_lines : (terms : Terms) (reader : Option (List ℕ)) (complaint : Complaint) (output errors : Stream)
+    → EndsLinesSomewhere terms reader errors complaint → Has output []
+    → (bytes : List ℕ) × IsInput reader bytes × Reaches (haul_task terms) reader bytes (Err complaint) output errors
+gathers_lines terms None complaint output errors (left, ends) nothing =
     let bytes = range_with_len 0 (2 ^ 32 + 1) in (
       bytes,
       tt,
-      gathers_on terms bytes None complaint output errors
+      gathers_on terms bytes None left complaint output errors
           (λ _. subst (λ n. 2 ^ 32 < n) (sym (length-range_with_len 0 (2 ^ 32 + 1))) (omega arith)) ends nothing,
     )
-gathers_lines terms (Some left) complaint output errors ends nothing = (
-  left,
+gathers_lines terms (Some all) complaint output errors (left, ends) nothing = (
+  all,
   refl,
-  gathers_on terms left (Some left) complaint output errors
-      (λ is. let long = subst (EndsLines terms (Some left) errors) is ends in long.2) ends nothing,
+  gathers_on terms all (Some all) left complaint output errors
+      (λ is. let long = subst (EndsLines terms (Some all) left errors) is ends in long.2) ends nothing,
 )
 
+-- a reader through a buffer that is empty has what the reader below has
+pub fresh_reader : {R A : Type 0} (remaining : R → Option (List ℕ)) (buffered : BufReader R A) → reader_capacity buffered ≡ 65536
+    → reader_buffer buffered ≡ [] → reader_remaining remaining buffered ≡ remaining (reader_inner buffered)
+fresh_reader remaining buffered capacity empty =
+    ap (λ (n : ℕ). cond {A = Option (List ℕ)} (n == 0) None (prepend_known (reader_buffer buffered) (remaining buffered.inner))) capacity
+    ∙ ap (λ (bytes : List ℕ). prepend_known bytes (remaining buffered.inner)) empty
+    ∙ nothing (remaining buffered.inner)
+  where
+    nothing : (left : Option (List ℕ)) → prepend_known [] left ≡ left
+    nothing None = refl
+    nothing (Some xs) = refl
+
+-- how the lines ended, through a buffer
+pub ends_somewhere : {A : Type 0} (r : Result A Complaint) (terms : Terms) (reader other left : Option (List ℕ)) (errors : Stream)
+    → other ≡ reader → IfErr r (EndsLines terms other left errors) → IfErr r (EndsLinesSomewhere terms reader errors)
+ends_somewhere (Ok x) terms reader other left errors same ends = tt
+ends_somewhere (Err complaint) terms reader other left errors same ends =
+    (left, subst (λ (bytes : Option (List ℕ)). EndsLines terms bytes left errors complaint) same ends)
+
 -- what became of a haul to which all lines have come, when it was finished
-pub gathers_haul : (terms : Terms) (held closed : Held) (known : Option (List ℕ)) (outcome : Outcome) (output errors : Stream)
-    → (all : HasGatheredShort known errors held) → held.terms ≡ terms → closed.terms ≡ held.terms
+pub gathers_haul : (terms : Terms) (held closed : Held) (reader : Option (List ℕ)) (outcome : Outcome) (output errors : Stream)
+    → (all : HasGatheredShort reader errors held) → held.terms ≡ terms → closed.terms ≡ held.terms
     → closed.taken ≡ held.taken
     → ((arrivals : List Arrival) → StandsFor arrivals held → StandsFor (arrivals ++ Closing ∷ []) closed)
-    → Finishes held outcome output → errors.failed ≡ false → Reaches (haul_task terms) known all.2.bytes outcome output errors
-gathers_haul terms held closed known outcome output errors all same kept took closes finishes fine = go outcome finishes
+    → Finishes held outcome output → errors.failed ≡ false → Reaches (haul_task terms) reader all.3.bytes outcome output errors
+gathers_haul terms held closed reader outcome output errors all same kept took closes finishes fine = go outcome finishes
   where
     gathered : (census : Census) (n : ℕ) → IsCensusOf held census → n ≡ length (missing_of held.terms.ranges held.taken)
-        → IsGathered terms all.2.bytes (record { text = haul_text census; told = all.2.told; missing = n })
-    gathered census n counted many = is_gathered terms held closed census n known errors all same kept took closes
+        → IsGathered terms all.3.bytes (record { text = haul_text census; remarks = all.3.remarks; missing = n })
+    gathered census n counted many = is_gathered terms held closed census n reader errors all same kept took closes
         counted many
 
-    go : (outcome : Outcome) → Finishes held outcome output → Reaches (haul_task terms) known all.2.bytes outcome output errors
+    go : (outcome : Outcome) → Finishes held outcome output → Reaches (haul_task terms) reader all.3.bytes outcome output errors
     go (Ok missing) is = record {
-      made = record { text = haul_text is.census; told = all.2.told; missing = missing };
+      made = record { text = haul_text is.census; remarks = all.3.remarks; missing = missing };
       is = gathered is.census missing is.counted is.missing_is;
       missing_is = refl;
       text = is.text;
       written = is.fine;
-      told = all.2.written;
+      remarks = all.3.written;
       fine = fine;
     }
     go (Err (Memory error)) nothing =
-        gathers_memory terms all.2.bytes known output errors (all_begun known errors all.0 held terms all.2 same)
+        gathers_memory terms all.3.bytes reader output errors (all.2, all_begun reader all.2 errors all.0 held terms all.3 same)
         nothing fine
     go (Err (WriteFailed error)) is = inl (record {
       left = (
-        record { text = haul_text is.census; told = all.2.told; missing = length (missing_of held.terms.ranges held.taken) },
+        record { text = haul_text is.census; remarks = all.3.remarks; missing = length (missing_of held.terms.ranges held.taken) },
         gathered is.census (length (missing_of held.terms.ranges held.taken)) is.counted refl,
         is.front,
-        all.2.written,
+        all.3.written,
       );
       cut = is.cut;
       fine = fine;
@@ -219,11 +243,11 @@ is_over job set workers held open_ = record {
 }
 
 -- from what is gathered in an open haul to what is right for the set
-pub gathers_over : (plan : Plan) (workers : ℕ) (bytes : List ℕ) (known : Option (List ℕ)) (job : Job) (terms : Terms)
+pub gathers_over : (plan : Plan) (workers : ℕ) (bytes : List ℕ) (reader : Option (List ℕ)) (job : Job) (terms : Terms)
     (outcome : Outcome) (output errors : Stream) → job_named plan ≡ Ok job → IsHaulOver plan.set workers job terms
-    → Reaches (haul_task terms) known bytes outcome output errors
-    → Reaches (gather_task plan workers) known bytes outcome output errors
-gathers_over plan workers bytes known job terms outcome output errors named over = go outcome
+    → Reaches (haul_task terms) reader bytes outcome output errors
+    → Reaches (gather_task plan workers) reader bytes outcome output errors
+gathers_over plan workers bytes reader job terms outcome output errors named over = go outcome
   where
     opens : (others : Terms) → others ≡ terms → gather_opens plan workers others
     opens others same =
@@ -233,34 +257,34 @@ gathers_over plan workers bytes known job terms outcome output errors named over
     right : (gathering : Made) → IsGathered terms bytes gathering → gather_right plan workers bytes (Ok gathering)
     right gathering is = record { terms = terms; opened = opens terms refl; is = is }
 
-    begins : BeginsHaul (IsSame terms) known errors.before errors.after
-        → BeginsHaul (gather_opens plan workers) known errors.before errors.after
+    begins : BeginsHaul (IsSame terms) reader errors.before errors.after
+        → BeginsHaul (gather_opens plan workers) reader errors.before errors.after
     begins is = record { terms = is.terms; opened = opens is.terms is.opened; begun = is.begun }
 
-    told : Has errors [] ⊎ BeginsHaul (IsSame terms) known errors.before errors.after
-        → Has errors [] ⊎ BeginsHaul (gather_opens plan workers) known errors.before errors.after
-    told (inl silent) = inl silent
-    told (inr is) = inr (begins is)
+    remarks : Has errors [] ⊎ BeginsHaul (IsSame terms) reader errors.before errors.after
+        → Has errors [] ⊎ BeginsHaul (gather_opens plan workers) reader errors.before errors.after
+    remarks (inl silent) = inl silent
+    remarks (inr is) = inr (begins is)
 
     listed : IsListText plan.set.also
     listed = record { ranges = over.named.listed; fit = over.named.fit; spelled = over.named.spelled }
 
-    go : (outcome : Outcome) → Reaches (haul_task terms) known bytes outcome output errors
-        → Reaches (gather_task plan workers) known bytes outcome output errors
+    go : (outcome : Outcome) → Reaches (haul_task terms) reader bytes outcome output errors
+        → Reaches (gather_task plan workers) reader bytes outcome output errors
     go (Ok missing) is = record {
       made = is.made;
       is = right is.made is.is;
       missing_is = is.missing_is;
       text = is.text;
       written = is.written;
-      told = is.told;
+      remarks = is.remarks;
       fine = is.fine;
     }
     go (Err (Refused refusal)) is = absurd (is.0)
     go (Err (Memory error)) is = record {
       hides = λ _. list_hides plan workers bytes job named listed;
       left = is.left;
-      told = told is.told;
+      remarks = remarks is.remarks;
       fine = is.fine;
     }
     go (Err (ReadFailed error)) is = record { reads = rw named refl; begun = begins is.begun; nothing = is.nothing; fine = is.fine }
@@ -269,8 +293,8 @@ gathers_over plan workers bytes known job terms outcome output errors named over
       record { reads = rw named refl; begun = begins is.begun; nothing = is.nothing; fine = is.fine },
     )
     go (Err (WriteFailed error)) (inl is) =
-        let (made, gathered, front, told) = is.left in
-        inl (record { left = (made, right made gathered, front, told); cut = is.cut; fine = is.fine })
+        let (made, gathered, front, remarks) = is.left in
+        inl (record { left = (made, right made gathered, front, remarks); cut = is.cut; fine = is.fine })
     go (Err (WriteFailed error)) (inr is) = inr (record { tells = (terms, opens terms refl); nothing = is.nothing; cut = is.cut })
 
 -- ---- what holds only of some complaints

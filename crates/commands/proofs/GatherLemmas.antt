@@ -32,10 +32,10 @@ use Rattle.pattern_commands.specs.Inputs.{input_complaint}
 use Rattle.pattern_commands.specs.Streams.{Stream, Has, stream}
 use Rattle.pattern_commands.specs.declared.input.InputError.{InputError}
 use Rattle.pattern_commands.specs.declared.input.InputError.TheVariants as input_error
-use Rattle.commands.specs.GatherSteps.{EndsLine, EndsLines, EndsNext, GoesOn, HasGathered, HasGatheredAll, Passage}
-use Rattle.commands.specs.LinesSoFar.{HasBegun, HasCome, HasComeBy}
-use Rattle.commands.specs.Lines.{HasReadLine, IsOneLine, input_lines, with_end}
-use Rattle.commands.proofs.LineLemmas.{all_read, ended_more, lines_bare, lines_ended, all_lines, first_lines, long_read}
+use Rattle.commands.specs.GatherSteps.{EndsLine, EndsLines, EndsNext, HasGatheredTo, HasGatheredLines, HasGatheredAll, Passage}
+use Rattle.commands.specs.LinesSoFar.{HasBegunUpTo, HasCome, HasComeBy}
+use Rattle.commands.specs.Lines.{HasReadLine, HasReadPart, IsOneLine, input_lines, with_end}
+use Rattle.commands.proofs.LineLemmas.{all_lines, all_read, ended_more, first_lines, lines_bare, lines_ended, long_read, part_after}
 use Rattle.commands.specs.GatheredLines.{Faulty, Front, Gathered, IsChecked, IsFrontFault, IsLookedAt, IsWrong, ComesOf, Next, Offered, Start, Whole, offer_fault, told_fault}
 
 -- nothing arrives by a line with a fault
@@ -59,10 +59,10 @@ pub refused : {terms : Terms} {line : List ℕ} {held : Held} (arrivals : List A
     → IsLookedAt terms.job line (Ok report) → IsReply (Some reason) (refusal_of terms arrivals report) → reason ≢ offer_error.Memory out_of_memory
     → fault ≡ offer_fault report (Some reason) → StandsFor (arrivals ++ Offer report ∷ []) held
     → (arrived : List Arrival) × ComesOf terms arrivals line arrived fault × StandsFor (arrivals ++ arrived) held
-refused {terms} {line} arrivals report reason fault is (inl reply) memory told stands =
+refused {terms} {line} arrivals report reason fault is (inl reply) memory remarks stands =
     let P : Option LineFault → Type 0 = λ fault. ComesOf terms arrivals line (Offer report ∷ []) fault in
-    (Offer report ∷ [], subst P (sym (told ∙ ap (offer_fault report) reply)) (Offered report is), stands)
-refused arrivals report reason fault is (inr reply) memory told stands = absurd (memory cc)
+    (Offer report ∷ [], subst P (sym (remarks ∙ ap (offer_fault report) reply)) (Offered report is), stands)
+refused arrivals report reason fault is (inr reply) memory remarks stands = absurd (memory cc)
 
 -- the same for all that the call for the fault gives
 pub refused_told : {E : Type 0} (terms : Terms) (line : List ℕ) (held : Held) (arrivals : List Arrival) (report : Reported) (reason : OfferError)
@@ -70,8 +70,8 @@ pub refused_told : {E : Type 0} (terms : Terms) (line : List ℕ) (held : Held) 
     → IfOk result (λ _. reason ≢ offer_error.Memory out_of_memory) → IfOk result (λ fault. fault ≡ offer_fault report (Some reason))
     → (reason ≢ offer_error.Memory out_of_memory → StandsFor (arrivals ++ Offer report ∷ []) held)
     → IfOk result (λ fault. (arrived : List Arrival) × ComesOf terms arrivals line arrived fault × StandsFor (arrivals ++ arrived) held)
-refused_told terms line held arrivals report reason (Ok fault) is reply memory told stands = refused arrivals report reason fault is reply memory told (stands memory)
-refused_told terms line held arrivals report reason (Err e) is reply memory told stands = tt
+refused_told terms line held arrivals report reason (Ok fault) is reply memory remarks stands = refused arrivals report reason fault is reply memory remarks (stands memory)
+refused_told terms line held arrivals report reason (Err e) is reply memory remarks stands = tt
 
 -- a claim that one finding of its soup contradicts is wrong, since there is no other
 pub wrong : FindingsAreDetermined → (claim : Claimed) (found : Finding) → IsFoundFor claim found → ¬ Agrees claim found → IsWrong claim
@@ -80,35 +80,35 @@ wrong unique claim found is differs finding right agrees =
     differs (ap (said_of claim.version) same ∙ agrees)
 
 -- one line more that has come to the haul
-pub come_more : (lines : List (List ℕ)) (line told : List ℕ) (old new : Held) (before : ℕ) (fault : Option LineFault)
-    → before ≡ length lines → (come : HasCome lines old told) → new.terms ≡ old.terms
+pub come_more : (lines : List (List ℕ)) (line remarks : List ℕ) (old new : Held) (before : ℕ) (fault : Option LineFault)
+    → before ≡ length lines → (come : HasCome lines old remarks) → new.terms ≡ old.terms
     → (arrived : List Arrival) × ComesOf old.terms come.arrivals line arrived fault
     × StandsFor (come.arrivals ++ arrived) new
-    → HasCome (lines ++ line ∷ []) new (told ++ told_fault (before + 1) fault)
-come_more lines line told old new before fault count come same step = record {
+    → HasCome (lines ++ line ∷ []) new (remarks ++ told_fault (before + 1) fault)
+come_more lines line remarks old new before fault count come same step = record {
   arrivals = come.arrivals ++ step.0;
   gathered =
       let P : ℕ → Type 0 = λ n. Gathered new.terms (lines ++ line ∷ []) (come.arrivals ++ step.0)
-      (told ++ told_fault n fault) in
+      (remarks ++ told_fault n fault) in
       let Q : Terms → Type 0 = λ t. Gathered t (lines ++ line ∷ []) (come.arrivals ++ step.0)
-      (told ++ told_fault (suc (length lines)) fault) in
+      (remarks ++ told_fault (suc (length lines)) fault) in
       let number : before + 1 ≡ suc (length lines) = omega (arith, count) in
-      subst P (sym number) (subst Q (sym same) (Next lines come.arrivals told line step.0 fault come.gathered step.1));
+      subst P (sym number) (subst Q (sym same) (Next lines come.arrivals remarks line step.0 fault come.gathered step.1));
   stands = step.2;
 }
 
-abbrev passage : (known left : Option (List ℕ)) → Stream → ℕ → ℕ → Passage
-passage known left errors count size =
-    record { known = known; left = left; errors = errors; count = count; size = size }
+abbrev passage : (reader left : Option (List ℕ)) → Stream → ℕ → ℕ → Passage
+passage reader left errors count size =
+    record { reader = reader; left = left; errors = errors; count = count; size = size }
 
 -- no line has come
-pub none_gathered : (known : Option (List ℕ)) (errors : Stream) (held : Held) → Has errors [] → StandsFor [] held
-    → HasGathered (passage known known errors 0 0) held
-none_gathered known errors held silent stands = record {
+pub none_gathered : (reader : Option (List ℕ)) (errors : Stream) (held : Held) → Has errors [] → StandsFor [] held
+    → HasGatheredLines (passage reader reader errors 0 0) held
+none_gathered reader errors held silent stands = record {
   read = [];
   lines = [];
-  told = [];
-  consumed = Consumes-nil known;
+  remarks = [];
+  consumed = Consumes-nil reader;
   ended = record { spelled = refl; whole = All-nil IsOneLine };
   count_is = refl;
   size_is = refl;
@@ -117,11 +117,11 @@ none_gathered known errors held silent stands = record {
 }
 
 -- no line is left
-pub no_more : (known left new : Option (List ℕ)) (errors : Stream) (count size : ℕ) (held : Held) (kept : List ℕ)
+pub no_more : (reader left new : Option (List ℕ)) (errors : Stream) (count size : ℕ) (held : Held) (kept : List ℕ)
     (line : LineRead)
-    → HasGathered (passage known left errors count size) held → (read : HasReadLine left new kept line) → line.size ≡ 0
-    → GoesOn (passage known new errors (count + 1) (size + line.size)) held line.end
-no_more known left new errors count size held kept line gathered read none = go line.end refl
+    → HasGatheredLines (passage reader left errors count size) held → (read : HasReadLine left new kept line) → line.size ≡ 0
+    → HasGatheredTo (passage reader new errors (count + 1) (size + line.size)) held line.end
+no_more reader left new errors count size held kept line gathered read none = go line.end refl
   where
     short : length (with_end line.end read.line) ≡ 0
     short = sym read.size_is ∙ none
@@ -130,27 +130,28 @@ no_more known left new errors count size held kept line gathered read none = go 
     bare [] e = refl
     bare (x ∷ xs) e = absurd (omega (arith, e))
 
-    go : (end : LineEnd) → line.end ≡ end → GoesOn (passage known new errors (count + 1) (size + line.size)) held end
+    go : (end : LineEnd) → line.end ≡ end → HasGatheredTo (passage reader new errors (count + 1) (size + line.size)) held end
     go Feed is = absurd (omega (arith, rw is at short, length-append read.line (10 ∷ [])))
     go Input is =
         let P : List ℕ → Type 0 = λ l. Consumes left new l in
-        let Q : List (List ℕ) → Type 0 = λ lines. HasCome lines held gathered.told in record {
+        let Q : List (List ℕ) → Type 0 = λ lines. HasCome lines held gathered.remarks in record {
           bytes = gathered.read ++ [];
-          input = all_read known left new gathered.read [] gathered.consumed (subst P (bare (with_end line.end read.line) short) read.consumed) (read.last is);
+          input = all_read reader left new gathered.read [] gathered.consumed (subst P (bare (with_end line.end read.line) short) read.consumed) (read.last is);
+          consumed = Consumes-trans reader left new gathered.read [] gathered.consumed (subst P (bare (with_end line.end read.line) short) read.consumed);
           size_is = ap (λ n. size + n) none ∙ omega (arith, gathered.size_is, ap length (append-nil gathered.read));
-          told = gathered.told;
+          remarks = gathered.remarks;
           come = subst Q (sym (lines_ended gathered.read gathered.lines gathered.ended)) gathered.come;
           written = gathered.written;
         }
 
 -- a line more, after which others may follow or none
-pub goes_on : {V : Type 0} (contents : V → Option (List ℕ)) (known left new : Option (List ℕ))
+pub goes_on : {V : Type 0} (contents : V → Option (List ℕ)) (reader left new : Option (List ℕ))
     (first old later : Output V) (count size : ℕ) (held next : Held) (kept : List ℕ) (line : LineRead)
-    → (gathered : HasGathered (passage known left (stream contents first old) count size) held)
+    → (gathered : HasGatheredLines (passage reader left (stream contents first old) count size) held)
     → (read : HasReadLine left new kept line) → 0 < line.size
-    → HasComeBy (gathered.lines ++ read.line ∷ []) next gathered.told (stream contents old later)
-    → GoesOn (passage known new (stream contents first later) (count + 1) (size + line.size)) next line.end
-goes_on contents known left new first old later count size held next kept line gathered read some by = go line.end refl
+    → HasComeBy (gathered.lines ++ read.line ∷ []) next gathered.remarks (stream contents old later)
+    → HasGatheredTo (passage reader new (stream contents first later) (count + 1) (size + line.size)) next line.end
+goes_on contents reader left new first old later count size held next kept line gathered read some by = go line.end refl
   where
     whole : List ℕ
     whole = with_end line.end read.line
@@ -158,17 +159,17 @@ goes_on contents known left new first old later count size held next kept line g
     total : size + line.size ≡ length (gathered.read ++ whole)
     total = ap₂ (λ a b. a + b) gathered.size_is read.size_is ∙ sym (length-append gathered.read whole)
 
-    written : Has (stream contents first later) (gathered.told ++ by.more)
-    written = Appends-append (contents first.writer) (contents old.writer) (contents later.writer) gathered.told by.more
+    written : Has (stream contents first later) (gathered.remarks ++ by.more)
+    written = Appends-append (contents first.writer) (contents old.writer) (contents later.writer) gathered.remarks by.more
         gathered.written by.written
 
     go : (end : LineEnd) → line.end ≡ end
-        → GoesOn (passage known new (stream contents first later) (count + 1) (size + line.size)) next end
+        → HasGatheredTo (passage reader new (stream contents first later) (count + 1) (size + line.size)) next end
     go Feed is = record {
       read = gathered.read ++ (read.line ++ 10 ∷ []);
       lines = gathered.lines ++ read.line ∷ [];
-      told = gathered.told ++ by.more;
-      consumed = Consumes-trans known left new gathered.read (read.line ++ 10 ∷ []) gathered.consumed (rw is at read.consumed);
+      remarks = gathered.remarks ++ by.more;
+      consumed = Consumes-trans reader left new gathered.read (read.line ++ 10 ∷ []) gathered.consumed (rw is at read.consumed);
       ended = ended_more gathered.read gathered.lines read.line gathered.ended read.one;
       count_is = ap (λ n. n + 1) gathered.count_is ∙ sym (length-append gathered.lines (read.line ∷ []));
       size_is = rw is at total;
@@ -177,12 +178,13 @@ goes_on contents known left new first old later count size held next kept line g
     }
     go Input is =
         let bare : with_end line.end read.line ≡ read.line = ap (λ e. with_end e read.line) is ∙ append-nil read.line in
-        let Q : List (List ℕ) → Type 0 = λ lines. HasCome lines next (gathered.told ++ by.more) in
+        let Q : List (List ℕ) → Type 0 = λ lines. HasCome lines next (gathered.remarks ++ by.more) in
         let there : 0 < length read.line = omega (arith, some, read.size_is, ap length bare) in record {
           bytes = gathered.read ++ read.line;
-          input = all_read known left new gathered.read read.line gathered.consumed (subst (Consumes left new) bare read.consumed) (read.last is);
+          input = all_read reader left new gathered.read read.line gathered.consumed (subst (Consumes left new) bare read.consumed) (read.last is);
+          consumed = Consumes-trans reader left new gathered.read read.line gathered.consumed (subst (Consumes left new) bare read.consumed);
           size_is = total ∙ ap (λ l. length (gathered.read ++ l)) bare;
-          told = gathered.told ++ by.more;
+          remarks = gathered.remarks ++ by.more;
           come = subst Q (sym (lines_bare gathered.read gathered.lines read.line gathered.ended read.one there))
               by.come;
           written = written;
@@ -194,66 +196,96 @@ no_fault None not = refl
 no_fault (Some x) not = absurd (not x refl)
 
 -- what has come so far is a beginning
-pub begun : (way : Passage) (held : Held) (terms : Terms) → HasGathered way held → held.terms ≡ terms
-    → HasBegun terms way.known way.errors.before way.errors.after
+pub begun : (way : Passage) (held : Held) (terms : Terms) → HasGatheredLines way held → held.terms ≡ terms
+    → HasBegunUpTo terms way.reader way.left way.errors.before way.errors.after
 begun way held terms gathered same = record {
+  read = gathered.read;
+  consumed = gathered.consumed;
   lines = gathered.lines;
-  first = first_lines way.known way.left gathered.read gathered.lines gathered.consumed gathered.ended;
+  last = [];
+  all = ap input_lines (sym (append-nil gathered.read)) ∙ lines_ended gathered.read gathered.lines gathered.ended ∙ sym (append-nil gathered.lines);
+  one = omega arith;
+  first = first_lines way.reader way.left gathered.read gathered.lines gathered.consumed gathered.ended;
   arrivals = gathered.come.arrivals;
-  told = gathered.told;
+  remarks = gathered.remarks;
   gathered =
-      let P : Terms → Type 0 = λ t. Gathered t gathered.lines gathered.come.arrivals gathered.told in
+      let P : Terms → Type 0 = λ t. Gathered t gathered.lines gathered.come.arrivals gathered.remarks in
       subst P same gathered.come.gathered;
   written = gathered.written;
 }
 
+-- the same where a part of one more line was read
+begun_part : (way : Passage) (held : Held) (terms : Terms) (new : Option (List ℕ)) → HasGatheredLines way held → held.terms ≡ terms
+    → HasReadPart way.left new → HasBegunUpTo terms way.reader new way.errors.before way.errors.after
+begun_part way held terms new gathered same part =
+    let after = part_after way.reader way.left new gathered.read gathered.lines gathered.consumed gathered.ended part in record {
+      read = after.0;
+      consumed = after.2;
+      lines = gathered.lines;
+      last = after.1;
+      all = after.3;
+      one = after.4;
+      first = first_lines way.reader way.left gathered.read gathered.lines gathered.consumed gathered.ended;
+      arrivals = gathered.come.arrivals;
+      remarks = gathered.remarks;
+      gathered =
+          let P : Terms → Type 0 = λ t. Gathered t gathered.lines gathered.come.arrivals gathered.remarks in
+          subst P same gathered.come.gathered;
+      written = gathered.written;
+    }
+
 -- and so is all that has come
-pub all_begun : (known : Option (List ℕ)) (errors : Stream) (size : ℕ) (held : Held) (terms : Terms)
-    → HasGatheredAll known errors size held
-    → held.terms ≡ terms → HasBegun terms known errors.before errors.after
-all_begun known errors size held terms all same = record {
+pub all_begun : (reader left : Option (List ℕ)) (errors : Stream) (size : ℕ) (held : Held) (terms : Terms)
+    → HasGatheredAll reader left errors size held
+    → held.terms ≡ terms → HasBegunUpTo terms reader left errors.before errors.after
+all_begun reader left errors size held terms all same = record {
+  read = all.bytes;
+  consumed = all.consumed;
   lines = input_lines all.bytes;
-  first = all_lines known all.bytes all.input;
+  last = [];
+  all = sym (append-nil (input_lines all.bytes));
+  one = omega arith;
+  first = all_lines reader all.bytes all.input;
   arrivals = all.come.arrivals;
-  told = all.told;
+  remarks = all.remarks;
   gathered =
-      let P : Terms → Type 0 = λ t. Gathered t (input_lines all.bytes) all.come.arrivals all.told in
+      let P : Terms → Type 0 = λ t. Gathered t (input_lines all.bytes) all.come.arrivals all.remarks in
       subst P same all.come.gathered;
   written = all.written;
 }
 
 -- the same where there may be more lines, or none
-pub goes_begun : (way : Passage) (held : Held) (terms : Terms) (end : LineEnd) → GoesOn way held end → held.terms ≡ terms
-    → HasBegun terms way.known way.errors.before way.errors.after
+pub goes_begun : (way : Passage) (held : Held) (terms : Terms) (end : LineEnd) → HasGatheredTo way held end → held.terms ≡ terms
+    → HasBegunUpTo terms way.reader way.left way.errors.before way.errors.after
 goes_begun way held terms Feed gathered same = begun way held terms gathered same
-goes_begun way held terms Input all same = all_begun way.known way.errors way.size held terms all same
+goes_begun way held terms Input all same = all_begun way.reader way.left way.errors way.size held terms all same
 
 -- a line after which others may follow
-pub goes_further : (way : Passage) (held : Held) (end : LineEnd) → (end ≡ Input → ⊥) → GoesOn way held end → HasGathered way held
+pub goes_further : (way : Passage) (held : Held) (end : LineEnd) → (end ≡ Input → ⊥) → HasGatheredTo way held end → HasGatheredLines way held
 goes_further way held Feed more gathered = gathered
 goes_further way held Input more all = absurd (more refl)
 
 -- the last line
-pub goes_no_further : (way : Passage) (held : Held) (end : LineEnd) → end ≡ Input → GoesOn way held end
-    → HasGatheredAll way.known way.errors way.size held
+pub goes_no_further : (way : Passage) (held : Held) (end : LineEnd) → end ≡ Input → HasGatheredTo way held end
+    → HasGatheredAll way.reader way.left way.errors way.size held
 goes_no_further way held Feed is gathered = let bad : Feed ≡ Input = is in cc
 goes_no_further way held Input is all = all
 
 -- what is left of an input is no longer than it is
-longer : (known left : Option (List ℕ)) (read : List ℕ) → Consumes known left read → IfSome left (λ bytes. 2 ^ 32 < length bytes)
-    → IfSome known (λ bytes. 2 ^ 32 < length bytes)
+longer : (reader left : Option (List ℕ)) (read : List ℕ) → Consumes reader left read → IfSome left (λ bytes. 2 ^ 32 < length bytes)
+    → IfSome reader (λ bytes. 2 ^ 32 < length bytes)
 longer None left read consumed long = tt
 longer (Some xs) None read consumed long = absurd consumed
 longer (Some xs) (Some ys) read consumed long = let all = ap length consumed ∙ length-append read ys in omega (arith, all, long)
 
 -- what was read of an input that is too long, where there may be more lines, or none
-pub goes_long : (way : Passage) (held : Held) (end : LineEnd) → GoesOn way held end → 2 ^ 32 < way.size
-    → IfSome way.known (λ bytes. 2 ^ 32 < length bytes)
+pub goes_long : (way : Passage) (held : Held) (end : LineEnd) → HasGatheredTo way held end → 2 ^ 32 < way.size
+    → IfSome way.reader (λ bytes. 2 ^ 32 < length bytes)
 goes_long way held Feed gathered many =
-    long_read way.known way.left gathered.read gathered.consumed (let long = gathered.size_is in omega (arith, long, many))
-goes_long way held Input all many = go way.known all.input
+    long_read way.reader way.left gathered.read gathered.consumed (let long = gathered.size_is in omega (arith, long, many))
+goes_long way held Input all many = go way.reader all.input
   where
-    go : (known : Option (List ℕ)) → IsInput known all.bytes → IfSome known (λ bytes. 2 ^ 32 < length bytes)
+    go : (reader : Option (List ℕ)) → IsInput reader all.bytes → IfSome reader (λ bytes. 2 ^ 32 < length bytes)
     go None is = tt
     go (Some left) is = let long = all.size_is in let same = ap length is in omega (arith, long, same, many)
 
@@ -266,12 +298,12 @@ bytes_of_lines (line ∷ lines) =
     let all = length-append (line ++ 10 ∷ []) (flat_map (with_end Feed) lines) in
     omega (arith, more, one, all)
 
-pub many_lines : (way : Passage) (held : Held) → HasGathered way held → 2 ^ 32 < way.count
-    → IfSome way.known (λ bytes. 2 ^ 32 < length bytes)
+pub many_lines : (way : Passage) (held : Held) → HasGatheredLines way held → 2 ^ 32 < way.count
+    → IfSome way.reader (λ bytes. 2 ^ 32 < length bytes)
 many_lines way held gathered many =
     let spelled = ap length gathered.ended.spelled in
     let count = gathered.count_is in
-    long_read way.known way.left gathered.read gathered.consumed
+    long_read way.reader way.left gathered.read gathered.consumed
     (omega (arith, spelled, count, many, bytes_of_lines gathered.lines))
 
 -- a line that could not be read, with nothing told
@@ -291,23 +323,23 @@ next_read left old new TooLong ends = absurd ends
 next_read left old new (WriteFailed error) ends = ends
 
 -- a complaint over a line, after all lines before it
-pub lines_ended_by : {V : Type 0} (contents : V → Option (List ℕ)) (known left : Option (List ℕ)) (first : Output V)
+pub lines_ended_by : {V : Type 0} (contents : V → Option (List ℕ)) (reader left now : Option (List ℕ)) (first : Output V)
     (count size : ℕ) (held : Held) (terms : Terms) (old new : Output V) (complaint : Complaint)
-    → HasGathered (passage known left (stream contents first old) count size) held
-    → held.terms ≡ terms → old.failed ≡ false → EndsNext left old new complaint
-    → EndsLines terms known (stream contents first new) complaint
-lines_ended_by contents known left first count size held terms old new (Memory error) gathered same fine kept =
-    rw kept (begun (passage known left (stream contents first old) count size) held terms gathered same, fine)
-lines_ended_by contents known left first count size held terms old new (ReadFailed error) gathered same fine kept =
-    rw kept (begun (passage known left (stream contents first old) count size) held terms gathered same, fine)
-lines_ended_by contents known left first count size held terms old new TooLong gathered same fine (kept, long) =
+    → HasGatheredLines (passage reader left (stream contents first old) count size) held
+    → held.terms ≡ terms → old.failed ≡ false → EndsNext left old new complaint → HasReadPart left now
+    → EndsLines terms reader now (stream contents first new) complaint
+lines_ended_by contents reader left now first count size held terms old new (Memory error) gathered same fine kept part =
+    rw kept (begun_part (passage reader left (stream contents first old) count size) held terms now gathered same part, fine)
+lines_ended_by contents reader left now first count size held terms old new (ReadFailed error) gathered same fine kept part =
+    rw kept (begun_part (passage reader left (stream contents first old) count size) held terms now gathered same part, fine)
+lines_ended_by contents reader left now first count size held terms old new TooLong gathered same fine (kept, long) part =
     rw kept (
-      begun (passage known left (stream contents first old) count size) held terms gathered same,
+      begun_part (passage reader left (stream contents first old) count size) held terms now gathered same part,
       fine,
-      longer known left gathered.read gathered.consumed long,
+      longer reader left gathered.read gathered.consumed long,
     )
-lines_ended_by contents known left first count size held terms old new (WriteFailed error) gathered same fine failed = failed
-lines_ended_by contents known left first count size held terms old new (Refused refusal) gathered same fine none =
+lines_ended_by contents reader left now first count size held terms old new (WriteFailed error) gathered same fine failed part = failed
+lines_ended_by contents reader left now first count size held terms old new (Refused refusal) gathered same fine none part =
     absurd none
 
 -- ---- what is looked at of a line

@@ -6,10 +6,13 @@ use Rattle.std.proofs.lemmas.List.Elements.{All-append, All-head, All-nil, All-p
 use Rattle.std.proofs.KnownBytes.{Consumes-kept, Consumes-nil, Consumes-trans}
 use Rattle.std.specs.Io.KnownBytes.{Consumes, IsAtEnd, Keeps}
 use Rattle.pattern_commands.specs.Answers.{IsInput}
+use Rattle.std.specs.Prelude.{OnErr}
+use Rattle.commands.specs.declared.lines.LineEnd.{LineEnd}
 use Rattle.commands.specs.declared.lines.LineEnd.TheVariants.{Feed, Input}
+use Rattle.commands.specs.declared.lines.LineRead.{LineRead}
 use Rattle.commands.specs.declared.lines.Piece.{Piece}
 use Rattle.commands.specs.LinesSoFar.{AreEnded}
-use Rattle.commands.specs.Lines.{HasPiece, IsOneLine, IsSpent, begun_with, input_lines, piece_end, with_end}
+use Rattle.commands.specs.Lines.{HasPiece, HasReadLine, HasReadPart, IsOneLine, IsSpent, begun_with, input_lines, piece_end, with_end}
 
 abbrev IsNotFeed : ℕ → Type 0
 IsNotFeed byte = byte ≢ 10
@@ -44,8 +47,8 @@ read_more start old new kept after front more size piece kept_is one consumed si
     )
 
 -- of an input from which many bytes were read, there are many
-pub long_read : (known left : Option (List ℕ)) (read : List ℕ) → Consumes known left read → 2 ^ 32 < length read
-    → IfSome known (λ bytes. 2 ^ 32 < length bytes)
+pub long_read : (reader left : Option (List ℕ)) (read : List ℕ) → Consumes reader left read → 2 ^ 32 < length read
+    → IfSome reader (λ bytes. 2 ^ 32 < length bytes)
 long_read None left read consumed long = tt
 long_read (Some xs) None read consumed long = absurd consumed
 long_read (Some xs) (Some ys) read consumed long = let all = ap length consumed ∙ length-append read ys in omega (arith, all, long)
@@ -129,15 +132,58 @@ lines_bare read lines (x ∷ xs) ended one some =
     ap (λ l. input_lines (l ++ x ∷ xs)) ended.spelled ∙ ended_lines lines (x ∷ xs) ended.whole ∙ ap (λ l. lines ++ l) (bare_line x xs one)
 
 -- the lines that were read are the first of the input
-pub first_lines : (known left : Option (List ℕ)) (read : List ℕ) (lines : List (List ℕ)) → Consumes known left read → AreEnded read lines
-    → IfSome known (λ bytes. (more : List (List ℕ)) × (input_lines bytes ≡ lines ++ more))
+pub first_lines : (reader left : Option (List ℕ)) (read : List ℕ) (lines : List (List ℕ)) → Consumes reader left read → AreEnded read lines
+    → IfSome reader (λ bytes. (more : List (List ℕ)) × (input_lines bytes ≡ lines ++ more))
 first_lines None left read lines consumed ended = tt
 first_lines (Some bytes) None read lines consumed ended = absurd consumed
 first_lines (Some bytes) (Some more) read lines consumed ended =
     (input_lines more, ap input_lines (consumed ∙ ap (λ l. l ++ more) ended.spelled) ∙ ended_lines lines more ended.whole)
 
 -- and if all was read, they are all
-pub all_lines : (known : Option (List ℕ)) (read : List ℕ) → IsInput known read
-    → IfSome known (λ bytes. (more : List (List ℕ)) × (input_lines bytes ≡ input_lines read ++ more))
+pub all_lines : (reader : Option (List ℕ)) (read : List ℕ) → IsInput reader read
+    → IfSome reader (λ bytes. (more : List (List ℕ)) × (input_lines bytes ≡ input_lines read ++ more))
 all_lines None read input = tt
 all_lines (Some bytes) read input = ([], ap input_lines (sym input) ∙ sym (append-nil (input_lines read)))
+
+-- what was read of one line has one line at most
+bare_part : (line : List ℕ) → IsOneLine line → length (input_lines line) ≤ 1
+bare_part [] one = omega arith
+bare_part (x ∷ xs) one = let is = ap length (bare_line x xs one) in omega (arith, is)
+
+part_lines : (line : List ℕ) (end : Option LineEnd) → IsOneLine line → length (input_lines (line ++ piece_end end)) ≤ 1
+part_lines line None one = subst (λ (l : List ℕ). length (input_lines l) ≤ 1) (sym (append-nil line)) (bare_part line one)
+part_lines line (Some Input) one = subst (λ (l : List ℕ). length (input_lines l) ≤ 1) (sym (append-nil line)) (bare_part line one)
+part_lines line (Some Feed) one =
+    let is = ap length (ap input_lines (sym (append-nil (line ++ 10 ∷ []))) ∙ first_line line [] one) in omega (arith, is)
+
+-- a part of a line after lines that were ended, and what was read then
+pub part_after : (reader left new : Option (List ℕ)) (read : List ℕ) (lines : List (List ℕ)) → Consumes reader left read → AreEnded read lines
+    → HasReadPart left new
+    → (all : List ℕ) × (last : List (List ℕ)) × Consumes reader new all × (input_lines all ≡ lines ++ last) × (length last ≤ 1)
+part_after reader left new read lines consumed ended part =
+    let more : List ℕ = part.line ++ piece_end part.end in (
+      read ++ more,
+      input_lines more,
+      Consumes-trans reader left new read more consumed part.consumed,
+      ap (λ l. input_lines (l ++ more)) ended.spelled ∙ ended_lines lines more ended.whole,
+      part_lines part.line part.end part.one,
+    )
+
+-- nothing more was read of an input
+pub part_kept : (start old new : Option (List ℕ)) (front : List ℕ) → IsOneLine front → Consumes start old front → Keeps old new
+    → HasReadPart start new
+part_kept start old new front one consumed same = record {
+  line = front;
+  end = None;
+  one = one;
+  consumed = subst (Consumes start new) (sym (append-nil front)) (Consumes-kept start old new front consumed same);
+}
+
+-- a line was read
+pub part_of_line : (old new : Option (List ℕ)) (kept : List ℕ) (read : LineRead) → HasReadLine old new kept read → HasReadPart old new
+part_of_line old new kept read is = record { line = is.line; end = Some read.end; one = is.one; consumed = is.consumed }
+
+-- what holds anyway holds after an error
+pub on_err : {A E P : Type 0} (r : Result A E) → P → OnErr r P
+on_err (Ok x) holds = tt
+on_err (Err e) holds = holds

@@ -2,6 +2,7 @@
 use Rattle.std.proofs.Common.{◌≡◌, ◌∙◌, ◌≤◌, ◌⊎◌, ◌↔◌, ℕ, zero, suc, Bool, true, false, cond, inl, inr, nat_eq, nat_le, not, length}
 use Rattle.std.proofs.Common.{List, [], Option, Result, Ok, Err, All, ap, sym, subst, refl, arith}
 use Rattle.std.specs.Prelude.{Contains, IfErr, IfOk}
+use Rattle.std.specs.Io.KnownBytes.{Appends}
 use Rattle.std.proofs.lemmas.Bool.{cases_Bool, leb-false, leb-true}
 use Rattle.std.proofs.lemmas.List.Elements.{All-contains, All-filter, All-weaker}
 use Rattle.std.specs.List.{IsDistinct}
@@ -37,17 +38,19 @@ use Rattle.pattern_commands.specs.declared.refusal.Refusal.TheVariants.{BadRule,
 use Rattle.pattern_commands.specs.declared.refusal.Refusal.TheVariants.{SeedBadByte, SeedTooLong}
 use Rattle.commands.specs.declared.soup_set.SoupSet.{SoupSet}
 use Rattle.pattern_commands.specs.declared.status.Status.{Status}
-use Rattle.pattern_commands.specs.Answers.{NeedsMemory, Right, given, given_right, output_text}
-use Rattle.pattern_commands.specs.Ends.{Ends}
+use Rattle.pattern_commands.specs.declared.status.Status.TheVariants as statuses
+use Rattle.pattern_commands.specs.Answers.{NeedsMemory, Right, given, IsRightGiven, output_text}
+use Rattle.pattern_commands.specs.Complaints.{status_of}
+use Rattle.pattern_commands.specs.Ends.{Ends, status_after}
 use Rattle.pattern_commands.specs.Reached.{Outcome, Reaches}
 use Rattle.commands.specs.Finish.{Finishes, IsCensusOf}
 use Rattle.pattern_commands.specs.Inputs.{rule_complaint, rule_named, list_complaint}
 use Rattle.pattern_commands.specs.Profiles.{profile_named, settling}
 use Rattle.pattern_commands.specs.Soup.{seed_complaint, seed_named}
-use Rattle.commands.specs.SoupSets.{AreRangesOf, IsRefused, job_named, right_for_set, Bad_list, Overlapping, Too_large}
+use Rattle.commands.specs.SoupSets.{AreRangesOf, IsRefused, job_named, IsRightForSet, Bad_list, Overlapping, Too_large}
 use Rattle.commands.specs.Stopped.{MayStop, TellsTaken, gated_task, right_if, stopped_right, taken_right}
 use Rattle.pattern_commands.specs.Streams.{Stream, Has, IsUntouched}
-use Rattle.commands.specs.Take.{TellsAll, take_right, take_task}
+use Rattle.commands.specs.Take.{PrintsCensus, TellsAll, take_right, take_task}
 use Rattle.commands.specs.TakeSteps.{EndsCrew, HasTakenMore, IsOpened, IsOpenedFor, IsTaken, Stops, StopsOpening, StopsSet}
 use Rattle.pattern_commands.specs.Tasks.{Made, Task, alone}
 use Rattle.pattern_commands.specs.TextSteps.{ReachesText}
@@ -57,12 +60,12 @@ use Rattle.commands.proofs.NumberLemmas.{numbers_within}
 
 -- a refusal of a list that is one needs memory
 refused_needs_memory : (set : SoupSet) (refusal : Refusal) → IsListText set.also → IsRefused set refusal → NeedsMemory (Refused refusal)
-refused_needs_memory set refusal list (Bad_list not_list place fault told) = absurd (not_list list)
-refused_needs_memory set refusal list (Too_large ranges named large told) = subst (λ (r : Refusal). NeedsMemory (Refused r)) (sym told) tt
-refused_needs_memory set refusal list (Overlapping ranges named small overlap told) = subst (λ (r : Refusal). NeedsMemory (Refused r)) (sym told) tt
+refused_needs_memory set refusal list (Bad_list not_list place fault remarks) = absurd (not_list list)
+refused_needs_memory set refusal list (Too_large ranges named large remarks) = subst (λ (r : Refusal). NeedsMemory (Refused r)) (sym remarks) tt
+refused_needs_memory set refusal list (Overlapping ranges named small overlap remarks) = subst (λ (r : Refusal). NeedsMemory (Refused r)) (sym remarks) tt
 
 needs_memory : (set : SoupSet) (tells : List Range → List ℕ → Type 0) (complaint : Complaint) → IsListText set.also
-    → right_for_set set tells (Err complaint) → NeedsMemory complaint
+    → IsRightForSet set tells (Err complaint) → NeedsMemory complaint
 needs_memory set tells (Refused refusal) list right = refused_needs_memory set refusal list right
 needs_memory set tells (Memory error) list right = absurd right
 needs_memory set tells (ReadFailed error) list right = absurd right
@@ -71,7 +74,7 @@ needs_memory set tells (WriteFailed error) list right = absurd right
 
 -- what stops a command over its set stops it
 Stops_set : (set : SoupSet) (tells : List Range → List ℕ → Type 0) (complaint : Complaint) → StopsSet set complaint
-    → Stops (right_for_set set tells) complaint
+    → Stops (IsRightForSet set tells) complaint
 Stops_set set tells (Refused refusal) stops = stops
 Stops_set set tells (Memory error) stops = λ complaint right. needs_memory set tells complaint stops right
 Stops_set set tells (ReadFailed error) stops = absurd stops
@@ -102,11 +105,11 @@ Reaches_stopped right (WriteFailed error) output stops nothing = absurd stops
 pub Stops_given : (plan : Plan) (tells : Job → List Range → List ℕ → Type 0) (job : Job)
     (complaint : Complaint)
     → job_named plan ≡ Ok job → StopsSet plan.set complaint
-    → Stops (given_right (job_named plan) (λ j. right_for_set plan.set (tells j))) complaint
+    → Stops (IsRightGiven (job_named plan) (λ j. IsRightForSet plan.set (tells j))) complaint
 Stops_given plan tells job complaint named stops = go complaint (Stops_set plan.set (tells job) complaint stops)
   where
-    go : (c : Complaint) → Stops (right_for_set plan.set (tells job)) c
-        → Stops (given_right (job_named plan) (λ j. right_for_set plan.set (tells j))) c
+    go : (c : Complaint) → Stops (IsRightForSet plan.set (tells job)) c
+        → Stops (IsRightGiven (job_named plan) (λ j. IsRightForSet plan.set (tells j))) c
     go (Refused refusal) is = rw named is
     go (Memory error) is = λ c right. is c (rw named at right)
     go (ReadFailed error) is = absurd is
@@ -160,7 +163,7 @@ job_refused plan complaint =
 
 -- what makes up the job is refused
 pub Stops_job : (plan : Plan) (next : Job → Right) (complaint : Complaint)
-    → job_named plan ≡ Err complaint → Stops (given_right (job_named plan) next) complaint
+    → job_named plan ≡ Err complaint → Stops (IsRightGiven (job_named plan) next) complaint
 Stops_job plan next (Refused refusal) refused = rw refused refl
 Stops_job plan next (Memory error) refused = absurd (job_refused plan (Memory error) refused)
 Stops_job plan next (ReadFailed error) refused = absurd (job_refused plan (ReadFailed error) refused)
@@ -170,9 +173,9 @@ Stops_job plan next (WriteFailed error) refused = absurd (job_refused plan (Writ
 -- what ends a command before its haul is open stops it
 pub Stops_opening : (plan : Plan) (tells : Job → List Range → List ℕ → Type 0) (complaint : Complaint)
     → StopsOpening plan complaint
-    → Stops (given_right (job_named plan) (λ j. right_for_set plan.set (tells j))) complaint
+    → Stops (IsRightGiven (job_named plan) (λ j. IsRightForSet plan.set (tells j))) complaint
 Stops_opening plan tells complaint (inl refused) =
-    Stops_job plan (λ j. right_for_set plan.set (tells j)) complaint refused
+    Stops_job plan (λ j. IsRightForSet plan.set (tells j)) complaint refused
 Stops_opening plan tells complaint (inr (job, named, stops)) = Stops_given plan tells job complaint named stops
 
 -- a haul that is opened for the job is one for the job that is named
@@ -188,7 +191,7 @@ not_opened plan job named (Err complaint) stops = inr (job, named, stops)
 
 -- what is right for the job is right
 pub right_given : (plan : Plan) (next : Job → Right) (job : Job) (text : List ℕ)
-    → job_named plan ≡ Ok job → next job (Ok text) → given_right (job_named plan) next (Ok text)
+    → job_named plan ≡ Ok job → next job (Ok text) → IsRightGiven (job_named plan) next (Ok text)
 right_given plan next job text named right = rw named right
 
 -- a set whose ranges are known has a list
@@ -238,7 +241,7 @@ counted_by job set opened held census open_ h is =
 -- all of it was taken
 pub complete_right : {workers : ℕ} (job : Job) (set : SoupSet) (opened held : Held) (census : Census) → IsOpened job set workers opened
     → HasTakenMore opened held → AreAll held.terms.ranges (numbers_in held.taken)
-    → IsCensus held.terms.job held.terms.ranges (numbers_in held.taken) census → right_for_set set (TellsAll job) (Ok (haul_text census))
+    → IsCensus held.terms.job held.terms.ranges (numbers_in held.taken) census → IsRightForSet set (TellsAll job) (Ok (haul_text census))
 complete_right job set opened held census open_ h all is = record {
   ranges = open_.ranges;
   named = open_.named;
@@ -256,7 +259,7 @@ complete_right job set opened held census open_ h all is = record {
   };
 }
 
--- what is told of the ranges of a set if some numbers are missing
+-- what the text says of the ranges of a set if some numbers are missing
 abbrev stopped_text : (ℕ → ℕ → Type 0) → ℕ → Job → List Range → List ℕ → Type 0
 stopped_text may_stop missing job ranges text = MayStop may_stop ranges × TellsTaken job ranges missing text
 
@@ -266,7 +269,7 @@ pub stopped_told : {workers : ℕ} (may_stop : ℕ → ℕ → Type 0) (job : Jo
     → IsDistinct nat_eq (numbers_in held.taken) → missing ≡ length (missing_of held.terms.ranges held.taken)
     → ¬ IsComplete held.terms.ranges held.taken → ((worker : ℕ) × StopsAt may_stop (was_missing opened) worker)
     → IsCensus held.terms.job held.terms.ranges (numbers_in held.taken) census
-    → right_for_set set (stopped_text may_stop missing job) (Ok (haul_text census))
+    → IsRightForSet set (stopped_text may_stop missing job) (Ok (haul_text census))
 stopped_told may_stop job set opened held census missing open_ h within once many incomplete stops is = record {
   ranges = open_.ranges;
   named = open_.named;
@@ -301,53 +304,53 @@ taken_told may_stop plan held census missing h many none is = go missing many no
         → EndsCrew may_stop h.opened held
         → right_if (take_right plan) (stopped_right may_stop plan) n (Ok (haul_text census))
     go zero many none (inl whole) =
-        right_given plan (λ j. right_for_set plan.set (TellsAll j)) h.is.job (haul_text census) h.is.named
+        right_given plan (λ j. IsRightForSet plan.set (TellsAll j)) h.is.job (haul_text census) h.is.named
         (complete_right h.is.job plan.set h.opened held census h.is.opened h.grown whole.1 is)
     go zero many none (inr less) = absurd (less.0 (none.0 refl))
     go (suc n) many none (inl whole) = let bad = none.1 whole.0 in cc
     go (suc n) many none (inr less) =
-        right_given plan (λ j. right_for_set plan.set (stopped_text may_stop (suc n) j)) h.is.job (haul_text census) h.is.named
+        right_given plan (λ j. IsRightForSet plan.set (stopped_text may_stop (suc n) j)) h.is.job (haul_text census) h.is.named
         (stopped_told may_stop h.is.job plan.set h.opened held census (suc n) h.is.opened h.grown h.within h.once many less.0 (less.1, less.2) is)
 
 -- ---- how `take` ends
 
 -- a complaint that stops the command is what it ends with, with nothing on the output
-pub take_stops : (may_stop : ℕ → ℕ → Type 0) (plan : Plan) (known : Option (List ℕ)) (bytes : List ℕ)
+pub take_stops : (may_stop : ℕ → ℕ → Type 0) (plan : Plan) (reader : Option (List ℕ)) (bytes : List ℕ)
     (complaint : Complaint) (output errors : Stream) → Stops (take_right plan) complaint → Has output [] → IsUntouched errors
-    → Reaches (gated_task may_stop plan) known bytes (Err complaint) output errors
-take_stops may_stop plan known bytes (Refused refusal) output errors stops nothing still =
+    → Reaches (gated_task may_stop plan) reader bytes (Err complaint) output errors
+take_stops may_stop plan reader bytes (Refused refusal) output errors stops nothing still =
     (stops, record { nothing = nothing; silent = still.0; fine = still.1 })
-take_stops may_stop plan known bytes (Memory error) output errors stops nothing still =
-    record { hides = λ unread complaint is. stops complaint is; left = nothing; told = inl still.0; fine = still.1 }
-take_stops may_stop plan known bytes (ReadFailed error) output errors stops nothing still = absurd stops
-take_stops may_stop plan known bytes TooLong output errors stops nothing still = absurd stops
-take_stops may_stop plan known bytes (WriteFailed error) output errors stops nothing still = absurd stops
+take_stops may_stop plan reader bytes (Memory error) output errors stops nothing still =
+    record { hides = λ unread complaint is. stops complaint is; left = nothing; remarks = inl still.0; fine = still.1 }
+take_stops may_stop plan reader bytes (ReadFailed error) output errors stops nothing still = absurd stops
+take_stops may_stop plan reader bytes TooLong output errors stops nothing still = absurd stops
+take_stops may_stop plan reader bytes (WriteFailed error) output errors stops nothing still = absurd stops
 
 -- the haul that was taken, finished
-take_finishes : {workers : ℕ} (may_stop : ℕ → ℕ → Type 0) (plan : Plan) (known : Option (List ℕ))
+take_finishes : {workers : ℕ} (may_stop : ℕ → ℕ → Type 0) (plan : Plan) (reader : Option (List ℕ))
     (bytes : List ℕ) (held : Held) (outcome : Outcome) (output errors : Stream) → IsTaken may_stop plan workers held
     → (length (missing_of held.terms.ranges held.taken) ≡ 0) ↔ IsComplete held.terms.ranges held.taken → Finishes held outcome output → IsUntouched errors
-    → Reaches (gated_task may_stop plan) known bytes outcome output errors
-take_finishes may_stop plan known bytes held (Ok missing) output errors h none finished still =
+    → Reaches (gated_task may_stop plan) reader bytes outcome output errors
+take_finishes may_stop plan reader bytes held (Ok missing) output errors h none finished still =
     let zero_if : (missing ≡ 0) ↔ IsComplete held.terms.ranges held.taken =
     subst (λ (n : ℕ). (n ≡ 0) ↔ IsComplete held.terms.ranges held.taken) (sym finished.missing_is) none in
     record {
-      made = record { text = haul_text finished.census; told = []; missing = missing };
+      made = record { text = haul_text finished.census; remarks = []; missing = missing };
       is = (taken_told may_stop plan held finished.census missing h finished.missing_is zero_if finished.counted, refl);
       missing_is = refl;
       text = finished.text;
       written = finished.fine;
-      told = still.0;
+      remarks = still.0;
       fine = still.1;
     }
-take_finishes may_stop plan known bytes held (Err (Memory error)) output errors h none nothing still =
-    take_stops may_stop plan known bytes (Memory error) output errors (Stops_memory plan h.opened h.is)
+take_finishes may_stop plan reader bytes held (Err (Memory error)) output errors h none nothing still =
+    take_stops may_stop plan reader bytes (Memory error) output errors (Stops_memory plan h.opened h.is)
     nothing still
-take_finishes may_stop plan known bytes held (Err (WriteFailed error)) output errors h none half still =
+take_finishes may_stop plan reader bytes held (Err (WriteFailed error)) output errors h none half still =
     let many : ℕ = length (missing_of held.terms.ranges held.taken) in
     inl (record {
       left = (
-        record { text = haul_text half.census; told = []; missing = many },
+        record { text = haul_text half.census; remarks = []; missing = many },
         (taken_told may_stop plan held half.census many h refl none half.counted, refl),
         half.front,
         still.0,
@@ -355,25 +358,25 @@ take_finishes may_stop plan known bytes held (Err (WriteFailed error)) output er
       cut = half.cut;
       fine = still.1;
     })
-take_finishes may_stop plan known bytes held (Err (ReadFailed error)) output errors h none not still = absurd not
-take_finishes may_stop plan known bytes held (Err TooLong) output errors h none not still = absurd not
-take_finishes may_stop plan known bytes held (Err (Refused refusal)) output errors h none not still = absurd not
+take_finishes may_stop plan reader bytes held (Err (ReadFailed error)) output errors h none not still = absurd not
+take_finishes may_stop plan reader bytes held (Err TooLong) output errors h none not still = absurd not
+take_finishes may_stop plan reader bytes held (Err (Refused refusal)) output errors h none not still = absurd not
 
 -- the same, or memory ran out before the haul was complete
 pub take_ends : {workers : ℕ} {E : Type 0} (may_stop : ℕ → ℕ → Type 0) (plan : Plan)
-    (known : Option (List ℕ)) (bytes : List ℕ) (opened held : Held) (taken : Result (Unit {0}) E) (outcome : Outcome) (output errors : Stream)
+    (reader : Option (List ℕ)) (bytes : List ℕ) (opened held : Held) (taken : Result (Unit {0}) E) (outcome : Outcome) (output errors : Stream)
     → IsOpenedFor plan workers opened → HasTakenMore opened held → All (λ t. is_in held.terms.ranges t.1 ≡ true) held.taken
     → IsDistinct nat_eq (numbers_in held.taken) → IfOk taken (λ _. EndsCrew may_stop opened held)
     → IfOk taken (λ _. Finishes held outcome output)
     → IfOk taken (λ _. (length (missing_of held.terms.ranges held.taken) ≡ 0) ↔ IsComplete held.terms.ranges held.taken)
     → IfErr taken (λ _. (outcome ≡ Err (Memory out_of_memory)) × Has output []) → IsUntouched errors
-    → Reaches (gated_task may_stop plan) known bytes outcome output errors
-take_ends may_stop plan known bytes opened held (Ok u) outcome output errors is grown within once ends finishes none gives_up still =
-    take_finishes may_stop plan known bytes held outcome output errors
+    → Reaches (gated_task may_stop plan) reader bytes outcome output errors
+take_ends may_stop plan reader bytes opened held (Ok u) outcome output errors is grown within once ends finishes none gives_up still =
+    take_finishes may_stop plan reader bytes held outcome output errors
     (record { opened = opened; is = is; grown = grown; within = within; once = once; ends = ends }) none finishes still
-take_ends may_stop plan known bytes opened held (Err e) outcome output errors is grown within once ends finishes none gives_up still =
-    subst (λ (o : Outcome). Reaches (gated_task may_stop plan) known bytes o output errors) (sym gives_up.0)
-    (take_stops may_stop plan known bytes (Memory out_of_memory) output errors (Stops_memory plan opened is) gives_up.1 still)
+take_ends may_stop plan reader bytes opened held (Err e) outcome output errors is grown within once ends finishes none gives_up still =
+    subst (λ (o : Outcome). Reaches (gated_task may_stop plan) reader bytes o output errors) (sym gives_up.0)
+    (take_stops may_stop plan reader bytes (Memory out_of_memory) output errors (Stops_memory plan opened is) gives_up.1 still)
 
 -- a gate that stops nobody stops no haul
 never_right : (may_stop : ℕ → ℕ → Type 0) (plan : Plan) (missing : ℕ) (text : List ℕ)
@@ -381,8 +384,8 @@ never_right : (may_stop : ℕ → ℕ → Type 0) (plan : Plan) (missing : ℕ) 
 never_right may_stop plan missing text never = go (job_named plan)
   where
     go : (r : Result Job Complaint)
-        → given_right r (λ job. right_for_set plan.set (stopped_text may_stop missing job)) (Ok text) → ⊥
-    go (Ok job) told = let stops = told.is_text.0 in never stops.0 stops.1 stops.3
+        → IsRightGiven r (λ job. IsRightForSet plan.set (stopped_text may_stop missing job)) (Ok text) → ⊥
+    go (Ok job) remarks = let stops = remarks.is_text.0 in never stops.0 stops.1 stops.3
     go (Err complaint) is = cc
 
 -- so what it makes is a text alone
@@ -396,13 +399,13 @@ never_less may_stop plan made never is = go made.missing refl is.0
     go zero none right = (right, is.1, none)
     go (suc n) some right = absurd (never_right may_stop plan (suc n) made.text never right)
 
-pub never_stopped : (may_stop : ℕ → ℕ → Type 0) (plan : Plan) (known : Option (List ℕ)) (bytes : List ℕ)
+pub never_stopped : (may_stop : ℕ → ℕ → Type 0) (plan : Plan) (reader : Option (List ℕ)) (bytes : List ℕ)
     (status : Status) (output errors : Stream) → ((worker n : ℕ) → may_stop worker n → ⊥)
-    → Ends (gated_task may_stop plan) known bytes status output errors
-    → Ends (take_task plan) known bytes status output errors
-never_stopped may_stop plan known bytes status output errors never ends = record {
+    → Ends (gated_task may_stop plan) reader bytes status output errors
+    → Ends (take_task plan) reader bytes status output errors
+never_stopped may_stop plan reader bytes status output errors never ends = record {
   outcome = ends.outcome;
-  between = ends.between;
+  so_far = ends.so_far;
   from = ends.from;
   reached = go ends.outcome ends.reached;
   stays = ends.stays;
@@ -416,21 +419,64 @@ never_stopped may_stop plan known bytes status output errors never ends = record
     whole : Task
     whole = take_task plan
 
-    go : (outcome : Outcome) → Reaches gated known bytes outcome output ends.between → Reaches whole known bytes outcome output ends.between
+    go : (outcome : Outcome) → Reaches gated reader bytes outcome output ends.so_far → Reaches whole reader bytes outcome output ends.so_far
     go (Ok missing) is = record {
       made = is.made;
       is = never_less may_stop plan is.made never is.is;
       missing_is = is.missing_is;
       text = is.text;
       written = is.written;
-      told = is.told;
+      remarks = is.remarks;
       fine = is.fine;
     }
     go (Err (Refused refusal)) is = is
-    go (Err (Memory error)) is = record { hides = is.hides; left = is.left; told = is.told; fine = is.fine }
+    go (Err (Memory error)) is = record { hides = is.hides; left = is.left; remarks = is.remarks; fine = is.fine }
     go (Err (ReadFailed error)) is = record { reads = is.reads; begun = is.begun; nothing = is.nothing; fine = is.fine }
     go (Err TooLong) (right, is) = (right, record { reads = is.reads; begun = is.begun; nothing = is.nothing; fine = is.fine })
     go (Err (WriteFailed error)) (inl is) =
-        let (made, right, front, told) = is.left in
-        inl (record { left = (made, never_less may_stop plan made never right, front, told); cut = is.cut; fine = is.fine })
+        let (made, right, front, remarks) = is.left in
+        inl (record { left = (made, never_less may_stop plan made never right, front, remarks); cut = is.cut; fine = is.fine })
     go (Err (WriteFailed error)) (inr is) = absurd is.tells
+
+-- ---- the same without a task
+
+-- what is right for a plan is the census of its job over its set
+prints_right : (plan : Plan) (text : List ℕ) (before after : Option (List ℕ)) → take_right plan (Ok text)
+    → Appends before after text → PrintsCensus plan before after
+prints_right plan text before after right grown = go (job_named plan) refl right
+  where
+    go : (named : Result Job Complaint) → job_named plan ≡ named
+        → IsRightGiven named (λ job. IsRightForSet plan.set (TellsAll job)) (Ok text) → PrintsCensus plan before after
+    go (Ok job) is remarks =
+        let tells = remarks.is_text in record {
+          job = job;
+          job_is = is;
+          ranges = remarks.ranges;
+          named = remarks.named;
+          numbers = tells.numbers;
+          all = tells.all;
+          normal = tells.normal;
+          form = tells.form;
+          census = tells.census;
+          counted = tells.counted;
+          grown = subst (Appends before after) tells.text_is grown;
+        }
+    go (Err complaint) is remarks = cc
+
+-- no complaint has the status of a command that was done
+not_done : (complaint : Complaint) → status_of complaint ≡ statuses.Done → ⊥
+not_done (Refused refusal) is = cc
+not_done (Memory error) is = cc
+not_done (ReadFailed error) is = cc
+not_done TooLong is = cc
+not_done (WriteFailed error) is = cc
+
+pub prints_census : (plan : Plan) (reader : Option (List ℕ)) (bytes : List ℕ) (status : Status) (output errors : Stream)
+    → Ends (take_task plan) reader bytes status output errors → status ≡ statuses.Done
+    → PrintsCensus plan output.before output.after
+prints_census plan reader bytes status output errors ends done = go ends.outcome ends.reached (sym ends.status_is ∙ done)
+  where
+    go : (outcome : Outcome) → Reaches (take_task plan) reader bytes outcome output ends.so_far
+        → status_after outcome ≡ statuses.Done → PrintsCensus plan output.before output.after
+    go (Ok missing) is done = prints_right plan is.made.text output.before output.after is.is.0 is.text
+    go (Err complaint) is done = absurd (not_done complaint done)

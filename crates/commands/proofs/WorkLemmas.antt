@@ -1,11 +1,12 @@
 -- Reports one after another, and that their lines are those of every right text.
 use Rattle.std.proofs.Common.{◌≡◌, ◌∙◌, ◌+◌, ◌-◌, ◌<◌, ◌≤◌, ◌++◌, ℕ, zero, suc, Bool, true, false, List, [], ◌∷◌, Option, Ok, Err, flat_map, refl, sym, ap, ap₂}
-use Rattle.std.proofs.Common.{length, take, drop, get_or, subst, arith, append_assoc, append-nil, add-zero, zero-add}
+use Rattle.std.proofs.Common.{IfErr, length, take, drop, get_or, inr, subst, arith, append_assoc, append-nil, add-zero, zero-add}
 use Rattle.std.proofs.lemmas.List.{take-append-drop, take_more}
 use Rattle.std.proofs.lemmas.List.Concat.{flat_map-append}
 use Rattle.std.specs.List.{range_with_len}
 use Rattle.std.specs.Io.KnownBytes.{Appends}
 use Rattle.memory.specs.declared.OutOfMemory.{OutOfMemory}
+use Rattle.memory.specs.Evidence.{out_of_memory}
 use Rattle.plane_core.specs.declared.output.WriteError.{WriteError}
 use Rattle.plane_core.proofs.OutLemmas.{Appends-append, Appends-nil, AppendsFront-append, AppendsFront-longer}
 use Rattle.survey_core.specs.declared.job.Job.{Job}
@@ -22,13 +23,13 @@ use Rattle.pattern_commands.specs.declared.complaint.Complaint.TheVariants.{Refu
 use Rattle.commands.specs.declared.plan.Plan.{Plan}
 use Rattle.commands.specs.declared.soup_set.SoupSet.{SoupSet}
 use Rattle.pattern_commands.specs.Answers.{Answer, Right, output_text}
-use Rattle.commands.specs.SoupSets.{Bad_list, Overlapping, Too_large, right_for_set}
+use Rattle.commands.specs.SoupSets.{Bad_list, Overlapping, Too_large, IsRightForSet}
 use Rattle.pattern_commands.specs.Streams.{Stream, Has, HasFront}
 use Rattle.haul_core.specs.Missing.{numbers_of_range, numbers_of}
 use Rattle.commands.specs.TakeSteps.{IsOpened, IsOpenedFor}
 use Rattle.pattern_commands.specs.TextSteps.{ReachesText, TextOutcome}
 use Rattle.commands.specs.Work.{AreReportsOn, IsReportOn, TellsReports, work_right}
-use Rattle.commands.specs.WorkSteps.{IsBegun, Puts, reports_on}
+use Rattle.commands.specs.WorkSteps.{EndsAtLine, IsBegun, Puts, reports_on}
 use Rattle.commands.proofs.NumberLemmas.{range_more}
 use Rattle.commands.proofs.TakeLemmas.{listed}
 
@@ -47,15 +48,15 @@ each-append job worker (n ∷ ns) ms [] ss one two = absurd one
 each-append job worker (n ∷ ns) ms (r ∷ rs) ss one two = (one.0, each-append job worker ns ms rs ss one.1 two)
 
 -- no reports on no numbers
-pub puts_nothing : (job : Job) (worker : ℕ) (known : Option (List ℕ)) (failed : Bool) → failed ≡ false
-    → Puts (reports_on job worker []) (Ok tt) (over known known failed)
-puts_nothing job worker known failed fine = record { reports = []; each = tt; is_written = Appends-nil known; fine = fine }
+pub puts_nothing : (job : Job) (worker : ℕ) (reader : Option (List ℕ)) (failed : Bool) → failed ≡ false
+    → Puts (reports_on job worker []) (Ok tt) (over reader reader failed)
+puts_nothing job worker reader failed fine = record { reports = []; each = tt; is_written = Appends-nil reader; fine = fine }
 
 -- memory that runs out over the first of them
-pub puts_no_memory : (job : Job) (worker : ℕ) (numbers : List ℕ) (known : Option (List ℕ)) (failed : Bool) (error : OutOfMemory)
-    → Puts (reports_on job worker numbers) (Err (Memory error)) (over known known failed)
-puts_no_memory job worker numbers known failed error =
-    record { done = []; more = numbers; parts = refl; reports = []; each = tt; is_written = Appends-nil known }
+pub puts_no_memory : (job : Job) (worker : ℕ) (numbers : List ℕ) (reader : Option (List ℕ)) (failed : Bool) (error : OutOfMemory)
+    → Puts (reports_on job worker numbers) (Err (Memory error)) (over reader reader failed)
+puts_no_memory job worker numbers reader failed error =
+    record { done = []; more = numbers; parts = refl; reports = []; each = tt; is_written = Appends-nil reader }
 
 -- a report on one number
 pub puts_one : (job : Job) (worker n : ℕ) (report : Reported) (output : Stream) → IsReportOn job worker n report → Has output (report_text report)
@@ -70,7 +71,7 @@ puts_one job worker n report output is wrote fine = record {
 -- and one that could not be written whole
 pub puts_failed : (job : Job) (worker n : ℕ) (report : Reported) (output : Stream) (error : WriteError) → IsReportOn job worker n report → HasFront output (report_text report)
     → output.failed ≡ true → Puts (reports_on job worker (n ∷ [])) (Err (WriteFailed error)) output
-puts_failed job worker n report output error is wrote told = (
+puts_failed job worker n report output error is wrote remarks = (
   record {
     done = n ∷ [];
     more = [];
@@ -79,7 +80,7 @@ puts_failed job worker n report output error is wrote told = (
     each = (is, tt);
     is_written = subst (HasFront output) (sym (append-nil (report_text report))) wrote;
   },
-  told,
+  remarks,
 )
 
 -- reports on some numbers and then on others
@@ -102,7 +103,7 @@ puts_then job worker ns ms (Err (Memory error)) x y z was failed one two = recor
   is_written = subst (Appends x z) (sym (lines-append one.reports two.reports))
       (Appends-append x y z (flat_map report_text one.reports) (flat_map report_text two.reports) one.is_written two.is_written);
 }
-puts_then job worker ns ms (Err (WriteFailed error)) x y z was failed one (two, told) = (
+puts_then job worker ns ms (Err (WriteFailed error)) x y z was failed one (two, remarks) = (
   record {
     done = ns ++ two.done;
     more = two.more;
@@ -112,7 +113,7 @@ puts_then job worker ns ms (Err (WriteFailed error)) x y z was failed one (two, 
     is_written = subst (HasFront (over x z failed)) (sym (lines-append one.reports two.reports))
         (AppendsFront-append x y z (flat_map report_text one.reports) (flat_map report_text two.reports) one.is_written two.is_written);
   },
-  told,
+  remarks,
 )
 puts_then job worker ns ms (Err (ReadFailed error)) x y z was failed one two = absurd two
 puts_then job worker ns ms (Err TooLong) x y z was failed one two = absurd two
@@ -130,7 +131,7 @@ puts_stops job worker ns ms (Memory error) output h = record {
   each = h.each;
   is_written = h.is_written;
 }
-puts_stops job worker ns ms (WriteFailed error) output (h, told) = (
+puts_stops job worker ns ms (WriteFailed error) output (h, remarks) = (
   record {
     done = h.done;
     more = h.more ++ ms;
@@ -139,7 +140,7 @@ puts_stops job worker ns ms (WriteFailed error) output (h, told) = (
     each = h.each;
     is_written = h.is_written;
   },
-  told,
+  remarks,
 )
 puts_stops job worker ns ms (ReadFailed error) output h = absurd h
 puts_stops job worker ns ms TooLong output h = absurd h
@@ -229,10 +230,10 @@ first_reports determined job worker (n ∷ done) more (r ∷ rs) (s ∷ all) eac
 record Tells (job : Job) (worker : ℕ) (numbers : List ℕ) (answer : Answer) : Type 0 where
   pub reports : List Reported
   pub each : AreReportsOn job worker numbers reports
-  pub told : answer ≡ Ok (flat_map report_text reports)
+  pub remarks : answer ≡ Ok (flat_map report_text reports)
 
 only_text : {workers : ℕ} → OneNormalForm → (job : Job) (worker : ℕ) (set : SoupSet) (held : Held) → IsOpened job set workers held → (answer : Answer)
-    → right_for_set set (TellsReports job worker) answer → Tells job worker (numbers_of held.terms.ranges) answer
+    → IsRightForSet set (TellsReports job worker) answer → Tells job worker (numbers_of held.terms.ranges) answer
 only_text one_form job worker set held opened (Ok text) is =
     let same : is.ranges ≡ opened.ranges = opened.only is.ranges is.named in
     let tells = is.is_text in
@@ -242,13 +243,13 @@ only_text one_form job worker set held opened (Ok text) is =
     record {
       reports = tells.reports;
       each = subst (λ (rs : List Range). AreReportsOn job worker (numbers_of rs) tells.reports) forms tells.each;
-      told = ap Ok tells.text_is;
+      remarks = ap Ok tells.text_is;
     }
-only_text one_form job worker set held opened (Err (Refused refusal)) (Bad_list not_list place fault told) = absurd (not_list
+only_text one_form job worker set held opened (Err (Refused refusal)) (Bad_list not_list place fault remarks) = absurd (not_list
     (listed set opened.ranges opened.named))
-only_text one_form job worker set held opened (Err (Refused refusal)) (Too_large ranges named large told) =
+only_text one_form job worker set held opened (Err (Refused refusal)) (Too_large ranges named large remarks) =
     absurd (large (subst AreSmall (sym (opened.only ranges named)) opened.small))
-only_text one_form job worker set held opened (Err (Refused refusal)) (Overlapping ranges named small overlap told) =
+only_text one_form job worker set held opened (Err (Refused refusal)) (Overlapping ranges named small overlap remarks) =
     absurd (opened.apart (subst Overlap (opened.only ranges named) overlap))
 only_text one_form job worker set held opened (Err (Memory error)) is = absurd is
 only_text one_form job worker set held opened (Err (ReadFailed error)) is = absurd is
@@ -263,7 +264,7 @@ front_of determined job worker numbers answer output tells begun =
     let remainder = first_reports determined job worker begun.done begun.more begun.reports tells.reports begun.each every in
     let lines : flat_map report_text tells.reports ≡ flat_map report_text begun.reports ++ flat_map report_text remainder.0 =
     ap (flat_map report_text) remainder.1 ∙ lines-append begun.reports remainder.0 in
-    let is : output_text answer ≡ flat_map report_text begun.reports ++ flat_map report_text remainder.0 = ap output_text tells.told ∙ lines in
+    let is : output_text answer ≡ flat_map report_text begun.reports ++ flat_map report_text remainder.0 = ap output_text tells.remarks ∙ lines in
     subst (HasFront output) (sym is)
     (AppendsFront-longer output.before output.after (flat_map report_text begun.reports) (flat_map report_text remainder.0) begun.is_written)
 
@@ -300,30 +301,50 @@ reaches_work determined one_form plan worker held outcome output is puts =
 
     never : (complaint : Complaint) → right (Err complaint) → ⊥
     never complaint is =
-        let told = (tells (Err complaint) is).told in
+        let remarks = (tells (Err complaint) is).remarks in
         cc
 
     go : (o : TextOutcome) → Puts (reports_on job worker (numbers_of held.terms.ranges)) o output
         → ReachesText false false right o output
     go (Ok u) put =
         let text : List ℕ = flat_map report_text put.reports in
-        let told : right_for_set plan.set (TellsReports job worker) (Ok text) = record {
+        let remarks : IsRightForSet plan.set (TellsReports job worker) (Ok text) = record {
           ranges = is.opened.ranges;
           named = is.opened.named;
           small = is.opened.small;
           apart = is.opened.apart;
           is_text = record { normal = held.terms.ranges; form = is.opened.form; reports = put.reports; each = put.each; text_is = refl };
         } in
-        ((text, rw is.named told, put.is_written), put.fine)
+        ((text, rw is.named remarks, put.is_written), put.fine)
     go (Err (Memory error)) begun = (
       λ unread complaint is. absurd (never complaint is),
       λ answer is. front_of determined job worker (numbers_of held.terms.ranges) answer output (tells answer is)
           (begun_whole job worker (numbers_of held.terms.ranges) output begun),
     )
-    go (Err (WriteFailed error)) (begun, told) = (
+    go (Err (WriteFailed error)) (begun, remarks) = (
       (never, λ text is. front_of determined job worker (numbers_of held.terms.ranges) (Ok text) output (tells (Ok text) is) begun),
-      told,
+      remarks,
     )
     go (Err (ReadFailed error)) put = absurd put
     go (Err TooLong) put = absurd put
     go (Err (Refused refusal)) put = absurd put
+
+-- if memory ran out over a set that was opened, whole lines were written
+pub whole_lines : {workers : ℕ} (plan : Plan) (worker : ℕ) (held : Held) (outcome : TextOutcome) (output : Stream)
+    → IsOpenedFor plan workers held
+    → Puts (reports_on held.terms.job worker (numbers_of held.terms.ranges)) outcome output
+    → IfErr outcome (λ complaint. complaint ≡ Memory out_of_memory → EndsAtLine plan worker output)
+whole_lines plan worker held (Ok u) output is puts = tt
+whole_lines plan worker held (Err (Memory error)) output is begun = λ _. inr (record {
+  job = is.job;
+  job_is = is.named;
+  ranges = is.opened.ranges;
+  named = is.opened.named;
+  normal = held.terms.ranges;
+  form = is.opened.form;
+  begun = subst (λ (j : Job). IsBegun (reports_on j worker (numbers_of held.terms.ranges)) (Has output)) is.opened.job_is begun;
+})
+whole_lines plan worker held (Err (WriteFailed error)) output is puts = λ bad. cc
+whole_lines plan worker held (Err (ReadFailed error)) output is puts = absurd puts
+whole_lines plan worker held (Err TooLong) output is puts = absurd puts
+whole_lines plan worker held (Err (Refused refusal)) output is puts = absurd puts

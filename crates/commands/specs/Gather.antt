@@ -11,13 +11,13 @@ use Rattle.commands.specs.SoupSets.{job_named}
 abbrev pub gather_reads : Plan → Bool
 gather_reads plan = is_ok (job_named plan)
 
--- a haul was opened, and what stands on standard error is what is told of the first lines
-pub record BeginsHaul (opens : Hauls) (known before after : Option (List ℕ)) : Type 0 where
+-- a haul was opened, and standard error has the remarks on the first lines
+pub record BeginsHaul (opens : Hauls) (reader before after : Option (List ℕ)) : Type 0 where
   pub terms : Terms
   pub opened : opens terms
-  pub begun : HasBegun terms known before after
+  pub begun : HasBegun terms reader before after
 
--- to gather report lines over a set: only a haul that was opened is told lines
+-- to gather report lines over a set: there are remarks on lines only if a haul was opened
 abbrev pub gather_task : Plan → ℕ → Task
 gather_task plan workers = record {
   right = gather_right plan workers;

@@ -10,59 +10,67 @@ use Rattle.pattern_commands.specs.Streams.{Stream, Has}
 use Rattle.commands.specs.declared.lines.LineEnd.{LineEnd}
 use Rattle.commands.specs.declared.lines.LineEnd.TheVariants.{Feed, Input}
 use Rattle.commands.specs.Lines.{input_lines}
-use Rattle.commands.specs.LinesSoFar.{AreEnded, HasBegun, HasCome}
+use Rattle.commands.specs.LinesSoFar.{AreEnded, HasBegunUpTo, HasCome}
 
 -- How far gathering is: the input at its start and what is left of it, standard error from the start on, and how many
 -- lines and bytes were read.
 pub record Passage : Type 0 where
-  pub known : Option (List ℕ)
+  pub reader : Option (List ℕ)
   pub left : Option (List ℕ)
   pub errors : Stream
   pub count : ℕ
   pub size : ℕ
 
--- The lines that were read have come to the haul, and standard error has what is told of them.
-pub record HasGathered (passage : Passage) (held : Held) : Type 0 where
+-- The lines that were read have come to the haul, and standard error has the remarks on them.
+pub record HasGatheredLines (passage : Passage) (held : Held) : Type 0 where
   pub read : List ℕ
   pub lines : List (List ℕ)
-  pub told : List ℕ
-  pub consumed : Consumes passage.known passage.left read
+  pub remarks : List ℕ
+  pub consumed : Consumes passage.reader passage.left read
   pub ended : AreEnded read lines
   pub count_is : passage.count ≡ length lines
   pub size_is : passage.size ≡ length read
-  pub come : HasCome lines held told
-  pub written : Has passage.errors told
+  pub come : HasCome lines held remarks
+  pub written : Has passage.errors remarks
 
--- All lines of an input of so many bytes have come to the haul, and standard error has what is told of them.
-pub record HasGatheredAll (known : Option (List ℕ)) (errors : Stream) (size : ℕ) (held : Held) : Type 0 where
+-- All lines of an input of so many bytes have come to the haul, and standard error has the remarks on them.
+pub record HasGatheredAll (reader left : Option (List ℕ)) (errors : Stream) (size : ℕ) (held : Held) : Type 0 where
   pub bytes : List ℕ
-  pub input : IsInput known bytes
+  pub input : IsInput reader bytes
+  pub consumed : Consumes reader left bytes
   pub size_is : size ≡ length bytes
-  pub told : List ℕ
-  pub come : HasCome (input_lines bytes) held told
-  pub written : Has errors told
+  pub remarks : List ℕ
+  pub come : HasCome (input_lines bytes) held remarks
+  pub written : Has errors remarks
 
--- there may be more lines, or all have come
-abbrev pub GoesOn : Passage → Held → LineEnd → Type 0
-GoesOn passage held Feed = HasGathered passage held
-GoesOn passage held Input = HasGatheredAll passage.known passage.errors passage.size held
+-- the lines up to here have come: after a line feed there may be more, and at the end of the input all have
+abbrev pub HasGatheredTo : Passage → Held → LineEnd → Type 0
+HasGatheredTo passage held Feed = HasGatheredLines passage held
+HasGatheredTo passage held Input = HasGatheredAll passage.reader passage.left passage.errors passage.size held
 
 -- all lines of an input that isn't too long have come
 abbrev pub HasGatheredShort : Option (List ℕ) → Stream → Held → Type 0
-HasGatheredShort known errors held = (size : ℕ) × (size ≤ 2 ^ 32) × HasGatheredAll known errors size held
+HasGatheredShort reader errors held =
+    (size : ℕ) × (size ≤ 2 ^ 32) × (left : Option (List ℕ)) × HasGatheredAll reader left errors size held
 
 -- the input has over 2^32 bytes, if they are known
 abbrev pub IsTooLong : Option (List ℕ) → Type 0
-IsTooLong known = IfSome known (λ bytes. 2 ^ 32 < length bytes)
+IsTooLong reader = IfSome reader (λ bytes. 2 ^ 32 < length bytes)
 
--- what stands on standard error where a complaint ends the lines of an input
-abbrev pub EndsLines : Terms → Option (List ℕ) → Stream → Complaint → Type 0
-EndsLines terms known errors (Memory error) = HasBegun terms known errors.before errors.after × (errors.failed ≡ false)
-EndsLines terms known errors (ReadFailed error) = HasBegun terms known errors.before errors.after × (errors.failed ≡ false)
-EndsLines terms known errors TooLong =
-    HasBegun terms known errors.before errors.after × (errors.failed ≡ false) × IsTooLong known
-EndsLines terms known errors (WriteFailed error) = errors.failed ≡ true
-EndsLines terms known errors (Refused refusal) = ⊥
+-- What standard error has where a complaint ends the lines of an input of which this is left: the remarks on all lines before.
+abbrev pub EndsLines : Terms → (reader left : Option (List ℕ)) → Stream → Complaint → Type 0
+EndsLines terms reader left errors (Memory error) =
+    HasBegunUpTo terms reader left errors.before errors.after × (errors.failed ≡ false)
+EndsLines terms reader left errors (ReadFailed error) =
+    HasBegunUpTo terms reader left errors.before errors.after × (errors.failed ≡ false)
+EndsLines terms reader left errors TooLong =
+    HasBegunUpTo terms reader left errors.before errors.after × (errors.failed ≡ false) × IsTooLong reader
+EndsLines terms reader left errors (WriteFailed error) = errors.failed ≡ true
+EndsLines terms reader left errors (Refused refusal) = ⊥
+
+-- the same, whatever is left
+abbrev pub EndsLinesSomewhere : Terms → Option (List ℕ) → Stream → Complaint → Type 0
+EndsLinesSomewhere terms reader errors complaint = (left : Option (List ℕ)) × EndsLines terms reader left errors complaint
 
 -- a complaint over one line that was read: nothing was written, or a write failed
 abbrev pub EndsLine : {V : Type 0} → Output V → Output V → Complaint → Type 0

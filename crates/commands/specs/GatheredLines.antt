@@ -44,20 +44,20 @@ pub data IsLookedAt (job : Job) (line : List ℕ) : Result Reported LineFault �
   Whole : {outcome : Result Reported LineFault} → length line ≤ 2 ^ 24 → IsChecked job line outcome → IsLookedAt job line outcome
   Front : (place : ℕ) → 2 ^ 24 < length line → IsFrontFault (take (2 ^ 24) line) place → IsLookedAt job line (Err (BadLine place))
 
--- what is told of a report that a haul refuses; a haul that is open refuses no report of its job in other ways
+-- the fault of a line whose report a haul refuses; a haul that is open refuses no report of its job in other ways
 abbrev pub offer_fault : Reported → Option OfferError → Option LineFault
 offer_fault report (Some offer_error.UnknownWorker) = Some (UnknownWorker report.worker)
 offer_fault report (Some offer_error.OutOfRange) = Some (OutOfRange report.number)
 offer_fault report (Some (offer_error.Double worker)) = Some (Double report.number worker)
 offer_fault report _ = None
 
--- What becomes of a line after some arrivals: what arrives by it, and the fault that is told of it, if there is one.
+-- What becomes of a line after some arrivals: what arrives by it, and the fault that is reported of it, if there is one.
 pub data ComesOf (terms : Terms) (before : List Arrival) (line : List ℕ) : List Arrival → Option LineFault → Type 0 where
   Faulty : (fault : LineFault) → IsLookedAt terms.job line (Err fault) → ComesOf terms before line [] (Some fault)
   Offered : (report : Reported) → IsLookedAt terms.job line (Ok report)
       → ComesOf terms before line (Offer report ∷ []) (offer_fault report (refusal_of terms before report))
 
--- what is told of a fault
+-- the words for a fault
 abbrev pub fault_text : LineFault → List ℕ
 fault_text (BadLine place) = codes "bad line at " ++ decimal place
 fault_text OtherJob = codes "other job"
@@ -66,7 +66,7 @@ fault_text (UnknownWorker worker) = codes "unknown worker " ++ decimal worker
 fault_text (OutOfRange number) = codes "out of range " ++ decimal number
 fault_text (Double number worker) = codes "double of " ++ decimal number ++ (codes " by " ++ decimal worker)
 
--- what is told of line `number`, counted from 1
+-- the remark on line `number`, counted from 1
 abbrev pub fault_line : ℕ → LineFault → List ℕ
 fault_line number fault = codes "line " ++ decimal number ++ (codes ": " ++ (fault_text fault ++ codes "\n"))
 
@@ -74,9 +74,9 @@ abbrev pub told_fault : ℕ → Option LineFault → List ℕ
 told_fault number None = []
 told_fault number (Some fault) = fault_line number fault
 
--- Lines one after another, at a haul to which nothing has come: what arrives, and what is told of them.
+-- Lines one after another, at a haul to which nothing has come: what arrives, and the remarks on them.
 pub data Gathered (terms : Terms) : List (List ℕ) → List Arrival → List ℕ → Type 0 where
   Start : Gathered terms [] [] []
-  Next : (lines : List (List ℕ)) (before : List Arrival) (told : List ℕ) (line : List ℕ) (arrived : List Arrival) (fault : Option LineFault)
-      → Gathered terms lines before told → ComesOf terms before line arrived fault
-      → Gathered terms (lines ++ line ∷ []) (before ++ arrived) (told ++ told_fault (suc (length lines)) fault)
+  Next : (lines : List (List ℕ)) (before : List Arrival) (remarks : List ℕ) (line : List ℕ) (arrived : List Arrival) (fault : Option LineFault)
+      → Gathered terms lines before remarks → ComesOf terms before line arrived fault
+      → Gathered terms (lines ++ line ∷ []) (before ++ arrived) (remarks ++ told_fault (suc (length lines)) fault)

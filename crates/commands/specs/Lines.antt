@@ -43,6 +43,7 @@ pub record HasReadLine (old new : Option (List ℕ)) (kept : List ℕ) (read : L
   pub short : read.size ≤ 2 ^ 32
   pub last : read.end ≡ Input → IsSpent old new
 
+-- the bytes that end a piece, if a line ends with it
 abbrev pub piece_end : Option LineEnd → List ℕ
 piece_end None = []
 piece_end (Some end) = end_bytes end
@@ -61,3 +62,10 @@ pub record HasPiece (old new : Option (List ℕ)) (piece : List ℕ) (read : Pie
   pub consumed : Consumes old new (piece ++ piece_end read.end)
   pub size_is : read.size ≡ length (piece ++ piece_end read.end)
   pub last : read.end ≡ Some Input → IsSpent old new
+
+-- no more than one line was read of an input, or a part of it
+pub record HasReadPart (old new : Option (List ℕ)) : Type 0 where
+  pub line : List ℕ
+  pub end : Option LineEnd
+  pub one : IsOneLine line
+  pub consumed : Consumes old new (line ++ piece_end end)

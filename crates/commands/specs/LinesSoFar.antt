@@ -1,6 +1,6 @@
 -- The lines of an input that have come to a haul so far.
-use Rattle.std.specs.Prelude.{◌≡◌, ◌++◌, ℕ, List, All, IfSome, Option, flat_map}
-use Rattle.std.specs.Io.KnownBytes.{Appends}
+use Rattle.std.specs.Prelude.{◌≡◌, ◌≤◌, ◌++◌, ℕ, List, All, IfSome, Option, flat_map, length}
+use Rattle.std.specs.Io.KnownBytes.{Appends, Consumes}
 use Rattle.haul_core.specs.declared.book.arrival.Arrival.{Arrival}
 use Rattle.haul_core.specs.Books.{Held, StandsFor, Terms}
 use Rattle.pattern_commands.specs.Streams.{Stream, Has}
@@ -13,24 +13,33 @@ pub record AreEnded (bytes : List ℕ) (lines : List (List ℕ)) : Type 0 where
   pub spelled : bytes ≡ flat_map (with_end Feed) lines
   pub whole : All IsOneLine lines
 
--- the lines have come to the haul, and this was told of them
-pub record HasCome (lines : List (List ℕ)) (held : Held) (told : List ℕ) : Type 0 where
+-- the lines have come to the haul, with these remarks on them
+pub record HasCome (lines : List (List ℕ)) (held : Held) (remarks : List ℕ) : Type 0 where
   pub arrivals : List Arrival
-  pub gathered : Gathered held.terms lines arrivals told
+  pub gathered : Gathered held.terms lines arrivals remarks
   pub stands : StandsFor arrivals held
 
--- The lines have come to the haul. This was told of them before, and what else is told of them was added to standard
--- error.
-pub record HasComeBy (lines : List (List ℕ)) (held : Held) (told : List ℕ) (errors : Stream) : Type 0 where
+-- The lines have come to the haul. These were the remarks before, and the others were added to standard error.
+pub record HasComeBy (lines : List (List ℕ)) (held : Held) (remarks : List ℕ) (errors : Stream) : Type 0 where
   pub more : List ℕ
-  pub come : HasCome lines held (told ++ more)
+  pub come : HasCome lines held (remarks ++ more)
   pub written : Has errors more
 
--- The first lines of an input have come to a haul, and standard error has what is told of them.
-pub record HasBegun (terms : Terms) (known before after : Option (List ℕ)) : Type 0 where
+-- An input was read up to here, and its first lines have come to a haul: all of what was read, but perhaps the last, at which it
+-- ended. Standard error has the remarks on those that have come.
+pub record HasBegunUpTo (terms : Terms) (reader left before after : Option (List ℕ)) : Type 0 where
+  pub read : List ℕ
+  pub consumed : Consumes reader left read
   pub lines : List (List ℕ)
-  pub first : IfSome known (λ bytes. (more : List (List ℕ)) × (input_lines bytes ≡ lines ++ more))
+  pub last : List (List ℕ)
+  pub all : input_lines read ≡ lines ++ last
+  pub one : length last ≤ 1
+  pub first : IfSome reader (λ bytes. (more : List (List ℕ)) × (input_lines bytes ≡ lines ++ more))
   pub arrivals : List Arrival
-  pub told : List ℕ
-  pub gathered : Gathered terms lines arrivals told
-  pub written : Appends before after told
+  pub remarks : List ℕ
+  pub gathered : Gathered terms lines arrivals remarks
+  pub written : Appends before after remarks
+
+-- the same, wherever it ended
+abbrev pub HasBegun : Terms → (reader before after : Option (List ℕ)) → Type 0
+HasBegun terms reader before after = (left : Option (List ℕ)) × HasBegunUpTo terms reader left before after

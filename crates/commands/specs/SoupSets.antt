@@ -39,7 +39,7 @@ pub data IsRefused (set : SoupSet) (refusal : Refusal) : Type 0 where
   Too_large : (ranges : List Range) → AreRangesOf set ranges → ¬ AreSmall ranges → refusal ≡ RangeTooLarge → IsRefused set refusal
   Overlapping : (ranges : List Range) → AreRangesOf set ranges → AreSmall ranges → Overlap ranges → refusal ≡ RangesOverlap → IsRefused set refusal
 
--- the ranges of a set are fine, and the text is one that is to be told of them
+-- the ranges of a set are fine, and the text says of them what it should
 pub record IsTextOf (set : SoupSet) (tells : List Range → List ℕ → Type 0) (text : List ℕ) : Type 0 where
   pub ranges : List Range
   pub named : AreRangesOf set ranges
@@ -47,11 +47,11 @@ pub record IsTextOf (set : SoupSet) (tells : List Range → List ℕ → Type 0)
   pub apart : ¬ Overlap ranges
   pub is_text : tells ranges text
 
--- which answer is right for a set, where this is to be told of its ranges
-abbrev pub right_for_set : SoupSet → (List Range → List ℕ → Type 0) → Right
-right_for_set set tells (Ok text) = IsTextOf set tells text
-right_for_set set tells (Err (Refused refusal)) = IsRefused set refusal
-right_for_set set tells (Err (Memory error)) = ⊥
-right_for_set set tells (Err (ReadFailed error)) = ⊥
-right_for_set set tells (Err TooLong) = ⊥
-right_for_set set tells (Err (WriteFailed error)) = ⊥
+-- which answer is right for a set, of whose ranges the text should say this
+abbrev pub IsRightForSet : SoupSet → (List Range → List ℕ → Type 0) → Right
+IsRightForSet set tells (Ok text) = IsTextOf set tells text
+IsRightForSet set tells (Err (Refused refusal)) = IsRefused set refusal
+IsRightForSet set tells (Err (Memory error)) = ⊥
+IsRightForSet set tells (Err (ReadFailed error)) = ⊥
+IsRightForSet set tells (Err TooLong) = ⊥
+IsRightForSet set tells (Err (WriteFailed error)) = ⊥

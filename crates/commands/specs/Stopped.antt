@@ -10,8 +10,8 @@ use Rattle.haul_core.specs.Keeping.{numbers_in}
 use Rattle.haul_core.specs.Missing.{IsComplete, missing_of}
 use Rattle.ranges.specs.Ranges.{IsNormalForm, is_in}
 use Rattle.commands.specs.declared.plan.Plan.{Plan}
-use Rattle.pattern_commands.specs.Answers.{Right, given_right}
-use Rattle.commands.specs.SoupSets.{job_named, right_for_set}
+use Rattle.pattern_commands.specs.Answers.{Right, IsRightGiven}
+use Rattle.commands.specs.SoupSets.{job_named, IsRightForSet}
 use Rattle.commands.specs.Take.{take_right}
 use Rattle.pattern_commands.specs.Tasks.{Makes, Task, silent_task}
 
@@ -36,7 +36,7 @@ pub record TellsTaken (job : Job) (ranges : List Range) (missing : ℕ) (text : 
 -- job is looked at first.
 abbrev pub stopped_right : (ℕ → ℕ → Type 0) → Plan → ℕ → Right
 stopped_right may_stop plan missing =
-    given_right (job_named plan) (λ job. right_for_set plan.set (λ ranges text.
+    IsRightGiven (job_named plan) (λ job. IsRightForSet plan.set (λ ranges text.
     MayStop may_stop ranges × TellsTaken job ranges missing text))
 
 -- what is right if all was taken, or if so many numbers are missing
@@ -47,7 +47,7 @@ right_if whole stopped (suc n) = stopped (suc n)
 -- what `take` makes under a gate: the haul text, with nothing missing or with what the gate may have to do with
 abbrev pub taken_right : (ℕ → ℕ → Type 0) → Plan → Makes
 taken_right may_stop plan (Ok made) =
-    right_if (take_right plan) (stopped_right may_stop plan) made.missing (Ok made.text) × (made.told ≡ [])
+    right_if (take_right plan) (stopped_right may_stop plan) made.missing (Ok made.text) × (made.remarks ≡ [])
 taken_right may_stop plan (Err complaint) = take_right plan (Err complaint)
 
 -- to take a set under a gate

@@ -1,5 +1,6 @@
 -- What `census take` is asked for.
-use Rattle.std.specs.Prelude.{◌≡◌, ℕ, true, false, List}
+use Rattle.std.specs.Prelude.{◌≡◌, ℕ, true, false, List, Option, Ok}
+use Rattle.std.specs.Io.KnownBytes.{Appends}
 use Rattle.survey_core.specs.declared.job.Job.{Job}
 use Rattle.haul_core.specs.declared.book.census.Census.{Census}
 use Rattle.ranges.specs.declared.range.Range.{Range}
@@ -8,8 +9,8 @@ use Rattle.haul_core.specs.HaulTexts.{haul_text}
 use Rattle.haul_core.specs.Missing.{AreAll}
 use Rattle.ranges.specs.Ranges.{IsNormalForm}
 use Rattle.commands.specs.declared.plan.Plan.{Plan}
-use Rattle.pattern_commands.specs.Answers.{Right, given_right}
-use Rattle.commands.specs.SoupSets.{job_named, right_for_set}
+use Rattle.pattern_commands.specs.Answers.{Right, IsRightGiven}
+use Rattle.commands.specs.SoupSets.{AreRangesOf, job_named, IsRightForSet}
 use Rattle.pattern_commands.specs.Tasks.{Task, text_task}
 
 -- a text that tells the census of a job over all soups of a set, with the set's ranges in normal form
@@ -24,8 +25,23 @@ pub record TellsAll (job : Job) (ranges : List Range) (text : List ℕ) : Type 0
 
 -- the census of the complete haul; what makes up its job is looked at first
 abbrev pub take_right : Plan → Right
-take_right plan = given_right (job_named plan) (λ job. right_for_set plan.set (TellsAll job))
+take_right plan = IsRightGiven (job_named plan) (λ job. IsRightForSet plan.set (TellsAll job))
 
 -- to take a set
 abbrev pub take_task : Plan → Task
 take_task plan = text_task false true (λ bytes. take_right plan)
+
+-- The bytes with a writer grew by the haul text of the census of a plan: that of its job, over all soups of its set, with the
+-- set's ranges in normal form.
+pub record PrintsCensus (plan : Plan) (before after : Option (List ℕ)) : Type 0 where
+  pub job : Job
+  pub job_is : job_named plan ≡ Ok job
+  pub ranges : List Range
+  pub named : AreRangesOf plan.set ranges
+  pub numbers : List ℕ
+  pub all : AreAll ranges numbers
+  pub normal : List Range
+  pub form : IsNormalForm ranges normal
+  pub census : Census
+  pub counted : IsCensus job normal numbers census
+  pub grown : Appends before after (haul_text census)

@@ -7,8 +7,8 @@ use Rattle.ranges.specs.Ranges.{IsNormalForm}
 use Rattle.haul_core.specs.ReportLines.{report_text}
 use Rattle.haul_core.specs.Reports.{IsReport, Reported}
 use Rattle.commands.specs.declared.plan.Plan.{Plan}
-use Rattle.pattern_commands.specs.Answers.{Right, given_right}
-use Rattle.commands.specs.SoupSets.{job_named, right_for_set}
+use Rattle.pattern_commands.specs.Answers.{Right, IsRightGiven}
+use Rattle.commands.specs.SoupSets.{job_named, IsRightForSet}
 use Rattle.pattern_commands.specs.Tasks.{Task, text_task}
 
 -- a worker's report on the soup of a job with this number
@@ -35,7 +35,7 @@ pub record TellsReports (job : Job) (worker : ℕ) (ranges : List Range) (text :
 
 -- the reports of the worker on the whole set; what makes up its job is looked at first
 abbrev pub work_right : Plan → ℕ → Right
-work_right plan worker = given_right (job_named plan) (λ job. right_for_set plan.set (TellsReports job worker))
+work_right plan worker = IsRightGiven (job_named plan) (λ job. IsRightForSet plan.set (TellsReports job worker))
 
 -- to report on a set, line by line
 abbrev pub work_task : Plan → ℕ → Task

@@ -1,11 +1,16 @@
 -- How reports are written, one after another.
-use Rattle.std.specs.Prelude.{◌≡◌, ◌++◌, ℕ, List, Ok, Err, true, false, flat_map}
+use Rattle.std.specs.Prelude.{◌≡◌, ◌⊎◌, ◌++◌, ℕ, List, [], Ok, Err, true, false, flat_map}
 use Rattle.survey_core.specs.declared.job.Job.{Job}
+use Rattle.ranges.specs.declared.range.Range.{Range}
+use Rattle.ranges.specs.Ranges.{IsNormalForm}
+use Rattle.haul_core.specs.Missing.{numbers_of}
 use Rattle.haul_core.specs.ReportLines.{report_text}
 use Rattle.haul_core.specs.Reports.{Reported}
 use Rattle.pattern_commands.specs.declared.complaint.Complaint.TheVariants.{Refused, Memory, ReadFailed, TooLong, WriteFailed}
 use Rattle.pattern_commands.specs.Streams.{Stream, Has, HasFront}
 use Rattle.pattern_commands.specs.TextSteps.{TextOutcome}
+use Rattle.commands.specs.declared.plan.Plan.{Plan}
+use Rattle.commands.specs.SoupSets.{AreRangesOf, job_named}
 use Rattle.commands.specs.Work.{AreReportsOn}
 
 -- Which reports are wanted: those of a worker, for a job, on the soups with these numbers.
@@ -25,6 +30,20 @@ pub record IsBegun (wanted : WantedReports) (written : List ℕ → Type 0) : Ty
   pub reports : List Reported
   pub each : AreReportsOn wanted.job wanted.worker done reports
   pub is_written : written (flat_map report_text reports)
+
+-- the first of a worker's reports on the soups of a plan were made, and their lines written, each whole
+pub record HasWholeLines (plan : Plan) (worker : ℕ) (output : Stream) : Type 0 where
+  pub job : Job
+  pub job_is : job_named plan ≡ Ok job
+  pub ranges : List Range
+  pub named : AreRangesOf plan.set ranges
+  pub normal : List Range
+  pub form : IsNormalForm ranges normal
+  pub begun : IsBegun (reports_on job worker (numbers_of normal)) (Has output)
+
+-- nothing was written, or whole lines
+abbrev pub EndsAtLine : Plan → ℕ → Stream → Type 0
+EndsAtLine plan worker output = Has output [] ⊎ HasWholeLines plan worker output
 
 -- all of them were made, and their lines written
 pub record IsPut (wanted : WantedReports) (output : Stream) : Type 0 where

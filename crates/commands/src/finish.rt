@@ -1,3 +1,5 @@
+//! How a haul is finished: closed, counted and printed.
+
 ghost use Rattle.std.specs.Prelude.{◌≡◌, ◌≢◌, ◌↔◌, ◌++◌, ◌∷◌, [], IfErr, List, false, length};
 ghost use Rattle.memory.specs.Evidence.{out_of_memory};
 ghost use Rattle.haul_core.specs.Books.{StandsFor};

@@ -7,7 +7,7 @@
 //! ```
 
 ghost use Rattle.std.specs.Prelude.{◌≡◌, ◌≢◌, ◌<◌, ◌≤◌, Ok, Result, ◌+◌, ◌^◌, ◌++◌, ◌∷◌, [], ℕ, List, Option, Some};
-ghost use Rattle.std.specs.Prelude.{IfErr, IfOk, OnOk, false, length, take};
+ghost use Rattle.std.specs.Prelude.{IfErr, IfOk, OnErr, OnOk, false, length, take};
 ghost use Rattle.memory.specs.Evidence.{out_of_memory};
 ghost use Rattle.haul_core.specs.Reports.{IsWorker, Reported};
 ghost use Rattle.plane_core.specs.Out.{Output};
@@ -20,7 +20,9 @@ ghost use Rattle.pattern_commands.specs.Profiles.{AreInRange};
 ghost use Rattle.pattern_commands.specs.Streams.{stream};
 ghost use Rattle.haul_core.specs.Books.{StandsFor};
 ghost use Rattle.haul_core.specs.declared.book.arrival.Arrival.{Arrival};
-ghost use Rattle.commands.specs.GatherSteps.{EndsLine, EndsLines, EndsNext, GoesOn, HasGathered, HasGatheredShort};
+ghost use Rattle.commands.specs.GatherSteps.{EndsLine, EndsLines, EndsLinesSomewhere, EndsNext};
+ghost use Rattle.commands.specs.GatherSteps.{HasGatheredLines, HasGatheredShort, HasGatheredTo};
+ghost use Rattle.commands.specs.Lines.{HasReadPart};
 ghost use Rattle.commands.specs.LinesSoFar.{HasCome, HasComeBy};
 ghost use Rattle.commands.specs.GatheredLines.{IsChecked, IsFrontFault, IsLookedAt, ComesOf, offer_fault};
 ghost use Rattle.haul_core.specs.declared.book.refused.OfferError.TheVariants as offer_error;
@@ -49,8 +51,8 @@ use survey_core::memo::Memo;
 /// Reads report lines, checks each and offers it to a haul over the soups of a plan, and writes the haul text of what
 /// was taken.
 ///
-/// A line is ended by a line feed, which the last may lack. A line that is not taken is told on `errors`, by its number
-/// from 1 on, and the next one is read. Of a line no more than the first 2^24 bytes are looked at: a longer one is bad
+/// A line is ended by a line feed, which the last may lack. A line that is not taken is reported on `errors`, by its
+/// number from 1 on, and reading continues. Of a line only the first 2^24 bytes are looked at: a longer one is bad
 /// at the first fault of these, or at 2^24. Each of the profile's numbers is in its range, there are 1 to 16 workers,
 /// and neither writer may have failed. What is refused is looked for in the order of [`do_take`](crate::take::do_take),
 /// before anything is read. One line is kept at a time, and the haul. A read that a signal interrupts is tried again.
@@ -60,7 +62,7 @@ use survey_core::memo::Memo;
 ///
 /// The status is `Incomplete` if soups are missing: then the haul was written, and a line on `errors` says how many. It
 /// is `Refused` as of `do_take`; `Memory`; or `Failed` if the input can't be read or is over 2^32 bytes long, or if the
-/// output, or what is told of a line, can't be written. With `Refused` and `Memory`, and after a failed read, nothing
+/// output, or a line on `errors`, can't be written. With `Refused` and `Memory`, and after a failed read, nothing
 /// was written to the output. A failure to write the last line on `errors` is not reported.
 pub fn do_gather<R: Read, W: Write, E: Write>(
     alloc: Global,
@@ -145,7 +147,7 @@ fn gather_input<R: Read, E: Write>(
     ensures terms { haul.new.terms ≡ haul.old.terms }
     ensures gathered { OnOk result (HasGatheredShort (R.remaining input.old)
         (stream E.contents errors.old errors.new) haul.new) }
-    ensures ended { IfErr result (EndsLines haul.old.terms (R.remaining input.old)
+    ensures ended { IfErr result (EndsLinesSomewhere haul.old.terms (R.remaining input.old)
         (stream E.contents errors.old errors.new)) }
     ensures fine { OnOk result (errors.new.failed ≡ false) }
 {
@@ -158,7 +160,7 @@ fn gather_input<R: Read, E: Write>(
 /// How many bytes a read asks for.
 const READ_LENGTH: usize = 65_536;
 
-/// Reads the input line by line, checks each line and offers its report. What is wrong with a line is told on `errors`.
+/// Reads the input line by line, checks each line and offers its report. The fault of a line is written to `errors`.
 fn gather_lines<R: BufRead, E: Write>(
     alloc: Global,
     input: &mut R,
@@ -170,7 +172,7 @@ fn gather_lines<R: BufRead, E: Write>(
     ensures terms { haul.new.terms ≡ haul.old.terms }
     ensures gathered { OnOk result (HasGatheredShort (R.remaining input.old)
         (stream E.contents errors.old errors.new) haul.new) }
-    ensures ended { IfErr result (EndsLines haul.old.terms (R.remaining input.old)
+    ensures ended { IfErr result (EndsLines haul.old.terms (R.remaining input.old) (R.remaining input.new)
         (stream E.contents errors.old errors.new)) }
     ensures fine { OnOk result (errors.new.failed ≡ false) }
 {
@@ -205,16 +207,16 @@ fn next_line<R: BufRead, E: Write>(
     requires errors { errors.old.failed ≡ false }
     ensures terms { haul.new.terms ≡ haul.old.terms }
     ensures short { IfOk result (λ read. read.size ≤ 2 ^ 32) }
-    ensures going { (known : Option (List ℕ)) (first : Output E) (size : ℕ)
-        → HasGathered (record {
-          known = known;
+    ensures going { (reader : Option (List ℕ)) (first : Output E) (size : ℕ)
+        → HasGatheredLines (record {
+          reader = reader;
           left = R.remaining input.old;
           errors = stream E.contents first errors.old;
           count = before;
           size = size;
         }) haul.old
-        → IfOk result (λ read. GoesOn (record {
-          known = known;
+        → IfOk result (λ read. HasGatheredTo (record {
+          reader = reader;
           left = R.remaining input.new;
           errors = stream E.contents first errors.new;
           count = before + 1;
@@ -222,6 +224,7 @@ fn next_line<R: BufRead, E: Write>(
         }) haul.new read.end) }
     ensures fine { OnOk result (errors.new.failed ≡ false) }
     ensures ended { IfErr result (EndsNext (R.remaining input.old) errors.old errors.new) }
+    ensures part { OnErr result (HasReadPart (R.remaining input.old) (R.remaining input.new)) }
 {
     let read = read_line(input, line)?;
     if read.size > 0 {
@@ -243,9 +246,9 @@ fn take_line<E: Write>(
     requires before { before ≤ 2 ^ 32 }
     requires errors { errors.old.failed ≡ false }
     ensures terms { haul.new.terms ≡ haul.old.terms }
-    ensures come { (line : List ℕ) (lines : List (List ℕ)) (told : List ℕ) → kept.now ≡ take (2 ^ 24 + 1) line
-        → before ≡ length lines → HasCome lines haul.old told
-        → OnOk result (HasComeBy (lines ++ line ∷ []) haul.new told (stream E.contents errors.old errors.new)) }
+    ensures come { (line : List ℕ) (lines : List (List ℕ)) (remarks : List ℕ) → kept.now ≡ take (2 ^ 24 + 1) line
+        → before ≡ length lines → HasCome lines haul.old remarks
+        → OnOk result (HasComeBy (lines ++ line ∷ []) haul.new remarks (stream E.contents errors.old errors.new)) }
     ensures fine { OnOk result (errors.new.failed ≡ false) }
     ensures ended { IfErr result (EndsLine errors.old errors.new) }
 {
@@ -255,8 +258,8 @@ fn take_line<E: Write>(
     Ok(())
 }
 
-/// Offers the report of a line, of which the slice has the first 2^24 + 1 bytes. The fault is what is told of the line,
-/// if anything is.
+/// Offers the report of a line, of which the slice has the first 2^24 + 1 bytes. Returns the fault of the line, if it
+/// has one that is reported.
 fn offer_line(
     alloc: Global,
     kept: &[u8],
@@ -326,6 +329,7 @@ fn checked_report(
         Ok(report) => Ok(Ok(report)),
         Err((_, CheckError::OtherJob)) => Ok(Err(LineFault::OtherJob)),
         Err((_, CheckError::Disagrees { .. })) => {
+            // For the prover: a claim that one finding of its soup contradicts agrees with no other.
             findings_are_determined();
             Ok(Err(LineFault::Disagrees))
         }
@@ -333,9 +337,9 @@ fn checked_report(
     }
 }
 
-/// What is told of a report that a haul refused.
+/// The fault of a line whose report a haul refused.
 fn fault_of(reason: OfferError, worker: u8, number: u64) -> Result<Option<LineFault>, OutOfMemory>
-    ensures told { (report : Reported) → report.worker ≡ worker → report.number ≡ number
+    ensures fault { (report : Reported) → report.worker ≡ worker → report.number ≡ number
         → IfOk result (λ fault. fault ≡ offer_fault report (Some reason)) }
     ensures answered { IfOk result (λ _. reason ≢ offer_error.Memory out_of_memory) }
 {

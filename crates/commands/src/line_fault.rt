@@ -1,3 +1,5 @@
+//! Why a report line is not taken, and the line on standard error that says so.
+
 ghost use Rattle.std.specs.Prelude.{◌≡◌, ◌++◌, codes, decimal, false};
 ghost use Rattle.plane_core.specs.Out.{Writes};
 ghost use Rattle.commands.specs.GatheredLines.{fault_line, fault_text};
@@ -25,7 +27,7 @@ pub enum LineFault {
 }
 
 impl LineFault {
-    /// Writes at once the line that tells the fault of a line, which is counted from 1. It takes no memory.
+    /// Writes at once the line that reports the fault of a line, which is counted from 1. It takes no memory.
     ///
     /// # Errors
     ///
@@ -56,7 +58,7 @@ impl LineFault {
         errors.put(b"\n")
     }
 
-    /// Writes what is told of the fault.
+    /// Writes the words for the fault.
     fn put_text<E: Write>(self, errors: &mut Out<E>) -> Result<(), WriteError>
         requires { errors.old.failed ≡ false }
         ensures { Writes E.contents errors.old errors.new result (fault_text self) }

@@ -9,10 +9,11 @@
 //! No more of a line is kept than its first 2^24 bytes and the byte after them, so an input without a line feed takes
 //! no more memory than that.
 
-ghost use Rattle.std.specs.Prelude.{◌≡◌, ◌≢◌, ◌≤◌, ◌+◌, ◌^◌, ◌++◌, ℕ, Err, List, IfOk, None, length, take};
+ghost use Rattle.std.specs.Prelude.{◌≡◌, ◌≢◌, ◌≤◌, ◌+◌, ◌^◌, ◌++◌, ℕ, Err, List, IfOk, None, OnErr, length, take};
+ghost use Rattle.std.specs.Io.KnownBytes.{Keeps};
 ghost use Rattle.pattern_commands.specs.declared.input.InputError.TheVariants.{TooLong};
 ghost use Rattle.commands.specs.GatherSteps.{IsTooLong};
-ghost use Rattle.commands.specs.Lines.{HasPiece, HasReadLine, IsPieceOf};
+ghost use Rattle.commands.specs.Lines.{HasPiece, HasReadLine, HasReadPart, IsPieceOf};
 
 use memchr::memchr;
 use memory::OutOfMemory;
@@ -68,6 +69,7 @@ pub(crate) fn read_line<R: BufRead>(
 ) -> Result<LineRead, InputError>
     ensures read { IfOk result (HasReadLine (R.remaining input.old) (R.remaining input.new) line.new.items) }
     ensures long { result ≡ Err TooLong → IsTooLong (R.remaining input.old) }
+    ensures part { OnErr result (HasReadPart (R.remaining input.old) (R.remaining input.new)) }
 {
     line.clear();
     let mut size = 0u64;
@@ -90,6 +92,7 @@ pub(crate) fn read_line<R: BufRead>(
 fn read_piece<R: BufRead>(input: &mut R, line: &mut Vec<u8>) -> Result<Piece, InputError>
     requires { length line.old.items ≤ 2 ^ 24 + 1 }
     ensures short { result ≢ Err TooLong }
+    ensures kept { OnErr result (Keeps (R.remaining input.old) (R.remaining input.new)) }
     ensures read { IfOk result (λ read. (piece : List ℕ) × (line.new.items ≡ take (2 ^ 24 + 1) (line.old.items ++ piece))
         × HasPiece (R.remaining input.old) (R.remaining input.new) piece read) }
 {

@@ -1,5 +1,5 @@
-// The program names it in its functions, and stands on this crate alone.
-pub use crew::watch::Watch;
+//! What `take` is lent of the machine.
+
 use plane_core::output::Out;
 use std::alloc::Global;
 use std::io::Write;

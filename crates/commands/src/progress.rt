@@ -1,3 +1,13 @@
+//! The line on a terminal that says how far a haul has come.
+//!
+//! ```text
+//! begin     \r0 of 40 soups
+//! taken     \r12 of 40 soups, 4100 a second      over the line before, five times a second at most
+//! end       \r                              \r   wiped
+//! ```
+
+ghost use Rattle.std.specs.Prelude.{◌≡◌, None, false};
+
 use crew::watch::Watch;
 use memory::OutOfMemory;
 use plane_core::output::Out;
@@ -30,7 +40,10 @@ pub struct Progress<W: Write, C: Clock> {
 
 impl<W: Write, C: Clock> Progress<W, C> {
     /// The line of this writer, of which nothing is written yet. If it isn't to be shown, nothing ever is.
-    pub fn new(alloc: Global, writer: W, clock: C, is_shown: bool) -> Self {
+    pub fn new(alloc: Global, writer: W, clock: C, is_shown: bool) -> Self
+        ensures unbegun { result.latest ≡ None }
+        ensures shown { result.is_shown ≡ is_shown }
+    {
         Progress {
             alloc,
             output: Out::new(writer),
@@ -46,7 +59,9 @@ impl<W: Write, C: Clock> Progress<W, C> {
     }
 
     /// From now on the line is shown if it is asked for, and else only if it was to be shown anyway.
-    pub fn ask(&mut self, is_asked: bool) {
+    pub fn ask(&mut self, is_asked: bool)
+        ensures hidden { self.old.is_shown ≡ false → is_asked ≡ false → self.new ≡ self.old }
+    {
         self.is_shown |= is_asked;
     }
 
@@ -101,7 +116,9 @@ impl<W: Write, C: Clock> Progress<W, C> {
 }
 
 impl<W: Write, C: Clock> Watch for Progress<W, C> {
-    fn begin(&mut self, whole: u64, workers: u8) {
+    fn begin(&mut self, whole: u64, workers: u8)
+        ensures hidden { self.old.is_shown ≡ false → self.new ≡ self.old }
+    {
         if !self.is_shown {
             return;
         }
@@ -119,7 +136,9 @@ impl<W: Write, C: Clock> Watch for Progress<W, C> {
         self.at_work = workers;
     }
 
-    fn taken(&mut self, count: u64) {
+    fn taken(&mut self, count: u64)
+        ensures unbegun { self.old.latest ≡ None → self.new ≡ self.old }
+    {
         let Some(latest) = self.latest else {
             return;
         };
@@ -131,7 +150,9 @@ impl<W: Write, C: Clock> Watch for Progress<W, C> {
         }
     }
 
-    fn end(&mut self) {
+    fn end(&mut self)
+        ensures unbegun { self.old.latest ≡ None → self.new ≡ self.old }
+    {
         if self.latest.take().is_some() {
             self.put("", "\r");
         }

@@ -1,3 +1,5 @@
+//! Sets of soups, as words ask for them, and the hauls over them.
+
 ghost use Rattle.std.specs.Prelude.{◌≡◌, ◌++◌, ◌∷◌, [], List, IfErr, IfOk, OnOk};
 ghost use Rattle.haul_core.specs.Reports.{IsWorker};
 ghost use Rattle.commands.specs.SoupSets.{AreRangesOf};

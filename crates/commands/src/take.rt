@@ -17,7 +17,7 @@ ghost use Rattle.commands.specs.Finish.{Finishes};
 ghost use Rattle.pattern_commands.specs.Profiles.{AreInRange};
 ghost use Rattle.commands.specs.Stopped.{gated_task};
 ghost use Rattle.pattern_commands.specs.Streams.{Stream, Has, stream, IsUntouched};
-ghost use Rattle.commands.specs.Take.{take_task};
+ghost use Rattle.commands.specs.Take.{PrintsCensus, take_task};
 ghost use Rattle.commands.specs.TakeSteps.{EndsCrew, HasTakenMore};
 
 use crate::finish::finish;
@@ -60,9 +60,11 @@ pub fn do_take<W: Write, E: Write, T: Threads + Wait + Sync, H: Watch>(
     requires profile { AreInRange plan.now.profile }
     requires output { output.old.failed ≡ false }
     requires errors { machine.old.errors.failed ≡ false }
-    ensures ends { (known : Option (List ℕ)) (bytes : List ℕ)
-        → Ends (take_task plan.now) known bytes result
+    ensures ends { (reader : Option (List ℕ)) (bytes : List ℕ)
+        → Ends (take_task plan.now) reader bytes result
         (stream W.contents output.old output.new) (stream E.contents machine.old.errors machine.new.errors) }
+    ensures exact { result ≡ Status.Done
+        → PrintsCensus plan.now (W.contents output.old.writer) (W.contents output.new.writer) }
     ensures untouched { result ≡ Status.Refused → output.new ≡ output.old }
     ensures no_memory { result ≡ Status.Memory → output.new ≡ output.old }
 {
@@ -86,18 +88,18 @@ pub fn do_take_with<W: Write, E: Write, G: Gate + Sync, T: Threads + Wait + Sync
     requires profile { AreInRange plan.now.profile }
     requires output { output.old.failed ≡ false }
     requires errors { machine.old.errors.failed ≡ false }
-    ensures ends { (known : Option (List ℕ)) (bytes : List ℕ)
-        → Ends (gated_task (G.may_stop gate.now) plan.now) known bytes result
+    ensures ends { (reader : Option (List ℕ)) (bytes : List ℕ)
+        → Ends (gated_task (G.may_stop gate.now) plan.now) reader bytes result
         (stream W.contents output.old output.new) (stream E.contents machine.old.errors machine.new.errors) }
     ensures untouched { result ≡ Status.Refused → output.new ≡ output.old }
     ensures no_memory { result ≡ Status.Memory → output.new ≡ output.old }
 {
-    let outcome = take(machine, plan, workers, gate, output);
+    let outcome = print_haul(machine, plan, workers, gate, output);
     tell_end(outcome, &mut machine.errors)
 }
 
-/// Takes what the gate lets through, writes the haul text, and says how many soups are missing.
-fn take<W: Write, E: Write, G: Gate + Sync, T: Threads + Wait + Sync, H: Watch>(
+/// Opens a haul, completes it as far as the gate lets it, prints it, and says how many soups are missing.
+fn print_haul<W: Write, E: Write, G: Gate + Sync, T: Threads + Wait + Sync, H: Watch>(
     machine: &mut Machine<'_, T, E, H>,
     plan: &Plan<'_>,
     workers: u8,
@@ -107,8 +109,8 @@ fn take<W: Write, E: Write, G: Gate + Sync, T: Threads + Wait + Sync, H: Watch>(
     requires workers { IsWorker workers }
     requires profile { AreInRange plan.now.profile }
     requires output { output.old.failed ≡ false }
-    ensures reached { (known : Option (List ℕ)) (bytes : List ℕ) (errors : Stream) → IsUntouched errors
-        → Reaches (gated_task (G.may_stop gate.now) plan.now) known bytes result
+    ensures reached { (reader : Option (List ℕ)) (bytes : List ℕ) (errors : Stream) → IsUntouched errors
+        → Reaches (gated_task (G.may_stop gate.now) plan.now) reader bytes result
         (stream W.contents output.old output.new) errors }
     ensures untouched { IfErr result (λ complaint. status_of complaint ≡ Status.Refused → output.new ≡ output.old) }
     ensures no_memory { IfErr result (λ complaint. complaint ≡ Complaint.Memory out_of_memory → output.new ≡ output.old) }
@@ -118,7 +120,7 @@ fn take<W: Write, E: Write, G: Gate + Sync, T: Threads + Wait + Sync, H: Watch>(
     let (mut haul, taken) = complete_by_crew(machine, haul, workers, gate);
     // For the prover: what it has taken is of its set, and no number twice.
     let _ = haul.taken();
-    finish_taken(&mut haul, taken, output)
+    print_taken(&mut haul, taken, output)
 }
 
 /// Lets a crew of workers take what is missing in an open haul, and gives it back. Unless memory ran out it is complete
@@ -154,8 +156,9 @@ fn complete_by_crew<E: Write, G: Gate + Sync, T: Threads + Wait + Sync, H: Watch
     }
 }
 
-/// Finishes a haul of which a crew has taken what it could, unless memory ran out.
-fn finish_taken<W: Write>(
+/// Finishes a haul of which a crew has taken what it could, unless memory ran out. A function of its own: the end of
+/// the one that owns the haul is dear to prove.
+fn print_taken<W: Write>(
     haul: &mut Haul,
     taken: Result<(), OutOfMemory>,
     output: &mut Out<W>,

@@ -1,3 +1,5 @@
+//! Texts among the words of a call, at whose form nobody has looked yet.
+
 ghost use Rattle.std.specs.Prelude.{◌≡◌};
 
 use std::marker::Model;

@@ -1,4 +1,13 @@
+//! The report lines of a set of soups, by one worker.
+//!
+//! ```text
+//! plan ── open_haul ── ranges ── soup by soup: report ── line ── sent on
+//!             │                                  │         │
+//!          refused                         out of memory   write failed
+//! ```
+
 ghost use Rattle.std.specs.Prelude.{◌≡◌, ◌<◌, ◌≤◌, ◌∷◌, [], ℕ, List, Option, IfErr, false};
+ghost use Rattle.memory.specs.Evidence.{out_of_memory};
 ghost use Rattle.ranges.specs.Ranges.{AreBelow, end_of, number_bound};
 ghost use Rattle.haul_core.specs.ReportLines.{report_text};
 ghost use Rattle.haul_core.specs.Reports.{IsWorker};
@@ -10,7 +19,7 @@ ghost use Rattle.pattern_commands.specs.Streams.{stream};
 ghost use Rattle.haul_core.specs.Missing.{numbers_of_range, numbers_of};
 ghost use Rattle.pattern_commands.specs.TextSteps.{ReachesText};
 ghost use Rattle.commands.specs.Work.{work_right, work_task};
-ghost use Rattle.commands.specs.WorkSteps.{Puts, reports_on};
+ghost use Rattle.commands.specs.WorkSteps.{EndsAtLine, Puts, reports_on};
 
 use crate::plan::{Plan, open_haul};
 use haul_core::book::haul::Haul;
@@ -49,15 +58,18 @@ pub fn do_work<W: Write, E: Write>(
     requires profile { AreInRange plan.now.profile }
     requires output { output.old.failed ≡ false }
     requires errors { errors.old.failed ≡ false }
-    ensures ends { (known : Option (List ℕ)) (bytes : List ℕ)
-        → Ends (work_task plan.now worker) known bytes result
+    ensures ends { (reader : Option (List ℕ)) (bytes : List ℕ)
+        → Ends (work_task plan.now worker) reader bytes result
         (stream W.contents output.old output.new) (stream E.contents errors.old errors.new) }
     ensures untouched { result ≡ Status.Refused → output.new ≡ output.old }
+    ensures whole_lines { result ≡ Status.Memory
+        → EndsAtLine plan.now worker (stream W.contents output.old output.new) }
 {
     let outcome = work(alloc, plan, worker, output);
     tell_end_of_text(outcome, errors)
 }
 
+/// Opens a haul over the soups, and writes the reports on all of them.
 fn work<W: Write>(
     alloc: Global,
     plan: &Plan<'_>,
@@ -70,9 +82,12 @@ fn work<W: Write>(
     ensures reached { ReachesText false false (work_right plan.now worker) result
         (stream W.contents output.old output.new) }
     ensures untouched { IfErr result (λ complaint. status_of complaint ≡ Status.Refused → output.new ≡ output.old) }
+    ensures whole_lines { IfErr result (λ complaint. complaint ≡ Complaint.Memory out_of_memory
+        → EndsAtLine plan.now worker (stream W.contents output.old output.new)) }
 {
     // No report is offered to this haul: it has the ranges in normal form.
     let haul = open_haul(alloc, plan, worker)?;
+    // For the prover: there is one right text, and each line that is written is one of its lines.
     findings_are_determined();
     one_normal_form();
     put_all(alloc, worker, &haul, output)

@@ -68,3 +68,9 @@ each_is xs (n ∷ ns) =
 
 pub least_of_both : (xs ys : List ℕ) → with_each (least_three xs) (least_three ys) ≡ least_three (xs ++ ys)
 least_of_both xs ys = each_is xs (least_three ys) ∙ least_after xs (least_three ys) ys (least_of_least ys)
+
+-- the least three of the least three of each are those of both
+pub least_of_leasts : (xs ys : List ℕ) → least_three (least_three xs ++ least_three ys) ≡ least_three (xs ++ ys)
+least_of_leasts xs ys =
+    sym (each_is (least_three xs) (least_three ys)) ∙ ap (λ (t : List ℕ). with_each t (least_three ys)) (least_of_least xs)
+    ∙ least_of_both xs ys

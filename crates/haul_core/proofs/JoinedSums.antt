@@ -1,12 +1,12 @@
--- The census of a joined haul has the sums of the two censuses.
+-- The census of a joined haul has the sums of the two censuses, and the least samples of both.
 use Rattle.std.proofs.Common.{◌≡◌, ◌∙◌, ◌+◌, ◌++◌, ◌≤◌, ℕ, zero, suc, Bool, true, false, cond, List, [], ◌∷◌, ◌||◌, ◌&&◌}
-use Rattle.std.proofs.Common.{◌⊎◌, Some, ap, sym, subst, refl, arith, drop, filter, get_or, nat_le, option_map, sum_by, unwrap_or, inl, inr, zero-add}
+use Rattle.std.proofs.Common.{◌⊎◌, Some, ap, sym, subst, refl, arith, drop, filter, get_or, map, nat_le, option_map, sum_by, unwrap_or, inl, inr, zero-add}
 use Rattle.std.specs.Cmp.Lexicographic.{slice_cmp}
 use Rattle.std.specs.List.{All, find, list_any}
 use Rattle.std.specs.Ordering.{nat_cmp}
 use Rattle.std.proofs.lemmas.Bool.{cases_Bool, le-leb, leb-true, false≢true}
 use Rattle.std.proofs.lemmas.List.{length-append, map-append}
-use Rattle.std.proofs.lemmas.List.Elements.{All-append, All-head, All-tail}
+use Rattle.std.proofs.lemmas.List.Elements.{All-append, All-head, All-tail, All-weaker, filter-append}
 use Rattle.std.proofs.lemmas.List.Kept.{IsStrictlySortedBy-filter}
 use Rattle.std.proofs.lemmas.List.Sums.{sum_by-append, sum_by-cons}
 use Rattle.std.proofs.lemmas.Map.Views.{any-filter_same}
@@ -15,10 +15,15 @@ use Rattle.survey_core.specs.Objects.{is_code}
 use Rattle.survey_core.specs.Soups.{soup}
 use Rattle.survey_core.specs.declared.job.Job.{Job}
 use Rattle.haul_core.specs.declared.book.census_rows.Row.{Row}
-use Rattle.haul_core.specs.HaulLaws.{JoinedHaulsAddUp, total_in}
+use Rattle.haul_core.specs.HaulLaws.{JoinedHaulsAddUp, samples_in, total_in}
+use Rattle.haul_core.specs.Keeping.{samples}
 use Rattle.haul_core.specs.Rows.{AreRowsOf, IsRowOf, codes_of}
-use Rattle.haul_core.specs.Totals.{AreSurveys, Survey, count_in, for_good, is_for_good, is_unsettled, total, unsettled}
+use Rattle.haul_core.specs.SampleSteps.{least_three}
+use Rattle.haul_core.specs.Samples.{AreLeastThree}
+use Rattle.haul_core.specs.Totals.{AreSurveys, Survey, count_in, for_good, has_object, is_for_good, is_unsettled, numbers_with, total, unsettled}
+use Rattle.haul_core.proofs.JoinedSamples.{least_of_leasts}
 use Rattle.haul_core.proofs.LawLemmas.{IsFound, numbers_of_surveys}
+use Rattle.haul_core.proofs.LeastLemmas.{least_is, one_least}
 use Rattle.haul_core.proofs.RowLemmas.{has_row, one_code, one_order}
 use Rattle.haul_core.proofs.SumLemmas.{rows_summed}
 
@@ -52,25 +57,65 @@ at_least_one : (n : ℕ) → cond {A = ℕ} (nat_le 1 n) n 0 ≡ n
 at_least_one zero = refl
 at_least_one (suc n) = ap (λ (b : Bool). cond {A = ℕ} b (suc n) 0) (le-leb 1 (suc n) (omega arith))
 
-told : (surveys : List Survey) (rows : List Row) (code : List ℕ) → All (IsRowOf surveys) rows
-    → total_in rows code ≡ cond {A = ℕ} (list_any (is_code code) (codes_of rows)) (total surveys code) 0
-told surveys [] code each = refl
-told surveys (row ∷ rows) code each =
-    let is : IsRowOf surveys row = All-head (IsRowOf surveys) row rows each in
-    go (is_code code row.code) (λ h. is.total_is ∙ ap (total surveys) (sym (one_code code row.code h)))
-    (told surveys rows code (All-tail (IsRowOf surveys) row rows each))
-  where
-    go : (b : Bool) → (b ≡ true → row.total ≡ total surveys code)
-        → total_in rows code ≡ cond {A = ℕ} (list_any (is_code code) (codes_of rows)) (total surveys code) 0
-        → unwrap_or (option_map (λ (r : Row). r.total) (cond b (Some row) (find (λ r. is_code code r.code) rows))) 0
-        ≡ cond {A = ℕ} (b || list_any (is_code code) (codes_of rows)) (total surveys code) 0
-    go true here ih = here refl
-    go false here ih = ih
+-- what rows say of a code, and nothing where there is no row
+module _ {X : Type 0} (said : Row → X) (meant : List ℕ → X) (nothing : X) where
+  in_row : (rows : List Row) (code : List ℕ) → All (λ row. said row ≡ meant row.code) rows
+      → unwrap_or (option_map said (find (λ row. is_code code row.code) rows)) nothing
+      ≡ cond (list_any (is_code code) (codes_of rows)) (meant code) nothing
+  in_row [] code each = refl
+  in_row (row ∷ rows) code each =
+      go (is_code code row.code)
+      (λ h. All-head (λ r. said r ≡ meant r.code) row rows each ∙ ap meant (sym (one_code code row.code h)))
+      (in_row rows code (All-tail (λ r. said r ≡ meant r.code) row rows each))
+    where
+      go : (b : Bool) → (b ≡ true → said row ≡ meant code)
+          → unwrap_or (option_map said (find (λ r. is_code code r.code) rows)) nothing
+          ≡ cond (list_any (is_code code) (codes_of rows)) (meant code) nothing
+          → unwrap_or (option_map said (cond b (Some row) (find (λ r. is_code code r.code) rows))) nothing
+          ≡ cond (b || list_any (is_code code) (codes_of rows)) (meant code) nothing
+      go true here ih = here refl
+      go false here ih = ih
 
 row_total : (surveys : List Survey) (rows : List Row) → AreRowsOf surveys rows → (code : List ℕ) → total_in rows code ≡ total surveys code
 row_total surveys rows are code =
-    told surveys rows code are.each ∙ ap (λ (b : Bool). cond {A = ℕ} b (total surveys code) 0) (has_row surveys rows are code)
+    in_row (λ row. row.total) (total surveys) 0 rows code
+    (All-weaker (IsRowOf surveys) (λ row. row.total ≡ total surveys row.code) (λ row is. is.total_is) rows are.each)
+    ∙ ap (λ (b : Bool). cond {A = ℕ} b (total surveys code) 0) (has_row surveys rows are code)
     ∙ at_least_one (total surveys code)
+
+-- ---- the samples in a row
+
+-- no soup left an object with a code of which there is none
+none_with : (surveys : List Survey) (code : List ℕ) → total surveys code ≡ 0 → numbers_with surveys code ≡ []
+none_with [] code none = refl
+none_with (s ∷ ss) code none =
+    let sum : total (s ∷ ss) code ≡ count_in code s.finding + total ss code = sum_by-cons (λ t. count_in code t.finding) s ss in
+    let here : count_in code s.finding ≡ 0 = omega arith in
+    let more : total ss code ≡ 0 = omega arith in
+    let others : List Survey = filter (has_object code) ss in
+    ap (λ (n : ℕ). map (λ (t : Survey). t.number) (cond (nat_le 1 n) (s ∷ others) others)) here ∙ none_with ss code more
+
+samples_if_any : (surveys : List Survey) (code : List ℕ) (n : ℕ) → total surveys code ≡ n
+    → cond (nat_le 1 n) (samples surveys code) [] ≡ samples surveys code
+samples_if_any surveys code zero none = sym (ap least_three (none_with surveys code none))
+samples_if_any surveys code (suc n) some =
+    ap (λ (b : Bool). cond b (samples surveys code) []) (le-leb 1 (suc n) (omega arith))
+
+row_samples : (surveys : List Survey) (rows : List Row) → AreRowsOf surveys rows → (code : List ℕ)
+    → samples_in rows code ≡ samples surveys code
+row_samples surveys rows are code =
+    in_row (λ row. row.samples) (samples surveys) [] rows code
+    (All-weaker (IsRowOf surveys) (λ row. row.samples ≡ samples surveys row.code)
+    (λ row is. one_least (numbers_with surveys row.code) row.samples is.samples_are) rows are.each)
+    ∙ ap (λ (b : Bool). cond b (samples surveys code) []) (has_row surveys rows are code)
+    ∙ samples_if_any surveys code (total surveys code) refl
+
+-- the soups of both that left one
+numbers_of_both : (surveys others : List Survey) (code : List ℕ)
+    → numbers_with (surveys ++ others) code ≡ numbers_with surveys code ++ numbers_with others code
+numbers_of_both surveys others code =
+    ap (map (λ (s : Survey). s.number)) (filter-append (has_object code) surveys others)
+    ∙ map-append (λ (s : Survey). s.number) (filter (has_object code) surveys) (filter (has_object code) others)
 
 -- ---- the sum of all totals, over the codes of a census with more soups
 
@@ -150,6 +195,16 @@ add_up law job ranges others all numbers more one other both h k b =
           ∙ sum_of_two (total h.surveys) (total k.surveys) (total b.surveys) (codes_of both.rows) totals ∙ (λ i. sym first i + sym second i);
       totals = λ code. row_total b.surveys both.rows b.rows_are code ∙ totals code
           ∙ (λ i. sym (row_total h.surveys one.rows h.rows_are code) i + sym (row_total k.surveys other.rows k.rows_are code) i);
+      samples = λ code.
+          let ours = row_samples h.surveys one.rows h.rows_are code in
+          let theirs = row_samples k.surveys other.rows k.rows_are code in
+          let all = samples_in one.rows code ++ samples_in other.rows code in
+          let least : least_three all ≡ samples_in both.rows code =
+          (λ i. least_three (ours i ++ theirs i))
+          ∙ least_of_leasts (numbers_with h.surveys code) (numbers_with k.surveys code)
+          ∙ ap least_three (sym (ap (λ (ss : List Survey). numbers_with ss code) same ∙ numbers_of_both h.surveys k.surveys code))
+          ∙ sym (row_samples b.surveys both.rows b.rows_are code) in
+          subst (AreLeastThree all) least (least_is all);
     }
   where
     part : (a b c : ℕ) → a ≡ b + c → b ≤ a

@@ -1,10 +1,13 @@
 -- Lines of a text, written one after another.
 use Rattle.std.proofs.Common.{◌≡◌, ◌∙◌, ◌+◌, ◌<◌, ◌≤◌, ◌==◌, arith, ℕ, true, false, List, [], ◌∷◌, ◌++◌, ap, sym, append_assoc, codes, drop, flat_map}
-use Rattle.std.proofs.Common.{get_or, length, map}
+use Rattle.std.proofs.Common.{Err, IsErr, Ok, Option, Result, get_or, length, map}
 use Rattle.std.proofs.lemmas.Bool.{eqb-true, false≢true}
 use Rattle.std.proofs.lemmas.Grind.{flat_map-append}
 use Rattle.std.proofs.lemmas.List.{append-nil, drop_all, drop_more}
 use Rattle.std.proofs.lemmas.List.Folds.{flat_map-map}
+use Rattle.plane_core.proofs.OutLemmas.{Writes_same, Writes_stops, Writes_then}
+use Rattle.plane_core.specs.Out.{Output, Writes}
+use Rattle.plane_core.specs.declared.output.WriteError.{WriteError}
 use Rattle.plane_core.specs.Rules.{rule_text}
 use Rattle.survey_core.specs.declared.job.Job.{Job}
 use Rattle.haul_core.specs.declared.book.census.Census.{Census}
@@ -30,6 +33,29 @@ text_more_at text xs i d whole front more is =
 pub text_done : {A : Type 0} (text : A → List ℕ) (xs : List A) (i : ℕ) (whole front : List ℕ) → length xs ≤ i
     → whole ≡ front ++ flat_map text (drop i xs) → front ≡ whole
 text_done text xs i whole front past is = sym (is ∙ ap (λ remainder. front ++ flat_map text remainder) (drop_all i xs past) ∙ append-nil front)
+
+-- ---- a loop that writes a text for each item
+
+-- the texts of the items that were passed have been written
+abbrev pub HasWritten : {A V : Type 0} → (V → Option (List ℕ)) → Output V → Output V → (A → List ℕ) → List A → ℕ → List ℕ → Type 0
+HasWritten contents old here text xs i whole =
+    (front : List ℕ) × (whole ≡ front ++ flat_map text (drop i xs)) × Writes {E = WriteError} contents old here (Ok tt) front
+
+module _ {A V : Type 0} {contents : V → Option (List ℕ)} {old here : Output V} (text : A → List ℕ) (xs : List A) (whole : List ℕ) where
+  -- one item more
+  pub item_more : {new : Output V} (i : ℕ) (x : A) → i < length xs → x ≡ get_or xs i x → HasWritten contents old here text xs i whole
+      → Writes {E = WriteError} contents here new (Ok tt) (text x) → HasWritten contents old new text xs (i + 1) whole
+  item_more i x more is (front, left, wrote) wrote_one = (front ++ text x, text_more text xs i x whole front more is left, Writes_then wrote wrote_one)
+
+  -- an item that could not be written whole
+  pub item_stops : {F : Type 0} {new : Output V} {e : WriteError} {r : Result (Unit {0}) F} (i : ℕ) (x : A) → i < length xs → x ≡ get_or xs i x
+      → HasWritten contents old here text xs i whole → IsErr r → Writes contents here new (Err e) (text x) → Writes contents old new r whole
+  item_stops i x more is (front, left, wrote) err stopped =
+      Writes_same (sym (text_more text xs i x whole front more is left)) (Writes_stops (flat_map text (drop (i + 1) xs)) err (Writes_then wrote stopped))
+
+  -- no item is left
+  pub items_done : (i : ℕ) → length xs ≤ i → HasWritten contents old here text xs i whole → Writes {E = WriteError} contents old here (Ok tt) whole
+  items_done i past (front, left, wrote) = Writes_same (text_done text xs i whole front past left) wrote
 
 -- a name and numbers, ended
 pub line_spelled : {A : Type 0} (text : A → List ℕ) (name : List ℕ) (numbers : List A)

@@ -1,5 +1,5 @@
 -- Laws of censuses: their texts don't depend on the order in which the soups came, and joined hauls add up.
-use Rattle.std.specs.Prelude.{◌≡◌, ◌+◌, ◌++◌, ℕ, List, count_by, nat_eq, option_map, unwrap_or}
+use Rattle.std.specs.Prelude.{◌≡◌, ◌+◌, ◌++◌, ℕ, List, [], count_by, nat_eq, option_map, unwrap_or}
 use Rattle.std.specs.List.{find}
 use Rattle.survey_core.specs.Objects.{is_code}
 use Rattle.survey_core.specs.declared.job.Job.{Job}
@@ -9,6 +9,7 @@ use Rattle.haul_core.specs.declared.book.census_rows.Row.{Row}
 use Rattle.haul_core.specs.Censuses.{IsCensus}
 use Rattle.haul_core.specs.HaulTexts.{haul_text}
 use Rattle.haul_core.specs.Missing.{AreAll}
+use Rattle.haul_core.specs.Samples.{AreLeastThree}
 use Rattle.ranges.specs.Ranges.{AreNormal, is_in}
 
 -- the ranges give one set
@@ -35,13 +36,18 @@ CompleteHaulsPrintTheSame = (job : Job) (ranges others : List Range) (numbers mo
 abbrev pub total_in : List Row → List ℕ → ℕ
 total_in rows code = unwrap_or (option_map (λ row. row.total) (find (λ row. is_code code row.code) rows)) 0
 
--- each sum of a census is what two others have together
+-- the samples in the row of a code: none where there is no row
+abbrev pub samples_in : List Row → List ℕ → List ℕ
+samples_in rows code = unwrap_or (option_map (λ row. row.samples) (find (λ row. is_code code row.code) rows)) []
+
+-- each sum of a census is what two others have together, and its samples are the least three of theirs
 pub record AddUp (one other both : Census) : Type 0 where
   pub soups : both.soups ≡ one.soups + other.soups
   pub unsettled : both.unsettled ≡ one.unsettled + other.unsettled
   pub for_good : both.for_good ≡ one.for_good + other.for_good
   pub objects : both.objects ≡ one.objects + other.objects
   pub totals : (code : List ℕ) → total_in both.rows code ≡ total_in one.rows code + total_in other.rows code
+  pub samples : (code : List ℕ) → AreLeastThree (samples_in one.rows code ++ samples_in other.rows code) (samples_in both.rows code)
 
 -- the census of a joined haul, over the soups of two of one job, has the sums of theirs
 abbrev pub JoinedHaulsAddUp : Type 0

@@ -27,6 +27,9 @@ use survey_core::job::Job;
 use survey_core::memo::Memo;
 use thiserror::Error;
 
+/// The most workers that a haul may have: as many threads as most machines run at a time. They are numbered from 1.
+pub(crate) const MOST_WORKERS: u8 = 16;
+
 /// Why no report was made.
 #[derive(Clone, Copy, Debug, PartialEq, Eq, Error)]
 pub enum ReportError {
@@ -162,5 +165,5 @@ impl Report {
 pub(crate) fn is_worker(worker: u8) -> bool
     ensures { IsTrue result ↔ IsWorker worker }
 {
-    1 <= worker && worker <= 16
+    1 <= worker && worker <= MOST_WORKERS
 }

@@ -1,3 +1,5 @@
+//! Tests of the book: what a haul takes, and what it replies.
+
 use crate::setup::{quick_job, range};
 use haul_core::book::arrival::{Arrival, Reply};
 use haul_core::book::haul::Haul;

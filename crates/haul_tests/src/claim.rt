@@ -1,3 +1,5 @@
+//! Tests of claims: what report lines say.
+
 use haul_core::report::claim::Claim;
 use haul_core::report::claim::check::CheckError;
 use std::alloc::Global;

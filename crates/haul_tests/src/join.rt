@@ -1,3 +1,5 @@
+//! Tests of joined hauls.
+
 use crate::setup::{closed, offer, quick_job, range, text_of};
 use haul_core::book::haul::{Haul, OpenError};
 use plane_core::rule::Rule;

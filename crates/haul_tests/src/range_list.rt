@@ -1,3 +1,5 @@
+//! Tests of range lists.
+
 use crate::setup::range;
 use memory::OutOfMemory;
 use ranges::range::Range;

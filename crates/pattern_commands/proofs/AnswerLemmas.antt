@@ -30,31 +30,31 @@ err_of (Ok a) e h = absurd h
 err_of (Err x) e h = ap Err h
 
 -- a reader's input is some bytes
-pub some_input : (known : Option (List ℕ)) → (bytes : List ℕ) × IsInput known bytes
+pub some_input : (reader : Option (List ℕ)) → (bytes : List ℕ) × IsInput reader bytes
 some_input None = ([], tt)
 some_input (Some left) = (left, refl)
 
 -- what is read of an input up to a byte past a limit, and is no longer than the limit, is all of it
-pub whole_input : (limit count : ℕ) (known old : Option (List ℕ)) (before bytes : List ℕ) → count ≡ limit + 1 → old ≡ known → before ≡ []
-    → IfSome (option_map (take count) old) (λ read. bytes ≡ before ++ read) → length bytes ≤ limit → IfSome known (λ left. bytes ≡ left)
-whole_input limit count known old before bytes is same none read short =
-    let P : List ℕ → Type 0 = λ front. IfSome (option_map (take (limit + 1)) known) (λ more. bytes ≡ front ++ more) in
-    go known (subst P none (rw same at (rw is at read)))
+pub whole_input : (limit count : ℕ) (reader old : Option (List ℕ)) (before bytes : List ℕ) → count ≡ limit + 1 → old ≡ reader → before ≡ []
+    → IfSome (option_map (take count) old) (λ read. bytes ≡ before ++ read) → length bytes ≤ limit → IfSome reader (λ left. bytes ≡ left)
+whole_input limit count reader old before bytes is same none read short =
+    let P : List ℕ → Type 0 = λ front. IfSome (option_map (take (limit + 1)) reader) (λ more. bytes ≡ front ++ more) in
+    go reader (subst P none (rw same at (rw is at read)))
   where
-    go : (known : Option (List ℕ)) → IfSome (option_map (take (limit + 1)) known) (λ more. bytes ≡ [] ++ more) → IfSome known (λ left. bytes ≡ left)
+    go : (reader : Option (List ℕ)) → IfSome (option_map (take (limit + 1)) reader) (λ more. bytes ≡ [] ++ more) → IfSome reader (λ left. bytes ≡ left)
     go None more = tt
     go (Some left) more =
         let long = ap length more ∙ length-take (limit + 1) left in
         more ∙ take_all (limit + 1) left (omega (arith, long, short))
 
 -- of an input that is longer than a limit, more bytes than that are read
-pub long_input : (limit count : ℕ) (known old : Option (List ℕ)) (before bytes : List ℕ) → count ≡ limit + 1 → old ≡ known → before ≡ []
-    → IfSome (option_map (take count) old) (λ read. bytes ≡ before ++ read) → limit < length bytes → IfSome known (λ left. limit < length left)
-long_input limit count known old before bytes is same none read long =
-    let P : List ℕ → Type 0 = λ front. IfSome (option_map (take (limit + 1)) known) (λ more. bytes ≡ front ++ more) in
-    go known (subst P none (rw same at (rw is at read)))
+pub long_input : (limit count : ℕ) (reader old : Option (List ℕ)) (before bytes : List ℕ) → count ≡ limit + 1 → old ≡ reader → before ≡ []
+    → IfSome (option_map (take count) old) (λ read. bytes ≡ before ++ read) → limit < length bytes → IfSome reader (λ left. limit < length left)
+long_input limit count reader old before bytes is same none read long =
+    let P : List ℕ → Type 0 = λ front. IfSome (option_map (take (limit + 1)) reader) (λ more. bytes ≡ front ++ more) in
+    go reader (subst P none (rw same at (rw is at read)))
   where
-    go : (known : Option (List ℕ)) → IfSome (option_map (take (limit + 1)) known) (λ more. bytes ≡ [] ++ more) → IfSome known (λ left. limit < length left)
+    go : (reader : Option (List ℕ)) → IfSome (option_map (take (limit + 1)) reader) (λ more. bytes ≡ [] ++ more) → IfSome reader (λ left. limit < length left)
     go None more = tt
     go (Some left) more =
         let all = ap length more ∙ length-take (limit + 1) left in
@@ -67,11 +67,11 @@ pattern_of-long bytes long =
     rw unlooked refl
 
 -- an input that was not read to its end says nothing of the answer, unless it is too long
-pub Reads_unread : (known : Option (List ℕ)) (fault : InputError)
-    → (fault ≡ input_error.TooLong → IfSome known (λ left. 2 ^ 24 < length left))
-    → (bytes : List ℕ) × IsInput known bytes × Reads (pattern_of bytes) (Err (input_complaint fault))
-Reads_unread known (input_error.Unreadable failed) long = let some = some_input known in (some.0, some.1, tt)
-Reads_unread known (input_error.Memory refused) long = let some = some_input known in (some.0, some.1, tt)
+pub Reads_unread : (reader : Option (List ℕ)) (fault : InputError)
+    → (fault ≡ input_error.TooLong → IfSome reader (λ left. 2 ^ 24 < length left))
+    → (bytes : List ℕ) × IsInput reader bytes × Reads (pattern_of bytes) (Err (input_complaint fault))
+Reads_unread reader (input_error.Unreadable failed) long = let some = some_input reader in (some.0, some.1, tt)
+Reads_unread reader (input_error.Memory refused) long = let some = some_input reader in (some.0, some.1, tt)
 Reads_unread None input_error.TooLong long =
     let bytes = range_with_len 0 (2 ^ 24 + 1) in
     (bytes, tt, pattern_of-long bytes (subst (λ n. 2 ^ 24 < n) (sym (length-range_with_len 0 (2 ^ 24 + 1))) (omega arith)))
@@ -116,5 +116,5 @@ Reaches_unread reads right answer (WriteFailed error) output read is refused not
 pub Reaches_rule : (reads : Bool) (right : Right) (text : List ℕ) (error : RuleFault) (output : Stream) → rule_read text ≡ Err error
     → ((complaint : Complaint) → rule_named text ≡ Err complaint → right (Err complaint)) → Has output []
     → ReachesText reads true right (Err (rule_complaint error)) output
-Reaches_rule reads right text (rule_error.BadRule place) output is told nothing = (told _ (rw is refl), nothing)
-Reaches_rule reads right text rule_error.BirthZero output is told nothing = (told _ (rw is refl), nothing)
+Reaches_rule reads right text (rule_error.BadRule place) output is remarks nothing = (remarks _ (rw is refl), nothing)
+Reaches_rule reads right text rule_error.BirthZero output is remarks nothing = (remarks _ (rw is refl), nothing)

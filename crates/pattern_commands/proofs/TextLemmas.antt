@@ -25,45 +25,45 @@ part_of false right output left = go
 
 front_of : (whole : Bool) (right : Right) (output errors : Stream) → LeavesTextFront whole right output → IsUntouched errors
     → LeavesFront whole (alone right) output errors
-front_of true right output errors (text, is, front) still = (record { text = text; told = []; missing = 0 }, (is, refl, refl), front, still.0)
+front_of true right output errors (text, is, front) still = (record { text = text; remarks = []; missing = 0 }, (is, refl, refl), front, still.0)
 front_of false right output errors (never, fronts) still = (never, λ made is. fronts made.text is.0, still.0)
 
 -- what stands on the streams after a text, where nothing was told yet
-reaches_text : (reads whole : Bool) (right : List ℕ → Right) (known : Option (List ℕ)) (bytes : List ℕ) (outcome : TextOutcome) (output errors : Stream)
+reaches_text : (reads whole : Bool) (right : List ℕ → Right) (reader : Option (List ℕ)) (bytes : List ℕ) (outcome : TextOutcome) (output errors : Stream)
     → ReachesText reads whole (right bytes) outcome output → IsUntouched errors
-    → Reaches (text_task reads whole right) known bytes (none_missing outcome) output errors
-reaches_text reads whole right known bytes (Ok _) output errors ((text, is, has), written) still = record {
-  made = record { text = text; told = []; missing = 0 };
+    → Reaches (text_task reads whole right) reader bytes (none_missing outcome) output errors
+reaches_text reads whole right reader bytes (Ok _) output errors ((text, is, has), written) still = record {
+  made = record { text = text; remarks = []; missing = 0 };
   is = (is, refl, refl);
   missing_is = refl;
   text = has;
   written = written;
-  told = still.0;
+  remarks = still.0;
   fine = still.1;
 }
-reaches_text reads whole right known bytes (Err (Refused refusal)) output errors (is, nothing) still =
+reaches_text reads whole right reader bytes (Err (Refused refusal)) output errors (is, nothing) still =
     (is, record { nothing = nothing; silent = still.0; fine = still.1 })
-reaches_text reads whole right known bytes (Err (Memory error)) output errors (hides, left) still =
-    record { hides = hides; left = part_of whole (right bytes) output left; told = inl still.0; fine = still.1 }
-reaches_text reads whole right known bytes (Err (ReadFailed error)) output errors (read, nothing) still =
+reaches_text reads whole right reader bytes (Err (Memory error)) output errors (hides, left) still =
+    record { hides = hides; left = part_of whole (right bytes) output left; remarks = inl still.0; fine = still.1 }
+reaches_text reads whole right reader bytes (Err (ReadFailed error)) output errors (read, nothing) still =
     record { reads = read; begun = still.0; nothing = nothing; fine = still.1 }
-reaches_text reads whole right known bytes (Err TooLong) output errors (read, long, nothing) still =
+reaches_text reads whole right reader bytes (Err TooLong) output errors (read, long, nothing) still =
     (long, record { reads = read; begun = still.0; nothing = nothing; fine = still.1 })
-reaches_text reads whole right known bytes (Err (WriteFailed error)) output errors (left, cut) still =
+reaches_text reads whole right reader bytes (Err (WriteFailed error)) output errors (left, cut) still =
     inl (record { left = front_of whole (right bytes) output errors left still; cut = cut; fine = still.1 })
 
 -- how a command ends that gives a text alone
-pub text_ends : (reads whole : Bool) (right : List ℕ → Right) (known : Option (List ℕ)) (bytes : List ℕ) (outcome : TextOutcome) (status : Status)
+pub text_ends : (reads whole : Bool) (right : List ℕ → Right) (reader : Option (List ℕ)) (bytes : List ℕ) (outcome : TextOutcome) (status : Status)
     (output errors : Stream)
     → ReachesText reads whole (right bytes) outcome output → status ≡ status_after (none_missing outcome) → HasLast (none_missing outcome) errors
-    → Ends (text_task reads whole right) known bytes status output errors
-text_ends reads whole right known bytes outcome status output errors reached is last =
-    let between : Stream = record { before = errors.before; after = errors.before; failed = false } in
+    → Ends (text_task reads whole right) reader bytes status output errors
+text_ends reads whole right reader bytes outcome status output errors reached is last =
+    let so_far : Stream = record { before = errors.before; after = errors.before; failed = false } in
     record {
       outcome = none_missing outcome;
-      between = between;
+      so_far = so_far;
       from = refl;
-      reached = reaches_text reads whole right known bytes outcome output between reached (Appends-nil errors.before, refl);
+      reached = reaches_text reads whole right reader bytes outcome output so_far reached (Appends-nil errors.before, refl);
       stays = λ failed. let bad : false ≡ true = failed in cc;
       last = last;
       status_is = is;

@@ -18,9 +18,9 @@ abbrev pub given : {A B : Type 0} → Result A Complaint → (A → Result B Com
 given (Ok x) next = next x
 given (Err complaint) next = Err complaint
 
--- the bytes may be the input of a reader with these bytes left: they are, where those are known
+-- these bytes may be the input of a reader: they are those that it has left, where these are known
 abbrev pub IsInput : Option (List ℕ) → List ℕ → Type 0
-IsInput known bytes = IfSome known (λ left. bytes ≡ left)
+IsInput reader bytes = IfSome reader (λ left. bytes ≡ left)
 
 -- a property of answers: to be right for a request
 abbrev pub Right : Type 1
@@ -30,10 +30,10 @@ Right = Answer → Type 0
 abbrev pub only : Answer → Right
 only answer other = answer ≡ other
 
--- what is right is told by what the step before gave, and a complaint is the one right answer
-abbrev pub given_right : {A : Type 0} → Result A Complaint → (A → Right) → Right
-given_right (Ok x) next = next x
-given_right (Err complaint) next = only (Err complaint)
+-- what is right after a step depends on what the step gave; if it gave a complaint, that is the one right answer
+abbrev pub IsRightGiven : {A : Type 0} → Result A Complaint → (A → Right) → Right
+IsRightGiven (Ok x) next = next x
+IsRightGiven (Err complaint) next = only (Err complaint)
 
 -- the complaints for which memory is needed: ranges have to be kept to be looked at together, and an input to be read to its end
 abbrev pub NeedsMemory : Complaint → Type 0

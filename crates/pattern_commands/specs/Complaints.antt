@@ -31,7 +31,7 @@ refusal_line RangesOverlap = codes "census: ranges overlap\n"
 abbrev pub write_failed_line : List ℕ
 write_failed_line = codes "census: write failed\n"
 
--- the line of a complaint: an input that is too long is told as a read that failed
+-- the line of a complaint: an input that is too long is reported as a read that failed
 abbrev pub complaint_line : Complaint → List ℕ
 complaint_line (Refused refusal) = refusal_line refusal
 complaint_line (Memory error) = codes "census: out of memory\n"

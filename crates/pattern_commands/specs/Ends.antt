@@ -24,12 +24,12 @@ HasLast (Ok zero) errors = Has errors [] × (errors.failed ≡ false)
 HasLast (Ok (suc n)) errors = HasLine errors (missing_line (suc n))
 HasLast (Err complaint) errors = HasLine errors (complaint_line complaint)
 
--- How a command ends that was to do a task with an input: `between` is standard error before its last line.
-pub record Ends (task : Task) (known : Option (List ℕ)) (bytes : List ℕ) (status : Status) (output errors : Stream) : Type 0 where
+-- How a command ends that was to do a task with an input: `so_far` is standard error before its last line.
+pub record Ends (task : Task) (reader : Option (List ℕ)) (bytes : List ℕ) (status : Status) (output errors : Stream) : Type 0 where
   pub outcome : Outcome
-  pub between : Stream
-  pub from : between.before ≡ errors.before
-  pub reached : Reaches task known bytes outcome output between
-  pub stays : between.failed ≡ true → errors.failed ≡ true
-  pub last : HasLast outcome (record { before = between.after; after = errors.after; failed = errors.failed })
+  pub so_far : Stream
+  pub from : so_far.before ≡ errors.before
+  pub reached : Reaches task reader bytes outcome output so_far
+  pub stays : so_far.failed ≡ true → errors.failed ≡ true
+  pub last : HasLast outcome (record { before = so_far.after; after = errors.after; failed = errors.failed })
   pub status_is : status ≡ status_after outcome

@@ -7,7 +7,7 @@ use Rattle.survey_core.specs.declared.finding.Finding.TheVariants.{Settled, Unse
 use Rattle.survey_core.specs.Findings.{IsFinding}
 use Rattle.survey_core.specs.Profiles.{Settling}
 use Rattle.pattern_commands.specs.declared.profile.ProfileNumbers.{ProfileNumbers}
-use Rattle.pattern_commands.specs.Answers.{Right, given_right, only}
+use Rattle.pattern_commands.specs.Answers.{Right, IsRightGiven, only}
 use Rattle.pattern_commands.specs.Inputs.{pattern_of, rule_named}
 use Rattle.pattern_commands.specs.Profiles.{profile_named}
 use Rattle.pattern_commands.specs.Tasks.{Task, text_task}
@@ -28,7 +28,7 @@ TellsFinding rule profile cells answer = (finding : Finding) × IsFinding rule p
 -- the finding of the pattern; the profile is looked at first, then the rule and then the input
 abbrev pub name_right : ProfileNumbers → List ℕ → List ℕ → Right
 name_right numbers rule_text bytes =
-    given_right (profile_named numbers) (λ profile. given_right (rule_named rule_text) (λ rule. given_right (pattern_of bytes) (TellsFinding rule profile)))
+    IsRightGiven (profile_named numbers) (λ profile. IsRightGiven (rule_named rule_text) (λ rule. IsRightGiven (pattern_of bytes) (TellsFinding rule profile)))
 
 -- to write the finding of the input's pattern; the input is looked at if the profile and the rule are fine
 abbrev pub name_task : ProfileNumbers → List ℕ → Task

@@ -9,14 +9,14 @@ use Rattle.pattern_commands.specs.Tasks.{Made, Makes, NeedsMemoryAlone, Task, te
 abbrev pub Outcome : Type 0
 Outcome = Result ℕ Complaint
 
--- what was made stands on both streams, whole; so many soups are missing
+-- what was made was written to both streams, whole; so many soups are missing
 pub record IsPrinted (right : Makes) (missing : ℕ) (output errors : Stream) : Type 0 where
   pub made : Made
   pub is : right (Ok made)
   pub missing_is : missing ≡ made.missing
   pub text : Has output made.text
   pub written : output.failed ≡ false
-  pub told : Has errors made.told
+  pub remarks : Has errors made.remarks
   pub fine : errors.failed ≡ false
 
 -- nothing was written to either stream
@@ -25,10 +25,10 @@ pub record IsSilent (output errors : Stream) : Type 0 where
   pub silent : Has errors []
   pub fine : errors.failed ≡ false
 
--- The input was cut off: nothing stands on standard output, and on standard error what is told of its beginning.
-pub record IsCutOff (task : Task) (known : Option (List ℕ)) (output errors : Stream) : Type 0 where
+-- The input was cut off: nothing was written to standard output, and standard error has the remarks on its beginning.
+pub record IsCutOff (task : Task) (reader : Option (List ℕ)) (output errors : Stream) : Type 0 where
   pub reads : task.reads ≡ true
-  pub begun : task.begins known errors.before errors.after
+  pub begun : task.begins reader errors.before errors.after
   pub nothing : Has output []
   pub fine : errors.failed ≡ false
 
@@ -39,16 +39,16 @@ LeavesPart true right output = Has output []
 LeavesPart false right output = (answer : Result Made Complaint) → right answer → HasFront output (text_made answer)
 
 -- memory ran out: over the input, or before it was looked at
-pub record HasRunOut (task : Task) (known : Option (List ℕ)) (bytes : List ℕ) (output errors : Stream) : Type 0 where
+pub record HasRunOutOfMemory (task : Task) (reader : Option (List ℕ)) (bytes : List ℕ) (output errors : Stream) : Type 0 where
   pub hides : task.refuses ≡ false → NeedsMemoryAlone (task.right bytes)
   pub left : LeavesPart task.whole (task.right bytes) output
-  pub told : Has errors [] ⊎ task.begins known errors.before errors.after
+  pub remarks : Has errors [] ⊎ task.begins reader errors.before errors.after
   pub fine : errors.failed ≡ false
 
--- What stands on the streams if a write of the text failed: of a text that was whole before it was written, a front, and all that is
--- told. One that is written as it is made isn't known to its end: then there is a front of each right text, and no complaint is right.
+-- What was written if a write of the text failed. Of a text that was whole before that: a front, and all remarks. One that is
+-- written as it is made isn't known to its end: then a front of each right text, and no complaint is right.
 abbrev pub LeavesFront : Bool → Makes → Stream → Stream → Type 0
-LeavesFront true right output errors = (made : Made) × right (Ok made) × HasFront output made.text × Has errors made.told
+LeavesFront true right output errors = (made : Made) × right (Ok made) × HasFront output made.text × Has errors made.remarks
 LeavesFront false right output errors = ((complaint : Complaint) → right (Err complaint) → ⊥)
     × ((made : Made) → right (Ok made) → HasFront output made.text) × Has errors []
 
@@ -58,7 +58,7 @@ pub record IsCutShort (task : Task) (bytes : List ℕ) (output errors : Stream) 
   pub cut : output.failed ≡ true
   pub fine : errors.failed ≡ false
 
--- what is told of the input was not written whole
+-- the remarks on the input were not written whole
 pub record IsUntold (task : Task) (output errors : Stream) : Type 0 where
   pub tells : task.may_tell
   pub nothing : Has output []
@@ -67,9 +67,9 @@ pub record IsUntold (task : Task) (output errors : Stream) : Type 0 where
 -- What stands on the streams before the last line of standard error. A refusal is a right answer, and so is an input that is
 -- too long.
 abbrev pub Reaches : Task → Option (List ℕ) → List ℕ → Outcome → Stream → Stream → Type 0
-Reaches task known bytes (Ok missing) output errors = IsPrinted (task.right bytes) missing output errors
-Reaches task known bytes (Err (Refused refusal)) output errors = task.right bytes (Err (Refused refusal)) × IsSilent output errors
-Reaches task known bytes (Err (Memory error)) output errors = HasRunOut task known bytes output errors
-Reaches task known bytes (Err (ReadFailed error)) output errors = IsCutOff task known output errors
-Reaches task known bytes (Err TooLong) output errors = task.right bytes (Err TooLong) × IsCutOff task known output errors
-Reaches task known bytes (Err (WriteFailed error)) output errors = IsCutShort task bytes output errors ⊎ IsUntold task output errors
+Reaches task reader bytes (Ok missing) output errors = IsPrinted (task.right bytes) missing output errors
+Reaches task reader bytes (Err (Refused refusal)) output errors = task.right bytes (Err (Refused refusal)) × IsSilent output errors
+Reaches task reader bytes (Err (Memory error)) output errors = HasRunOutOfMemory task reader bytes output errors
+Reaches task reader bytes (Err (ReadFailed error)) output errors = IsCutOff task reader output errors
+Reaches task reader bytes (Err TooLong) output errors = task.right bytes (Err TooLong) × IsCutOff task reader output errors
+Reaches task reader bytes (Err (WriteFailed error)) output errors = IsCutShort task bytes output errors ⊎ IsUntold task output errors

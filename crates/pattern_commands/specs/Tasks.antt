@@ -4,10 +4,10 @@ use Rattle.std.specs.Io.KnownBytes.{Appends}
 use Rattle.pattern_commands.specs.declared.complaint.Complaint.{Complaint}
 use Rattle.pattern_commands.specs.Answers.{NeedsMemory, Right}
 
--- what a command makes: a text for standard output, what it tells on standard error of its input, and how many soups are missing
+-- what a command makes: a text for standard output, remarks on its input for standard error, and how many soups are missing
 pub record Made : Type 0 where
   pub text : List ℕ
-  pub told : List ℕ
+  pub remarks : List ℕ
   pub missing : ℕ
 
 -- what a command makes is right, or what it complains of
@@ -23,30 +23,34 @@ text_made (Err complaint) = []
 abbrev pub NeedsMemoryAlone : Makes → Type 0
 NeedsMemoryAlone right = (complaint : Complaint) → right (Err complaint) → NeedsMemory complaint
 
--- What a command is to do: what is right on an input; whether the input is looked at, and whether what is refused may be the input;
--- whether the text is whole before its first byte is written; what the beginning of an input may add to standard error; and that the
--- command may tell of its input at all.
+-- What a command is to do.
 pub record Task : Type 1 where
+  -- what is right to make of an input
   pub right : List ℕ → Makes
+  -- it looks at the input
   pub reads : Bool
+  -- what it refuses may be the input
   pub refuses : Bool
+  -- its text is whole before the first byte is written
   pub whole : Bool
-  pub begins : (known before after : Option (List ℕ)) → Type 0
+  -- what the beginning of an input may add to standard error
+  pub begins : (reader before after : Option (List ℕ)) → Type 0
+  -- it may add remarks on its input
   pub may_tell : Type 0
 
 -- a text alone is right, if it is a right answer
 abbrev pub alone : Right → Makes
-alone right (Ok made) = right (Ok made.text) × (made.told ≡ []) × (made.missing ≡ 0)
+alone right (Ok made) = right (Ok made.text) × (made.remarks ≡ []) × (made.missing ≡ 0)
 alone right (Err complaint) = right (Err complaint)
 
--- a task of which nothing is told before the last line
+-- a task without remarks: nothing is written to standard error before the last line
 abbrev pub silent_task : (reads whole : Bool) → (List ℕ → Makes) → Task
 silent_task reads whole right = record {
   right = right;
   reads = reads;
   refuses = reads;
   whole = whole;
-  begins = λ known before after. Appends before after [];
+  begins = λ reader before after. Appends before after [];
   may_tell = ⊥;
 }
 

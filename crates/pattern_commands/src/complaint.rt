@@ -1,3 +1,5 @@
+//! Why a command did not do all that was asked, and the line and the status that say so.
+
 ghost use Rattle.std.specs.Prelude.{◌≡◌, false};
 ghost use Rattle.plane_core.specs.Out.{Writes};
 ghost use Rattle.pattern_commands.specs.Complaints.{complaint_line, missing_line, status_of};
@@ -27,7 +29,7 @@ pub enum Complaint {
     Memory(OutOfMemory),
     /// A read failed.
     ReadFailed(ReadError),
-    /// The input is longer than a command reads. It is told as a read that failed.
+    /// The input is longer than a command reads. It is reported as a read that failed.
     TooLong,
     /// A write to standard output failed.
     WriteFailed(WriteError),

@@ -1,3 +1,5 @@
+//! How a command ends: with its last line on standard error, if it has one, and with its status.
+
 ghost use Rattle.std.specs.Prelude.{◌≡◌, OnOk, false, true};
 ghost use Rattle.pattern_commands.specs.Complaints.{complaint_line, status_of};
 ghost use Rattle.pattern_commands.specs.Ends.{HasLast, status_after};

@@ -1,3 +1,5 @@
+//! Inputs that are read whole, up to a limit.
+
 ghost use Rattle.std.specs.Prelude.{◌≡◌, ◌≢◌, ◌<◌, ◌≤◌, ◌^◌, ℕ, Err, List, IfOk, IfSome, length, vec_len};
 ghost use Rattle.memory.specs.Evidence.{out_of_memory};
 ghost use Rattle.pattern_commands.specs.Answers.{IsInput};
@@ -54,9 +56,9 @@ impl<E: Into<OutOfMemory>> From<E> for InputError {
 /// `Unreadable` if a read fails, `TooLong` if there are more than [`INPUT_LIMIT`] bytes, and `Memory`. How much of the
 /// input was read by then is left open.
 pub fn read_input<R: Read>(alloc: Global, input: &mut R) -> Result<Vec<u8>, InputError>
-    ensures whole { IfOk result (λ bytes. IfSome (R.remaining input.old) (λ known. bytes.items ≡ known)) }
+    ensures whole { IfOk result (λ bytes. IfSome (R.remaining input.old) (λ reader. bytes.items ≡ reader)) }
     ensures short { IfOk result (λ bytes. vec_len bytes ≤ 2 ^ 24) }
-    ensures long { result ≡ Err TooLong → IfSome (R.remaining input.old) (λ known. 2 ^ 24 < length known) }
+    ensures long { result ≡ Err TooLong → IfSome (R.remaining input.old) (λ reader. 2 ^ 24 < length reader) }
 {
     let mut bytes = Vec::new(alloc);
     let mut limited = Read::take(input, INPUT_LIMIT as u64 + 1);

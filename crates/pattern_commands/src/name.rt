@@ -1,3 +1,11 @@
+//! `name`: when the pattern of the input has settled, and into which objects.
+//!
+//! ```text
+//! profile ── rule ── input ── pattern ── survey ── finding ── a line for each code
+//!    │        │        │
+//!    └────────┴────────┴─ refused
+//! ```
+
 ghost use Rattle.std.specs.Prelude.{◌≡◌, ◌&&◌, ◌++◌, ℕ, List, codes, decimal, false, flat_map, is_ok, IsErr, IfErr};
 ghost use Rattle.std.specs.Prelude.{IfOk, true};
 ghost use Rattle.memory.specs.Evidence.{out_of_memory};

@@ -1,3 +1,5 @@
+//! What is buffered: the output of a command until it has ended, and a line of standard error until it is whole.
+
 ghost use Rattle.std.specs.Prelude.{◌≡◌, ◌≢◌, true, false, []};
 ghost use Rattle.std.specs.Io.Buffered.{writer_buffer, writer_contents};
 ghost use Rattle.std.specs.Io.KnownBytes.{Keeps};

@@ -1,3 +1,5 @@
+//! The numbers of a profile, as words ask for them.
+
 ghost use Rattle.std.specs.Prelude.{◌≡◌};
 ghost use Rattle.pattern_commands.specs.Profiles.{AreInRange, profile_named};
 

@@ -1,4 +1,5 @@
 //! A read that failed.
+
 ghost use Rattle.std.specs.Prelude.{◌≡◌, ◌≢◌, ◌^◌, ◌+◌};
 ghost use Rattle.std.specs.IoError.{error_kind};
 ghost use Rattle.std.specs.declared.io.ErrorKind.TheVariants.{OutOfMemory};
@@ -26,6 +27,7 @@ impl ReadError {
     pub fn after(reads: u64) -> ReadError
         requires { reads + 1 ≡ 2 ^ 64 }
     {
+        // The number is needed in the condition alone.
         let _reads = reads;
         ReadError { kind: None }
     }

@@ -1,3 +1,5 @@
+//! Why a text or an input is refused, and the line that says so.
+
 ghost use Rattle.std.specs.Prelude.{◌≡◌, ◌++◌, false, codes, decimal};
 ghost use Rattle.plane_core.specs.Out.{Writes};
 ghost use Rattle.pattern_commands.specs.Complaints.{refusal_line};

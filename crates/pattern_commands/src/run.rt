@@ -1,3 +1,11 @@
+//! `run`: the pattern of the input some generations later, as plaintext.
+//!
+//! ```text
+//! rule ── input ── pattern ── run ── plaintext
+//!   │       │                  │
+//!   └───────┴─ refused         └─ out of memory
+//! ```
+
 ghost use Rattle.std.specs.Prelude.{◌≡◌, ◌≤◌, ℕ, List, false, is_ok, IsErr, IfOk, IfErr, true};
 ghost use Rattle.memory.specs.Evidence.{out_of_memory};
 ghost use Rattle.plane_core.specs.Generations.{after};

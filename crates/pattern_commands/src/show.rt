@@ -1,3 +1,10 @@
+//! `show`: the object that a code names, as plaintext.
+//!
+//! ```text
+//! xp2_7 ── cut at the first _ ──┬─ xp2    a kind and a number, or it is no code
+//!                               └─ 7 ── read_wechsler ── pattern ── plaintext
+//! ```
+
 ghost use Rattle.std.specs.Prelude.{◌≡◌, ℕ, List, Option, Some, IfErr, IfOk, false, option_map, true};
 ghost use Rattle.std.specs.Char.{is_ascii_digit};
 ghost use Rattle.std.specs.List.{list_all};
@@ -36,7 +43,7 @@ pub fn do_show<W: Write, E: Write>(
 ) -> Status
     requires output { output.old.failed ≡ false }
     requires errors { errors.old.failed ≡ false }
-    ensures ends { (known : Option (List ℕ)) (bytes : List ℕ) → Ends (show_task code.now) known bytes result
+    ensures ends { (reader : Option (List ℕ)) (bytes : List ℕ) → Ends (show_task code.now) reader bytes result
         (stream W.contents output.old output.new) (stream E.contents errors.old errors.new) }
     ensures untouched { result ≡ Status.Refused → output.new ≡ output.old }
     ensures no_memory { result ≡ Status.Memory → output.new ≡ output.old }

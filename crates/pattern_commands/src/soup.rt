@@ -1,3 +1,5 @@
+//! `soup`: a random start pattern, as plaintext.
+
 ghost use Rattle.std.specs.Prelude.{◌≡◌, ◌<◌, ◌^◌, ℕ, List, Option, IfErr, false, true};
 ghost use Rattle.memory.specs.Evidence.{out_of_memory};
 ghost use Rattle.pattern_commands.specs.Answers.{only};
@@ -38,7 +40,7 @@ pub fn do_soup<W: Write, E: Write>(
     requires number { number < 2 ^ 40 }
     requires output { output.old.failed ≡ false }
     requires errors { errors.old.failed ≡ false }
-    ensures ends { (known : Option (List ℕ)) (bytes : List ℕ) → Ends (soup_task seed_text.now number) known bytes result
+    ensures ends { (reader : Option (List ℕ)) (bytes : List ℕ) → Ends (soup_task seed_text.now number) reader bytes result
         (stream W.contents output.old output.new) (stream E.contents errors.old errors.new) }
     ensures untouched { result ≡ Status.Refused → output.new ≡ output.old }
     ensures no_memory { result ≡ Status.Memory → output.new ≡ output.old }

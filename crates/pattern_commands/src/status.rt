@@ -1,3 +1,5 @@
+//! How a command ended, as a shell sees it.
+
 ghost use Rattle.std.specs.Prelude.{◌≡◌};
 ghost use Rattle.pattern_commands.specs.Status.{exit_code};
 

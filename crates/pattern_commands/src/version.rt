@@ -1,3 +1,5 @@
+//! `--version`: the program's name and version.
+
 ghost use Rattle.std.specs.Prelude.{◌≡◌, ◌≢◌, ℕ, List, Option, false, true, IfErr};
 ghost use Rattle.plane_core.specs.declared.output.WriteError.{WriteError};
 ghost use Rattle.pattern_commands.specs.Answers.{only};
@@ -23,8 +25,9 @@ use std::io::Write;
 pub fn do_version<W: Write, E: Write>(output: &mut Out<W>, errors: &mut Out<E>) -> Status
     requires output { output.old.failed ≡ false }
     requires errors { errors.old.failed ≡ false }
-    ensures ends { (known : Option (List ℕ)) (bytes : List ℕ) → Ends version_task known bytes result
+    ensures ends { (reader : Option (List ℕ)) (bytes : List ℕ) → Ends version_task reader bytes result
         (stream W.contents output.old output.new) (stream E.contents errors.old errors.new) }
+    ensures failed { result ≢ Status.Done → result ≡ Status.Failed }
     ensures status { result ≢ Status.Refused }
     ensures no_memory { result ≢ Status.Memory }
 {

@@ -1,3 +1,10 @@
+//! Sets of soup numbers, as ranges.
+//!
+//! ```text
+//! 10+2, 0+4, 4+1      any ranges: first+count
+//! 0+5, 10+2           their normal form: ascending, none empty, none touching the next
+//! ```
+
 ghost use Rattle.std.specs.Prelude.{◌≡◌, ◌↔◌, ◌≤◌, ◌+◌, ◌++◌, IfOk, IfNone, IfSome, IsTrue, All, OnOk, if◌then◌else◌};
 ghost use Rattle.std.specs.List.{filter, list_any};
 ghost use Rattle.std.specs.List.Sorted.{IsNonDecreasingBy, IsPermutation};

@@ -36,6 +36,7 @@ fn cluster_count(alloc: Global, pattern: &Pattern) -> Result<usize, OutOfMemory>
     ensures { IfOk result
         (λ count. (clusters : List (List Place)) → AreClusters pattern.now clusters → count ≡ length clusters) }
 {
+    // For the prover: a pattern has one number of clusters.
     clusters_are_determined();
     let clusters = pattern.clusters(alloc)?;
     Ok(clusters.len())

@@ -13,22 +13,6 @@ use Rattle.words.specs.Requests.{asked_by}
 use Rattle.words.specs.Table.{commands}
 use Rattle.words.specs.Table as table
 use Rattle.words.specs.Uses.{Use, entry_in, is_used, words_in, words_of}
-use Rattle.clap.specs.Words.{kind_of}
-use Rattle.clap.specs.declared.error.kind.ErrorKind.TheVariants.{OutOfMemory}
-use Rattle.words.specs.declared.calls.Unasked.{Unasked}
-use Rattle.words.specs.declared.calls.Unasked.TheVariants.{Memory, Unread, Usage}
-
--- the words are not understood, or ask for help
-abbrev pub IsUsage : Unasked → Type 0
-IsUsage (Usage text) = Unit {0}
-IsUsage (Unread error) = ⊥
-IsUsage (Memory error) = ⊥
-
--- where the words could not be read, that is what the error says
-abbrev pub IsUnread : Unasked → Type 0
-IsUnread (Usage text) = Unit {0}
-IsUnread (Unread error) = kind_of error ≡ OutOfMemory
-IsUnread (Memory error) = Unit {0}
 
 -- The command's name and then its arguments, each at most once, in any order, with values that they take, ask for this request if no
 -- argument that has to be there is missing.

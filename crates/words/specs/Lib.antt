@@ -9,5 +9,6 @@ pub mod Plans
 pub mod Reading
 pub mod Requests
 pub mod Table
+pub mod Unasked
 pub mod Uses
 pub mod Values

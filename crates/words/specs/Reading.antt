@@ -39,23 +39,23 @@ gather_from (Some plan) (Some workers) = Some (Gather plan workers)
 gather_from _ _ = None
 
 -- each command, with what was found for its arguments
-abbrev pub run_in : List Row → Option Request
-run_in rows = run_from (number_found generations rows) (text_found rule rows)
+abbrev pub run_request : List Row → Option Request
+run_request rows = run_from (number_found generations rows) (text_found rule rows)
 
-abbrev pub name_in : List Row → Option Request
-name_in rows = name_from (profile_in rows) (text_found rule rows)
+abbrev pub name_request : List Row → Option Request
+name_request rows = name_from (profile_in rows) (text_found rule rows)
 
-abbrev pub show_in : List Row → Option Request
-show_in rows = show_from (text_found code rows)
+abbrev pub show_request : List Row → Option Request
+show_request rows = show_from (text_found code rows)
 
-abbrev pub soup_in : List Row → Option Request
-soup_in rows = soup_from (number_found number rows) (text_found seed rows)
+abbrev pub soup_request : List Row → Option Request
+soup_request rows = soup_from (number_found number rows) (text_found seed rows)
 
-abbrev pub take_in : List Row → Option Request
-take_in rows = take_from (is_given progress rows) (plan_in rows) (number_found workers rows)
+abbrev pub take_request : List Row → Option Request
+take_request rows = take_from (is_given progress rows) (plan_in rows) (number_found workers rows)
 
-abbrev pub work_in : List Row → Option Request
-work_in rows = work_from (plan_in rows) (number_found worker rows)
+abbrev pub work_request : List Row → Option Request
+work_request rows = work_from (plan_in rows) (number_found worker rows)
 
-abbrev pub gather_in : List Row → Option Request
-gather_in rows = gather_from (plan_in rows) (number_found workers rows)
+abbrev pub gather_request : List Row → Option Request
+gather_request rows = gather_from (plan_in rows) (number_found workers rows)

@@ -7,18 +7,18 @@ use Rattle.words.specs.declared.request.Request.{Request}
 use Rattle.words.specs.declared.request.Request.TheVariants.{Version}
 use Rattle.words.specs.Application.{census_app}
 pub use Rattle.words.specs.NumbersInRange.{AreInTheirRanges, AreProfileNumbers}
-use Rattle.words.specs.Reading.{gather_in, name_in, run_in, show_in, soup_in, take_in, work_in}
+use Rattle.words.specs.Reading.{gather_request, name_request, run_request, show_request, soup_request, take_request, work_request}
 
 -- the command of this name, with its values
 abbrev pub request_in : Text × List Row → Option Request
 request_in found =
-    if bytes_eq found.0 (codes "run") then run_in found.1
-    else if bytes_eq found.0 (codes "name") then name_in found.1
-    else if bytes_eq found.0 (codes "show") then show_in found.1
-    else if bytes_eq found.0 (codes "soup") then soup_in found.1
-    else if bytes_eq found.0 (codes "take") then take_in found.1
-    else if bytes_eq found.0 (codes "work") then work_in found.1
-    else if bytes_eq found.0 (codes "gather") then gather_in found.1
+    if bytes_eq found.0 (codes "run") then run_request found.1
+    else if bytes_eq found.0 (codes "name") then name_request found.1
+    else if bytes_eq found.0 (codes "show") then show_request found.1
+    else if bytes_eq found.0 (codes "soup") then soup_request found.1
+    else if bytes_eq found.0 (codes "take") then take_request found.1
+    else if bytes_eq found.0 (codes "work") then work_request found.1
+    else if bytes_eq found.0 (codes "gather") then gather_request found.1
     else None
 
 -- a request, if nothing is wrong with the words

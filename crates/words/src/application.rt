@@ -1,3 +1,10 @@
+//! The program as `clap` reads words by it, made from the table.
+//!
+//! ```text
+//! COMMANDS ── a row ── command ──┐
+//!               └─ arguments ────┴─ program with its commands
+//! ```
+
 ghost use Rattle.std.specs.Prelude.{◌≡◌, IfOk, map, true, false};
 ghost use Rattle.clap.specs.Words.{app_of, rule_of, shape_of, with_rule, with_subcommand};
 ghost use Rattle.clap.specs.declared.builder.command.Command.TheViews.{out-Command as fields_of};

@@ -1,12 +1,24 @@
-ghost use Rattle.std.specs.Prelude.{◌≡◌, ◌≢◌, None, Some, IfOk, IfErr, IfSome, map, option_and_then};
+//! From the words of a call to its request, or to why there is none.
+//!
+//! ```text
+//! words ──┬─ --version or -V alone ───────────────> Request::Version
+//!         └─ clap ──┬─ a command with its values ──> its request
+//!                   └─ an error ──────────────────> a text that ends with a line feed, or want of memory
+//! ```
+
+ghost use Rattle.std.specs.Prelude.{◌≡◌, ◌≢◌, ◌<◌, false, None, Some, IfOk, IfErr, IfSome, IsTrue, length, map};
+ghost use Rattle.std.specs.Prelude.{option_and_then, string_bytes};
 ghost use Rattle.memory.specs.Evidence.{out_of_memory};
 ghost use Rattle.clap.specs.Words.{found_of, kind_of, rows_of, subcommand_rows_of};
-ghost use Rattle.words.specs.Calls.{AskForTheirValues, AsksForVersion, IsUnread, IsUsage, NoCommandAsksForNothing};
-ghost use Rattle.words.specs.Calls.{OthersAskForNothing};
+ghost use Rattle.words.specs.Calls.{AskForTheirValues, AsksForVersion, NoCommandAsksForNothing, OthersAskForNothing};
+ghost use Rattle.words.specs.Unasked.{IsUsage, IsUsageText, SaysWhy};
 ghost use Rattle.words.specs.Requests.{AreInTheirRanges, asked_by, asks_version, request_in};
 
 use crate::application::census_command;
-use crate::reading::{gather_in, name_in, run_in, show_in, soup_in, take_in, work_in};
+use crate::reading::{
+    gather_request, name_request, run_request, show_request, soup_request, take_request,
+    work_request,
+};
 use crate::request::Request;
 use clap::ArgMatches;
 use clap::error::ErrorKind;
@@ -14,10 +26,13 @@ use memory::OutOfMemory;
 use std::alloc::Global;
 use std::convert::AsStr;
 
+/// What is said of words where `clap` says nothing.
+const NOT_UNDERSTOOD: &str = "error: the words are not understood";
+
 /// Why words give no request.
 #[derive(Debug, Drop)]
 pub enum Unasked {
-    /// They are not understood, or ask for help: the text that says so.
+    /// They are not understood, or ask for help: the text that says so, which ends with a line feed.
     Usage(String),
     /// Memory ran out while they were read: `clap`'s own error says so.
     Unread(clap::Error),
@@ -45,7 +60,8 @@ pub fn request_of<'a, S: AsStr>(alloc: Global, words: &'a [S]) -> Result<Request
     ensures asked { IfOk result (λ request. asked_by (map S.text words.entry.now) ≡ Some request) }
     ensures ranges { IfOk result AreInTheirRanges }
     ensures usage { IfErr result (λ unasked. IsUsage unasked → asked_by (map S.text words.entry.now) ≡ None) }
-    ensures unread { IfErr result IsUnread }
+    ensures why { IfErr result SaysWhy }
+    ensures version { IfErr result (λ _. asks_version (map S.text words.entry.now) ≡ false) }
 {
     if asks_version(words) {
         return Ok(Request::Version);
@@ -54,7 +70,7 @@ pub fn request_of<'a, S: AsStr>(alloc: Global, words: &'a [S]) -> Result<Request
     match command.try_get_matches_from(words) {
         Ok(matches) => match request_in(&matches) {
             Some(request) => Ok(request),
-            None => Err(usage(alloc, "error: a value is missing\n")),
+            None => Err(usage(alloc, "error: a value is missing")),
         },
         Err(error) => Err(unasked_by(alloc, error)),
     }
@@ -86,7 +102,7 @@ pub fn no_command_asks_for_nothing()
 {}
 
 /// Whether the words are the program's name and `--version` or `-V` alone.
-fn asks_version<S: AsStr>(words: &[S]) -> bool
+pub fn asks_version<S: AsStr>(words: &[S]) -> bool
     ensures { result ≡ asks_version (map S.text words.now) }
 {
     match words {
@@ -110,13 +126,13 @@ fn request_named<'a>(name: &str, found: &ArgMatches<'a>) -> Option<Request<'a>>
     ensures ranges { IfSome result AreInTheirRanges }
 {
     match name {
-        "run" => run_in(found),
-        "name" => name_in(found),
-        "show" => show_in(found),
-        "soup" => soup_in(found),
-        "take" => take_in(found),
-        "work" => work_in(found),
-        "gather" => gather_in(found),
+        "run" => run_request(found),
+        "name" => name_request(found),
+        "show" => show_request(found),
+        "soup" => soup_request(found),
+        "take" => take_request(found),
+        "work" => work_request(found),
+        "gather" => gather_request(found),
         _ => None,
     }
 }
@@ -124,23 +140,65 @@ fn request_named<'a>(name: &str, found: &ArgMatches<'a>) -> Option<Request<'a>>
 /// What `clap`'s error says of words that name no command, or ask for help.
 fn unasked_by(alloc: Global, error: clap::Error) -> Unasked
     ensures usage { IsUsage result → kind_of error ≢ ErrorKind.OutOfMemory }
-    ensures unread { IsUnread result }
+    ensures why { SaysWhy result }
 {
     if matches!(error.kind(), ErrorKind::OutOfMemory) {
         return Unasked::Unread(error);
     }
-    match error.to_string(alloc) {
+    match text_of(alloc, &error) {
         Ok(text) => Unasked::Usage(text),
-        Err(refused) => Unasked::from(refused),
+        Err(refused) => Unasked::Memory(refused),
     }
 }
 
 /// The usage fault with this text.
 fn usage(alloc: Global, text: &str) -> Unasked
-    ensures { IsUnread result }
+    ensures { SaysWhy result }
 {
-    match String::from_str(alloc, text) {
+    match usage_text(alloc, text) {
         Ok(text) => Unasked::Usage(text),
-        Err(refused) => Unasked::from(refused),
+        Err(refused) => Unasked::Memory(refused),
+    }
+}
+
+/// The text of `clap`'s error, as the program prints it.
+fn text_of(alloc: Global, error: &clap::Error) -> Result<String, OutOfMemory>
+    ensures { IfOk result (λ text. IsUsageText (string_bytes text)) }
+{
+    let text = error.to_string(alloc)?;
+    usage_text(alloc, text.as_str())
+}
+
+/// The text, with a line feed at its end if it lacks one. A text of nothing becomes one that says something.
+fn usage_text(alloc: Global, text: &str) -> Result<String, OutOfMemory>
+    ensures { IfOk result (λ text. IsUsageText (string_bytes text)) }
+{
+    let text = some_text(text);
+    let mut told = String::from_str(alloc, text)?;
+    if is_ended(text.as_bytes()) {
+        return Ok(told);
+    }
+    told.push_str("\n")?;
+    Ok(told)
+}
+
+/// The text, or another where it is empty.
+fn some_text(text: &str) -> &str
+    ensures { 0 < length result.now }
+{
+    if text.is_empty() {
+        NOT_UNDERSTOOD
+    } else {
+        text
+    }
+}
+
+/// Whether a text has a line feed at its end, and something before that.
+fn is_ended(text: &[u8]) -> bool
+    ensures { IsTrue result → IsUsageText text.now }
+{
+    match text.split_last() {
+        Some((last, front)) => *last == b'\n' && !front.is_empty(),
+        None => false,
     }
 }

@@ -1,8 +1,17 @@
+//! The request of each command, put together from the values of its arguments.
+//!
+//! ```text
+//! what clap found ── a value for each row ──┬─ profile ─┐
+//!                                           ├─ set ─────┼─ plan ── request
+//!                                           └─ rule ────┘
+//! ```
+
 ghost use Rattle.std.specs.Prelude.{◌≡◌, IfSome};
 ghost use Rattle.clap.specs.Words.{found_of, rows_of};
 ghost use Rattle.words.specs.NumbersInRange.{AreInTheirRanges, ArePlanNumbers, AreProfileNumbers};
 ghost use Rattle.words.specs.Plans.{plan_in, profile_in, set_in};
-ghost use Rattle.words.specs.Reading.{gather_in, name_in, run_in, show_in, soup_in, take_in, work_in};
+ghost use Rattle.words.specs.Reading.{gather_request, name_request, run_request, show_request, soup_request};
+ghost use Rattle.words.specs.Reading.{take_request, work_request};
 ghost use Rattle.words.specs.Table.{count, first};
 ghost use Rattle.words.specs.Values.{IsInRange};
 
@@ -57,8 +66,8 @@ pub fn plan_in<'a>(found: &ArgMatches<'a>) -> Option<Plan<'a>>
 }
 
 /// `run` with its values.
-pub(crate) fn run_in<'a>(found: &ArgMatches<'a>) -> Option<Request<'a>>
-    ensures request { result ≡ run_in (rows_of (found_of found.now)) }
+pub(crate) fn run_request<'a>(found: &ArgMatches<'a>) -> Option<Request<'a>>
+    ensures request { result ≡ run_request (rows_of (found_of found.now)) }
     ensures ranges { IfSome result AreInTheirRanges }
 {
     let generations = number_found(found, &options::GENERATIONS)?;
@@ -70,8 +79,8 @@ pub(crate) fn run_in<'a>(found: &ArgMatches<'a>) -> Option<Request<'a>>
 }
 
 /// `name` with its values.
-pub(crate) fn name_in<'a>(found: &ArgMatches<'a>) -> Option<Request<'a>>
-    ensures request { result ≡ name_in (rows_of (found_of found.now)) }
+pub(crate) fn name_request<'a>(found: &ArgMatches<'a>) -> Option<Request<'a>>
+    ensures request { result ≡ name_request (rows_of (found_of found.now)) }
     ensures ranges { IfSome result AreInTheirRanges }
 {
     let profile = profile_in(found)?;
@@ -80,16 +89,16 @@ pub(crate) fn name_in<'a>(found: &ArgMatches<'a>) -> Option<Request<'a>>
 }
 
 /// `show` with its value.
-pub(crate) fn show_in<'a>(found: &ArgMatches<'a>) -> Option<Request<'a>>
-    ensures { result ≡ show_in (rows_of (found_of found.now)) }
+pub(crate) fn show_request<'a>(found: &ArgMatches<'a>) -> Option<Request<'a>>
+    ensures { result ≡ show_request (rows_of (found_of found.now)) }
 {
     let code = text_found(found, &options::CODE)?;
     Some(Request::Show { code })
 }
 
 /// `soup` with its values.
-pub(crate) fn soup_in<'a>(found: &ArgMatches<'a>) -> Option<Request<'a>>
-    ensures request { result ≡ soup_in (rows_of (found_of found.now)) }
+pub(crate) fn soup_request<'a>(found: &ArgMatches<'a>) -> Option<Request<'a>>
+    ensures request { result ≡ soup_request (rows_of (found_of found.now)) }
     ensures ranges { IfSome result AreInTheirRanges }
 {
     let number = number_found(found, &options::NUMBER)?;
@@ -98,8 +107,8 @@ pub(crate) fn soup_in<'a>(found: &ArgMatches<'a>) -> Option<Request<'a>>
 }
 
 /// `take` with its values.
-pub(crate) fn take_in<'a>(found: &ArgMatches<'a>) -> Option<Request<'a>>
-    ensures request { result ≡ take_in (rows_of (found_of found.now)) }
+pub(crate) fn take_request<'a>(found: &ArgMatches<'a>) -> Option<Request<'a>>
+    ensures request { result ≡ take_request (rows_of (found_of found.now)) }
     ensures ranges { IfSome result AreInTheirRanges }
 {
     let plan = plan_in(found)?;
@@ -112,8 +121,8 @@ pub(crate) fn take_in<'a>(found: &ArgMatches<'a>) -> Option<Request<'a>>
 }
 
 /// `work` with its values.
-pub(crate) fn work_in<'a>(found: &ArgMatches<'a>) -> Option<Request<'a>>
-    ensures request { result ≡ work_in (rows_of (found_of found.now)) }
+pub(crate) fn work_request<'a>(found: &ArgMatches<'a>) -> Option<Request<'a>>
+    ensures request { result ≡ work_request (rows_of (found_of found.now)) }
     ensures ranges { IfSome result AreInTheirRanges }
 {
     let plan = plan_in(found)?;
@@ -125,8 +134,8 @@ pub(crate) fn work_in<'a>(found: &ArgMatches<'a>) -> Option<Request<'a>>
 }
 
 /// `gather` with its values.
-pub(crate) fn gather_in<'a>(found: &ArgMatches<'a>) -> Option<Request<'a>>
-    ensures request { result ≡ gather_in (rows_of (found_of found.now)) }
+pub(crate) fn gather_request<'a>(found: &ArgMatches<'a>) -> Option<Request<'a>>
+    ensures request { result ≡ gather_request (rows_of (found_of found.now)) }
     ensures ranges { IfSome result AreInTheirRanges }
 {
     let plan = plan_in(found)?;

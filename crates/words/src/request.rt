@@ -1,3 +1,5 @@
+//! What the words of a call may ask for: a command with its values.
+
 use crate::text::Text;
 
 /// A command with its values.

@@ -1,3 +1,5 @@
+//! The value of an argument: what `clap` found for it, looked up by its row in the table.
+
 ghost use Rattle.std.specs.Prelude.{◌≡◌, ◌≤◌, IfSome, option_and_then};
 ghost use Rattle.clap.specs.Words.{found_of, rows_of};
 ghost use Rattle.words.specs.Entries.{entry_of};

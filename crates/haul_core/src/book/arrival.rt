@@ -1,3 +1,5 @@
+//! What arrives at a haul, and what is replied.
+
 use crate::book::refused::OfferError;
 use crate::report::Report;
 

@@ -1,3 +1,5 @@
+//! What the soups that a haul has taken left.
+
 use crate::book::census_rows::Rows;
 use ranges::range::Ranges;
 use survey_core::job::Job;

@@ -1,3 +1,5 @@
+//! The rows of a census: of each code how many objects have it, and which soups are its samples.
+
 ghost use Rattle.std.specs.Prelude.{◌≡◌, ◌<◌, ◌^◌, ℕ, List, IfOk, OnOk, map, sum_by};
 ghost use Rattle.std.specs.BTreeMap.{IsOrdered};
 ghost use Rattle.std.specs.Cmp.Lexicographic.{slice_cmp};

@@ -1,3 +1,9 @@
+//! The text of a haul, which is that of its census.
+//!
+//! ```text
+//! census ── head ── ranges ── sums ── totals, a line for each code ── samples, a line for each code
+//! ```
+
 ghost use Rattle.std.specs.Prelude.{◌≡◌, false, map};
 ghost use Rattle.plane_core.specs.Out.{Writes};
 ghost use Rattle.haul_core.specs.HaulLaws.{CompleteHaulsPrintTheSame, SameSoupsPrintTheSame};
@@ -40,6 +46,7 @@ pub fn complete_hauls_print_the_same()
     ensures same { SameSoupsPrintTheSame }
     ensures complete { CompleteHaulsPrintTheSame }
 {
+    // For the prover: soups have the same findings in both censuses.
     findings_are_determined();
 }
 

@@ -1,3 +1,5 @@
+//! The book as a whole: a haul, and any list of arrivals with its replies.
+
 ghost use Rattle.std.specs.Prelude.{◌≡◌, ◌++◌, ◌∷◌, [], List, IfOk, OnErr, OnOk};
 ghost use Rattle.haul_core.specs.BookLaws.{WorkersAreTakenInOrder};
 ghost use Rattle.haul_core.specs.Books.{StandsFor};

@@ -1,3 +1,5 @@
+//! Which numbers of a haul's set no worker has taken.
+
 ghost use Rattle.std.specs.Prelude.{◌≡◌, ◌≤◌, ◌++◌, IfOk, OnOk, filter};
 ghost use Rattle.haul_core.specs.Missing.{numbers_of, numbers_of_range};
 ghost use Rattle.haul_core.specs.MissingSteps.{has_no_worker};

@@ -1,3 +1,5 @@
+//! Why a haul refuses a report.
+
 use crate::report::Report;
 use memory::OutOfMemory;
 use thiserror::Error;

@@ -1,16 +1,23 @@
+//! The samples of a code: the least three numbers of soups that have an object.
+//!
+//! ```text
+//! 5 12 40   and then 7     7 goes before 12, and 40 falls out
+//! 5 7 12
+//! ```
+
 ghost use Rattle.std.specs.Prelude.{◌≡◌, ◌≤◌, ◌++◌, ◌∷◌, [], take};
 ghost use Rattle.haul_core.specs.SampleSteps.{with_each, with_number};
 ghost use Rattle.haul_core.specs.Samples.{IsAscending, LeastThreeAreDetermined};
 
 use std::marker::Model;
 
-/// The most samples of a code.
+/// The most samples of a code: as many as a page of a census shows, and enough to look at more than one.
 pub const MOST_SAMPLES: usize = 3;
 
 /// The least three numbers of soups that have an object, ascending, or all if there are fewer.
 #[derive(Debug, Drop)]
 pub struct Samples {
-    numbers: [u64; 3],
+    numbers: [u64; MOST_SAMPLES],
     count: usize,
 }
 
@@ -40,7 +47,7 @@ impl Samples {
         ensures { result ≡ [] }
     {
         Samples {
-            numbers: [0; 3],
+            numbers: [0; MOST_SAMPLES],
             count: 0,
         }
     }
@@ -95,7 +102,7 @@ pub fn least_three_are_determined()
 {}
 
 /// Puts a number in its place among the first `count`, and returns the one that then goes last.
-fn put(numbers: &mut [u64; 3], count: usize, number: u64) -> u64
+fn put(numbers: &mut [u64; MOST_SAMPLES], count: usize, number: u64) -> u64
     requires few { count ≤ 3 }
     requires ascending { IsAscending (take count numbers.old) }
     ensures { take count numbers.new ++ result ∷ [] ≡ with_number number (take count numbers.old) }

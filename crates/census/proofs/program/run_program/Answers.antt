@@ -63,3 +63,6 @@ pub returns-in-Ok-clause-nothing_left : goal.returns-in-Ok-clause-nothing_left
 returns-in-Ok-clause-nothing_left g c code =
     rw (c.in-Ok.is, ← c.as_slice.ensures.value)
     (c.do_buffered-status.ensures.nothing_left (is_out_of_memory _ (sym c.exit_code.ensures ∙ code)))
+
+pub returns-in-Ok-clause-tells_usage : goal.returns-in-Ok-clause-tells_usage
+returns-in-Ok-clause-tells_usage g c code = c.do_buffered-status.ensures.tells_usage (is_usage _ (sym c.exit_code.ensures ∙ code))

@@ -15,3 +15,11 @@ returns-in-Ok-clause-untouched g c = c.do_request.ensures.spares.untouched
 
 pub returns-in-Ok-clause-no_memory : goal.returns-in-Ok-clause-no_memory
 returns-in-Ok-clause-no_memory g c memory = rw c.in-Ok.ensures.asked (c.do_request.ensures.spares.no_memory memory)
+
+pub returns-in-Err-Usage-clause-tells_usage : goal.returns-in-Err-Usage-clause-tells_usage
+returns-in-Err-Usage-clause-tells_usage g c usage =
+    record {
+      text = c.as_bytes.result.now;
+      says = rw c.as_bytes.ensures.value (rw c.in-Err-Usage.field-0-is at c.in-Err-Usage.ensures.why);
+      line = c.tell_usage.ensures.line;
+    }

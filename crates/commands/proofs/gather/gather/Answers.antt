@@ -21,10 +21,10 @@ gather_into-requires-clause-haul g c = c.in_ok-haul.ensures.opened.opened.stands
 pub returns-clause-gathers : goal.returns-clause-gathers
 returns-clause-gathers g c =
     let is = c.in_ok-haul.ensures.opened in
-    let told = c.gather_into.ensures.gathers in (
-      told.0,
-      told.1,
-      gathers_over c.args.plan.now c.args.workers told.0 _ is.job _ _ _ _ is.named (is_over _ _ _ _ is.opened) told.2,
+    let remarks = c.gather_into.ensures.gathers in (
+      remarks.0,
+      remarks.1,
+      gathers_over c.args.plan.now c.args.workers remarks.0 _ is.job _ _ _ _ is.named (is_over _ _ _ _ is.opened) remarks.2,
     )
 
 pub returns-clause-unread : goal.returns-clause-unread

@@ -14,8 +14,8 @@ returns-in_err-gather_input-clause-gathers g c =
 pub returns-clause-gathers : goal.returns-clause-gathers
 returns-clause-gathers g c =
     let all = c.in_ok-gather_input.ensures.gathered in (
-      all.2.bytes,
-      all.2.input,
+      all.3.bytes,
+      all.3.input,
       gathers_haul c.args.haul.now.terms _ _ _ c.finish.result _ _ all c.gather_input.ensures.terms c.finish.ensures.terms c.finish.ensures.taken
           c.finish.ensures.stands c.finish.ensures.finishes c.in_ok-gather_input.ensures.fine,
     )

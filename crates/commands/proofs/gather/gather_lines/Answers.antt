@@ -17,10 +17,10 @@ loop-before-init g c = record {
 pub returns-in_err-read-clause-ended : goal.returns-in_err-read-clause-ended
 returns-in_err-read-clause-ended g c =
     rw (err_of _ _ c.from_residual.ensures.1)
-    (lines_ended_by g.E.Write.contents _ _ c.args.errors.now _ _ _ _ c.loop-before.errors c.next_line.new.errors
+    (lines_ended_by g.E.Write.contents _ _ _ c.args.errors.now _ _ _ _ c.loop-before.errors c.next_line.new.errors
     c.in_err-read.field-0.0
     c.loop-before.invariant.gathered c.loop-before.invariant.terms c.loop-before.invariant.fine
-    c.in_err-read.ensures.ended)
+    c.in_err-read.ensures.ended c.in_err-read.ensures.part)
 
 pub returns-then-size-gt-GATHER_LIMIT-clause-ended : goal.returns-then-size-gt-GATHER_LIMIT-clause-ended
 returns-then-size-gt-GATHER_LIMIT-clause-ended g c = (
@@ -37,6 +37,7 @@ pub returns-in-Input-clause-gathered : goal.returns-in-Input-clause-gathered
 returns-in-Input-clause-gathered g c = (
   _,
   c.if-size-gt-GATHER_LIMIT.false,
+  _,
   goes_no_further _ _ c.in_ok-read.read.end c.in-Input.is
       (c.in_ok-read.ensures.going _ c.args.errors.now _ c.loop-before.invariant.gathered),
 )

@@ -2,21 +2,22 @@ use Rattle.std.proofs.Common.{◌∙◌, Err, ap, arith}
 use Rattle.pattern_commands.proofs.AnswerLemmas.{err_of}
 use Rattle.pattern_commands.specs.Streams.{stream}
 use Rattle.commands.proofs.GatherLemmas.{goes_on, next_read, next_unread, no_more}
+use Rattle.commands.proofs.LineLemmas.{part_of_line}
 use Rattle.commands.proofs.gather.next_line.Goals as goal
 
 pub returns-in_ok-take_line-clause-short : goal.returns-in_ok-take_line-clause-short
 returns-in_ok-take_line-clause-short g c = c.in_ok-read.ensures.read.short
 
 pub returns-in_ok-take_line-clause-going : goal.returns-in_ok-take_line-clause-going
-returns-in_ok-take_line-clause-going g c known first size gathered =
+returns-in_ok-take_line-clause-going g c reader first size gathered =
     let read = c.in_ok-read.ensures.read in
-    let by = c.in_ok-take_line.ensures.come read.line gathered.lines gathered.told (c.as_slice.ensures.value ∙ read.kept_is) gathered.count_is gathered.come in
-    goes_on g.E.Write.contents known _ _ first c.args.errors.now c.take_line.new.errors _ size _ _ _ c.in_ok-read.read
+    let by = c.in_ok-take_line.ensures.come read.line gathered.lines gathered.remarks (c.as_slice.ensures.value ∙ read.kept_is) gathered.count_is gathered.come in
+    goes_on g.E.Write.contents reader _ _ first c.args.errors.now c.take_line.new.errors _ size _ _ _ c.in_ok-read.read
     gathered read c.if-read-gt0.true by
 
 pub returns-else-read-gt0-clause-going : goal.returns-else-read-gt0-clause-going
-returns-else-read-gt0-clause-going g c known first size gathered =
-    no_more known _ _ (stream g.E.Write.contents first c.args.errors.now) _ size _ _ c.in_ok-read.read gathered
+returns-else-read-gt0-clause-going g c reader first size gathered =
+    no_more reader _ _ (stream g.E.Write.contents first c.args.errors.now) _ size _ _ c.in_ok-read.read gathered
     c.in_ok-read.ensures.read
     (omega (arith, c.if-read-gt0.false))
 
@@ -29,3 +30,10 @@ pub returns-in_err-take_line-clause-ended : goal.returns-in_err-take_line-clause
 returns-in_err-take_line-clause-ended g c =
     rw (err_of _ _ c.from_residual-in_err-take_line.ensures.1)
     (next_read _ _ _ c.in_err-take_line.field-0.0 c.in_err-take_line.ensures.ended)
+
+pub returns-in_err-read-clause-part : goal.returns-in_err-read-clause-part
+returns-in_err-read-clause-part g c = rw (err_of _ _ c.from_residual.ensures.1) c.in_err-read.ensures.part
+
+pub returns-in_err-take_line-clause-part : goal.returns-in_err-take_line-clause-part
+returns-in_err-take_line-clause-part g c =
+    rw (err_of _ _ c.from_residual-in_err-take_line.ensures.1) (part_of_line _ _ _ c.in_ok-read.read c.in_ok-read.ensures.read)

@@ -17,4 +17,4 @@ returns-in-Err-offer-clause-come c line arrivals kept stands =
     let worker = sym c.worker-worker.ensures.worker in
     let number = sym c.number-number.ensures.number in
     refused_told _ _ _ arrivals report c.in-Err-offer.refused.reason c.fault_of.result (search rules) (said.reply arrivals stands) c.fault_of.ensures.answered
-    (c.fault_of.ensures.told report worker number) (λ memory. said.stands arrivals stands (search rules))
+    (c.fault_of.ensures.fault report worker number) (λ memory. said.stands arrivals stands (search rules))

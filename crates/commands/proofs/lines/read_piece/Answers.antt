@@ -2,7 +2,7 @@ use Rattle.std.proofs.Common.{◌∙◌, ◌+◌, ◌^◌, ap, length, length-ta
 use Rattle.std.specs.Io.BufRead.{FillKeeps}
 use Rattle.std.proofs.BufReadLemmas.{Consumes_shown}
 use Rattle.std.specs.Io.KnownBytes.{Consumes}
-use Rattle.commands.proofs.LineLemmas.{nothing_read}
+use Rattle.commands.proofs.LineLemmas.{nothing_read, on_err}
 use Rattle.commands.proofs.lines.read_piece.Goals as goal
 
 pub returns-in-Err-clause-read : goal.returns-in-Err-clause-read
@@ -26,3 +26,9 @@ returns-clause-read g c =
         last = λ end. moved.1 (ap length (piece.last end));
       },
     )
+
+pub returns-in-Err-clause-kept : goal.returns-in-Err-clause-kept
+returns-in-Err-clause-kept g c = on_err c.after_error.result c.fill_buf.follows.holds-at-none.0
+
+pub returns-in_err-extend_from_slice-clause-kept : goal.returns-in_err-extend_from_slice-clause-kept
+returns-in_err-extend_from_slice-clause-kept g c = on_err c.from_residual.result c.fill_buf.follows.holds-at-none.0

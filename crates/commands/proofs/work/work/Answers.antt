@@ -1,10 +1,10 @@
-use Rattle.std.proofs.Common.{◌≡◌, refl}
+use Rattle.std.proofs.Common.{◌≡◌, inl, refl}
 use Rattle.std.proofs.KnownBytes.{Appends-nil}
 use Rattle.commands.specs.Work.{TellsReports, work_right}
 use Rattle.pattern_commands.proofs.AnswerLemmas.{err_of}
 use Rattle.commands.proofs.StillLemmas.{reports_accepted}
 use Rattle.commands.proofs.TakeLemmas.{Reaches_stopped, Stops_opening}
-use Rattle.commands.proofs.WorkLemmas.{reaches_work}
+use Rattle.commands.proofs.WorkLemmas.{reaches_work, whole_lines}
 use Rattle.commands.proofs.work.work.Goals as goal
 
 pub returns-in_err-haul-clause-reached : goal.returns-in_err-haul-clause-reached
@@ -26,3 +26,10 @@ returns-in_err-haul-clause-untouched g c = rw (err_of _ _ c.from_residual.ensure
 pub returns-clause-untouched : goal.returns-clause-untouched
 returns-clause-untouched g c =
     reports_accepted (c.put_all.new.output ≡ c.args.output.now) _ _ _ c.put_all.result _ c.put_all.ensures
+
+pub returns-in_err-haul-clause-whole_lines : goal.returns-in_err-haul-clause-whole_lines
+returns-in_err-haul-clause-whole_lines g c = rw (err_of _ _ c.from_residual.ensures.1) (λ is. inl (Appends-nil _))
+
+pub returns-clause-whole_lines : goal.returns-clause-whole_lines
+returns-clause-whole_lines g c =
+    whole_lines c.args.plan.now c.args.worker c.in_ok-haul.haul c.put_all.result _ c.in_ok-haul.ensures.opened c.put_all.ensures

@@ -69,10 +69,11 @@ impl Haul {
 }
 
 /// The law that the census of a joined haul has the sums of the two censuses: of soups, of unsettled ones, of those
-/// that stay for good, of objects, and of the total of each code.
+/// that stay for good, of objects, and of the total of each code; and of each code the least three samples of both.
 pub fn joined_hauls_add_up()
     ensures { JoinedHaulsAddUp }
 {
+    // For the prover: a soup has the same finding in each census.
     findings_are_determined();
 }
 

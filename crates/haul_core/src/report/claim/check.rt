@@ -79,6 +79,7 @@ impl Claim {
         if !is_same_job(&self.job, job) {
             return Err((self, CheckError::OtherJob));
         }
+        // For the prover: a finding that differs from the soup's shows that the claim is wrong.
         findings_are_determined();
         let report = match Report::make_with(alloc, job, self.worker, self.number, memo) {
             Ok(report) => report,

@@ -1,3 +1,5 @@
+//! The codes that a claim names, whether there are such objects or not.
+
 ghost use Rattle.std.specs.Prelude.{◌≡◌, IfOk};
 ghost use Rattle.code_core.specs.Apgcodes.{HasCodeShape};
 

@@ -13,10 +13,18 @@ ghost use Rattle.haul_core.specs.ReportLines.{count_field, mark_field, profile_f
 ghost use Rattle.haul_core.specs.LawfulClaims.{IsCount};
 ghost use Rattle.haul_core.specs.Reports.{IsWorker};
 
+use crate::report::MOST_WORKERS;
 use plane_core::rule::Rule;
+use ranges::range::NUMBER_BOUND;
 use ranges::range_list::first_decimal;
 use survey_core::profile::Profile;
 use survey_core::seed::Seed;
+
+/// The greatest limit of a profile. No other number of a profile, and no checkpoint, is greater.
+const MOST_GENERATIONS: u64 = 100_000;
+
+/// How long an apgcode may be: none is longer, by the law `codes_have_their_shape`.
+const MOST_CODE_BYTES: usize = 400;
 
 /// The front of a text up to the first such byte, and the text after the byte, if there is one.
 pub(crate) fn cut_at(byte: u8, text: &[u8]) -> (&[u8], Option<&[u8]>)
@@ -68,7 +76,7 @@ pub(crate) fn worker_in(field: &[u8]) -> Option<u8>
     ensures { Tells IsWorker (λ n. codes "worker=" ++ decimal n) field.now result }
 {
     let number = number_after(b"worker=", field)?;
-    let known = is_from_to(1, 16, number);
+    let known = is_from_to(1, u64::from(MOST_WORKERS), number);
     if known { Some(number as u8) } else { None }
 }
 
@@ -93,7 +101,11 @@ pub(crate) fn soup_in(field: &[u8]) -> Option<u64>
     ensures { Tells (λ n. n < 2 ^ 40) (λ n. codes "soup=" ++ decimal n) field.now result }
 {
     let number = number_after(b"soup=", field)?;
-    if number < 1 << 40 { Some(number) } else { None }
+    if number < NUMBER_BOUND {
+        Some(number)
+    } else {
+        None
+    }
 }
 
 /// The checkpoint that a field names.
@@ -101,7 +113,7 @@ pub(crate) fn checkpoint_in(field: &[u8]) -> Option<u32>
     ensures { Tells (λ n. n ≤ 100000) (λ n. codes "at=" ++ decimal n) field.now result }
 {
     let number = number_after(b"at=", field)?;
-    if number <= 100_000 {
+    if number <= MOST_GENERATIONS {
         Some(number as u32)
     } else {
         None
@@ -156,7 +168,7 @@ fn small_number_in(text: &[u8]) -> Option<u32>
     ensures { Tells IsSmall decimal text.now result }
 {
     let number = number_in(text)?;
-    if number <= 100_000 {
+    if number <= MOST_GENERATIONS {
         Some(number as u32)
     } else {
         None
@@ -225,7 +237,7 @@ pub(crate) fn is_code(text: &[u8]) -> bool
     ensures { IsTrue result ↔ HasCodeShape text.now }
 {
     let length = text.len();
-    1 <= length && length <= 400 && are_code_bytes(text)
+    1 <= length && length <= MOST_CODE_BYTES && are_code_bytes(text)
 }
 
 /// Whether all bytes may stand in a code.

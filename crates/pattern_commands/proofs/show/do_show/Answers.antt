@@ -5,8 +5,8 @@ use Rattle.pattern_commands.proofs.TextLemmas.{text_ends, text_memory, text_refu
 use Rattle.pattern_commands.proofs.show.do_show.Goals as goal
 
 pub returns-clause-ends : goal.returns-clause-ends
-returns-clause-ends g c known bytes =
-    text_ends false true (λ _. only (show_answer c.args.code.now)) known bytes c.show-outcome.result _ _ _ c.show-outcome.ensures.reached c.tell_end_of_text.ensures.status
+returns-clause-ends g c reader bytes =
+    text_ends false true (λ _. only (show_answer c.args.code.now)) reader bytes c.show-outcome.result _ _ _ c.show-outcome.ensures.reached c.tell_end_of_text.ensures.status
     c.tell_end_of_text.ensures.last
 
 pub returns-clause-untouched : goal.returns-clause-untouched

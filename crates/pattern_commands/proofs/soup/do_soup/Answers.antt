@@ -5,8 +5,8 @@ use Rattle.pattern_commands.proofs.TextLemmas.{text_ends, text_memory, text_refu
 use Rattle.pattern_commands.proofs.soup.do_soup.Goals as goal
 
 pub returns-clause-ends : goal.returns-clause-ends
-returns-clause-ends g c known bytes =
-    text_ends false true (λ _. only (soup_answer c.args.seed_text.now c.args.number)) known bytes c.put_soup-outcome.result _ _ _ c.put_soup-outcome.ensures.reached c.tell_end_of_text.ensures.status
+returns-clause-ends g c reader bytes =
+    text_ends false true (λ _. only (soup_answer c.args.seed_text.now c.args.number)) reader bytes c.put_soup-outcome.result _ _ _ c.put_soup-outcome.ensures.reached c.tell_end_of_text.ensures.status
     c.tell_end_of_text.ensures.last
 
 pub returns-clause-untouched : goal.returns-clause-untouched

@@ -5,6 +5,6 @@ use Rattle.pattern_commands.proofs.TextLemmas.{text_ends}
 use Rattle.pattern_commands.proofs.version.do_version.Goals as goal
 
 pub returns-clause-ends : goal.returns-clause-ends
-returns-clause-ends g c known bytes =
-    text_ends false true (λ _. only version_answer) known bytes c.put_version-outcome.result _ _ _ c.put_version-outcome.ensures.reached c.tell_end_of_text.ensures.status
+returns-clause-ends g c reader bytes =
+    text_ends false true (λ _. only version_answer) reader bytes c.put_version-outcome.result _ _ _ c.put_version-outcome.ensures.reached c.tell_end_of_text.ensures.status
     c.tell_end_of_text.ensures.last

@@ -1,8 +1,7 @@
-use Rattle.std.proofs.Common.{◌∙◌, ◌++◌, ◌+◌, ℕ, List, codes, drop, flat_map, sym}
-use Rattle.plane_core.proofs.OutLemmas.{Writes_same, Writes_then, Writes_stops}
-use Rattle.haul_core.specs.declared.book.census_rows.Row.{Row}
+use Rattle.std.proofs.Common.{◌∙◌, codes, flat_map, sym}
+use Rattle.plane_core.proofs.OutLemmas.{Writes_same, Writes_stops}
 use Rattle.haul_core.specs.HaulTexts.{ended, line_of_numbers, sample_line, sample_lines, text_of}
-use Rattle.haul_core.proofs.TextLemmas.{samples_spelled, text_done, text_more}
+use Rattle.haul_core.proofs.TextLemmas.{item_more, item_stops, items_done, samples_spelled}
 use Rattle.haul_core.proofs.book.haul_text.put_samples.Goals as goal
 
 pub returns-in_err-put : goal.returns-in_err-put
@@ -15,33 +14,22 @@ loop-row-init g c = (codes "\n@SAMPLE_SOUPIDS\n", sym (samples_spelled c.args.ro
 
 pub loop-row-preserved : goal.loop-row-preserved
 loop-row-preserved g c =
-    let front = c.loop-row.invariant in
-    let rows = c.args.rows.now in
-    let i = c.loop-row.row-index in
-    let text : Row → List ℕ = (λ row. ended (sample_line row)) in (
-      front.0 ++ text c.row-item.result,
-      text_more text rows i c.row-item.result (text_of (sample_lines rows)) front.0 c.loop-row-test.true c.row-item.is front.1,
-      Writes_then front.2
-          (Writes_same ((λ i. ended (line_of_numbers ((c.as_bytes.ensures.value ∙ c.text.ensures.text) i) (c.as_slice.ensures.samples i)))) c.in_ok-put_line.ensures),
-    )
+    item_more (λ row. ended (sample_line row)) c.args.rows.now (text_of (sample_lines c.args.rows.now)) c.loop-row.row-index c.row-item.result
+    c.loop-row-test.true c.row-item.is c.loop-row.invariant
+    (Writes_same (λ i. ended (line_of_numbers ((c.as_bytes.ensures.value ∙ c.text.ensures.text) i) (c.as_slice.ensures.samples i)))
+    c.in_ok-put_line.ensures)
 
 pub returns-in_err-put_line : goal.returns-in_err-put_line
 returns-in_err-put_line g c =
-    let front = c.loop-row.invariant in
-    let rows = c.args.rows.now in
-    let i = c.loop-row.row-index in
-    let text : Row → List ℕ = (λ row. ended (sample_line row)) in
-    let more = text_more text rows i c.row-item.result (text_of (sample_lines rows)) front.0 c.loop-row-test.true c.row-item.is front.1 in
-    Writes_same (sym more) (Writes_stops (flat_map text (drop (i + 1) rows)) c.from_residual-in_err-put_line.ensures.0
-    (Writes_then front.2
-    (Writes_same ((λ i. ended (line_of_numbers ((c.as_bytes.ensures.value ∙ c.text.ensures.text) i) (c.as_slice.ensures.samples i)))) c.in_err-put_line.ensures)))
+    item_stops (λ row. ended (sample_line row)) c.args.rows.now (text_of (sample_lines c.args.rows.now)) c.loop-row.row-index c.row-item.result
+    c.loop-row-test.true c.row-item.is c.loop-row.invariant c.from_residual-in_err-put_line.ensures.0
+    (Writes_same (λ i. ended (line_of_numbers ((c.as_bytes.ensures.value ∙ c.text.ensures.text) i) (c.as_slice.ensures.samples i)))
+    c.in_err-put_line.ensures)
 
 pub put_line-requires : goal.put_line-requires
 put_line-requires g c = c.loop-row.invariant.2.remembers
 
 pub returns : goal.returns
 returns g c =
-    let front = c.loop-row.invariant in
-    let rows = c.args.rows.now in
-    let text : Row → List ℕ = (λ row. ended (sample_line row)) in
-    Writes_same (text_done text rows c.loop-row.row-index (text_of (sample_lines rows)) front.0 c.loop-row-test.false front.1) front.2
+    items_done (λ row. ended (sample_line row)) c.args.rows.now (text_of (sample_lines c.args.rows.now)) c.loop-row.row-index c.loop-row-test.false
+    c.loop-row.invariant

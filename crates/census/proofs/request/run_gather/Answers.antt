@@ -1,4 +1,4 @@
-use Rattle.census.proofs.request.gather_lines.Goals as goal
+use Rattle.census.proofs.request.run_gather.Goals as goal
 
 pub returns-clause-ends : goal.returns-clause-ends
 returns-clause-ends g c =

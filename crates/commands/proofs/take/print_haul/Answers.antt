@@ -4,20 +4,20 @@ use Rattle.commands.specs.Take.{TellsAll}
 use Rattle.pattern_commands.proofs.AnswerLemmas.{err_of}
 use Rattle.commands.proofs.StillLemmas.{never_refused}
 use Rattle.commands.proofs.TakeLemmas.{Stops_opening, take_ends, take_stops}
-use Rattle.commands.proofs.take.take.Goals as goal
+use Rattle.commands.proofs.take.print_haul.Goals as goal
 
 pub returns-in_err-haul-clause-reached : goal.returns-in_err-haul-clause-reached
-returns-in_err-haul-clause-reached g c known bytes errors still =
+returns-in_err-haul-clause-reached g c reader bytes errors still =
     rw (err_of _ _ c.from_residual.ensures.1)
-    (take_stops (g.G.Gate.may_stop c.args.gate.now) c.args.plan.now known bytes c.in_err-haul.field-0.0 _ errors
+    (take_stops (g.G.Gate.may_stop c.args.gate.now) c.args.plan.now reader bytes c.in_err-haul.field-0.0 _ errors
     (Stops_opening c.args.plan.now TellsAll c.in_err-haul.field-0.0 c.in_err-haul.ensures.stops) (Appends-nil _) still)
 
 pub returns-clause-reached : goal.returns-clause-reached
-returns-clause-reached g c known bytes errors still =
+returns-clause-reached g c reader bytes errors still =
     let crew = c.complete_by_crew-haul.ensures in
-    let end = c.finish_taken.ensures in
-    take_ends (g.G.Gate.may_stop c.args.gate.now) c.args.plan.now known bytes c.in_ok-haul.haul c.complete_by_crew-haul.result.0
-    c.complete_by_crew-haul.result.1 c.finish_taken.result _ errors c.in_ok-haul.ensures.opened crew.grown c.taken.ensures.within c.taken.ensures.distinct crew.ends end.finishes end.none end.gives_up still
+    let end = c.print_taken.ensures in
+    take_ends (g.G.Gate.may_stop c.args.gate.now) c.args.plan.now reader bytes c.in_ok-haul.haul c.complete_by_crew-haul.result.0
+    c.complete_by_crew-haul.result.1 c.print_taken.result _ errors c.in_ok-haul.ensures.opened crew.grown c.taken.ensures.within c.taken.ensures.distinct crew.ends end.finishes end.none end.gives_up still
 
 pub returns-in_err-haul-clause-untouched : goal.returns-in_err-haul-clause-untouched
 returns-in_err-haul-clause-untouched g c = rw (err_of _ _ c.from_residual.ensures.1) (λ is. refl)
@@ -34,12 +34,12 @@ complete_by_crew-haul-requires-clause-few g c κs lives = omega (arith, c.in_ok-
 pub complete_by_crew-haul-requires-clause-open : goal.complete_by_crew-haul-requires-clause-open
 complete_by_crew-haul-requires-clause-open g c κs lives = c.in_ok-haul.ensures.opened.opened.stands.closed
 
-pub finish_taken-requires : goal.finish_taken-requires
-finish_taken-requires g c = c.requires.output
+pub print_taken-requires : goal.print_taken-requires
+print_taken-requires g c = c.requires.output
 
 pub returns-clause-untouched : goal.returns-clause-untouched
 returns-clause-untouched g c =
-    never_refused (c.finish_taken.new.output ≡ c.args.output.now) c.finish_taken.result c.finish_taken.ensures.accepted
+    never_refused (c.print_taken.new.output ≡ c.args.output.now) c.print_taken.result c.print_taken.ensures.accepted
 
 pub returns-clause-no_memory : goal.returns-clause-no_memory
-returns-clause-no_memory g c = c.finish_taken.ensures.no_memory
+returns-clause-no_memory g c = c.print_taken.ensures.no_memory
