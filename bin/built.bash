@@ -23,7 +23,7 @@ get_version() {
 }
 
 # Sets `cpu` to the level of processors that this machine's belongs to: x86-64-v3, for which programs are faster by some
-# fifth, or default, which is any.
+# fifth, or default, which is the least one for which the toolchain builds: x86-64-v2, which has SSE4.2.
 get_cpu() {
     cpu=default
     local flags feature
@@ -52,7 +52,7 @@ basis() {
     get_version && echo "$version" && digests
 }
 
-# Whether the program is the one that was built from these sources by this toolchain, for processors as this one. Where
+# Whether the program is the one that was built from these sources by this toolchain, for processors as this one or less. Where
 # there is no toolchain, its version isn't compared: nothing else could be built, and a program that was built from the
 # sources is right.
 is_fresh() {

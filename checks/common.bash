@@ -39,6 +39,20 @@ end() {
     exit
 }
 
+# Sets `programs` to a folder that git ignores, with the programs for both levels of processors. They are those that the gate has
+# proved, if the variable GATE_LOG names what it said, and else those of bin/programs, which proves what isn't kept. More than one
+# check wants them, so the first that comes makes them.
+get_programs() {
+    programs=$top/crates/census/out/programs
+    mkdir -p -- "${programs%/*}" || return
+    (
+        flock 9
+        "$top/bin/programs" --look "$programs" 2> /dev/null && exit
+        [[ ${GATE_LOG-} ]] && "$top/bin/programs" --of-gate "$GATE_LOG" "$programs" && exit
+        "$top/bin/programs" "$programs"
+    ) 9> "$programs.lock"
+}
+
 # The first call of the launcher builds the program, and says so.
 need_program() {
     if ! "$launcher" run 0 < /dev/null; then

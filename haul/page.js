@@ -1,6 +1,6 @@
 // Sorts and filters the table, adds it up by islands, shows phases, and offers RLE and players.
 const table = document.getElementById('objects'), body = table.tBodies[0], heads = [...table.tHead.rows[0].cells];
-const [CODE, NAME, CELLS, TOTAL, ONE_IN, SOUPS, SAMPLES] = [1, 2, 4, 5, 6, 7, 8];
+const [CODE, NAME, CELLS, TOTAL, ONE_IN, SOUPS, SAMPLES, LABEL] = [1, 2, 4, 5, 6, 7, 8, 9];
 const text = (row, column) => row.cells[column].textContent;
 
 // ---- Order and filter. Rare objects have the largest numbers after 'one in'.
@@ -21,7 +21,8 @@ heads[TOTAL].setAttribute('aria-sort', 'descending');
 const filter = document.getElementById('filter');
 const show = () => {
   const wanted = filter.value.trim().toLowerCase();
-  for (const row of body.rows) row.hidden = 'apart' in row.dataset || !(text(row, CODE) + ' ' + text(row, NAME)).toLowerCase().includes(wanted);
+  for (const row of body.rows)
+    row.hidden = 'apart' in row.dataset || ![CODE, NAME, LABEL].map(column => text(row, column)).join(' ').toLowerCase().includes(wanted);
 };
 filter.addEventListener('input', show);
 

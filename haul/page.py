@@ -32,7 +32,7 @@ NAME_LENGTH = 26
 # So many soups are run by one call, several of which are made at a time.
 SOUPS_IN_A_CALL = 100
 
-HEADS = ["Picture", "Code", "Name", "What it is", "Cells", "Total", "One object in", "Soups with one", "Sample soups"]
+HEADS = ["Picture", "Code", "Name", "What it is", "Cells", "Total", "One object in", "Soups with one", "Sample soups", "Islands"]
 NOT_SORTED = ("Picture", "Sample soups")
 KINDS = {"s": "still life", "p": "oscillator of period", "q": "spaceship of period"}
 
@@ -156,7 +156,7 @@ def bars(haul: Haul, codes: list[str], parts: dict[str, Parts]) -> Iterator[str]
     for place, code in enumerate(codes):
         total = haul.totals[code]
         y, length = 18 * place, 2 + log10(total) * scale
-        name = cut(name_of(code, parts) or code, NAME_LENGTH)
+        name = cut(NAMES.get(code) or label_of(code, parts) or code, NAME_LENGTH)
         yield (
             f"<text x='194' y='{y + 15}' text-anchor='end'>{escape(name)}</text>"
             f"<path class='bar' d='M200 {y + 4}h{length:.1f}v13h-{length:.1f}z'/>"
@@ -181,15 +181,15 @@ def row(haul: Haul, code: str, asked: Asked) -> str:
     samples = "".join(sample(haul.job, number, soup_path(asked.soups[number]), asked.ends.get(number)) for number in haul.samples[code])
     apart = f" data-parts='{' '.join(parts.codes)}'" if parts and parts.codes else ""
     return (
-        f"<tr{apart}><td>{image}</td><td>{linked(code, haul.job.rule)}</td><td>{escape(name_of(code, asked.parts))}</td><td>{kind_words(code)}</td>"
+        f"<tr{apart}><td>{image}</td><td>{linked(code, haul.job.rule)}</td><td>{escape(NAMES.get(code, ''))}</td><td>{kind_words(code)}</td>"
         f"<td>{cells}</td><td>{total:,}</td><td>{round(haul.objects() / total):,}</td><td>1 in {counted(one_in(haul.soups, total), 'soup')} at most</td>"
-        f"<td><noscript>{samples}</noscript></td></tr>\n"
+        f"<td><noscript>{samples}</noscript></td><td>{escape(label_of(code, asked.parts))}</td></tr>\n"
     )
 
 
-def name_of(code: str, parts: dict[str, Parts]) -> str:
-    """Its name or its label, if it has one."""
-    return NAMES.get(code) or (parts[code].label if code in parts else "")
+def label_of(code: str, parts: dict[str, Parts]) -> str:
+    """What an object without a name is called, if it has several islands."""
+    return parts[code].label if code in parts and code not in NAMES else ""
 
 
 def kind_words(code: str) -> str:

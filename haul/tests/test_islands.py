@@ -5,6 +5,7 @@ from __future__ import annotations
 import csv
 import io
 import json
+import os
 import re
 import shutil
 import subprocess
@@ -218,7 +219,7 @@ class Tables(unittest.TestCase):
             Path(folder, "bin", "bad", "census").chmod(0o755)
             for path in ("/usr/bin:/bin", f"{folder}/bin/bad:/usr/bin:/bin"):
                 ended = subprocess.run([sys.executable, f"{folder}/bin/haul", "table", "--csv"], input=self.TEXT.encode(), capture_output=True,
-                                       env={"PATH": path}, check=False)
+                                       env={**os.environ, "PATH": path}, check=False)
                 self.assertEqual((ended.returncode, ended.stderr), (0, b""))
                 self.assertEqual([row["label"] for row in csv.DictReader(io.StringIO(ended.stdout.decode()))], ["block", "", "", ""])
         self.assertEqual(run("table", "--census", "/nowhere/census", text=self.TEXT.encode()), (2, "", "haul: no census at /nowhere/census\n"))

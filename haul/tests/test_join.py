@@ -53,6 +53,12 @@ class Joined(unittest.TestCase):
         self.assertEqual(refusal(FULL + FULL.replace("0 4", "3 4")), "ranges overlap at line 15")
         self.assertEqual(refusal(FULL + FULL.replace("0 4", "4 4")), "none")
 
+    def test_the_first_of_two_is_told(self) -> None:
+        later = [FULL.replace("@RANGE 0 4", f"@RANGE {first} 4") for first in (8, 16)]
+        self.assertEqual(refusal(FULL + FULL + FULL), "ranges overlap at line 15")
+        self.assertEqual(refusal(FULL + "".join(later).replace("SOUPS 4", "SOUPS 2").replace("UNSETTLED 4", "UNSETTLED 2")), "haul with missing soups at line 15")
+        self.assertEqual(refusal(FULL + "".join(later).replace("b3s23", "b36s23")), "other job at line 15")
+
     def test_totals_too_large(self) -> None:
         most = 2**63
         text = LARGER.replace("OBJECTS 6", f"OBJECTS {most}").replace("xp2_7 2", f"xp2_7 {most - 4}")

@@ -53,7 +53,7 @@ def page(haul: Haul, *more: int) -> str:
 class Words(unittest.TestCase):
     def test_heads(self) -> None:
         heads = [text for _, text in elements(page(made({"xs4_33": 7}, [(0, 9)])), "th")]
-        self.assertEqual(heads, ["Picture", "Code", "Name", "What it is", "Cells", "Total", "One object in", "Soups with one", "Sample soups"])
+        self.assertEqual(heads, ["Picture", "Code", "Name", "What it is", "Cells", "Total", "One object in", "Soups with one", "Sample soups", "Islands"])
 
     def test_axis(self) -> None:
         """A mark for each power of ten up to the largest total, and what is counted."""
@@ -114,8 +114,8 @@ class Words(unittest.TestCase):
     def test_labels(self) -> None:
         rows = elements(page(made({"xp2_1110s": 7, "xs10_25520oo": 3, "xs8_rr": 2, "xp3_695qc8zx33": 1}, [(0, 9)])), "tr")[1:]
         self.assertEqual([one.get("data-parts") for one, _ in rows], ["xp2_7 xp2_7", "xs4_33 xs6_696", "xs4_33 xs4_33", None])
-        names = elements(page(made({"xp2_1110s": 7, "xs10_25520oo": 3, "xs12_256o8a6": 2}, [(0, 9)])), "td")[2::9]
-        self.assertEqual([text for _, text in names], ["2 blinkers", "block and beehive", ""])
+        cells = [text for _, text in elements(page(made({"xp2_1110s": 7, "xs10_25520oo": 3, "xs12_256o8a6": 2, "xs8_rr": 1}, [(0, 9)])), "td")]
+        self.assertEqual((cells[2::10], cells[9::10]), (["", "", "", "bi-block"], ["2 blinkers", "block and beehive", "", ""]))
 
 
 class Whole(unittest.TestCase):
@@ -152,14 +152,14 @@ its objects come back together within that time.</p>
     ROWS = """\
 <tr><td><svg width='24' height='24' viewBox='0 0 2 2' role='img'><title>block: 2 by 2, 4 cells</title><path d='M0 0.5h2m-2 1h2'/></svg></td>\
 <td><a href='https://catagolue.hatsya.com/object/xs4_33/b36s23'>xs4_33</a></td><td>block</td><td>still life</td><td>4</td><td>100</td><td>1</td>\
-<td>1 in 1 soup at most</td><td><noscript>SAMPLE 5SAMPLE 2048</noscript></td></tr>
+<td>1 in 1 soup at most</td><td><noscript>SAMPLE 5SAMPLE 2048</noscript></td><td></td></tr>
 <tr><td><svg width='36' height='36' viewBox='0 0 3 3' role='img' data-phases='M1 0.5h1m-1 1h1m-1 1h1|M0 1.5h3'>\
 <title>blinker: 1 by 3, 3 cells</title><path d='M1 0.5h1m-1 1h1m-1 1h1'/></svg></td>\
 <td><a href='https://catagolue.hatsya.com/object/xp2_7/b36s23'>xp2_7</a></td><td>blinker</td><td>oscillator of period 2</td><td>3</td><td>10</td><td>11</td>\
-<td>1 in 1 soup at most</td><td><noscript>SAMPLE 6</noscript></td></tr>
+<td>1 in 1 soup at most</td><td><noscript>SAMPLE 6</noscript></td><td></td></tr>
 <tr><td>can't be drawn</td>\
 <td><a href='https://catagolue.hatsya.com/object/xs4_y/b36s23'>xs4_y</a></td><td></td><td>still life</td><td></td><td>1</td><td>111</td>\
-<td>1 in 8 soups at most</td><td><noscript>SAMPLE 11</noscript></td></tr>
+<td>1 in 8 soups at most</td><td><noscript>SAMPLE 11</noscript></td><td></td></tr>
 """
 
     def test_each_byte(self) -> None:
@@ -268,9 +268,9 @@ class Ends(unittest.TestCase):
         """Only the first rows have some, unless all are asked for."""
         haul = made({"xp2_1110s": 9, "xs8_330oo": 8, "xs10_25520oo": 7}, [(0, 1)])
         with patch("haul.page.LABELLED_ROWS", 2):
-            self.assertEqual([text for _, text in elements(page(haul, 0), "td")[2::9]], ["2 blinkers", "2 blocks", ""])
-            self.assertEqual([text for _, text in elements(page(haul, 5), "td")[2::9]], ["2 blinkers", "2 blocks", ""])
-            self.assertEqual([text for _, text in elements(page(haul, 0, True), "td")[2::9]], ["2 blinkers", "2 blocks", "block and beehive"])
+            self.assertEqual([text for _, text in elements(page(haul, 0), "td")[9::10]], ["2 blinkers", "2 blocks", ""])
+            self.assertEqual([text for _, text in elements(page(haul, 5), "td")[9::10]], ["2 blinkers", "2 blocks", ""])
+            self.assertEqual([text for _, text in elements(page(haul, 0, True), "td")[9::10]], ["2 blinkers", "2 blocks", "block and beehive"])
 
     def test_options(self) -> None:
         text = census("take", "--count", "12")
