@@ -1,5 +1,5 @@
 use Rattle.std.proofs.Common.{None, []}
-use Rattle.pattern_commands.specs.Streams.{Stream, stream}
+use Rattle.pattern_commands.specs.Streams.{stream}
 use Rattle.commands.proofs.TakeLemmas.{never_stopped, prints_census}
 use Rattle.commands.proofs.take.do_take.Goals as goal
 
