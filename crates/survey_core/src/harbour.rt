@@ -117,8 +117,8 @@ impl Harbour {
         self.ships.is_empty() && self.board.is_still()
     }
 
-    /// Takes ships off the board that are ahead of all the rest, before it goes on by so many generations; mostly that is
-    /// put off, where they are few. Ships whose period is over the limit, 1 to 64, stay.
+    /// Takes ships off the board that are ahead of all the rest, before it goes on by so many generations. If these are
+    /// few, it mostly leaves the ships where they are. Ships whose period is over the limit, 1 to 64, stay.
     pub(crate) fn send_off(
         self,
         alloc: Global,
