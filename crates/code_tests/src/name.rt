@@ -1,3 +1,4 @@
+//! Names of objects, against codes from outside.
 ghost use Rattle.std.specs.Prelude.{◌≢◌, ◌≤◌, [], IfOk};
 
 use code_core::name::name;

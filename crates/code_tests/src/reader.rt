@@ -1,3 +1,4 @@
+//! Texts in extended Wechsler format read, against patterns and faults from outside.
 use code_core::reader::read_wechsler;
 use std::test::Fail;
 

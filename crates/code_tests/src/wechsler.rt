@@ -1,3 +1,4 @@
+//! Texts of patterns, against texts from outside.
 use code_core::wechsler::wechsler;
 use memory::OutOfMemory;
 use plane_core::cell::Cell;

@@ -72,7 +72,8 @@ pub(crate) fn work<G: Gate, R: Wait>(
     Shift { pass, sender, end }
 }
 
-/// Surveys what is left, with a memo of the worker's own. Each report is presented.
+/// Surveys what is left, with a memo of the worker's own. Each report is presented. A function of its own: a memo is
+/// dear to prove at the ends of the one that owns pass and sender.
 fn survey_all<G: Gate, R: Wait>(
     alloc: Global,
     rt: &R,

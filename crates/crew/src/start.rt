@@ -17,7 +17,7 @@ use memory::OutOfMemory;
 use std::alloc::Global;
 use std::sync::atomic::AtomicU64;
 
-/// How many notes there is room for on the belt.
+/// How many notes there is room for on the belt: some for each of sixteen workers, so that none waits for the collector.
 const ROOM: usize = 64;
 
 /// What a crew begins with.

@@ -9,7 +9,7 @@ use Rattle.pattern_commands.specs.declared.status.Status.TheVariants as statuses
 use Rattle.pattern_commands.specs.Answers.{Right}
 use Rattle.pattern_commands.specs.Complaints.{status_of}
 use Rattle.pattern_commands.specs.Ends.{Ends, HasLast, status_after}
-use Rattle.pattern_commands.specs.Reached.{LeavesFront, LeavesPart, Reaches}
+use Rattle.pattern_commands.specs.Reached.{WritesBeginning, LeavesPart, Reaches}
 use Rattle.pattern_commands.specs.Streams.{Stream, HasFront, IsUntouched}
 use Rattle.pattern_commands.specs.Tasks.{Made, alone, text_made, text_task}
 use Rattle.pattern_commands.specs.TextSteps.{LeavesTextFront, LeavesTextPart, ReachesText, TextOutcome, none_missing}
@@ -24,7 +24,7 @@ part_of false right output left = go
     go (Err complaint) is = left (Err complaint) is
 
 front_of : (whole : Bool) (right : Right) (output errors : Stream) → LeavesTextFront whole right output → IsUntouched errors
-    → LeavesFront whole (alone right) output errors
+    → WritesBeginning whole (alone right) output errors
 front_of true right output errors (text, is, front) still = (record { text = text; remarks = []; missing = 0 }, (is, refl, refl), front, still.0)
 front_of false right output errors (never, fronts) still = (never, λ made is. fronts made.text is.0, still.0)
 

@@ -47,14 +47,14 @@ pub record HasRunOutOfMemory (task : Task) (reader : Option (List ℕ)) (bytes :
 
 -- What was written if a write of the text failed. Of a text that was whole before that: a front, and all remarks. One that is
 -- written as it is made isn't known to its end: then a front of each right text, and no complaint is right.
-abbrev pub LeavesFront : Bool → Makes → Stream → Stream → Type 0
-LeavesFront true right output errors = (made : Made) × right (Ok made) × HasFront output made.text × Has errors made.remarks
-LeavesFront false right output errors = ((complaint : Complaint) → right (Err complaint) → ⊥)
+abbrev pub WritesBeginning : Bool → Makes → Stream → Stream → Type 0
+WritesBeginning true right output errors = (made : Made) × right (Ok made) × HasFront output made.text × Has errors made.remarks
+WritesBeginning false right output errors = ((complaint : Complaint) → right (Err complaint) → ⊥)
     × ((made : Made) → right (Ok made) → HasFront output made.text) × Has errors []
 
 -- standard output failed
 pub record IsCutShort (task : Task) (bytes : List ℕ) (output errors : Stream) : Type 0 where
-  pub left : LeavesFront task.whole (task.right bytes) output errors
+  pub left : WritesBeginning task.whole (task.right bytes) output errors
   pub cut : output.failed ≡ true
   pub fine : errors.failed ≡ false
 

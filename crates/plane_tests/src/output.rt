@@ -1,3 +1,4 @@
+//! A writer that remembers a failure, over writers that fail.
 use plane_core::output::Out;
 use std::alloc::Global;
 use std::io;

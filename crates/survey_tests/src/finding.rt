@@ -1,3 +1,4 @@
+//! Findings of patterns and soups, against an independent program.
 ghost use Rattle.std.specs.Prelude.{◌≡◌, IfOk, true};
 ghost use Rattle.plane_core.specs.Generations.{lies_within};
 

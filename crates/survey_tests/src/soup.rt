@@ -1,3 +1,4 @@
+//! Soups, against digests and cells from outside.
 use std::test::Fail;
 use survey_core::soup::soup_of_digest;
 
