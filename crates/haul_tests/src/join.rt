@@ -2,7 +2,9 @@
 
 use crate::setup::{closed, offer, quick_job, range, text_of};
 use haul_core::book::haul::{Haul, OpenError};
+use memory::OutOfMemory;
 use plane_core::rule::Rule;
+use ranges::range::Range;
 use std::alloc::Global;
 use std::test::Fail;
 use survey_core::job::Job;
@@ -79,5 +81,35 @@ fn joins_hauls_of_2_to_the_25_numbers(rt: HostRuntime) -> Result<(), Fail> {
     let count = joined.count();
     drop(joined);
     assert!(rt; count == 1 << 25);
+    Ok(())
+}
+
+/// So many numbers from this one on, four from one to the next, each in a range of its own.
+fn every_fourth(alloc: Global, first: u64, count: u32) -> Result<Vec<Range>, OutOfMemory> {
+    let mut ranges = Vec::new(alloc);
+    for place in 0..count {
+        let number = u64::from(place).saturating_mul(4).saturating_add(first);
+        ranges.push(range(number, 1))?;
+    }
+    Ok(ranges)
+}
+
+/// A closed haul of so many numbers from this one on, four from one to the next.
+fn sparse_haul(alloc: Global, job: &Job, first: u64, count: u32) -> Result<Haul, OpenError> {
+    let ranges = every_fourth(alloc, first, count)?;
+    let haul = Haul::open(alloc, *job, ranges.as_slice(), 1)?;
+    Ok(closed(haul))
+}
+
+// The ranges of each lie between those of the other, and none touches another.
+#[test]
+fn joins_hauls_of_five_thousand_ranges(rt: HostRuntime) -> Result<(), Fail> {
+    let job = quick_job("")?;
+    let first = sparse_haul(rt.alloc(), &job, 0, 5_000).expect(&rt, "a haul");
+    let second = sparse_haul(rt.alloc(), &job, 2, 5_000).expect(&rt, "a haul");
+    let joined = first.join(second).ok().expect(&rt, "a joined haul");
+    let ranges = joined.ranges().len();
+    drop(joined);
+    assert!(rt; ranges == 10_000);
     Ok(())
 }
