@@ -13,10 +13,10 @@ use Rattle.pattern_commands.specs.Complaints.{status_of}
 use Rattle.pattern_commands.specs.Ends.{Ends, HasLast, Outcome, Reaches, last_line, status_after}
 use Rattle.pattern_commands.specs.Status.{exit_code, has_printed}
 use Rattle.pattern_commands.specs.Streams.{Stream, Has, HasFront, HasLine}
-use Rattle.pattern_commands.specs.Tasks.{Made}
-use Rattle.pattern_commands.specs.Version.{version_task}
+use Rattle.pattern_commands.specs.Behaviours.{Made}
+use Rattle.pattern_commands.specs.Version.{version_behaviour}
 use Rattle.census.specs.Program.{Complains, IsDone, IsFrontOf, since}
-use Rattle.census.specs.Requests.{DoesRequest, DoesWords, right_for, task_of, tells_lines}
+use Rattle.census.specs.Requests.{DoesRequest, DoesWords, right_for, behaviour_of, tells_lines}
 use Rattle.census.proofs.RequestLemmas.{does}
 
 -- ---- bytes
@@ -89,7 +89,7 @@ module _ (words : List Text) (reader below : Option (List ℕ)) (status : Status
   request_prints : (request : Request) → asked_by words ≡ Some request → DoesRequest reader status written errors request → PrintsBelow
   request_prints request asked does = go does.ends.outcome does.ends.reached does.ends.last does.ends.status_is
     where
-      go : (outcome : Outcome) → Reaches (task_of request) reader does.bytes outcome written does.ends.so_far
+      go : (outcome : Outcome) → Reaches (behaviour_of request) reader does.bytes outcome written does.ends.so_far
           → HasLast outcome (since does.ends.so_far errors) → status ≡ status_after outcome → PrintsBelow
       go (Err complaint) reached last same = let bad : true ≡ false = sym printed ∙ ap has_printed same ∙ unprinted complaint in cc
       go (Ok missing) reached last same =
@@ -162,14 +162,14 @@ pub record EndsVersion (words : List Text) (reader before after : Option (List �
 
 pub ends_version : (words : List Text) (reader before after : Option (List ℕ)) (status : Status) (written errors : Stream)
     → asks_version words ≡ true → (status ≢ statuses.Done → status ≡ statuses.Failed) → written.before ≡ before → written.after ≡ after
-    → ((reader : Option (List ℕ)) (bytes : List ℕ) → Ends version_task reader bytes status written errors)
+    → ((reader : Option (List ℕ)) (bytes : List ℕ) → Ends version_behaviour reader bytes status written errors)
     → EndsVersion words reader before after status errors
 ends_version words reader before after status written errors asks failed starts stops ends =
     subst (λ b. EndsVersion words reader b after status errors) starts
     (subst (λ a. EndsVersion words reader written.before a status errors) stops whole)
   where
     does_version : DoesWords words reader status written errors
-    does_version = inl (rw (asks_for_version words asks) (does Version version_task refl ends))
+    does_version = inl (rw (asks_for_version words asks) (does Version version_behaviour refl ends))
 
     printed : status ≡ statuses.Done → Prints words reader written.before written.after status errors
     printed is = prints words reader written.after status written errors (ap has_printed is) (keeps_all written.after) does_version

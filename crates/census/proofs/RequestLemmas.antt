@@ -3,15 +3,15 @@ use Rattle.std.proofs.Common.{◌≡◌, ℕ, List, Option, subst}
 use Rattle.pattern_commands.specs.declared.status.Status.{Status}
 use Rattle.pattern_commands.specs.Ends.{Ends}
 use Rattle.pattern_commands.specs.Streams.{Stream}
-use Rattle.pattern_commands.specs.Tasks.{Task}
+use Rattle.pattern_commands.specs.Behaviours.{Behaviour}
 use Rattle.pattern_commands.proofs.AnswerLemmas.{some_input}
 use Rattle.words.specs.declared.request.Request.{Request}
-use Rattle.census.specs.Requests.{DoesRequest, task_of}
+use Rattle.census.specs.Requests.{DoesRequest, behaviour_of}
 
 -- a command that was to do what the request asks for did it, whatever the input
-pub does : {reader : Option (List ℕ)} {status : Status} {output errors : Stream} (request : Request) (task : Task)
-    → task ≡ task_of request → ((reader : Option (List ℕ)) (bytes : List ℕ) → Ends task reader bytes status output errors)
+pub does : {reader : Option (List ℕ)} {status : Status} {output errors : Stream} (request : Request) (behaviour : Behaviour)
+    → behaviour ≡ behaviour_of request → ((reader : Option (List ℕ)) (bytes : List ℕ) → Ends behaviour reader bytes status output errors)
     → DoesRequest reader status output errors request
-does {reader} {status} {output} {errors} request task is ends =
+does {reader} {status} {output} {errors} request behaviour is ends =
     let some = some_input reader in
-    record { bytes = some.0; input = some.1; ends = subst (λ (t : Task). Ends t reader some.0 status output errors) is (ends reader some.0) }
+    record { bytes = some.0; input = some.1; ends = subst (λ (t : Behaviour). Ends t reader some.0 status output errors) is (ends reader some.0) }

@@ -8,7 +8,7 @@ use Rattle.pattern_commands.specs.Complaints.{write_failed_line}
 use Rattle.pattern_commands.specs.Ends.{last_line}
 use Rattle.pattern_commands.specs.Status.{exit_code, has_printed}
 use Rattle.pattern_commands.specs.Streams.{Stream, HasLine}
-use Rattle.pattern_commands.specs.Tasks.{Made}
+use Rattle.pattern_commands.specs.Behaviours.{Made}
 use Rattle.words.specs.declared.request.Request.{Request}
 use Rattle.words.specs.Requests.{Text, asked_by}
 use Rattle.census.specs.Requests.{DoesWords, right_for}

@@ -10,16 +10,16 @@ use Rattle.pattern_commands.specs.declared.status.Status.TheVariants.{Memory, Re
 use Rattle.pattern_commands.specs.Answers.{IsInput}
 use Rattle.pattern_commands.specs.Complaints.{complaint_line}
 use Rattle.pattern_commands.specs.Ends.{Ends}
-use Rattle.commands.specs.Gather.{gather_task}
-use Rattle.pattern_commands.specs.Name.{name_task}
-use Rattle.pattern_commands.specs.Run.{run_task}
-use Rattle.pattern_commands.specs.Show.{show_task}
-use Rattle.pattern_commands.specs.Soup.{soup_task}
+use Rattle.commands.specs.Gather.{gather_behaviour}
+use Rattle.pattern_commands.specs.Name.{name_behaviour}
+use Rattle.pattern_commands.specs.Run.{run_behaviour}
+use Rattle.pattern_commands.specs.Show.{show_behaviour}
+use Rattle.pattern_commands.specs.Soup.{soup_behaviour}
 use Rattle.pattern_commands.specs.Streams.{Stream, Has, HasLine}
-use Rattle.commands.specs.Take.{take_task}
-use Rattle.pattern_commands.specs.Tasks.{Makes, Task}
-use Rattle.pattern_commands.specs.Version.{version_task}
-use Rattle.commands.specs.Work.{work_task}
+use Rattle.commands.specs.Take.{take_behaviour}
+use Rattle.pattern_commands.specs.Behaviours.{Makes, Behaviour}
+use Rattle.pattern_commands.specs.Version.{version_behaviour}
+use Rattle.commands.specs.Work.{work_behaviour}
 use Rattle.words.specs.declared.request.ProfileNumbers.{ProfileNumbers as Numbers}
 use Rattle.words.specs.declared.request.Request.{Request}
 use Rattle.words.specs.declared.request.Request.TheVariants.{Run, Name, Show, Soup, Take, Work, Gather, Version}
@@ -39,27 +39,27 @@ abbrev pub plan_for : Asked → Plan
 plan_for plan = record { set = soups_for plan.set; profile = numbers_for plan.profile; rule = plan.rule }
 
 -- what a request is to do
-abbrev pub task_of : Request → Task
-task_of (Run generations rule) = run_task rule generations
-task_of (Name profile rule) = name_task (numbers_for profile) rule
-task_of (Show code) = show_task code
-task_of (Soup seed number) = soup_task seed number
-task_of (Take plan workers progress) = take_task (plan_for plan)
-task_of (Work plan worker) = work_task (plan_for plan) worker
-task_of (Gather plan workers) = gather_task (plan_for plan) workers
-task_of Version = version_task
+abbrev pub behaviour_of : Request → Behaviour
+behaviour_of (Run generations rule) = run_behaviour rule generations
+behaviour_of (Name profile rule) = name_behaviour (numbers_for profile) rule
+behaviour_of (Show code) = show_behaviour code
+behaviour_of (Soup seed number) = soup_behaviour seed number
+behaviour_of (Take plan workers progress) = take_behaviour (plan_for plan)
+behaviour_of (Work plan worker) = work_behaviour (plan_for plan) worker
+behaviour_of (Gather plan workers) = gather_behaviour (plan_for plan) workers
+behaviour_of Version = version_behaviour
 
 -- the command looks at its input: `run` does, if its rule is one, `name`, if its profile is one too, and `gather`, if its seed is too
 abbrev pub reads_input : Request → Bool
-reads_input request = (task_of request).reads
+reads_input request = (behaviour_of request).reads
 
 -- what is refused may be the input: `run` and `name` refuse what is not a pattern
 abbrev pub refuses_input : Request → Bool
-refuses_input request = (task_of request).refuses
+refuses_input request = (behaviour_of request).refuses
 
 -- the command's text is whole before its first byte is written: all but the lines of `work`
 abbrev pub is_whole : Request → Bool
-is_whole request = (task_of request).whole
+is_whole request = (behaviour_of request).whole
 
 -- the request is for a haul of report lines, with a remark on each that is refused
 abbrev pub tells_lines : Request → Bool
@@ -75,7 +75,7 @@ is_over_sets request = false
 
 -- what is right for a request, on an input
 abbrev pub right_for : Request → List ℕ → Makes
-right_for request = (task_of request).right
+right_for request = (behaviour_of request).right
 
 -- What a request leaves as it was, by how it ended; `input` says so of the reader, and `output` of standard output. The reader: if the
 -- command doesn't look at it, and if what was refused can't be the input. The output: if something was refused, and if memory ran out
@@ -90,7 +90,7 @@ pub record Spares (request : Request) (status : Status) (input output : Type 0) 
 pub record DoesRequest (reader : Option (List ℕ)) (status : Status) (output errors : Stream) (request : Request) : Type 0 where
   pub bytes : List ℕ
   pub input : IsInput reader bytes
-  pub ends : Ends (task_of request) reader bytes status output errors
+  pub ends : Ends (behaviour_of request) reader bytes status output errors
 
 -- there was no memory to read the words, or for a buffer, and nothing was done; the version needs none
 pub record LacksMemory (words : List Text) (status : Status) (output errors : Stream) : Type 0 where

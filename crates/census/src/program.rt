@@ -15,7 +15,7 @@ ghost use Rattle.pattern_commands.specs.Complaints.{complaint_line};
 ghost use Rattle.pattern_commands.specs.Status.{exit_code};
 ghost use Rattle.pattern_commands.specs.Ends.{Ends};
 ghost use Rattle.pattern_commands.specs.Streams.{Has, HasLine, Stream, stream};
-ghost use Rattle.pattern_commands.specs.Version.{version_task};
+ghost use Rattle.pattern_commands.specs.Version.{version_behaviour};
 ghost use Rattle.census.specs.Program.{Complains, IsDone, left_by, not_text_line};
 ghost use Rattle.census.specs.Requests.{TellsUsage, is_whole, reads_input, refuses_input, tells_lines};
 ghost use Rattle.words.specs.Requests.{asked_by};
@@ -182,7 +182,7 @@ fn print_version<W: Write + Drop, E: Write>(output: W, errors: &mut Out<E>) -> (
     requires { errors.old.failed ≡ false }
     ensures ends { (written : Stream) × (written.before ≡ W.contents output) × (written.after ≡ W.contents result.1)
         × ((reader : Option (List ℕ)) (bytes : List ℕ)
-        → Ends version_task reader bytes result.0 written (stream E.contents errors.old errors.new)) }
+        → Ends version_behaviour reader bytes result.0 written (stream E.contents errors.old errors.new)) }
     ensures failed { result.0 ≢ Status.Done → result.0 ≡ Status.Failed }
 {
     let mut output = Out::new(output);

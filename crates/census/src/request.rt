@@ -18,7 +18,7 @@ ghost use Rattle.pattern_commands.specs.Profiles.{AreInRange};
 ghost use Rattle.pattern_commands.specs.Streams.{HasLine, stream};
 ghost use Rattle.census.specs.Requests.{DoesRequest, DoesWords, Spares, TellsUsage, is_over_sets, is_whole};
 ghost use Rattle.census.specs.Requests.{numbers_for, plan_for, reads_input};
-ghost use Rattle.census.specs.Requests.{refuses_input, soups_for, task_of};
+ghost use Rattle.census.specs.Requests.{refuses_input, soups_for, behaviour_of};
 
 use commands::gather::do_gather;
 use commands::machine::Machine;
@@ -202,7 +202,7 @@ fn run_take<T: Threads + Wait + Sync, W: Write, E: Write, P: Write, C: Clock>(
     requires output { output.old.failed ≡ false }
     requires errors { machine.old.errors.failed ≡ false }
     ensures ends { (reader : Option (List ℕ)) (bytes : List ℕ)
-        → Ends (task_of (request.Take asked.now workers progress)) reader bytes result
+        → Ends (behaviour_of (request.Take asked.now workers progress)) reader bytes result
         (stream W.contents output.old output.new) (stream E.contents machine.old.errors machine.new.errors) }
     ensures untouched { result ≡ Status.Refused → output.new ≡ output.old }
     ensures no_memory { result ≡ Status.Memory → output.new ≡ output.old }
@@ -224,7 +224,7 @@ fn run_work<W: Write, E: Write>(
     requires output { output.old.failed ≡ false }
     requires errors { errors.old.failed ≡ false }
     ensures ends { (reader : Option (List ℕ)) (bytes : List ℕ)
-        → Ends (task_of (request.Work asked.now worker)) reader bytes result
+        → Ends (behaviour_of (request.Work asked.now worker)) reader bytes result
         (stream W.contents output.old output.new) (stream E.contents errors.old errors.new) }
     ensures untouched { result ≡ Status.Refused → output.new ≡ output.old }
 {

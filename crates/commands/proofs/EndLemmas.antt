@@ -28,7 +28,7 @@ use Rattle.pattern_commands.specs.Complaints.{status_of}
 use Rattle.pattern_commands.specs.Ends.{status_after}
 use Rattle.pattern_commands.specs.Reached.{IsSilent, Outcome, Reaches}
 use Rattle.commands.specs.Finish.{Finishes, IsCensusOf}
-use Rattle.commands.specs.Gather.{BeginsHaul, IsSame, gather_reads, gather_task, haul_task}
+use Rattle.commands.specs.Gather.{BeginsHaul, IsSame, gather_reads, gather_behaviour, haul_behaviour}
 use Rattle.commands.specs.GatherSteps.{EndsLines, EndsLinesSomewhere, HasGatheredShort}
 use Rattle.commands.specs.Gathering.{IsGathered, IsHaulOver, gather_opens, gather_right, gathered_right}
 use Rattle.commands.specs.LinesSoFar.{HasBegun}
@@ -37,7 +37,7 @@ use Rattle.commands.specs.Lines.{input_lines}
 use Rattle.commands.specs.SoupSets.{Bad_list, IsRefused, Overlapping, Too_large, job_named}
 use Rattle.pattern_commands.specs.Streams.{Stream, Has}
 use Rattle.commands.specs.TakeSteps.{IsOpened, StopsOpening, StopsSet}
-use Rattle.pattern_commands.specs.Tasks.{Made, NeedsMemoryAlone}
+use Rattle.pattern_commands.specs.Behaviours.{Made, NeedsMemoryAlone}
 use Rattle.commands.proofs.GatherLemmas.{all_begun}
 use Rattle.commands.proofs.TakeLemmas.{job_refused}
 
@@ -58,7 +58,7 @@ list_hides plan workers bytes job named listed (WriteFailed error) is = absurd i
 -- a job that is refused
 gathers_job : (plan : Plan) (workers : ℕ) (bytes : List ℕ) (reader : Option (List ℕ)) (complaint : Complaint)
     (output errors : Stream) → job_named plan ≡ Err complaint → IsSilent output errors
-    → Reaches (gather_task plan workers) reader bytes (Err complaint) output errors
+    → Reaches (gather_behaviour plan workers) reader bytes (Err complaint) output errors
 gathers_job plan workers bytes reader (Refused refusal) output errors named silent = (rw named refl, silent)
 gathers_job plan workers bytes reader (Memory error) output errors named silent = absurd (job_refused plan (Memory error) named)
 gathers_job plan workers bytes reader (ReadFailed error) output errors named silent = absurd (job_refused plan (ReadFailed error) named)
@@ -68,7 +68,7 @@ gathers_job plan workers bytes reader (WriteFailed error) output errors named si
 -- a set that is refused, or memory that runs out over it
 gathers_set : (plan : Plan) (workers : ℕ) (bytes : List ℕ) (reader : Option (List ℕ)) (job : Job)
     (complaint : Complaint) (output errors : Stream) → job_named plan ≡ Ok job → StopsSet plan.set complaint → IsSilent output errors
-    → Reaches (gather_task plan workers) reader bytes (Err complaint) output errors
+    → Reaches (gather_behaviour plan workers) reader bytes (Err complaint) output errors
 gathers_set plan workers bytes reader job (Refused refusal) output errors named stops silent = (rw named stops, silent)
 gathers_set plan workers bytes reader job (Memory error) output errors named stops silent = record {
   hides = λ _. list_hides plan workers bytes job named stops;
@@ -83,7 +83,7 @@ gathers_set plan workers bytes reader job (WriteFailed error) output errors name
 -- a haul that was not opened
 pub gathers_opening : (plan : Plan) (workers : ℕ) (bytes : List ℕ) (reader : Option (List ℕ)) (complaint : Complaint)
     (output errors : Stream) → StopsOpening plan complaint → IsSilent output errors
-    → Reaches (gather_task plan workers) reader bytes (Err complaint) output errors
+    → Reaches (gather_behaviour plan workers) reader bytes (Err complaint) output errors
 gathers_opening plan workers bytes reader complaint output errors (inl refused) silent =
     gathers_job plan workers bytes reader complaint output errors refused silent
 gathers_opening plan workers bytes reader complaint output errors (inr (job, named, stops)) silent =
@@ -128,7 +128,7 @@ long_hides terms bytes (WriteFailed error) is = absurd is
 
 -- memory ran out after some lines
 gathers_memory : (terms : Terms) (bytes : List ℕ) (reader : Option (List ℕ)) (output errors : Stream) → HasBegun terms reader errors.before errors.after
-    → Has output [] → errors.failed ≡ false → Reaches (haul_task terms) reader bytes (Err (Memory out_of_memory)) output errors
+    → Has output [] → errors.failed ≡ false → Reaches (haul_behaviour terms) reader bytes (Err (Memory out_of_memory)) output errors
 gathers_memory terms bytes reader output errors begun nothing fine = record {
   hides = λ _. long_hides terms bytes;
   left = nothing;
@@ -140,7 +140,7 @@ gathers_memory terms bytes reader output errors begun nothing fine = record {
 gathers_on : (terms : Terms) (bytes : List ℕ) (reader left : Option (List ℕ)) (complaint : Complaint) (output errors : Stream)
     → (complaint ≡ TooLong → 2 ^ 32 < length bytes)
     → EndsLines terms reader left errors complaint → Has output []
-    → Reaches (haul_task terms) reader bytes (Err complaint) output errors
+    → Reaches (haul_behaviour terms) reader bytes (Err complaint) output errors
 gathers_on terms bytes reader left (Refused refusal) output errors long ends nothing = absurd ends
 gathers_on terms bytes reader left (Memory error) output errors long ends nothing =
     gathers_memory terms bytes reader output errors (left, ends.0) nothing ends.1
@@ -156,7 +156,7 @@ gathers_on terms bytes reader left (WriteFailed error) output errors long ends n
 -- and there are some: where the input is too long, longer ones than may be read
 pub gathers_lines : (terms : Terms) (reader : Option (List ℕ)) (complaint : Complaint) (output errors : Stream)
     → EndsLinesSomewhere terms reader errors complaint → Has output []
-    → (bytes : List ℕ) × IsInput reader bytes × Reaches (haul_task terms) reader bytes (Err complaint) output errors
+    → (bytes : List ℕ) × IsInput reader bytes × Reaches (haul_behaviour terms) reader bytes (Err complaint) output errors
 gathers_lines terms None complaint output errors (left, ends) nothing =
     let bytes = range_with_len 0 (2 ^ 32 + 1) in (
       bytes,
@@ -195,7 +195,7 @@ pub gathers_haul : (terms : Terms) (held closed : Held) (reader : Option (List �
     → (all : HasGatheredShort reader errors held) → held.terms ≡ terms → closed.terms ≡ held.terms
     → closed.taken ≡ held.taken
     → ((arrivals : List Arrival) → StandsFor arrivals held → StandsFor (arrivals ++ Closing ∷ []) closed)
-    → Finishes held outcome output → errors.failed ≡ false → Reaches (haul_task terms) reader all.3.bytes outcome output errors
+    → Finishes held outcome output → errors.failed ≡ false → Reaches (haul_behaviour terms) reader all.3.bytes outcome output errors
 gathers_haul terms held closed reader outcome output errors all same kept took closes finishes fine = go outcome finishes
   where
     gathered : (census : Census) (n : ℕ) → IsCensusOf held census → n ≡ length (missing_of held.terms.ranges held.taken)
@@ -203,7 +203,7 @@ gathers_haul terms held closed reader outcome output errors all same kept took c
     gathered census n counted many = is_gathered terms held closed census n reader errors all same kept took closes
         counted many
 
-    go : (outcome : Outcome) → Finishes held outcome output → Reaches (haul_task terms) reader all.3.bytes outcome output errors
+    go : (outcome : Outcome) → Finishes held outcome output → Reaches (haul_behaviour terms) reader all.3.bytes outcome output errors
     go (Ok missing) is = record {
       made = record { text = haul_text is.census; remarks = all.3.remarks; missing = missing };
       is = gathered is.census missing is.counted is.missing_is;
@@ -245,8 +245,8 @@ is_over job set workers held open_ = record {
 -- from what is gathered in an open haul to what is right for the set
 pub gathers_over : (plan : Plan) (workers : ℕ) (bytes : List ℕ) (reader : Option (List ℕ)) (job : Job) (terms : Terms)
     (outcome : Outcome) (output errors : Stream) → job_named plan ≡ Ok job → IsHaulOver plan.set workers job terms
-    → Reaches (haul_task terms) reader bytes outcome output errors
-    → Reaches (gather_task plan workers) reader bytes outcome output errors
+    → Reaches (haul_behaviour terms) reader bytes outcome output errors
+    → Reaches (gather_behaviour plan workers) reader bytes outcome output errors
 gathers_over plan workers bytes reader job terms outcome output errors named over = go outcome
   where
     opens : (others : Terms) → others ≡ terms → gather_opens plan workers others
@@ -269,8 +269,8 @@ gathers_over plan workers bytes reader job terms outcome output errors named ove
     listed : IsListText plan.set.also
     listed = record { ranges = over.named.listed; fit = over.named.fit; spelled = over.named.spelled }
 
-    go : (outcome : Outcome) → Reaches (haul_task terms) reader bytes outcome output errors
-        → Reaches (gather_task plan workers) reader bytes outcome output errors
+    go : (outcome : Outcome) → Reaches (haul_behaviour terms) reader bytes outcome output errors
+        → Reaches (gather_behaviour plan workers) reader bytes outcome output errors
     go (Ok missing) is = record {
       made = is.made;
       is = right is.made is.is;

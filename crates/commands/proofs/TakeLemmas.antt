@@ -48,11 +48,11 @@ use Rattle.pattern_commands.specs.Inputs.{rule_complaint, rule_named, list_compl
 use Rattle.pattern_commands.specs.Profiles.{profile_named, settling}
 use Rattle.pattern_commands.specs.Soup.{seed_complaint, seed_named}
 use Rattle.commands.specs.SoupSets.{AreRangesOf, IsRefused, job_named, IsRightForSet, Bad_list, Overlapping, Too_large}
-use Rattle.commands.specs.Stopped.{MayStop, TellsTaken, gated_task, right_if, stopped_right, taken_right}
+use Rattle.commands.specs.Stopped.{MayStop, TellsTaken, gated_behaviour, right_if, stopped_right, taken_right}
 use Rattle.pattern_commands.specs.Streams.{Stream, Has, IsUntouched}
-use Rattle.commands.specs.Take.{PrintsCensus, TellsAll, take_right, take_task}
+use Rattle.commands.specs.Take.{PrintsCensus, TellsAll, take_right, take_behaviour}
 use Rattle.commands.specs.TakeSteps.{EndsCrew, HasTakenMore, IsOpened, IsOpenedFor, IsTaken, Stops, StopsOpening, StopsSet}
-use Rattle.pattern_commands.specs.Tasks.{Made, Task, alone}
+use Rattle.pattern_commands.specs.Behaviours.{Made, Behaviour, alone}
 use Rattle.pattern_commands.specs.TextSteps.{ReachesText}
 use Rattle.commands.proofs.NumberLemmas.{numbers_within}
 
@@ -317,7 +317,7 @@ taken_told may_stop plan held census missing h many none is = go missing many no
 -- a complaint that stops the command is what it ends with, with nothing on the output
 pub take_stops : (may_stop : ℕ → ℕ → Type 0) (plan : Plan) (reader : Option (List ℕ)) (bytes : List ℕ)
     (complaint : Complaint) (output errors : Stream) → Stops (take_right plan) complaint → Has output [] → IsUntouched errors
-    → Reaches (gated_task may_stop plan) reader bytes (Err complaint) output errors
+    → Reaches (gated_behaviour may_stop plan) reader bytes (Err complaint) output errors
 take_stops may_stop plan reader bytes (Refused refusal) output errors stops nothing still =
     (stops, record { nothing = nothing; silent = still.0; fine = still.1 })
 take_stops may_stop plan reader bytes (Memory error) output errors stops nothing still =
@@ -330,7 +330,7 @@ take_stops may_stop plan reader bytes (WriteFailed error) output errors stops no
 take_finishes : {workers : ℕ} (may_stop : ℕ → ℕ → Type 0) (plan : Plan) (reader : Option (List ℕ))
     (bytes : List ℕ) (held : Held) (outcome : Outcome) (output errors : Stream) → IsTaken may_stop plan workers held
     → (length (missing_of held.terms.ranges held.taken) ≡ 0) ↔ IsComplete held.terms.ranges held.taken → Finishes held outcome output → IsUntouched errors
-    → Reaches (gated_task may_stop plan) reader bytes outcome output errors
+    → Reaches (gated_behaviour may_stop plan) reader bytes outcome output errors
 take_finishes may_stop plan reader bytes held (Ok missing) output errors h none finished still =
     let zero_if : (missing ≡ 0) ↔ IsComplete held.terms.ranges held.taken =
     subst (λ (n : ℕ). (n ≡ 0) ↔ IsComplete held.terms.ranges held.taken) (sym finished.missing_is) none in
@@ -370,12 +370,12 @@ pub take_ends : {workers : ℕ} {E : Type 0} (may_stop : ℕ → ℕ → Type 0)
     → IfOk taken (λ _. Finishes held outcome output)
     → IfOk taken (λ _. (length (missing_of held.terms.ranges held.taken) ≡ 0) ↔ IsComplete held.terms.ranges held.taken)
     → IfErr taken (λ _. (outcome ≡ Err (Memory out_of_memory)) × Has output []) → IsUntouched errors
-    → Reaches (gated_task may_stop plan) reader bytes outcome output errors
+    → Reaches (gated_behaviour may_stop plan) reader bytes outcome output errors
 take_ends may_stop plan reader bytes opened held (Ok u) outcome output errors is grown within once ends finishes none gives_up still =
     take_finishes may_stop plan reader bytes held outcome output errors
     (record { opened = opened; is = is; grown = grown; within = within; once = once; ends = ends }) none finishes still
 take_ends may_stop plan reader bytes opened held (Err e) outcome output errors is grown within once ends finishes none gives_up still =
-    subst (λ (o : Outcome). Reaches (gated_task may_stop plan) reader bytes o output errors) (sym gives_up.0)
+    subst (λ (o : Outcome). Reaches (gated_behaviour may_stop plan) reader bytes o output errors) (sym gives_up.0)
     (take_stops may_stop plan reader bytes (Memory out_of_memory) output errors (Stops_memory plan opened is) gives_up.1 still)
 
 -- a gate that stops nobody stops no haul
@@ -401,8 +401,8 @@ never_less may_stop plan made never is = go made.missing refl is.0
 
 pub never_stopped : (may_stop : ℕ → ℕ → Type 0) (plan : Plan) (reader : Option (List ℕ)) (bytes : List ℕ)
     (status : Status) (output errors : Stream) → ((worker n : ℕ) → may_stop worker n → ⊥)
-    → Ends (gated_task may_stop plan) reader bytes status output errors
-    → Ends (take_task plan) reader bytes status output errors
+    → Ends (gated_behaviour may_stop plan) reader bytes status output errors
+    → Ends (take_behaviour plan) reader bytes status output errors
 never_stopped may_stop plan reader bytes status output errors never ends = record {
   outcome = ends.outcome;
   so_far = ends.so_far;
@@ -413,11 +413,11 @@ never_stopped may_stop plan reader bytes status output errors never ends = recor
   status_is = ends.status_is;
 }
   where
-    gated : Task
-    gated = gated_task may_stop plan
+    gated : Behaviour
+    gated = gated_behaviour may_stop plan
 
-    whole : Task
-    whole = take_task plan
+    whole : Behaviour
+    whole = take_behaviour plan
 
     go : (outcome : Outcome) → Reaches gated reader bytes outcome output ends.so_far → Reaches whole reader bytes outcome output ends.so_far
     go (Ok missing) is = record {
@@ -438,7 +438,7 @@ never_stopped may_stop plan reader bytes status output errors never ends = recor
         inl (record { left = (made, never_less may_stop plan made never right, front, remarks); cut = is.cut; fine = is.fine })
     go (Err (WriteFailed error)) (inr is) = absurd is.tells
 
--- ---- the same without a task
+-- ---- the same without a behaviour of commands
 
 -- what is right for a plan is the census of its job over its set
 prints_right : (plan : Plan) (text : List ℕ) (before after : Option (List ℕ)) → take_right plan (Ok text)
@@ -472,11 +472,11 @@ not_done TooLong is = cc
 not_done (WriteFailed error) is = cc
 
 pub prints_census : (plan : Plan) (reader : Option (List ℕ)) (bytes : List ℕ) (status : Status) (output errors : Stream)
-    → Ends (take_task plan) reader bytes status output errors → status ≡ statuses.Done
+    → Ends (take_behaviour plan) reader bytes status output errors → status ≡ statuses.Done
     → PrintsCensus plan output.before output.after
 prints_census plan reader bytes status output errors ends done = go ends.outcome ends.reached (sym ends.status_is ∙ done)
   where
-    go : (outcome : Outcome) → Reaches (take_task plan) reader bytes outcome output ends.so_far
+    go : (outcome : Outcome) → Reaches (take_behaviour plan) reader bytes outcome output ends.so_far
         → status_after outcome ≡ statuses.Done → PrintsCensus plan output.before output.after
     go (Ok missing) is done = prints_right plan is.made.text output.before output.after is.is.0 is.text
     go (Err complaint) is done = absurd (not_done complaint done)

@@ -1,7 +1,7 @@
 -- What `census gather` is asked for.
 use Rattle.std.specs.Prelude.{◌≡◌, ℕ, Bool, true, false, List, Option, is_ok}
 use Rattle.haul_core.specs.Books.{Terms}
-use Rattle.pattern_commands.specs.Tasks.{Task}
+use Rattle.pattern_commands.specs.Behaviours.{Behaviour}
 use Rattle.commands.specs.declared.plan.Plan.{Plan}
 use Rattle.commands.specs.Gathering.{Hauls, gather_opens, gather_right, gathered_right}
 use Rattle.commands.specs.LinesSoFar.{HasBegun}
@@ -18,8 +18,8 @@ pub record BeginsHaul (opens : Hauls) (reader before after : Option (List ℕ)) 
   pub begun : HasBegun terms reader before after
 
 -- to gather report lines over a set: there are remarks on lines only if a haul was opened
-abbrev pub gather_task : Plan → ℕ → Task
-gather_task plan workers = record {
+abbrev pub gather_behaviour : Plan → ℕ → Behaviour
+gather_behaviour plan workers = record {
   right = gather_right plan workers;
   reads = gather_reads plan;
   refuses = false;
@@ -32,8 +32,8 @@ abbrev pub IsSame : Terms → Terms → Type 0
 IsSame terms others = others ≡ terms
 
 -- the same for a haul that is open
-abbrev pub haul_task : Terms → Task
-haul_task terms = record {
+abbrev pub haul_behaviour : Terms → Behaviour
+haul_behaviour terms = record {
   right = gathered_right terms;
   reads = true;
   refuses = false;

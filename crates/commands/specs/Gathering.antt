@@ -12,7 +12,7 @@ use Rattle.haul_core.specs.Missing.{missing_of}
 use Rattle.ranges.specs.Ranges.{AreSmall, IsNormalForm, Overlap}
 use Rattle.survey_core.specs.declared.job.Job.{Job}
 use Rattle.pattern_commands.specs.declared.complaint.Complaint.TheVariants.{Refused, TooLong}
-use Rattle.pattern_commands.specs.Tasks.{Made, Makes}
+use Rattle.pattern_commands.specs.Behaviours.{Made, Makes}
 use Rattle.commands.specs.declared.plan.Plan.{Plan}
 use Rattle.commands.specs.declared.soup_set.SoupSet.{SoupSet}
 use Rattle.commands.specs.GatheredLines.{Gathered}

@@ -13,7 +13,7 @@ use Rattle.commands.specs.declared.plan.Plan.{Plan}
 use Rattle.pattern_commands.specs.Answers.{Right, IsRightGiven}
 use Rattle.commands.specs.SoupSets.{job_named, IsRightForSet}
 use Rattle.commands.specs.Take.{take_right}
-use Rattle.pattern_commands.specs.Tasks.{Makes, Task, silent_task}
+use Rattle.pattern_commands.specs.Behaviours.{Makes, Behaviour, silent_behaviour}
 
 -- the gate may stop a worker at a number of the set
 abbrev pub MayStop : (ℕ → ℕ → Type 0) → List Range → Type 0
@@ -51,5 +51,5 @@ taken_right may_stop plan (Ok made) =
 taken_right may_stop plan (Err complaint) = take_right plan (Err complaint)
 
 -- to take a set under a gate
-abbrev pub gated_task : (ℕ → ℕ → Type 0) → Plan → Task
-gated_task may_stop plan = silent_task false true (λ bytes. taken_right may_stop plan)
+abbrev pub gated_behaviour : (ℕ → ℕ → Type 0) → Plan → Behaviour
+gated_behaviour may_stop plan = silent_behaviour false true (λ bytes. taken_right may_stop plan)

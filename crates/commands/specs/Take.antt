@@ -11,7 +11,7 @@ use Rattle.ranges.specs.Ranges.{IsNormalForm}
 use Rattle.commands.specs.declared.plan.Plan.{Plan}
 use Rattle.pattern_commands.specs.Answers.{Right, IsRightGiven}
 use Rattle.commands.specs.SoupSets.{AreRangesOf, job_named, IsRightForSet}
-use Rattle.pattern_commands.specs.Tasks.{Task, text_task}
+use Rattle.pattern_commands.specs.Behaviours.{Behaviour, text_behaviour}
 
 -- a text that tells the census of a job over all soups of a set, with the set's ranges in normal form
 pub record TellsAll (job : Job) (ranges : List Range) (text : List ℕ) : Type 0 where
@@ -28,8 +28,8 @@ abbrev pub take_right : Plan → Right
 take_right plan = IsRightGiven (job_named plan) (λ job. IsRightForSet plan.set (TellsAll job))
 
 -- to take a set
-abbrev pub take_task : Plan → Task
-take_task plan = text_task false true (λ bytes. take_right plan)
+abbrev pub take_behaviour : Plan → Behaviour
+take_behaviour plan = text_behaviour false true (λ bytes. take_right plan)
 
 -- The bytes with a writer grew by the haul text of the census of a plan: that of its job, over all soups of its set, with the
 -- set's ranges in normal form.

@@ -9,7 +9,7 @@ use Rattle.haul_core.specs.Reports.{IsReport, Reported}
 use Rattle.commands.specs.declared.plan.Plan.{Plan}
 use Rattle.pattern_commands.specs.Answers.{Right, IsRightGiven}
 use Rattle.commands.specs.SoupSets.{job_named, IsRightForSet}
-use Rattle.pattern_commands.specs.Tasks.{Task, text_task}
+use Rattle.pattern_commands.specs.Behaviours.{Behaviour, text_behaviour}
 
 -- a worker's report on the soup of a job with this number
 pub record IsReportOn (job : Job) (worker number : ℕ) (report : Reported) : Type 0 where
@@ -38,5 +38,5 @@ abbrev pub work_right : Plan → ℕ → Right
 work_right plan worker = IsRightGiven (job_named plan) (λ job. IsRightForSet plan.set (TellsReports job worker))
 
 -- to report on a set, line by line
-abbrev pub work_task : Plan → ℕ → Task
-work_task plan worker = text_task false false (λ bytes. work_right plan worker)
+abbrev pub work_behaviour : Plan → ℕ → Behaviour
+work_behaviour plan worker = text_behaviour false false (λ bytes. work_right plan worker)

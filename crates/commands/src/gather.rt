@@ -15,7 +15,7 @@ ghost use Rattle.pattern_commands.specs.Answers.{IsInput};
 ghost use Rattle.pattern_commands.specs.Complaints.{status_of};
 ghost use Rattle.pattern_commands.specs.Ends.{Ends};
 ghost use Rattle.pattern_commands.specs.Reached.{Reaches};
-ghost use Rattle.commands.specs.Gather.{gather_reads, gather_task, haul_task};
+ghost use Rattle.commands.specs.Gather.{gather_reads, gather_behaviour, haul_behaviour};
 ghost use Rattle.pattern_commands.specs.Profiles.{AreInRange};
 ghost use Rattle.pattern_commands.specs.Streams.{stream};
 ghost use Rattle.haul_core.specs.Books.{StandsFor};
@@ -77,7 +77,7 @@ pub fn do_gather<R: Read, W: Write, E: Write>(
     requires output { output.old.failed ≡ false }
     requires errors { errors.old.failed ≡ false }
     ensures ends { (bytes : List ℕ) × IsInput (R.remaining input.old) bytes
-        × Ends (gather_task plan.now workers) (R.remaining input.old) bytes result
+        × Ends (gather_behaviour plan.now workers) (R.remaining input.old) bytes result
         (stream W.contents output.old output.new) (stream E.contents errors.old errors.new) }
     ensures unread { gather_reads plan.now ≡ false → input.new ≡ input.old }
     ensures untouched { result ≡ Status.Refused → (input.new ≡ input.old) × (output.new ≡ output.old) }
@@ -101,7 +101,7 @@ fn gather<R: Read, W: Write, E: Write>(
     requires output { output.old.failed ≡ false }
     requires errors { errors.old.failed ≡ false }
     ensures gathers { (bytes : List ℕ) × IsInput (R.remaining input.old) bytes
-        × Reaches (gather_task plan.now workers) (R.remaining input.old) bytes result
+        × Reaches (gather_behaviour plan.now workers) (R.remaining input.old) bytes result
         (stream W.contents output.old output.new) (stream E.contents errors.old errors.new) }
     ensures fine { OnOk result (errors.new.failed ≡ false) }
     ensures unread { gather_reads plan.now ≡ false → input.new ≡ input.old }
@@ -125,7 +125,7 @@ fn gather_into<R: Read, W: Write, E: Write>(
     requires output { output.old.failed ≡ false }
     requires errors { errors.old.failed ≡ false }
     ensures gathers { (bytes : List ℕ) × IsInput (R.remaining input.old) bytes
-        × Reaches (haul_task haul.old.terms) (R.remaining input.old) bytes result
+        × Reaches (haul_behaviour haul.old.terms) (R.remaining input.old) bytes result
         (stream W.contents output.old output.new) (stream E.contents errors.old errors.new) }
     ensures fine { OnOk result (errors.new.failed ≡ false) }
     ensures accepted { IfErr result (λ complaint. status_of complaint ≢ Status.Refused) }

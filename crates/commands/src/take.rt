@@ -15,9 +15,9 @@ ghost use Rattle.pattern_commands.specs.Ends.{Ends};
 ghost use Rattle.pattern_commands.specs.Reached.{Reaches};
 ghost use Rattle.commands.specs.Finish.{Finishes};
 ghost use Rattle.pattern_commands.specs.Profiles.{AreInRange};
-ghost use Rattle.commands.specs.Stopped.{gated_task};
+ghost use Rattle.commands.specs.Stopped.{gated_behaviour};
 ghost use Rattle.pattern_commands.specs.Streams.{Stream, Has, stream, IsUntouched};
-ghost use Rattle.commands.specs.Take.{PrintsCensus, take_task};
+ghost use Rattle.commands.specs.Take.{PrintsCensus, take_behaviour};
 ghost use Rattle.commands.specs.TakeSteps.{EndsCrew, HasTakenMore};
 
 use crate::finish::finish;
@@ -61,7 +61,7 @@ pub fn do_take<W: Write, E: Write, T: Threads + Wait + Sync, H: Watch>(
     requires output { output.old.failed ≡ false }
     requires errors { machine.old.errors.failed ≡ false }
     ensures ends { (reader : Option (List ℕ)) (bytes : List ℕ)
-        → Ends (take_task plan.now) reader bytes result
+        → Ends (take_behaviour plan.now) reader bytes result
         (stream W.contents output.old output.new) (stream E.contents machine.old.errors machine.new.errors) }
     ensures exact { result ≡ Status.Done
         → PrintsCensus plan.now (W.contents output.old.writer) (W.contents output.new.writer) }
@@ -89,7 +89,7 @@ pub fn do_take_with<W: Write, E: Write, G: Gate + Sync, T: Threads + Wait + Sync
     requires output { output.old.failed ≡ false }
     requires errors { machine.old.errors.failed ≡ false }
     ensures ends { (reader : Option (List ℕ)) (bytes : List ℕ)
-        → Ends (gated_task (G.may_stop gate.now) plan.now) reader bytes result
+        → Ends (gated_behaviour (G.may_stop gate.now) plan.now) reader bytes result
         (stream W.contents output.old output.new) (stream E.contents machine.old.errors machine.new.errors) }
     ensures untouched { result ≡ Status.Refused → output.new ≡ output.old }
     ensures no_memory { result ≡ Status.Memory → output.new ≡ output.old }
@@ -110,7 +110,7 @@ fn print_haul<W: Write, E: Write, G: Gate + Sync, T: Threads + Wait + Sync, H: W
     requires profile { AreInRange plan.now.profile }
     requires output { output.old.failed ≡ false }
     ensures reached { (reader : Option (List ℕ)) (bytes : List ℕ) (errors : Stream) → IsUntouched errors
-        → Reaches (gated_task (G.may_stop gate.now) plan.now) reader bytes result
+        → Reaches (gated_behaviour (G.may_stop gate.now) plan.now) reader bytes result
         (stream W.contents output.old output.new) errors }
     ensures untouched { IfErr result (λ complaint. status_of complaint ≡ Status.Refused → output.new ≡ output.old) }
     ensures no_memory { IfErr result (λ complaint. complaint ≡ Complaint.Memory out_of_memory → output.new ≡ output.old) }

@@ -18,7 +18,7 @@ ghost use Rattle.pattern_commands.specs.Profiles.{AreInRange};
 ghost use Rattle.pattern_commands.specs.Streams.{stream};
 ghost use Rattle.haul_core.specs.Missing.{numbers_of_range, numbers_of};
 ghost use Rattle.pattern_commands.specs.TextSteps.{ReachesText};
-ghost use Rattle.commands.specs.Work.{work_right, work_task};
+ghost use Rattle.commands.specs.Work.{work_right, work_behaviour};
 ghost use Rattle.commands.specs.WorkSteps.{EndsAtLine, Puts, reports_on};
 
 use crate::plan::{Plan, open_haul};
@@ -59,7 +59,7 @@ pub fn do_work<W: Write, E: Write>(
     requires output { output.old.failed ≡ false }
     requires errors { errors.old.failed ≡ false }
     ensures ends { (reader : Option (List ℕ)) (bytes : List ℕ)
-        → Ends (work_task plan.now worker) reader bytes result
+        → Ends (work_behaviour plan.now worker) reader bytes result
         (stream W.contents output.old output.new) (stream E.contents errors.old errors.new) }
     ensures untouched { result ≡ Status.Refused → output.new ≡ output.old }
     ensures whole_lines { result ≡ Status.Memory

@@ -11,10 +11,10 @@ use Rattle.pattern_commands.specs.Complaints.{status_of}
 use Rattle.pattern_commands.specs.Ends.{Ends, HasLast, status_after}
 use Rattle.pattern_commands.specs.Reached.{WritesBeginning, LeavesPart, Reaches}
 use Rattle.pattern_commands.specs.Streams.{Stream, HasFront, IsUntouched}
-use Rattle.pattern_commands.specs.Tasks.{Made, alone, text_made, text_task}
+use Rattle.pattern_commands.specs.Behaviours.{Made, alone, text_made, text_behaviour}
 use Rattle.pattern_commands.specs.TextSteps.{LeavesTextFront, LeavesTextPart, ReachesText, TextOutcome, none_missing}
 
--- what is left of a text, as a task has it
+-- what is left of a text, as a command's behaviour has it
 part_of : (whole : Bool) (right : Right) (output : Stream) → LeavesTextPart whole right output → LeavesPart whole (alone right) output
 part_of true right output left = left
 part_of false right output left = go
@@ -31,7 +31,7 @@ front_of false right output errors (never, fronts) still = (never, λ made is. f
 -- what stands on the streams after a text, where nothing was told yet
 reaches_text : (reads whole : Bool) (right : List ℕ → Right) (reader : Option (List ℕ)) (bytes : List ℕ) (outcome : TextOutcome) (output errors : Stream)
     → ReachesText reads whole (right bytes) outcome output → IsUntouched errors
-    → Reaches (text_task reads whole right) reader bytes (none_missing outcome) output errors
+    → Reaches (text_behaviour reads whole right) reader bytes (none_missing outcome) output errors
 reaches_text reads whole right reader bytes (Ok _) output errors ((text, is, has), written) still = record {
   made = record { text = text; remarks = []; missing = 0 };
   is = (is, refl, refl);
@@ -56,7 +56,7 @@ reaches_text reads whole right reader bytes (Err (WriteFailed error)) output err
 pub text_ends : (reads whole : Bool) (right : List ℕ → Right) (reader : Option (List ℕ)) (bytes : List ℕ) (outcome : TextOutcome) (status : Status)
     (output errors : Stream)
     → ReachesText reads whole (right bytes) outcome output → status ≡ status_after (none_missing outcome) → HasLast (none_missing outcome) errors
-    → Ends (text_task reads whole right) reader bytes status output errors
+    → Ends (text_behaviour reads whole right) reader bytes status output errors
 text_ends reads whole right reader bytes outcome status output errors reached is last =
     let so_far : Stream = record { before = errors.before; after = errors.before; failed = false } in
     record {

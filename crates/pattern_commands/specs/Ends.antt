@@ -5,7 +5,7 @@ use Rattle.pattern_commands.specs.declared.status.Status.{Status}
 use Rattle.pattern_commands.specs.declared.status.Status.TheVariants as statuses
 use Rattle.pattern_commands.specs.Complaints.{complaint_line, missing_line, status_of}
 use Rattle.pattern_commands.specs.Streams.{Stream, Has, HasLine}
-use Rattle.pattern_commands.specs.Tasks.{Task}
+use Rattle.pattern_commands.specs.Behaviours.{Behaviour}
 
 -- the last line of standard error: how many soups are missing, or the complaint; and none if all was done
 abbrev pub last_line : Outcome → List ℕ
@@ -24,12 +24,12 @@ HasLast (Ok zero) errors = Has errors [] × (errors.failed ≡ false)
 HasLast (Ok (suc n)) errors = HasLine errors (missing_line (suc n))
 HasLast (Err complaint) errors = HasLine errors (complaint_line complaint)
 
--- How a command ends that was to do a task with an input: `so_far` is standard error before its last line.
-pub record Ends (task : Task) (reader : Option (List ℕ)) (bytes : List ℕ) (status : Status) (output errors : Stream) : Type 0 where
+-- How a command of this behaviour ends on an input: `so_far` is standard error before its last line.
+pub record Ends (behaviour : Behaviour) (reader : Option (List ℕ)) (bytes : List ℕ) (status : Status) (output errors : Stream) : Type 0 where
   pub outcome : Outcome
   pub so_far : Stream
   pub from : so_far.before ≡ errors.before
-  pub reached : Reaches task reader bytes outcome output so_far
+  pub reached : Reaches behaviour reader bytes outcome output so_far
   pub stays : so_far.failed ≡ true → errors.failed ≡ true
   pub last : HasLast outcome (record { before = so_far.after; after = errors.after; failed = errors.failed })
   pub status_is : status ≡ status_after outcome

@@ -10,6 +10,6 @@ pub mod Show
 pub mod Soup
 pub mod Status
 pub mod Streams
-pub mod Tasks
+pub mod Behaviours
 pub mod TextSteps
 pub mod Version

@@ -10,7 +10,7 @@ use Rattle.pattern_commands.specs.declared.profile.ProfileNumbers.{ProfileNumber
 use Rattle.pattern_commands.specs.Answers.{Right, IsRightGiven, only}
 use Rattle.pattern_commands.specs.Inputs.{pattern_of, rule_named}
 use Rattle.pattern_commands.specs.Profiles.{profile_named}
-use Rattle.pattern_commands.specs.Tasks.{Task, text_task}
+use Rattle.pattern_commands.specs.Behaviours.{Behaviour, text_behaviour}
 
 -- a code and how many objects have it, as a line
 abbrev pub object_line : List ℕ × ℕ → List ℕ
@@ -31,6 +31,6 @@ name_right numbers rule_text bytes =
     IsRightGiven (profile_named numbers) (λ profile. IsRightGiven (rule_named rule_text) (λ rule. IsRightGiven (pattern_of bytes) (TellsFinding rule profile)))
 
 -- to write the finding of the input's pattern; the input is looked at if the profile and the rule are fine
-abbrev pub name_task : ProfileNumbers → List ℕ → Task
-name_task numbers rule_text =
-    text_task (is_ok (profile_named numbers) && is_ok (rule_named rule_text)) true (λ bytes. name_right numbers rule_text bytes)
+abbrev pub name_behaviour : ProfileNumbers → List ℕ → Behaviour
+name_behaviour numbers rule_text =
+    text_behaviour (is_ok (profile_named numbers) && is_ok (rule_named rule_text)) true (λ bytes. name_right numbers rule_text bytes)

@@ -3,7 +3,7 @@ use Rattle.std.specs.Prelude.{◌≡◌, ◌⊎◌, ℕ, Bool, true, false, List
 use Rattle.pattern_commands.specs.declared.complaint.Complaint.{Complaint}
 use Rattle.pattern_commands.specs.declared.complaint.Complaint.TheVariants.{Refused, Memory, ReadFailed, TooLong, WriteFailed}
 use Rattle.pattern_commands.specs.Streams.{Stream, Has, HasFront}
-use Rattle.pattern_commands.specs.Tasks.{Made, Makes, NeedsMemoryAlone, Task, text_made}
+use Rattle.pattern_commands.specs.Behaviours.{Made, Makes, NeedsMemoryAlone, Behaviour, text_made}
 
 -- how many soups are missing after a command, or its complaint
 abbrev pub Outcome : Type 0
@@ -26,9 +26,9 @@ pub record IsSilent (output errors : Stream) : Type 0 where
   pub fine : errors.failed ≡ false
 
 -- The input was cut off: nothing was written to standard output, and standard error has the remarks on its beginning.
-pub record IsCutOff (task : Task) (reader : Option (List ℕ)) (output errors : Stream) : Type 0 where
-  pub reads : task.reads ≡ true
-  pub begun : task.begins reader errors.before errors.after
+pub record IsCutOff (behaviour : Behaviour) (reader : Option (List ℕ)) (output errors : Stream) : Type 0 where
+  pub reads : behaviour.reads ≡ true
+  pub begun : behaviour.begins reader errors.before errors.after
   pub nothing : Has output []
   pub fine : errors.failed ≡ false
 
@@ -39,10 +39,10 @@ LeavesPart true right output = Has output []
 LeavesPart false right output = (answer : Result Made Complaint) → right answer → HasFront output (text_made answer)
 
 -- memory ran out: over the input, or before it was looked at
-pub record HasRunOutOfMemory (task : Task) (reader : Option (List ℕ)) (bytes : List ℕ) (output errors : Stream) : Type 0 where
-  pub hides : task.refuses ≡ false → NeedsMemoryAlone (task.right bytes)
-  pub left : LeavesPart task.whole (task.right bytes) output
-  pub remarks : Has errors [] ⊎ task.begins reader errors.before errors.after
+pub record HasRunOutOfMemory (behaviour : Behaviour) (reader : Option (List ℕ)) (bytes : List ℕ) (output errors : Stream) : Type 0 where
+  pub hides : behaviour.refuses ≡ false → NeedsMemoryAlone (behaviour.right bytes)
+  pub left : LeavesPart behaviour.whole (behaviour.right bytes) output
+  pub remarks : Has errors [] ⊎ behaviour.begins reader errors.before errors.after
   pub fine : errors.failed ≡ false
 
 -- What was written if a write of the text failed. Of a text that was whole before that: a front, and all remarks. One that is
@@ -53,23 +53,23 @@ WritesBeginning false right output errors = ((complaint : Complaint) → right (
     × ((made : Made) → right (Ok made) → HasFront output made.text) × Has errors []
 
 -- standard output failed
-pub record IsCutShort (task : Task) (bytes : List ℕ) (output errors : Stream) : Type 0 where
-  pub left : WritesBeginning task.whole (task.right bytes) output errors
+pub record IsCutShort (behaviour : Behaviour) (bytes : List ℕ) (output errors : Stream) : Type 0 where
+  pub left : WritesBeginning behaviour.whole (behaviour.right bytes) output errors
   pub cut : output.failed ≡ true
   pub fine : errors.failed ≡ false
 
 -- the remarks on the input were not written whole
-pub record IsUntold (task : Task) (output errors : Stream) : Type 0 where
-  pub tells : task.may_tell
+pub record IsUntold (behaviour : Behaviour) (output errors : Stream) : Type 0 where
+  pub tells : behaviour.may_tell
   pub nothing : Has output []
   pub cut : errors.failed ≡ true
 
 -- What stands on the streams before the last line of standard error. A refusal is a right answer, and so is an input that is
 -- too long.
-abbrev pub Reaches : Task → Option (List ℕ) → List ℕ → Outcome → Stream → Stream → Type 0
-Reaches task reader bytes (Ok missing) output errors = IsPrinted (task.right bytes) missing output errors
-Reaches task reader bytes (Err (Refused refusal)) output errors = task.right bytes (Err (Refused refusal)) × IsSilent output errors
-Reaches task reader bytes (Err (Memory error)) output errors = HasRunOutOfMemory task reader bytes output errors
-Reaches task reader bytes (Err (ReadFailed error)) output errors = IsCutOff task reader output errors
-Reaches task reader bytes (Err TooLong) output errors = task.right bytes (Err TooLong) × IsCutOff task reader output errors
-Reaches task reader bytes (Err (WriteFailed error)) output errors = IsCutShort task bytes output errors ⊎ IsUntold task output errors
+abbrev pub Reaches : Behaviour → Option (List ℕ) → List ℕ → Outcome → Stream → Stream → Type 0
+Reaches behaviour reader bytes (Ok missing) output errors = IsPrinted (behaviour.right bytes) missing output errors
+Reaches behaviour reader bytes (Err (Refused refusal)) output errors = behaviour.right bytes (Err (Refused refusal)) × IsSilent output errors
+Reaches behaviour reader bytes (Err (Memory error)) output errors = HasRunOutOfMemory behaviour reader bytes output errors
+Reaches behaviour reader bytes (Err (ReadFailed error)) output errors = IsCutOff behaviour reader output errors
+Reaches behaviour reader bytes (Err TooLong) output errors = behaviour.right bytes (Err TooLong) × IsCutOff behaviour reader output errors
+Reaches behaviour reader bytes (Err (WriteFailed error)) output errors = IsCutShort behaviour bytes output errors ⊎ IsUntold behaviour output errors

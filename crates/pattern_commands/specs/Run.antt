@@ -4,7 +4,7 @@ use Rattle.plane_core.specs.Generations.{after}
 use Rattle.plane_core.specs.Plaintext.{plain}
 use Rattle.pattern_commands.specs.Answers.{Answer, given, only}
 use Rattle.pattern_commands.specs.Inputs.{rule_named, pattern_of}
-use Rattle.pattern_commands.specs.Tasks.{Task, text_task}
+use Rattle.pattern_commands.specs.Behaviours.{Behaviour, text_behaviour}
 
 -- the plaintext of the pattern after n generations; the rule is looked at first, and then the input
 abbrev pub run_answer : List ℕ → ℕ → List ℕ → Answer
@@ -12,5 +12,5 @@ run_answer rule_text n bytes =
     given (rule_named rule_text) (λ rule. given (pattern_of bytes) (λ cells. Ok (plain (after rule cells n))))
 
 -- to run the pattern of the input for n generations; the input is looked at if the rule is one
-abbrev pub run_task : List ℕ → ℕ → Task
-run_task rule_text n = text_task (is_ok (rule_named rule_text)) true (λ bytes. only (run_answer rule_text n bytes))
+abbrev pub run_behaviour : List ℕ → ℕ → Behaviour
+run_behaviour rule_text n = text_behaviour (is_ok (rule_named rule_text)) true (λ bytes. only (run_answer rule_text n bytes))

@@ -14,7 +14,7 @@ use Rattle.pattern_commands.specs.declared.complaint.Complaint.{Complaint}
 use Rattle.pattern_commands.specs.declared.complaint.Complaint.TheVariants.{Refused, Memory}
 use Rattle.pattern_commands.specs.declared.refusal.Refusal.TheVariants.{CodeBadByte, CodeEmpty, CodeShortRun, CodeTooLong, NotACode}
 use Rattle.pattern_commands.specs.Answers.{Answer, given, only}
-use Rattle.pattern_commands.specs.Tasks.{Task, text_task}
+use Rattle.pattern_commands.specs.Behaviours.{Behaviour, text_behaviour}
 
 -- `_`, between the prefix of a code and its text
 abbrev pub is_separator : ℕ → Bool
@@ -74,5 +74,5 @@ abbrev pub show_answer : List ℕ → Answer
 show_answer code = given (text_in code) (λ text. given (shown text) (λ cells. Ok (plain cells)))
 
 -- to write the object that a code names
-abbrev pub show_task : List ℕ → Task
-show_task code = text_task false true (λ bytes. only (show_answer code))
+abbrev pub show_behaviour : List ℕ → Behaviour
+show_behaviour code = text_behaviour false true (λ bytes. only (show_answer code))

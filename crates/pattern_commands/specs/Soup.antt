@@ -10,7 +10,7 @@ use Rattle.pattern_commands.specs.declared.complaint.Complaint.{Complaint}
 use Rattle.pattern_commands.specs.declared.complaint.Complaint.TheVariants.{Refused}
 use Rattle.pattern_commands.specs.declared.refusal.Refusal.TheVariants.{SeedBadByte, SeedTooLong}
 use Rattle.pattern_commands.specs.Answers.{Answer, given, only}
-use Rattle.pattern_commands.specs.Tasks.{Task, text_task}
+use Rattle.pattern_commands.specs.Behaviours.{Behaviour, text_behaviour}
 
 -- the complaint about a seed
 abbrev pub seed_complaint : SeedFault → Complaint
@@ -26,5 +26,5 @@ abbrev pub soup_answer : List ℕ → ℕ → Answer
 soup_answer seed_text number = given (seed_named seed_text) (λ seed. Ok (plain (soup seed number)))
 
 -- to write a soup
-abbrev pub soup_task : List ℕ → ℕ → Task
-soup_task seed_text number = text_task false true (λ bytes. only (soup_answer seed_text number))
+abbrev pub soup_behaviour : List ℕ → ℕ → Behaviour
+soup_behaviour seed_text number = text_behaviour false true (λ bytes. only (soup_answer seed_text number))

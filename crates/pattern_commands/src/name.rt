@@ -14,7 +14,7 @@ ghost use Rattle.pattern_commands.specs.Answers.{IsInput};
 ghost use Rattle.pattern_commands.specs.Complaints.{status_of};
 ghost use Rattle.pattern_commands.specs.Ends.{Ends};
 ghost use Rattle.pattern_commands.specs.Inputs.{rule_named};
-ghost use Rattle.pattern_commands.specs.Name.{finding_text, name_right, name_task, object_line};
+ghost use Rattle.pattern_commands.specs.Name.{finding_text, name_right, name_behaviour, object_line};
 ghost use Rattle.pattern_commands.specs.Profiles.{AreInRange, profile_named};
 ghost use Rattle.pattern_commands.specs.Streams.{stream};
 ghost use Rattle.pattern_commands.specs.TextSteps.{ReachesText};
@@ -56,7 +56,7 @@ pub fn do_name<R: Read, W: Write, E: Write>(
     requires output { output.old.failed ≡ false }
     requires errors { errors.old.failed ≡ false }
     ensures ends { (bytes : List ℕ) × IsInput (R.remaining input.old) bytes
-        × Ends (name_task profile rule_text.now) (R.remaining input.old) bytes result
+        × Ends (name_behaviour profile rule_text.now) (R.remaining input.old) bytes result
         (stream W.contents output.old output.new) (stream E.contents errors.old errors.new) }
     ensures profile_first { IsErr (profile_named profile) → (result ≡ Status.Refused) × (input.new ≡ input.old) }
     ensures rule_first { IsErr (rule_named rule_text.now) → (result ≡ Status.Refused) × (input.new ≡ input.old) }

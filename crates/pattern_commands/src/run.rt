@@ -13,7 +13,7 @@ ghost use Rattle.pattern_commands.specs.Answers.{IsInput, only};
 ghost use Rattle.pattern_commands.specs.Complaints.{status_of};
 ghost use Rattle.pattern_commands.specs.Ends.{Ends};
 ghost use Rattle.pattern_commands.specs.Inputs.{LiesWithin999, rule_named};
-ghost use Rattle.pattern_commands.specs.Run.{run_answer, run_task};
+ghost use Rattle.pattern_commands.specs.Run.{run_answer, run_behaviour};
 ghost use Rattle.pattern_commands.specs.Streams.{stream};
 ghost use Rattle.pattern_commands.specs.TextSteps.{ReachesText};
 
@@ -52,7 +52,7 @@ pub fn do_run<R: Read, W: Write, E: Write>(
     requires output { output.old.failed ≡ false }
     requires errors { errors.old.failed ≡ false }
     ensures ends { (bytes : List ℕ) × IsInput (R.remaining input.old) bytes
-        × Ends (run_task rule_text.now generations) (R.remaining input.old) bytes result
+        × Ends (run_behaviour rule_text.now generations) (R.remaining input.old) bytes result
         (stream W.contents output.old output.new) (stream E.contents errors.old errors.new) }
     ensures rule_first { IsErr (rule_named rule_text.now) → (result ≡ Status.Refused) × (input.new ≡ input.old) }
     ensures untouched { result ≡ Status.Refused → output.new ≡ output.old }

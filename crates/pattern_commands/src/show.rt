@@ -12,7 +12,7 @@ ghost use Rattle.memory.specs.Evidence.{out_of_memory};
 ghost use Rattle.pattern_commands.specs.Answers.{only};
 ghost use Rattle.pattern_commands.specs.Complaints.{status_of};
 ghost use Rattle.pattern_commands.specs.Ends.{Ends};
-ghost use Rattle.pattern_commands.specs.Show.{is_kind, is_number, is_prefix, parted, show_answer, show_task, text_in};
+ghost use Rattle.pattern_commands.specs.Show.{is_kind, is_number, is_prefix, parted, show_answer, show_behaviour, text_in};
 ghost use Rattle.pattern_commands.specs.Streams.{stream};
 ghost use Rattle.pattern_commands.specs.TextSteps.{ReachesText};
 
@@ -43,7 +43,7 @@ pub fn do_show<W: Write, E: Write>(
 ) -> Status
     requires output { output.old.failed ≡ false }
     requires errors { errors.old.failed ≡ false }
-    ensures ends { (reader : Option (List ℕ)) (bytes : List ℕ) → Ends (show_task code.now) reader bytes result
+    ensures ends { (reader : Option (List ℕ)) (bytes : List ℕ) → Ends (show_behaviour code.now) reader bytes result
         (stream W.contents output.old output.new) (stream E.contents errors.old errors.new) }
     ensures untouched { result ≡ Status.Refused → output.new ≡ output.old }
     ensures no_memory { result ≡ Status.Memory → output.new ≡ output.old }

@@ -5,7 +5,7 @@ ghost use Rattle.memory.specs.Evidence.{out_of_memory};
 ghost use Rattle.pattern_commands.specs.Answers.{only};
 ghost use Rattle.pattern_commands.specs.Complaints.{status_of};
 ghost use Rattle.pattern_commands.specs.Ends.{Ends};
-ghost use Rattle.pattern_commands.specs.Soup.{soup_answer, soup_task};
+ghost use Rattle.pattern_commands.specs.Soup.{soup_answer, soup_behaviour};
 ghost use Rattle.pattern_commands.specs.Streams.{stream};
 ghost use Rattle.pattern_commands.specs.TextSteps.{ReachesText};
 
@@ -40,7 +40,7 @@ pub fn do_soup<W: Write, E: Write>(
     requires number { number < 2 ^ 40 }
     requires output { output.old.failed ≡ false }
     requires errors { errors.old.failed ≡ false }
-    ensures ends { (reader : Option (List ℕ)) (bytes : List ℕ) → Ends (soup_task seed_text.now number) reader bytes result
+    ensures ends { (reader : Option (List ℕ)) (bytes : List ℕ) → Ends (soup_behaviour seed_text.now number) reader bytes result
         (stream W.contents output.old output.new) (stream E.contents errors.old errors.new) }
     ensures untouched { result ≡ Status.Refused → output.new ≡ output.old }
     ensures no_memory { result ≡ Status.Memory → output.new ≡ output.old }

@@ -6,7 +6,7 @@ ghost use Rattle.pattern_commands.specs.Answers.{only};
 ghost use Rattle.pattern_commands.specs.Ends.{Ends};
 ghost use Rattle.pattern_commands.specs.Streams.{stream};
 ghost use Rattle.pattern_commands.specs.TextSteps.{ReachesText};
-ghost use Rattle.pattern_commands.specs.Version.{version_answer, version_task};
+ghost use Rattle.pattern_commands.specs.Version.{version_answer, version_behaviour};
 
 use crate::complaint::Complaint;
 use crate::ending::tell_end_of_text;
@@ -25,7 +25,7 @@ use std::io::Write;
 pub fn do_version<W: Write, E: Write>(output: &mut Out<W>, errors: &mut Out<E>) -> Status
     requires output { output.old.failed ≡ false }
     requires errors { errors.old.failed ≡ false }
-    ensures ends { (reader : Option (List ℕ)) (bytes : List ℕ) → Ends version_task reader bytes result
+    ensures ends { (reader : Option (List ℕ)) (bytes : List ℕ) → Ends version_behaviour reader bytes result
         (stream W.contents output.old output.new) (stream E.contents errors.old errors.new) }
     ensures failed { result ≢ Status.Done → result ≡ Status.Failed }
     ensures status { result ≢ Status.Refused }

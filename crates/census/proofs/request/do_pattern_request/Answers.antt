@@ -1,6 +1,6 @@
 use Rattle.std.proofs.Common.{refl}
-use Rattle.pattern_commands.specs.Show.{show_task}
-use Rattle.pattern_commands.specs.Soup.{soup_task}
+use Rattle.pattern_commands.specs.Show.{show_behaviour}
+use Rattle.pattern_commands.specs.Soup.{soup_behaviour}
 use Rattle.census.proofs.RequestLemmas.{does}
 use Rattle.census.proofs.request.do_pattern_request.Goals as goal
 
@@ -15,10 +15,10 @@ returns-in-Name-clause-ends g c =
     rw c.in-Name.is (record { bytes = ended.0; input = ended.1; ends = ended.2 })
 
 pub returns-in-Show-clause-ends : goal.returns-in-Show-clause-ends
-returns-in-Show-clause-ends g c = rw c.in-Show.is (does _ _ (λ i. show_task (c.as_str-in-Show.ensures i)) c.do_show.ensures.ends)
+returns-in-Show-clause-ends g c = rw c.in-Show.is (does _ _ (λ i. show_behaviour (c.as_str-in-Show.ensures i)) c.do_show.ensures.ends)
 
 pub returns-in-Soup-clause-ends : goal.returns-in-Soup-clause-ends
-returns-in-Soup-clause-ends g c = rw c.in-Soup.is (does _ _ (λ i. soup_task (c.as_str-in-Soup.ensures i) c.in-Soup.number) c.do_soup.ensures.ends)
+returns-in-Soup-clause-ends g c = rw c.in-Soup.is (does _ _ (λ i. soup_behaviour (c.as_str-in-Soup.ensures i) c.in-Soup.number) c.do_soup.ensures.ends)
 
 pub returns-in-Version-clause-ends : goal.returns-in-Version-clause-ends
 returns-in-Version-clause-ends g c = rw c.in-Version.is (does _ _ refl c.do_version.ensures.ends)

@@ -1,4 +1,4 @@
--- What commands are to do, and what they make.
+-- How commands may behave, and what they make.
 use Rattle.std.specs.Prelude.{◌≡◌, ℕ, Bool, List, [], Option, Result, Ok, Err}
 use Rattle.std.specs.Io.KnownBytes.{Appends}
 use Rattle.pattern_commands.specs.declared.complaint.Complaint.{Complaint}
@@ -23,8 +23,8 @@ text_made (Err complaint) = []
 abbrev pub NeedsMemoryAlone : Makes → Type 0
 NeedsMemoryAlone right = (complaint : Complaint) → right (Err complaint) → NeedsMemory complaint
 
--- What a command is to do.
-pub record Task : Type 1 where
+-- How a command may behave.
+pub record Behaviour : Type 1 where
   -- what is right to make of an input
   pub right : List ℕ → Makes
   -- it looks at the input
@@ -43,9 +43,9 @@ abbrev pub alone : Right → Makes
 alone right (Ok made) = right (Ok made.text) × (made.remarks ≡ []) × (made.missing ≡ 0)
 alone right (Err complaint) = right (Err complaint)
 
--- a task without remarks: nothing is written to standard error before the last line
-abbrev pub silent_task : (reads whole : Bool) → (List ℕ → Makes) → Task
-silent_task reads whole right = record {
+-- without remarks: nothing is written to standard error before the last line
+abbrev pub silent_behaviour : (reads whole : Bool) → (List ℕ → Makes) → Behaviour
+silent_behaviour reads whole right = record {
   right = right;
   reads = reads;
   refuses = reads;
@@ -54,6 +54,6 @@ silent_task reads whole right = record {
   may_tell = ⊥;
 }
 
--- the task to write a text
-abbrev pub text_task : (reads whole : Bool) → (List ℕ → Right) → Task
-text_task reads whole right = silent_task reads whole (λ bytes. alone (right bytes))
+-- a command that writes a text
+abbrev pub text_behaviour : (reads whole : Bool) → (List ℕ → Right) → Behaviour
+text_behaviour reads whole right = silent_behaviour reads whole (λ bytes. alone (right bytes))
