@@ -2,9 +2,6 @@
 use Rattle.std.specs.Prelude.{◌≡◌, ◌⊎◌, ℕ, Bool, true, false, List, [], Option, IsSomeAnd}
 use Rattle.memory.specs.Evidence.{out_of_memory}
 use Rattle.pattern_commands.specs.declared.complaint.Complaint.TheVariants as complaint
-use Rattle.commands.specs.declared.plan.Plan.{Plan}
-use Rattle.pattern_commands.specs.declared.profile.ProfileNumbers.{ProfileNumbers}
-use Rattle.commands.specs.declared.soup_set.SoupSet.{SoupSet}
 use Rattle.pattern_commands.specs.declared.status.Status.{Status}
 use Rattle.pattern_commands.specs.declared.status.Status.TheVariants.{Memory, Refused}
 use Rattle.pattern_commands.specs.Answers.{IsInput}
@@ -20,33 +17,20 @@ use Rattle.commands.specs.Take.{take_behaviour}
 use Rattle.pattern_commands.specs.Behaviours.{Makes, Behaviour}
 use Rattle.pattern_commands.specs.Version.{version_behaviour}
 use Rattle.commands.specs.Work.{work_behaviour}
-use Rattle.words.specs.declared.request.ProfileNumbers.{ProfileNumbers as Numbers}
 use Rattle.words.specs.declared.request.Request.{Request}
 use Rattle.words.specs.declared.request.Request.TheVariants.{Run, Name, Show, Soup, Take, Work, Gather, Version}
-use Rattle.words.specs.declared.request.SoupSet.{SoupSet as Soups}
-use Rattle.words.specs.declared.request.Plan.{Plan as Asked}
 use Rattle.words.specs.Requests.{Text, asked_by, asks_version}
 use Rattle.words.specs.Unasked.{IsUsageText}
-
--- the values of a request, as the commands take them
-abbrev pub numbers_for : Numbers → ProfileNumbers
-numbers_for n = record { period = n.period; horizon = n.horizon; stride = n.stride; limit = n.limit }
-
-abbrev pub soups_for : Soups → SoupSet
-soups_for set = record { seed = set.seed; first = set.first; count = set.count; also = set.also }
-
-abbrev pub plan_for : Asked → Plan
-plan_for plan = record { set = soups_for plan.set; profile = numbers_for plan.profile; rule = plan.rule }
 
 -- what a request is to do
 abbrev pub behaviour_of : Request → Behaviour
 behaviour_of (Run generations rule) = run_behaviour rule generations
-behaviour_of (Name profile rule) = name_behaviour (numbers_for profile) rule
+behaviour_of (Name profile rule) = name_behaviour profile rule
 behaviour_of (Show code) = show_behaviour code
 behaviour_of (Soup seed number) = soup_behaviour seed number
-behaviour_of (Take plan workers progress) = take_behaviour (plan_for plan)
-behaviour_of (Work plan worker) = work_behaviour (plan_for plan) worker
-behaviour_of (Gather plan workers) = gather_behaviour (plan_for plan) workers
+behaviour_of (Take plan workers progress) = take_behaviour plan
+behaviour_of (Work plan worker) = work_behaviour plan worker
+behaviour_of (Gather plan workers) = gather_behaviour plan workers
 behaviour_of Version = version_behaviour
 
 -- the command looks at its input: `run` does, if its rule is one, `name`, if its profile is one too, and `gather`, if its seed is too

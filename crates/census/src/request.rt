@@ -6,31 +6,23 @@
 //!                       └─ a usage text, or want of memory
 //! ```
 
-ghost use Rattle.std.specs.Prelude.{◌≡◌, ◌≢◌, ℕ, IfSome, List, Option, false, true, is_some, map};
+ghost use Rattle.std.specs.Prelude.{◌≡◌, ◌≢◌, IfSome, false, true, is_some, map};
 ghost use Rattle.clap.specs.Words.{kind_of};
 ghost use Rattle.clap.specs.declared.error.kind.ErrorKind.TheVariants.{OutOfMemory};
 ghost use Rattle.memory.specs.Evidence.{out_of_memory};
 ghost use Rattle.pattern_commands.specs.Complaints.{complaint_line};
-ghost use Rattle.words.specs.Requests.{AreInTheirRanges, AreProfileNumbers, asked_by};
-ghost use Rattle.words.specs.declared.request.Request.TheVariants as request;
-ghost use Rattle.pattern_commands.specs.Ends.{Ends};
-ghost use Rattle.pattern_commands.specs.Profiles.{AreInRange};
+ghost use Rattle.words.specs.Requests.{AreInTheirRanges, asked_by};
 ghost use Rattle.pattern_commands.specs.Streams.{HasLine, stream};
 ghost use Rattle.census.specs.Requests.{DoesRequest, DoesWords, Spares, TellsUsage, is_over_sets, is_whole};
-ghost use Rattle.census.specs.Requests.{numbers_for, plan_for, reads_input};
-ghost use Rattle.census.specs.Requests.{refuses_input, soups_for, behaviour_of};
+ghost use Rattle.census.specs.Requests.{reads_input, refuses_input};
 
 use commands::gather::do_gather;
 use commands::machine::Machine;
-use commands::plan::Plan;
 use commands::progress::Progress;
-use commands::soup_set::SoupSet;
 use commands::take::do_take;
-use commands::text::Text;
 use commands::work::do_work;
 use pattern_commands::complaint::Complaint;
 use pattern_commands::name::do_name;
-use pattern_commands::profile::ProfileNumbers;
 use pattern_commands::run::do_run;
 use pattern_commands::show::do_show;
 use pattern_commands::soup::do_soup;
@@ -143,11 +135,14 @@ fn do_request<T: Threads + Wait + Sync, R: Read, W: Write, E: Write, P: Write, C
             plan,
             workers,
             progress,
-        } => run_take(machine, plan, *workers, *progress, output),
-        Request::Work { plan, worker } => {
-            run_work(machine.alloc, plan, *worker, output, &mut machine.errors)
+        } => {
+            machine.watch.ask(*progress);
+            do_take(machine, plan, *workers, output)
         }
-        Request::Gather { plan, workers } => run_gather(
+        Request::Work { plan, worker } => {
+            do_work(machine.alloc, plan, *worker, output, &mut machine.errors)
+        }
+        Request::Gather { plan, workers } => do_gather(
             machine.alloc,
             plan,
             *workers,
@@ -180,123 +175,11 @@ fn do_pattern_request<R: Read, W: Write, E: Write>(
             do_run(alloc, *generations, rule.as_str(), input, output, errors)
         }
         Request::Name { profile, rule } => {
-            let profile = numbers_for(*profile);
-            do_name(alloc, profile, rule.as_str(), input, output, errors)
+            do_name(alloc, *profile, rule.as_str(), input, output, errors)
         }
         Request::Show { code } => do_show(alloc, code.as_str(), output, errors),
         Request::Soup { seed, number } => do_soup(alloc, seed.as_str(), *number, output, errors),
         Request::Version => do_version(output, errors),
         Request::Take { .. } | Request::Work { .. } | Request::Gather { .. } => unreachable!(),
-    }
-}
-
-/// Runs `take` over the soups that a request names, by so many workers, with a line of progress if it is asked for.
-fn run_take<T: Threads + Wait + Sync, W: Write, E: Write, P: Write, C: Clock>(
-    machine: &mut Machine<'_, T, E, Progress<P, C>>,
-    asked: &words::request::Plan<'_>,
-    workers: u8,
-    progress: bool,
-    output: &mut Out<W>,
-) -> Status
-    requires request { AreInTheirRanges (request.Take asked.now workers progress) }
-    requires output { output.old.failed ≡ false }
-    requires errors { machine.old.errors.failed ≡ false }
-    ensures ends { (reader : Option (List ℕ)) (bytes : List ℕ)
-        → Ends (behaviour_of (request.Take asked.now workers progress)) reader bytes result
-        (stream W.contents output.old output.new) (stream E.contents machine.old.errors machine.new.errors) }
-    ensures untouched { result ≡ Status.Refused → output.new ≡ output.old }
-    ensures no_memory { result ≡ Status.Memory → output.new ≡ output.old }
-{
-    machine.watch.ask(progress);
-    let plan = plan_for(asked);
-    do_take(machine, &plan, workers, output)
-}
-
-/// Runs `work` over the soups that a request names, for this worker.
-fn run_work<W: Write, E: Write>(
-    alloc: Global,
-    asked: &words::request::Plan<'_>,
-    worker: u8,
-    output: &mut Out<W>,
-    errors: &mut Out<E>,
-) -> Status
-    requires request { AreInTheirRanges (request.Work asked.now worker) }
-    requires output { output.old.failed ≡ false }
-    requires errors { errors.old.failed ≡ false }
-    ensures ends { (reader : Option (List ℕ)) (bytes : List ℕ)
-        → Ends (behaviour_of (request.Work asked.now worker)) reader bytes result
-        (stream W.contents output.old output.new) (stream E.contents errors.old errors.new) }
-    ensures untouched { result ≡ Status.Refused → output.new ≡ output.old }
-{
-    let plan = plan_for(asked);
-    do_work(alloc, &plan, worker, output, errors)
-}
-
-/// Runs `gather` on the input's report lines of the soups that a request names, of so many workers.
-fn run_gather<R: Read, W: Write, E: Write>(
-    alloc: Global,
-    asked: &words::request::Plan<'_>,
-    workers: u8,
-    input: &mut R,
-    output: &mut Out<W>,
-    errors: &mut Out<E>,
-) -> Status
-    requires request { AreInTheirRanges (request.Gather asked.now workers) }
-    requires output { output.old.failed ≡ false }
-    requires errors { errors.old.failed ≡ false }
-    ensures ends { DoesRequest (R.remaining input.old) result
-        (stream W.contents output.old output.new) (stream E.contents errors.old errors.new)
-        (request.Gather asked.now workers) }
-    ensures unread { reads_input (request.Gather asked.now workers) ≡ false → input.new ≡ input.old }
-    ensures untouched { result ≡ Status.Refused → (input.new ≡ input.old) × (output.new ≡ output.old) }
-    ensures no_memory { result ≡ Status.Memory → output.new ≡ output.old }
-{
-    let plan = plan_for(asked);
-    do_gather(alloc, &plan, workers, input, output, errors)
-}
-
-/// A text, as the commands take it.
-fn text_for<'a>(text: &words::text::Text<'a>) -> Text<'a>
-    ensures { result ≡ text.now }
-{
-    Text::new(text.as_str())
-}
-
-/// The numbers of a profile.
-fn numbers_for(numbers: words::request::ProfileNumbers) -> ProfileNumbers
-    requires { AreProfileNumbers numbers }
-    ensures numbers { result ≡ numbers_for numbers }
-    ensures ranges { AreInRange result }
-{
-    ProfileNumbers {
-        period: numbers.period,
-        horizon: numbers.horizon,
-        stride: numbers.stride,
-        limit: numbers.limit,
-    }
-}
-
-/// The plan of a census.
-fn plan_for<'a>(asked: &words::request::Plan<'a>) -> Plan<'a>
-    requires { AreProfileNumbers asked.now.profile }
-    ensures plan { result ≡ plan_for asked.now }
-    ensures ranges { AreInRange result.profile }
-{
-    Plan {
-        set: soups_for(&asked.set),
-        profile: numbers_for(asked.profile),
-        rule: text_for(&asked.rule),
-    }
-}
-
-/// Which soups are meant.
-fn soups_for<'a>(set: &words::request::SoupSet<'a>) -> SoupSet<'a>
-    ensures { result ≡ soups_for set.now }
-{
-    SoupSet {
-        seed: text_for(&set.seed),
-        first: set.first,
-        count: set.count,
-        also: text_for(&set.also),
     }
 }

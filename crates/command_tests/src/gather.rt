@@ -4,12 +4,12 @@ ghost use Rattle.pattern_commands.specs.Profiles.{AreInRange};
 
 use crate::streams::{FaultyReader, FaultyWriter, Left, interrupted_writer, reader, slow_writer};
 use commands::gather::do_gather;
-use commands::plan::Plan;
-use commands::soup_set::SoupSet;
-use commands::text::Text;
-use pattern_commands::profile::ProfileNumbers;
 use pattern_commands::status::Status;
 use plane_core::output::Out;
+use requests::plan::Plan;
+use requests::profile_numbers::ProfileNumbers;
+use requests::soup_set::SoupSet;
+use requests::text::Text;
 use std::alloc::Global;
 use std::io::ErrorKind;
 

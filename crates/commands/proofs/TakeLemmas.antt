@@ -32,11 +32,11 @@ use Rattle.crew.specs.Shifts.{StopsAt}
 use Rattle.crew.specs.Takes.{was_missing}
 use Rattle.pattern_commands.specs.declared.complaint.Complaint.{Complaint}
 use Rattle.pattern_commands.specs.declared.complaint.Complaint.TheVariants.{Refused, Memory, ReadFailed, TooLong, WriteFailed}
-use Rattle.commands.specs.declared.plan.Plan.{Plan}
+use Rattle.requests.specs.declared.plan.Plan.{Plan}
 use Rattle.pattern_commands.specs.declared.refusal.Refusal.{Refusal}
 use Rattle.pattern_commands.specs.declared.refusal.Refusal.TheVariants.{BadRule, BirthZero, HorizonBelowPeriod}
 use Rattle.pattern_commands.specs.declared.refusal.Refusal.TheVariants.{SeedBadByte, SeedTooLong}
-use Rattle.commands.specs.declared.soup_set.SoupSet.{SoupSet}
+use Rattle.requests.specs.declared.soup_set.SoupSet.{SoupSet}
 use Rattle.pattern_commands.specs.declared.status.Status.{Status}
 use Rattle.pattern_commands.specs.declared.status.Status.TheVariants as statuses
 use Rattle.pattern_commands.specs.Answers.{NeedsMemory, Right, given, IsRightGiven, output_text}

@@ -2,7 +2,7 @@
 use Rattle.std.specs.Prelude.{◌≡◌, ℕ, Bool, true, false, List, Option, is_ok}
 use Rattle.haul_core.specs.Books.{Terms}
 use Rattle.pattern_commands.specs.Behaviours.{Behaviour}
-use Rattle.commands.specs.declared.plan.Plan.{Plan}
+use Rattle.requests.specs.declared.plan.Plan.{Plan}
 use Rattle.commands.specs.Gathering.{Hauls, gather_opens, gather_right, gathered_right}
 use Rattle.commands.specs.LinesSoFar.{HasBegun}
 use Rattle.commands.specs.SoupSets.{job_named}

@@ -9,7 +9,7 @@ use Rattle.haul_core.specs.HaulTexts.{haul_text}
 use Rattle.haul_core.specs.Keeping.{numbers_in}
 use Rattle.haul_core.specs.Missing.{IsComplete, missing_of}
 use Rattle.ranges.specs.Ranges.{IsNormalForm, is_in}
-use Rattle.commands.specs.declared.plan.Plan.{Plan}
+use Rattle.requests.specs.declared.plan.Plan.{Plan}
 use Rattle.pattern_commands.specs.Answers.{Right, IsRightGiven}
 use Rattle.commands.specs.SoupSets.{job_named, IsRightForSet}
 use Rattle.commands.specs.Take.{take_right}

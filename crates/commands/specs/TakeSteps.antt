@@ -12,8 +12,8 @@ use Rattle.crew.specs.Shifts.{StopsAt}
 use Rattle.crew.specs.Takes.{was_missing}
 use Rattle.pattern_commands.specs.declared.complaint.Complaint.{Complaint}
 use Rattle.pattern_commands.specs.declared.complaint.Complaint.TheVariants.{Refused, Memory, ReadFailed, TooLong, WriteFailed}
-use Rattle.commands.specs.declared.plan.Plan.{Plan}
-use Rattle.commands.specs.declared.soup_set.SoupSet.{SoupSet}
+use Rattle.requests.specs.declared.plan.Plan.{Plan}
+use Rattle.requests.specs.declared.soup_set.SoupSet.{SoupSet}
 use Rattle.pattern_commands.specs.Answers.{NeedsMemory, Right}
 use Rattle.commands.specs.SoupSets.{AreRangesOf, IsRefused, job_named}
 

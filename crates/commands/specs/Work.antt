@@ -6,7 +6,7 @@ use Rattle.haul_core.specs.Missing.{numbers_of}
 use Rattle.ranges.specs.Ranges.{IsNormalForm}
 use Rattle.haul_core.specs.ReportLines.{report_text}
 use Rattle.haul_core.specs.Reports.{IsReport, Reported}
-use Rattle.commands.specs.declared.plan.Plan.{Plan}
+use Rattle.requests.specs.declared.plan.Plan.{Plan}
 use Rattle.pattern_commands.specs.Answers.{Right, IsRightGiven}
 use Rattle.commands.specs.SoupSets.{job_named, IsRightForSet}
 use Rattle.pattern_commands.specs.Behaviours.{Behaviour, text_behaviour}

@@ -9,7 +9,7 @@ use Rattle.haul_core.specs.Reports.{Reported}
 use Rattle.pattern_commands.specs.declared.complaint.Complaint.TheVariants.{Refused, Memory, ReadFailed, TooLong, WriteFailed}
 use Rattle.pattern_commands.specs.Streams.{Stream, Has, HasFront}
 use Rattle.pattern_commands.specs.TextSteps.{TextOutcome}
-use Rattle.commands.specs.declared.plan.Plan.{Plan}
+use Rattle.requests.specs.declared.plan.Plan.{Plan}
 use Rattle.commands.specs.SoupSets.{AreRangesOf, job_named}
 use Rattle.commands.specs.Work.{AreReportsOn}
 

@@ -30,7 +30,7 @@ ghost use Rattle.haul_core.specs.declared.book.refused.OfferError.TheVariants as
 use crate::finish::finish;
 use crate::line_fault::LineFault;
 use crate::lines::{GATHER_LIMIT, LINE_LIMIT, LineEnd, LineRead, read_line};
-use crate::plan::{Plan, open_haul};
+use crate::opening::open_haul;
 use haul_core::book::haul::Haul;
 use haul_core::book::refused::OfferError;
 use haul_core::report::Report;
@@ -42,6 +42,7 @@ use pattern_commands::complaint::Complaint;
 use pattern_commands::ending::tell_end;
 use pattern_commands::status::Status;
 use plane_core::output::Out;
+use requests::plan::Plan;
 use std::alloc::Global;
 use std::io::{BufRead, BufReader, Read, Write};
 use survey_core::finding::findings_are_determined;

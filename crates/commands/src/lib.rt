@@ -14,15 +14,11 @@ pub mod line_fault;
 mod lines;
 /// What a command is lent of the machine.
 pub mod machine;
-/// Plans of a census: soups, profile and rule.
-pub mod plan;
+/// How a haul is opened over the soups of a plan.
+mod opening;
 /// The line that says how far a haul has come.
 pub mod progress;
-/// Sets of soups, as words ask for them.
-pub mod soup_set;
 /// `take`: the haul of a set of soups.
 pub mod take;
-/// Texts among the words of a call.
-pub mod text;
 /// `work`: the report lines of a set of soups.
 pub mod work;

@@ -22,7 +22,7 @@ ghost use Rattle.commands.specs.TakeSteps.{EndsCrew, HasTakenMore};
 
 use crate::finish::finish;
 use crate::machine::Machine;
-use crate::plan::{Plan, open_haul};
+use crate::opening::open_haul;
 use crew::gate::{Gate, OpenGate};
 use crew::watch::Watch;
 use crew::workers::{self, CrewError};
@@ -32,6 +32,7 @@ use pattern_commands::complaint::Complaint;
 use pattern_commands::ending::tell_end;
 use pattern_commands::status::Status;
 use plane_core::output::Out;
+use requests::plan::Plan;
 use std::io::Write;
 use std::sync::Wait;
 use std::thread::Threads;

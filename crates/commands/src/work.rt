@@ -21,7 +21,7 @@ ghost use Rattle.pattern_commands.specs.TextSteps.{ReachesText};
 ghost use Rattle.commands.specs.Work.{work_right, work_behaviour};
 ghost use Rattle.commands.specs.WorkSteps.{EndsAtLine, Puts, reports_on};
 
-use crate::plan::{Plan, open_haul};
+use crate::opening::open_haul;
 use haul_core::book::haul::Haul;
 use haul_core::report::write::write_report_line;
 use haul_core::report::{Report, ReportError};
@@ -30,6 +30,7 @@ use pattern_commands::ending::tell_end_of_text;
 use pattern_commands::status::Status;
 use plane_core::output::{Out, WriteError};
 use ranges::range::{Range, one_normal_form};
+use requests::plan::Plan;
 use std::alloc::Global;
 use std::io::Write;
 use survey_core::finding::findings_are_determined;

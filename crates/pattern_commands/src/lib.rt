@@ -15,7 +15,7 @@ pub mod input;
 pub mod name;
 /// Output that is buffered until a command has ended.
 pub mod output;
-/// Profiles, as words ask for them.
+/// Profiles, by their numbers.
 pub mod profile;
 /// A read that failed.
 pub mod read_error;

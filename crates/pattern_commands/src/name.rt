@@ -22,12 +22,13 @@ ghost use Rattle.pattern_commands.specs.TextSteps.{ReachesText};
 use crate::complaint::Complaint;
 use crate::ending::tell_end_of_text;
 use crate::input::read_pattern;
-use crate::profile::ProfileNumbers;
+use crate::profile::profile_named;
 use crate::status::Status;
 use code_core::apgcode::Apgcode;
 use code_core::decimal::put_number;
 use plane_core::output::{Out, WriteError};
 use plane_core::rule::Rule;
+use requests::profile_numbers::ProfileNumbers;
 use std::alloc::Global;
 use std::io::{Read, Write};
 use survey_core::finding::{Finding, survey_pattern};
@@ -87,7 +88,7 @@ fn name<R: Read, W: Write>(
     ensures untouched { IfErr result (λ complaint. status_of complaint ≡ Status.Refused → output.new ≡ output.old) }
     ensures no_memory { IfErr result (λ complaint. complaint ≡ Complaint.Memory out_of_memory → output.new ≡ output.old) }
 {
-    let profile = profile.profile()?;
+    let profile = profile_named(profile)?;
     let rule = Rule::read(rule_text)?;
     let pattern = read_pattern(alloc, input)?;
     let finding = survey_pattern(alloc, &profile, &rule, pattern)?;

@@ -3,9 +3,9 @@ use Rattle.std.specs.Prelude.{ℕ, List, [], ◌∷◌, unwrap_or, if◌then◌e
 use Rattle.std.specs.Str.{bytes_eq}
 use Rattle.std.specs.Str.Parse.{digits_value}
 use Rattle.clap.specs.Words.{Text}
-use Rattle.words.specs.declared.request.Plan.{Plan}
-use Rattle.words.specs.declared.request.ProfileNumbers.{ProfileNumbers}
-use Rattle.words.specs.declared.request.SoupSet.{SoupSet}
+use Rattle.requests.specs.declared.plan.Plan.{Plan}
+use Rattle.requests.specs.declared.profile_numbers.ProfileNumbers.{ProfileNumbers}
+use Rattle.requests.specs.declared.soup_set.SoupSet.{SoupSet}
 use Rattle.words.specs.Entries.{Entry}
 use Rattle.words.specs.Table as table
 use Rattle.words.specs.Uses.{Use, entry_in, value_in}

@@ -1,6 +1,6 @@
 -- The numbers of a request are in the ranges of their arguments.
-use Rattle.words.specs.declared.request.Plan.{Plan}
-use Rattle.words.specs.declared.request.ProfileNumbers.{ProfileNumbers}
+use Rattle.requests.specs.declared.plan.Plan.{Plan}
+use Rattle.requests.specs.declared.profile_numbers.ProfileNumbers.{ProfileNumbers}
 use Rattle.words.specs.declared.request.Request.{Request}
 use Rattle.words.specs.declared.request.Request.TheVariants.{Run, Name, Show, Soup, Take, Work, Gather, Version}
 use Rattle.words.specs.Table.{count, first, generations, horizon, limit, number, period, stride, worker, workers}

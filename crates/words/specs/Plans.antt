@@ -1,9 +1,9 @@
 -- The soups that are meant and how they are run, put together from what was found for the arguments.
 use Rattle.std.specs.Prelude.{ℕ, List, Option, None, Some}
 use Rattle.clap.specs.Words.{Row, Text}
-use Rattle.words.specs.declared.request.Plan.{Plan}
-use Rattle.words.specs.declared.request.ProfileNumbers.{ProfileNumbers}
-use Rattle.words.specs.declared.request.SoupSet.{SoupSet}
+use Rattle.requests.specs.declared.plan.Plan.{Plan}
+use Rattle.requests.specs.declared.profile_numbers.ProfileNumbers.{ProfileNumbers}
+use Rattle.requests.specs.declared.soup_set.SoupSet.{SoupSet}
 use Rattle.words.specs.Table.{also, count, first, horizon, limit, period, rule, seed, stride}
 use Rattle.words.specs.Values.{number_found, text_found}
 

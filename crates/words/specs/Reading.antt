@@ -1,8 +1,8 @@
 -- Each command with its values, put together from what was found for the arguments.
 use Rattle.std.specs.Prelude.{ℕ, Bool, List, Option, None, Some}
 use Rattle.clap.specs.Words.{Row, Text}
-use Rattle.words.specs.declared.request.Plan.{Plan}
-use Rattle.words.specs.declared.request.ProfileNumbers.{ProfileNumbers}
+use Rattle.requests.specs.declared.plan.Plan.{Plan}
+use Rattle.requests.specs.declared.profile_numbers.ProfileNumbers.{ProfileNumbers}
 use Rattle.words.specs.declared.request.Request.{Request}
 use Rattle.words.specs.declared.request.Request.TheVariants.{Run, Name, Show, Soup, Take, Work, Gather}
 use Rattle.words.specs.Plans.{plan_in, profile_in}

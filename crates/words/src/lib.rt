@@ -21,7 +21,5 @@ pub mod options;
 pub mod reading;
 /// What words ask for.
 pub mod request;
-/// A text among the words of a call.
-pub mod text;
 /// The values that a request takes, each looked up by its row.
 pub mod values;

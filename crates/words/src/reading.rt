@@ -16,9 +16,12 @@ ghost use Rattle.words.specs.Table.{count, first};
 ghost use Rattle.words.specs.Values.{IsInRange};
 
 use crate::options;
-use crate::request::{Plan, ProfileNumbers, Request, SoupSet};
+use crate::request::Request;
 use crate::values::{is_given, number_found, text_found};
 use clap::ArgMatches;
+use requests::plan::Plan;
+use requests::profile_numbers::ProfileNumbers;
+use requests::soup_set::SoupSet;
 
 /// The numbers of a profile that were found.
 pub fn profile_in(found: &ArgMatches<'_>) -> Option<ProfileNumbers>

@@ -1,6 +1,8 @@
 //! What the words of a call may ask for: a command with its values.
 
-use crate::text::Text;
+use requests::plan::Plan;
+use requests::profile_numbers::ProfileNumbers;
+use requests::text::Text;
 
 /// A command with its values.
 ///
@@ -44,41 +46,4 @@ pub enum Request<'a> {
     },
     /// The program's name and version.
     Version,
-}
-
-/// The soups that are meant, and how they are run.
-#[derive(Drop)]
-pub struct Plan<'a> {
-    /// Which soups.
-    pub set: SoupSet<'a>,
-    /// When a soup counts as settled.
-    pub profile: ProfileNumbers,
-    /// The rule.
-    pub rule: Text<'a>,
-}
-
-/// The soups of a seed whose numbers stand in a range, or in the ranges of a list beside it.
-#[derive(Drop)]
-pub struct SoupSet<'a> {
-    /// The seed.
-    pub seed: Text<'a>,
-    /// The first number of the range.
-    pub first: u64,
-    /// How many numbers the range has.
-    pub count: u64,
-    /// The list of the other ranges.
-    pub also: Text<'a>,
-}
-
-/// The four numbers of a profile: when a pattern counts as settled.
-#[derive(Clone, Copy)]
-pub struct ProfileNumbers {
-    /// The longest period that counts.
-    pub period: u32,
-    /// For how many generations clusters must keep apart.
-    pub horizon: u32,
-    /// How many generations there are from one look to the next.
-    pub stride: u32,
-    /// The last generation at which there may be a look.
-    pub limit: u32,
 }

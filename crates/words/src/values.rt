@@ -6,8 +6,8 @@ ghost use Rattle.words.specs.Entries.{entry_of};
 ghost use Rattle.words.specs.Values.{IsInRange, is_given, number_found, number_up_to, text_found, within};
 
 use crate::options::{Argument, ValueKind};
-use crate::text::Text;
 use clap::ArgMatches;
+use requests::text::Text;
 
 /// The number that was found for the argument of a row, in its range.
 ///

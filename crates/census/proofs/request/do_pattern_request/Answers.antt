@@ -11,7 +11,7 @@ returns-in-Run-clause-ends g c =
 
 pub returns-in-Name-clause-ends : goal.returns-in-Name-clause-ends
 returns-in-Name-clause-ends g c =
-    let ended = rw (c.as_str-in-Name.ensures, c.numbers_for-profile.ensures.numbers) at c.do_name.ensures.ends in
+    let ended = rw c.as_str-in-Name.ensures at c.do_name.ensures.ends in
     rw c.in-Name.is (record { bytes = ended.0; input = ended.1; ends = ended.2 })
 
 pub returns-in-Show-clause-ends : goal.returns-in-Show-clause-ends

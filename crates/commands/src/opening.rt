@@ -1,41 +1,58 @@
-//! Sets of soups, as words ask for them, and the hauls over them.
+//! How a haul is opened over the soups of a plan.
+//!
+//! ```text
+//! plan ──┬─ seed, profile, rule ── job ──┬─ haul
+//!        └─ set ── ranges ───────────────┘
+//! ```
 
 ghost use Rattle.std.specs.Prelude.{◌≡◌, ◌++◌, ◌∷◌, [], List, IfErr, IfOk, OnOk};
 ghost use Rattle.haul_core.specs.Reports.{IsWorker};
-ghost use Rattle.commands.specs.SoupSets.{AreRangesOf};
-ghost use Rattle.commands.specs.TakeSteps.{IsOpened, StopsSet};
+ghost use Rattle.pattern_commands.specs.Profiles.{AreInRange};
+ghost use Rattle.commands.specs.SoupSets.{AreRangesOf, job_named};
+ghost use Rattle.commands.specs.TakeSteps.{IsOpened, IsOpenedFor, StopsOpening, StopsSet};
 
-use crate::text::Text;
 use haul_core::book::haul::{Haul, OpenError};
 use memory::OutOfMemory;
 use pattern_commands::complaint::Complaint;
+use pattern_commands::profile::profile_named;
 use pattern_commands::refusal::Refusal;
+use plane_core::rule::Rule;
 use ranges::range::Range;
+use requests::plan::Plan;
+use requests::soup_set::SoupSet;
 use std::alloc::Global;
 use survey_core::job::Job;
+use survey_core::seed::Seed;
 
-/// The soups that words ask for: those of a seed whose numbers stand in a range, or in the ranges of a list beside it.
-///
-/// The texts aren't looked at yet.
-#[derive(Drop)]
-pub struct SoupSet<'a> {
-    /// The seed.
-    pub seed: Text<'a>,
-    /// The first number of the range.
-    pub first: u64,
-    /// How many numbers the range has.
-    pub count: u64,
-    /// The list of the other ranges.
-    pub also: Text<'a>,
+/// A haul over the soups of a plan, for so many workers, 1 to 16. What makes up its job is looked at first: the seed,
+/// then the profile, then the rule.
+pub(crate) fn open_haul(alloc: Global, plan: &Plan<'_>, workers: u8) -> Result<Haul, Complaint>
+    requires workers { IsWorker workers }
+    requires profile { AreInRange plan.now.profile }
+    ensures opened { IfOk result (IsOpenedFor plan.now workers) }
+    ensures stops { IfErr result (StopsOpening plan.now) }
+{
+    let job = job(plan)?;
+    haul_for(alloc, job, &plan.set, workers)
+}
+
+/// The job that the texts and numbers of a plan make.
+fn job(plan: &Plan<'_>) -> Result<Job, Complaint>
+    requires { AreInRange plan.now.profile }
+    ensures { result ≡ job_named plan.now }
+{
+    let seed = Seed::new(plan.set.seed.as_str())?;
+    let profile = profile_named(plan.profile)?;
+    let rule = Rule::read(plan.rule.as_str())?;
+    Ok(Job {
+        seed,
+        profile,
+        rule,
+    })
 }
 
 /// A haul over the ranges of a set, for a job and so many workers.
-pub(crate) fn haul_for(
-    alloc: Global,
-    job: Job,
-    set: &SoupSet<'_>,
-    workers: u8,
-) -> Result<Haul, Complaint>
+fn haul_for(alloc: Global, job: Job, set: &SoupSet<'_>, workers: u8) -> Result<Haul, Complaint>
     requires { IsWorker workers }
     ensures opened { IfOk result (IsOpened job set.now workers) }
     ensures stops { IfErr result (StopsSet set.now) }

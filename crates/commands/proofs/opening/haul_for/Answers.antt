@@ -2,7 +2,7 @@ use Rattle.std.proofs.Common.{◌∙◌, refl, sym, subst}
 use Rattle.commands.specs.SoupSets.{AreRangesOf, Overlapping, Too_large}
 use Rattle.pattern_commands.proofs.AnswerLemmas.{err_of}
 use Rattle.commands.proofs.TakeLemmas.{small_from}
-use Rattle.commands.proofs.soup_set.haul_for.Goals as goal
+use Rattle.commands.proofs.opening.haul_for.Goals as goal
 
 pub returns-in_err-ranges-clause-stops : goal.returns-in_err-ranges-clause-stops
 returns-in_err-ranges-clause-stops c = rw (err_of _ _ c.from_residual.ensures.1) c.in_err-ranges.ensures.stops

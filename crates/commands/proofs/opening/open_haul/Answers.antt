@@ -1,7 +1,7 @@
 use Rattle.std.proofs.Common.{inl, sym}
 use Rattle.pattern_commands.proofs.AnswerLemmas.{err_of}
 use Rattle.commands.proofs.TakeLemmas.{opened_for, not_opened}
-use Rattle.commands.proofs.plan.open_haul.Goals as goal
+use Rattle.commands.proofs.opening.open_haul.Goals as goal
 
 pub returns-in_err-job-clause-stops : goal.returns-in_err-job-clause-stops
 returns-in_err-job-clause-stops c = rw (err_of _ _ c.from_residual.ensures.1) (inl (sym c.in_err-job.ensures))

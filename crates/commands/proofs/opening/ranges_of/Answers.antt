@@ -3,7 +3,7 @@ use Rattle.ranges.specs.declared.range.Range.{Range}
 use Rattle.commands.specs.SoupSets.{own_range}
 use Rattle.pattern_commands.proofs.AnswerLemmas.{err_of}
 use Rattle.commands.proofs.TakeLemmas.{Stops_list}
-use Rattle.commands.proofs.soup_set.ranges_of.Goals as goal
+use Rattle.commands.proofs.opening.ranges_of.Goals as goal
 
 pub returns-in_err-ranges-clause-stops : goal.returns-in_err-ranges-clause-stops
 returns-in_err-ranges-clause-stops c =

@@ -1,0 +1,13 @@
+//! What a call of `census` asks for, as plain values: texts, the numbers of a profile, sets of soups, plans.
+//!
+//! `words` reads them from a call, and the commands take them, so neither needs the other.
+#![tactic(auto)]
+
+/// Plans of a census: soups, profile and rule.
+pub mod plan;
+/// The numbers of a profile.
+pub mod profile_numbers;
+/// Sets of soups.
+pub mod soup_set;
+/// A text among the words of a call.
+pub mod text;
