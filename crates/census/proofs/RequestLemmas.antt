@@ -1,14 +1,11 @@
--- How a request was done, by how its command ended; and its numbers, in the ranges that the commands ask for.
+-- How a request was done, by how its command ended.
 use Rattle.std.proofs.Common.{◌≡◌, ℕ, List, Option, subst}
 use Rattle.pattern_commands.specs.declared.status.Status.{Status}
 use Rattle.pattern_commands.specs.Ends.{Ends}
-use Rattle.pattern_commands.specs.Profiles.{AreInRange}
 use Rattle.pattern_commands.specs.Streams.{Stream}
 use Rattle.pattern_commands.specs.Behaviours.{Behaviour}
 use Rattle.pattern_commands.proofs.AnswerLemmas.{some_input}
-use Rattle.requests.specs.declared.profile_numbers.ProfileNumbers.{ProfileNumbers}
 use Rattle.words.specs.declared.request.Request.{Request}
-use Rattle.words.specs.Requests.{AreProfileNumbers}
 use Rattle.census.specs.Requests.{DoesRequest, behaviour_of}
 
 -- a command that was to do what the request asks for did it, whatever the input
@@ -18,14 +15,3 @@ pub does : {reader : Option (List ℕ)} {status : Status} {output errors : Strea
 does {reader} {status} {output} {errors} request behaviour is ends =
     let some = some_input reader in
     record { bytes = some.0; input = some.1; ends = subst (λ (t : Behaviour). Ends t reader some.0 status output errors) is (ends reader some.0) }
-
--- numbers of a profile that are in the ranges of the table are in those of the commands
-pub in_range : (numbers : ProfileNumbers) → AreProfileNumbers numbers → AreInRange numbers
-in_range numbers are = record {
-  some = are.of_period.0;
-  period = are.of_period.1;
-  horizon = are.of_horizon.1;
-  onward = are.of_stride.0;
-  stride = are.of_stride.1;
-  limit = are.of_limit.1;
-}
