@@ -16,9 +16,9 @@ use Rattle.haul_core.specs.Reports.{Reported}
 use Rattle.commands.specs.declared.line_fault.LineFault.{LineFault}
 use Rattle.commands.specs.declared.line_fault.LineFault.TheVariants.{BadLine}
 use Rattle.survey_core.specs.declared.job.Job.{Job}
-use Rattle.std.proofs.KnownBytes.{Consumes-nil, Consumes-trans}
+use Rattle.std.proofs.KnownBytes.{Consumes-nil, Consumes-trans, prepend_known-nil}
 use Rattle.std.proofs.lemmas.List.Elements.{All-nil}
-use Rattle.std.specs.Io.KnownBytes.{Consumes}
+use Rattle.std.specs.Io.KnownBytes.{Consumes, prepend_known}
 use Rattle.memory.specs.Evidence.{out_of_memory}
 use Rattle.plane_core.proofs.OutLemmas.{Appends-append}
 use Rattle.plane_core.specs.Out.{Output}
@@ -33,7 +33,7 @@ use Rattle.pattern_commands.specs.Streams.{Stream, Has, stream}
 use Rattle.pattern_commands.specs.declared.input.InputError.{InputError}
 use Rattle.pattern_commands.specs.declared.input.InputError.TheVariants as input_error
 use Rattle.commands.specs.GatherSteps.{EndsLine, EndsLines, EndsNext, HasGatheredTo, HasGatheredLines, HasGatheredAll, Passage}
-use Rattle.commands.specs.LinesSoFar.{HasBegunUpTo, HasCome, HasComeBy}
+use Rattle.commands.specs.LinesSoFar.{HasBegunUpTo, HasCome, HasComeBy, most_ahead}
 use Rattle.commands.specs.Lines.{HasReadLine, HasReadPart, IsOneLine, input_lines, with_end}
 use Rattle.commands.proofs.LineLemmas.{all_lines, all_read, ended_more, first_lines, lines_bare, lines_ended, long_read, part_after}
 use Rattle.commands.specs.GatheredLines.{Faulty, Front, Gathered, IsChecked, IsFrontFault, IsLookedAt, IsWrong, ComesOf, Next, Offered, Start, Whole, offer_fault, told_fault}
@@ -101,14 +101,16 @@ abbrev passage : (reader left : Option (List ℕ)) → Stream → ℕ → ℕ �
 passage reader left errors count size =
     record { reader = reader; left = left; errors = errors; count = count; size = size }
 
--- no line has come
-pub none_gathered : (reader : Option (List ℕ)) (errors : Stream) (held : Held) → Has errors [] → StandsFor [] held
-    → HasGatheredLines (passage reader reader errors 0 0) held
-none_gathered reader errors held silent stands = record {
+-- no line has come, and nothing is ahead
+pub none_gathered : (reader : Option (List ℕ)) (ahead : List ℕ) (errors : Stream) (held : Held) → ahead ≡ [] → Has errors []
+    → StandsFor [] held → HasGatheredLines (passage reader (prepend_known ahead reader) errors 0 0) held
+none_gathered reader ahead errors held none silent stands = record {
   read = [];
   lines = [];
   remarks = [];
-  consumed = Consumes-nil reader;
+  consumed =
+      let same : prepend_known ahead reader ≡ reader = ap (λ l. prepend_known l reader) none ∙ prepend_known-nil reader in
+      subst (λ (left : Option (List ℕ)). Consumes reader left []) (sym same) (Consumes-nil reader);
   ended = record { spelled = refl; whole = All-nil IsOneLine };
   count_is = refl;
   size_is = refl;
@@ -318,9 +320,18 @@ pub next_read : {V : Type 0} (left : Option (List ℕ)) (old new : Output V) (co
     → EndsNext left old new complaint
 next_read left old new (Refused refusal) ends = ends
 next_read left old new (Memory error) ends = ends
-next_read left old new (ReadFailed error) ends = ends
+next_read left old new (ReadFailed error) ends = absurd ends
 next_read left old new TooLong ends = absurd ends
 next_read left old new (WriteFailed error) ends = ends
+
+-- it is no failed read
+pub line_most : {V : Type 0} (old new : Output V) (complaint : Complaint) (ahead : List ℕ) → EndsLine old new complaint
+    → length ahead ≤ 2 ^ 16 → length ahead ≤ most_ahead complaint
+line_most old new (Refused refusal) ahead ends few = few
+line_most old new (Memory error) ahead ends few = few
+line_most old new (ReadFailed error) ahead ends few = absurd ends
+line_most old new TooLong ahead ends few = few
+line_most old new (WriteFailed error) ahead ends few = few
 
 -- a complaint over a line, after all lines before it
 pub lines_ended_by : {V : Type 0} (contents : V → Option (List ℕ)) (reader left now : Option (List ℕ)) (first : Output V)

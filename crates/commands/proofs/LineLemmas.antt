@@ -1,18 +1,20 @@
 -- Inputs, line by line.
 use Rattle.std.proofs.Common.{◌≡◌, ◌≢◌, ◌<◌, ◌≤◌, ◌+◌, ◌^◌, ◌∙◌, ◌++◌, ℕ, zero, suc, ne_eqb}
-use Rattle.std.proofs.Common.{List, [], ◌∷◌, All, Option, None, Some, Result, Ok, Err, IfOk, IfSome, ap, ap₂, append-nil, append_assoc, arith, cond, flat_map, length, length-append, length-take, refl, subst, sym, take, take_all}
+use Rattle.std.proofs.Common.{List, [], ◌∷◌, All, Option, None, Some, Result, Ok, Err, IfOk, IfSome, ap, ap₂, append-nil, append_assoc, arith, cond, drop, drop_of_length-le, flat_map, length, length-append, length-take, length-take-le, refl, subst, sym, take, take-append-drop, take_all}
 use Rattle.std.proofs.lemmas.Grind.{flat_map-append}
 use Rattle.std.proofs.lemmas.List.Elements.{All-append, All-head, All-nil, All-push, All-tail}
-use Rattle.std.proofs.KnownBytes.{Consumes-kept, Consumes-nil, Consumes-trans}
-use Rattle.std.specs.Io.KnownBytes.{Consumes, IsAtEnd, Keeps}
+use Rattle.std.proofs.KnownBytes.{Consumes-kept, Consumes-nil, Consumes-trans, prepend_known-read}
+use Rattle.std.specs.Io.KnownBytes.{Consumes, IsAtEnd, Keeps, prepend_known}
 use Rattle.pattern_commands.specs.Answers.{IsInput}
-use Rattle.std.specs.Prelude.{OnErr}
+use Rattle.std.specs.Prelude.{IfErr, OnErr}
+use Rattle.pattern_commands.specs.declared.input.InputError.{InputError}
+use Rattle.pattern_commands.specs.Inputs.{input_complaint}
 use Rattle.commands.specs.declared.lines.LineEnd.{LineEnd}
 use Rattle.commands.specs.declared.lines.LineEnd.TheVariants.{Feed, Input}
 use Rattle.commands.specs.declared.lines.LineRead.{LineRead}
 use Rattle.commands.specs.declared.lines.Piece.{Piece}
-use Rattle.commands.specs.LinesSoFar.{AreEnded}
-use Rattle.commands.specs.Lines.{HasPiece, HasReadLine, HasReadPart, IsOneLine, IsSpent, begun_with, input_lines, piece_end, with_end}
+use Rattle.commands.specs.LinesSoFar.{AreEnded, most_ahead}
+use Rattle.commands.specs.Lines.{HasPiece, HasReadLine, HasReadPart, IsOneLine, IsPieceOf, IsSpent, begun_with, input_lines, piece_end, with_end}
 
 abbrev IsNotFeed : ℕ → Type 0
 IsNotFeed byte = byte ≢ 10
@@ -187,3 +189,44 @@ part_of_line old new kept read is = record { line = is.line; end = Some read.end
 pub on_err : {A E P : Type 0} (r : Result A E) → P → OnErr r P
 on_err (Ok x) holds = tt
 on_err (Err e) holds = holds
+
+-- ---- what is at hand, and what a reader has left
+
+-- an end is one whatever was known before
+spent : (old new : Option (List ℕ)) → IsAtEnd new → IsSpent old new
+spent None new end = tt
+spent (Some xs) new end = end
+
+-- a piece of what is at hand is one of the input
+pub piece_taken : (old left : Option (List ℕ)) (ahead shown next : List ℕ) (read : Piece) → shown ≡ ahead → IsPieceOf shown read
+    → Keeps old (prepend_known ahead left) → next ≡ drop read.size ahead → (ahead ≡ [] → IsAtEnd left)
+    → HasPiece old (prepend_known next left) (take read.length shown) read
+piece_taken old left ahead shown next read same piece kept is end =
+    let front = take read.size shown in
+    let split : ahead ≡ front ++ next =
+    sym same ∙ sym (take-append-drop read.size shown) ∙ ap (λ l. front ++ l) (ap (drop read.size) same ∙ sym is) in
+    let none : ahead ≡ [] → next ≡ [] = λ e. is ∙ ap (drop read.size) e ∙ drop_of_length-le [] {i = read.size} (omega arith) in
+    let moved = prepend_known-read old left ahead next front (ahead ≡ []) kept split (λ e. (none e, end e)) in record {
+      one = piece.one;
+      consumed = subst (Consumes old (prepend_known next left)) piece.ended moved.0;
+      size_is = sym (length-take-le read.size shown piece.bound) ∙ ap length piece.ended;
+      last = λ is. spent old (prepend_known next left) (moved.1 (sym same ∙ piece.last is));
+    }
+
+-- a piece that no line feed ends uses all that is at hand
+pub used_whole : (ahead shown next : List ℕ) (read : Piece) → shown ≡ ahead → IsPieceOf shown read → next ≡ drop read.size ahead
+    → read.end ≡ None → next ≡ []
+used_whole ahead shown next read same piece is end =
+    let all : read.size ≡ length ahead = piece.whole end ∙ ap length same in
+    is ∙ drop_of_length-le ahead {i = read.size} (omega (arith, all))
+
+-- where nothing is ahead, no more is than may be
+pub none_ahead : {A : Type 0} (r : Result A InputError) (ahead : List ℕ) → ahead ≡ []
+    → IfErr r (λ error. length ahead ≤ most_ahead (input_complaint error))
+none_ahead (Ok x) ahead none = tt
+none_ahead (Err error) ahead none = let empty = ap length none in omega (arith, empty)
+
+-- what holds anyway holds of a piece
+pub on_piece : {E P : Type 0} (r : Result Piece E) → P → IfOk r (λ read. read.end ≡ None → P)
+on_piece (Ok read) holds = λ end. holds
+on_piece (Err e) holds = tt

@@ -1,10 +1,14 @@
 -- What `census gather` is asked for.
-use Rattle.std.specs.Prelude.{◌≡◌, ℕ, Bool, true, false, List, Option, is_ok}
+use Rattle.std.specs.Prelude.{◌≡◌, ◌≤◌, ◌⊎◌, ◌^◌, ℕ, Bool, true, false, List, [], Option, Err, is_ok, length}
+use Rattle.std.specs.Io.KnownBytes.{prepend_known}
 use Rattle.haul_core.specs.Books.{Terms}
+use Rattle.pattern_commands.specs.declared.complaint.Complaint.TheVariants.{Memory, ReadFailed, TooLong}
 use Rattle.pattern_commands.specs.Behaviours.{Behaviour}
+use Rattle.pattern_commands.specs.Reached.{Outcome}
+use Rattle.pattern_commands.specs.Streams.{Stream, Has}
 use Rattle.commands.specs.declared.plan.Plan.{Plan}
 use Rattle.commands.specs.Gathering.{Hauls, gather_opens, gather_right, gathered_right}
-use Rattle.commands.specs.LinesSoFar.{HasBegun}
+use Rattle.commands.specs.LinesSoFar.{HasBegun, HasBegunUpTo}
 use Rattle.commands.specs.SoupSets.{job_named}
 
 -- the input is looked at, if the job is one
@@ -41,3 +45,21 @@ haul_behaviour terms = record {
   begins = BeginsHaul (IsSame terms);
   may_tell = Unit {0};
 }
+
+-- A haul was opened, and gathering stopped at a place of its input: all lines before it, but perhaps the last, have come to the haul, and
+-- standard error has the remarks on them. The reader has given at most so many bytes more, which are ahead.
+pub record StopsAt (opens : Hauls) (most : ℕ) (reader left before after : Option (List ℕ)) : Type 0 where
+  pub terms : Terms
+  pub opened : opens terms
+  pub ahead : List ℕ
+  pub few : length ahead ≤ most
+  pub begun : HasBegunUpTo terms reader (prepend_known ahead left) before after
+
+-- How far the input was read where gathering gives up: after a failed read nothing is ahead. Where memory ran out before a haul was
+-- opened, nothing was read.
+abbrev pub HasReadUpTo : {R : Type 0} → Hauls → (remaining : R → Option (List ℕ)) → (old new : R) → Stream → Outcome → Type 0
+HasReadUpTo opens remaining old new errors (Err (Memory error)) =
+    ((new ≡ old) × Has errors []) ⊎ StopsAt opens (2 ^ 16) (remaining old) (remaining new) errors.before errors.after
+HasReadUpTo opens remaining old new errors (Err (ReadFailed error)) = StopsAt opens 0 (remaining old) (remaining new) errors.before errors.after
+HasReadUpTo opens remaining old new errors (Err TooLong) = StopsAt opens (2 ^ 16) (remaining old) (remaining new) errors.before errors.after
+HasReadUpTo opens remaining old new errors _ = Unit {0}

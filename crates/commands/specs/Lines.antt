@@ -55,6 +55,7 @@ pub record IsPieceOf (bytes : List ℕ) (read : Piece) : Type 0 where
   pub one : IsOneLine (take read.length bytes)
   pub ended : take read.size bytes ≡ take read.length bytes ++ piece_end read.end
   pub last : read.end ≡ Some Input → bytes ≡ []
+  pub whole : read.end ≡ None → read.size ≡ length bytes
 
 -- this piece of a line was read of an input, with the line feed that ends the line, if it ends there
 pub record HasPiece (old new : Option (List ℕ)) (piece : List ℕ) (read : Piece) : Type 0 where

@@ -1,8 +1,10 @@
 -- The lines of an input that have come to a haul so far.
-use Rattle.std.specs.Prelude.{◌≡◌, ◌≤◌, ◌++◌, ℕ, List, All, IfSome, Option, flat_map, length}
+use Rattle.std.specs.Prelude.{◌≡◌, ◌≤◌, ◌^◌, ◌++◌, ℕ, List, All, IfSome, Option, flat_map, length}
 use Rattle.std.specs.Io.KnownBytes.{Appends, Consumes}
 use Rattle.haul_core.specs.declared.book.arrival.Arrival.{Arrival}
 use Rattle.haul_core.specs.Books.{Held, StandsFor, Terms}
+use Rattle.pattern_commands.specs.declared.complaint.Complaint.{Complaint}
+use Rattle.pattern_commands.specs.declared.complaint.Complaint.TheVariants.{ReadFailed}
 use Rattle.pattern_commands.specs.Streams.{Stream, Has}
 use Rattle.commands.specs.declared.lines.LineEnd.TheVariants.{Feed}
 use Rattle.commands.specs.GatheredLines.{Gathered}
@@ -43,3 +45,8 @@ pub record HasBegunUpTo (terms : Terms) (reader left before after : Option (List
 -- the same, wherever it ended
 abbrev pub HasBegun : Terms → (reader before after : Option (List ℕ)) → Type 0
 HasBegun terms reader before after = (left : Option (List ℕ)) × HasBegunUpTo terms reader left before after
+
+-- how many bytes at most a reader has given beyond the place where a complaint ends the lines: none after a failed read
+abbrev pub most_ahead : Complaint → ℕ
+most_ahead (ReadFailed error) = 0
+most_ahead _ = 2 ^ 16
