@@ -37,6 +37,7 @@ use Rattle.pattern_commands.specs.Streams.{Stream, Has}
 use Rattle.commands.specs.TakeSteps.{IsOpened, StopsOpening, StopsSet}
 use Rattle.pattern_commands.specs.Behaviours.{Made, NeedsMemoryAlone}
 use Rattle.commands.proofs.GatherLemmas.{all_begun}
+use Rattle.commands.proofs.LineLemmas.{all_spent}
 use Rattle.commands.proofs.TakeLemmas.{job_refused}
 
 -- memory that runs out over a range list hides only what it is needed for
@@ -313,7 +314,8 @@ stops_lines terms remaining old new errors (WriteFailed error) at_ = tt
 pub stops_finished : {R : Type 0} (terms : Terms) (held : Held) (remaining : R → Option (List ℕ)) (old new : R) (outcome : Outcome)
     (output errors : Stream) → (all : HasGatheredShort (remaining old) (remaining new) errors held) → held.terms ≡ terms
     → Finishes held outcome output → HasReadUpTo (IsSame terms) remaining old new errors outcome
-stops_finished terms held remaining old new (Ok missing) output errors all same is = tt
+stops_finished terms held remaining old new (Ok missing) output errors all same is =
+    all_spent (remaining old) (remaining new) all.ahead all.all.bytes all.all.input all.all.consumed
 stops_finished terms held remaining old new (Err (Refused refusal)) output errors all same is = tt
 stops_finished terms held remaining old new (Err (Memory error)) output errors all same is = inr (record {
   terms = terms;
@@ -345,7 +347,7 @@ stops_over plan workers job terms remaining old new errors outcome named over = 
 
     go : (outcome : Outcome) → HasReadUpTo (IsSame terms) remaining old new errors outcome
         → HasReadUpTo (gather_opens plan workers) remaining old new errors outcome
-    go (Ok missing) is = tt
+    go (Ok missing) is = is
     go (Err (Refused refusal)) is = tt
     go (Err (Memory error)) (inl unread) = inl unread
     go (Err (Memory error)) (inr is) = inr (stops (2 ^ 16) is)

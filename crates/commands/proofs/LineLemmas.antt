@@ -141,6 +141,23 @@ first_lines (Some bytes) None read lines consumed ended = absurd consumed
 first_lines (Some bytes) (Some more) read lines consumed ended =
     (input_lines more, ap input_lines (consumed ∙ ap (λ l. l ++ more) ended.spelled) ∙ ended_lines lines more ended.whole)
 
+-- an input of which all was read has nothing left
+pub all_spent : (reader left : Option (List ℕ)) (ahead bytes : List ℕ) → IsInput reader bytes
+    → Consumes reader (prepend_known ahead left) bytes → IsSpent reader left
+all_spent None left ahead bytes input consumed = tt
+all_spent (Some all) None ahead bytes input consumed = absurd consumed
+all_spent (Some all) (Some ys) ahead bytes input consumed = none ys (omega (arith, total, long))
+  where
+    total : length bytes ≡ length bytes + length (ahead ++ ys)
+    total = ap length (input ∙ consumed) ∙ length-append bytes (ahead ++ ys)
+
+    long : length (ahead ++ ys) ≡ length ahead + length ys
+    long = length-append ahead ys
+
+    none : (xs : List ℕ) → length xs ≡ 0 → xs ≡ []
+    none [] is = refl
+    none (x ∷ xs) is = absurd (omega (arith, is))
+
 -- and if all was read, they are all
 pub all_lines : (reader : Option (List ℕ)) (read : List ℕ) → IsInput reader read
     → IfSome reader (λ bytes. (more : List (List ℕ)) × (input_lines bytes ≡ input_lines read ++ more))

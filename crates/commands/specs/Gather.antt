@@ -1,5 +1,5 @@
 -- What `census gather` is asked for.
-use Rattle.std.specs.Prelude.{◌≡◌, ◌≤◌, ◌⊎◌, ◌^◌, ℕ, Bool, true, false, List, [], Option, Err, is_ok, length}
+use Rattle.std.specs.Prelude.{◌≡◌, ◌≤◌, ◌⊎◌, ◌^◌, ℕ, Bool, true, false, List, [], Option, Ok, Err, is_ok, length}
 use Rattle.std.specs.Io.KnownBytes.{prepend_known}
 use Rattle.haul_core.specs.Books.{Terms}
 use Rattle.pattern_commands.specs.declared.complaint.Complaint.TheVariants.{Memory, ReadFailed, TooLong}
@@ -8,6 +8,7 @@ use Rattle.pattern_commands.specs.Reached.{Outcome}
 use Rattle.pattern_commands.specs.Streams.{Stream, Has}
 use Rattle.commands.specs.declared.plan.Plan.{Plan}
 use Rattle.commands.specs.Gathering.{Hauls, gather_opens, gather_right, gathered_right}
+use Rattle.commands.specs.Lines.{IsSpent}
 use Rattle.commands.specs.LinesSoFar.{HasBegun, HasBegunUpTo}
 use Rattle.commands.specs.SoupSets.{job_named}
 
@@ -55,11 +56,12 @@ pub record StopsAt (opens : Hauls) (most : ℕ) (reader left before after : Opti
   pub few : length ahead ≤ most
   pub begun : HasBegunUpTo terms reader (prepend_known ahead left) before after
 
--- How far the input was read where gathering gives up: after a failed read nothing is ahead. Where memory ran out before a haul was
--- opened, nothing was read.
+-- How far the input was read: to its end if all lines were gathered. Where gathering gives up, it stops at a place, after a failed read
+-- with nothing ahead; and nothing was read if memory ran out before a haul was opened.
 abbrev pub HasReadUpTo : {R : Type 0} → Hauls → (remaining : R → Option (List ℕ)) → (old new : R) → Stream → Outcome → Type 0
+HasReadUpTo opens remaining old new errors (Ok missing) = IsSpent (remaining old) (remaining new)
 HasReadUpTo opens remaining old new errors (Err (Memory error)) =
     ((new ≡ old) × Has errors []) ⊎ StopsAt opens (2 ^ 16) (remaining old) (remaining new) errors.before errors.after
 HasReadUpTo opens remaining old new errors (Err (ReadFailed error)) = StopsAt opens 0 (remaining old) (remaining new) errors.before errors.after
 HasReadUpTo opens remaining old new errors (Err TooLong) = StopsAt opens (2 ^ 16) (remaining old) (remaining new) errors.before errors.after
-HasReadUpTo opens remaining old new errors _ = Unit {0}
+HasReadUpTo opens remaining old new errors (Err _) = Unit {0}

@@ -6,7 +6,7 @@
 //!             start      end
 //! ```
 //!
-//! Of a reader that is lent to std's `BufReader` nothing is known after a call. Here the reader is lent for a read alone.
+//! Of a reader that is lent to std's `BufReader` nothing is known after a call. Here it is lent for a read alone.
 
 ghost use Rattle.std.specs.Prelude.{◌≡◌, ◌<◌, ◌≤◌, ◌^◌, [], IfOk, OnErr, OnOk, drop, length, take, vec_len};
 ghost use Rattle.std.specs.Io.KnownBytes.{Consumes, IsAtEnd, Keeps, prepend_known};
@@ -87,7 +87,8 @@ impl Ahead {
 fn read_over<R: Read>(input: &mut R, buffer: &mut Vec<u8>) -> io::Result<usize>
     ensures len { vec_len buffer.new ≡ vec_len buffer.old }
     ensures bound { IfOk result (λ n. n ≤ vec_len buffer.new) }
-    ensures read { IfOk result (λ n. Consumes (R.remaining input.old) (R.remaining input.new) (take n buffer.new.items)) }
+    ensures read { IfOk result (λ n. Consumes (R.remaining input.old) (R.remaining input.new)
+        (take n buffer.new.items)) }
     ensures end { IfOk result (λ n. n ≡ 0 → 0 < vec_len buffer.old → IsAtEnd (R.remaining input.new)) }
     ensures kept { OnErr result (Keeps (R.remaining input.old) (R.remaining input.new)) }
 {

@@ -9,7 +9,8 @@
 //! No more of a line is kept than its first 2^24 bytes and the byte after them, so an input without a line feed takes
 //! no more memory than that.
 
-ghost use Rattle.std.specs.Prelude.{◌≡◌, ◌≢◌, ◌≤◌, ◌+◌, ◌^◌, ◌++◌, ℕ, [], Err, List, IfErr, IfOk, None, OnErr, length, take};
+ghost use Rattle.std.specs.Prelude.{◌≡◌, ◌≢◌, ◌≤◌, ◌+◌, ◌^◌, ◌++◌, ℕ, [], Err, List, None};
+ghost use Rattle.std.specs.Prelude.{IfErr, IfOk, OnErr, length, take};
 ghost use Rattle.std.specs.Io.KnownBytes.{Keeps, prepend_known};
 ghost use Rattle.pattern_commands.specs.Inputs.{input_complaint};
 ghost use Rattle.pattern_commands.specs.declared.input.InputError.TheVariants.{TooLong};
@@ -107,7 +108,8 @@ fn read_piece<R: Read>(
     ensures short { result ≢ Err TooLong }
     ensures kept { OnErr result (Keeps (prepend_known ahead.old (R.remaining input.old))
         (prepend_known ahead.new (R.remaining input.new))) }
-    ensures read { IfOk result (λ read. (piece : List ℕ) × (line.new.items ≡ take (2 ^ 24 + 1) (line.old.items ++ piece))
+    ensures read { IfOk result (λ read. (piece : List ℕ)
+        × (line.new.items ≡ take (2 ^ 24 + 1) (line.old.items ++ piece))
         × HasPiece (prepend_known ahead.old (R.remaining input.old)) (prepend_known ahead.new (R.remaining input.new))
         piece read) }
     ensures used { IfOk result (λ read. read.end ≡ None → ahead.new ≡ []) }

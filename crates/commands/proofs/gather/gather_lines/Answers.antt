@@ -1,4 +1,4 @@
-use Rattle.std.proofs.Common.{◌∙◌, ◌^◌, ◌≤◌, [], ap, arith, length, refl}
+use Rattle.std.proofs.Common.{◌∙◌, [], ap, arith, length, refl}
 use Rattle.std.proofs.KnownBytes.{Appends-nil}
 use Rattle.pattern_commands.specs.Streams.{stream}
 use Rattle.pattern_commands.proofs.AnswerLemmas.{err_of}
