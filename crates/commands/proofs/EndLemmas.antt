@@ -26,7 +26,7 @@ use Rattle.pattern_commands.specs.Complaints.{status_of}
 use Rattle.pattern_commands.specs.Ends.{status_after}
 use Rattle.pattern_commands.specs.Reached.{IsSilent, Outcome, Reaches}
 use Rattle.commands.specs.Finish.{Finishes, IsCensusOf}
-use Rattle.commands.specs.Gather.{BeginsHaul, HasReadUpTo, IsSame, StopsAt, gather_reads, gather_behaviour, haul_behaviour}
+use Rattle.commands.specs.Gather.{BeginsHaul, HasReadUpTo, IsSame, GivesUpAt, gather_reads, gather_behaviour, haul_behaviour}
 use Rattle.commands.specs.GatherSteps.{EndsLines, EndsLinesAt, HasGatheredShort}
 use Rattle.commands.specs.Gathering.{IsGathered, IsHaulOver, gather_opens, gather_right, gathered_right}
 use Rattle.commands.specs.LinesSoFar.{HasBegun}
@@ -335,8 +335,8 @@ pub stops_over : {R : Type 0} (plan : Plan) (workers : ℕ) (job : Job) (terms :
     → HasReadUpTo (gather_opens plan workers) remaining old new errors outcome
 stops_over plan workers job terms remaining old new errors outcome named over = go outcome
   where
-    stops : (most : ℕ) → StopsAt (IsSame terms) most (remaining old) (remaining new) errors.before errors.after
-        → StopsAt (gather_opens plan workers) most (remaining old) (remaining new) errors.before errors.after
+    stops : (most : ℕ) → GivesUpAt (IsSame terms) most (remaining old) (remaining new) errors
+        → GivesUpAt (gather_opens plan workers) most (remaining old) (remaining new) errors
     stops most is = record {
       terms = is.terms;
       opened = opens_over plan workers job terms is.terms named over is.opened;

@@ -47,21 +47,21 @@ haul_behaviour terms = record {
   may_tell = Unit {0};
 }
 
--- A haul was opened, and gathering stopped at a place of its input: all lines before it, but perhaps the last, have come to the haul, and
--- standard error has the remarks on them. The reader has given at most so many bytes more, which are ahead.
-pub record StopsAt (opens : Hauls) (most : ℕ) (reader left before after : Option (List ℕ)) : Type 0 where
+-- Gathering gave up at a place of its input, with a haul open: all lines before that place, but perhaps the last, have come to the haul,
+-- and standard error has the remarks on them. What the reader has given beyond it is ahead, at most so many bytes.
+pub record GivesUpAt (opens : Hauls) (most : ℕ) (reader left : Option (List ℕ)) (errors : Stream) : Type 0 where
   pub terms : Terms
   pub opened : opens terms
   pub ahead : List ℕ
   pub few : length ahead ≤ most
-  pub begun : HasBegunUpTo terms reader (prepend_known ahead left) before after
+  pub begun : HasBegunUpTo terms reader (prepend_known ahead left) errors.before errors.after
 
--- How far the input was read: to its end if all lines were gathered. Where gathering gives up, it stops at a place, after a failed read
--- with nothing ahead; and nothing was read if memory ran out before a haul was opened.
+-- How far the input was read: to its end if all lines were gathered. After a failed read nothing is ahead of the place where gathering
+-- gave up. If memory ran out before a haul was opened, nothing was read.
 abbrev pub HasReadUpTo : {R : Type 0} → Hauls → (remaining : R → Option (List ℕ)) → (old new : R) → Stream → Outcome → Type 0
 HasReadUpTo opens remaining old new errors (Ok missing) = IsSpent (remaining old) (remaining new)
 HasReadUpTo opens remaining old new errors (Err (Memory error)) =
-    ((new ≡ old) × Has errors []) ⊎ StopsAt opens (2 ^ 16) (remaining old) (remaining new) errors.before errors.after
-HasReadUpTo opens remaining old new errors (Err (ReadFailed error)) = StopsAt opens 0 (remaining old) (remaining new) errors.before errors.after
-HasReadUpTo opens remaining old new errors (Err TooLong) = StopsAt opens (2 ^ 16) (remaining old) (remaining new) errors.before errors.after
+    ((new ≡ old) × Has errors []) ⊎ GivesUpAt opens (2 ^ 16) (remaining old) (remaining new) errors
+HasReadUpTo opens remaining old new errors (Err (ReadFailed error)) = GivesUpAt opens 0 (remaining old) (remaining new) errors
+HasReadUpTo opens remaining old new errors (Err TooLong) = GivesUpAt opens (2 ^ 16) (remaining old) (remaining new) errors
 HasReadUpTo opens remaining old new errors (Err _) = Unit {0}
