@@ -305,7 +305,7 @@ stops_lines terms remaining old new errors (Refused refusal) at_ = tt
 stops_lines terms remaining old new errors (Memory error) at_ =
     inr (record { terms = terms; opened = refl; ahead = at_.ahead; few = at_.few; begun = at_.ends.0 })
 stops_lines terms remaining old new errors (ReadFailed error) at_ =
-    record { terms = terms; opened = refl; ahead = at_.ahead; few = at_.few; begun = at_.ends.0 }
+    (record { terms = terms; opened = refl; ahead = at_.ahead; few = at_.few; begun = at_.ends.0 }, at_.ends.2)
 stops_lines terms remaining old new errors TooLong at_ =
     record { terms = terms; opened = refl; ahead = at_.ahead; few = at_.few; begun = at_.ends.0 }
 stops_lines terms remaining old new errors (WriteFailed error) at_ = tt
@@ -351,7 +351,7 @@ stops_over plan workers job terms remaining old new errors outcome named over = 
     go (Err (Refused refusal)) is = tt
     go (Err (Memory error)) (inl unread) = inl unread
     go (Err (Memory error)) (inr is) = inr (stops (2 ^ 16) is)
-    go (Err (ReadFailed error)) is = stops 0 is
+    go (Err (ReadFailed error)) is = (stops 0 is.0, is.1)
     go (Err TooLong) is = stops (2 ^ 16) is
     go (Err (WriteFailed error)) is = tt
 

@@ -6,6 +6,8 @@ use Rattle.std.proofs.lemmas.List.Elements.{All-append, All-head, All-nil, All-p
 use Rattle.std.proofs.KnownBytes.{Consumes-kept, Consumes-nil, Consumes-trans, prepend_known-read}
 use Rattle.std.specs.Io.KnownBytes.{Consumes, IsAtEnd, Keeps, prepend_known}
 use Rattle.pattern_commands.specs.Answers.{IsInput}
+use Rattle.pattern_commands.specs.declared.complaint.Complaint.{Complaint}
+use Rattle.pattern_commands.specs.declared.complaint.Complaint.TheVariants.{Refused, Memory, ReadFailed, TooLong, WriteFailed}
 use Rattle.std.specs.Prelude.{IfErr, OnErr}
 use Rattle.pattern_commands.specs.declared.input.InputError.{InputError}
 use Rattle.pattern_commands.specs.Inputs.{input_complaint}
@@ -14,7 +16,7 @@ use Rattle.commands.specs.declared.lines.LineEnd.TheVariants.{Feed, Input}
 use Rattle.commands.specs.declared.lines.LineRead.{LineRead}
 use Rattle.commands.specs.declared.lines.Piece.{Piece}
 use Rattle.commands.specs.LinesSoFar.{AreEnded, most_ahead}
-use Rattle.commands.specs.Lines.{HasPiece, HasReadLine, HasReadPart, IsOneLine, IsPieceOf, IsSpent, begun_with, input_lines, piece_end, with_end}
+use Rattle.commands.specs.Lines.{HasPiece, HasReadLine, HasReadPart, IsOneLine, IsPieceOf, MayEnd, IsSpent, begun_with, input_lines, piece_end, with_end}
 
 abbrev IsNotFeed : ℕ → Type 0
 IsNotFeed byte = byte ≢ 10
@@ -165,42 +167,45 @@ all_lines None read input = tt
 all_lines (Some bytes) read input = ([], ap input_lines (sym input) ∙ sym (append-nil (input_lines read)))
 
 -- what was read of one line has one line at most
-bare_part : (line : List ℕ) → IsOneLine line → length (input_lines line) ≤ 1
+pub bare_part : (line : List ℕ) → IsOneLine line → length (input_lines line) ≤ 1
 bare_part [] one = omega arith
 bare_part (x ∷ xs) one = let is = ap length (bare_line x xs one) in omega (arith, is)
 
-part_lines : (line : List ℕ) (end : Option LineEnd) → IsOneLine line → length (input_lines (line ++ piece_end end)) ≤ 1
+pub part_lines : (line : List ℕ) (end : Option LineEnd) → IsOneLine line → length (input_lines (line ++ piece_end end)) ≤ 1
 part_lines line None one = subst (λ (l : List ℕ). length (input_lines l) ≤ 1) (sym (append-nil line)) (bare_part line one)
 part_lines line (Some Input) one = subst (λ (l : List ℕ). length (input_lines l) ≤ 1) (sym (append-nil line)) (bare_part line one)
 part_lines line (Some Feed) one =
     let is = ap length (ap input_lines (sym (append-nil (line ++ 10 ∷ []))) ∙ first_line line [] one) in omega (arith, is)
 
--- a part of a line after lines that were ended, and what was read then
-pub part_after : (reader left new : Option (List ℕ)) (read : List ℕ) (lines : List (List ℕ)) → Consumes reader left read → AreEnded read lines
-    → HasReadPart left new
-    → (all : List ℕ) × (last : List (List ℕ)) × Consumes reader new all × (input_lines all ≡ lines ++ last) × (length last ≤ 1)
-part_after reader left new read lines consumed ended part =
-    let more : List ℕ = part.line ++ piece_end part.end in (
-      read ++ more,
-      input_lines more,
-      Consumes-trans reader left new read more consumed part.consumed,
-      ap (λ l. input_lines (l ++ more)) ended.spelled ∙ ended_lines lines more ended.whole,
-      part_lines part.line part.end part.one,
-    )
+-- what was read after lines that were ended
+pub lines_and : (read : List ℕ) (lines : List (List ℕ)) (more : List ℕ) → AreEnded read lines
+    → input_lines (read ++ more) ≡ lines ++ input_lines more
+lines_and read lines more ended = ap (λ l. input_lines (l ++ more)) ended.spelled ∙ ended_lines lines more ended.whole
+
+-- a part that no line feed ends may be all that was read
+no_end : (complaint : Complaint) → MayEnd complaint None
+no_end (Refused refusal) = tt
+no_end (Memory error) = tt
+no_end (ReadFailed error) = refl
+no_end TooLong = tt
+no_end (WriteFailed error) = tt
 
 -- nothing more was read of an input
-pub part_kept : (start old new : Option (List ℕ)) (front : List ℕ) → IsOneLine front → Consumes start old front → Keeps old new
-    → HasReadPart start new
-part_kept start old new front one consumed same = record {
+pub part_kept : (start old new : Option (List ℕ)) (complaint : Complaint) (front : List ℕ) → IsOneLine front → Consumes start old front
+    → Keeps old new → HasReadPart start new complaint
+part_kept start old new complaint front one consumed same = record {
   line = front;
   end = None;
   one = one;
   consumed = subst (Consumes start new) (sym (append-nil front)) (Consumes-kept start old new front consumed same);
+  cut = no_end complaint;
 }
 
--- a line was read
-pub part_of_line : (old new : Option (List ℕ)) (kept : List ℕ) (read : LineRead) → HasReadLine old new kept read → HasReadPart old new
-part_of_line old new kept read is = record { line = is.line; end = Some read.end; one = is.one; consumed = is.consumed }
+-- a line was read, and no read failed
+pub part_of_line : (old new : Option (List ℕ)) (kept : List ℕ) (read : LineRead) (complaint : Complaint) → HasReadLine old new kept read
+    → MayEnd complaint (Some read.end) → HasReadPart old new complaint
+part_of_line old new kept read complaint is cut =
+    record { line = is.line; end = Some read.end; one = is.one; consumed = is.consumed; cut = cut }
 
 -- what holds anyway holds after an error
 pub on_err : {A E P : Type 0} (r : Result A E) → P → OnErr r P

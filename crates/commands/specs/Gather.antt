@@ -9,7 +9,7 @@ use Rattle.pattern_commands.specs.Streams.{Stream, Has}
 use Rattle.commands.specs.declared.plan.Plan.{Plan}
 use Rattle.commands.specs.Gathering.{Hauls, gather_opens, gather_right, gathered_right}
 use Rattle.commands.specs.Lines.{IsSpent}
-use Rattle.commands.specs.LinesSoFar.{HasBegun, HasBegunUpTo}
+use Rattle.commands.specs.LinesSoFar.{AreAllEnded, HasBegun, HasBegunUpTo}
 use Rattle.commands.specs.SoupSets.{job_named}
 
 -- the input is looked at, if the job is one
@@ -56,12 +56,13 @@ pub record GivesUpAt (opens : Hauls) (most : ℕ) (reader left : Option (List �
   pub few : length ahead ≤ most
   pub begun : HasBegunUpTo terms reader (prepend_known ahead left) errors.before errors.after
 
--- How far the input was read: to its end if all lines were gathered. After a failed read nothing is ahead of the place where gathering
--- gave up. If memory ran out before a haul was opened, nothing was read.
+-- How far the input was read: to its end if all lines were gathered. After a failed read nothing is ahead, and all lines have come that
+-- a line feed ends. If memory ran out before a haul was opened, nothing was read.
 abbrev pub HasReadUpTo : {R : Type 0} → Hauls → (remaining : R → Option (List ℕ)) → (old new : R) → Stream → Outcome → Type 0
 HasReadUpTo opens remaining old new errors (Ok missing) = IsSpent (remaining old) (remaining new)
 HasReadUpTo opens remaining old new errors (Err (Memory error)) =
     ((new ≡ old) × Has errors []) ⊎ GivesUpAt opens (2 ^ 16) (remaining old) (remaining new) errors
-HasReadUpTo opens remaining old new errors (Err (ReadFailed error)) = GivesUpAt opens 0 (remaining old) (remaining new) errors
+HasReadUpTo opens remaining old new errors (Err (ReadFailed error)) =
+    (place : GivesUpAt opens 0 (remaining old) (remaining new) errors) × AreAllEnded place.begun.read place.begun.lines
 HasReadUpTo opens remaining old new errors (Err TooLong) = GivesUpAt opens (2 ^ 16) (remaining old) (remaining new) errors
 HasReadUpTo opens remaining old new errors (Err _) = Unit {0}

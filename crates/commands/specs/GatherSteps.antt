@@ -10,7 +10,7 @@ use Rattle.pattern_commands.specs.Streams.{Stream, Has}
 use Rattle.commands.specs.declared.lines.LineEnd.{LineEnd}
 use Rattle.commands.specs.declared.lines.LineEnd.TheVariants.{Feed, Input}
 use Rattle.commands.specs.Lines.{input_lines}
-use Rattle.commands.specs.LinesSoFar.{AreEnded, HasBegunUpTo, HasCome, most_ahead}
+use Rattle.commands.specs.LinesSoFar.{AreAllEnded, AreEnded, HasBegunUpTo, HasCome, most_ahead}
 
 -- How far gathering is: the input at its start and what is left of it, standard error from the start on, and how many
 -- lines and bytes were read.
@@ -65,7 +65,7 @@ abbrev pub EndsLines : Terms → (reader left : Option (List ℕ)) → Stream �
 EndsLines terms reader left errors (Memory error) =
     HasBegunUpTo terms reader left errors.before errors.after × (errors.failed ≡ false)
 EndsLines terms reader left errors (ReadFailed error) =
-    HasBegunUpTo terms reader left errors.before errors.after × (errors.failed ≡ false)
+    (begun : HasBegunUpTo terms reader left errors.before errors.after) × (errors.failed ≡ false) × AreAllEnded begun.read begun.lines
 EndsLines terms reader left errors TooLong =
     HasBegunUpTo terms reader left errors.before errors.after × (errors.failed ≡ false) × IsTooLong reader
 EndsLines terms reader left errors (WriteFailed error) = errors.failed ≡ true

@@ -15,6 +15,14 @@ pub record AreEnded (bytes : List ℕ) (lines : List (List ℕ)) : Type 0 where
   pub spelled : bytes ≡ flat_map (with_end Feed) lines
   pub whole : All IsOneLine lines
 
+-- these are all lines of the bytes that a line feed ends
+pub record AreAllEnded (bytes : List ℕ) (lines : List (List ℕ)) : Type 0 where
+  pub front : List ℕ
+  pub part : List ℕ
+  pub split : bytes ≡ front ++ part
+  pub ended : AreEnded front lines
+  pub one : IsOneLine part
+
 -- the lines have come to the haul, with these remarks on them
 pub record HasCome (lines : List (List ℕ)) (held : Held) (remarks : List ℕ) : Type 0 where
   pub arrivals : List Arrival

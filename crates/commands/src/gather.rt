@@ -215,7 +215,7 @@ fn next_line<R: Read, E: Write>(
         }) haul.new read.end) }
     ensures fine { OnOk result (errors.new.failed ≡ false) }
     ensures ended { IfErr result (EndsNext (prepend_known ahead.old (R.remaining input.old)) errors.old errors.new) }
-    ensures part { OnErr result (HasReadPart (prepend_known ahead.old (R.remaining input.old))
+    ensures part { IfErr result (HasReadPart (prepend_known ahead.old (R.remaining input.old))
         (prepend_known ahead.new (R.remaining input.new))) }
     ensures few { length ahead.new ≤ 2 ^ 16 }
     ensures most { IfErr result (λ complaint. length ahead.new ≤ most_ahead complaint) }

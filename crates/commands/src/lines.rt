@@ -75,8 +75,8 @@ pub(crate) fn read_line<R: Read>(
     ensures read { IfOk result (HasReadLine (prepend_known ahead.old (R.remaining input.old))
         (prepend_known ahead.new (R.remaining input.new)) line.new.items) }
     ensures long { result ≡ Err TooLong → IsTooLong (prepend_known ahead.old (R.remaining input.old)) }
-    ensures part { OnErr result (HasReadPart (prepend_known ahead.old (R.remaining input.old))
-        (prepend_known ahead.new (R.remaining input.new))) }
+    ensures part { IfErr result (λ error. HasReadPart (prepend_known ahead.old (R.remaining input.old))
+        (prepend_known ahead.new (R.remaining input.new)) (input_complaint error)) }
     ensures few { length ahead.new ≤ 2 ^ 16 }
     ensures most { IfErr result (λ error. length ahead.new ≤ most_ahead (input_complaint error)) }
 {

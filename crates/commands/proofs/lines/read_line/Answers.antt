@@ -2,6 +2,7 @@ use Rattle.std.proofs.Common.{◌≡◌, ◌∙◌, ◌+◌, ◌++◌, ◌^◌, 
 use Rattle.commands.proofs.LineLemmas.{kept_short, long_read, part_kept, read_more, spent_from}
 use Rattle.std.proofs.KnownBytes.{Keeps-refl}
 use Rattle.pattern_commands.proofs.AnswerLemmas.{err_of}
+use Rattle.pattern_commands.specs.Inputs.{input_complaint}
 use Rattle.commands.specs.Lines.{piece_end}
 use Rattle.commands.proofs.lines.read_line.Goals as goal
 
@@ -60,7 +61,7 @@ loop-before-preserved g c =
 pub returns-in_err-piece-clause-part : goal.returns-in_err-piece-clause-part
 returns-in_err-piece-clause-part g c =
     let was = c.loop-before.invariant.read in
-    rw (err_of _ _ c.from_residual.ensures.1) (part_kept _ _ _ was.0 was.2 was.3 c.in_err-piece.ensures.kept)
+    rw (err_of _ _ c.from_residual.ensures.1) (part_kept _ _ _ (input_complaint c.in_err-piece.field-0.0) was.0 was.2 was.3 c.in_err-piece.ensures.kept)
 
 pub returns-then-size-gt-GATHER_LIMIT-clause-part : goal.returns-then-size-gt-GATHER_LIMIT-clause-part
 returns-then-size-gt-GATHER_LIMIT-clause-part g c =
@@ -68,12 +69,12 @@ returns-then-size-gt-GATHER_LIMIT-clause-part g c =
     let read = c.in_ok-piece.ensures.read in
     let piece = c.in_ok-piece.piece in
     let more = read_more _ _ _ _ _ was.0 read.0 c.loop-before.size piece was.1 was.2 was.3 was.4 read.1 read.2 in
-    record { line = was.0 ++ read.0; end = piece.end; one = more.1; consumed = more.2 }
+    record { line = was.0 ++ read.0; end = piece.end; one = more.1; consumed = more.2; cut = tt }
 
 pub returns-clause-part : goal.returns-clause-part
 returns-clause-part g c =
     let was = c.loop-before.invariant.read in
-    part_kept _ _ _ was.0 was.2 was.3 (Keeps-refl _)
+    part_kept _ _ _ _ was.0 was.2 was.3 (Keeps-refl _)
 
 pub returns-in_err-piece-clause-most : goal.returns-in_err-piece-clause-most
 returns-in_err-piece-clause-most g c = rw (err_of _ _ c.from_residual.ensures.1) c.in_err-piece.ensures.most
