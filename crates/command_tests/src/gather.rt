@@ -2,7 +2,9 @@
 
 ghost use Rattle.pattern_commands.specs.Profiles.{AreInRange};
 
-use crate::streams::{FaultyReader, FaultyWriter, Left, interrupted_writer, reader, slow_writer};
+use crate::streams::{
+    FaultyReader, FaultyWriter, Left, interrupted_writer, reader, reader_by, slow_writer,
+};
 use commands::gather::do_gather;
 use pattern_commands::status::Status;
 use plane_core::output::Out;
@@ -107,6 +109,24 @@ fn tells_a_failed_read(rt: HostRuntime) {
             Status::Failed,
             b"",
             b"line 3: double of 3 by 1\ncensus: read failed\n"
+        )
+    );
+}
+
+// The first two reads give all lines.
+#[test]
+fn tells_all_lines_before_a_failed_read(rt: HostRuntime) {
+    let left = left_by(
+        rt.alloc(),
+        reader_by(LINES, 140, 3, ErrorKind::Other),
+        slow_writer(rt.alloc(), 0),
+        slow_writer(rt.alloc(), 0),
+    );
+    assert!(rt;
+        left.is(
+            Status::Failed,
+            b"",
+            b"line 3: double of 3 by 1\nline 4: bad line at 42\ncensus: read failed\n"
         )
     );
 }

@@ -4,19 +4,26 @@ use plane_core::output::Out;
 use std::alloc::Global;
 use std::io::{self, ErrorKind, Read, Write};
 
-/// Gives a text byte by byte. Its read number `bad` is an error of this kind.
+/// Gives a text, so many bytes at most in a read. Its read number `bad` is an error of this kind.
 #[derive(Drop)]
 pub(crate) struct FaultyReader<'a> {
     text: &'a [u8],
+    most: usize,
     reads: usize,
     bad: usize,
     kind: ErrorKind,
 }
 
-/// A reader with a fault at one of its reads, which are counted from 1.
+/// A reader that gives a byte in a read, with a fault at one of its reads, which are counted from 1.
 pub(crate) fn reader(text: &[u8], bad: usize, kind: ErrorKind) -> FaultyReader<'_> {
+    reader_by(text, 1, bad, kind)
+}
+
+/// The same, with so many bytes in a read.
+pub(crate) fn reader_by(text: &[u8], most: usize, bad: usize, kind: ErrorKind) -> FaultyReader<'_> {
     FaultyReader {
         text,
+        most,
         reads: 0,
         bad,
         kind,
@@ -29,15 +36,11 @@ impl Read for FaultyReader<'_> {
         if self.reads == self.bad {
             return Err(io::Error::from(self.kind));
         }
-        let Some((first, remainder)) = self.text.split_first() else {
-            return Ok(0);
-        };
-        let Some(place) = buf.first_mut() else {
-            return Ok(0);
-        };
-        *place = *first;
+        let count = self.text.len().min(self.most).min(buf.len());
+        let (given, remainder) = self.text.split_at(count);
+        buf[..count].copy_from_slice(given);
         self.text = remainder;
-        Ok(1)
+        Ok(count)
     }
 }
 

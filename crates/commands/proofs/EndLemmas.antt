@@ -1,9 +1,7 @@
 -- How gathering ends.
-use Rattle.std.proofs.Common.{◌≡◌, ◌==◌, cond, ◌∙◌, ◌+◌, ◌++◌, ◌<◌, ◌≤◌, ◌^◌, ◌⊎◌, ℕ, zero, suc, false, inl, inr, List, [], ◌∷◌, Option, None, Some, Ok, Err, IfErr, ap, arith, length, refl, subst, sym, true}
-use Rattle.std.specs.Prelude.{Result, is_ok}
-use Rattle.std.specs.Io.Buffered.{reader_buffer, reader_capacity, reader_inner, reader_remaining}
+use Rattle.std.proofs.Common.{◌≡◌, ◌∙◌, ◌+◌, ◌++◌, ◌<◌, ◌≤◌, ◌^◌, ◌⊎◌, ℕ, zero, suc, false, inl, inr, List, [], ◌∷◌, Option, None, Some, Ok, Err, IfErr, ap, arith, length, refl, subst, sym, true}
+use Rattle.std.specs.Prelude.{is_ok}
 use Rattle.std.specs.Io.KnownBytes.{prepend_known}
-use Rattle.std.specs.declared.io.buffered.BufReader.{BufReader}
 use Rattle.std.specs.List.{range_with_len}
 use Rattle.std.proofs.lemmas.List.FromFn.{length-range_with_len}
 use Rattle.memory.specs.Evidence.{out_of_memory}
@@ -28,8 +26,8 @@ use Rattle.pattern_commands.specs.Complaints.{status_of}
 use Rattle.pattern_commands.specs.Ends.{status_after}
 use Rattle.pattern_commands.specs.Reached.{IsSilent, Outcome, Reaches}
 use Rattle.commands.specs.Finish.{Finishes, IsCensusOf}
-use Rattle.commands.specs.Gather.{BeginsHaul, IsSame, gather_reads, gather_behaviour, haul_behaviour}
-use Rattle.commands.specs.GatherSteps.{EndsLines, EndsLinesSomewhere, HasGatheredShort}
+use Rattle.commands.specs.Gather.{BeginsHaul, HasReadUpTo, IsSame, GivesUpAt, gather_reads, gather_behaviour, haul_behaviour}
+use Rattle.commands.specs.GatherSteps.{EndsLines, EndsLinesAt, HasGatheredShort}
 use Rattle.commands.specs.Gathering.{IsGathered, IsHaulOver, gather_opens, gather_right, gathered_right}
 use Rattle.commands.specs.LinesSoFar.{HasBegun}
 use Rattle.commands.specs.GatheredLines.{Gathered}
@@ -39,6 +37,7 @@ use Rattle.pattern_commands.specs.Streams.{Stream, Has}
 use Rattle.commands.specs.TakeSteps.{IsOpened, StopsOpening, StopsSet}
 use Rattle.pattern_commands.specs.Behaviours.{Made, NeedsMemoryAlone}
 use Rattle.commands.proofs.GatherLemmas.{all_begun}
+use Rattle.commands.proofs.LineLemmas.{all_spent}
 use Rattle.commands.proofs.TakeLemmas.{job_refused}
 
 -- memory that runs out over a range list hides only what it is needed for
@@ -95,19 +94,19 @@ pub reads_named : (plan : Plan) (job : Job) → job_named plan ≡ Ok job
 reads_named plan job named unread = let bad : true ≡ false = sym (ap is_ok named) ∙ unread in cc
 
 -- what was gathered
-is_gathered : (terms : Terms) (held closed : Held) (census : Census) (n : ℕ) (reader : Option (List ℕ)) (errors : Stream)
-    → (all : HasGatheredShort reader errors held) → held.terms ≡ terms → closed.terms ≡ held.terms
+is_gathered : (terms : Terms) (held closed : Held) (census : Census) (n : ℕ) (reader left : Option (List ℕ)) (errors : Stream)
+    → (all : HasGatheredShort reader left errors held) → held.terms ≡ terms → closed.terms ≡ held.terms
     → closed.taken ≡ held.taken
     → ((arrivals : List Arrival) → StandsFor arrivals held → StandsFor (arrivals ++ Closing ∷ []) closed)
     → IsCensusOf held census → n ≡ length (missing_of held.terms.ranges held.taken)
-    → IsGathered terms all.3.bytes (record { text = haul_text census; remarks = all.3.remarks; missing = n })
-is_gathered terms held closed census n reader errors all same kept took closes counted many =
-    let read = all.3 in
+    → IsGathered terms all.all.bytes (record { text = haul_text census; remarks = all.all.remarks; missing = n })
+is_gathered terms held closed census n reader left errors all same kept took closes counted many =
+    let read = all.all in
     let P : Terms → Type 0 = λ t. Gathered t (input_lines read.bytes) read.come.arrivals read.remarks in
     let Q : Terms → Type 0 = λ t. IsCensus t.job t.ranges (numbers_in held.taken) census in
     let stands = closes read.come.arrivals read.come.stands in
     record {
-      short = subst (λ (n : ℕ). n ≤ 2 ^ 32) read.size_is all.1;
+      short = subst (λ (n : ℕ). n ≤ 2 ^ 32) read.size_is all.short;
       arrivals = read.come.arrivals;
       gathered = subst P same read.come.gathered;
       taken = held.taken;
@@ -154,74 +153,56 @@ gathers_on terms bytes reader left (WriteFailed error) output errors long ends n
     inr (record { tells = tt; nothing = nothing; cut = ends })
 
 -- and there are some: where the input is too long, longer ones than may be read
-pub gathers_lines : (terms : Terms) (reader : Option (List ℕ)) (complaint : Complaint) (output errors : Stream)
-    → EndsLinesSomewhere terms reader errors complaint → Has output []
+pub gathers_lines : (terms : Terms) (reader left : Option (List ℕ)) (complaint : Complaint) (output errors : Stream)
+    → EndsLines terms reader left errors complaint → Has output []
     → (bytes : List ℕ) × IsInput reader bytes × Reaches (haul_behaviour terms) reader bytes (Err complaint) output errors
-gathers_lines terms None complaint output errors (left, ends) nothing =
+gathers_lines terms None left complaint output errors ends nothing =
     let bytes = range_with_len 0 (2 ^ 32 + 1) in (
       bytes,
       tt,
       gathers_on terms bytes None left complaint output errors
           (λ _. subst (λ n. 2 ^ 32 < n) (sym (length-range_with_len 0 (2 ^ 32 + 1))) (omega arith)) ends nothing,
     )
-gathers_lines terms (Some all) complaint output errors (left, ends) nothing = (
+gathers_lines terms (Some all) left complaint output errors ends nothing = (
   all,
   refl,
   gathers_on terms all (Some all) left complaint output errors
       (λ is. let long = subst (EndsLines terms (Some all) left errors) is ends in long.2) ends nothing,
 )
 
--- a reader through a buffer that is empty has what the reader below has
-pub fresh_reader : {R A : Type 0} (remaining : R → Option (List ℕ)) (buffered : BufReader R A) → reader_capacity buffered ≡ 65536
-    → reader_buffer buffered ≡ [] → reader_remaining remaining buffered ≡ remaining (reader_inner buffered)
-fresh_reader remaining buffered capacity empty =
-    ap (λ (n : ℕ). cond {A = Option (List ℕ)} (n == 0) None (prepend_known (reader_buffer buffered) (remaining buffered.inner))) capacity
-    ∙ ap (λ (bytes : List ℕ). prepend_known bytes (remaining buffered.inner)) empty
-    ∙ nothing (remaining buffered.inner)
-  where
-    nothing : (left : Option (List ℕ)) → prepend_known [] left ≡ left
-    nothing None = refl
-    nothing (Some xs) = refl
-
--- how the lines ended, through a buffer
-pub ends_somewhere : {A : Type 0} (r : Result A Complaint) (terms : Terms) (reader other left : Option (List ℕ)) (errors : Stream)
-    → other ≡ reader → IfErr r (EndsLines terms other left errors) → IfErr r (EndsLinesSomewhere terms reader errors)
-ends_somewhere (Ok x) terms reader other left errors same ends = tt
-ends_somewhere (Err complaint) terms reader other left errors same ends =
-    (left, subst (λ (bytes : Option (List ℕ)). EndsLines terms bytes left errors complaint) same ends)
-
 -- what became of a haul to which all lines have come, when it was finished
-pub gathers_haul : (terms : Terms) (held closed : Held) (reader : Option (List ℕ)) (outcome : Outcome) (output errors : Stream)
-    → (all : HasGatheredShort reader errors held) → held.terms ≡ terms → closed.terms ≡ held.terms
+pub gathers_haul : (terms : Terms) (held closed : Held) (reader left : Option (List ℕ)) (outcome : Outcome) (output errors : Stream)
+    → (all : HasGatheredShort reader left errors held) → held.terms ≡ terms → closed.terms ≡ held.terms
     → closed.taken ≡ held.taken
     → ((arrivals : List Arrival) → StandsFor arrivals held → StandsFor (arrivals ++ Closing ∷ []) closed)
-    → Finishes held outcome output → errors.failed ≡ false → Reaches (haul_behaviour terms) reader all.3.bytes outcome output errors
-gathers_haul terms held closed reader outcome output errors all same kept took closes finishes fine = go outcome finishes
+    → Finishes held outcome output → errors.failed ≡ false → Reaches (haul_behaviour terms) reader all.all.bytes outcome output errors
+gathers_haul terms held closed reader left outcome output errors all same kept took closes finishes fine = go outcome finishes
   where
     gathered : (census : Census) (n : ℕ) → IsCensusOf held census → n ≡ length (missing_of held.terms.ranges held.taken)
-        → IsGathered terms all.3.bytes (record { text = haul_text census; remarks = all.3.remarks; missing = n })
-    gathered census n counted many = is_gathered terms held closed census n reader errors all same kept took closes
+        → IsGathered terms all.all.bytes (record { text = haul_text census; remarks = all.all.remarks; missing = n })
+    gathered census n counted many = is_gathered terms held closed census n reader left errors all same kept took closes
         counted many
 
-    go : (outcome : Outcome) → Finishes held outcome output → Reaches (haul_behaviour terms) reader all.3.bytes outcome output errors
+    go : (outcome : Outcome) → Finishes held outcome output → Reaches (haul_behaviour terms) reader all.all.bytes outcome output errors
     go (Ok missing) is = record {
-      made = record { text = haul_text is.census; remarks = all.3.remarks; missing = missing };
+      made = record { text = haul_text is.census; remarks = all.all.remarks; missing = missing };
       is = gathered is.census missing is.counted is.missing_is;
       missing_is = refl;
       text = is.text;
       written = is.fine;
-      remarks = all.3.written;
+      remarks = all.all.written;
       fine = fine;
     }
     go (Err (Memory error)) nothing =
-        gathers_memory terms all.3.bytes reader output errors (all.2, all_begun reader all.2 errors all.0 held terms all.3 same)
+        let place = prepend_known all.ahead left in
+        gathers_memory terms all.all.bytes reader output errors (place, all_begun reader place errors all.size held terms all.all same)
         nothing fine
     go (Err (WriteFailed error)) is = inl (record {
       left = (
-        record { text = haul_text is.census; remarks = all.3.remarks; missing = length (missing_of held.terms.ranges held.taken) },
+        record { text = haul_text is.census; remarks = all.all.remarks; missing = length (missing_of held.terms.ranges held.taken) },
         gathered is.census (length (missing_of held.terms.ranges held.taken)) is.counted refl,
         is.front,
-        all.3.written,
+        all.all.written,
       );
       cut = is.cut;
       fine = fine;
@@ -242,6 +223,13 @@ is_over job set workers held open_ = record {
   workers_are = open_.workers_are;
 }
 
+-- and so are those of its terms
+opens_over : (plan : Plan) (workers : ℕ) (job : Job) (terms others : Terms) → job_named plan ≡ Ok job
+    → IsHaulOver plan.set workers job terms → others ≡ terms → gather_opens plan workers others
+opens_over plan workers job terms others named over same =
+    let other : IsHaulOver plan.set workers job others = subst (IsHaulOver plan.set workers job) (sym same) over in
+    rw named other
+
 -- from what is gathered in an open haul to what is right for the set
 pub gathers_over : (plan : Plan) (workers : ℕ) (bytes : List ℕ) (reader : Option (List ℕ)) (job : Job) (terms : Terms)
     (outcome : Outcome) (output errors : Stream) → job_named plan ≡ Ok job → IsHaulOver plan.set workers job terms
@@ -250,9 +238,7 @@ pub gathers_over : (plan : Plan) (workers : ℕ) (bytes : List ℕ) (reader : Op
 gathers_over plan workers bytes reader job terms outcome output errors named over = go outcome
   where
     opens : (others : Terms) → others ≡ terms → gather_opens plan workers others
-    opens others same =
-        let other : IsHaulOver plan.set workers job others = subst (IsHaulOver plan.set workers job) (sym same) over in
-        rw named other
+    opens others same = opens_over plan workers job terms others named over same
 
     right : (gathering : Made) → IsGathered terms bytes gathering → gather_right plan workers bytes (Ok gathering)
     right gathering is = record { terms = terms; opened = opens terms refl; is = is }
@@ -296,6 +282,78 @@ gathers_over plan workers bytes reader job terms outcome output errors named ove
         let (made, gathered, front, remarks) = is.left in
         inl (record { left = (made, right made gathered, front, remarks); cut = is.cut; fine = is.fine })
     go (Err (WriteFailed error)) (inr is) = inr (record { tells = (terms, opens terms refl); nothing = is.nothing; cut = is.cut })
+
+-- ---- how far the input was read
+
+-- a haul that was not opened: nothing was read
+pub unread_opening : {R : Type 0} (plan : Plan) (workers : ℕ) (remaining : R → Option (List ℕ)) (input : R) (complaint : Complaint)
+    (errors : Stream) → StopsOpening plan complaint → Has errors []
+    → HasReadUpTo (gather_opens plan workers) remaining input input errors (Err complaint)
+unread_opening plan workers remaining input (Refused refusal) errors stops silent = tt
+unread_opening plan workers remaining input (Memory error) errors stops silent = inl (refl, silent)
+unread_opening plan workers remaining input (ReadFailed error) errors (inl named) silent = absurd (job_refused plan (ReadFailed error) named)
+unread_opening plan workers remaining input (ReadFailed error) errors (inr (job, named, stops)) silent = absurd stops
+unread_opening plan workers remaining input TooLong errors (inl named) silent = absurd (job_refused plan TooLong named)
+unread_opening plan workers remaining input TooLong errors (inr (job, named, stops)) silent = absurd stops
+unread_opening plan workers remaining input (WriteFailed error) errors stops silent = tt
+
+-- a complaint that ended the lines
+pub stops_lines : {R : Type 0} (terms : Terms) (remaining : R → Option (List ℕ)) (old new : R) (errors : Stream) (complaint : Complaint)
+    → EndsLinesAt terms (remaining old) (remaining new) errors complaint
+    → HasReadUpTo (IsSame terms) remaining old new errors (Err complaint)
+stops_lines terms remaining old new errors (Refused refusal) at_ = tt
+stops_lines terms remaining old new errors (Memory error) at_ =
+    inr (record { terms = terms; opened = refl; ahead = at_.ahead; few = at_.few; begun = at_.ends.0 })
+stops_lines terms remaining old new errors (ReadFailed error) at_ =
+    (record { terms = terms; opened = refl; ahead = at_.ahead; few = at_.few; begun = at_.ends.0 }, at_.ends.2)
+stops_lines terms remaining old new errors TooLong at_ =
+    record { terms = terms; opened = refl; ahead = at_.ahead; few = at_.few; begun = at_.ends.0 }
+stops_lines terms remaining old new errors (WriteFailed error) at_ = tt
+
+-- a haul to which all lines have come
+pub stops_finished : {R : Type 0} (terms : Terms) (held : Held) (remaining : R → Option (List ℕ)) (old new : R) (outcome : Outcome)
+    (output errors : Stream) → (all : HasGatheredShort (remaining old) (remaining new) errors held) → held.terms ≡ terms
+    → Finishes held outcome output → HasReadUpTo (IsSame terms) remaining old new errors outcome
+stops_finished terms held remaining old new (Ok missing) output errors all same is =
+    all_spent (remaining old) (remaining new) all.ahead all.all.bytes all.all.input all.all.consumed
+stops_finished terms held remaining old new (Err (Refused refusal)) output errors all same is = tt
+stops_finished terms held remaining old new (Err (Memory error)) output errors all same is = inr (record {
+  terms = terms;
+  opened = refl;
+  ahead = all.ahead;
+  few = all.few;
+  begun = all_begun (remaining old) (prepend_known all.ahead (remaining new)) errors all.size held terms all.all same;
+})
+stops_finished terms held remaining old new (Err (ReadFailed error)) output errors all same is = absurd is
+stops_finished terms held remaining old new (Err TooLong) output errors all same is = absurd is
+stops_finished terms held remaining old new (Err (WriteFailed error)) output errors all same is = tt
+
+-- from an open haul to one that may be opened for the set
+pub stops_over : {R : Type 0} (plan : Plan) (workers : ℕ) (job : Job) (terms : Terms) (remaining : R → Option (List ℕ)) (old new : R)
+    (errors : Stream) (outcome : Outcome) → job_named plan ≡ Ok job → IsHaulOver plan.set workers job terms
+    → HasReadUpTo (IsSame terms) remaining old new errors outcome
+    → HasReadUpTo (gather_opens plan workers) remaining old new errors outcome
+stops_over plan workers job terms remaining old new errors outcome named over = go outcome
+  where
+    stops : (most : ℕ) → GivesUpAt (IsSame terms) most (remaining old) (remaining new) errors
+        → GivesUpAt (gather_opens plan workers) most (remaining old) (remaining new) errors
+    stops most is = record {
+      terms = is.terms;
+      opened = opens_over plan workers job terms is.terms named over is.opened;
+      ahead = is.ahead;
+      few = is.few;
+      begun = is.begun;
+    }
+
+    go : (outcome : Outcome) → HasReadUpTo (IsSame terms) remaining old new errors outcome
+        → HasReadUpTo (gather_opens plan workers) remaining old new errors outcome
+    go (Ok missing) is = is
+    go (Err (Refused refusal)) is = tt
+    go (Err (Memory error)) (inl unread) = inl unread
+    go (Err (Memory error)) (inr is) = inr (stops (2 ^ 16) is)
+    go (Err (ReadFailed error)) is = (stops 0 is.0, is.1)
+    go (Err TooLong) is = stops (2 ^ 16) is
+    go (Err (WriteFailed error)) is = tt
 
 -- ---- what holds only of some complaints
 

@@ -16,13 +16,14 @@ use Rattle.haul_core.specs.Reports.{Reported}
 use Rattle.commands.specs.declared.line_fault.LineFault.{LineFault}
 use Rattle.commands.specs.declared.line_fault.LineFault.TheVariants.{BadLine}
 use Rattle.survey_core.specs.declared.job.Job.{Job}
-use Rattle.std.proofs.KnownBytes.{Consumes-nil, Consumes-trans}
+use Rattle.std.proofs.KnownBytes.{Consumes-nil, Consumes-trans, prepend_known-nil}
 use Rattle.std.proofs.lemmas.List.Elements.{All-nil}
-use Rattle.std.specs.Io.KnownBytes.{Consumes}
+use Rattle.std.specs.Io.KnownBytes.{Consumes, prepend_known}
 use Rattle.memory.specs.Evidence.{out_of_memory}
 use Rattle.plane_core.proofs.OutLemmas.{Appends-append}
 use Rattle.plane_core.specs.Out.{Output}
 use Rattle.pattern_commands.specs.declared.complaint.Complaint.{Complaint}
+use Rattle.pattern_commands.specs.declared.read_error.ReadError.{ReadError}
 use Rattle.pattern_commands.specs.declared.complaint.Complaint.TheVariants.{Refused, Memory, ReadFailed, TooLong, WriteFailed}
 use Rattle.commands.specs.declared.lines.LineEnd.{LineEnd}
 use Rattle.commands.specs.declared.lines.LineEnd.TheVariants.{Feed, Input}
@@ -33,9 +34,9 @@ use Rattle.pattern_commands.specs.Streams.{Stream, Has, stream}
 use Rattle.pattern_commands.specs.declared.input.InputError.{InputError}
 use Rattle.pattern_commands.specs.declared.input.InputError.TheVariants as input_error
 use Rattle.commands.specs.GatherSteps.{EndsLine, EndsLines, EndsNext, HasGatheredTo, HasGatheredLines, HasGatheredAll, Passage}
-use Rattle.commands.specs.LinesSoFar.{HasBegunUpTo, HasCome, HasComeBy}
-use Rattle.commands.specs.Lines.{HasReadLine, HasReadPart, IsOneLine, input_lines, with_end}
-use Rattle.commands.proofs.LineLemmas.{all_lines, all_read, ended_more, first_lines, lines_bare, lines_ended, long_read, part_after}
+use Rattle.commands.specs.LinesSoFar.{AreAllEnded, HasBegunUpTo, HasCome, HasComeBy, most_ahead}
+use Rattle.commands.specs.Lines.{HasReadLine, HasReadPart, IsOneLine, MayEnd, input_lines, piece_end, with_end}
+use Rattle.commands.proofs.LineLemmas.{all_lines, all_read, bare_part, ended_more, first_lines, lines_and, lines_bare, lines_ended, long_read, part_lines}
 use Rattle.commands.specs.GatheredLines.{Faulty, Front, Gathered, IsChecked, IsFrontFault, IsLookedAt, IsWrong, ComesOf, Next, Offered, Start, Whole, offer_fault, told_fault}
 
 -- nothing arrives by a line with a fault
@@ -101,14 +102,16 @@ abbrev passage : (reader left : Option (List ℕ)) → Stream → ℕ → ℕ �
 passage reader left errors count size =
     record { reader = reader; left = left; errors = errors; count = count; size = size }
 
--- no line has come
-pub none_gathered : (reader : Option (List ℕ)) (errors : Stream) (held : Held) → Has errors [] → StandsFor [] held
-    → HasGatheredLines (passage reader reader errors 0 0) held
-none_gathered reader errors held silent stands = record {
+-- no line has come, and nothing is ahead
+pub none_gathered : (reader : Option (List ℕ)) (ahead : List ℕ) (errors : Stream) (held : Held) → ahead ≡ [] → Has errors []
+    → StandsFor [] held → HasGatheredLines (passage reader (prepend_known ahead reader) errors 0 0) held
+none_gathered reader ahead errors held none silent stands = record {
   read = [];
   lines = [];
   remarks = [];
-  consumed = Consumes-nil reader;
+  consumed =
+      let same : prepend_known ahead reader ≡ reader = ap (λ l. prepend_known l reader) none ∙ prepend_known-nil reader in
+      subst (λ (left : Option (List ℕ)). Consumes reader left []) (sym same) (Consumes-nil reader);
   ended = record { spelled = refl; whole = All-nil IsOneLine };
   count_is = refl;
   size_is = refl;
@@ -195,44 +198,52 @@ pub no_fault : (fault : Option LineFault) → ((x : LineFault) → fault ≢ Som
 no_fault None not = refl
 no_fault (Some x) not = absurd (not x refl)
 
--- what has come so far is a beginning
+-- What has come so far is a beginning, where no more than one line was read since. If no line feed ends it, all lines that are ended have
+-- come.
+begun_and : (way : Passage) (held : Held) (terms : Terms) (new : Option (List ℕ)) (more : List ℕ) → HasGatheredLines way held
+    → held.terms ≡ terms → Consumes way.left new more → length (input_lines more) ≤ 1
+    → (begun : HasBegunUpTo terms way.reader new way.errors.before way.errors.after)
+    × (IsOneLine more → AreAllEnded begun.read begun.lines)
+begun_and way held terms new more gathered same consumed few = (
+  record {
+    read = gathered.read ++ more;
+    consumed = Consumes-trans way.reader way.left new gathered.read more gathered.consumed consumed;
+    lines = gathered.lines;
+    last = input_lines more;
+    all = lines_and gathered.read gathered.lines more gathered.ended;
+    one = few;
+    first = first_lines way.reader way.left gathered.read gathered.lines gathered.consumed gathered.ended;
+    arrivals = gathered.come.arrivals;
+    remarks = gathered.remarks;
+    gathered =
+        let P : Terms → Type 0 = λ t. Gathered t gathered.lines gathered.come.arrivals gathered.remarks in
+        subst P same gathered.come.gathered;
+    written = gathered.written;
+  },
+  λ one. record { front = gathered.read; part = more; split = refl; ended = gathered.ended; one = one },
+)
+
 pub begun : (way : Passage) (held : Held) (terms : Terms) → HasGatheredLines way held → held.terms ≡ terms
     → HasBegunUpTo terms way.reader way.left way.errors.before way.errors.after
-begun way held terms gathered same = record {
-  read = gathered.read;
-  consumed = gathered.consumed;
-  lines = gathered.lines;
-  last = [];
-  all = ap input_lines (sym (append-nil gathered.read)) ∙ lines_ended gathered.read gathered.lines gathered.ended ∙ sym (append-nil gathered.lines);
-  one = omega arith;
-  first = first_lines way.reader way.left gathered.read gathered.lines gathered.consumed gathered.ended;
-  arrivals = gathered.come.arrivals;
-  remarks = gathered.remarks;
-  gathered =
-      let P : Terms → Type 0 = λ t. Gathered t gathered.lines gathered.come.arrivals gathered.remarks in
-      subst P same gathered.come.gathered;
-  written = gathered.written;
-}
+begun way held terms gathered same = (begun_and way held terms way.left [] gathered same (Consumes-nil way.left) (omega arith)).0
 
--- the same where a part of one more line was read
-begun_part : (way : Passage) (held : Held) (terms : Terms) (new : Option (List ℕ)) → HasGatheredLines way held → held.terms ≡ terms
-    → HasReadPart way.left new → HasBegunUpTo terms way.reader new way.errors.before way.errors.after
-begun_part way held terms new gathered same part =
-    let after = part_after way.reader way.left new gathered.read gathered.lines gathered.consumed gathered.ended part in record {
-      read = after.0;
-      consumed = after.2;
-      lines = gathered.lines;
-      last = after.1;
-      all = after.3;
-      one = after.4;
-      first = first_lines way.reader way.left gathered.read gathered.lines gathered.consumed gathered.ended;
-      arrivals = gathered.come.arrivals;
-      remarks = gathered.remarks;
-      gathered =
-          let P : Terms → Type 0 = λ t. Gathered t gathered.lines gathered.come.arrivals gathered.remarks in
-          subst P same gathered.come.gathered;
-      written = gathered.written;
-    }
+begun_part : (way : Passage) (held : Held) (terms : Terms) (new : Option (List ℕ)) (complaint : Complaint) → HasGatheredLines way held
+    → held.terms ≡ terms → HasReadPart way.left new complaint
+    → HasBegunUpTo terms way.reader new way.errors.before way.errors.after
+begun_part way held terms new complaint gathered same part =
+    (begun_and way held terms new (part.line ++ piece_end part.end) gathered same part.consumed
+    (part_lines part.line part.end part.one)).0
+
+-- after a failed read
+begun_cut : (way : Passage) (held : Held) (terms : Terms) (new : Option (List ℕ)) (error : ReadError) → HasGatheredLines way held
+    → held.terms ≡ terms → HasReadPart way.left new (ReadFailed error)
+    → (begun : HasBegunUpTo terms way.reader new way.errors.before way.errors.after) × AreAllEnded begun.read begun.lines
+begun_cut way held terms new error gathered same part =
+    let bare : part.line ++ piece_end part.end ≡ part.line =
+    ap (λ e. part.line ++ piece_end e) part.cut ∙ append-nil part.line in
+    let is = begun_and way held terms new part.line gathered same (subst (Consumes way.left new) bare part.consumed)
+    (bare_part part.line part.one) in
+    (is.0, is.1 part.one)
 
 -- and so is all that has come
 pub all_begun : (reader left : Option (List ℕ)) (errors : Stream) (size : ℕ) (held : Held) (terms : Terms)
@@ -318,23 +329,42 @@ pub next_read : {V : Type 0} (left : Option (List ℕ)) (old new : Output V) (co
     → EndsNext left old new complaint
 next_read left old new (Refused refusal) ends = ends
 next_read left old new (Memory error) ends = ends
-next_read left old new (ReadFailed error) ends = ends
+next_read left old new (ReadFailed error) ends = absurd ends
 next_read left old new TooLong ends = absurd ends
 next_read left old new (WriteFailed error) ends = ends
+
+-- it is no failed read
+pub line_most : {V : Type 0} (old new : Output V) (complaint : Complaint) (ahead : List ℕ) → EndsLine old new complaint
+    → length ahead ≤ 2 ^ 16 → length ahead ≤ most_ahead complaint
+line_most old new (Refused refusal) ahead ends few = few
+line_most old new (Memory error) ahead ends few = few
+line_most old new (ReadFailed error) ahead ends few = absurd ends
+line_most old new TooLong ahead ends few = few
+line_most old new (WriteFailed error) ahead ends few = few
+
+-- so its line may have ended
+pub line_may_end : {V : Type 0} (old new : Output V) (complaint : Complaint) (end : Option LineEnd) → EndsLine old new complaint
+    → MayEnd complaint end
+line_may_end old new (Refused refusal) end ends = tt
+line_may_end old new (Memory error) end ends = tt
+line_may_end old new (ReadFailed error) end ends = absurd ends
+line_may_end old new TooLong end ends = tt
+line_may_end old new (WriteFailed error) end ends = tt
 
 -- a complaint over a line, after all lines before it
 pub lines_ended_by : {V : Type 0} (contents : V → Option (List ℕ)) (reader left now : Option (List ℕ)) (first : Output V)
     (count size : ℕ) (held : Held) (terms : Terms) (old new : Output V) (complaint : Complaint)
     → HasGatheredLines (passage reader left (stream contents first old) count size) held
-    → held.terms ≡ terms → old.failed ≡ false → EndsNext left old new complaint → HasReadPart left now
+    → held.terms ≡ terms → old.failed ≡ false → EndsNext left old new complaint → HasReadPart left now complaint
     → EndsLines terms reader now (stream contents first new) complaint
 lines_ended_by contents reader left now first count size held terms old new (Memory error) gathered same fine kept part =
-    rw kept (begun_part (passage reader left (stream contents first old) count size) held terms now gathered same part, fine)
+    rw kept (begun_part (passage reader left (stream contents first old) count size) held terms now (Memory error) gathered same part, fine)
 lines_ended_by contents reader left now first count size held terms old new (ReadFailed error) gathered same fine kept part =
-    rw kept (begun_part (passage reader left (stream contents first old) count size) held terms now gathered same part, fine)
+    let is = begun_cut (passage reader left (stream contents first old) count size) held terms now error gathered same part in
+    rw kept (is.0, fine, is.1)
 lines_ended_by contents reader left now first count size held terms old new TooLong gathered same fine (kept, long) part =
     rw kept (
-      begun_part (passage reader left (stream contents first old) count size) held terms now gathered same part,
+      begun_part (passage reader left (stream contents first old) count size) held terms now TooLong gathered same part,
       fine,
       longer reader left gathered.read gathered.consumed long,
     )

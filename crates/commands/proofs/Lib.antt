@@ -1,3 +1,4 @@
+pub mod AheadLemmas
 pub mod EndLemmas
 pub mod GatherLemmas
 mod GrownLemmas

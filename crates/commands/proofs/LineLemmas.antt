@@ -1,18 +1,22 @@
 -- Inputs, line by line.
 use Rattle.std.proofs.Common.{◌≡◌, ◌≢◌, ◌<◌, ◌≤◌, ◌+◌, ◌^◌, ◌∙◌, ◌++◌, ℕ, zero, suc, ne_eqb}
-use Rattle.std.proofs.Common.{List, [], ◌∷◌, All, Option, None, Some, Result, Ok, Err, IfOk, IfSome, ap, ap₂, append-nil, append_assoc, arith, cond, flat_map, length, length-append, length-take, refl, subst, sym, take, take_all}
+use Rattle.std.proofs.Common.{List, [], ◌∷◌, All, Option, None, Some, Result, Ok, Err, IfOk, IfSome, ap, ap₂, append-nil, append_assoc, arith, cond, drop, drop_of_length-le, flat_map, length, length-append, length-take, length-take-le, refl, subst, sym, take, take-append-drop, take_all}
 use Rattle.std.proofs.lemmas.Grind.{flat_map-append}
 use Rattle.std.proofs.lemmas.List.Elements.{All-append, All-head, All-nil, All-push, All-tail}
-use Rattle.std.proofs.KnownBytes.{Consumes-kept, Consumes-nil, Consumes-trans}
-use Rattle.std.specs.Io.KnownBytes.{Consumes, IsAtEnd, Keeps}
+use Rattle.std.proofs.KnownBytes.{Consumes-kept, Consumes-nil, Consumes-trans, prepend_known-read}
+use Rattle.std.specs.Io.KnownBytes.{Consumes, IsAtEnd, Keeps, prepend_known}
 use Rattle.pattern_commands.specs.Answers.{IsInput}
-use Rattle.std.specs.Prelude.{OnErr}
+use Rattle.pattern_commands.specs.declared.complaint.Complaint.{Complaint}
+use Rattle.pattern_commands.specs.declared.complaint.Complaint.TheVariants.{Refused, Memory, ReadFailed, TooLong, WriteFailed}
+use Rattle.std.specs.Prelude.{IfErr, OnErr}
+use Rattle.pattern_commands.specs.declared.input.InputError.{InputError}
+use Rattle.pattern_commands.specs.Inputs.{input_complaint}
 use Rattle.commands.specs.declared.lines.LineEnd.{LineEnd}
 use Rattle.commands.specs.declared.lines.LineEnd.TheVariants.{Feed, Input}
 use Rattle.commands.specs.declared.lines.LineRead.{LineRead}
 use Rattle.commands.specs.declared.lines.Piece.{Piece}
-use Rattle.commands.specs.LinesSoFar.{AreEnded}
-use Rattle.commands.specs.Lines.{HasPiece, HasReadLine, HasReadPart, IsOneLine, IsSpent, begun_with, input_lines, piece_end, with_end}
+use Rattle.commands.specs.LinesSoFar.{AreEnded, most_ahead}
+use Rattle.commands.specs.Lines.{HasPiece, HasReadLine, HasReadPart, IsOneLine, IsPieceOf, MayEnd, IsSpent, begun_with, input_lines, piece_end, with_end}
 
 abbrev IsNotFeed : ℕ → Type 0
 IsNotFeed byte = byte ≢ 10
@@ -139,6 +143,23 @@ first_lines (Some bytes) None read lines consumed ended = absurd consumed
 first_lines (Some bytes) (Some more) read lines consumed ended =
     (input_lines more, ap input_lines (consumed ∙ ap (λ l. l ++ more) ended.spelled) ∙ ended_lines lines more ended.whole)
 
+-- an input of which all was read has nothing left
+pub all_spent : (reader left : Option (List ℕ)) (ahead bytes : List ℕ) → IsInput reader bytes
+    → Consumes reader (prepend_known ahead left) bytes → IsSpent reader left
+all_spent None left ahead bytes input consumed = tt
+all_spent (Some all) None ahead bytes input consumed = absurd consumed
+all_spent (Some all) (Some ys) ahead bytes input consumed = none ys (omega (arith, total, long))
+  where
+    total : length bytes ≡ length bytes + length (ahead ++ ys)
+    total = ap length (input ∙ consumed) ∙ length-append bytes (ahead ++ ys)
+
+    long : length (ahead ++ ys) ≡ length ahead + length ys
+    long = length-append ahead ys
+
+    none : (xs : List ℕ) → length xs ≡ 0 → xs ≡ []
+    none [] is = refl
+    none (x ∷ xs) is = absurd (omega (arith, is))
+
 -- and if all was read, they are all
 pub all_lines : (reader : Option (List ℕ)) (read : List ℕ) → IsInput reader read
     → IfSome reader (λ bytes. (more : List (List ℕ)) × (input_lines bytes ≡ input_lines read ++ more))
@@ -146,44 +167,88 @@ all_lines None read input = tt
 all_lines (Some bytes) read input = ([], ap input_lines (sym input) ∙ sym (append-nil (input_lines read)))
 
 -- what was read of one line has one line at most
-bare_part : (line : List ℕ) → IsOneLine line → length (input_lines line) ≤ 1
+pub bare_part : (line : List ℕ) → IsOneLine line → length (input_lines line) ≤ 1
 bare_part [] one = omega arith
 bare_part (x ∷ xs) one = let is = ap length (bare_line x xs one) in omega (arith, is)
 
-part_lines : (line : List ℕ) (end : Option LineEnd) → IsOneLine line → length (input_lines (line ++ piece_end end)) ≤ 1
+pub part_lines : (line : List ℕ) (end : Option LineEnd) → IsOneLine line → length (input_lines (line ++ piece_end end)) ≤ 1
 part_lines line None one = subst (λ (l : List ℕ). length (input_lines l) ≤ 1) (sym (append-nil line)) (bare_part line one)
 part_lines line (Some Input) one = subst (λ (l : List ℕ). length (input_lines l) ≤ 1) (sym (append-nil line)) (bare_part line one)
 part_lines line (Some Feed) one =
     let is = ap length (ap input_lines (sym (append-nil (line ++ 10 ∷ []))) ∙ first_line line [] one) in omega (arith, is)
 
--- a part of a line after lines that were ended, and what was read then
-pub part_after : (reader left new : Option (List ℕ)) (read : List ℕ) (lines : List (List ℕ)) → Consumes reader left read → AreEnded read lines
-    → HasReadPart left new
-    → (all : List ℕ) × (last : List (List ℕ)) × Consumes reader new all × (input_lines all ≡ lines ++ last) × (length last ≤ 1)
-part_after reader left new read lines consumed ended part =
-    let more : List ℕ = part.line ++ piece_end part.end in (
-      read ++ more,
-      input_lines more,
-      Consumes-trans reader left new read more consumed part.consumed,
-      ap (λ l. input_lines (l ++ more)) ended.spelled ∙ ended_lines lines more ended.whole,
-      part_lines part.line part.end part.one,
-    )
+-- what was read after lines that were ended
+pub lines_and : (read : List ℕ) (lines : List (List ℕ)) (more : List ℕ) → AreEnded read lines
+    → input_lines (read ++ more) ≡ lines ++ input_lines more
+lines_and read lines more ended = ap (λ l. input_lines (l ++ more)) ended.spelled ∙ ended_lines lines more ended.whole
+
+-- a part that no line feed ends may be all that was read
+no_end : (complaint : Complaint) → MayEnd complaint None
+no_end (Refused refusal) = tt
+no_end (Memory error) = tt
+no_end (ReadFailed error) = refl
+no_end TooLong = tt
+no_end (WriteFailed error) = tt
 
 -- nothing more was read of an input
-pub part_kept : (start old new : Option (List ℕ)) (front : List ℕ) → IsOneLine front → Consumes start old front → Keeps old new
-    → HasReadPart start new
-part_kept start old new front one consumed same = record {
+pub part_kept : (start old new : Option (List ℕ)) (complaint : Complaint) (front : List ℕ) → IsOneLine front → Consumes start old front
+    → Keeps old new → HasReadPart start new complaint
+part_kept start old new complaint front one consumed same = record {
   line = front;
   end = None;
   one = one;
   consumed = subst (Consumes start new) (sym (append-nil front)) (Consumes-kept start old new front consumed same);
+  cut = no_end complaint;
 }
 
--- a line was read
-pub part_of_line : (old new : Option (List ℕ)) (kept : List ℕ) (read : LineRead) → HasReadLine old new kept read → HasReadPart old new
-part_of_line old new kept read is = record { line = is.line; end = Some read.end; one = is.one; consumed = is.consumed }
+-- a line was read, and no read failed
+pub part_of_line : (old new : Option (List ℕ)) (kept : List ℕ) (read : LineRead) (complaint : Complaint) → HasReadLine old new kept read
+    → MayEnd complaint (Some read.end) → HasReadPart old new complaint
+part_of_line old new kept read complaint is cut =
+    record { line = is.line; end = Some read.end; one = is.one; consumed = is.consumed; cut = cut }
 
 -- what holds anyway holds after an error
 pub on_err : {A E P : Type 0} (r : Result A E) → P → OnErr r P
 on_err (Ok x) holds = tt
 on_err (Err e) holds = holds
+
+-- ---- what is at hand, and what a reader has left
+
+-- an end is one whatever was known before
+spent : (old new : Option (List ℕ)) → IsAtEnd new → IsSpent old new
+spent None new end = tt
+spent (Some xs) new end = end
+
+-- a piece of what is at hand is one of the input
+pub piece_taken : (old left : Option (List ℕ)) (ahead shown next : List ℕ) (read : Piece) → shown ≡ ahead → IsPieceOf shown read
+    → Keeps old (prepend_known ahead left) → next ≡ drop read.size ahead → (ahead ≡ [] → IsAtEnd left)
+    → HasPiece old (prepend_known next left) (take read.length shown) read
+piece_taken old left ahead shown next read same piece kept is end =
+    let front = take read.size shown in
+    let split : ahead ≡ front ++ next =
+    sym same ∙ sym (take-append-drop read.size shown) ∙ ap (λ l. front ++ l) (ap (drop read.size) same ∙ sym is) in
+    let none : ahead ≡ [] → next ≡ [] = λ e. is ∙ ap (drop read.size) e ∙ drop_of_length-le [] {i = read.size} (omega arith) in
+    let moved = prepend_known-read old left ahead next front (ahead ≡ []) kept split (λ e. (none e, end e)) in record {
+      one = piece.one;
+      consumed = subst (Consumes old (prepend_known next left)) piece.ended moved.0;
+      size_is = sym (length-take-le read.size shown piece.bound) ∙ ap length piece.ended;
+      last = λ is. spent old (prepend_known next left) (moved.1 (sym same ∙ piece.last is));
+    }
+
+-- a piece that no line feed ends uses all that is at hand
+pub used_whole : (ahead shown next : List ℕ) (read : Piece) → shown ≡ ahead → IsPieceOf shown read → next ≡ drop read.size ahead
+    → read.end ≡ None → next ≡ []
+used_whole ahead shown next read same piece is end =
+    let all : read.size ≡ length ahead = piece.whole end ∙ ap length same in
+    is ∙ drop_of_length-le ahead {i = read.size} (omega (arith, all))
+
+-- where nothing is ahead, no more is than may be
+pub none_ahead : {A : Type 0} (r : Result A InputError) (ahead : List ℕ) → ahead ≡ []
+    → IfErr r (λ error. length ahead ≤ most_ahead (input_complaint error))
+none_ahead (Ok x) ahead none = tt
+none_ahead (Err error) ahead none = let empty = ap length none in omega (arith, empty)
+
+-- what holds anyway holds of a piece
+pub on_piece : {E P : Type 0} (r : Result Piece E) → P → IfOk r (λ read. read.end ≡ None → P)
+on_piece (Ok read) holds = λ end. holds
+on_piece (Err e) holds = tt

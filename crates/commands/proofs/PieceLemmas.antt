@@ -24,6 +24,7 @@ ended_piece bytes n first =
       one = none_before bytes n (omega (arith, high)) first.0.before;
       ended = take_more bytes n 0 high ∙ ap (λ x. take n bytes ++ x ∷ []) (eqb-true (get_or bytes n 0) 10 first.1);
       last = λ is. cc;
+      whole = λ is. cc;
     }
 
 -- without one all bytes are a piece
@@ -34,9 +35,10 @@ whole_piece bytes nowhere = record {
   one = none_before bytes (length bytes) (omega arith) nowhere;
   ended = sym (append-nil (take (length bytes) bytes));
   last = λ is. cc;
+  whole = λ is. refl;
 }
 
 -- no bytes at all are the end of the input
 pub empty_piece : (bytes : List ℕ) → (length bytes == 0) ≡ true → IsPieceOf bytes (record { length = 0; size = 0; end = Some Input })
-empty_piece [] none = record { within = omega arith; bound = omega arith; one = All-nil (λ byte. byte ≢ 10); ended = refl; last = λ is. refl }
+empty_piece [] none = record { within = omega arith; bound = omega arith; one = All-nil (λ byte. byte ≢ 10); ended = refl; last = λ is. refl; whole = λ is. cc }
 empty_piece (x ∷ xs) none = let bad : length (x ∷ xs) ≡ 0 = eqb-true (length (x ∷ xs)) 0 none in absurd (omega (arith, bad))

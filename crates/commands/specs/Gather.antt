@@ -1,10 +1,15 @@
 -- What `census gather` is asked for.
-use Rattle.std.specs.Prelude.{◌≡◌, ℕ, Bool, true, false, List, Option, is_ok}
+use Rattle.std.specs.Prelude.{◌≡◌, ◌≤◌, ◌⊎◌, ◌^◌, ℕ, Bool, true, false, List, [], Option, Ok, Err, is_ok, length}
+use Rattle.std.specs.Io.KnownBytes.{prepend_known}
 use Rattle.haul_core.specs.Books.{Terms}
+use Rattle.pattern_commands.specs.declared.complaint.Complaint.TheVariants.{Memory, ReadFailed, TooLong}
 use Rattle.pattern_commands.specs.Behaviours.{Behaviour}
 use Rattle.requests.specs.declared.plan.Plan.{Plan}
+use Rattle.pattern_commands.specs.Reached.{Outcome}
+use Rattle.pattern_commands.specs.Streams.{Stream, Has}
 use Rattle.commands.specs.Gathering.{Hauls, gather_opens, gather_right, gathered_right}
-use Rattle.commands.specs.LinesSoFar.{HasBegun}
+use Rattle.commands.specs.Lines.{IsSpent}
+use Rattle.commands.specs.LinesSoFar.{AreAllEnded, HasBegun, HasBegunUpTo}
 use Rattle.commands.specs.SoupSets.{job_named}
 
 -- the input is looked at, if the job is one
@@ -41,3 +46,23 @@ haul_behaviour terms = record {
   begins = BeginsHaul (IsSame terms);
   may_tell = Unit {0};
 }
+
+-- Gathering gave up at a place of its input, with a haul open: all lines before that place, but perhaps the last, have come to the haul,
+-- and standard error has the remarks on them. What the reader has given beyond it is ahead, at most so many bytes.
+pub record GivesUpAt (opens : Hauls) (most : ℕ) (reader left : Option (List ℕ)) (errors : Stream) : Type 0 where
+  pub terms : Terms
+  pub opened : opens terms
+  pub ahead : List ℕ
+  pub few : length ahead ≤ most
+  pub begun : HasBegunUpTo terms reader (prepend_known ahead left) errors.before errors.after
+
+-- How far the input was read: to its end if all lines were gathered. After a failed read nothing is ahead, and all lines have come that
+-- a line feed ends. If memory ran out before a haul was opened, nothing was read.
+abbrev pub HasReadUpTo : {R : Type 0} → Hauls → (remaining : R → Option (List ℕ)) → (old new : R) → Stream → Outcome → Type 0
+HasReadUpTo opens remaining old new errors (Ok missing) = IsSpent (remaining old) (remaining new)
+HasReadUpTo opens remaining old new errors (Err (Memory error)) =
+    ((new ≡ old) × Has errors []) ⊎ GivesUpAt opens (2 ^ 16) (remaining old) (remaining new) errors
+HasReadUpTo opens remaining old new errors (Err (ReadFailed error)) =
+    (place : GivesUpAt opens 0 (remaining old) (remaining new) errors) × AreAllEnded place.begun.read place.begun.lines
+HasReadUpTo opens remaining old new errors (Err TooLong) = GivesUpAt opens (2 ^ 16) (remaining old) (remaining new) errors
+HasReadUpTo opens remaining old new errors (Err _) = Unit {0}

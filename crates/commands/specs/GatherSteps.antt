@@ -1,6 +1,6 @@
 -- How report lines are gathered, a line at a time.
 use Rattle.std.specs.Prelude.{◌≡◌, ◌<◌, ◌≤◌, ◌^◌, ℕ, true, false, IfSome, List, Option, length}
-use Rattle.std.specs.Io.KnownBytes.{Consumes}
+use Rattle.std.specs.Io.KnownBytes.{Consumes, prepend_known}
 use Rattle.plane_core.specs.Out.{Output}
 use Rattle.haul_core.specs.Books.{Held, Terms}
 use Rattle.pattern_commands.specs.declared.complaint.Complaint.{Complaint}
@@ -10,7 +10,7 @@ use Rattle.pattern_commands.specs.Streams.{Stream, Has}
 use Rattle.commands.specs.declared.lines.LineEnd.{LineEnd}
 use Rattle.commands.specs.declared.lines.LineEnd.TheVariants.{Feed, Input}
 use Rattle.commands.specs.Lines.{input_lines}
-use Rattle.commands.specs.LinesSoFar.{AreEnded, HasBegunUpTo, HasCome}
+use Rattle.commands.specs.LinesSoFar.{AreAllEnded, AreEnded, HasBegunUpTo, HasCome, most_ahead}
 
 -- How far gathering is: the input at its start and what is left of it, standard error from the start on, and how many
 -- lines and bytes were read.
@@ -48,10 +48,13 @@ abbrev pub HasGatheredTo : Passage → Held → LineEnd → Type 0
 HasGatheredTo passage held Feed = HasGatheredLines passage held
 HasGatheredTo passage held Input = HasGatheredAll passage.reader passage.left passage.errors passage.size held
 
--- all lines of an input that isn't too long have come
-abbrev pub HasGatheredShort : Option (List ℕ) → Stream → Held → Type 0
-HasGatheredShort reader errors held =
-    (size : ℕ) × (size ≤ 2 ^ 32) × (left : Option (List ℕ)) × HasGatheredAll reader left errors size held
+-- all lines of an input that isn't too long have come; what is ahead was read and not used
+pub record HasGatheredShort (reader left : Option (List ℕ)) (errors : Stream) (held : Held) : Type 0 where
+  pub size : ℕ
+  pub short : size ≤ 2 ^ 32
+  pub ahead : List ℕ
+  pub few : length ahead ≤ 2 ^ 16
+  pub all : HasGatheredAll reader (prepend_known ahead left) errors size held
 
 -- the input has over 2^32 bytes, if they are known
 abbrev pub IsTooLong : Option (List ℕ) → Type 0
@@ -62,25 +65,28 @@ abbrev pub EndsLines : Terms → (reader left : Option (List ℕ)) → Stream �
 EndsLines terms reader left errors (Memory error) =
     HasBegunUpTo terms reader left errors.before errors.after × (errors.failed ≡ false)
 EndsLines terms reader left errors (ReadFailed error) =
-    HasBegunUpTo terms reader left errors.before errors.after × (errors.failed ≡ false)
+    (begun : HasBegunUpTo terms reader left errors.before errors.after) × (errors.failed ≡ false) × AreAllEnded begun.read begun.lines
 EndsLines terms reader left errors TooLong =
     HasBegunUpTo terms reader left errors.before errors.after × (errors.failed ≡ false) × IsTooLong reader
 EndsLines terms reader left errors (WriteFailed error) = errors.failed ≡ true
 EndsLines terms reader left errors (Refused refusal) = ⊥
 
--- the same, whatever is left
-abbrev pub EndsLinesSomewhere : Terms → Option (List ℕ) → Stream → Complaint → Type 0
-EndsLinesSomewhere terms reader errors complaint = (left : Option (List ℕ)) × EndsLines terms reader left errors complaint
+-- the same of a reader that has given some bytes more
+pub record EndsLinesAt (terms : Terms) (reader left : Option (List ℕ)) (errors : Stream) (complaint : Complaint) : Type 0 where
+  pub ahead : List ℕ
+  pub few : length ahead ≤ most_ahead complaint
+  pub ends : EndsLines terms reader (prepend_known ahead left) errors complaint
 
 -- a complaint over one line that was read: nothing was written, or a write failed
 abbrev pub EndsLine : {V : Type 0} → Output V → Output V → Complaint → Type 0
 EndsLine old new (Memory error) = new ≡ old
-EndsLine old new (ReadFailed error) = new ≡ old
+EndsLine old new (ReadFailed error) = ⊥
 EndsLine old new TooLong = ⊥
 EndsLine old new (WriteFailed error) = new.failed ≡ true
 EndsLine old new (Refused refusal) = ⊥
 
--- a complaint over the next line: the same, or what was left of the input is too long
+-- a complaint over the next line: the same, or a read failed, or what was left of the input is too long
 abbrev pub EndsNext : {V : Type 0} → Option (List ℕ) → Output V → Output V → Complaint → Type 0
+EndsNext left old new (ReadFailed error) = new ≡ old
 EndsNext left old new TooLong = (new ≡ old) × IsTooLong left
 EndsNext left old new complaint = EndsLine old new complaint

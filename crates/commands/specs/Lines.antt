@@ -1,6 +1,8 @@
 -- The lines of an input, and how one is read.
 use Rattle.std.specs.Prelude.{◌≡◌, ◌≢◌, ◌≤◌, ◌==◌, ◌+◌, ◌^◌, ◌++◌, ℕ, List, [], ◌∷◌, All, IfSome, Option, None, Some, length, take, if◌then◌else◌}
 use Rattle.std.specs.Io.KnownBytes.{Consumes, IsAtEnd}
+use Rattle.pattern_commands.specs.declared.complaint.Complaint.{Complaint}
+use Rattle.pattern_commands.specs.declared.complaint.Complaint.TheVariants.{ReadFailed}
 use Rattle.commands.specs.declared.lines.LineEnd.{LineEnd}
 use Rattle.commands.specs.declared.lines.LineEnd.TheVariants.{Feed, Input}
 use Rattle.commands.specs.declared.lines.LineRead.{LineRead}
@@ -55,6 +57,7 @@ pub record IsPieceOf (bytes : List ℕ) (read : Piece) : Type 0 where
   pub one : IsOneLine (take read.length bytes)
   pub ended : take read.size bytes ≡ take read.length bytes ++ piece_end read.end
   pub last : read.end ≡ Some Input → bytes ≡ []
+  pub whole : read.end ≡ None → read.size ≡ length bytes
 
 -- this piece of a line was read of an input, with the line feed that ends the line, if it ends there
 pub record HasPiece (old new : Option (List ℕ)) (piece : List ℕ) (read : Piece) : Type 0 where
@@ -63,9 +66,15 @@ pub record HasPiece (old new : Option (List ℕ)) (piece : List ℕ) (read : Pie
   pub size_is : read.size ≡ length (piece ++ piece_end read.end)
   pub last : read.end ≡ Some Input → IsSpent old new
 
--- no more than one line was read of an input, or a part of it
-pub record HasReadPart (old new : Option (List ℕ)) : Type 0 where
+-- a read that failed ends no line
+abbrev pub MayEnd : Complaint → Option LineEnd → Type 0
+MayEnd (ReadFailed error) end = end ≡ None
+MayEnd _ end = Unit {0}
+
+-- no more than one line was read of an input before a complaint, or a part of it
+pub record HasReadPart (old new : Option (List ℕ)) (complaint : Complaint) : Type 0 where
   pub line : List ℕ
   pub end : Option LineEnd
   pub one : IsOneLine line
   pub consumed : Consumes old new (line ++ piece_end end)
+  pub cut : MayEnd complaint end

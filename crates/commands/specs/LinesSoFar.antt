@@ -1,8 +1,10 @@
 -- The lines of an input that have come to a haul so far.
-use Rattle.std.specs.Prelude.{◌≡◌, ◌≤◌, ◌++◌, ℕ, List, All, IfSome, Option, flat_map, length}
+use Rattle.std.specs.Prelude.{◌≡◌, ◌≤◌, ◌^◌, ◌++◌, ℕ, List, All, IfSome, Option, flat_map, length}
 use Rattle.std.specs.Io.KnownBytes.{Appends, Consumes}
 use Rattle.haul_core.specs.declared.book.arrival.Arrival.{Arrival}
 use Rattle.haul_core.specs.Books.{Held, StandsFor, Terms}
+use Rattle.pattern_commands.specs.declared.complaint.Complaint.{Complaint}
+use Rattle.pattern_commands.specs.declared.complaint.Complaint.TheVariants.{ReadFailed}
 use Rattle.pattern_commands.specs.Streams.{Stream, Has}
 use Rattle.commands.specs.declared.lines.LineEnd.TheVariants.{Feed}
 use Rattle.commands.specs.GatheredLines.{Gathered}
@@ -12,6 +14,14 @@ use Rattle.commands.specs.Lines.{IsOneLine, input_lines, with_end}
 pub record AreEnded (bytes : List ℕ) (lines : List (List ℕ)) : Type 0 where
   pub spelled : bytes ≡ flat_map (with_end Feed) lines
   pub whole : All IsOneLine lines
+
+-- these are all lines of the bytes that a line feed ends
+pub record AreAllEnded (bytes : List ℕ) (lines : List (List ℕ)) : Type 0 where
+  pub front : List ℕ
+  pub part : List ℕ
+  pub split : bytes ≡ front ++ part
+  pub ended : AreEnded front lines
+  pub one : IsOneLine part
 
 -- the lines have come to the haul, with these remarks on them
 pub record HasCome (lines : List (List ℕ)) (held : Held) (remarks : List ℕ) : Type 0 where
@@ -43,3 +53,8 @@ pub record HasBegunUpTo (terms : Terms) (reader left before after : Option (List
 -- the same, wherever it ended
 abbrev pub HasBegun : Terms → (reader before after : Option (List ℕ)) → Type 0
 HasBegun terms reader before after = (left : Option (List ℕ)) × HasBegunUpTo terms reader left before after
+
+-- how many bytes at most a reader has given beyond the place where a complaint ends the lines: none after a failed read
+abbrev pub most_ahead : Complaint → ℕ
+most_ahead (ReadFailed error) = 0
+most_ahead _ = 2 ^ 16

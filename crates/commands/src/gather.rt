@@ -8,6 +8,7 @@
 
 ghost use Rattle.std.specs.Prelude.{◌≡◌, ◌≢◌, ◌<◌, ◌≤◌, Ok, Result, ◌+◌, ◌^◌, ◌++◌, ◌∷◌, [], ℕ, List, Option, Some};
 ghost use Rattle.std.specs.Prelude.{IfErr, IfOk, OnErr, OnOk, false, length, take};
+ghost use Rattle.std.specs.Io.KnownBytes.{prepend_known};
 ghost use Rattle.memory.specs.Evidence.{out_of_memory};
 ghost use Rattle.haul_core.specs.Reports.{IsWorker, Reported};
 ghost use Rattle.plane_core.specs.Out.{Output};
@@ -15,18 +16,20 @@ ghost use Rattle.pattern_commands.specs.Answers.{IsInput};
 ghost use Rattle.pattern_commands.specs.Complaints.{status_of};
 ghost use Rattle.pattern_commands.specs.Ends.{Ends};
 ghost use Rattle.pattern_commands.specs.Reached.{Reaches};
-ghost use Rattle.commands.specs.Gather.{gather_reads, gather_behaviour, haul_behaviour};
+ghost use Rattle.commands.specs.Gather.{HasReadUpTo, IsSame, gather_reads, gather_behaviour, haul_behaviour};
+ghost use Rattle.commands.specs.Gathering.{gather_opens};
 ghost use Rattle.pattern_commands.specs.Profiles.{AreInRange};
 ghost use Rattle.pattern_commands.specs.Streams.{stream};
 ghost use Rattle.haul_core.specs.Books.{StandsFor};
 ghost use Rattle.haul_core.specs.declared.book.arrival.Arrival.{Arrival};
-ghost use Rattle.commands.specs.GatherSteps.{EndsLine, EndsLines, EndsLinesSomewhere, EndsNext};
+ghost use Rattle.commands.specs.GatherSteps.{EndsLine, EndsLinesAt, EndsNext};
 ghost use Rattle.commands.specs.GatherSteps.{HasGatheredLines, HasGatheredShort, HasGatheredTo};
 ghost use Rattle.commands.specs.Lines.{HasReadPart};
-ghost use Rattle.commands.specs.LinesSoFar.{HasCome, HasComeBy};
+ghost use Rattle.commands.specs.LinesSoFar.{HasCome, HasComeBy, most_ahead};
 ghost use Rattle.commands.specs.GatheredLines.{IsChecked, IsFrontFault, IsLookedAt, ComesOf, offer_fault};
 ghost use Rattle.haul_core.specs.declared.book.refused.OfferError.TheVariants as offer_error;
 
+use crate::ahead::Ahead;
 use crate::finish::finish;
 use crate::line_fault::LineFault;
 use crate::lines::{GATHER_LIMIT, LINE_LIMIT, LineEnd, LineRead, read_line};
@@ -44,7 +47,7 @@ use pattern_commands::status::Status;
 use plane_core::output::Out;
 use requests::plan::Plan;
 use std::alloc::Global;
-use std::io::{BufRead, BufReader, Read, Write};
+use std::io::{Read, Write};
 use survey_core::finding::findings_are_determined;
 use survey_core::job::Job;
 use survey_core::memo::Memo;
@@ -65,6 +68,9 @@ use survey_core::memo::Memo;
 /// is `Refused` as of `do_take`; `Memory`; or `Failed` if the input can't be read or is over 2^32 bytes long, or if the
 /// output, or a line on `errors`, can't be written. With `Refused` and `Memory`, and after a failed read, nothing
 /// was written to the output. A failure to write the last line on `errors` is not reported.
+///
+/// Where memory, a read or the limit ends it, all lines before a place of the input were taken, but perhaps the last.
+/// At most 2^16 bytes are read beyond that place, and after a failed read none.
 pub fn do_gather<R: Read, W: Write, E: Write>(
     alloc: Global,
     plan: &Plan<'_>,
@@ -78,8 +84,9 @@ pub fn do_gather<R: Read, W: Write, E: Write>(
     requires output { output.old.failed ≡ false }
     requires errors { errors.old.failed ≡ false }
     ensures ends { (bytes : List ℕ) × IsInput (R.remaining input.old) bytes
-        × Ends (gather_behaviour plan.now workers) (R.remaining input.old) bytes result
-        (stream W.contents output.old output.new) (stream E.contents errors.old errors.new) }
+        × (end : Ends (gather_behaviour plan.now workers) (R.remaining input.old) bytes result
+        (stream W.contents output.old output.new) (stream E.contents errors.old errors.new))
+        × HasReadUpTo (gather_opens plan.now workers) R.remaining input.old input.new end.so_far end.outcome }
     ensures unread { gather_reads plan.now ≡ false → input.new ≡ input.old }
     ensures untouched { result ≡ Status.Refused → (input.new ≡ input.old) × (output.new ≡ output.old) }
     ensures no_memory { result ≡ Status.Memory → output.new ≡ output.old }
@@ -104,6 +111,8 @@ fn gather<R: Read, W: Write, E: Write>(
     ensures gathers { (bytes : List ℕ) × IsInput (R.remaining input.old) bytes
         × Reaches (gather_behaviour plan.now workers) (R.remaining input.old) bytes result
         (stream W.contents output.old output.new) (stream E.contents errors.old errors.new) }
+    ensures place { HasReadUpTo (gather_opens plan.now workers) R.remaining input.old input.new
+        (stream E.contents errors.old errors.new) result }
     ensures fine { OnOk result (errors.new.failed ≡ false) }
     ensures unread { gather_reads plan.now ≡ false → input.new ≡ input.old }
     ensures untouched { IfErr result (λ complaint. status_of complaint ≡ Status.Refused
@@ -128,16 +137,19 @@ fn gather_into<R: Read, W: Write, E: Write>(
     ensures gathers { (bytes : List ℕ) × IsInput (R.remaining input.old) bytes
         × Reaches (haul_behaviour haul.old.terms) (R.remaining input.old) bytes result
         (stream W.contents output.old output.new) (stream E.contents errors.old errors.new) }
+    ensures place { HasReadUpTo (IsSame haul.old.terms) R.remaining input.old input.new
+        (stream E.contents errors.old errors.new) result }
     ensures fine { OnOk result (errors.new.failed ≡ false) }
     ensures accepted { IfErr result (λ complaint. status_of complaint ≢ Status.Refused) }
     ensures no_memory { IfErr result (λ complaint. complaint ≡ Complaint.Memory out_of_memory → output.new ≡ output.old) }
 {
-    gather_input(alloc, input, haul, errors)?;
+    gather_lines(alloc, input, haul, errors)?;
     finish(haul, output)
 }
 
-/// Reads the input through a buffer, and gathers its lines.
-fn gather_input<R: Read, E: Write>(
+/// Reads the input line by line, checks each line and offers its report to a haul to which nothing has come. The fault
+/// of a line is written to `errors`.
+fn gather_lines<R: Read, E: Write>(
     alloc: Global,
     input: &mut R,
     haul: &mut Haul,
@@ -146,42 +158,20 @@ fn gather_input<R: Read, E: Write>(
     requires haul { StandsFor [] haul.old }
     requires errors { errors.old.failed ≡ false }
     ensures terms { haul.new.terms ≡ haul.old.terms }
-    ensures gathered { OnOk result (HasGatheredShort (R.remaining input.old)
+    ensures gathered { OnOk result (HasGatheredShort (R.remaining input.old) (R.remaining input.new)
         (stream E.contents errors.old errors.new) haul.new) }
-    ensures ended { IfErr result (EndsLinesSomewhere haul.old.terms (R.remaining input.old)
+    ensures ended { IfErr result (EndsLinesAt haul.old.terms (R.remaining input.old) (R.remaining input.new)
         (stream E.contents errors.old errors.new)) }
     ensures fine { OnOk result (errors.new.failed ≡ false) }
 {
-    match BufReader::with_capacity(alloc, READ_LENGTH, input) {
-        Ok(mut buffered) => gather_lines(alloc, &mut buffered, haul, errors),
-        Err(error) => Err(Complaint::Memory(OutOfMemory::of_stream(&error))),
-    }
-}
-
-/// How many bytes a read asks for.
-const READ_LENGTH: usize = 65_536;
-
-/// Reads the input line by line, checks each line and offers its report. The fault of a line is written to `errors`.
-fn gather_lines<R: BufRead, E: Write>(
-    alloc: Global,
-    input: &mut R,
-    haul: &mut Haul,
-    errors: &mut Out<E>,
-) -> Result<(), Complaint>
-    requires haul { StandsFor [] haul.old }
-    requires errors { errors.old.failed ≡ false }
-    ensures terms { haul.new.terms ≡ haul.old.terms }
-    ensures gathered { OnOk result (HasGatheredShort (R.remaining input.old)
-        (stream E.contents errors.old errors.new) haul.new) }
-    ensures ended { IfErr result (EndsLines haul.old.terms (R.remaining input.old) (R.remaining input.new)
-        (stream E.contents errors.old errors.new)) }
-    ensures fine { OnOk result (errors.new.failed ≡ false) }
-{
+    let mut ahead = Ahead::new(alloc)?;
     let mut line = Vec::new(alloc);
     let mut memo = Memo::new(alloc);
     let mut size = 0u64;
     for before in 0..GATHER_LIMIT + 1 {
-        let read = next_line(alloc, input, &mut line, before, &mut memo, haul, errors)?;
+        let read = next_line(
+            alloc, input, &mut ahead, &mut line, before, &mut memo, haul, errors,
+        )?;
         size += read.size;
         if size > GATHER_LIMIT {
             return Err(Complaint::TooLong);
@@ -195,9 +185,10 @@ fn gather_lines<R: BufRead, E: Write>(
 
 /// Reads the line after so many others, checks it, offers its report and tells what is wrong with it. Says what was
 /// read.
-fn next_line<R: BufRead, E: Write>(
+fn next_line<R: Read, E: Write>(
     alloc: Global,
     input: &mut R,
+    ahead: &mut Ahead,
     line: &mut Vec<u8>,
     before: u64,
     memo: &mut Memo,
@@ -211,23 +202,26 @@ fn next_line<R: BufRead, E: Write>(
     ensures going { (reader : Option (List ℕ)) (first : Output E) (size : ℕ)
         → HasGatheredLines (record {
           reader = reader;
-          left = R.remaining input.old;
+          left = prepend_known ahead.old (R.remaining input.old);
           errors = stream E.contents first errors.old;
           count = before;
           size = size;
         }) haul.old
         → IfOk result (λ read. HasGatheredTo (record {
           reader = reader;
-          left = R.remaining input.new;
+          left = prepend_known ahead.new (R.remaining input.new);
           errors = stream E.contents first errors.new;
           count = before + 1;
           size = size + read.size;
         }) haul.new read.end) }
     ensures fine { OnOk result (errors.new.failed ≡ false) }
-    ensures ended { IfErr result (EndsNext (R.remaining input.old) errors.old errors.new) }
-    ensures part { OnErr result (HasReadPart (R.remaining input.old) (R.remaining input.new)) }
+    ensures ended { IfErr result (EndsNext (prepend_known ahead.old (R.remaining input.old)) errors.old errors.new) }
+    ensures part { IfErr result (HasReadPart (prepend_known ahead.old (R.remaining input.old))
+        (prepend_known ahead.new (R.remaining input.new))) }
+    ensures few { length ahead.new ≤ 2 ^ 16 }
+    ensures most { IfErr result (λ complaint. length ahead.new ≤ most_ahead complaint) }
 {
-    let read = read_line(input, line)?;
+    let read = read_line(input, ahead, line)?;
     if read.size > 0 {
         take_line(alloc, line.as_slice(), before, memo, haul, errors)?;
     }

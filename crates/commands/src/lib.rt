@@ -4,6 +4,8 @@
 //! and lends the process's streams. How a command ends is said in `pattern_commands`, which has the other commands.
 #![tactic(auto)]
 
+/// What was read of an input, and isn't used yet.
+mod ahead;
 /// How a haul is finished.
 mod finish;
 /// `gather`: the haul of report lines.

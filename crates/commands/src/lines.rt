@@ -9,17 +9,21 @@
 //! No more of a line is kept than its first 2^24 bytes and the byte after them, so an input without a line feed takes
 //! no more memory than that.
 
-ghost use Rattle.std.specs.Prelude.{◌≡◌, ◌≢◌, ◌≤◌, ◌+◌, ◌^◌, ◌++◌, ℕ, Err, List, IfOk, None, OnErr, length, take};
-ghost use Rattle.std.specs.Io.KnownBytes.{Keeps};
+ghost use Rattle.std.specs.Prelude.{◌≡◌, ◌≢◌, ◌≤◌, ◌+◌, ◌^◌, ◌++◌, ℕ, [], Err, List, None};
+ghost use Rattle.std.specs.Prelude.{IfErr, IfOk, OnErr, length, take};
+ghost use Rattle.std.specs.Io.KnownBytes.{Keeps, prepend_known};
+ghost use Rattle.pattern_commands.specs.Inputs.{input_complaint};
 ghost use Rattle.pattern_commands.specs.declared.input.InputError.TheVariants.{TooLong};
 ghost use Rattle.commands.specs.GatherSteps.{IsTooLong};
+ghost use Rattle.commands.specs.LinesSoFar.{most_ahead};
 ghost use Rattle.commands.specs.Lines.{HasPiece, HasReadLine, HasReadPart, IsPieceOf};
 
+use crate::ahead::Ahead;
 use memchr::memchr;
 use memory::OutOfMemory;
 use pattern_commands::input::InputError;
 use pattern_commands::read_error::ReadError;
-use std::io::{BufRead, Error, ErrorKind};
+use std::io::{Error, ErrorKind, Read};
 
 /// How many bytes of a line are looked at: 2^24, far more than a report line of a census has.
 pub(crate) const LINE_LIMIT: usize = 16_777_216;
@@ -45,7 +49,7 @@ pub(crate) struct LineRead {
     pub(crate) end: LineEnd,
 }
 
-/// What a reader had at hand of a line.
+/// What was at hand of a line.
 #[derive(Clone, Copy)]
 struct Piece {
     /// How many bytes of the line.
@@ -63,19 +67,24 @@ struct Piece {
 /// # Errors
 ///
 /// `Unreadable` if a read fails, `TooLong` if the line has over 2^32 bytes, and `Memory`.
-pub(crate) fn read_line<R: BufRead>(
+pub(crate) fn read_line<R: Read>(
     input: &mut R,
+    ahead: &mut Ahead,
     line: &mut Vec<u8>,
 ) -> Result<LineRead, InputError>
-    ensures read { IfOk result (HasReadLine (R.remaining input.old) (R.remaining input.new) line.new.items) }
-    ensures long { result ≡ Err TooLong → IsTooLong (R.remaining input.old) }
-    ensures part { OnErr result (HasReadPart (R.remaining input.old) (R.remaining input.new)) }
+    ensures read { IfOk result (HasReadLine (prepend_known ahead.old (R.remaining input.old))
+        (prepend_known ahead.new (R.remaining input.new)) line.new.items) }
+    ensures long { result ≡ Err TooLong → IsTooLong (prepend_known ahead.old (R.remaining input.old)) }
+    ensures part { IfErr result (λ error. HasReadPart (prepend_known ahead.old (R.remaining input.old))
+        (prepend_known ahead.new (R.remaining input.new)) (input_complaint error)) }
+    ensures few { length ahead.new ≤ 2 ^ 16 }
+    ensures most { IfErr result (λ error. length ahead.new ≤ most_ahead (input_complaint error)) }
 {
     line.clear();
     let mut size = 0u64;
     let mut reads = 0u64;
     for before in 0..u64::MAX {
-        let piece = read_piece(input, line)?;
+        let piece = read_piece(input, ahead, line)?;
         size = size.saturating_add(piece.size as u64);
         if size > GATHER_LIMIT {
             return Err(InputError::TooLong);
@@ -88,22 +97,34 @@ pub(crate) fn read_line<R: BufRead>(
     Err(InputError::Unreadable(ReadError::after(reads)))
 }
 
-/// Puts what the reader has at hand of a line at the end of `line`, of which no more than 2^24 + 1 bytes are kept.
-fn read_piece<R: BufRead>(input: &mut R, line: &mut Vec<u8>) -> Result<Piece, InputError>
+/// Puts what is at hand of a line at the end of `line`, of which no more than 2^24 + 1 bytes are kept. Where nothing is
+/// at hand it reads once.
+fn read_piece<R: Read>(
+    input: &mut R,
+    ahead: &mut Ahead,
+    line: &mut Vec<u8>,
+) -> Result<Piece, InputError>
     requires { length line.old.items ≤ 2 ^ 24 + 1 }
     ensures short { result ≢ Err TooLong }
-    ensures kept { OnErr result (Keeps (R.remaining input.old) (R.remaining input.new)) }
-    ensures read { IfOk result (λ read. (piece : List ℕ) × (line.new.items ≡ take (2 ^ 24 + 1) (line.old.items ++ piece))
-        × HasPiece (R.remaining input.old) (R.remaining input.new) piece read) }
+    ensures kept { OnErr result (Keeps (prepend_known ahead.old (R.remaining input.old))
+        (prepend_known ahead.new (R.remaining input.new))) }
+    ensures read { IfOk result (λ read. (piece : List ℕ)
+        × (line.new.items ≡ take (2 ^ 24 + 1) (line.old.items ++ piece))
+        × HasPiece (prepend_known ahead.old (R.remaining input.old)) (prepend_known ahead.new (R.remaining input.new))
+        piece read) }
+    ensures used { IfOk result (λ read. read.end ≡ None → ahead.new ≡ []) }
+    ensures few { length ahead.new ≤ 2 ^ 16 }
+    ensures most { IfErr result (λ error. length ahead.new ≤ most_ahead (input_complaint error)) }
 {
-    let available = match input.fill_buf() {
-        Ok(available) => available,
+    match ahead.fill(input) {
+        Ok(()) => {}
         Err(error) => return after_error(&error),
-    };
-    let piece = first_piece(available);
-    line.extend_from_slice(&available[..piece.length])?;
+    }
+    let unread = ahead.unread();
+    let piece = first_piece(unread);
+    line.extend_from_slice(&unread[..piece.length])?;
     line.truncate(LINE_LIMIT + 1);
-    input.consume(piece.size);
+    ahead.consume(piece.size);
     Ok(piece)
 }
 

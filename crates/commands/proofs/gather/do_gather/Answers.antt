@@ -17,6 +17,7 @@ returns-clause-ends g c =
         last = c.tell_end.ensures.last;
         status_is = c.tell_end.ensures.status;
       },
+      c.gather-outcome.ensures.place,
     )
 
 pub returns-clause-untouched : goal.returns-clause-untouched

@@ -1,7 +1,8 @@
 use Rattle.std.proofs.Common.{◌≡◌, refl}
 use Rattle.std.proofs.KnownBytes.{Appends-nil}
 use Rattle.pattern_commands.proofs.AnswerLemmas.{err_of, some_input}
-use Rattle.commands.proofs.EndLemmas.{gathers_opening, gathers_over, is_over, reads_named}
+use Rattle.pattern_commands.specs.Streams.{stream}
+use Rattle.commands.proofs.EndLemmas.{gathers_opening, gathers_over, is_over, reads_named, stops_over, unread_opening}
 use Rattle.commands.proofs.StillLemmas.{never_refused}
 use Rattle.commands.proofs.gather.gather.Goals as goal
 
@@ -26,6 +27,18 @@ returns-clause-gathers g c =
       remarks.1,
       gathers_over c.args.plan.now c.args.workers remarks.0 _ is.job _ _ _ _ is.named (is_over _ _ _ _ is.opened) remarks.2,
     )
+
+pub returns-in_err-haul-clause-place : goal.returns-in_err-haul-clause-place
+returns-in_err-haul-clause-place g c =
+    rw (err_of _ _ c.from_residual.ensures.1)
+    (unread_opening c.args.plan.now c.args.workers g.R.Read.remaining c.args.input.now c.in_err-haul.field-0.0
+    (stream g.E.Write.contents c.args.errors.now c.args.errors.now) c.in_err-haul.ensures.stops (Appends-nil _))
+
+pub returns-clause-place : goal.returns-clause-place
+returns-clause-place g c =
+    let is = c.in_ok-haul.ensures.opened in
+    stops_over c.args.plan.now c.args.workers is.job _ g.R.Read.remaining c.args.input.now c.gather_into.new.input
+    (stream g.E.Write.contents c.args.errors.now c.gather_into.new.errors) c.gather_into.result is.named (is_over _ _ _ _ is.opened) c.gather_into.ensures.place
 
 pub returns-clause-unread : goal.returns-clause-unread
 returns-clause-unread g c unread =

@@ -1,7 +1,7 @@
 use Rattle.std.proofs.Common.{◌∙◌, Err, ap, arith}
 use Rattle.pattern_commands.proofs.AnswerLemmas.{err_of}
 use Rattle.pattern_commands.specs.Streams.{stream}
-use Rattle.commands.proofs.GatherLemmas.{goes_on, next_read, next_unread, no_more}
+use Rattle.commands.proofs.GatherLemmas.{goes_on, line_may_end, line_most, next_read, next_unread, no_more}
 use Rattle.commands.proofs.LineLemmas.{part_of_line}
 use Rattle.commands.proofs.gather.next_line.Goals as goal
 
@@ -36,4 +36,13 @@ returns-in_err-read-clause-part g c = rw (err_of _ _ c.from_residual.ensures.1) 
 
 pub returns-in_err-take_line-clause-part : goal.returns-in_err-take_line-clause-part
 returns-in_err-take_line-clause-part g c =
-    rw (err_of _ _ c.from_residual-in_err-take_line.ensures.1) (part_of_line _ _ _ c.in_ok-read.read c.in_ok-read.ensures.read)
+    rw (err_of _ _ c.from_residual-in_err-take_line.ensures.1) (part_of_line _ _ _ c.in_ok-read.read c.in_err-take_line.field-0.0 c.in_ok-read.ensures.read
+    (line_may_end _ _ c.in_err-take_line.field-0.0 _ c.in_err-take_line.ensures.ended))
+
+pub returns-in_err-read-clause-most : goal.returns-in_err-read-clause-most
+returns-in_err-read-clause-most g c = rw (err_of _ _ c.from_residual.ensures.1) c.in_err-read.ensures.most
+
+pub returns-in_err-take_line-clause-most : goal.returns-in_err-take_line-clause-most
+returns-in_err-take_line-clause-most g c =
+    rw (err_of _ _ c.from_residual-in_err-take_line.ensures.1)
+    (line_most _ _ c.in_err-take_line.field-0.0 c.read_line.new.ahead c.in_err-take_line.ensures.ended c.read_line.ensures.few)

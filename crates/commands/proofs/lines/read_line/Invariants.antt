@@ -1,10 +1,15 @@
-use Rattle.std.proofs.Common.{◌≡◌, ◌≤◌, ◌+◌, ◌^◌, List, ℕ, length, take}
-use Rattle.std.specs.Io.KnownBytes.{Consumes}
+use Rattle.std.proofs.Common.{◌≡◌, ◌<◌, ◌≤◌, ◌+◌, ◌^◌, List, [], ℕ, length, take}
+use Rattle.std.specs.Io.KnownBytes.{Consumes, prepend_known}
 use Rattle.commands.specs.Lines.{IsOneLine}
 use Rattle.commands.proofs.lines.read_line.Given as goal
 
--- a front of the line was read, in which is no line feed
+-- a front of the line was read, in which is no line feed, and nothing more is at hand
 abbrev pub invariant-loop-before : goal.invariant-loop-before
-invariant-loop-before g l =
-    (l.reads ≡ l.before) × (l.size ≤ 2 ^ 32) × ((front : List ℕ) × (l.line.items ≡ take (2 ^ 24 + 1) front) × IsOneLine front
-    × Consumes (g.R.Read.remaining l.fn.input) (g.R.Read.remaining l.input) front × (l.size ≡ length front))
+invariant-loop-before g l = record {
+  counted : l.reads ≡ l.before;
+  short : l.size ≤ 2 ^ 32;
+  used : 0 < l.before → l.ahead ≡ [];
+  read : (front : List ℕ) × (l.line.items ≡ take (2 ^ 24 + 1) front) × IsOneLine front
+      × Consumes (prepend_known l.fn.ahead (g.R.Read.remaining l.fn.input)) (prepend_known l.ahead (g.R.Read.remaining l.input)) front
+      × (l.size ≡ length front);
+}

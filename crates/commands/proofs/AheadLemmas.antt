@@ -1,0 +1,13 @@
+-- What was read of an input, and isn't used yet.
+use Rattle.std.proofs.Common.{◌≡◌, ◌≤◌, ◌+◌, ◌-◌, ◌∙◌, ℕ, List, ap, arith, drop, drop-drop, length, length-take, slice_range, sym, take}
+use Rattle.std.proofs.lemmas.List.{drop-take}
+
+-- some of it is used
+pub further : (bytes : List ℕ) (start end amount : ℕ) → amount ≤ length (slice_range bytes start end)
+    → slice_range bytes (start + amount) end ≡ drop amount (slice_range bytes start end)
+further bytes start end amount within =
+    let long = length-take (end - start) (drop start bytes) in
+    let whole : amount + (end - (start + amount)) ≡ end - start = omega (arith, within, long) in
+    ap (take (end - (start + amount))) (sym (drop-drop amount start bytes))
+    ∙ sym (drop-take amount (end - (start + amount)) (drop start bytes))
+    ∙ ap (λ k. drop amount (take k (drop start bytes))) whole
