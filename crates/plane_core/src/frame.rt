@@ -167,12 +167,17 @@ impl Frame {
     {
         let columns = 64 * self.lanes as u32;
         let rows = self.rows as u32;
-        if columns + rows > BOUND || farthest(bounds) > BOUND - columns - rows {
+        let around = columns + rows;
+        if around > BOUND {
+            return false;
+        }
+        if farthest(bounds) > BOUND - around {
             return false;
         }
         let width = apart(bounds.left, bounds.right) + 1;
         let height = apart(bounds.top, bounds.bottom) + 1;
-        width + 2 * ROOM <= columns && height + 2 * ROOM <= rows
+        let is_wide = width + 2 * ROOM <= columns;
+        is_wide && height + 2 * ROOM <= rows
     }
 
     /// The frame of the same size in whose middle the box lies.
