@@ -14,9 +14,8 @@ use Rattle.plane_core.specs.Rules.{Numbers}
 use Rattle.plane_core.specs.Spans.{AreSpans, LieInSpans}
 use Rattle.plane_core.specs.Words.{life}
 
--- a pattern under a rule, on a board that lies here
+-- a pattern under a rule
 pub record Running : Type 0 where
-  pub at : Frame
   pub rule : Numbers
   pub cells : List Cell
 

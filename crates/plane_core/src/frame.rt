@@ -30,11 +30,11 @@ const LARGE_LANES: usize = 65;
 /// to one place of the processor's cache.
 const LARGE_ROWS: usize = 4168;
 
-/// How many lanes a small board has: 16, and one more.
-const SMALL_LANES: usize = 17;
+/// How many lanes a small board has: 8, and one more.
+const SMALL_LANES: usize = 9;
 
 /// And how many rows: as many as columns, and 72 more.
-const SMALL_ROWS: usize = 1096;
+const SMALL_ROWS: usize = 584;
 
 /// Where a board lies: its first column and row, how many lanes of 64 columns it has, and how many rows. The rows are a
 /// multiple of eight.
@@ -132,8 +132,8 @@ impl Frame {
         ensures plane { AreSidesWithin plane_bound (bounds_of result) }
     {
         Frame {
-            left: -512,
-            top: -548,
+            left: -256,
+            top: -292,
             lanes: SMALL_LANES,
             rows: SMALL_ROWS,
         }
@@ -167,12 +167,17 @@ impl Frame {
     {
         let columns = 64 * self.lanes as u32;
         let rows = self.rows as u32;
-        if columns + rows > BOUND || farthest(bounds) > BOUND - columns - rows {
+        let around = columns + rows;
+        if around > BOUND {
+            return false;
+        }
+        if farthest(bounds) > BOUND - around {
             return false;
         }
         let width = apart(bounds.left, bounds.right) + 1;
         let height = apart(bounds.top, bounds.bottom) + 1;
-        width + 2 * ROOM <= columns && height + 2 * ROOM <= rows
+        let is_wide = width + 2 * ROOM <= columns;
+        is_wide && height + 2 * ROOM <= rows
     }
 
     /// The frame of the same size in whose middle the box lies.

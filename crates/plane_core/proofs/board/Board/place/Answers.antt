@@ -13,36 +13,37 @@ pub fill-requires-clause-empty : goal.fill-requires-clause-empty
 fill-requires-clause-empty c =
     let inside = c.self.inside in
     rw c.as_mut_slice.ensures.value
-    (moved_empty inside.at c.args.at inside.words.items (c.requires.lanes ∙ sym (ap (λ (b : Running). b.at.lanes) c.self.view_is))
-    (c.requires.rows ∙ sym (ap (λ (b : Running). b.at.rows) c.self.view_is)) (ap (λ (b : Running). b.cells) c.self.view_is ∙ c.requires.empty))
+    (moved_empty inside.at c.in-Some.at inside.words.items c.in-Some.ensures.lanes c.in-Some.ensures.rows
+    (ap (λ (b : Running). b.cells) c.self.view_is ∙ c.requires.empty))
 
 pub invariant_of-self : goal.invariant_of-self
 invariant_of-self c =
     let inside = c.self.inside in
+    let at = c.in-Some.at in
     let new = c.fill.new.words in
     let spans = c.widen_by_cells.new.spans in
     let kept : length new ≡ length c.as_mut_slice.result.now = c.fill.ensures.long in
     let long : length new ≡ inside.words.len = omega (arith, kept, c.as_mut_slice.ensures.len) in
     let held : length spans ≡ length c.as_mut_slice-in-Ok.result.now = c.widen_by_cells.ensures.long in
     let lanes : length spans ≡ inside.spans.len = omega (arith, held, c.as_mut_slice-in-Ok.ensures.len) in
-    let wide : c.args.at.lanes ≡ inside.at.lanes = c.requires.lanes ∙ sym (ap (λ (b : Running). b.at.lanes) c.self.view_is) in
-    let high : c.args.at.rows ≡ inside.at.rows = c.requires.rows ∙ sym (ap (λ (b : Running). b.at.rows) c.self.view_is) in
-    let all : c.args.at.lanes * c.args.at.rows ≡ inside.at.lanes * inside.at.rows = λ i. wide i * high i in
-    let is = only_cells c.args.at new c.cells-in-Ok.result.now (rw c.cells-in-Ok.ensures.cells c.cells-in-Ok.ensures.pattern.in_order)
-    (rw c.cells-in-Ok.ensures.cells c.requires.on) c.fill.ensures.shown in
+    let wide : at.lanes ≡ inside.at.lanes = c.in-Some.ensures.lanes in
+    let high : at.rows ≡ inside.at.rows = c.in-Some.ensures.rows in
+    let all : at.lanes * at.rows ≡ inside.at.lanes * inside.at.rows = λ i. wide i * high i in
+    let is = only_cells at new c.cells-in-Ok.result.now (rw c.cells-in-Ok.ensures.cells c.cells-in-Ok.ensures.pattern.in_order)
+    (rw c.cells-in-Ok.ensures.cells c.in-Some.ensures.on) c.fill.ensures.shown in
     let same = c.cells-in-Ok.ensures.cells ∙ sym c.cells.ensures.cells in
     let here = c.cells-in-Ok.ensures.cells ∙ sym c.cells-in-Ok-2.ensures.cells in
     rw (with_items_is inside.words new long, with_items_is inside.spans spans lanes) record {
-      board = laid_board c.args.at inside.answers.rule inside.is_life new c.boxes_round.new.boxes.items c.requires.frame c.self.invariant.board.life
+      board = laid_board at inside.answers.rule inside.is_life new c.boxes_round.new.boxes.items c.in-Some.ensures.frame c.self.invariant.board.life
           (kept ∙ ap length c.as_mut_slice.ensures.value ∙ c.self.invariant.board.long ∙ sym all)
           (box_sides c.args.pattern.now c.cells.result.now c.boxes_round.new.boxes.items c.cells.ensures.cells c.cells.ensures.pattern
           c.in-Ok.ensures.sides)
           (subst (λ (S : List Cell). HoldAll c.boxes_round.new.boxes.items S) (sym (is ∙ same)) c.in-Ok.ensures.held);
       spanned = record {
         lanes = held ∙ ap length c.as_mut_slice-in-Ok.ensures.value ∙ c.self.invariant.spanned.lanes ∙ sym wide;
-        live = subst (λ (S : List Cell). LieInSpans c.args.at spans S) (sym (is ∙ here)) c.widen_by_cells.ensures.held;
+        live = subst (λ (S : List Cell). LieInSpans at spans S) (sym (is ∙ here)) c.widen_by_cells.ensures.held;
       };
-      plane = c.requires.plane;
+      plane = c.in-Some.ensures.plane;
     }
 
 pub invariant_of-self-in-Err : goal.invariant_of-self-in-Err
@@ -56,12 +57,12 @@ invariant_of-self-in-Err c =
       plane = c.self.invariant.plane;
     }
 
-pub returns-in-Ok-clause-cells : goal.returns-in-Ok-clause-cells
-returns-in-Ok-clause-cells c =
+pub returns-in-Ok-clause-placed : goal.returns-in-Ok-clause-placed
+returns-in-Ok-clause-placed c is_placed =
     let inside = c.self.inside in
     let new = c.fill.new.words in
     let kept : length new ≡ length c.as_mut_slice.result.now = c.fill.ensures.long in
     let long : length new ≡ inside.words.len = omega (arith, kept, c.as_mut_slice.ensures.len) in
-    let is = only_cells c.args.at new c.cells-in-Ok.result.now (rw c.cells-in-Ok.ensures.cells c.cells-in-Ok.ensures.pattern.in_order)
-    (rw c.cells-in-Ok.ensures.cells c.requires.on) c.fill.ensures.shown in
+    let is = only_cells c.in-Some.at new c.cells-in-Ok.result.now (rw c.cells-in-Ok.ensures.cells c.cells-in-Ok.ensures.pattern.in_order)
+    (rw c.cells-in-Ok.ensures.cells c.in-Some.ensures.on) c.fill.ensures.shown in
     rw (with_items_is inside.words new long) (is ∙ c.cells-in-Ok.ensures.cells)
