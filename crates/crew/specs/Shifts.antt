@@ -65,34 +65,24 @@ pub record HasWorked (may_stop lets : ℕ → ℕ → Type 0) (site : Site) (wor
 
 -- the worker has begun to work
 abbrev pub has_begun : End → Bool
-has_begun Drained = true
-has_begun Stopped = true
-has_begun (Memory error) = true
 has_begun CalledOff = false
 has_begun (Unstarted error) = false
+has_begun _ = true
 
 -- a thread was started for the worker
 abbrev pub was_started : End → Bool
-was_started Drained = true
-was_started Stopped = true
-was_started (Memory error) = true
-was_started CalledOff = true
 was_started (Unstarted error) = false
+was_started _ = true
 
 abbrev pub was_stopped : End → Bool
-was_stopped Drained = false
 was_stopped Stopped = true
-was_stopped (Memory error) = false
-was_stopped CalledOff = false
-was_stopped (Unstarted error) = false
+was_stopped _ = false
 
 -- there was no memory for a survey, or for a thread
 abbrev pub lacks_memory : End → Bool
-lacks_memory Drained = false
-lacks_memory Stopped = false
 lacks_memory (Memory error) = true
-lacks_memory CalledOff = false
 lacks_memory (Unstarted error) = true
+lacks_memory _ = false
 
 -- What the worker with this number leaves. Once it has begun to work it ends by saying that it is done; if it was called off it has
 -- said nothing.
